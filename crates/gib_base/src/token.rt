@@ -1,0 +1,62 @@
+//! Tokens of a source text.
+
+use crate::Name;
+
+/// The words and signs of the language.
+#[derive(Clone, Copy, Debug, PartialEq, Eq)]
+pub enum Sign {
+    Data,
+    Fun,
+    Main,
+    Let,
+    Par,
+    And,
+    In,
+    If,
+    Then,
+    Else,
+    Case,
+    Of,
+    True,
+    False,
+    Int,
+    Bool,
+    /// `=`
+    Equals,
+    /// `|`
+    Bar,
+    /// `;`
+    Semicolon,
+    /// `(`
+    Open,
+    /// `)`
+    Close,
+    /// `:`
+    Colon,
+    /// `{`
+    OpenBrace,
+    /// `}`
+    CloseBrace,
+    /// `->`
+    Arrow,
+    /// `+`
+    Plus,
+    /// `-`
+    Minus,
+    /// `*`
+    Times,
+    /// `==`
+    Same,
+    /// `<`
+    Less,
+}
+
+/// A token: a name that begins with a lower-case letter, one that begins with an upper-case letter,
+/// a number, or a word or sign of the language.
+#[derive(Clone, Copy, Debug, PartialEq, Eq)]
+pub enum Token {
+    Variable(Name),
+    Constructor(Name),
+    Number(u64),
+    Sign(Sign),
+}

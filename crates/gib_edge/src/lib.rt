@@ -1,0 +1,2 @@
+//! The outside world: files by name, bytes that are put, and points where workers meet.
+#![tactic(auto)]

@@ -1,0 +1,4 @@
+pub mod Row
+pub mod Table
+pub mod Tree
+pub mod TreeCode
