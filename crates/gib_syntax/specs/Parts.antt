@@ -1,0 +1,45 @@
+-- A program as the code keeps it, and the tree that it is.
+use Rattle.std.specs.Prelude.{ℕ, ◌<◌, List, map, length}
+use Rattle.std.specs.List.{AllByRecursion}
+use Rattle.gib_syntax.specs.declared.exprs.Node.{Node}
+use Rattle.gib_syntax.specs.declared.tree.ConstructorDecl.{ConstructorDecl}
+use Rattle.gib_syntax.specs.declared.tree.DataDecl.{DataDecl}
+use Rattle.gib_syntax.specs.declared.tree.FunctionDecl.{FunctionDecl}
+use Rattle.gib_syntax.specs.declared.tree.MainDecl.{MainDecl}
+use Rattle.gib_syntax.specs.Tree.{Expression, ConstructorTree, DataTree, FunctionTree, MainTree, ProgramTree}
+use Rattle.gib_syntax.specs.Arena.{tree_of}
+
+-- The expressions of all bodies, and the declarations.
+pub record Parts : Type 0 where
+  pub exprs : List Node
+  pub data_decls : List DataDecl
+  pub functions : List FunctionDecl
+  pub main : MainDecl
+
+abbrev pub IsFunctionInside : ℕ → FunctionDecl → Type 0
+IsFunctionInside n f = f.body.0 < n
+
+-- Each body is one of the expressions.
+pub record AreInside (parts : Parts) : Type 0 where
+  pub functions : AllByRecursion (IsFunctionInside (length parts.exprs)) parts.functions
+  pub main : parts.main.body.0 < length parts.exprs
+
+abbrev pub constructor_tree : ConstructorDecl → ConstructorTree
+constructor_tree c = record { name = c.name; fields = c.fields.items }
+
+abbrev pub data_tree : DataDecl → DataTree
+data_tree d = record { name = d.name; constructors = map constructor_tree d.constructors.items }
+
+abbrev pub function_tree : (ℕ → Expression) → FunctionDecl → FunctionTree
+function_tree f d = record { name = d.name; parameters = d.parameters.items; result = d.result; body = f d.body.0 }
+
+abbrev pub main_tree : (ℕ → Expression) → MainDecl → MainTree
+main_tree f m = record { parameter = m.parameter; result = m.result; body = f m.body.0 }
+
+-- The tree of a program.
+abbrev pub program_of : Parts → ProgramTree
+program_of parts = record {
+  datas = map data_tree parts.data_decls;
+  functions = map (function_tree (tree_of parts.exprs)) parts.functions;
+  main = main_tree (tree_of parts.exprs) parts.main;
+}

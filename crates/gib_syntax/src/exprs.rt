@@ -1,0 +1,116 @@
+//! Expressions as nodes in a vector, each behind its parts.
+
+use crate::tree::{Ident, Operator};
+use gib_base::{Memory, Span};
+use std::alloc::{AllocError, Global};
+use std::marker::Model;
+
+/// The number of an expression.
+#[derive(Clone, Copy, Debug, PartialEq, Eq)]
+pub struct ExprId(pub u32);
+
+/// An arm of a case: a constructor, the variables of its fields, and what the case is there.
+#[derive(Debug, Drop)]
+pub struct Arm {
+    pub constructor: Ident,
+    pub variables: Vec<Ident>,
+    pub body: ExprId,
+}
+
+/// One expression, with its parts by their numbers. A span is that of the first token.
+#[derive(Debug, Drop)]
+pub enum Node {
+    Variable(Ident),
+    Whole(Span, u64),
+    Truth(Span, bool),
+    /// An expression in parentheses.
+    Paren(Span, ExprId),
+    Operation {
+        span: Span,
+        operator: Operator,
+        left: ExprId,
+        right: ExprId,
+    },
+    /// A call of a function with at least one argument.
+    Call(Ident, Vec<ExprId>),
+    /// A constructor with its arguments.
+    Make(Ident, Vec<ExprId>),
+    Let {
+        span: Span,
+        name: Ident,
+        bound: ExprId,
+        body: ExprId,
+    },
+    LetPar {
+        span: Span,
+        left_name: Ident,
+        left: ExprId,
+        right_name: Ident,
+        right: ExprId,
+        body: ExprId,
+    },
+    If {
+        span: Span,
+        condition: ExprId,
+        then_part: ExprId,
+        else_part: ExprId,
+    },
+    Case {
+        span: Span,
+        variable: Ident,
+        arms: Vec<Arm>,
+    },
+}
+
+/// Expressions, each behind its parts.
+#[derive(Drop)]
+pub struct Exprs {
+    nodes: Vec<Node>,
+}
+
+impl Model for Exprs {
+    ghost use Rattle.std.specs.Prelude.{List};
+    ghost use Rattle.gib_syntax.specs.declared.exprs.Node.{Node as Item};
+    ghost use Rattle.gib_syntax.specs.Arena.{IsArena};
+
+    ghost Value = { List Item };
+
+    ghost view = { λ e. e.nodes.items };
+
+    ghost invariant = { λ e. IsArena e.nodes.items };
+}
+
+impl Exprs {
+    ghost use Rattle.std.specs.Prelude.{◌≡◌, ◌<◌, [], length, IfOk, OnErr};
+    ghost use Rattle.gib_syntax.specs.Arena.{PartsBelow, Opens, Makes};
+
+    /// No expressions.
+    pub fn new(alloc: Global) -> Exprs
+        ensures { result ≡ [] }
+    {
+        Exprs {
+            nodes: Vec::new(alloc),
+        }
+    }
+
+    /// The expression of a number.
+    pub fn node(&self, id: ExprId) -> &Node
+        requires { id.0 < length self.now }
+        ensures { Opens self.now id.0 result.now }
+    {
+        &self.nodes[id.0 as usize]
+    }
+
+    /// One more expression, whose parts stand here already. Those that stand here stay as they are.
+    pub fn put(&mut self, node: Node) -> Result<ExprId, Memory>
+        requires { PartsBelow node (length self.old) }
+        ensures made { IfOk result (λ id. Makes self.old self.new id.0 node) }
+        ensures same { OnErr result (self.new ≡ self.old) }
+    {
+        let Ok(number) = u32::try_from(self.nodes.len()) else {
+            return Err(AllocError);
+        };
+        self.nodes.push(node)?;
+        Ok(ExprId(number))
+    }
+}

@@ -1,0 +1,10 @@
+//! The trees of programs: their spelling as tokens, their types and their meaning.
+#![tactic(auto)]
+
+pub mod exprs;
+pub mod tree;
+
+pub use exprs::{Arm, ExprId, Exprs, Node};
+pub use tree::{
+    ConstructorDecl, DataDecl, FunctionDecl, Ident, MainDecl, Operator, Parameter, Program, TypeName,
+};
