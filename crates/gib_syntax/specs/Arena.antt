@@ -1,5 +1,5 @@
 -- Nodes that name each other by their numbers, seen as trees.
-use Rattle.std.specs.Prelude.{◌≡◌, ℕ, zero, suc, ◌<◌, ◌≤◌, List, [], ◌∷◌, length, Option, Some, None, slice_get}
+use Rattle.std.specs.Prelude.{◌≡◌, ℕ, zero, suc, ◌<◌, ◌≤◌, ◌^◌, List, [], ◌∷◌, length, Option, Some, None, slice_get}
 use Rattle.std.specs.List.{AllByRecursion}
 use Rattle.gib_base.specs.declared.Span.{Span}
 use Rattle.gib_syntax.specs.declared.exprs.ExprId.{ExprId}
@@ -17,9 +17,10 @@ abbrev pub ArmsBelow : List Arm → ℕ → Type 0
 ArmsBelow [] id = ⊥
 ArmsBelow (arm ∷ arms) id = IsArmBelow id arm × AllByRecursion (IsArmBelow id) arms
 
+-- A literal is at most 2^63 - 1.
 abbrev pub PartsBelow : Node → ℕ → Type 0
 PartsBelow (n.Variable x) id = Unit {0}
-PartsBelow (n.Whole p v) id = Unit {0}
+PartsBelow (n.Whole p v) id = v < 2 ^ 63
 PartsBelow (n.Truth p b) id = Unit {0}
 PartsBelow (n.Paren p a) id = a.0 < id
 PartsBelow (n.Operation p f a b) id = (a.0 < id) × (b.0 < id)

@@ -1,5 +1,5 @@
 -- How a program is spelled as tokens, and which trees the grammar has.
-use Rattle.std.specs.Prelude.{◌≡◌, ◌≢◌, ◌≤◌, ◌-◌, ℕ, zero, suc, Bool, true, false, max, List, [], ◌∷◌, ◌++◌, length, take, get_or}
+use Rattle.std.specs.Prelude.{◌≡◌, ◌≢◌, ◌<◌, ◌≤◌, ◌-◌, ◌^◌, ℕ, zero, suc, Bool, true, false, max, List, [], ◌∷◌, ◌++◌, length, take, get_or}
 use Rattle.std.specs.List.{AllByRecursion}
 use Rattle.gib_base.specs.declared.Span.{Span}
 use Rattle.gib_base.specs.declared.token.Sign.TheVariants as s
@@ -144,12 +144,13 @@ is_application (Par p x a y b c) = false
 is_application (If p a b c) = false
 is_application (Case p x arms) = false
 
--- The trees that the grammar has: arguments are atoms, a call has an argument at least, and the sides of
--- an operation are applications.
+-- The trees that the grammar has: literals run to 2^63 - 1 (so a reader of tokens refuses a greater number
+-- where it stands), arguments are atoms, a call has an argument at least, and the sides of an operation
+-- are applications.
 abbrev mutual
   pub IsFine : Expression → Type 0
   IsFine (Var x) = Unit {0}
-  IsFine (Num p n) = Unit {0}
+  IsFine (Num p n) = n < 2 ^ 63
   IsFine (Bit p b) = Unit {0}
   IsFine (Paren p e) = IsFine e
   IsFine (Op p f a b) = IsFine a × IsFine b × (is_application a ≡ true) × (is_application b ≡ true)

@@ -73,7 +73,7 @@ pub struct MainDecl {
 #[derive(Drop)]
 pub struct Program {
     exprs: Exprs,
-    data: Vec<DataDecl>,
+    data_decls: Vec<DataDecl>,
     functions: Vec<FunctionDecl>,
     main: MainDecl,
 }
@@ -83,22 +83,22 @@ impl Model for Program {
 
     ghost Value = { Parts };
 
-    ghost view = { λ p. record { exprs = p.exprs; data_decls = p.data.items; functions = p.functions.items; main = p.main } };
+    ghost view = { λ p. record { exprs = p.exprs; data_decls = p.data_decls.items; functions = p.functions.items; main = p.main } };
 
-    ghost invariant = { λ p. AreInside (record { exprs = p.exprs; data_decls = p.data.items; functions = p.functions.items; main = p.main }) };
+    ghost invariant = { λ p. AreInside (record { exprs = p.exprs; data_decls = p.data_decls.items; functions = p.functions.items; main = p.main }) };
 }
 
 impl Program {
     ghost use Rattle.gib_syntax.specs.Parts.{Parts, AreInside};
 
     /// A program of these parts.
-    pub fn new(exprs: Exprs, data: Vec<DataDecl>, functions: Vec<FunctionDecl>, main: MainDecl) -> Program
-        requires { AreInside (record { exprs = exprs; data_decls = data.items; functions = functions.items; main = main }) }
-        ensures { result ≡ record { exprs = exprs; data_decls = data.items; functions = functions.items; main = main } }
+    pub fn new(exprs: Exprs, data_decls: Vec<DataDecl>, functions: Vec<FunctionDecl>, main: MainDecl) -> Program
+        requires { AreInside (record { exprs = exprs; data_decls = data_decls.items; functions = functions.items; main = main }) }
+        ensures { result ≡ record { exprs = exprs; data_decls = data_decls.items; functions = functions.items; main = main } }
     {
         Program {
             exprs,
-            data,
+            data_decls,
             functions,
             main,
         }
@@ -113,10 +113,10 @@ impl Program {
     }
 
     /// The data declarations, in the order of the text.
-    pub fn data(&self) -> &[DataDecl]
+    pub fn data_decls(&self) -> &[DataDecl]
         ensures { result.now ≡ self.now.data_decls }
     {
-        &self.data
+        &self.data_decls
     }
 
     /// The functions but main, in the order of the text.

@@ -1,0 +1,156 @@
+-- What a program means: call by value on ordinary trees, with a bound on the depth of calls.
+use Rattle.std.specs.Prelude.{ℕ, zero, suc, ℤ, pos, ◌==◌, Bool, true, false, if◌then◌else◌, int_lt, List, [], ◌∷◌, ◌++◌, map, Option, Some, None}
+use Rattle.std.specs.Int.{w64, int_wrapping_add, int_wrapping_sub, int_wrapping_mul}
+use Rattle.std.specs.Ordering.{int_eq}
+use Rattle.gib_types.specs.declared.table.Ty.{Ty}
+use Rattle.gib_types.specs.declared.table.Ty.TheVariants.{Whole, Truth, Tree}
+use Rattle.gib_types.specs.Table.{Table, fields_at}
+use Rattle.gib_types.specs.Tree.{Datum, whole, truth, con, Data, data_of, list_of}
+use Rattle.gib_syntax.specs.declared.tree.Ident.{Ident}
+use Rattle.gib_syntax.specs.declared.tree.Parameter.{Parameter}
+use Rattle.gib_syntax.specs.declared.tree.Operator.{Operator}
+use Rattle.gib_syntax.specs.declared.tree.Operator.TheVariants as o
+use Rattle.gib_syntax.specs.Tree.{Expression, Arguments, Arms, Var, Num, Bit, Paren, Op, Call, Make, Let, Par, If, Case, NoArgument, Argument, LastArm, NextArm, FunctionTree, ProgramTree}
+use Rattle.gib_syntax.specs.Declarations.{number_of, constructor_named, function_named, table_of_program}
+
+-- Why an expression has no value.
+pub data Reason : Type 0 where
+  -- a call with no depth left
+  Deep : Reason
+
+-- What an expression means: a value, or a reason why there is none.
+pub data Outcome : Type 0 where
+  Gives : Datum → Outcome
+  Stops : Reason → Outcome
+
+-- Variables and their values, the newest first.
+abbrev pub Environment : Type 0
+Environment = List (ℕ × Datum)
+
+-- The value of a variable. Where nothing is said of a case that typing excludes, it is 0.
+abbrev pub value_in : Environment → ℕ → Datum
+value_in [] x = whole (pos 0)
+value_in (b ∷ env) x = if b.0 == x then b.1 else value_in env x
+
+-- Values for variables, in their order.
+abbrev pub bind : List Ident → List Datum → Environment → Environment
+bind [] vs env = env
+bind (x ∷ xs) [] env = env
+bind (x ∷ xs) (v ∷ vs) env = bind xs vs ((number_of x, v) ∷ env)
+
+-- Goes on with a value.
+abbrev pub with_value : Outcome → (Datum → Outcome) → Outcome
+with_value (Stops why) go = Stops why
+with_value (Gives v) go = go v
+
+-- Goes on with the values of all, in their order; the first that has none gives its reason.
+abbrev pub with_values : List Outcome → (List Datum → Outcome) → Outcome
+with_values [] go = go []
+with_values (Stops why ∷ rest) go = Stops why
+with_values (Gives v ∷ rest) go = with_values rest (λ vs. go (v ∷ vs))
+
+abbrev pub is_scalar : Ty → Bool
+is_scalar Whole = true
+is_scalar Truth = true
+is_scalar (Tree t) = false
+
+-- What stands at the scalar fields, or at the packed ones, among fields of these types.
+abbrev pub at_fields : {A : Type 0} → Bool → List Ty → List A → List A
+at_fields scalars [] xs = []
+at_fields scalars (t ∷ ts) [] = []
+at_fields true (t ∷ ts) (x ∷ xs) = if is_scalar t then x ∷ at_fields true ts xs else at_fields true ts xs
+at_fields false (t ∷ ts) (x ∷ xs) = if is_scalar t then at_fields false ts xs else x ∷ at_fields false ts xs
+
+-- Goes on with the values of a constructor's arguments, which are evaluated scalars first, then the packed
+-- ones; the values stand in declared order.
+abbrev pub with_fields : List Ty → List Outcome → (List Datum → Outcome) → Outcome
+with_fields types outcomes go =
+    with_values (at_fields true types outcomes ++ at_fields false types outcomes) (λ _. with_values outcomes go)
+
+abbrev pub number_in : Datum → ℤ
+number_in (whole z) = z
+number_in (truth b) = pos 0
+number_in (con k vs) = pos 0
+
+abbrev pub is_true : Datum → Bool
+is_true (whole z) = false
+is_true (truth b) = b
+is_true (con k vs) = false
+
+-- The constructor of a value, and the values of its fields.
+abbrev pub is_made_by : Option ℕ → Datum → Bool
+is_made_by None v = false
+is_made_by (Some c) (whole z) = false
+is_made_by (Some c) (truth b) = false
+is_made_by (Some c) (con k vs) = c == k
+
+abbrev pub parts : Datum → List Datum
+parts (whole z) = []
+parts (truth b) = []
+parts (con k vs) = list_of vs
+
+-- The operators; sums, differences and products wrap modulo 2^64.
+abbrev pub operate : Operator → ℤ → ℤ → Datum
+operate o.Add x y = whole (int_wrapping_add w64 x y)
+operate o.Subtract x y = whole (int_wrapping_sub w64 x y)
+operate o.Multiply x y = whole (int_wrapping_mul w64 x y)
+operate o.Equal x y = truth (int_eq x y)
+operate o.Less x y = truth (int_lt x y)
+
+abbrev pub made : Table → Option ℕ → List Outcome → Outcome
+made table None outcomes = Gives (whole (pos 0))
+made table (Some c) outcomes = with_fields (fields_at table c) outcomes (λ vs. Gives (con c (data_of vs)))
+
+abbrev pub choose : Bool → Outcome → Outcome → Outcome
+choose true a b = a
+choose false a b = b
+
+abbrev mutual
+  -- What an expression means, where a call of the function of a name with these arguments means `call`.
+  pub eval : Table → (ℕ → List Datum → Outcome) → Expression → Environment → Outcome
+  eval table call (Var x) env = Gives (value_in env (number_of x))
+  eval table call (Num p n) env = Gives (whole (pos n))
+  eval table call (Bit p b) env = Gives (truth b)
+  eval table call (Paren p e) env = eval table call e env
+  eval table call (Op p f a b) env =
+      with_value (eval table call a env) (λ x. with_value (eval table call b env) (λ y. Gives (operate f (number_in x) (number_in y))))
+  eval table call (Call f xs) env = with_values (eval_all table call xs env) (call (number_of f))
+  eval table call (Make k xs) env = made table (constructor_named table (number_of k)) (eval_all table call xs env)
+  eval table call (Let p x a b) env = with_value (eval table call a env) (λ v. eval table call b ((number_of x, v) ∷ env))
+  eval table call (Par p x a y b c) env =
+      with_value (eval table call a env) (λ v. with_value (eval table call b env) (λ w. eval table call c ((number_of y, w) ∷ (number_of x, v) ∷ env)))
+  eval table call (If p a b c) env = with_value (eval table call a env) (λ v. choose (is_true v) (eval table call b env) (eval table call c env))
+  eval table call (Case p x arms) env = eval_arms table call arms (value_in env (number_of x)) env
+
+  pub eval_all : Table → (ℕ → List Datum → Outcome) → Arguments → Environment → List Outcome
+  eval_all table call NoArgument env = []
+  eval_all table call (Argument a xs) env = eval table call a env ∷ eval_all table call xs env
+
+  -- The arm of the value's constructor, with its variables bound to the fields.
+  pub eval_arms : Table → (ℕ → List Datum → Outcome) → Arms → Datum → Environment → Outcome
+  eval_arms table call (LastArm k xs e) v env =
+      choose (is_made_by (constructor_named table (number_of k)) v) (eval table call e (bind xs (parts v) env)) (Gives (whole (pos 0)))
+  eval_arms table call (NextArm k xs e arms) v env =
+      choose (is_made_by (constructor_named table (number_of k)) v) (eval table call e (bind xs (parts v) env)) (eval_arms table call arms v env)
+
+abbrev pub names_of : List Parameter → List Ident
+names_of qs = map (λ (q : Parameter). q.name) qs
+
+abbrev pub of_function : Option FunctionTree → (FunctionTree → Outcome) → Outcome
+of_function None go = Gives (whole (pos 0))
+of_function (Some f) go = go f
+
+-- What a call means, with so much depth left: with none it is too deep; else the body's meaning with one less.
+abbrev pub calls : ProgramTree → ℕ → ℕ → List Datum → Outcome
+calls p zero f arguments = Stops Deep
+calls p (suc n) f arguments =
+    of_function (function_named p.functions f)
+    (λ g. eval (table_of_program p) (calls p n) g.body (bind (names_of g.parameters) arguments []))
+
+-- What an expression of a program means, with so much depth left, where variables have these values.
+abbrev pub means : ProgramTree → ℕ → Environment → Expression → Outcome
+means p n env e = eval (table_of_program p) (calls p n) e env
+
+-- What a program means: main's body, with its parameter.
+abbrev pub run : ProgramTree → ℕ → Datum → Outcome
+run p depth v = means p depth ((number_of p.main.parameter.name, v) ∷ []) p.main.body
