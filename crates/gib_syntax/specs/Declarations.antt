@@ -1,5 +1,5 @@
 -- What a program declares: its types, constructors and functions.
-use Rattle.std.specs.Prelude.{ℕ, suc, ◌+◌, ◌==◌, if◌then◌else◌, List, [], ◌∷◌, ◌++◌, map, Option, Some, None}
+use Rattle.std.specs.Prelude.{◌≡◌, ℕ, suc, ◌+◌, ◌==◌, if◌then◌else◌, List, [], ◌∷◌, ◌++◌, map, Option, Some, None}
 use Rattle.gib_types.specs.declared.table.Ty.{Ty}
 use Rattle.gib_types.specs.declared.table.Ty.TheVariants.{Whole, Truth, Tree}
 use Rattle.gib_types.specs.Table.{Row, Table, name_of}
@@ -22,6 +22,11 @@ next_place (Some n) = Some (n + 1)
 abbrev pub place_of : List ℕ → ℕ → Option ℕ
 place_of [] x = None
 place_of (y ∷ ys) x = if y == x then Some 0 else next_place (place_of ys x)
+
+-- No name stands twice.
+abbrev pub AreDifferent : List ℕ → Type 0
+AreDifferent [] = Unit {0}
+AreDifferent (x ∷ xs) = (place_of xs x ≡ None) × AreDifferent xs
 
 -- The names of the declared types.
 abbrev pub type_names : ProgramTree → List ℕ
@@ -70,3 +75,10 @@ constructor_named table k = place_of (constructor_names table) k
 abbrev pub function_named : List FunctionTree → ℕ → Option FunctionTree
 function_named [] f = None
 function_named (g ∷ gs) f = if number_of g.name == f then Some g else function_named gs f
+
+-- The type of main's parameter, and of its result.
+abbrev pub input_type : ProgramTree → Ty
+input_type p = type_of_name (type_names p) p.main.parameter.ty
+
+abbrev pub output_type : ProgramTree → Ty
+output_type p = type_of_name (type_names p) p.main.result

@@ -5,7 +5,7 @@ use Rattle.std.specs.Ordering.{int_eq}
 use Rattle.gib_types.specs.declared.table.Ty.{Ty}
 use Rattle.gib_types.specs.declared.table.Ty.TheVariants.{Whole, Truth, Tree}
 use Rattle.gib_types.specs.Table.{Table, fields_at}
-use Rattle.gib_types.specs.Tree.{Datum, whole, truth, con, Data, data_of, list_of}
+use Rattle.gib_types.specs.Tree.{Datum, whole, truth, con, Data, data_of, list_of, HasType}
 use Rattle.gib_syntax.specs.declared.tree.Ident.{Ident}
 use Rattle.gib_syntax.specs.declared.tree.Parameter.{Parameter}
 use Rattle.gib_syntax.specs.declared.tree.Operator.{Operator}
@@ -154,3 +154,8 @@ means p n env e = eval (table_of_program p) (calls p n) e env
 -- What a program means: main's body, with its parameter.
 abbrev pub run : ProgramTree → ℕ → Datum → Outcome
 run p depth v = means p depth ((number_of p.main.parameter.name, v) ∷ []) p.main.body
+
+-- The value that an outcome gives, where it gives one, is of the type.
+abbrev pub OutcomeHas : Table → Ty → Outcome → Type 0
+OutcomeHas table ty (Gives v) = HasType table v ty
+OutcomeHas table ty (Stops why) = Unit {0}

@@ -1,6 +1,6 @@
 -- Which programs are typed.
 use Rattle.std.specs.Prelude.{◌≡◌, ◌≢◌, ◌≤◌, ℕ, ◌+◌, ◌==◌, if◌then◌else◌, List, [], ◌∷◌, ◌++◌, length, map, Option, Some, None}
-use Rattle.std.specs.List.{AllByRecursion, Contains, IsDistinctByAny}
+use Rattle.std.specs.List.{AllByRecursion, Contains}
 use Rattle.gib_types.specs.declared.table.Ty.{Ty}
 use Rattle.gib_types.specs.declared.table.Ty.TheVariants.{Whole, Truth, Tree}
 use Rattle.gib_types.specs.declared.table.TyId.{TyId}
@@ -11,7 +11,7 @@ use Rattle.gib_syntax.specs.declared.tree.Parameter.{Parameter}
 use Rattle.gib_syntax.specs.declared.tree.Operator.{Operator}
 use Rattle.gib_syntax.specs.declared.tree.Operator.TheVariants as o
 use Rattle.gib_syntax.specs.Tree.{Expression, Arguments, Arms, Var, Num, Bit, Paren, Op, Call, Make, Let, Par, If, Case, NoArgument, Argument, LastArm, NextArm, ConstructorTree, DataTree, FunctionTree, MainTree, ProgramTree}
-use Rattle.gib_syntax.specs.Declarations.{number_of, type_names, type_written, type_of_name, table_of_program, constructor_named, function_named}
+use Rattle.gib_syntax.specs.Declarations.{number_of, AreDifferent, type_names, type_written, type_of_name, table_of_program, constructor_named, function_named}
 
 -- What a body may name besides its variables: constructors and functions.
 pub record Globals : Type 0 where
@@ -70,7 +70,7 @@ arm_names (NextArm k xs e arms) = number_of k ∷ arm_names arms
 pub record Covers (table : Table) (ty : ℕ) (names : List ℕ) : Type 0 where
   pub own : AllByRecursion (λ k. (c : ℕ) × (constructor_named table k ≡ Some c) × (owner_at table c ≡ ty)) names
   pub each : (c : ℕ) → con_at table ty c ≡ Some c → Contains names (name_at table c)
-  pub once : IsDistinctByAny names
+  pub once : AreDifferent names
 
 -- The expression has the type, where these variables are in scope.
 abbrev mutual
@@ -189,11 +189,11 @@ HasKnownConstructors types d = AllByRecursion (HasKnownFields types) d.construct
 -- are at most 200 constructors, of at most eight fields each, and 1,000 functions; field types are known;
 -- each function and main are typed.
 pub record IsTypedProgram (p : ProgramTree) : Type 0 where
-  pub types_differ : IsDistinctByAny (type_names p)
-  pub constructors_differ : IsDistinctByAny (map (λ (r : Row). r.name) (table_of_program p).rows)
+  pub types_differ : AreDifferent (type_names p)
+  pub constructors_differ : AreDifferent (map (λ (r : Row). r.name) (table_of_program p).rows)
   pub few_constructors : length (table_of_program p).rows ≤ 200
   pub fields : AllByRecursion (HasKnownConstructors (type_names p)) p.datas
-  pub functions_differ : IsDistinctByAny (map (λ (f : FunctionTree). number_of f.name) p.functions)
+  pub functions_differ : AreDifferent (map (λ (f : FunctionTree). number_of f.name) p.functions)
   pub few_functions : length p.functions ≤ 1000
   pub functions : AllByRecursion (IsTypedHere (globals_of p)) p.functions
   pub main : IsTypedFunction (globals_of p) (p.main.parameter ∷ []) p.main.result p.main.body
