@@ -1,6 +1,6 @@
 -- Which programs are typed.
 use Rattle.std.specs.Prelude.{◌≡◌, ◌≢◌, ◌≤◌, ℕ, ◌+◌, ◌==◌, if◌then◌else◌, List, [], ◌∷◌, ◌++◌, length, map, Option, Some, None}
-use Rattle.std.specs.List.{AllByRecursion, Contains}
+use Rattle.std.specs.List.{AllByRecursion}
 use Rattle.gib_types.specs.declared.table.Ty.{Ty}
 use Rattle.gib_types.specs.declared.table.Ty.TheVariants.{Whole, Truth, Tree}
 use Rattle.gib_types.specs.declared.table.TyId.{TyId}
@@ -11,7 +11,7 @@ use Rattle.gib_syntax.specs.declared.tree.Parameter.{Parameter}
 use Rattle.gib_syntax.specs.declared.tree.Operator.{Operator}
 use Rattle.gib_syntax.specs.declared.tree.Operator.TheVariants as o
 use Rattle.gib_syntax.specs.Tree.{Expression, Arguments, Arms, Var, Num, Bit, Paren, Op, Call, Make, Let, Par, If, Case, NoArgument, Argument, LastArm, NextArm, ConstructorTree, DataTree, FunctionTree, MainTree, ProgramTree}
-use Rattle.gib_syntax.specs.Declarations.{number_of, AreDifferent, type_names, type_written, type_of_name, table_of_program, constructor_named, function_named}
+use Rattle.gib_syntax.specs.Declarations.{number_of, place_of, AreDifferent, type_names, type_written, type_of_name, table_of_program, constructor_named, function_named}
 
 -- What a body may name besides its variables: constructors and functions.
 pub record Globals : Type 0 where
@@ -69,7 +69,7 @@ arm_names (NextArm k xs e arms) = number_of k ∷ arm_names arms
 -- other arm is there.
 pub record Covers (table : Table) (ty : ℕ) (names : List ℕ) : Type 0 where
   pub own : AllByRecursion (λ k. (c : ℕ) × (constructor_named table k ≡ Some c) × (owner_at table c ≡ ty)) names
-  pub each : (c : ℕ) → con_at table ty c ≡ Some c → Contains names (name_at table c)
+  pub each : (c : ℕ) → con_at table ty c ≡ Some c → (i : ℕ) × (place_of names (name_at table c) ≡ Some i)
   pub once : AreDifferent names
 
 -- The expression has the type, where these variables are in scope.
