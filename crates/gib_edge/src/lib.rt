@@ -1,2 +1,9 @@
 //! The outside world: files by name, bytes that are put, and points where workers meet.
 #![tactic(auto)]
+
+pub mod outside;
+
+use std::alloc::AllocError;
+
+/// Want of memory, the one answer that no contract ties to a cause.
+pub type Memory = AllocError;
