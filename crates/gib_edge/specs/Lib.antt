@@ -1,1 +1,4 @@
 pub mod Causes
+pub mod Fails
+pub mod Files
+pub mod InMemory

@@ -1,6 +1,8 @@
 //! The outside world: files by name, bytes that are put, and points where workers meet.
 #![tactic(auto)]
 
+pub mod mem_shelf;
+pub mod mem_sink;
 pub mod outside;
 
 use std::alloc::AllocError;
