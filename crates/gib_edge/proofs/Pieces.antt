@@ -1,6 +1,8 @@
 -- Bytes that are put piece by piece.
-use Rattle.std.proofs.Common.{◌≡◌, ℕ, zero, suc, ◌+◌, ◌-◌, ◌≤◌, List, [], ◌∷◌, ◌++◌, Option, Some, None, Result, Ok, Err, take, drop, length, refl, sym, ap, ◌∙◌, arith, append_assoc}
+use Rattle.std.proofs.Common.{◌≡◌, ℕ, zero, suc, ◌+◌, ◌-◌, ◌≤◌, List, [], ◌∷◌, ◌++◌, Option, Some, None, Result, Ok, Err, take, drop, length, refl, sym, ap, ◌∙◌, arith, append_assoc, subst}
 use Rattle.std.specs.Prelude.{OnErr}
+use Rattle.std.proofs.lemmas.List.{take_all, length-drop}
+use Rattle.std.specs.Io.KnownBytes as known
 use Rattle.gib_edge.specs.Causes.{Appends, AppendsPart, Rose}
 
 pub take-split : (n m : ℕ) (bs : List ℕ) → n ≤ m → take n bs ++ take (m - n) (drop n bs) ≡ take m bs
@@ -53,3 +55,24 @@ rose_since a b c le r = omega arith
 pub on_err : {T E X : Type 0} (r : Result T E) → X → OnErr r X
 on_err (Ok t) x = tt
 on_err (Err e) x = x
+
+-- what is left, as a slice reads it
+rest : (at : ℕ) (bs : List ℕ) → take (length bs - at) (drop at bs) ≡ drop at bs
+rest at bs = let n : length (drop at bs) ≡ length bs - at = length-drop at bs in take_all (length bs - at) (drop at bs) (omega arith)
+
+-- so far, and what a writer that tells its bytes took of the rest
+pub appends_next : (first mid last : Option (List ℕ)) (bs : List ℕ) (at count : ℕ) → Appends first mid (take at bs) → known.Appends mid last (take count (take (length bs - at) (drop at bs))) → Appends first last (take (at + count) bs)
+appends_next first mid last bs at count so_far next =
+    let e : at + count - at ≡ count = omega arith in
+    let piece : take (at + count - at) (drop at bs) ≡ take count (take (length bs - at) (drop at bs)) = ap (λ k. take k (drop at bs)) e ∙ ap (λ xs. take count xs) (sym (rest at bs)) in
+    appends_more first mid last bs at (at + count) (omega arith) so_far (subst (λ xs. Appends mid last xs) (sym piece) (told_appends mid last (take count (take (length bs - at) (drop at bs))) next))
+  where
+    told_appends : (old new : Option (List ℕ)) (bs : List ℕ) → known.Appends old new bs → Appends old new bs
+    told_appends None new bs h = tt
+    told_appends (Some xs) None bs h = absurd h
+    told_appends (Some xs) (Some ys) bs h = ap Some h
+
+-- a part of the rest ends within the whole
+pub next_within : (bs : List ℕ) (at count : ℕ) → at ≤ length bs → count ≤ length (take (length bs - at) (drop at bs)) → at + count ≤ length bs
+next_within bs at count le bound =
+    let n : length (take (length bs - at) (drop at bs)) ≡ length bs - at = ap length (rest at bs) ∙ length-drop at bs in omega arith

@@ -2,3 +2,4 @@ pub mod Causes
 pub mod Fails
 pub mod Files
 pub mod InMemory
+pub mod Moving
