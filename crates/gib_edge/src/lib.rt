@@ -1,2 +1,17 @@
 //! The outside world: files by name, bytes that are put, and points where workers meet.
 #![tactic(auto)]
+
+pub mod dir_shelf;
+pub mod mem_shelf;
+pub mod mem_sink;
+pub mod outside;
+pub mod std_sink;
+mod streams;
+
+use std::alloc::AllocError;
+
+/// Want of memory, the one answer that no contract ties to a cause.
+pub type Memory = AllocError;
+
+#[cfg(test)]
+mod tests;
