@@ -2,7 +2,7 @@
 
 ghost use Rattle.std.specs.Prelude.{◌≡◌, ◌==◌, ◌<◌, ◌≤◌, ◌↔◌, [], false, length, slice_get, Some, IfOk, IfSome, IfNone, OnOk, OnErr};
 ghost use Rattle.std.specs.Result.{IsErrOf};
-ghost use Rattle.gib_base.specs.Names.{holds, number_of, with_name};
+ghost use Rattle.gib_base.specs.Names.{holds, number_of, with_name, AreNames};
 
 use crate::Memory;
 use crate::limits::NAMES;
@@ -73,7 +73,7 @@ impl Names {
     /// How many names there are.
     pub fn len(&self) -> u32
         ensures count { result ≡ length self.now }
-        ensures few { result ≤ NAMES }
+        ensures names { AreNames self.now }
     {
         self.set.len() as u32
     }
@@ -89,7 +89,8 @@ impl Names {
     pub fn intern(&mut self, alloc: Global, text: &[u8]) -> Result<Name, NameFault>
         ensures number { IfOk result (λ name. name.0 ≡ number_of self.old text.now) }
         ensures held { IfOk result (λ name. slice_get self.new name.0 ≡ Some text.now) }
-        ensures names { OnOk result (self.new ≡ with_name self.old text.now) }
+        ensures grown { OnOk result (self.new ≡ with_name self.old text.now) }
+        ensures names { AreNames self.new }
 
         // Want of memory comes after this: a text that is one too many is refused as such.
         ensures many { IsErrOf result NameFault.Many ↔ ((length self.old ≡ NAMES) × (holds self.old text.now ≡ false)) }

@@ -20,11 +20,17 @@ returns-then-len-clause-many c =
     let many : length c.args.self.now ≡ 65535 = omega (arith, few, length-texts c.self.inside.set.keys, ap length c.self.view_is, c.len.ensures.len, c.if-len.true) in
     (λ e. (many, is), λ p. refl)
 
-pub invariant_of-self-in-None : goal.invariant_of-self-in-None
-invariant_of-self-in-None c =
+after : (c : goal.In_ok-index-in-None) → AreNames (texts_of c.insert_full.new.self.keys)
+after c =
     let before : AreNames c.args.self.now = subst AreNames c.self.view_is c.self.invariant in
     let few : length c.args.self.now < 65535 = omega (arith, length-texts c.self.inside.set.keys, ap length c.self.view_is, c.len.ensures.len, c.if-len.false) in
     subst AreNames (sym (added c).pushed) (AreNames-push c.args.self.now c.args.text.now before (is_new c) few)
+
+pub invariant_of-self-in-None : goal.invariant_of-self-in-None
+invariant_of-self-in-None c = after c
+
+pub returns-in_ok-index-in-None-clause-names : goal.returns-in_ok-index-in-None-clause-names
+returns-in_ok-index-in-None-clause-names c = after c
 
 pub returns-in-Some-clause-number : goal.returns-in-Some-clause-number
 returns-in-Some-clause-number c = (found c).number
@@ -32,8 +38,8 @@ returns-in-Some-clause-number c = (found c).number
 pub returns-in-Some-clause-held : goal.returns-in-Some-clause-held
 returns-in-Some-clause-held c = (found c).held
 
-pub returns-in-Some-clause-names : goal.returns-in-Some-clause-names
-returns-in-Some-clause-names c = sym (with_held c.args.self.now c.args.text.now (found c).holds)
+pub returns-in-Some-clause-grown : goal.returns-in-Some-clause-grown
+returns-in-Some-clause-grown c = sym (with_held c.args.self.now c.args.text.now (found c).holds)
 
 pub returns-in-Some-clause-many : goal.returns-in-Some-clause-many
 returns-in-Some-clause-many c = (λ e. absurd cc, λ p. absurd (true≢false (sym (found c).holds ∙ p.1)))
@@ -44,5 +50,5 @@ returns-in_ok-index-in-None-clause-number c = (added c).number
 pub returns-in_ok-index-in-None-clause-held : goal.returns-in_ok-index-in-None-clause-held
 returns-in_ok-index-in-None-clause-held c = (added c).held
 
-pub returns-in_ok-index-in-None-clause-names : goal.returns-in_ok-index-in-None-clause-names
-returns-in_ok-index-in-None-clause-names c = (added c).grown
+pub returns-in_ok-index-in-None-clause-grown : goal.returns-in_ok-index-in-None-clause-grown
+returns-in_ok-index-in-None-clause-grown c = (added c).grown
