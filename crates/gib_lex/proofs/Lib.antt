@@ -1,0 +1,6 @@
+pub mod Runs
+pub mod Value
+pub mod Numbers
+pub mod Cuts
+pub mod Whole
+pub mod Steps
