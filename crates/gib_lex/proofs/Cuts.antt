@@ -111,7 +111,7 @@ pub IsLexedTo_start : (bytes : List ℕ) → IsLexedTo bytes 0 (record { names =
 IsLexedTo_start bytes = record { lengths = []; cut = refl; fits = tt; names = refl; tokens = refl; spans = refl; len = refl }
 
 -- two longest pieces are one
-longest_same : (bytes : List ℕ) (m n : ℕ) → IsLongest bytes m → IsLongest bytes n → m ≡ n
+pub longest_same : (bytes : List ℕ) (m n : ℕ) → IsLongest bytes m → IsLongest bytes n → m ≡ n
 longest_same bytes m n a b =
     ⊎_elim
     (λ lt. absurd (let e = a.longest n lt b.within in let f = b.piece in cc))
@@ -164,11 +164,11 @@ pub stuck_lexes_nothing : (bytes : List ℕ) (place : ℕ) (l : Lexed) → IsStu
 stuck_lexes_nothing bytes place l s b =
     let r = rest_of bytes 0 s.front.lengths place b.lengths s.front.cut b.cut in stuck_ends bytes place r.0 s.inside s.stuck r.1
 
-parts_of-append : (bytes : List ℕ) (from : ℕ) (ns : List ℕ) (to : ℕ) (ls : List ℕ) → AreLongest bytes from ns to → parts_of bytes from (ns ++ ls) ≡ parts_of bytes from ns ++ parts_of bytes to ls
+pub parts_of-append : (bytes : List ℕ) (from : ℕ) (ns : List ℕ) (to : ℕ) (ls : List ℕ) → AreLongest bytes from ns to → parts_of bytes from (ns ++ ls) ≡ parts_of bytes from ns ++ parts_of bytes to ls
 parts_of-append bytes from [] to ls h = ap (λ (f : ℕ). parts_of bytes f ls) h
 parts_of-append bytes from (n ∷ ns) to ls h = ap (λ (ps : List Part). part_at bytes from n ∷ ps) (parts_of-append bytes (from + n) ns to ls h.1)
 
-fits_back : (ps qs : List Part) → AllByRecursion (λ (q : Part). IsNotBig (piece_of q.text)) (ps ++ qs) → AllByRecursion (λ (q : Part). IsNotBig (piece_of q.text)) qs
+pub fits_back : (ps qs : List Part) → AllByRecursion (λ (q : Part). IsNotBig (piece_of q.text)) (ps ++ qs) → AllByRecursion (λ (q : Part). IsNotBig (piece_of q.text)) qs
 fits_back [] qs h = h
 fits_back (p ∷ ps) qs h = fits_back ps qs h.1
 
@@ -187,7 +187,7 @@ big_lexes_nothing bytes place l s b =
     let fits = fits_back (parts_of bytes 0 s.front.lengths) (parts_of bytes place r.0) (subst (AllByRecursion (λ (q : Part). IsNotBig (piece_of q.text))) e b.fits) in
     big_ends bytes place s.size r.0 s.longest s.big r.1 fits
 
-names_with-append : (names : List (List ℕ)) (ps qs : List Part) → names_with names (ps ++ qs) ≡ names_with (names_with names ps) qs
+pub names_with-append : (names : List (List ℕ)) (ps qs : List Part) → names_with names (ps ++ qs) ≡ names_with (names_with names ps) qs
 names_with-append names ps qs = ap (fold with_name names) (flat_map-append name_at ps qs) ∙ fold-append with_name names (flat_map name_at ps) (flat_map name_at qs)
 
 many_end : (bytes : List ℕ) (place n : ℕ) (ls : List ℕ) (names : List (List ℕ)) → IsLongest (drop place bytes) n → 65535 < length (names_with names (part_at bytes place n ∷ [])) → AreLongest bytes place ls (length bytes)

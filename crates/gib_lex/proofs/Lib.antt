@@ -4,3 +4,4 @@ pub mod Numbers
 pub mod Cuts
 pub mod Whole
 pub mod Steps
+pub mod Fronts

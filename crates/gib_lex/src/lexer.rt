@@ -7,6 +7,7 @@ ghost use Rattle.gib_base.specs.Names.{with_name, number_of};
 ghost use Rattle.gib_base.specs.Spelling.{piece_of};
 ghost use Rattle.gib_base.specs.Lexed.{Lexed, IsLexed, IsNotBig, name_in, token_in};
 ghost use Rattle.gib_lex.specs.Faults.{IsStuckAt, IsBigAt, HasTooManyNames};
+ghost use Rattle.gib_lex.specs.Refused.{IsRefused};
 ghost use Rattle.gib_lex.specs.NameFaults.{piece_fault};
 
 use crate::fault::LexFault;
@@ -70,6 +71,7 @@ pub fn lex(alloc: Global, bytes: &[u8]) -> Result<Tokens, LexFault>
     ensures big { (place : ℕ) → IsErrOf result (LexFault.Big place) → IsBigAt bytes.now place }
     ensures many { IsErrOf result LexFault.Many → HasTooManyNames bytes.now }
     ensures complete { (l : Lexed) → IsLexed bytes.now l → length bytes.now ≤ SOURCE_BYTES → length l.names ≤ NAMES → (result ≡ Ok l) ⊎ IsErrOf result LexFault.Memory }
+    ensures exact { (fault : LexFault) → IsRefused bytes.now fault → IsErrOf result fault ⊎ IsErrOf result LexFault.Memory }
 {
     if bytes.len() as u64 > SOURCE_BYTES {
         return Err(LexFault::Long);

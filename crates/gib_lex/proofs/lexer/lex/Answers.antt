@@ -6,6 +6,8 @@ use Rattle.gib_base.specs.Piece.{IsLongest}
 use Rattle.gib_base.specs.Lexed.{Lexed, IsLexedTo, IsLexed, AreTokens}
 use Rattle.gib_lex.specs.Faults.{IsStuckAt, IsBigAt, HasTooManyNames}
 use Rattle.gib_lex.proofs.Cuts.{IsLexedTo_start, longest_at, text_here, one_reading, stuck_lexes_nothing, big_lexes_nothing, many_names}
+use Rattle.gib_lex.specs.declared.fault.LexFault.TheVariants as fault
+use Rattle.gib_lex.proofs.Fronts.{one_refusal, refused_is_not_lexed}
 use Rattle.gib_lex.proofs.Whole.{AreTokens_lexed}
 use Rattle.gib_lex.proofs.Steps.{held_so_far, step_none, step_some, big_here, many_here, stuck_here}
 use Rattle.gib_lex.proofs.lexer.lex.Goals.{in-None, in-Some+in_ok-push-in-Some+in_ok-push-in-Some-2}
@@ -29,6 +31,9 @@ returns-then-size-eq0-clause-at c = λ place e. let same : c.pieces.at ≡ place
 pub returns-then-size-eq0-clause-complete : goal.returns-then-size-eq0-clause-complete
 returns-then-size-eq0-clause-complete c = λ l h short few. absurd (stuck_lexes_nothing c.args.bytes.now c.pieces.at l (stuck c) h)
 
+pub returns-then-size-eq0-clause-exact : goal.returns-then-size-eq0-clause-exact
+returns-then-size-eq0-clause-exact c = λ reason r. inl (ap Err (one_refusal c.args.bytes.now (fault.At c.pieces.at) reason (c.if-bytes-gt-SOURCE_BYTES.false, stuck c) r))
+
 big : (c : goal.After-drop-names-inside-in-Err-Big-4) → IsBigAt c.args.bytes.now c.pieces.at
 big c =
     let bytes = c.args.bytes.now in
@@ -46,6 +51,9 @@ returns-in-Err-Big-clause-big c = λ place e. let same : c.pieces.at ≡ place =
 pub returns-in-Err-Big-clause-complete : goal.returns-in-Err-Big-clause-complete
 returns-in-Err-Big-clause-complete c = λ l h short few. absurd (big_lexes_nothing c.args.bytes.now c.pieces.at l (big c) h)
 
+pub returns-in-Err-Big-clause-exact : goal.returns-in-Err-Big-clause-exact
+returns-in-Err-Big-clause-exact c = λ reason r. inl (ap Err (one_refusal c.args.bytes.now (fault.Big c.pieces.at) reason (c.if-bytes-gt-SOURCE_BYTES.false, big c) r))
+
 many : (c : goal.After-drop-names-inside-in-Err-Many-4) → HasTooManyNames c.args.bytes.now
 many c =
     let bytes = c.args.bytes.now in
@@ -62,6 +70,9 @@ returns-in-Err-Many-clause-many c = λ e. many c
 
 pub returns-in-Err-Many-clause-complete : goal.returns-in-Err-Many-clause-complete
 returns-in-Err-Many-clause-complete c = λ l h short few. absurd (let e = many_names c.args.bytes.now l (many c) h in omega arith)
+
+pub returns-in-Err-Many-clause-exact : goal.returns-in-Err-Many-clause-exact
+returns-in-Err-Many-clause-exact c = λ reason r. inl (ap Err (one_refusal c.args.bytes.now fault.Many reason (c.if-bytes-gt-SOURCE_BYTES.false, many c) r))
 
 pub pieces-preserved : goal.pieces-preserved
 pieces-preserved c =
@@ -106,3 +117,9 @@ returns-clause-lexed c = whole_too c
 
 pub returns-clause-complete : goal.returns-clause-complete
 returns-clause-complete c = λ l h short few. inl (ap Ok (one_reading c.args.bytes.now c.new.result l (whole_too c) h))
+
+pub returns-clause-exact : goal.returns-clause-exact
+returns-clause-exact c = λ reason r.
+    let few = c.pieces.invariant.few in
+    let names : length c.new.result.names ≤ 65535 = omega (arith, ap (λ (l : Lexed). length l.names) c.new.ensures) in
+    absurd (refused_is_not_lexed c.args.bytes.now reason c.new.result r (whole_too c) c.if-bytes-gt-SOURCE_BYTES.false names)
