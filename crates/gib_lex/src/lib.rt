@@ -10,3 +10,6 @@ pub mod tokens;
 pub use fault::LexFault;
 pub use lexer::lex;
 pub use tokens::Tokens;
+
+#[cfg(test)]
+mod tests;
