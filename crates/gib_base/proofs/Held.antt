@@ -1,7 +1,7 @@
 -- What a look-up says of names, and that a new name leaves them all different.
-use Rattle.std.proofs.Common.{◌≡◌, ℕ, zero, suc, ◌+◌, ◌<◌, ◌≤◌, Bool, true, false, not, cond, ◌||◌, List, [], ◌∷◌, ◌++◌, length, map, Option, Some, None, slice_get, get_or, position, refl, sym, ap, ◌∙◌, subst, arith, length-append, true≢false}
+use Rattle.std.proofs.Common.{◌≡◌, ℕ, zero, suc, ◌+◌, ◌<◌, Bool, true, false, not, cond, ◌||◌, List, [], ◌∷◌, ◌++◌, length, Some, None, slice_get, get_or, position, refl, sym, ap, ◌∙◌, arith, length-append, true≢false}
 use borrow.Author.Tests.{lt-ltb}
-use Rattle.std.specs.List.{list_any, prefix_len, position_or_len}
+use Rattle.std.specs.List.{list_any, position_or_len}
 use Rattle.std.specs.Str.{bytes_eq}
 use Rattle.std.specs.Global.{Vec}
 use Rattle.std.proofs.lemmas.List.Quantifiers.{position-Some}
@@ -171,3 +171,7 @@ added_in ks news v names text i e f h n m =
     let last : i ≡ length names = number ∙ absent_place names text h in
     let pushed : texts_of news ≡ names ++ text ∷ [] = is ∙ with_new names text h in
     record { number = number; held = rw (pushed, last) (last_is names text); grown = is; pushed = pushed }
+
+-- the text with a held text's number is that text
+pub held_text : (names : List (List ℕ)) (text : List ℕ) → holds names text ≡ true → slice_get names (number_of names text) ≡ Some text
+held_text names text e = (found names text (number_of names text) (position_held names text e)).held

@@ -1,7 +1,6 @@
 -- What lexing makes of a text.
-use Rattle.std.specs.Prelude.{◌≡◌, ◌<◌, ◌≤◌, ℕ, ◌+◌, ◌^◌, List, [], ◌∷◌, ◌++◌, length, take, drop, fold}
+use Rattle.std.specs.Prelude.{◌≡◌, ◌<◌, ◌≤◌, ℕ, ◌+◌, ◌^◌, List, [], ◌∷◌, length, take, drop, fold}
 use Rattle.std.specs.List.{flat_map, AllByRecursion}
-use Rattle.gib_base.specs.declared.name.Name.{Name}
 use Rattle.gib_base.specs.declared.Span.{Span}
 use Rattle.gib_base.specs.declared.token.Token.{Token}
 use Rattle.gib_base.specs.declared.token.Token.TheVariants as token

@@ -2,3 +2,4 @@ pub mod Names
 pub mod Piece
 pub mod Spelling
 pub mod Lexed
+pub mod Printing

@@ -3,7 +3,6 @@ use Rattle.std.specs.Prelude.{ℕ, ◌+◌, ◌-◌, ◌*◌, ◌^◌, ◌==◌,
 use Rattle.std.specs.List.{find, join_with_byte}
 use Rattle.std.specs.Str.{bytes_eq}
 use Rattle.std.specs.Fmt.{decimal}
-use Rattle.gib_base.specs.declared.name.Name.{Name}
 use Rattle.gib_base.specs.declared.token.Sign.{Sign}
 use Rattle.gib_base.specs.declared.token.Sign.TheVariants as sign
 use Rattle.gib_base.specs.declared.token.Token.{Token}

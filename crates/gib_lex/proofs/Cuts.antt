@@ -1,23 +1,20 @@
 -- One more piece, and that there is one cut.
-use Rattle.std.proofs.Common.{◌≡◌, ℕ, zero, suc, ◌+◌, ◌<◌, ◌≤◌, Bool, true, false, List, [], ◌∷◌, ◌++◌, length, take, drop, fold, refl, sym, ap, ◌∙◌, subst, arith, append_assoc, length-drop, ◌⊎◌, inl, inr, ⊎_elim}
+use Rattle.std.proofs.Common.{◌≡◌, ℕ, zero, suc, ◌+◌, ◌<◌, true, List, [], ◌∷◌, ◌++◌, length, take, drop, fold, refl, sym, ap, ◌∙◌, subst, arith, length-drop, ⊎_elim}
 use Rattle.std.specs.List.{flat_map, AllByRecursion}
 use Rattle.std.proofs.str.Laws.{order}
 use Rattle.std.proofs.lemmas.List.{append-nil}
 use Rattle.std.proofs.lemmas.List.Concat.{flat_map-append}
 use Rattle.std.proofs.lemmas.List.Sums.{fold-append}
-use Rattle.gib_base.specs.declared.Span.{Span}
-use Rattle.gib_base.specs.declared.token.Token.{Token}
-use Rattle.gib_base.specs.declared.token.Token.TheVariants as token
 use Rattle.gib_base.specs.declared.token.Piece.{Piece}
 use Rattle.gib_base.specs.declared.token.Piece.TheVariants as piece
-use Rattle.gib_base.specs.Names.{holds, number_of, with_name}
+use Rattle.gib_base.specs.Names.{number_of, with_name}
 use Rattle.gib_base.specs.Piece.{is_piece, IsLongest, IsStuck}
 use Rattle.gib_base.specs.Spelling.{piece_of}
-use Rattle.gib_base.specs.Lexed.{Lexed, Part, AreLongest, part_at, parts_of, IsNotBig, name_in, name_at, names_with, token_in, token_at, span_in, span_at, IsLexedTo, IsLexed}
+use Rattle.gib_base.specs.Lexed.{Lexed, Part, AreLongest, part_at, parts_of, IsNotBig, name_in, name_at, names_with, token_in, token_at, span_at, IsLexedTo, IsLexed}
 use Rattle.gib_lex.specs.Faults.{IsStuckAt, IsBigAt, HasTooManyNames}
 use Rattle.gib_lex.specs.Reading.{longest}
 use Rattle.gib_lex.proofs.Runs.{longest_is}
-use Rattle.gib_lex.proofs.Numbers.{AreHeld, AreHeld_all, AreHeld-fold, AreHeld_front, AreHeld_back, number-fold, number_itself, length-fold}
+use Rattle.gib_lex.proofs.Numbers.{AreHeld, AreHeld_all, AreHeld_front, AreHeld_back, number-fold, number_itself, length-fold}
 
 -- a cut goes on
 

@@ -1,8 +1,7 @@
 -- A text is refused for one reason at most.
-use Rattle.std.proofs.Common.{◌≡◌, ℕ, ◌+◌, ◌<◌, ◌≤◌, List, [], ◌∷◌, ◌++◌, length, take, drop, refl, sym, ap, ◌∙◌, subst, arith, ◌⊎◌, inl, inr, ⊎_elim}
+use Rattle.std.proofs.Common.{◌≡◌, ℕ, ◌+◌, ◌<◌, ◌≤◌, List, [], ◌∷◌, ◌++◌, length, take, drop, refl, sym, ap, ◌∙◌, subst, arith}
 use Rattle.std.specs.List.{AllByRecursion, flat_map, fold}
 use Rattle.gib_base.specs.Names.{with_name}
-use Rattle.std.proofs.lemmas.List.{append-nil}
 use Rattle.gib_base.specs.declared.token.Piece.TheVariants as piece
 use Rattle.gib_base.specs.Piece.{IsLongest, IsStuck}
 use Rattle.gib_base.specs.Spelling.{piece_of}

@@ -5,3 +5,5 @@ pub mod Cuts
 pub mod Whole
 pub mod Steps
 pub mod Fronts
+pub mod Written
+pub mod Again

@@ -1,18 +1,17 @@
 -- What each step of the lexer makes.
-use Rattle.std.proofs.Common.{◌≡◌, ℕ, ◌+◌, ◌<◌, ◌≤◌, List, [], ◌∷◌, ◌++◌, length, take, drop, fold, refl, sym, ap, ◌∙◌, subst, arith, length-drop, Option, Some, None}
-use Rattle.std.specs.Option.{option_to_list}
+use Rattle.std.proofs.Common.{◌≡◌, ℕ, ◌+◌, ◌<◌, ◌≤◌, List, [], ◌∷◌, ◌++◌, length, take, drop, fold, refl, sym, ap, ◌∙◌, subst}
 use Rattle.std.proofs.lemmas.List.{append-nil}
 use Rattle.gib_base.specs.declared.Span.{Span}
 use Rattle.gib_base.specs.declared.token.Token.{Token}
 use Rattle.gib_base.specs.declared.token.Piece.{Piece}
 use Rattle.gib_base.specs.declared.token.Piece.TheVariants as piece
 use Rattle.gib_base.specs.Names.{number_of, with_name}
-use Rattle.gib_base.specs.Piece.{IsLongest, IsStuck}
+use Rattle.gib_base.specs.Piece.{IsLongest}
 use Rattle.gib_base.specs.Spelling.{piece_of}
-use Rattle.gib_base.specs.Lexed.{Lexed, part_at, IsNotBig, name_in, names_with, token_in, span_in, IsLexedTo, IsLexed}
+use Rattle.gib_base.specs.Lexed.{Lexed, part_at, IsNotBig, name_in, names_with, token_in, span_in, IsLexedTo}
 use Rattle.gib_lex.specs.Reading.{longest}
 use Rattle.gib_lex.specs.Faults.{IsStuckAt, IsBigAt, HasTooManyNames}
-use Rattle.gib_lex.proofs.Runs.{longest_is, stuck_is}
+use Rattle.gib_lex.proofs.Runs.{stuck_is}
 use Rattle.gib_lex.proofs.Cuts.{IsLexedTo_more}
 use Rattle.gib_lex.proofs.Whole.{part_length}
 

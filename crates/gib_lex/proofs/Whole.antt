@@ -1,18 +1,17 @@
 -- What the tokens of every text keep.
-use Rattle.std.proofs.Common.{◌≡◌, ℕ, zero, suc, ◌+◌, ◌<◌, ◌≤◌, ◌^◌, Bool, true, false, ltb, List, [], ◌∷◌, ◌++◌, length, take, drop, refl, sym, ap, ◌∙◌, subst, arith, length-append, length-take, length-drop, ◌==◌, if◌then◌else◌, Option, Some, None, nat_lt}
+use Rattle.std.proofs.Common.{◌≡◌, ℕ, zero, suc, ◌+◌, ◌<◌, ◌≤◌, ◌^◌, Bool, true, false, ltb, List, [], ◌∷◌, ◌++◌, length, take, drop, refl, sym, ap, ◌∙◌, subst, arith, length-append, length-take, ◌==◌, if◌then◌else◌, Option, Some, None, nat_lt}
 use Rattle.std.specs.List.{flat_map, AllByRecursion}
 use Rattle.std.proofs.lemmas.Bool.{ltb-true}
 use Rattle.gib_base.specs.declared.Span.{Span}
 use Rattle.gib_base.specs.declared.token.Token.{Token}
-use Rattle.gib_base.specs.declared.token.Token.TheVariants as token
 use Rattle.gib_base.specs.declared.token.Sign.{Sign}
 use Rattle.gib_base.specs.declared.token.Sign.TheVariants as sign
 use Rattle.gib_base.specs.declared.token.Piece.{Piece}
 use Rattle.gib_base.specs.declared.token.Piece.TheVariants as piece
-use Rattle.gib_base.specs.Names.{holds, number_of}
-use Rattle.gib_base.specs.Piece.{is_piece, IsLongest, Class, Blank, Letter, Digit, Dash, Equal, Single, Other, class_of}
+use Rattle.gib_base.specs.Names.{number_of}
+use Rattle.gib_base.specs.Piece.{IsLongest, Class, Blank, Letter, Digit, Dash, Equal, Single, Other, class_of}
 use Rattle.gib_base.specs.Spelling.{piece_of, piece_in, name_piece, number_piece, dash_piece, equal_piece, value_from, word_of}
-use Rattle.gib_base.specs.Lexed.{Lexed, Part, AreLongest, part_at, parts_of, IsNotBig, name_in, name_at, token_in, token_at, span_in, span_at, IsLexed, AreInOrder, IsTokenOf, AreTokens}
+use Rattle.gib_base.specs.Lexed.{Lexed, Part, AreLongest, part_at, parts_of, name_in, name_at, token_in, token_at, span_in, span_at, IsLexed, AreInOrder, IsTokenOf, AreTokens}
 use Rattle.gib_base.proofs.Held.{held_place}
 use Rattle.gib_lex.proofs.Numbers.{AreHeld, AreHeld_front, AreHeld_back}
 use Rattle.gib_lex.proofs.Cuts.{held_names}

@@ -1,9 +1,6 @@
-use Rattle.std.proofs.Common.{◌≡◌, ◌≤◌, ◌<◌, ℕ, List, length, take, drop, refl, sym, ap, ◌∙◌, subst, arith, length-drop, inl, Ok, Err}
-use Rattle.gib_base.specs.declared.token.Token.{Token}
-use Rattle.gib_base.specs.declared.Span.{Span}
+use Rattle.std.proofs.Common.{◌≡◌, ◌≤◌, ℕ, length, sym, ap, ◌∙◌, subst, arith, length-drop, inl, Ok, Err}
 use Rattle.std.specs.Option.{option_to_list}
-use Rattle.gib_base.specs.Piece.{IsLongest}
-use Rattle.gib_base.specs.Lexed.{Lexed, IsLexedTo, IsLexed, AreTokens}
+use Rattle.gib_base.specs.Lexed.{Lexed, IsLexedTo, IsLexed}
 use Rattle.gib_lex.specs.Faults.{IsStuckAt, IsBigAt, HasTooManyNames}
 use Rattle.gib_lex.proofs.Cuts.{IsLexedTo_start, longest_at, text_here, one_reading, stuck_lexes_nothing, big_lexes_nothing, many_names}
 use Rattle.gib_lex.specs.declared.fault.LexFault.TheVariants as fault

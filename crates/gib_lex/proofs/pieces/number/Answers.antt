@@ -1,4 +1,4 @@
-use Rattle.std.proofs.Common.{◌^◌, ◌≤◌, sym, drop, length, arith, length-drop}
+use Rattle.std.proofs.Common.{sym, drop, arith, length-drop}
 use Rattle.gib_base.specs.Spelling.{value_from}
 use Rattle.gib_lex.proofs.Value.{too_big, number_piece_big}
 use Rattle.gib_lex.proofs.pieces.number.Goals as goal
