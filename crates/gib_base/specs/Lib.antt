@@ -1,1 +1,5 @@
+pub mod Names
+pub mod Piece
+pub mod Spelling
 pub mod Lexed
+pub mod Printing
