@@ -236,6 +236,21 @@ impl TypeTable {
         }
     }
 
+    /// How many declared types there are.
+    pub fn type_count(&self) -> u32
+        ensures { result ≡ length self.now.types }
+    {
+        self.firsts.len() as u32 - 1
+    }
+
+    /// What each table keeps: the limits on constructors and fields, names that differ, and an order in
+    /// which the constructors of a type stand together.
+    pub fn rules(&self)
+        ensures { IsTable self.now }
+    {
+        let _all = &self.constructors;
+    }
+
     /// The constructors of a type are those from its first one on, as many as it has.
     pub fn stand_together(&self)
         ensures { (ty con : ℕ) → (con_at self.now ty con ≡ Some con) ↔ ((first_at self.now ty ≤ con) × (con < first_at self.now ty + count_at self.now ty)) }
