@@ -1,19 +1,17 @@
 -- The text of a value of the type is read to its end.
-use Rattle.std.proofs.Common.{◌≡◌, ℕ, zero, suc, ◌+◌, ◌<◌, ◌≤◌, Bool, true, false, List, [], ◌∷◌, ◌++◌, length, take, drop, Some, refl, sym, ap, subst, ◌∙◌, arith, append_assoc, append-nil, ◌⊎◌, inl, inr}
+use Rattle.std.proofs.Common.{◌≡◌, ℕ, ◌<◌, List, [], ◌∷◌, ◌++◌, length, take, drop, Some, refl, sym, ap, subst, ◌∙◌, arith, inl, inr}
 use Rattle.std.specs.Fmt.{signed_decimal}
 use Rattle.std.proofs.lemmas.List.{drop_at}
-use Rattle.gib_base.specs.Names.{AreNames}
-use Rattle.gib_types.specs.declared.table.TyId.{TyId}
 use Rattle.gib_types.specs.declared.table.ConId.{ConId}
 use Rattle.gib_types.specs.declared.table.Ty.{Ty}
 use Rattle.gib_types.specs.declared.table.Ty.TheVariants as ty
-use Rattle.gib_types.specs.Table.{Table, IsTable, con_at, fields_at}
+use Rattle.gib_types.specs.Table.{Table, con_at, fields_at}
 use Rattle.gib_types.specs.Tree.{Datum, whole, truth, con, Data, none, more, HasType, HaveTypes}
 use Rattle.gib_types.proofs.Owners.{con_at-owned, owned_within}
 use Rattle.gib_value.specs.declared.read.Wanted.{Wanted}
 use Rattle.gib_value.specs.declared.read.Wanted.TheVariants.{Value, Name, Space, Close}
-use Rattle.gib_value.specs.Text.{truth_text, con_text, spell, spell_fields, text, AreHeld}
-use Rattle.gib_value.specs.Reading.{IsWord, AreWords, token_len, first_token, Cut, fields_wanted, CanStand, Stand, IsBare, IsOpening, IsFull, IsStuck, IsRefusedAt, IsTextOf}
+use Rattle.gib_value.specs.Text.{truth_text, con_text, spell, spell_fields, text}
+use Rattle.gib_value.specs.Reading.{AreWords, token_len, Cut, fields_wanted, CanStand, Stand}
 use Rattle.gib_value.proofs.Tokens.{Ends, IsToken, word_token, number_token, truth_word, front_take}
 
 -- the tokens of the bytes up to the rest can stand, and leave so much wanted
@@ -51,10 +49,10 @@ takes_token : (table : Table) (names : List (List ℕ)) (token rest : List ℕ) 
     → CanStand table names w token extra → Takes table names (token ++ rest) (w ∷ wanted) rest (extra ++ wanted)
 takes_token table names token rest w wanted extra t ends can = takes_one table names token rest w wanted extra t.some (t.first rest ends) can
 
-own_within : (table : Table) (t k : ℕ) → con_at table t k ≡ Some k → k < length table.rows
+pub own_within : (table : Table) (t k : ℕ) → con_at table t k ≡ Some k → k < length table.rows
 own_within table t k e = owned_within table.rows t k (con_at-owned table t k k e).1
 
-ends_fields : (table : Table) (names : List (List ℕ)) (vs : Data) (rest : List ℕ) → Ends (spell_fields table names vs rest)
+pub ends_fields : (table : Table) (names : List (List ℕ)) (vs : Data) (rest : List ℕ) → Ends (spell_fields table names vs rest)
 ends_fields table names none rest = refl
 ends_fields table names (more v vs) rest = refl
 
@@ -89,7 +87,7 @@ mutual
       (takes_one table names (40 ∷ []) (name ++ after) (Value (ty.Tree t)) wanted (Name t ∷ []) (omega arith) refl (inr (record { con = id; own = h.0; some = some; is = refl; after = refl })))
       (then_takes table names (name ++ after) after rest (Name t ∷ wanted) (fields_wanted id (fields_at table k) ++ wanted) wanted
       (takes_token table names name after (Name t) wanted (fields_wanted id (fields_at table k)) (word_token name (words k (own_within table t.0 k h.0))) (ends_fields table names (more v vs) rest)
-        (record { con = id; own = h.0; some = some; is = refl; after = refl }))
+      (record { con = id; own = h.0; some = some; is = refl; after = refl }))
       (takes_fields table names words (more v vs) (fields_at table k) id rest wanted h.1))
 
   takes_fields : (table : Table) (names : List (List ℕ)) → AreWords table names → (vs : Data) (ts : List Ty) (k : ConId) (rest : List ℕ) (wanted : List Wanted) → HaveTypes table vs ts

@@ -8,3 +8,6 @@ pub mod ReadTakes
 pub mod ReadLoop
 pub mod Tokens
 pub mod Complete
+pub mod Agree
+pub mod OneText
+pub mod ReadText

@@ -1,9 +1,8 @@
 -- What reading keeps from token to token.
-use Rattle.std.proofs.Common.{◌≡◌, ℕ, zero, suc, ◌+◌, ◌-◌, ◌<◌, ◌≤◌, List, [], ◌∷◌, ◌++◌, length, take, drop, reverse, map, Some, refl, sym, ap, subst, ◌∙◌, arith, append_assoc, append-nil, length-append, ◌⊎◌, inl, inr}
+use Rattle.std.proofs.Common.{◌≡◌, ℕ, zero, suc, ◌+◌, ◌-◌, ◌<◌, ◌≤◌, List, [], ◌∷◌, ◌++◌, length, take, drop, reverse, map, Some, refl, sym, ap, subst, ◌∙◌, arith, append_assoc, append-nil, length-append, inl, inr}
 use Rattle.std.specs.List.{AllByRecursion}
-use Rattle.std.proofs.lemmas.List.{reverse-append, length-take, length-drop, length-map, drop-drop, drop_at, drop-append-le, take-append-le}
+use Rattle.std.proofs.lemmas.List.{reverse-append, length-take, length-drop, length-map, drop-drop, drop_at, take-append-le}
 use Rattle.std.proofs.Math.Seq.{take-length, take-add}
-use Rattle.std.specs.Fmt.{signed_decimal}
 use Rattle.gib_types.specs.declared.table.TyId.{TyId}
 use Rattle.gib_types.specs.declared.table.ConId.{ConId}
 use Rattle.gib_types.specs.declared.table.Ty.{Ty}
@@ -15,8 +14,8 @@ use Rattle.gib_value.specs.declared.node.Node.{Node}
 use Rattle.gib_value.specs.declared.read.Wanted.{Wanted}
 use Rattle.gib_value.specs.declared.read.Wanted.TheVariants.{Value, Name, Space, Close}
 use Rattle.gib_value.specs.Heap.{value_of, IsWithin}
-use Rattle.gib_value.specs.Text.{truth_text, con_text, spell, spell_fields, text}
-use Rattle.gib_value.specs.Reading.{token_len, first_token, Cut, fields_wanted, CanStand, Stand, IsBare, IsOpening, IsFull, closed, values_after, Steps, IsReady, IsStuck, IsRefusedAt, IsTextOf, Refuses}
+use Rattle.gib_value.specs.Text.{con_text, spell, spell_fields}
+use Rattle.gib_value.specs.Reading.{token_len, first_token, Cut, fields_wanted, CanStand, Stand, IsFull, closed, values_after, Steps, IsReady, IsStuck, IsRefusedAt, IsTextOf, Refuses}
 
 -- ---- what completes a text
 
@@ -51,13 +50,18 @@ record Fields (table : Table) (names : List (List ℕ)) (k : ConId) (ts : List T
 fields_complete : (table : Table) (names : List (List ℕ)) (k : ConId) (ts : List Ty) (wanted : List Wanted) (vs : List Datum) (bytes : List ℕ) (v : Datum)
     → Completes table names (fields_wanted k ts ++ wanted) vs bytes v → Fields table names k ts wanted vs bytes v
 fields_complete table names k [] wanted vs bytes v (rest, is, h) = record {
-  us = none; rest = rest; typed = tt; is = is;
+  us = none;
+  rest = rest;
+  typed = tt;
+  is = is;
   completes = subst (λ (l : List Datum). Completes table names wanted (closed k.0 (length (fields_at table k.0)) l) rest v) (sym (append-nil vs)) h;
 }
 fields_complete table names k (t ∷ ts) wanted vs bytes v (spaced, is, (u, after, typed, e, h)) =
     let f = fields_complete table names k ts wanted (vs ++ u ∷ []) after v h in
     record {
-      us = more u f.us; rest = f.rest; typed = (typed, f.typed);
+      us = more u f.us;
+      rest = f.rest;
+      typed = (typed, f.typed);
       is = is ∙ ap (λ (l : List ℕ). 32 ∷ l) (e ∙ ap (spell table names u) f.is);
       completes = subst (λ (l : List Datum). Completes table names wanted (closed k.0 (length (fields_at table k.0)) l) f.rest v) (append_assoc vs (u ∷ []) (list_of f.us)) f.completes;
     }
@@ -75,10 +79,16 @@ name_back : (table : Table) (names : List (List ℕ)) (t : TyId) (token : List �
 name_back table names t token extra wanted vs bytes v full h =
     let k = full.con in
     let here = subst (λ (l : List Wanted). Completes table names (l ++ wanted) vs bytes v) full.after h in
-    let f = fields_complete table names k (fields_at table k.0) wanted vs bytes v here in
-    (k, f.us, f.rest, full.own, full.some, f.typed,
+    let f = fields_complete table names k (fields_at table k.0) wanted vs bytes v here in (
+      k,
+      f.us,
+      f.rest,
+      full.own,
+      full.some,
+      f.typed,
       ap (λ (l : List ℕ). l ++ bytes) full.is ∙ ap (λ (l : List ℕ). con_text table names k.0 ++ l) f.is,
-      subst (λ (l : List Datum). Completes table names wanted l f.rest v) (closed_last k.0 (length (fields_at table k.0)) vs f.us (length-types table f.us (fields_at table k.0) f.typed)) f.completes)
+      subst (λ (l : List Datum). Completes table names wanted l f.rest v) (closed_last k.0 (length (fields_at table k.0)) vs f.us (length-types table f.us (fields_at table k.0) f.typed)) f.completes,
+    )
 
 no_fields : (table : Table) (k : ℕ) → length (fields_at table k) ≡ 0 → HaveTypes table none (fields_at table k)
 no_fields table k e = go (fields_at table k) e
@@ -109,9 +119,13 @@ back table names (Value ty.Whole) token extra wanted can vs bytes v h =
     (whole can.z, bytes, can.fits, ap (λ (l : List ℕ). l ++ bytes) can.is, subst (λ (l : List Wanted). Completes table names (l ++ wanted) (vs ++ whole can.z ∷ []) bytes v) can.after h)
 back table names (Value ty.Truth) token extra wanted can vs bytes v h =
     (truth can.b, bytes, tt, ap (λ (l : List ℕ). l ++ bytes) can.is, subst (λ (l : List Wanted). Completes table names (l ++ wanted) (vs ++ truth can.b ∷ []) bytes v) can.after h)
-back table names (Value (ty.Tree t)) token extra wanted (inl b) vs bytes v h =
-    (con b.con.0 none, bytes, (b.own, no_fields table b.con.0 b.bare), ap (λ (l : List ℕ). l ++ bytes) b.is,
-      subst (λ (l : List Wanted). Completes table names (l ++ wanted) (vs ++ con b.con.0 none ∷ []) bytes v) b.after h)
+back table names (Value (ty.Tree t)) token extra wanted (inl b) vs bytes v h = (
+  con b.con.0 none,
+  bytes,
+  (b.own, no_fields table b.con.0 b.bare),
+  ap (λ (l : List ℕ). l ++ bytes) b.is,
+  subst (λ (l : List Wanted). Completes table names (l ++ wanted) (vs ++ con b.con.0 none ∷ []) bytes v) b.after h,
+)
 back table names (Value (ty.Tree t)) token extra wanted (inr o) vs bytes v h =
     opened_back table names t token wanted vs bytes v o.is (subst (λ (l : List Wanted). Completes table names (l ++ wanted) vs bytes v) o.after h)
 back table names (Name t) token extra wanted can vs bytes v h = name_back table names t token extra wanted vs bytes v can h
@@ -216,9 +230,9 @@ reads_step table names t bytes at len heap later done next w wanted left token r
           (ready_step table names w token s.more wanted s.can vs (subst (λ (i : ℕ). AreReady table (w ∷ wanted) i) (sym (length-map done (value_of heap))) r.ready)));
       held = s.held;
       completes = λ rest v h.
-        let here : Completes table names (s.more ++ wanted) after rest v = subst (λ (l : List Wanted). Completes table names l after rest v) s.goes_on (subst (λ (x : List Datum). Completes table names left x rest v) s.values h) in
-        let old = r.completes (token ++ rest) v (back table names w token s.more wanted s.can vs rest v here) in
-        (old.0, old.1 ∙ sym (append_assoc (take at bytes) token rest) ∙ ap (λ (l : List ℕ). (take at bytes ++ l) ++ rest) is ∙ ap (λ (l : List ℕ). l ++ rest) (sym (take-add at len bytes)));
+          let here : Completes table names (s.more ++ wanted) after rest v = subst (λ (l : List Wanted). Completes table names l after rest v) s.goes_on (subst (λ (x : List Datum). Completes table names left x rest v) s.values h) in
+          let old = r.completes (token ++ rest) v (back table names w token s.more wanted s.can vs rest v here) in
+          (old.0, old.1 ∙ sym (append_assoc (take at bytes) token rest) ∙ ap (λ (l : List ℕ). (take at bytes ++ l) ++ rest) is ∙ ap (λ (l : List ℕ). l ++ rest) (sym (take-add at len bytes)));
     }
 
 -- ---- where it ends
@@ -281,7 +295,7 @@ pub read_end : (table : Table) (names : List (List ℕ)) (t : Ty) (bytes : List 
 read_end table names t bytes at heap done front root items v r e le d is =
     subst (λ (x : Datum). IsTextOf table names t x bytes) (sym is)
     (read_all table names t bytes at heap front root
-      (subst (λ (l : List Node). Reads table names t bytes at heap l []) d (subst (λ (l : List Wanted). Reads table names t bytes at heap done l) (ap reverse e) r)) le)
+    (subst (λ (l : List Node). Reads table names t bytes at heap l []) d (subst (λ (l : List Wanted). Reads table names t bytes at heap done l) (ap reverse e) r)) le)
 
 pub no_items : (items : List Wanted) → length items ≡ 0 → items ≡ []
 no_items [] e = refl

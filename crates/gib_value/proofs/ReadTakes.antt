@@ -1,20 +1,18 @@
 -- What a token does.
-use Rattle.std.proofs.Common.{◌≡◌, ℕ, ◌+◌, ◌-◌, ◌<◌, ◌≤◌, List, [], ◌∷◌, ◌++◌, length, take, drop, map, Option, Some, None, MatchOption, refl, sym, ap, subst, ◌∙◌, arith, ◌⊎◌, inl, inr}
+use Rattle.std.proofs.Common.{◌≡◌, ℕ, ◌+◌, ◌≤◌, List, [], ◌∷◌, ◌++◌, length, map, Option, Some, None, MatchOption, refl, sym, ap, subst, ◌∙◌, arith, inl, inr}
 use Rattle.std.specs.List.{AllByRecursion}
 use Rattle.std.proofs.lemmas.List.{map-append}
 use Rattle.gib_types.specs.declared.table.TyId.{TyId}
-use Rattle.gib_types.specs.declared.table.ConId.{ConId}
 use Rattle.gib_types.specs.declared.table.Ty.{Ty}
 use Rattle.gib_types.specs.declared.table.Ty.TheVariants as ty
-use Rattle.gib_types.specs.Table.{Table, con_at, fields_at}
-use Rattle.gib_types.specs.Tree.{Datum, whole, truth, con, none, data_of}
+use Rattle.gib_types.specs.Table.{Table}
+use Rattle.gib_types.specs.Tree.{Datum, whole, truth, con, none}
 use Rattle.gib_value.specs.declared.node.Node.{Node}
 use Rattle.gib_value.specs.declared.node.Node.TheVariants as node
 use Rattle.gib_value.specs.declared.read.Wanted.{Wanted}
-use Rattle.gib_value.specs.declared.read.Wanted.TheVariants.{Value, Name, Space, Close}
+use Rattle.gib_value.specs.declared.read.Wanted.TheVariants.{Value}
 use Rattle.gib_value.specs.Heap.{value_of, IsWithin}
-use Rattle.gib_value.specs.Text.{con_text}
-use Rattle.gib_value.specs.Reading.{CanStand, IsBare, IsOpening, IsFull, IsNumber, IsTruth, IsLeaf, Opens, HasFull, Steps, Refuses}
+use Rattle.gib_value.specs.Reading.{IsLeaf, Opens, Steps, Refuses}
 use Rattle.gib_value.proofs.HeapLemmas.{All-append}
 
 pushed_values : (heap : List Datum) (done next : List Node) (n : Node) (v : Datum) → next ≡ done ++ n ∷ [] → value_of heap n ≡ v
@@ -31,21 +29,27 @@ pub leaf_steps : (table : Table) (names : List (List ℕ)) (t : Ty) (token : Lis
 leaf_steps table names ty.Whole token heap done next n wanted (z, fits, is, e) grown held =
     let node_is : value_of heap n ≡ whole z = ap (value_of heap) e in
     record {
-      more = []; can = record { z = z; fits = fits; is = is; after = refl }; goes_on = refl;
+      more = [];
+      can = record { z = z; fits = fits; is = is; after = refl };
+      goes_on = refl;
       values = pushed_values heap done next n (whole z) grown node_is;
       held = pushed_held heap done next n grown held (subst (IsWithin (length heap)) (sym e) tt);
     }
 leaf_steps table names ty.Truth token heap done next n wanted (b, is, e) grown held =
     let node_is : value_of heap n ≡ truth b = ap (value_of heap) e in
     record {
-      more = []; can = record { b = b; is = is; after = refl }; goes_on = refl;
+      more = [];
+      can = record { b = b; is = is; after = refl };
+      goes_on = refl;
       values = pushed_values heap done next n (truth b) grown node_is;
       held = pushed_held heap done next n grown held (subst (IsWithin (length heap)) (sym e) tt);
     }
 leaf_steps table names (ty.Tree t) token heap done next n wanted (k, own, bare, is, e) grown held =
     let node_is : value_of heap n ≡ con k.0 none = ap (value_of heap) e in
     record {
-      more = []; can = inl (record { con = k; own = own; bare = bare; is = is; after = refl }); goes_on = refl;
+      more = [];
+      can = inl (record { con = k; own = own; bare = bare; is = is; after = refl });
+      goes_on = refl;
       values = pushed_values heap done next n (con k.0 none) grown node_is;
       held = pushed_held heap done next n grown held (subst (IsWithin (length heap)) (sym e) (let le : 0 + 0 ≤ length heap = omega arith in le));
     }

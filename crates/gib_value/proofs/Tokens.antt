@@ -11,13 +11,11 @@ use Rattle.std.proofs.Math.Seq.{take-length}
 use Rattle.std.proofs.lemmas.Bool.Decides.{nat_tests}
 use Rattle.std.proofs.lemmas.Str.Parse.{IsNumeralModel, numerals_by_value, tells_all_ascii_digits}
 use Rattle.std.proofs.lemmas.Fmt.{digits_decimal, decimal_nonempty}
-use Rattle.std.specs.Int.Digits.{number_from_digits}
 use Rattle.std.specs.Str.Parse.{digits_value}
-use lib.Signed.{mag}
 use lib.IntN.{pos, negsuc}
 use Rattle.gib_base.specs.Piece.{is_name_byte}
 use Rattle.gib_value.specs.Text.{truth_text}
-use Rattle.gib_value.specs.Reading.{IsWord, token_len, first_token, Cut}
+use Rattle.gib_value.specs.Reading.{IsWord, token_len}
 use Rattle.gib_value.proofs.Numbers.{mag_small}
 
 -- the bytes do not go on with one that passes
@@ -106,8 +104,7 @@ front_take token rest = take-append-le (length token) token rest (omega arith) �
 
 pub same_front : (a b x y : List ℕ) → IsToken a → IsToken b → Ends x → Ends y → a ++ x ≡ b ++ y → (a ≡ b) × (x ≡ y)
 same_front a b x y ta tb ex ey e =
-    let n : length a ≡ length b = sym (ta.first x ex) ∙ ap token_len e ∙ tb.first y ey in
-    (
+    let n : length a ≡ length b = sym (ta.first x ex) ∙ ap token_len e ∙ tb.first y ey in (
       sym (front_take a x) ∙ ap (λ (l : List ℕ). take (length a) l) e ∙ ap (λ (i : ℕ). take i (b ++ y)) n ∙ front_take b y,
       sym (drop_at a x (length a) refl) ∙ ap (λ (l : List ℕ). drop (length a) l) e ∙ ap (λ (i : ℕ). drop i (b ++ y)) n ∙ drop_at b y (length b) refl,
     )

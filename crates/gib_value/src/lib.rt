@@ -3,6 +3,7 @@
 
 mod fault;
 pub mod heap;
+pub mod law;
 pub mod node;
 pub mod read;
 pub mod value;

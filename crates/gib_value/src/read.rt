@@ -142,7 +142,7 @@ fn find_named(types: &TypeTable, names: &Names, token: &[u8]) -> Option<ConId>
     ensures { MatchOption result
         ((con : ℕ) → con < length types.now.rows → name_at types.now con < length names.now → token.now ≡ con_text types.now names.now con → ⊥)
         (λ con. (con.0 < length types.now.rows) × (token.now ≡ con_text types.now names.now con.0)
-            × ((other : ℕ) → other < length types.now.rows → name_at types.now other < length names.now → token.now ≡ con_text types.now names.now other → other ≡ con.0)) }
+        × ((other : ℕ) → other < length types.now.rows → name_at types.now other < length names.now → token.now ≡ con_text types.now names.now other → other ≡ con.0)) }
 {
     // Different numbers are different texts, and no two constructors have one name.
     let _count = names.len();
@@ -159,7 +159,7 @@ fn find_of(types: &TypeTable, names: &Names, ty: TyId, token: &[u8]) -> Option<C
     ensures { MatchOption result
         ((con : ConId) → con_at types.now ty.0 con.0 ≡ Some con.0 → token.now ≡ con_text types.now names.now con.0 → ⊥)
         (λ con. (con_at types.now ty.0 con.0 ≡ Some con.0) × (token.now ≡ con_text types.now names.now con.0) × (con.0 < length types.now.rows)
-            × ((other : ConId) → con_at types.now ty.0 other.0 ≡ Some other.0 → token.now ≡ con_text types.now names.now other.0 → other.0 ≡ con.0)) }
+        × ((other : ConId) → con_at types.now ty.0 other.0 ≡ Some other.0 → token.now ≡ con_text types.now names.now other.0 → other.0 ≡ con.0)) }
 {
     let Some(con) = find_named(types, names, token) else {
         return None;
@@ -210,12 +210,7 @@ fn push_wanted(wanted: &mut Vec<Wanted>, con: ConId, fields: &[Ty]) -> Result<()
 }
 
 /// Makes a constructor of the last values.
-fn close(
-    heap: &mut Heap,
-    done: &mut Vec<Node>,
-    con: ConId,
-    count: usize,
-) -> Result<(), Memory>
+fn close(heap: &mut Heap, done: &mut Vec<Node>, con: ConId, count: usize) -> Result<(), Memory>
     requires count { count ≤ length done.old.items }
     requires few { count ≤ 8 }
     requires held { AllByRecursion (IsWithin (length heap.old)) done.old.items }
@@ -419,10 +414,11 @@ fn read_tokens(
     wanted.push(Wanted::Value(ty))?;
     let mut at = 0;
     'wanted: while let Some(next) = wanted.pop() {
+        let place = at as u64;
         let (_, rest) = text.split_at(at);
         let len = token_len(rest);
         if len == 0 {
-            return Err(TextFault::At(at as u64));
+            return Err(TextFault::At(place));
         }
         let (token, _) = rest.split_at(len);
         if !take(
@@ -435,7 +431,7 @@ fn read_tokens(
             next,
             token,
         )? {
-            return Err(TextFault::At(at as u64));
+            return Err(TextFault::At(place));
         }
         at += len;
     }
