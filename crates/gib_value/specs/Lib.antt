@@ -2,3 +2,4 @@ pub mod Heap
 pub mod Text
 pub mod Writing
 pub mod Reading
+pub mod Example

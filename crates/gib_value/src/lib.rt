@@ -15,3 +15,6 @@ pub use node::Node;
 pub use read::read_text;
 pub use value::Value;
 pub use write::write_text;
+
+#[cfg(test)]
+mod tests;
