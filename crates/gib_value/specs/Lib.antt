@@ -1,0 +1,5 @@
+pub mod Heap
+pub mod Text
+pub mod Writing
+pub mod Reading
+pub mod Example
