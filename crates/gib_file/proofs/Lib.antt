@@ -4,3 +4,4 @@ pub mod Sound
 pub mod Laws
 pub mod Unique
 pub mod Bad
+pub mod HeadLemmas

@@ -33,7 +33,7 @@ IsBytes-drop n bytes h i = rw get_or-drop (h (n + i))
 abbrev pub number_of : List ℕ → ℤ
 number_of bytes = cast_signed w64 (from_le_bytes w64 bytes)
 
-below : (bytes : List ℕ) → IsBytes bytes → from_le_bytes w64 bytes < 2 ^ 64
+pub below : (bytes : List ℕ) → IsBytes bytes → from_le_bytes w64 bytes < 2 ^ 64
 below bytes fits = omega (arith, fits 0, fits 1, fits 2, fits 3, fits 4, fits 5, fits 6, fits 7)
 
 pub number_back : (bytes : List ℕ) → length bytes ≡ 8 → IsBytes bytes → number (number_of bytes) ≡ bytes

@@ -1,5 +1,5 @@
 -- A packed file: sixteen bytes of header, and the payload.
-use Rattle.std.specs.Prelude.{◌≡◌, ◌≢◌, ◌≤◌, ◌<◌, ◌^◌, ℕ, List, [], ◌∷◌, ◌++◌, length, take, drop, slice_get, Some}
+use Rattle.std.specs.Prelude.{◌≡◌, ◌≢◌, ◌≤◌, ◌<◌, ◌^◌, ℕ, List, [], ◌∷◌, ◌++◌, length, take, drop, slice_get, slice_index, Some}
 use Rattle.std.specs.Int.{w64, to_le_bytes, from_le_bytes}
 use Rattle.gib_types.specs.declared.table.Ty.{Ty}
 use Rattle.gib_types.specs.Table.{Table}
@@ -20,6 +20,11 @@ header len = (magic ++ 1 ∷ 0 ∷ 0 ∷ 0 ∷ []) ++ to_le_bytes w64 len
 abbrev pub Framed : List ℕ → List ℕ → Type 0
 Framed payload bytes = (length payload < 2 ^ 64) × (bytes ≡ header (length payload) ++ payload)
 
+-- What every payload keeps: its numbers are bytes, and it is the rest of a file.
+pub record IsPayload (payload : List ℕ) : Type 0 where
+  pub fits : (i : ℕ) → slice_index payload i < 256
+  pub filed : (file : List ℕ) × Framed payload file
+
 -- The bytes are the file of this value, which is of the type.
 abbrev pub File : Table → Ty → Datum → List ℕ → Type 0
 File table ty v bytes = HasType table v ty × Framed (packed v) bytes
@@ -32,9 +37,13 @@ HasMagic bytes = take 4 bytes ≡ magic
 abbrev pub HasVersion : List ℕ → Type 0
 HasVersion bytes = (v : ℕ) → slice_get bytes 4 ≡ Some v → v ≡ 1
 
+-- The byte at this place is zero, where it is there.
+abbrev pub IsZeroAt : List ℕ → ℕ → Type 0
+IsZeroAt bytes i = (b : ℕ) → slice_get bytes i ≡ Some b → b ≡ 0
+
 -- The reserved bytes are zero, as far as they are there.
 abbrev pub HasReserved : List ℕ → Type 0
-HasReserved bytes = (i b : ℕ) → 5 ≤ i → i < 8 → slice_get bytes i ≡ Some b → b ≡ 0
+HasReserved bytes = IsZeroAt bytes 5 × IsZeroAt bytes 6 × IsZeroAt bytes 7
 
 -- The header is there whole, and its length is that of the rest.
 abbrev pub HasLength : List ℕ → Type 0
