@@ -3,3 +3,4 @@ pub mod Framed
 pub mod Reading
 pub mod Surveyed
 pub mod Unpacking
+pub mod Packing

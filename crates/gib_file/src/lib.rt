@@ -1,21 +1,18 @@
 //! Packed files: their header, and the bytes of a value.
 #![tactic(auto)]
 
-
-
+mod decode;
+mod encode;
 mod fault;
 mod header;
 mod law;
 mod scan;
 mod surveyed;
 
-
-
+pub use decode::unpack;
+pub use encode::pack;
 pub use fault::{HeadFault, PackFault};
 pub use header::{Payload, read_header};
 pub use law::{one_reading, reading_is_packed, refused_byte, refused_payload};
 pub use scan::survey;
 pub use surveyed::Survey;
-
-
-

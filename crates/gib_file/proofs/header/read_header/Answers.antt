@@ -16,4 +16,4 @@ returns-in-Some-payload_of c =
 
 pub returns-in-None : goal.returns-in-None
 returns-in-None c =
-    let a = answers_err c.args.bytes.now _ _ refl (c.if-not-has_magic.ensures.0 tt, c.in_default.ensures, c.if-not-has_reserved.ensures.0 tt, c.in-None.ensures) in record { passed = a.passed; refused = a.refused }
+    let a = answers_err c.args.bytes.now _ _ refl (c.if-not-has_magic.ensures.0 refl, c.in_default.ensures, c.if-not-has_reserved.ensures.0 refl, c.in-None.ensures) in record { passed = a.passed; refused = a.refused }
