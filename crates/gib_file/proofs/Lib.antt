@@ -5,3 +5,6 @@ pub mod Laws
 pub mod Unique
 pub mod Bad
 pub mod HeadLemmas
+pub mod FieldLemmas
+pub mod UnpackLemmas
+pub mod PackLemmas

@@ -164,6 +164,7 @@ pub fn unpack(alloc: Global, survey: Survey<'_>) -> Result<Value, Memory>
 {
     let types = survey.types;
     let payload = survey.payload;
+    types.rules();
     let mut heap = Heap::new(alloc);
     let mut done = Vec::new(alloc);
     let mut ordered = Vec::new(alloc);
