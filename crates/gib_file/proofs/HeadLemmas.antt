@@ -1,7 +1,9 @@
 -- Headers: a file has every part of one, and a first fault leaves no file and no other first fault.
-use Rattle.std.proofs.Common.{◌≡◌, ◌↔◌, ℕ, ◌^◌, ◌<◌, List, [], ◌∷◌, ◌++◌, length, get_or, take, drop, Option, Some, None, Result, Ok, Err, refl, sym, ap, subst, ◌∙◌, arith}
+use Rattle.std.proofs.Common.{◌≡◌, ◌↔◌, ℕ, ◌+◌, ◌-◌, ◌^◌, ◌<◌, List, [], ◌∷◌, ◌++◌, length, get_or, take, drop, Option, Some, None, Result, Ok, Err, refl, sym, ap, subst, ◌∙◌, arith, append-nil}
 use Rattle.std.specs.Prelude.{slice_get}
 use Rattle.std.specs.Int.{w64, to_le_bytes, from_le_bytes}
+use Rattle.std.proofs.lemmas.List.{drop_all}
+use Rattle.std.proofs.Math.Seq.{take-length}
 use Rattle.std.proofs.lemmas.Nat.{from_le_bytes-to_le_bytes_8, le_bytes_8}
 use Rattle.gib_file.specs.declared.fault.HeadFault.{HeadFault}
 use Rattle.gib_file.specs.declared.fault.HeadFault.TheVariants.{Magic, Version, Reserved, Length}
@@ -122,3 +124,21 @@ is_payload bytes payload fits is framed = record {
   fits = subst IsBytes (sym is) (IsBytes-drop 16 bytes fits);
   filed = (bytes, framed);
 }
+
+-- the header of a payload whose length is not known yet
+abbrev pub blank : List ℕ
+blank = 71 ∷ 73 ∷ 66 ∷ 80 ∷ 1 ∷ 0 ∷ 0 ∷ 0 ∷ 0 ∷ 0 ∷ 0 ∷ 0 ∷ 0 ∷ 0 ∷ 0 ∷ 0 ∷ []
+
+-- a file whose length was written into its header last
+pub framed_file : (first written bytes items new out : List ℕ) (len n : ℕ) → items ≡ first ++ written → first ≡ blank → written ≡ bytes → new ≡ take 8 items ++ (to_le_bytes w64 n ++ drop 16 items)
+    → n ≡ length items - 16 → len ≡ length items → len < 2 ^ 64 → out ≡ take len (new ++ drop (length new) items) → Framed bytes out
+framed_file first written bytes items new out len n items_is first_is written_is new_is n_is len_is small out_is =
+    let items_are : items ≡ blank ++ bytes = items_is ∙ ap (λ (l : List ℕ). l ++ written) first_is ∙ ap (λ (l : List ℕ). blank ++ l) written_is in
+    let size : length items ≡ length bytes + 16 = omega (arith, ap length items_are) in
+    let n_are : n ≡ length bytes = omega (arith, size) in
+    let new_are : new ≡ header (length bytes) ++ bytes =
+    new_is ∙ ap (λ (l : List ℕ). take 8 l ++ (to_le_bytes w64 n ++ drop 16 l)) items_are ∙ ap (λ (m : ℕ). header m ++ bytes) n_are in
+    let new_len : length new ≡ len = omega (arith, ap length new_are, size) in
+    let tail : drop (length new) items ≡ [] = drop_all (length new) items (omega (arith, new_len)) in
+    let whole : out ≡ new = out_is ∙ ap (λ (l : List ℕ). take len (new ++ l)) tail ∙ ap (λ (l : List ℕ). take len l) (append-nil new) ∙ ap (λ (m : ℕ). take m new) (sym new_len) ∙ take-length new in
+    (omega (arith, size), whole ∙ new_are)
