@@ -8,3 +8,4 @@ pub mod HeadLemmas
 pub mod FieldLemmas
 pub mod UnpackLemmas
 pub mod PackLemmas
+pub mod Sample

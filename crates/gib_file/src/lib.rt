@@ -16,3 +16,6 @@ pub use header::{Payload, read_header};
 pub use law::{one_reading, reading_is_packed, refused_byte, refused_payload};
 pub use scan::survey;
 pub use surveyed::Survey;
+
+#[cfg(test)]
+mod tests;
