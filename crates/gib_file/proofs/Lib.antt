@@ -9,3 +9,5 @@ pub mod FieldLemmas
 pub mod UnpackLemmas
 pub mod PackLemmas
 pub mod Sample
+pub mod Ended
+pub mod FileLaws

@@ -1,11 +1,12 @@
 //! Laws of packed files.
 
-ghost use Rattle.std.specs.Prelude.{◌≡◌, ◌++◌, ◌↔◌, suc, take, List, ℕ, Ok, Err};
+ghost use Rattle.std.specs.Prelude.{◌≡◌, ◌<◌, ◌++◌, ◌↔◌, suc, take, length, List, ℕ, Ok, Err};
 ghost use Rattle.gib_types.specs.declared.table.Ty.{Ty};
 ghost use Rattle.gib_types.specs.Table.{Table};
 ghost use Rattle.gib_types.specs.Tree.{Datum, HasType};
 ghost use Rattle.gib_file.specs.declared.fault.HeadFault.{HeadFault};
 ghost use Rattle.gib_file.specs.declared.fault.PackFault.{PackFault};
+ghost use Rattle.gib_file.specs.declared.fault.PackFault.TheVariants.{Trailing};
 ghost use Rattle.gib_file.specs.Packed.{packed, Packed, IsPacked};
 ghost use Rattle.gib_file.specs.Framed.{Framed, File, IsFirstFault};
 ghost use Rattle.gib_file.specs.Reading.{read_all, IsBadAt};
@@ -24,6 +25,13 @@ pub fn reading_is_packed()
         → (read_all table ty bytes ≡ Ok count) ↔ IsPacked table ty bytes count }
 {}
 
+/// Reading refuses the byte at a place as one behind the value's end exactly where the bytes before it are
+/// those of a value of the type.
+pub fn trailing_is_behind()
+    ensures { (table : Table) (ty : Ty) (bytes : List ℕ) (at : ℕ) → IsBytes bytes
+        → (read_all table ty bytes ≡ Err (Trailing at)) ↔ ((at < length bytes) × ((v : Datum) × Packed table ty v (take at bytes))) }
+{}
+
 /// No packed bytes of the type begin with the bytes up to and including the one that is refused as a
 /// tag, as a truth value, or as one behind the value's end.
 pub fn refused_byte()
@@ -35,4 +43,21 @@ pub fn refused_byte()
 pub fn refused_payload()
     ensures { (table : Table) (ty : Ty) (bytes : List ℕ) (fault : PackFault) → read_all table ty bytes ≡ Err fault
         → (v : Datum) → Packed table ty v bytes → ⊥ }
+{}
+
+/// A packed file is that of one value, and a value of a type has one packed file.
+pub fn one_file()
+    ensures value { (table : Table) (ty : Ty) (v w : Datum) (bytes : List ℕ) → File table ty v bytes → File table ty w bytes → v ≡ w }
+    ensures bytes { (table : Table) (ty : Ty) (v : Datum) (a b : List ℕ) → File table ty v a → File table ty v b → a ≡ b }
+{}
+
+/// Bytes whose header has a fault are no packed file of a value.
+pub fn refused_header()
+    ensures { (table : Table) (ty : Ty) (v : Datum) (bytes : List ℕ) (fault : HeadFault) → IsFirstFault bytes fault → File table ty v bytes → ⊥ }
+{}
+
+/// A file in whose payload reading meets a fault is no packed file of a value of the type.
+pub fn refused_file()
+    ensures { (table : Table) (ty : Ty) (payload bytes : List ℕ) (fault : PackFault) → Framed payload bytes → read_all table ty payload ≡ Err fault
+        → (v : Datum) → File table ty v bytes → ⊥ }
 {}

@@ -13,7 +13,10 @@ pub use decode::unpack;
 pub use encode::pack;
 pub use fault::{HeadFault, PackFault};
 pub use header::{Payload, read_header};
-pub use law::{one_reading, reading_is_packed, refused_byte, refused_payload};
+pub use law::{
+    one_file, one_reading, reading_is_packed, refused_byte, refused_file, refused_header,
+    refused_payload, trailing_is_behind,
+};
 pub use scan::survey;
 pub use surveyed::Survey;
 
