@@ -1,5 +1,5 @@
 -- Files and values.
-use Rattle.std.proofs.Common.{◌≡◌, ℕ, List, [], ◌∷◌, ◌++◌, Err, refl, sym, ap, subst, ◌∙◌, append-nil}
+use Rattle.std.proofs.Common.{◌≡◌, ℕ, List, [], ◌∷◌, ◌++◌, Err, sym, ap, ◌∙◌}
 use Rattle.gib_types.specs.declared.table.Ty.{Ty}
 use Rattle.gib_types.specs.Table.{Table}
 use Rattle.gib_types.specs.Tree.{Datum}

@@ -1,5 +1,5 @@
 -- Headers: a file has every part of one, and a first fault leaves no file and no other first fault.
-use Rattle.std.proofs.Common.{◌≡◌, ◌↔◌, ℕ, ◌+◌, ◌-◌, ◌^◌, ◌<◌, List, [], ◌∷◌, ◌++◌, length, get_or, take, drop, Option, Some, None, Result, Ok, Err, refl, sym, ap, subst, ◌∙◌, arith, append-nil}
+use Rattle.std.proofs.Common.{◌≡◌, ◌↔◌, ℕ, ◌+◌, ◌-◌, ◌^◌, ◌<◌, List, [], ◌∷◌, ◌++◌, length, get_or, take, drop, Option, Some, Result, Ok, Err, refl, sym, ap, subst, ◌∙◌, arith, append-nil}
 use Rattle.std.specs.Prelude.{slice_get}
 use Rattle.std.specs.Int.{w64, to_le_bytes, from_le_bytes}
 use Rattle.std.proofs.lemmas.List.{drop_all}
@@ -44,8 +44,7 @@ framed_whole (a ∷ b ∷ c ∷ d ∷ e ∷ f ∷ g ∷ h ∷ i ∷ j ∷ k ∷ 
     let eight = i ∷ j ∷ k ∷ l ∷ m ∷ n ∷ o ∷ p ∷ [] in
     let eight_fit : (x : ℕ) → get_or eight x 0 < 256 = bytes_fit i j k l m n o p rest (IsBytes-drop 8 (a ∷ b ∷ c ∷ d ∷ e ∷ f ∷ g ∷ h ∷ i ∷ j ∷ k ∷ l ∷ m ∷ n ∷ o ∷ p ∷ rest) fits) in
     let length_back : to_le_bytes w64 (length rest) ≡ eight = le_bytes_8 eight (length rest) refl eight_fit (sym length_is.1) in
-    let bound : from_le_bytes w64 eight < 2 ^ 64 = below eight eight_fit in
-    (
+    let bound : from_le_bytes w64 eight < 2 ^ 64 = below eight eight_fit in (
       omega (arith, bound, length_is.1),
       ap (λ (x : List ℕ). x ++ (e ∷ f ∷ g ∷ h ∷ (eight ++ rest))) magic_is
           ∙ ap (λ (x : ℕ). 71 ∷ 73 ∷ 66 ∷ 80 ∷ x ∷ f ∷ g ∷ h ∷ (eight ++ rest)) (version_is e refl)
@@ -100,16 +99,16 @@ pub answers_err : (bytes : List ℕ) (fault : HeadFault) (r : Result (List ℕ) 
 answers_err bytes fault r is first = record {
   passed = λ payload. (λ e. absurd (ok_apart payload fault r e is), λ h. absurd (no_file payload bytes fault h first));
   refused = λ other. (
-      λ e. subst (λ (f : HeadFault). IsFirstFault bytes f) (same_fault fault other r is e) first,
-      λ k. is ∙ ap (λ (f : HeadFault). Err f) (one_fault bytes fault other first k),
+    λ e. subst (λ (f : HeadFault). IsFirstFault bytes f) (same_fault fault other r is e) first,
+    λ k. is ∙ ap (λ (f : HeadFault). Err f) (one_fault bytes fault other first k),
   );
 }
 
 pub answers_ok : (bytes payload : List ℕ) (r : Result (List ℕ) HeadFault) → r ≡ Ok payload → Framed payload bytes → Answers bytes r
 answers_ok bytes payload r is framed = record {
   passed = λ other. (
-      λ e. subst (λ (p : List ℕ). Framed p bytes) (same_payload payload other r is e) framed,
-      λ h. is ∙ ap (λ (p : List ℕ). Ok p) (sym (parts payload bytes framed).rest_is ∙ (parts other bytes h).rest_is),
+    λ e. subst (λ (p : List ℕ). Framed p bytes) (same_payload payload other r is e) framed,
+    λ h. is ∙ ap (λ (p : List ℕ). Ok p) (sym (parts payload bytes framed).rest_is ∙ (parts other bytes h).rest_is),
   );
   refused = λ fault. (λ e. absurd (ok_apart payload fault r is e), λ k. absurd (no_file payload bytes fault framed k));
 }

@@ -1,5 +1,5 @@
 -- What is read is packed.
-use Rattle.std.proofs.Common.{◌≡◌, ℕ, zero, suc, ◌+◌, ◌^◌, ◌<◌, ◌≤◌, List, [], ◌∷◌, ◌++◌, length, get_or, take, drop, Option, Some, None, Ok, Bool, true, false, cond, refl, sym, ap, subst, ◌∙◌, arith, append_assoc, inl, inr}
+use Rattle.std.proofs.Common.{◌≡◌, ℕ, zero, suc, ◌+◌, ◌^◌, ◌<◌, ◌≤◌, List, [], ◌∷◌, ◌++◌, length, take, drop, Option, Some, None, Ok, Bool, true, false, cond, refl, sym, ap, subst, ◌∙◌, arith, append_assoc, inl, inr}
 use Rattle.std.specs.Prelude.{ℤ, slice_get, ◌==◌, FitsSigned}
 use Rattle.std.specs.Int.{w64, from_le_bytes, to_le_bytes, cast_signed, cast_unsigned}
 use Rattle.std.proofs.lemmas.Nat.{le_bytes_8}
@@ -11,7 +11,7 @@ use Rattle.gib_types.specs.declared.table.Ty.{Ty}
 use Rattle.gib_types.specs.declared.table.TyId.{TyId}
 use Rattle.gib_types.specs.declared.table.Ty.TheVariants as ty
 use Rattle.gib_types.specs.Table.{Row, Table, con_at, if_owned, fields_at, in_order, scalar_types, tree_types}
-use Rattle.gib_types.specs.Tree.{Datum, whole, truth, con, Data, none, more, HaveTypes, all_constructors, data_of, list_of}
+use Rattle.gib_types.specs.Tree.{whole, truth, con, Data, none, more, HaveTypes, all_constructors, data_of, list_of}
 use Rattle.gib_file.specs.Packed.{number, bit, scalars, tree, trees, packed}
 use Rattle.gib_file.specs.Reading.{read, with_con}
 use Rattle.gib_file.specs.Surveyed.{IsBytes}

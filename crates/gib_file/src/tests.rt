@@ -1,3 +1,7 @@
+ghost use Rattle.std.specs.Prelude.{◌≡◌, ◌++◌, ◌∷◌, [], map, IfOk, OnOk};
+ghost use Rattle.gib_types.specs.Table.{row_of};
+ghost use Rattle.gib_types.specs.Tree.{IsTyped};
+
 use super::*;
 use gib_base::{Memory, Name};
 use gib_types::{Constructor, Ty, TyId, TypeTable};
@@ -5,13 +9,12 @@ use gib_value::Value;
 use std::alloc::Global;
 use std::test::*;
 
-ghost use Rattle.std.specs.Prelude.{◌≡◌, ◌++◌, ◌∷◌, [], map, IfOk, OnOk};
-ghost use Rattle.gib_types.specs.Table.{row_of};
-ghost use Rattle.gib_types.specs.Tree.{IsTyped};
-
 const TREE: Ty = Ty::Tree(TyId(0));
+
 const PAIR: Ty = Ty::Tree(TyId(1));
+
 const TRUTH: Ty = Ty::Tree(TyId(2));
+
 const LIST: Ty = Ty::Tree(TyId(3));
 
 fn add(
@@ -126,7 +129,11 @@ fn payloads_are_refused_at_their_first_fault(rt: HostRuntime) -> Result<(), Fail
         (TRUTH, b"\x03", PackFault::Short(1)),
         (PAIR, b"\x02\x07\0\0\0\0\0\0\0\x04", PackFault::Tag(9)),
         (LIST, b"\x05\x01\0\0\0\0\0\0\0\x00", PackFault::Tag(9)),
-        (Ty::Whole, b"\xff\xff\xff\xff\xff\xff\xff", PackFault::Short(0)),
+        (
+            Ty::Whole,
+            b"\xff\xff\xff\xff\xff\xff\xff",
+            PackFault::Short(0),
+        ),
         (
             Ty::Whole,
             b"\xff\xff\xff\xff\xff\xff\xff\xff\xff",
@@ -163,7 +170,10 @@ fn headers_are_refused_at_their_first_fault(rt: HostRuntime) {
             b"GIBP\x01\0\0\0\xff\xff\xff\xff\xff\xff\xff\xff",
             HeadFault::Length,
         ),
-        (b"GIBP\x01\0\0\0\x01\0\0\0\0\0\0\0\x2a\x2b", HeadFault::Length),
+        (
+            b"GIBP\x01\0\0\0\x01\0\0\0\0\0\0\0\x2a\x2b",
+            HeadFault::Length,
+        ),
         (b"GIBP\x01\0\0\0\x02\0\0\0\0\0\0\0\x2a", HeadFault::Length),
         (b"GIBP\x01\0\0\0\0\0\0\0\0\0\0\x01\x2a", HeadFault::Length),
     ];

@@ -4,7 +4,6 @@ use Rattle.gib_file.specs.declared.decode.Work.TheVariants.{Due, Close}
 use Rattle.gib_file.proofs.ReadLemmas.{con_at_within}
 use Rattle.gib_file.proofs.UnpackLemmas.{start, popped, none_left, closes, closes-step, closes-tree, whole_in, step_whole, truth_in, step_truth, tree_in, tree_con, step_tree, step_close, finish}
 use Rattle.gib_file.specs.Surveyed.{Surveyed}
-use Rattle.gib_value.specs.Heap.{value_of}
 use Rattle.gib_types.specs.Tree.{Datum}
 use Rattle.gib_file.specs.Packed.{Packed}
 use Rattle.gib_file.proofs.decode.unpack.Goals as goal

@@ -9,8 +9,7 @@ push_value-requires-clause-tags c = rw c.parts-root.ensures.value (HasTags-typed
 
 pub returns : goal.returns
 returns c ty typed =
-    let out = c.push_value.new.out in
-    (
+    let out = c.push_value.new.out in (
       typed,
       framed_file _ _ _ out.items c.set_length.new.file _ out.len _ c.in_ok-push_value.ensures c.in_ok-file.ensures.items (ap packed c.parts-root.ensures.value)
           (rw c.deref_mut.ensures.value at c.set_length.ensures)

@@ -1,4 +1,4 @@
-use Rattle.std.proofs.Common.{ℕ, ◌<◌, get_or, refl, arith}
+use Rattle.std.proofs.Common.{refl, arith}
 use Rattle.gib_file.specs.Framed.{Framed}
 use Rattle.gib_file.proofs.HeadLemmas.{answers_err, answers_ok, framed_rest, is_payload}
 use Rattle.gib_file.proofs.header.read_header.Goals as goal

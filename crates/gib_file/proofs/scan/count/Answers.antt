@@ -1,4 +1,4 @@
-use Rattle.std.proofs.Common.{arith, sym, ap, ◌∙◌, ◌++◌, List, reverse}
+use Rattle.std.proofs.Common.{arith, ap, ◌∙◌, ◌++◌, List, reverse}
 use Rattle.gib_types.specs.declared.table.Ty.{Ty}
 use Rattle.gib_types.specs.Table.{in_order}
 use Rattle.gib_file.proofs.ReadLemmas.{whole_short, whole, truth_short, truth_bad, truth, tree_short, tree_none, tree, trailing, done, con_at_within}

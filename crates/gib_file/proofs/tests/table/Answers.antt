@@ -1,4 +1,4 @@
-use Rattle.std.proofs.Common.{ap, map, List, ℕ, refl}
+use Rattle.std.proofs.Common.{ap, map, List, refl}
 use Rattle.gib_base.specs.declared.name.Name.{Name}
 use Rattle.gib_file.proofs.Sample.{sample_is_table}
 use Rattle.gib_file.proofs.tests.table.Goals as goal
