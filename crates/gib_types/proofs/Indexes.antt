@@ -3,7 +3,7 @@ use Rattle.std.proofs.Common.{◌≡◌, ℕ, ◌+◌, ◌<◌, ◌≤◌, List,
 use Rattle.std.proofs.lemmas.Bool.{cases_lt, eqb-true, eq-eqb}
 use Rattle.std.proofs.lemmas.Option.{slice_get_within, slice_get-map, slice_get-get_or}
 use Rattle.std.proofs.lemmas.List.{length-map, get_or_default}
-use Rattle.gib_base.specs.declared.Name.{Name}
+use Rattle.gib_base.specs.declared.name.Name.{Name}
 use Rattle.gib_types.specs.declared.table.Constructor.{Constructor}
 use Rattle.gib_types.specs.Row.{Row, Table, row_of, table_of}
 use Rattle.gib_types.specs.Table.{rows_before, first_at, count_at, name_of, IsTable, IsNamed}

@@ -1,1 +1,3 @@
 pub mod Heap
+pub mod Text
+pub mod Writing

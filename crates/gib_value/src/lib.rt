@@ -4,7 +4,9 @@
 pub mod heap;
 pub mod node;
 pub mod value;
+pub mod write;
 
 pub use heap::Heap;
 pub use node::Node;
 pub use value::Value;
+pub use write::write_text;

@@ -1,6 +1,6 @@
 use Rattle.std.proofs.Common.{arith, List, ap, subst, sym, ◌∙◌, count_by, nat_lt}
 use Rattle.std.proofs.lemmas.List.{length-map}
-use Rattle.gib_base.specs.declared.Name.{Name}
+use Rattle.gib_base.specs.declared.name.Name.{Name}
 use Rattle.gib_types.specs.declared.table.Constructor.{Constructor}
 use Rattle.gib_types.specs.Row.{table_of}
 use Rattle.gib_types.specs.Index.{NamesDiffer, ArePlacesOf}
