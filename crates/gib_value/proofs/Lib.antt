@@ -1,3 +1,13 @@
 pub mod HeapLemmas
 pub mod HeapMakes
 pub mod WriteLemmas
+pub mod Numbers
+pub mod ReadNames
+pub mod ReadClose
+pub mod ReadTakes
+pub mod ReadLoop
+pub mod Tokens
+pub mod Complete
+pub mod Agree
+pub mod OneText
+pub mod ReadText

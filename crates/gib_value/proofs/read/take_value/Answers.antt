@@ -1,0 +1,17 @@
+use Rattle.std.proofs.Common.{reverse}
+use Rattle.gib_value.specs.declared.node.Node.{Node}
+use Rattle.gib_value.specs.Reading.{IsLeaf}
+use Rattle.gib_value.proofs.ReadTakes.{leaf_steps, value_refused, some_of, none_of}
+use Rattle.gib_value.proofs.read.take_value.Goals as goal
+
+pub returns-in-Some-clause-yes : goal.returns-in-Some-clause-yes
+returns-in-Some-clause-yes c = λ e.
+    leaf_steps c.args.types.now c.args.names.now c.args.ty c.args.token.now c.args.heap.now c.args.done.now.items c.push.new.self.items c.in-Some.node (reverse c.args.wanted.now.items)
+    (some_of _ c.in-Some.node _ (λ (n : Node). IsLeaf c.args.types.now c.args.names.now c.args.ty c.args.token.now n) c.in_ok-node.ensures c.in-Some.is)
+    c.in_ok-push.ensures.items c.requires.held
+
+pub returns-in_default-find_opened-clause-no : goal.returns-in_default-find_opened-clause-no
+returns-in_default-find_opened-clause-no c = λ e.
+    value_refused c.args.types.now c.args.names.now c.args.ty c.args.token.now
+    (none_of _ ((n : Node) → IsLeaf c.args.types.now c.args.names.now c.args.ty c.args.token.now n → ⊥) (λ (n : Node). IsLeaf c.args.types.now c.args.names.now c.args.ty c.args.token.now n) c.in_ok-node.ensures c.in_default.is)
+    c.in_default-find_opened.ensures

@@ -1,0 +1,474 @@
+//! The value that a text spells.
+
+ghost use Rattle.std.specs.Prelude.{◌≡◌, ◌<◌, ◌≤◌, ◌+◌, ◌-◌, ◌++◌, ◌∷◌, ◌↔◌, [], ℕ, ℤ, List, Bool, true, false, IsTrue, reverse, length, map, take, drop, Some, FitsSigned, OnOk, IfOk, MatchOption, MatchResult};
+ghost use Rattle.std.specs.Int.{w64};
+ghost use Rattle.std.specs.List.{AllByRecursion, prefix_len};
+ghost use Rattle.std.specs.Char.{is_ascii_digit};
+ghost use Rattle.std.specs.Fmt.{signed_decimal};
+ghost use Rattle.gib_base.specs.Piece.{is_name_byte};
+ghost use Rattle.gib_types.specs.Tree.{Datum};
+ghost use Rattle.gib_types.specs.Table.{con_at, fields_at, name_at};
+ghost use Rattle.gib_value.specs.Heap.{value_of, IsWithin};
+ghost use Rattle.gib_value.specs.Text.{truth_text, con_text, AreHeld};
+ghost use Rattle.gib_value.specs.Reading.{token_len as token_len_of, fields_wanted, closed, HasFull, AreWords, IsLeaf, Opens, IsReady, Steps, Refuses, IsTextOf, ReadsTo};
+
+use crate::fault::TextFault;
+use crate::heap::Heap;
+use crate::node::Node;
+use crate::value::Value;
+use gib_base::{Memory, Names};
+use gib_types::{ConId, Ty, TyId, TypeTable};
+use std::alloc::Global;
+
+/// What may stand next in a value text.
+#[derive(Clone, Copy)]
+enum Wanted {
+    /// A value of the type.
+    Value(Ty),
+    /// The name of a constructor of the type, one with fields.
+    Name(TyId),
+    /// The space before a field.
+    Space,
+    /// The parenthesis that ends a constructor.
+    Close(ConId),
+}
+
+/// Whether a name goes on with the byte.
+fn name_byte(b: u8) -> bool
+    ensures { result ≡ is_name_byte b }
+{
+    b.is_ascii_alphabetic() || b.is_ascii_digit() || b == 95
+}
+
+/// How many bytes at the front go on a name.
+fn name_len(bytes: &[u8]) -> usize
+    ensures value { result ≡ prefix_len is_name_byte bytes.now }
+    ensures bound { result ≤ length bytes.now }
+{
+    bytes.iter().take_while(|b| name_byte(**b)).count()
+}
+
+/// How many bytes at the front are digits.
+fn digits_len(bytes: &[u8]) -> usize
+    ensures value { result ≡ prefix_len is_ascii_digit bytes.now }
+    ensures bound { result ≤ length bytes.now }
+{
+    bytes.iter().take_while(|b| b.is_ascii_digit()).count()
+}
+
+/// The length of the token at the front, or 0 where none begins.
+fn token_len(bytes: &[u8]) -> usize
+    ensures value { result ≡ token_len_of bytes.now }
+    ensures bound { result ≤ length bytes.now }
+{
+    match bytes {
+        [] => 0,
+        [b, rest @ ..] => {
+            if b.is_ascii_alphabetic() {
+                1 + name_len(rest)
+            } else if b.is_ascii_digit() || *b == 45 {
+                1 + digits_len(rest)
+            } else if *b == 40 || *b == 41 || *b == 32 {
+                1
+            } else {
+                0
+            }
+        }
+    }
+}
+
+/// Whether the token is this byte.
+fn is_byte(token: &[u8], byte: u8) -> bool
+    ensures yes { result ≡ true → token.now ≡ byte ∷ [] }
+    ensures no { result ≡ false → token.now ≡ byte ∷ [] → ⊥ }
+{
+    match token {
+        [b] => *b == byte,
+        _ => false,
+    }
+}
+
+/// The truth value that the token is.
+fn truth_of(token: &[u8]) -> Option<bool>
+    ensures { MatchOption result ((b : Bool) → token.now ≡ truth_text b → ⊥) (λ b. token.now ≡ truth_text b) }
+{
+    if token == b"True".as_slice() {
+        Some(true)
+    } else if token == b"False".as_slice() {
+        Some(false)
+    } else {
+        None
+    }
+}
+
+/// The only number that the token can be the text of.
+fn candidate(token: &[u8]) -> Option<i64>
+    ensures { (z : ℤ) → FitsSigned w64 z → token.now ≡ signed_decimal z → result ≡ Some z }
+{
+    let Ok(text) = std::str::from_utf8(token) else {
+        return None;
+    };
+    match text.parse::<i64>() {
+        Ok(z) => Some(z),
+        Err(_) => None,
+    }
+}
+
+/// Whether the token is the text of the number.
+fn is_text_of(alloc: Global, token: &[u8], z: i64) -> Result<bool, Memory>
+    ensures { IfOk result (λ same. (same ≡ true → token.now ≡ signed_decimal z) × (same ≡ false → token.now ≡ signed_decimal z → ⊥)) }
+{
+    let digits = format!(in alloc; "{z}")?;
+    Ok(token == digits.as_bytes())
+}
+
+/// The number that the token is.
+fn number_of(alloc: Global, token: &[u8]) -> Result<Option<i64>, Memory>
+    ensures { IfOk result (λ found. MatchOption found ((z : ℤ) → FitsSigned w64 z → token.now ≡ signed_decimal z → ⊥) (λ z. token.now ≡ signed_decimal z)) }
+{
+    let Some(z) = candidate(token) else {
+        return Ok(None);
+    };
+    // A number has one text: no zeros lead it, and no sign but a minus.
+    if is_text_of(alloc, token, z)? {
+        Ok(Some(z))
+    } else {
+        Ok(None)
+    }
+}
+
+/// The constructor that the token names.
+fn find_named(types: &TypeTable, names: &Names, token: &[u8]) -> Option<ConId>
+    ensures { MatchOption result
+        ((con : ℕ) → con < length types.now.rows → name_at types.now con < length names.now → token.now ≡ con_text types.now names.now con → ⊥)
+        (λ con. (con.0 < length types.now.rows) × (token.now ≡ con_text types.now names.now con.0)
+        × ((other : ℕ) → other < length types.now.rows → name_at types.now other < length names.now → token.now ≡ con_text types.now names.now other → other ≡ con.0)) }
+{
+    // Different numbers are different texts, and no two constructors have one name.
+    let _count = names.len();
+    types.rules();
+    match names.find(token) {
+        Some(name) => types.con_named(name),
+        None => None,
+    }
+}
+
+/// The constructor of the type that the token names.
+fn find_of(types: &TypeTable, names: &Names, ty: TyId, token: &[u8]) -> Option<ConId>
+    requires { AreHeld types.now names.now }
+    ensures { MatchOption result
+        ((con : ConId) → con_at types.now ty.0 con.0 ≡ Some con.0 → token.now ≡ con_text types.now names.now con.0 → ⊥)
+        (λ con. (con_at types.now ty.0 con.0 ≡ Some con.0) × (token.now ≡ con_text types.now names.now con.0) × (con.0 < length types.now.rows)
+        × ((other : ConId) → con_at types.now ty.0 other.0 ≡ Some other.0 → token.now ≡ con_text types.now names.now other.0 → other.0 ≡ con.0)) }
+{
+    let Some(con) = find_named(types, names, token) else {
+        return None;
+    };
+    if types.type_of(con).0 == ty.0 {
+        Some(con)
+    } else {
+        None
+    }
+}
+
+/// Whether the constructor is one of the type, with fields.
+fn is_full(types: &TypeTable, ty: TyId, con: ConId) -> bool
+    requires { con.0 < length types.now.rows }
+    ensures yes { result ≡ true → HasFull types.now ty }
+    ensures no { result ≡ false → con_at types.now ty.0 con.0 ≡ Some con.0 → 0 < length (fields_at types.now con.0) → ⊥ }
+{
+    types.type_of(con).0 == ty.0 && !types.fields(con).is_empty()
+}
+
+/// Whether the type has a constructor with fields.
+fn has_full(types: &TypeTable, ty: TyId) -> bool
+    ensures yes { result ≡ true → HasFull types.now ty }
+    ensures no { result ≡ false → HasFull types.now ty → ⊥ }
+{
+    let mut con = 0;
+    'constructors: while con < types.len() {
+        if is_full(types, ty, ConId(con)) {
+            return true;
+        }
+        con += 1;
+    }
+    false
+}
+
+/// Puts what is wanted after a constructor's name on the stack, the first one on top.
+fn push_wanted(wanted: &mut Vec<Wanted>, con: ConId, fields: &[Ty]) -> Result<(), Memory>
+    ensures { OnOk result (reverse wanted.new.items ≡ fields_wanted con fields.now ++ reverse wanted.old.items) }
+{
+    wanted.push(Wanted::Close(con))?;
+    let mut i = fields.len();
+    'fields: while i > 0 {
+        i -= 1;
+        wanted.push(Wanted::Value(fields[i]))?;
+        wanted.push(Wanted::Space)?;
+    }
+    Ok(())
+}
+
+/// Makes a constructor of the last values.
+fn close(heap: &mut Heap, done: &mut Vec<Node>, con: ConId, count: usize) -> Result<(), Memory>
+    requires count { count ≤ length done.old.items }
+    requires few { count ≤ 8 }
+    requires held { AllByRecursion (IsWithin (length heap.old)) done.old.items }
+    ensures values { OnOk result (map (value_of heap.new) done.new.items ≡ closed con.0 count (map (value_of heap.old) done.old.items)) }
+    ensures held { OnOk result (AllByRecursion (IsWithin (length heap.new)) done.new.items) }
+{
+    let base = done.len() - count;
+    let (_, fields) = done.as_slice().split_at(base);
+    let node = heap.make(con, fields)?;
+    done.truncate(base);
+    done.push(node)?;
+    Ok(())
+}
+
+/// The constructor without fields that the token is.
+fn find_bare(types: &TypeTable, names: &Names, ty: TyId, token: &[u8]) -> Option<Node>
+    requires { AreHeld types.now names.now }
+    ensures { MatchOption result ((node : Node) → IsLeaf types.now names.now (Ty.Tree ty) token.now node → ⊥) (λ node. IsLeaf types.now names.now (Ty.Tree ty) token.now node) }
+{
+    let Some(con) = find_of(types, names, ty, token) else {
+        return None;
+    };
+    if types.fields(con).is_empty() {
+        Some(Node::Con {
+            con,
+            count: 0,
+            first: 0,
+        })
+    } else {
+        None
+    }
+}
+
+/// The value of the type whose whole text the token is.
+fn find_leaf(
+    alloc: Global,
+    types: &TypeTable,
+    names: &Names,
+    ty: Ty,
+    token: &[u8],
+) -> Result<Option<Node>, Memory>
+    requires { AreHeld types.now names.now }
+    ensures { IfOk result (λ found. MatchOption found ((node : Node) → IsLeaf types.now names.now ty token.now node → ⊥) (λ node. IsLeaf types.now names.now ty token.now node)) }
+{
+    match ty {
+        Ty::Whole => match number_of(alloc, token)? {
+            Some(z) => Ok(Some(Node::Whole(z))),
+            None => Ok(None),
+        },
+        Ty::Truth => match truth_of(token) {
+            Some(b) => Ok(Some(Node::Truth(b))),
+            None => Ok(None),
+        },
+        Ty::Tree(of) => match find_bare(types, names, of, token) {
+            Some(node) => Ok(Some(node)),
+            None => Ok(None),
+        },
+    }
+}
+
+/// The type of which the token opens a constructor.
+fn find_opened(types: &TypeTable, ty: Ty, token: &[u8]) -> Option<TyId>
+    ensures { MatchOption result ((t : TyId) → Opens types.now ty token.now t → ⊥) (λ t. Opens types.now ty token.now t) }
+{
+    match ty {
+        Ty::Whole | Ty::Truth => None,
+        Ty::Tree(of) => {
+            if is_byte(token, 40) && has_full(types, of) {
+                Some(of)
+            } else {
+                None
+            }
+        }
+    }
+}
+
+/// Takes the first token of a value.
+fn take_value(
+    alloc: Global,
+    types: &TypeTable,
+    names: &Names,
+    heap: &Heap,
+    done: &mut Vec<Node>,
+    wanted: &mut Vec<Wanted>,
+    ty: Ty,
+    token: &[u8],
+) -> Result<bool, Memory>
+    requires names { AreHeld types.now names.now }
+    requires held { AllByRecursion (IsWithin (length heap.now)) done.old.items }
+    ensures yes { IfOk result (λ took. took ≡ true → Steps types.now names.now (Wanted.Value ty) token.now heap.now heap.now done.old.items done.new.items (reverse wanted.old.items) (reverse wanted.new.items)) }
+    ensures no { IfOk result (λ took. took ≡ false → Refuses types.now names.now (Wanted.Value ty) token.now) }
+{
+    if let Some(node) = find_leaf(alloc, types, names, ty, token)? {
+        done.push(node)?;
+        return Ok(true);
+    }
+    let Some(opened) = find_opened(types, ty, token) else {
+        return Ok(false);
+    };
+    wanted.push(Wanted::Name(opened))?;
+    Ok(true)
+}
+
+/// Takes the name of a constructor with fields.
+fn take_name(
+    types: &TypeTable,
+    names: &Names,
+    heap: &Heap,
+    done: &[Node],
+    wanted: &mut Vec<Wanted>,
+    ty: TyId,
+    token: &[u8],
+) -> Result<bool, Memory>
+    requires names { AreHeld types.now names.now }
+    requires held { AllByRecursion (IsWithin (length heap.now)) done.now }
+    ensures yes { IfOk result (λ took. took ≡ true → Steps types.now names.now (Wanted.Name ty) token.now heap.now heap.now done.now done.now (reverse wanted.old.items) (reverse wanted.new.items)) }
+    ensures no { IfOk result (λ took. took ≡ false → Refuses types.now names.now (Wanted.Name ty) token.now) }
+{
+    let Some(con) = find_of(types, names, ty, token) else {
+        return Ok(false);
+    };
+    let fields = types.fields(con);
+    if fields.is_empty() {
+        return Ok(false);
+    }
+    push_wanted(wanted, con, fields)?;
+    Ok(true)
+}
+
+/// Takes the parenthesis that ends a constructor.
+fn take_close(
+    types: &TypeTable,
+    names: &Names,
+    heap: &mut Heap,
+    done: &mut Vec<Node>,
+    wanted: &[Wanted],
+    con: ConId,
+    token: &[u8],
+) -> Result<bool, Memory>
+    requires ready { IsReady types.now (Wanted.Close con) (length done.old.items) }
+    requires held { AllByRecursion (IsWithin (length heap.old)) done.old.items }
+    ensures yes { IfOk result (λ took. took ≡ true → Steps types.now names.now (Wanted.Close con) token.now heap.old heap.new done.old.items done.new.items (reverse wanted.now) (reverse wanted.now)) }
+    ensures no { IfOk result (λ took. took ≡ false → Refuses types.now names.now (Wanted.Close con) token.now) }
+{
+    if !is_byte(token, 41) {
+        return Ok(false);
+    }
+    types.rules();
+    close(heap, done, con, types.fields(con).len())?;
+    Ok(true)
+}
+
+/// Takes a token, where it can stand; answers whether it can.
+fn take(
+    alloc: Global,
+    types: &TypeTable,
+    names: &Names,
+    heap: &mut Heap,
+    done: &mut Vec<Node>,
+    wanted: &mut Vec<Wanted>,
+    next: Wanted,
+    token: &[u8],
+) -> Result<bool, Memory>
+    requires names { AreHeld types.now names.now }
+    requires ready { IsReady types.now next (length done.old.items) }
+    requires held { AllByRecursion (IsWithin (length heap.old)) done.old.items }
+    ensures yes { IfOk result (λ took. took ≡ true → Steps types.now names.now next token.now heap.old heap.new done.old.items done.new.items (reverse wanted.old.items) (reverse wanted.new.items)) }
+    ensures no { IfOk result (λ took. took ≡ false → Refuses types.now names.now next token.now) }
+{
+    match next {
+        Wanted::Value(ty) => {
+            let took = take_value(alloc, types, names, heap, done, wanted, ty, token)?;
+            Ok(took)
+        }
+        Wanted::Name(ty) => {
+            let took = take_name(types, names, heap, done, wanted, ty, token)?;
+            Ok(took)
+        }
+        Wanted::Space => Ok(is_byte(token, 32)),
+        Wanted::Close(con) => {
+            let took = take_close(types, names, heap, done, wanted, con, token)?;
+            Ok(took)
+        }
+    }
+}
+
+/// Reads token by token, up to the first one that can't stand.
+fn read_tokens(
+    alloc: Global,
+    types: &TypeTable,
+    names: &Names,
+    ty: Ty,
+    text: &[u8],
+) -> Result<Value, TextFault>
+    requires { AreHeld types.now names.now }
+    ensures { ReadsTo types.now names.now ty text.now result }
+{
+    let mut heap = Heap::new(alloc);
+    let mut done = Vec::new(alloc);
+    let mut wanted = Vec::new(alloc);
+    wanted.push(Wanted::Value(ty))?;
+    let mut at = 0;
+    'wanted: while let Some(next) = wanted.pop() {
+        let place = at as u64;
+        let (_, rest) = text.split_at(at);
+        let len = token_len(rest);
+        if len == 0 {
+            return Err(TextFault::At(place));
+        }
+        let (token, _) = rest.split_at(len);
+        if !take(
+            alloc,
+            types,
+            names,
+            &mut heap,
+            &mut done,
+            &mut wanted,
+            next,
+            token,
+        )? {
+            return Err(TextFault::At(place));
+        }
+        at += len;
+    }
+    if at < text.len() {
+        return Err(TextFault::At(at as u64));
+    }
+    match done.pop() {
+        Some(root) => Ok(Value::from_parts(heap, root)),
+        None => unreachable!(),
+    }
+}
+
+/// The value of the type whose text this is.
+///
+/// # Errors
+///
+/// At the first token that can't stand in a text of the type.
+pub fn read_text(
+    alloc: Global,
+    types: &TypeTable,
+    names: &Names,
+    ty: Ty,
+    text: &[u8],
+) -> Result<Value, TextFault>
+    requires names { AreHeld types.now names.now }
+    requires words { AreWords types.now names.now }
+    // What is read is the value whose text this is; else the place is that of the first token that can't
+    // stand, and all before it can.
+    ensures exact { ReadsTo types.now names.now ty text.now result }
+    // The text of a value is read, unless memory runs out.
+    ensures complete { (v : Datum) → IsTextOf types.now names.now ty v text.now → MatchResult result (λ found. found ≡ v) (λ e. e ≡ TextFault.Memory) }
+{
+    // Different numbers are different texts, and no two constructors have one name.
+    let _count = names.len();
+    types.rules();
+    match read_tokens(alloc, types, names, ty, text) {
+        Ok(value) => Ok(value),
+        Err(fault) => Err(fault),
+    }
+}
