@@ -1,0 +1,13 @@
+pub mod ReadLemmas
+pub mod Complete
+pub mod Sound
+pub mod Laws
+pub mod Unique
+pub mod Bad
+pub mod HeadLemmas
+pub mod FieldLemmas
+pub mod UnpackLemmas
+pub mod PackLemmas
+pub mod Sample
+pub mod Ended
+pub mod FileLaws
