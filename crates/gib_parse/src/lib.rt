@@ -1,0 +1,7 @@
+//! The parser: tokens to programs, by the grammar.
+#![tactic(auto)]
+
+mod declarations;
+mod expressions;
+mod phrases;
+mod stop;
