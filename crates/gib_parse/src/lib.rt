@@ -1,0 +1,4 @@
+//! The parser: tokens to programs, by the grammar.
+#![tactic(auto)]
+
+pub mod law;
