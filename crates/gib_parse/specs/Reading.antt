@@ -1,5 +1,5 @@
 -- Reading tokens from left to right, with the first fault that is met.
-use Rattle.std.specs.Prelude.{ℕ, zero, suc, ◌-◌, ◌<◌, Bool, true, false, ◌==◌, List, [], ◌∷◌, ◌++◌, length, take, Option, Some, None, Result, Ok, Err}
+use Rattle.std.specs.Prelude.{ℕ, zero, suc, ◌-◌, ◌^◌, ◌<◌, nat_lt, Bool, true, false, ◌==◌, List, [], ◌∷◌, ◌++◌, length, take, Option, Some, None, Result, Ok, Err}
 use Rattle.gib_base.specs.declared.Name.{Name}
 use Rattle.gib_base.specs.declared.Span.{Span}
 use Rattle.gib_base.specs.declared.token.Sign.{Sign}
@@ -129,10 +129,14 @@ starts_type (t.Sign s.Int) = true
 starts_type (t.Sign s.Bool) = true
 starts_type x = false
 
+-- Whether a number is one of the language.
+abbrev pub is_literal : ℕ → Bool
+is_literal n = nat_lt n (2 ^ 63)
+
 abbrev pub starts_atom : Token → Bool
 starts_atom (t.Variable x) = true
 starts_atom (t.Constructor k) = true
-starts_atom (t.Number n) = true
+starts_atom (t.Number n) = is_literal n
 starts_atom (t.Sign s.True) = true
 starts_atom (t.Sign s.False) = true
 starts_atom (t.Sign s.Open) = true
@@ -256,10 +260,14 @@ abbrev pub call : Ident → Arguments → Expression
 call f NoArgument = Var f
 call f (Argument a xs) = Call f (Argument a xs)
 
+abbrev pub literal_at : Bool → Span → ℕ → Reader Expression
+literal_at true p n ts = Ok (Num p n, ts)
+literal_at false p n ts = Err (At (suc (length ts)))
+
 abbrev pub atom_at : Places → Parts → Reader Expression
 atom_at at sub (t.Variable x ∷ ts) = Ok (Var (named at x ts), ts)
 atom_at at sub (t.Constructor k ∷ ts) = Ok (Make (named at k ts) NoArgument, ts)
-atom_at at sub (t.Number n ∷ ts) = Ok (Num (before at ts) n, ts)
+atom_at at sub (t.Number n ∷ ts) = literal_at (is_literal n) (before at ts) n ts
 atom_at at sub (t.Sign s.True ∷ ts) = Ok (Bit (before at ts) true, ts)
 atom_at at sub (t.Sign s.False ∷ ts) = Ok (Bit (before at ts) false, ts)
 atom_at at sub (t.Sign s.Open ∷ ts) = open_at sub (before at ts) ts
