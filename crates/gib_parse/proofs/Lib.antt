@@ -1,1 +1,3 @@
-mod Tools
+pub mod Tools
+pub mod Many
+pub mod Sound
