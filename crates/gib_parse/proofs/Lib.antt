@@ -1,3 +1,4 @@
 pub mod Tools
 pub mod Many
 pub mod Sound
+pub mod Settle
