@@ -1,0 +1,5 @@
+pub mod Tools
+pub mod Many
+pub mod Sound
+pub mod Settle
+pub mod SoFar

@@ -3,5 +3,6 @@
 
 mod declarations;
 mod expressions;
+pub mod law;
 mod phrases;
 mod stop;

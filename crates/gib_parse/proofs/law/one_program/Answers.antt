@@ -1,0 +1,8 @@
+use Rattle.gib_parse.proofs.law.one_program.Goals as goal
+use Rattle.gib_parse.proofs.Many.{many_is}
+use Rattle.gib_parse.proofs.Sound.{parse_sound}
+use Rattle.gib_parse.proofs.Settle.{stays}
+
+-- src/law.rt:9:1
+pub returns : goal.returns
+returns c = ?
