@@ -3,3 +3,4 @@ pub mod Many
 pub mod Sound
 pub mod Settle
 pub mod SoFar
+pub mod Shrinking

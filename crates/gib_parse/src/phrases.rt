@@ -79,20 +79,25 @@ pub(crate) fn constructor<'a>(spans: &[Span], tokens: &'a [Token]) -> Result<(Id
     }
 }
 
+/// Whether a variable comes next.
+fn begins_variable(tokens: &[Token]) -> bool
+    ensures { result ≡ next_is is_variable tokens.now }
+{
+    matches!(tokens, [Token::Variable(_), ..])
+}
+
 /// Variables, as many as there are.
 pub(crate) fn variables<'a>(alloc: Global, spans: &[Span], tokens: &'a [Token]) -> Result<(Vec<Ident>, &'a [Token]), Stop>
     ensures { Gives (λ x. (x.0.items, x.1.now)) result (many is_variable (var_at (places_of spans.now)) tokens.now) }
 {
-    let mut names = Vec::new(alloc);
+    let mut found = Vec::new(alloc);
     let mut rest = tokens;
-    'variables: while let [Token::Variable(name), after @ ..] = rest {
-        names.push(Ident {
-            name: *name,
-            span: span_at(spans, rest.len()),
-        })?;
+    'variables: while begins_variable(rest) {
+        let (name, after) = variable(spans, rest)?;
+        found.push(name)?;
         rest = after;
     }
-    Ok((names, rest))
+    Ok((found, rest))
 }
 
 /// A type.
@@ -117,7 +122,7 @@ pub(crate) fn type_name<'a>(spans: &[Span], tokens: &'a [Token]) -> Result<(Type
 }
 
 /// Whether a type begins here.
-pub(crate) fn begins_type(tokens: &[Token]) -> bool
+fn begins_type(tokens: &[Token]) -> bool
     ensures { result ≡ next_is starts_type tokens.now }
 {
     match tokens {
@@ -142,6 +147,7 @@ pub(crate) fn types<'a>(alloc: Global, spans: &[Span], tokens: &'a [Token]) -> R
 }
 
 /// A constructor with the types of its fields.
+#[tactic(auto, unfolding(crate::specs::Reading::constructor_at))]
 pub(crate) fn alternative<'a>(alloc: Global, spans: &[Span], tokens: &'a [Token]) -> Result<(ConstructorDecl, &'a [Token]), Stop>
     ensures { Gives (λ x. (constructor_tree x.0, x.1.now)) result (constructor_at (places_of spans.now) tokens.now) }
 {
@@ -151,6 +157,7 @@ pub(crate) fn alternative<'a>(alloc: Global, spans: &[Span], tokens: &'a [Token]
 }
 
 /// A bar, and a constructor behind it.
+#[tactic(auto, unfolding(crate::specs::Reading::alternative_at))]
 pub(crate) fn next_alternative<'a>(alloc: Global, spans: &[Span], tokens: &'a [Token]) -> Result<(ConstructorDecl, &'a [Token]), Stop>
     ensures { Gives (λ x. (constructor_tree x.0, x.1.now)) result (alternative_at (places_of spans.now) tokens.now) }
 {
@@ -159,6 +166,7 @@ pub(crate) fn next_alternative<'a>(alloc: Global, spans: &[Span], tokens: &'a [T
 }
 
 /// A parameter in its parentheses.
+#[tactic(auto, unfolding(crate::specs::Reading::parameter_at))]
 pub(crate) fn parameter<'a>(spans: &[Span], tokens: &'a [Token]) -> Result<(Parameter, &'a [Token]), Stop>
     ensures { Gives (λ x. (x.0, x.1.now)) result (parameter_at (places_of spans.now) tokens.now) }
 {

@@ -1,0 +1,16 @@
+use Rattle.std.proofs.Common.{sym, ◌∙◌}
+use Rattle.gib_syntax.specs.Spelling.{places_of}
+use Rattle.gib_parse.specs.Reading.{is_variable, var_at}
+use Rattle.gib_parse.proofs.SoFar.{one_more, all_read}
+use Rattle.gib_parse.proofs.Shrinking.{var_shrinks}
+use Rattle.gib_parse.proofs.phrases.variables.Goals as goal
+
+pub variables-preserved : goal.variables-preserved
+variables-preserved c =
+    let at = places_of c.args.spans.now in
+    rw c.in_ok-push.ensures.items
+    (one_more is_variable (var_at at) (var_shrinks at) c.args.tokens.now c.variables.rest.now c.in_ok-name.after.now c.variables.found.items c.in_ok-name.name c.variables.invariant (sym c.begins_variable.ensures ∙ c.variables-test.true) c.in_ok-name.ensures)
+
+pub returns : goal.returns
+returns c =
+    all_read is_variable (var_at (places_of c.args.spans.now)) c.args.tokens.now c.variables.rest.now c.variables.found.items c.variables.invariant (sym c.begins_variable.ensures ∙ c.variables-test.false)
