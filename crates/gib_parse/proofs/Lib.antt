@@ -4,3 +4,4 @@ pub mod Sound
 pub mod Settle
 pub mod SoFar
 pub mod Shrinking
+pub mod PartsSoFar
