@@ -2,6 +2,11 @@ pub mod Tools
 pub mod Many
 pub mod Sound
 pub mod Settle
+pub mod Longer
+pub mod Come
+pub mod Complete
 pub mod SoFar
 pub mod Shrinking
 pub mod PartsSoFar
+pub mod Levels
+pub mod ExpressionLoops

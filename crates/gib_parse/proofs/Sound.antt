@@ -82,7 +82,7 @@ arm_made at l ts r1 r2 r3 r4 k xs e p1 c2 p3 p4 =
       placed = p4.placed;
     }
 
-arm_sound : (at : Places) (l : ℕ) (p : Reader Expression) → ((ts : List Token) → Holds (p ts) (Sound at l Any ts)) → (ts : List Token) → Holds (arm_at at p ts) (SoundArm at l ts)
+pub arm_sound : (at : Places) (l : ℕ) (p : Reader Expression) → ((ts : List Token) → Holds (p ts) (Sound at l Any ts)) → (ts : List Token) → Holds (arm_at at p ts) (SoundArm at l ts)
 unfolding arm_at
 arm_sound at l p h ts =
     then_holds (con_holds at ts) (λ k r1 p1. then_holds (many_sound (IsVar at) is_variable (var_at at) (var_holds at) r1) (λ xs r2 c2. then_holds (want_holds s.Arrow r2) (λ _ r3 p3. then_holds (h r3) (λ e r4 p4.
@@ -94,7 +94,7 @@ pub record SoundNext (at : Places) (l : ℕ) (ts : List Token) (arm : ArmTree) (
   pub semicolon : ts ≡ t.Sign s.Semicolon ∷ behind
   pub is_arm : SoundArm at l behind arm rest
 
-next_sound : (at : Places) (l : ℕ) (p : Reader Expression) → ((ts : List Token) → Holds (p ts) (Sound at l Any ts)) → (ts : List Token) → Holds (next_arm_at at p ts) (SoundNext at l ts)
+pub next_sound : (at : Places) (l : ℕ) (p : Reader Expression) → ((ts : List Token) → Holds (p ts) (Sound at l Any ts)) → (ts : List Token) → Holds (next_arm_at at p ts) (SoundNext at l ts)
 unfolding next_arm_at
 next_sound at l p h ts =
     then_holds (want_holds s.Semicolon ts) (λ _ r1 p1. record { by = λ arm rest e. record { behind = r1; semicolon = p1; is_arm = (arm_sound at l p h r1).by arm rest e } })

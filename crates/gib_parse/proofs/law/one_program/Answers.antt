@@ -2,6 +2,9 @@ use Rattle.gib_parse.proofs.law.one_program.Goals as goal
 use Rattle.gib_parse.proofs.Many.{many_is}
 use Rattle.gib_parse.proofs.Sound.{parse_sound}
 use Rattle.gib_parse.proofs.Settle.{stays}
+use Rattle.gib_parse.proofs.Longer.{next_shrinks}
+use Rattle.gib_parse.proofs.Come.{many_comes}
+use Rattle.gib_parse.proofs.Complete.{complete}
 
 -- src/law.rt:9:1
 pub returns : goal.returns
