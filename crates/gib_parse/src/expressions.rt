@@ -5,7 +5,7 @@ ghost use Rattle.std.specs.List.{AllByRecursion};
 ghost use Rattle.gib_syntax.specs.Tree.{Expression};
 ghost use Rattle.gib_syntax.specs.Spelling.{places_of, is_application};
 ghost use Rattle.gib_syntax.specs.Arena.{PartsBelow, layer, tree_of, arguments_from};
-ghost use Rattle.gib_parse.specs.Reading.{Any, Atom, next_is, starts, starts_atom, no_level, parse, any_at, let_at, bind_at, par_at, if_at, case_at, arms_at, arm_at, next_arm_at, app_at, call, arguments_at, atom_at, open_at, close_at, side_at, Fault, At, Nested};
+ghost use Rattle.gib_parse.specs.Reading.{Any, Atom, next_is, starts, starts_atom, is_literal, literal_at, no_level, parse, any_at, let_at, bind_at, par_at, if_at, case_at, arms_at, arm_at, next_arm_at, app_at, call, arguments_at, atom_at, open_at, close_at, side_at, Fault, At, Nested};
 ghost use Rattle.gib_parse.specs.Parsing.{Fails, Gives, mode_of, Reads, ReadsAll, ReadsArms, arm_tree, arms_tree};
 
 use crate::phrases::{begins, constructor, span_at, variable, variables, want};
@@ -24,14 +24,26 @@ pub(crate) enum Kind {
     Atom,
 }
 
+/// The first number that is too large for a literal.
+const TOO_LARGE: u64 = 9_223_372_036_854_775_808;
+
+/// Whether a number may stand as a literal.
+fn is_literal(value: u64) -> bool
+    ensures { result ≡ is_literal value }
+{
+    value < TOO_LARGE
+}
+
 /// Whether an atom begins here.
 fn begins_atom(tokens: &[Token]) -> bool
     ensures { result ≡ next_is starts_atom tokens.now }
 {
     match tokens {
         [] => false,
+        [Token::Variable(_), ..] => true,
+        [Token::Constructor(_), ..] => true,
+        [Token::Number(value), ..] => is_literal(*value),
         [Token::Sign(sign), ..] => matches!(sign, Sign::True | Sign::False | Sign::Open),
-        _ => true,
     }
 }
 
@@ -67,6 +79,7 @@ fn too_deep(kind: Kind, tokens: &[Token]) -> Stop
 
 /// An expression of this kind, in so many levels.
 #[cycle(expressions)]
+#[tactic(auto, using(crate::proofs::Levels::parse_any, crate::proofs::Levels::parse_app, crate::proofs::Levels::parse_atom, crate::proofs::Levels::parse_none), unfolding(crate::specs::Reading::parse))]
 pub(crate) fn expression<'a>(alloc: Global, spans: &[Span], exprs: &mut Exprs, level: u32, kind: Kind, tokens: &'a [Token]) -> Result<(ExprId, &'a [Token]), Stop>
     ensures kept { IfOk result (λ x. Reads exprs.old exprs.new x.0.0) }
     ensures read { Gives (λ x. (tree_of exprs.new x.0.0, x.1.now)) result (parse (places_of spans.now) level (mode_of kind) tokens.now) }
@@ -113,6 +126,7 @@ fn let_in<'a>(alloc: Global, spans: &[Span], exprs: &mut Exprs, level: u32, span
 }
 
 #[cycle(expressions)]
+#[tactic(auto, unfolding(crate::specs::Reading::bind_at))]
 fn let_one<'a>(alloc: Global, spans: &[Span], exprs: &mut Exprs, level: u32, span: Span, tokens: &'a [Token]) -> Result<(ExprId, &'a [Token]), Stop>
     ensures kept { IfOk result (λ x. Reads exprs.old exprs.new x.0.0) }
     ensures read { Gives (λ x. (tree_of exprs.new x.0.0, x.1.now)) result (bind_at (places_of spans.now) (parse (places_of spans.now) level) span tokens.now) }
@@ -133,6 +147,7 @@ fn let_one<'a>(alloc: Global, spans: &[Span], exprs: &mut Exprs, level: u32, spa
 
 /// Behind `let par`.
 #[cycle(expressions)]
+#[tactic(auto, unfolding(crate::specs::Reading::par_at))]
 fn let_par<'a>(alloc: Global, spans: &[Span], exprs: &mut Exprs, level: u32, span: Span, tokens: &'a [Token]) -> Result<(ExprId, &'a [Token]), Stop>
     ensures kept { IfOk result (λ x. Reads exprs.old exprs.new x.0.0) }
     ensures read { Gives (λ x. (tree_of exprs.new x.0.0, x.1.now)) result (par_at (places_of spans.now) (parse (places_of spans.now) level) span tokens.now) }
@@ -159,6 +174,7 @@ fn let_par<'a>(alloc: Global, spans: &[Span], exprs: &mut Exprs, level: u32, spa
 
 /// Behind `if`.
 #[cycle(expressions)]
+#[tactic(auto, unfolding(crate::specs::Reading::if_at))]
 fn if_then<'a>(alloc: Global, spans: &[Span], exprs: &mut Exprs, level: u32, span: Span, tokens: &'a [Token]) -> Result<(ExprId, &'a [Token]), Stop>
     ensures kept { IfOk result (λ x. Reads exprs.old exprs.new x.0.0) }
     ensures read { Gives (λ x. (tree_of exprs.new x.0.0, x.1.now)) result (if_at (parse (places_of spans.now) level) span tokens.now) }
@@ -179,6 +195,7 @@ fn if_then<'a>(alloc: Global, spans: &[Span], exprs: &mut Exprs, level: u32, spa
 
 /// Behind `case`.
 #[cycle(expressions)]
+#[tactic(auto, unfolding(crate::specs::Reading::case_at))]
 fn case_of<'a>(alloc: Global, spans: &[Span], exprs: &mut Exprs, level: u32, span: Span, tokens: &'a [Token]) -> Result<(ExprId, &'a [Token]), Stop>
     ensures kept { IfOk result (λ x. Reads exprs.old exprs.new x.0.0) }
     ensures read { Gives (λ x. (tree_of exprs.new x.0.0, x.1.now)) result (case_at (places_of spans.now) (parse (places_of spans.now) level) span tokens.now) }
@@ -215,6 +232,7 @@ fn arms<'a>(alloc: Global, spans: &[Span], exprs: &mut Exprs, level: u32, tokens
 
 /// A semicolon, and an arm behind it.
 #[cycle(expressions)]
+#[tactic(auto, unfolding(crate::specs::Reading::next_arm_at))]
 fn next_arm<'a>(alloc: Global, spans: &[Span], exprs: &mut Exprs, level: u32, tokens: &'a [Token]) -> Result<(Arm, &'a [Token]), Stop>
     ensures kept { IfOk result (λ x. Reads exprs.old exprs.new x.0.body.0) }
     ensures read { Gives (λ x. (arm_tree (tree_of exprs.new) x.0, x.1.now)) result (next_arm_at (places_of spans.now) (parse (places_of spans.now) level Any) tokens.now) }
@@ -225,6 +243,7 @@ fn next_arm<'a>(alloc: Global, spans: &[Span], exprs: &mut Exprs, level: u32, to
 
 /// One arm.
 #[cycle(expressions)]
+#[tactic(auto, unfolding(crate::specs::Reading::arm_at))]
 fn arm<'a>(alloc: Global, spans: &[Span], exprs: &mut Exprs, level: u32, tokens: &'a [Token]) -> Result<(Arm, &'a [Token]), Stop>
     ensures kept { IfOk result (λ x. Reads exprs.old exprs.new x.0.body.0) }
     ensures read { Gives (λ x. (arm_tree (tree_of exprs.new) x.0, x.1.now)) result (arm_at (places_of spans.now) (parse (places_of spans.now) level Any) tokens.now) }
@@ -300,6 +319,18 @@ fn arguments<'a>(alloc: Global, spans: &[Span], exprs: &mut Exprs, level: u32, t
     Ok((ids, rest))
 }
 
+/// A literal, which stands before these tokens.
+fn literal<'a>(exprs: &mut Exprs, span: Span, value: u64, rest: &'a [Token]) -> Result<(ExprId, &'a [Token]), Stop>
+    ensures kept { IfOk result (λ x. Reads exprs.old exprs.new x.0.0) }
+    ensures read { Gives (λ x. (tree_of exprs.new x.0.0, x.1.now)) result (literal_at (is_literal value) span value rest.now) }
+{
+    if !is_literal(value) {
+        return Err(Stop::At(rest.len() + 1));
+    }
+    let id = exprs.put(Node::Whole(span, value))?;
+    Ok((id, rest))
+}
+
 #[cycle(expressions)]
 fn atom<'a>(alloc: Global, spans: &[Span], exprs: &mut Exprs, level: u32, tokens: &'a [Token]) -> Result<(ExprId, &'a [Token]), Stop>
     ensures kept { IfOk result (λ x. Reads exprs.old exprs.new x.0.0) }
@@ -322,10 +353,7 @@ fn atom<'a>(alloc: Global, spans: &[Span], exprs: &mut Exprs, level: u32, tokens
             let id = exprs.put(Node::Make(ident, Vec::new(alloc)))?;
             Ok((id, rest))
         }
-        [Token::Number(value), rest @ ..] => {
-            let id = exprs.put(Node::Whole(span_at(spans, tokens.len()), *value))?;
-            Ok((id, rest))
-        }
+        [Token::Number(value), rest @ ..] => literal(exprs, span_at(spans, tokens.len()), *value, rest),
         [Token::Sign(sign), rest @ ..] => match sign {
             Sign::True => {
                 let id = exprs.put(Node::Truth(span_at(spans, tokens.len()), true))?;
@@ -343,6 +371,7 @@ fn atom<'a>(alloc: Global, spans: &[Span], exprs: &mut Exprs, level: u32, tokens
 
 /// Behind an opening parenthesis.
 #[cycle(expressions)]
+#[tactic(auto, unfolding(crate::specs::Reading::open_at))]
 fn parentheses<'a>(alloc: Global, spans: &[Span], exprs: &mut Exprs, level: u32, span: Span, tokens: &'a [Token]) -> Result<(ExprId, &'a [Token]), Stop>
     ensures kept { IfOk result (λ x. Reads exprs.old exprs.new x.0.0) }
     ensures read { Gives (λ x. (tree_of exprs.new x.0.0, x.1.now)) result (open_at (parse (places_of spans.now) level) span tokens.now) }
