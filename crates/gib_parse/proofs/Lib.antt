@@ -5,3 +5,4 @@ pub mod Settle
 pub mod Longer
 pub mod Come
 pub mod Complete
+pub mod Local
