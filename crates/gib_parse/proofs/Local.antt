@@ -1,11 +1,22 @@
 -- A fault is found at its token: whatever follows that token, it is found there.
 use Rattle.std.proofs.Common.{◌≡◌, ℕ, zero, suc, ◌+◌, ◌<◌, ◌≤◌, Bool, true, false, max, List, [], ◌∷◌, length, Option, Some, None, Result, Ok, Err, refl, sym, ap, ◌∙◌, subst, arith, ◌++◌, ◌⊎◌, inl, inr, length-append}
+use Rattle.gib_base.specs.declared.Name.{Name}
 use Rattle.gib_base.specs.declared.Span.{Span}
+use Rattle.gib_base.specs.declared.token.Sign.{Sign}
+use Rattle.gib_base.specs.declared.token.Sign.TheVariants as s
 use Rattle.gib_base.specs.declared.token.Token.{Token}
-use Rattle.gib_syntax.specs.Spelling.{Places}
-use Rattle.gib_parse.specs.Reading.{Fault, At, Nested, Read, Reader, then_at, before, next_is, many_step, many}
+use Rattle.gib_base.specs.declared.token.Token.TheVariants as t
+use Rattle.gib_syntax.specs.declared.tree.Ident.{Ident}
+use Rattle.gib_syntax.specs.declared.tree.TypeName.{TypeName}
+use Rattle.gib_syntax.specs.declared.tree.TypeName.TheVariants as ty
+use Rattle.gib_syntax.specs.declared.tree.Operator.{Operator}
+use Rattle.gib_syntax.specs.declared.tree.Operator.TheVariants as o
+use Rattle.gib_syntax.specs.Tree.{Expression, Arguments, Arms, Var, Num, Bit, Paren, Op, Call, Make, Let, Par, If, Case, NoArgument}
+use Rattle.gib_syntax.specs.Spelling.{Places, is_application}
+use Rattle.gib_parse.specs.Reading.{Fault, At, Nested, Mode, Any, App, Atom, Read, Reader, Parts, then_at, want, want_if, same, before, named, var_at, con_at, type_at, next_is, many_step, many, is_variable, is_sign, is_literal, literal_at, starts_atom, starts, ArmTree, arms_of, arm_at, next_arm_at, arms_at, arguments_of, arguments_at, bind_at, par_at, let_at, if_at, case_at, side_at, close_at, open_at, call, atom_at, app_at, any_at, no_level, parse}
 use Rattle.gib_parse.proofs.Tools.{done, failed, Holds}
 use Rattle.gib_parse.proofs.Many.{Shrinks, many_is}
+use Rattle.gib_parse.proofs.Longer.{parse_shrinks, var_shrinks, next_shrinks}
 
 -- The kinds of faults.
 pub data Kind : Type 0 where
@@ -246,3 +257,175 @@ module _ (tok : Token) (xs ys : List Token) (at at' : Places) (shift : (k : ℕ)
 
   pub many_local : {A : Type 0} (starts : Token → Bool) (p p' : Reader A) → Shrinks p → Shrinks p' → ((ws : List Token) → LocalAt p p' ws) → (ws : List Token) → LocalAt (many starts p) (many starts p') ws
   many_local starts p p' sh sh' h ws = many_upto (length ws) starts p p' sh sh' h ws (omega arith)
+
+  -- ---- the readers of the grammar
+
+  want_head : (a b : Sign) (tl : List Token) (v : Bool) → same a b ≡ v → LocalAt (want a) (want a) (t.Sign b ∷ tl)
+  want_head a b tl true e = takes (want a) (want a) (done (tt {0})) (done (tt {0})) (t.Sign b) tl (λ l. ap (λ x. want_if x l) e) (λ l. ap (λ x. want_if x l) e) (pure_local (tt {0}) tl)
+  want_head a b tl false e = head_fails (want a) (want a) (t.Sign b) tl (λ l. ap (λ x. want_if x l) e) (λ l. ap (λ x. want_if x l) e)
+
+  pub want_local : (a : Sign) (ws : List Token) → LocalAt (want a) (want a) ws
+  want_local a [] = nil_fails (want a) (want a) refl
+  want_local a (t.Sign b ∷ ws) = want_head a b ws (same a b) refl
+  want_local a (t.Variable x ∷ ws) = head_fails (want a) (want a) (t.Variable x) ws (λ l. refl) (λ l. refl)
+  want_local a (t.Constructor x ∷ ws) = head_fails (want a) (want a) (t.Constructor x) ws (λ l. refl) (λ l. refl)
+  want_local a (t.Number x ∷ ws) = head_fails (want a) (want a) (t.Number x) ws (λ l. refl) (λ l. refl)
+
+  abbrev name_here : Name → Span → Reader Ident
+  name_here x z ws = done (record { name = x; span = z }) ws
+
+  name_local : (x : Name) (z : Span) (ws : List Token) → LocalAt (name_here x z) (name_here x z) ws
+  name_local x z ws = pure_local (let y : Ident = record { name = x; span = z } in y) ws
+
+  pub var_local : (ws : List Token) → LocalAt (var_at at) (var_at at') ws
+  var_local [] = nil_fails (var_at at) (var_at at') refl
+  var_local (t.Variable x ∷ ws) = takes_marked (var_at at) (var_at at') (name_here x) (name_here x) (t.Variable x) ws (λ l. refl) (λ l. refl) (λ z. name_local x z ws)
+  var_local (c ∷ ws) = head_fails (var_at at) (var_at at') c ws (λ l. refl) (λ l. refl)
+
+  pub con_local : (ws : List Token) → LocalAt (con_at at) (con_at at') ws
+  con_local [] = nil_fails (con_at at) (con_at at') refl
+  con_local (t.Constructor x ∷ ws) = takes_marked (con_at at) (con_at at') (name_here x) (name_here x) (t.Constructor x) ws (λ l. refl) (λ l. refl) (λ z. name_local x z ws)
+  con_local (c ∷ ws) = head_fails (con_at at) (con_at at') c ws (λ l. refl) (λ l. refl)
+
+  pub type_local : (ws : List Token) → LocalAt (type_at at) (type_at at') ws
+  type_local [] = nil_fails (type_at at) (type_at at') refl
+  type_local (t.Sign s.Int ∷ ws) = takes_marked (type_at at) (type_at at') (λ z. done (ty.Whole z)) (λ z. done (ty.Whole z)) (t.Sign s.Int) ws (λ l. refl) (λ l. refl) (λ z. pure_local (ty.Whole z) ws)
+  type_local (t.Sign s.Bool ∷ ws) = takes_marked (type_at at) (type_at at') (λ z. done (ty.Truth z)) (λ z. done (ty.Truth z)) (t.Sign s.Bool) ws (λ l. refl) (λ l. refl) (λ z. pure_local (ty.Truth z) ws)
+  type_local (t.Constructor x ∷ ws) =
+      takes_marked (type_at at) (type_at at') (λ z. done (ty.Declared (record { name = x; span = z }))) (λ z. done (ty.Declared (record { name = x; span = z }))) (t.Constructor x) ws (λ l. refl) (λ l. refl)
+      (λ z. pure_local (ty.Declared (record { name = x; span = z })) ws)
+  type_local (c ∷ ws) = head_fails (type_at at) (type_at at') c ws (λ l. refl) (λ l. refl)
+
+  abbrev PartsLocal : ℕ → Type 0
+  PartsLocal n = (m : Mode) (ws : List Token) → LocalAt (parse at n m) (parse at' n m) ws
+
+  arguments_local : (n : ℕ) → PartsLocal n → (ws : List Token) → LocalAt (arguments_at (parse at n Atom)) (arguments_at (parse at' n Atom)) ws
+  unfolding arguments_at
+  arguments_local n h ws = then_local (many_local starts_atom (parse at n Atom) (parse at' n Atom) (parse_shrinks at n Atom) (parse_shrinks at' n Atom) (h Atom) ws) (λ es r e. pure_local (arguments_of es) r)
+
+  arm_local : (n : ℕ) → PartsLocal n → (ws : List Token) → LocalAt (arm_at at (parse at n Any)) (arm_at at' (parse at' n Any)) ws
+  unfolding arm_at
+  arm_local n h ws =
+      then_local (con_local ws) (λ k r1 e1. then_local (many_local is_variable (var_at at) (var_at at') (var_shrinks at) (var_shrinks at') var_local r1) (λ es r2 e2. then_local (want_local s.Arrow r2) (λ _ r3 e3. then_local (h Any r3) (λ b r4 e4.
+      pure_local (let arm : ArmTree = record { constructor = k; variables = es; body = b } in arm) r4))))
+
+  next_local : (n : ℕ) → PartsLocal n → (ws : List Token) → LocalAt (next_arm_at at (parse at n Any)) (next_arm_at at' (parse at' n Any)) ws
+  unfolding next_arm_at
+  next_local n h ws = then_local (want_local s.Semicolon ws) (λ _ r1 e1. arm_local n h r1)
+
+  arms_local : (n : ℕ) → PartsLocal n → (ws : List Token) → LocalAt (arms_at at (parse at n Any)) (arms_at at' (parse at' n Any)) ws
+  unfolding arms_at
+  arms_local n h ws =
+      then_local (arm_local n h ws) (λ arm r1 e1. then_local (many_local (is_sign s.Semicolon) (next_arm_at at (parse at n Any)) (next_arm_at at' (parse at' n Any)) (next_shrinks at n) (next_shrinks at' n) (next_local n h) r1) (λ arms r2 e2.
+      pure_local (arms_of arm arms) r2))
+
+  bind_local : (n : ℕ) → PartsLocal n → (z : Span) (ws : List Token) → LocalAt (bind_at at (parse at n) z) (bind_at at' (parse at' n) z) ws
+  unfolding bind_at
+  bind_local n h z ws =
+      then_local (var_local ws) (λ x r1 e1. then_local (want_local s.Equals r1) (λ _ r2 e2. then_local (h Any r2) (λ a r3 e3. then_local (want_local s.In r3) (λ _ r4 e4. then_local (h Any r4) (λ b r5 e5. pure_local (Let z x a b) r5)))))
+
+  par_local : (n : ℕ) → PartsLocal n → (z : Span) (ws : List Token) → LocalAt (par_at at (parse at n) z) (par_at at' (parse at' n) z) ws
+  unfolding par_at
+  par_local n h z ws =
+      then_local (var_local ws) (λ x r1 e1. then_local (want_local s.Equals r1) (λ _ r2 e2. then_local (h Any r2) (λ a r3 e3. then_local (want_local s.And r3) (λ _ r4 e4.
+      then_local (var_local r4) (λ y r5 e5. then_local (want_local s.Equals r5) (λ _ r6 e6. then_local (h Any r6) (λ b r7 e7. then_local (want_local s.In r7) (λ _ r8 e8. then_local (h Any r8) (λ c r9 e9. pure_local (Par z x a y b c) r9)))))))))
+
+  let_local : (n : ℕ) → PartsLocal n → (z : Span) (ws : List Token) → LocalAt (let_at at (parse at n) z) (let_at at' (parse at' n) z) ws
+  let_local n h z [] = local_nil (let_at at (parse at n) z) (let_at at' (parse at' n) z) (bind_at at (parse at n) z) (bind_at at' (parse at' n) z) refl (bind_local n h z [])
+  let_local n h z (t.Sign s.Par ∷ ws) = takes (let_at at (parse at n) z) (let_at at' (parse at' n) z) (par_at at (parse at n) z) (par_at at' (parse at' n) z) (t.Sign s.Par) ws (λ l. refl) (λ l. refl) (par_local n h z ws)
+  let_local n h z (c ∷ ws) = keeps (let_at at (parse at n) z) (let_at at' (parse at' n) z) (bind_at at (parse at n) z) (bind_at at' (parse at' n) z) c ws (λ l. refl) (λ l. refl) (bind_local n h z (c ∷ ws))
+
+  if_local : (n : ℕ) → PartsLocal n → (z : Span) (ws : List Token) → LocalAt (if_at (parse at n) z) (if_at (parse at' n) z) ws
+  unfolding if_at
+  if_local n h z ws =
+      then_local (h Any ws) (λ a r1 e1. then_local (want_local s.Then r1) (λ _ r2 e2. then_local (h Any r2) (λ b r3 e3. then_local (want_local s.Else r3) (λ _ r4 e4. then_local (h Any r4) (λ c r5 e5. pure_local (If z a b c) r5)))))
+
+  case_local : (n : ℕ) → PartsLocal n → (z : Span) (ws : List Token) → LocalAt (case_at at (parse at n) z) (case_at at' (parse at' n) z) ws
+  unfolding case_at
+  case_local n h z ws =
+      then_local (var_local ws) (λ x r1 e1. then_local (want_local s.Of r1) (λ _ r2 e2. then_local (want_local s.OpenBrace r2) (λ _ r3 e3. then_local (arms_local n h r3) (λ arms r4 e4. then_local (want_local s.CloseBrace r4) (λ _ r5 e5. pure_local (Case z x arms) r5)))))
+
+  operation_local : (n : ℕ) → PartsLocal n → (v : Bool) (z : Span) (f : Operator) (e : Expression) (g : Sign) (ws : List Token) → is_application e ≡ v → ((sub : Parts) (l : List Token) → close_at sub z e (t.Sign g ∷ l) ≡ side_at (is_application e) sub z f e l)
+      → LocalAt (close_at (parse at n) z e) (close_at (parse at' n) z e) (t.Sign g ∷ ws)
+  operation_local n h false z f e g ws v is =
+      head_fails (close_at (parse at n) z e) (close_at (parse at' n) z e) (t.Sign g) ws (λ l. is (parse at n) l ∙ ap (λ v. side_at v (parse at n) z f e l) v) (λ l. is (parse at' n) l ∙ ap (λ v. side_at v (parse at' n) z f e l) v)
+  operation_local n h true z f e g ws v is =
+      takes (close_at (parse at n) z e) (close_at (parse at' n) z e) (side_at true (parse at n) z f e) (side_at true (parse at' n) z f e) (t.Sign g) ws
+      (λ l. is (parse at n) l ∙ ap (λ v. side_at v (parse at n) z f e l) v) (λ l. is (parse at' n) l ∙ ap (λ v. side_at v (parse at' n) z f e l) v)
+      (then_local (h App ws) (λ b r1 e1. then_local (want_local s.Close r1) (λ _ r2 e2. pure_local (Op z f e b) r2)))
+
+  close_local : (n : ℕ) → PartsLocal n → (z : Span) (e : Expression) (ws : List Token) → LocalAt (close_at (parse at n) z e) (close_at (parse at' n) z e) ws
+  close_local n h z e [] = nil_fails (close_at (parse at n) z e) (close_at (parse at' n) z e) refl
+  close_local n h z e (t.Sign s.Close ∷ ws) = takes (close_at (parse at n) z e) (close_at (parse at' n) z e) (done (Paren z e)) (done (Paren z e)) (t.Sign s.Close) ws (λ l. refl) (λ l. refl) (pure_local (Paren z e) ws)
+  close_local n h z e (t.Sign s.Plus ∷ ws) = operation_local n h (is_application e) z o.Add e s.Plus ws refl (λ sub l. refl)
+  close_local n h z e (t.Sign s.Minus ∷ ws) = operation_local n h (is_application e) z o.Subtract e s.Minus ws refl (λ sub l. refl)
+  close_local n h z e (t.Sign s.Times ∷ ws) = operation_local n h (is_application e) z o.Multiply e s.Times ws refl (λ sub l. refl)
+  close_local n h z e (t.Sign s.Same ∷ ws) = operation_local n h (is_application e) z o.Equal e s.Same ws refl (λ sub l. refl)
+  close_local n h z e (t.Sign s.Less ∷ ws) = operation_local n h (is_application e) z o.Less e s.Less ws refl (λ sub l. refl)
+  close_local n h z e (c ∷ ws) = head_fails (close_at (parse at n) z e) (close_at (parse at' n) z e) c ws (λ l. refl) (λ l. refl)
+
+  open_local : (n : ℕ) → PartsLocal n → (z : Span) (ws : List Token) → LocalAt (open_at (parse at n) z) (open_at (parse at' n) z) ws
+  unfolding open_at
+  open_local n h z ws = then_local (h Any ws) (λ e r1 e1. close_local n h z e r1)
+
+  literal_local : (n v : ℕ) (ws : List Token) (b : Bool) → is_literal v ≡ b → LocalAt (atom_at at (parse at n)) (atom_at at' (parse at' n)) (t.Number v ∷ ws)
+  literal_local n v ws true e =
+      takes_marked (atom_at at (parse at n)) (atom_at at' (parse at' n)) (λ z. done (Num z v)) (λ z. done (Num z v)) (t.Number v) ws
+      (λ l. ap (λ b. literal_at b (before at l) v l) e) (λ l. ap (λ b. literal_at b (before at' l) v l) e) (λ z. pure_local (Num z v) ws)
+  literal_local n v ws false e =
+      head_fails (atom_at at (parse at n)) (atom_at at' (parse at' n)) (t.Number v) ws (λ l. ap (λ b. literal_at b (before at l) v l) e) (λ l. ap (λ b. literal_at b (before at' l) v l) e)
+
+  atom_local : (n : ℕ) → PartsLocal n → (ws : List Token) → LocalAt (atom_at at (parse at n)) (atom_at at' (parse at' n)) ws
+  atom_local n h [] = nil_fails (atom_at at (parse at n)) (atom_at at' (parse at' n)) refl
+  atom_local n h (t.Variable x ∷ ws) =
+      takes_marked (atom_at at (parse at n)) (atom_at at' (parse at' n)) (λ z. done (Var (record { name = x; span = z }))) (λ z. done (Var (record { name = x; span = z }))) (t.Variable x) ws (λ l. refl) (λ l. refl)
+      (λ z. pure_local (Var (record { name = x; span = z })) ws)
+  atom_local n h (t.Constructor x ∷ ws) =
+      takes_marked (atom_at at (parse at n)) (atom_at at' (parse at' n)) (λ z. done (Make (record { name = x; span = z }) NoArgument)) (λ z. done (Make (record { name = x; span = z }) NoArgument)) (t.Constructor x) ws (λ l. refl) (λ l. refl)
+      (λ z. pure_local (Make (record { name = x; span = z }) NoArgument) ws)
+  atom_local n h (t.Number v ∷ ws) = literal_local n v ws (is_literal v) refl
+  atom_local n h (t.Sign s.True ∷ ws) = takes_marked (atom_at at (parse at n)) (atom_at at' (parse at' n)) (λ z. done (Bit z true)) (λ z. done (Bit z true)) (t.Sign s.True) ws (λ l. refl) (λ l. refl) (λ z. pure_local (Bit z true) ws)
+  atom_local n h (t.Sign s.False ∷ ws) = takes_marked (atom_at at (parse at n)) (atom_at at' (parse at' n)) (λ z. done (Bit z false)) (λ z. done (Bit z false)) (t.Sign s.False) ws (λ l. refl) (λ l. refl) (λ z. pure_local (Bit z false) ws)
+  atom_local n h (t.Sign s.Open ∷ ws) = takes_marked (atom_at at (parse at n)) (atom_at at' (parse at' n)) (open_at (parse at n)) (open_at (parse at' n)) (t.Sign s.Open) ws (λ l. refl) (λ l. refl) (λ z. open_local n h z ws)
+  atom_local n h (c ∷ ws) = head_fails (atom_at at (parse at n)) (atom_at at' (parse at' n)) c ws (λ l. refl) (λ l. refl)
+
+  abbrev call_here : Parts → Name → Span → Reader Expression
+  call_here sub f z l = then_at (arguments_at (sub Atom) l) (λ es left. done (call (record { name = f; span = z }) es) left)
+
+  abbrev make_here : Parts → Name → Span → Reader Expression
+  make_here sub f z l = then_at (arguments_at (sub Atom) l) (λ es left. done (Make (record { name = f; span = z }) es) left)
+
+  app_local : (n : ℕ) → PartsLocal n → (ws : List Token) → LocalAt (app_at at (parse at n)) (app_at at' (parse at' n)) ws
+  app_local n h [] = local_nil (app_at at (parse at n)) (app_at at' (parse at' n)) (atom_at at (parse at n)) (atom_at at' (parse at' n)) refl (atom_local n h [])
+  app_local n h (t.Variable f ∷ ws) =
+      takes_marked (app_at at (parse at n)) (app_at at' (parse at' n)) (call_here (parse at n) f) (call_here (parse at' n) f) (t.Variable f) ws (λ l. refl) (λ l. refl)
+      (λ z. then_local (arguments_local n h ws) (λ es rest e. pure_local (call (record { name = f; span = z }) es) rest))
+  app_local n h (t.Constructor f ∷ ws) =
+      takes_marked (app_at at (parse at n)) (app_at at' (parse at' n)) (make_here (parse at n) f) (make_here (parse at' n) f) (t.Constructor f) ws (λ l. refl) (λ l. refl)
+      (λ z. then_local (arguments_local n h ws) (λ es rest e. pure_local (Make (record { name = f; span = z }) es) rest))
+  app_local n h (c ∷ ws) = keeps (app_at at (parse at n)) (app_at at' (parse at' n)) (atom_at at (parse at n)) (atom_at at' (parse at' n)) c ws (λ l. refl) (λ l. refl) (atom_local n h (c ∷ ws))
+
+  any_local : (n : ℕ) → PartsLocal n → (ws : List Token) → LocalAt (any_at at (parse at n)) (any_at at' (parse at' n)) ws
+  any_local n h [] = local_nil (any_at at (parse at n)) (any_at at' (parse at' n)) (app_at at (parse at n)) (app_at at' (parse at' n)) refl (app_local n h [])
+  any_local n h (t.Sign s.Let ∷ ws) = takes_marked (any_at at (parse at n)) (any_at at' (parse at' n)) (let_at at (parse at n)) (let_at at' (parse at' n)) (t.Sign s.Let) ws (λ l. refl) (λ l. refl) (λ z. let_local n h z ws)
+  any_local n h (t.Sign s.If ∷ ws) = takes_marked (any_at at (parse at n)) (any_at at' (parse at' n)) (if_at (parse at n)) (if_at (parse at' n)) (t.Sign s.If) ws (λ l. refl) (λ l. refl) (λ z. if_local n h z ws)
+  any_local n h (t.Sign s.Case ∷ ws) = takes_marked (any_at at (parse at n)) (any_at at' (parse at' n)) (case_at at (parse at n)) (case_at at' (parse at' n)) (t.Sign s.Case) ws (λ l. refl) (λ l. refl) (λ z. case_local n h z ws)
+  any_local n h (c ∷ ws) = keeps (any_at at (parse at n)) (any_at at' (parse at' n)) (app_at at (parse at n)) (app_at at' (parse at' n)) c ws (λ l. refl) (λ l. refl) (app_local n h (c ∷ ws))
+
+  abbrev none_left : Mode → Reader Expression
+  none_left m ws = no_level (next_is (starts m) ws) ws
+
+  none_head : (m : Mode) (c : Token) (ws : List Token) (v : Bool) → starts m c ≡ v → LocalAt (none_left m) (none_left m) (c ∷ ws)
+  none_head m c ws true e = head_sinks (none_left m) (none_left m) c ws (λ l. ap (λ v. no_level v (c ∷ l)) e) (λ l. ap (λ v. no_level v (c ∷ l)) e)
+  none_head m c ws false e = head_fails (none_left m) (none_left m) c ws (λ l. ap (λ v. no_level v (c ∷ l)) e) (λ l. ap (λ v. no_level v (c ∷ l)) e)
+
+  none_local : (m : Mode) (ws : List Token) → LocalAt (none_left m) (none_left m) ws
+  none_local m [] = nil_fails (none_left m) (none_left m) refl
+  none_local m (c ∷ ws) = none_head m c ws (starts m c) refl
+
+  pub parse_local : (n : ℕ) (m : Mode) (ws : List Token) → LocalAt (parse at n m) (parse at' n m) ws
+  unfolding parse
+  parse_local zero m ws = local_by (parse at zero m) (parse at' zero m) (none_left m) (none_left m) ws refl (λ vs w. refl) (none_local m ws)
+  parse_local (suc n) Any ws = local_by (parse at (suc n) Any) (parse at' (suc n) Any) (any_at at (parse at n)) (any_at at' (parse at' n)) ws refl (λ vs w. refl) (any_local n (parse_local n) ws)
+  parse_local (suc n) App ws = local_by (parse at (suc n) App) (parse at' (suc n) App) (app_at at (parse at n)) (app_at at' (parse at' n)) ws refl (λ vs w. refl) (app_local n (parse_local n) ws)
+  parse_local (suc n) Atom ws = local_by (parse at (suc n) Atom) (parse at' (suc n) Atom) (atom_at at (parse at n)) (atom_at at' (parse at' n)) ws refl (λ vs w. refl) (atom_local n (parse_local n) ws)

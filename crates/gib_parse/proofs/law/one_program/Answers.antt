@@ -5,7 +5,7 @@ use Rattle.gib_parse.proofs.Settle.{stays}
 use Rattle.gib_parse.proofs.Longer.{next_shrinks}
 use Rattle.gib_parse.proofs.Come.{many_comes}
 use Rattle.gib_parse.proofs.Complete.{complete}
-use Rattle.gib_parse.proofs.Local.{many_local}
+use Rattle.gib_parse.proofs.Local.{parse_local}
 
 -- src/law.rt:9:1
 pub returns : goal.returns
