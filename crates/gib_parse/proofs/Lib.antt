@@ -6,3 +6,4 @@ pub mod Longer
 pub mod Come
 pub mod Complete
 pub mod Local
+pub mod ProgramSound

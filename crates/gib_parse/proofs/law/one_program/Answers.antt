@@ -7,6 +7,6 @@ use Rattle.gib_parse.proofs.Come.{many_comes}
 use Rattle.gib_parse.proofs.Complete.{complete}
 use Rattle.gib_parse.proofs.Local.{parse_local}
 
--- src/law.rt:9:1
+use Rattle.gib_parse.proofs.ProgramSound.{whole_sound}
 pub returns : goal.returns
 returns c = ?
