@@ -7,3 +7,5 @@ pub mod Come
 pub mod Complete
 pub mod Local
 pub mod ProgramSound
+pub mod ProgramSettle
+pub mod ProgramComplete
