@@ -9,3 +9,5 @@ pub mod Local
 pub mod ProgramSound
 pub mod ProgramSettle
 pub mod ProgramComplete
+pub mod ProgramLocal
+pub mod Whole

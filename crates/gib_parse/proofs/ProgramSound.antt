@@ -211,10 +211,11 @@ main_sound at l ts =
     }))))
 
 -- What reading the whole tells.
-pub record IsWhole (l : ℕ) (at : Places) (ts : List Token) (g : ProgramTree) : Type 0 where
+pub record IsWhole (l : ℕ) (at : Places) (ts : List Token) (g : ProgramTree) (rest : List Token) : Type 0 where
   pub derived : Derives ts g
   pub level : levels_program g ≤ l
   pub placed : IsPlacedProgram at g
+  pub left : rest ≡ []
 
 pub record SoundProgram (at : Places) (l : ℕ) (ts : List Token) (g : ProgramTree) (rest : List Token) : Type 0 where
   pub spelled : ts ≡ spell_program g rest
@@ -241,11 +242,11 @@ program_sound at l ts =
       main = p3.placed;
     }))))
 
-ends_sound : (at : Places) (l : ℕ) (ts : List Token) (g : ProgramTree) (rest : List Token) → SoundProgram at l ts g rest → Holds (ends_at g rest) (λ g rest. IsWhole l at ts g)
-ends_sound at l ts g [] p = holds_ok g [] (record { derived = record { fine = p.fine; spelled = p.spelled }; level = p.level; placed = record { datas = p.datas; functions = p.functions; main = p.main } })
+ends_sound : (at : Places) (l : ℕ) (ts : List Token) (g : ProgramTree) (rest : List Token) → SoundProgram at l ts g rest → Holds (ends_at g rest) (IsWhole l at ts)
+ends_sound at l ts g [] p = holds_ok g [] (record { derived = record { fine = p.fine; spelled = p.spelled }; level = p.level; placed = record { datas = p.datas; functions = p.functions; main = p.main }; left = refl })
 ends_sound at l ts g (x ∷ rest) p = holds_err (At (suc (length rest)))
 
-pub whole_sound : (l : ℕ) (at : Places) (ts : List Token) → Holds (whole_in l at ts) (λ g rest. IsWhole l at ts g)
+pub whole_sound : (l : ℕ) (at : Places) (ts : List Token) → Holds (whole_in l at ts) (IsWhole l at ts)
 unfolding whole_in
 whole_sound l at ts = then_holds (program_sound at l ts) (λ g rest p. ends_sound at l ts g rest p)
 
