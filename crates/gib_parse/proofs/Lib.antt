@@ -5,8 +5,14 @@ pub mod Settle
 pub mod Longer
 pub mod Come
 pub mod Complete
+pub mod Local
+pub mod ProgramSound
+pub mod ProgramSettle
+pub mod ProgramComplete
+pub mod ProgramLocal
+pub mod Whole
 pub mod SoFar
-pub mod Shrinking
 pub mod PartsSoFar
 pub mod Levels
 pub mod ExpressionLoops
+pub mod DeclarationLoops

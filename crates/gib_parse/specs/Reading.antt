@@ -369,7 +369,8 @@ whole_in n at ts = then_at (program_at at (parse at n Any) ts) ends_at
 abbrev pub whole : Places → Reader ProgramTree
 whole at ts = whole_in 200 at ts
 
--- Each program whose tokens begin with the tokens up to and including the one from which so many are
--- left has more than 200 levels.
+-- Each program whose tokens begin with the tokens up to and including the one from which so many are left
+-- has more than 200 levels; where none are left: each whose tokens these are.
 abbrev pub Deepens : List Token → ℕ → Type 0
-Deepens tokens left = (p : ProgramTree) (more : List Token) → Derives (take (suc (length tokens) - left) tokens ++ more) p → 200 < levels_program p
+Deepens tokens zero = (p : ProgramTree) → Derives tokens p → 200 < levels_program p
+Deepens tokens (suc k) = (p : ProgramTree) (more : List Token) → Derives (take (length tokens - k) tokens ++ more) p → 200 < levels_program p

@@ -32,6 +32,7 @@ fn constructors<'a>(alloc: Global, spans: &[Span], tokens: &'a [Token]) -> Resul
 }
 
 /// A data declaration.
+#[tactic(auto, unfolding(crate::specs::Reading::data_at))]
 fn data_declaration<'a>(alloc: Global, spans: &[Span], tokens: &'a [Token]) -> Result<(DataDecl, &'a [Token]), Stop>
     ensures { Gives (λ x. (data_tree x.0, x.1.now)) result (data_at (places_of spans.now) tokens.now) }
 {
@@ -73,6 +74,7 @@ fn parameters<'a>(alloc: Global, spans: &[Span], tokens: &'a [Token]) -> Result<
 }
 
 /// The result type and the body of a function.
+#[tactic(auto, unfolding(crate::specs::Reading::body_at))]
 fn result_and_body<'a>(alloc: Global, spans: &[Span], exprs: &mut Exprs, tokens: &'a [Token]) -> Result<((TypeName, ExprId), &'a [Token]), Stop>
     ensures kept { IfOk result (λ x. Reads exprs.old exprs.new x.0.1.0) }
     ensures read { Gives (λ x. (body_tree (tree_of exprs.new) x.0.0 x.0.1, x.1.now)) result (body_at (places_of spans.now) (parse (places_of spans.now) LEVELS Any) tokens.now) }
@@ -86,6 +88,7 @@ fn result_and_body<'a>(alloc: Global, spans: &[Span], exprs: &mut Exprs, tokens:
 }
 
 /// A function.
+#[tactic(auto, unfolding(crate::specs::Reading::function_at))]
 fn function<'a>(alloc: Global, spans: &[Span], exprs: &mut Exprs, tokens: &'a [Token]) -> Result<(FunctionDecl, &'a [Token]), Stop>
     ensures kept { IfOk result (λ x. Reads exprs.old exprs.new x.0.body.0) }
     ensures read { Gives (λ x. (function_tree (tree_of exprs.new) x.0, x.1.now)) result (function_at (places_of spans.now) (parse (places_of spans.now) LEVELS Any) tokens.now) }
@@ -121,6 +124,7 @@ fn functions<'a>(alloc: Global, spans: &[Span], exprs: &mut Exprs, tokens: &'a [
 }
 
 /// The declaration of main.
+#[tactic(auto, unfolding(crate::specs::Reading::main_at))]
 fn main_declaration<'a>(alloc: Global, spans: &[Span], exprs: &mut Exprs, tokens: &'a [Token]) -> Result<(MainDecl, &'a [Token]), Stop>
     ensures kept { IfOk result (λ x. Reads exprs.old exprs.new x.0.body.0) }
     ensures read { Gives (λ x. (main_tree (tree_of exprs.new) x.0, x.1.now)) result (main_at (places_of spans.now) (parse (places_of spans.now) LEVELS Any) tokens.now) }
@@ -139,6 +143,7 @@ fn main_declaration<'a>(alloc: Global, spans: &[Span], exprs: &mut Exprs, tokens
 }
 
 /// Data declarations, functions and main.
+#[tactic(auto, unfolding(crate::specs::Reading::program_at))]
 fn program<'a>(alloc: Global, spans: &[Span], tokens: &'a [Token]) -> Result<(Program, &'a [Token]), Stop>
     ensures { Gives (λ x. (program_of x.0, x.1.now)) result (program_at (places_of spans.now) (parse (places_of spans.now) LEVELS Any) tokens.now) }
 {
@@ -150,6 +155,7 @@ fn program<'a>(alloc: Global, spans: &[Span], tokens: &'a [Token]) -> Result<(Pr
 }
 
 /// A whole program, and nothing behind it.
+#[tactic(auto, unfolding(crate::specs::Reading::whole_in))]
 pub(crate) fn whole(alloc: Global, spans: &[Span], tokens: &[Token]) -> Result<Program, Stop>
     ensures { Gives (λ p. (program_of p, [])) result (whole (places_of spans.now) tokens.now) }
 {

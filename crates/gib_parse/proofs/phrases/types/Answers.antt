@@ -2,7 +2,7 @@ use Rattle.std.proofs.Common.{sym, ◌∙◌}
 use Rattle.gib_syntax.specs.Spelling.{places_of}
 use Rattle.gib_parse.specs.Reading.{starts_type, type_at, many}
 use Rattle.gib_parse.proofs.SoFar.{one_more, all_read}
-use Rattle.gib_parse.proofs.Shrinking.{type_shrinks}
+use Rattle.gib_parse.proofs.Longer.{type_shrinks}
 use Rattle.gib_parse.proofs.phrases.types.Goals as goal
 
 pub types-preserved : goal.types-preserved

@@ -2,7 +2,7 @@ use Rattle.std.proofs.Common.{sym, ◌∙◌}
 use Rattle.gib_syntax.specs.Spelling.{places_of}
 use Rattle.gib_parse.specs.Reading.{is_variable, var_at, many}
 use Rattle.gib_parse.proofs.SoFar.{one_more, all_read}
-use Rattle.gib_parse.proofs.Shrinking.{var_shrinks}
+use Rattle.gib_parse.proofs.Longer.{var_shrinks}
 use Rattle.gib_parse.proofs.phrases.variables.Goals as goal
 
 pub variables-preserved : goal.variables-preserved
