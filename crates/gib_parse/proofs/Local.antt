@@ -1,6 +1,6 @@
 -- A fault is found at its token: whatever follows that token, it is found there.
 use Rattle.std.proofs.Common.{◌≡◌, ℕ, zero, suc, ◌+◌, ◌<◌, ◌≤◌, Bool, true, false, max, List, [], ◌∷◌, length, Option, Some, None, Result, Ok, Err, refl, sym, ap, ◌∙◌, subst, arith, ◌++◌, ◌⊎◌, inl, inr, length-append}
-use Rattle.gib_base.specs.declared.Name.{Name}
+use Rattle.gib_base.specs.declared.name.Name.{Name}
 use Rattle.gib_base.specs.declared.Span.{Span}
 use Rattle.gib_base.specs.declared.token.Sign.{Sign}
 use Rattle.gib_base.specs.declared.token.Sign.TheVariants as s
