@@ -11,3 +11,4 @@ pub mod ProgramSettle
 pub mod ProgramComplete
 pub mod ProgramLocal
 pub mod Whole
+pub mod Past
