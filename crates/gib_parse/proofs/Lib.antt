@@ -11,8 +11,10 @@ pub mod ProgramSettle
 pub mod ProgramComplete
 pub mod ProgramLocal
 pub mod Whole
+pub mod Past
 pub mod SoFar
 pub mod PartsSoFar
 pub mod Levels
 pub mod ExpressionLoops
 pub mod DeclarationLoops
+pub mod Answered

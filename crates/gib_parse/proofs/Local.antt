@@ -27,7 +27,7 @@ abbrev pub fault : Kind → ℕ → Fault
 fault Refused j = At j
 fault Deep j = Nested j
 
-fail_ok : {A : Type 0} (f : Fault) (a : A) (rest : List Token) → failed f ≡ done a rest → ⊥
+pub fail_ok : {A : Type 0} (f : Fault) (a : A) (rest : List Token) → failed f ≡ done a rest → ⊥
 fail_ok f a rest e = cc
 
 at_is : {A : Type 0} (j k : ℕ) → failed {A = A} (At j) ≡ failed (At k) → j ≡ k
@@ -36,10 +36,10 @@ at_is j k e = cc
 nested_is : {A : Type 0} (j k : ℕ) → failed {A = A} (Nested j) ≡ failed (Nested k) → j ≡ k
 nested_is j k e = cc
 
-at_is_nested : {A : Type 0} (j k : ℕ) → failed {A = A} (At j) ≡ failed (Nested k) → ⊥
+pub at_is_nested : {A : Type 0} (j k : ℕ) → failed {A = A} (At j) ≡ failed (Nested k) → ⊥
 at_is_nested j k e = cc
 
-fault_within : {A : Type 0} (b c : Kind) (j k : ℕ) → failed {A = A} (fault b j) ≡ failed (fault c k) → j ≡ k
+pub fault_within : {A : Type 0} (b c : Kind) (j k : ℕ) → failed {A = A} (fault b j) ≡ failed (fault c k) → j ≡ k
 fault_within {A = A} Refused Refused j k e = at_is {A = A} j k e
 fault_within {A = A} Refused Deep j k e = absurd (at_is_nested {A = A} j k e)
 fault_within {A = A} Deep Refused j k e = absurd (at_is_nested {A = A} k j (sym e))
@@ -54,16 +54,16 @@ fault_moved {A = A} Deep Deep j k l e = refl
 pair : {A : Type 0} → A → List Token → A × List Token
 pair a l = (a, l)
 
-ok_parts : {A : Type 0} (a b : A) (l m : List Token) → done a l ≡ done b m → (a ≡ b) × (l ≡ m)
+pub ok_parts : {A : Type 0} (a b : A) (l m : List Token) → done a l ≡ done b m → (a ≡ b) × (l ≡ m)
 ok_parts {A = A} a b l m e = (ap (λ (x : A × List Token). x.0) (whole (a, l) (b, m) e), ap (λ (x : A × List Token). x.1) (whole (a, l) (b, m) e)) where
   whole : (x y : A × List Token) → done x.0 x.1 ≡ done y.0 y.1 → x ≡ y
   whole x y e = cc
 
-then_done : {A B : Type 0} (r : Read A) (f : A → Reader B) (b : B) (left : List Token) → then_at r f ≡ done b left → (a : A) × (rest : List Token) × (r ≡ done a rest) × (f a rest ≡ done b left)
+pub then_done : {A B : Type 0} (r : Read A) (f : A → Reader B) (b : B) (left : List Token) → then_at r f ≡ done b left → (a : A) × (rest : List Token) × (r ≡ done a rest) × (f a rest ≡ done b left)
 then_done (Ok x) f b left e = (x.0, x.1, refl, e)
 then_done (Err d) f b left e = absurd (fail_ok d b left e)
 
-then_failed : {A B : Type 0} (r : Read A) (f : A → Reader B) (d : Fault) → then_at r f ≡ failed d → (r ≡ failed d) ⊎ ((a : A) × (rest : List Token) × (r ≡ done a rest) × (f a rest ≡ failed d))
+pub then_failed : {A B : Type 0} (r : Read A) (f : A → Reader B) (d : Fault) → then_at r f ≡ failed d → (r ≡ failed d) ⊎ ((a : A) × (rest : List Token) × (r ≡ done a rest) × (f a rest ≡ failed d))
 then_failed (Ok x) f d e = inr (x.0, x.1, refl, e)
 then_failed (Err c) f d e = inl (let same : c ≡ d = cc in ap (λ (g : Fault). failed g) same)
 
@@ -299,7 +299,7 @@ module _ (tok : Token) (xs ys : List Token) (at at' : Places) (shift : (k : ℕ)
   abbrev PartsLocal : ℕ → Type 0
   PartsLocal n = (m : Mode) (ws : List Token) → LocalAt (parse at n m) (parse at' n m) ws
 
-  arguments_local : (n : ℕ) → PartsLocal n → (ws : List Token) → LocalAt (arguments_at (parse at n Atom)) (arguments_at (parse at' n Atom)) ws
+  pub arguments_local : (n : ℕ) → PartsLocal n → (ws : List Token) → LocalAt (arguments_at (parse at n Atom)) (arguments_at (parse at' n Atom)) ws
   unfolding arguments_at
   arguments_local n h ws = then_local (many_local starts_atom (parse at n Atom) (parse at' n Atom) (parse_shrinks at n Atom) (parse_shrinks at' n Atom) (h Atom) ws) (λ es r e. pure_local (arguments_of es) r)
 
@@ -330,17 +330,17 @@ module _ (tok : Token) (xs ys : List Token) (at at' : Places) (shift : (k : ℕ)
       then_local (var_local ws) (λ x r1 e1. then_local (want_local s.Equals r1) (λ _ r2 e2. then_local (h Any r2) (λ a r3 e3. then_local (want_local s.And r3) (λ _ r4 e4.
       then_local (var_local r4) (λ y r5 e5. then_local (want_local s.Equals r5) (λ _ r6 e6. then_local (h Any r6) (λ b r7 e7. then_local (want_local s.In r7) (λ _ r8 e8. then_local (h Any r8) (λ c r9 e9. pure_local (Par z x a y b c) r9)))))))))
 
-  let_local : (n : ℕ) → PartsLocal n → (z : Span) (ws : List Token) → LocalAt (let_at at (parse at n) z) (let_at at' (parse at' n) z) ws
+  pub let_local : (n : ℕ) → PartsLocal n → (z : Span) (ws : List Token) → LocalAt (let_at at (parse at n) z) (let_at at' (parse at' n) z) ws
   let_local n h z [] = local_nil (let_at at (parse at n) z) (let_at at' (parse at' n) z) (bind_at at (parse at n) z) (bind_at at' (parse at' n) z) refl (bind_local n h z [])
   let_local n h z (t.Sign s.Par ∷ ws) = takes (let_at at (parse at n) z) (let_at at' (parse at' n) z) (par_at at (parse at n) z) (par_at at' (parse at' n) z) (t.Sign s.Par) ws (λ l. refl) (λ l. refl) (par_local n h z ws)
   let_local n h z (c ∷ ws) = keeps (let_at at (parse at n) z) (let_at at' (parse at' n) z) (bind_at at (parse at n) z) (bind_at at' (parse at' n) z) c ws (λ l. refl) (λ l. refl) (bind_local n h z (c ∷ ws))
 
-  if_local : (n : ℕ) → PartsLocal n → (z : Span) (ws : List Token) → LocalAt (if_at (parse at n) z) (if_at (parse at' n) z) ws
+  pub if_local : (n : ℕ) → PartsLocal n → (z : Span) (ws : List Token) → LocalAt (if_at (parse at n) z) (if_at (parse at' n) z) ws
   unfolding if_at
   if_local n h z ws =
       then_local (h Any ws) (λ a r1 e1. then_local (want_local s.Then r1) (λ _ r2 e2. then_local (h Any r2) (λ b r3 e3. then_local (want_local s.Else r3) (λ _ r4 e4. then_local (h Any r4) (λ c r5 e5. pure_local (If z a b c) r5)))))
 
-  case_local : (n : ℕ) → PartsLocal n → (z : Span) (ws : List Token) → LocalAt (case_at at (parse at n) z) (case_at at' (parse at' n) z) ws
+  pub case_local : (n : ℕ) → PartsLocal n → (z : Span) (ws : List Token) → LocalAt (case_at at (parse at n) z) (case_at at' (parse at' n) z) ws
   unfolding case_at
   case_local n h z ws =
       then_local (var_local ws) (λ x r1 e1. then_local (want_local s.Of r1) (λ _ r2 e2. then_local (want_local s.OpenBrace r2) (λ _ r3 e3. then_local (arms_local n h r3) (λ arms r4 e4. then_local (want_local s.CloseBrace r4) (λ _ r5 e5. pure_local (Case z x arms) r5)))))
@@ -364,7 +364,7 @@ module _ (tok : Token) (xs ys : List Token) (at at' : Places) (shift : (k : ℕ)
   close_local n h z e (t.Sign s.Less ∷ ws) = operation_local n h (is_application e) z o.Less e s.Less ws refl (λ sub l. refl)
   close_local n h z e (c ∷ ws) = head_fails (close_at (parse at n) z e) (close_at (parse at' n) z e) c ws (λ l. refl) (λ l. refl)
 
-  open_local : (n : ℕ) → PartsLocal n → (z : Span) (ws : List Token) → LocalAt (open_at (parse at n) z) (open_at (parse at' n) z) ws
+  pub open_local : (n : ℕ) → PartsLocal n → (z : Span) (ws : List Token) → LocalAt (open_at (parse at n) z) (open_at (parse at' n) z) ws
   unfolding open_at
   open_local n h z ws = then_local (h Any ws) (λ e r1 e1. close_local n h z e r1)
 

@@ -21,6 +21,10 @@ pub data Fault : Type 0 where
   At : ℕ → Fault
   Nested : ℕ → Fault
 
+abbrev pub left_of : Fault → ℕ
+left_of (At left) = left
+left_of (Nested left) = left
+
 -- Which expressions may stand at a place: any, those that may be a side of an operation, or those that
 -- may be an argument.
 pub data Mode : Type 0 where
@@ -365,7 +369,7 @@ ends_at g (x ∷ ts) = Err (At (suc (length ts)))
 unfoldable pub whole_in : ℕ → Places → Reader ProgramTree
 whole_in n at ts = then_at (program_at at (parse at n Any) ts) ends_at
 
--- All of the tokens, in as many levels as the language has.
+-- All of the tokens, in as many levels as the language has; a body stands on level 1.
 abbrev pub whole : Places → Reader ProgramTree
 whole at ts = whole_in 200 at ts
 
