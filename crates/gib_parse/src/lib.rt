@@ -3,6 +3,14 @@
 
 mod declarations;
 mod expressions;
+pub mod fault;
 pub mod law;
+pub mod parsing;
 mod phrases;
 mod stop;
+
+pub use fault::ParseFault;
+pub use parsing::parse;
+
+#[cfg(test)]
+mod tests;
