@@ -1,18 +1,17 @@
 -- Declarations and programs that are read are spelled so, and stand there.
-use Rattle.std.proofs.Common.{◌≡◌, ◌≢◌, ℕ, zero, suc, ◌+◌, ◌<◌, ◌≤◌, max, Bool, true, false, List, [], ◌∷◌, length, refl, sym, ap, ◌∙◌, subst, arith}
+use Rattle.std.proofs.Common.{◌≡◌, ◌≢◌, ℕ, suc, ◌<◌, ◌≤◌, List, [], ◌∷◌, length, refl, ap, ◌∙◌, subst, arith}
 use Rattle.std.specs.List.{AllByRecursion}
 use Rattle.gib_base.specs.declared.token.Sign.TheVariants as s
 use Rattle.gib_base.specs.declared.token.Token.{Token}
 use Rattle.gib_base.specs.declared.token.Token.TheVariants as t
-use Rattle.gib_syntax.specs.declared.tree.Ident.{Ident}
 use Rattle.gib_syntax.specs.declared.tree.TypeName.{TypeName}
 use Rattle.gib_syntax.specs.declared.tree.Parameter.{Parameter}
 use Rattle.gib_syntax.specs.Tree.{Expression, ConstructorTree, DataTree, FunctionTree, MainTree, ProgramTree}
-use Rattle.gib_syntax.specs.Spelling.{Places, IsAt, IsTypeAt, AreTypesAt, IsConstructorAt, AreConstructorsAt, IsDataAt, AreDatasAt, IsParameterAt, AreParametersAt, IsBodyAt, IsFunctionAt, AreFunctionsAt, IsMainAt, IsPlacedProgram, IsFine, IsFineFunction, IsFineProgram, HasConstructor, levels, levels_functions, levels_program, Derives, spell, spell_type, spell_types, spell_constructor, spell_more, spell_constructors, spell_data, spell_datas, spell_parameter, spell_parameters, spell_body, spell_function, spell_functions, spell_main, spell_program}
-use Rattle.gib_parse.specs.Reading.{Fault, At, Nested, Any, Read, Reader, then_at, want, var_at, con_at, type_at, many, starts_type, is_sign, constructor_at, alternative_at, constructors_at, data_at, parameter_at, parameters_at, BodyTree, body_at, function_at, main_at, program_at, ends_at, whole_in, parse}
-use Rattle.gib_parse.proofs.Tools.{done, Holds, holds_ok, holds_err, then_holds, want_holds, var_holds, con_holds, type_holds, IsVar, IsCon, IsType}
+use Rattle.gib_syntax.specs.Spelling.{Places, AreTypesAt, IsConstructorAt, AreConstructorsAt, IsDataAt, AreDatasAt, IsParameterAt, AreParametersAt, IsBodyAt, IsFunctionAt, AreFunctionsAt, IsMainAt, IsPlacedProgram, IsFine, IsFineFunction, IsFineProgram, HasConstructor, levels, levels_functions, levels_program, Derives, spell, spell_type, spell_types, spell_constructor, spell_more, spell_constructors, spell_data, spell_datas, spell_parameter, spell_parameters, spell_body, spell_function, spell_functions, spell_main, spell_program}
+use Rattle.gib_parse.specs.Reading.{At, Any, type_at, starts_type, is_sign, constructor_at, alternative_at, constructors_at, data_at, parameter_at, parameters_at, BodyTree, body_at, function_at, main_at, program_at, ends_at, whole_in, parse}
+use Rattle.gib_parse.proofs.Tools.{Holds, holds_ok, holds_err, then_holds, want_holds, var_holds, con_holds, type_holds, IsType}
 use Rattle.gib_parse.proofs.Many.{Chain, many_sound, Shrinks}
-use Rattle.gib_parse.proofs.Sound.{Sound, parse_sound, onward}
+use Rattle.gib_parse.proofs.Sound.{parse_sound, onward}
 use Rattle.gib_parse.proofs.Longer.{type_longer, spell_longer}
 
 -- ---- data declarations
@@ -284,6 +283,8 @@ pub parameter_shrinks : (at : Places) → Shrinks (parameter_at at)
 parameter_shrinks at ts = record { by = λ q rest eq. let o = (parameter_sound at ts).by q rest eq in omega (arith, ap length o.spelled, parameter_longer q rest) }
 
 pub function_shrinks : (at : Places) (l : ℕ) → Shrinks (function_at at (parse at l Any))
-function_shrinks at l ts = record { by = λ f rest eq.
-    let o = (function_sound at l ts).by f rest eq in
-    omega (arith, ap length o.spelled, parameters_longer f.parameters (spell_body f.result f.body rest), body_longer f.result f.body rest) }
+function_shrinks at l ts = record {
+  by = λ f rest eq.
+      let o = (function_sound at l ts).by f rest eq in
+      omega (arith, ap length o.spelled, parameters_longer f.parameters (spell_body f.result f.body rest), body_longer f.result f.body rest);
+}

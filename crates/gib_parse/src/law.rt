@@ -18,6 +18,11 @@ pub fn program_is_read()
     ensures { (at : Places) (tokens : List Token) (p : ProgramTree) → Derives tokens p → IsPlacedProgram at p → levels_program p ≤ 200 → whole at tokens ≡ Ok (p, []) }
 {}
 
+/// Where the tokens spell a program of at most 200 levels, whatever spans it carries, a program is read.
+pub fn program_is_accepted()
+    ensures { (at : Places) (tokens : List Token) (p : ProgramTree) → Derives tokens p → levels_program p ≤ 200 → (q : ProgramTree) × (whole at tokens ≡ Ok (q, [])) }
+{}
+
 /// No program's tokens begin with the tokens up to and including one that is refused; where tokens are
 /// missing, these are no program's.
 pub fn refused_is_blamed()
