@@ -12,3 +12,4 @@ pub mod ProgramComplete
 pub mod ProgramLocal
 pub mod Whole
 pub mod Past
+pub mod Begin
