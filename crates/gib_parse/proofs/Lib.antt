@@ -13,3 +13,4 @@ pub mod ProgramLocal
 pub mod Whole
 pub mod Past
 pub mod Begin
+pub mod BeginExpression

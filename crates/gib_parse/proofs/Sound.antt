@@ -116,7 +116,7 @@ arms_from_chain at l arm (next ∷ arms) ts mid rest a c =
     let first = arm_onward at l ts arm mid (t.Sign s.Semicolon ∷ spell_arms (arms_of next arms) rest) (c.1.semicolon ∙ ap (λ l. t.Sign s.Semicolon ∷ l) more.spelled) a in
     record { spelled = first.spelled; fine = (first.fine, more.fine); level = (let a = first.level in let b = more.level in omega arith); placed = (first.name, first.variables, first.placed, more.placed) }
 
-arms_sound : (at : Places) (l : ℕ) (p : Reader Expression) → ((ts : List Token) → Holds (p ts) (Sound at l Any ts)) → (ts : List Token) → Holds (arms_at at p ts) (SoundArms at l ts)
+pub arms_sound : (at : Places) (l : ℕ) (p : Reader Expression) → ((ts : List Token) → Holds (p ts) (Sound at l Any ts)) → (ts : List Token) → Holds (arms_at at p ts) (SoundArms at l ts)
 unfolding arms_at
 arms_sound at l p h ts =
     then_holds (arm_sound at l p h ts) (λ arm r1 p1. then_holds (many_sound (SoundNext at l) (is_sign s.Semicolon) (next_arm_at at p) (next_sound at l p h) r1) (λ arms r2 c2.
