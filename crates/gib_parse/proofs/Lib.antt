@@ -14,3 +14,4 @@ pub mod Whole
 pub mod Past
 pub mod Begin
 pub mod BeginExpression
+pub mod BeginProgram
