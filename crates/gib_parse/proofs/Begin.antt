@@ -1,5 +1,5 @@
 -- The tokens before a refused one begin a program: the tools.
-use Rattle.std.proofs.Common.{◌≡◌, ◌≢◌, ℕ, zero, suc, ◌+◌, ◌<◌, ◌≤◌, ◌^◌, Bool, true, false, List, [], ◌∷◌, ◌++◌, length, Result, Ok, Err, refl, sym, ap, ◌∙◌, subst, arith, ◌⊎◌, inl, inr}
+use Rattle.std.proofs.Common.{◌≡◌, ℕ, zero, suc, ◌≤◌, Bool, true, false, List, [], ◌∷◌, ◌++◌, length, Ok, refl, sym, ap, ◌∙◌, subst, arith, ◌⊎◌, inl, inr}
 use Rattle.gib_base.specs.declared.token.Sign.{Sign}
 use Rattle.gib_base.specs.declared.token.Sign.TheVariants as s
 use Rattle.gib_base.specs.declared.token.Token.{Token}
@@ -12,8 +12,8 @@ use Rattle.gib_syntax.specs.declared.tree.Operator.{Operator}
 use Rattle.gib_syntax.specs.declared.tree.Operator.TheVariants as o
 use Rattle.gib_syntax.specs.Tree.{Expression, Arguments, Arms, Var, Num, Bit, Paren, Op, Call, Make, Let, Par, If, Case, NoArgument, Argument, LastArm, NextArm, ConstructorTree, DataTree, FunctionTree}
 use Rattle.gib_syntax.specs.Spelling.{Places, spell, spell_arguments, spell_arms, spell_variables, spell_operator, spell_bit, spell_type, spell_types, spell_constructor, spell_more, spell_constructors, spell_data, spell_datas, spell_parameter, spell_parameters, spell_body, spell_function, spell_functions}
-use Rattle.gib_parse.specs.Reading.{Fault, At, Nested, Read, Reader, then_at, want, want_if, same, var_at, con_at, type_at, next_is, many_step, many, is_variable, starts_type}
-use Rattle.gib_parse.proofs.Tools.{done, failed, Holds, want_holds, var_holds, con_holds, type_holds, IsVar, IsType}
+use Rattle.gib_parse.specs.Reading.{Fault, At, Read, Reader, then_at, want, want_if, same, var_at, con_at, type_at, next_is, many_step, many, is_variable, starts_type}
+use Rattle.gib_parse.proofs.Tools.{done, failed, want_holds, var_holds, con_holds, type_holds, IsVar}
 use Rattle.gib_parse.proofs.Many.{Shrinks, many_is, many_sound}
 use Rattle.gib_parse.proofs.Longer.{var_shrinks, type_shrinks}
 use Rattle.gib_parse.proofs.Sound.{variables_sound}

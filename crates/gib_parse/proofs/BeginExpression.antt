@@ -1,8 +1,6 @@
 -- The tokens before a refused one begin an expression.
-use Rattle.std.proofs.Common.{◌≡◌, ℕ, zero, suc, ◌+◌, ◌<◌, ◌≤◌, ◌^◌, Bool, true, false, List, [], ◌∷◌, length, Option, Some, None, Result, Ok, Err, refl, sym, ap, ◌∙◌, subst, arith, ◌⊎◌, inl, inr}
-use Rattle.gib_base.specs.declared.Name.{Name}
+use Rattle.std.proofs.Common.{◌≡◌, ℕ, zero, suc, Bool, true, false, List, [], ◌∷◌, length, refl, sym, ap, ◌∙◌, subst, arith, ◌⊎◌, inl, inr}
 use Rattle.gib_base.specs.declared.Span.{Span}
-use Rattle.gib_base.specs.declared.token.Sign.{Sign}
 use Rattle.gib_base.specs.declared.token.Sign.TheVariants as s
 use Rattle.gib_base.specs.declared.token.Token.{Token}
 use Rattle.gib_base.specs.declared.token.Token.TheVariants as t
@@ -11,12 +9,11 @@ use Rattle.gib_syntax.specs.declared.tree.Operator.{Operator}
 use Rattle.gib_syntax.specs.declared.tree.Operator.TheVariants as o
 use Rattle.gib_syntax.specs.Tree.{Expression, Arguments, Arms, Var, Num, Bit, Paren, Op, Call, Make, Let, Par, If, Case, NoArgument, Argument, LastArm, NextArm}
 use Rattle.gib_syntax.specs.Spelling.{Places, is_application, spell, spell_arguments, spell_arms, spell_variables, spell_operator, IsFine, AreFine, HasFine}
-use Rattle.gib_parse.specs.Reading.{Fault, At, Nested, Mode, Any, App, Atom, Read, Reader, Parts, then_at, want, before, named, var_at, con_at, next_is, many, is_variable, is_sign, is_literal, literal_at, starts_atom, starts, ArmTree, arms_of, arm_at, next_arm_at, arms_at, arguments_of, arguments_at, bind_at, par_at, let_at, if_at, case_at, side_at, close_at, open_at, call, atom_at, app_at, any_at, step, no_level, parse}
-use Rattle.gib_parse.proofs.Tools.{done, failed, Holds}
-use Rattle.gib_parse.proofs.Many.{many_is, many_sound}
-use Rattle.gib_parse.proofs.Sound.{IsMode, Sound, parse_sound, paren_mode, op_mode, SoundArm, arm_sound, SoundNext, next_sound, SoundArms, arms_sound}
+use Rattle.gib_parse.specs.Reading.{At, Nested, Mode, Any, App, Atom, Reader, then_at, before, named, var_at, next_is, many, is_variable, is_sign, is_literal, literal_at, starts_atom, starts, ArmTree, arms_of, arm_at, next_arm_at, arms_at, arguments_of, arguments_at, bind_at, par_at, let_at, if_at, case_at, side_at, close_at, open_at, call, atom_at, app_at, any_at, no_level, parse}
+use Rattle.gib_parse.proofs.Tools.{done, failed}
+use Rattle.gib_parse.proofs.Sound.{IsMode, parse_sound, paren_mode, op_mode, arm_sound, next_sound, arms_sound}
 use Rattle.gib_parse.proofs.Longer.{parse_shrinks, next_shrinks}
-use Rattle.gib_parse.proofs.Begin.{Agrees, agrees_cons, agrees_operator, agrees_arms, agrees_arm, agrees_expr, Begins, b_map, b_never, b_done, b_now, b_by, Goes, b_then, b_last, behind_token, b_want, b_var, b_con, goes_sign, goes_var, goes_con, goes_vars, goes_expr, Keeps, many_begins, vars_never}
+use Rattle.gib_parse.proofs.Begin.{agrees_cons, agrees_arms, agrees_arm, agrees_expr, Begins, b_map, b_never, b_done, b_now, b_by, b_then, b_last, behind_token, b_want, b_var, b_con, goes_sign, goes_var, goes_con, goes_vars, goes_expr, Keeps, many_begins, vars_never}
 
 -- The languages, with what comes behind.
 
@@ -157,8 +154,13 @@ module _ (at : Places) where
       b_then (b_var at ws (t.Variable a_name.name ∷ t.Sign s.Of ∷ t.Sign s.OpenBrace ∷ tail) (Case z a_name some, zero_fine, tt, refl)) (λ x r1 e1. goes_var at x ws r1 e1 (
       b_then (b_want s.Of r1 (t.Sign s.Of ∷ t.Sign s.OpenBrace ∷ tail) (Case z x some, zero_fine, tt, refl)) (λ u r2 e2. goes_sign s.Of r1 r2 u e2 (
       b_then (b_want s.OpenBrace r2 (t.Sign s.OpenBrace ∷ tail) (Case z x some, zero_fine, tt, refl)) (λ u r3 e3. goes_sign s.OpenBrace r2 r3 u e3 (
-      b_then (b_map (λ vs o. (Case z x o.0, o.1, tt, ap (λ (k : List Token). t.Sign s.Case ∷ t.Variable x.name ∷ t.Sign s.Of ∷ t.Sign s.OpenBrace ∷ k) o.2)) (arms_begin n h r3 (t.Sign s.CloseBrace ∷ r))) (λ arms r4 e4. let p4 = (arms_sound at n (parse at n Any) (parse_sound at n Any) r3).by arms r4 e4 in record { before = spell_arms arms; was = p4.spelled; agrees = agrees_arms arms; next =
-      b_last (b_want s.CloseBrace r4 (t.Sign s.CloseBrace ∷ r) (Case z x arms, p4.fine, tt, refl)) (λ u r5. (Case z x arms, r5, refl)) })))))))
+      b_then (b_map (λ vs o. (Case z x o.0, o.1, tt, ap (λ (k : List Token). t.Sign s.Case ∷ t.Variable x.name ∷ t.Sign s.Of ∷ t.Sign s.OpenBrace ∷ k) o.2)) (arms_begin n h r3 (t.Sign s.CloseBrace ∷ r))) (λ arms r4 e4. let p4 = (arms_sound at n (parse at n Any) (parse_sound at n Any) r3).by arms r4 e4 in record {
+        before = spell_arms arms;
+        was = p4.spelled;
+        agrees = agrees_arms arms;
+        next =
+            b_last (b_want s.CloseBrace r4 (t.Sign s.CloseBrace ∷ r) (Case z x arms, p4.fine, tt, refl)) (λ u r5. (Case z x arms, r5, refl));
+      })))))))
 
   side_begins : (n : ℕ) → PartsBegin n → (m : Mode) (z : Span) (f : Operator) (a : Expression) → IsFine a → (b : Bool) → is_application a ≡ b → (ws r : List Token) → (p : Reader Expression) (g : Token) → p (g ∷ ws) ≡ side_at (is_application a) (parse at n) z f a ws → ((l : List Token) → spell_operator f l ≡ g ∷ l)
       → Begins (λ vs. ExpressionsThen m r (t.Sign s.Open ∷ spell a vs)) p (g ∷ ws)

@@ -1,5 +1,5 @@
 -- The tokens before a refused one begin a program.
-use Rattle.std.proofs.Common.{◌≡◌, ◌≢◌, ℕ, zero, suc, ◌+◌, ◌-◌, ◌<◌, ◌≤◌, ◌^◌, Bool, true, false, List, [], ◌∷◌, ◌++◌, length, take, Result, Ok, Err, refl, sym, ap, ◌∙◌, subst, arith, length-append}
+use Rattle.std.proofs.Common.{◌≡◌, ◌≢◌, ℕ, ◌-◌, List, [], ◌∷◌, ◌++◌, length, take, refl, sym, ap, ◌∙◌, arith, length-append}
 use Rattle.std.specs.List.{AllByRecursion}
 use Rattle.std.proofs.lemmas.List.{take_at}
 use Rattle.gib_base.specs.declared.Span.{Span}
@@ -11,14 +11,14 @@ use Rattle.gib_syntax.specs.declared.tree.TypeName.{TypeName}
 use Rattle.gib_syntax.specs.declared.tree.TypeName.TheVariants as ty
 use Rattle.gib_syntax.specs.declared.tree.Parameter.{Parameter}
 use Rattle.gib_syntax.specs.Tree.{Expression, Num, ConstructorTree, DataTree, FunctionTree, MainTree, ProgramTree}
-use Rattle.gib_syntax.specs.Spelling.{Places, IsFine, IsFineFunction, IsFineProgram, HasConstructor, Derives, spell, spell_type, spell_types, spell_constructor, spell_more, spell_constructors, spell_data, spell_datas, spell_parameter, spell_parameters, spell_body, spell_function, spell_functions, spell_main, spell_program}
-use Rattle.gib_parse.specs.Reading.{Fault, At, Any, Read, Reader, then_at, want, var_at, con_at, type_at, many, starts_type, is_sign, constructor_at, alternative_at, constructors_at, data_at, parameter_at, parameters_at, BodyTree, body_at, function_at, main_at, program_at, ends_at, whole_in, parse}
-use Rattle.gib_parse.proofs.Tools.{done, failed, Holds}
+use Rattle.gib_syntax.specs.Spelling.{Places, IsFine, IsFineFunction, IsFineProgram, HasConstructor, Derives, spell_type, spell_constructor, spell_more, spell_constructors, spell_data, spell_datas, spell_parameter, spell_parameters, spell_body, spell_function, spell_functions, spell_main, spell_program}
+use Rattle.gib_parse.specs.Reading.{At, Any, type_at, many, starts_type, is_sign, constructor_at, alternative_at, constructors_at, data_at, parameter_at, parameters_at, BodyTree, body_at, function_at, main_at, program_at, ends_at, whole_in, parse, Begun}
+use Rattle.gib_parse.proofs.Tools.{done, failed}
 use Rattle.gib_parse.proofs.Many.{many_sound}
 use Rattle.gib_parse.proofs.Sound.{parse_sound}
-use Rattle.gib_parse.proofs.ProgramSound.{SoundConstructor, constructor_sound, SoundAlternative, alternative_sound, SoundConstructors, constructors_sound, SoundData, data_sound, SoundDatas, datas_sound, SoundParameter, parameter_sound, SoundParameters, parameters_sound, SoundBody, body_sound, SoundFunction, function_sound, SoundFunctions, functions_sound, SoundProgram, program_sound, alternative_shrinks, data_shrinks, parameter_shrinks, function_shrinks}
-use Rattle.gib_parse.proofs.Begin.{Agrees, agrees_cons, agrees_expr, agrees_constructor, agrees_constructors, agrees_data, agrees_datas, agrees_parameter, agrees_parameters, agrees_function, agrees_functions, Begins, b_map, b_never, b_done, b_now, b_by, Goes, b_then, b_last, b_want, b_var, b_con, b_type, goes_sign, goes_var, goes_con, goes_type, goes_expr, Keeps, many_begins, types_never}
-use Rattle.gib_parse.proofs.BeginExpression.{ExpressionsThen, parse_begins}
+use Rattle.gib_parse.proofs.ProgramSound.{constructor_sound, alternative_sound, constructors_sound, SoundData, data_sound, datas_sound, parameter_sound, parameters_sound, SoundFunction, function_sound, functions_sound, program_sound, alternative_shrinks, data_shrinks, parameter_shrinks, function_shrinks}
+use Rattle.gib_parse.proofs.Begin.{Agrees, agrees_cons, agrees_constructor, agrees_constructors, agrees_data, agrees_datas, agrees_parameter, agrees_parameters, agrees_body, agrees_function, agrees_functions, Begins, b_map, b_never, b_done, b_now, b_then, b_last, b_want, b_var, b_con, b_type, goes_sign, goes_var, goes_con, goes_type, goes_expr, Keeps, many_begins, types_never}
+use Rattle.gib_parse.proofs.BeginExpression.{parse_begins}
 
 -- The languages, with what comes behind.
 
@@ -90,6 +90,12 @@ a_main = record { parameter = a_parameter; result = a_type; body = zero_is }
 abbrev body_tokens : List Token → List Token
 body_tokens r = spell_body a_type zero_is r
 
+agrees_main : (m : MainTree) (j : ℕ) (ws vs : List Token) → Agrees j ws vs → Agrees j (spell_main m ws) (spell_main m vs)
+agrees_main m j ws vs a = agrees_cons (t.Sign s.Main) j _ _ (agrees_parameter m.parameter j _ _ (agrees_body m.result m.body j ws vs a))
+
+agrees_program : (p : ProgramTree) (j : ℕ) (ws vs : List Token) → Agrees j ws vs → Agrees j (spell_program p ws) (spell_program p vs)
+agrees_program p j ws vs a = agrees_datas p.datas j _ _ (agrees_functions p.functions j _ _ (agrees_main p.main j ws vs a))
+
 some_constructors : (c : ConstructorTree) (cs : List ConstructorTree) → c ∷ cs ≢ []
 some_constructors c cs e = cc
 
@@ -140,8 +146,13 @@ module _ (at : Places) where
       b_then (b_want s.Data ws (t.Sign s.Data ∷ t.Constructor a_name.name ∷ t.Sign s.Equals ∷ t.Constructor a_name.name ∷ tail) (record { name = a_name; constructors = one }, some, refl)) (λ u r1 e1. goes_sign s.Data ws r1 u e1 (
       b_then (b_con at r1 (t.Constructor a_name.name ∷ t.Sign s.Equals ∷ t.Constructor a_name.name ∷ tail) (record { name = a_name; constructors = one }, some, refl)) (λ d r2 e2. goes_con at d r1 r2 e2 (
       b_then (b_want s.Equals r2 (t.Sign s.Equals ∷ t.Constructor a_name.name ∷ tail) (record { name = d; constructors = one }, some, refl)) (λ u r3 e3. goes_sign s.Equals r2 r3 u e3 (
-      b_then (b_map (λ vs o. (record { name = d; constructors = o.0 }, o.1, ap (λ (l : List Token). t.Sign s.Data ∷ t.Constructor d.name ∷ t.Sign s.Equals ∷ l) o.2)) (constructors_begin r3 tail)) (λ cs r4 e4. let p4 = (constructors_sound at r3).by cs r4 e4 in record { before = spell_constructors cs; was = p4.spelled; agrees = agrees_constructors cs; next =
-      b_last (b_want s.Semicolon r4 tail (record { name = d; constructors = cs }, p4.some, refl)) (λ u r5. ((let made : DataTree = record { name = d; constructors = cs } in made), r5, refl)) })))))))
+      b_then (b_map (λ vs o. (record { name = d; constructors = o.0 }, o.1, ap (λ (l : List Token). t.Sign s.Data ∷ t.Constructor d.name ∷ t.Sign s.Equals ∷ l) o.2)) (constructors_begin r3 tail)) (λ cs r4 e4. let p4 = (constructors_sound at r3).by cs r4 e4 in record {
+        before = spell_constructors cs;
+        was = p4.spelled;
+        agrees = agrees_constructors cs;
+        next =
+            b_last (b_want s.Semicolon r4 tail (record { name = d; constructors = cs }, p4.some, refl)) (λ u r5. ((let made : DataTree = record { name = d; constructors = cs } in made), r5, refl));
+      })))))))
 
   data_keeps : (r : List Token) (d : DataTree) (ws rest : List Token) → data_at at ws ≡ done d rest → Keeps (DatasThen r) ws rest
   data_keeps r d ws rest e =
@@ -201,9 +212,14 @@ module _ (at : Places) where
       let some = some_parameters a_parameter [] in
       b_then (b_want s.Fun ws (t.Sign s.Fun ∷ t.Variable a_name.name ∷ spell_parameter a_parameter behind) (record { name = a_name; parameters = one; result = a_type; body = zero_is }, (some, zero_fine), refl)) (λ u r1 e1. goes_sign s.Fun ws r1 u e1 (
       b_then (b_var at r1 (t.Variable a_name.name ∷ spell_parameter a_parameter behind) (record { name = a_name; parameters = one; result = a_type; body = zero_is }, (some, zero_fine), refl)) (λ f r2 e2. goes_var at f r1 r2 e2 (
-      b_then (b_map (λ vs o. (record { name = f; parameters = o.0; result = a_type; body = zero_is }, (o.1, zero_fine), ap (λ (l : List Token). t.Sign s.Fun ∷ t.Variable f.name ∷ l) o.2)) (parameters_begin r2 behind)) (λ qs r3 e3. let p3 = (parameters_sound at r2).by qs r3 e3 in record { before = spell_parameters qs; was = p3.spelled; agrees = agrees_parameters qs; next =
-      b_last (b_map (λ vs o. (record { name = f; parameters = qs; result = o.0.result; body = o.0.body }, (p3.some, o.1), ap (λ (l : List Token). t.Sign s.Fun ∷ t.Variable f.name ∷ spell_parameters qs l) o.2)) (body_begins n r3 r))
-      (λ b r4. ((let made : FunctionTree = record { name = f; parameters = qs; result = b.result; body = b.body } in made), r4, refl)) })))))
+      b_then (b_map (λ vs o. (record { name = f; parameters = o.0; result = a_type; body = zero_is }, (o.1, zero_fine), ap (λ (l : List Token). t.Sign s.Fun ∷ t.Variable f.name ∷ l) o.2)) (parameters_begin r2 behind)) (λ qs r3 e3. let p3 = (parameters_sound at r2).by qs r3 e3 in record {
+        before = spell_parameters qs;
+        was = p3.spelled;
+        agrees = agrees_parameters qs;
+        next =
+            b_last (b_map (λ vs o. (record { name = f; parameters = qs; result = o.0.result; body = o.0.body }, (p3.some, o.1), ap (λ (l : List Token). t.Sign s.Fun ∷ t.Variable f.name ∷ spell_parameters qs l) o.2)) (body_begins n r3 r))
+            (λ b r4. ((let made : FunctionTree = record { name = f; parameters = qs; result = b.result; body = b.body } in made), r4, refl));
+      })))))
 
   function_keeps : (n : ℕ) (r : List Token) (f : FunctionTree) (ws rest : List Token) → function_at at (parse at n Any) ws ≡ done f rest → Keeps (FunctionsThen r) ws rest
   function_keeps n r f ws rest e =
@@ -221,9 +237,14 @@ module _ (at : Places) where
   main_begins n ws r =
       let behind : List Token = body_tokens r in
       b_then (b_want s.Main ws (t.Sign s.Main ∷ spell_parameter a_parameter behind) (a_main, zero_fine, refl)) (λ u r1 e1. goes_sign s.Main ws r1 u e1 (
-      b_then (b_map (λ vs o. (record { parameter = o.0; result = a_type; body = zero_is }, zero_fine, ap (λ (l : List Token). t.Sign s.Main ∷ l) o.1)) (parameter_begins r1 behind)) (λ q r2 e2. let p2 = (parameter_sound at r1).by q r2 e2 in record { before = spell_parameter q; was = p2.spelled; agrees = agrees_parameter q; next =
-      b_last (b_map (λ vs o. (record { parameter = q; result = o.0.result; body = o.0.body }, o.1, ap (λ (l : List Token). t.Sign s.Main ∷ spell_parameter q l) o.2)) (body_begins n r2 r))
-      (λ b r3. ((let made : MainTree = record { parameter = q; result = b.result; body = b.body } in made), r3, refl)) })))
+      b_then (b_map (λ vs o. (record { parameter = o.0; result = a_type; body = zero_is }, zero_fine, ap (λ (l : List Token). t.Sign s.Main ∷ l) o.1)) (parameter_begins r1 behind)) (λ q r2 e2. let p2 = (parameter_sound at r1).by q r2 e2 in record {
+        before = spell_parameter q;
+        was = p2.spelled;
+        agrees = agrees_parameter q;
+        next =
+            b_last (b_map (λ vs o. (record { parameter = q; result = o.0.result; body = o.0.body }, o.1, ap (λ (l : List Token). t.Sign s.Main ∷ spell_parameter q l) o.2)) (body_begins n r2 r))
+            (λ b r3. ((let made : MainTree = record { parameter = q; result = b.result; body = b.body } in made), r3, refl));
+      })))
 
   pub last : List Token
   last = spell_main a_main []
@@ -231,7 +252,39 @@ module _ (at : Places) where
   program_begins : (n : ℕ) (ws : List Token) → Begins Programs (program_at at (parse at n Any)) ws
   unfolding program_at last
   program_begins n ws =
-      b_then (b_map (λ vs o. (record { datas = o.0; functions = []; main = a_main }, record { datas = o.1; functions = tt; main = zero_fine }, o.2)) (datas_begin last ws)) (λ ds r1 e1. let p1 = datas_sound at ds ws r1 ((many_sound (SoundData at) (is_sign s.Data) (data_at at) (data_sound at) ws).by ds r1 e1) in record { before = spell_datas ds; was = p1.spelled; agrees = agrees_datas ds; next =
-      b_then (b_map (λ vs o. (record { datas = ds; functions = o.0; main = a_main }, record { datas = p1.fine; functions = o.1; main = zero_fine }, ap (spell_datas ds) o.2)) (functions_begin n last r1)) (λ fs r2 e2. let p2 = functions_sound at n fs r1 r2 ((many_sound (SoundFunction at n) (is_sign s.Fun) (function_at at (parse at n Any)) (function_sound at n) r1).by fs r2 e2) in record { before = spell_functions fs; was = p2.spelled; agrees = agrees_functions fs; next =
-      b_last (b_map (λ vs o. (record { datas = ds; functions = fs; main = o.0 }, record { datas = p1.fine; functions = p2.fine; main = o.1 }, ap (λ (l : List Token). spell_datas ds (spell_functions fs l)) o.2)) (main_begins n r2 []))
-      (λ m r3. ((let made : ProgramTree = record { datas = ds; functions = fs; main = m } in made), r3, refl)) }) })
+      b_then (b_map (λ vs o. (record { datas = o.0; functions = []; main = a_main }, record { datas = o.1; functions = tt; main = zero_fine }, o.2)) (datas_begin last ws)) (λ ds r1 e1. let p1 = datas_sound at ds ws r1 ((many_sound (SoundData at) (is_sign s.Data) (data_at at) (data_sound at) ws).by ds r1 e1) in record {
+        before = spell_datas ds;
+        was = p1.spelled;
+        agrees = agrees_datas ds;
+        next =
+            b_then (b_map (λ vs o. (record { datas = ds; functions = o.0; main = a_main }, record { datas = p1.fine; functions = o.1; main = zero_fine }, ap (spell_datas ds) o.2)) (functions_begin n last r1)) (λ fs r2 e2. let p2 = functions_sound at n fs r1 r2 ((many_sound (SoundFunction at n) (is_sign s.Fun) (function_at at (parse at n Any)) (function_sound at n) r1).by fs r2 e2) in record {
+              before = spell_functions fs;
+              was = p2.spelled;
+              agrees = agrees_functions fs;
+              next =
+                  b_last (b_map (λ vs o. (record { datas = ds; functions = fs; main = o.0 }, record { datas = p1.fine; functions = p2.fine; main = o.1 }, ap (λ (l : List Token). spell_datas ds (spell_functions fs l)) o.2)) (main_begins n r2 []))
+                  (λ m r3. ((let made : ProgramTree = record { datas = ds; functions = fs; main = m } in made), r3, refl));
+            });
+      })
+
+  ends_begin : (g : ProgramTree) → IsFineProgram g → (ws : List Token) → Begins (λ vs. Programs (spell_program g vs)) (ends_at g) ws
+  ends_begin g f [] = b_done g [] refl
+  ends_begin g f (x ∷ ws) = b_now [] (g, f, refl) refl
+
+  whole_begins : (n : ℕ) (ws : List Token) → Begins Programs (whole_in n at) ws
+  unfolding whole_in
+  whole_begins n ws =
+      b_then (program_begins n ws) (λ g r1 e1. let p1 = (program_sound at n ws).by g r1 e1 in record { before = spell_program g; was = p1.spelled; agrees = agrees_program g; next = ends_begin g p1.fine r1 })
+
+  begun_from : (j : ℕ) (ws vs : List Token) (p : ProgramTree) → Agrees j ws vs → IsFineProgram p → vs ≡ spell_program p [] → (more : List Token) × Derives (take (length ws - j) ws ++ more) p
+  begun_from j ws vs p a f e =
+      let len : length a.front ≡ length ws - j = omega (arith, ap length a.here, length-append a.front a.rest, a.left) in
+      let cut : take (length ws - j) ws ≡ a.front = ap (take (length ws - j)) a.here ∙ take_at a.front a.rest (length ws - j) len in
+      (a.more, record { fine = f; spelled = ap (λ l. l ++ a.more) cut ∙ sym a.there ∙ e })
+
+  -- Some program begins with the tokens before the one that is refused.
+  pub whole_begun : (n : ℕ) (ws : List Token) (j : ℕ) → whole_in n at ws ≡ failed (At j) → Begun ws j
+  whole_begun n ws j e =
+      let o = (whole_begins n ws).by j e in
+      let d = begun_from j ws o.0 o.2.0 o.1 o.2.1 o.2.2 in
+      (o.2.0, d.0, d.1)

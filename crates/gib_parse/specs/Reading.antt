@@ -405,3 +405,7 @@ whole at ts = whole_in 200 at ts
 abbrev pub Deepens : List Token → ℕ → Type 0
 Deepens tokens zero = (p : ProgramTree) → Derives tokens p → 200 < levels_program p
 Deepens tokens (suc k) = (p : ProgramTree) (more : List Token) → Derives (take (length tokens - k) tokens ++ more) p → 200 < levels_program p
+
+-- Some program's tokens begin with the tokens before the one from which so many are left.
+abbrev pub Begun : List Token → ℕ → Type 0
+Begun tokens left = (p : ProgramTree) × (more : List Token) × Derives (take (length tokens - left) tokens ++ more) p
