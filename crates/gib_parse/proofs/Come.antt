@@ -1,7 +1,7 @@
 -- Readers that read on, unless the levels end.
-use Rattle.std.proofs.Common.{◌≡◌, ℕ, zero, suc, ◌+◌, ◌<◌, ◌≤◌, Bool, true, false, List, [], ◌∷◌, length, Result, Ok, Err, refl, sym, ap, ◌∙◌, subst, arith}
+use Rattle.std.proofs.Common.{◌≡◌, ℕ, Bool, true, false, List, [], ◌∷◌, Ok, refl, ap, ◌∙◌}
 use Rattle.gib_base.specs.declared.token.Token.{Token}
-use Rattle.gib_parse.specs.Reading.{Fault, At, Nested, Read, Reader, then_at, next_is, many_step, many}
+use Rattle.gib_parse.specs.Reading.{Nested, Read, Reader, then_at, next_is, many_step, many}
 use Rattle.gib_parse.proofs.Tools.{done, failed}
 use Rattle.gib_parse.proofs.Many.{Shrinks, many_none, many_is}
 

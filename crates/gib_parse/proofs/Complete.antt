@@ -1,5 +1,5 @@
 -- What is spelled so is read, where the levels serve.
-use Rattle.std.proofs.Common.{◌≡◌, ℕ, zero, suc, ◌+◌, ◌<◌, ◌≤◌, ◌^◌, Bool, true, false, max, List, [], ◌∷◌, length, Option, Some, None, Result, Ok, Err, refl, sym, ap, ◌∙◌, subst, arith}
+use Rattle.std.proofs.Common.{◌≡◌, ℕ, zero, suc, ◌<◌, ◌^◌, Bool, true, false, List, [], ◌∷◌, length, Ok, Err, refl, ap, ◌∙◌, arith}
 use Rattle.std.proofs.lemmas.Bool.{lt-ltb}
 use Rattle.gib_base.specs.declared.Span.{Span}
 use Rattle.gib_base.specs.declared.token.Sign.{Sign}
@@ -11,13 +11,13 @@ use Rattle.gib_syntax.specs.declared.tree.Operator.{Operator}
 use Rattle.gib_syntax.specs.declared.tree.Operator.TheVariants as o
 use Rattle.gib_syntax.specs.Tree.{Expression, Arguments, Arms, Var, Num, Bit, Paren, Op, Call, Make, Let, Par, If, Case, NoArgument, Argument, LastArm, NextArm}
 use Rattle.gib_syntax.specs.Spelling.{Places, is_application, is_atom, spell, spell_arguments, spell_arms, spell_variables, spell_operator, spell_bit, IsFine, AreFine, HasFine, levels, levels_arguments, levels_arms}
-use Rattle.gib_parse.specs.Reading.{Fault, At, Nested, Mode, Any, App, Atom, Read, Reader, Parts, then_at, want, before, named, var_at, con_at, next_is, many_step, many, is_variable, is_sign, is_literal, literal_at, starts_atom, starts_expression, starts, ArmTree, arms_of, arm_at, next_arm_at, arms_at, arguments_of, arguments_at, bind_at, par_at, let_at, if_at, case_at, operator_of, side_at, operation_at, close_at, open_at, call, atom_at, app_at, any_at, step, no_level, parse}
-use Rattle.gib_parse.proofs.Tools.{done, failed}
+use Rattle.gib_parse.specs.Reading.{Mode, Any, App, Atom, Read, Reader, Parts, then_at, want, before, named, var_at, next_is, many_step, many, is_variable, is_sign, is_literal, literal_at, starts_atom, starts_expression, starts, ArmTree, arms_of, arm_at, next_arm_at, arms_at, arguments_of, arguments_at, bind_at, par_at, if_at, case_at, side_at, close_at, open_at, call, atom_at, app_at, any_at, no_level, parse}
+use Rattle.gib_parse.proofs.Tools.{done}
 use Rattle.gib_parse.proofs.Many.{Shrinks, many_none, many_is}
 use Rattle.gib_parse.proofs.Sound.{IsMode, atom_is_application}
 use Rattle.gib_parse.proofs.Longer.{parse_shrinks, var_shrinks, next_shrinks}
 use Rattle.gib_parse.proofs.Settle.{settle, settle_arguments, settle_arms, settle_name, settle_names, settled_application}
-use Rattle.gib_parse.proofs.Come.{Comes, Came, Sank, then_comes, comes_when, comes_at, comes_as}
+use Rattle.gib_parse.proofs.Come.{Comes, Came, Sank, then_comes, comes_when, comes_at}
 
 -- ---- variables
 
@@ -251,6 +251,7 @@ bit_atom at n false rest = refl
 
 mutual
   unfolding parse
+
   -- The tree comes, with the spans of its tokens.
   pub complete : (at : Places) (e : Expression) (n : ℕ) (m : Mode) (rest : List Token) → IsFine e → IsMode m e → Ends m rest → Comes (n < levels e) (parse at n m (spell e rest)) (settle at e rest) rest
   complete at e zero m rest f i en = Sank (length (spell e rest)) (ap (λ v. no_level v (spell e rest)) (mode_starts m e rest f i)) (levels_positive e)

@@ -12,6 +12,9 @@ pub mod ProgramComplete
 pub mod ProgramLocal
 pub mod Whole
 pub mod Past
+pub mod Begin
+pub mod BeginExpression
+pub mod BeginProgram
 pub mod SoFar
 pub mod PartsSoFar
 pub mod Levels

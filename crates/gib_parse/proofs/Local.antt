@@ -1,5 +1,5 @@
 -- A fault is found at its token: whatever follows that token, it is found there.
-use Rattle.std.proofs.Common.{◌≡◌, ℕ, zero, suc, ◌+◌, ◌<◌, ◌≤◌, Bool, true, false, max, List, [], ◌∷◌, length, Option, Some, None, Result, Ok, Err, refl, sym, ap, ◌∙◌, subst, arith, ◌++◌, ◌⊎◌, inl, inr, length-append}
+use Rattle.std.proofs.Common.{◌≡◌, ℕ, zero, suc, ◌+◌, ◌≤◌, Bool, true, false, List, [], ◌∷◌, length, Ok, Err, refl, sym, ap, ◌∙◌, subst, arith, ◌++◌, ◌⊎◌, inl, inr, length-append}
 use Rattle.gib_base.specs.declared.name.Name.{Name}
 use Rattle.gib_base.specs.declared.Span.{Span}
 use Rattle.gib_base.specs.declared.token.Sign.{Sign}
@@ -7,14 +7,13 @@ use Rattle.gib_base.specs.declared.token.Sign.TheVariants as s
 use Rattle.gib_base.specs.declared.token.Token.{Token}
 use Rattle.gib_base.specs.declared.token.Token.TheVariants as t
 use Rattle.gib_syntax.specs.declared.tree.Ident.{Ident}
-use Rattle.gib_syntax.specs.declared.tree.TypeName.{TypeName}
 use Rattle.gib_syntax.specs.declared.tree.TypeName.TheVariants as ty
 use Rattle.gib_syntax.specs.declared.tree.Operator.{Operator}
 use Rattle.gib_syntax.specs.declared.tree.Operator.TheVariants as o
-use Rattle.gib_syntax.specs.Tree.{Expression, Arguments, Arms, Var, Num, Bit, Paren, Op, Call, Make, Let, Par, If, Case, NoArgument}
+use Rattle.gib_syntax.specs.Tree.{Expression, Var, Num, Bit, Paren, Op, Make, Let, Par, If, Case, NoArgument}
 use Rattle.gib_syntax.specs.Spelling.{Places, is_application}
-use Rattle.gib_parse.specs.Reading.{Fault, At, Nested, Mode, Any, App, Atom, Read, Reader, Parts, then_at, want, want_if, same, before, named, var_at, con_at, type_at, next_is, many_step, many, is_variable, is_sign, is_literal, literal_at, starts_atom, starts, ArmTree, arms_of, arm_at, next_arm_at, arms_at, arguments_of, arguments_at, bind_at, par_at, let_at, if_at, case_at, side_at, close_at, open_at, call, atom_at, app_at, any_at, no_level, parse}
-use Rattle.gib_parse.proofs.Tools.{done, failed, Holds}
+use Rattle.gib_parse.specs.Reading.{Fault, At, Nested, Mode, Any, App, Atom, Read, Reader, Parts, then_at, want, want_if, same, before, var_at, con_at, type_at, next_is, many_step, many, is_variable, is_sign, is_literal, literal_at, starts_atom, starts, ArmTree, arms_of, arm_at, next_arm_at, arms_at, arguments_of, arguments_at, bind_at, par_at, let_at, if_at, case_at, side_at, close_at, open_at, call, atom_at, app_at, any_at, no_level, parse}
+use Rattle.gib_parse.proofs.Tools.{done, failed}
 use Rattle.gib_parse.proofs.Many.{Shrinks, many_is}
 use Rattle.gib_parse.proofs.Longer.{parse_shrinks, var_shrinks, next_shrinks}
 

@@ -1,5 +1,5 @@
 -- Readers take tokens.
-use Rattle.std.proofs.Common.{◌≡◌, ℕ, zero, suc, ◌+◌, ◌<◌, ◌≤◌, Bool, true, false, List, [], ◌∷◌, length, refl, sym, ap, ◌∙◌, subst, arith}
+use Rattle.std.proofs.Common.{◌≡◌, ℕ, suc, ◌<◌, ◌≤◌, Bool, true, false, List, [], ◌∷◌, length, refl, ap, arith}
 use Rattle.gib_base.specs.declared.token.Sign.TheVariants as s
 use Rattle.gib_base.specs.declared.token.Token.{Token}
 use Rattle.gib_base.specs.declared.token.Token.TheVariants as t
@@ -10,10 +10,10 @@ use Rattle.gib_syntax.specs.declared.tree.Operator.{Operator}
 use Rattle.gib_syntax.specs.declared.tree.Operator.TheVariants as o
 use Rattle.gib_syntax.specs.Tree.{Expression, Arguments, Arms, Var, Num, Bit, Paren, Op, Call, Make, Let, Par, If, Case, NoArgument, Argument, LastArm, NextArm}
 use Rattle.gib_syntax.specs.Spelling.{Places, spell, spell_arguments, spell_arms, spell_variables, spell_operator, spell_bit, spell_type}
-use Rattle.gib_parse.specs.Reading.{Mode, Any, Reader, var_at, type_at, parse, arm_at, next_arm_at}
-use Rattle.gib_parse.proofs.Tools.{done, Holds, IsVar, IsType, var_holds, type_holds}
+use Rattle.gib_parse.specs.Reading.{Mode, Any, var_at, type_at, parse, arm_at, next_arm_at}
+use Rattle.gib_parse.proofs.Tools.{var_holds, type_holds}
 use Rattle.gib_parse.proofs.Many.{Shrinks}
-use Rattle.gib_parse.proofs.Sound.{Sound, parse_sound, arm_sound, next_sound}
+use Rattle.gib_parse.proofs.Sound.{parse_sound, arm_sound, next_sound}
 
 pub variables_longer : (xs : List Ident) (rest : List Token) → length rest ≤ length (spell_variables xs rest)
 variables_longer [] rest = omega arith
@@ -70,11 +70,15 @@ pub type_shrinks : (at : Places) → Shrinks (type_at at)
 type_shrinks at ts = record { by = λ x rest eq. let o = (type_holds at ts).by x rest eq in omega (arith, ap length o.spelled, type_longer x rest) }
 
 pub arm_shrinks : (at : Places) (n : ℕ) → Shrinks (arm_at at (parse at n Any))
-arm_shrinks at n ts = record { by = λ arm rest eq.
-    let o = (arm_sound at n (parse at n Any) (parse_sound at n Any) ts).by arm rest eq in
-    omega (arith, ap length o.spelled, variables_longer arm.variables (t.Sign s.Arrow ∷ spell arm.body rest), spell_longer arm.body rest) }
+arm_shrinks at n ts = record {
+  by = λ arm rest eq.
+      let o = (arm_sound at n (parse at n Any) (parse_sound at n Any) ts).by arm rest eq in
+      omega (arith, ap length o.spelled, variables_longer arm.variables (t.Sign s.Arrow ∷ spell arm.body rest), spell_longer arm.body rest);
+}
 
 pub next_shrinks : (at : Places) (n : ℕ) → Shrinks (next_arm_at at (parse at n Any))
-next_shrinks at n ts = record { by = λ arm rest eq.
-    let o = (next_sound at n (parse at n Any) (parse_sound at n Any) ts).by arm rest eq in
-    omega (arith, ap length o.semicolon, ap length o.is_arm.spelled, variables_longer arm.variables (t.Sign s.Arrow ∷ spell arm.body rest), spell_longer arm.body rest) }
+next_shrinks at n ts = record {
+  by = λ arm rest eq.
+      let o = (next_sound at n (parse at n Any) (parse_sound at n Any) ts).by arm rest eq in
+      omega (arith, ap length o.semicolon, ap length o.is_arm.spelled, variables_longer arm.variables (t.Sign s.Arrow ∷ spell arm.body rest), spell_longer arm.body rest);
+}

@@ -1,25 +1,23 @@
 -- With one level more, reading goes past the token that was nested too deep, and what was read or refused stays.
-use Rattle.std.proofs.Common.{◌≡◌, ℕ, zero, suc, ◌+◌, ◌-◌, ◌<◌, ◌≤◌, Bool, true, false, List, [], ◌∷◌, length, Option, Some, None, Result, Ok, Err, refl, sym, ap, ◌∙◌, subst, arith, ◌⊎◌, inl, inr}
-use Rattle.gib_base.specs.declared.name.Name.{Name}
+use Rattle.std.proofs.Common.{◌≡◌, ℕ, zero, suc, ◌+◌, ◌-◌, ◌<◌, ◌≤◌, Bool, true, false, List, [], ◌∷◌, length, refl, sym, ap, ◌∙◌, arith, ◌⊎◌, inl, inr}
 use Rattle.gib_base.specs.declared.Span.{Span}
 use Rattle.gib_base.specs.declared.token.Sign.{Sign}
 use Rattle.gib_base.specs.declared.token.Sign.TheVariants as s
 use Rattle.gib_base.specs.declared.token.Token.{Token}
 use Rattle.gib_base.specs.declared.token.Token.TheVariants as t
 use Rattle.gib_syntax.specs.declared.tree.Ident.{Ident}
-use Rattle.gib_syntax.specs.declared.tree.TypeName.{TypeName}
 use Rattle.gib_syntax.specs.declared.tree.TypeName.TheVariants as ty
 use Rattle.gib_syntax.specs.declared.tree.Parameter.{Parameter}
 use Rattle.gib_syntax.specs.declared.tree.Operator.{Operator}
 use Rattle.gib_syntax.specs.declared.tree.Operator.TheVariants as o
-use Rattle.gib_syntax.specs.Tree.{Expression, Arguments, Arms, Var, Num, Bit, Paren, Op, Call, Make, Let, Par, If, Case, NoArgument, ConstructorTree, DataTree, FunctionTree, MainTree, ProgramTree}
+use Rattle.gib_syntax.specs.Tree.{Expression, Var, Num, Bit, Paren, Op, Make, Let, Par, If, Case, NoArgument, ConstructorTree, DataTree, FunctionTree, MainTree, ProgramTree}
 use Rattle.gib_syntax.specs.Spelling.{Places, is_application}
 use Rattle.gib_parse.specs.Reading.{Fault, At, Nested, left_of, Mode, Any, App, Atom, Read, Reader, Parts, then_at, want, want_if, same, before, named, var_at, con_at, type_at, next_is, many_step, many, is_variable, is_sign, is_literal, literal_at, starts_type, starts_atom, starts, ArmTree, arms_of, arm_at, next_arm_at, arms_at, arguments_of, arguments_at, bind_at, par_at, let_at, if_at, case_at, side_at, close_at, open_at, call, atom_at, app_at, any_at, step, no_level, parse, constructor_at, alternative_at, constructors_at, data_at, parameter_at, parameters_at, BodyTree, body_at, function_at, main_at, program_at, ends_at, whole_in}
-use Rattle.gib_parse.proofs.Tools.{done, failed, Holds}
+use Rattle.gib_parse.proofs.Tools.{done, failed}
 use Rattle.gib_parse.proofs.Many.{Shrinks, many_is}
 use Rattle.gib_parse.proofs.Longer.{parse_shrinks, var_shrinks, type_shrinks, next_shrinks}
 use Rattle.gib_parse.proofs.ProgramSound.{alternative_shrinks, data_shrinks, parameter_shrinks, function_shrinks}
-use Rattle.gib_parse.proofs.Local.{Kind, Refused, Deep, fault, fail_ok, fault_within, at_is_nested, ok_parts, then_done, then_failed, LocalAt, let_local, if_local, case_local, open_local, arguments_local, then_local, pure_local, parse_local}
+use Rattle.gib_parse.proofs.Local.{Kind, Refused, Deep, fault, fail_ok, fault_within, at_is_nested, ok_parts, then_done, then_failed, let_local, if_local, case_local, open_local, arguments_local, then_local, pure_local, parse_local}
 
 -- What a reader with more levels does, beside one with fewer.
 pub record Past {A : Type 0} (p q : Reader A) (ws : List Token) : Type 0 where

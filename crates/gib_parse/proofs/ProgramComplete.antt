@@ -1,20 +1,19 @@
 -- What is spelled as a program is read, where the levels serve.
-use Rattle.std.proofs.Common.{◌≡◌, ◌≢◌, ℕ, zero, suc, ◌+◌, ◌<◌, ◌≤◌, max, Bool, true, false, List, [], ◌∷◌, length, Result, Ok, Err, refl, sym, ap, ◌∙◌, subst, arith}
+use Rattle.std.proofs.Common.{◌≡◌, ◌≢◌, ℕ, ◌<◌, true, false, List, [], ◌∷◌, Ok, refl, ap, arith}
 use Rattle.std.specs.List.{AllByRecursion}
 use Rattle.gib_base.specs.declared.token.Sign.TheVariants as s
 use Rattle.gib_base.specs.declared.token.Token.{Token}
 use Rattle.gib_base.specs.declared.token.Token.TheVariants as t
-use Rattle.gib_syntax.specs.declared.tree.Ident.{Ident}
 use Rattle.gib_syntax.specs.declared.tree.TypeName.{TypeName}
 use Rattle.gib_syntax.specs.declared.tree.TypeName.TheVariants as ty
 use Rattle.gib_syntax.specs.declared.tree.Parameter.{Parameter}
 use Rattle.gib_syntax.specs.Tree.{Expression, ConstructorTree, DataTree, FunctionTree, MainTree, ProgramTree}
 use Rattle.gib_syntax.specs.Spelling.{Places, IsFine, IsFineFunction, IsFineProgram, HasConstructor, levels, levels_functions, levels_program, spell, spell_type, spell_types, spell_constructor, spell_more, spell_constructors, spell_data, spell_datas, spell_parameter, spell_parameters, spell_body, spell_function, spell_functions, spell_main, spell_program}
-use Rattle.gib_parse.specs.Reading.{Fault, At, Nested, Any, Read, Reader, then_at, want, var_at, con_at, type_at, next_is, many, starts_type, is_sign, constructor_at, alternative_at, constructors_at, data_at, parameter_at, parameters_at, BodyTree, body_at, function_at, main_at, program_at, ends_at, whole_in, parse}
-use Rattle.gib_parse.proofs.Tools.{done, failed}
+use Rattle.gib_parse.specs.Reading.{Any, Read, then_at, want, type_at, next_is, many, starts_type, is_sign, constructor_at, alternative_at, constructors_at, data_at, parameter_at, parameters_at, BodyTree, body_at, function_at, main_at, program_at, ends_at, whole_in, parse}
+use Rattle.gib_parse.proofs.Tools.{done}
 use Rattle.gib_parse.proofs.Longer.{type_shrinks}
 use Rattle.gib_parse.proofs.Settle.{settle, settle_name}
-use Rattle.gib_parse.proofs.Come.{Comes, Came, Sank, then_comes, comes_when, comes_at, Steps, many_comes}
+use Rattle.gib_parse.proofs.Come.{Comes, Came, then_comes, comes_when, comes_at, Steps, many_comes}
 use Rattle.gib_parse.proofs.Complete.{complete}
 use Rattle.gib_parse.proofs.ProgramSound.{alternative_shrinks, data_shrinks, parameter_shrinks, function_shrinks}
 use Rattle.gib_parse.proofs.ProgramSettle.{settle_type, settle_types, settle_constructor, settle_constructors, settle_data, settle_datas, settle_parameter, settle_parameters, settle_function, settle_functions, settle_main, settle_program}

@@ -1,11 +1,11 @@
 -- A fault in a program is found at its token.
-use Rattle.std.proofs.Common.{◌≡◌, ℕ, zero, suc, ◌+◌, ◌<◌, ◌≤◌, Bool, true, false, List, [], ◌∷◌, length, Result, Ok, Err, refl, sym, ap, ◌∙◌, subst, arith}
+use Rattle.std.proofs.Common.{◌≡◌, ℕ, ◌+◌, List, [], ◌∷◌, length, refl}
 use Rattle.gib_base.specs.declared.token.Sign.TheVariants as s
 use Rattle.gib_base.specs.declared.token.Token.{Token}
 use Rattle.gib_syntax.specs.declared.tree.Parameter.{Parameter}
 use Rattle.gib_syntax.specs.Tree.{ConstructorTree, DataTree, FunctionTree, MainTree, ProgramTree}
 use Rattle.gib_syntax.specs.Spelling.{Places}
-use Rattle.gib_parse.specs.Reading.{Any, Read, Reader, then_at, var_at, con_at, type_at, many, starts_type, is_sign, constructor_at, alternative_at, constructors_at, data_at, parameter_at, parameters_at, BodyTree, body_at, function_at, main_at, program_at, ends_at, whole_in, parse}
+use Rattle.gib_parse.specs.Reading.{Any, Reader, type_at, starts_type, is_sign, constructor_at, alternative_at, constructors_at, data_at, parameter_at, parameters_at, BodyTree, body_at, function_at, main_at, program_at, ends_at, whole_in, parse}
 use Rattle.gib_parse.proofs.Tools.{done}
 use Rattle.gib_parse.proofs.Longer.{type_shrinks}
 use Rattle.gib_parse.proofs.ProgramSound.{alternative_shrinks, data_shrinks, parameter_shrinks, function_shrinks}

@@ -1,18 +1,17 @@
 -- Declarations and programs that are read are spelled so, and stand there.
-use Rattle.std.proofs.Common.{◌≡◌, ◌≢◌, ℕ, zero, suc, ◌+◌, ◌<◌, ◌≤◌, max, Bool, true, false, List, [], ◌∷◌, length, refl, sym, ap, ◌∙◌, subst, arith}
+use Rattle.std.proofs.Common.{◌≡◌, ◌≢◌, ℕ, suc, ◌<◌, ◌≤◌, List, [], ◌∷◌, length, refl, ap, ◌∙◌, subst, arith}
 use Rattle.std.specs.List.{AllByRecursion}
 use Rattle.gib_base.specs.declared.token.Sign.TheVariants as s
 use Rattle.gib_base.specs.declared.token.Token.{Token}
 use Rattle.gib_base.specs.declared.token.Token.TheVariants as t
-use Rattle.gib_syntax.specs.declared.tree.Ident.{Ident}
 use Rattle.gib_syntax.specs.declared.tree.TypeName.{TypeName}
 use Rattle.gib_syntax.specs.declared.tree.Parameter.{Parameter}
 use Rattle.gib_syntax.specs.Tree.{Expression, ConstructorTree, DataTree, FunctionTree, MainTree, ProgramTree}
-use Rattle.gib_syntax.specs.Spelling.{Places, IsAt, IsTypeAt, AreTypesAt, IsConstructorAt, AreConstructorsAt, IsDataAt, AreDatasAt, IsParameterAt, AreParametersAt, IsBodyAt, IsFunctionAt, AreFunctionsAt, IsMainAt, IsPlacedProgram, IsFine, IsFineFunction, IsFineProgram, HasConstructor, levels, levels_functions, levels_program, Derives, spell, spell_type, spell_types, spell_constructor, spell_more, spell_constructors, spell_data, spell_datas, spell_parameter, spell_parameters, spell_body, spell_function, spell_functions, spell_main, spell_program}
-use Rattle.gib_parse.specs.Reading.{Fault, At, Nested, Any, Read, Reader, then_at, want, var_at, con_at, type_at, many, starts_type, is_sign, constructor_at, alternative_at, constructors_at, data_at, parameter_at, parameters_at, BodyTree, body_at, function_at, main_at, program_at, ends_at, whole_in, parse}
-use Rattle.gib_parse.proofs.Tools.{done, Holds, holds_ok, holds_err, then_holds, want_holds, var_holds, con_holds, type_holds, IsVar, IsCon, IsType}
+use Rattle.gib_syntax.specs.Spelling.{Places, AreTypesAt, IsConstructorAt, AreConstructorsAt, IsDataAt, AreDatasAt, IsParameterAt, AreParametersAt, IsBodyAt, IsFunctionAt, AreFunctionsAt, IsMainAt, IsPlacedProgram, IsFine, IsFineFunction, IsFineProgram, HasConstructor, levels, levels_functions, levels_program, Derives, spell, spell_type, spell_types, spell_constructor, spell_more, spell_constructors, spell_data, spell_datas, spell_parameter, spell_parameters, spell_body, spell_function, spell_functions, spell_main, spell_program}
+use Rattle.gib_parse.specs.Reading.{At, Any, type_at, starts_type, is_sign, constructor_at, alternative_at, constructors_at, data_at, parameter_at, parameters_at, BodyTree, body_at, function_at, main_at, program_at, ends_at, whole_in, parse}
+use Rattle.gib_parse.proofs.Tools.{Holds, holds_ok, holds_err, then_holds, want_holds, var_holds, con_holds, type_holds, IsType}
 use Rattle.gib_parse.proofs.Many.{Chain, many_sound, Shrinks}
-use Rattle.gib_parse.proofs.Sound.{Sound, parse_sound, onward}
+use Rattle.gib_parse.proofs.Sound.{parse_sound, onward}
 use Rattle.gib_parse.proofs.Longer.{type_longer, spell_longer}
 
 -- ---- data declarations
@@ -28,7 +27,7 @@ pub record SoundConstructor (at : Places) (ts : List Token) (c : ConstructorTree
   pub spelled : ts ≡ spell_constructor c rest
   pub placed : IsConstructorAt at c rest
 
-constructor_sound : (at : Places) (ts : List Token) → Holds (constructor_at at ts) (SoundConstructor at ts)
+pub constructor_sound : (at : Places) (ts : List Token) → Holds (constructor_at at ts) (SoundConstructor at ts)
 unfolding constructor_at
 constructor_sound at ts =
     then_holds (con_holds at ts) (λ k r1 p1. then_holds (many_sound (IsType at) starts_type (type_at at) (type_holds at) r1) (λ fields r2 c2.
@@ -44,7 +43,7 @@ pub record SoundAlternative (at : Places) (ts : List Token) (c : ConstructorTree
   pub bar : ts ≡ t.Sign s.Bar ∷ behind
   pub is_one : SoundConstructor at behind c rest
 
-alternative_sound : (at : Places) (ts : List Token) → Holds (alternative_at at ts) (SoundAlternative at ts)
+pub alternative_sound : (at : Places) (ts : List Token) → Holds (alternative_at at ts) (SoundAlternative at ts)
 unfolding alternative_at
 alternative_sound at ts = then_holds (want_holds s.Bar ts) (λ _ r1 p1. record { by = λ c rest e. record { behind = r1; bar = p1; is_one = (constructor_sound at r1).by c rest e } })
 
@@ -63,7 +62,7 @@ pub record SoundConstructors (at : Places) (ts : List Token) (cs : List Construc
   pub some : cs ≢ []
   pub placed : AreConstructorsAt at cs rest
 
-constructors_sound : (at : Places) (ts : List Token) → Holds (constructors_at at ts) (SoundConstructors at ts)
+pub constructors_sound : (at : Places) (ts : List Token) → Holds (constructors_at at ts) (SoundConstructors at ts)
 unfolding constructors_at
 constructors_sound at ts =
     then_holds (constructor_sound at ts) (λ c r1 p1. then_holds (many_sound (SoundAlternative at) (is_sign s.Bar) (alternative_at at) (alternative_sound at) r1) (λ cs r2 c2.
@@ -76,7 +75,7 @@ pub record SoundData (at : Places) (ts : List Token) (d : DataTree) (rest : List
   pub fine : HasConstructor d
   pub placed : IsDataAt at d rest
 
-data_sound : (at : Places) (ts : List Token) → Holds (data_at at ts) (SoundData at ts)
+pub data_sound : (at : Places) (ts : List Token) → Holds (data_at at ts) (SoundData at ts)
 unfolding data_at
 data_sound at ts =
     then_holds (want_holds s.Data ts) (λ _ r1 p1. then_holds (con_holds at r1) (λ d r2 p2. then_holds (want_holds s.Equals r2) (λ _ r3 p3. then_holds (constructors_sound at r3) (λ cs r4 p4. then_holds (want_holds s.Semicolon r4) (λ _ r5 p5.
@@ -93,7 +92,7 @@ pub record SoundDatas (at : Places) (ts : List Token) (ds : List DataTree) (rest
   pub fine : AllByRecursion HasConstructor ds
   pub placed : AreDatasAt at ds rest
 
-datas_sound : (at : Places) (ds : List DataTree) (ts rest : List Token) → Chain (SoundData at) ts ds rest → SoundDatas at ts ds rest
+pub datas_sound : (at : Places) (ds : List DataTree) (ts rest : List Token) → Chain (SoundData at) ts ds rest → SoundDatas at ts ds rest
 datas_sound at [] ts rest c = record { spelled = c; fine = tt; placed = tt }
 datas_sound at (d ∷ ds) ts rest c =
     let more = datas_sound at ds c.0 rest c.2 in
@@ -106,7 +105,7 @@ pub record SoundParameter (at : Places) (ts : List Token) (q : Parameter) (rest 
   pub spelled : ts ≡ spell_parameter q rest
   pub placed : IsParameterAt at q rest
 
-parameter_sound : (at : Places) (ts : List Token) → Holds (parameter_at at ts) (SoundParameter at ts)
+pub parameter_sound : (at : Places) (ts : List Token) → Holds (parameter_at at ts) (SoundParameter at ts)
 unfolding parameter_at
 parameter_sound at ts =
     then_holds (want_holds s.Open ts) (λ _ r1 p1. then_holds (var_holds at r1) (λ x r2 p2. then_holds (want_holds s.Colon r2) (λ _ r3 p3. then_holds (type_holds at r3) (λ a r4 p4. then_holds (want_holds s.Close r4) (λ _ r5 p5.
@@ -132,7 +131,7 @@ pub record SoundParameters (at : Places) (ts : List Token) (qs : List Parameter)
   pub some : qs ≢ []
   pub placed : AreParametersAt at qs rest
 
-parameters_sound : (at : Places) (ts : List Token) → Holds (parameters_at at ts) (SoundParameters at ts)
+pub parameters_sound : (at : Places) (ts : List Token) → Holds (parameters_at at ts) (SoundParameters at ts)
 unfolding parameters_at
 parameters_sound at ts =
     then_holds (parameter_sound at ts) (λ q r1 p1. then_holds (many_sound (SoundParameter at) (is_sign s.Open) (parameter_at at) (parameter_sound at) r1) (λ qs r2 c2.
@@ -146,7 +145,7 @@ pub record SoundBody (at : Places) (l : ℕ) (ts : List Token) (b : BodyTree) (r
   pub level : levels b.body ≤ l
   pub placed : IsBodyAt at b.result b.body rest
 
-body_sound : (at : Places) (l : ℕ) (ts : List Token) → Holds (body_at at (parse at l Any) ts) (SoundBody at l ts)
+pub body_sound : (at : Places) (l : ℕ) (ts : List Token) → Holds (body_at at (parse at l Any) ts) (SoundBody at l ts)
 unfolding body_at
 body_sound at l ts =
     then_holds (want_holds s.Colon ts) (λ _ r1 p1. then_holds (type_holds at r1) (λ a r2 p2. then_holds (want_holds s.Equals r2) (λ _ r3 p3. then_holds (parse_sound at l Any r3) (λ e r4 p4. then_holds (want_holds s.Semicolon r4) (λ _ r5 p5.
@@ -165,7 +164,7 @@ pub record SoundFunction (at : Places) (l : ℕ) (ts : List Token) (f : Function
   pub level : levels f.body ≤ l
   pub placed : IsFunctionAt at f rest
 
-function_sound : (at : Places) (l : ℕ) (ts : List Token) → Holds (function_at at (parse at l Any) ts) (SoundFunction at l ts)
+pub function_sound : (at : Places) (l : ℕ) (ts : List Token) → Holds (function_at at (parse at l Any) ts) (SoundFunction at l ts)
 unfolding function_at
 function_sound at l ts =
     then_holds (want_holds s.Fun ts) (λ _ r1 p1. then_holds (var_holds at r1) (λ f r2 p2. then_holds (parameters_sound at r2) (λ qs r3 p3. then_holds (body_sound at l r3) (λ b r4 p4.
@@ -183,7 +182,7 @@ pub record SoundFunctions (at : Places) (l : ℕ) (ts : List Token) (fs : List F
   pub level : levels_functions fs ≤ l
   pub placed : AreFunctionsAt at fs rest
 
-functions_sound : (at : Places) (l : ℕ) (fs : List FunctionTree) (ts rest : List Token) → Chain (SoundFunction at l) ts fs rest → SoundFunctions at l ts fs rest
+pub functions_sound : (at : Places) (l : ℕ) (fs : List FunctionTree) (ts rest : List Token) → Chain (SoundFunction at l) ts fs rest → SoundFunctions at l ts fs rest
 functions_sound at l [] ts rest c = record { spelled = c; fine = tt; level = omega arith; placed = tt }
 functions_sound at l (f ∷ fs) ts rest c =
     let more = functions_sound at l fs c.0 rest c.2 in
@@ -225,7 +224,7 @@ pub record SoundProgram (at : Places) (l : ℕ) (ts : List Token) (g : ProgramTr
   pub functions : AreFunctionsAt at g.functions (spell_main g.main rest)
   pub main : IsMainAt at g.main rest
 
-program_sound : (at : Places) (l : ℕ) (ts : List Token) → Holds (program_at at (parse at l Any) ts) (SoundProgram at l ts)
+pub program_sound : (at : Places) (l : ℕ) (ts : List Token) → Holds (program_at at (parse at l Any) ts) (SoundProgram at l ts)
 unfolding program_at
 program_sound at l ts =
     then_holds (many_sound (SoundData at) (is_sign s.Data) (data_at at) (data_sound at) ts) (λ ds r1 c1. then_holds (many_sound (SoundFunction at l) (is_sign s.Fun) (function_at at (parse at l Any)) (function_sound at l) r1) (λ fs r2 c2. then_holds (main_sound at l r2) (λ m r3 p3.
@@ -284,6 +283,8 @@ pub parameter_shrinks : (at : Places) → Shrinks (parameter_at at)
 parameter_shrinks at ts = record { by = λ q rest eq. let o = (parameter_sound at ts).by q rest eq in omega (arith, ap length o.spelled, parameter_longer q rest) }
 
 pub function_shrinks : (at : Places) (l : ℕ) → Shrinks (function_at at (parse at l Any))
-function_shrinks at l ts = record { by = λ f rest eq.
-    let o = (function_sound at l ts).by f rest eq in
-    omega (arith, ap length o.spelled, parameters_longer f.parameters (spell_body f.result f.body rest), body_longer f.result f.body rest) }
+function_shrinks at l ts = record {
+  by = λ f rest eq.
+      let o = (function_sound at l ts).by f rest eq in
+      omega (arith, ap length o.spelled, parameters_longer f.parameters (spell_body f.result f.body rest), body_longer f.result f.body rest);
+}

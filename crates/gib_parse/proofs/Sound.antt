@@ -1,19 +1,18 @@
 -- What is read is spelled so, and stands there.
-use Rattle.std.proofs.Common.{◌≡◌, ℕ, zero, suc, ◌+◌, ◌<◌, ◌≤◌, ◌^◌, max, Bool, true, false, List, [], ◌∷◌, length, Option, Some, None, Result, Ok, Err, refl, sym, ap, ◌∙◌, subst, arith}
+use Rattle.std.proofs.Common.{◌≡◌, ℕ, zero, suc, ◌≤◌, ◌^◌, Bool, true, false, List, [], ◌∷◌, length, refl, ap, ◌∙◌, subst, arith}
 use Rattle.std.proofs.lemmas.Bool.{ltb-true}
 use Rattle.gib_base.specs.declared.name.Name.{Name}
 use Rattle.gib_base.specs.declared.Span.{Span}
-use Rattle.gib_base.specs.declared.token.Sign.{Sign}
 use Rattle.gib_base.specs.declared.token.Sign.TheVariants as s
 use Rattle.gib_base.specs.declared.token.Token.{Token}
 use Rattle.gib_base.specs.declared.token.Token.TheVariants as t
 use Rattle.gib_syntax.specs.declared.tree.Ident.{Ident}
 use Rattle.gib_syntax.specs.declared.tree.Operator.{Operator}
 use Rattle.gib_syntax.specs.declared.tree.Operator.TheVariants as o
-use Rattle.gib_syntax.specs.Tree.{Expression, Arguments, Arms, Var, Num, Bit, Paren, Op, Call, Make, Let, Par, If, Case, NoArgument, Argument, LastArm, NextArm}
+use Rattle.gib_syntax.specs.Tree.{Expression, Arguments, Arms, Var, Num, Bit, Paren, Op, Call, Make, Let, Par, If, Case, NoArgument, Argument}
 use Rattle.gib_syntax.specs.Spelling.{Places, IsAt, AreAt, IsPlaced, ArePlaced, HavePlaces, is_application, is_atom, spell, spell_arguments, spell_arms, spell_variables, spell_operator, IsFine, AreFine, HasFine, levels, levels_arguments, levels_arms}
-use Rattle.gib_parse.specs.Reading.{Fault, At, Nested, Mode, Any, App, Atom, Read, Reader, Parts, then_at, want, before, named, var_at, con_at, next_is, many, is_variable, is_sign, is_literal, literal_at, starts_atom, ArmTree, arms_of, arm_at, next_arm_at, arms_at, arguments_of, arguments_at, bind_at, par_at, let_at, if_at, case_at, operator_of, side_at, operation_at, close_at, open_at, call, atom_at, app_at, any_at, step, starts, no_level, parse}
-use Rattle.gib_parse.proofs.Tools.{done, Holds, holds_ok, holds_err, then_holds, want_holds, var_holds, con_holds, IsVar, IsCon}
+use Rattle.gib_parse.specs.Reading.{At, Nested, Mode, Any, App, Atom, Read, Reader, Parts, before, named, var_at, next_is, is_variable, is_sign, is_literal, literal_at, starts_atom, ArmTree, arms_of, arm_at, next_arm_at, arms_at, arguments_of, arguments_at, bind_at, par_at, let_at, if_at, case_at, side_at, close_at, open_at, call, atom_at, app_at, any_at, starts, no_level, parse}
+use Rattle.gib_parse.proofs.Tools.{Holds, holds_ok, holds_err, then_holds, want_holds, var_holds, con_holds, IsVar, IsCon}
 use Rattle.gib_parse.proofs.Many.{Chain, many_sound}
 
 abbrev pub IsMode : Mode → Expression → Type 0
@@ -117,7 +116,7 @@ arms_from_chain at l arm (next ∷ arms) ts mid rest a c =
     let first = arm_onward at l ts arm mid (t.Sign s.Semicolon ∷ spell_arms (arms_of next arms) rest) (c.1.semicolon ∙ ap (λ l. t.Sign s.Semicolon ∷ l) more.spelled) a in
     record { spelled = first.spelled; fine = (first.fine, more.fine); level = (let a = first.level in let b = more.level in omega arith); placed = (first.name, first.variables, first.placed, more.placed) }
 
-arms_sound : (at : Places) (l : ℕ) (p : Reader Expression) → ((ts : List Token) → Holds (p ts) (Sound at l Any ts)) → (ts : List Token) → Holds (arms_at at p ts) (SoundArms at l ts)
+pub arms_sound : (at : Places) (l : ℕ) (p : Reader Expression) → ((ts : List Token) → Holds (p ts) (Sound at l Any ts)) → (ts : List Token) → Holds (arms_at at p ts) (SoundArms at l ts)
 unfolding arms_at
 arms_sound at l p h ts =
     then_holds (arm_sound at l p h ts) (λ arm r1 p1. then_holds (many_sound (SoundNext at l) (is_sign s.Semicolon) (next_arm_at at p) (next_sound at l p h) r1) (λ arms r2 c2.
@@ -238,9 +237,11 @@ close_sound at l sub h m p a fine level ts pe pa = holds_err (At (length ts))
 open_sound : (at : Places) (l : ℕ) (sub : Parts) → SoundParts at l sub → (m : Mode) (ts : List Token) → Holds (open_at sub (before at ts) ts) (Sound at (suc l) m (t.Sign s.Open ∷ ts))
 unfolding open_at
 open_sound at l sub h m ts =
-    then_holds (h Any ts) (λ a r1 p1. record { by = λ e rest eq.
-      let c = (close_sound at l sub h m (before at ts) a p1.fine p1.level r1 (ap (λ l. at (suc (length l))) p1.spelled) p1.placed).by e rest eq in
-      record { spelled = ap (λ (l : List Token). t.Sign s.Open ∷ l) p1.spelled ∙ c.spelled; fine = c.fine; mode = c.mode; level = c.level; placed = c.placed } })
+    then_holds (h Any ts) (λ a r1 p1. record {
+      by = λ e rest eq.
+          let c = (close_sound at l sub h m (before at ts) a p1.fine p1.level r1 (ap (λ l. at (suc (length l))) p1.spelled) p1.placed).by e rest eq in
+          record { spelled = ap (λ (l : List Token). t.Sign s.Open ∷ l) p1.spelled ∙ c.spelled; fine = c.fine; mode = c.mode; level = c.level; placed = c.placed };
+    })
 
 -- ---- atoms, applications, any expressions
 

@@ -1,5 +1,5 @@
 -- What was read, as facts.
-use Rattle.std.proofs.Common.{◌≡◌, ℕ, zero, suc, ◌+◌, ◌<◌, ◌≤◌, Bool, true, false, List, [], ◌∷◌, length, get_or, Result, Ok, Err, refl, sym, ap, ◌∙◌, subst, arith}
+use Rattle.std.proofs.Common.{◌≡◌, ℕ, suc, Bool, true, false, List, [], ◌∷◌, length, get_or, Ok, Err, refl, sym, ap, ◌∙◌, subst}
 use Rattle.std.proofs.lemmas.Bool.{eqb-true}
 use Rattle.gib_base.specs.declared.token.Sign.{Sign}
 use Rattle.gib_base.specs.declared.token.Sign.TheVariants as s
@@ -9,7 +9,7 @@ use Rattle.gib_syntax.specs.declared.tree.Ident.{Ident}
 use Rattle.gib_syntax.specs.declared.tree.TypeName.{TypeName}
 use Rattle.gib_syntax.specs.declared.tree.TypeName.TheVariants as ty
 use Rattle.gib_syntax.specs.Spelling.{Places, IsAt, spell_type, IsTypeAt}
-use Rattle.gib_parse.specs.Reading.{Fault, At, Nested, Read, Reader, then_at, number_of, same, want_if, want, before, named, var_at, con_at, type_at}
+use Rattle.gib_parse.specs.Reading.{Fault, At, Read, Reader, then_at, number_of, same, want_if, want, before, named, var_at, con_at, type_at}
 
 all_signs : List Sign
 all_signs =
@@ -21,9 +21,38 @@ sign_of n = get_or all_signs n s.Data
 
 sign_of-number_of : (a : Sign) → sign_of (number_of a) ≡ a
 unfolding sign_of all_signs
-sign_of-number_of a = elim a as (λ k. sign_of (number_of k) ≡ k) [ s.Data ↦ refl | s.Fun ↦ refl | s.Main ↦ refl | s.Let ↦ refl | s.Par ↦ refl | s.And ↦ refl | s.In ↦ refl | s.If ↦ refl | s.Then ↦ refl | s.Else ↦ refl
-    | s.Case ↦ refl | s.Of ↦ refl | s.True ↦ refl | s.False ↦ refl | s.Int ↦ refl | s.Bool ↦ refl | s.Equals ↦ refl | s.Bar ↦ refl | s.Semicolon ↦ refl | s.Open ↦ refl
-    | s.Close ↦ refl | s.Colon ↦ refl | s.OpenBrace ↦ refl | s.CloseBrace ↦ refl | s.Arrow ↦ refl | s.Plus ↦ refl | s.Minus ↦ refl | s.Times ↦ refl | s.Same ↦ refl | s.Less ↦ refl ]
+sign_of-number_of a = elim a as (λ k. sign_of (number_of k) ≡ k) [
+  | s.Data ↦ refl
+  | s.Fun ↦ refl
+  | s.Main ↦ refl
+  | s.Let ↦ refl
+  | s.Par ↦ refl
+  | s.And ↦ refl
+  | s.In ↦ refl
+  | s.If ↦ refl
+  | s.Then ↦ refl
+  | s.Else ↦ refl
+  | s.Case ↦ refl
+  | s.Of ↦ refl
+  | s.True ↦ refl
+  | s.False ↦ refl
+  | s.Int ↦ refl
+  | s.Bool ↦ refl
+  | s.Equals ↦ refl
+  | s.Bar ↦ refl
+  | s.Semicolon ↦ refl
+  | s.Open ↦ refl
+  | s.Close ↦ refl
+  | s.Colon ↦ refl
+  | s.OpenBrace ↦ refl
+  | s.CloseBrace ↦ refl
+  | s.Arrow ↦ refl
+  | s.Plus ↦ refl
+  | s.Minus ↦ refl
+  | s.Times ↦ refl
+  | s.Same ↦ refl
+  | s.Less ↦ refl
+]
 
 pub same_is : (a b : Sign) → same a b ≡ true → a ≡ b
 same_is a b e = sym (sign_of-number_of a) ∙ ap sign_of (eqb-true (number_of a) (number_of b) e) ∙ sign_of-number_of b

@@ -1,15 +1,15 @@
 -- What reading the whole tells.
-use Rattle.std.proofs.Common.{◌≡◌, ℕ, zero, suc, ◌+◌, ◌<◌, ◌≤◌, ◌-◌, Bool, true, false, max, List, [], ◌∷◌, ◌++◌, length, take, Result, Ok, Err, refl, sym, ap, ◌∙◌, subst, arith, length-append, append_assoc, ◌⊎◌, inl, inr}
+use Rattle.std.proofs.Common.{◌≡◌, ℕ, zero, suc, ◌+◌, ◌<◌, ◌≤◌, ◌-◌, max, List, [], ◌∷◌, ◌++◌, length, take, refl, sym, ap, ◌∙◌, subst, arith, length-append, append_assoc, ◌⊎◌, inl, inr}
 use Rattle.std.proofs.lemmas.List.{take_at}
 use Rattle.std.proofs.lemmas.Bool.{cases_lt}
 use Rattle.gib_base.specs.declared.token.Token.{Token}
 use Rattle.gib_base.specs.declared.token.Token.TheVariants as t
 use Rattle.gib_syntax.specs.Tree.{ProgramTree}
 use Rattle.gib_syntax.specs.Spelling.{Places, IsPlacedProgram, levels_program, Derives, Blames}
-use Rattle.gib_parse.specs.Reading.{Fault, At, Nested, Read, whole_in, Deepens}
+use Rattle.gib_parse.specs.Reading.{At, Nested, Read, whole_in, Deepens}
 use Rattle.gib_parse.proofs.Tools.{done, failed}
 use Rattle.gib_parse.proofs.Come.{Comes, Came, Sank, comes_at}
-use Rattle.gib_parse.proofs.Local.{Kind, Refused, Deep, fault, Twins, LocalAt}
+use Rattle.gib_parse.proofs.Local.{Kind, Refused, Deep, fault}
 use Rattle.gib_parse.proofs.ProgramSound.{IsWhole, whole_sound}
 use Rattle.gib_parse.proofs.ProgramSettle.{settle_program, program_stays}
 use Rattle.gib_parse.proofs.ProgramComplete.{whole_comes}

@@ -21,6 +21,7 @@ pub data Fault : Type 0 where
   At : ℕ → Fault
   Nested : ℕ → Fault
 
+-- How many tokens are left from a fault on.
 abbrev pub left_of : Fault → ℕ
 left_of (At left) = left
 left_of (Nested left) = left
@@ -36,6 +37,7 @@ pub data Mode : Type 0 where
 abbrev pub Read : Type 0 → Type 0
 Read A = Result (A × List Token) Fault
 
+-- A reader of tokens.
 abbrev pub Reader : Type 0 → Type 0
 Reader A = List Token → Read A
 
@@ -77,14 +79,16 @@ number_of s.Times = 27
 number_of s.Same = 28
 number_of s.Less = 29
 
+-- Whether two signs are one.
 abbrev pub same : Sign → Sign → Bool
 same a b = number_of a == number_of b
 
--- One wanted sign.
+-- One token less where it is the wanted one, else a fault at it.
 abbrev pub want_if : Bool → Reader (Unit {0})
 want_if true ts = Ok (tt, ts)
 want_if false ts = Err (At (suc (length ts)))
 
+-- One wanted sign.
 abbrev pub want : Sign → Reader (Unit {0})
 want a (t.Sign b ∷ ts) = want_if (same a b) ts
 want a ts = Err (At (length ts))
@@ -97,10 +101,12 @@ before at ts = at (suc (length ts))
 abbrev pub named : Places → Name → List Token → Ident
 named at x ts = record { name = x; span = before at ts }
 
+-- A name that begins with a lower-case letter.
 abbrev pub var_at : Places → Reader Ident
 var_at at (t.Variable x ∷ ts) = Ok (named at x ts, ts)
 var_at at ts = Err (At (length ts))
 
+-- A name that begins with an upper-case letter.
 abbrev pub con_at : Places → Reader Ident
 con_at at (t.Constructor k ∷ ts) = Ok (named at k ts, ts)
 con_at at ts = Err (At (length ts))
@@ -110,23 +116,26 @@ abbrev pub next_is : (Token → Bool) → List Token → Bool
 next_is starts [] = false
 next_is starts (x ∷ ts) = starts x
 
--- As many as begin, one after another.
+-- One more and what follows it, where one begins.
 abbrev pub many_step : {A : Type 0} → Bool → Reader A → Reader (List A) → Reader (List A)
 many_step false p q ts = Ok ([], ts)
 many_step true p q ts = then_at (p ts) (λ a ts. then_at (q ts) (λ more ts. Ok (a ∷ more, ts)))
 
+-- So many at most.
 unfoldable pub many_at : {A : Type 0} → ℕ → (Token → Bool) → Reader A → Reader (List A)
 many_at zero starts p ts = Ok ([], ts)
 many_at (suc n) starts p ts = many_step (next_is starts ts) p (many_at n starts p) ts
 
+-- As many as begin, one after another.
 unfoldable pub many : {A : Type 0} → (Token → Bool) → Reader A → Reader (List A)
 many starts p ts = many_at (length ts) starts p ts
 
--- What a token can begin, or is.
+-- Whether a token is a name that begins with a lower-case letter.
 abbrev pub is_variable : Token → Bool
 is_variable (t.Variable x) = true
 is_variable x = false
 
+-- Whether a token is a type.
 abbrev pub starts_type : Token → Bool
 starts_type (t.Constructor k) = true
 starts_type (t.Sign s.Int) = true
@@ -137,6 +146,7 @@ starts_type x = false
 abbrev pub is_literal : ℕ → Bool
 is_literal n = nat_lt n (2 ^ 63)
 
+-- Whether a token begins an argument; it is then one that begins a side of an operation too.
 abbrev pub starts_atom : Token → Bool
 starts_atom (t.Variable x) = true
 starts_atom (t.Constructor k) = true
@@ -146,17 +156,20 @@ starts_atom (t.Sign s.False) = true
 starts_atom (t.Sign s.Open) = true
 starts_atom x = false
 
+-- Whether a token begins an expression.
 abbrev pub starts_expression : Token → Bool
 starts_expression (t.Sign s.Let) = true
 starts_expression (t.Sign s.If) = true
 starts_expression (t.Sign s.Case) = true
 starts_expression x = starts_atom x
 
+-- Whether a token begins an expression that may stand there.
 abbrev pub starts : Mode → Token → Bool
 starts Any = starts_expression
 starts App = starts_atom
 starts Atom = starts_atom
 
+-- Whether a token is this sign.
 abbrev pub is_sign : Sign → Token → Bool
 is_sign a (t.Sign b) = same a b
 is_sign a x = false
@@ -174,15 +187,18 @@ pub record ArmTree : Type 0 where
   pub variables : List Ident
   pub body : Expression
 
+-- The arms of a case, from the first and the further ones.
 abbrev pub arms_of : ArmTree → List ArmTree → Arms
 arms_of arm [] = LastArm arm.constructor arm.variables arm.body
 arms_of arm (next ∷ arms) = NextArm arm.constructor arm.variables arm.body (arms_of next arms)
 
+-- A constructor with its variables, an arrow and an expression.
 unfoldable pub arm_at : Places → Reader Expression → Reader ArmTree
 arm_at at p ts =
     then_at (con_at at ts) (λ k ts. then_at (many is_variable (var_at at) ts) (λ xs ts. then_at (want s.Arrow ts) (λ _ ts. then_at (p ts) (λ e ts.
     Ok (record { constructor = k; variables = xs; body = e }, ts)))))
 
+-- A further arm.
 unfoldable pub next_arm_at : Places → Reader Expression → Reader ArmTree
 next_arm_at at p ts = then_at (want s.Semicolon ts) (λ _ ts. arm_at at p ts)
 
@@ -191,11 +207,12 @@ unfoldable pub arms_at : Places → Reader Expression → Reader Arms
 arms_at at p ts =
     then_at (arm_at at p ts) (λ arm ts. then_at (many (is_sign s.Semicolon) (next_arm_at at p) ts) (λ arms ts. Ok (arms_of arm arms, ts)))
 
--- Arguments, as long as one begins.
+-- A list of expressions, as arguments.
 abbrev pub arguments_of : List Expression → Arguments
 arguments_of [] = NoArgument
 arguments_of (a ∷ more) = Argument a (arguments_of more)
 
+-- Arguments, as long as one begins.
 unfoldable pub arguments_at : Reader Expression → Reader Arguments
 arguments_at p ts = then_at (many starts_atom p ts) (λ xs ts. Ok (arguments_of xs, ts))
 
@@ -203,18 +220,20 @@ arguments_at p ts = then_at (many starts_atom p ts) (λ xs ts. Ok (arguments_of 
 abbrev pub Parts : Type 0
 Parts = Mode → Reader Expression
 
--- Behind `let`: a binding, or two sides. The span is that of `let`.
+-- Behind `let`, whose span this is: a binding.
 unfoldable pub bind_at : Places → Parts → Span → Reader Expression
 bind_at at sub p ts =
     then_at (var_at at ts) (λ x ts. then_at (want s.Equals ts) (λ _ ts. then_at (sub Any ts) (λ a ts.
     then_at (want s.In ts) (λ _ ts. then_at (sub Any ts) (λ b ts. Ok (Let p x a b, ts))))))
 
+-- Behind `let par`: two sides.
 unfoldable pub par_at : Places → Parts → Span → Reader Expression
 par_at at sub p ts =
     then_at (var_at at ts) (λ x ts. then_at (want s.Equals ts) (λ _ ts. then_at (sub Any ts) (λ a ts.
     then_at (want s.And ts) (λ _ ts. then_at (var_at at ts) (λ y ts. then_at (want s.Equals ts) (λ _ ts. then_at (sub Any ts) (λ b ts.
     then_at (want s.In ts) (λ _ ts. then_at (sub Any ts) (λ c ts. Ok (Par p x a y b c, ts))))))))))
 
+-- Behind `let`.
 abbrev pub let_at : Places → Parts → Span → Reader Expression
 let_at at sub p (t.Sign s.Par ∷ ts) = par_at at sub p ts
 let_at at sub p ts = bind_at at sub p ts
@@ -245,6 +264,7 @@ abbrev pub side_at : Bool → Parts → Span → Operator → Expression → Rea
 side_at false sub p f e ts = Err (At (suc (length ts)))
 side_at true sub p f e ts = then_at (sub App ts) (λ b ts. then_at (want s.Close ts) (λ _ ts. Ok (Op p f e b, ts)))
 
+-- Behind a sign that follows the first expression in parentheses.
 abbrev pub operation_at : Option Operator → Parts → Span → Expression → Reader Expression
 operation_at None sub p e ts = Err (At (suc (length ts)))
 operation_at (Some f) sub p e ts = side_at (is_application e) sub p f e ts
@@ -264,10 +284,12 @@ abbrev pub call : Ident → Arguments → Expression
 call f NoArgument = Var f
 call f (Argument a xs) = Call f (Argument a xs)
 
+-- A number, where it is one of the language.
 abbrev pub literal_at : Bool → Span → ℕ → Reader Expression
 literal_at true p n ts = Ok (Num p n, ts)
 literal_at false p n ts = Err (At (suc (length ts)))
 
+-- What may stand as an argument.
 abbrev pub atom_at : Places → Parts → Reader Expression
 atom_at at sub (t.Variable x ∷ ts) = Ok (Var (named at x ts), ts)
 atom_at at sub (t.Constructor k ∷ ts) = Ok (Make (named at k ts) NoArgument, ts)
@@ -277,17 +299,20 @@ atom_at at sub (t.Sign s.False ∷ ts) = Ok (Bit (before at ts) false, ts)
 atom_at at sub (t.Sign s.Open ∷ ts) = open_at sub (before at ts) ts
 atom_at at sub ts = Err (At (length ts))
 
+-- What may stand as a side of an operation.
 abbrev pub app_at : Places → Parts → Reader Expression
 app_at at sub (t.Variable f ∷ ts) = then_at (arguments_at (sub Atom) ts) (λ xs left. Ok (call (named at f ts) xs, left))
 app_at at sub (t.Constructor k ∷ ts) = then_at (arguments_at (sub Atom) ts) (λ xs left. Ok (Make (named at k ts) xs, left))
 app_at at sub ts = atom_at at sub ts
 
+-- Any expression.
 abbrev pub any_at : Places → Parts → Reader Expression
 any_at at sub (t.Sign s.Let ∷ ts) = let_at at sub (before at ts) ts
 any_at at sub (t.Sign s.If ∷ ts) = if_at sub (before at ts) ts
 any_at at sub (t.Sign s.Case ∷ ts) = case_at at sub (before at ts) ts
 any_at at sub ts = app_at at sub ts
 
+-- An expression that may stand there.
 abbrev pub step : Places → Parts → Mode → Reader Expression
 step at sub Any ts = any_at at sub ts
 step at sub App ts = app_at at sub ts
@@ -298,7 +323,7 @@ abbrev pub no_level : Bool → Reader Expression
 no_level true ts = Err (Nested (length ts))
 no_level false ts = Err (At (length ts))
 
--- An expression, in so many levels.
+-- The same, in so many levels.
 unfoldable pub parse : Places → ℕ → Mode → Reader Expression
 parse at zero m ts = no_level (next_is (starts m) ts) ts
 parse at (suc n) m ts = step at (parse at n) m ts
@@ -308,6 +333,7 @@ unfoldable pub constructor_at : Places → Reader ConstructorTree
 constructor_at at ts =
     then_at (con_at at ts) (λ k ts. then_at (many starts_type (type_at at) ts) (λ fields ts. Ok (record { name = k; fields = fields }, ts)))
 
+-- A further constructor.
 unfoldable pub alternative_at : Places → Reader ConstructorTree
 alternative_at at ts = then_at (want s.Bar ts) (λ _ ts. constructor_at at ts)
 
@@ -337,6 +363,7 @@ pub record BodyTree : Type 0 where
   pub result : TypeName
   pub body : Expression
 
+-- From the colon before the result type to the semicolon behind the body.
 unfoldable pub body_at : Places → Reader Expression → Reader BodyTree
 body_at at p ts =
     then_at (want s.Colon ts) (λ _ ts. then_at (type_at at ts) (λ a ts. then_at (want s.Equals ts) (λ _ ts.
@@ -378,3 +405,7 @@ whole at ts = whole_in 200 at ts
 abbrev pub Deepens : List Token → ℕ → Type 0
 Deepens tokens zero = (p : ProgramTree) → Derives tokens p → 200 < levels_program p
 Deepens tokens (suc k) = (p : ProgramTree) (more : List Token) → Derives (take (length tokens - k) tokens ++ more) p → 200 < levels_program p
+
+-- Some program's tokens begin with the tokens before the one from which so many are left.
+abbrev pub Begun : List Token → ℕ → Type 0
+Begun tokens left = (p : ProgramTree) × (more : List Token) × Derives (take (length tokens - left) tokens ++ more) p

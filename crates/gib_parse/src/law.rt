@@ -4,7 +4,7 @@ ghost use Rattle.std.specs.Prelude.{◌≡◌, ◌≤◌, ◌<◌, ℕ, List, []
 ghost use Rattle.gib_base.specs.declared.token.Token.{Token};
 ghost use Rattle.gib_syntax.specs.Tree.{ProgramTree};
 ghost use Rattle.gib_syntax.specs.Spelling.{Places, Derives, IsPlacedProgram, levels_program, Blames};
-ghost use Rattle.gib_parse.specs.Reading.{Fault, At, Nested, left_of, whole_in, whole, Deepens};
+ghost use Rattle.gib_parse.specs.Reading.{Fault, At, Nested, left_of, whole_in, whole, Deepens, Begun};
 
 /// What is read is a program that the tokens spell, of at most 200 levels, with the spans of its
 /// tokens, and no token is left.
@@ -18,10 +18,20 @@ pub fn program_is_read()
     ensures { (at : Places) (tokens : List Token) (p : ProgramTree) → Derives tokens p → IsPlacedProgram at p → levels_program p ≤ 200 → whole at tokens ≡ Ok (p, []) }
 {}
 
+/// Where the tokens spell a program of at most 200 levels, whatever spans it carries, a program is read.
+pub fn program_is_accepted()
+    ensures { (at : Places) (tokens : List Token) (p : ProgramTree) → Derives tokens p → levels_program p ≤ 200 → (q : ProgramTree) × (whole at tokens ≡ Ok (q, [])) }
+{}
+
 /// No program's tokens begin with the tokens up to and including one that is refused; where tokens are
 /// missing, these are no program's.
 pub fn refused_is_blamed()
     ensures { (at : Places) (tokens : List Token) (left : ℕ) → whole at tokens ≡ Err (At left) → Blames tokens left }
+{}
+
+/// A refused token is the first: some program's tokens begin with the tokens before it.
+pub fn refused_is_first()
+    ensures { (at : Places) (tokens : List Token) (left : ℕ) → whole at tokens ≡ Err (At left) → Begun tokens left }
 {}
 
 /// Each program whose tokens begin with those up to and including one that is nested too deep has more
