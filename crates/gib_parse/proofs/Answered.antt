@@ -1,19 +1,19 @@
 -- What the parser answers, by what reading gives.
-use Rattle.std.proofs.Common.{◌≡◌, ℕ, zero, suc, ◌<◌, ◌≤◌, List, [], ◌∷◌, length, Result, Ok, Err, refl, sym, ap, ◌∙◌, subst, arith}
+use Rattle.std.proofs.Common.{◌≡◌, ℕ, ◌≤◌, List, [], Result, Ok, Err, refl, sym, ap, ◌∙◌, subst}
 use Rattle.std.specs.Prelude.{IfOk, IfErr}
 use Rattle.gib_base.specs.declared.Span.{Span}
 use Rattle.gib_base.specs.declared.token.Token.{Token}
 use Rattle.gib_base.specs.Lexed.{Lexed}
 use Rattle.gib_syntax.specs.Tree.{ProgramTree}
-use Rattle.gib_syntax.specs.Spelling.{Places, places_of, Derives, IsPlacedProgram, levels_program, Blames}
+use Rattle.gib_syntax.specs.Spelling.{places_of, Derives, IsPlacedProgram, levels_program}
 use Rattle.gib_syntax.specs.Parts.{Parts, program_of}
 use Rattle.gib_parse.specs.declared.fault.ParseFault.{ParseFault}
 use Rattle.gib_parse.specs.declared.fault.ParseFault.TheVariants as fault
 use Rattle.gib_parse.specs.declared.stop.Stop.{Stop}
 use Rattle.gib_parse.specs.declared.stop.Stop.TheVariants as stop
-use Rattle.gib_parse.specs.Reading.{Fault, At, Nested, Read, whole, Deepens}
-use Rattle.gib_parse.specs.Parsing.{Gives, Fails}
-use Rattle.gib_parse.specs.Answers.{place_in, place_of, read_of, IsRefusedAt, IsNestedAt, AnswersRead, IsBlamedAt, IsTooDeepAt, AnswersOnly, fault_of}
+use Rattle.gib_parse.specs.Reading.{Fault, At, Nested, Read, whole}
+use Rattle.gib_parse.specs.Parsing.{Fails}
+use Rattle.gib_parse.specs.Answers.{read_of, AnswersRead, IsBlamedAt, IsTooDeepAt, AnswersOnly, fault_of}
 use Rattle.gib_parse.proofs.Tools.{done, failed}
 use Rattle.gib_parse.proofs.Local.{Refused, Deep}
 use Rattle.gib_parse.proofs.Whole.{whole_reads, derived_is_read, placed_is_read, whole_blames, whole_deepens, whole_within}

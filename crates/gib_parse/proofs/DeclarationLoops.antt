@@ -1,5 +1,5 @@
 -- Declarations, as far as they were read.
-use Rattle.std.proofs.Common.{◌≡◌, ℕ, zero, suc, ◌<◌, ◌≤◌, Bool, true, false, List, [], ◌∷◌, ◌++◌, length, map, Result, Ok, Err, refl, sym, ap, ◌∙◌, subst, arith}
+use Rattle.std.proofs.Common.{◌≡◌, ℕ, ◌<◌, ◌≤◌, Bool, true, false, List, [], ◌∷◌, ◌++◌, length, map, refl, sym, ap, subst, arith}
 use Rattle.std.specs.List.{AllByRecursion}
 use Rattle.gib_base.specs.declared.token.Sign.TheVariants as s
 use Rattle.gib_base.specs.declared.token.Token.{Token}
@@ -13,10 +13,9 @@ use Rattle.gib_syntax.specs.Spelling.{Places}
 use Rattle.gib_syntax.specs.Arena.{Grows, tree_of}
 use Rattle.gib_syntax.specs.Parts.{IsFunctionInside, constructor_tree, data_tree, function_tree}
 use Rattle.gib_parse.specs.declared.stop.Stop.{Stop}
-use Rattle.gib_parse.specs.declared.stop.Stop.TheVariants as stop
-use Rattle.gib_parse.specs.Reading.{Fault, At, Nested, Read, Reader, Any, then_at, next_is, is_sign, many, parse, constructor_at, alternative_at, constructors_at, data_at, parameter_at, parameters_at, function_at, main_at, program_at}
+use Rattle.gib_parse.specs.Reading.{Read, Reader, Any, next_is, is_sign, many, parse, constructor_at, alternative_at, constructors_at, data_at, parameter_at, parameters_at, function_at, main_at, program_at}
 use Rattle.gib_parse.specs.Parsing.{Fails, ReadsFunctions}
-use Rattle.gib_parse.proofs.Tools.{done, failed}
+use Rattle.gib_parse.proofs.Tools.{done}
 use Rattle.gib_parse.proofs.Many.{Shrinks}
 use Rattle.gib_parse.proofs.ProgramSound.{alternative_shrinks, data_shrinks, parameter_shrinks, function_shrinks}
 use Rattle.gib_parse.proofs.SoFar.{SoFar, one_and_more, none_yet, first_one, first_fails, one_more, all_read, one_fails, shorter}

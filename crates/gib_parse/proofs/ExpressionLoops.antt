@@ -1,5 +1,5 @@
 -- Arguments and arms, as far as they were read.
-use Rattle.std.proofs.Common.{◌≡◌, ℕ, zero, suc, ◌<◌, ◌≤◌, Bool, true, false, List, [], ◌∷◌, ◌++◌, length, map, Result, Ok, Err, refl, sym, ap, ◌∙◌, subst, arith, length-append}
+use Rattle.std.proofs.Common.{◌≡◌, ℕ, ◌<◌, true, false, List, [], ◌∷◌, ◌++◌, length, Ok, Err, refl, sym, ap, ◌∙◌, subst, arith, length-append}
 use Rattle.std.specs.List.{AllByRecursion}
 use Rattle.gib_base.specs.declared.token.Sign.TheVariants as s
 use Rattle.gib_base.specs.declared.token.Token.{Token}
@@ -7,18 +7,17 @@ use Rattle.gib_syntax.specs.declared.exprs.ExprId.{ExprId}
 use Rattle.gib_syntax.specs.declared.exprs.Arm as code
 use Rattle.gib_syntax.specs.declared.exprs.Node.{Node}
 use Rattle.gib_syntax.specs.declared.tree.Ident.{Ident}
-use Rattle.gib_syntax.specs.Tree.{Expression, Arguments, Arms, Call, Case, NoArgument, Argument, LastArm, NextArm}
+use Rattle.gib_syntax.specs.Tree.{Expression, Arguments, Arms, Call, Case, Argument, LastArm, NextArm}
 use Rattle.gib_syntax.specs.Spelling.{Places}
 use Rattle.gib_syntax.specs.Arena.{Grows, IsArmBelow, ArmsBelow, tree_of, arguments_from, arms_from, nothing}
 use Rattle.gib_parse.specs.declared.stop.Stop.{Stop}
 use Rattle.gib_parse.specs.declared.stop.Stop.TheVariants as stop
 use Rattle.gib_base.specs.declared.Span.{Span}
-use Rattle.gib_parse.specs.Reading.{Parts, var_at, want, case_at, Fault, At, Nested, Read, Reader, Any, Atom, then_at, next_is, is_sign, starts_atom, many, parse, ArmTree, arms_of, arguments_of, arm_at, next_arm_at, arms_at, arguments_at, call}
-use Rattle.gib_parse.specs.Parsing.{Fails, ReadsAll, ReadsArms, arm_tree, arms_tree}
-use Rattle.gib_parse.proofs.Tools.{done, failed}
-use Rattle.gib_parse.proofs.Many.{Shrinks}
+use Rattle.gib_parse.specs.Reading.{Parts, var_at, want, case_at, Read, Reader, Any, Atom, then_at, next_is, is_sign, starts_atom, many, parse, ArmTree, arms_of, arguments_of, arm_at, next_arm_at, arms_at, arguments_at, call}
+use Rattle.gib_parse.specs.Parsing.{Fails, ReadsArms, arm_tree, arms_tree}
+use Rattle.gib_parse.proofs.Tools.{done}
 use Rattle.gib_parse.proofs.Longer.{parse_shrinks, next_shrinks}
-use Rattle.gib_parse.proofs.SoFar.{SoFar, one_and_more, none_yet, first_one, first_fails, all_read, one_fails, shorter}
+use Rattle.gib_parse.proofs.SoFar.{one_and_more, none_yet, first_one, first_fails, all_read, one_fails, shorter}
 use Rattle.gib_parse.proofs.PartsSoFar.{grows_none, PartsSoFar, parts_more, seen}
 
 -- ---- arguments

@@ -1,14 +1,11 @@
 -- Expressions and what holds them, read one after another.
-use Rattle.std.proofs.Common.{◌≡◌, ℕ, zero, suc, ◌<◌, ◌≤◌, Bool, true, false, List, [], ◌∷◌, ◌++◌, length, map, Result, Ok, Err, refl, sym, ap, ◌∙◌, subst, arith}
+use Rattle.std.proofs.Common.{◌≡◌, ℕ, ◌<◌, ◌≤◌, Bool, true, List, [], ◌∷◌, ◌++◌, length, map, refl, sym, ap, ◌∙◌, subst, arith}
 use Rattle.std.specs.List.{AllByRecursion}
 use Rattle.gib_base.specs.declared.token.Token.{Token}
-use Rattle.gib_syntax.specs.declared.exprs.ExprId.{ExprId}
-use Rattle.gib_syntax.specs.declared.exprs.Arm as code
 use Rattle.gib_syntax.specs.declared.exprs.Node.{Node}
-use Rattle.gib_syntax.specs.Tree.{Expression, Arguments, Arms, NoArgument, Argument, LastArm, NextArm}
-use Rattle.gib_syntax.specs.Arena.{Grows, IsArmBelow, ArmsBelow, tree_of, arguments_from, arms_from}
-use Rattle.gib_parse.specs.Reading.{Read, Reader, next_is, ArmTree, arms_of, arguments_of}
-use Rattle.gib_parse.specs.Parsing.{arm_tree}
+use Rattle.gib_syntax.specs.Tree.{Expression}
+use Rattle.gib_syntax.specs.Arena.{Grows, tree_of}
+use Rattle.gib_parse.specs.Reading.{Read, Reader, next_is}
 use Rattle.gib_parse.proofs.Tools.{done}
 use Rattle.gib_parse.proofs.Many.{Shrinks}
 use Rattle.gib_parse.proofs.SoFar.{SoFar, one_more}
@@ -53,7 +50,7 @@ module _ {A B : Type 0} (key : B → ℕ) (make : B → Expression → A) where
   parts_more old new newer all starts p sh rest after bs b so e g lt r =
       let a = make b (tree_of newer (key b)) in
       let same : seen (tree_of new) bs ++ a ∷ [] ≡ seen (tree_of newer) (bs ++ b ∷ []) =
-          ap (λ l. l ++ a ∷ []) (sym (seen_same (tree_of newer) (tree_of new) (length new) bs so.inside g.same)) ∙ sym (seen_push (tree_of newer) bs b) in
+      ap (λ l. l ++ a ∷ []) (sym (seen_same (tree_of newer) (tree_of new) (length new) bs so.inside g.same)) ∙ sym (seen_push (tree_of newer) bs b) in
       record {
         grows = grows_more old new newer so.grows g;
         inside = within_push (length newer) bs b (within_more (length new) (length newer) bs g.longer so.inside) lt;

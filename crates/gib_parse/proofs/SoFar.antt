@@ -1,12 +1,12 @@
 -- Things read one after another, as far as a loop has come.
-use Rattle.std.proofs.Common.{◌≡◌, ℕ, ◌<◌, Bool, true, false, List, [], ◌∷◌, ◌++◌, length, Result, Ok, Err, refl, sym, ap, ◌∙◌, subst, append_assoc}
+use Rattle.std.proofs.Common.{◌≡◌, ◌<◌, Bool, true, false, List, [], ◌∷◌, ◌++◌, length, Ok, Err, refl, sym, ap, ◌∙◌, append_assoc}
 use Rattle.std.proofs.lemmas.List.{append-nil}
 use Rattle.gib_base.specs.declared.token.Token.{Token}
 use Rattle.gib_parse.specs.declared.stop.Stop.{Stop}
 use Rattle.gib_parse.specs.declared.stop.Stop.TheVariants as stop
-use Rattle.gib_parse.specs.Reading.{Fault, At, Nested, Read, Reader, then_at, next_is, many_step, many}
+use Rattle.gib_parse.specs.Reading.{Read, Reader, then_at, next_is, many_step, many}
 use Rattle.gib_parse.specs.Parsing.{Fails}
-use Rattle.gib_parse.proofs.Tools.{done, failed}
+use Rattle.gib_parse.proofs.Tools.{done}
 use Rattle.gib_parse.proofs.Many.{Shrinks, many_none, many_is}
 
 -- These, and then what is read.

@@ -3,7 +3,7 @@ use Rattle.std.specs.Prelude.{◌≡◌, ◌≤◌, ℕ, zero, suc, List, [], le
 use Rattle.gib_base.specs.declared.Span.{Span}
 use Rattle.gib_base.specs.Lexed.{Lexed}
 use Rattle.gib_syntax.specs.Tree.{ProgramTree}
-use Rattle.gib_syntax.specs.Spelling.{Places, places_of, Blames}
+use Rattle.gib_syntax.specs.Spelling.{places_of, Blames}
 use Rattle.gib_syntax.specs.Parts.{Parts, program_of}
 use Rattle.gib_parse.specs.declared.fault.ParseFault.{ParseFault}
 use Rattle.gib_parse.specs.declared.fault.ParseFault.TheVariants as fault

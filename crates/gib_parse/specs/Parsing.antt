@@ -1,5 +1,5 @@
 -- What the parser's functions answer, by the reading functions.
-use Rattle.std.specs.Prelude.{◌≡◌, ◌<◌, ℕ, List, [], ◌∷◌, length, map, Result, Ok, Err}
+use Rattle.std.specs.Prelude.{◌≡◌, ◌<◌, ℕ, List, [], ◌∷◌, length, Result, Ok, Err}
 use Rattle.std.specs.List.{AllByRecursion}
 use Rattle.gib_base.specs.declared.token.Token.{Token}
 use Rattle.gib_syntax.specs.declared.exprs.ExprId.{ExprId}
@@ -14,7 +14,7 @@ use Rattle.gib_parse.specs.declared.stop.Stop.{Stop}
 use Rattle.gib_parse.specs.declared.stop.Stop.TheVariants as stop
 use Rattle.gib_parse.specs.declared.expressions.Kind.{Kind}
 use Rattle.gib_parse.specs.declared.expressions.Kind.TheVariants as kind
-use Rattle.gib_parse.specs.Reading.{Fault, At, Nested, Read, Mode, Any, App, Atom, ArmTree, BodyTree}
+use Rattle.gib_parse.specs.Reading.{At, Nested, Read, Mode, Any, App, Atom, ArmTree, BodyTree}
 
 -- A refusal is the one that reading gives, unless memory ran out.
 abbrev pub Fails : {Y : Type 0} → Stop → Read Y → Type 0

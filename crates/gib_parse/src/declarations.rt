@@ -8,16 +8,24 @@ ghost use Rattle.gib_parse.specs.Reading.{Any, Fault, At, Nested, many, is_sign,
 ghost use Rattle.gib_parse.specs.Parsing.{Fails, Gives, Reads, ReadsFunctions, body_tree};
 
 use crate::expressions::{Kind, expression};
-use crate::phrases::{alternative, begins, constructor, next_alternative, parameter, type_name, variable, want};
+use crate::phrases::{
+    alternative, begins, constructor, next_alternative, parameter, type_name, variable, want,
+};
 use crate::stop::Stop;
 use gib_base::Span;
 use gib_base::limits::LEVELS;
 use gib_base::token::{Sign, Token};
-use gib_syntax::{ConstructorDecl, DataDecl, ExprId, Exprs, FunctionDecl, MainDecl, Parameter, Program, TypeName};
+use gib_syntax::{
+    ConstructorDecl, DataDecl, ExprId, Exprs, FunctionDecl, MainDecl, Parameter, Program, TypeName,
+};
 use std::alloc::Global;
 
 /// Constructors, with a bar between two.
-fn constructors<'a>(alloc: Global, spans: &[Span], tokens: &'a [Token]) -> Result<(Vec<ConstructorDecl>, &'a [Token]), Stop>
+fn constructors<'a>(
+    alloc: Global,
+    spans: &[Span],
+    tokens: &'a [Token],
+) -> Result<(Vec<ConstructorDecl>, &'a [Token]), Stop>
     ensures { Gives (λ x. (map constructor_tree x.0.items, x.1.now)) result (constructors_at (places_of spans.now) tokens.now) }
 {
     let mut found = Vec::new(alloc);
@@ -33,7 +41,11 @@ fn constructors<'a>(alloc: Global, spans: &[Span], tokens: &'a [Token]) -> Resul
 
 /// A data declaration.
 #[tactic(auto, unfolding(crate::specs::Reading::data_at))]
-fn data_declaration<'a>(alloc: Global, spans: &[Span], tokens: &'a [Token]) -> Result<(DataDecl, &'a [Token]), Stop>
+fn data_declaration<'a>(
+    alloc: Global,
+    spans: &[Span],
+    tokens: &'a [Token],
+) -> Result<(DataDecl, &'a [Token]), Stop>
     ensures { Gives (λ x. (data_tree x.0, x.1.now)) result (data_at (places_of spans.now) tokens.now) }
 {
     let tokens = want(Sign::Data, tokens)?;
@@ -45,7 +57,11 @@ fn data_declaration<'a>(alloc: Global, spans: &[Span], tokens: &'a [Token]) -> R
 }
 
 /// Data declarations, as many as there are.
-fn data_declarations<'a>(alloc: Global, spans: &[Span], tokens: &'a [Token]) -> Result<(Vec<DataDecl>, &'a [Token]), Stop>
+fn data_declarations<'a>(
+    alloc: Global,
+    spans: &[Span],
+    tokens: &'a [Token],
+) -> Result<(Vec<DataDecl>, &'a [Token]), Stop>
     ensures { Gives (λ x. (map data_tree x.0.items, x.1.now)) result (many (is_sign Sign.Data) (data_at (places_of spans.now)) tokens.now) }
 {
     let mut found = Vec::new(alloc);
@@ -59,7 +75,11 @@ fn data_declarations<'a>(alloc: Global, spans: &[Span], tokens: &'a [Token]) -> 
 }
 
 /// Parameters, one at least.
-fn parameters<'a>(alloc: Global, spans: &[Span], tokens: &'a [Token]) -> Result<(Vec<Parameter>, &'a [Token]), Stop>
+fn parameters<'a>(
+    alloc: Global,
+    spans: &[Span],
+    tokens: &'a [Token],
+) -> Result<(Vec<Parameter>, &'a [Token]), Stop>
     ensures { Gives (λ x. (x.0.items, x.1.now)) result (parameters_at (places_of spans.now) tokens.now) }
 {
     let mut found = Vec::new(alloc);
@@ -75,7 +95,12 @@ fn parameters<'a>(alloc: Global, spans: &[Span], tokens: &'a [Token]) -> Result<
 
 /// The result type and the body of a function.
 #[tactic(auto, unfolding(crate::specs::Reading::body_at))]
-fn result_and_body<'a>(alloc: Global, spans: &[Span], exprs: &mut Exprs, tokens: &'a [Token]) -> Result<((TypeName, ExprId), &'a [Token]), Stop>
+fn result_and_body<'a>(
+    alloc: Global,
+    spans: &[Span],
+    exprs: &mut Exprs,
+    tokens: &'a [Token],
+) -> Result<((TypeName, ExprId), &'a [Token]), Stop>
     ensures kept { IfOk result (λ x. Reads exprs.old exprs.new x.0.1.0) }
     ensures read { Gives (λ x. (body_tree (tree_of exprs.new) x.0.0 x.0.1, x.1.now)) result (body_at (places_of spans.now) (parse (places_of spans.now) LEVELS Any) tokens.now) }
 {
@@ -89,7 +114,12 @@ fn result_and_body<'a>(alloc: Global, spans: &[Span], exprs: &mut Exprs, tokens:
 
 /// A function.
 #[tactic(auto, unfolding(crate::specs::Reading::function_at))]
-fn function<'a>(alloc: Global, spans: &[Span], exprs: &mut Exprs, tokens: &'a [Token]) -> Result<(FunctionDecl, &'a [Token]), Stop>
+fn function<'a>(
+    alloc: Global,
+    spans: &[Span],
+    exprs: &mut Exprs,
+    tokens: &'a [Token],
+) -> Result<(FunctionDecl, &'a [Token]), Stop>
     ensures kept { IfOk result (λ x. Reads exprs.old exprs.new x.0.body.0) }
     ensures read { Gives (λ x. (function_tree (tree_of exprs.new) x.0, x.1.now)) result (function_at (places_of spans.now) (parse (places_of spans.now) LEVELS Any) tokens.now) }
 {
@@ -109,7 +139,12 @@ fn function<'a>(alloc: Global, spans: &[Span], exprs: &mut Exprs, tokens: &'a [T
 }
 
 /// Functions, as many as there are.
-fn functions<'a>(alloc: Global, spans: &[Span], exprs: &mut Exprs, tokens: &'a [Token]) -> Result<(Vec<FunctionDecl>, &'a [Token]), Stop>
+fn functions<'a>(
+    alloc: Global,
+    spans: &[Span],
+    exprs: &mut Exprs,
+    tokens: &'a [Token],
+) -> Result<(Vec<FunctionDecl>, &'a [Token]), Stop>
     ensures kept { IfOk result (λ x. ReadsFunctions exprs.old exprs.new x.0.items) }
     ensures read { Gives (λ x. (map (function_tree (tree_of exprs.new)) x.0.items, x.1.now)) result (many (is_sign Sign.Fun) (function_at (places_of spans.now) (parse (places_of spans.now) LEVELS Any)) tokens.now) }
 {
@@ -125,7 +160,12 @@ fn functions<'a>(alloc: Global, spans: &[Span], exprs: &mut Exprs, tokens: &'a [
 
 /// The declaration of main.
 #[tactic(auto, unfolding(crate::specs::Reading::main_at))]
-fn main_declaration<'a>(alloc: Global, spans: &[Span], exprs: &mut Exprs, tokens: &'a [Token]) -> Result<(MainDecl, &'a [Token]), Stop>
+fn main_declaration<'a>(
+    alloc: Global,
+    spans: &[Span],
+    exprs: &mut Exprs,
+    tokens: &'a [Token],
+) -> Result<(MainDecl, &'a [Token]), Stop>
     ensures kept { IfOk result (λ x. Reads exprs.old exprs.new x.0.body.0) }
     ensures read { Gives (λ x. (main_tree (tree_of exprs.new) x.0, x.1.now)) result (main_at (places_of spans.now) (parse (places_of spans.now) LEVELS Any) tokens.now) }
 {
@@ -144,7 +184,11 @@ fn main_declaration<'a>(alloc: Global, spans: &[Span], exprs: &mut Exprs, tokens
 
 /// Data declarations, functions and main.
 #[tactic(auto, unfolding(crate::specs::Reading::program_at))]
-fn program<'a>(alloc: Global, spans: &[Span], tokens: &'a [Token]) -> Result<(Program, &'a [Token]), Stop>
+fn program<'a>(
+    alloc: Global,
+    spans: &[Span],
+    tokens: &'a [Token],
+) -> Result<(Program, &'a [Token]), Stop>
     ensures { Gives (λ x. (program_of x.0, x.1.now)) result (program_at (places_of spans.now) (parse (places_of spans.now) LEVELS Any) tokens.now) }
 {
     let mut exprs = Exprs::new(alloc);

@@ -80,7 +80,14 @@ fn too_deep(kind: Kind, tokens: &[Token]) -> Stop
 /// An expression of this kind, in so many levels.
 #[cycle(expressions)]
 #[tactic(auto, using(crate::proofs::Levels::parse_any, crate::proofs::Levels::parse_app, crate::proofs::Levels::parse_atom, crate::proofs::Levels::parse_none), unfolding(crate::specs::Reading::parse))]
-pub(crate) fn expression<'a>(alloc: Global, spans: &[Span], exprs: &mut Exprs, level: u32, kind: Kind, tokens: &'a [Token]) -> Result<(ExprId, &'a [Token]), Stop>
+pub(crate) fn expression<'a>(
+    alloc: Global,
+    spans: &[Span],
+    exprs: &mut Exprs,
+    level: u32,
+    kind: Kind,
+    tokens: &'a [Token],
+) -> Result<(ExprId, &'a [Token]), Stop>
     ensures kept { IfOk result (λ x. Reads exprs.old exprs.new x.0.0) }
     ensures read { Gives (λ x. (tree_of exprs.new x.0.0, x.1.now)) result (parse (places_of spans.now) level (mode_of kind) tokens.now) }
 {
@@ -95,15 +102,42 @@ pub(crate) fn expression<'a>(alloc: Global, spans: &[Span], exprs: &mut Exprs, l
 }
 
 #[cycle(expressions)]
-fn any<'a>(alloc: Global, spans: &[Span], exprs: &mut Exprs, level: u32, tokens: &'a [Token]) -> Result<(ExprId, &'a [Token]), Stop>
+fn any<'a>(
+    alloc: Global,
+    spans: &[Span],
+    exprs: &mut Exprs,
+    level: u32,
+    tokens: &'a [Token],
+) -> Result<(ExprId, &'a [Token]), Stop>
     ensures kept { IfOk result (λ x. Reads exprs.old exprs.new x.0.0) }
     ensures read { Gives (λ x. (tree_of exprs.new x.0.0, x.1.now)) result (any_at (places_of spans.now) (parse (places_of spans.now) level) tokens.now) }
 {
     match tokens {
         [Token::Sign(sign), rest @ ..] => match sign {
-            Sign::Let => let_in(alloc, spans, exprs, level, span_at(spans, tokens.len()), rest),
-            Sign::If => if_then(alloc, spans, exprs, level, span_at(spans, tokens.len()), rest),
-            Sign::Case => case_of(alloc, spans, exprs, level, span_at(spans, tokens.len()), rest),
+            Sign::Let => let_in(
+                alloc,
+                spans,
+                exprs,
+                level,
+                span_at(spans, tokens.len()),
+                rest,
+            ),
+            Sign::If => if_then(
+                alloc,
+                spans,
+                exprs,
+                level,
+                span_at(spans, tokens.len()),
+                rest,
+            ),
+            Sign::Case => case_of(
+                alloc,
+                spans,
+                exprs,
+                level,
+                span_at(spans, tokens.len()),
+                rest,
+            ),
             _ => application(alloc, spans, exprs, level, tokens),
         },
         _ => application(alloc, spans, exprs, level, tokens),
@@ -112,7 +146,14 @@ fn any<'a>(alloc: Global, spans: &[Span], exprs: &mut Exprs, level: u32, tokens:
 
 /// Behind `let`.
 #[cycle(expressions)]
-fn let_in<'a>(alloc: Global, spans: &[Span], exprs: &mut Exprs, level: u32, span: Span, tokens: &'a [Token]) -> Result<(ExprId, &'a [Token]), Stop>
+fn let_in<'a>(
+    alloc: Global,
+    spans: &[Span],
+    exprs: &mut Exprs,
+    level: u32,
+    span: Span,
+    tokens: &'a [Token],
+) -> Result<(ExprId, &'a [Token]), Stop>
     ensures kept { IfOk result (λ x. Reads exprs.old exprs.new x.0.0) }
     ensures read { Gives (λ x. (tree_of exprs.new x.0.0, x.1.now)) result (let_at (places_of spans.now) (parse (places_of spans.now) level) span tokens.now) }
 {
@@ -127,7 +168,14 @@ fn let_in<'a>(alloc: Global, spans: &[Span], exprs: &mut Exprs, level: u32, span
 
 #[cycle(expressions)]
 #[tactic(auto, unfolding(crate::specs::Reading::bind_at))]
-fn let_one<'a>(alloc: Global, spans: &[Span], exprs: &mut Exprs, level: u32, span: Span, tokens: &'a [Token]) -> Result<(ExprId, &'a [Token]), Stop>
+fn let_one<'a>(
+    alloc: Global,
+    spans: &[Span],
+    exprs: &mut Exprs,
+    level: u32,
+    span: Span,
+    tokens: &'a [Token],
+) -> Result<(ExprId, &'a [Token]), Stop>
     ensures kept { IfOk result (λ x. Reads exprs.old exprs.new x.0.0) }
     ensures read { Gives (λ x. (tree_of exprs.new x.0.0, x.1.now)) result (bind_at (places_of spans.now) (parse (places_of spans.now) level) span tokens.now) }
 {
@@ -148,7 +196,14 @@ fn let_one<'a>(alloc: Global, spans: &[Span], exprs: &mut Exprs, level: u32, spa
 /// Behind `let par`.
 #[cycle(expressions)]
 #[tactic(auto, unfolding(crate::specs::Reading::par_at))]
-fn let_par<'a>(alloc: Global, spans: &[Span], exprs: &mut Exprs, level: u32, span: Span, tokens: &'a [Token]) -> Result<(ExprId, &'a [Token]), Stop>
+fn let_par<'a>(
+    alloc: Global,
+    spans: &[Span],
+    exprs: &mut Exprs,
+    level: u32,
+    span: Span,
+    tokens: &'a [Token],
+) -> Result<(ExprId, &'a [Token]), Stop>
     ensures kept { IfOk result (λ x. Reads exprs.old exprs.new x.0.0) }
     ensures read { Gives (λ x. (tree_of exprs.new x.0.0, x.1.now)) result (par_at (places_of spans.now) (parse (places_of spans.now) level) span tokens.now) }
 {
@@ -175,7 +230,14 @@ fn let_par<'a>(alloc: Global, spans: &[Span], exprs: &mut Exprs, level: u32, spa
 /// Behind `if`.
 #[cycle(expressions)]
 #[tactic(auto, unfolding(crate::specs::Reading::if_at))]
-fn if_then<'a>(alloc: Global, spans: &[Span], exprs: &mut Exprs, level: u32, span: Span, tokens: &'a [Token]) -> Result<(ExprId, &'a [Token]), Stop>
+fn if_then<'a>(
+    alloc: Global,
+    spans: &[Span],
+    exprs: &mut Exprs,
+    level: u32,
+    span: Span,
+    tokens: &'a [Token],
+) -> Result<(ExprId, &'a [Token]), Stop>
     ensures kept { IfOk result (λ x. Reads exprs.old exprs.new x.0.0) }
     ensures read { Gives (λ x. (tree_of exprs.new x.0.0, x.1.now)) result (if_at (parse (places_of spans.now) level) span tokens.now) }
 {
@@ -196,7 +258,14 @@ fn if_then<'a>(alloc: Global, spans: &[Span], exprs: &mut Exprs, level: u32, spa
 /// Behind `case`.
 #[cycle(expressions)]
 #[tactic(auto, unfolding(crate::specs::Reading::case_at))]
-fn case_of<'a>(alloc: Global, spans: &[Span], exprs: &mut Exprs, level: u32, span: Span, tokens: &'a [Token]) -> Result<(ExprId, &'a [Token]), Stop>
+fn case_of<'a>(
+    alloc: Global,
+    spans: &[Span],
+    exprs: &mut Exprs,
+    level: u32,
+    span: Span,
+    tokens: &'a [Token],
+) -> Result<(ExprId, &'a [Token]), Stop>
     ensures kept { IfOk result (λ x. Reads exprs.old exprs.new x.0.0) }
     ensures read { Gives (λ x. (tree_of exprs.new x.0.0, x.1.now)) result (case_at (places_of spans.now) (parse (places_of spans.now) level) span tokens.now) }
 {
@@ -215,7 +284,13 @@ fn case_of<'a>(alloc: Global, spans: &[Span], exprs: &mut Exprs, level: u32, spa
 
 /// Arms, with a semicolon between two.
 #[cycle(expressions)]
-fn arms<'a>(alloc: Global, spans: &[Span], exprs: &mut Exprs, level: u32, tokens: &'a [Token]) -> Result<(Vec<Arm>, &'a [Token]), Stop>
+fn arms<'a>(
+    alloc: Global,
+    spans: &[Span],
+    exprs: &mut Exprs,
+    level: u32,
+    tokens: &'a [Token],
+) -> Result<(Vec<Arm>, &'a [Token]), Stop>
     ensures kept { IfOk result (λ x. ReadsArms exprs.old exprs.new x.0.items) }
     ensures read { Gives (λ x. (arms_tree (tree_of exprs.new) x.0.items, x.1.now)) result (arms_at (places_of spans.now) (parse (places_of spans.now) level Any) tokens.now) }
 {
@@ -233,7 +308,13 @@ fn arms<'a>(alloc: Global, spans: &[Span], exprs: &mut Exprs, level: u32, tokens
 /// A semicolon, and an arm behind it.
 #[cycle(expressions)]
 #[tactic(auto, unfolding(crate::specs::Reading::next_arm_at))]
-fn next_arm<'a>(alloc: Global, spans: &[Span], exprs: &mut Exprs, level: u32, tokens: &'a [Token]) -> Result<(Arm, &'a [Token]), Stop>
+fn next_arm<'a>(
+    alloc: Global,
+    spans: &[Span],
+    exprs: &mut Exprs,
+    level: u32,
+    tokens: &'a [Token],
+) -> Result<(Arm, &'a [Token]), Stop>
     ensures kept { IfOk result (λ x. Reads exprs.old exprs.new x.0.body.0) }
     ensures read { Gives (λ x. (arm_tree (tree_of exprs.new) x.0, x.1.now)) result (next_arm_at (places_of spans.now) (parse (places_of spans.now) level Any) tokens.now) }
 {
@@ -244,7 +325,13 @@ fn next_arm<'a>(alloc: Global, spans: &[Span], exprs: &mut Exprs, level: u32, to
 /// One arm.
 #[cycle(expressions)]
 #[tactic(auto, unfolding(crate::specs::Reading::arm_at))]
-fn arm<'a>(alloc: Global, spans: &[Span], exprs: &mut Exprs, level: u32, tokens: &'a [Token]) -> Result<(Arm, &'a [Token]), Stop>
+fn arm<'a>(
+    alloc: Global,
+    spans: &[Span],
+    exprs: &mut Exprs,
+    level: u32,
+    tokens: &'a [Token],
+) -> Result<(Arm, &'a [Token]), Stop>
     ensures kept { IfOk result (λ x. Reads exprs.old exprs.new x.0.body.0) }
     ensures read { Gives (λ x. (arm_tree (tree_of exprs.new) x.0, x.1.now)) result (arm_at (places_of spans.now) (parse (places_of spans.now) level Any) tokens.now) }
 {
@@ -264,7 +351,13 @@ fn arm<'a>(alloc: Global, spans: &[Span], exprs: &mut Exprs, level: u32, tokens:
 
 /// A name with its arguments, or an atom.
 #[cycle(expressions)]
-fn application<'a>(alloc: Global, spans: &[Span], exprs: &mut Exprs, level: u32, tokens: &'a [Token]) -> Result<(ExprId, &'a [Token]), Stop>
+fn application<'a>(
+    alloc: Global,
+    spans: &[Span],
+    exprs: &mut Exprs,
+    level: u32,
+    tokens: &'a [Token],
+) -> Result<(ExprId, &'a [Token]), Stop>
     ensures kept { IfOk result (λ x. Reads exprs.old exprs.new x.0.0) }
     ensures read { Gives (λ x. (tree_of exprs.new x.0.0, x.1.now)) result (app_at (places_of spans.now) (parse (places_of spans.now) level) tokens.now) }
 {
@@ -305,7 +398,13 @@ fn call_of(ident: Ident, ids: Vec<ExprId>) -> Node
 
 /// Arguments, as long as an atom begins.
 #[cycle(expressions)]
-fn arguments<'a>(alloc: Global, spans: &[Span], exprs: &mut Exprs, level: u32, tokens: &'a [Token]) -> Result<(Vec<ExprId>, &'a [Token]), Stop>
+fn arguments<'a>(
+    alloc: Global,
+    spans: &[Span],
+    exprs: &mut Exprs,
+    level: u32,
+    tokens: &'a [Token],
+) -> Result<(Vec<ExprId>, &'a [Token]), Stop>
     ensures kept { IfOk result (λ x. ReadsAll exprs.old exprs.new x.0.items) }
     ensures read { Gives (λ x. (arguments_from (tree_of exprs.new) x.0.items, x.1.now)) result (arguments_at (parse (places_of spans.now) level Atom) tokens.now) }
 {
@@ -320,7 +419,12 @@ fn arguments<'a>(alloc: Global, spans: &[Span], exprs: &mut Exprs, level: u32, t
 }
 
 /// A literal, which stands before these tokens.
-fn literal<'a>(exprs: &mut Exprs, span: Span, value: u64, rest: &'a [Token]) -> Result<(ExprId, &'a [Token]), Stop>
+fn literal<'a>(
+    exprs: &mut Exprs,
+    span: Span,
+    value: u64,
+    rest: &'a [Token],
+) -> Result<(ExprId, &'a [Token]), Stop>
     ensures kept { IfOk result (λ x. Reads exprs.old exprs.new x.0.0) }
     ensures read { Gives (λ x. (tree_of exprs.new x.0.0, x.1.now)) result (literal_at (is_literal value) span value rest.now) }
 {
@@ -332,7 +436,13 @@ fn literal<'a>(exprs: &mut Exprs, span: Span, value: u64, rest: &'a [Token]) -> 
 }
 
 #[cycle(expressions)]
-fn atom<'a>(alloc: Global, spans: &[Span], exprs: &mut Exprs, level: u32, tokens: &'a [Token]) -> Result<(ExprId, &'a [Token]), Stop>
+fn atom<'a>(
+    alloc: Global,
+    spans: &[Span],
+    exprs: &mut Exprs,
+    level: u32,
+    tokens: &'a [Token],
+) -> Result<(ExprId, &'a [Token]), Stop>
     ensures kept { IfOk result (λ x. Reads exprs.old exprs.new x.0.0) }
     ensures read { Gives (λ x. (tree_of exprs.new x.0.0, x.1.now)) result (atom_at (places_of spans.now) (parse (places_of spans.now) level) tokens.now) }
 {
@@ -353,7 +463,12 @@ fn atom<'a>(alloc: Global, spans: &[Span], exprs: &mut Exprs, level: u32, tokens
             let id = exprs.put(Node::Make(ident, Vec::new(alloc)))?;
             Ok((id, rest))
         }
-        [Token::Number(value), rest @ ..] => literal(exprs, span_at(spans, tokens.len()), *value, rest),
+        [Token::Number(value), rest @ ..] => literal(
+            exprs,
+            span_at(spans, tokens.len()),
+            *value,
+            rest,
+        ),
         [Token::Sign(sign), rest @ ..] => match sign {
             Sign::True => {
                 let id = exprs.put(Node::Truth(span_at(spans, tokens.len()), true))?;
@@ -363,7 +478,14 @@ fn atom<'a>(alloc: Global, spans: &[Span], exprs: &mut Exprs, level: u32, tokens
                 let id = exprs.put(Node::Truth(span_at(spans, tokens.len()), false))?;
                 Ok((id, rest))
             }
-            Sign::Open => parentheses(alloc, spans, exprs, level, span_at(spans, tokens.len()), rest),
+            Sign::Open => parentheses(
+                alloc,
+                spans,
+                exprs,
+                level,
+                span_at(spans, tokens.len()),
+                rest,
+            ),
             _ => Err(Stop::At(tokens.len())),
         },
     }
@@ -372,7 +494,14 @@ fn atom<'a>(alloc: Global, spans: &[Span], exprs: &mut Exprs, level: u32, tokens
 /// Behind an opening parenthesis.
 #[cycle(expressions)]
 #[tactic(auto, unfolding(crate::specs::Reading::open_at))]
-fn parentheses<'a>(alloc: Global, spans: &[Span], exprs: &mut Exprs, level: u32, span: Span, tokens: &'a [Token]) -> Result<(ExprId, &'a [Token]), Stop>
+fn parentheses<'a>(
+    alloc: Global,
+    spans: &[Span],
+    exprs: &mut Exprs,
+    level: u32,
+    span: Span,
+    tokens: &'a [Token],
+) -> Result<(ExprId, &'a [Token]), Stop>
     ensures kept { IfOk result (λ x. Reads exprs.old exprs.new x.0.0) }
     ensures read { Gives (λ x. (tree_of exprs.new x.0.0, x.1.now)) result (open_at (parse (places_of spans.now) level) span tokens.now) }
 {
@@ -384,10 +513,46 @@ fn parentheses<'a>(alloc: Global, spans: &[Span], exprs: &mut Exprs, level: u32,
                 Ok((id, rest))
             }
             Sign::Plus => operation(alloc, spans, exprs, level, span, Operator::Add, inner, rest),
-            Sign::Minus => operation(alloc, spans, exprs, level, span, Operator::Subtract, inner, rest),
-            Sign::Times => operation(alloc, spans, exprs, level, span, Operator::Multiply, inner, rest),
-            Sign::Same => operation(alloc, spans, exprs, level, span, Operator::Equal, inner, rest),
-            Sign::Less => operation(alloc, spans, exprs, level, span, Operator::Less, inner, rest),
+            Sign::Minus => operation(
+                alloc,
+                spans,
+                exprs,
+                level,
+                span,
+                Operator::Subtract,
+                inner,
+                rest,
+            ),
+            Sign::Times => operation(
+                alloc,
+                spans,
+                exprs,
+                level,
+                span,
+                Operator::Multiply,
+                inner,
+                rest,
+            ),
+            Sign::Same => operation(
+                alloc,
+                spans,
+                exprs,
+                level,
+                span,
+                Operator::Equal,
+                inner,
+                rest,
+            ),
+            Sign::Less => operation(
+                alloc,
+                spans,
+                exprs,
+                level,
+                span,
+                Operator::Less,
+                inner,
+                rest,
+            ),
             _ => Err(Stop::At(tokens.len())),
         },
         _ => Err(Stop::At(tokens.len())),
@@ -396,7 +561,16 @@ fn parentheses<'a>(alloc: Global, spans: &[Span], exprs: &mut Exprs, level: u32,
 
 /// Behind the operator of an operation: its other side, if the first may be one.
 #[cycle(expressions)]
-fn operation<'a>(alloc: Global, spans: &[Span], exprs: &mut Exprs, level: u32, span: Span, operator: Operator, left: ExprId, tokens: &'a [Token]) -> Result<(ExprId, &'a [Token]), Stop>
+fn operation<'a>(
+    alloc: Global,
+    spans: &[Span],
+    exprs: &mut Exprs,
+    level: u32,
+    span: Span,
+    operator: Operator,
+    left: ExprId,
+    tokens: &'a [Token],
+) -> Result<(ExprId, &'a [Token]), Stop>
     requires { left.0 < length exprs.old }
     ensures kept { IfOk result (λ x. Reads exprs.old exprs.new x.0.0) }
     ensures read { Gives (λ x. (tree_of exprs.new x.0.0, x.1.now)) result (side_at (is_application (tree_of exprs.old left.0)) (parse (places_of spans.now) level) span operator (tree_of exprs.old left.0) tokens.now) }

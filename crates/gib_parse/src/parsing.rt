@@ -19,7 +19,11 @@ use std::alloc::Global;
 fn place(spans: &[Span], len: u32, left: usize) -> u32
     ensures { result ≡ place_in spans.now len left }
 {
-    if left == 0 { len } else { span_at(spans, left).start }
+    if left == 0 {
+        len
+    } else {
+        span_at(spans, left).start
+    }
 }
 
 fn fault(stop: Stop, spans: &[Span], len: u32) -> ParseFault

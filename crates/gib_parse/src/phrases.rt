@@ -7,8 +7,8 @@ ghost use Rattle.gib_parse.specs.Reading.{Fault, At, Nested, same, want, var_at,
 ghost use Rattle.gib_parse.specs.Parsing.{Fails, Gives};
 
 use crate::stop::Stop;
-use gib_base::token::{Sign, Token};
 use gib_base::Span;
+use gib_base::token::{Sign, Token};
 use gib_syntax::{ConstructorDecl, Ident, Parameter, TypeName};
 use std::alloc::Global;
 
@@ -48,7 +48,10 @@ pub(crate) fn want(sign: Sign, tokens: &[Token]) -> Result<&[Token], Stop>
 }
 
 /// The name of a variable or a function.
-pub(crate) fn variable<'a>(spans: &[Span], tokens: &'a [Token]) -> Result<(Ident, &'a [Token]), Stop>
+pub(crate) fn variable<'a>(
+    spans: &[Span],
+    tokens: &'a [Token],
+) -> Result<(Ident, &'a [Token]), Stop>
     ensures { Gives (λ x. (x.0, x.1.now)) result (var_at (places_of spans.now) tokens.now) }
 {
     match tokens {
@@ -64,7 +67,10 @@ pub(crate) fn variable<'a>(spans: &[Span], tokens: &'a [Token]) -> Result<(Ident
 }
 
 /// The name of a constructor or a type.
-pub(crate) fn constructor<'a>(spans: &[Span], tokens: &'a [Token]) -> Result<(Ident, &'a [Token]), Stop>
+pub(crate) fn constructor<'a>(
+    spans: &[Span],
+    tokens: &'a [Token],
+) -> Result<(Ident, &'a [Token]), Stop>
     ensures { Gives (λ x. (x.0, x.1.now)) result (con_at (places_of spans.now) tokens.now) }
 {
     match tokens {
@@ -87,7 +93,11 @@ fn begins_variable(tokens: &[Token]) -> bool
 }
 
 /// Variables, as many as there are.
-pub(crate) fn variables<'a>(alloc: Global, spans: &[Span], tokens: &'a [Token]) -> Result<(Vec<Ident>, &'a [Token]), Stop>
+pub(crate) fn variables<'a>(
+    alloc: Global,
+    spans: &[Span],
+    tokens: &'a [Token],
+) -> Result<(Vec<Ident>, &'a [Token]), Stop>
     ensures { Gives (λ x. (x.0.items, x.1.now)) result (many is_variable (var_at (places_of spans.now)) tokens.now) }
 {
     let mut found = Vec::new(alloc);
@@ -101,7 +111,10 @@ pub(crate) fn variables<'a>(alloc: Global, spans: &[Span], tokens: &'a [Token]) 
 }
 
 /// A type.
-pub(crate) fn type_name<'a>(spans: &[Span], tokens: &'a [Token]) -> Result<(TypeName, &'a [Token]), Stop>
+pub(crate) fn type_name<'a>(
+    spans: &[Span],
+    tokens: &'a [Token],
+) -> Result<(TypeName, &'a [Token]), Stop>
     ensures { Gives (λ x. (x.0, x.1.now)) result (type_at (places_of spans.now) tokens.now) }
 {
     match tokens {
@@ -133,7 +146,11 @@ fn begins_type(tokens: &[Token]) -> bool
 }
 
 /// Types, as many as there are.
-pub(crate) fn types<'a>(alloc: Global, spans: &[Span], tokens: &'a [Token]) -> Result<(Vec<TypeName>, &'a [Token]), Stop>
+pub(crate) fn types<'a>(
+    alloc: Global,
+    spans: &[Span],
+    tokens: &'a [Token],
+) -> Result<(Vec<TypeName>, &'a [Token]), Stop>
     ensures { Gives (λ x. (x.0.items, x.1.now)) result (many starts_type (type_at (places_of spans.now)) tokens.now) }
 {
     let mut found = Vec::new(alloc);
@@ -148,7 +165,11 @@ pub(crate) fn types<'a>(alloc: Global, spans: &[Span], tokens: &'a [Token]) -> R
 
 /// A constructor with the types of its fields.
 #[tactic(auto, unfolding(crate::specs::Reading::constructor_at))]
-pub(crate) fn alternative<'a>(alloc: Global, spans: &[Span], tokens: &'a [Token]) -> Result<(ConstructorDecl, &'a [Token]), Stop>
+pub(crate) fn alternative<'a>(
+    alloc: Global,
+    spans: &[Span],
+    tokens: &'a [Token],
+) -> Result<(ConstructorDecl, &'a [Token]), Stop>
     ensures { Gives (λ x. (constructor_tree x.0, x.1.now)) result (constructor_at (places_of spans.now) tokens.now) }
 {
     let (name, tokens) = constructor(spans, tokens)?;
@@ -158,7 +179,11 @@ pub(crate) fn alternative<'a>(alloc: Global, spans: &[Span], tokens: &'a [Token]
 
 /// A bar, and a constructor behind it.
 #[tactic(auto, unfolding(crate::specs::Reading::alternative_at))]
-pub(crate) fn next_alternative<'a>(alloc: Global, spans: &[Span], tokens: &'a [Token]) -> Result<(ConstructorDecl, &'a [Token]), Stop>
+pub(crate) fn next_alternative<'a>(
+    alloc: Global,
+    spans: &[Span],
+    tokens: &'a [Token],
+) -> Result<(ConstructorDecl, &'a [Token]), Stop>
     ensures { Gives (λ x. (constructor_tree x.0, x.1.now)) result (alternative_at (places_of spans.now) tokens.now) }
 {
     let tokens = want(Sign::Bar, tokens)?;
@@ -167,7 +192,10 @@ pub(crate) fn next_alternative<'a>(alloc: Global, spans: &[Span], tokens: &'a [T
 
 /// A parameter in its parentheses.
 #[tactic(auto, unfolding(crate::specs::Reading::parameter_at))]
-pub(crate) fn parameter<'a>(spans: &[Span], tokens: &'a [Token]) -> Result<(Parameter, &'a [Token]), Stop>
+pub(crate) fn parameter<'a>(
+    spans: &[Span],
+    tokens: &'a [Token],
+) -> Result<(Parameter, &'a [Token]), Stop>
     ensures { Gives (λ x. (x.0, x.1.now)) result (parameter_at (places_of spans.now) tokens.now) }
 {
     let tokens = want(Sign::Open, tokens)?;

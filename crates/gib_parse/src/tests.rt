@@ -6,7 +6,8 @@ use std::alloc::{AllocError, Global};
 use std::test::Fail;
 
 // A program in which every kind of token stands.
-const PROGRAM: &[u8] = b"data T = A | B Int Bool T ; fun f ( x : Int ) ( t : T ) : T = let y = ( x + 1 ) in let par a = f y t and b = A in if ( x == 2 ) then case t of { A -> a ; B n c s -> ( B n True ( b ) ) } else ( f ( x * 3 ) t ) ; main ( n : Int ) : Bool = ( n < ( n - 4 ) ) ;";
+const PROGRAM: &[u8] =
+    b"data T = A | B Int Bool T ; fun f ( x : Int ) ( t : T ) : T = let y = ( x + 1 ) in let par a = f y t and b = A in if ( x == 2 ) then case t of { A -> a ; B n c s -> ( B n True ( b ) ) } else ( f ( x * 3 ) t ) ; main ( n : Int ) : Bool = ( n < ( n - 4 ) ) ;";
 
 // What is wrong with a text; None where nothing is.
 fn fault_of(alloc: Global, text: &[u8]) -> Result<Option<ParseFault>, LexFault> {
@@ -152,10 +153,16 @@ fn a_token_that_may_not_stand_there(rt: HostRuntime) -> Result<(), Fail> {
         (255, b"Int".as_slice()),
     ] {
         let text = cut(rt.alloc(), place as usize, token)?;
-        assert_eq!(rt; fault_of(rt.alloc(), text.as_slice())?, Some(ParseFault::At(place)));
+        assert_eq!(rt;
+            fault_of(rt.alloc(), text.as_slice())?,
+            Some(ParseFault::At(place))
+        );
         // Where the text ends before the token, tokens are missing.
         let front = cut(rt.alloc(), place as usize, b"")?;
-        assert_eq!(rt; fault_of(rt.alloc(), front.as_slice())?, Some(ParseFault::At(place)));
+        assert_eq!(rt;
+            fault_of(rt.alloc(), front.as_slice())?,
+            Some(ParseFault::At(place))
+        );
     }
     Ok(())
 }
@@ -164,9 +171,18 @@ fn a_token_that_may_not_stand_there(rt: HostRuntime) -> Result<(), Fail> {
 fn the_first_fault_of_other_texts(rt: HostRuntime) -> Result<(), Fail> {
     for (text, place) in [
         (b"main ( n : Int ) : Int = 1 ; main".as_slice(), 29),
-        (b"main ( n : Int ) : Int = f let x = 1 in x ;".as_slice(), 27),
-        (b"main ( n : Int ) : Int = ( let x = 1 in x + 1 ) ;".as_slice(), 42),
-        (b"main ( n : Int ) : Int = ( 1 + let x = 1 in x ) ;".as_slice(), 31),
+        (
+            b"main ( n : Int ) : Int = f let x = 1 in x ;".as_slice(),
+            27,
+        ),
+        (
+            b"main ( n : Int ) : Int = ( let x = 1 in x + 1 ) ;".as_slice(),
+            42,
+        ),
+        (
+            b"main ( n : Int ) : Int = ( 1 + let x = 1 in x ) ;".as_slice(),
+            31,
+        ),
         (b"main ( n : Int ) : Int = ( 1 + 2 + 3 ) ;".as_slice(), 33),
         (b"main ( n : Int ) : Int = 1 + 2 ;".as_slice(), 27),
         (b"main ( n : Int ) : Int = 1 2 ;".as_slice(), 27),
@@ -174,8 +190,14 @@ fn the_first_fault_of_other_texts(rt: HostRuntime) -> Result<(), Fail> {
         (b"data T = ;".as_slice(), 9),
         (b"main ( n : Int ) : Int = case ( n ) of { }".as_slice(), 30),
         (b"main ( n : Int ) : Int = case n of { }".as_slice(), 37),
-        (b"main ( n : Int ) : Int = case n of { K -> 1 ; }".as_slice(), 46),
-        (b"main ( n : Int ) : Int = ( if n then 1 else 2 == 3 ) ;".as_slice(), 46),
+        (
+            b"main ( n : Int ) : Int = case n of { K -> 1 ; }".as_slice(),
+            46,
+        ),
+        (
+            b"main ( n : Int ) : Int = ( if n then 1 else 2 == 3 ) ;".as_slice(),
+            46,
+        ),
         (b"fun f ( x : Int ) : Int = 1 ; data T = A ;".as_slice(), 30),
         (b"main ( n : Int ) : Int = ( ) ;".as_slice(), 27),
         (b"main ( n : Int ) ( m : Int ) : Int = 1 ;".as_slice(), 17),
@@ -191,8 +213,14 @@ fn the_first_fault_of_other_texts(rt: HostRuntime) -> Result<(), Fail> {
 
 #[test]
 fn two_hundred_levels(rt: HostRuntime) -> Result<(), Fail> {
-    assert_eq!(rt; fault_of(rt.alloc(), nested(rt.alloc(), 199)?.as_slice())?, None);
-    assert_eq!(rt; fault_of(rt.alloc(), nested(rt.alloc(), 200)?.as_slice())?, Some(ParseFault::Nested(223)));
+    assert_eq!(rt;
+        fault_of(rt.alloc(), nested(rt.alloc(), 199)?.as_slice())?,
+        None
+    );
+    assert_eq!(rt;
+        fault_of(rt.alloc(), nested(rt.alloc(), 200)?.as_slice())?,
+        Some(ParseFault::Nested(223))
+    );
     Ok(())
 }
 

@@ -1,11 +1,11 @@
-use Rattle.std.proofs.Common.{sym, ap, ◌∙◌, true, false, length}
+use Rattle.std.proofs.Common.{sym, ap, ◌∙◌, length}
 use Rattle.std.proofs.lemmas.Result.{err_from_is_err_and}
 use Rattle.gib_syntax.specs.Arena.{tree_of}
 use Rattle.gib_syntax.specs.Spelling.{places_of}
 use Rattle.gib_parse.specs.Parsing.{arm_tree, arms_tree}
 use Rattle.gib_parse.specs.Reading.{parse}
 use Rattle.gib_syntax.specs.Tree.{Expression, Case}
-use Rattle.gib_parse.proofs.ExpressionLoops.{arguments_more, arguments_done, arguments_fail, arguments_shorter, arms_start, arms_more, arms_done, first_arm_fails, arms_fail, arms_shorter, case_done, case_is}
+use Rattle.gib_parse.proofs.ExpressionLoops.{arguments_more, arguments_done, arguments_fail, arguments_shorter, arms_more, arms_done, first_arm_fails, arms_fail, arms_shorter, case_done, case_is}
 use Rattle.gib_parse.proofs.Tools.{done}
 use Rattle.gib_parse.proofs.expressions.+expressions.Goals as goal
 
