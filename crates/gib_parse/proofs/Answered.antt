@@ -16,6 +16,7 @@ use Rattle.gib_parse.specs.Parsing.{Fails}
 use Rattle.gib_parse.specs.Answers.{read_of, AnswersRead, IsBlamedAt, IsTooDeepAt, AnswersOnly, fault_of}
 use Rattle.gib_parse.proofs.Tools.{done, failed}
 use Rattle.gib_parse.proofs.Local.{Refused, Deep}
+use Rattle.gib_parse.proofs.BeginProgram.{whole_begun}
 use Rattle.gib_parse.proofs.Whole.{whole_reads, derived_is_read, placed_is_read, whole_blames, whole_deepens, whole_within}
 
 -- ---- exactly what is read
@@ -71,6 +72,7 @@ blamed l place a = record {
   left = a.left;
   within = whole_within 200 (places_of l.spans) Refused l.tokens a.left a.read;
   blamed = whole_blames 200 (places_of l.spans) l.tokens a.left a.read;
+  first = whole_begun (places_of l.spans) 200 l.tokens a.left a.read;
   here = a.here;
 }
 

@@ -9,7 +9,7 @@ use Rattle.gib_parse.specs.declared.fault.ParseFault.{ParseFault}
 use Rattle.gib_parse.specs.declared.fault.ParseFault.TheVariants as fault
 use Rattle.gib_parse.specs.declared.stop.Stop.{Stop}
 use Rattle.gib_parse.specs.declared.stop.Stop.TheVariants as stop
-use Rattle.gib_parse.specs.Reading.{At, Nested, Read, whole, Deepens}
+use Rattle.gib_parse.specs.Reading.{At, Nested, Read, whole, Deepens, Begun}
 
 -- The place of the token from which so many are left: its first byte; with none left, the text's length.
 abbrev pub place_in : List Span → ℕ → ℕ → ℕ
@@ -42,12 +42,13 @@ AnswersRead l (Err fault.Memory) = Unit {0}
 AnswersRead l (Err (fault.At place)) = IsRefusedAt l place
 AnswersRead l (Err (fault.Nested place)) = IsNestedAt l place
 
--- At this place stands a token such that no program's tokens begin with the tokens up to and including it;
--- or it is the text's length, and tokens are missing.
+-- At this place stands the first token such that no program's tokens begin with the tokens up to and
+-- including it; or it is the text's length, and tokens are missing.
 pub record IsBlamedAt (l : Lexed) (place : ℕ) : Type 0 where
   pub left : ℕ
   pub within : left ≤ length l.tokens
   pub blamed : Blames l.tokens left
+  pub first : Begun l.tokens left
   pub here : place ≡ place_of l left
 
 -- At this place stands a token such that each program whose tokens begin with the tokens up to and
