@@ -1,0 +1,244 @@
+-- The tokens before a refused one begin an expression.
+use Rattle.std.proofs.Common.{◌≡◌, ℕ, zero, suc, Bool, true, false, List, [], ◌∷◌, length, refl, sym, ap, ◌∙◌, subst, arith, ◌⊎◌, inl, inr}
+use Rattle.gib_base.specs.declared.Span.{Span}
+use Rattle.gib_base.specs.declared.token.Sign.TheVariants as s
+use Rattle.gib_base.specs.declared.token.Token.{Token}
+use Rattle.gib_base.specs.declared.token.Token.TheVariants as t
+use Rattle.gib_syntax.specs.declared.tree.Ident.{Ident}
+use Rattle.gib_syntax.specs.declared.tree.Operator.{Operator}
+use Rattle.gib_syntax.specs.declared.tree.Operator.TheVariants as o
+use Rattle.gib_syntax.specs.Tree.{Expression, Arguments, Arms, Var, Num, Bit, Paren, Op, Call, Make, Let, Par, If, Case, NoArgument, Argument, LastArm, NextArm}
+use Rattle.gib_syntax.specs.Spelling.{Places, is_application, spell, spell_arguments, spell_arms, spell_variables, spell_operator, IsFine, AreFine, HasFine}
+use Rattle.gib_parse.specs.Reading.{At, Nested, Mode, Any, App, Atom, Reader, then_at, before, named, var_at, next_is, many, is_variable, is_sign, is_literal, literal_at, starts_atom, starts, ArmTree, arms_of, arm_at, next_arm_at, arms_at, arguments_of, arguments_at, bind_at, par_at, let_at, if_at, case_at, side_at, close_at, open_at, call, atom_at, app_at, any_at, no_level, parse}
+use Rattle.gib_parse.proofs.Tools.{done, failed}
+use Rattle.gib_parse.proofs.Sound.{IsMode, parse_sound, paren_mode, op_mode, arm_sound, next_sound, arms_sound}
+use Rattle.gib_parse.proofs.Longer.{parse_shrinks, next_shrinks}
+use Rattle.gib_parse.proofs.Begin.{agrees_cons, agrees_arms, agrees_arm, agrees_expr, Begins, b_map, b_never, b_done, b_now, b_by, b_then, b_last, behind_token, b_want, b_var, b_con, goes_sign, goes_var, goes_con, goes_vars, goes_expr, Keeps, many_begins, vars_never}
+
+-- The languages, with what comes behind.
+
+abbrev pub ExpressionsThen : Mode → List Token → List Token → Type 0
+ExpressionsThen m r vs = (e : Expression) × IsFine e × IsMode m e × (vs ≡ spell e r)
+
+abbrev ArgumentsThen : List Token → List Token → Type 0
+ArgumentsThen r vs = (xs : Arguments) × AreFine xs × (vs ≡ spell_arguments xs r)
+
+abbrev ArmThen : List Token → List Token → Type 0
+ArmThen r vs = (arm : ArmTree) × IsFine arm.body × (vs ≡ t.Constructor arm.constructor.name ∷ spell_variables arm.variables (t.Sign s.Arrow ∷ spell arm.body r))
+
+abbrev ArmsThen : List Token → List Token → Type 0
+ArmsThen r vs = (arms : Arms) × HasFine arms × (vs ≡ spell_arms arms r)
+
+-- No arm, or more of them behind a semicolon.
+abbrev MoreThen : List Token → List Token → Type 0
+MoreThen r vs = (vs ≡ r) ⊎ ((arms : Arms) × HasFine arms × (vs ≡ t.Sign s.Semicolon ∷ spell_arms arms r))
+
+-- ---- the plainest trees
+
+abbrev nowhere : Span
+nowhere = record { start = 0; end = 0 }
+
+abbrev a_name : Ident
+a_name = record { name = record { 0 = 0 }; span = nowhere }
+
+abbrev zero_is : Expression
+zero_is = Num nowhere 0
+
+zero_fine : IsFine zero_is
+zero_fine = omega arith
+
+zero_mode : (m : Mode) → IsMode m zero_is
+zero_mode Any = tt
+zero_mode App = refl
+zero_mode Atom = refl
+
+a_number : (m : Mode) (r : List Token) → ExpressionsThen m r (t.Number 0 ∷ r)
+a_number m r = (zero_is, zero_fine, zero_mode m, refl)
+
+abbrev an_arm : List Token → List Token
+an_arm r = t.Constructor a_name.name ∷ t.Sign s.Arrow ∷ t.Number 0 ∷ r
+
+-- ---- the readers
+
+module _ (at : Places) where
+  abbrev PartsBegin : ℕ → Type 0
+  PartsBegin n = (m : Mode) (ws r : List Token) → Begins (ExpressionsThen m r) (parse at n m) ws
+
+  bind_begins : (n : ℕ) → PartsBegin n → (z : Span) (ws r : List Token) → Begins (λ vs. ExpressionsThen Any r (t.Sign s.Let ∷ vs)) (bind_at at (parse at n) z) ws
+  unfolding bind_at
+  bind_begins n h z ws r =
+      b_then (b_var at ws (t.Variable a_name.name ∷ t.Sign s.Equals ∷ t.Number 0 ∷ t.Sign s.In ∷ t.Number 0 ∷ r) (Let z a_name zero_is zero_is, (zero_fine, zero_fine), tt, refl)) (λ x r1 e1. goes_var at x ws r1 e1 (
+      b_then (b_want s.Equals r1 (t.Sign s.Equals ∷ t.Number 0 ∷ t.Sign s.In ∷ t.Number 0 ∷ r) (Let z x zero_is zero_is, (zero_fine, zero_fine), tt, refl)) (λ u r2 e2. goes_sign s.Equals r1 r2 u e2 (
+      b_then (b_map (λ vs o. (Let z x o.0 zero_is, (o.1, zero_fine), tt, ap (λ (k : List Token). t.Sign s.Let ∷ t.Variable x.name ∷ t.Sign s.Equals ∷ k) o.3)) (h Any r2 (t.Sign s.In ∷ t.Number 0 ∷ r))) (λ a r3 e3. let p3 = (parse_sound at n Any r2).by a r3 e3 in goes_expr a r2 r3 p3.spelled (
+      b_then (b_want s.In r3 (t.Sign s.In ∷ t.Number 0 ∷ r) (Let z x a zero_is, (p3.fine, zero_fine), tt, refl)) (λ u r4 e4. goes_sign s.In r3 r4 u e4 (
+      b_last (b_map (λ vs o. (Let z x a o.0, (p3.fine, o.1), tt, ap (λ (k : List Token). t.Sign s.Let ∷ t.Variable x.name ∷ t.Sign s.Equals ∷ spell a (t.Sign s.In ∷ k)) o.3)) (h Any r4 r)) (λ b r5. (Let z x a b, r5, refl))))))))))
+
+  par_begins : (n : ℕ) → PartsBegin n → (z : Span) (ws r : List Token) → Begins (λ vs. ExpressionsThen Any r (t.Sign s.Let ∷ t.Sign s.Par ∷ vs)) (par_at at (parse at n) z) ws
+  unfolding par_at
+  par_begins n h z ws r =
+      let tail3 : List Token = t.Sign s.In ∷ t.Number 0 ∷ r in
+      let tail2 : List Token = t.Sign s.Equals ∷ t.Number 0 ∷ tail3 in
+      let tail1 : List Token = t.Sign s.And ∷ t.Variable a_name.name ∷ tail2 in
+      b_then (b_var at ws (t.Variable a_name.name ∷ t.Sign s.Equals ∷ t.Number 0 ∷ tail1) (Par z a_name zero_is a_name zero_is zero_is, (zero_fine, zero_fine, zero_fine), tt, refl)) (λ x r1 e1. goes_var at x ws r1 e1 (
+      b_then (b_want s.Equals r1 (t.Sign s.Equals ∷ t.Number 0 ∷ tail1) (Par z x zero_is a_name zero_is zero_is, (zero_fine, zero_fine, zero_fine), tt, refl)) (λ u r2 e2. goes_sign s.Equals r1 r2 u e2 (
+      b_then (b_map (λ vs o. (Par z x o.0 a_name zero_is zero_is, (o.1, zero_fine, zero_fine), tt, ap (λ (k : List Token). t.Sign s.Let ∷ t.Sign s.Par ∷ t.Variable x.name ∷ t.Sign s.Equals ∷ k) o.3)) (h Any r2 tail1)) (λ a r3 e3. let p3 = (parse_sound at n Any r2).by a r3 e3 in goes_expr a r2 r3 p3.spelled (
+      b_then (b_want s.And r3 tail1 (Par z x a a_name zero_is zero_is, (p3.fine, zero_fine, zero_fine), tt, refl)) (λ u r4 e4. goes_sign s.And r3 r4 u e4 (
+      b_then (b_var at r4 (t.Variable a_name.name ∷ tail2) (Par z x a a_name zero_is zero_is, (p3.fine, zero_fine, zero_fine), tt, refl)) (λ y r5 e5. goes_var at y r4 r5 e5 (
+      b_then (b_want s.Equals r5 tail2 (Par z x a y zero_is zero_is, (p3.fine, zero_fine, zero_fine), tt, refl)) (λ u r6 e6. goes_sign s.Equals r5 r6 u e6 (
+      b_then (b_map (λ vs o. (Par z x a y o.0 zero_is, (p3.fine, o.1, zero_fine), tt, ap (λ (k : List Token). t.Sign s.Let ∷ t.Sign s.Par ∷ t.Variable x.name ∷ t.Sign s.Equals ∷ spell a (t.Sign s.And ∷ t.Variable y.name ∷ t.Sign s.Equals ∷ k)) o.3)) (h Any r6 tail3)) (λ b r7 e7. let p7 = (parse_sound at n Any r6).by b r7 e7 in goes_expr b r6 r7 p7.spelled (
+      b_then (b_want s.In r7 tail3 (Par z x a y b zero_is, (p3.fine, p7.fine, zero_fine), tt, refl)) (λ u r8 e8. goes_sign s.In r7 r8 u e8 (
+      b_last (b_map (λ vs o. (Par z x a y b o.0, (p3.fine, p7.fine, o.1), tt, ap (λ (k : List Token). t.Sign s.Let ∷ t.Sign s.Par ∷ t.Variable x.name ∷ t.Sign s.Equals ∷ spell a (t.Sign s.And ∷ t.Variable y.name ∷ t.Sign s.Equals ∷ spell b (t.Sign s.In ∷ k))) o.3)) (h Any r8 r)) (λ c r9. (Par z x a y b c, r9, refl))))))))))))))))))
+
+  let_begins : (n : ℕ) → PartsBegin n → (z : Span) (ws r : List Token) → Begins (λ vs. ExpressionsThen Any r (t.Sign s.Let ∷ vs)) (let_at at (parse at n) z) ws
+  let_begins n h z (t.Sign s.Par ∷ ws) r = behind_token (let_at at (parse at n) z) (par_at at (parse at n) z) (t.Sign s.Par) ws refl (par_begins n h z ws r)
+  let_begins n h z ws r = b_by (let_at at (parse at n) z) (bind_at at (parse at n) z) ws refl (bind_begins n h z ws r)
+
+  if_begins : (n : ℕ) → PartsBegin n → (z : Span) (ws r : List Token) → Begins (λ vs. ExpressionsThen Any r (t.Sign s.If ∷ vs)) (if_at (parse at n) z) ws
+  unfolding if_at
+  if_begins n h z ws r =
+      let tail2 : List Token = t.Sign s.Else ∷ t.Number 0 ∷ r in
+      let tail1 : List Token = t.Sign s.Then ∷ t.Number 0 ∷ tail2 in
+      b_then (b_map (λ vs o. (If z o.0 zero_is zero_is, (o.1, zero_fine, zero_fine), tt, ap (λ (k : List Token). t.Sign s.If ∷ k) o.3)) (h Any ws tail1)) (λ a r1 e1. let p1 = (parse_sound at n Any ws).by a r1 e1 in goes_expr a ws r1 p1.spelled (
+      b_then (b_want s.Then r1 tail1 (If z a zero_is zero_is, (p1.fine, zero_fine, zero_fine), tt, refl)) (λ u r2 e2. goes_sign s.Then r1 r2 u e2 (
+      b_then (b_map (λ vs o. (If z a o.0 zero_is, (p1.fine, o.1, zero_fine), tt, ap (λ (k : List Token). t.Sign s.If ∷ spell a (t.Sign s.Then ∷ k)) o.3)) (h Any r2 tail2)) (λ b r3 e3. let p3 = (parse_sound at n Any r2).by b r3 e3 in goes_expr b r2 r3 p3.spelled (
+      b_then (b_want s.Else r3 tail2 (If z a b zero_is, (p1.fine, p3.fine, zero_fine), tt, refl)) (λ u r4 e4. goes_sign s.Else r3 r4 u e4 (
+      b_last (b_map (λ vs o. (If z a b o.0, (p1.fine, p3.fine, o.1), tt, ap (λ (k : List Token). t.Sign s.If ∷ spell a (t.Sign s.Then ∷ spell b (t.Sign s.Else ∷ k))) o.3)) (h Any r4 r)) (λ c r5. (If z a b c, r5, refl))))))))))
+
+  arm_begins : (n : ℕ) → PartsBegin n → (ws r : List Token) → Begins (ArmThen r) (arm_at at (parse at n Any)) ws
+  unfolding arm_at
+  arm_begins n h ws r =
+      b_then (b_con at ws (an_arm r) (record { constructor = a_name; variables = []; body = zero_is }, zero_fine, refl)) (λ k r1 e1. goes_con at k ws r1 e1 (
+      b_then {p = many is_variable (var_at at)} (b_never (vars_never at r1)) (λ xs r2 e2. goes_vars at xs r1 r2 e2 (
+      b_then (b_want s.Arrow r2 (t.Sign s.Arrow ∷ t.Number 0 ∷ r) (record { constructor = k; variables = xs; body = zero_is }, zero_fine, refl)) (λ u r3 e3. goes_sign s.Arrow r2 r3 u e3 (
+      b_last (b_map (λ vs o. (record { constructor = k; variables = xs; body = o.0 }, o.1, ap (λ (l : List Token). t.Constructor k.name ∷ spell_variables xs (t.Sign s.Arrow ∷ l)) o.3)) (h Any r3 r)) (λ e r4. ((let arm : ArmTree = record { constructor = k; variables = xs; body = e } in arm), r4, refl))))))))
+
+  next_begins : (n : ℕ) → PartsBegin n → (r ws : List Token) → Begins (MoreThen r) (next_arm_at at (parse at n Any)) ws
+  unfolding next_arm_at
+  next_begins n h r ws =
+      b_then (b_want s.Semicolon ws (t.Sign s.Semicolon ∷ an_arm r) (inr (LastArm a_name [] zero_is, zero_fine, refl))) (λ u r1 e1. goes_sign s.Semicolon ws r1 u e1 (
+      b_map (λ vs o. inr (LastArm o.0.constructor o.0.variables o.0.body, o.1, ap (λ (l : List Token). t.Sign s.Semicolon ∷ l) o.2)) (arm_begins n h r1 r)))
+
+  more_closed : (r : List Token) (arm : ArmTree) → IsFine arm.body → (vs : List Token) → MoreThen r vs → MoreThen r (t.Sign s.Semicolon ∷ t.Constructor arm.constructor.name ∷ spell_variables arm.variables (t.Sign s.Arrow ∷ spell arm.body vs))
+  more_closed r arm f vs (inl e) = inr (LastArm arm.constructor arm.variables arm.body, f, ap (λ (l : List Token). t.Sign s.Semicolon ∷ t.Constructor arm.constructor.name ∷ spell_variables arm.variables (t.Sign s.Arrow ∷ spell arm.body l)) e)
+  more_closed r arm f vs (inr o) = inr (NextArm arm.constructor arm.variables arm.body o.0, (f, o.1), ap (λ (l : List Token). t.Sign s.Semicolon ∷ t.Constructor arm.constructor.name ∷ spell_variables arm.variables (t.Sign s.Arrow ∷ spell arm.body l)) o.2)
+
+  next_keeps : (n : ℕ) (r : List Token) (arm : ArmTree) (ws rest : List Token) → next_arm_at at (parse at n Any) ws ≡ done arm rest → Keeps (MoreThen r) ws rest
+  next_keeps n r arm ws rest e =
+      let p = (next_sound at n (parse at n Any) (parse_sound at n Any) ws).by arm rest e in
+      record {
+        before = λ l. t.Sign s.Semicolon ∷ t.Constructor arm.constructor.name ∷ spell_variables arm.variables (t.Sign s.Arrow ∷ spell arm.body l);
+        was = p.semicolon ∙ ap (λ l. t.Sign s.Semicolon ∷ l) p.is_arm.spelled;
+        agrees = λ j x y a. agrees_cons (t.Sign s.Semicolon) j _ _ (agrees_arm arm.constructor arm.variables arm.body j x y a);
+        closed = more_closed r arm p.is_arm.fine;
+      }
+
+  with_first : (r : List Token) (arm : ArmTree) → IsFine arm.body → (vs : List Token) → MoreThen r vs → ArmsThen r (t.Constructor arm.constructor.name ∷ spell_variables arm.variables (t.Sign s.Arrow ∷ spell arm.body vs))
+  with_first r arm f vs (inl e) = (LastArm arm.constructor arm.variables arm.body, f, ap (λ (l : List Token). t.Constructor arm.constructor.name ∷ spell_variables arm.variables (t.Sign s.Arrow ∷ spell arm.body l)) e)
+  with_first r arm f vs (inr o) = (NextArm arm.constructor arm.variables arm.body o.0, (f, o.1), ap (λ (l : List Token). t.Constructor arm.constructor.name ∷ spell_variables arm.variables (t.Sign s.Arrow ∷ spell arm.body l)) o.2)
+
+  arms_begin : (n : ℕ) → PartsBegin n → (ws r : List Token) → Begins (ArmsThen r) (arms_at at (parse at n Any)) ws
+  unfolding arms_at
+  arms_begin n h ws r =
+      b_then (b_map (λ vs o. (LastArm o.0.constructor o.0.variables o.0.body, o.1, o.2)) (arm_begins n h ws r)) (λ arm r1 e1. let p1 = (arm_sound at n (parse at n Any) (parse_sound at n Any) ws).by arm r1 e1 in record {
+        before = λ l. t.Constructor arm.constructor.name ∷ spell_variables arm.variables (t.Sign s.Arrow ∷ spell arm.body l);
+        was = p1.spelled;
+        agrees = agrees_arm arm.constructor arm.variables arm.body;
+        next = b_last (b_map (with_first r arm p1.fine) (many_begins (MoreThen r) (is_sign s.Semicolon) (next_arm_at at (parse at n Any)) (next_shrinks at n) (next_begins n h r) (λ arm ws rest e. next_keeps n r arm ws rest e) r1)) (λ arms r2. (arms_of arm arms, r2, refl));
+      })
+
+  case_begins : (n : ℕ) → PartsBegin n → (z : Span) (ws r : List Token) → Begins (λ vs. ExpressionsThen Any r (t.Sign s.Case ∷ vs)) (case_at at (parse at n) z) ws
+  unfolding case_at
+  case_begins n h z ws r =
+      let tail : List Token = an_arm (t.Sign s.CloseBrace ∷ r) in
+      let some : Arms = LastArm a_name [] zero_is in
+      b_then (b_var at ws (t.Variable a_name.name ∷ t.Sign s.Of ∷ t.Sign s.OpenBrace ∷ tail) (Case z a_name some, zero_fine, tt, refl)) (λ x r1 e1. goes_var at x ws r1 e1 (
+      b_then (b_want s.Of r1 (t.Sign s.Of ∷ t.Sign s.OpenBrace ∷ tail) (Case z x some, zero_fine, tt, refl)) (λ u r2 e2. goes_sign s.Of r1 r2 u e2 (
+      b_then (b_want s.OpenBrace r2 (t.Sign s.OpenBrace ∷ tail) (Case z x some, zero_fine, tt, refl)) (λ u r3 e3. goes_sign s.OpenBrace r2 r3 u e3 (
+      b_then (b_map (λ vs o. (Case z x o.0, o.1, tt, ap (λ (k : List Token). t.Sign s.Case ∷ t.Variable x.name ∷ t.Sign s.Of ∷ t.Sign s.OpenBrace ∷ k) o.2)) (arms_begin n h r3 (t.Sign s.CloseBrace ∷ r))) (λ arms r4 e4. let p4 = (arms_sound at n (parse at n Any) (parse_sound at n Any) r3).by arms r4 e4 in record {
+        before = spell_arms arms;
+        was = p4.spelled;
+        agrees = agrees_arms arms;
+        next =
+            b_last (b_want s.CloseBrace r4 (t.Sign s.CloseBrace ∷ r) (Case z x arms, p4.fine, tt, refl)) (λ u r5. (Case z x arms, r5, refl));
+      })))))))
+
+  side_begins : (n : ℕ) → PartsBegin n → (m : Mode) (z : Span) (f : Operator) (a : Expression) → IsFine a → (b : Bool) → is_application a ≡ b → (ws r : List Token) → (p : Reader Expression) (g : Token) → p (g ∷ ws) ≡ side_at (is_application a) (parse at n) z f a ws → ((l : List Token) → spell_operator f l ≡ g ∷ l)
+      → Begins (λ vs. ExpressionsThen m r (t.Sign s.Open ∷ spell a vs)) p (g ∷ ws)
+  side_begins n h m z f a fine false e ws r p g is sign = b_now (t.Sign s.Close ∷ r) (Paren z a, fine, paren_mode m z a, refl) (is ∙ ap (λ b. side_at b (parse at n) z f a ws) e)
+  side_begins n h m z f a fine true e ws r p g is sign =
+      behind_token {L = λ vs. ExpressionsThen m r (t.Sign s.Open ∷ spell a vs)} p (side_at true (parse at n) z f a) g ws (is ∙ ap (λ b. side_at b (parse at n) z f a ws) e)
+      (b_then (b_map (λ vs o. (Op z f a o.0, (fine, o.1, e, o.2), op_mode m z f a o.0, ap (λ (k : List Token). t.Sign s.Open ∷ spell a (g ∷ k)) o.3 ∙ ap (λ (k : List Token). t.Sign s.Open ∷ spell a k) (sym (sign (spell o.0 (t.Sign s.Close ∷ r)))))) (h App ws (t.Sign s.Close ∷ r)))
+      (λ b r1 e1. let p1 = (parse_sound at n App ws).by b r1 e1 in goes_expr b ws r1 p1.spelled (
+      b_last (b_want s.Close r1 (t.Sign s.Close ∷ r) (Op z f a b, (fine, p1.fine, e, p1.mode), op_mode m z f a b, ap (λ (k : List Token). t.Sign s.Open ∷ spell a k) (sym (sign (spell b (t.Sign s.Close ∷ r)))))) (λ u r2. (Op z f a b, r2, refl)))))
+
+  close_begins : (n : ℕ) → PartsBegin n → (m : Mode) (z : Span) (a : Expression) → IsFine a → (ws r : List Token) → Begins (λ vs. ExpressionsThen m r (t.Sign s.Open ∷ spell a vs)) (close_at (parse at n) z a) ws
+  close_begins n h m z a fine (t.Sign s.Close ∷ ws) r = b_done (Paren z a) ws refl
+  close_begins n h m z a fine (t.Sign s.Plus ∷ ws) r = side_begins n h m z o.Add a fine (is_application a) refl ws r (close_at (parse at n) z a) (t.Sign s.Plus) refl (λ l. refl)
+  close_begins n h m z a fine (t.Sign s.Minus ∷ ws) r = side_begins n h m z o.Subtract a fine (is_application a) refl ws r (close_at (parse at n) z a) (t.Sign s.Minus) refl (λ l. refl)
+  close_begins n h m z a fine (t.Sign s.Times ∷ ws) r = side_begins n h m z o.Multiply a fine (is_application a) refl ws r (close_at (parse at n) z a) (t.Sign s.Times) refl (λ l. refl)
+  close_begins n h m z a fine (t.Sign s.Same ∷ ws) r = side_begins n h m z o.Equal a fine (is_application a) refl ws r (close_at (parse at n) z a) (t.Sign s.Same) refl (λ l. refl)
+  close_begins n h m z a fine (t.Sign s.Less ∷ ws) r = side_begins n h m z o.Less a fine (is_application a) refl ws r (close_at (parse at n) z a) (t.Sign s.Less) refl (λ l. refl)
+  close_begins n h m z a fine ws r = b_now (t.Sign s.Close ∷ r) (Paren z a, fine, paren_mode m z a, refl) refl
+
+  open_begins : (n : ℕ) → PartsBegin n → (m : Mode) (z : Span) (ws r : List Token) → Begins (λ vs. ExpressionsThen m r (t.Sign s.Open ∷ vs)) (open_at (parse at n) z) ws
+  unfolding open_at
+  open_begins n h m z ws r =
+      b_then (b_map (λ vs o. (Paren z o.0, o.1, paren_mode m z o.0, ap (λ (k : List Token). t.Sign s.Open ∷ k) o.3)) (h Any ws (t.Sign s.Close ∷ r)))
+      (λ a r1 e1. let p1 = (parse_sound at n Any ws).by a r1 e1 in goes_expr a ws r1 p1.spelled (close_begins n h m z a p1.fine r1 r))
+
+  literal_begins : (n : ℕ) (m : Mode) (v : ℕ) (ws r : List Token) (b : Bool) → is_literal v ≡ b → Begins (ExpressionsThen m r) (atom_at at (parse at n)) (t.Number v ∷ ws)
+  literal_begins n m v ws r true e = b_done (Num (before at ws) v) ws (ap (λ b. literal_at b (before at ws) v ws) e)
+  literal_begins n m v ws r false e = b_now (t.Number 0 ∷ r) (a_number m r) (ap (λ b. literal_at b (before at ws) v ws) e)
+
+  atom_begins : (n : ℕ) → PartsBegin n → (m : Mode) (ws r : List Token) → Begins (ExpressionsThen m r) (atom_at at (parse at n)) ws
+  atom_begins n h m (t.Variable x ∷ ws) r = b_done (Var (named at x ws)) ws refl
+  atom_begins n h m (t.Constructor k ∷ ws) r = b_done (Make (named at k ws) NoArgument) ws refl
+  atom_begins n h m (t.Number v ∷ ws) r = literal_begins n m v ws r (is_literal v) refl
+  atom_begins n h m (t.Sign s.True ∷ ws) r = b_done (Bit (before at ws) true) ws refl
+  atom_begins n h m (t.Sign s.False ∷ ws) r = b_done (Bit (before at ws) false) ws refl
+  atom_begins n h m (t.Sign s.Open ∷ ws) r = behind_token (atom_at at (parse at n)) (open_at (parse at n) (before at ws)) (t.Sign s.Open) ws refl (open_begins n h m (before at ws) ws r)
+  atom_begins n h m ws r = b_now (t.Number 0 ∷ r) (a_number m r) refl
+
+  argument_keeps : (n : ℕ) (r : List Token) (a : Expression) (ws rest : List Token) → parse at n Atom ws ≡ done a rest → Keeps (ArgumentsThen r) ws rest
+  argument_keeps n r a ws rest e =
+      let p = (parse_sound at n Atom ws).by a rest e in
+      record { before = spell a; was = p.spelled; agrees = agrees_expr a; closed = λ vs o. (Argument a o.0, (p.fine, p.mode, o.1), ap (spell a) o.2) }
+
+  arguments_begin : (n : ℕ) → PartsBegin n → (ws r : List Token) → Begins (ArgumentsThen r) (arguments_at (parse at n Atom)) ws
+  unfolding arguments_at
+  arguments_begin n h ws r =
+      b_last (many_begins (ArgumentsThen r) starts_atom (parse at n Atom) (parse_shrinks at n Atom) (λ ws. b_map (λ vs o. (Argument o.0 NoArgument, (o.1, o.2, tt), o.3)) (h Atom ws r)) (λ a ws rest e. argument_keeps n r a ws rest e) ws)
+      (λ xs r1. (arguments_of xs, r1, refl))
+
+  call_fine : (f : Ident) (xs : Arguments) (r : List Token) → AreFine xs → (m : Mode) → ((e : Expression) → is_application e ≡ true → IsMode m e) → ExpressionsThen m r (t.Variable f.name ∷ spell_arguments xs r)
+  call_fine f NoArgument r h m k = (Var f, tt, k (Var f) refl, refl)
+  call_fine f (Argument a xs) r h m k = (Call f (Argument a xs), h, k (Call f (Argument a xs)) refl, refl)
+
+  app_begins : (n : ℕ) → PartsBegin n → (m : Mode) → ((e : Expression) → is_application e ≡ true → IsMode m e) → (ws r : List Token) → Begins (ExpressionsThen m r) (app_at at (parse at n)) ws
+  app_begins n h m k (t.Variable f ∷ ws) r =
+      behind_token (app_at at (parse at n)) (λ l. then_at (arguments_at (parse at n Atom) l) (λ xs left. done (call (named at f ws) xs) left)) (t.Variable f) ws refl
+      (b_last (b_map (λ vs o. subst (λ (l : List Token). ExpressionsThen m r (t.Variable f ∷ l)) (sym o.2) (call_fine (named at f ws) o.0 r o.1 m k)) (arguments_begin n h ws r)) (λ xs left. (call (named at f ws) xs, left, refl)))
+  app_begins n h m k (t.Constructor c ∷ ws) r =
+      behind_token (app_at at (parse at n)) (λ l. then_at (arguments_at (parse at n Atom) l) (λ xs left. done (Make (named at c ws) xs) left)) (t.Constructor c) ws refl
+      (b_last (b_map (λ vs o. (Make (named at c ws) o.0, o.1, k (Make (named at c ws) o.0) refl, ap (λ (l : List Token). t.Constructor c ∷ l) o.2)) (arguments_begin n h ws r)) (λ xs left. (Make (named at c ws) xs, left, refl)))
+  app_begins n h m k ws r = b_by (app_at at (parse at n)) (atom_at at (parse at n)) ws refl (atom_begins n h m ws r)
+
+  any_begins : (n : ℕ) → PartsBegin n → (ws r : List Token) → Begins (ExpressionsThen Any r) (any_at at (parse at n)) ws
+  any_begins n h (t.Sign s.Let ∷ ws) r = behind_token (any_at at (parse at n)) (let_at at (parse at n) (before at ws)) (t.Sign s.Let) ws refl (let_begins n h (before at ws) ws r)
+  any_begins n h (t.Sign s.If ∷ ws) r = behind_token (any_at at (parse at n)) (if_at (parse at n) (before at ws)) (t.Sign s.If) ws refl (if_begins n h (before at ws) ws r)
+  any_begins n h (t.Sign s.Case ∷ ws) r = behind_token (any_at at (parse at n)) (case_at at (parse at n) (before at ws)) (t.Sign s.Case) ws refl (case_begins n h (before at ws) ws r)
+  any_begins n h ws r = b_by (any_at at (parse at n)) (app_at at (parse at n)) ws refl (app_begins n h Any (λ e i. tt) ws r)
+
+  nested_not_at : {A : Type 0} (j k : ℕ) → failed {A = A} (Nested j) ≡ failed (At k) → ⊥
+  nested_not_at j k e = cc
+
+  none_begins : (m : Mode) (v : Bool) (ws r : List Token) → Begins (ExpressionsThen m r) (no_level v) ws
+  none_begins m true ws r = b_never (λ j e. nested_not_at {A = Expression} (length ws) j e)
+  none_begins m false ws r = b_now (t.Number 0 ∷ r) (a_number m r) refl
+
+  pub parse_begins : (n : ℕ) (m : Mode) (ws r : List Token) → Begins (ExpressionsThen m r) (parse at n m) ws
+  unfolding parse
+  parse_begins zero m ws r = b_by (parse at zero m) (no_level (next_is (starts m) ws)) ws refl (none_begins m (next_is (starts m) ws) ws r)
+  parse_begins (suc n) Any ws r = b_by (parse at (suc n) Any) (any_at at (parse at n)) ws refl (any_begins n (parse_begins n) ws r)
+  parse_begins (suc n) App ws r = b_by (parse at (suc n) App) (app_at at (parse at n)) ws refl (app_begins n (parse_begins n) App (λ e i. i) ws r)
+  parse_begins (suc n) Atom ws r = b_by (parse at (suc n) Atom) (atom_at at (parse at n)) ws refl (atom_begins n (parse_begins n) Atom ws r)

@@ -1,0 +1,84 @@
+-- Readers take tokens.
+use Rattle.std.proofs.Common.{◌≡◌, ℕ, suc, ◌<◌, ◌≤◌, Bool, true, false, List, [], ◌∷◌, length, refl, ap, arith}
+use Rattle.gib_base.specs.declared.token.Sign.TheVariants as s
+use Rattle.gib_base.specs.declared.token.Token.{Token}
+use Rattle.gib_base.specs.declared.token.Token.TheVariants as t
+use Rattle.gib_syntax.specs.declared.tree.Ident.{Ident}
+use Rattle.gib_syntax.specs.declared.tree.TypeName.{TypeName}
+use Rattle.gib_syntax.specs.declared.tree.TypeName.TheVariants as ty
+use Rattle.gib_syntax.specs.declared.tree.Operator.{Operator}
+use Rattle.gib_syntax.specs.declared.tree.Operator.TheVariants as o
+use Rattle.gib_syntax.specs.Tree.{Expression, Arguments, Arms, Var, Num, Bit, Paren, Op, Call, Make, Let, Par, If, Case, NoArgument, Argument, LastArm, NextArm}
+use Rattle.gib_syntax.specs.Spelling.{Places, spell, spell_arguments, spell_arms, spell_variables, spell_operator, spell_bit, spell_type}
+use Rattle.gib_parse.specs.Reading.{Mode, Any, var_at, type_at, parse, arm_at, next_arm_at}
+use Rattle.gib_parse.proofs.Tools.{var_holds, type_holds}
+use Rattle.gib_parse.proofs.Many.{Shrinks}
+use Rattle.gib_parse.proofs.Sound.{parse_sound, arm_sound, next_sound}
+
+pub variables_longer : (xs : List Ident) (rest : List Token) → length rest ≤ length (spell_variables xs rest)
+variables_longer [] rest = omega arith
+variables_longer (x ∷ xs) rest = omega (arith, variables_longer xs rest)
+
+pub operator_longer : (f : Operator) (rest : List Token) → length (spell_operator f rest) ≡ suc (length rest)
+operator_longer o.Add rest = refl
+operator_longer o.Subtract rest = refl
+operator_longer o.Multiply rest = refl
+operator_longer o.Equal rest = refl
+operator_longer o.Less rest = refl
+
+bit_longer : (b : Bool) (rest : List Token) → length (spell_bit b rest) ≡ suc (length rest)
+bit_longer true rest = refl
+bit_longer false rest = refl
+
+pub type_longer : (a : TypeName) (rest : List Token) → length (spell_type a rest) ≡ suc (length rest)
+type_longer (ty.Whole p) rest = refl
+type_longer (ty.Truth p) rest = refl
+type_longer (ty.Declared x) rest = refl
+
+mutual
+  pub spell_longer : (e : Expression) (rest : List Token) → length rest < length (spell e rest)
+  spell_longer (Var x) rest = omega arith
+  spell_longer (Num p n) rest = omega arith
+  spell_longer (Bit p b) rest = omega (arith, bit_longer b rest)
+  spell_longer (Paren p e) rest = omega (arith, spell_longer e (t.Sign s.Close ∷ rest))
+  spell_longer (Op p f a b) rest =
+      omega (arith, spell_longer a (spell_operator f (spell b (t.Sign s.Close ∷ rest))), operator_longer f (spell b (t.Sign s.Close ∷ rest)), spell_longer b (t.Sign s.Close ∷ rest))
+  spell_longer (Call f xs) rest = omega (arith, arguments_longer xs rest)
+  spell_longer (Make k xs) rest = omega (arith, arguments_longer xs rest)
+  spell_longer (Let p x a b) rest = omega (arith, spell_longer a (t.Sign s.In ∷ spell b rest), spell_longer b rest)
+  spell_longer (Par p x a y b c) rest =
+      omega (arith, spell_longer a (t.Sign s.And ∷ t.Variable y.name ∷ t.Sign s.Equals ∷ spell b (t.Sign s.In ∷ spell c rest)), spell_longer b (t.Sign s.In ∷ spell c rest), spell_longer c rest)
+  spell_longer (If p a b c) rest = omega (arith, spell_longer a (t.Sign s.Then ∷ spell b (t.Sign s.Else ∷ spell c rest)), spell_longer b (t.Sign s.Else ∷ spell c rest), spell_longer c rest)
+  spell_longer (Case p x arms) rest = omega (arith, arms_longer arms (t.Sign s.CloseBrace ∷ rest))
+
+  pub arguments_longer : (xs : Arguments) (rest : List Token) → length rest ≤ length (spell_arguments xs rest)
+  arguments_longer NoArgument rest = omega arith
+  arguments_longer (Argument a xs) rest = omega (arith, spell_longer a (spell_arguments xs rest), arguments_longer xs rest)
+
+  pub arms_longer : (arms : Arms) (rest : List Token) → length rest < length (spell_arms arms rest)
+  arms_longer (LastArm k xs e) rest = omega (arith, variables_longer xs (t.Sign s.Arrow ∷ spell e rest), spell_longer e rest)
+  arms_longer (NextArm k xs e arms) rest =
+      omega (arith, variables_longer xs (t.Sign s.Arrow ∷ spell e (t.Sign s.Semicolon ∷ spell_arms arms rest)), spell_longer e (t.Sign s.Semicolon ∷ spell_arms arms rest), arms_longer arms rest)
+
+pub parse_shrinks : (at : Places) (n : ℕ) (m : Mode) → Shrinks (parse at n m)
+parse_shrinks at n m ts = record { by = λ e rest eq. let o = (parse_sound at n m ts).by e rest eq in omega (arith, ap length o.spelled, spell_longer e rest) }
+
+pub var_shrinks : (at : Places) → Shrinks (var_at at)
+var_shrinks at ts = record { by = λ x rest eq. let o = (var_holds at ts).by x rest eq in omega (arith, ap length o.spelled) }
+
+pub type_shrinks : (at : Places) → Shrinks (type_at at)
+type_shrinks at ts = record { by = λ x rest eq. let o = (type_holds at ts).by x rest eq in omega (arith, ap length o.spelled, type_longer x rest) }
+
+pub arm_shrinks : (at : Places) (n : ℕ) → Shrinks (arm_at at (parse at n Any))
+arm_shrinks at n ts = record {
+  by = λ arm rest eq.
+      let o = (arm_sound at n (parse at n Any) (parse_sound at n Any) ts).by arm rest eq in
+      omega (arith, ap length o.spelled, variables_longer arm.variables (t.Sign s.Arrow ∷ spell arm.body rest), spell_longer arm.body rest);
+}
+
+pub next_shrinks : (at : Places) (n : ℕ) → Shrinks (next_arm_at at (parse at n Any))
+next_shrinks at n ts = record {
+  by = λ arm rest eq.
+      let o = (next_sound at n (parse at n Any) (parse_sound at n Any) ts).by arm rest eq in
+      omega (arith, ap length o.semicolon, ap length o.is_arm.spelled, variables_longer arm.variables (t.Sign s.Arrow ∷ spell arm.body rest), spell_longer arm.body rest);
+}

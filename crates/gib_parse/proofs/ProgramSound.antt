@@ -1,0 +1,290 @@
+-- Declarations and programs that are read are spelled so, and stand there.
+use Rattle.std.proofs.Common.{◌≡◌, ◌≢◌, ℕ, suc, ◌<◌, ◌≤◌, List, [], ◌∷◌, length, refl, ap, ◌∙◌, subst, arith}
+use Rattle.std.specs.List.{AllByRecursion}
+use Rattle.gib_base.specs.declared.token.Sign.TheVariants as s
+use Rattle.gib_base.specs.declared.token.Token.{Token}
+use Rattle.gib_base.specs.declared.token.Token.TheVariants as t
+use Rattle.gib_syntax.specs.declared.tree.TypeName.{TypeName}
+use Rattle.gib_syntax.specs.declared.tree.Parameter.{Parameter}
+use Rattle.gib_syntax.specs.Tree.{Expression, ConstructorTree, DataTree, FunctionTree, MainTree, ProgramTree}
+use Rattle.gib_syntax.specs.Spelling.{Places, AreTypesAt, IsConstructorAt, AreConstructorsAt, IsDataAt, AreDatasAt, IsParameterAt, AreParametersAt, IsBodyAt, IsFunctionAt, AreFunctionsAt, IsMainAt, IsPlacedProgram, IsFine, IsFineFunction, IsFineProgram, HasConstructor, levels, levels_functions, levels_program, Derives, spell, spell_type, spell_types, spell_constructor, spell_more, spell_constructors, spell_data, spell_datas, spell_parameter, spell_parameters, spell_body, spell_function, spell_functions, spell_main, spell_program}
+use Rattle.gib_parse.specs.Reading.{At, Any, type_at, starts_type, is_sign, constructor_at, alternative_at, constructors_at, data_at, parameter_at, parameters_at, BodyTree, body_at, function_at, main_at, program_at, ends_at, whole_in, parse}
+use Rattle.gib_parse.proofs.Tools.{Holds, holds_ok, holds_err, then_holds, want_holds, var_holds, con_holds, type_holds, IsType}
+use Rattle.gib_parse.proofs.Many.{Chain, many_sound, Shrinks}
+use Rattle.gib_parse.proofs.Sound.{parse_sound, onward}
+use Rattle.gib_parse.proofs.Longer.{type_longer, spell_longer}
+
+-- ---- data declarations
+
+types_sound : (at : Places) (xs : List TypeName) (ts rest : List Token) → Chain (IsType at) ts xs rest → (ts ≡ spell_types xs rest) × AreTypesAt at xs rest
+types_sound at [] ts rest c = (c, tt)
+types_sound at (x ∷ xs) ts rest c =
+    let more = types_sound at xs c.0 rest c.2 in
+    let first = subst (λ (r : List Token). IsType at ts x r) more.0 c.1 in
+    (first.spelled, (first.placed, more.1))
+
+pub record SoundConstructor (at : Places) (ts : List Token) (c : ConstructorTree) (rest : List Token) : Type 0 where
+  pub spelled : ts ≡ spell_constructor c rest
+  pub placed : IsConstructorAt at c rest
+
+pub constructor_sound : (at : Places) (ts : List Token) → Holds (constructor_at at ts) (SoundConstructor at ts)
+unfolding constructor_at
+constructor_sound at ts =
+    then_holds (con_holds at ts) (λ k r1 p1. then_holds (many_sound (IsType at) starts_type (type_at at) (type_holds at) r1) (λ fields r2 c2.
+    let p2 = types_sound at fields r1 r2 c2 in
+    holds_ok (record { name = k; fields = fields }) r2 (record {
+      spelled = p1.spelled ∙ ap (λ l. t.Constructor k.name ∷ l) p2.0;
+      placed = (p1.placed ∙ ap (λ l. at (suc (length l))) p2.0, p2.1);
+    })))
+
+-- A further constructor, behind its bar.
+pub record SoundAlternative (at : Places) (ts : List Token) (c : ConstructorTree) (rest : List Token) : Type 0 where
+  pub behind : List Token
+  pub bar : ts ≡ t.Sign s.Bar ∷ behind
+  pub is_one : SoundConstructor at behind c rest
+
+pub alternative_sound : (at : Places) (ts : List Token) → Holds (alternative_at at ts) (SoundAlternative at ts)
+unfolding alternative_at
+alternative_sound at ts = then_holds (want_holds s.Bar ts) (λ _ r1 p1. record { by = λ c rest e. record { behind = r1; bar = p1; is_one = (constructor_sound at r1).by c rest e } })
+
+constructor_onward : (at : Places) (ts : List Token) (c : ConstructorTree) (r r' : List Token) → r ≡ r' → SoundConstructor at ts c r → SoundConstructor at ts c r'
+constructor_onward at ts c r r' e h = subst (λ (x : List Token). SoundConstructor at ts c x) e h
+
+more_sound : (at : Places) (cs : List ConstructorTree) (ts rest : List Token) → Chain (SoundAlternative at) ts cs rest → (ts ≡ spell_more cs rest) × AreConstructorsAt at cs rest
+more_sound at [] ts rest c = (c, tt)
+more_sound at (x ∷ xs) ts rest c =
+    let more = more_sound at xs c.0 rest c.2 in
+    let first = constructor_onward at c.1.behind x c.0 (spell_more xs rest) more.0 c.1.is_one in
+    (c.1.bar ∙ ap (λ l. t.Sign s.Bar ∷ l) first.spelled, (first.placed, more.1))
+
+pub record SoundConstructors (at : Places) (ts : List Token) (cs : List ConstructorTree) (rest : List Token) : Type 0 where
+  pub spelled : ts ≡ spell_constructors cs rest
+  pub some : cs ≢ []
+  pub placed : AreConstructorsAt at cs rest
+
+pub constructors_sound : (at : Places) (ts : List Token) → Holds (constructors_at at ts) (SoundConstructors at ts)
+unfolding constructors_at
+constructors_sound at ts =
+    then_holds (constructor_sound at ts) (λ c r1 p1. then_holds (many_sound (SoundAlternative at) (is_sign s.Bar) (alternative_at at) (alternative_sound at) r1) (λ cs r2 c2.
+    let p2 = more_sound at cs r1 r2 c2 in
+    let first = constructor_onward at ts c r1 (spell_more cs r2) p2.0 p1 in
+    holds_ok (c ∷ cs) r2 (record { spelled = first.spelled; some = λ e. cc; placed = (first.placed, p2.1) })))
+
+pub record SoundData (at : Places) (ts : List Token) (d : DataTree) (rest : List Token) : Type 0 where
+  pub spelled : ts ≡ spell_data d rest
+  pub fine : HasConstructor d
+  pub placed : IsDataAt at d rest
+
+pub data_sound : (at : Places) (ts : List Token) → Holds (data_at at ts) (SoundData at ts)
+unfolding data_at
+data_sound at ts =
+    then_holds (want_holds s.Data ts) (λ _ r1 p1. then_holds (con_holds at r1) (λ d r2 p2. then_holds (want_holds s.Equals r2) (λ _ r3 p3. then_holds (constructors_sound at r3) (λ cs r4 p4. then_holds (want_holds s.Semicolon r4) (λ _ r5 p5.
+    let p4' = subst (λ (r : List Token). SoundConstructors at r3 cs r) p5 p4 in
+    let e2 : r2 ≡ t.Sign s.Equals ∷ spell_constructors cs (t.Sign s.Semicolon ∷ r5) = p3 ∙ ap (λ l. t.Sign s.Equals ∷ l) p4'.spelled in
+    holds_ok (record { name = d; constructors = cs }) r5 (record {
+      spelled = p1 ∙ ap (λ l. t.Sign s.Data ∷ l) (p2.spelled ∙ ap (λ l. t.Constructor d.name ∷ l) e2);
+      fine = p4'.some;
+      placed = (p2.placed ∙ ap (λ l. at (suc (length l))) e2, p4'.placed);
+    }))))))
+
+pub record SoundDatas (at : Places) (ts : List Token) (ds : List DataTree) (rest : List Token) : Type 0 where
+  pub spelled : ts ≡ spell_datas ds rest
+  pub fine : AllByRecursion HasConstructor ds
+  pub placed : AreDatasAt at ds rest
+
+pub datas_sound : (at : Places) (ds : List DataTree) (ts rest : List Token) → Chain (SoundData at) ts ds rest → SoundDatas at ts ds rest
+datas_sound at [] ts rest c = record { spelled = c; fine = tt; placed = tt }
+datas_sound at (d ∷ ds) ts rest c =
+    let more = datas_sound at ds c.0 rest c.2 in
+    let first = subst (λ (r : List Token). SoundData at ts d r) more.spelled c.1 in
+    record { spelled = first.spelled; fine = (first.fine, more.fine); placed = (first.placed, more.placed) }
+
+-- ---- functions
+
+pub record SoundParameter (at : Places) (ts : List Token) (q : Parameter) (rest : List Token) : Type 0 where
+  pub spelled : ts ≡ spell_parameter q rest
+  pub placed : IsParameterAt at q rest
+
+pub parameter_sound : (at : Places) (ts : List Token) → Holds (parameter_at at ts) (SoundParameter at ts)
+unfolding parameter_at
+parameter_sound at ts =
+    then_holds (want_holds s.Open ts) (λ _ r1 p1. then_holds (var_holds at r1) (λ x r2 p2. then_holds (want_holds s.Colon r2) (λ _ r3 p3. then_holds (type_holds at r3) (λ a r4 p4. then_holds (want_holds s.Close r4) (λ _ r5 p5.
+    let p4' = subst (λ (r : List Token). IsType at r3 a r) p5 p4 in
+    let e2 : r2 ≡ t.Sign s.Colon ∷ spell_type a (t.Sign s.Close ∷ r5) = p3 ∙ ap (λ l. t.Sign s.Colon ∷ l) p4'.spelled in
+    holds_ok (record { name = x; ty = a }) r5 (record {
+      spelled = p1 ∙ ap (λ l. t.Sign s.Open ∷ l) (p2.spelled ∙ ap (λ l. t.Variable x.name ∷ l) e2);
+      placed = (p2.placed ∙ ap (λ l. at (suc (length l))) e2, p4'.placed);
+    }))))))
+
+parameter_onward : (at : Places) (ts : List Token) (q : Parameter) (r r' : List Token) → r ≡ r' → SoundParameter at ts q r → SoundParameter at ts q r'
+parameter_onward at ts q r r' e h = subst (λ (x : List Token). SoundParameter at ts q x) e h
+
+chain_parameters : (at : Places) (qs : List Parameter) (ts rest : List Token) → Chain (SoundParameter at) ts qs rest → (ts ≡ spell_parameters qs rest) × AreParametersAt at qs rest
+chain_parameters at [] ts rest c = (c, tt)
+chain_parameters at (q ∷ qs) ts rest c =
+    let more = chain_parameters at qs c.0 rest c.2 in
+    let first = parameter_onward at ts q c.0 (spell_parameters qs rest) more.0 c.1 in
+    (first.spelled, (first.placed, more.1))
+
+pub record SoundParameters (at : Places) (ts : List Token) (qs : List Parameter) (rest : List Token) : Type 0 where
+  pub spelled : ts ≡ spell_parameters qs rest
+  pub some : qs ≢ []
+  pub placed : AreParametersAt at qs rest
+
+pub parameters_sound : (at : Places) (ts : List Token) → Holds (parameters_at at ts) (SoundParameters at ts)
+unfolding parameters_at
+parameters_sound at ts =
+    then_holds (parameter_sound at ts) (λ q r1 p1. then_holds (many_sound (SoundParameter at) (is_sign s.Open) (parameter_at at) (parameter_sound at) r1) (λ qs r2 c2.
+    let p2 = chain_parameters at qs r1 r2 c2 in
+    let first = parameter_onward at ts q r1 (spell_parameters qs r2) p2.0 p1 in
+    holds_ok (q ∷ qs) r2 (record { spelled = first.spelled; some = λ e. cc; placed = (first.placed, p2.1) })))
+
+pub record SoundBody (at : Places) (l : ℕ) (ts : List Token) (b : BodyTree) (rest : List Token) : Type 0 where
+  pub spelled : ts ≡ spell_body b.result b.body rest
+  pub fine : IsFine b.body
+  pub level : levels b.body ≤ l
+  pub placed : IsBodyAt at b.result b.body rest
+
+pub body_sound : (at : Places) (l : ℕ) (ts : List Token) → Holds (body_at at (parse at l Any) ts) (SoundBody at l ts)
+unfolding body_at
+body_sound at l ts =
+    then_holds (want_holds s.Colon ts) (λ _ r1 p1. then_holds (type_holds at r1) (λ a r2 p2. then_holds (want_holds s.Equals r2) (λ _ r3 p3. then_holds (parse_sound at l Any r3) (λ e r4 p4. then_holds (want_holds s.Semicolon r4) (λ _ r5 p5.
+    let p4' = onward at l Any r3 e r4 (t.Sign s.Semicolon ∷ r5) p5 p4 in
+    let p2' = subst (λ (r : List Token). IsType at r1 a r) (p3 ∙ ap (λ l. t.Sign s.Equals ∷ l) p4'.spelled) p2 in
+    holds_ok (record { result = a; body = e }) r5 (record {
+      spelled = p1 ∙ ap (λ l. t.Sign s.Colon ∷ l) p2'.spelled;
+      fine = p4'.fine;
+      level = p4'.level;
+      placed = (p2'.placed, p4'.placed);
+    }))))))
+
+pub record SoundFunction (at : Places) (l : ℕ) (ts : List Token) (f : FunctionTree) (rest : List Token) : Type 0 where
+  pub spelled : ts ≡ spell_function f rest
+  pub fine : IsFineFunction f
+  pub level : levels f.body ≤ l
+  pub placed : IsFunctionAt at f rest
+
+pub function_sound : (at : Places) (l : ℕ) (ts : List Token) → Holds (function_at at (parse at l Any) ts) (SoundFunction at l ts)
+unfolding function_at
+function_sound at l ts =
+    then_holds (want_holds s.Fun ts) (λ _ r1 p1. then_holds (var_holds at r1) (λ f r2 p2. then_holds (parameters_sound at r2) (λ qs r3 p3. then_holds (body_sound at l r3) (λ b r4 p4.
+    let p3' = subst (λ (r : List Token). SoundParameters at r2 qs r) p4.spelled p3 in
+    holds_ok (record { name = f; parameters = qs; result = b.result; body = b.body }) r4 (record {
+      spelled = p1 ∙ ap (λ l. t.Sign s.Fun ∷ l) (p2.spelled ∙ ap (λ l. t.Variable f.name ∷ l) p3'.spelled);
+      fine = (p3'.some, p4.fine);
+      level = p4.level;
+      placed = (p2.placed ∙ ap (λ l. at (suc (length l))) p3'.spelled, p3'.placed, p4.placed);
+    })))))
+
+pub record SoundFunctions (at : Places) (l : ℕ) (ts : List Token) (fs : List FunctionTree) (rest : List Token) : Type 0 where
+  pub spelled : ts ≡ spell_functions fs rest
+  pub fine : AllByRecursion IsFineFunction fs
+  pub level : levels_functions fs ≤ l
+  pub placed : AreFunctionsAt at fs rest
+
+pub functions_sound : (at : Places) (l : ℕ) (fs : List FunctionTree) (ts rest : List Token) → Chain (SoundFunction at l) ts fs rest → SoundFunctions at l ts fs rest
+functions_sound at l [] ts rest c = record { spelled = c; fine = tt; level = omega arith; placed = tt }
+functions_sound at l (f ∷ fs) ts rest c =
+    let more = functions_sound at l fs c.0 rest c.2 in
+    let first = subst (λ (r : List Token). SoundFunction at l ts f r) more.spelled c.1 in
+    record { spelled = first.spelled; fine = (first.fine, more.fine); level = (let a = first.level in let b = more.level in omega arith); placed = (first.placed, more.placed) }
+
+-- ---- main and the whole
+
+pub record SoundMain (at : Places) (l : ℕ) (ts : List Token) (m : MainTree) (rest : List Token) : Type 0 where
+  pub spelled : ts ≡ spell_main m rest
+  pub fine : IsFine m.body
+  pub level : levels m.body ≤ l
+  pub placed : IsMainAt at m rest
+
+main_sound : (at : Places) (l : ℕ) (ts : List Token) → Holds (main_at at (parse at l Any) ts) (SoundMain at l ts)
+unfolding main_at
+main_sound at l ts =
+    then_holds (want_holds s.Main ts) (λ _ r1 p1. then_holds (parameter_sound at r1) (λ q r2 p2. then_holds (body_sound at l r2) (λ b r3 p3.
+    let p2' = parameter_onward at r1 q r2 (spell_body b.result b.body r3) p3.spelled p2 in
+    holds_ok (record { parameter = q; result = b.result; body = b.body }) r3 (record {
+      spelled = p1 ∙ ap (λ l. t.Sign s.Main ∷ l) p2'.spelled;
+      fine = p3.fine;
+      level = p3.level;
+      placed = (p2'.placed, p3.placed);
+    }))))
+
+-- What reading the whole tells.
+pub record IsWhole (l : ℕ) (at : Places) (ts : List Token) (g : ProgramTree) (rest : List Token) : Type 0 where
+  pub derived : Derives ts g
+  pub level : levels_program g ≤ l
+  pub placed : IsPlacedProgram at g
+  pub left : rest ≡ []
+
+pub record SoundProgram (at : Places) (l : ℕ) (ts : List Token) (g : ProgramTree) (rest : List Token) : Type 0 where
+  pub spelled : ts ≡ spell_program g rest
+  pub fine : IsFineProgram g
+  pub level : levels_program g ≤ l
+  pub datas : AreDatasAt at g.datas (spell_functions g.functions (spell_main g.main rest))
+  pub functions : AreFunctionsAt at g.functions (spell_main g.main rest)
+  pub main : IsMainAt at g.main rest
+
+pub program_sound : (at : Places) (l : ℕ) (ts : List Token) → Holds (program_at at (parse at l Any) ts) (SoundProgram at l ts)
+unfolding program_at
+program_sound at l ts =
+    then_holds (many_sound (SoundData at) (is_sign s.Data) (data_at at) (data_sound at) ts) (λ ds r1 c1. then_holds (many_sound (SoundFunction at l) (is_sign s.Fun) (function_at at (parse at l Any)) (function_sound at l) r1) (λ fs r2 c2. then_holds (main_sound at l r2) (λ m r3 p3.
+    let p2 = functions_sound at l fs r1 r2 c2 in
+    let p2' = subst (λ (r : List Token). SoundFunctions at l r1 fs r) p3.spelled p2 in
+    let p1 = datas_sound at ds ts r1 c1 in
+    let p1' = subst (λ (r : List Token). SoundDatas at ts ds r) p2'.spelled p1 in
+    holds_ok (record { datas = ds; functions = fs; main = m }) r3 (record {
+      spelled = p1'.spelled;
+      fine = record { datas = p1'.fine; functions = p2'.fine; main = p3.fine };
+      level = (let a = p2'.level in let b = p3.level in omega arith);
+      datas = p1'.placed;
+      functions = p2'.placed;
+      main = p3.placed;
+    }))))
+
+ends_sound : (at : Places) (l : ℕ) (ts : List Token) (g : ProgramTree) (rest : List Token) → SoundProgram at l ts g rest → Holds (ends_at g rest) (IsWhole l at ts)
+ends_sound at l ts g [] p = holds_ok g [] (record { derived = record { fine = p.fine; spelled = p.spelled }; level = p.level; placed = record { datas = p.datas; functions = p.functions; main = p.main }; left = refl })
+ends_sound at l ts g (x ∷ rest) p = holds_err (At (suc (length rest)))
+
+pub whole_sound : (l : ℕ) (at : Places) (ts : List Token) → Holds (whole_in l at ts) (IsWhole l at ts)
+unfolding whole_in
+whole_sound l at ts = then_holds (program_sound at l ts) (λ g rest p. ends_sound at l ts g rest p)
+
+-- ---- the readers of declarations take tokens
+
+types_longer : (xs : List TypeName) (rest : List Token) → length rest ≤ length (spell_types xs rest)
+types_longer [] rest = omega arith
+types_longer (x ∷ xs) rest = omega (arith, type_longer x (spell_types xs rest), types_longer xs rest)
+
+more_longer : (cs : List ConstructorTree) (rest : List Token) → length rest ≤ length (spell_more cs rest)
+more_longer [] rest = omega arith
+more_longer (c ∷ cs) rest = omega (arith, types_longer c.fields (spell_more cs rest), more_longer cs rest)
+
+constructors_longer : (cs : List ConstructorTree) (rest : List Token) → length rest ≤ length (spell_constructors cs rest)
+constructors_longer [] rest = omega arith
+constructors_longer (c ∷ cs) rest = omega (arith, types_longer c.fields (spell_more cs rest), more_longer cs rest)
+
+parameter_longer : (q : Parameter) (rest : List Token) → length rest < length (spell_parameter q rest)
+parameter_longer q rest = omega (arith, type_longer q.ty (t.Sign s.Close ∷ rest))
+
+parameters_longer : (qs : List Parameter) (rest : List Token) → length rest ≤ length (spell_parameters qs rest)
+parameters_longer [] rest = omega arith
+parameters_longer (q ∷ qs) rest = omega (arith, parameter_longer q (spell_parameters qs rest), parameters_longer qs rest)
+
+body_longer : (a : TypeName) (e : Expression) (rest : List Token) → length rest < length (spell_body a e rest)
+body_longer a e rest = omega (arith, type_longer a (t.Sign s.Equals ∷ spell e (t.Sign s.Semicolon ∷ rest)), spell_longer e (t.Sign s.Semicolon ∷ rest))
+
+pub alternative_shrinks : (at : Places) → Shrinks (alternative_at at)
+alternative_shrinks at ts = record { by = λ c rest eq. let o = (alternative_sound at ts).by c rest eq in omega (arith, ap length o.bar, ap length o.is_one.spelled, types_longer c.fields rest) }
+
+pub data_shrinks : (at : Places) → Shrinks (data_at at)
+data_shrinks at ts = record { by = λ d rest eq. let o = (data_sound at ts).by d rest eq in omega (arith, ap length o.spelled, constructors_longer d.constructors (t.Sign s.Semicolon ∷ rest)) }
+
+pub parameter_shrinks : (at : Places) → Shrinks (parameter_at at)
+parameter_shrinks at ts = record { by = λ q rest eq. let o = (parameter_sound at ts).by q rest eq in omega (arith, ap length o.spelled, parameter_longer q rest) }
+
+pub function_shrinks : (at : Places) (l : ℕ) → Shrinks (function_at at (parse at l Any))
+function_shrinks at l ts = record {
+  by = λ f rest eq.
+      let o = (function_sound at l ts).by f rest eq in
+      omega (arith, ap length o.spelled, parameters_longer f.parameters (spell_body f.result f.body rest), body_longer f.result f.body rest);
+}

@@ -1,0 +1,124 @@
+-- What reading the whole tells.
+use Rattle.std.proofs.Common.{◌≡◌, ℕ, zero, suc, ◌+◌, ◌<◌, ◌≤◌, ◌-◌, max, List, [], ◌∷◌, ◌++◌, length, take, refl, sym, ap, ◌∙◌, subst, arith, length-append, append_assoc, ◌⊎◌, inl, inr}
+use Rattle.std.proofs.lemmas.List.{take_at}
+use Rattle.std.proofs.lemmas.Bool.{cases_lt}
+use Rattle.gib_base.specs.declared.token.Token.{Token}
+use Rattle.gib_base.specs.declared.token.Token.TheVariants as t
+use Rattle.gib_syntax.specs.Tree.{ProgramTree}
+use Rattle.gib_syntax.specs.Spelling.{Places, IsPlacedProgram, levels_program, Derives, Blames}
+use Rattle.gib_parse.specs.Reading.{At, Nested, Read, whole_in, Deepens}
+use Rattle.gib_parse.proofs.Tools.{done, failed}
+use Rattle.gib_parse.proofs.Come.{Comes, Came, Sank, comes_at}
+use Rattle.gib_parse.proofs.Local.{Kind, Refused, Deep, fault}
+use Rattle.gib_parse.proofs.ProgramSound.{IsWhole, whole_sound}
+use Rattle.gib_parse.proofs.ProgramSettle.{settle_program, program_stays}
+use Rattle.gib_parse.proofs.ProgramComplete.{whole_comes}
+use Rattle.gib_parse.proofs.ProgramLocal.{whole_local}
+
+-- ---- what is read
+
+pub whole_reads : (l : ℕ) (at : Places) (ts : List Token) (g : ProgramTree) (rest : List Token) → whole_in l at ts ≡ done g rest → IsWhole l at ts g rest
+whole_reads l at ts g rest e = (whole_sound l at ts).by g rest e
+
+-- ---- what is a program
+
+pub derived_comes : (l : ℕ) (at : Places) (ts : List Token) (g : ProgramTree) → Derives ts g → Comes (l < levels_program g) (whole_in l at ts) (settle_program at g) []
+derived_comes l at ts g d = comes_at (ap (whole_in l at) d.spelled) (whole_comes at l g d.fine)
+
+came : {A : Type 0} {D : Type 0} {r : Read A} {a : A} {rest : List Token} → Comes D r a rest → (D → ⊥) → r ≡ done a rest
+came (Came e) n = e
+came (Sank k e d) n = absurd (n d)
+
+pub derived_is_read : (l : ℕ) (at : Places) (ts : List Token) (g : ProgramTree) → Derives ts g → levels_program g ≤ l → whole_in l at ts ≡ done (settle_program at g) []
+derived_is_read l at ts g d le = came (derived_comes l at ts g d) (λ lt. omega arith)
+
+pub placed_is_read : (l : ℕ) (at : Places) (ts : List Token) (g : ProgramTree) → Derives ts g → IsPlacedProgram at g → levels_program g ≤ l → whole_in l at ts ≡ done g []
+placed_is_read l at ts g d p le =
+    let nothing : List Token = [] in
+    derived_is_read l at ts g d le ∙ ap (λ (q : ProgramTree). done q nothing) (program_stays at g p)
+
+done_is : {A : Type 0} (a b : A) (l m : List Token) → done a l ≡ done b m → a ≡ b
+done_is {A = A} a b l m e = ap (λ (x : A × List Token). x.0) (both (a, l) (b, m) e) where
+  both : (x y : A × List Token) → done x.0 x.1 ≡ done y.0 y.1 → x ≡ y
+  both x y e = cc
+
+pub one_program_lem : (at : Places) (tokens : List Token) (p q : ProgramTree) → Derives tokens p → Derives tokens q → IsPlacedProgram at p → IsPlacedProgram at q → p ≡ q
+one_program_lem at tokens p q dp dq pp pq =
+    let l = max (levels_program p) (levels_program q) in
+    let nothing : List Token = [] in
+    done_is p q nothing nothing (sym (placed_is_read l at tokens p dp pp (omega arith)) ∙ placed_is_read l at tokens q dq pq (omega arith))
+
+-- ---- what is refused
+
+-- What a fault tells of a program that was to come.
+abbrev Means : Kind → Type 0 → Type 0
+Means Refused deep = ⊥
+Means Deep deep = deep
+
+came_fails : {A : Type 0} (c : Kind) (k : ℕ) (a : A) (rest : List Token) → done a rest ≡ failed (fault c k) → ⊥
+came_fails Refused k a rest e = cc
+came_fails Deep k a rest e = cc
+
+nested_refused : {A : Type 0} (j k : ℕ) → failed {A = A} (Nested j) ≡ failed (At k) → ⊥
+nested_refused j k e = cc
+
+means : {A : Type 0} {D : Type 0} {r : Read A} {a : A} {rest : List Token} (c : Kind) (k : ℕ) → Comes D r a rest → r ≡ failed (fault c k) → Means c D
+means {a = a} {rest = rest} c k (Came e) f = absurd (came_fails c k a rest (sym e ∙ f))
+means {A = A} Refused k (Sank j e d) f = absurd (nested_refused {A = A} j k (sym e ∙ f))
+means Deep k (Sank j e d) f = d
+
+-- The places of a text in which other tokens follow.
+abbrev moved : Places → List Token → List Token → Places
+moved at xs ys k = at ((k + length xs) - length ys)
+
+moved_is : (at : Places) (xs ys : List Token) (k : ℕ) → moved at xs ys (k + length ys) ≡ at (k + length xs)
+moved_is at xs ys k = let e : (k + length ys + length xs) - length ys ≡ k + length xs = omega arith in ap at e
+
+fault_here : (l : ℕ) (at : Places) (c : Kind) (front : List Token) (tok : Token) (xs more : List Token) → whole_in l at (front ++ tok ∷ xs) ≡ failed (fault c (suc (length xs))) → (g : ProgramTree) → Derives (front ++ tok ∷ more) g → Means c (l < levels_program g)
+fault_here l at c front tok xs more e g d =
+    let at' = moved at xs more in
+    let there = (whole_local tok xs more at at' (moved_is at xs more) l (front ++ tok ∷ xs)).bad_same (front ++ tok ∷ more) (record { front = front; here = refl; there = refl }) c e in
+    means c (suc (length more)) (derived_comes l at' (front ++ tok ∷ more) g d) there
+
+-- The token at which so many are left.
+abbrev Splits : List Token → ℕ → Type 0
+Splits ts k = (front : List Token) × (tok : Token) × (xs : List Token) × (ts ≡ front ++ tok ∷ xs) × (length xs ≡ k)
+
+split_at : (ts : List Token) (k : ℕ) → k < length ts → Splits ts k
+split_at [] k lt = absurd (omega arith)
+split_at (c ∷ ts) k lt = go (split_at ts k) (cases_lt k (length ts)) where
+  go : (k < length ts → Splits ts k) → (k < length ts) ⊎ (length ts ≤ k) → Splits (c ∷ ts) k
+  go again (inl lt') = let r = again lt' in (c ∷ r.0, r.1, r.2, ap (λ l. c ∷ l) r.3, r.4)
+  go again (inr le) = ([], c, ts, refl, omega arith)
+
+front_of : (front : List Token) (tok : Token) (xs more : List Token) → take (length (front ++ tok ∷ xs) - length xs) (front ++ tok ∷ xs) ++ more ≡ front ++ tok ∷ more
+front_of front tok xs more =
+    let grouped : front ++ tok ∷ xs ≡ (front ++ tok ∷ []) ++ xs = sym (append_assoc front (tok ∷ []) xs) in
+    let len : length (front ++ tok ∷ []) ≡ length (front ++ tok ∷ xs) - length xs = omega (arith, length-append front (tok ∷ []), length-append front (tok ∷ xs)) in
+    ap (λ l. take (length (front ++ tok ∷ xs) - length xs) l ++ more) grouped
+    ∙ ap (λ l. l ++ more) (take_at (front ++ tok ∷ []) xs (length (front ++ tok ∷ xs) - length xs) len)
+    ∙ append_assoc front (tok ∷ []) more
+
+fault_split : (l : ℕ) (at : Places) (c : Kind) (k : ℕ) (ts : List Token) → whole_in l at ts ≡ failed (fault c (suc k)) → Splits ts k → (g : ProgramTree) (more : List Token) → Derives (take (length ts - k) ts ++ more) g → Means c (l < levels_program g)
+fault_split l at c k ts e r g more d =
+    let front = r.0 in let tok = r.1 in let xs = r.2 in
+    let here : whole_in l at (front ++ tok ∷ xs) ≡ failed (fault c (suc (length xs))) = ap (whole_in l at) (sym r.3) ∙ e ∙ ap (λ (n : ℕ). failed (fault c (suc n))) (sym r.4) in
+    let P : List Token → ℕ → Type 0 = λ v n. Derives (take (length v - n) v ++ more) g in
+    let d1 : P (front ++ tok ∷ xs) k = subst (λ (v : List Token). P v k) r.3 d in
+    let d2 : P (front ++ tok ∷ xs) (length xs) = subst (λ (n : ℕ). P (front ++ tok ∷ xs) n) (sym r.4) d1 in
+    fault_here l at c front tok xs more here g (subst (λ (v : List Token). Derives v g) (front_of front tok xs more) d2)
+
+same_places : (at : Places) (k : ℕ) → let none : List Token = [] in at (k + length none) ≡ at (k + length none)
+same_places at k = refl
+
+-- A fault stands at a token, or behind the last one.
+pub whole_within : (l : ℕ) (at : Places) (c : Kind) (ts : List Token) (k : ℕ) → whole_in l at ts ≡ failed (fault c k) → k ≤ length ts
+whole_within l at c ts k e = (whole_local (t.Number 0) [] [] at at (same_places at) l ts).bad_within c k e
+
+pub whole_blames : (l : ℕ) (at : Places) (ts : List Token) (k : ℕ) → whole_in l at ts ≡ failed (At k) → Blames ts k
+whole_blames l at ts zero e = λ g d. means Refused 0 (derived_comes l at ts g d) e
+whole_blames l at ts (suc k) e = λ g more d. fault_split l at Refused k ts e (split_at ts k (let le = whole_within l at Refused ts (suc k) e in omega arith)) g more d
+
+pub whole_deepens : (at : Places) (ts : List Token) (k : ℕ) → whole_in 200 at ts ≡ failed (Nested k) → Deepens ts k
+whole_deepens at ts zero e = λ g d. means Deep 0 (derived_comes 200 at ts g d) e
+whole_deepens at ts (suc k) e = λ g more d. fault_split 200 at Deep k ts e (split_at ts k (let le = whole_within 200 at Deep ts (suc k) e in omega arith)) g more d

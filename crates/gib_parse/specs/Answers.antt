@@ -1,0 +1,73 @@
+-- What parsing answers, by the tokens of a text, their spans and the text's length.
+use Rattle.std.specs.Prelude.{◌≡◌, ◌≤◌, ℕ, zero, suc, List, [], length, Result, Ok, Err}
+use Rattle.gib_base.specs.declared.Span.{Span}
+use Rattle.gib_base.specs.Lexed.{Lexed}
+use Rattle.gib_syntax.specs.Tree.{ProgramTree}
+use Rattle.gib_syntax.specs.Spelling.{places_of, Blames}
+use Rattle.gib_syntax.specs.Parts.{Parts, program_of}
+use Rattle.gib_parse.specs.declared.fault.ParseFault.{ParseFault}
+use Rattle.gib_parse.specs.declared.fault.ParseFault.TheVariants as fault
+use Rattle.gib_parse.specs.declared.stop.Stop.{Stop}
+use Rattle.gib_parse.specs.declared.stop.Stop.TheVariants as stop
+use Rattle.gib_parse.specs.Reading.{At, Nested, Read, whole, Deepens, Begun}
+
+-- The place of the token from which so many are left: its first byte; with none left, the text's length.
+abbrev pub place_in : List Span → ℕ → ℕ → ℕ
+place_in spans len zero = len
+place_in spans len (suc k) = (places_of spans (suc k)).start
+
+abbrev pub place_of : Lexed → ℕ → ℕ
+place_of l left = place_in l.spans l.len left
+
+-- What is read of the tokens.
+abbrev pub read_of : Lexed → Read ProgramTree
+read_of l = whole (places_of l.spans) l.tokens
+
+-- Reading finds a token that may not stand at this place.
+pub record IsRefusedAt (l : Lexed) (place : ℕ) : Type 0 where
+  pub left : ℕ
+  pub read : read_of l ≡ Err (At left)
+  pub here : place ≡ place_of l left
+
+-- Reading finds an expression nested too deep at this place.
+pub record IsNestedAt (l : Lexed) (place : ℕ) : Type 0 where
+  pub left : ℕ
+  pub read : read_of l ≡ Err (Nested left)
+  pub here : place ≡ place_of l left
+
+-- The answer is what is read, unless memory ran out.
+abbrev pub AnswersRead : Lexed → Result Parts ParseFault → Type 0
+AnswersRead l (Ok p) = read_of l ≡ Ok (program_of p, [])
+AnswersRead l (Err fault.Memory) = Unit {0}
+AnswersRead l (Err (fault.At place)) = IsRefusedAt l place
+AnswersRead l (Err (fault.Nested place)) = IsNestedAt l place
+
+-- At this place stands the first token such that no program's tokens begin with the tokens up to and
+-- including it; or it is the text's length, and tokens are missing.
+pub record IsBlamedAt (l : Lexed) (place : ℕ) : Type 0 where
+  pub left : ℕ
+  pub within : left ≤ length l.tokens
+  pub blamed : Blames l.tokens left
+  pub first : Begun l.tokens left
+  pub here : place ≡ place_of l left
+
+-- At this place stands a token such that each program whose tokens begin with the tokens up to and
+-- including it has more than 200 levels.
+pub record IsTooDeepAt (l : Lexed) (place : ℕ) : Type 0 where
+  pub left : ℕ
+  pub within : left ≤ length l.tokens
+  pub deep : Deepens l.tokens left
+  pub here : place ≡ place_of l left
+
+-- This program is the answer, unless memory ran out.
+abbrev pub AnswersOnly : Result Parts ParseFault → ProgramTree → Type 0
+AnswersOnly (Ok p) g = program_of p ≡ g
+AnswersOnly (Err fault.Memory) g = Unit {0}
+AnswersOnly (Err (fault.At place)) g = ⊥
+AnswersOnly (Err (fault.Nested place)) g = ⊥
+
+-- The fault of a stop.
+abbrev pub fault_of : List Span → ℕ → Stop → ParseFault
+fault_of spans len stop.Memory = fault.Memory
+fault_of spans len (stop.At left) = fault.At (place_in spans len left)
+fault_of spans len (stop.Nested left) = fault.Nested (place_in spans len left)

@@ -1,0 +1,411 @@
+-- Reading tokens from left to right, with the first fault that is met.
+use Rattle.std.specs.Prelude.{ℕ, zero, suc, ◌-◌, ◌^◌, ◌<◌, nat_lt, Bool, true, false, ◌==◌, List, [], ◌∷◌, ◌++◌, length, take, Option, Some, None, Result, Ok, Err}
+use Rattle.gib_base.specs.declared.name.Name.{Name}
+use Rattle.gib_base.specs.declared.Span.{Span}
+use Rattle.gib_base.specs.declared.token.Sign.{Sign}
+use Rattle.gib_base.specs.declared.token.Sign.TheVariants as s
+use Rattle.gib_base.specs.declared.token.Token.{Token}
+use Rattle.gib_base.specs.declared.token.Token.TheVariants as t
+use Rattle.gib_syntax.specs.declared.tree.Ident.{Ident}
+use Rattle.gib_syntax.specs.declared.tree.TypeName.{TypeName}
+use Rattle.gib_syntax.specs.declared.tree.TypeName.TheVariants as ty
+use Rattle.gib_syntax.specs.declared.tree.Parameter.{Parameter}
+use Rattle.gib_syntax.specs.declared.tree.Operator.{Operator}
+use Rattle.gib_syntax.specs.declared.tree.Operator.TheVariants as o
+use Rattle.gib_syntax.specs.Tree.{Expression, Arguments, Arms, Var, Num, Bit, Paren, Op, Call, Make, Let, Par, If, Case, NoArgument, Argument, LastArm, NextArm, ConstructorTree, DataTree, FunctionTree, MainTree, ProgramTree}
+use Rattle.gib_syntax.specs.Spelling.{Places, is_application, Derives, levels_program}
+
+-- A fault, and how many tokens are left from it on: a token that may not stand there, or an expression
+-- nested too deep.
+pub data Fault : Type 0 where
+  At : ℕ → Fault
+  Nested : ℕ → Fault
+
+-- How many tokens are left from a fault on.
+abbrev pub left_of : Fault → ℕ
+left_of (At left) = left
+left_of (Nested left) = left
+
+-- Which expressions may stand at a place: any, those that may be a side of an operation, or those that
+-- may be an argument.
+pub data Mode : Type 0 where
+  Any : Mode
+  App : Mode
+  Atom : Mode
+
+-- What is read, and the tokens after it.
+abbrev pub Read : Type 0 → Type 0
+Read A = Result (A × List Token) Fault
+
+-- A reader of tokens.
+abbrev pub Reader : Type 0 → Type 0
+Reader A = List Token → Read A
+
+-- Read on behind what was read.
+abbrev pub then_at : {A B : Type 0} → Read A → (A → Reader B) → Read B
+then_at (Ok x) f = f x.0 x.1
+then_at (Err e) f = Err e
+
+-- Signs by their numbers, to compare them.
+abbrev pub number_of : Sign → ℕ
+number_of s.Data = 0
+number_of s.Fun = 1
+number_of s.Main = 2
+number_of s.Let = 3
+number_of s.Par = 4
+number_of s.And = 5
+number_of s.In = 6
+number_of s.If = 7
+number_of s.Then = 8
+number_of s.Else = 9
+number_of s.Case = 10
+number_of s.Of = 11
+number_of s.True = 12
+number_of s.False = 13
+number_of s.Int = 14
+number_of s.Bool = 15
+number_of s.Equals = 16
+number_of s.Bar = 17
+number_of s.Semicolon = 18
+number_of s.Open = 19
+number_of s.Close = 20
+number_of s.Colon = 21
+number_of s.OpenBrace = 22
+number_of s.CloseBrace = 23
+number_of s.Arrow = 24
+number_of s.Plus = 25
+number_of s.Minus = 26
+number_of s.Times = 27
+number_of s.Same = 28
+number_of s.Less = 29
+
+-- Whether two signs are one.
+abbrev pub same : Sign → Sign → Bool
+same a b = number_of a == number_of b
+
+-- One token less where it is the wanted one, else a fault at it.
+abbrev pub want_if : Bool → Reader (Unit {0})
+want_if true ts = Ok (tt, ts)
+want_if false ts = Err (At (suc (length ts)))
+
+-- One wanted sign.
+abbrev pub want : Sign → Reader (Unit {0})
+want a (t.Sign b ∷ ts) = want_if (same a b) ts
+want a ts = Err (At (length ts))
+
+-- The span of the token that stands before these.
+abbrev pub before : Places → List Token → Span
+before at ts = at (suc (length ts))
+
+-- The name that stands before these tokens.
+abbrev pub named : Places → Name → List Token → Ident
+named at x ts = record { name = x; span = before at ts }
+
+-- A name that begins with a lower-case letter.
+abbrev pub var_at : Places → Reader Ident
+var_at at (t.Variable x ∷ ts) = Ok (named at x ts, ts)
+var_at at ts = Err (At (length ts))
+
+-- A name that begins with an upper-case letter.
+abbrev pub con_at : Places → Reader Ident
+con_at at (t.Constructor k ∷ ts) = Ok (named at k ts, ts)
+con_at at ts = Err (At (length ts))
+
+-- Whether the next token is one of these.
+abbrev pub next_is : (Token → Bool) → List Token → Bool
+next_is starts [] = false
+next_is starts (x ∷ ts) = starts x
+
+-- One more and what follows it, where one begins.
+abbrev pub many_step : {A : Type 0} → Bool → Reader A → Reader (List A) → Reader (List A)
+many_step false p q ts = Ok ([], ts)
+many_step true p q ts = then_at (p ts) (λ a ts. then_at (q ts) (λ more ts. Ok (a ∷ more, ts)))
+
+-- So many at most.
+unfoldable pub many_at : {A : Type 0} → ℕ → (Token → Bool) → Reader A → Reader (List A)
+many_at zero starts p ts = Ok ([], ts)
+many_at (suc n) starts p ts = many_step (next_is starts ts) p (many_at n starts p) ts
+
+-- As many as begin, one after another.
+unfoldable pub many : {A : Type 0} → (Token → Bool) → Reader A → Reader (List A)
+many starts p ts = many_at (length ts) starts p ts
+
+-- Whether a token is a name that begins with a lower-case letter.
+abbrev pub is_variable : Token → Bool
+is_variable (t.Variable x) = true
+is_variable x = false
+
+-- Whether a token is a type.
+abbrev pub starts_type : Token → Bool
+starts_type (t.Constructor k) = true
+starts_type (t.Sign s.Int) = true
+starts_type (t.Sign s.Bool) = true
+starts_type x = false
+
+-- Whether a number is one of the language.
+abbrev pub is_literal : ℕ → Bool
+is_literal n = nat_lt n (2 ^ 63)
+
+-- Whether a token begins an argument; it is then one that begins a side of an operation too.
+abbrev pub starts_atom : Token → Bool
+starts_atom (t.Variable x) = true
+starts_atom (t.Constructor k) = true
+starts_atom (t.Number n) = is_literal n
+starts_atom (t.Sign s.True) = true
+starts_atom (t.Sign s.False) = true
+starts_atom (t.Sign s.Open) = true
+starts_atom x = false
+
+-- Whether a token begins an expression.
+abbrev pub starts_expression : Token → Bool
+starts_expression (t.Sign s.Let) = true
+starts_expression (t.Sign s.If) = true
+starts_expression (t.Sign s.Case) = true
+starts_expression x = starts_atom x
+
+-- Whether a token begins an expression that may stand there.
+abbrev pub starts : Mode → Token → Bool
+starts Any = starts_expression
+starts App = starts_atom
+starts Atom = starts_atom
+
+-- Whether a token is this sign.
+abbrev pub is_sign : Sign → Token → Bool
+is_sign a (t.Sign b) = same a b
+is_sign a x = false
+
+-- A type.
+abbrev pub type_at : Places → Reader TypeName
+type_at at (t.Sign s.Int ∷ ts) = Ok (ty.Whole (before at ts), ts)
+type_at at (t.Sign s.Bool ∷ ts) = Ok (ty.Truth (before at ts), ts)
+type_at at (t.Constructor k ∷ ts) = Ok (ty.Declared (named at k ts), ts)
+type_at at ts = Err (At (length ts))
+
+-- An arm of a case.
+pub record ArmTree : Type 0 where
+  pub constructor : Ident
+  pub variables : List Ident
+  pub body : Expression
+
+-- The arms of a case, from the first and the further ones.
+abbrev pub arms_of : ArmTree → List ArmTree → Arms
+arms_of arm [] = LastArm arm.constructor arm.variables arm.body
+arms_of arm (next ∷ arms) = NextArm arm.constructor arm.variables arm.body (arms_of next arms)
+
+-- A constructor with its variables, an arrow and an expression.
+unfoldable pub arm_at : Places → Reader Expression → Reader ArmTree
+arm_at at p ts =
+    then_at (con_at at ts) (λ k ts. then_at (many is_variable (var_at at) ts) (λ xs ts. then_at (want s.Arrow ts) (λ _ ts. then_at (p ts) (λ e ts.
+    Ok (record { constructor = k; variables = xs; body = e }, ts)))))
+
+-- A further arm.
+unfoldable pub next_arm_at : Places → Reader Expression → Reader ArmTree
+next_arm_at at p ts = then_at (want s.Semicolon ts) (λ _ ts. arm_at at p ts)
+
+-- Arms, with a semicolon between two.
+unfoldable pub arms_at : Places → Reader Expression → Reader Arms
+arms_at at p ts =
+    then_at (arm_at at p ts) (λ arm ts. then_at (many (is_sign s.Semicolon) (next_arm_at at p) ts) (λ arms ts. Ok (arms_of arm arms, ts)))
+
+-- A list of expressions, as arguments.
+abbrev pub arguments_of : List Expression → Arguments
+arguments_of [] = NoArgument
+arguments_of (a ∷ more) = Argument a (arguments_of more)
+
+-- Arguments, as long as one begins.
+unfoldable pub arguments_at : Reader Expression → Reader Arguments
+arguments_at p ts = then_at (many starts_atom p ts) (λ xs ts. Ok (arguments_of xs, ts))
+
+-- The readers of expressions take how the parts are read, by what may stand there.
+abbrev pub Parts : Type 0
+Parts = Mode → Reader Expression
+
+-- Behind `let`, whose span this is: a binding.
+unfoldable pub bind_at : Places → Parts → Span → Reader Expression
+bind_at at sub p ts =
+    then_at (var_at at ts) (λ x ts. then_at (want s.Equals ts) (λ _ ts. then_at (sub Any ts) (λ a ts.
+    then_at (want s.In ts) (λ _ ts. then_at (sub Any ts) (λ b ts. Ok (Let p x a b, ts))))))
+
+-- Behind `let par`: two sides.
+unfoldable pub par_at : Places → Parts → Span → Reader Expression
+par_at at sub p ts =
+    then_at (var_at at ts) (λ x ts. then_at (want s.Equals ts) (λ _ ts. then_at (sub Any ts) (λ a ts.
+    then_at (want s.And ts) (λ _ ts. then_at (var_at at ts) (λ y ts. then_at (want s.Equals ts) (λ _ ts. then_at (sub Any ts) (λ b ts.
+    then_at (want s.In ts) (λ _ ts. then_at (sub Any ts) (λ c ts. Ok (Par p x a y b c, ts))))))))))
+
+-- Behind `let`.
+abbrev pub let_at : Places → Parts → Span → Reader Expression
+let_at at sub p (t.Sign s.Par ∷ ts) = par_at at sub p ts
+let_at at sub p ts = bind_at at sub p ts
+
+-- Behind `if`.
+unfoldable pub if_at : Parts → Span → Reader Expression
+if_at sub p ts =
+    then_at (sub Any ts) (λ a ts. then_at (want s.Then ts) (λ _ ts. then_at (sub Any ts) (λ b ts.
+    then_at (want s.Else ts) (λ _ ts. then_at (sub Any ts) (λ c ts. Ok (If p a b c, ts))))))
+
+-- Behind `case`.
+unfoldable pub case_at : Places → Parts → Span → Reader Expression
+case_at at sub p ts =
+    then_at (var_at at ts) (λ x ts. then_at (want s.Of ts) (λ _ ts. then_at (want s.OpenBrace ts) (λ _ ts.
+    then_at (arms_at at (sub Any) ts) (λ arms ts. then_at (want s.CloseBrace ts) (λ _ ts. Ok (Case p x arms, ts))))))
+
+-- The operator of a sign.
+abbrev pub operator_of : Sign → Option Operator
+operator_of s.Plus = Some o.Add
+operator_of s.Minus = Some o.Subtract
+operator_of s.Times = Some o.Multiply
+operator_of s.Same = Some o.Equal
+operator_of s.Less = Some o.Less
+operator_of a = None
+
+-- Behind an operator: its second side. The sign itself is at fault where the first side is no application.
+abbrev pub side_at : Bool → Parts → Span → Operator → Expression → Reader Expression
+side_at false sub p f e ts = Err (At (suc (length ts)))
+side_at true sub p f e ts = then_at (sub App ts) (λ b ts. then_at (want s.Close ts) (λ _ ts. Ok (Op p f e b, ts)))
+
+-- Behind a sign that follows the first expression in parentheses.
+abbrev pub operation_at : Option Operator → Parts → Span → Expression → Reader Expression
+operation_at None sub p e ts = Err (At (suc (length ts)))
+operation_at (Some f) sub p e ts = side_at (is_application e) sub p f e ts
+
+-- Behind an opening parenthesis and an expression: its end, or an operator.
+abbrev pub close_at : Parts → Span → Expression → Reader Expression
+close_at sub p e (t.Sign s.Close ∷ ts) = Ok (Paren p e, ts)
+close_at sub p e (t.Sign a ∷ ts) = operation_at (operator_of a) sub p e ts
+close_at sub p e ts = Err (At (length ts))
+
+-- Behind an opening parenthesis.
+unfoldable pub open_at : Parts → Span → Reader Expression
+open_at sub p ts = then_at (sub Any ts) (close_at sub p)
+
+-- A variable alone, or a call.
+abbrev pub call : Ident → Arguments → Expression
+call f NoArgument = Var f
+call f (Argument a xs) = Call f (Argument a xs)
+
+-- A number, where it is one of the language.
+abbrev pub literal_at : Bool → Span → ℕ → Reader Expression
+literal_at true p n ts = Ok (Num p n, ts)
+literal_at false p n ts = Err (At (suc (length ts)))
+
+-- What may stand as an argument.
+abbrev pub atom_at : Places → Parts → Reader Expression
+atom_at at sub (t.Variable x ∷ ts) = Ok (Var (named at x ts), ts)
+atom_at at sub (t.Constructor k ∷ ts) = Ok (Make (named at k ts) NoArgument, ts)
+atom_at at sub (t.Number n ∷ ts) = literal_at (is_literal n) (before at ts) n ts
+atom_at at sub (t.Sign s.True ∷ ts) = Ok (Bit (before at ts) true, ts)
+atom_at at sub (t.Sign s.False ∷ ts) = Ok (Bit (before at ts) false, ts)
+atom_at at sub (t.Sign s.Open ∷ ts) = open_at sub (before at ts) ts
+atom_at at sub ts = Err (At (length ts))
+
+-- What may stand as a side of an operation.
+abbrev pub app_at : Places → Parts → Reader Expression
+app_at at sub (t.Variable f ∷ ts) = then_at (arguments_at (sub Atom) ts) (λ xs left. Ok (call (named at f ts) xs, left))
+app_at at sub (t.Constructor k ∷ ts) = then_at (arguments_at (sub Atom) ts) (λ xs left. Ok (Make (named at k ts) xs, left))
+app_at at sub ts = atom_at at sub ts
+
+-- Any expression.
+abbrev pub any_at : Places → Parts → Reader Expression
+any_at at sub (t.Sign s.Let ∷ ts) = let_at at sub (before at ts) ts
+any_at at sub (t.Sign s.If ∷ ts) = if_at sub (before at ts) ts
+any_at at sub (t.Sign s.Case ∷ ts) = case_at at sub (before at ts) ts
+any_at at sub ts = app_at at sub ts
+
+-- An expression that may stand there.
+abbrev pub step : Places → Parts → Mode → Reader Expression
+step at sub Any ts = any_at at sub ts
+step at sub App ts = app_at at sub ts
+step at sub Atom ts = atom_at at sub ts
+
+-- Where no level is left: too deep if such an expression begins here, else the token is at fault.
+abbrev pub no_level : Bool → Reader Expression
+no_level true ts = Err (Nested (length ts))
+no_level false ts = Err (At (length ts))
+
+-- The same, in so many levels.
+unfoldable pub parse : Places → ℕ → Mode → Reader Expression
+parse at zero m ts = no_level (next_is (starts m) ts) ts
+parse at (suc n) m ts = step at (parse at n) m ts
+
+-- A constructor with the types of its fields.
+unfoldable pub constructor_at : Places → Reader ConstructorTree
+constructor_at at ts =
+    then_at (con_at at ts) (λ k ts. then_at (many starts_type (type_at at) ts) (λ fields ts. Ok (record { name = k; fields = fields }, ts)))
+
+-- A further constructor.
+unfoldable pub alternative_at : Places → Reader ConstructorTree
+alternative_at at ts = then_at (want s.Bar ts) (λ _ ts. constructor_at at ts)
+
+-- Constructors, with a bar between two.
+unfoldable pub constructors_at : Places → Reader (List ConstructorTree)
+constructors_at at ts =
+    then_at (constructor_at at ts) (λ c ts. then_at (many (is_sign s.Bar) (alternative_at at) ts) (λ cs ts. Ok (c ∷ cs, ts)))
+
+-- A data declaration.
+unfoldable pub data_at : Places → Reader DataTree
+data_at at ts =
+    then_at (want s.Data ts) (λ _ ts. then_at (con_at at ts) (λ d ts. then_at (want s.Equals ts) (λ _ ts.
+    then_at (constructors_at at ts) (λ cs ts. then_at (want s.Semicolon ts) (λ _ ts. Ok (record { name = d; constructors = cs }, ts))))))
+
+-- A parameter, in its parentheses.
+unfoldable pub parameter_at : Places → Reader Parameter
+parameter_at at ts =
+    then_at (want s.Open ts) (λ _ ts. then_at (var_at at ts) (λ x ts. then_at (want s.Colon ts) (λ _ ts.
+    then_at (type_at at ts) (λ a ts. then_at (want s.Close ts) (λ _ ts. Ok (record { name = x; ty = a }, ts))))))
+
+-- At least one parameter.
+unfoldable pub parameters_at : Places → Reader (List Parameter)
+parameters_at at ts = then_at (parameter_at at ts) (λ q ts. then_at (many (is_sign s.Open) (parameter_at at) ts) (λ qs ts. Ok (q ∷ qs, ts)))
+
+-- The result type and the body of a function.
+pub record BodyTree : Type 0 where
+  pub result : TypeName
+  pub body : Expression
+
+-- From the colon before the result type to the semicolon behind the body.
+unfoldable pub body_at : Places → Reader Expression → Reader BodyTree
+body_at at p ts =
+    then_at (want s.Colon ts) (λ _ ts. then_at (type_at at ts) (λ a ts. then_at (want s.Equals ts) (λ _ ts.
+    then_at (p ts) (λ e ts. then_at (want s.Semicolon ts) (λ _ ts. Ok (record { result = a; body = e }, ts))))))
+
+-- A function.
+unfoldable pub function_at : Places → Reader Expression → Reader FunctionTree
+function_at at p ts =
+    then_at (want s.Fun ts) (λ _ ts. then_at (var_at at ts) (λ f ts. then_at (parameters_at at ts) (λ qs ts. then_at (body_at at p ts) (λ b ts.
+    Ok (record { name = f; parameters = qs; result = b.result; body = b.body }, ts)))))
+
+-- Main.
+unfoldable pub main_at : Places → Reader Expression → Reader MainTree
+main_at at p ts =
+    then_at (want s.Main ts) (λ _ ts. then_at (parameter_at at ts) (λ q ts. then_at (body_at at p ts) (λ b ts.
+    Ok (record { parameter = q; result = b.result; body = b.body }, ts))))
+
+-- Data declarations, functions, and main.
+unfoldable pub program_at : Places → Reader Expression → Reader ProgramTree
+program_at at p ts =
+    then_at (many (is_sign s.Data) (data_at at) ts) (λ ds ts. then_at (many (is_sign s.Fun) (function_at at p) ts) (λ fs ts. then_at (main_at at p ts) (λ m ts.
+    Ok (record { datas = ds; functions = fs; main = m }, ts))))
+
+-- Nothing is left.
+abbrev pub ends_at : ProgramTree → Reader ProgramTree
+ends_at g [] = Ok (g, [])
+ends_at g (x ∷ ts) = Err (At (suc (length ts)))
+
+-- All of the tokens, in so many levels.
+unfoldable pub whole_in : ℕ → Places → Reader ProgramTree
+whole_in n at ts = then_at (program_at at (parse at n Any) ts) ends_at
+
+-- All of the tokens, in as many levels as the language has; a body stands on level 1.
+abbrev pub whole : Places → Reader ProgramTree
+whole at ts = whole_in 200 at ts
+
+-- Each program whose tokens begin with the tokens up to and including the one from which so many are left
+-- has more than 200 levels; where none are left: each whose tokens these are.
+abbrev pub Deepens : List Token → ℕ → Type 0
+Deepens tokens zero = (p : ProgramTree) → Derives tokens p → 200 < levels_program p
+Deepens tokens (suc k) = (p : ProgramTree) (more : List Token) → Derives (take (length tokens - k) tokens ++ more) p → 200 < levels_program p
+
+-- Some program's tokens begin with the tokens before the one from which so many are left.
+abbrev pub Begun : List Token → ℕ → Type 0
+Begun tokens left = (p : ProgramTree) × (more : List Token) × Derives (take (length tokens - left) tokens ++ more) p

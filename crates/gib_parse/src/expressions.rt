@@ -1,0 +1,604 @@
+//! Expressions, by recursive descent. `level` says how many levels are left for the parts of an expression.
+
+ghost use Rattle.std.specs.Prelude.{◌≡◌, ◌<◌, ℕ, length, IfOk};
+ghost use Rattle.std.specs.List.{AllByRecursion};
+ghost use Rattle.gib_syntax.specs.Tree.{Expression};
+ghost use Rattle.gib_syntax.specs.Spelling.{places_of, is_application};
+ghost use Rattle.gib_syntax.specs.Arena.{PartsBelow, layer, tree_of, arguments_from};
+ghost use Rattle.gib_parse.specs.Reading.{Any, Atom, next_is, starts, starts_atom, is_literal, literal_at, no_level, parse, any_at, let_at, bind_at, par_at, if_at, case_at, arms_at, arm_at, next_arm_at, app_at, call, arguments_at, atom_at, open_at, close_at, side_at, Fault, At, Nested};
+ghost use Rattle.gib_parse.specs.Parsing.{Fails, Gives, mode_of, Reads, ReadsAll, ReadsArms, arm_tree, arms_tree};
+
+use crate::phrases::{begins, constructor, span_at, variable, variables, want};
+use crate::stop::Stop;
+use gib_base::token::{Sign, Token};
+use gib_base::{Name, Span};
+use gib_syntax::{Arm, ExprId, Exprs, Ident, Node, Operator};
+use std::alloc::Global;
+
+/// The kind of expression that may stand at a place: any; as a side of an operation, an application;
+/// as an argument, an atom.
+#[derive(Clone, Copy)]
+pub(crate) enum Kind {
+    Any,
+    Application,
+    Atom,
+}
+
+/// The first number that is too large for a literal.
+const TOO_LARGE: u64 = 9_223_372_036_854_775_808;
+
+/// Whether a number may stand as a literal.
+fn is_literal(value: u64) -> bool
+    ensures { result ≡ is_literal value }
+{
+    value < TOO_LARGE
+}
+
+/// Whether an atom begins here.
+fn begins_atom(tokens: &[Token]) -> bool
+    ensures { result ≡ next_is starts_atom tokens.now }
+{
+    match tokens {
+        [] => false,
+        [Token::Variable(_), ..] => true,
+        [Token::Constructor(_), ..] => true,
+        [Token::Number(value), ..] => is_literal(*value),
+        [Token::Sign(sign), ..] => matches!(sign, Sign::True | Sign::False | Sign::Open),
+    }
+}
+
+/// Whether an expression of this kind begins here.
+fn begins_kind(kind: Kind, tokens: &[Token]) -> bool
+    ensures { result ≡ next_is (starts (mode_of kind)) tokens.now }
+{
+    match kind {
+        Kind::Any => match tokens {
+            [Token::Sign(sign), ..] => match sign {
+                Sign::Let => true,
+                Sign::If => true,
+                Sign::Case => true,
+                _ => begins_atom(tokens),
+            },
+            _ => begins_atom(tokens),
+        },
+        Kind::Application => begins_atom(tokens),
+        Kind::Atom => begins_atom(tokens),
+    }
+}
+
+/// The fault where no level is left.
+fn too_deep(kind: Kind, tokens: &[Token]) -> Stop
+    ensures { Fails result (no_level (next_is (starts (mode_of kind)) tokens.now) tokens.now) }
+{
+    if begins_kind(kind, tokens) {
+        Stop::Nested(tokens.len())
+    } else {
+        Stop::At(tokens.len())
+    }
+}
+
+/// An expression of this kind, in so many levels.
+#[cycle(expressions)]
+#[tactic(auto, using(crate::proofs::Levels::parse_any, crate::proofs::Levels::parse_app, crate::proofs::Levels::parse_atom, crate::proofs::Levels::parse_none), unfolding(crate::specs::Reading::parse))]
+pub(crate) fn expression<'a>(
+    alloc: Global,
+    spans: &[Span],
+    exprs: &mut Exprs,
+    level: u32,
+    kind: Kind,
+    tokens: &'a [Token],
+) -> Result<(ExprId, &'a [Token]), Stop>
+    ensures kept { IfOk result (λ x. Reads exprs.old exprs.new x.0.0) }
+    ensures read { Gives (λ x. (tree_of exprs.new x.0.0, x.1.now)) result (parse (places_of spans.now) level (mode_of kind) tokens.now) }
+{
+    if level == 0 {
+        return Err(too_deep(kind, tokens));
+    }
+    match kind {
+        Kind::Any => any(alloc, spans, exprs, level - 1, tokens),
+        Kind::Application => application(alloc, spans, exprs, level - 1, tokens),
+        Kind::Atom => atom(alloc, spans, exprs, level - 1, tokens),
+    }
+}
+
+#[cycle(expressions)]
+fn any<'a>(
+    alloc: Global,
+    spans: &[Span],
+    exprs: &mut Exprs,
+    level: u32,
+    tokens: &'a [Token],
+) -> Result<(ExprId, &'a [Token]), Stop>
+    ensures kept { IfOk result (λ x. Reads exprs.old exprs.new x.0.0) }
+    ensures read { Gives (λ x. (tree_of exprs.new x.0.0, x.1.now)) result (any_at (places_of spans.now) (parse (places_of spans.now) level) tokens.now) }
+{
+    match tokens {
+        [Token::Sign(sign), rest @ ..] => match sign {
+            Sign::Let => let_in(
+                alloc,
+                spans,
+                exprs,
+                level,
+                span_at(spans, tokens.len()),
+                rest,
+            ),
+            Sign::If => if_then(
+                alloc,
+                spans,
+                exprs,
+                level,
+                span_at(spans, tokens.len()),
+                rest,
+            ),
+            Sign::Case => case_of(
+                alloc,
+                spans,
+                exprs,
+                level,
+                span_at(spans, tokens.len()),
+                rest,
+            ),
+            _ => application(alloc, spans, exprs, level, tokens),
+        },
+        _ => application(alloc, spans, exprs, level, tokens),
+    }
+}
+
+/// Behind `let`.
+#[cycle(expressions)]
+fn let_in<'a>(
+    alloc: Global,
+    spans: &[Span],
+    exprs: &mut Exprs,
+    level: u32,
+    span: Span,
+    tokens: &'a [Token],
+) -> Result<(ExprId, &'a [Token]), Stop>
+    ensures kept { IfOk result (λ x. Reads exprs.old exprs.new x.0.0) }
+    ensures read { Gives (λ x. (tree_of exprs.new x.0.0, x.1.now)) result (let_at (places_of spans.now) (parse (places_of spans.now) level) span tokens.now) }
+{
+    match tokens {
+        [Token::Sign(sign), rest @ ..] => match sign {
+            Sign::Par => let_par(alloc, spans, exprs, level, span, rest),
+            _ => let_one(alloc, spans, exprs, level, span, tokens),
+        },
+        _ => let_one(alloc, spans, exprs, level, span, tokens),
+    }
+}
+
+#[cycle(expressions)]
+#[tactic(auto, unfolding(crate::specs::Reading::bind_at))]
+fn let_one<'a>(
+    alloc: Global,
+    spans: &[Span],
+    exprs: &mut Exprs,
+    level: u32,
+    span: Span,
+    tokens: &'a [Token],
+) -> Result<(ExprId, &'a [Token]), Stop>
+    ensures kept { IfOk result (λ x. Reads exprs.old exprs.new x.0.0) }
+    ensures read { Gives (λ x. (tree_of exprs.new x.0.0, x.1.now)) result (bind_at (places_of spans.now) (parse (places_of spans.now) level) span tokens.now) }
+{
+    let (name, tokens) = variable(spans, tokens)?;
+    let tokens = want(Sign::Equals, tokens)?;
+    let (bound, tokens) = expression(alloc, spans, exprs, level, Kind::Any, tokens)?;
+    let tokens = want(Sign::In, tokens)?;
+    let (body, tokens) = expression(alloc, spans, exprs, level, Kind::Any, tokens)?;
+    let id = exprs.put(Node::Let {
+        span,
+        name,
+        bound,
+        body,
+    })?;
+    Ok((id, tokens))
+}
+
+/// Behind `let par`.
+#[cycle(expressions)]
+#[tactic(auto, unfolding(crate::specs::Reading::par_at))]
+fn let_par<'a>(
+    alloc: Global,
+    spans: &[Span],
+    exprs: &mut Exprs,
+    level: u32,
+    span: Span,
+    tokens: &'a [Token],
+) -> Result<(ExprId, &'a [Token]), Stop>
+    ensures kept { IfOk result (λ x. Reads exprs.old exprs.new x.0.0) }
+    ensures read { Gives (λ x. (tree_of exprs.new x.0.0, x.1.now)) result (par_at (places_of spans.now) (parse (places_of spans.now) level) span tokens.now) }
+{
+    let (left_name, tokens) = variable(spans, tokens)?;
+    let tokens = want(Sign::Equals, tokens)?;
+    let (left, tokens) = expression(alloc, spans, exprs, level, Kind::Any, tokens)?;
+    let tokens = want(Sign::And, tokens)?;
+    let (right_name, tokens) = variable(spans, tokens)?;
+    let tokens = want(Sign::Equals, tokens)?;
+    let (right, tokens) = expression(alloc, spans, exprs, level, Kind::Any, tokens)?;
+    let tokens = want(Sign::In, tokens)?;
+    let (body, tokens) = expression(alloc, spans, exprs, level, Kind::Any, tokens)?;
+    let id = exprs.put(Node::LetPar {
+        span,
+        left_name,
+        left,
+        right_name,
+        right,
+        body,
+    })?;
+    Ok((id, tokens))
+}
+
+/// Behind `if`.
+#[cycle(expressions)]
+#[tactic(auto, unfolding(crate::specs::Reading::if_at))]
+fn if_then<'a>(
+    alloc: Global,
+    spans: &[Span],
+    exprs: &mut Exprs,
+    level: u32,
+    span: Span,
+    tokens: &'a [Token],
+) -> Result<(ExprId, &'a [Token]), Stop>
+    ensures kept { IfOk result (λ x. Reads exprs.old exprs.new x.0.0) }
+    ensures read { Gives (λ x. (tree_of exprs.new x.0.0, x.1.now)) result (if_at (parse (places_of spans.now) level) span tokens.now) }
+{
+    let (condition, tokens) = expression(alloc, spans, exprs, level, Kind::Any, tokens)?;
+    let tokens = want(Sign::Then, tokens)?;
+    let (then_part, tokens) = expression(alloc, spans, exprs, level, Kind::Any, tokens)?;
+    let tokens = want(Sign::Else, tokens)?;
+    let (else_part, tokens) = expression(alloc, spans, exprs, level, Kind::Any, tokens)?;
+    let id = exprs.put(Node::If {
+        span,
+        condition,
+        then_part,
+        else_part,
+    })?;
+    Ok((id, tokens))
+}
+
+/// Behind `case`.
+#[cycle(expressions)]
+#[tactic(auto, unfolding(crate::specs::Reading::case_at))]
+fn case_of<'a>(
+    alloc: Global,
+    spans: &[Span],
+    exprs: &mut Exprs,
+    level: u32,
+    span: Span,
+    tokens: &'a [Token],
+) -> Result<(ExprId, &'a [Token]), Stop>
+    ensures kept { IfOk result (λ x. Reads exprs.old exprs.new x.0.0) }
+    ensures read { Gives (λ x. (tree_of exprs.new x.0.0, x.1.now)) result (case_at (places_of spans.now) (parse (places_of spans.now) level) span tokens.now) }
+{
+    let (variable, tokens) = variable(spans, tokens)?;
+    let tokens = want(Sign::Of, tokens)?;
+    let tokens = want(Sign::OpenBrace, tokens)?;
+    let (arms, tokens) = arms(alloc, spans, exprs, level, tokens)?;
+    let tokens = want(Sign::CloseBrace, tokens)?;
+    let id = exprs.put(Node::Case {
+        span,
+        variable,
+        arms,
+    })?;
+    Ok((id, tokens))
+}
+
+/// Arms, with a semicolon between two.
+#[cycle(expressions)]
+fn arms<'a>(
+    alloc: Global,
+    spans: &[Span],
+    exprs: &mut Exprs,
+    level: u32,
+    tokens: &'a [Token],
+) -> Result<(Vec<Arm>, &'a [Token]), Stop>
+    ensures kept { IfOk result (λ x. ReadsArms exprs.old exprs.new x.0.items) }
+    ensures read { Gives (λ x. (arms_tree (tree_of exprs.new) x.0.items, x.1.now)) result (arms_at (places_of spans.now) (parse (places_of spans.now) level Any) tokens.now) }
+{
+    let mut arms = Vec::new(alloc);
+    let (first, mut rest) = arm(alloc, spans, exprs, level, tokens)?;
+    arms.push(first)?;
+    'arms: while begins(Sign::Semicolon, rest) {
+        let (next, after) = next_arm(alloc, spans, exprs, level, rest)?;
+        arms.push(next)?;
+        rest = after;
+    }
+    Ok((arms, rest))
+}
+
+/// A semicolon, and an arm behind it.
+#[cycle(expressions)]
+#[tactic(auto, unfolding(crate::specs::Reading::next_arm_at))]
+fn next_arm<'a>(
+    alloc: Global,
+    spans: &[Span],
+    exprs: &mut Exprs,
+    level: u32,
+    tokens: &'a [Token],
+) -> Result<(Arm, &'a [Token]), Stop>
+    ensures kept { IfOk result (λ x. Reads exprs.old exprs.new x.0.body.0) }
+    ensures read { Gives (λ x. (arm_tree (tree_of exprs.new) x.0, x.1.now)) result (next_arm_at (places_of spans.now) (parse (places_of spans.now) level Any) tokens.now) }
+{
+    let tokens = want(Sign::Semicolon, tokens)?;
+    arm(alloc, spans, exprs, level, tokens)
+}
+
+/// One arm.
+#[cycle(expressions)]
+#[tactic(auto, unfolding(crate::specs::Reading::arm_at))]
+fn arm<'a>(
+    alloc: Global,
+    spans: &[Span],
+    exprs: &mut Exprs,
+    level: u32,
+    tokens: &'a [Token],
+) -> Result<(Arm, &'a [Token]), Stop>
+    ensures kept { IfOk result (λ x. Reads exprs.old exprs.new x.0.body.0) }
+    ensures read { Gives (λ x. (arm_tree (tree_of exprs.new) x.0, x.1.now)) result (arm_at (places_of spans.now) (parse (places_of spans.now) level Any) tokens.now) }
+{
+    let (constructor, tokens) = constructor(spans, tokens)?;
+    let (variables, tokens) = variables(alloc, spans, tokens)?;
+    let tokens = want(Sign::Arrow, tokens)?;
+    let (body, tokens) = expression(alloc, spans, exprs, level, Kind::Any, tokens)?;
+    Ok((
+        Arm {
+            constructor,
+            variables,
+            body,
+        },
+        tokens,
+    ))
+}
+
+/// A name with its arguments, or an atom.
+#[cycle(expressions)]
+fn application<'a>(
+    alloc: Global,
+    spans: &[Span],
+    exprs: &mut Exprs,
+    level: u32,
+    tokens: &'a [Token],
+) -> Result<(ExprId, &'a [Token]), Stop>
+    ensures kept { IfOk result (λ x. Reads exprs.old exprs.new x.0.0) }
+    ensures read { Gives (λ x. (tree_of exprs.new x.0.0, x.1.now)) result (app_at (places_of spans.now) (parse (places_of spans.now) level) tokens.now) }
+{
+    match tokens {
+        [Token::Variable(name), rest @ ..] => {
+            let ident = Ident {
+                name: *name,
+                span: span_at(spans, tokens.len()),
+            };
+            let (ids, rest) = arguments(alloc, spans, exprs, level, rest)?;
+            let id = exprs.put(call_of(ident, ids))?;
+            Ok((id, rest))
+        }
+        [Token::Constructor(name), rest @ ..] => {
+            let ident = Ident {
+                name: *name,
+                span: span_at(spans, tokens.len()),
+            };
+            let (ids, rest) = arguments(alloc, spans, exprs, level, rest)?;
+            let id = exprs.put(Node::Make(ident, ids))?;
+            Ok((id, rest))
+        }
+        _ => atom(alloc, spans, exprs, level, tokens),
+    }
+}
+
+/// A variable, or with arguments a call.
+fn call_of(ident: Ident, ids: Vec<ExprId>) -> Node
+    ensures tree { (t : ℕ → Expression) → layer t (Some result) ≡ call ident (arguments_from t ids.items) }
+    ensures below { (n : ℕ) → AllByRecursion (λ a. a.0 < n) ids.items → PartsBelow result n }
+{
+    if ids.is_empty() {
+        Node::Variable(ident)
+    } else {
+        Node::Call(ident, ids)
+    }
+}
+
+/// Arguments, as long as an atom begins.
+#[cycle(expressions)]
+fn arguments<'a>(
+    alloc: Global,
+    spans: &[Span],
+    exprs: &mut Exprs,
+    level: u32,
+    tokens: &'a [Token],
+) -> Result<(Vec<ExprId>, &'a [Token]), Stop>
+    ensures kept { IfOk result (λ x. ReadsAll exprs.old exprs.new x.0.items) }
+    ensures read { Gives (λ x. (arguments_from (tree_of exprs.new) x.0.items, x.1.now)) result (arguments_at (parse (places_of spans.now) level Atom) tokens.now) }
+{
+    let mut ids = Vec::new(alloc);
+    let mut rest = tokens;
+    'arguments: while begins_atom(rest) {
+        let (id, after) = expression(alloc, spans, exprs, level, Kind::Atom, rest)?;
+        ids.push(id)?;
+        rest = after;
+    }
+    Ok((ids, rest))
+}
+
+/// A literal, which stands before these tokens.
+fn literal<'a>(
+    exprs: &mut Exprs,
+    span: Span,
+    value: u64,
+    rest: &'a [Token],
+) -> Result<(ExprId, &'a [Token]), Stop>
+    ensures kept { IfOk result (λ x. Reads exprs.old exprs.new x.0.0) }
+    ensures read { Gives (λ x. (tree_of exprs.new x.0.0, x.1.now)) result (literal_at (is_literal value) span value rest.now) }
+{
+    if !is_literal(value) {
+        return Err(Stop::At(rest.len() + 1));
+    }
+    let id = exprs.put(Node::Whole(span, value))?;
+    Ok((id, rest))
+}
+
+#[cycle(expressions)]
+fn atom<'a>(
+    alloc: Global,
+    spans: &[Span],
+    exprs: &mut Exprs,
+    level: u32,
+    tokens: &'a [Token],
+) -> Result<(ExprId, &'a [Token]), Stop>
+    ensures kept { IfOk result (λ x. Reads exprs.old exprs.new x.0.0) }
+    ensures read { Gives (λ x. (tree_of exprs.new x.0.0, x.1.now)) result (atom_at (places_of spans.now) (parse (places_of spans.now) level) tokens.now) }
+{
+    match tokens {
+        [] => Err(Stop::At(0)),
+        [Token::Variable(name), rest @ ..] => {
+            let id = exprs.put(Node::Variable(Ident {
+                name: *name,
+                span: span_at(spans, tokens.len()),
+            }))?;
+            Ok((id, rest))
+        }
+        [Token::Constructor(name), rest @ ..] => {
+            let ident = Ident {
+                name: *name,
+                span: span_at(spans, tokens.len()),
+            };
+            let id = exprs.put(Node::Make(ident, Vec::new(alloc)))?;
+            Ok((id, rest))
+        }
+        [Token::Number(value), rest @ ..] => literal(
+            exprs,
+            span_at(spans, tokens.len()),
+            *value,
+            rest,
+        ),
+        [Token::Sign(sign), rest @ ..] => match sign {
+            Sign::True => {
+                let id = exprs.put(Node::Truth(span_at(spans, tokens.len()), true))?;
+                Ok((id, rest))
+            }
+            Sign::False => {
+                let id = exprs.put(Node::Truth(span_at(spans, tokens.len()), false))?;
+                Ok((id, rest))
+            }
+            Sign::Open => parentheses(
+                alloc,
+                spans,
+                exprs,
+                level,
+                span_at(spans, tokens.len()),
+                rest,
+            ),
+            _ => Err(Stop::At(tokens.len())),
+        },
+    }
+}
+
+/// Behind an opening parenthesis.
+#[cycle(expressions)]
+#[tactic(auto, unfolding(crate::specs::Reading::open_at))]
+fn parentheses<'a>(
+    alloc: Global,
+    spans: &[Span],
+    exprs: &mut Exprs,
+    level: u32,
+    span: Span,
+    tokens: &'a [Token],
+) -> Result<(ExprId, &'a [Token]), Stop>
+    ensures kept { IfOk result (λ x. Reads exprs.old exprs.new x.0.0) }
+    ensures read { Gives (λ x. (tree_of exprs.new x.0.0, x.1.now)) result (open_at (parse (places_of spans.now) level) span tokens.now) }
+{
+    let (inner, tokens) = expression(alloc, spans, exprs, level, Kind::Any, tokens)?;
+    match tokens {
+        [Token::Sign(sign), rest @ ..] => match sign {
+            Sign::Close => {
+                let id = exprs.put(Node::Paren(span, inner))?;
+                Ok((id, rest))
+            }
+            Sign::Plus => operation(alloc, spans, exprs, level, span, Operator::Add, inner, rest),
+            Sign::Minus => operation(
+                alloc,
+                spans,
+                exprs,
+                level,
+                span,
+                Operator::Subtract,
+                inner,
+                rest,
+            ),
+            Sign::Times => operation(
+                alloc,
+                spans,
+                exprs,
+                level,
+                span,
+                Operator::Multiply,
+                inner,
+                rest,
+            ),
+            Sign::Same => operation(
+                alloc,
+                spans,
+                exprs,
+                level,
+                span,
+                Operator::Equal,
+                inner,
+                rest,
+            ),
+            Sign::Less => operation(
+                alloc,
+                spans,
+                exprs,
+                level,
+                span,
+                Operator::Less,
+                inner,
+                rest,
+            ),
+            _ => Err(Stop::At(tokens.len())),
+        },
+        _ => Err(Stop::At(tokens.len())),
+    }
+}
+
+/// Behind the operator of an operation: its other side, if the first may be one.
+#[cycle(expressions)]
+fn operation<'a>(
+    alloc: Global,
+    spans: &[Span],
+    exprs: &mut Exprs,
+    level: u32,
+    span: Span,
+    operator: Operator,
+    left: ExprId,
+    tokens: &'a [Token],
+) -> Result<(ExprId, &'a [Token]), Stop>
+    requires { left.0 < length exprs.old }
+    ensures kept { IfOk result (λ x. Reads exprs.old exprs.new x.0.0) }
+    ensures read { Gives (λ x. (tree_of exprs.new x.0.0, x.1.now)) result (side_at (is_application (tree_of exprs.old left.0)) (parse (places_of spans.now) level) span operator (tree_of exprs.old left.0) tokens.now) }
+{
+    if !may_be_side(exprs, left) {
+        return Err(Stop::At(tokens.len() + 1));
+    }
+    let (right, tokens) = expression(alloc, spans, exprs, level, Kind::Application, tokens)?;
+    let tokens = want(Sign::Close, tokens)?;
+    let id = exprs.put(Node::Operation {
+        span,
+        operator,
+        left,
+        right,
+    })?;
+    Ok((id, tokens))
+}
+
+/// Whether an expression may stand as a side of an operation.
+fn may_be_side(exprs: &Exprs, id: ExprId) -> bool
+    requires { id.0 < length exprs.now }
+    ensures { result ≡ is_application (tree_of exprs.now id.0) }
+{
+    match exprs.node(id) {
+        Node::Let { .. } => false,
+        Node::LetPar { .. } => false,
+        Node::If { .. } => false,
+        Node::Case { .. } => false,
+        _ => true,
+    }
+}

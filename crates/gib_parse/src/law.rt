@@ -1,0 +1,56 @@
+//! Laws of reading: functions that do nothing, whose contracts say what holds of every list of tokens.
+
+ghost use Rattle.std.specs.Prelude.{◌≡◌, ◌≤◌, ◌<◌, ℕ, List, [], Ok, Err, length};
+ghost use Rattle.gib_base.specs.declared.token.Token.{Token};
+ghost use Rattle.gib_syntax.specs.Tree.{ProgramTree};
+ghost use Rattle.gib_syntax.specs.Spelling.{Places, Derives, IsPlacedProgram, levels_program, Blames};
+ghost use Rattle.gib_parse.specs.Reading.{Fault, At, Nested, left_of, whole_in, whole, Deepens, Begun};
+
+/// What is read is a program that the tokens spell, of at most 200 levels, with the spans of its
+/// tokens, and no token is left.
+pub fn read_is_program()
+    ensures { (at : Places) (tokens : List Token) (p : ProgramTree) (rest : List Token) → whole at tokens ≡ Ok (p, rest)
+        → Derives tokens p × IsPlacedProgram at p × (levels_program p ≤ 200) × (rest ≡ []) }
+{}
+
+/// A program of at most 200 levels that the tokens spell, with the spans of its tokens, is what is read.
+pub fn program_is_read()
+    ensures { (at : Places) (tokens : List Token) (p : ProgramTree) → Derives tokens p → IsPlacedProgram at p → levels_program p ≤ 200 → whole at tokens ≡ Ok (p, []) }
+{}
+
+/// Where the tokens spell a program of at most 200 levels, whatever spans it carries, a program is read.
+pub fn program_is_accepted()
+    ensures { (at : Places) (tokens : List Token) (p : ProgramTree) → Derives tokens p → levels_program p ≤ 200 → (q : ProgramTree) × (whole at tokens ≡ Ok (q, [])) }
+{}
+
+/// No program's tokens begin with the tokens up to and including one that is refused; where tokens are
+/// missing, these are no program's.
+pub fn refused_is_blamed()
+    ensures { (at : Places) (tokens : List Token) (left : ℕ) → whole at tokens ≡ Err (At left) → Blames tokens left }
+{}
+
+/// A refused token is the first: some program's tokens begin with the tokens before it.
+pub fn refused_is_first()
+    ensures { (at : Places) (tokens : List Token) (left : ℕ) → whole at tokens ≡ Err (At left) → Begun tokens left }
+{}
+
+/// Each program whose tokens begin with those up to and including one that is nested too deep has more
+/// than 200 levels.
+pub fn nested_is_deep()
+    ensures { (at : Places) (tokens : List Token) (left : ℕ) → whole at tokens ≡ Err (Nested left) → Deepens tokens left }
+{}
+
+/// A token that is nested too deep begins an expression on level 201: with that level, reading goes past it.
+pub fn nested_is_first()
+    ensures { (at : Places) (tokens : List Token) (left : ℕ) (fault : Fault) → whole at tokens ≡ Err (Nested left) → whole_in 201 at tokens ≡ Err fault → left_of fault < left }
+{}
+
+/// Levels don't count where a token is refused: with any more of them it is refused too.
+pub fn refused_at_any_level()
+    ensures { (at : Places) (tokens : List Token) (left levels : ℕ) → 200 ≤ levels → whole at tokens ≡ Err (At left) → whole_in levels at tokens ≡ Err (At left) }
+{}
+
+/// Tokens spell one program at most, given the spans of the tokens.
+pub fn one_program()
+    ensures { (at : Places) (tokens : List Token) (p q : ProgramTree) → Derives tokens p → Derives tokens q → IsPlacedProgram at p → IsPlacedProgram at q → p ≡ q }
+{}

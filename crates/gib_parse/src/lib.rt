@@ -1,0 +1,16 @@
+//! The parser: tokens to programs, by the grammar.
+#![tactic(auto)]
+
+mod declarations;
+mod expressions;
+pub mod fault;
+pub mod law;
+pub mod parsing;
+mod phrases;
+mod stop;
+
+pub use fault::ParseFault;
+pub use parsing::parse;
+
+#[cfg(test)]
+mod tests;

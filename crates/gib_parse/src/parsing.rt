@@ -1,0 +1,61 @@
+//! Parsing: from the tokens of a text to its program.
+
+ghost use Rattle.std.specs.Prelude.{◌≡◌, ◌≤◌, ℕ, Err, IfOk, IfErr};
+ghost use Rattle.gib_syntax.specs.Tree.{ProgramTree};
+ghost use Rattle.gib_syntax.specs.Spelling.{Derives, IsPlacedProgram, places_of, levels_program};
+ghost use Rattle.gib_syntax.specs.Parts.{program_of};
+ghost use Rattle.gib_parse.specs.Answers.{place_in, fault_of, AnswersRead, AnswersOnly, IsBlamedAt, IsTooDeepAt};
+
+use crate::declarations::whole;
+use crate::fault::ParseFault;
+use crate::phrases::span_at;
+use crate::stop::Stop;
+use gib_base::Span;
+use gib_lex::Tokens;
+use gib_syntax::Program;
+use std::alloc::Global;
+
+/// The place of the token from which so many are left; the text's length with none left.
+fn place(spans: &[Span], len: u32, left: usize) -> u32
+    ensures { result ≡ place_in spans.now len left }
+{
+    if left == 0 {
+        len
+    } else {
+        span_at(spans, left).start
+    }
+}
+
+fn fault(stop: Stop, spans: &[Span], len: u32) -> ParseFault
+    ensures { result ≡ fault_of spans.now len stop }
+{
+    match stop {
+        Stop::Memory => ParseFault::Memory,
+        Stop::At(left) => ParseFault::At(place(spans, len, left)),
+        Stop::Nested(left) => ParseFault::Nested(place(spans, len, left)),
+    }
+}
+
+/// The program that the tokens of a text spell.
+pub fn parse(alloc: Global, tokens: &Tokens) -> Result<Program, ParseFault>
+    // What is read is a program of the grammar, in 200 levels, whose parts carry the spans of their tokens.
+    ensures found { IfOk result (λ p. Derives tokens.now.tokens (program_of p)) }
+    ensures placed { IfOk result (λ p. IsPlacedProgram (places_of tokens.now.spans) (program_of p)) }
+    ensures levels { IfOk result (λ p. levels_program (program_of p) ≤ 200) }
+
+    // A program of the grammar in 200 levels is read, unless memory runs out.
+    ensures accepted { (g : ProgramTree) → Derives tokens.now.tokens g → levels_program g ≤ 200
+        → IfErr result (λ e. e ≡ ParseFault.Memory) }
+    ensures only { (g : ProgramTree) → Derives tokens.now.tokens g → levels_program g ≤ 200
+        → IsPlacedProgram (places_of tokens.now.spans) g → AnswersOnly result g }
+
+    // The first fault is answered.
+    ensures at { (place : ℕ) → result ≡ Err (ParseFault.At place) → IsBlamedAt tokens.now place }
+    ensures nested { (place : ℕ) → result ≡ Err (ParseFault.Nested place) → IsTooDeepAt tokens.now place }
+    ensures exact { AnswersRead tokens.now result }
+{
+    match whole(alloc, tokens.spans(), tokens.tokens()) {
+        Ok(program) => Ok(program),
+        Err(stop) => Err(fault(stop, tokens.spans(), tokens.len())),
+    }
+}
