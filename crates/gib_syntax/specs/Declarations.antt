@@ -1,5 +1,5 @@
 -- What a program declares: its types, constructors and functions.
-use Rattle.std.specs.Prelude.{◌≡◌, ℕ, suc, ◌+◌, ◌==◌, if◌then◌else◌, List, [], ◌∷◌, ◌++◌, map, Option, Some, None}
+use Rattle.std.specs.Prelude.{◌≡◌, ℕ, suc, ◌==◌, if◌then◌else◌, List, [], ◌∷◌, ◌++◌, map, Option, Some, None}
 use Rattle.gib_types.specs.declared.table.Ty.{Ty}
 use Rattle.gib_types.specs.declared.table.Ty.TheVariants.{Whole, Truth, Tree}
 use Rattle.gib_types.specs.Table.{Row, Table, name_of}
@@ -16,7 +16,7 @@ number_of x = x.name.0
 -- One place further.
 abbrev pub next_place : Option ℕ → Option ℕ
 next_place None = None
-next_place (Some n) = Some (n + 1)
+next_place (Some n) = Some (suc n)
 
 -- The place of the first of these names that is this one.
 abbrev pub place_of : List ℕ → ℕ → Option ℕ
@@ -57,7 +57,7 @@ row_in types owner c = record { name = number_of c.name; owner = owner; fields =
 -- All constructors of types that are numbered from a number on.
 abbrev pub rows_from : List ℕ → ℕ → List DataTree → List Row
 rows_from types owner [] = []
-rows_from types owner (d ∷ ds) = map (row_in types owner) d.constructors ++ rows_from types (owner + 1) ds
+rows_from types owner (d ∷ ds) = map (row_in types owner) d.constructors ++ rows_from types (suc owner) ds
 
 -- The table of a program's types and constructors.
 abbrev pub table_of_program : ProgramTree → Table
