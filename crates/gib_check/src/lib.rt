@@ -1,12 +1,14 @@
 //! The type check: which programs are typed, and else which rule is broken first.
 #![tactic(auto)]
 
+pub mod counts;
 pub mod fault;
 pub mod typed;
 
 ghost use Rattle.std.specs.Prelude.{◌≡◌, None, IfOk};
 ghost use Rattle.gib_syntax.specs.Parts.{program_of};
 
+pub use counts::Counts;
 pub use fault::{Fault, Kind, TypeFault};
 pub use typed::Typed;
 
