@@ -1,1 +1,4 @@
+pub mod Names
+pub mod Piece
+pub mod Spelling
 pub mod Lexed

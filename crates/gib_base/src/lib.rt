@@ -2,16 +2,14 @@
 #![tactic(auto)]
 
 pub mod limits;
+pub mod name;
 pub mod token;
 
+pub use name::{Name, NameFault, Names};
 use std::alloc::AllocError;
 
 /// Want of memory, the one answer that no contract ties to a cause.
 pub type Memory = AllocError;
-
-/// The number of a name: its place among the names of a text, in the order of their first use.
-#[derive(Clone, Copy, Debug, PartialEq, Eq)]
-pub struct Name(pub u32);
 
 /// Where something stands in the source text: the place of its first byte, and the place after its last one.
 #[derive(Clone, Copy, Debug, PartialEq, Eq)]

@@ -60,3 +60,18 @@ pub enum Token {
     Number(u64),
     Sign(Sign),
 }
+
+/// What a piece of a source text is.
+#[derive(Clone, Copy, Debug, PartialEq, Eq)]
+pub enum Piece {
+    /// A blank or a comment, which is no token.
+    Gap,
+    Sign(Sign),
+    /// A name that begins with a lower-case letter.
+    Variable,
+    /// A name that begins with an upper-case letter.
+    Constructor,
+    Number(u64),
+    /// Digits that stand for more than the greatest literal.
+    TooBig,
+}

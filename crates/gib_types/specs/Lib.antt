@@ -1,4 +1,5 @@
 pub mod Row
 pub mod Table
+pub mod Index
 pub mod Tree
 pub mod TreeCode

@@ -1,5 +1,5 @@
 -- The table of the declared types.
-use Rattle.std.specs.Prelude.{◌≡◌, ◌≤◌, ◌<◌, ℕ, List, [], ◌∷◌, ◌++◌, length, Option, Some, None, slice_get, ◌==◌, if◌then◌else◌}
+use Rattle.std.specs.Prelude.{◌≡◌, ◌≤◌, ◌<◌, ℕ, List, [], ◌∷◌, ◌++◌, length, Option, Some, None, slice_get, ◌==◌, nat_lt, ◌+◌, if◌then◌else◌}
 use Rattle.std.specs.List.{AllByRecursion}
 use Rattle.gib_types.specs.declared.table.Ty.{Ty}
 use Rattle.gib_types.specs.declared.table.Ty.TheVariants.{Whole, Truth, Tree}
@@ -37,6 +37,29 @@ owner_at table con = owner_of (slice_get table.rows con)
 -- The number of a constructor's name.
 abbrev pub name_at : Table → ℕ → ℕ
 name_at table con = name_of (slice_get table.rows con)
+
+-- How many of the rows belong to types before this one.
+abbrev pub rows_before : ℕ → List Row → ℕ
+rows_before ty [] = 0
+rows_before ty (row ∷ rows) = if nat_lt row.owner ty then 1 + rows_before ty rows else rows_before ty rows
+
+-- How many of the rows belong to the type.
+abbrev pub rows_of : ℕ → List Row → ℕ
+rows_of ty [] = 0
+rows_of ty (row ∷ rows) = if row.owner == ty then 1 + rows_of ty rows else rows_of ty rows
+
+-- The first constructor of a type: there are so many of the types before it.
+abbrev pub first_at : Table → ℕ → ℕ
+first_at table ty = rows_before ty table.rows
+
+-- How many constructors a type has.
+abbrev pub count_at : Table → ℕ → ℕ
+count_at table ty = rows_of ty table.rows
+
+-- The constructor has the name.
+pub record IsNamed (table : Table) (name : ℕ) (con : ℕ) : Type 0 where
+  pub within : con < length table.rows
+  pub named : name_at table con ≡ name
 
 -- The scalar fields among these.
 abbrev pub scalar_types : List Ty → List Ty

@@ -1,8 +1,8 @@
 //! The table of the declared types and their constructors.
 
-ghost use Rattle.std.specs.Prelude as Prelude;
-ghost use Rattle.std.specs.Prelude.{◌≡◌, ◌<◌, length, slice_get, Some, MatchOption};
-ghost use Rattle.gib_types.specs.Table.{table_of, con_at, fields_at, owner_at, name_at, IsTable};
+ghost use Rattle.std.specs.Prelude.{◌≡◌, ◌↔◌, IsTrue, ◌≤◌, ◌<◌, ◌+◌, ℕ, length, map, count_by, nat_lt, slice_get, slice_index, Some, None, IfOk, OnOk, MatchOption};
+ghost use Rattle.gib_types.specs.Table.{row_of, table_of, con_at, fields_at, owner_at, name_at, first_at, count_at, IsTable, IsNamed};
+ghost use Rattle.gib_types.specs.Index.{NamesDiffer, ArePlacesOf, IsPut, HasName};
 
 use gib_base::{Memory, Name};
 use std::alloc::Global;
@@ -37,6 +37,10 @@ pub struct Constructor {
 pub struct TypeTable {
     types: Vec<Name>,
     constructors: Vec<Constructor>,
+    /// Where the constructors of each type begin, and at the end where those of the last type end.
+    firsts: Vec<u32>,
+    /// The number of a constructor, at the number of its name.
+    places: Vec<u32>,
 }
 
 impl Model for TypeTable {
@@ -46,19 +50,98 @@ impl Model for TypeTable {
 
     ghost view = { λ t. table_of t.types.items t.constructors.items };
 
-    ghost invariant = { λ t. IsTable (table_of t.types.items t.constructors.items) };
+    ghost use Rattle.gib_types.specs.Index.{IsIndexed};
+
+    ghost invariant = { λ t. IsIndexed (table_of t.types.items t.constructors.items) t.firsts.items t.places.items };
+}
+
+/// How many of the constructors belong to types before this one.
+fn count_before(constructors: &[Constructor], ty: u32) -> u32
+    requires { length constructors.now ≤ 200 }
+    ensures { result ≡ count_by (λ c. nat_lt c.owner.0 ty) constructors.now }
+{
+    constructors.iter().filter(|c| c.owner.0 < ty).count() as u32
+}
+
+/// Where the constructors of each type begin, and where those of the last type end.
+fn list_firsts(
+    alloc: Global,
+    constructors: &[Constructor],
+    types: usize,
+) -> Result<Vec<u32>, Memory>
+    requires few { length constructors.now ≤ 200 }
+    requires types { types ≤ 200 }
+    ensures each { IfOk result (λ firsts. (ty : ℕ) → ty < types + 1 → slice_index firsts.items ty ≡ count_by (λ c. nat_lt c.owner.0 ty) constructors.now) }
+    ensures long { IfOk result (λ firsts. length firsts.items ≡ types + 1) }
+{
+    let mut firsts = Vec::new(alloc);
+    let mut ty = 0;
+    'types: while ty <= types {
+        firsts.push(count_before(constructors, ty as u32))?;
+        ty += 1;
+    }
+    Ok(firsts)
+}
+
+/// Writes the number of a constructor at the number of its name.
+fn put_place(places: &mut Vec<u32>, name: Name, con: u32) -> Result<(), Memory>
+    ensures { OnOk result (IsPut places.old.items places.new.items name.0 con) }
+{
+    let place = name.0 as usize;
+    if places.len() <= place {
+        places.resize(place + 1, 0)?;
+    }
+    places[place] = con;
+    Ok(())
+}
+
+/// The number of each constructor, at the number of its name.
+fn list_places(alloc: Global, constructors: &[Constructor]) -> Result<Vec<u32>, Memory>
+    requires few { length constructors.now ≤ 200 }
+    requires differ { NamesDiffer constructors.now }
+    ensures { IfOk result (λ places. ArePlacesOf constructors.now places.items) }
+{
+    let mut places = Vec::new(alloc);
+    let mut con = 0;
+    'constructors: while con < constructors.len() {
+        put_place(&mut places, constructors[con].name, con as u32)?;
+        con += 1;
+    }
+    Ok(places)
+}
+
+/// Whether there is such a constructor, and it has the name.
+fn has_name(constructors: &[Constructor], con: usize, name: Name) -> bool
+    ensures { IsTrue result ↔ HasName constructors.now con name.0 }
+{
+    if con >= constructors.len() {
+        return false;
+    }
+    constructors[con].name.0 == name.0
 }
 
 impl TypeTable {
     /// The table of these types and constructors.
-    pub fn make(types: Vec<Name>, constructors: Vec<Constructor>) -> TypeTable
+    ///
+    /// # Errors
+    ///
+    /// Want of memory.
+    pub fn make(
+        alloc: Global,
+        types: Vec<Name>,
+        constructors: Vec<Constructor>,
+    ) -> Result<TypeTable, Memory>
         requires { IsTable (table_of types.items constructors.items) }
-        ensures { result ≡ table_of types.items constructors.items }
+        ensures { IfOk result (λ table. table ≡ table_of types.items constructors.items) }
     {
-        TypeTable {
+        let firsts = list_firsts(alloc, &constructors, types.len())?;
+        let places = list_places(alloc, &constructors)?;
+        Ok(TypeTable {
             types,
             constructors,
-        }
+            firsts,
+            places,
+        })
     }
 
     /// How many constructors there are.
@@ -79,7 +162,7 @@ impl TypeTable {
 
     /// The constructor of a type that has a tag; None exactly where the type has no such constructor.
     pub fn con_of(&self, ty: TyId, tag: u8) -> Option<ConId>
-        ensures { MatchOption result (con_at self.now ty.0 tag ≡ Prelude.None) (λ con. con_at self.now ty.0 tag ≡ Some con.0) }
+        ensures { MatchOption result (con_at self.now ty.0 tag ≡ None) (λ con. con_at self.now ty.0 tag ≡ Some con.0) }
     {
         let place = tag as usize;
         if place < self.constructors.len() && self.constructors[place].owner.0 == ty.0 {
@@ -119,5 +202,67 @@ impl TypeTable {
         ensures { slice_get self.now.types ty.0 ≡ Some result.0 }
     {
         self.types[ty.0 as usize]
+    }
+
+    /// The first constructor of a type. All constructors of the type follow it, one after the other.
+    pub fn first_of(&self, ty: TyId) -> ConId
+        requires { ty.0 < length self.now.types }
+        ensures { result.0 ≡ first_at self.now ty.0 }
+    {
+        ConId(self.firsts[ty.0 as usize])
+    }
+
+    /// How many constructors a type has.
+    pub fn count_of(&self, ty: TyId) -> u32
+        requires { ty.0 < length self.now.types }
+        ensures { result ≡ count_at self.now ty.0 }
+    {
+        self.firsts[ty.0 as usize + 1] - self.firsts[ty.0 as usize]
+    }
+
+    /// The constructor of a name; None exactly where no constructor has it.
+    pub fn con_named(&self, name: Name) -> Option<ConId>
+        ensures { MatchOption result ((con : ℕ) → IsNamed self.now name.0 con → ⊥) (λ con. IsNamed self.now name.0 con.0) }
+    {
+        let place = name.0 as usize;
+        if place >= self.places.len() {
+            return None;
+        }
+        let con = self.places[place];
+        if has_name(&self.constructors, con as usize, name) {
+            Some(ConId(con))
+        } else {
+            None
+        }
+    }
+
+    /// How many declared types there are.
+    pub fn type_count(&self) -> u32
+        ensures { result ≡ length self.now.types }
+    {
+        self.firsts.len() as u32 - 1
+    }
+
+    /// What each table keeps: the limits on constructors and fields, names that differ, and an order in
+    /// which the constructors of a type stand together.
+    pub fn rules(&self)
+        ensures { IsTable self.now }
+    {
+        let _all = &self.constructors;
+    }
+
+    /// The constructors of a type are those from its first one on, as many as it has.
+    pub fn stand_together(&self)
+        ensures { (ty con : ℕ) → (con_at self.now ty con ≡ Some con) ↔ ((first_at self.now ty ≤ con) × (con < first_at self.now ty + count_at self.now ty)) }
+    {
+        let _all = &self.constructors;
+    }
+
+    /// A constructor is found by its tag among those of its type, and by no other tag.
+    pub fn tags_invert(&self)
+        ensures there { (con : ℕ) → con < length self.now.rows → con_at self.now (owner_at self.now con) con ≡ Some con }
+        ensures back { (ty tag con : ℕ) → con_at self.now ty tag ≡ Some con → (tag ≡ con) × (con < length self.now.rows) × (owner_at self.now con ≡ ty) }
+    {
+        let _all = &self.constructors;
     }
 }

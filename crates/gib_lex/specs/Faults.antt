@@ -1,0 +1,33 @@
+-- Where a text has no tokens. Each holds what the text makes up to its place, so that it is the first in the text.
+use Rattle.std.specs.Prelude.{◌≡◌, ◌<◌, ◌≤◌, ℕ, List, [], ◌∷◌, length, take, drop}
+use Rattle.gib_base.specs.declared.token.Piece.TheVariants.{TooBig}
+use Rattle.gib_base.specs.Piece.{IsLongest, IsStuck}
+use Rattle.gib_base.specs.Spelling.{piece_of}
+use Rattle.gib_base.specs.Lexed.{Lexed, IsLexedTo, part_at, names_with}
+
+-- At the place no piece begins.
+pub record IsStuckAt (bytes : List ℕ) (place : ℕ) : Type 0 where
+  pub before : Lexed
+  pub front : IsLexedTo bytes place before
+  pub few : length before.names ≤ 65535
+  pub inside : place < length bytes
+  pub stuck : IsStuck (drop place bytes)
+
+-- At the place a number begins that is larger than the greatest literal.
+pub record IsBigAt (bytes : List ℕ) (place : ℕ) : Type 0 where
+  pub before : Lexed
+  pub front : IsLexedTo bytes place before
+  pub few : length before.names ≤ 65535
+  pub size : ℕ
+  pub longest : IsLongest (drop place bytes) size
+  pub big : piece_of (take size (drop place bytes)) ≡ TooBig
+
+-- At some place a name stands with which there are more than 65,535.
+pub record HasTooManyNames (bytes : List ℕ) : Type 0 where
+  pub place : ℕ
+  pub before : Lexed
+  pub front : IsLexedTo bytes place before
+  pub few : length before.names ≤ 65535
+  pub size : ℕ
+  pub longest : IsLongest (drop place bytes) size
+  pub many : 65535 < length (names_with before.names (part_at bytes place size ∷ []))

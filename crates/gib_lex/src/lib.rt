@@ -1,0 +1,11 @@
+//! Source text to tokens.
+#![tactic(auto)]
+
+pub mod fault;
+pub mod lexer;
+mod pieces;
+pub mod tokens;
+
+pub use fault::LexFault;
+pub use lexer::lex;
+pub use tokens::Tokens;
