@@ -14,6 +14,7 @@ use Rattle.gib_check.specs.declared.counts.Counts.{Counts}
 use Rattle.gib_check.specs.declared.fault.Fault.{Fault}
 use Rattle.gib_check.specs.declared.fault.Kind.{Kind}
 use Rattle.gib_check.specs.declared.fault.Kind.TheVariants as kind
+use Rattle.gib_check.specs.declared.rules.Part.{Part}
 
 -- What is known after a rule, or the fault.
 abbrev pub Checked : Type 0 → Type 0
@@ -84,20 +85,15 @@ same_type (Tree s) Whole = false
 same_type (Tree s) Truth = false
 same_type (Tree s) (Tree t) = s.0 == t.0
 
--- A part of an expression, after its check: its type, and where it stands.
-pub record Part : Type 0 where
-  pub type : Ty
-  pub place : Span
-
 -- `Shape`: the part has the type that is due.
 abbrev pub wanted : Ty → Part → Checked (Unit {0})
-wanted due part = allowed (same_type part.type due) kind.Shape part.place (tt {0})
+wanted due part = allowed (same_type part.ty due) kind.Shape part.place (tt {0})
 
 -- Each part has its type.
-abbrev pub all_wanted : List Ty → List Part → Checked (Unit {0})
-all_wanted [] parts = Ok (tt {0})
-all_wanted (t ∷ ts) [] = Ok (tt {0})
-all_wanted (t ∷ ts) (part ∷ parts) = and_then (wanted t part) (λ _. all_wanted ts parts)
+abbrev pub all_wanted : List Part → List Ty → Checked (Unit {0})
+all_wanted [] ts = Ok (tt {0})
+all_wanted (part ∷ parts) [] = Ok (tt {0})
+all_wanted (part ∷ parts) (t ∷ ts) = and_then (wanted t part) (λ _. all_wanted parts ts)
 
 -- Each part has the one type.
 abbrev pub all_of : Ty → List Part → Checked (Unit {0})
@@ -175,7 +171,7 @@ bind_all scope n (x ∷ xs) (t ∷ ts) = and_then (new_variable scope n x) (λ m
 -- The type of the first part; there is one wherever this is asked.
 abbrev pub first_type : List Part → Ty
 first_type [] = Whole
-first_type (part ∷ parts) = part.type
+first_type (part ∷ parts) = part.ty
 
 abbrev mutual
   -- The type of an expression and the counts behind it, or the first broken rule: its own limit, then its
@@ -189,22 +185,22 @@ abbrev mutual
       and_then (one_more n p)
       (λ m. and_then (infer g scope m a)
       (λ x. and_then (infer g scope x.1 b)
-      (λ y. and_then (wanted Whole (record { type = x.0; place = place a }))
-      (λ _. and_then (wanted Whole (record { type = y.0; place = place b }))
+      (λ y. and_then (wanted Whole (record { ty = x.0; place = place a }))
+      (λ _. and_then (wanted Whole (record { ty = y.0; place = place b }))
       (λ _. Ok (operator_type f, y.1))))))
   infer g scope n (Call f xs) =
       and_then (one_more n f.span)
       (λ m. and_then (function g.functions f)
       (λ h. and_then (as_many (argument_count xs) (parameter_types g.table h) f)
       (λ _. and_then (infer_all g scope m xs)
-      (λ r. and_then (all_wanted (parameter_types g.table h) r.0)
+      (λ r. and_then (all_wanted r.0 (parameter_types g.table h))
       (λ _. Ok (result_type g.table h, r.1))))))
   infer g scope n (Make k xs) =
       and_then (one_more n k.span)
       (λ m. and_then (constructor g.table k)
       (λ c. and_then (as_many (argument_count xs) (fields_at g.table c) k)
       (λ _. and_then (infer_all g scope m xs)
-      (λ r. and_then (all_wanted (fields_at g.table c) r.0)
+      (λ r. and_then (all_wanted r.0 (fields_at g.table c))
       (λ _. Ok (Tree (record { 0 = owner_at g.table c }), r.1))))))
   infer g scope n (Let p x a b) =
       and_then (one_more n p)
@@ -223,8 +219,8 @@ abbrev mutual
       (λ m. and_then (infer g scope m a)
       (λ x. and_then (infer g scope x.1 b)
       (λ y. and_then (infer g scope y.1 c)
-      (λ z. and_then (wanted Truth (record { type = x.0; place = place a }))
-      (λ _. and_then (wanted y.0 (record { type = z.0; place = place c }))
+      (λ z. and_then (wanted Truth (record { ty = x.0; place = place a }))
+      (λ _. and_then (wanted y.0 (record { ty = z.0; place = place c }))
       (λ _. Ok (y.0, z.1)))))))
   infer g scope n (Case p x arms) =
       and_then (one_more n p)
@@ -243,16 +239,16 @@ abbrev mutual
   infer_all g scope n (Argument a xs) =
       and_then (infer g scope n a)
       (λ x. and_then (infer_all g scope x.1 xs)
-      (λ r. Ok (record { type = x.0; place = place a } ∷ r.0, r.1)))
+      (λ r. Ok (record { ty = x.0; place = place a } ∷ r.0, r.1)))
 
   -- The results of arms, in the order of the text.
   pub infer_arms : Globals → Scope → Counts → Arms → Checked (List Part × Counts)
   infer_arms g scope n (LastArm k xs e) =
       and_then (bind_all scope n xs (fields_named g.table k))
       (λ inner. and_then (infer g inner.0 inner.1 e)
-      (λ x. Ok (record { type = x.0; place = place e } ∷ [], x.1)))
+      (λ x. Ok (record { ty = x.0; place = place e } ∷ [], x.1)))
   infer_arms g scope n (NextArm k xs e arms) =
       and_then (bind_all scope n xs (fields_named g.table k))
       (λ inner. and_then (infer g inner.0 inner.1 e)
       (λ x. and_then (infer_arms g scope x.1 arms)
-      (λ r. Ok (record { type = x.0; place = place e } ∷ r.0, r.1))))
+      (λ r. Ok (record { ty = x.0; place = place e } ∷ r.0, r.1))))

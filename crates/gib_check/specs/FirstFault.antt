@@ -103,7 +103,7 @@ with_parameters types (q ∷ qs) scope = with_parameters types qs (bound q.name 
 abbrev pub check_body : Globals → List Parameter → TypeName → Expression → Checked (Unit {0})
 check_body g parameters result body =
     and_then (infer g (with_parameters g.table.types parameters []) (record { variables = length parameters; expressions = 0 }) body)
-    (λ r. wanted (type_of_name g.table.types result) (record { type = r.0; place = place body }))
+    (λ r. wanted (type_of_name g.table.types result) (record { ty = r.0; place = place body }))
 
 abbrev pub check_bodies : Globals → List FunctionTree → Checked (Unit {0})
 check_bodies g [] = Ok (tt {0})

@@ -1,7 +1,7 @@
 //! What a program breaks.
 
 use gib_base::{Memory, Span};
-use std::alloc::AllocError;
+use std::alloc::AllocFailed;
 
 /// The kinds of broken rules.
 #[derive(Clone, Copy, Debug, PartialEq, Eq)]
@@ -36,7 +36,23 @@ pub enum TypeFault {
 }
 
 impl From<Memory> for TypeFault {
-    fn from(_error: AllocError) -> TypeFault {
+    ghost use Rattle.std.specs.Prelude.{◌≡◌};
+    ghost use Rattle.gib_check.specs.declared.fault.TypeFault.TheVariants as fault;
+
+    ghost from_gives = { λ _ e. e ≡ fault.Memory };
+
+    fn from(_error: Memory) -> TypeFault {
+        TypeFault::Memory
+    }
+}
+
+impl<T: Drop> From<AllocFailed<T>> for TypeFault {
+    ghost use Rattle.std.specs.Prelude.{◌≡◌};
+    ghost use Rattle.gib_check.specs.declared.fault.TypeFault.TheVariants as fault;
+
+    ghost from_gives = { λ _ e. e ≡ fault.Memory };
+
+    fn from(_failed: AllocFailed<T>) -> TypeFault {
         TypeFault::Memory
     }
 }

@@ -3,6 +3,8 @@
 
 pub mod counts;
 pub mod fault;
+mod names;
+mod rules;
 pub mod typed;
 
 ghost use Rattle.std.specs.Prelude.{◌≡◌, None, IfOk};
