@@ -9,7 +9,7 @@ use Rattle.gib_syntax.specs.declared.tree.Ident.{Ident}
 use Rattle.gib_syntax.specs.declared.tree.Parameter.{Parameter}
 use Rattle.gib_syntax.specs.Tree.{Expression, Arguments, Arms, Var, Num, Bit, Paren, Op, Call, Make, Let, Par, If, Case, NoArgument, Argument, LastArm, NextArm, FunctionTree}
 use Rattle.gib_syntax.specs.Declarations.{number_of, place_of, constructor_named, function_named}
-use Rattle.gib_syntax.specs.Typing.{Globals, Scope, type_in, bound, parameter_types, result_type, operator_type, arm_names}
+use Rattle.gib_syntax.specs.Typing.{Globals, Scope, type_in, bound, parameter_types, result_type, operator_type}
 use Rattle.gib_check.specs.declared.counts.Counts.{Counts}
 use Rattle.gib_check.specs.declared.fault.Fault.{Fault}
 use Rattle.gib_check.specs.declared.fault.Kind.{Kind}
@@ -119,6 +119,10 @@ abbrev pub heads : Arms → List ArmHead
 heads (LastArm k xs e) = record { constructor = k; variables = xs } ∷ []
 heads (NextArm k xs e arms) = record { constructor = k; variables = xs } ∷ heads arms
 
+-- The names of the arms' constructors.
+abbrev pub head_names : List ArmHead → List ℕ
+head_names hs = map (λ (h : ArmHead). number_of h.constructor) hs
+
 -- `Unknown`: the constructor of each arm is declared.
 abbrev pub all_declared : Table → List ArmHead → Checked (Unit {0})
 all_declared table [] = Ok (tt {0})
@@ -173,6 +177,25 @@ abbrev pub first_type : List Part → Ty
 first_type [] = Whole
 first_type (part ∷ parts) = part.ty
 
+-- A case whose arms have these heads: its variable, the arms by their constructors, the arms, and that their
+-- results have the type of the first one.
+abbrev pub infer_case : Table → Scope → Counts → Span → Ident → List ArmHead → (Counts → Checked (List Part × Counts)) → Checked (Ty × Counts)
+infer_case table scope n p x hs results =
+    and_then (one_more n p)
+    (λ m. and_then (variable scope x)
+    (λ s. and_then (declared_type s x)
+    (λ t. and_then (all_declared table hs)
+    (λ _. and_then (covered table t (head_names hs) p)
+    (λ _. and_then (all_counted table hs)
+    (λ _. and_then (results m)
+    (λ r. and_then (all_of (first_type r.0) r.0)
+    (λ _. Ok (first_type r.0, r.1)))))))))
+
+-- An arm's result, in the scope of its variables.
+abbrev pub infer_arm : Table → Scope → Counts → Ident → List Ident → (Scope → Counts → Checked (Ty × Counts)) → Checked (Ty × Counts)
+infer_arm table scope n k xs result =
+    and_then (bind_all scope n xs (fields_named table k)) (λ inner. result inner.0 inner.1)
+
 abbrev mutual
   -- The type of an expression and the counts behind it, or the first broken rule: its own limit, then its
   -- own names and counts, then its parts from left to right, then the types of the parts.
@@ -222,16 +245,7 @@ abbrev mutual
       (λ z. and_then (wanted Truth (record { ty = x.0; place = place a }))
       (λ _. and_then (wanted y.0 (record { ty = z.0; place = place c }))
       (λ _. Ok (y.0, z.1)))))))
-  infer g scope n (Case p x arms) =
-      and_then (one_more n p)
-      (λ m. and_then (variable scope x)
-      (λ s. and_then (declared_type s x)
-      (λ t. and_then (all_declared g.table (heads arms))
-      (λ _. and_then (covered g.table t (arm_names arms) p)
-      (λ _. and_then (all_counted g.table (heads arms))
-      (λ _. and_then (infer_arms g scope m arms)
-      (λ r. and_then (all_of (first_type r.0) r.0)
-      (λ _. Ok (first_type r.0, r.1)))))))))
+  infer g scope n (Case p x arms) = infer_case g.table scope n p x (heads arms) (λ m. infer_arms g scope m arms)
 
   -- Arguments, from left to right.
   pub infer_all : Globals → Scope → Counts → Arguments → Checked (List Part × Counts)
@@ -244,11 +258,9 @@ abbrev mutual
   -- The results of arms, in the order of the text.
   pub infer_arms : Globals → Scope → Counts → Arms → Checked (List Part × Counts)
   infer_arms g scope n (LastArm k xs e) =
-      and_then (bind_all scope n xs (fields_named g.table k))
-      (λ inner. and_then (infer g inner.0 inner.1 e)
-      (λ x. Ok (record { ty = x.0; place = place e } ∷ [], x.1)))
+      and_then (infer_arm g.table scope n k xs (λ inner m. infer g inner m e))
+      (λ x. Ok (record { ty = x.0; place = place e } ∷ [], x.1))
   infer_arms g scope n (NextArm k xs e arms) =
-      and_then (bind_all scope n xs (fields_named g.table k))
-      (λ inner. and_then (infer g inner.0 inner.1 e)
+      and_then (infer_arm g.table scope n k xs (λ inner m. infer g inner m e))
       (λ x. and_then (infer_arms g scope x.1 arms)
-      (λ r. Ok (record { ty = x.0; place = place e } ∷ r.0, r.1))))
+      (λ r. Ok (record { ty = x.0; place = place e } ∷ r.0, r.1)))

@@ -2,10 +2,13 @@
 #![tactic(auto)]
 
 pub mod counts;
+mod arms;
+mod declared;
 pub mod fault;
 mod names;
 mod rules;
 pub mod typed;
+mod walk;
 
 ghost use Rattle.std.specs.Prelude.{◌≡◌, None, IfOk};
 ghost use Rattle.gib_syntax.specs.Parts.{program_of};
