@@ -1,5 +1,5 @@
 -- A node's tree is its layer over the trees of its parts.
-use Rattle.std.proofs.Common.{◌≡◌, ℕ, zero, suc, ◌<◌, List, [], ◌∷◌, Option, Some, None, refl, sym, ap, ◌∙◌, subst, arith, ◌++◌, ◌≤◌, length, get_or, ◌⊎◌, inl, inr, ⊎_elim, length-append}
+use Rattle.std.proofs.Common.{◌≡◌, ℕ, zero, suc, ◌<◌, List, [], ◌∷◌, Option, Some, None, refl, sym, ap, ◌∙◌, subst, arith, ◌++◌, length, get_or, ⊎_elim, length-append}
 use Rattle.std.proofs.str.Laws.{order}
 use Rattle.std.proofs.lemmas.Option.{same_Some, slice_get_within, slice_get-get_or}
 use Rattle.std.specs.Prelude.{slice_get}
@@ -8,8 +8,8 @@ use Rattle.gib_syntax.specs.declared.exprs.ExprId.{ExprId}
 use Rattle.gib_syntax.specs.declared.exprs.Arm.{Arm}
 use Rattle.gib_syntax.specs.declared.exprs.Node.{Node}
 use Rattle.gib_syntax.specs.declared.exprs.Node.TheVariants as n
-use Rattle.gib_syntax.specs.Tree.{Expression, Arguments, Arms, Var, Num, Bit, Paren, Op, Call, Make, Let, Par, If, Case, NoArgument, Argument, LastArm, NextArm}
-use Rattle.gib_syntax.specs.Arena.{IsArmBelow, ArmsBelow, PartsBelow, IsArena, arguments_from, arms_from, case_from, layer, tree_at, tree_of, Opens, Grows, Makes}
+use Rattle.gib_syntax.specs.Tree.{Expression, Arms, Paren, Op, Call, Make, Let, Par, If, Case, Argument, LastArm, NextArm}
+use Rattle.gib_syntax.specs.Arena.{IsArmBelow, ArmsBelow, PartsBelow, IsArena, arguments_from, arms_from, case_from, layer, tree_at, tree_of, Opens, Makes}
 
 
 arguments_same : (f g : ℕ → Expression) (id : ℕ) (is : List ExprId) → AllByRecursion (λ (a : ExprId). a.0 < id) is → ((a : ℕ) → a < id → f a ≡ g a) → arguments_from f is ≡ arguments_from g is

@@ -2,6 +2,7 @@
 #![tactic(auto)]
 
 pub mod exprs;
+pub mod law;
 pub mod tree;
 
 pub use exprs::{Arm, ExprId, Exprs, Node};

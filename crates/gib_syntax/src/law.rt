@@ -1,0 +1,23 @@
+//! Laws of programs: functions whose contracts are the laws.
+
+ghost use Rattle.std.specs.Prelude.{◌≡◌, ◌≤◌, ℕ};
+ghost use Rattle.gib_types.specs.Tree.{Datum, HasType};
+ghost use Rattle.gib_syntax.specs.Tree.{ProgramTree};
+ghost use Rattle.gib_syntax.specs.Spelling.{IsFineProgram};
+ghost use Rattle.gib_syntax.specs.Declarations.{table_of_program, input_type, output_type};
+ghost use Rattle.gib_syntax.specs.Typing.{IsTypedProgram};
+ghost use Rattle.gib_syntax.specs.Meaning.{Gives, run, OutcomeHas};
+
+/// A typed program of the grammar gives a value of the type of its result, where its input is of the
+/// type of its parameter and it gives one at all.
+pub fn results_are_typed()
+    ensures { (p : ProgramTree) (depth : ℕ) (v : Datum) → IsFineProgram p → IsTypedProgram p → HasType (table_of_program p) v (input_type p)
+        → OutcomeHas (table_of_program p) (output_type p) (run p depth v) }
+{
+}
+
+/// A value that a program gives stays its value with more depth.
+pub fn more_depth_keeps_the_value()
+    ensures { (p : ProgramTree) (m n : ℕ) (v result : Datum) → m ≤ n → run p m v ≡ Gives result → run p n v ≡ Gives result }
+{
+}
