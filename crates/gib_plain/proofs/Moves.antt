@@ -1,5 +1,5 @@
 -- The machine's moves on its stacks and frames.
-use Rattle.std.proofs.Common.{◌≡◌, ℕ, zero, suc, ◌+◌, ◌-◌, ◌<◌, ◌≤◌, List, [], ◌∷◌, ◌++◌, length, take, drop, map, refl, sym, ap, subst, ◌∙◌, arith, length-append, length-take, append_assoc, append-nil, get_or, Bool, true, false, cond, Result, Ok, Err}
+use Rattle.std.proofs.Common.{◌≡◌, ℕ, zero, suc, ◌+◌, ◌-◌, ◌<◌, ◌≤◌, List, [], ◌∷◌, ◌++◌, length, take, drop, map, refl, sym, ap, subst, ◌∙◌, arith, length-append, length-take, append_assoc, append-nil, get_or, false, cond, Result, Ok, Err}
 use Rattle.std.specs.List.{AllByRecursion}
 use Rattle.std.specs.Prelude.{is_ok, is_err}
 use Rattle.std.proofs.lemmas.List.{take-take, take-append-le, map-append, drop-append-le, same_from_push, take_all, take_more, drop_more, drop_all, length-drop, length-map}
@@ -12,8 +12,8 @@ use Rattle.gib_syntax.specs.Meaning.{Environment, bind, names_of}
 use Rattle.gib_plain.specs.declared.machine.Binding.{Binding}
 use Rattle.gib_plain.specs.declared.machine.Frame.{Frame}
 use Rattle.gib_plain.specs.Running.{Waiting, Doing, State, with_done}
-use Rattle.gib_plain.specs.Machines.{cut, env_over, env_of, bindings_of, waiting, all_waiting, IsBound, Nest, Held}
-use Rattle.gib_plain.proofs.Stacks.{All-take, All-drop, All-append, AllWithin-later, AllBound-later, values-more, env_over-append, env_over-more, env_over-bindings, nest_more, nest_push, nest_pop, Popped, frames_same, frames_grown}
+use Rattle.gib_plain.specs.Machines.{cut, env_of, bindings_of, waiting, all_waiting, IsBound, Nest, Held}
+use Rattle.gib_plain.proofs.Stacks.{All-take, All-drop, All-append, AllWithin-later, AllBound-later, env_over-append, env_over-more, env_over-bindings, nest_more, nest_push, nest_pop, Popped, frames_same, frames_grown}
 
 pub held_push : (h : List Datum) (vars : List Binding) (temps : List Node) (fs : List Frame) (base : ℕ) (f : Frame) → Held h vars temps fs base → Nest 0 0 fs f.vars_len f.start → f.base ≤ f.vars_len → f.start ≤ f.temps_len → f.vars_len ≤ length vars → f.temps_len ≤ length temps → Held h vars temps (fs ++ f ∷ []) base
 held_push h vars temps fs base f held n b a v t = record { vars_within = held.vars_within; temps_within = held.temps_within; base_in = held.base_in; nest = nest_push 0 0 fs f (length vars) (length temps) n b a v t }

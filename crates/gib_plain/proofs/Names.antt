@@ -1,11 +1,11 @@
 -- What names and parts of a program are.
-use Rattle.std.proofs.Common.{◌≡◌, ℕ, zero, suc, ◌+◌, ◌-◌, ◌<◌, ◌≤◌, ◌≢◌, inl, inr, Bool, true, false, cond, eqb, List, [], ◌∷◌, ◌++◌, Option, Some, None, length, drop, take, get_or, map, refl, sym, ap, subst, ◌∙◌, arith}
+use Rattle.std.proofs.Common.{◌≡◌, ℕ, zero, suc, ◌+◌, ◌<◌, ◌≤◌, inl, inr, Bool, cond, List, [], ◌∷◌, Option, Some, None, length, drop, take, get_or, map, refl, sym, ap, subst, ◌∙◌, arith}
 use Rattle.std.specs.Prelude.{slice_get, MatchOption}
-use Rattle.std.proofs.lemmas.Bool.{eq-eqb, eqb-true}
+use Rattle.std.proofs.lemmas.Bool.{eq-eqb}
 use Rattle.std.proofs.lemmas.Bool.Decides.{eqb_tells}
-use Rattle.std.proofs.lemmas.List.{take_more, drop_more, drop_all, drop-append-le, length-take-le}
+use Rattle.std.proofs.lemmas.List.{take_more, drop-append-le, length-take-le}
 use Rattle.gib_types.specs.declared.table.ConId.{ConId}
-use Rattle.gib_types.specs.Table.{Row, Table, name_of, name_at, IsNamed}
+use Rattle.gib_types.specs.Table.{Row, Table, name_of, IsNamed}
 use Rattle.gib_types.specs.Tree.{Datum}
 use Rattle.gib_syntax.specs.declared.exprs.ExprId.{ExprId}
 use Rattle.gib_syntax.specs.declared.exprs.Node.{Node}
@@ -16,7 +16,7 @@ use Rattle.gib_syntax.specs.Typing.{IsTypedProgram}
 use Rattle.gib_syntax.specs.Meaning.{Environment, value_in}
 use Rattle.gib_value.specs.Heap.{value_of}
 use Rattle.gib_plain.specs.declared.machine.Binding.{Binding}
-use Rattle.gib_plain.specs.Machines.{env_over, env_of}
+use Rattle.gib_plain.specs.Machines.{env_of}
 use Rattle.gib_plain.specs.Running.{expressions_of}
 use Rattle.gib_plain.proofs.Stacks.{env_over-append}
 
@@ -29,8 +29,8 @@ place-there (r ∷ rows) name (suc k) d lt e =
     let names = map (λ (r : Row). r.name) rows in
     let there : place_of names name ≡ Some k = place-there rows name k d.1 (omega arith) e in
     elim (eqb_tells r.name name) [
-      inl h ↦ absurd (let same : place_of names r.name ≡ place_of names name = ap (place_of names) h.1 in let two : None ≡ Some k = sym d.0 ∙ same ∙ there in cc)
-    | inr h ↦ ap (λ (b : Bool). cond b (Some 0) (next_place (place_of names name))) h.0 ∙ ap next_place there
+      | inl h ↦ absurd (let same : place_of names r.name ≡ place_of names name = ap (place_of names) h.1 in let two : None ≡ Some k = sym d.0 ∙ same ∙ there in cc)
+      | inr h ↦ ap (λ (b : Bool). cond b (Some 0) (next_place (place_of names name))) h.0 ∙ ap next_place there
     ]
 
 place-nowhere : (rows : List Row) (name : ℕ) → ((con : ℕ) → con < length rows → name_of (slice_get rows con) ≡ name → ⊥) → place_of (map (λ (r : Row). r.name) rows) name ≡ None
@@ -38,8 +38,8 @@ place-nowhere [] name no' = refl
 place-nowhere (r ∷ rows) name no' =
     let names = map (λ (r : Row). r.name) rows in
     elim (eqb_tells r.name name) [
-      inl h ↦ absurd (no' zero (omega arith) h.1)
-    | inr h ↦ ap (λ (b : Bool). cond b (Some 0) (next_place (place_of names name))) h.0 ∙ ap next_place (place-nowhere rows name (λ con lt e. no' (suc con) (omega arith) e))
+      | inl h ↦ absurd (no' zero (omega arith) h.1)
+      | inr h ↦ ap (λ (b : Bool). cond b (Some 0) (next_place (place_of names name))) h.0 ∙ ap next_place (place-nowhere rows name (λ con lt e. no' (suc con) (omega arith) e))
     ]
 
 pub named-by : (p : ProgramTree) (table : Table) (name : ℕ) (o : Option ConId) → IsTypedProgram p → table ≡ table_of_program p → MatchOption o ((con : ℕ) → IsNamed table name con → ⊥) (λ con. IsNamed table name con.0) → MatchOption o (constructor_named (table_of_program p) name ≡ None) (λ con. constructor_named (table_of_program p) name ≡ Some con.0)

@@ -1,11 +1,11 @@
 -- What the machine's moves do to what it owes and to the work that is left.
-use Rattle.std.proofs.Common.{◌≡◌, ℕ, zero, suc, ◌+◌, ◌<◌, ◌≤◌, cond, ◌⊎◌, inl, inr, Bool, true, false, List, [], ◌∷◌, ◌++◌, Option, Some, None, length, drop, refl, sym, ap, subst, ◌∙◌, arith, append_assoc, append-nil, length-append}
+use Rattle.std.proofs.Common.{◌≡◌, ℕ, ◌+◌, ◌≤◌, cond, ◌⊎◌, inl, inr, Bool, true, false, List, [], ◌∷◌, ◌++◌, Some, length, drop, refl, sym, ap, ◌∙◌, arith, append_assoc, append-nil, length-append}
 use Rattle.gib_types.specs.declared.table.Ty.{Ty}
-use Rattle.gib_types.specs.Table.{Table, fields_at}
+use Rattle.gib_types.specs.Table.{fields_at}
 use Rattle.gib_types.specs.Tree.{Datum, con, data_of}
-use Rattle.gib_syntax.specs.Tree.{Expression, Arguments, Arms, Var, Num, Bit, Paren, Op, Call, Make, Let, Par, If, Case, NoArgument, Argument}
+use Rattle.gib_syntax.specs.Tree.{Expression, Arguments, Var, Num, Bit, Paren, Op, Call, Make, Let, Par, If, Case, NoArgument, Argument}
 use Rattle.gib_syntax.specs.Declarations.{number_of, constructor_named}
-use Rattle.gib_syntax.specs.Meaning.{Outcome, Reason, Gives, Stops, Deep, Environment, with_value, with_values, with_fields, at_fields, is_scalar, eval, eval_all, made, choose}
+use Rattle.gib_syntax.specs.Meaning.{Outcome, Reason, Gives, Stops, Deep, Environment, with_value, with_values, with_fields, at_fields, is_scalar, eval_all, made}
 use Rattle.gib_plain.specs.Running.{Waiting, Code, Around, at, gives, means_in, all_mean, expressions_of, first_parts, left_parts, finish, finished, complete, after, with_done, resume, if_values, cost, cost_all, costs, finish_cost, finished_cost, complete_cost, after_cost, stack_cost, made_of}
 
 pub resume-snoc : (c : Code) (fs : List Waiting) (f : Waiting) (o : Outcome) → resume c (fs ++ f ∷ []) o ≡ resume c fs (after c f o)
@@ -152,8 +152,8 @@ stop_fields false (t ∷ ts) (o ∷ os) h = stop_false (is_scalar t) o (at_field
 pub fields-any_order : (ts : List Ty) (os : List Outcome) (go : List Datum → Outcome) → with_fields ts os go ≡ with_values os go
 fields-any_order ts os go =
     elim (stop_or (at_fields true ts os ++ at_fields false ts os) (with_values os go)) [
-      inl h ↦ stop_stops (at_fields true ts os ++ at_fields false ts os) (λ vs. with_values os go) h ∙ sym (stop_stops os go (either (stop_append (at_fields true ts os) (at_fields false ts os) h)))
-    | inr e ↦ e
+      | inl h ↦ stop_stops (at_fields true ts os ++ at_fields false ts os) (λ vs. with_values os go) h ∙ sym (stop_stops os go (either (stop_append (at_fields true ts os) (at_fields false ts os) h)))
+      | inr e ↦ e
     ]
   where
     either : HasStop (at_fields true ts os) ⊎ HasStop (at_fields false ts os) → HasStop os

@@ -1,17 +1,15 @@
 -- Each step owes what was owed, and leaves less work.
-use Rattle.std.proofs.Common.{◌≡◌, ℕ, zero, suc, ◌+◌, ◌-◌, ◌<◌, ◌≤◌, Bool, true, false, cond, eqb, List, [], ◌∷◌, ◌++◌, Option, Some, None, Result, Ok, Err, length, drop, refl, sym, ap, subst, ◌∙◌, arith, pos}
+use Rattle.std.proofs.Common.{◌≡◌, ℕ, suc, ◌+◌, ◌-◌, ◌≤◌, Bool, true, false, cond, eqb, List, [], ◌∷◌, ◌++◌, Option, Some, None, Result, Ok, Err, length, drop, refl, sym, ap, subst, ◌∙◌, arith, pos}
 use Rattle.std.specs.Prelude.{OnOk}
-use Rattle.gib_types.specs.Table.{Table}
-use Rattle.gib_types.specs.Tree.{Datum, whole, truth, con, data_of, list_of}
+use Rattle.gib_types.specs.Tree.{Datum, whole, truth, con}
 use Rattle.gib_syntax.specs.declared.exprs.Arm.{Arm}
-use Rattle.gib_syntax.specs.declared.exprs.ExprId.{ExprId}
 use Rattle.gib_syntax.specs.declared.tree.Ident.{Ident}
-use Rattle.gib_syntax.specs.Tree.{Expression, Arms, Call, Case, LastArm, NextArm, FunctionTree, ProgramTree}
+use Rattle.gib_syntax.specs.Tree.{Expression, Case, FunctionTree}
 use Rattle.gib_base.specs.declared.Span.{Span}
 use Rattle.gib_syntax.specs.Arena.{arms_from, case_from, ArmsBelow}
 use Rattle.gib_syntax.specs.Declarations.{number_of, constructor_named, function_named, table_of_program}
 use Rattle.gib_syntax.specs.Meaning.{Outcome, Gives, Stops, Deep, Environment, value_in, bind, choose, is_made_by, parts, eval_arms, calls, names_of, of_function}
-use Rattle.gib_plain.specs.Running.{Waiting, Doing, Entering, Leaving, Ended, State, Code, Around, around, at, gives, means_in, finish, finished, finish_cost, finished_cost, complete, complete_cost, first_parts, left_parts, after, after_cost, with_done, resume, owes, outcome_now, cost, cost_arms, call_cost, function_cost, pick, stack_cost, work, doing_cost, Comes, Goes, IsReady, frame_at, is_empty, is_over, is_number, arm_of, IsScalar, IsMadeBy}
+use Rattle.gib_plain.specs.Running.{Waiting, Doing, Entering, Leaving, Ended, State, Code, Around, at, gives, means_in, finish, finished, finish_cost, finished_cost, complete, complete_cost, first_parts, left_parts, after, after_cost, with_done, resume, owes, cost, cost_arms, call_cost, function_cost, pick, stack_cost, work, Comes, Goes, frame_at, is_empty, is_over, is_number, arm_of, IsScalar, IsMadeBy}
 use Rattle.gib_plain.proofs.Runs.{resume-snoc, stack_cost-snoc, resume-deep, stack_cost-deep, complete-next, complete_cost-next, complete-all, complete_cost-all, IsBegun, begin-mean, begin-cost}
 
 pub on_ok : {T E : Type 0} {X Y : Type 0} (r : Result T E) → (Y → X) → OnOk r Y → OnOk r X

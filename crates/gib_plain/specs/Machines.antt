@@ -5,7 +5,6 @@ use Rattle.gib_value.specs.declared.node.Node.{Node}
 use Rattle.gib_value.specs.Heap.{value_of, IsWithin}
 use Rattle.gib_types.specs.Tree.{Datum}
 use Rattle.gib_syntax.specs.declared.tree.Ident.{Ident}
-use Rattle.gib_syntax.specs.Declarations.{number_of}
 use Rattle.gib_syntax.specs.Meaning.{Environment}
 use Rattle.gib_plain.specs.declared.machine.Binding.{Binding}
 use Rattle.gib_plain.specs.declared.machine.Frame.{Frame}

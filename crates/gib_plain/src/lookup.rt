@@ -87,7 +87,11 @@ fn part_of_all(parts: &[ExprId], at: usize) -> Option<ExprId>
         (drop at (expressions_of (arguments_from f parts.now)) ≡ [])
         (λ i. drop at (expressions_of (arguments_from f parts.now)) ≡ f i.0 ∷ drop (at + 1) (expressions_of (arguments_from f parts.now))) }
 {
-    if at < parts.len() { Some(parts[at]) } else { None }
+    if at < parts.len() {
+        Some(parts[at])
+    } else {
+        None
+    }
 }
 
 /// The part at a place among those of an expression that are evaluated first.

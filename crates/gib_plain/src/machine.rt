@@ -200,7 +200,11 @@ impl Machine {
             return;
         };
         let done = between(&self.temps, frame.start, frame.temps_len);
-        let next = if truth_of(node_at(done, 0)) { then_part } else { else_part };
+        let next = if truth_of(node_at(done, 0)) {
+            then_part
+        } else {
+            else_part
+        };
         self.temps.truncate(frame.start);
         self.next = Now::Enter(next);
     }
@@ -213,7 +217,11 @@ impl Machine {
         let Some(frame) = self.frames.pop() else {
             return Ok(());
         };
-        push_bindings(&mut self.vars, names, between(&self.temps, frame.start, frame.temps_len))?;
+        push_bindings(
+            &mut self.vars,
+            names,
+            between(&self.temps, frame.start, frame.temps_len),
+        )?;
         self.temps.truncate(frame.start);
         self.next = Now::Enter(body);
         Ok(())
@@ -229,7 +237,11 @@ impl Machine {
             return Ok(());
         };
         self.base = self.vars.len();
-        push_parameters(&mut self.vars, parameters, between(&self.temps, frame.start, frame.temps_len))?;
+        push_parameters(
+            &mut self.vars,
+            parameters,
+            between(&self.temps, frame.start, frame.temps_len),
+        )?;
         self.temps.truncate(frame.start);
         self.left -= 1;
         self.next = Now::Enter(body);
@@ -513,7 +525,13 @@ impl Machine {
     }
 
     /// A machine that is about to evaluate an expression where one variable is in scope.
-    pub fn start(alloc: Global, value: Value, name: Name, depth: u32, id: ExprId) -> Result<Machine, Memory>
+    pub fn start(
+        alloc: Global,
+        value: Value,
+        name: Name,
+        depth: u32,
+        id: ExprId,
+    ) -> Result<Machine, Memory>
         ensures { IfOk result (λ m. m ≡ record { frames = []; left = depth; env = (name.0, value) ∷ []; doing = Entering id.0 }) }
     {
         let (heap, value) = value.into_parts();
@@ -641,7 +659,11 @@ fn push_bindings(vars: &mut Vec<Binding>, names: &[Ident], values: &[Node]) -> R
 }
 
 /// Binds the names of parameters to these values, as `push_bindings` does.
-fn push_parameters(vars: &mut Vec<Binding>, parameters: &[Parameter], values: &[Node]) -> Result<(), Memory>
+fn push_parameters(
+    vars: &mut Vec<Binding>,
+    parameters: &[Parameter],
+    values: &[Node],
+) -> Result<(), Memory>
     ensures { vars.new.items ≡ (if is_ok result then vars.old.items ++ bindings_of (names_of parameters.now) values.now else vars.old.items) }
 {
     let start = vars.len();

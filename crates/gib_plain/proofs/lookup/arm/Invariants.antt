@@ -1,4 +1,4 @@
-use Rattle.std.proofs.Common.{◌≡◌, ◌≤◌, ◌-◌, ℕ, List, length, map, drop}
+use Rattle.std.proofs.Common.{◌≡◌, ◌-◌, length, drop}
 use Rattle.gib_syntax.specs.Parts.{program_of}
 use Rattle.gib_syntax.specs.Declarations.{table_of_program}
 use Rattle.gib_plain.specs.Running.{arm_of}

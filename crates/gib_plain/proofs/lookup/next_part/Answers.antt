@@ -1,4 +1,4 @@
-use Rattle.std.proofs.Common.{◌≡◌, ◌≤◌, ◌∙◌, ap, arith, drop, length, [], List}
+use Rattle.std.proofs.Common.{◌≤◌, ◌∙◌, ap, arith, drop, length, []}
 use Rattle.std.proofs.lemmas.List.{drop_all}
 use Rattle.gib_syntax.specs.Tree.{Expression}
 use Rattle.gib_syntax.specs.Parts.{Parts}

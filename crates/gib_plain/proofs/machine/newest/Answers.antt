@@ -1,4 +1,4 @@
-use Rattle.std.proofs.Common.{◌≡◌, ◌-◌, ◌+◌, ◌≤◌, ◌<◌, ◌∙◌, length, ap, sym, arith, take, drop, ℕ}
+use Rattle.std.proofs.Common.{◌≡◌, ◌-◌, ◌+◌, ◌∙◌, ap, sym, arith, take, drop, ℕ}
 use Rattle.gib_syntax.specs.Meaning.{value_in, Environment}
 use Rattle.gib_plain.specs.Machines.{env_of}
 use Rattle.gib_plain.proofs.Names.{newest-at, found-newest, not-newest}
@@ -22,8 +22,8 @@ vars-preserved c =
       omega arith,
       omega (arith, c.vars.invariant.1),
       λ heap.
-      let at = newest-at heap vars c.args.base i _ (omega arith) (omega (arith, c.vars.invariant.1)) in
-      sym (not-newest _ _ _ c.args.name.0 c.if-vars-i.false)
-      ∙ ap (λ (env : Environment). value_in env c.args.name.0) (sym at ∙ ap (λ (n : ℕ). env_of heap (drop c.args.base (take n vars))) up)
-      ∙ c.vars.invariant.2 heap,
+          let at = newest-at heap vars c.args.base i _ (omega arith) (omega (arith, c.vars.invariant.1)) in
+          sym (not-newest _ _ _ c.args.name.0 c.if-vars-i.false)
+          ∙ ap (λ (env : Environment). value_in env c.args.name.0) (sym at ∙ ap (λ (n : ℕ). env_of heap (drop c.args.base (take n vars))) up)
+          ∙ c.vars.invariant.2 heap,
     )

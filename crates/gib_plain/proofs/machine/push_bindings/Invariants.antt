@@ -1,5 +1,4 @@
-use Rattle.std.proofs.Common.{◌≡◌, ◌≤◌, ◌-◌, ◌++◌, ℕ, List, length, take, drop}
-use Rattle.gib_syntax.specs.Meaning.{names_of}
+use Rattle.std.proofs.Common.{◌≡◌, ◌-◌, ◌++◌, length, take, drop}
 use Rattle.gib_plain.specs.Machines.{bindings_of}
 use Rattle.gib_plain.proofs.machine.push_bindings.Given as goal
 

@@ -1,6 +1,5 @@
-use Rattle.std.proofs.Common.{◌≡◌, ◌+◌, ◌≤◌, ◌++◌, ◌∷◌, [], ◌∙◌, ap, sym, arith, length, take, length-take}
+use Rattle.std.proofs.Common.{◌≤◌, ◌∙◌, ap, sym, arith, length, length-take}
 use Rattle.gib_syntax.specs.Meaning.{names_of}
-use Rattle.gib_plain.specs.declared.machine.Binding.{Binding}
 use Rattle.gib_plain.proofs.Moves.{bound_all, bound_one, pushed, kept_front}
 use Rattle.gib_plain.proofs.machine.push_parameters.Goals as goal
 

@@ -1,14 +1,13 @@
-use Rattle.std.proofs.Common.{◌≡◌, ◌+◌, ◌-◌, ◌++◌, ◌∷◌, [], arith, refl, ◌∙◌, ap, sym, drop, length, map, List}
+use Rattle.std.proofs.Common.{◌≡◌, ◌++◌, ◌∷◌, [], refl, ◌∙◌, ap, drop, length, map, List}
 use Rattle.std.specs.List.{AllByRecursion}
-use Rattle.std.proofs.Math.Seq.{drop-append_seam}
-use Rattle.gib_types.specs.Tree.{Datum, con, data_of}
+use Rattle.gib_types.specs.Tree.{Datum}
 use Rattle.gib_value.specs.declared.node.Node.{Node}
 use Rattle.gib_value.specs.Heap.{value_of, IsWithin}
-use Rattle.gib_syntax.specs.Meaning.{Environment, bind, names_of}
-use Rattle.gib_plain.specs.Running.{State, Waiting, Entering, Leaving}
-use Rattle.gib_plain.specs.Machines.{cut, env_of, env_over, bindings_of, IsBound}
-use Rattle.gib_plain.proofs.Stacks.{bindings-within, env_over-bindings}
-use Rattle.gib_plain.proofs.Moves.{held_at, held_pop, held_more, held_drop, held_bind, within_parts, seen_at, bound, dropped, more_vars, env_bound, state_eq, frames_popped, popped, grown}
+use Rattle.gib_syntax.specs.Meaning.{bind}
+use Rattle.gib_plain.specs.Running.{State, Waiting}
+use Rattle.gib_plain.specs.Machines.{cut, env_of}
+use Rattle.gib_plain.proofs.Stacks.{bindings-within}
+use Rattle.gib_plain.proofs.Moves.{held_at, held_pop, held_bind, within_parts, seen_at, bound, env_bound, state_eq, frames_popped, popped}
 use Rattle.gib_plain.proofs.machine.Machine.bind.Goals as goal
 
 pub between-requires-clause-start : goal.between-requires-clause-start

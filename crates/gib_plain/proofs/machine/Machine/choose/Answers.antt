@@ -1,11 +1,10 @@
-use Rattle.std.proofs.Common.{◌≡◌, ◌+◌, ◌++◌, ◌∷◌, [], arith, refl, ◌∙◌, ap, sym, length, cond, Bool, List, ℕ, map}
-use Rattle.std.specs.List.{AllByRecursion}
+use Rattle.std.proofs.Common.{◌≡◌, ◌++◌, ◌∷◌, [], ◌∙◌, ap, sym, cond, Bool, List, map}
 use Rattle.gib_types.specs.Tree.{Datum}
 use Rattle.gib_syntax.specs.declared.exprs.ExprId.{ExprId}
 use Rattle.gib_value.specs.declared.node.Node.{Node}
 use Rattle.gib_value.specs.Heap.{value_of}
-use Rattle.gib_syntax.specs.Meaning.{number_in, is_true, operate}
-use Rattle.gib_plain.specs.Running.{State, Waiting, Leaving, Entering, value_at}
+use Rattle.gib_syntax.specs.Meaning.{is_true}
+use Rattle.gib_plain.specs.Running.{State, Waiting, Entering, value_at}
 use Rattle.gib_plain.specs.Machines.{cut}
 use Rattle.gib_plain.proofs.Moves.{held_at, held_drop, seen_at, dropped, state_eq, frames_popped, popped}
 use Rattle.gib_plain.proofs.machine.Machine.choose.Goals as goal
@@ -22,7 +21,6 @@ between-done-requires-clause-end c =
     let m = c.self.inside in
     let held = held_at m.heap m.vars.items m.temps.items m.frames.items c.pop.new.self.items _ m.base c.in-Some.ensures.items c.self.invariant.held in
     rw c.deref.ensures.value (popped _ _ _ _ _ _ held).temps
-
 
 pub invariant_of-self-2 : goal.invariant_of-self-2
 invariant_of-self-2 c =

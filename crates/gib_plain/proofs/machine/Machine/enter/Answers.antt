@@ -1,4 +1,4 @@
-use Rattle.std.proofs.Common.{◌≡◌, ◌≤◌, ◌∙◌, ap, sym, refl, arith, length, ℕ, List, false}
+use Rattle.std.proofs.Common.{◌≤◌, ◌∙◌, ap, refl, arith, length, false}
 use Rattle.gib_types.specs.Tree.{truth}
 use Rattle.gib_syntax.specs.Tree.{Call}
 use Rattle.gib_syntax.specs.Arena.{tree_of, nothing, arguments_from}

@@ -1,10 +1,9 @@
 use Rattle.std.proofs.Common.{◌≡◌, ◌∙◌, ap, sym, subst, ℕ, List}
 use Rattle.gib_base.specs.declared.name.Name.{Name}
-use Rattle.gib_types.specs.Tree.{Datum}
 use Rattle.gib_syntax.specs.declared.tree.Ident.{Ident}
 use Rattle.gib_syntax.specs.Declarations.{number_of}
 use Rattle.gib_syntax.specs.Meaning.{value_in, bind, parts}
-use Rattle.gib_plain.specs.Running.{State, IsScalar, IsMadeBy, code_of, Entering}
+use Rattle.gib_plain.specs.Running.{IsScalar, IsMadeBy, code_of, Entering}
 use Rattle.gib_plain.proofs.Steps.{goes_scalar, goes_no_arm, goes_arm, on_ok}
 use Rattle.gib_plain.proofs.machine.Machine.enter_case.Goals as goal
 

@@ -1,9 +1,8 @@
-use Rattle.std.proofs.Common.{◌≡◌, ◌≤◌, ◌∙◌, ap, sym, refl, arith, length, pos, ℕ, List}
+use Rattle.std.proofs.Common.{◌≤◌, ◌∙◌, ap, refl, arith, length, pos}
 use Rattle.gib_types.specs.Tree.{whole}
-use Rattle.gib_syntax.specs.declared.exprs.Node.{Node}
 use Rattle.gib_syntax.specs.Arena.{tree_of, nothing, arguments_from}
 use Rattle.gib_syntax.specs.Parts.{Parts}
-use Rattle.gib_plain.specs.Running.{State, code_of}
+use Rattle.gib_plain.specs.Running.{code_of}
 use Rattle.gib_plain.proofs.Names.{tree-past, opened}
 use Rattle.gib_plain.proofs.Steps.{came_value, on_ok}
 use Rattle.gib_plain.proofs.machine.Machine.finish.Goals as goal

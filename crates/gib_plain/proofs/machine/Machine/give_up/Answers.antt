@@ -1,4 +1,4 @@
-use Rattle.std.proofs.Common.{◌≡◌, ◌++◌, ◌∷◌, [], refl, ◌∙◌, ap}
+use Rattle.std.proofs.Common.{◌++◌, ◌∷◌, [], refl, ◌∙◌, ap}
 use Rattle.gib_plain.specs.Running.{State}
 use Rattle.gib_plain.proofs.Moves.{held_at, held_drop, seen_at, dropped, state_eq}
 use Rattle.gib_plain.proofs.machine.Machine.give_up.Goals as goal

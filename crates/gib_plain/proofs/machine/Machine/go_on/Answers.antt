@@ -1,8 +1,7 @@
-use Rattle.std.proofs.Common.{◌≡◌, ◌+◌, ◌∷◌, ◌∙◌, ap, sym, refl, arith, length, drop, ℕ, List}
-use Rattle.gib_syntax.specs.Tree.{Expression}
+use Rattle.std.proofs.Common.{◌≡◌, ◌+◌, ◌∷◌, ◌∙◌, ap, sym, length, drop, ℕ, List}
 use Rattle.gib_syntax.specs.Arena.{tree_of}
-use Rattle.gib_plain.specs.Running.{State, Waiting, Entering, code_of, first_parts, left_parts}
-use Rattle.gib_plain.proofs.Steps.{came_next, came_all, on_ok}
+use Rattle.gib_plain.specs.Running.{Waiting, Entering, code_of, first_parts}
+use Rattle.gib_plain.proofs.Steps.{came_next}
 use Rattle.gib_plain.proofs.machine.Machine.go_on.Goals as goal
 
 pub returns-in-Some-next_part : goal.returns-in-Some-next_part

@@ -1,4 +1,4 @@
-use Rattle.std.proofs.Common.{◌≡◌, ◌∙◌, ap, sym}
+use Rattle.std.proofs.Common.{◌∙◌, ap, sym}
 use Rattle.gib_plain.specs.Machines.{doing_of}
 use Rattle.gib_plain.specs.Running.{State}
 use Rattle.gib_plain.proofs.Steps.{owes_ended}

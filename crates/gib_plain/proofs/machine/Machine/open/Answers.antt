@@ -1,15 +1,12 @@
-use Rattle.std.proofs.Common.{◌≡◌, ◌+◌, ◌-◌, ◌++◌, ◌∷◌, [], arith, refl, ◌∙◌, ap, sym, drop, length, map, List}
-use Rattle.std.specs.List.{AllByRecursion}
-use Rattle.std.proofs.Math.Seq.{drop-append_seam}
-use Rattle.gib_types.specs.Tree.{Datum, con, whole, truth, data_of, list_of}
-use Rattle.gib_value.specs.declared.node.Node.{Node}
-use Rattle.gib_value.specs.Heap.{value_of, IsWithin}
+use Rattle.std.proofs.Common.{◌≡◌, refl, ◌∙◌, ap, sym, drop, length, map, List}
+use Rattle.gib_types.specs.Tree.{Datum}
+use Rattle.gib_value.specs.Heap.{value_of}
 use Rattle.gib_syntax.specs.Meaning.{Environment, bind, parts, value_in}
 use Rattle.gib_plain.specs.declared.machine.Binding.{Binding}
-use Rattle.gib_plain.specs.Running.{State, Waiting, Entering, Leaving}
-use Rattle.gib_plain.specs.Machines.{cut, env_of, env_over, bindings_of, IsBound}
-use Rattle.gib_plain.proofs.Stacks.{bindings-within, env_over-bindings}
-use Rattle.gib_plain.proofs.Moves.{held_at, held_pop, held_more, held_drop, held_bind, within_parts, seen_at, bound, dropped, more_vars, env_bound, bind-none, list-data, state_eq, frames_popped, popped, grown}
+use Rattle.gib_plain.specs.Running.{State}
+use Rattle.gib_plain.specs.Machines.{env_of}
+use Rattle.gib_plain.proofs.Stacks.{bindings-within}
+use Rattle.gib_plain.proofs.Moves.{held_more, more_vars, env_bound, bind-none, list-data, state_eq}
 use Rattle.gib_plain.proofs.machine.Machine.open.Goals as goal
 
 pub fields-requires : goal.fields-requires

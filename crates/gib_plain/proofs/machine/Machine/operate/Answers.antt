@@ -1,10 +1,9 @@
-use Rattle.std.proofs.Common.{◌≡◌, ◌+◌, ◌++◌, ◌∷◌, [], arith, refl, ◌∙◌, ap, sym, length, cond, Bool, List, ℕ, ℤ, map}
-use Rattle.std.specs.List.{AllByRecursion}
+use Rattle.std.proofs.Common.{◌≡◌, ◌++◌, ◌∷◌, [], ◌∙◌, ap, length, List, ℤ, map}
 use Rattle.gib_types.specs.Tree.{Datum}
 use Rattle.gib_value.specs.declared.node.Node.{Node}
 use Rattle.gib_value.specs.Heap.{value_of}
-use Rattle.gib_syntax.specs.Meaning.{number_in, is_true, operate}
-use Rattle.gib_plain.specs.Running.{State, Waiting, Leaving, Entering, value_at}
+use Rattle.gib_syntax.specs.Meaning.{number_in, operate}
+use Rattle.gib_plain.specs.Running.{State, Waiting, Leaving, value_at}
 use Rattle.gib_plain.specs.Machines.{cut}
 use Rattle.gib_plain.proofs.Moves.{held_at, held_drop, seen_at, dropped, state_eq, frames_popped, popped}
 use Rattle.gib_plain.proofs.machine.Machine.operate.Goals as goal

@@ -1,4 +1,4 @@
-use Rattle.std.proofs.Common.{◌≡◌, ◌++◌, ◌∷◌, [], ◌∙◌, ap, arith, sym, refl}
+use Rattle.std.proofs.Common.{◌≡◌, ◌∙◌, ap, sym}
 use Rattle.gib_value.specs.Heap.{value_of}
 use Rattle.gib_plain.specs.Machines.{doing_of}
 use Rattle.gib_plain.specs.Running.{State, Leaving, with_done, IsReady, code_of}

@@ -1,8 +1,8 @@
-use Rattle.std.proofs.Common.{◌≡◌, ◌+◌, ◌++◌, ◌∷◌, [], arith, refl, ◌∙◌, ap, sym, subst, length, length-append, length-take}
+use Rattle.std.proofs.Common.{◌≡◌, ◌+◌, ◌++◌, ◌∷◌, [], arith, ◌∙◌, ap, sym, subst, length, length-append, length-take}
 use Rattle.gib_types.specs.Tree.{Datum}
 use Rattle.gib_value.specs.Heap.{value_of, IsWithin}
 use Rattle.gib_plain.specs.declared.machine.Now.{Now}
-use Rattle.gib_plain.specs.Running.{State, Waiting, Doing, Leaving, with_done}
+use Rattle.gib_plain.specs.Running.{State, Waiting, Leaving, with_done}
 use Rattle.gib_plain.specs.Machines.{doing_of, IsNowWithin}
 use Rattle.gib_plain.proofs.Moves.{held_at, held_back, held_taken, seen_at, taken, state_eq, frames_popped, popped}
 use Rattle.gib_plain.proofs.machine.Machine.take_in.Goals as goal

@@ -1,8 +1,6 @@
-use Rattle.std.proofs.Common.{◌≡◌, ◌-◌, ◌++◌, ◌∷◌, [], ◌∙◌, ap, sym, arith, length, take}
+use Rattle.std.proofs.Common.{◌≡◌, ◌-◌, ◌++◌, ◌∷◌, [], ◌∙◌, ap, sym, length, take}
 use Rattle.std.proofs.lemmas.Bool.{eqb-false}
-use Rattle.gib_plain.specs.declared.machine.Frame.{Frame}
 use Rattle.gib_plain.specs.Running.{State, Waiting}
-use Rattle.gib_plain.specs.Machines.{Held}
 use Rattle.gib_plain.proofs.Moves.{last_at, held_at, seen_at, popped, frames_popped, done_len}
 use Rattle.gib_plain.proofs.machine.Machine.top.Goals as goal
 

@@ -1,4 +1,4 @@
-use Rattle.std.proofs.Common.{arith, refl, ◌∙◌}
+use Rattle.std.proofs.Common.{refl, ◌∙◌}
 use Rattle.gib_plain.proofs.Moves.{held_wait}
 use Rattle.gib_plain.proofs.machine.Machine.wait.Goals as goal
 
