@@ -232,6 +232,10 @@ pub record Comes (c : Code) (s : State) (o : Outcome) (n : ℕ) : Type 0 where
   pub same : owes c s ≡ o
   pub within : work c s ≤ n
 
+-- The state owes what these frames make of the outcome, within the steps that it then takes and so many more.
+abbrev pub ComesTo : Code → State → List Waiting → Outcome → ℕ → Type 0
+ComesTo c s fs o n = Comes c s (resume c fs o) (stack_cost c fs o + n)
+
 -- A step: the same is owed, and less work is left.
 pub record Goes (c : Code) (old new : State) : Type 0 where
   pub same : owes c new ≡ owes c old

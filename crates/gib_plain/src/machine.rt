@@ -7,7 +7,7 @@ ghost use Rattle.gib_value.specs.Heap.{value_of};
 ghost use Rattle.gib_syntax.specs.Meaning.{bind, value_in, parts, operate, number_in, is_true, names_of, run};
 ghost use Rattle.gib_syntax.specs.Parts.{program_of};
 ghost use Rattle.gib_syntax.specs.Arena.{tree_of};
-ghost use Rattle.gib_plain.specs.Running.{Waiting, Entering, Leaving, Ended, IsScalar, IsMadeBy, with_done, value_at, is_over, IsReady, Comes, Goes, owes, resume, complete, finished, stack_cost, finished_cost, complete_cost, frame_at, code_of, Code};
+ghost use Rattle.gib_plain.specs.Running.{Waiting, Entering, Leaving, Ended, IsScalar, IsMadeBy, with_done, value_at, is_over, IsReady, ComesTo, Goes, owes, complete, finished, finished_cost, complete_cost, frame_at, code_of, Code};
 ghost use Rattle.gib_base.specs.declared.Span.{Span};
 ghost use Rattle.gib_syntax.specs.declared.tree.Ident.{Ident};
 ghost use Rattle.gib_syntax.specs.Tree.{Arguments, Call, Make, Case};
@@ -304,8 +304,7 @@ impl Machine {
     fn finish_call(&mut self, typed: &Typed, name: Name) -> Result<(), Memory>
         ensures { OnOk result ((fs : List Waiting) (f : Waiting) (xs : Arguments) (ident : Ident) → IsReady self.old fs f →
             tree_of typed.now.exprs f.id ≡ Call ident xs → ident.name ≡ name →
-            Comes (code_of typed.now) self.new (resume (code_of typed.now) fs (finished (code_of typed.now) f f.finished))
-            (stack_cost (code_of typed.now) fs (finished (code_of typed.now) f f.finished) + finished_cost (code_of typed.now) f f.finished)) }
+            ComesTo (code_of typed.now) self.new fs (finished (code_of typed.now) f f.finished) (finished_cost (code_of typed.now) f f.finished)) }
     {
         if self.left == 0 {
             self.end();
@@ -324,8 +323,7 @@ impl Machine {
     fn finish_make(&mut self, typed: &Typed, name: Name) -> Result<(), Memory>
         ensures { OnOk result ((fs : List Waiting) (f : Waiting) (xs : Arguments) (ident : Ident) → IsReady self.old fs f →
             tree_of typed.now.exprs f.id ≡ Make ident xs → ident.name ≡ name →
-            Comes (code_of typed.now) self.new (resume (code_of typed.now) fs (finished (code_of typed.now) f f.finished))
-            (stack_cost (code_of typed.now) fs (finished (code_of typed.now) f f.finished) + finished_cost (code_of typed.now) f f.finished)) }
+            ComesTo (code_of typed.now) self.new fs (finished (code_of typed.now) f f.finished) (finished_cost (code_of typed.now) f f.finished)) }
     {
         match constructor(typed, name) {
             Some(con) => self.build(con),
@@ -339,8 +337,7 @@ impl Machine {
     // What is done once all parts of the newest frame are there.
     fn finish(&mut self, typed: &Typed, id: ExprId) -> Result<(), Memory>
         ensures { OnOk result ((fs : List Waiting) (f : Waiting) → IsReady self.old fs f → f.id ≡ id.0 →
-            Comes (code_of typed.now) self.new (resume (code_of typed.now) fs (finished (code_of typed.now) f f.finished))
-            (stack_cost (code_of typed.now) fs (finished (code_of typed.now) f f.finished) + finished_cost (code_of typed.now) f f.finished)) }
+            ComesTo (code_of typed.now) self.new fs (finished (code_of typed.now) f f.finished) (finished_cost (code_of typed.now) f f.finished)) }
     {
         let exprs = typed.program().exprs();
         if id.0 as usize >= exprs.len() {
@@ -348,19 +345,11 @@ impl Machine {
             return Ok(());
         }
         match exprs.node(id) {
-            Syntax::Variable(_) => {
-                self.give_up();
-                Ok(())
-            }
-            Syntax::Whole(_, _) => {
-                self.give_up();
-                Ok(())
-            }
-            Syntax::Truth(_, _) => {
-                self.give_up();
-                Ok(())
-            }
-            Syntax::Paren(_, _) => {
+            Syntax::Variable(_)
+            | Syntax::Whole(..)
+            | Syntax::Truth(..)
+            | Syntax::Paren(..)
+            | Syntax::Case { .. } => {
                 self.give_up();
                 Ok(())
             }
@@ -391,18 +380,13 @@ impl Machine {
                 self.choose(*then_part, *else_part);
                 Ok(())
             }
-            Syntax::Case { .. } => {
-                self.give_up();
-                Ok(())
-            }
         }
     }
 
     // The next part of the newest frame, or what is done with all of them.
     fn go_on(&mut self, typed: &Typed) -> Result<(), Memory>
         ensures { OnOk result ((fs : List Waiting) (f : Waiting) → IsReady self.old fs f →
-            Comes (code_of typed.now) self.new (resume (code_of typed.now) fs (complete (code_of typed.now) f))
-            (stack_cost (code_of typed.now) fs (complete (code_of typed.now) f) + complete_cost (code_of typed.now) f)) }
+            ComesTo (code_of typed.now) self.new fs (complete (code_of typed.now) f) (complete_cost (code_of typed.now) f)) }
     {
         let Some((id, at)) = self.top() else {
             return Ok(());
@@ -418,9 +402,8 @@ impl Machine {
 
     // An expression that begins with its parts.
     fn begin(&mut self, typed: &Typed, id: ExprId) -> Result<(), Memory>
-        ensures { OnOk result (Comes (code_of typed.now) self.new
-            (resume (code_of typed.now) self.old.frames (complete (code_of typed.now) (frame_at self.old id.0)))
-            (stack_cost (code_of typed.now) self.old.frames (complete (code_of typed.now) (frame_at self.old id.0)) + complete_cost (code_of typed.now) (frame_at self.old id.0))) }
+        ensures { OnOk result (ComesTo (code_of typed.now) self.new self.old.frames
+            (complete (code_of typed.now) (frame_at self.old id.0)) (complete_cost (code_of typed.now) (frame_at self.old id.0))) }
     {
         self.wait(id)?;
         self.go_on(typed)
