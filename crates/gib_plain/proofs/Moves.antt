@@ -9,10 +9,11 @@ use Rattle.gib_value.specs.Heap.{value_of, IsWithin}
 use Rattle.gib_syntax.specs.declared.tree.Ident.{Ident}
 use Rattle.gib_syntax.specs.declared.tree.Parameter.{Parameter}
 use Rattle.gib_syntax.specs.Meaning.{Environment, bind, names_of}
-use Rattle.gib_plain.specs.declared.machine.Binding.{Binding}
+use Rattle.gib_plain.specs.declared.stack.Binding.{Binding}
 use Rattle.gib_plain.specs.declared.machine.Frame.{Frame}
 use Rattle.gib_plain.specs.Running.{Waiting, Doing, State, with_done}
-use Rattle.gib_plain.specs.Machines.{cut, env_of, bindings_of, waiting, all_waiting, IsBound, Nest, Held}
+use Rattle.gib_plain.specs.Stacks.{cut, env_of, bindings_of, IsBound}
+use Rattle.gib_plain.specs.Machines.{waiting, all_waiting, Nest, Held}
 use Rattle.gib_plain.proofs.Stacks.{All-take, All-drop, All-append, AllWithin-later, AllBound-later, env_over-append, env_over-more, env_over-bindings, nest_more, nest_push, nest_pop, Popped, frames_same, frames_grown}
 
 pub held_push : (h : List Datum) (vars : List Binding) (temps : List Node) (fs : List Frame) (base : ℕ) (f : Frame) → Held h vars temps fs base → Nest 0 0 fs f.vars_len f.start → f.base ≤ f.vars_len → f.start ≤ f.temps_len → f.vars_len ≤ length vars → f.temps_len ≤ length temps → Held h vars temps (fs ++ f ∷ []) base

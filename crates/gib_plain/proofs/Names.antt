@@ -15,8 +15,8 @@ use Rattle.gib_syntax.specs.Declarations.{place_of, next_place, AreDifferent, co
 use Rattle.gib_syntax.specs.Typing.{IsTypedProgram}
 use Rattle.gib_syntax.specs.Meaning.{Environment, value_in}
 use Rattle.gib_value.specs.Heap.{value_of}
-use Rattle.gib_plain.specs.declared.machine.Binding.{Binding}
-use Rattle.gib_plain.specs.Machines.{env_of}
+use Rattle.gib_plain.specs.declared.stack.Binding.{Binding}
+use Rattle.gib_plain.specs.Stacks.{env_of}
 use Rattle.gib_plain.specs.Running.{expressions_of}
 use Rattle.gib_plain.proofs.Stacks.{env_over-append}
 

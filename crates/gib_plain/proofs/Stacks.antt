@@ -9,10 +9,11 @@ use Rattle.gib_value.specs.Heap.{value_of, IsWithin}
 use Rattle.gib_syntax.specs.declared.tree.Ident.{Ident}
 use Rattle.gib_syntax.specs.Declarations.{number_of}
 use Rattle.gib_syntax.specs.Meaning.{Environment, bind}
-use Rattle.gib_plain.specs.declared.machine.Binding.{Binding}
+use Rattle.gib_plain.specs.declared.stack.Binding.{Binding}
 use Rattle.gib_plain.specs.declared.machine.Frame.{Frame}
 use Rattle.gib_plain.specs.Running.{Waiting}
-use Rattle.gib_plain.specs.Machines.{cut, env_over, env_of, bindings_of, waiting, all_waiting, IsBound, Nest}
+use Rattle.gib_plain.specs.Stacks.{cut, env_over, env_of, bindings_of, IsBound}
+use Rattle.gib_plain.specs.Machines.{waiting, all_waiting, Nest}
 
 -- ---- facts of all elements
 

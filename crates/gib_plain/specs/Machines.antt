@@ -6,30 +6,13 @@ use Rattle.gib_value.specs.Heap.{value_of, IsWithin}
 use Rattle.gib_types.specs.Tree.{Datum}
 use Rattle.gib_syntax.specs.declared.tree.Ident.{Ident}
 use Rattle.gib_syntax.specs.Meaning.{Environment}
-use Rattle.gib_plain.specs.declared.machine.Binding.{Binding}
+use Rattle.gib_plain.specs.declared.stack.Binding.{Binding}
 use Rattle.gib_plain.specs.declared.machine.Frame.{Frame}
 use Rattle.gib_plain.specs.declared.machine.Now.{Now}
 use Rattle.gib_plain.specs.declared.machine.Now.TheVariants.{Enter, Leave, TooDeep}
 use Rattle.gib_plain.specs.declared.machine.Machine.TheInside.{Inside}
+use Rattle.gib_plain.specs.Stacks.{cut, env_of, IsBound}
 use Rattle.gib_plain.specs.Running.{Waiting, Doing, Entering, Leaving, Ended, State}
-
--- A part of a stack, from its start and its end.
-abbrev pub cut : {X : Type 0} → List X → ℕ → ℕ → List X
-cut xs from to = drop from (take to xs)
-
--- The variables of these bindings, the oldest of which stands first, over others.
-abbrev pub env_over : List Datum → List Binding → Environment → Environment
-env_over heap [] env = env
-env_over heap (b ∷ bs) env = env_over heap bs ((b.name.0, value_of heap b.value) ∷ env)
-
-abbrev pub env_of : List Datum → List Binding → Environment
-env_of heap bs = env_over heap bs []
-
--- A variable for each name that has a value.
-abbrev pub bindings_of : List Ident → List Node → List Binding
-bindings_of [] ws = []
-bindings_of (x ∷ xs) [] = []
-bindings_of (x ∷ xs) (w ∷ ws) = record { name = x.name; value = w } ∷ bindings_of xs ws
 
 abbrev pub waiting : List Datum → List Binding → List Node → Frame → Waiting
 waiting heap vars temps f = record {
@@ -59,9 +42,6 @@ abbrev pub IsNowWithin : ℕ → Now → Type 0
 IsNowWithin n (Enter id) = Unit {0}
 IsNowWithin n (Leave w) = IsWithin n w
 IsNowWithin n TooDeep = Unit {0}
-
-abbrev pub IsBound : ℕ → Binding → Type 0
-IsBound n b = IsWithin n b.value
 
 -- The parts of the two stacks that the frames see lie one after another, between these ends.
 abbrev pub Nest : ℕ → ℕ → List Frame → ℕ → ℕ → Type 0

@@ -3,7 +3,9 @@
 
 mod lookup;
 mod machine;
+mod operators;
 mod outcome;
+mod stack;
 
 pub use machine::plain;
 pub use outcome::Outcome;

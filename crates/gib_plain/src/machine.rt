@@ -14,11 +14,12 @@ ghost use Rattle.gib_syntax.specs.Tree.{Arguments, Call, Make, Case};
 ghost use Rattle.gib_syntax.specs.Arena.{case_from, ArmsBelow};
 ghost use Rattle.std.specs.List.{AllByRecursion};
 ghost use Rattle.gib_value.specs.Heap.{IsWithin};
-ghost use Rattle.gib_plain.specs.Machines.{cut, bindings_of, env_of, IsBound};
 ghost use Rattle.gib_plain.specs.Told.{told};
 
 use crate::lookup::{arm, constructor, function, next_part};
+use crate::operators::{operated, truth_of};
 use crate::outcome::Outcome;
+use crate::stack::{Binding, between, newest, node_at, push_bindings, push_parameters};
 use gib_base::{Memory, Name};
 use gib_check::Typed;
 use gib_syntax::{Arm, ExprId, Ident, Node as Syntax, Operator, Parameter};
@@ -26,13 +27,6 @@ use gib_types::ConId;
 use gib_value::{Heap, Node, Value};
 use std::alloc::{AllocError, Global};
 use std::marker::Model;
-
-/// A variable in scope, with its value.
-#[derive(Clone, Copy)]
-pub struct Binding {
-    pub name: Name,
-    pub value: Node,
-}
 
 /// An expression that waits for one of its parts: the calls left, where its variables and the values of its
 /// finished parts lie on their stacks, and its number.
@@ -558,125 +552,4 @@ pub fn plain(alloc: Global, typed: &Typed, value: Value, depth: u32) -> Result<O
         machine.step(typed)?;
     }
     Ok(machine.into_outcome())
-}
-
-/// The value at a place, 0 where there is none.
-fn node_at(nodes: &[Node], at: usize) -> Node
-    ensures value { (heap : List Datum) → value_of heap result ≡ value_at (map (value_of heap) nodes.now) at }
-    ensures within { (n : ℕ) → AllByRecursion (IsWithin n) nodes.now → IsWithin n result }
-{
-    if at < nodes.len() {
-        nodes[at]
-    } else {
-        Node::Whole(0)
-    }
-}
-
-/// The number that a value is, 0 where it is none.
-fn number(value: Node) -> i64
-    ensures { (heap : List Datum) → result ≡ number_in (value_of heap value) }
-{
-    match value {
-        Node::Whole(number) => number,
-        Node::Truth(_) => 0,
-        Node::Con { .. } => 0,
-    }
-}
-
-/// The truth value that a value is, false where it is none.
-fn truth_of(value: Node) -> bool
-    ensures { (heap : List Datum) → result ≡ is_true (value_of heap value) }
-{
-    match value {
-        Node::Whole(_) => false,
-        Node::Truth(is_true) => is_true,
-        Node::Con { .. } => false,
-    }
-}
-
-/// What an operator gives.
-fn operated(operator: Operator, left: Node, right: Node) -> Node
-    ensures value { (heap : List Datum) → value_of heap result ≡ operate operator (number_in (value_of heap left)) (number_in (value_of heap right)) }
-    ensures within { (n : ℕ) → IsWithin n result }
-{
-    let left = number(left);
-    let right = number(right);
-    match operator {
-        Operator::Add => Node::Whole(left.wrapping_add(right)),
-        Operator::Subtract => Node::Whole(left.wrapping_sub(right)),
-        Operator::Multiply => Node::Whole(left.wrapping_mul(right)),
-        Operator::Equal => Node::Truth(left == right),
-        Operator::Less => Node::Truth(left < right),
-    }
-}
-
-/// The nodes from one place to another.
-fn between(nodes: &[Node], from: usize, to: usize) -> &[Node]
-    requires start { from ≤ to }
-    requires end { to ≤ length nodes.now }
-    ensures { result.now ≡ cut nodes.now from to }
-{
-    let (front, _) = nodes.split_at(to);
-    let (_, found) = front.split_at(from);
-    found
-}
-
-/// Binds these names to these values, as far as both go; where memory runs out nothing changes.
-fn push_bindings(vars: &mut Vec<Binding>, names: &[Ident], values: &[Node]) -> Result<(), Memory>
-    ensures { vars.new.items ≡ (if is_ok result then vars.old.items ++ bindings_of names.now values.now else vars.old.items) }
-{
-    let start = vars.len();
-    let mut i = 0;
-    'names: while i < names.len() && i < values.len() {
-        let binding = Binding {
-            name: names[i].name,
-            value: values[i],
-        };
-        if vars.push(binding).is_err() {
-            vars.truncate(start);
-            return Err(AllocError);
-        }
-        i += 1;
-    }
-    Ok(())
-}
-
-/// Binds the names of parameters to these values, as `push_bindings` does.
-fn push_parameters(
-    vars: &mut Vec<Binding>,
-    parameters: &[Parameter],
-    values: &[Node],
-) -> Result<(), Memory>
-    ensures { vars.new.items ≡ (if is_ok result then vars.old.items ++ bindings_of (names_of parameters.now) values.now else vars.old.items) }
-{
-    let start = vars.len();
-    let mut i = 0;
-    'parameters: while i < parameters.len() && i < values.len() {
-        let binding = Binding {
-            name: parameters[i].name.name,
-            value: values[i],
-        };
-        if vars.push(binding).is_err() {
-            vars.truncate(start);
-            return Err(AllocError);
-        }
-        i += 1;
-    }
-    Ok(())
-}
-
-/// The value of the newest variable of a name among those from a place on, 0 where there is none.
-fn newest(vars: &[Binding], base: usize, name: Name) -> Node
-    requires { base ≤ length vars.now }
-    ensures value { (heap : List Datum) → value_of heap result ≡ value_in (env_of heap (drop base vars.now)) name.0 }
-    ensures within { (n : ℕ) → AllByRecursion (IsBound n) vars.now → IsWithin n result }
-{
-    let mut i = vars.len();
-    'vars: while i > base {
-        i -= 1;
-        if vars[i].name.0 == name.0 {
-            return vars[i].value;
-        }
-    }
-    Node::Whole(0)
 }

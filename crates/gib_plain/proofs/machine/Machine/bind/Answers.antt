@@ -5,7 +5,7 @@ use Rattle.gib_value.specs.declared.node.Node.{Node}
 use Rattle.gib_value.specs.Heap.{value_of, IsWithin}
 use Rattle.gib_syntax.specs.Meaning.{bind}
 use Rattle.gib_plain.specs.Running.{State, Waiting}
-use Rattle.gib_plain.specs.Machines.{cut, env_of}
+use Rattle.gib_plain.specs.Stacks.{cut, env_of}
 use Rattle.gib_plain.proofs.Stacks.{bindings-within}
 use Rattle.gib_plain.proofs.Moves.{held_at, held_pop, held_bind, within_parts, seen_at, bound, env_bound, state_eq, frames_popped, popped}
 use Rattle.gib_plain.proofs.machine.Machine.bind.Goals as goal

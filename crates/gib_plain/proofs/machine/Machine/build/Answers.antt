@@ -3,7 +3,7 @@ use Rattle.gib_types.specs.Tree.{Datum, con, data_of}
 use Rattle.gib_value.specs.declared.node.Node.{Node}
 use Rattle.gib_value.specs.Heap.{value_of}
 use Rattle.gib_plain.specs.Running.{State, Waiting, Leaving}
-use Rattle.gib_plain.specs.Machines.{cut}
+use Rattle.gib_plain.specs.Stacks.{cut}
 use Rattle.gib_plain.proofs.Moves.{held_at, held_pop, held_drop, seen_at, dropped, state_eq, frames_popped, popped, grown}
 use Rattle.gib_plain.proofs.machine.Machine.build.Goals as goal
 

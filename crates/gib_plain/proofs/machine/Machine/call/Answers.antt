@@ -6,7 +6,7 @@ use Rattle.gib_value.specs.declared.node.Node.{Node}
 use Rattle.gib_value.specs.Heap.{value_of, IsWithin}
 use Rattle.gib_syntax.specs.Meaning.{bind, names_of}
 use Rattle.gib_plain.specs.Running.{State, Waiting}
-use Rattle.gib_plain.specs.Machines.{cut}
+use Rattle.gib_plain.specs.Stacks.{cut}
 use Rattle.gib_plain.proofs.Stacks.{bindings-within, env_over-bindings}
 use Rattle.gib_plain.proofs.Moves.{held_at, held_pop, held_bind, within_parts, seen_at, bound, state_eq, frames_popped, popped}
 use Rattle.gib_plain.proofs.machine.Machine.call.Goals as goal

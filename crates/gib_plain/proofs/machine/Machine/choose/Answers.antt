@@ -5,7 +5,7 @@ use Rattle.gib_value.specs.declared.node.Node.{Node}
 use Rattle.gib_value.specs.Heap.{value_of}
 use Rattle.gib_syntax.specs.Meaning.{is_true}
 use Rattle.gib_plain.specs.Running.{State, Waiting, Entering, value_at}
-use Rattle.gib_plain.specs.Machines.{cut}
+use Rattle.gib_plain.specs.Stacks.{cut}
 use Rattle.gib_plain.proofs.Moves.{held_at, held_drop, seen_at, dropped, state_eq, frames_popped, popped}
 use Rattle.gib_plain.proofs.machine.Machine.choose.Goals as goal
 use Rattle.gib_plain.proofs.machine.Machine.choose.Goals.{then-truth_of, else-truth_of}

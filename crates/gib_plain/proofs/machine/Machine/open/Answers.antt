@@ -2,9 +2,9 @@ use Rattle.std.proofs.Common.{◌≡◌, refl, ◌∙◌, ap, sym, drop, length,
 use Rattle.gib_types.specs.Tree.{Datum}
 use Rattle.gib_value.specs.Heap.{value_of}
 use Rattle.gib_syntax.specs.Meaning.{Environment, bind, parts, value_in}
-use Rattle.gib_plain.specs.declared.machine.Binding.{Binding}
+use Rattle.gib_plain.specs.declared.stack.Binding.{Binding}
 use Rattle.gib_plain.specs.Running.{State}
-use Rattle.gib_plain.specs.Machines.{env_of}
+use Rattle.gib_plain.specs.Stacks.{env_of}
 use Rattle.gib_plain.proofs.Stacks.{bindings-within}
 use Rattle.gib_plain.proofs.Moves.{held_more, more_vars, env_bound, bind-none, list-data, state_eq}
 use Rattle.gib_plain.proofs.machine.Machine.open.Goals as goal

@@ -4,7 +4,7 @@ use Rattle.gib_value.specs.declared.node.Node.{Node}
 use Rattle.gib_value.specs.Heap.{value_of}
 use Rattle.gib_syntax.specs.Meaning.{number_in, operate}
 use Rattle.gib_plain.specs.Running.{State, Waiting, Leaving, value_at}
-use Rattle.gib_plain.specs.Machines.{cut}
+use Rattle.gib_plain.specs.Stacks.{cut}
 use Rattle.gib_plain.proofs.Moves.{held_at, held_drop, seen_at, dropped, state_eq, frames_popped, popped}
 use Rattle.gib_plain.proofs.machine.Machine.operate.Goals as goal
 

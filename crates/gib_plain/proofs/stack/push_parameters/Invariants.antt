@@ -1,7 +1,7 @@
 use Rattle.std.proofs.Common.{◌≡◌, ◌-◌, ◌++◌, length, take, drop}
 use Rattle.gib_syntax.specs.Meaning.{names_of}
-use Rattle.gib_plain.specs.Machines.{bindings_of}
-use Rattle.gib_plain.proofs.machine.push_parameters.Given as goal
+use Rattle.gib_plain.specs.Stacks.{bindings_of}
+use Rattle.gib_plain.proofs.stack.push_parameters.Given as goal
 
 abbrev pub invariant-parameters : goal.invariant-parameters
 invariant-parameters l =

@@ -1,6 +1,6 @@
 use Rattle.std.proofs.Common.{◌≡◌, ◌-◌, ◌++◌, length, take, drop}
-use Rattle.gib_plain.specs.Machines.{bindings_of}
-use Rattle.gib_plain.proofs.machine.push_bindings.Given as goal
+use Rattle.gib_plain.specs.Stacks.{bindings_of}
+use Rattle.gib_plain.proofs.stack.push_bindings.Given as goal
 
 abbrev pub invariant-names : goal.invariant-names
 invariant-names l =

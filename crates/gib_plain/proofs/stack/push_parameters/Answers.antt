@@ -1,7 +1,7 @@
 use Rattle.std.proofs.Common.{◌≤◌, ◌∙◌, ap, sym, arith, length, length-take}
 use Rattle.gib_syntax.specs.Meaning.{names_of}
 use Rattle.gib_plain.proofs.Moves.{bound_all, bound_one, pushed, kept_front}
-use Rattle.gib_plain.proofs.machine.push_parameters.Goals as goal
+use Rattle.gib_plain.proofs.stack.push_parameters.Goals as goal
 
 pub parameters-preserved : goal.parameters-preserved
 parameters-preserved c =

@@ -1,8 +1,8 @@
 use Rattle.std.proofs.Common.{◌≡◌, ◌-◌, ◌+◌, ◌∙◌, ap, sym, arith, take, drop, ℕ}
 use Rattle.gib_syntax.specs.Meaning.{value_in, Environment}
-use Rattle.gib_plain.specs.Machines.{env_of}
+use Rattle.gib_plain.specs.Stacks.{env_of}
 use Rattle.gib_plain.proofs.Names.{newest-at, found-newest, not-newest}
-use Rattle.gib_plain.proofs.machine.newest.Goals as goal
+use Rattle.gib_plain.proofs.stack.newest.Goals as goal
 
 pub returns-then-vars-i-clause-value : goal.returns-then-vars-i-clause-value
 returns-then-vars-i-clause-value c = λ heap.
