@@ -1,11 +1,9 @@
 -- The state that a machine is in.
-use Rattle.std.specs.Prelude.{ℕ, ◌≤◌, List, [], ◌∷◌, length, map, take, drop}
+use Rattle.std.specs.Prelude.{ℕ, ◌≤◌, List, [], ◌∷◌, length, map, drop}
 use Rattle.std.specs.List.{AllByRecursion}
 use Rattle.gib_value.specs.declared.node.Node.{Node}
 use Rattle.gib_value.specs.Heap.{value_of, IsWithin}
 use Rattle.gib_types.specs.Tree.{Datum}
-use Rattle.gib_syntax.specs.declared.tree.Ident.{Ident}
-use Rattle.gib_syntax.specs.Meaning.{Environment}
 use Rattle.gib_plain.specs.declared.stack.Binding.{Binding}
 use Rattle.gib_plain.specs.declared.machine.Frame.{Frame}
 use Rattle.gib_plain.specs.declared.machine.Now.{Now}
@@ -14,6 +12,7 @@ use Rattle.gib_plain.specs.declared.machine.Machine.TheInside.{Inside}
 use Rattle.gib_plain.specs.Stacks.{cut, env_of, IsBound}
 use Rattle.gib_plain.specs.Running.{Waiting, Doing, Entering, Leaving, Ended, State}
 
+-- A frame with what it sees of the stacks.
 abbrev pub waiting : List Datum → List Binding → List Node → Frame → Waiting
 waiting heap vars temps f = record {
   left = f.left;
@@ -22,14 +21,17 @@ waiting heap vars temps f = record {
   id = f.id.0;
 }
 
+-- All frames with what they see.
 abbrev pub all_waiting : List Datum → List Binding → List Node → List Frame → List Waiting
 all_waiting heap vars temps fs = map (waiting heap vars temps) fs
 
+-- What comes next, with its value.
 abbrev pub doing_of : List Datum → Now → Doing
 doing_of heap (Enter id) = Entering id.0
 doing_of heap (Leave w) = Leaving (value_of heap w)
 doing_of heap TooDeep = Ended
 
+-- The state of a machine.
 abbrev pub state_of : Inside → State
 state_of m = record {
   frames = all_waiting m.heap m.vars.items m.temps.items m.frames.items;
@@ -38,6 +40,7 @@ state_of m = record {
   doing = doing_of m.heap m.next;
 }
 
+-- A value that comes next has its fields before the place.
 abbrev pub IsNowWithin : ℕ → Now → Type 0
 IsNowWithin n (Enter id) = Unit {0}
 IsNowWithin n (Leave w) = IsWithin n w
@@ -56,6 +59,7 @@ pub record Held (heap : List Datum) (vars : List Binding) (temps : List Node) (f
   pub base_in : base ≤ length vars
   pub nest : Nest 0 0 frames (length vars) (length temps)
 
+-- What every machine keeps.
 pub record IsSound (m : Inside) : Type 0 where
   pub held : Held m.heap m.vars.items m.temps.items m.frames.items m.base
   pub next : IsNowWithin (length m.heap) m.next

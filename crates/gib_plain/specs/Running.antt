@@ -30,6 +30,7 @@ pub record State : Type 0 where
   pub env : Environment
   pub doing : Doing
 
+-- Arguments as a list.
 abbrev pub expressions_of : Arguments → List Expression
 expressions_of NoArgument = []
 expressions_of (Argument a xs) = a ∷ expressions_of xs
@@ -52,6 +53,7 @@ first_parts (Case p x arms) = []
 abbrev pub value_at : List Datum → ℕ → Datum
 value_at vs i = get_or vs i (whole (pos 0))
 
+-- What a constructor gives for its fields, where there is one.
 abbrev pub made_of : Option ℕ → List Datum → Outcome
 made_of None vs = Gives (whole (pos 0))
 made_of (Some c) vs = Gives (con c (data_of vs))
@@ -63,9 +65,11 @@ pub record Around : Type 0 where
   pub call : ℕ → List Datum → Outcome
   pub steps : ℕ → List Datum → ℕ
 
+-- What an expression gives.
 abbrev pub means_in : Around → Expression → Environment → Outcome
 means_in a e env = eval a.table a.call e env
 
+-- What each of these gives.
 abbrev pub all_mean : Around → List Expression → Environment → List Outcome
 all_mean a [] env = []
 all_mean a (e ∷ es) env = means_in a e env ∷ all_mean a es env
@@ -92,12 +96,13 @@ if_values [] f = f []
 if_values (Stops why ∷ os) f = 0
 if_values (Gives v ∷ os) f = if_values os (λ vs. f (v ∷ vs))
 
+-- One of two numbers.
 abbrev pub pick : Bool → ℕ → ℕ → ℕ
 pick true m n = m
 pick false m n = n
 
+-- How many steps an expression takes at most; so for its arguments and for the arm of a value.
 abbrev mutual
-  -- how many steps an expression takes at most
   pub cost : Around → Expression → Environment → ℕ
   cost a (Var x) env = 1
   cost a (Num p n) env = 1
@@ -121,10 +126,12 @@ abbrev mutual
   cost_arms a (LastArm k xs e) v env = pick (is_made_by (constructor_named a.table (number_of k)) v) (cost a e (bind xs (parts v) env)) 0
   cost_arms a (NextArm k xs e arms) v env = pick (is_made_by (constructor_named a.table (number_of k)) v) (cost a e (bind xs (parts v) env)) (cost_arms a arms v env)
 
+-- How many steps these parts take at most, with one more for each.
 abbrev pub costs : Around → List Expression → Environment → ℕ
 costs a [] env = 0
 costs a (e ∷ es) env = 1 + cost a e env + costs a es env
 
+-- How many steps an expression takes once its first parts have these values.
 abbrev pub finish_cost : Around → Expression → Environment → List Datum → ℕ
 finish_cost a (Var x) env vs = 0
 finish_cost a (Num p n) env vs = 0
@@ -138,11 +145,12 @@ finish_cost a (Par p x l y r b) env vs = cost a b (bind (x ∷ y ∷ []) vs env)
 finish_cost a (If p c t e) env vs = pick (is_true (value_at vs 0)) (cost a t env) (cost a e env)
 finish_cost a (Case p x arms) env vs = 0
 
+-- What f says of the function, 0 where there is none.
 abbrev pub function_cost : Option FunctionTree → (FunctionTree → ℕ) → ℕ
 function_cost None f = 0
 function_cost (Some g) f = f g
 
--- how many steps a call takes at most, with so much depth left
+-- How many steps a call takes at most, with so much depth left
 abbrev pub call_cost : ProgramTree → ℕ → ℕ → List Datum → ℕ
 call_cost p zero f arguments = 0
 call_cost p (suc n) f arguments =
@@ -160,9 +168,11 @@ pub record Code : Type 0 where
   pub program : ProgramTree
   pub tree : ℕ → Expression
 
+-- A program as the code keeps it.
 abbrev pub code_of : Parts → Code
 code_of p = record { program = program_of p; tree = tree_of p.exprs }
 
+-- What a body may mention, with so much depth left.
 abbrev pub at : Code → ℕ → Around
 at c n = around c.program n
 
@@ -174,6 +184,7 @@ gives c n e env = means_in (at c n) e env
 abbrev pub left_parts : Code → Waiting → List Expression
 left_parts c f = drop (length f.finished) (first_parts (c.tree f.id))
 
+-- What a frame gives where all its parts have these values.
 abbrev pub finished : Code → Waiting → List Datum → Outcome
 finished c f vs = finish (at c f.left) (c.tree f.id) f.env vs
 
@@ -195,6 +206,7 @@ abbrev pub resume : Code → List Waiting → Outcome → Outcome
 resume c [] o = o
 resume c (f ∷ fs) o = after c f (resume c fs o)
 
+-- What the newest frame waits for.
 abbrev pub outcome_now : Code → State → Outcome
 outcome_now c s = elim s.doing [ Entering i ↦ gives c s.left (c.tree i) s.env | Leaving v ↦ Gives v | Ended ↦ Stops Deep ]
 
@@ -204,22 +216,27 @@ owes c s = resume c s.frames (outcome_now c s)
 
 -- The work that is left.
 
+-- How many steps that takes.
 abbrev pub finished_cost : Code → Waiting → List Datum → ℕ
 finished_cost c f vs = finish_cost (at c f.left) (c.tree f.id) f.env vs
 
+-- How many steps a frame takes to its end.
 abbrev pub complete_cost : Code → Waiting → ℕ
 complete_cost c f =
     costs (at c f.left) (left_parts c f) f.env
     + if_values (all_mean (at c f.left) (left_parts c f) f.env) (λ vs. finished_cost c f (f.finished ++ vs))
 
+-- The same after the outcome of a part.
 abbrev pub after_cost : Code → Waiting → Outcome → ℕ
 after_cost c f (Stops why) = 0
 after_cost c f (Gives v) = 1 + complete_cost c (with_done f v)
 
+-- How many steps all frames take after an outcome, the newest first.
 abbrev pub stack_cost : Code → List Waiting → Outcome → ℕ
 stack_cost c [] o = 0
 stack_cost c (f ∷ fs) o = stack_cost c fs o + after_cost c f (resume c fs o)
 
+-- How many steps what comes next takes.
 abbrev pub doing_cost : Code → State → ℕ
 doing_cost c s = elim s.doing [ Entering i ↦ cost (at c s.left) (c.tree i) s.env | Leaving v ↦ 0 | Ended ↦ 0 ]
 
@@ -251,15 +268,18 @@ pub record IsReady (s : State) (fs : List Waiting) (f : Waiting) : Type 0 where
 abbrev pub frame_at : State → ℕ → Waiting
 frame_at s id = record { left = s.left; env = s.env; finished = []; id = id }
 
+-- No frame waits.
 abbrev pub is_empty : List Waiting → Bool
 is_empty [] = true
 is_empty (f ∷ fs) = false
 
+-- The run has its outcome.
 abbrev pub is_over : State → Bool
 is_over s = elim s.doing [ Entering i ↦ false | Leaving v ↦ is_empty s.frames | Ended ↦ true ]
 
 -- Cases.
 
+-- The constructor is there and has this number.
 abbrev pub is_number : Option ℕ → ℕ → Bool
 is_number None k = false
 is_number (Some c) k = c == k

@@ -16,6 +16,7 @@ abbrev pub env_over : List Datum → List Binding → Environment → Environmen
 env_over heap [] env = env
 env_over heap (b ∷ bs) env = env_over heap bs ((b.name.0, value_of heap b.value) ∷ env)
 
+-- The variables of these bindings.
 abbrev pub env_of : List Datum → List Binding → Environment
 env_of heap bs = env_over heap bs []
 

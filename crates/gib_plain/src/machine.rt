@@ -95,24 +95,28 @@ impl Machine {
         Ok(())
     }
 
+    // Goes to an expression.
     fn enter_next(&mut self, id: ExprId)
         ensures { self.new ≡ record self.old { doing = Entering id.0 } }
     {
         self.next = Now::Enter(id);
     }
 
+    // Leaves with a number.
     fn leave_whole(&mut self, number: i64)
         ensures { self.new ≡ record self.old { doing = Leaving (whole number) } }
     {
         self.next = Now::Leave(Node::Whole(number));
     }
 
+    // Leaves with a truth value.
     fn leave_truth(&mut self, is_true: bool)
         ensures { self.new ≡ record self.old { doing = Leaving (truth is_true) } }
     {
         self.next = Now::Leave(Node::Truth(is_true));
     }
 
+    // Ends the run, since a call had no depth left.
     fn end(&mut self)
         ensures { self.new ≡ record self.old { doing = Ended } }
     {
@@ -251,6 +255,7 @@ impl Machine {
             return Ok(());
         };
         let fields = between(&self.temps, frame.start, frame.temps_len);
+        // A node counts its fields by 32 bits; so many are more than memory holds.
         if fields.len() > u32::MAX as usize {
             return Err(AllocError);
         }

@@ -45,4 +45,3 @@ pub fn operated(operator: Operator, left: Node, right: Node) -> Node
         Operator::Less => Node::Truth(left < right),
     }
 }
-

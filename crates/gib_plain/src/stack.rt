@@ -44,7 +44,11 @@ pub fn between(nodes: &[Node], from: usize, to: usize) -> &[Node]
 }
 
 /// Binds these names to these values, as far as both go; where memory runs out nothing changes.
-pub fn push_bindings(vars: &mut Vec<Binding>, names: &[Ident], values: &[Node]) -> Result<(), Memory>
+pub fn push_bindings(
+    vars: &mut Vec<Binding>,
+    names: &[Ident],
+    values: &[Node],
+) -> Result<(), Memory>
     ensures { vars.new.items ≡ (if is_ok result then vars.old.items ++ bindings_of names.now values.now else vars.old.items) }
 {
     let start = vars.len();
