@@ -93,6 +93,13 @@ impl Exprs {
         }
     }
 
+    /// How many expressions there are.
+    pub fn len(&self) -> usize
+        ensures { result ≡ length self.now }
+    {
+        self.nodes.len()
+    }
+
     /// The expression of a number.
     pub fn node(&self, id: ExprId) -> &Node
         requires { id.0 < length self.now }

@@ -1,0 +1,137 @@
+-- What the loops of the walk keep.
+use Rattle.std.proofs.Common.{◌≡◌, ℕ, ◌<◌, List, [], ◌∷◌, ◌++◌, take, length, Ok, Err, refl, sym, ap, ◌∙◌, subst, append_assoc}
+use Rattle.std.proofs.lemmas.List.{append-nil}
+use Rattle.std.proofs.Math.Seq.{take-append_seam}
+use Rattle.std.specs.List.{AllByRecursion}
+use Rattle.gib_types.specs.declared.table.Ty.{Ty}
+use Rattle.gib_syntax.specs.declared.exprs.ExprId.{ExprId}
+use Rattle.gib_syntax.specs.declared.exprs.Arm.{Arm}
+use Rattle.gib_syntax.specs.declared.tree.Ident.{Ident}
+use Rattle.gib_syntax.specs.Tree.{Expression}
+use Rattle.gib_syntax.specs.Arena.{IsArmBelow, arguments_from}
+use Rattle.gib_syntax.specs.Parts.{Parts}
+use Rattle.gib_syntax.specs.Typing.{Scope, Globals, bound}
+use Rattle.gib_check.specs.declared.counts.Counts.{Counts}
+use Rattle.gib_check.specs.declared.fault.Fault.{Fault}
+use Rattle.gib_check.specs.declared.fault.TypeFault.{TypeFault}
+use Rattle.gib_check.specs.declared.fault.TypeFault.TheVariants as t
+use Rattle.gib_check.specs.declared.rules.Part.{Part}
+use Rattle.gib_check.specs.declared.rules.Variable.{Variable}
+use Rattle.gib_check.specs.declared.walk.State.{State}
+use Rattle.gib_check.specs.Answers.{IsFaultOf, scope_of}
+use Rattle.gib_check.specs.Faults.{Checked, and_then, place, new_variable, bind_all, infer, infer_all, infer_arm}
+use Rattle.gib_check.specs.Views.{globals_in, table_in, tree_in, infer_each_arm}
+use Rattle.gib_check.proofs.Scopes.{scope_of-push}
+
+-- Parts put before those that follow.
+abbrev pub behind : List Part → Checked (List Part × Counts) → Checked (List Part × Counts)
+behind done r = and_then r (λ x. Ok (done ++ x.0, x.1))
+
+behind-none : (r : Checked (List Part × Counts)) → r ≡ behind [] r
+behind-none (Ok x) = refl
+behind-none (Err e) = refl
+
+behind-more : (done : List Part) (part : Part) (r : Checked (List Part × Counts)) → behind done (and_then r (λ x. Ok (part ∷ x.0, x.1))) ≡ behind (done ++ part ∷ []) r
+behind-more done part (Ok x) = ap (λ (z : List Part). Ok (z, x.1)) (sym (append_assoc done (part ∷ []) x.0))
+behind-more done part (Err e) = refl
+
+-- A fault is passed on.
+pub passed_on : {A B : Type 0} (e : TypeFault) (c : Checked A) (go : A → Checked B) → IsFaultOf e c → IsFaultOf e (and_then c go)
+passed_on t.Memory c go h = tt
+passed_on (t.Broken fault) c go h = ap (λ z. and_then z go) h
+
+along : {B : Type 0} (e : TypeFault) (c d : Checked B) → c ≡ d → IsFaultOf e d → IsFaultOf e c
+along t.Memory c d q h = tt
+along (t.Broken fault) c d q h = q ∙ h
+
+-- Some of the arguments were looked at.
+pub record ArgumentsSoFar (parts : Parts) (id : ℕ) (start now : State) (ids rest : List ExprId) (done : List Part) : Type 0 where
+  pub below : AllByRecursion (λ (a : ExprId). a.0 < id) rest
+  pub scope : now.scope.items ≡ start.scope.items
+  pub read : infer_all (globals_in parts) (scope_of start.scope.items) start.counts (arguments_from (tree_in parts) ids) ≡ behind done (infer_all (globals_in parts) (scope_of start.scope.items) now.counts (arguments_from (tree_in parts) rest))
+
+pub arguments_start : (parts : Parts) (id : ℕ) (start : State) (ids : List ExprId) → AllByRecursion (λ (a : ExprId). a.0 < id) ids → ArgumentsSoFar parts id start start ids ids []
+arguments_start parts id start ids h = record { below = h; scope = refl; read = behind-none (infer_all (globals_in parts) (scope_of start.scope.items) start.counts (arguments_from (tree_in parts) ids)) }
+
+-- The next one, in the scope of the start.
+next_argument : (parts : Parts) (id : ℕ) (start now : State) (ids after : List ExprId) (first : ExprId) (done : List Part) → ArgumentsSoFar parts id start now ids (first ∷ after) done → (c : Checked (Ty × Counts)) → infer (globals_in parts) (scope_of now.scope.items) now.counts (tree_in parts first.0) ≡ c → infer_all (globals_in parts) (scope_of start.scope.items) start.counts (arguments_from (tree_in parts) ids) ≡ behind done (and_then c (λ x. and_then (infer_all (globals_in parts) (scope_of start.scope.items) x.1 (arguments_from (tree_in parts) after)) (λ r. Ok (record { ty = x.0; place = place (tree_in parts first.0) } ∷ r.0, r.1))))
+next_argument parts id start now ids after first done h c e =
+    h.read ∙ ap (λ z. behind done (and_then z (λ x. and_then (infer_all (globals_in parts) (scope_of start.scope.items) x.1 (arguments_from (tree_in parts) after)) (λ r. Ok (record { ty = x.0; place = place (tree_in parts first.0) } ∷ r.0, r.1)))))
+      (ap (λ z. infer (globals_in parts) (scope_of z) now.counts (tree_in parts first.0)) (sym h.scope) ∙ e)
+
+pub arguments_more : (parts : Parts) (id : ℕ) (start now newer : State) (ids after : List ExprId) (first : ExprId) (done more : List Part) (ty : Ty) → ArgumentsSoFar parts id start now ids (first ∷ after) done → infer (globals_in parts) (scope_of now.scope.items) now.counts (tree_in parts first.0) ≡ Ok (ty, newer.counts) → newer.scope.items ≡ now.scope.items → more ≡ done ++ record { ty = ty; place = place (tree_in parts first.0) } ∷ [] → ArgumentsSoFar parts id start newer ids after more
+arguments_more parts id start now newer ids after first done more ty h e es em = record {
+  below = h.below.1;
+  scope = es ∙ h.scope;
+  read = next_argument parts id start now ids after first done h (Ok (ty, newer.counts)) e
+    ∙ behind-more done (record { ty = ty; place = place (tree_in parts first.0) }) (infer_all (globals_in parts) (scope_of start.scope.items) newer.counts (arguments_from (tree_in parts) after))
+    ∙ ap (λ z. behind z (infer_all (globals_in parts) (scope_of start.scope.items) newer.counts (arguments_from (tree_in parts) after))) (sym em);
+}
+
+pub arguments_stop : (parts : Parts) (id : ℕ) (start now : State) (ids : List ExprId) (done : List Part) → ArgumentsSoFar parts id start now ids [] done → infer_all (globals_in parts) (scope_of start.scope.items) start.counts (arguments_from (tree_in parts) ids) ≡ Ok (done, now.counts)
+arguments_stop parts id start now ids done h = h.read ∙ ap (λ (z : List Part). Ok (z, now.counts)) (append-nil done)
+
+pub arguments_fail : (parts : Parts) (id : ℕ) (start now : State) (ids after : List ExprId) (first : ExprId) (done : List Part) (e : TypeFault) → ArgumentsSoFar parts id start now ids (first ∷ after) done → IsFaultOf e (infer (globals_in parts) (scope_of now.scope.items) now.counts (tree_in parts first.0)) → IsFaultOf e (infer_all (globals_in parts) (scope_of start.scope.items) start.counts (arguments_from (tree_in parts) ids))
+arguments_fail parts id start now ids after first done e h f =
+    along e _ _ (next_argument parts id start now ids after first done h (infer (globals_in parts) (scope_of now.scope.items) now.counts (tree_in parts first.0)) refl)
+    (passed_on e _ _ (passed_on e _ _ f))
+
+-- Some of the arms were looked at.
+pub record ArmsSoFar (parts : Parts) (id : ℕ) (start now : State) (arms rest : List Arm) (done : List Part) : Type 0 where
+  pub below : AllByRecursion (IsArmBelow id) rest
+  pub scope : now.scope.items ≡ start.scope.items
+  pub read : infer_each_arm (globals_in parts) (tree_in parts) (scope_of start.scope.items) start.counts arms ≡ behind done (infer_each_arm (globals_in parts) (tree_in parts) (scope_of start.scope.items) now.counts rest)
+
+pub arms_start : (parts : Parts) (id : ℕ) (start : State) (arms : List Arm) → AllByRecursion (IsArmBelow id) arms → ArmsSoFar parts id start start arms arms []
+arms_start parts id start arms h = record { below = h; scope = refl; read = behind-none (infer_each_arm (globals_in parts) (tree_in parts) (scope_of start.scope.items) start.counts arms) }
+
+-- What an arm is.
+abbrev pub arm_in : Parts → Scope → Counts → Arm → Checked (Ty × Counts)
+arm_in parts scope n arm = infer_arm (table_in parts) scope n arm.constructor arm.variables.items (λ inner m. infer (globals_in parts) inner m (tree_in parts arm.body.0))
+
+next_arm : (parts : Parts) (id : ℕ) (start now : State) (arms after : List Arm) (first : Arm) (done : List Part) → ArmsSoFar parts id start now arms (first ∷ after) done → (c : Checked (Ty × Counts)) → arm_in parts (scope_of now.scope.items) now.counts first ≡ c → infer_each_arm (globals_in parts) (tree_in parts) (scope_of start.scope.items) start.counts arms ≡ behind done (and_then c (λ x. and_then (infer_each_arm (globals_in parts) (tree_in parts) (scope_of start.scope.items) x.1 after) (λ r. Ok (record { ty = x.0; place = place (tree_in parts first.body.0) } ∷ r.0, r.1))))
+next_arm parts id start now arms after first done h c e =
+    h.read ∙ ap (λ z. behind done (and_then z (λ x. and_then (infer_each_arm (globals_in parts) (tree_in parts) (scope_of start.scope.items) x.1 after) (λ r. Ok (record { ty = x.0; place = place (tree_in parts first.body.0) } ∷ r.0, r.1)))))
+      (ap (λ z. arm_in parts (scope_of z) now.counts first) (sym h.scope) ∙ e)
+
+pub arms_more : (parts : Parts) (id : ℕ) (start now newer : State) (arms after : List Arm) (first : Arm) (done more : List Part) (ty : Ty) → ArmsSoFar parts id start now arms (first ∷ after) done → arm_in parts (scope_of now.scope.items) now.counts first ≡ Ok (ty, newer.counts) → newer.scope.items ≡ now.scope.items → more ≡ done ++ record { ty = ty; place = place (tree_in parts first.body.0) } ∷ [] → ArmsSoFar parts id start newer arms after more
+arms_more parts id start now newer arms after first done more ty h e es em = record {
+  below = h.below.1;
+  scope = es ∙ h.scope;
+  read = next_arm parts id start now arms after first done h (Ok (ty, newer.counts)) e
+    ∙ behind-more done (record { ty = ty; place = place (tree_in parts first.body.0) }) (infer_each_arm (globals_in parts) (tree_in parts) (scope_of start.scope.items) newer.counts after)
+    ∙ ap (λ z. behind z (infer_each_arm (globals_in parts) (tree_in parts) (scope_of start.scope.items) newer.counts after)) (sym em);
+}
+
+pub arms_stop : (parts : Parts) (id : ℕ) (start now : State) (arms : List Arm) (done : List Part) → ArmsSoFar parts id start now arms [] done → infer_each_arm (globals_in parts) (tree_in parts) (scope_of start.scope.items) start.counts arms ≡ Ok (done, now.counts)
+arms_stop parts id start now arms done h = h.read ∙ ap (λ (z : List Part). Ok (z, now.counts)) (append-nil done)
+
+pub arms_fail : (parts : Parts) (id : ℕ) (start now : State) (arms after : List Arm) (first : Arm) (done : List Part) (e : TypeFault) → ArmsSoFar parts id start now arms (first ∷ after) done → IsFaultOf e (arm_in parts (scope_of now.scope.items) now.counts first) → IsFaultOf e (infer_each_arm (globals_in parts) (tree_in parts) (scope_of start.scope.items) start.counts arms)
+arms_fail parts id start now arms after first done e h f =
+    along e _ _ (next_arm parts id start now arms after first done h (arm_in parts (scope_of now.scope.items) now.counts first) refl)
+    (passed_on e _ _ (passed_on e _ _ f))
+
+-- Some of the variables were bound.
+pub record BindsSoFar (start now : State) (variables names : List Ident) (types fields : List Ty) : Type 0 where
+  pub added : List Variable
+  pub scope : now.scope.items ≡ start.scope.items ++ added
+  pub read : bind_all (scope_of start.scope.items) start.counts variables types ≡ bind_all (scope_of now.scope.items) now.counts names fields
+
+pub binds_start : (start : State) (variables : List Ident) (types : List Ty) → BindsSoFar start start variables variables types types
+binds_start start variables types = record { added = []; scope = sym (append-nil start.scope.items); read = refl }
+
+pub binds_more : (start now newer : State) (variables after : List Ident) (name : Ident) (types later : List Ty) (ty : Ty) → BindsSoFar start now variables (name ∷ after) types (ty ∷ later) → new_variable (scope_of now.scope.items) now.counts name ≡ Ok newer.counts → newer.scope.items ≡ now.scope.items ++ record { name = name.name; ty = ty } ∷ [] → BindsSoFar start newer variables after types later
+binds_more start now newer variables after name types later ty h e es =
+    let v : Variable = record { name = name.name; ty = ty } in
+    record {
+      added = h.added ++ v ∷ [];
+      scope = es ∙ ap (λ z. z ++ v ∷ []) h.scope ∙ append_assoc start.scope.items h.added (v ∷ []);
+      read = h.read ∙ ap (λ z. and_then z (λ m. bind_all (bound name ty (scope_of now.scope.items)) m after later)) e
+        ∙ ap (λ z. bind_all z newer.counts after later) (sym (ap scope_of es ∙ scope_of-push now.scope.items v));
+    }
+
+pub binds_kept : (start now : State) (variables names : List Ident) (types fields : List Ty) → BindsSoFar start now variables names types fields → take (length start.scope.items) now.scope.items ≡ start.scope.items
+binds_kept start now variables names types fields h = ap (take (length start.scope.items)) h.scope ∙ take-append_seam start.scope.items h.added
+
+pub binds_fail : (start now : State) (variables after : List Ident) (name : Ident) (types later : List Ty) (ty : Ty) (e : TypeFault) → BindsSoFar start now variables (name ∷ after) types (ty ∷ later) → IsFaultOf e (new_variable (scope_of now.scope.items) now.counts name) → IsFaultOf e (bind_all (scope_of start.scope.items) start.counts variables types)
+binds_fail start now variables after name types later ty e h f = along e _ _ h.read (passed_on e _ _ f)

@@ -1,0 +1,54 @@
+-- The parts of a program, as the definitions see them.
+use Rattle.std.specs.Prelude.{◌≡◌, ℕ, List, [], ◌∷◌, map, Result, Ok}
+use Rattle.gib_base.specs.declared.name.Name.{Name}
+use Rattle.gib_types.specs.declared.table.Ty.{Ty}
+use Rattle.gib_types.specs.Table.{Table}
+use Rattle.gib_syntax.specs.declared.exprs.Arm.{Arm}
+use Rattle.gib_syntax.specs.declared.tree.FunctionDecl.{FunctionDecl}
+use Rattle.gib_syntax.specs.Tree.{Expression, FunctionTree}
+use Rattle.gib_syntax.specs.Arena.{tree_of}
+use Rattle.gib_syntax.specs.Parts.{Parts, program_of}
+use Rattle.gib_syntax.specs.Declarations.{number_of, type_names, table_of_program, constructor_names}
+use Rattle.gib_syntax.specs.Typing.{Globals, globals_of, Scope}
+use Rattle.gib_check.specs.declared.counts.Counts.{Counts}
+use Rattle.gib_check.specs.declared.rules.Part.{Part}
+use Rattle.gib_check.specs.Faults.{Checked, and_then, place, ArmHead, infer, infer_arm}
+
+abbrev pub table_in : Parts → Table
+table_in parts = table_of_program (program_of parts)
+
+abbrev pub types_in : Parts → List ℕ
+types_in parts = type_names (program_of parts)
+
+abbrev pub globals_in : Parts → Globals
+globals_in parts = globals_of (program_of parts)
+
+abbrev pub functions_in : Parts → List FunctionTree
+functions_in parts = (program_of parts).functions
+
+-- The tree of an expression of a program.
+abbrev pub tree_in : Parts → ℕ → Expression
+tree_in parts id = tree_of parts.exprs id
+
+abbrev pub function_number : FunctionDecl → ℕ
+function_number d = number_of d.name
+
+-- What stands beside a program while it is checked: the table of its types, and the names of its types,
+-- constructors and functions.
+pub record IsDeclared (parts : Parts) (table : Table) (types constructors functions : List ℕ) : Type 0 where
+  pub is_table : table ≡ table_in parts
+  pub are_types : types ≡ types_in parts
+  pub are_constructors : constructors ≡ constructor_names (table_in parts)
+  pub are_functions : functions ≡ map function_number parts.functions
+
+-- An arm without its expression.
+abbrev pub arm_head : Arm → ArmHead
+arm_head arm = record { constructor = arm.constructor; variables = arm.variables.items }
+
+-- The results of arms, in the order of the text.
+abbrev pub infer_each_arm : Globals → (ℕ → Expression) → Scope → Counts → List Arm → Checked (List Part × Counts)
+infer_each_arm g f scope n [] = Ok ([], n)
+infer_each_arm g f scope n (arm ∷ arms) =
+    and_then (infer_arm g.table scope n arm.constructor arm.variables.items (λ inner m. infer g inner m (f arm.body.0)))
+    (λ x. and_then (infer_each_arm g f scope x.1 arms)
+    (λ r. Ok (record { ty = x.0; place = place (f arm.body.0) } ∷ r.0, r.1)))

@@ -1,0 +1,137 @@
+//! What a program declares, beside the program.
+
+ghost use Rattle.std.specs.Prelude.{◌≡◌, ◌<◌, length, map, IfOk};
+ghost use Rattle.gib_syntax.specs.Declarations.{type_written, type_of_name};
+ghost use Rattle.gib_check.specs.Answers.{Gives};
+ghost use Rattle.gib_check.specs.Faults as rule;
+ghost use Rattle.gib_check.specs.Views.{table_in, types_in, functions_in, tree_in};
+
+use crate::fault::{Kind, TypeFault};
+use crate::names::NameList;
+use crate::rules::broken;
+use gib_base::Memory;
+use gib_syntax::{ExprId, FunctionDecl, Ident, Node, Program, TypeName};
+use gib_types::{ConId, Ty, TyId, TypeTable};
+use std::alloc::Global;
+use std::marker::Model;
+
+/// A program, the table of its types, and the names of its types, constructors and functions.
+#[derive(Drop)]
+pub struct Declared {
+    program: Program,
+    table: TypeTable,
+    types: NameList,
+    constructors: NameList,
+    functions: NameList,
+}
+
+impl Model for Declared {
+    ghost use Rattle.gib_syntax.specs.Parts.{Parts};
+    ghost use Rattle.gib_check.specs.Views.{IsDeclared};
+
+    ghost Value = { Parts };
+
+    ghost view = { λ d. d.program };
+
+    ghost invariant = { λ d. IsDeclared d.program d.table d.types d.constructors d.functions };
+}
+
+impl Declared {
+    ghost use Rattle.std.specs.Prelude.{IfSome};
+    ghost use Rattle.gib_syntax.specs.Arena.{Opens, tree_of};
+    ghost use Rattle.gib_syntax.specs.Parts.{function_tree};
+    ghost use Rattle.gib_syntax.specs.Typing.{parameter_types, result_type};
+    ghost use Rattle.gib_types.specs.Table.{fields_at, owner_at};
+
+    /// The expression of a number.
+    pub fn node(&self, id: ExprId) -> &Node
+        requires { id.0 < length self.now.exprs }
+        ensures { Opens self.now.exprs id.0 result.now }
+    {
+        self.program.exprs().node(id)
+    }
+
+    /// The constructor of a name.
+    pub fn constructor(&self, k: Ident) -> Result<ConId, TypeFault>
+        ensures named { Gives (λ c. c.0) result (rule.constructor (table_in self.now) k) }
+        ensures within { IfOk result (λ c. c.0 < length (table_in self.now).rows) }
+    {
+        match self.constructors.place(k.name) {
+            Some(place) => Ok(ConId(place)),
+            None => Err(broken(Kind::Unknown, k.span)),
+        }
+    }
+
+    /// The types of a constructor's fields.
+    pub fn fields(&self, con: ConId) -> &[Ty]
+        requires { con.0 < length (table_in self.now).rows }
+        ensures { result.now ≡ fields_at (table_in self.now) con.0 }
+    {
+        self.table.fields(con)
+    }
+
+    /// The type that a constructor belongs to.
+    pub fn owner(&self, con: ConId) -> TyId
+        requires { con.0 < length (table_in self.now).rows }
+        ensures { result.0 ≡ owner_at (table_in self.now) con.0 }
+    {
+        self.table.type_of(con)
+    }
+
+    /// The types of the fields of the constructor of a name, none where it is not declared.
+    pub fn fields_named(&self, k: Ident) -> &[Ty]
+        ensures { result.now ≡ rule.fields_named (table_in self.now) k }
+    {
+        match self.constructors.place(k.name) {
+            Some(place) => self.table.fields(ConId(place)),
+            None => &[],
+        }
+    }
+
+    /// The function of a name.
+    pub fn function(&self, f: Ident) -> Result<&FunctionDecl, TypeFault>
+        ensures { Gives (λ d. function_tree (tree_of self.now.exprs) d.now) result (rule.function (functions_in self.now) f) }
+    {
+        match self.functions.place(f.name) {
+            Some(place) => Ok(&self.program.functions()[place as usize]),
+            None => Err(broken(Kind::Unknown, f.span)),
+        }
+    }
+
+    /// The type that is written.
+    pub fn type_named(&self, written: TypeName) -> Ty
+        ensures { result ≡ type_of_name (types_in self.now) written }
+    {
+        match type_written(&self.types, written) {
+            Some(ty) => ty,
+            None => Ty::Whole,
+        }
+    }
+
+    /// The types of a function's parameters.
+    pub fn parameter_types(&self, alloc: Global, function: &FunctionDecl) -> Result<Vec<Ty>, Memory>
+        ensures { IfOk result (λ types. types.items ≡ parameter_types (table_in self.now) (function_tree (tree_of self.now.exprs) function.now)) }
+    {
+        let mut types = Vec::new(alloc);
+        let mut rest = function.parameters.as_slice();
+        'parameters: while let [parameter, after @ ..] = rest {
+            types.push(self.type_named(parameter.ty))?;
+            rest = after;
+        }
+        Ok(types)
+    }
+}
+
+/// The type that is written, where the declared types have these names.
+pub fn type_written(types: &NameList, written: TypeName) -> Option<Ty>
+    ensures { result ≡ type_written types.now written }
+{
+    match written {
+        TypeName::Whole(_) => Some(Ty::Whole),
+        TypeName::Truth(_) => Some(Ty::Truth),
+        TypeName::Declared(x) => match types.place(x.name) {
+            Some(place) => Some(Ty::Tree(TyId(place))),
+            None => None,
+        },
+    }
+}

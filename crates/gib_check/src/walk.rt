@@ -1,0 +1,322 @@
+//! The check of one expression.
+
+ghost use Rattle.std.specs.Prelude.{◌≡◌, ◌<◌, ◌++◌, ◌∷◌, [], length, map, take, IfOk};
+ghost use Rattle.std.specs.List.{AllByRecursion};
+ghost use Rattle.gib_syntax.specs.Arena.{ArmsBelow, IsArmBelow, arguments_from, case_from};
+ghost use Rattle.gib_syntax.specs.Tree as tree;
+ghost use Rattle.gib_syntax.specs.Typing.{operator_type as type_of_operator};
+ghost use Rattle.gib_check.specs.Answers.{Gives, scope_of};
+ghost use Rattle.gib_check.specs.Faults as rule;
+ghost use Rattle.gib_check.specs.Views.{table_in, globals_in, tree_in, arm_head, infer_each_arm};
+
+use crate::arms::{all_counted, all_declared, covered};
+use crate::counts::Counts;
+use crate::declared::Declared;
+use crate::fault::TypeFault;
+use crate::rules::{Part, Variable, all_of, all_wanted, as_many, declared_type, first_type, new_variable, one_more, type_of, wanted};
+use gib_base::Span;
+use gib_syntax::{Arm, ExprId, Ident, Node, Operator};
+use gib_types::Ty;
+use std::alloc::Global;
+
+/// What is in scope, and what was met so far of a function.
+#[derive(Drop)]
+pub struct State {
+    pub scope: Vec<Variable>,
+    pub counts: Counts,
+}
+
+/// What an operator gives.
+fn operator_type(operator: Operator) -> Ty
+    ensures { result ≡ type_of_operator operator }
+{
+    match operator {
+        Operator::Add => Ty::Whole,
+        Operator::Subtract => Ty::Whole,
+        Operator::Multiply => Ty::Whole,
+        Operator::Equal => Ty::Truth,
+        Operator::Less => Ty::Truth,
+    }
+}
+
+/// Where an expression stands: at its first token, or inside of its parentheses.
+fn place(declared: &Declared, id: ExprId) -> Span
+    requires { id.0 < length declared.now.exprs }
+    ensures { result ≡ rule.place (tree_in declared.now id.0) }
+{
+    match declared.node(id) {
+        Node::Variable(x) => x.span,
+        Node::Whole(span, _) => *span,
+        Node::Truth(span, _) => *span,
+        Node::Paren(_, inner) => place(declared, *inner),
+        Node::Operation { span, .. } => *span,
+        Node::Call(f, _) => f.span,
+        Node::Make(k, _) => k.span,
+        Node::Let { span, .. } => *span,
+        Node::LetPar { span, .. } => *span,
+        Node::If { span, .. } => *span,
+        Node::Case { span, .. } => *span,
+    }
+}
+
+/// A part after its check.
+fn part(declared: &Declared, id: ExprId, ty: Ty) -> Part
+    requires { id.0 < length declared.now.exprs }
+    ensures { result ≡ record { ty = ty; place = rule.place (tree_in declared.now id.0) } }
+{
+    Part {
+        ty,
+        place: place(declared, id),
+    }
+}
+
+/// Binds a new variable.
+fn bind(state: &mut State, x: Ident, ty: Ty) -> Result<(), TypeFault>
+    ensures counts { Gives (λ _. state.new.counts) result (rule.new_variable (scope_of state.old.scope.items) state.old.counts x) }
+    ensures scope { IfOk result (λ _. state.new.scope.items ≡ state.old.scope.items ++ record { name = x.name; ty = ty } ∷ []) }
+{
+    new_variable(&state.scope, &mut state.counts, x)?;
+    state.scope.push(Variable { name: x.name, ty })?;
+    Ok(())
+}
+
+/// Binds the variables of an arm.
+fn bind_all(state: &mut State, variables: &[Ident], types: &[Ty]) -> Result<(), TypeFault>
+    ensures read { Gives (λ _. (scope_of state.new.scope.items, state.new.counts)) result (rule.bind_all (scope_of state.old.scope.items) state.old.counts variables.now types.now) }
+    ensures kept { IfOk result (λ _. take (length state.old.scope.items) state.new.scope.items ≡ state.old.scope.items) }
+{
+    let mut names = variables;
+    let mut fields = types;
+    'variables: while let [name, names_after @ ..] = names {
+        match fields {
+            [] => return Ok(()),
+            [ty, fields_after @ ..] => {
+                bind(state, *name, *ty)?;
+                names = names_after;
+                fields = fields_after;
+            }
+        }
+    }
+    Ok(())
+}
+
+/// The type of an expression.
+#[cycle(infer)]
+pub fn infer(alloc: Global, declared: &Declared, state: &mut State, id: ExprId) -> Result<Ty, TypeFault>
+    requires { id.0 < length declared.now.exprs }
+    ensures read { Gives (λ t. (t, state.new.counts)) result (rule.infer (globals_in declared.now) (scope_of state.old.scope.items) state.old.counts (tree_in declared.now id.0)) }
+    ensures kept { IfOk result (λ _. state.new.scope.items ≡ state.old.scope.items) }
+{
+    match declared.node(id) {
+        Node::Variable(x) => {
+            one_more(&mut state.counts, x.span)?;
+            type_of(&state.scope, *x)
+        }
+        Node::Whole(span, _) => {
+            one_more(&mut state.counts, *span)?;
+            Ok(Ty::Whole)
+        }
+        Node::Truth(span, _) => {
+            one_more(&mut state.counts, *span)?;
+            Ok(Ty::Truth)
+        }
+        Node::Paren(_, inner) => infer(alloc, declared, state, *inner),
+        Node::Operation { span, operator, left, right } => operation(alloc, declared, state, id, *span, *operator, *left, *right),
+        Node::Call(f, ids) => call(alloc, declared, state, id, *f, ids),
+        Node::Make(k, ids) => make(alloc, declared, state, id, *k, ids),
+        Node::Let { span, name, bound, body } => let_in(alloc, declared, state, id, *span, *name, *bound, *body),
+        Node::LetPar { span, left_name, left, right_name, right, body } => let_par(alloc, declared, state, id, *span, *left_name, *left, *right_name, *right, *body),
+        Node::If { span, condition, then_part, else_part } => if_else(alloc, declared, state, id, *span, *condition, *then_part, *else_part),
+        Node::Case { span, variable, arms } => case(alloc, declared, state, id, *span, *variable, arms),
+    }
+}
+
+/// The type of an operation.
+#[cycle(infer)]
+fn operation(alloc: Global, declared: &Declared, state: &mut State, id: ExprId, span: Span, operator: Operator, left: ExprId, right: ExprId) -> Result<Ty, TypeFault>
+    requires inside { id.0 < length declared.now.exprs }
+    requires left { left.0 < id.0 }
+    requires right { right.0 < id.0 }
+    ensures read { Gives (λ t. (t, state.new.counts)) result (rule.infer (globals_in declared.now) (scope_of state.old.scope.items) state.old.counts (tree.Op span operator (tree_in declared.now left.0) (tree_in declared.now right.0))) }
+    ensures kept { IfOk result (λ _. state.new.scope.items ≡ state.old.scope.items) }
+{
+    one_more(&mut state.counts, span)?;
+    let left_ty = infer(alloc, declared, state, left)?;
+    let right_ty = infer(alloc, declared, state, right)?;
+    wanted(Ty::Whole, part(declared, left, left_ty))?;
+    wanted(Ty::Whole, part(declared, right, right_ty))?;
+    Ok(operator_type(operator))
+}
+
+/// The types of arguments, from left to right.
+#[cycle(infer)]
+fn arguments(alloc: Global, declared: &Declared, state: &mut State, id: ExprId, ids: &[ExprId]) -> Result<Vec<Part>, TypeFault>
+    requires inside { id.0 < length declared.now.exprs }
+    requires below { AllByRecursion (λ a. a.0 < id.0) ids.now }
+    ensures read { Gives (λ parts. (parts.items, state.new.counts)) result (rule.infer_all (globals_in declared.now) (scope_of state.old.scope.items) state.old.counts (arguments_from (tree_in declared.now) ids.now)) }
+    ensures kept { IfOk result (λ _. state.new.scope.items ≡ state.old.scope.items) }
+{
+    let mut parts = Vec::new(alloc);
+    let mut rest = ids;
+    'arguments: while let [first, after @ ..] = rest {
+        let ty = infer(alloc, declared, state, *first)?;
+        parts.push(part(declared, *first, ty))?;
+        rest = after;
+    }
+    Ok(parts)
+}
+
+/// The type of a call.
+#[cycle(infer)]
+fn call(alloc: Global, declared: &Declared, state: &mut State, id: ExprId, f: Ident, ids: &[ExprId]) -> Result<Ty, TypeFault>
+    requires inside { id.0 < length declared.now.exprs }
+    requires below { AllByRecursion (λ a. a.0 < id.0) ids.now }
+    ensures read { Gives (λ t. (t, state.new.counts)) result (rule.infer (globals_in declared.now) (scope_of state.old.scope.items) state.old.counts (tree.Call f (arguments_from (tree_in declared.now) ids.now))) }
+    ensures kept { IfOk result (λ _. state.new.scope.items ≡ state.old.scope.items) }
+{
+    one_more(&mut state.counts, f.span)?;
+    let function = declared.function(f)?;
+    let due = declared.parameter_types(alloc, function)?;
+    as_many(ids.len(), &due, f)?;
+    let parts = arguments(alloc, declared, state, id, ids)?;
+    all_wanted(&parts, &due)?;
+    Ok(declared.type_named(function.result))
+}
+
+/// The type of a constructor with its arguments.
+#[cycle(infer)]
+fn make(alloc: Global, declared: &Declared, state: &mut State, id: ExprId, k: Ident, ids: &[ExprId]) -> Result<Ty, TypeFault>
+    requires inside { id.0 < length declared.now.exprs }
+    requires below { AllByRecursion (λ a. a.0 < id.0) ids.now }
+    ensures read { Gives (λ t. (t, state.new.counts)) result (rule.infer (globals_in declared.now) (scope_of state.old.scope.items) state.old.counts (tree.Make k (arguments_from (tree_in declared.now) ids.now))) }
+    ensures kept { IfOk result (λ _. state.new.scope.items ≡ state.old.scope.items) }
+{
+    one_more(&mut state.counts, k.span)?;
+    let con = declared.constructor(k)?;
+    as_many(ids.len(), declared.fields(con), k)?;
+    let parts = arguments(alloc, declared, state, id, ids)?;
+    all_wanted(&parts, declared.fields(con))?;
+    Ok(Ty::Tree(declared.owner(con)))
+}
+
+/// The type of a `let`.
+#[cycle(infer)]
+fn let_in(alloc: Global, declared: &Declared, state: &mut State, id: ExprId, span: Span, name: Ident, bound: ExprId, body: ExprId) -> Result<Ty, TypeFault>
+    requires inside { id.0 < length declared.now.exprs }
+    requires bound { bound.0 < id.0 }
+    requires body { body.0 < id.0 }
+    ensures read { Gives (λ t. (t, state.new.counts)) result (rule.infer (globals_in declared.now) (scope_of state.old.scope.items) state.old.counts (tree.Let span name (tree_in declared.now bound.0) (tree_in declared.now body.0))) }
+    ensures kept { IfOk result (λ _. state.new.scope.items ≡ state.old.scope.items) }
+{
+    one_more(&mut state.counts, span)?;
+    let bound_ty = infer(alloc, declared, state, bound)?;
+    let len = state.scope.len();
+    bind(state, name, bound_ty)?;
+    let ty = infer(alloc, declared, state, body)?;
+    state.scope.truncate(len);
+    Ok(ty)
+}
+
+/// The type of a `let par`.
+#[cycle(infer)]
+fn let_par(
+    alloc: Global,
+    declared: &Declared,
+    state: &mut State,
+    id: ExprId,
+    span: Span,
+    left_name: Ident,
+    left: ExprId,
+    right_name: Ident,
+    right: ExprId,
+    body: ExprId,
+) -> Result<Ty, TypeFault>
+    requires inside { id.0 < length declared.now.exprs }
+    requires left { left.0 < id.0 }
+    requires right { right.0 < id.0 }
+    requires body { body.0 < id.0 }
+    ensures read { Gives (λ t. (t, state.new.counts)) result (rule.infer (globals_in declared.now) (scope_of state.old.scope.items) state.old.counts (tree.Par span left_name (tree_in declared.now left.0) right_name (tree_in declared.now right.0) (tree_in declared.now body.0))) }
+    ensures kept { IfOk result (λ _. state.new.scope.items ≡ state.old.scope.items) }
+{
+    one_more(&mut state.counts, span)?;
+    let left_ty = infer(alloc, declared, state, left)?;
+    let right_ty = infer(alloc, declared, state, right)?;
+    let len = state.scope.len();
+    bind(state, left_name, left_ty)?;
+    bind(state, right_name, right_ty)?;
+    let ty = infer(alloc, declared, state, body)?;
+    state.scope.truncate(len);
+    Ok(ty)
+}
+
+/// The type of an `if`.
+#[cycle(infer)]
+fn if_else(alloc: Global, declared: &Declared, state: &mut State, id: ExprId, span: Span, condition: ExprId, then_part: ExprId, else_part: ExprId) -> Result<Ty, TypeFault>
+    requires inside { id.0 < length declared.now.exprs }
+    requires condition { condition.0 < id.0 }
+    requires then_part { then_part.0 < id.0 }
+    requires else_part { else_part.0 < id.0 }
+    ensures read { Gives (λ t. (t, state.new.counts)) result (rule.infer (globals_in declared.now) (scope_of state.old.scope.items) state.old.counts (tree.If span (tree_in declared.now condition.0) (tree_in declared.now then_part.0) (tree_in declared.now else_part.0))) }
+    ensures kept { IfOk result (λ _. state.new.scope.items ≡ state.old.scope.items) }
+{
+    one_more(&mut state.counts, span)?;
+    let condition_ty = infer(alloc, declared, state, condition)?;
+    let then_ty = infer(alloc, declared, state, then_part)?;
+    let else_ty = infer(alloc, declared, state, else_part)?;
+    wanted(Ty::Truth, part(declared, condition, condition_ty))?;
+    wanted(then_ty, part(declared, else_part, else_ty))?;
+    Ok(then_ty)
+}
+
+/// The type of an arm.
+#[cycle(infer)]
+fn arm_result(alloc: Global, declared: &Declared, state: &mut State, id: ExprId, arm: &Arm) -> Result<Ty, TypeFault>
+    requires inside { id.0 < length declared.now.exprs }
+    requires below { arm.now.body.0 < id.0 }
+    ensures read { Gives (λ t. (t, state.new.counts)) result (rule.infer_arm (table_in declared.now) (scope_of state.old.scope.items) state.old.counts arm.now.constructor arm.now.variables.items (λ inner n. rule.infer (globals_in declared.now) inner n (tree_in declared.now arm.now.body.0))) }
+    ensures kept { IfOk result (λ _. state.new.scope.items ≡ state.old.scope.items) }
+{
+    let len = state.scope.len();
+    bind_all(state, &arm.variables, declared.fields_named(arm.constructor))?;
+    let ty = infer(alloc, declared, state, arm.body)?;
+    state.scope.truncate(len);
+    Ok(ty)
+}
+
+/// The types of arms, in the order of the text.
+#[cycle(infer)]
+fn arm_results(alloc: Global, declared: &Declared, state: &mut State, id: ExprId, arms: &[Arm]) -> Result<Vec<Part>, TypeFault>
+    requires inside { id.0 < length declared.now.exprs }
+    requires below { AllByRecursion (IsArmBelow id.0) arms.now }
+    ensures read { Gives (λ parts. (parts.items, state.new.counts)) result (infer_each_arm (globals_in declared.now) (tree_in declared.now) (scope_of state.old.scope.items) state.old.counts arms.now) }
+    ensures kept { IfOk result (λ _. state.new.scope.items ≡ state.old.scope.items) }
+{
+    let mut parts = Vec::new(alloc);
+    let mut rest = arms;
+    'arms: while let [first, after @ ..] = rest {
+        let ty = arm_result(alloc, declared, state, id, first)?;
+        parts.push(part(declared, first.body, ty))?;
+        rest = after;
+    }
+    Ok(parts)
+}
+
+/// The type of a `case`.
+#[cycle(infer)]
+fn case(alloc: Global, declared: &Declared, state: &mut State, id: ExprId, span: Span, variable: Ident, arms: &[Arm]) -> Result<Ty, TypeFault>
+    requires inside { id.0 < length declared.now.exprs }
+    requires below { ArmsBelow arms.now id.0 }
+    ensures read { Gives (λ t. (t, state.new.counts)) result (rule.infer (globals_in declared.now) (scope_of state.old.scope.items) state.old.counts (case_from (tree_in declared.now) arms.now (tree.Case span variable))) }
+    ensures kept { IfOk result (λ _. state.new.scope.items ≡ state.old.scope.items) }
+{
+    one_more(&mut state.counts, span)?;
+    let ty = type_of(&state.scope, variable)?;
+    let ty = declared_type(ty, variable)?;
+    all_declared(declared, arms)?;
+    covered(declared, ty, arms, span)?;
+    all_counted(declared, arms)?;
+    let parts = arm_results(alloc, declared, state, id, arms)?;
+    let ty = first_type(&parts);
+    all_of(ty, &parts)?;
+    Ok(ty)
+}

@@ -1,0 +1,5 @@
+pub mod Names
+pub mod Stacks
+pub mod Moves
+pub mod Runs
+pub mod Steps

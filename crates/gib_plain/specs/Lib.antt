@@ -1,0 +1,4 @@
+pub mod Running
+pub mod Stacks
+pub mod Machines
+pub mod Told

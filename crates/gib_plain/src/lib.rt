@@ -1,0 +1,11 @@
+//! The meaning, run: a program on a value, by a machine with stacks of its own.
+#![tactic(auto)]
+
+mod lookup;
+mod machine;
+mod operators;
+mod outcome;
+mod stack;
+
+pub use machine::plain;
+pub use outcome::Outcome;
