@@ -1,3 +1,13 @@
+pub mod Complete
+pub mod Different
 pub mod Loops
+pub mod Opening
 pub mod Places
+pub mod Programs
+pub mod Rows
 pub mod Scopes
+pub mod Sound
+pub mod Steps
+pub mod RowRules
+pub mod Making
+pub mod Declaring

@@ -1,7 +1,7 @@
 -- What the loops of the walk keep.
-use Rattle.std.proofs.Common.{◌≡◌, ℕ, ◌<◌, List, [], ◌∷◌, ◌++◌, take, length, Ok, Err, refl, sym, ap, ◌∙◌, subst, append_assoc}
+use Rattle.std.proofs.Common.{◌≡◌, ℕ, ◌<◌, ◌≤◌, ◌-◌, List, [], ◌∷◌, ◌++◌, take, drop, get_or, length, arith, Ok, Err, refl, sym, ap, ◌∙◌, subst, append_assoc}
 use Rattle.std.proofs.lemmas.List.{append-nil}
-use Rattle.std.proofs.Math.Seq.{take-append_seam}
+use Rattle.std.proofs.Math.Seq.{take-append_seam, take-length}
 use Rattle.std.specs.List.{AllByRecursion}
 use Rattle.gib_types.specs.declared.table.Ty.{Ty}
 use Rattle.gib_syntax.specs.declared.exprs.ExprId.{ExprId}
@@ -40,7 +40,7 @@ pub passed_on : {A B : Type 0} (e : TypeFault) (c : Checked A) (go : A → Check
 passed_on t.Memory c go h = tt
 passed_on (t.Broken fault) c go h = ap (λ z. and_then z go) h
 
-along : {B : Type 0} (e : TypeFault) (c d : Checked B) → c ≡ d → IsFaultOf e d → IsFaultOf e c
+pub along : {B : Type 0} (e : TypeFault) (c d : Checked B) → c ≡ d → IsFaultOf e d → IsFaultOf e c
 along t.Memory c d q h = tt
 along (t.Broken fault) c d q h = q ∙ h
 
@@ -135,3 +135,46 @@ binds_kept start now variables names types fields h = ap (take (length start.sco
 
 pub binds_fail : (start now : State) (variables after : List Ident) (name : Ident) (types later : List Ty) (ty : Ty) (e : TypeFault) → BindsSoFar start now variables (name ∷ after) types (ty ∷ later) → IsFaultOf e (new_variable (scope_of now.scope.items) now.counts name) → IsFaultOf e (bind_all (scope_of start.scope.items) start.counts variables types)
 binds_fail start now variables after name types later ty e h f = along e _ _ h.read (passed_on e _ _ f)
+
+rest-is : {A : Type 0} (x : A) (xs : List A) → take (length (x ∷ xs) - 1) xs ≡ xs
+rest-is x xs = let n : length (x ∷ xs) - 1 ≡ length xs = omega arith in ap (λ k. take k xs) n ∙ take-length xs
+
+-- The next variable, where there are a name and a field left.
+pub binds_next : (start now newer : State) (variables names : List Ident) (types fields : List Ty) (d : Ident) (e : Ty) → 1 ≤ length names → 1 ≤ length fields → BindsSoFar start now variables names types fields → new_variable (scope_of now.scope.items) now.counts (get_or names 0 d) ≡ Ok newer.counts → newer.scope.items ≡ now.scope.items ++ record { name = (get_or names 0 d).name; ty = get_or fields 0 e } ∷ [] → BindsSoFar start newer variables (take (length names - 1) (drop 1 names)) types (take (length fields - 1) (drop 1 fields))
+binds_next start now newer variables [] types fields d e ln lf h q es = absurd (omega (arith, ln))
+binds_next start now newer variables (x ∷ names) types [] d e ln lf h q es = absurd (omega (arith, lf))
+binds_next start now newer variables (x ∷ names) types (t ∷ fields) d e ln lf h q es =
+    subst (λ z. BindsSoFar start newer variables z types (take (length (t ∷ fields) - 1) fields)) (sym (rest-is x names))
+    (subst (λ z. BindsSoFar start newer variables names types z) (sym (rest-is t fields))
+    (binds_more start now newer variables names x types fields t h q es))
+
+-- The next argument, where there is one left.
+pub arguments_next : (parts : Parts) (id : ℕ) (start now newer : State) (ids rest : List ExprId) (d : ExprId) (done more : List Part) (ty : Ty) (part : Part) → 1 ≤ length rest → ArgumentsSoFar parts id start now ids rest done → infer (globals_in parts) (scope_of now.scope.items) now.counts (tree_in parts (get_or rest 0 d).0) ≡ Ok (ty, newer.counts) → newer.scope.items ≡ now.scope.items → part ≡ record { ty = ty; place = place (tree_in parts (get_or rest 0 d).0) } → more ≡ done ++ part ∷ [] → ArgumentsSoFar parts id start newer ids (take (length rest - 1) (drop 1 rest)) more
+arguments_next parts id start now newer ids [] d done more ty part l h e es ep em = absurd (omega (arith, l))
+arguments_next parts id start now newer ids (x ∷ rest) d done more ty part l h e es ep em =
+    subst (λ z. ArgumentsSoFar parts id start newer ids z more) (sym (rest-is x rest))
+    (arguments_more parts id start now newer ids rest x done more ty h e es (em ∙ ap (λ z. done ++ z ∷ []) ep))
+
+pub arguments_stops : (parts : Parts) (id : ℕ) (start now : State) (ids rest : List ExprId) (done : List Part) → length rest < 1 → ArgumentsSoFar parts id start now ids rest done → infer_all (globals_in parts) (scope_of start.scope.items) start.counts (arguments_from (tree_in parts) ids) ≡ Ok (done, now.counts)
+arguments_stops parts id start now ids [] done l h = arguments_stop parts id start now ids done h
+arguments_stops parts id start now ids (x ∷ rest) done l h = absurd (omega (arith, l))
+
+pub arguments_fails : (parts : Parts) (id : ℕ) (start now : State) (ids rest : List ExprId) (d : ExprId) (done : List Part) (e : TypeFault) → 1 ≤ length rest → ArgumentsSoFar parts id start now ids rest done → IsFaultOf e (infer (globals_in parts) (scope_of now.scope.items) now.counts (tree_in parts (get_or rest 0 d).0)) → IsFaultOf e (infer_all (globals_in parts) (scope_of start.scope.items) start.counts (arguments_from (tree_in parts) ids))
+arguments_fails parts id start now ids [] d done e l h f = absurd (omega (arith, l))
+arguments_fails parts id start now ids (x ∷ rest) d done e l h f = arguments_fail parts id start now ids rest x done e h f
+
+-- The next arm, where there is one left.
+pub arms_next : (parts : Parts) (id : ℕ) (start now newer : State) (arms rest : List Arm) (first : Arm) (done more : List Part) (ty : Ty) (part : Part) → 1 ≤ length rest → first ≡ get_or rest 0 first → ArmsSoFar parts id start now arms rest done → arm_in parts (scope_of now.scope.items) now.counts first ≡ Ok (ty, newer.counts) → newer.scope.items ≡ now.scope.items → part ≡ record { ty = ty; place = place (tree_in parts first.body.0) } → more ≡ done ++ part ∷ [] → ArmsSoFar parts id start newer arms (take (length rest - 1) (drop 1 rest)) more
+arms_next parts id start now newer arms [] first done more ty part l q h e es ep em = absurd (omega (arith, l))
+arms_next parts id start now newer arms (x ∷ rest) first done more ty part l q h e es ep em =
+    subst (λ z. ArmsSoFar parts id start newer arms z more) (sym (rest-is x rest))
+    (arms_more parts id start now newer arms rest first done more ty (subst (λ z. ArmsSoFar parts id start now arms (z ∷ rest) done) (sym q) h) e es (em ∙ ap (λ z. done ++ z ∷ []) ep))
+
+pub arms_stops : (parts : Parts) (id : ℕ) (start now : State) (arms rest : List Arm) (done : List Part) → length rest < 1 → ArmsSoFar parts id start now arms rest done → infer_each_arm (globals_in parts) (tree_in parts) (scope_of start.scope.items) start.counts arms ≡ Ok (done, now.counts)
+arms_stops parts id start now arms [] done l h = arms_stop parts id start now arms done h
+arms_stops parts id start now arms (x ∷ rest) done l h = absurd (omega (arith, l))
+
+pub arms_fails : (parts : Parts) (id : ℕ) (start now : State) (arms rest : List Arm) (first : Arm) (done : List Part) (e : TypeFault) → 1 ≤ length rest → first ≡ get_or rest 0 first → ArmsSoFar parts id start now arms rest done → IsFaultOf e (arm_in parts (scope_of now.scope.items) now.counts first) → IsFaultOf e (infer_each_arm (globals_in parts) (tree_in parts) (scope_of start.scope.items) start.counts arms)
+arms_fails parts id start now arms [] first done e l q h f = absurd (omega (arith, l))
+arms_fails parts id start now arms (x ∷ rest) first done e l q h f =
+    arms_fail parts id start now arms rest first done e (subst (λ z. ArmsSoFar parts id start now arms (z ∷ rest) done) (sym q) h) f

@@ -136,7 +136,7 @@ is_of table ty (Some c) = owner_at table c == ty
 -- No name stands twice.
 abbrev pub are_different : List ℕ → Bool
 are_different [] = true
-are_different (x ∷ xs) = is_none (place_of xs x) && are_different xs
+are_different (x ∷ xs) = not (is_some (place_of xs x)) && are_different xs
 
 -- A constructor of the type has one of the names.
 abbrev pub is_there : ℕ → List ℕ → Row → Bool
@@ -177,6 +177,26 @@ abbrev pub first_type : List Part → Ty
 first_type [] = Whole
 first_type (part ∷ parts) = part.ty
 
+-- A call with so many arguments: its function, their number, the arguments, and their types.
+abbrev pub infer_call : Globals → Counts → Ident → ℕ → (Counts → Checked (List Part × Counts)) → Checked (Ty × Counts)
+infer_call g n f count results =
+    and_then (one_more n f.span)
+    (λ m. and_then (function g.functions f)
+    (λ h. and_then (as_many count (parameter_types g.table h) f)
+    (λ _. and_then (results m)
+    (λ r. and_then (all_wanted r.0 (parameter_types g.table h))
+    (λ _. Ok (result_type g.table h, r.1))))))
+
+-- A constructor with so many arguments.
+abbrev pub infer_make : Table → Counts → Ident → ℕ → (Counts → Checked (List Part × Counts)) → Checked (Ty × Counts)
+infer_make table n k count results =
+    and_then (one_more n k.span)
+    (λ m. and_then (constructor table k)
+    (λ c. and_then (as_many count (fields_at table c) k)
+    (λ _. and_then (results m)
+    (λ r. and_then (all_wanted r.0 (fields_at table c))
+    (λ _. Ok (Tree (record { 0 = owner_at table c }), r.1))))))
+
 -- A case whose arms have these heads: its variable, the arms by their constructors, the arms, and that their
 -- results have the type of the first one.
 abbrev pub infer_case : Table → Scope → Counts → Span → Ident → List ArmHead → (Counts → Checked (List Part × Counts)) → Checked (Ty × Counts)
@@ -211,20 +231,8 @@ abbrev mutual
       (λ y. and_then (wanted Whole (record { ty = x.0; place = place a }))
       (λ _. and_then (wanted Whole (record { ty = y.0; place = place b }))
       (λ _. Ok (operator_type f, y.1))))))
-  infer g scope n (Call f xs) =
-      and_then (one_more n f.span)
-      (λ m. and_then (function g.functions f)
-      (λ h. and_then (as_many (argument_count xs) (parameter_types g.table h) f)
-      (λ _. and_then (infer_all g scope m xs)
-      (λ r. and_then (all_wanted r.0 (parameter_types g.table h))
-      (λ _. Ok (result_type g.table h, r.1))))))
-  infer g scope n (Make k xs) =
-      and_then (one_more n k.span)
-      (λ m. and_then (constructor g.table k)
-      (λ c. and_then (as_many (argument_count xs) (fields_at g.table c) k)
-      (λ _. and_then (infer_all g scope m xs)
-      (λ r. and_then (all_wanted r.0 (fields_at g.table c))
-      (λ _. Ok (Tree (record { 0 = owner_at g.table c }), r.1))))))
+  infer g scope n (Call f xs) = infer_call g n f (argument_count xs) (λ m. infer_all g scope m xs)
+  infer g scope n (Make k xs) = infer_make g.table n k (argument_count xs) (λ m. infer_all g scope m xs)
   infer g scope n (Let p x a b) =
       and_then (one_more n p)
       (λ m. and_then (infer g scope m a)

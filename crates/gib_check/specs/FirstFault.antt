@@ -1,6 +1,6 @@
 -- The first rule that a program breaks: types and constructors, field types, heads of functions, bodies;
 -- each in the order of the text, main behind the functions.
-use Rattle.std.specs.Prelude.{ℕ, ◌+◌, nat_lt, Bool, true, false, is_none, List, [], ◌∷◌, ◌++◌, length, Option, Some, None, Ok, Err}
+use Rattle.std.specs.Prelude.{◌≡◌, ℕ, ◌+◌, nat_lt, Bool, true, false, is_none, List, [], ◌∷◌, ◌++◌, length, slice_get, Option, Some, None, Ok, Err}
 use Rattle.gib_base.specs.declared.Span.{Span}
 use Rattle.gib_types.specs.declared.table.Ty.{Ty}
 use Rattle.gib_syntax.specs.declared.tree.Ident.{Ident}
@@ -9,11 +9,16 @@ use Rattle.gib_syntax.specs.declared.tree.TypeName.TheVariants as ty
 use Rattle.gib_syntax.specs.declared.tree.Parameter.{Parameter}
 use Rattle.gib_syntax.specs.Tree.{Expression, ConstructorTree, DataTree, FunctionTree, MainTree, ProgramTree}
 use Rattle.gib_syntax.specs.Declarations.{number_of, place_of, type_names, type_written, type_of_name, table_of_program}
-use Rattle.gib_syntax.specs.Typing.{Globals, globals_of, Scope, bound}
+use Rattle.gib_syntax.specs.Typing.{Globals, globals_of, Scope, bound, expressions, bindings}
 use Rattle.gib_check.specs.declared.counts.Counts.{Counts}
 use Rattle.gib_check.specs.declared.fault.Fault.{Fault}
 use Rattle.gib_check.specs.declared.fault.Kind.TheVariants as kind
 use Rattle.gib_check.specs.Faults.{Checked, and_then, allowed, found, place, new_variable, wanted, infer}
+
+-- Counts behind an expression: its expressions and its variables were added.
+pub record IsCountedOn (before : Counts) (e : Expression) (after : Counts) : Type 0 where
+  pub expressions : after.expressions ≡ before.expressions + expressions e
+  pub variables : after.variables ≡ before.variables + bindings e
 
 -- `Twice`: a name that is none of the names before it.
 abbrev pub new_name : List ℕ → Ident → Checked (Unit {0})
@@ -29,10 +34,13 @@ type_place (ty.Whole p) = p
 type_place (ty.Truth p) = p
 type_place (ty.Declared x) = x.span
 
--- `Limit`: at most eight fields; the ninth one's type is named.
+-- `Limit`: at most eight fields; the type of the ninth one is named.
+abbrev pub no_ninth : Option TypeName → Checked (Unit {0})
+no_ninth None = Ok (tt {0})
+no_ninth (Some ninth) = Err (record { kind = kind.Limit; span = type_place ninth })
+
 abbrev pub few_fields : List TypeName → Checked (Unit {0})
-few_fields (a ∷ b ∷ c ∷ d ∷ e ∷ f ∷ g ∷ h ∷ ninth ∷ more) = Err (record { kind = kind.Limit; span = type_place ninth })
-few_fields few = Ok (tt {0})
+few_fields fields = no_ninth (slice_get fields 8)
 
 -- `Unknown`: `Int`, `Bool` or a declared type.
 abbrev pub known : List ℕ → TypeName → Checked Ty
@@ -109,15 +117,20 @@ abbrev pub check_bodies : Globals → List FunctionTree → Checked (Unit {0})
 check_bodies g [] = Ok (tt {0})
 check_bodies g (f ∷ fs) = and_then (check_body g f.parameters f.result f.body) (λ _. check_bodies g fs)
 
--- All rules, in their order.
-unfoldable pub check_program : ProgramTree → Checked (Unit {0})
-check_program p =
+-- The rules of declarations, in their order.
+unfoldable pub check_declarations : ProgramTree → Checked (Unit {0})
+check_declarations p =
     and_then (check_datas [] [] p.datas)
     (λ _. and_then (check_fields (type_names p) p.datas)
     (λ _. and_then (check_heads (type_names p) [] p.functions)
-    (λ _. and_then (check_head (type_names p) (p.main.parameter ∷ []) p.main.result)
+    (λ _. check_head (type_names p) (p.main.parameter ∷ []) p.main.result)))
+
+-- All rules, in their order.
+unfoldable pub check_program : ProgramTree → Checked (Unit {0})
+check_program p =
+    and_then (check_declarations p)
     (λ _. and_then (check_bodies (globals_of p) p.functions)
-    (λ _. check_body (globals_of p) (p.main.parameter ∷ []) p.main.result p.main.body)))))
+    (λ _. check_body (globals_of p) (p.main.parameter ∷ []) p.main.result p.main.body))
 
 abbrev pub fault_in : Checked (Unit {0}) → Option Fault
 fault_in (Ok x) = None

@@ -1,14 +1,14 @@
 -- The parts of a program, as the definitions see them.
-use Rattle.std.specs.Prelude.{◌≡◌, ℕ, List, [], ◌∷◌, map, Result, Ok}
+use Rattle.std.specs.Prelude.{◌≡◌, ℕ, ◌==◌, Bool, not, ◌||◌, is_some, List, [], ◌∷◌, map, Ok}
 use Rattle.gib_base.specs.declared.name.Name.{Name}
 use Rattle.gib_types.specs.declared.table.Ty.{Ty}
-use Rattle.gib_types.specs.Table.{Table}
+use Rattle.gib_types.specs.Table.{Row, Table, owner_at, name_at}
 use Rattle.gib_syntax.specs.declared.exprs.Arm.{Arm}
 use Rattle.gib_syntax.specs.declared.tree.FunctionDecl.{FunctionDecl}
-use Rattle.gib_syntax.specs.Tree.{Expression, FunctionTree}
+use Rattle.gib_syntax.specs.Tree.{Expression, DataTree, FunctionTree}
 use Rattle.gib_syntax.specs.Arena.{tree_of}
-use Rattle.gib_syntax.specs.Parts.{Parts, program_of}
-use Rattle.gib_syntax.specs.Declarations.{number_of, type_names, table_of_program, constructor_names}
+use Rattle.gib_syntax.specs.Parts.{Parts, function_tree, program_of}
+use Rattle.gib_syntax.specs.Declarations.{number_of, place_of, type_names, table_of_program, constructor_names}
 use Rattle.gib_syntax.specs.Typing.{Globals, globals_of, Scope}
 use Rattle.gib_check.specs.declared.counts.Counts.{Counts}
 use Rattle.gib_check.specs.declared.rules.Part.{Part}
@@ -33,6 +33,16 @@ tree_in parts id = tree_of parts.exprs id
 abbrev pub function_number : FunctionDecl → ℕ
 function_number d = number_of d.name
 
+abbrev pub tree_number : DataTree → ℕ
+tree_number d = number_of d.name
+
+abbrev pub row_name : Row → ℕ
+row_name row = row.name
+
+-- The functions of a program, as trees.
+abbrev pub function_in : Parts → FunctionDecl → FunctionTree
+function_in parts d = function_tree (tree_of parts.exprs) d
+
 -- What stands beside a program while it is checked: the table of its types, and the names of its types,
 -- constructors and functions.
 pub record IsDeclared (parts : Parts) (table : Table) (types constructors functions : List ℕ) : Type 0 where
@@ -44,6 +54,10 @@ pub record IsDeclared (parts : Parts) (table : Table) (types constructors functi
 -- An arm without its expression.
 abbrev pub arm_head : Arm → ArmHead
 arm_head arm = record { constructor = arm.constructor; variables = arm.variables.items }
+
+-- The constructor of a number is of another type, or has one of the names.
+abbrev pub is_there_at : Table → ℕ → List ℕ → ℕ → Bool
+is_there_at table ty names con = not (owner_at table con == ty) || is_some (place_of names (name_at table con))
 
 -- The results of arms, in the order of the text.
 abbrev pub infer_each_arm : Globals → (ℕ → Expression) → Scope → Counts → List Arm → Checked (List Part × Counts)

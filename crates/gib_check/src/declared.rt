@@ -1,16 +1,19 @@
 //! What a program declares, beside the program.
 
 ghost use Rattle.std.specs.Prelude.{◌≡◌, ◌<◌, length, map, IfOk};
-ghost use Rattle.gib_syntax.specs.Declarations.{type_written, type_of_name};
+ghost use Rattle.gib_syntax.specs.Declarations.{type_written, type_of_name, constructor_named};
 ghost use Rattle.gib_check.specs.Answers.{Gives};
 ghost use Rattle.gib_check.specs.Faults as rule;
 ghost use Rattle.gib_check.specs.Views.{table_in, types_in, functions_in, tree_in};
 
 use crate::fault::{Kind, TypeFault};
+use crate::heads::list_functions;
 use crate::names::NameList;
 use crate::rules::broken;
-use gib_base::Memory;
-use gib_syntax::{ExprId, FunctionDecl, Ident, Node, Program, TypeName};
+use crate::tables::make_table;
+use crate::typed::Typed;
+use gib_base::{Memory, Name};
+use gib_syntax::{ExprId, FunctionDecl, Ident, MainDecl, Node, Program, TypeName};
 use gib_types::{ConId, Ty, TyId, TypeTable};
 use std::alloc::Global;
 use std::marker::Model;
@@ -39,9 +42,52 @@ impl Model for Declared {
 impl Declared {
     ghost use Rattle.std.specs.Prelude.{IfSome};
     ghost use Rattle.gib_syntax.specs.Arena.{Opens, tree_of};
-    ghost use Rattle.gib_syntax.specs.Parts.{function_tree};
-    ghost use Rattle.gib_syntax.specs.Typing.{parameter_types, result_type};
-    ghost use Rattle.gib_types.specs.Table.{fields_at, owner_at};
+    ghost use Rattle.gib_syntax.specs.Parts.{IsFunctionInside, function_tree, program_of};
+    ghost use Rattle.std.specs.List.{AllByRecursion};
+    ghost use Rattle.gib_syntax.specs.Typing.{parameter_types, IsTypedProgram};
+    ghost use Rattle.gib_types.specs.Table.{fields_at, owner_at, name_at, IsTable};
+
+    /// A program with the names of its types.
+    pub fn make(alloc: Global, program: Program, types: NameList) -> Result<Declared, Memory>
+        requires types { types ≡ types_in program }
+        requires table { IsTable (table_in program) }
+        ensures { IfOk result (λ declared. declared ≡ program) }
+    {
+        let functions = list_functions(alloc, program.functions())?;
+        let (table, constructors) = make_table(alloc, &types, program.data_decls())?;
+        Ok(Declared {
+            program,
+            table,
+            types,
+            constructors,
+            functions,
+        })
+    }
+
+    /// The functions but main, in the order of the text.
+    pub fn functions(&self) -> &[FunctionDecl]
+        ensures value { result.now ≡ self.now.functions }
+        ensures inside { AllByRecursion (IsFunctionInside (length self.now.exprs)) result.now }
+    {
+        self.program.functions()
+    }
+
+    /// Main.
+    pub fn main(&self) -> MainDecl
+        ensures value { result ≡ self.now.main }
+        ensures inside { result.body.0 < length self.now.exprs }
+    {
+        self.program.main()
+    }
+
+    /// The typed program.
+    pub fn into_typed(self) -> Typed
+        requires { IsTypedProgram (program_of self) }
+        ensures { result ≡ self }
+    {
+        let Declared { program, table, types: _, constructors: _, functions: _ } = self;
+        Typed::new(program, table)
+    }
 
     /// The expression of a number.
     pub fn node(&self, id: ExprId) -> &Node
@@ -78,6 +124,31 @@ impl Declared {
         self.table.type_of(con)
     }
 
+    /// How many constructors there are.
+    pub fn count(&self) -> u32
+        ensures { result ≡ length (table_in self.now).rows }
+    {
+        self.table.len()
+    }
+
+    /// The name of a constructor.
+    pub fn name(&self, con: ConId) -> Name
+        requires { con.0 < length (table_in self.now).rows }
+        ensures { result.0 ≡ name_at (table_in self.now) con.0 }
+    {
+        self.table.name_of(con)
+    }
+
+    /// Whether the constructor of a name is of the type.
+    pub fn is_of(&self, name: Name, ty: u32) -> bool
+        ensures { result ≡ rule.is_of (table_in self.now) ty (constructor_named (table_in self.now) name.0) }
+    {
+        match self.constructors.place(name) {
+            Some(place) => self.table.type_of(ConId(place)).0 == ty,
+            None => false,
+        }
+    }
+
     /// The types of the fields of the constructor of a name, none where it is not declared.
     pub fn fields_named(&self, k: Ident) -> &[Ty]
         ensures { result.now ≡ rule.fields_named (table_in self.now) k }
@@ -102,10 +173,7 @@ impl Declared {
     pub fn type_named(&self, written: TypeName) -> Ty
         ensures { result ≡ type_of_name (types_in self.now) written }
     {
-        match type_written(&self.types, written) {
-            Some(ty) => ty,
-            None => Ty::Whole,
-        }
+        type_of_name(&self.types, written)
     }
 
     /// The types of a function's parameters.
@@ -133,5 +201,15 @@ pub fn type_written(types: &NameList, written: TypeName) -> Option<Ty>
             Some(place) => Some(Ty::Tree(TyId(place))),
             None => None,
         },
+    }
+}
+
+/// The type that is written, `Int` where it is not declared.
+pub fn type_of_name(types: &NameList, written: TypeName) -> Ty
+    ensures { result ≡ type_of_name types.now written }
+{
+    match type_written(types, written) {
+        Some(ty) => ty,
+        None => Ty::Whole,
     }
 }

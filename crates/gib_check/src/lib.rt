@@ -1,32 +1,89 @@
 //! The type check: which programs are typed, and else which rule is broken first.
 #![tactic(auto)]
 
-pub mod counts;
+ghost use Rattle.std.specs.Prelude.{◌≡◌, IfOk, IfErr};
+ghost use Rattle.std.specs.List.{AllByRecursion};
+ghost use Rattle.gib_syntax.specs.Parts.{program_of};
+ghost use Rattle.gib_syntax.specs.Spelling.{HasConstructor};
+ghost use Rattle.gib_syntax.specs.Typing.{IsTypedProgram};
+ghost use Rattle.gib_check.specs.Answers.{Gives};
+ghost use Rattle.gib_check.specs.Checked.{IsMemory, IsFirst};
+ghost use Rattle.gib_check.specs.FirstFault as rule;
+ghost use Rattle.gib_check.specs.Views.{types_in};
+
 mod arms;
+mod bodies;
+pub mod counts;
+mod datas;
 mod declared;
 pub mod fault;
+mod heads;
+pub mod laws;
 mod names;
 mod rules;
+mod tables;
 pub mod typed;
 mod walk;
-
-ghost use Rattle.std.specs.Prelude.{◌≡◌, None, IfOk};
-ghost use Rattle.gib_syntax.specs.Parts.{program_of};
 
 pub use counts::Counts;
 pub use fault::{Fault, Kind, TypeFault};
 pub use typed::Typed;
 
+use bodies::{check_bodies, check_body};
+use datas::{check_datas, check_fields, list_types};
+use declared::Declared;
 use gib_syntax::Program;
+use heads::{check_head, check_heads};
+use names::NameList;
 use std::alloc::Global;
 
-/// Checks a program.
+/// Types and constructors, field types, and heads of functions; gives the names of the types.
+#[tactic(auto, unfolding(crate::specs::FirstFault::check_declarations))]
+fn check_declarations(alloc: Global, program: &Program) -> Result<NameList, TypeFault>
+    ensures read { Gives (λ _. tt {0}) result (rule.check_declarations (program_of program.now)) }
+    ensures types { IfOk result (λ types. types ≡ types_in program.now) }
+{
+    let datas = program.data_decls();
+    check_datas(alloc, datas)?;
+    let types = list_types(alloc, datas)?;
+    check_fields(&types, datas)?;
+    check_heads(alloc, &types, program.functions())?;
+    let main = program.main();
+    check_head(alloc, &types, &[main.parameter], main.result)?;
+    Ok(types)
+}
+
+/// All rules, in their order.
+#[tactic(auto, unfolding(crate::specs::FirstFault::check_program))]
+fn check_rules(alloc: Global, program: Program) -> Result<Declared, TypeFault>
+    requires { AllByRecursion HasConstructor (program_of program).datas }
+    ensures read { Gives (λ _. tt {0}) result (rule.check_program (program_of program)) }
+    ensures same { IfOk result (λ declared. declared ≡ program) }
+{
+    let types = check_declarations(alloc, &program)?;
+    let declared = Declared::make(alloc, program, types)?;
+    check_bodies(alloc, &declared)?;
+    let main = declared.main();
+    check_body(alloc, &declared, &[main.parameter], main.result, main.body)?;
+    Ok(declared)
+}
+
+/// Checks a program: which rule it breaks first, or none.
 ///
 /// # Errors
 ///
 /// The first broken rule, and want of memory.
-pub fn check(_alloc: Global, _program: Program) -> Result<Typed, TypeFault>
-    ensures same { IfOk result (λ typed. typed ≡ _program) }
+pub fn check(alloc: Global, program: Program) -> Result<Typed, TypeFault>
+    requires { AllByRecursion HasConstructor (program_of program).datas }
+    ensures same { IfOk result (λ typed. typed ≡ program) }
+    ensures typed { IfOk result (λ _. IsTypedProgram (program_of program)) }
+    // What is typed is refused for want of memory alone.
+    ensures only { IsTypedProgram (program_of program) → IfErr result IsMemory }
+    // Each other refusal is the first broken rule.
+    ensures exact { IfErr result (IsFirst (program_of program)) }
 {
-    Err(TypeFault::Memory)
+    match check_rules(alloc, program) {
+        Ok(declared) => Ok(declared.into_typed()),
+        Err(fault) => Err(fault),
+    }
 }

@@ -1,14 +1,14 @@
 //! The rules that expressions keep, each by itself.
 
-ghost use Rattle.std.specs.Prelude.{◌≡◌, ◌++◌, ◌∷◌, [], length, OnOk};
+ghost use Rattle.std.specs.Prelude.{◌≡◌, ◌++◌, ◌∷◌, [], length, IfOk};
 ghost use Rattle.gib_check.specs.Answers.{Gives, scope_of};
-ghost use Rattle.gib_syntax.specs.Typing.{type_in};
+ghost use Rattle.gib_syntax.specs.Typing.{type_in, bound};
 ghost use Rattle.gib_check.specs.Faults as rule;
 
 use crate::counts::Counts;
 use crate::fault::{Fault, Kind, TypeFault};
 use gib_base::limits::{EXPRESSIONS, VARIABLES};
-use gib_base::{Name, Span};
+use gib_base::{Memory, Name, Span};
 use gib_syntax::Ident;
 use gib_types::Ty;
 
@@ -78,6 +78,15 @@ pub fn new_variable(scope: &[Variable], counts: &mut Counts, x: Ident) -> Result
         return Err(broken(Kind::Limit, x.span));
     }
     counts.variables += 1;
+    Ok(())
+}
+
+/// Puts a variable into the scope.
+pub fn put(scope: &mut Vec<Variable>, x: Ident, ty: Ty) -> Result<(), Memory>
+    ensures items { IfOk result (λ _. scope.new.items ≡ scope.old.items ++ record { name = x.name; ty = ty } ∷ []) }
+    ensures scope { IfOk result (λ _. scope_of scope.new.items ≡ bound x ty (scope_of scope.old.items)) }
+{
+    scope.push(Variable { name: x.name, ty })?;
     Ok(())
 }
 

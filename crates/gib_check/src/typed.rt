@@ -27,6 +27,15 @@ impl Typed {
     ghost use Rattle.gib_syntax.specs.Parts.{program_of};
     ghost use Rattle.gib_syntax.specs.Declarations.{table_of_program};
     ghost use Rattle.gib_syntax.specs.Typing.{IsTypedProgram};
+    ghost use Rattle.gib_check.specs.Checked.{IsChecked};
+
+    /// A program, with the table of its types.
+    pub(crate) fn new(program: Program, types: TypeTable) -> Typed
+        requires { IsChecked program types }
+        ensures { result ≡ program }
+    {
+        Typed { program, types }
+    }
 
     /// The program, which is typed.
     pub fn program(&self) -> &Program

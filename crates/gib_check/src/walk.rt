@@ -2,9 +2,9 @@
 
 ghost use Rattle.std.specs.Prelude.{◌≡◌, ◌<◌, ◌++◌, ◌∷◌, [], length, map, take, IfOk};
 ghost use Rattle.std.specs.List.{AllByRecursion};
-ghost use Rattle.gib_syntax.specs.Arena.{ArmsBelow, IsArmBelow, arguments_from, case_from};
+ghost use Rattle.gib_syntax.specs.Arena.{IsArmBelow, arguments_from};
 ghost use Rattle.gib_syntax.specs.Tree as tree;
-ghost use Rattle.gib_syntax.specs.Typing.{operator_type as type_of_operator};
+ghost use Rattle.gib_syntax.specs.Typing.{bound, operator_type as type_of_operator};
 ghost use Rattle.gib_check.specs.Answers.{Gives, scope_of};
 ghost use Rattle.gib_check.specs.Faults as rule;
 ghost use Rattle.gib_check.specs.Views.{table_in, globals_in, tree_in, arm_head, infer_each_arm};
@@ -13,7 +13,7 @@ use crate::arms::{all_counted, all_declared, covered};
 use crate::counts::Counts;
 use crate::declared::Declared;
 use crate::fault::TypeFault;
-use crate::rules::{Part, Variable, all_of, all_wanted, as_many, declared_type, first_type, new_variable, one_more, type_of, wanted};
+use crate::rules::{Part, Variable, all_of, all_wanted, as_many, declared_type, first_type, new_variable, one_more, put, type_of, wanted};
 use gib_base::Span;
 use gib_syntax::{Arm, ExprId, Ident, Node, Operator};
 use gib_types::Ty;
@@ -60,7 +60,7 @@ fn place(declared: &Declared, id: ExprId) -> Span
 }
 
 /// A part after its check.
-fn part(declared: &Declared, id: ExprId, ty: Ty) -> Part
+pub fn part(declared: &Declared, id: ExprId, ty: Ty) -> Part
     requires { id.0 < length declared.now.exprs }
     ensures { result ≡ record { ty = ty; place = rule.place (tree_in declared.now id.0) } }
 {
@@ -74,9 +74,10 @@ fn part(declared: &Declared, id: ExprId, ty: Ty) -> Part
 fn bind(state: &mut State, x: Ident, ty: Ty) -> Result<(), TypeFault>
     ensures counts { Gives (λ _. state.new.counts) result (rule.new_variable (scope_of state.old.scope.items) state.old.counts x) }
     ensures scope { IfOk result (λ _. state.new.scope.items ≡ state.old.scope.items ++ record { name = x.name; ty = ty } ∷ []) }
+    ensures inner { IfOk result (λ _. scope_of state.new.scope.items ≡ bound x ty (scope_of state.old.scope.items)) }
 {
     new_variable(&state.scope, &mut state.counts, x)?;
-    state.scope.push(Variable { name: x.name, ty })?;
+    put(&mut state.scope, x, ty)?;
     Ok(())
 }
 
@@ -171,7 +172,7 @@ fn arguments(alloc: Global, declared: &Declared, state: &mut State, id: ExprId, 
 fn call(alloc: Global, declared: &Declared, state: &mut State, id: ExprId, f: Ident, ids: &[ExprId]) -> Result<Ty, TypeFault>
     requires inside { id.0 < length declared.now.exprs }
     requires below { AllByRecursion (λ a. a.0 < id.0) ids.now }
-    ensures read { Gives (λ t. (t, state.new.counts)) result (rule.infer (globals_in declared.now) (scope_of state.old.scope.items) state.old.counts (tree.Call f (arguments_from (tree_in declared.now) ids.now))) }
+    ensures read { Gives (λ t. (t, state.new.counts)) result (rule.infer_call (globals_in declared.now) state.old.counts f (length ids.now) (λ n. rule.infer_all (globals_in declared.now) (scope_of state.old.scope.items) n (arguments_from (tree_in declared.now) ids.now))) }
     ensures kept { IfOk result (λ _. state.new.scope.items ≡ state.old.scope.items) }
 {
     one_more(&mut state.counts, f.span)?;
@@ -188,7 +189,7 @@ fn call(alloc: Global, declared: &Declared, state: &mut State, id: ExprId, f: Id
 fn make(alloc: Global, declared: &Declared, state: &mut State, id: ExprId, k: Ident, ids: &[ExprId]) -> Result<Ty, TypeFault>
     requires inside { id.0 < length declared.now.exprs }
     requires below { AllByRecursion (λ a. a.0 < id.0) ids.now }
-    ensures read { Gives (λ t. (t, state.new.counts)) result (rule.infer (globals_in declared.now) (scope_of state.old.scope.items) state.old.counts (tree.Make k (arguments_from (tree_in declared.now) ids.now))) }
+    ensures read { Gives (λ t. (t, state.new.counts)) result (rule.infer_make (table_in declared.now) state.old.counts k (length ids.now) (λ n. rule.infer_all (globals_in declared.now) (scope_of state.old.scope.items) n (arguments_from (tree_in declared.now) ids.now))) }
     ensures kept { IfOk result (λ _. state.new.scope.items ≡ state.old.scope.items) }
 {
     one_more(&mut state.counts, k.span)?;
@@ -201,17 +202,17 @@ fn make(alloc: Global, declared: &Declared, state: &mut State, id: ExprId, k: Id
 
 /// The type of a `let`.
 #[cycle(infer)]
-fn let_in(alloc: Global, declared: &Declared, state: &mut State, id: ExprId, span: Span, name: Ident, bound: ExprId, body: ExprId) -> Result<Ty, TypeFault>
+fn let_in(alloc: Global, declared: &Declared, state: &mut State, id: ExprId, span: Span, name: Ident, value: ExprId, body: ExprId) -> Result<Ty, TypeFault>
     requires inside { id.0 < length declared.now.exprs }
-    requires bound { bound.0 < id.0 }
+    requires value { value.0 < id.0 }
     requires body { body.0 < id.0 }
-    ensures read { Gives (λ t. (t, state.new.counts)) result (rule.infer (globals_in declared.now) (scope_of state.old.scope.items) state.old.counts (tree.Let span name (tree_in declared.now bound.0) (tree_in declared.now body.0))) }
+    ensures read { Gives (λ t. (t, state.new.counts)) result (rule.infer (globals_in declared.now) (scope_of state.old.scope.items) state.old.counts (tree.Let span name (tree_in declared.now value.0) (tree_in declared.now body.0))) }
     ensures kept { IfOk result (λ _. state.new.scope.items ≡ state.old.scope.items) }
 {
     one_more(&mut state.counts, span)?;
-    let bound_ty = infer(alloc, declared, state, bound)?;
+    let value_ty = infer(alloc, declared, state, value)?;
     let len = state.scope.len();
-    bind(state, name, bound_ty)?;
+    bind(state, name, value_ty)?;
     let ty = infer(alloc, declared, state, body)?;
     state.scope.truncate(len);
     Ok(ty)
@@ -305,8 +306,8 @@ fn arm_results(alloc: Global, declared: &Declared, state: &mut State, id: ExprId
 #[cycle(infer)]
 fn case(alloc: Global, declared: &Declared, state: &mut State, id: ExprId, span: Span, variable: Ident, arms: &[Arm]) -> Result<Ty, TypeFault>
     requires inside { id.0 < length declared.now.exprs }
-    requires below { ArmsBelow arms.now id.0 }
-    ensures read { Gives (λ t. (t, state.new.counts)) result (rule.infer (globals_in declared.now) (scope_of state.old.scope.items) state.old.counts (case_from (tree_in declared.now) arms.now (tree.Case span variable))) }
+    requires below { AllByRecursion (IsArmBelow id.0) arms.now }
+    ensures read { Gives (λ t. (t, state.new.counts)) result (rule.infer_case (table_in declared.now) (scope_of state.old.scope.items) state.old.counts span variable (map arm_head arms.now) (λ n. infer_each_arm (globals_in declared.now) (tree_in declared.now) (scope_of state.old.scope.items) n arms.now)) }
     ensures kept { IfOk result (λ _. state.new.scope.items ≡ state.old.scope.items) }
 {
     one_more(&mut state.counts, span)?;

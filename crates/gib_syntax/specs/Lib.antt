@@ -5,3 +5,4 @@ pub mod Parts
 pub mod Declarations
 pub mod Typing
 pub mod Meaning
+pub mod Source

@@ -1,10 +1,10 @@
 -- The types of the tests are a table.
-use Rattle.std.proofs.Common.{◌≡◌, ℕ, zero, suc, ◌+◌, ◌*◌, ◌<◌, ◌≤◌, List, [], ◌∷◌, length, Some, slice_get, refl, sym, ap, subst, ◌∙◌, arith}
+use Rattle.std.proofs.Common.{◌≡◌, ℕ, zero, suc, ◌+◌, ◌*◌, ◌<◌, ◌≤◌, List, [], ◌∷◌, Some, slice_get, refl, sym, ap, subst, ◌∙◌, arith}
 use Rattle.gib_base.specs.declared.name.Name.{Name as TypeName}
 use Rattle.gib_types.specs.declared.table.Constructor.{Constructor}
 use Rattle.gib_types.specs.declared.table.Ty.TheVariants.{Whole, Truth}
 use Rattle.gib_types.specs.Row.{row_of, table_of}
-use Rattle.gib_types.specs.Table.{Row, Table, IsTable, IsRow, con_at, name_at}
+use Rattle.gib_types.specs.Table.{Row, Table, IsTable, IsRow, con_at}
 use Rattle.gib_value.specs.Text.{AreHeld}
 use Rattle.gib_value.specs.Reading.{AreWords}
 use Rattle.gib_value.specs.Example.{tree, row, table, names}

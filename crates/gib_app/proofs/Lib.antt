@@ -1,0 +1,6 @@
+mod Held
+mod Places
+mod Inputs
+mod Told
+mod Stopping
+mod Endings

@@ -1,0 +1,12 @@
+pub mod Sample
+pub mod Types
+pub mod Words
+pub mod Requests
+pub mod Running
+pub mod Causes
+pub mod Lines
+pub mod Documents
+pub mod Stops
+pub mod Endings
+pub mod Ending
+pub mod Codes

@@ -1,0 +1,7 @@
+//! Tests that cross crates, over the top call with files and sinks in memory.
+#![tactic(auto)]
+
+#[cfg(test)]
+mod bench;
+#[cfg(test)]
+mod rows;
