@@ -1,5 +1,5 @@
 -- From the stop of a run to the status of the call.
-use Rattle.std.proofs.Common.{◌≡◌, ◌∙◌, refl, ℕ, ◌++◌, ◌∷◌, [], List, Option, Some, None, IfSome, IfErr, IfOk, OnOk, MatchOption, Result, Ok, Err, ◌⊎◌, inl, inr, subst, sym, ap, append_assoc, codes}
+use Rattle.std.proofs.Common.{◌≡◌, ◌∙◌, refl, ℕ, List, Option, Some, None, IfSome, MatchOption, ◌⊎◌, inl, inr, subst, sym}
 use Rattle.gib_base.specs.Lexed.{Lexed, IsLexed}
 use Rattle.gib_base.specs.declared.token.Token.{Token}
 use Rattle.gib_types.specs.declared.table.Ty.{Ty}
@@ -10,18 +10,18 @@ use Rattle.gib_syntax.specs.Tree.{ProgramTree}
 use Rattle.gib_syntax.specs.Spelling.{Places, Derives, IsPlacedProgram, places_of}
 use Rattle.gib_syntax.specs.Declarations.{table_of_program, input_type}
 use Rattle.gib_syntax.specs.Meaning.{Outcome, Gives, Stops, Deep, run}
-use Rattle.gib_edge.specs.Causes.{Rose, Appends}
+use Rattle.gib_edge.specs.Causes.{Rose}
 use Rattle.gib_app.specs.declared.status.Status.{Status}
 use Rattle.gib_app.specs.declared.status.Status.TheVariants as status
 use Rattle.gib_app.specs.declared.stop.Stop.{Stop}
 use Rattle.gib_app.specs.declared.stop.Stop.TheVariants.{Usage, Source, Unread, Input, Depth, Memory, Unwritten}
 use Rattle.gib_app.specs.Words.{Document, Brought, Named, Request, asked, Files, bytes_in}
 use Rattle.gib_app.specs.Running.{IsProgram, IsInput, IsOutput, IsNoProgram, IsNoInput, RunsOut, call_depth}
-use Rattle.gib_app.specs.Causes.{Counts, OfSource, OfBoth, HasRisen, ReadRose, GoesWell}
-use Rattle.gib_app.specs.Lines.{IsFile, line, IsLine, NamesUnread}
-use Rattle.gib_app.specs.Stops.{IsStop, IsSilent, IsUnread}
-use Rattle.gib_app.specs.Endings.{status_for, words_for, name_for, line_for}
-use Rattle.gib_app.specs.Ending.{IsEnding, IsQuiet}
+use Rattle.gib_app.specs.Causes.{Counts, OfSource, OfBoth, HasRisen, GoesWell}
+use Rattle.gib_app.specs.Lines.{IsFile}
+use Rattle.gib_app.specs.Stops.{IsStop}
+use Rattle.gib_app.specs.Endings.{status_for}
+use Rattle.gib_app.specs.Ending.{IsEnding}
 
 has_risen : (d : Document) (before now : Counts) (name : List ℕ) → IsFile d name → Rose (before name) (now name) → HasRisen d before now
 has_risen (Brought bytes) before now name is h = absurd is
@@ -45,31 +45,6 @@ ending_of words kept reads_before reads_now before now faults_before faults_now 
 ending_of words kept reads_before reads_now before now faults_before faults_now Memory h = h
 ending_of words kept reads_before reads_now before now faults_before faults_now Unwritten h = h
 
-pub quiet_of : (before now : Option (List ℕ)) (stop : Stop) → IsSilent before now stop → IsQuiet before now (status_for stop)
-quiet_of before now Usage h = h
-quiet_of before now Source h = h
-quiet_of before now (Unread name) h = h
-quiet_of before now Input h = h
-quiet_of before now Depth h = h
-quiet_of before now Memory h = h
-quiet_of before now Unwritten h = h
-
-asked_unread : (o : Option Request) (before now : Counts) (name : List ℕ) → MatchOption o ⊥ (λ r. (IsFile r.source name ⊎ IsFile r.input name) × Rose (before name) (now name)) →
-    MatchOption o ⊥ (λ r. (file : List ℕ) × (IsFile r.source file ⊎ IsFile r.input file) × Rose (before file) (now file) × ((codes "gib: " ++ codes "cannot read ") ++ (name ++ 10 ∷ []) ≡ line (codes "cannot read " ++ file)))
-asked_unread None before now name h = h
-asked_unread (Some r) before now name h =
-    (name, h.0, h.1, append_assoc (codes "gib: ") (codes "cannot read ") (name ++ 10 ∷ []) ∙ ap (λ l. codes "gib: " ++ l) (sym (append_assoc (codes "cannot read ") name (10 ∷ []))) ∙ sym (append_assoc (codes "gib: ") (codes "cannot read " ++ name) (10 ∷ [])))
-
-pub line_of_stop : (words : List (List ℕ)) (kept : Files) (reads_before reads_now : Counts) (before now : Option (List ℕ)) (faults_before faults_now : ℕ) (stop : Stop) →
-    IsStop words kept reads_before reads_now before now faults_before faults_now stop → IsLine words reads_before reads_now (status_for stop) (line_for stop)
-line_of_stop words kept reads_before reads_now before now faults_before faults_now Usage h = refl
-line_of_stop words kept reads_before reads_now before now faults_before faults_now Source h = refl
-line_of_stop words kept reads_before reads_now before now faults_before faults_now (Unread name) h = asked_unread (asked words) reads_before reads_now name.now h
-line_of_stop words kept reads_before reads_now before now faults_before faults_now Input h = refl
-line_of_stop words kept reads_before reads_now before now faults_before faults_now Depth h = refl
-line_of_stop words kept reads_before reads_now before now faults_before faults_now Memory h = refl
-line_of_stop words kept reads_before reads_now before now faults_before faults_now Unwritten h = refl
-
 -- Completeness
 
 source_of : (words : List (List ℕ)) (kept : Files) (request : Request) (source : List ℕ) (P : List ℕ → Type 0) → asked words ≡ Some request → bytes_in kept request.source ≡ Some source → OfSource words kept P → P source
@@ -80,8 +55,10 @@ source_of words kept request source P e f h =
 
 both_of : (words : List (List ℕ)) (kept : Files) (request : Request) (source input : List ℕ) (P : List ℕ → List ℕ → Type 0) → asked words ≡ Some request → bytes_in kept request.source ≡ Some source → bytes_in kept request.input ≡ Some input → OfBoth words kept P → P source input
 both_of words kept request source input P e f k h =
-    let R : Option (List ℕ) → Type 0 = λ o. IfSome o (P source) in
-    subst R k (source_of words kept request source (λ s. IfSome (bytes_in kept request.input) (P s)) e f h)
+    let Q : Option Request → Type 0 = λ o. MatchOption o ⊥ (λ r. IfSome (bytes_in kept r.source) (λ s. IfSome (bytes_in kept r.input) (λ i. P s i))) in
+    let R : Option (List ℕ) → Type 0 = λ o. IfSome o (λ s. IfSome (bytes_in kept request.input) (λ i. P s i)) in
+    let S : Option (List ℕ) → Type 0 = λ o. IfSome o (λ i. P source i) in
+    subst S k (subst R f (subst Q e h))
 
 -- the laws that make a program and an input one
 pub record Laws : Type 0 where

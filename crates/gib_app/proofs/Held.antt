@@ -1,15 +1,15 @@
 -- The names of a program's constructors are among those of its tokens.
-use Rattle.std.proofs.Common.{◌≡◌, ℕ, zero, suc, ◌<◌, List, [], ◌∷◌, ◌++◌, length, map, Option, Some, None, refl, sym, ap, ◌∙◌, subst, arith}
+use Rattle.std.proofs.Common.{ℕ, zero, suc, ◌<◌, List, [], ◌∷◌, ◌++◌, length, map, subst, arith}
 use Rattle.std.specs.Prelude.{slice_get}
 use Rattle.std.specs.List.{AllByRecursion}
 use Rattle.gib_base.specs.declared.token.Token.{Token}
 use Rattle.gib_base.specs.declared.token.Token.TheVariants as t
 use Rattle.gib_base.specs.Lexed.{Lexed, AreTokens, IsTokenOf}
-use Rattle.gib_types.specs.Table.{Row, Table, name_of, name_at}
+use Rattle.gib_types.specs.Table.{Row, name_of}
 use Rattle.gib_syntax.specs.declared.tree.TypeName.{TypeName}
 use Rattle.gib_syntax.specs.declared.tree.TypeName.TheVariants as ty
-use Rattle.gib_syntax.specs.Tree.{ConstructorTree, DataTree, FunctionTree, MainTree, ProgramTree}
-use Rattle.gib_syntax.specs.Spelling.{Derives, spell_type, spell_types, spell_constructor, spell_more, spell_constructors, spell_data, spell_datas, spell_functions, spell_main, spell_program}
+use Rattle.gib_syntax.specs.Tree.{ConstructorTree, DataTree, ProgramTree}
+use Rattle.gib_syntax.specs.Spelling.{Derives, spell_type, spell_types, spell_more, spell_constructors, spell_datas, spell_functions, spell_main, spell_program}
 use Rattle.gib_syntax.specs.Declarations.{number_of, type_names, row_in, rows_from, table_of_program}
 use Rattle.gib_value.specs.Text.{AreHeld}
 

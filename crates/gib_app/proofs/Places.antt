@@ -1,11 +1,9 @@
 -- The first of names.
-use Rattle.std.proofs.Common.{◌≡◌, ℕ, zero, suc, ◌<◌, Bool, true, false, ◌==◌, if◌then◌else◌, List, [], ◌∷◌, length, Option, Some, None, refl, sym, ap, ◌∙◌, subst, arith}
+use Rattle.std.proofs.Common.{◌≡◌, ℕ, zero, suc, ◌<◌, Bool, true, false, ◌==◌, if◌then◌else◌, List, [], ◌∷◌, length, Option, Some, None, refl, ap, arith}
 use Rattle.std.specs.Prelude.{slice_get}
 use Rattle.std.proofs.lemmas.Option.{same_Some}
 use Rattle.std.proofs.lemmas.Bool.{eqb-true, eq-eqb}
-use Rattle.gib_types.specs.declared.table.Ty.TheVariants.{Whole, Truth, Tree}
-use Rattle.gib_syntax.specs.Declarations.{place_of, next_place, tree_type, type_or}
-use Rattle.gib_app.specs.Types.{type_at}
+use Rattle.gib_syntax.specs.Declarations.{place_of, next_place}
 
 first_step : (y : ℕ) (ys : List ℕ) (x : ℕ) (b : Bool) (p q : Option ℕ) → (b ≡ true → ⊥) → p ≡ q → (if b then Some 0 else next_place p) ≡ next_place q
 first_step y ys x true p q miss e = absurd (miss refl)

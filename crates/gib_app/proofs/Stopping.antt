@@ -1,15 +1,14 @@
 -- From the parts of a run to the whole.
-use Rattle.std.proofs.Common.{◌≡◌, ◌∙◌, refl, ℕ, ◌≤◌, ◌++◌, ◌∷◌, [], List, length, Option, Some, None, IfSome, MatchOption, subst, sym, ap, inl, inr}
-use Rattle.gib_edge.specs.Causes.{Rose, Appends, AppendsPart}
+use Rattle.std.proofs.Common.{◌≡◌, ◌∙◌, ℕ, ◌≤◌, ◌++◌, ◌∷◌, [], List, Option, Some, IfSome, subst, ap, inr}
+use Rattle.gib_edge.specs.Causes.{Appends, AppendsPart}
 use Rattle.gib_value.specs.Text.{text}
 use Rattle.gib_syntax.specs.Tree.{ProgramTree}
 use Rattle.gib_syntax.specs.Declarations.{table_of_program}
 use Rattle.gib_app.specs.declared.stop.Stop.{Stop}
 use Rattle.gib_app.specs.declared.stop.Stop.TheVariants.{Usage, Source, Unread, Input, Depth, Memory, Unwritten}
-use Rattle.gib_app.specs.Words.{Document, Named, Request, asked, Files, bytes_in}
-use Rattle.gib_app.specs.Running.{IsInput, IsOutput, IsNoInput, RunsOut, IsCompiled}
-use Rattle.gib_app.specs.Causes.{Counts, OfBoth, Puts, PutsPart, Prints, PrintsPart}
-use Rattle.gib_app.specs.Lines.{IsFile}
+use Rattle.gib_app.specs.Words.{Document, Request, asked, Files, bytes_in}
+use Rattle.gib_app.specs.Running.{IsOutput, IsNoInput, RunsOut, IsCompiled}
+use Rattle.gib_app.specs.Causes.{Counts, OfBoth, Puts, PutsPart, Prints}
 use Rattle.gib_app.specs.Stops.{IsUnread, IsStop, IsUnreadFile, IsOutputOf, RunsOutOn, IsNoInputOf, IsPutStop, IsInputStop, PutsOutput}
 use Rattle.gib_app.proofs.Told.{told_some, both_some, same_bytes, of_both, rose_later}
 

@@ -1,8 +1,8 @@
 -- Facts of results, and of bytes that may be told.
-use Rattle.std.proofs.Common.{◌≡◌, ◌∙◌, refl, ℕ, ◌≤◌, ◌<◌, ◌+◌, ◌-◌, ◌^◌, min, List, length, Option, Some, None, IfSome, Result, Ok, Err, OnOk, IfErr, subst, sym, ap, arith}
+use Rattle.std.proofs.Common.{◌≡◌, refl, ℕ, ◌≤◌, ◌+◌, ◌-◌, ◌^◌, min, List, Option, Some, None, IfSome, Result, Ok, Err, OnOk, IfErr, subst, arith}
 use Rattle.gib_edge.specs.Causes.{Rose}
 use Rattle.gib_app.specs.Words.{Document, Brought, Named, Request, asked, Files, bytes_in}
-use Rattle.gib_app.specs.Causes.{OfSource, OfBoth}
+use Rattle.gib_app.specs.Causes.{OfBoth}
 
 pub on_ok : {T E : Type 0} (r : Result T E) (P Q : Type 0) → OnOk r P → (P → Q) → OnOk r Q
 on_ok (Ok x) P Q h k = k h

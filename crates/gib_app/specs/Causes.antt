@@ -1,8 +1,8 @@
 -- Why a call ends as it does, by its words, the files that they name, and the counts of faults.
-use Rattle.std.specs.Prelude.{◌≡◌, ◌<◌, ℕ, ◌⊎◌, List, length, Option, Some, None, IfSome, MatchOption}
+use Rattle.std.specs.Prelude.{◌≡◌, ℕ, ◌⊎◌, List, Option, Some, IfSome, MatchOption}
 use Rattle.gib_edge.specs.Causes.{Rose, Appends, AppendsPart}
 use Rattle.gib_app.specs.Words.{Document, Brought, Named, Request, asked, Files, bytes_in}
-use Rattle.gib_app.specs.Running.{IsOutput, IsNoProgram, IsNoInput, RunsOut}
+use Rattle.gib_app.specs.Running.{IsOutput}
 
 -- The words are taken, and this holds of the source, where it is told.
 abbrev pub OfSource : List (List ℕ) → Files → (List ℕ → Type 0) → Type 0

@@ -1,5 +1,5 @@
 -- Why the bytes of a document are not read.
-use Rattle.std.specs.Prelude.{◌≡◌, ◌<◌, ℕ, List, length, IfSome}
+use Rattle.std.specs.Prelude.{◌<◌, ℕ, length, IfSome}
 use Rattle.gib_edge.specs.Causes.{Rose}
 use Rattle.gib_app.specs.declared.documents.DocumentFault.{DocumentFault}
 use Rattle.gib_app.specs.declared.documents.DocumentFault.TheVariants.{Memory, Long, Unread}

@@ -5,7 +5,7 @@ use Rattle.gib_edge.specs.Causes.{Rose}
 use Rattle.gib_app.specs.Causes.{Counts}
 use Rattle.gib_app.specs.declared.status.Status.{Status}
 use Rattle.gib_app.specs.declared.status.Status.TheVariants.{Done, Source, Usage, Depth, Full, Memory, ReadFault, WriteFault, Input}
-use Rattle.gib_app.specs.Words.{Document, Brought, Named, Request, asked}
+use Rattle.gib_app.specs.Words.{Document, Brought, Named, asked}
 
 -- `gib: `, what is said, and a line feed.
 abbrev pub line : List ℕ → List ℕ

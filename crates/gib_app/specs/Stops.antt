@@ -8,7 +8,7 @@ use Rattle.gib_syntax.specs.Meaning.{Gives, Stops, Deep, run}
 use Rattle.gib_edge.specs.Causes.{Rose, Appends, AppendsPart}
 use Rattle.gib_app.specs.declared.stop.Stop.{Stop}
 use Rattle.gib_app.specs.declared.stop.Stop.TheVariants.{Usage, Source, Unread, Input, Depth, Memory, Unwritten}
-use Rattle.gib_app.specs.Words.{Document, Named, asked, Files, bytes_in}
+use Rattle.gib_app.specs.Words.{Document, asked, Files, bytes_in}
 use Rattle.gib_app.specs.Running.{IsInput, call_depth, IsNoProgram, IsNoInput, RunsOut}
 use Rattle.gib_app.specs.Causes.{Counts, OfSource, OfBoth, PrintsPart}
 use Rattle.gib_app.specs.Lines.{IsFile}

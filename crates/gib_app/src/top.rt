@@ -12,7 +12,7 @@ use crate::command::run;
 use crate::status::Status;
 use crate::stop::Stop;
 use gib_edge::outside::{Failed, Gate, Shelf, Sink, put_all};
-use gib_file::law::one_file;
+use gib_file::one_file;
 use gib_lex::laws::one_reading;
 use gib_parse::law::one_program;
 use std::alloc::Global;

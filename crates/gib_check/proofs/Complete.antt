@@ -1,21 +1,21 @@
 -- What is so is inferred, within the limits.
-use Rattle.std.proofs.Common.{◌≡◌, ℕ, zero, suc, ◌+◌, ◌<◌, ◌≤◌, Bool, true, false, cond, eqb, ltb, not, ◌&&◌, ◌||◌, List, [], ◌∷◌, map, length, Option, Some, None, Ok, Err, refl, sym, ap, ◌∙◌, subst, arith}
-use Rattle.std.proofs.lemmas.Bool.{eqb-true, eq-eqb, lt-ltb}
+use Rattle.std.proofs.Common.{◌≡◌, ℕ, suc, ◌+◌, ◌<◌, ◌≤◌, Bool, true, false, cond, eqb, ltb, not, ◌&&◌, ◌||◌, List, [], ◌∷◌, length, Option, Some, None, Ok, refl, sym, ap, ◌∙◌, subst, arith}
+use Rattle.std.proofs.lemmas.Bool.{eq-eqb, lt-ltb}
 use Rattle.std.specs.Prelude.{is_some, is_none, slice_get}
 use Rattle.std.specs.List.{list_all, AllByRecursion}
 use Rattle.gib_base.specs.declared.Span.{Span}
 use Rattle.gib_types.specs.declared.table.Ty.{Ty}
 use Rattle.gib_types.specs.declared.table.Ty.TheVariants.{Whole, Truth, Tree}
-use Rattle.gib_types.specs.Table.{Row, Table, con_at, if_owned, owner_at, name_at, name_of, fields_at}
+use Rattle.gib_types.specs.Table.{Row, Table, if_owned, owner_at, name_of, fields_at}
 use Rattle.gib_syntax.specs.declared.tree.Ident.{Ident}
 use Rattle.gib_syntax.specs.Tree.{Expression, Arguments, Arms, Var, Num, Bit, Paren, Op, Call, Make, Let, Par, If, Case, NoArgument, Argument, LastArm, NextArm}
 use Rattle.gib_syntax.specs.Declarations.{number_of, place_of, AreDifferent, constructor_named, function_named}
-use Rattle.gib_syntax.specs.Typing.{Globals, Scope, type_in, IsNew, bound, parameter_types, result_type, operator_type, arm_names, BindsAll, Covers, Has, HaveAll, HaveArms, expressions, all_expressions, arm_expressions, bindings, all_bindings, arm_bindings}
+use Rattle.gib_syntax.specs.Typing.{Globals, Scope, type_in, IsNew, bound, parameter_types, result_type, operator_type, BindsAll, Covers, Has, HaveAll, HaveArms, expressions, all_expressions, arm_expressions, bindings, all_bindings, arm_bindings}
 use Rattle.gib_check.specs.declared.counts.Counts.{Counts}
 use Rattle.gib_check.specs.declared.fault.Kind.{Kind}
 use Rattle.gib_check.specs.declared.fault.Kind.TheVariants as kind
 use Rattle.gib_check.specs.declared.rules.Part.{Part}
-use Rattle.gib_check.specs.Faults.{Checked, and_then, allowed, found, one_more, new_variable, variable, function, constructor, as_many, same_type, wanted, all_wanted, all_of, declared_type, argument_count, ArmHead, heads, head_names, all_declared, is_of, are_different, is_there, covers, covered, fields_if, fields_named, all_counted, bind_all, first_type, infer, infer_all, infer_arms, infer_arm, place}
+use Rattle.gib_check.specs.Faults.{Checked, and_then, allowed, found, one_more, new_variable, as_many, same_type, wanted, all_wanted, all_of, declared_type, argument_count, ArmHead, heads, head_names, all_declared, is_of, are_different, is_there, covers, fields_if, fields_named, all_counted, bind_all, first_type, infer, infer_all, infer_arms, infer_arm, place}
 use Rattle.gib_check.proofs.Steps.{type_same, EachHas, AllDeclared, AllCounted}
 use Rattle.gib_check.proofs.Sound.{names-heads}
 
@@ -105,10 +105,10 @@ covers_ok : (table : Table) (ty : ℕ) (names : List ℕ) → Covers table ty na
 covers_ok table ty names h =
     both _ _ (own_ok table ty names h.own)
     (both _ _ (different_ok names h.once)
-      (all_there_ok ty names table.rows (λ c row e.
-        there_ok ty c row (place_of names row.name) (eqb row.owner ty) refl (λ t.
-          subst (λ z. (i : ℕ) × (place_of names (name_of z) ≡ Some i)) e
-          (h.each c (ap (if_owned ty c) e ∙ ap (λ b. cond b (Some c) None) t))))))
+    (all_there_ok ty names table.rows (λ c row e.
+    there_ok ty c row (place_of names row.name) (eqb row.owner ty) refl (λ t.
+    subst (λ z. (i : ℕ) × (place_of names (name_of z) ≡ Some i)) e
+    (h.each c (ap (if_owned ty c) e ∙ ap (λ b. cond b (Some c) None) t))))))
 
 -- The rules of counts, as answers.
 one_more_yields : (n : Counts) (at : Span) → n.expressions < 2000 → Yields (one_more n at) (λ m. (m.expressions ≡ n.expressions + 1) × (m.variables ≡ n.variables))

@@ -5,7 +5,6 @@ use Rattle.gib_syntax.specs.declared.tree.FunctionDecl.{FunctionDecl}
 use Rattle.gib_syntax.specs.declared.tree.MainDecl.{MainDecl}
 use Rattle.gib_syntax.specs.Arena.{tree_of}
 use Rattle.gib_syntax.specs.Parts.{Parts, data_tree, function_tree, program_of}
-use Rattle.gib_syntax.specs.Declarations.{type_names}
 use Rattle.gib_check.specs.declared.fault.TypeFault.{TypeFault}
 use Rattle.gib_check.specs.Answers.{IsFaultOf}
 use Rattle.gib_check.specs.Faults.{Checked, and_then}

@@ -7,12 +7,10 @@ use Rattle.gib_types.specs.declared.table.Ty.{Ty}
 use Rattle.gib_syntax.specs.declared.exprs.ExprId.{ExprId}
 use Rattle.gib_syntax.specs.declared.exprs.Arm.{Arm}
 use Rattle.gib_syntax.specs.declared.tree.Ident.{Ident}
-use Rattle.gib_syntax.specs.Tree.{Expression}
 use Rattle.gib_syntax.specs.Arena.{IsArmBelow, arguments_from}
 use Rattle.gib_syntax.specs.Parts.{Parts}
-use Rattle.gib_syntax.specs.Typing.{Scope, Globals, bound}
+use Rattle.gib_syntax.specs.Typing.{Scope, bound}
 use Rattle.gib_check.specs.declared.counts.Counts.{Counts}
-use Rattle.gib_check.specs.declared.fault.Fault.{Fault}
 use Rattle.gib_check.specs.declared.fault.TypeFault.{TypeFault}
 use Rattle.gib_check.specs.declared.fault.TypeFault.TheVariants as t
 use Rattle.gib_check.specs.declared.rules.Part.{Part}
@@ -57,15 +55,15 @@ arguments_start parts id start ids h = record { below = h; scope = refl; read = 
 next_argument : (parts : Parts) (id : ℕ) (start now : State) (ids after : List ExprId) (first : ExprId) (done : List Part) → ArgumentsSoFar parts id start now ids (first ∷ after) done → (c : Checked (Ty × Counts)) → infer (globals_in parts) (scope_of now.scope.items) now.counts (tree_in parts first.0) ≡ c → infer_all (globals_in parts) (scope_of start.scope.items) start.counts (arguments_from (tree_in parts) ids) ≡ behind done (and_then c (λ x. and_then (infer_all (globals_in parts) (scope_of start.scope.items) x.1 (arguments_from (tree_in parts) after)) (λ r. Ok (record { ty = x.0; place = place (tree_in parts first.0) } ∷ r.0, r.1))))
 next_argument parts id start now ids after first done h c e =
     h.read ∙ ap (λ z. behind done (and_then z (λ x. and_then (infer_all (globals_in parts) (scope_of start.scope.items) x.1 (arguments_from (tree_in parts) after)) (λ r. Ok (record { ty = x.0; place = place (tree_in parts first.0) } ∷ r.0, r.1)))))
-      (ap (λ z. infer (globals_in parts) (scope_of z) now.counts (tree_in parts first.0)) (sym h.scope) ∙ e)
+    (ap (λ z. infer (globals_in parts) (scope_of z) now.counts (tree_in parts first.0)) (sym h.scope) ∙ e)
 
 pub arguments_more : (parts : Parts) (id : ℕ) (start now newer : State) (ids after : List ExprId) (first : ExprId) (done more : List Part) (ty : Ty) → ArgumentsSoFar parts id start now ids (first ∷ after) done → infer (globals_in parts) (scope_of now.scope.items) now.counts (tree_in parts first.0) ≡ Ok (ty, newer.counts) → newer.scope.items ≡ now.scope.items → more ≡ done ++ record { ty = ty; place = place (tree_in parts first.0) } ∷ [] → ArgumentsSoFar parts id start newer ids after more
 arguments_more parts id start now newer ids after first done more ty h e es em = record {
   below = h.below.1;
   scope = es ∙ h.scope;
   read = next_argument parts id start now ids after first done h (Ok (ty, newer.counts)) e
-    ∙ behind-more done (record { ty = ty; place = place (tree_in parts first.0) }) (infer_all (globals_in parts) (scope_of start.scope.items) newer.counts (arguments_from (tree_in parts) after))
-    ∙ ap (λ z. behind z (infer_all (globals_in parts) (scope_of start.scope.items) newer.counts (arguments_from (tree_in parts) after))) (sym em);
+      ∙ behind-more done (record { ty = ty; place = place (tree_in parts first.0) }) (infer_all (globals_in parts) (scope_of start.scope.items) newer.counts (arguments_from (tree_in parts) after))
+      ∙ ap (λ z. behind z (infer_all (globals_in parts) (scope_of start.scope.items) newer.counts (arguments_from (tree_in parts) after))) (sym em);
 }
 
 pub arguments_stop : (parts : Parts) (id : ℕ) (start now : State) (ids : List ExprId) (done : List Part) → ArgumentsSoFar parts id start now ids [] done → infer_all (globals_in parts) (scope_of start.scope.items) start.counts (arguments_from (tree_in parts) ids) ≡ Ok (done, now.counts)
@@ -92,15 +90,15 @@ arm_in parts scope n arm = infer_arm (table_in parts) scope n arm.constructor ar
 next_arm : (parts : Parts) (id : ℕ) (start now : State) (arms after : List Arm) (first : Arm) (done : List Part) → ArmsSoFar parts id start now arms (first ∷ after) done → (c : Checked (Ty × Counts)) → arm_in parts (scope_of now.scope.items) now.counts first ≡ c → infer_each_arm (globals_in parts) (tree_in parts) (scope_of start.scope.items) start.counts arms ≡ behind done (and_then c (λ x. and_then (infer_each_arm (globals_in parts) (tree_in parts) (scope_of start.scope.items) x.1 after) (λ r. Ok (record { ty = x.0; place = place (tree_in parts first.body.0) } ∷ r.0, r.1))))
 next_arm parts id start now arms after first done h c e =
     h.read ∙ ap (λ z. behind done (and_then z (λ x. and_then (infer_each_arm (globals_in parts) (tree_in parts) (scope_of start.scope.items) x.1 after) (λ r. Ok (record { ty = x.0; place = place (tree_in parts first.body.0) } ∷ r.0, r.1)))))
-      (ap (λ z. arm_in parts (scope_of z) now.counts first) (sym h.scope) ∙ e)
+    (ap (λ z. arm_in parts (scope_of z) now.counts first) (sym h.scope) ∙ e)
 
 pub arms_more : (parts : Parts) (id : ℕ) (start now newer : State) (arms after : List Arm) (first : Arm) (done more : List Part) (ty : Ty) → ArmsSoFar parts id start now arms (first ∷ after) done → arm_in parts (scope_of now.scope.items) now.counts first ≡ Ok (ty, newer.counts) → newer.scope.items ≡ now.scope.items → more ≡ done ++ record { ty = ty; place = place (tree_in parts first.body.0) } ∷ [] → ArmsSoFar parts id start newer arms after more
 arms_more parts id start now newer arms after first done more ty h e es em = record {
   below = h.below.1;
   scope = es ∙ h.scope;
   read = next_arm parts id start now arms after first done h (Ok (ty, newer.counts)) e
-    ∙ behind-more done (record { ty = ty; place = place (tree_in parts first.body.0) }) (infer_each_arm (globals_in parts) (tree_in parts) (scope_of start.scope.items) newer.counts after)
-    ∙ ap (λ z. behind z (infer_each_arm (globals_in parts) (tree_in parts) (scope_of start.scope.items) newer.counts after)) (sym em);
+      ∙ behind-more done (record { ty = ty; place = place (tree_in parts first.body.0) }) (infer_each_arm (globals_in parts) (tree_in parts) (scope_of start.scope.items) newer.counts after)
+      ∙ ap (λ z. behind z (infer_each_arm (globals_in parts) (tree_in parts) (scope_of start.scope.items) newer.counts after)) (sym em);
 }
 
 pub arms_stop : (parts : Parts) (id : ℕ) (start now : State) (arms : List Arm) (done : List Part) → ArmsSoFar parts id start now arms [] done → infer_each_arm (globals_in parts) (tree_in parts) (scope_of start.scope.items) start.counts arms ≡ Ok (done, now.counts)
@@ -127,7 +125,7 @@ binds_more start now newer variables after name types later ty h e es =
       added = h.added ++ v ∷ [];
       scope = es ∙ ap (λ z. z ++ v ∷ []) h.scope ∙ append_assoc start.scope.items h.added (v ∷ []);
       read = h.read ∙ ap (λ z. and_then z (λ m. bind_all (bound name ty (scope_of now.scope.items)) m after later)) e
-        ∙ ap (λ z. bind_all z newer.counts after later) (sym (ap scope_of es ∙ scope_of-push now.scope.items v));
+          ∙ ap (λ z. bind_all z newer.counts after later) (sym (ap scope_of es ∙ scope_of-push now.scope.items v));
     }
 
 pub binds_kept : (start now : State) (variables names : List Ident) (types fields : List Ty) → BindsSoFar start now variables names types fields → take (length start.scope.items) now.scope.items ≡ start.scope.items

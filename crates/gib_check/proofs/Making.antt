@@ -1,9 +1,9 @@
 -- What is declared, made.
-use Rattle.std.proofs.Common.{◌≡◌, ℕ, List, map, refl, sym, ap, ◌∙◌, subst}
+use Rattle.std.proofs.Common.{◌≡◌, ℕ, List, map, sym, ap, ◌∙◌, subst}
 use Rattle.gib_types.specs.Table.{Table, IsTable}
 use Rattle.gib_syntax.specs.declared.tree.DataDecl.{DataDecl}
-use Rattle.gib_syntax.specs.Parts.{Parts, data_tree, program_of}
-use Rattle.gib_syntax.specs.Declarations.{rows_from, constructor_names, table_of_program}
+use Rattle.gib_syntax.specs.Parts.{Parts, data_tree}
+use Rattle.gib_syntax.specs.Declarations.{rows_from}
 use Rattle.gib_check.specs.Views.{tree_number, row_name, function_number, types_in, table_in, IsDeclared}
 
 -- The table of these types and data declarations.

@@ -1,7 +1,6 @@
 -- Calls and cases, by their vectors.
 use Rattle.std.proofs.Common.{◌≡◌, ℕ, ◌+◌, List, [], ◌∷◌, map, length, refl, sym, ap, ◌∙◌, arith}
 use Rattle.gib_base.specs.declared.Span.{Span}
-use Rattle.gib_types.specs.declared.table.Ty.{Ty}
 use Rattle.gib_syntax.specs.declared.exprs.ExprId.{ExprId}
 use Rattle.gib_syntax.specs.declared.exprs.Arm.{Arm}
 use Rattle.gib_syntax.specs.declared.tree.Ident.{Ident}
@@ -13,7 +12,6 @@ use Rattle.gib_check.specs.declared.counts.Counts.{Counts}
 use Rattle.gib_check.specs.declared.fault.TypeFault.{TypeFault}
 use Rattle.gib_check.specs.Answers.{Gives}
 use Rattle.gib_check.specs.Faults.{Checked, and_then, argument_count, heads, infer, infer_all, infer_arms, infer_call, infer_make, infer_case, infer_arm, place}
-use Rattle.gib_check.specs.declared.rules.Part.{Part}
 use Rattle.gib_check.specs.Views.{arm_head, infer_each_arm}
 use Rattle.std.proofs.Common.{Ok}
 
@@ -41,7 +39,7 @@ arms-each : (g : Globals) (f : ℕ → Expression) (scope : Scope) (n : Counts) 
 arms-each g f scope n arm [] = refl
 arms-each g f scope n arm (next ∷ arms) =
     (λ i. and_then (infer_arm g.table scope n arm.constructor arm.variables.items (λ inner m. infer g inner m (f arm.body.0)))
-      (λ x. and_then (arms-each g f scope x.1 next arms i) (λ r. Rattle.std.proofs.Common.Ok (record { ty = x.0; place = place (f arm.body.0) } ∷ r.0, r.1))))
+    (λ x. and_then (arms-each g f scope x.1 next arms i) (λ r. Rattle.std.proofs.Common.Ok (record { ty = x.0; place = place (f arm.body.0) } ∷ r.0, r.1))))
 
 pub case_opened : (g : Globals) (f : ℕ → Expression) (scope : Scope) (n : Counts) (e : Expression) (p : Span) (x : Ident) (id : ℕ) (arms items : List Arm) → e ≡ case_from f items (Case p x) → ArmsBelow items id → arms ≡ items → infer g scope n e ≡ infer_case g.table scope n p x (map arm_head arms) (λ m. infer_each_arm g f scope m arms)
 case_opened g f scope n e p x id arms [] q below s = absurd below

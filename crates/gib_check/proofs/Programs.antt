@@ -4,15 +4,14 @@ use Rattle.std.proofs.lemmas.Bool.{ltb-true, lt-ltb}
 use Rattle.std.proofs.lemmas.List.{append-nil, map-append, length-append, length-map}
 use Rattle.std.specs.Prelude.{is_none, slice_get}
 use Rattle.std.specs.List.{AllByRecursion}
-use Rattle.gib_base.specs.declared.Span.{Span}
 use Rattle.gib_types.specs.declared.table.Ty.{Ty}
 use Rattle.gib_types.specs.Table.{Row}
 use Rattle.gib_syntax.specs.declared.tree.Ident.{Ident}
 use Rattle.gib_syntax.specs.declared.tree.TypeName.{TypeName}
 use Rattle.gib_syntax.specs.declared.tree.Parameter.{Parameter}
-use Rattle.gib_syntax.specs.Tree.{Expression, ConstructorTree, DataTree, FunctionTree, MainTree, ProgramTree}
+use Rattle.gib_syntax.specs.Tree.{Expression, ConstructorTree, DataTree, FunctionTree, ProgramTree}
 use Rattle.gib_syntax.specs.Declarations.{number_of, place_of, AreDifferent, type_names, type_written, type_or, type_of_name, row_in, rows_from, table_of_program}
-use Rattle.gib_syntax.specs.Typing.{Globals, globals_of, Scope, type_in, IsNew, bound, BindsAll, Has, expressions, bindings, IsKnown, HasKnownType, IsTypedFunction, IsTypedHere, HasKnownFields, HasKnownConstructors, IsTypedProgram}
+use Rattle.gib_syntax.specs.Typing.{Globals, globals_of, Scope, bound, BindsAll, Has, expressions, bindings, IsKnown, HasKnownType, IsTypedFunction, IsTypedHere, HasKnownFields, HasKnownConstructors, IsTypedProgram}
 use Rattle.gib_check.specs.declared.counts.Counts.{Counts}
 use Rattle.gib_check.specs.declared.fault.Fault.{Fault}
 use Rattle.gib_check.specs.declared.fault.Kind.TheVariants as kind
@@ -20,8 +19,8 @@ use Rattle.gib_check.specs.declared.fault.TypeFault.{TypeFault}
 use Rattle.gib_check.specs.declared.fault.TypeFault.TheVariants as t
 use Rattle.gib_check.specs.Answers.{IsFaultOf}
 use Rattle.gib_check.specs.Checked.{IsFirst, IsMemory}
-use Rattle.gib_check.specs.Faults.{Checked, and_then, allowed, found, place, new_variable, wanted, infer}
-use Rattle.gib_check.specs.FirstFault.{new_name, fewer, type_place, no_ninth, few_fields, known, check_constructors, check_datas, check_types, check_constructor_fields, check_fields, check_parameters, nothing_met, check_head, check_heads, with_parameters, check_body, check_bodies, check_declarations, check_program, fault_in, first_fault}
+use Rattle.gib_check.specs.Faults.{Checked, and_then, allowed, place}
+use Rattle.gib_check.specs.FirstFault.{new_name, fewer, type_place, no_ninth, few_fields, known, check_constructors, check_datas, check_types, check_constructor_fields, check_fields, check_parameters, nothing_met, check_head, check_heads, with_parameters, check_body, check_bodies, check_declarations, check_program, fault_in}
 use Rattle.gib_check.proofs.Different.{different_push, new_of, snoc, none_short, short_none}
 use Rattle.gib_check.proofs.Steps.{Holds, holds_ok, holds_err, then_holds, allowed_holds, found_holds, new_variable_holds, wanted_holds}
 use Rattle.gib_check.proofs.Sound.{infer_sound}
@@ -90,13 +89,15 @@ constructors_hold : (names : List ℕ) (cs : List ConstructorTree) → Holds (ch
 constructors_hold names [] = holds_ok names (record { is = sym (append-nil names); different = λ h. h; few = λ h. h; short = tt })
 constructors_hold names (c ∷ cs) =
     then_holds (fewer_holds 200 names c.name) (λ _ l. then_holds (new_name_holds names c.name) (λ _ p. then_holds (few_fields_holds c.fields) (λ _ q.
-    record { by = λ out e. (let o = (constructors_hold (names ++ number_of c.name ∷ []) cs).by out e in
-      record {
-        is = o.is ∙ sym (snoc names (map constructor_number cs) (number_of c.name));
-        different = λ h. o.different (different_push names (number_of c.name) h p);
-        few = λ h. o.few (let g = long_push names (number_of c.name) in omega (arith, g, l));
-        short = (q, o.short);
-      }) })))
+    record {
+      by = λ out e. (let o = (constructors_hold (names ++ number_of c.name ∷ []) cs).by out e in
+          record {
+            is = o.is ∙ sym (snoc names (map constructor_number cs) (number_of c.name));
+            different = λ h. o.different (different_push names (number_of c.name) h p);
+            few = λ h. o.few (let g = long_push names (number_of c.name) in omega (arith, g, l));
+            short = (q, o.short);
+          });
+    })))
 
 constructors_ok : (names : List ℕ) (cs : List ConstructorTree) → AreDifferent (names ++ map constructor_number cs) → length (names ++ map constructor_number cs) ≤ 200 → AllByRecursion IsShort cs → Yields (check_constructors names cs) (λ out. out ≡ names ++ map constructor_number cs)
 constructors_ok names [] h l s = yields_ok names (sym (append-nil names))
@@ -126,14 +127,16 @@ datas_hold types constructors [] =
     })
 datas_hold types constructors (d ∷ ds) =
     then_holds (new_name_holds types d.name) (λ _ p. then_holds (constructors_hold constructors d.constructors) (λ names c.
-    record { by = λ u e. (let o = (datas_hold (types ++ number_of d.name ∷ []) names ds).by u e in
-      let same : names ++ names_in ds ≡ constructors ++ names_in (d ∷ ds) = ap (λ z. z ++ names_in ds) c.is ∙ Rattle.std.proofs.Common.append_assoc constructors (map constructor_number d.constructors) (names_in ds) in
-      record {
-        types_differ = λ h. subst AreDifferent (sym (snoc types (map data_number ds) (number_of d.name))) (o.types_differ (different_push types (number_of d.name) h p));
-        constructors_differ = λ h. subst AreDifferent same (o.constructors_differ (c.different h));
-        few = λ h. subst (λ (z : List ℕ). length z ≤ 200) same (o.few (c.few h));
-        short = (c.short, o.short);
-      }) }))
+    record {
+      by = λ u e. (let o = (datas_hold (types ++ number_of d.name ∷ []) names ds).by u e in
+          let same : names ++ names_in ds ≡ constructors ++ names_in (d ∷ ds) = ap (λ z. z ++ names_in ds) c.is ∙ Rattle.std.proofs.Common.append_assoc constructors (map constructor_number d.constructors) (names_in ds) in
+          record {
+            types_differ = λ h. subst AreDifferent (sym (snoc types (map data_number ds) (number_of d.name))) (o.types_differ (different_push types (number_of d.name) h p));
+            constructors_differ = λ h. subst AreDifferent same (o.constructors_differ (c.different h));
+            few = λ h. subst (λ (z : List ℕ). length z ≤ 200) same (o.few (c.few h));
+            short = (c.short, o.short);
+          });
+    }))
 
 different_front : (xs ys : List ℕ) → AreDifferent (xs ++ ys) → AreDifferent xs
 different_front xs [] h = subst AreDifferent (append-nil xs) h
@@ -141,6 +144,7 @@ different_front xs (y ∷ ys) h = front xs (y ∷ ys) h where
   none_of : (xs ys : List ℕ) (z : ℕ) → place_of (xs ++ ys) z ≡ None → place_of xs z ≡ None
   none_of [] ys z e = refl
   none_of (x ∷ xs) ys z e = let p = Rattle.gib_check.proofs.Different.none_cons x z (xs ++ ys) e in Rattle.gib_check.proofs.Different.cons_none x z xs p.0 (none_of xs ys z p.1)
+
   front : (xs ys : List ℕ) → AreDifferent (xs ++ ys) → AreDifferent xs
   front [] ys h = tt
   front (x ∷ xs) ys h = (none_of xs ys x h.0, front xs ys h.1)
@@ -154,9 +158,9 @@ datas_ok types constructors (d ∷ ds) ht hc l s =
     let l' : length ((constructors ++ mine) ++ names_in ds) ≤ 200 = subst (λ (z : List ℕ). length z ≤ 200) split l in
     let hc' : AreDifferent ((constructors ++ mine) ++ names_in ds) = subst AreDifferent split hc in
     let all : Yields (check_datas types constructors (d ∷ ds)) (λ _. Unit {0}) =
-      then_yields (yields (tt {0}) (new_name_ok types d.name (new_of types (map data_number ds) (number_of d.name) ht))) (λ _ _.
-      then_yields (constructors_ok constructors d.constructors (different_front (constructors ++ mine) (names_in ds) hc') (omega (arith, k, l')) s.0) (λ names c.
-      record { value = tt {0}; is = datas_ok (types ++ number_of d.name ∷ []) names ds (subst AreDifferent (snoc types (map data_number ds) (number_of d.name)) ht) (subst (λ z. AreDifferent (z ++ names_in ds)) (sym c) hc') (subst (λ (z : List ℕ). length (z ++ names_in ds) ≤ 200) (sym c) l') s.1; so = tt })) in
+    then_yields (yields (tt {0}) (new_name_ok types d.name (new_of types (map data_number ds) (number_of d.name) ht))) (λ _ _.
+    then_yields (constructors_ok constructors d.constructors (different_front (constructors ++ mine) (names_in ds) hc') (omega (arith, k, l')) s.0) (λ names c.
+    record { value = tt {0}; is = datas_ok (types ++ number_of d.name ∷ []) names ds (subst AreDifferent (snoc types (map data_number ds) (number_of d.name)) ht) (subst (λ z. AreDifferent (z ++ names_in ds)) (sym c) hc') (subst (λ (z : List ℕ). length (z ++ names_in ds) ≤ 200) (sym c) l') s.1; so = tt })) in
     all.is
 
 -- Field types.
@@ -262,10 +266,12 @@ parameters_hold : (types : List ℕ) (scope : Scope) (n : Counts) (qs : List Par
 parameters_hold types scope n [] = holds_ok (tt {0}) (record { known = tt; binds = refl; few = λ h. omega (arith, h) })
 parameters_hold types scope n (q ∷ qs) =
     then_holds (new_variable_holds scope n q.name) (λ m p. then_holds (known_holds types q.ty) (λ t k.
-    record { by = λ u e. (let s : t ≡ type_of_name types q.ty = sym (ap type_or k) in
-      let o = (parameters_hold types (bound q.name (type_of_name types q.ty) scope) m qs).by u (ap (λ z. check_parameters types (bound q.name z scope) m qs) (sym s) ∙ e) in
-      let v : m.variables ≡ n.variables + 1 = sym (ap (λ (z : Counts). z.variables) p.2) in let p1 = p.1 in
-      record { known = ((t, k), o.known); binds = (p.0, o.binds); few = λ h. (let w = o.few (omega (arith, v, p1)) in omega (arith, v, w)) }) }))
+    record {
+      by = λ u e. (let s : t ≡ type_of_name types q.ty = sym (ap type_or k) in
+          let o = (parameters_hold types (bound q.name (type_of_name types q.ty) scope) m qs).by u (ap (λ z. check_parameters types (bound q.name z scope) m qs) (sym s) ∙ e) in
+          let v : m.variables ≡ n.variables + 1 = sym (ap (λ (z : Counts). z.variables) p.2) in let p1 = p.1 in
+          record { known = ((t, k), o.known); binds = (p.0, o.binds); few = λ h. (let w = o.few (omega (arith, v, p1)) in omega (arith, v, w)) });
+    }))
 
 parameters_ok : (types : List ℕ) (scope : Scope) (n : Counts) (qs : List Parameter) (inner : Scope) → AllByRecursion (HasKnownType types) qs → BindsAll scope (map parameter_name qs) (map (parameter_type types) qs) inner → n.variables + length qs ≤ 200 → check_parameters types scope n qs ≡ Ok (tt {0})
 parameters_ok types scope n [] inner h b l = refl
@@ -307,13 +313,15 @@ heads_hold types names [] =
     })
 heads_hold types names (f ∷ fs) =
     then_holds (fewer_holds 1000 names f.name) (λ _ l. then_holds (new_name_holds names f.name) (λ _ p. then_holds (head_holds types f.parameters f.result) (λ _ h.
-    record { by = λ u e. (let o = (heads_hold types (names ++ number_of f.name ∷ []) fs).by u e in
-      let same = sym (snoc names (map function_number fs) (number_of f.name)) in
-      record {
-        differ = λ d. subst AreDifferent same (o.differ (different_push names (number_of f.name) d p));
-        few = λ d. subst (λ (z : List ℕ). length z ≤ 1000) same (o.few (let g = long_push names (number_of f.name) in omega (arith, g, l)));
-        heads = (h, o.heads);
-      }) })))
+    record {
+      by = λ u e. (let o = (heads_hold types (names ++ number_of f.name ∷ []) fs).by u e in
+          let same = sym (snoc names (map function_number fs) (number_of f.name)) in
+          record {
+            differ = λ d. subst AreDifferent same (o.differ (different_push names (number_of f.name) d p));
+            few = λ d. subst (λ (z : List ℕ). length z ≤ 1000) same (o.few (let g = long_push names (number_of f.name) in omega (arith, g, l)));
+            heads = (h, o.heads);
+          });
+    })))
 
 -- Bodies.
 pub record BodyHolds (g : Globals) (qs : List Parameter) (result : TypeName) (body : Expression) : Type 0 where
@@ -324,13 +332,15 @@ pub record BodyHolds (g : Globals) (qs : List Parameter) (result : TypeName) (bo
 body_holds : (g : Globals) (qs : List Parameter) (result : TypeName) (body : Expression) → Holds (check_body g qs result body) (λ _. BodyHolds g qs result body)
 body_holds g qs result body =
     then_holds (infer_sound g (with_parameters g.table.types qs []) (record { variables = length qs; expressions = 0 }) body) (λ r s.
-    record { by = λ u e. (let w = (wanted_holds (type_of_name g.table.types result) (record { ty = r.0; place = place body })).by u e in
-      let se = s.expressions in let sv = s.variables in let short = s.short (omega arith) in
-      record {
-        has = subst (λ z. Has g (with_parameters g.table.types qs []) body z) w s.has;
-        expressions = omega (arith, se, short);
-        few = λ h. (let f = s.few h in omega (arith, sv, f));
-      }) })
+    record {
+      by = λ u e. (let w = (wanted_holds (type_of_name g.table.types result) (record { ty = r.0; place = place body })).by u e in
+          let se = s.expressions in let sv = s.variables in let short = s.short (omega arith) in
+          record {
+            has = subst (λ z. Has g (with_parameters g.table.types qs []) body z) w s.has;
+            expressions = omega (arith, se, short);
+            few = λ h. (let f = s.few h in omega (arith, sv, f));
+          });
+    })
 
 abbrev HasBody : Globals → FunctionTree → Type 0
 HasBody g f = BodyHolds g f.parameters f.result f.body
@@ -367,28 +377,31 @@ unfolding check_declarations
 declarations_hold p =
     then_holds datas (λ _ d. then_holds fields (λ _ k. then_holds (heads_hold (type_names p) [] p.functions) (λ _ h.
     record { by = λ u e. record { datas = datas_typed p d k; heads = h; main = (head_holds (type_names p) (p.main.parameter ∷ []) p.main.result).by u e } }))) where
-  datas : Holds (check_datas [] [] p.datas) (λ _. check_datas [] [] p.datas ≡ Ok (tt {0}))
-  datas = record { by = λ u q. q }
-  fields : Holds (check_fields (type_names p) p.datas) (λ _. check_fields (type_names p) p.datas ≡ Ok (tt {0}))
-  fields = record { by = λ u q. q }
+      datas : Holds (check_datas [] [] p.datas) (λ _. check_datas [] [] p.datas ≡ Ok (tt {0}))
+      datas = record { by = λ u q. q }
+
+      fields : Holds (check_fields (type_names p) p.datas) (λ _. check_fields (type_names p) p.datas ≡ Ok (tt {0}))
+      fields = record { by = λ u q. q }
 
 -- A program that breaks no rule is typed.
 program_holds : (p : ProgramTree) → Holds (check_program p) (λ _. IsTypedProgram p)
 unfolding check_program
 program_holds p =
     then_holds (declarations_hold p) (λ _ d. then_holds (bodies_hold (globals_of p) p.functions) (λ _ b.
-    record { by = λ u e. (let w = (body_holds (globals_of p) (p.main.parameter ∷ []) p.main.result p.main.body).by u e in
-      let few = d.heads.few (omega arith) in let long = length-map p.functions function_number in
-      record {
-        types_differ = d.datas.types_differ;
-        constructors_differ = d.datas.constructors_differ;
-        few_constructors = d.datas.few;
-        fields = d.datas.fields;
-        functions_differ = d.heads.differ tt;
-        few_functions = omega (arith, few, long);
-        functions = typed_functions (globals_of p) p.functions d.heads.heads b;
-        main = typed_function (globals_of p) (p.main.parameter ∷ []) p.main.result p.main.body d.main w;
-      }) }))
+    record {
+      by = λ u e. (let w = (body_holds (globals_of p) (p.main.parameter ∷ []) p.main.result p.main.body).by u e in
+          let few = d.heads.few (omega arith) in let long = length-map p.functions function_number in
+          record {
+            types_differ = d.datas.types_differ;
+            constructors_differ = d.datas.constructors_differ;
+            few_constructors = d.datas.few;
+            fields = d.datas.fields;
+            functions_differ = d.heads.differ tt;
+            few_functions = omega (arith, few, long);
+            functions = typed_functions (globals_of p) p.functions d.heads.heads b;
+            main = typed_function (globals_of p) (p.main.parameter ∷ []) p.main.result p.main.body d.main w;
+          });
+    }))
 
 pub program_typed : (p : ProgramTree) → check_program p ≡ Ok (tt {0}) → IsTypedProgram p
 program_typed p e = (program_holds p).by (tt {0}) e
@@ -405,10 +418,10 @@ heads_ok g names (f ∷ fs) d l h =
     let k = length-append names (number_of f.name ∷ map function_number fs) in
     let e = snoc names (map function_number fs) (number_of f.name) in
     let all : Yields (check_heads g.table.types names (f ∷ fs)) (λ _. Unit {0}) =
-      then_yields (yields (tt {0}) (fewer_ok 1000 names f.name (omega (arith, k, l)))) (λ _ _.
-      then_yields (yields (tt {0}) (new_name_ok names f.name (new_of names (map function_number fs) (number_of f.name) d))) (λ _ _.
-      then_yields (yields (tt {0}) (head_ok g f.parameters f.result f.body h.0)) (λ _ _.
-      record { value = tt {0}; is = heads_ok g (names ++ number_of f.name ∷ []) fs (subst AreDifferent e d) (subst (λ (z : List ℕ). length z ≤ 1000) e l) h.1; so = tt }))) in
+    then_yields (yields (tt {0}) (fewer_ok 1000 names f.name (omega (arith, k, l)))) (λ _ _.
+    then_yields (yields (tt {0}) (new_name_ok names f.name (new_of names (map function_number fs) (number_of f.name) d))) (λ _ _.
+    then_yields (yields (tt {0}) (head_ok g f.parameters f.result f.body h.0)) (λ _ _.
+    record { value = tt {0}; is = heads_ok g (names ++ number_of f.name ∷ []) fs (subst AreDifferent e d) (subst (λ (z : List ℕ). length z ≤ 1000) e l) h.1; so = tt }))) in
     all.is
 
 body_ok : (g : Globals) (qs : List Parameter) (result : TypeName) (body : Expression) → IsTypedFunction g qs result body → check_body g qs result body ≡ Ok (tt {0})
@@ -417,8 +430,8 @@ body_ok g qs result body h =
     let has : Has g scope body (type_of_name g.table.types result) = subst (λ z. Has g z body (type_of_name g.table.types result)) (scope_is g.table.types [] qs h.scope h.bound) h.typed in
     let fe = h.few_expressions in let fv = h.few_variables in
     let all : Yields (check_body g qs result body) (λ _. Unit {0}) =
-      then_yields (infer_ok g scope (record { variables = length qs; expressions = 0 }) body (type_of_name g.table.types result) has (omega (arith, fe)) (omega (arith, fv))) (λ r s.
-      record { value = tt {0}; is = wanted_ok (type_of_name g.table.types result) (record { ty = r.0; place = place body }) s.type; so = tt }) in
+    then_yields (infer_ok g scope (record { variables = length qs; expressions = 0 }) body (type_of_name g.table.types result) has (omega (arith, fe)) (omega (arith, fv))) (λ r s.
+    record { value = tt {0}; is = wanted_ok (type_of_name g.table.types result) (record { ty = r.0; place = place body }) s.type; so = tt }) in
     all.is
 
 bodies_ok : (g : Globals) (fs : List FunctionTree) → AllByRecursion (IsTypedHere g) fs → check_bodies g fs ≡ Ok (tt {0})

@@ -5,13 +5,12 @@ use Rattle.std.proofs.lemmas.List.{length-map}
 use Rattle.std.specs.Prelude.{slice_get}
 use Rattle.std.specs.List.{AllByRecursion}
 use Rattle.gib_types.specs.declared.table.Ty.{Ty}
-use Rattle.gib_types.specs.declared.table.Ty.TheVariants.{Whole, Truth, Tree}
-use Rattle.gib_types.specs.Table.{Row, Table, con_at, if_owned, IsTyBelow, IsRow, IsTable}
+use Rattle.gib_types.specs.Table.{Row, if_owned, IsTyBelow, IsRow, IsTable}
 use Rattle.gib_syntax.specs.declared.tree.TypeName.{TypeName}
 use Rattle.gib_syntax.specs.declared.tree.TypeName.TheVariants as ty
 use Rattle.gib_syntax.specs.Tree.{ConstructorTree, DataTree, ProgramTree}
 use Rattle.gib_syntax.specs.Spelling.{HasConstructor}
-use Rattle.gib_syntax.specs.Declarations.{number_of, place_of, tree_type, type_names, type_written, type_or, type_of_name, row_in, rows_from, table_of_program}
+use Rattle.gib_syntax.specs.Declarations.{number_of, place_of, tree_type, type_names, type_or, type_of_name, row_in, rows_from, table_of_program}
 use Rattle.gib_syntax.specs.Typing.{IsKnown, HasKnownFields, HasKnownConstructors}
 use Rattle.gib_check.proofs.Different.{different_places, place_within}
 use Rattle.gib_check.proofs.Programs.{DatasTyped, data_number, declarations_hold}
@@ -133,11 +132,11 @@ table_is p t h =
       rows = λ con row e. all_at (IsRow (length types)) rows con row (rows_are (length types) types 0 p.datas (omega arith) (omega (arith, long)) t.fields) e;
       types_differ = λ i j name e f. different_places types t.types_differ i j name e f;
       names_differ = λ i j row other e f q.
-        different_places (map (λ (r : Row). r.name) rows) t.constructors_differ i j row.name (get_map (λ (r : Row). r.name) rows i row e) (get_map (λ (r : Row). r.name) rows j other f ∙ ap Some (sym q));
+          different_places (map (λ (r : Row). r.name) rows) t.constructors_differ i j row.name (get_map (λ (r : Row). r.name) rows i row e) (get_map (λ (r : Row). r.name) rows j other f ∙ ap Some (sym q));
       together = λ i j row other e f le. together rows (rows_ordered types 0 p.datas) i j row other e f le;
       inhabited = λ k lt. (let o = has_row types 0 p.datas k (omega (arith, lt, long)) h in
-        let w : o.row.owner ≡ k = o.owned ∙ omega arith in
-        (o.con, ap (if_owned k o.con) o.is ∙ ap (λ b. cond b (Some o.con) None) (eq-eqb o.row.owner k w)));
+          let w : o.row.owner ≡ k = o.owned ∙ omega arith in
+          (o.con, ap (if_owned k o.con) o.is ∙ ap (λ b. cond b (Some o.con) None) (eq-eqb o.row.owner k w)));
     }
 
 -- Declarations that break no rule make a table.

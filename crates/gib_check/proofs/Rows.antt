@@ -1,5 +1,5 @@
 -- Rows of a table, one after another.
-use Rattle.std.proofs.Common.{◌≡◌, ℕ, zero, suc, ◌+◌, ◌<◌, ◌≤◌, Bool, true, false, ◌&&◌, List, [], ◌∷◌, drop, length, refl, sym, ap, ◌∙◌, arith}
+use Rattle.std.proofs.Common.{◌≡◌, ℕ, zero, suc, ◌+◌, ◌<◌, Bool, true, false, ◌&&◌, List, [], ◌∷◌, drop, length, refl, sym, ap, ◌∙◌, arith}
 use Rattle.std.specs.List.{list_all}
 use Rattle.gib_types.specs.Table.{Row, Table}
 use Rattle.gib_check.specs.Faults.{is_there}

@@ -1,9 +1,8 @@
 -- What is inferred is so.
-use Rattle.std.proofs.Common.{◌≡◌, ℕ, zero, suc, ◌+◌, ◌<◌, ◌≤◌, List, [], ◌∷◌, map, length, Some, refl, sym, ap, ◌∙◌, subst, arith}
-use Rattle.gib_base.specs.declared.Span.{Span}
+use Rattle.std.proofs.Common.{◌≡◌, ℕ, ◌+◌, ◌≤◌, List, [], ◌∷◌, length, Some, refl, sym, ap, ◌∙◌, subst, arith}
 use Rattle.gib_types.specs.declared.table.Ty.{Ty}
 use Rattle.gib_types.specs.declared.table.Ty.TheVariants.{Whole, Truth, Tree}
-use Rattle.gib_types.specs.Table.{Table, owner_at, fields_at}
+use Rattle.gib_types.specs.Table.{owner_at, fields_at}
 use Rattle.gib_syntax.specs.declared.tree.Ident.{Ident}
 use Rattle.gib_syntax.specs.Tree.{Expression, Arguments, Arms, Var, Num, Bit, Paren, Op, Call, Make, Let, Par, If, Case, NoArgument, Argument, LastArm, NextArm}
 use Rattle.gib_syntax.specs.Declarations.{number_of, constructor_named, function_named}
@@ -11,8 +10,8 @@ use Rattle.gib_syntax.specs.Typing.{Globals, Scope, type_in, bound, parameter_ty
 use Rattle.gib_check.specs.declared.counts.Counts.{Counts}
 use Rattle.gib_check.specs.declared.fault.Kind.TheVariants as kind
 use Rattle.gib_check.specs.declared.rules.Part.{Part}
-use Rattle.gib_check.specs.Faults.{Checked, and_then, one_more, argument_count, ArmHead, heads, head_names, fields_if, fields_named, first_type, infer, infer_all, infer_arms, infer_arm, place, bind_all}
-use Rattle.gib_check.proofs.Steps.{Holds, holds_ok, then_holds, found_holds, one_more_holds, new_variable_holds, as_many_holds, wanted_holds, PartsHave, all_wanted_holds, EachHas, all_of_holds, declared_type_holds, AllDeclared, all_declared_holds, AllCounted, all_counted_holds, covered_holds, Bound, bind_all_holds}
+use Rattle.gib_check.specs.Faults.{argument_count, heads, head_names, fields_if, fields_named, first_type, infer, infer_all, infer_arms, infer_arm, place}
+use Rattle.gib_check.proofs.Steps.{Holds, holds_ok, then_holds, found_holds, one_more_holds, new_variable_holds, as_many_holds, wanted_holds, PartsHave, all_wanted_holds, EachHas, all_of_holds, declared_type_holds, AllDeclared, all_declared_holds, AllCounted, all_counted_holds, covered_holds, bind_all_holds}
 
 pub record Sound (g : Globals) (scope : Scope) (n : Counts) (e : Expression) (t : Ty) (m : Counts) : Type 0 where
   pub has : Has g scope e t
@@ -86,14 +85,16 @@ pub record SoundArm (g : Globals) (scope : Scope) (n : Counts) (k : Ident) (xs :
 arm_sound : (g : Globals) (scope : Scope) (n : Counts) (k : Ident) (xs : List Ident) (e : Expression) (d : (c : ℕ) × (constructor_named g.table (number_of k) ≡ Some c)) → length xs ≡ length (fields_named g.table k) → ((inner : Scope) (m : Counts) → Holds (infer g inner m e) (λ r. Sound g inner m e r.0 r.1)) → Holds (infer_arm g.table scope n k xs (λ inner m. infer g inner m e)) (λ r. SoundArm g scope n k xs e r.0 r.1)
 arm_sound g scope n k xs e d l h =
     then_holds (bind_all_holds scope n xs (fields_named g.table k) l) (λ inner p.
-    record { by = λ r q. let s = (h inner.0 inner.1).by r q in
-      record {
-        have = (d.0, inner.0, d.1, subst (λ z. BindsAll scope xs (fields_if g.table z) inner.0) d.1 p.binds, s.has);
-        expressions = s.expressions ∙ ap (λ z. z + expressions e) p.expressions;
-        variables = (let a = s.variables in let b = p.variables in omega (arith, a, b));
-        short = λ z. s.short (let a = p.expressions in omega (arith, a, z));
-        few = λ z. s.few (p.few z);
-      } })
+    record {
+      by = λ r q. let s = (h inner.0 inner.1).by r q in
+          record {
+            have = (d.0, inner.0, d.1, subst (λ z. BindsAll scope xs (fields_if g.table z) inner.0) d.1 p.binds, s.has);
+            expressions = s.expressions ∙ ap (λ z. z + expressions e) p.expressions;
+            variables = (let a = s.variables in let b = p.variables in omega (arith, a, b));
+            short = λ z. s.short (let a = p.expressions in omega (arith, a, z));
+            few = λ z. s.few (p.few z);
+          };
+    })
 
 mutual
   pub infer_sound : (g : Globals) (scope : Scope) (n : Counts) (e : Expression) → Holds (infer g scope n e) (λ r. Sound g scope n e r.0 r.1)
@@ -143,29 +144,33 @@ mutual
       }))))))
   infer_sound g scope n (Let p x a b) =
       then_holds (one_more_holds n p) (λ m h. then_holds (infer_sound g scope m a) (λ s sa. then_holds (new_variable_holds scope s.1 x) (λ k v.
-      record { by = λ r q. (let sb = (infer_sound g (bound x s.0 scope) k b).by r q in
-        let c = counted n m h.1 in let c0 = c.0 in let c1 = c.1 in let h0 = h.0 in let a0 = sa.expressions in let a1 = sa.variables in let b0 = sb.expressions in let b1 = sb.variables in
-        let d = more_variables s.1 k v.2 in let d0 = d.0 in let d1 = d.1 in let v1 = v.1 in
-        record {
-          has = (s.0, sa.has, v.0, sb.has);
-          expressions = omega (arith, c0, a0, b0, d0);
-          variables = omega (arith, c1, a1, b1, d1);
-          short = λ z. sb.short (let w = sa.short (omega (arith, c0, h0)) in omega (arith, w, d0));
-          few = λ z. sb.few (omega (arith, d1, v1));
-        }) })))
+      record {
+        by = λ r q. (let sb = (infer_sound g (bound x s.0 scope) k b).by r q in
+            let c = counted n m h.1 in let c0 = c.0 in let c1 = c.1 in let h0 = h.0 in let a0 = sa.expressions in let a1 = sa.variables in let b0 = sb.expressions in let b1 = sb.variables in
+            let d = more_variables s.1 k v.2 in let d0 = d.0 in let d1 = d.1 in let v1 = v.1 in
+            record {
+              has = (s.0, sa.has, v.0, sb.has);
+              expressions = omega (arith, c0, a0, b0, d0);
+              variables = omega (arith, c1, a1, b1, d1);
+              short = λ z. sb.short (let w = sa.short (omega (arith, c0, h0)) in omega (arith, w, d0));
+              few = λ z. sb.few (omega (arith, d1, v1));
+            });
+      })))
   infer_sound g scope n (Par p x a y b c) =
       then_holds (one_more_holds n p) (λ m h. then_holds (infer_sound g scope m a) (λ s sa. then_holds (infer_sound g scope s.1 b) (λ t sb.
       then_holds (new_variable_holds scope t.1 x) (λ k v. then_holds (new_variable_holds (bound x s.0 scope) k y) (λ l w.
-      record { by = λ r q. (let sc = (infer_sound g (bound y t.0 (bound x s.0 scope)) l c).by r q in
-        let o = counted n m h.1 in let c0 = o.0 in let c1 = o.1 in let h0 = h.0 in let a0 = sa.expressions in let a1 = sa.variables in let b0 = sb.expressions in let b1 = sb.variables in let e0 = sc.expressions in let e1 = sc.variables in
-        let d = more_variables t.1 k v.2 in let d0 = d.0 in let d1 = d.1 in let f = more_variables k l w.2 in let f0 = f.0 in let f1 = f.1 in let w1 = w.1 in
-        record {
-          has = (s.0, t.0, sa.has, sb.has, v.0, w.0, sc.has);
-          expressions = omega (arith, c0, a0, b0, e0, d0, f0);
-          variables = omega (arith, c1, a1, b1, e1, d1, f1);
-          short = λ z. sc.short (let u = sb.short (sa.short (omega (arith, c0, h0))) in omega (arith, u, d0, f0));
-          few = λ z. sc.few (omega (arith, f1, w1));
-        }) })))))
+      record {
+        by = λ r q. (let sc = (infer_sound g (bound y t.0 (bound x s.0 scope)) l c).by r q in
+            let o = counted n m h.1 in let c0 = o.0 in let c1 = o.1 in let h0 = h.0 in let a0 = sa.expressions in let a1 = sa.variables in let b0 = sb.expressions in let b1 = sb.variables in let e0 = sc.expressions in let e1 = sc.variables in
+            let d = more_variables t.1 k v.2 in let d0 = d.0 in let d1 = d.1 in let f = more_variables k l w.2 in let f0 = f.0 in let f1 = f.1 in let w1 = w.1 in
+            record {
+              has = (s.0, t.0, sa.has, sb.has, v.0, w.0, sc.has);
+              expressions = omega (arith, c0, a0, b0, e0, d0, f0);
+              variables = omega (arith, c1, a1, b1, e1, d1, f1);
+              short = λ z. sc.short (let u = sb.short (sa.short (omega (arith, c0, h0))) in omega (arith, u, d0, f0));
+              few = λ z. sc.few (omega (arith, f1, w1));
+            });
+      })))))
   infer_sound g scope n (If p a b c) =
       then_holds (one_more_holds n p) (λ m h. then_holds (infer_sound g scope m a) (λ x sa. then_holds (infer_sound g scope x.1 b) (λ y sb. then_holds (infer_sound g scope y.1 c) (λ z sc.
       then_holds (wanted_holds Truth (record { ty = x.0; place = place a })) (λ _ wa. then_holds (wanted_holds y.0 (record { ty = z.0; place = place c })) (λ _ wc.

@@ -1,12 +1,12 @@
 -- What each rule says where it is kept.
-use Rattle.std.proofs.Common.{◌≡◌, ℕ, zero, suc, ◌+◌, ◌<◌, ◌≤◌, Bool, true, false, cond, eqb, ltb, not, ◌&&◌, ◌||◌, List, [], ◌∷◌, map, length, Option, Some, None, Ok, Err, refl, sym, ap, ◌∙◌, subst, arith}
-use Rattle.std.proofs.lemmas.Bool.{eqb-true, eq-eqb, ltb-true, lt-ltb}
+use Rattle.std.proofs.Common.{◌≡◌, ℕ, zero, suc, ◌+◌, ◌<◌, ◌≤◌, Bool, true, false, cond, eqb, ltb, not, ◌&&◌, ◌||◌, List, [], ◌∷◌, length, Option, Some, None, Ok, Err, refl, sym, ap, ◌∙◌, subst, arith}
+use Rattle.std.proofs.lemmas.Bool.{eqb-true, eq-eqb, ltb-true}
 use Rattle.std.specs.Prelude.{is_some, is_none, slice_get}
 use Rattle.std.specs.List.{list_all, AllByRecursion}
 use Rattle.gib_base.specs.declared.Span.{Span}
 use Rattle.gib_types.specs.declared.table.Ty.{Ty}
 use Rattle.gib_types.specs.declared.table.Ty.TheVariants.{Whole, Truth, Tree}
-use Rattle.gib_types.specs.Table.{Row, Table, con_at, if_owned, owner_at, name_at, owner_of, name_of, fields_at}
+use Rattle.gib_types.specs.Table.{Row, Table, if_owned, owner_at, name_of}
 use Rattle.gib_syntax.specs.declared.tree.Ident.{Ident}
 use Rattle.gib_syntax.specs.Declarations.{number_of, place_of, AreDifferent, constructor_named}
 use Rattle.gib_syntax.specs.Typing.{Scope, type_in, IsNew, bound, BindsAll, Covers}
@@ -15,7 +15,7 @@ use Rattle.gib_check.specs.declared.fault.Fault.{Fault}
 use Rattle.gib_check.specs.declared.fault.Kind.{Kind}
 use Rattle.gib_check.specs.declared.fault.Kind.TheVariants as kind
 use Rattle.gib_check.specs.declared.rules.Part.{Part}
-use Rattle.gib_check.specs.Faults.{Checked, and_then, allowed, found, one_more, new_variable, as_many, same_type, wanted, all_wanted, all_of, declared_type, ArmHead, head_names, all_declared, constructor, is_of, are_different, is_there, covers, covered, fields_if, fields_named, all_counted, bind_all}
+use Rattle.gib_check.specs.Faults.{Checked, and_then, allowed, found, one_more, new_variable, as_many, same_type, wanted, all_wanted, all_of, declared_type, ArmHead, all_declared, is_of, are_different, is_there, covers, covered, fields_named, all_counted, bind_all}
 
 -- What is answered is so.
 pub record Holds {A : Type 0} (c : Checked A) (P : A → Type 0) : Type 0 where
@@ -156,9 +156,10 @@ of_is table ty (Some c) e = (c, refl, eqb-true (owner_at table c) ty e)
 
 own_all : (table : Table) (ty : ℕ) (names : List ℕ) → list_all (λ k. is_of table ty (constructor_named table k)) names ≡ true → AllByRecursion (λ k. (c : ℕ) × (constructor_named table k ≡ Some c) × (owner_at table c ≡ ty)) names
 own_all table ty [] e = tt
-own_all table ty (k ∷ names) e =
-    (of_is table ty (constructor_named table k) (and_left _ (list_all (λ k. is_of table ty (constructor_named table k)) names) e),
-     own_all table ty names (and_right (is_of table ty (constructor_named table k)) _ e))
+own_all table ty (k ∷ names) e = (
+  of_is table ty (constructor_named table k) (and_left _ (list_all (λ k. is_of table ty (constructor_named table k)) names) e),
+  own_all table ty names (and_right (is_of table ty (constructor_named table k)) _ e),
+)
 
 pub different_is : (names : List ℕ) → are_different names ≡ true → AreDifferent names
 different_is [] e = tt
@@ -188,8 +189,8 @@ covers_is table ty names e =
     record {
       own = own_all table ty names (and_left own (are_different names && list_all (is_there ty names) table.rows) e);
       each = λ c q. (let o = owned_is ty c (slice_get table.rows c) q in
-        let there = there_one (eqb o.0.owner ty) (place_of names o.0.name) (each_there ty names table.rows c o.0 (and_right (are_different names) (list_all (is_there ty names) table.rows) rest) o.1) o.2 in
-        subst (λ z. (i : ℕ) × (place_of names (name_of z) ≡ Some i)) (sym o.1) there);
+          let there = there_one (eqb o.0.owner ty) (place_of names o.0.name) (each_there ty names table.rows c o.0 (and_right (are_different names) (list_all (is_there ty names) table.rows) rest) o.1) o.2 in
+          subst (λ z. (i : ℕ) × (place_of names (name_of z) ≡ Some i)) (sym o.1) there);
       once = different_is names (and_left (are_different names) (list_all (is_there ty names) table.rows) rest);
     }
 
@@ -209,7 +210,9 @@ bind_all_holds scope n [] (t ∷ ts) l = absurd (omega (arith, l))
 bind_all_holds scope n (x ∷ xs) [] l = absurd (omega (arith, l))
 bind_all_holds scope n (x ∷ xs) (t ∷ ts) l =
     then_holds (new_variable_holds scope n x) (λ m p.
-    record { by = λ r e. let o = (bind_all_holds (bound x t scope) m xs ts (omega (arith, l))).by r e in
-      let v : m.variables ≡ n.variables + 1 = sym (ap (λ (z : Counts). z.variables) p.2) in
-      let x' : m.expressions ≡ n.expressions = sym (ap (λ (z : Counts). z.expressions) p.2) in
-      record { binds = (p.0, o.binds); variables = (let q = o.variables in omega (arith, q, v)); expressions = o.expressions ∙ x'; few = λ h. o.few (let q = p.1 in omega (arith, q, v)) } })
+    record {
+      by = λ r e. let o = (bind_all_holds (bound x t scope) m xs ts (omega (arith, l))).by r e in
+          let v : m.variables ≡ n.variables + 1 = sym (ap (λ (z : Counts). z.variables) p.2) in
+          let x' : m.expressions ≡ n.expressions = sym (ap (λ (z : Counts). z.expressions) p.2) in
+          record { binds = (p.0, o.binds); variables = (let q = o.variables in omega (arith, q, v)); expressions = o.expressions ∙ x'; few = λ h. o.few (let q = p.1 in omega (arith, q, v)) };
+    })

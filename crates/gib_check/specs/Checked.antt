@@ -1,5 +1,5 @@
 -- What a checked program is, and what the check answers.
-use Rattle.std.specs.Prelude.{◌≡◌, Some, Result, Ok, Err}
+use Rattle.std.specs.Prelude.{◌≡◌, Some}
 use Rattle.gib_types.specs.Table.{Table}
 use Rattle.gib_syntax.specs.Tree.{ProgramTree}
 use Rattle.gib_syntax.specs.Parts.{Parts, program_of}

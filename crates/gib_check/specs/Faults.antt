@@ -6,7 +6,6 @@ use Rattle.gib_types.specs.declared.table.Ty.{Ty}
 use Rattle.gib_types.specs.declared.table.Ty.TheVariants.{Whole, Truth, Tree}
 use Rattle.gib_types.specs.Table.{Row, Table, fields_at, owner_at}
 use Rattle.gib_syntax.specs.declared.tree.Ident.{Ident}
-use Rattle.gib_syntax.specs.declared.tree.Parameter.{Parameter}
 use Rattle.gib_syntax.specs.Tree.{Expression, Arguments, Arms, Var, Num, Bit, Paren, Op, Call, Make, Let, Par, If, Case, NoArgument, Argument, LastArm, NextArm, FunctionTree}
 use Rattle.gib_syntax.specs.Declarations.{number_of, place_of, constructor_named, function_named}
 use Rattle.gib_syntax.specs.Typing.{Globals, Scope, type_in, bound, parameter_types, result_type, operator_type}

@@ -1,7 +1,5 @@
 -- The parts of a program, as the definitions see them.
 use Rattle.std.specs.Prelude.{◌≡◌, ℕ, ◌==◌, Bool, not, ◌||◌, is_some, List, [], ◌∷◌, map, Ok}
-use Rattle.gib_base.specs.declared.name.Name.{Name}
-use Rattle.gib_types.specs.declared.table.Ty.{Ty}
 use Rattle.gib_types.specs.Table.{Row, Table, owner_at, name_at}
 use Rattle.gib_syntax.specs.declared.exprs.Arm.{Arm}
 use Rattle.gib_syntax.specs.declared.tree.FunctionDecl.{FunctionDecl}

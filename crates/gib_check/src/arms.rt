@@ -32,7 +32,11 @@ pub fn all_counted(declared: &Declared, arms: &[Arm]) -> Result<(), TypeFault>
 {
     let mut rest = arms;
     'arms: while let [arm, after @ ..] = rest {
-        as_many(arm.variables.len(), declared.fields_named(arm.constructor), arm.constructor)?;
+        as_many(
+            arm.variables.len(),
+            declared.fields_named(arm.constructor),
+            arm.constructor,
+        )?;
         rest = after;
     }
     Ok(())

@@ -15,7 +15,11 @@ use gib_syntax::{ExprId, Parameter, TypeName};
 use std::alloc::Global;
 
 /// Puts parameters into the scope.
-fn push_parameters(declared: &Declared, scope: &mut Vec<Variable>, parameters: &[Parameter]) -> Result<(), Memory>
+fn push_parameters(
+    declared: &Declared,
+    scope: &mut Vec<Variable>,
+    parameters: &[Parameter],
+) -> Result<(), Memory>
     ensures { IfOk result (λ _. scope_of scope.new.items ≡ rule.with_parameters (types_in declared.now) parameters.now (scope_of scope.old.items)) }
 {
     let mut rest = parameters;
@@ -27,7 +31,13 @@ fn push_parameters(declared: &Declared, scope: &mut Vec<Variable>, parameters: &
 }
 
 /// A body, in the scope of its parameters.
-pub fn check_body(alloc: Global, declared: &Declared, parameters: &[Parameter], result_name: TypeName, body: ExprId) -> Result<(), TypeFault>
+pub fn check_body(
+    alloc: Global,
+    declared: &Declared,
+    parameters: &[Parameter],
+    result_name: TypeName,
+    body: ExprId,
+) -> Result<(), TypeFault>
     requires { body.0 < length declared.now.exprs }
     ensures { Gives (λ _. tt {0}) result (rule.check_body (globals_in declared.now) parameters.now result_name (tree_in declared.now body.0)) }
 {
@@ -53,7 +63,13 @@ pub fn check_bodies(alloc: Global, declared: &Declared) -> Result<(), TypeFault>
 {
     let mut rest = declared.functions();
     'functions: while let [function, after @ ..] = rest {
-        check_body(alloc, declared, &function.parameters, function.result, function.body)?;
+        check_body(
+            alloc,
+            declared,
+            &function.parameters,
+            function.result,
+            function.body,
+        )?;
         rest = after;
     }
     Ok(())

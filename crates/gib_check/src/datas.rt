@@ -69,7 +69,10 @@ pub fn known(types: &NameList, written: TypeName) -> Result<Ty, TypeFault>
 }
 
 /// The constructors of a type, behind those of these names.
-fn check_constructors(names: &mut NameList, constructors: &[ConstructorDecl]) -> Result<(), TypeFault>
+fn check_constructors(
+    names: &mut NameList,
+    constructors: &[ConstructorDecl],
+) -> Result<(), TypeFault>
     ensures { Gives (λ _. names.new) result (rule.check_constructors names.old (map constructor_tree constructors.now)) }
 {
     let mut rest = constructors;
@@ -125,7 +128,10 @@ fn check_types(types: &NameList, fields: &[TypeName]) -> Result<(), TypeFault>
 }
 
 /// Field types of constructors.
-fn check_constructor_fields(types: &NameList, constructors: &[ConstructorDecl]) -> Result<(), TypeFault>
+fn check_constructor_fields(
+    types: &NameList,
+    constructors: &[ConstructorDecl],
+) -> Result<(), TypeFault>
     ensures { Gives (λ _. tt {0}) result (rule.check_constructor_fields types.now (map constructor_tree constructors.now)) }
 {
     let mut rest = constructors;

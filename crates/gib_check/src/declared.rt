@@ -85,7 +85,13 @@ impl Declared {
         requires { IsTypedProgram (program_of self) }
         ensures { result ≡ self }
     {
-        let Declared { program, table, types: _, constructors: _, functions: _ } = self;
+        let Declared {
+            program,
+            table,
+            types: _,
+            constructors: _,
+            functions: _,
+        } = self;
         Typed::new(program, table)
     }
 

@@ -18,7 +18,11 @@ use gib_syntax::{FunctionDecl, Parameter, TypeName};
 use std::alloc::Global;
 
 /// Parameters: the name of each, then its type.
-fn check_parameters(alloc: Global, types: &NameList, parameters: &[Parameter]) -> Result<(), TypeFault>
+fn check_parameters(
+    alloc: Global,
+    types: &NameList,
+    parameters: &[Parameter],
+) -> Result<(), TypeFault>
     ensures { Gives (λ _. tt {0}) result (rule.check_parameters types.now [] rule.nothing_met parameters.now) }
 {
     let mut counts = Counts {
@@ -37,7 +41,12 @@ fn check_parameters(alloc: Global, types: &NameList, parameters: &[Parameter]) -
 }
 
 /// The parameters and the result of a function, or of main.
-pub fn check_head(alloc: Global, types: &NameList, parameters: &[Parameter], result_name: TypeName) -> Result<(), TypeFault>
+pub fn check_head(
+    alloc: Global,
+    types: &NameList,
+    parameters: &[Parameter],
+    result_name: TypeName,
+) -> Result<(), TypeFault>
     ensures { Gives (λ _. tt {0}) result (rule.check_head types.now parameters.now result_name) }
 {
     check_parameters(alloc, types, parameters)?;
@@ -46,7 +55,11 @@ pub fn check_head(alloc: Global, types: &NameList, parameters: &[Parameter], res
 }
 
 /// Heads of functions, in the order of the text.
-pub fn check_heads(alloc: Global, types: &NameList, functions: &[FunctionDecl]) -> Result<(), TypeFault>
+pub fn check_heads(
+    alloc: Global,
+    types: &NameList,
+    functions: &[FunctionDecl],
+) -> Result<(), TypeFault>
     ensures { (f : ℕ → Expression) → Gives (λ _. tt {0}) result (rule.check_heads types.now [] (map (function_tree f) functions.now)) }
 {
     let mut names = NameList::new(alloc);

@@ -12,18 +12,15 @@ ghost use Rattle.gib_check.specs.FirstFault.{IsCountedOn, first_fault};
 pub fn inferred_types_are_had()
     ensures has { (g : Globals) (scope : Scope) (n m : Counts) (e : Expression) (t : Ty) → infer g scope n e ≡ Ok (t, m) → Has g scope e t }
     ensures counts { (g : Globals) (scope : Scope) (n m : Counts) (e : Expression) (t : Ty) → infer g scope n e ≡ Ok (t, m) → IsCountedOn n e m }
-{
-}
+{}
 
 /// The type that an expression has is inferred, within the limits.
 pub fn had_types_are_inferred()
     ensures { (g : Globals) (scope : Scope) (n : Counts) (e : Expression) (t : Ty) → Has g scope e t → n.expressions + expressions e ≤ 2000 → n.variables + bindings e ≤ 200 → (m : Counts) × (infer g scope n e ≡ Ok (t, m)) }
-{
-}
+{}
 
 /// A program breaks no rule exactly where it is typed.
 pub fn faults_are_exact()
     ensures typed { (p : ProgramTree) → first_fault p ≡ None → IsTypedProgram p }
     ensures none { (p : ProgramTree) → IsTypedProgram p → first_fault p ≡ None }
-{
-}
+{}

@@ -22,20 +22,21 @@ pub mod laws;
 mod names;
 mod rules;
 mod tables;
+#[cfg(test)]
+mod tests;
 pub mod typed;
 mod walk;
 
-pub use counts::Counts;
-pub use fault::{Fault, Kind, TypeFault};
-pub use typed::Typed;
-
 use bodies::{check_bodies, check_body};
+pub use counts::Counts;
 use datas::{check_datas, check_fields, list_types};
 use declared::Declared;
+pub use fault::{Fault, Kind, TypeFault};
 use gib_syntax::Program;
 use heads::{check_head, check_heads};
 use names::NameList;
 use std::alloc::Global;
+pub use typed::Typed;
 
 /// Types and constructors, field types, and heads of functions; gives the names of the types.
 #[tactic(auto, unfolding(crate::specs::FirstFault::check_declarations))]

@@ -28,7 +28,12 @@ fn field_types(alloc: Global, types: &NameList, fields: &[TypeName]) -> Result<V
 }
 
 /// A constructor of a type.
-fn row(alloc: Global, types: &NameList, owner: u32, constructor: &ConstructorDecl) -> Result<Constructor, Memory>
+fn row(
+    alloc: Global,
+    types: &NameList,
+    owner: u32,
+    constructor: &ConstructorDecl,
+) -> Result<Constructor, Memory>
     ensures { IfOk result (λ row. row_of row ≡ row_in types.now owner (constructor_tree constructor.now)) }
 {
     let fields = field_types(alloc, types, &constructor.fields)?;
@@ -40,7 +45,13 @@ fn row(alloc: Global, types: &NameList, owner: u32, constructor: &ConstructorDec
 }
 
 /// Puts the constructors of a type behind the others.
-fn push_rows(alloc: Global, types: &NameList, owner: u32, constructors: &[ConstructorDecl], rows: &mut Vec<Constructor>) -> Result<(), Memory>
+fn push_rows(
+    alloc: Global,
+    types: &NameList,
+    owner: u32,
+    constructors: &[ConstructorDecl],
+    rows: &mut Vec<Constructor>,
+) -> Result<(), Memory>
     ensures { IfOk result (λ _. map row_of rows.new.items ≡ map row_of rows.old.items ++ map (row_in types.now owner) (map constructor_tree constructors.now)) }
 {
     let mut rest = constructors;
@@ -53,7 +64,11 @@ fn push_rows(alloc: Global, types: &NameList, owner: u32, constructors: &[Constr
 }
 
 /// All constructors, in the order of the text.
-fn list_rows(alloc: Global, types: &NameList, datas: &[DataDecl]) -> Result<Vec<Constructor>, Memory>
+fn list_rows(
+    alloc: Global,
+    types: &NameList,
+    datas: &[DataDecl],
+) -> Result<Vec<Constructor>, Memory>
     ensures { IfOk result (λ rows. map row_of rows.items ≡ rows_from types.now 0 (map data_tree datas.now)) }
 {
     let mut rows = Vec::new(alloc);
@@ -97,7 +112,11 @@ fn constructor_names(alloc: Global, rows: &[Constructor]) -> Result<NameList, Me
 }
 
 /// The table, and the names of its constructors.
-pub fn make_table(alloc: Global, types: &NameList, datas: &[DataDecl]) -> Result<(TypeTable, NameList), Memory>
+pub fn make_table(
+    alloc: Global,
+    types: &NameList,
+    datas: &[DataDecl],
+) -> Result<(TypeTable, NameList), Memory>
     requires { IsTable (record { types = map tree_number (map data_tree datas.now); rows = rows_from types.now 0 (map data_tree datas.now) }) }
     ensures table { IfOk result (λ r. r.0 ≡ record { types = map tree_number (map data_tree datas.now); rows = rows_from types.now 0 (map data_tree datas.now) }) }
     ensures names { IfOk result (λ r. r.1 ≡ map row_name (rows_from types.now 0 (map data_tree datas.now))) }

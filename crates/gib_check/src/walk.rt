@@ -13,7 +13,10 @@ use crate::arms::{all_counted, all_declared, covered};
 use crate::counts::Counts;
 use crate::declared::Declared;
 use crate::fault::TypeFault;
-use crate::rules::{Part, Variable, all_of, all_wanted, as_many, declared_type, first_type, new_variable, one_more, put, type_of, wanted};
+use crate::rules::{
+    Part, Variable, all_of, all_wanted, as_many, declared_type, first_type, new_variable, one_more,
+    put, type_of, wanted,
+};
 use gib_base::Span;
 use gib_syntax::{Arm, ExprId, Ident, Node, Operator};
 use gib_types::Ty;
@@ -103,7 +106,12 @@ fn bind_all(state: &mut State, variables: &[Ident], types: &[Ty]) -> Result<(), 
 
 /// The type of an expression.
 #[cycle(infer)]
-pub fn infer(alloc: Global, declared: &Declared, state: &mut State, id: ExprId) -> Result<Ty, TypeFault>
+pub fn infer(
+    alloc: Global,
+    declared: &Declared,
+    state: &mut State,
+    id: ExprId,
+) -> Result<Ty, TypeFault>
     requires { id.0 < length declared.now.exprs }
     ensures read { Gives (λ t. (t, state.new.counts)) result (rule.infer (globals_in declared.now) (scope_of state.old.scope.items) state.old.counts (tree_in declared.now id.0)) }
     ensures kept { IfOk result (λ _. state.new.scope.items ≡ state.old.scope.items) }
@@ -122,19 +130,67 @@ pub fn infer(alloc: Global, declared: &Declared, state: &mut State, id: ExprId) 
             Ok(Ty::Truth)
         }
         Node::Paren(_, inner) => infer(alloc, declared, state, *inner),
-        Node::Operation { span, operator, left, right } => operation(alloc, declared, state, id, *span, *operator, *left, *right),
+        Node::Operation {
+            span,
+            operator,
+            left,
+            right,
+        } => operation(alloc, declared, state, id, *span, *operator, *left, *right),
         Node::Call(f, ids) => call(alloc, declared, state, id, *f, ids),
         Node::Make(k, ids) => make(alloc, declared, state, id, *k, ids),
-        Node::Let { span, name, bound, body } => let_in(alloc, declared, state, id, *span, *name, *bound, *body),
-        Node::LetPar { span, left_name, left, right_name, right, body } => let_par(alloc, declared, state, id, *span, *left_name, *left, *right_name, *right, *body),
-        Node::If { span, condition, then_part, else_part } => if_else(alloc, declared, state, id, *span, *condition, *then_part, *else_part),
-        Node::Case { span, variable, arms } => case(alloc, declared, state, id, *span, *variable, arms),
+        Node::Let {
+            span,
+            name,
+            bound,
+            body,
+        } => let_in(alloc, declared, state, id, *span, *name, *bound, *body),
+        Node::LetPar {
+            span,
+            left_name,
+            left,
+            right_name,
+            right,
+            body,
+        } => let_par(
+            alloc,
+            declared,
+            state,
+            id,
+            *span,
+            *left_name,
+            *left,
+            *right_name,
+            *right,
+            *body,
+        ),
+        Node::If {
+            span,
+            condition,
+            then_part,
+            else_part,
+        } => if_else(
+            alloc, declared, state, id, *span, *condition, *then_part, *else_part,
+        ),
+        Node::Case {
+            span,
+            variable,
+            arms,
+        } => case(alloc, declared, state, id, *span, *variable, arms),
     }
 }
 
 /// The type of an operation.
 #[cycle(infer)]
-fn operation(alloc: Global, declared: &Declared, state: &mut State, id: ExprId, span: Span, operator: Operator, left: ExprId, right: ExprId) -> Result<Ty, TypeFault>
+fn operation(
+    alloc: Global,
+    declared: &Declared,
+    state: &mut State,
+    id: ExprId,
+    span: Span,
+    operator: Operator,
+    left: ExprId,
+    right: ExprId,
+) -> Result<Ty, TypeFault>
     requires inside { id.0 < length declared.now.exprs }
     requires left { left.0 < id.0 }
     requires right { right.0 < id.0 }
@@ -151,7 +207,13 @@ fn operation(alloc: Global, declared: &Declared, state: &mut State, id: ExprId, 
 
 /// The types of arguments, from left to right.
 #[cycle(infer)]
-fn arguments(alloc: Global, declared: &Declared, state: &mut State, id: ExprId, ids: &[ExprId]) -> Result<Vec<Part>, TypeFault>
+fn arguments(
+    alloc: Global,
+    declared: &Declared,
+    state: &mut State,
+    id: ExprId,
+    ids: &[ExprId],
+) -> Result<Vec<Part>, TypeFault>
     requires inside { id.0 < length declared.now.exprs }
     requires below { AllByRecursion (λ a. a.0 < id.0) ids.now }
     ensures read { Gives (λ parts. (parts.items, state.new.counts)) result (rule.infer_all (globals_in declared.now) (scope_of state.old.scope.items) state.old.counts (arguments_from (tree_in declared.now) ids.now)) }
@@ -169,7 +231,14 @@ fn arguments(alloc: Global, declared: &Declared, state: &mut State, id: ExprId, 
 
 /// The type of a call.
 #[cycle(infer)]
-fn call(alloc: Global, declared: &Declared, state: &mut State, id: ExprId, f: Ident, ids: &[ExprId]) -> Result<Ty, TypeFault>
+fn call(
+    alloc: Global,
+    declared: &Declared,
+    state: &mut State,
+    id: ExprId,
+    f: Ident,
+    ids: &[ExprId],
+) -> Result<Ty, TypeFault>
     requires inside { id.0 < length declared.now.exprs }
     requires below { AllByRecursion (λ a. a.0 < id.0) ids.now }
     ensures read { Gives (λ t. (t, state.new.counts)) result (rule.infer_call (globals_in declared.now) state.old.counts f (length ids.now) (λ n. rule.infer_all (globals_in declared.now) (scope_of state.old.scope.items) n (arguments_from (tree_in declared.now) ids.now))) }
@@ -186,7 +255,14 @@ fn call(alloc: Global, declared: &Declared, state: &mut State, id: ExprId, f: Id
 
 /// The type of a constructor with its arguments.
 #[cycle(infer)]
-fn make(alloc: Global, declared: &Declared, state: &mut State, id: ExprId, k: Ident, ids: &[ExprId]) -> Result<Ty, TypeFault>
+fn make(
+    alloc: Global,
+    declared: &Declared,
+    state: &mut State,
+    id: ExprId,
+    k: Ident,
+    ids: &[ExprId],
+) -> Result<Ty, TypeFault>
     requires inside { id.0 < length declared.now.exprs }
     requires below { AllByRecursion (λ a. a.0 < id.0) ids.now }
     ensures read { Gives (λ t. (t, state.new.counts)) result (rule.infer_make (table_in declared.now) state.old.counts k (length ids.now) (λ n. rule.infer_all (globals_in declared.now) (scope_of state.old.scope.items) n (arguments_from (tree_in declared.now) ids.now))) }
@@ -202,7 +278,16 @@ fn make(alloc: Global, declared: &Declared, state: &mut State, id: ExprId, k: Id
 
 /// The type of a `let`.
 #[cycle(infer)]
-fn let_in(alloc: Global, declared: &Declared, state: &mut State, id: ExprId, span: Span, name: Ident, value: ExprId, body: ExprId) -> Result<Ty, TypeFault>
+fn let_in(
+    alloc: Global,
+    declared: &Declared,
+    state: &mut State,
+    id: ExprId,
+    span: Span,
+    name: Ident,
+    value: ExprId,
+    body: ExprId,
+) -> Result<Ty, TypeFault>
     requires inside { id.0 < length declared.now.exprs }
     requires value { value.0 < id.0 }
     requires body { body.0 < id.0 }
@@ -252,7 +337,16 @@ fn let_par(
 
 /// The type of an `if`.
 #[cycle(infer)]
-fn if_else(alloc: Global, declared: &Declared, state: &mut State, id: ExprId, span: Span, condition: ExprId, then_part: ExprId, else_part: ExprId) -> Result<Ty, TypeFault>
+fn if_else(
+    alloc: Global,
+    declared: &Declared,
+    state: &mut State,
+    id: ExprId,
+    span: Span,
+    condition: ExprId,
+    then_part: ExprId,
+    else_part: ExprId,
+) -> Result<Ty, TypeFault>
     requires inside { id.0 < length declared.now.exprs }
     requires condition { condition.0 < id.0 }
     requires then_part { then_part.0 < id.0 }
@@ -271,14 +365,24 @@ fn if_else(alloc: Global, declared: &Declared, state: &mut State, id: ExprId, sp
 
 /// The type of an arm.
 #[cycle(infer)]
-fn arm_result(alloc: Global, declared: &Declared, state: &mut State, id: ExprId, arm: &Arm) -> Result<Ty, TypeFault>
+fn arm_result(
+    alloc: Global,
+    declared: &Declared,
+    state: &mut State,
+    id: ExprId,
+    arm: &Arm,
+) -> Result<Ty, TypeFault>
     requires inside { id.0 < length declared.now.exprs }
     requires below { arm.now.body.0 < id.0 }
     ensures read { Gives (λ t. (t, state.new.counts)) result (rule.infer_arm (table_in declared.now) (scope_of state.old.scope.items) state.old.counts arm.now.constructor arm.now.variables.items (λ inner n. rule.infer (globals_in declared.now) inner n (tree_in declared.now arm.now.body.0))) }
     ensures kept { IfOk result (λ _. state.new.scope.items ≡ state.old.scope.items) }
 {
     let len = state.scope.len();
-    bind_all(state, &arm.variables, declared.fields_named(arm.constructor))?;
+    bind_all(
+        state,
+        &arm.variables,
+        declared.fields_named(arm.constructor),
+    )?;
     let ty = infer(alloc, declared, state, arm.body)?;
     state.scope.truncate(len);
     Ok(ty)
@@ -286,7 +390,13 @@ fn arm_result(alloc: Global, declared: &Declared, state: &mut State, id: ExprId,
 
 /// The types of arms, in the order of the text.
 #[cycle(infer)]
-fn arm_results(alloc: Global, declared: &Declared, state: &mut State, id: ExprId, arms: &[Arm]) -> Result<Vec<Part>, TypeFault>
+fn arm_results(
+    alloc: Global,
+    declared: &Declared,
+    state: &mut State,
+    id: ExprId,
+    arms: &[Arm],
+) -> Result<Vec<Part>, TypeFault>
     requires inside { id.0 < length declared.now.exprs }
     requires below { AllByRecursion (IsArmBelow id.0) arms.now }
     ensures read { Gives (λ parts. (parts.items, state.new.counts)) result (infer_each_arm (globals_in declared.now) (tree_in declared.now) (scope_of state.old.scope.items) state.old.counts arms.now) }
@@ -304,7 +414,15 @@ fn arm_results(alloc: Global, declared: &Declared, state: &mut State, id: ExprId
 
 /// The type of a `case`.
 #[cycle(infer)]
-fn case(alloc: Global, declared: &Declared, state: &mut State, id: ExprId, span: Span, variable: Ident, arms: &[Arm]) -> Result<Ty, TypeFault>
+fn case(
+    alloc: Global,
+    declared: &Declared,
+    state: &mut State,
+    id: ExprId,
+    span: Span,
+    variable: Ident,
+    arms: &[Arm],
+) -> Result<Ty, TypeFault>
     requires inside { id.0 < length declared.now.exprs }
     requires below { AllByRecursion (IsArmBelow id.0) arms.now }
     ensures read { Gives (λ t. (t, state.new.counts)) result (rule.infer_case (table_in declared.now) (scope_of state.old.scope.items) state.old.counts span variable (map arm_head arms.now) (λ n. infer_each_arm (globals_in declared.now) (tree_in declared.now) (scope_of state.old.scope.items) n arms.now)) }

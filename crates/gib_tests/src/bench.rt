@@ -47,7 +47,7 @@ pub fn call<R: Threads + Wait + Sync>(
 ) -> Result<Ended, AllocError> {
     let words = words(alloc, texts)?;
     let mut shelf = MemShelf::make(alloc, files, Vec::new(alloc))?;
-    let mut out = MemSink::make(alloc, 1_048_576, fails)?;
+    let mut out = MemSink::make(alloc, 16_777_216, fails)?;
     let mut err = MemSink::make(alloc, 4_096, Vec::new(alloc))?;
     let status = gib(rt, alloc, &words, &mut shelf, &mut out, &mut err, &FreeGate);
     Ok(Ended { status, out, err })

@@ -1,11 +1,10 @@
-use Rattle.std.proofs.Common.{rules, ◌≡◌, ◌∙◌, ℕ, List, ◌≤◌, length, sym, subst}
+use Rattle.std.proofs.Common.{ℕ, List, ◌≤◌, length, subst}
 use Rattle.gib_edge.specs.Causes.{Appends}
 use Rattle.gib_base.specs.declared.limits.TheConstants.{FILE_BYTES}
 use Rattle.gib_syntax.specs.Parts.{program_of}
 use Rattle.gib_app.specs.Words.{bytes_in}
 use Rattle.gib_app.specs.Requests.{document_of}
-use Rattle.gib_app.specs.declared.stop.Stop.{Stop}
-use Rattle.gib_app.specs.Stops.{IsPutStop, IsInputStop, IsOutputOf, PutsOutput}
+use Rattle.gib_app.specs.Stops.{IsPutStop, IsOutputOf}
 use Rattle.gib_app.proofs.Told.{on_ok, if_err, told_some}
 use Rattle.gib_app.proofs.Stopping.{stop_on_document}
 use Rattle.gib_app.proofs.command.put_meaning.Goals as goal

@@ -1,4 +1,3 @@
-use Rattle.std.proofs.Common.{rules, ◌≡◌, ℕ, List}
 use Rattle.gib_syntax.specs.Parts.{program_of}
 use Rattle.gib_app.specs.Words.{bytes_of}
 use Rattle.gib_app.specs.Requests.{request_of}

@@ -1,4 +1,4 @@
-use Rattle.std.proofs.Common.{◌≡◌, ◌∙◌, sym, subst, arith}
+use Rattle.std.proofs.Common.{sym, subst, arith}
 use Rattle.gib_syntax.specs.Parts.{Parts, program_of}
 use Rattle.gib_app.specs.Running.{IsCompiled}
 use Rattle.gib_app.proofs.Held.{names_held}

@@ -1,7 +1,7 @@
-use Rattle.std.proofs.Common.{◌≡◌, ◌∙◌, ℕ, List, ap, sym, subst, Ok}
+use Rattle.std.proofs.Common.{◌≡◌, ◌∙◌, sym, subst}
 use Rattle.gib_types.specs.declared.table.Ty.{Ty}
 use Rattle.gib_types.specs.Table.{Table}
-use Rattle.gib_types.specs.Tree.{Datum, HasType}
+use Rattle.gib_types.specs.Tree.{HasType}
 use Rattle.gib_file.specs.Packed.{packed, Packed}
 use Rattle.gib_file.specs.Surveyed.{Surveyed}
 use Rattle.gib_syntax.specs.Parts.{program_of}

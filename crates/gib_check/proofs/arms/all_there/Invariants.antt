@@ -1,4 +1,4 @@
-use Rattle.std.proofs.Common.{◌≡◌, ◌-◌, ◌≤◌, length, map, drop}
+use Rattle.std.proofs.Common.{◌≡◌, ◌-◌, map, drop}
 use Rattle.std.specs.List.{list_all}
 use Rattle.gib_check.specs.Faults as rule
 use Rattle.gib_check.specs.Views.{table_in, arm_head}

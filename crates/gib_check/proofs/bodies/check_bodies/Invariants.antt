@@ -1,4 +1,4 @@
-use Rattle.std.proofs.Common.{◌≡◌, ◌++◌, [], length, map}
+use Rattle.std.proofs.Common.{◌≡◌, length, map}
 use Rattle.gib_check.specs.FirstFault as rule
 use Rattle.gib_check.specs.Views.{globals_in, functions_in, function_in}
 use Rattle.std.specs.List.{AllByRecursion}

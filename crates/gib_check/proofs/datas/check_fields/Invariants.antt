@@ -1,6 +1,6 @@
-use Rattle.std.proofs.Common.{◌≡◌, ◌++◌, [], length, map}
+use Rattle.std.proofs.Common.{◌≡◌, length, map}
 use Rattle.gib_check.specs.FirstFault as rule
-use Rattle.gib_syntax.specs.Parts.{data_tree, constructor_tree, function_tree}
+use Rattle.gib_syntax.specs.Parts.{data_tree}
 use Rattle.gib_check.proofs.datas.check_fields.Given as goal
 
 abbrev pub invariant-datas : goal.invariant-datas

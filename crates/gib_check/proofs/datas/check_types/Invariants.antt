@@ -1,4 +1,4 @@
-use Rattle.std.proofs.Common.{◌≡◌, ◌++◌, [], length, map}
+use Rattle.std.proofs.Common.{◌≡◌, length}
 use Rattle.gib_check.specs.FirstFault as rule
 use Rattle.gib_check.proofs.datas.check_types.Given as goal
 

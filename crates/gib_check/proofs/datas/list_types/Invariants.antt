@@ -1,4 +1,4 @@
-use Rattle.std.proofs.Common.{◌≡◌, ◌++◌, [], length, map}
+use Rattle.std.proofs.Common.{◌≡◌, ◌++◌, length, map}
 use Rattle.gib_check.specs.Views.{tree_number}
 use Rattle.gib_syntax.specs.Parts.{data_tree}
 use Rattle.gib_check.proofs.datas.list_types.Given as goal

@@ -1,6 +1,6 @@
-use Rattle.std.proofs.Common.{◌≡◌, ◌++◌, [], length, map}
+use Rattle.std.proofs.Common.{◌≡◌, [], length, map}
 use Rattle.gib_check.specs.FirstFault as rule
-use Rattle.gib_syntax.specs.Parts.{data_tree, constructor_tree, function_tree}
+use Rattle.gib_syntax.specs.Parts.{function_tree}
 use Rattle.std.proofs.Common.{ℕ}
 use Rattle.gib_syntax.specs.Tree.{Expression}
 use Rattle.gib_check.proofs.heads.check_heads.Given as goal

@@ -1,4 +1,4 @@
-use Rattle.std.proofs.Common.{◌≡◌, ◌++◌, [], length, map}
+use Rattle.std.proofs.Common.{◌≡◌, ◌++◌, length, map}
 use Rattle.gib_check.specs.Views.{function_number}
 use Rattle.gib_check.proofs.heads.list_functions.Given as goal
 

@@ -1,6 +1,4 @@
-use Rattle.std.proofs.Common.{◌≡◌, ◌+◌, length, map}
-use Rattle.gib_syntax.specs.Declarations.{place_of}
-use Rattle.gib_check.specs.Answers.{number}
+use Rattle.std.proofs.Common.{length}
 use Rattle.gib_check.proofs.Places.{Searched}
 use Rattle.gib_check.proofs.names.search.Given as goal
 

@@ -1,4 +1,4 @@
-use Rattle.std.proofs.Common.{◌≡◌, ◌++◌, [], length, map}
+use Rattle.std.proofs.Common.{◌≡◌, ◌++◌, length, map}
 use Rattle.gib_types.specs.Table.{row_of}
 use Rattle.gib_check.specs.Views.{row_name}
 use Rattle.gib_check.proofs.tables.constructor_names.Given as goal

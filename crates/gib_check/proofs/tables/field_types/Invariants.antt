@@ -1,4 +1,4 @@
-use Rattle.std.proofs.Common.{◌≡◌, ◌++◌, [], length, map}
+use Rattle.std.proofs.Common.{◌≡◌, ◌++◌, length, map}
 use Rattle.gib_syntax.specs.Declarations.{type_of_name}
 use Rattle.gib_check.proofs.tables.field_types.Given as goal
 

@@ -1,4 +1,4 @@
-use Rattle.std.proofs.Common.{◌≡◌, ◌++◌, [], length, map}
+use Rattle.std.proofs.Common.{◌≡◌, ◌++◌, length, map}
 use Rattle.gib_types.specs.Table.{row_of}
 use Rattle.gib_syntax.specs.Parts.{constructor_tree}
 use Rattle.gib_syntax.specs.Declarations.{row_in}

@@ -1,4 +1,4 @@
-use Rattle.std.proofs.Common.{ap, sym, ◌∙◌}
+use Rattle.std.proofs.Common.{ap}
 use Rattle.gib_syntax.specs.Arena.{tree_of}
 use Rattle.gib_check.proofs.Places.{function_at, function_none}
 use Rattle.gib_check.proofs.declared.Declared.function.Goals as goal
