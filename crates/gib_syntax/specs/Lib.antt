@@ -2,6 +2,7 @@ pub mod Tree
 pub mod Spelling
 pub mod Arena
 pub mod Parts
+pub mod Printing
 pub mod Declarations
 pub mod Typing
 pub mod Meaning

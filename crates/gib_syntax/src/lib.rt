@@ -3,9 +3,14 @@
 
 pub mod exprs;
 pub mod law;
+pub mod print;
+mod spelled;
+mod text;
 pub mod tree;
 
 pub use exprs::{Arm, ExprId, Exprs, Node};
+pub use print::print_program;
 pub use tree::{
-    ConstructorDecl, DataDecl, FunctionDecl, Ident, MainDecl, Operator, Parameter, Program, TypeName,
+    ConstructorDecl, DataDecl, FunctionDecl, Ident, MainDecl, Operator, Parameter, Program,
+    TypeName,
 };

@@ -1,0 +1,23 @@
+-- Parts of programs as tokens, in the groups in which they are printed.
+use Rattle.std.specs.Prelude.{ℕ, List, [], ◌∷◌}
+use Rattle.gib_base.specs.declared.token.Sign.TheVariants as s
+use Rattle.gib_base.specs.declared.token.Token.{Token}
+use Rattle.gib_base.specs.declared.token.Token.TheVariants as t
+use Rattle.gib_syntax.specs.declared.exprs.Arm.{Arm}
+use Rattle.gib_syntax.specs.Tree.{Expression}
+use Rattle.gib_syntax.specs.Spelling.{spell, spell_variables, spell_arms}
+use Rattle.gib_syntax.specs.Arena.{arms_from}
+
+-- One arm.
+abbrev pub spell_arm : (ℕ → Expression) → Arm → List Token → List Token
+spell_arm f arm rest = t.Constructor arm.constructor.name ∷ spell_variables arm.variables.items (t.Sign s.Arrow ∷ spell (f arm.body.0) rest)
+
+-- Further arms, each behind a semicolon.
+abbrev pub spell_further : (ℕ → Expression) → List Arm → List Token → List Token
+spell_further f [] rest = rest
+spell_further f (arm ∷ arms) rest = t.Sign s.Semicolon ∷ spell_arm f arm (spell_further f arms rest)
+
+-- All arms of a case.
+abbrev pub spell_all_arms : (ℕ → Expression) → List Arm → List Token → List Token
+spell_all_arms f [] rest = rest
+spell_all_arms f (arm ∷ arms) rest = spell_arms (arms_from f arm arms) rest

@@ -1,0 +1,104 @@
+//! Tokens as text.
+
+ghost use Rattle.std.specs.Prelude.{◌≡◌, ◌++◌, [], unwrap_or, slice_get, IfOk, OnOk};
+ghost use Rattle.std.specs.Fmt.{decimal};
+ghost use Rattle.gib_base.specs.Spelling.{sign_text, token_text, tokens_text};
+
+use gib_base::token::{Sign, Token};
+use gib_base::{Memory, Name, Names};
+use std::alloc::Global;
+
+/// How a word or sign is written.
+fn sign_text(sign: Sign) -> &'static [u8]
+    ensures { result.now ≡ sign_text sign }
+{
+    match sign {
+        Sign::Data => b"data",
+        Sign::Fun => b"fun",
+        Sign::Main => b"main",
+        Sign::Let => b"let",
+        Sign::Par => b"par",
+        Sign::And => b"and",
+        Sign::In => b"in",
+        Sign::If => b"if",
+        Sign::Then => b"then",
+        Sign::Else => b"else",
+        Sign::Case => b"case",
+        Sign::Of => b"of",
+        Sign::True => b"True",
+        Sign::False => b"False",
+        Sign::Int => b"Int",
+        Sign::Bool => b"Bool",
+        Sign::Equals => b"=",
+        Sign::Bar => b"|",
+        Sign::Semicolon => b";",
+        Sign::Open => b"(",
+        Sign::Close => b")",
+        Sign::Colon => b":",
+        Sign::OpenBrace => b"{",
+        Sign::CloseBrace => b"}",
+        Sign::Arrow => b"->",
+        Sign::Plus => b"+",
+        Sign::Minus => b"-",
+        Sign::Times => b"*",
+        Sign::Same => b"==",
+        Sign::Less => b"<",
+    }
+}
+
+/// The text of a name; a number that no name has stands for no text.
+fn name_text(names: &Names, name: Name) -> &[u8]
+    ensures { result.now ≡ unwrap_or (slice_get names.now name.0) [] }
+{
+    if name.0 < names.len() {
+        names.text(name)
+    } else {
+        &[]
+    }
+}
+
+/// Writes a number.
+fn push_number(alloc: Global, out: &mut Vec<u8>, value: u64) -> Result<(), Memory>
+    ensures { OnOk result (out.new.items ≡ out.old.items ++ decimal value) }
+{
+    let digits = format!(in alloc; "{value}")?;
+    out.extend_from_slice(digits.as_bytes())?;
+    Ok(())
+}
+
+/// Writes a token.
+fn push_token(alloc: Global, out: &mut Vec<u8>, names: &Names, token: Token) -> Result<(), Memory>
+    ensures { OnOk result (out.new.items ≡ out.old.items ++ token_text names.now token) }
+{
+    match token {
+        Token::Variable(name) => {
+            out.extend_from_slice(name_text(names, name))?;
+            Ok(())
+        }
+        Token::Constructor(name) => {
+            out.extend_from_slice(name_text(names, name))?;
+            Ok(())
+        }
+        Token::Number(value) => push_number(alloc, out, value),
+        Token::Sign(sign) => {
+            out.extend_from_slice(sign_text(sign))?;
+            Ok(())
+        }
+    }
+}
+
+/// Tokens with one space between two.
+pub(crate) fn text_of(alloc: Global, tokens: &[Token], names: &Names) -> Result<Vec<u8>, Memory>
+    ensures { IfOk result (λ out. out.items ≡ tokens_text names.now tokens.now) }
+{
+    let mut out = Vec::new(alloc);
+    if tokens.is_empty() {
+        return Ok(out);
+    }
+    push_token(alloc, &mut out, names, tokens[0])?;
+    for i in 1..tokens.len() {
+        out.push(b' ')?;
+        push_token(alloc, &mut out, names, tokens[i])?;
+    }
+    Ok(out)
+}
