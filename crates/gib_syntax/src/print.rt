@@ -112,8 +112,7 @@ fn put_expression(exprs: &Exprs, id: ExprId, out: &mut Spelled) -> Result<(), Me
         Node::Truth(_, value) => put_bit(*value, out),
         Node::Paren(_, inner) => {
             out.put_sign(Sign::Close)?;
-            put_expression(exprs, *inner, out)?;
-            out.put_sign(Sign::Open)
+            put_behind(exprs, Sign::Open, *inner, out)
         }
         Node::Operation {
             operator,
@@ -124,8 +123,7 @@ fn put_expression(exprs: &Exprs, id: ExprId, out: &mut Spelled) -> Result<(), Me
             out.put_sign(Sign::Close)?;
             put_expression(exprs, *right, out)?;
             put_operator(*operator, out)?;
-            put_expression(exprs, *left, out)?;
-            out.put_sign(Sign::Open)
+            put_behind(exprs, Sign::Open, *left, out)
         }
         Node::Call(name, arguments) => {
             put_arguments(exprs, id, arguments, out)?;
@@ -141,11 +139,8 @@ fn put_expression(exprs: &Exprs, id: ExprId, out: &mut Spelled) -> Result<(), Me
             body,
             ..
         } => {
-            put_expression(exprs, *body, out)?;
-            out.put_sign(Sign::In)?;
-            put_expression(exprs, *bound, out)?;
-            out.put_sign(Sign::Equals)?;
-            out.put(Token::Variable(name.name))?;
+            put_behind(exprs, Sign::In, *body, out)?;
+            put_binding(exprs, *name, *bound, out)?;
             out.put_sign(Sign::Let)
         }
         Node::LetPar {
@@ -156,11 +151,10 @@ fn put_expression(exprs: &Exprs, id: ExprId, out: &mut Spelled) -> Result<(), Me
             body,
             ..
         } => {
-            put_expression(exprs, *body, out)?;
-            out.put_sign(Sign::In)?;
-            put_side(exprs, *right_name, *right, out)?;
+            put_behind(exprs, Sign::In, *body, out)?;
+            put_binding(exprs, *right_name, *right, out)?;
             out.put_sign(Sign::And)?;
-            put_side(exprs, *left_name, *left, out)?;
+            put_binding(exprs, *left_name, *left, out)?;
             out.put_sign(Sign::Par)?;
             out.put_sign(Sign::Let)
         }
@@ -170,12 +164,9 @@ fn put_expression(exprs: &Exprs, id: ExprId, out: &mut Spelled) -> Result<(), Me
             else_part,
             ..
         } => {
-            put_expression(exprs, *else_part, out)?;
-            out.put_sign(Sign::Else)?;
-            put_expression(exprs, *then_part, out)?;
-            out.put_sign(Sign::Then)?;
-            put_expression(exprs, *condition, out)?;
-            out.put_sign(Sign::If)
+            put_behind(exprs, Sign::Else, *else_part, out)?;
+            put_behind(exprs, Sign::Then, *then_part, out)?;
+            put_behind(exprs, Sign::If, *condition, out)
         }
         Node::Case { variable, arms, .. } => {
             out.put_sign(Sign::CloseBrace)?;
@@ -188,14 +179,23 @@ fn put_expression(exprs: &Exprs, id: ExprId, out: &mut Spelled) -> Result<(), Me
     }
 }
 
-/// The binding of one side: its variable, a sign and its expression.
+/// An expression behind a word or sign.
 #[cycle(expressions)]
-fn put_side(exprs: &Exprs, name: Ident, id: ExprId, out: &mut Spelled) -> Result<(), Memory>
+fn put_behind(exprs: &Exprs, sign: Sign, id: ExprId, out: &mut Spelled) -> Result<(), Memory>
+    requires { id.0 < length exprs.now }
+    ensures { OnOk result (out.new ≡ Token.Sign sign ∷ spell (tree_of exprs.now id.0) out.old) }
+{
+    put_expression(exprs, id, out)?;
+    out.put_sign(sign)
+}
+
+/// A variable with what it is bound to.
+#[cycle(expressions)]
+fn put_binding(exprs: &Exprs, name: Ident, id: ExprId, out: &mut Spelled) -> Result<(), Memory>
     requires { id.0 < length exprs.now }
     ensures { OnOk result (out.new ≡ Token.Variable name.name ∷ Token.Sign Sign.Equals ∷ spell (tree_of exprs.now id.0) out.old) }
 {
-    put_expression(exprs, id, out)?;
-    out.put_sign(Sign::Equals)?;
+    put_behind(exprs, Sign::Equals, id, out)?;
     out.put(Token::Variable(name.name))
 }
 
@@ -225,8 +225,7 @@ fn put_arm(exprs: &Exprs, arm: &Arm, out: &mut Spelled) -> Result<(), Memory>
     requires { arm.now.body.0 < length exprs.now }
     ensures { OnOk result (out.new ≡ spell_arm (tree_of exprs.now) arm.now out.old) }
 {
-    put_expression(exprs, arm.body, out)?;
-    out.put_sign(Sign::Arrow)?;
+    put_behind(exprs, Sign::Arrow, arm.body, out)?;
     put_variables(&arm.variables, out)?;
     out.put(Token::Constructor(arm.constructor.name))
 }
@@ -299,8 +298,7 @@ fn put_body(exprs: &Exprs, ty: TypeName, body: ExprId, out: &mut Spelled) -> Res
     ensures { OnOk result (out.new ≡ spell_body ty (tree_of exprs.now body.0) out.old) }
 {
     out.put_sign(Sign::Semicolon)?;
-    put_expression(exprs, body, out)?;
-    out.put_sign(Sign::Equals)?;
+    put_behind(exprs, Sign::Equals, body, out)?;
     put_type(ty, out)?;
     out.put_sign(Sign::Colon)
 }

@@ -5,19 +5,22 @@ use Rattle.gib_syntax.specs.Printing.{spell_further}
 use Rattle.gib_syntax.proofs.print.+expressions.Given as goal
 
 abbrev pub decreases-put_expression : goal.decreases-put_expression
-decreases-put_expression l = 5 * l.id.0 + 4
+decreases-put_expression l = 6 * l.id.0 + 5
 
-abbrev pub decreases-put_side : goal.decreases-put_side
-decreases-put_side l = 5 * l.id.0 + 5
+abbrev pub decreases-put_behind : goal.decreases-put_behind
+decreases-put_behind l = 6 * l.id.0 + 6
+
+abbrev pub decreases-put_binding : goal.decreases-put_binding
+decreases-put_binding l = 6 * l.id.0 + 7
 
 abbrev pub decreases-put_arm : goal.decreases-put_arm
-decreases-put_arm l = 5 * l.arm.now.body.0 + 5
+decreases-put_arm l = 6 * l.arm.now.body.0 + 7
 
 abbrev pub decreases-put_arguments : goal.decreases-put_arguments
-decreases-put_arguments l = 5 * l.whole.0 + 1
+decreases-put_arguments l = 6 * l.whole.0 + 1
 
 abbrev pub decreases-put_arms : goal.decreases-put_arms
-decreases-put_arms l = 5 * l.whole.0 + 1
+decreases-put_arms l = 6 * l.whole.0 + 2
 
 abbrev pub invariant-put_arguments-arguments : goal.invariant-put_arguments-arguments
 invariant-put_arguments-arguments l = (l.i ≤ length l.ids) × (l.out ≡ spell_arguments (arguments_from (tree_of l.exprs) (drop l.i l.ids)) l.fn.out)
