@@ -1,6 +1,6 @@
 //! Tokens as text.
 
-ghost use Rattle.std.specs.Prelude.{◌≡◌, ◌++◌, [], unwrap_or, slice_get, IfOk, OnOk};
+ghost use Rattle.std.specs.Prelude.{◌≡◌, ◌++◌, [], ◌∷◌, unwrap_or, slice_get, IfOk, OnOk};
 ghost use Rattle.std.specs.Fmt.{decimal};
 ghost use Rattle.gib_base.specs.Spelling.{sign_text, token_text, tokens_text};
 
@@ -87,6 +87,14 @@ fn push_token(alloc: Global, out: &mut Vec<u8>, names: &Names, token: Token) -> 
     }
 }
 
+/// Writes a token behind another one: a space stands between them.
+fn push_next(alloc: Global, out: &mut Vec<u8>, names: &Names, token: Token) -> Result<(), Memory>
+    ensures { OnOk result (out.new.items ≡ (out.old.items ++ 32 ∷ []) ++ token_text names.now token) }
+{
+    out.push(b' ')?;
+    push_token(alloc, out, names, token)
+}
+
 /// Tokens with one space between two.
 pub(crate) fn text_of(alloc: Global, tokens: &[Token], names: &Names) -> Result<Vec<u8>, Memory>
     ensures { IfOk result (λ out. out.items ≡ tokens_text names.now tokens.now) }
@@ -97,8 +105,7 @@ pub(crate) fn text_of(alloc: Global, tokens: &[Token], names: &Names) -> Result<
     }
     push_token(alloc, &mut out, names, tokens[0])?;
     for i in 1..tokens.len() {
-        out.push(b' ')?;
-        push_token(alloc, &mut out, names, tokens[i])?;
+        push_next(alloc, &mut out, names, tokens[i])?;
     }
     Ok(out)
 }

@@ -6,4 +6,4 @@ pub loop-i-preserved : goal.loop-i-preserved
 loop-i-preserved c =
     let invariant = c.loop-i.invariant in
     let more = tokens_text-more c.args.names.now c.args.tokens.now c.loop-i.i (Variable (record { 0 = 0 })) c.loop-i.auto.i c.loop-i-test.true in
-    cc (c.in_ok-push_token-2.ensures, c.in_ok-push.ensures.items)
+    cc c.in_ok-push_next.ensures
