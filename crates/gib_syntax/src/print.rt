@@ -1,4 +1,6 @@
 //! Programs as text.
+//!
+//! Tokens are put from the last one to the first: each part goes before what follows it.
 
 ghost use Rattle.std.specs.Prelude.{◌≡◌, ◌<◌, [], ◌∷◌, ℕ, length, map, IfOk, OnOk};
 ghost use Rattle.std.specs.List.{AllByRecursion};
@@ -101,6 +103,7 @@ fn put_constructor(constructor: &ConstructorDecl, out: &mut Spelled) -> Result<(
     out.put(Token::Constructor(constructor.name.name))
 }
 
+/// An expression. This recurses as deep as expressions are nested, and no deeper.
 #[cycle(expressions)]
 fn put_expression(exprs: &Exprs, id: ExprId, out: &mut Spelled) -> Result<(), Memory>
     requires { id.0 < length exprs.now }
