@@ -57,7 +57,7 @@ prints_of words kept mid request before now p names e same found h =
     of_both words kept request (Puts before now) e
     (both_some (bytes_in kept request.source) (bytes_in kept request.input) (λ source. IsCompiled source p names) (λ input. (output : List ℕ) × IsOutputOf p names input output × Appends before now output) (Puts before now) found
     (let P : Option (List ℕ) → Type 0 = λ o. IfSome o (λ input. (output : List ℕ) × IsOutputOf p names input output × Appends before now output) in
-      subst P (same_bytes kept mid request.input same) h)
+    subst P (same_bytes kept mid request.input same) h)
     (puts_of before now p names))
 
 -- the same of a document's facts

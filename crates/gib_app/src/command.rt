@@ -26,7 +26,11 @@ use std::alloc::Global;
 const DEPTH: u32 = 10_000;
 
 /// The typed program of a source.
-fn load_program<'a, S: Shelf>(alloc: Global, shelf: &mut S, document: Document<'a>) -> Result<Compiled, Stop<'a>>
+fn load_program<'a, S: Shelf>(
+    alloc: Global,
+    shelf: &mut S,
+    document: Document<'a>,
+) -> Result<Compiled, Stop<'a>>
     ensures compiled { IfOk result (λ c. IfSome (bytes_in (S.kept shelf.old) (document_of document.entry)) (λ source. IsCompiled source (program_of c.typed) c.names)) }
     ensures known { IfOk result (λ c. IsFineProgram (program_of c.typed) × AreHeld (table_of_program (program_of c.typed)) c.names) }
     ensures stop { IfErr result (IsSourceStop (S.kept shelf.old) (S.read_faults shelf.old) (S.read_faults shelf.new) (document_of document.entry)) }
@@ -47,7 +51,12 @@ fn load_program<'a, S: Shelf>(alloc: Global, shelf: &mut S, document: Document<'
 }
 
 /// Puts what a program means on bytes that are the whole input.
-fn put_output<O: Sink>(alloc: Global, out: &mut O, compiled: &Compiled, input: &[u8]) -> Result<(), Stop<'static>>
+fn put_output<O: Sink>(
+    alloc: Global,
+    out: &mut O,
+    compiled: &Compiled,
+    input: &[u8],
+) -> Result<(), Stop<'static>>
     requires fine { IsFineProgram (program_of compiled.now.typed) }
     requires held { AreHeld (table_of_program (program_of compiled.now.typed)) compiled.now.names }
     requires short { length input.now ≤ FILE_BYTES }

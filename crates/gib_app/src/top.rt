@@ -16,8 +16,8 @@ use gib_file::one_file;
 use gib_lex::laws::one_reading;
 use gib_parse::law::one_program;
 use std::alloc::Global;
-use std::thread::Threads;
 use std::sync::Wait;
+use std::thread::Threads;
 
 /// The status of a stop.
 fn status_of(stop: Stop<'_>) -> Status

@@ -11,7 +11,6 @@ use Rattle.gib_syntax.specs.declared.exprs.Node.TheVariants as n
 use Rattle.gib_syntax.specs.Tree.{Expression, Arms, Paren, Op, Call, Make, Let, Par, If, Case, Argument, LastArm, NextArm}
 use Rattle.gib_syntax.specs.Arena.{IsArmBelow, ArmsBelow, PartsBelow, IsArena, arguments_from, arms_from, case_from, layer, tree_at, tree_of, Opens, Makes}
 
-
 arguments_same : (f g : ℕ → Expression) (id : ℕ) (is : List ExprId) → AllByRecursion (λ (a : ExprId). a.0 < id) is → ((a : ℕ) → a < id → f a ≡ g a) → arguments_from f is ≡ arguments_from g is
 arguments_same f g id [] h e = refl
 arguments_same f g id (i ∷ is) h e = (λ k. Argument (e i.0 h.0 k) (arguments_same f g id is h.1 e k))
@@ -81,10 +80,10 @@ put_below ns node arena below id x e =
     ⊎_elim
     (λ lt. arena.below id x (sym (slice_get_front ns (node ∷ []) id lt) ∙ e))
     (λ le.
-      let within = slice_get_within (ns ++ node ∷ []) id x e in
-      let is : length ns ≡ id = omega (arith, length-append ns (node ∷ [])) in
-      let which : node ≡ x = same_Some node x (sym (slice_get_end ns node) ∙ ap (slice_get (ns ++ node ∷ [])) is ∙ e) in
-      subst (λ (y : Node). PartsBelow y id) which (subst (PartsBelow node) is below))
+    let within = slice_get_within (ns ++ node ∷ []) id x e in
+    let is : length ns ≡ id = omega (arith, length-append ns (node ∷ [])) in
+    let which : node ≡ x = same_Some node x (sym (slice_get_end ns node) ∙ ap (slice_get (ns ++ node ∷ [])) is ∙ e) in
+    subst (λ (y : Node). PartsBelow y id) which (subst (PartsBelow node) is below))
     (order id (length ns))
 
 layer_same : (f g : ℕ → Expression) (id : ℕ) (node : Node) → PartsBelow node id → ((a : ℕ) → a < id → f a ≡ g a) → layer f (Some node) ≡ layer g (Some node)

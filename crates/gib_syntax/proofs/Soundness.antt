@@ -230,8 +230,8 @@ mutual
   eval_has g call distinct well (Case p x arms) ty scope env fine agrees h =
       case_has g call arms ty env (value_in env (number_of x)) h.0 (agrees (number_of x) (Tree h.0) h.1)
       (λ k ws own typed.
-        let there = h.2.each k own in
-        arms_have g call distinct well arms ty scope env k ws there.0 (name_at g.table k) fine agrees typed (con_found g.table h.0.0 k distinct own) there.1 h.3)
+      let there = h.2.each k own in
+      arms_have g call distinct well arms ty scope env k ws there.0 (name_at g.table k) fine agrees typed (con_found g.table h.0.0 k distinct own) there.1 h.3)
 
   arms_have : (g : Globals) (call : ℕ → List Datum → Outcome) (distinct : AreDifferent (constructor_names g.table)) (well : CallsHave g call) (arms : Arms) (ty : Ty) (scope : Scope) (env : Environment) (k : ℕ) (ws : Data) (i name : ℕ) →
       HasFine arms → Agrees g.table scope env → HaveTypes g.table ws (fields_at g.table k) → constructor_named g.table name ≡ Some k → place_of (arm_names arms) name ≡ Some i → HaveArms g scope arms ty →
@@ -246,7 +246,7 @@ mutual
       (λ hit. arm_has g call xs e ty scope h.0.1 env h.0.0 k ws (λ inner env agrees has. eval_has g call distinct well e ty inner env fine.0 agrees has)
       (made_by (constructor_named g.table (number_of c)) h.0.0 k ws h.0.2 hit) h.0.3 h.0.4 typed agrees)
       (λ miss. let further = next_arm_step (constructor_named g.table) (number_of c) name k ws i (place_of (arm_names arms) name) (number_of c == name) (eqb-true (number_of c) name) named there miss in
-        arms_have g call distinct well arms ty scope env k ws further.0 name fine.1 agrees typed named further.1 h.1)
+      arms_have g call distinct well arms ty scope env k ws further.0 name fine.1 agrees typed named further.1 h.1)
 
   all_have : (g : Globals) (call : ℕ → List Datum → Outcome) (distinct : AreDifferent (constructor_names g.table)) (well : CallsHave g call) (xs : Arguments) (ts : List Ty) (scope : Scope) (env : Environment) →
       AreFine xs → Agrees g.table scope env → HaveAll g scope xs ts → AllHave g.table ts (eval_all g.table call xs env)

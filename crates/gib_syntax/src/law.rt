@@ -13,11 +13,9 @@ ghost use Rattle.gib_syntax.specs.Meaning.{Gives, run, OutcomeHas};
 pub fn results_are_typed()
     ensures { (p : ProgramTree) (depth : ℕ) (v : Datum) → IsFineProgram p → IsTypedProgram p → HasType (table_of_program p) v (input_type p)
         → OutcomeHas (table_of_program p) (output_type p) (run p depth v) }
-{
-}
+{}
 
 /// A value that a program gives stays its value with more depth.
 pub fn more_depth_keeps_the_value()
     ensures { (p : ProgramTree) (m n : ℕ) (v result : Datum) → m ≤ n → run p m v ≡ Gives result → run p n v ≡ Gives result }
-{
-}
+{}

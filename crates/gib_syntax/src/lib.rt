@@ -7,5 +7,6 @@ pub mod tree;
 
 pub use exprs::{Arm, ExprId, Exprs, Node};
 pub use tree::{
-    ConstructorDecl, DataDecl, FunctionDecl, Ident, MainDecl, Operator, Parameter, Program, TypeName,
+    ConstructorDecl, DataDecl, FunctionDecl, Ident, MainDecl, Operator, Parameter, Program,
+    TypeName,
 };

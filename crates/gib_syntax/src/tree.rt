@@ -92,7 +92,12 @@ impl Program {
     ghost use Rattle.gib_syntax.specs.Parts.{Parts, AreInside};
 
     /// A program of these parts.
-    pub fn new(exprs: Exprs, data_decls: Vec<DataDecl>, functions: Vec<FunctionDecl>, main: MainDecl) -> Program
+    pub fn new(
+        exprs: Exprs,
+        data_decls: Vec<DataDecl>,
+        functions: Vec<FunctionDecl>,
+        main: MainDecl,
+    ) -> Program
         requires { AreInside (record { exprs = exprs; data_decls = data_decls.items; functions = functions.items; main = main }) }
         ensures { result ≡ record { exprs = exprs; data_decls = data_decls.items; functions = functions.items; main = main } }
     {
