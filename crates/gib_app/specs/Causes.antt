@@ -25,6 +25,7 @@ PutsPart before now source input = (output : List ℕ) × IsOutput source input 
 abbrev pub Prints : List (List ℕ) → Files → Option (List ℕ) → Option (List ℕ) → Type 0
 Prints words kept before now = OfBoth words kept (Puts before now)
 
+-- A front of that output was put.
 abbrev pub PrintsPart : List (List ℕ) → Files → Option (List ℕ) → Option (List ℕ) → Type 0
 PrintsPart words kept before now = OfBoth words kept (PutsPart before now)
 
