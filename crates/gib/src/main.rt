@@ -6,9 +6,8 @@ use gib_app::{Status, gib};
 use gib_edge::dir_shelf::DirShelf;
 use gib_edge::outside::{FreeGate, Sink, put_all};
 use gib_edge::std_sink::StdSink;
-use std::env;
-use std::io;
 use std::process::ExitCode;
+use std::{env, io};
 
 /// The words of the command line.
 fn words(rt: &HostRuntime) -> io::Result<Vec<String>> {
@@ -36,7 +35,15 @@ fn main(rt: HostRuntime) -> ExitCode {
         Ok(words) => {
             let mut shelf = DirShelf::new(&rt);
             let mut out = StdSink::new(rt.stdout());
-            gib(&rt, rt.alloc(), &words, &mut shelf, &mut out, &mut err, &FreeGate)
+            gib(
+                &rt,
+                rt.alloc(),
+                &words,
+                &mut shelf,
+                &mut out,
+                &mut err,
+                &FreeGate,
+            )
         }
         Err(fault) => refuse(&mut err, fault),
     };

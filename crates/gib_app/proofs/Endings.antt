@@ -17,7 +17,7 @@ use Rattle.gib_app.specs.declared.stop.Stop.{Stop}
 use Rattle.gib_app.specs.declared.stop.Stop.TheVariants.{Usage, Source, Unread, Input, Depth, Memory, Unwritten}
 use Rattle.gib_app.specs.Words.{Document, Brought, Named, Request, asked, Files, bytes_in}
 use Rattle.gib_app.specs.Running.{IsProgram, IsInput, IsOutput, IsNoProgram, IsNoInput, RunsOut, call_depth}
-use Rattle.gib_app.specs.Causes.{Counts, OfSource, OfBoth, HasRisen, GoesWell}
+use Rattle.gib_app.specs.Causes.{Counts, HasProgram, OfSource, OfBoth, HasRisen, ReadRose, GoesWell}
 use Rattle.gib_app.specs.Lines.{IsFile}
 use Rattle.gib_app.specs.Stops.{IsStop}
 use Rattle.gib_app.specs.Endings.{status_for}
@@ -27,19 +27,19 @@ has_risen : (d : Document) (before now : Counts) (name : List ℕ) → IsFile d 
 has_risen (Brought bytes) before now name is h = absurd is
 has_risen (Named file) before now name is h = let P : List ℕ → Type 0 = λ n. Rose (before n) (now n) in subst P (sym is) h
 
-risen_of : (r : Request) (before now : Counts) (name : List ℕ) → (IsFile r.source name ⊎ IsFile r.input name) → Rose (before name) (now name) → HasRisen r.source before now ⊎ HasRisen r.input before now
-risen_of r before now name (inl is) h = inl (has_risen r.source before now name is h)
-risen_of r before now name (inr is) h = inr (has_risen r.input before now name is h)
+risen_of : (kept : Files) (r : Request) (before now : Counts) (name : List ℕ) → (IsFile r.source name ⊎ (IsFile r.input name × HasProgram kept r.source)) → Rose (before name) (now name) → HasRisen r.source before now ⊎ (HasRisen r.input before now × HasProgram kept r.source)
+risen_of kept r before now name (inl is) h = inl (has_risen r.source before now name is h)
+risen_of kept r before now name (inr is) h = inr (has_risen r.input before now name is.0 h, is.1)
 
-asked_rose : (o : Option Request) (before now : Counts) (name : List ℕ) → MatchOption o ⊥ (λ r. (IsFile r.source name ⊎ IsFile r.input name) × Rose (before name) (now name)) → MatchOption o ⊥ (λ r. HasRisen r.source before now ⊎ HasRisen r.input before now)
-asked_rose None before now name h = h
-asked_rose (Some r) before now name h = risen_of r before now name h.0 h.1
+asked_rose : (kept : Files) (o : Option Request) (before now : Counts) (name : List ℕ) → MatchOption o ⊥ (λ r. (IsFile r.source name ⊎ (IsFile r.input name × HasProgram kept r.source)) × Rose (before name) (now name)) → MatchOption o ⊥ (λ r. HasRisen r.source before now ⊎ (HasRisen r.input before now × HasProgram kept r.source))
+asked_rose kept None before now name h = h
+asked_rose kept (Some r) before now name h = risen_of kept r before now name h.0 h.1
 
 pub ending_of : (words : List (List ℕ)) (kept : Files) (reads_before reads_now : Counts) (before now : Option (List ℕ)) (faults_before faults_now : ℕ) (stop : Stop) →
     IsStop words kept reads_before reads_now before now faults_before faults_now stop → IsEnding words kept reads_before reads_now before now faults_before faults_now (status_for stop)
 ending_of words kept reads_before reads_now before now faults_before faults_now Usage h = h
 ending_of words kept reads_before reads_now before now faults_before faults_now Source h = h
-ending_of words kept reads_before reads_now before now faults_before faults_now (Unread name) h = asked_rose (asked words) reads_before reads_now name.now h
+ending_of words kept reads_before reads_now before now faults_before faults_now (Unread name) h = asked_rose kept (asked words) reads_before reads_now name.now h
 ending_of words kept reads_before reads_now before now faults_before faults_now Input h = h
 ending_of words kept reads_before reads_now before now faults_before faults_now Depth h = h
 ending_of words kept reads_before reads_now before now faults_before faults_now Memory h = h
@@ -59,6 +59,15 @@ both_of words kept request source input P e f k h =
     let R : Option (List ℕ) → Type 0 = λ o. IfSome o (λ s. IfSome (bytes_in kept request.input) (λ i. P s i)) in
     let S : Option (List ℕ) → Type 0 = λ o. IfSome o (λ i. P source i) in
     subst S k (subst R f (subst Q e h))
+
+one_of : (A B C : Type 0) → (A ⊎ (B × C)) → A ⊎ B
+one_of A B C (inl a) = inl a
+one_of A B C (inr b) = inr b.0
+
+read_of : (words : List (List ℕ)) (kept : Files) (request : Request) (before now : Counts) → asked words ≡ Some request → ReadRose words kept before now → HasRisen request.source before now ⊎ HasRisen request.input before now
+read_of words kept request before now e h =
+    let Q : Option Request → Type 0 = λ o. MatchOption o ⊥ (λ r. HasRisen r.source before now ⊎ (HasRisen r.input before now × HasProgram kept r.source)) in
+    one_of (HasRisen request.source before now) (HasRisen request.input before now) (HasProgram kept request.source) (subst Q e h)
 
 -- the laws that make a program and an input one
 pub record Laws : Type 0 where
@@ -102,7 +111,7 @@ complete_ending laws words kept reads_before reads_now before now faults_before 
     absurd (no_depth laws w.source w.input w.output w.is_output (both_of words kept w.request w.source w.input RunsOut w.taken w.source_told w.input_told h))
 complete_ending laws words kept reads_before reads_now before now faults_before faults_now status.Full h w = absurd h
 complete_ending laws words kept reads_before reads_now before now faults_before faults_now status.Memory h w = inr refl
-complete_ending laws words kept reads_before reads_now before now faults_before faults_now status.ReadFault h w = absurd (w.no_read h)
+complete_ending laws words kept reads_before reads_now before now faults_before faults_now status.ReadFault h w = absurd (w.no_read (read_of words kept w.request reads_before reads_now w.taken h))
 complete_ending laws words kept reads_before reads_now before now faults_before faults_now status.WriteFault h w = absurd (w.no_write h.0)
 complete_ending laws words kept reads_before reads_now before now faults_before faults_now status.Input h w =
     absurd (no_input laws w.source w.input w.output w.is_output (both_of words kept w.request w.source w.input IsNoInput w.taken w.source_told w.input_told h))

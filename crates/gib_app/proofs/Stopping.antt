@@ -7,10 +7,10 @@ use Rattle.gib_syntax.specs.Declarations.{table_of_program}
 use Rattle.gib_app.specs.declared.stop.Stop.{Stop}
 use Rattle.gib_app.specs.declared.stop.Stop.TheVariants.{Usage, Source, Unread, Input, Depth, Memory, Unwritten}
 use Rattle.gib_app.specs.Words.{Document, Request, asked, Files, bytes_in}
-use Rattle.gib_app.specs.Running.{IsOutput, IsNoInput, RunsOut, IsCompiled}
+use Rattle.gib_app.specs.Running.{IsSource, IsOutput, IsNoInput, RunsOut, IsCompiled}
 use Rattle.gib_app.specs.Causes.{Counts, OfBoth, Puts, PutsPart, Prints}
-use Rattle.gib_app.specs.Stops.{IsUnread, IsStop, IsUnreadFile, IsOutputOf, RunsOutOn, IsNoInputOf, IsPutStop, IsInputStop, PutsOutput}
-use Rattle.gib_app.proofs.Told.{told_some, both_some, same_bytes, of_both, rose_later}
+use Rattle.gib_app.specs.Stops.{IsUnread, KeepsReads, IsStop, IsUnreadFile, IsOutputOf, RunsOutOn, IsNoInputOf, IsPutStop, IsInputStop, PutsOutput}
+use Rattle.gib_app.proofs.Told.{map_some, told_some, both_some, same_bytes, of_both, rose_later}
 
 -- a stop on the bytes of an input is one on its document
 pub stop_on_document : (p : ProgramTree) (names : List (List ℕ)) (kept : Files) (reads_before reads_now : Counts) (before now : Option (List ℕ)) (faults_before faults_now : ℕ) (d : Document) (b : List ℕ) (Q : List ℕ → Type 0) →
@@ -57,7 +57,7 @@ prints_of words kept mid request before now p names e same found h =
     of_both words kept request (Puts before now) e
     (both_some (bytes_in kept request.source) (bytes_in kept request.input) (λ source. IsCompiled source p names) (λ input. (output : List ℕ) × IsOutputOf p names input output × Appends before now output) (Puts before now) found
     (let P : Option (List ℕ) → Type 0 = λ o. IfSome o (λ input. (output : List ℕ) × IsOutputOf p names input output × Appends before now output) in
-      subst P (same_bytes kept mid request.input same) h)
+    subst P (same_bytes kept mid request.input same) h)
     (puts_of before now p names))
 
 -- the same of a document's facts
@@ -69,8 +69,23 @@ on_request words kept mid request p names D P e same found h go =
     (let R : Option (List ℕ) → Type 0 = λ o. IfSome o D in subst R (same_bytes kept mid request.input same) h)
     go)
 
-unread_of : (words : List (List ℕ)) (request : Request) (before mid now : Counts) (name : List ℕ) → asked words ≡ Some request → ((file : List ℕ) → before file ≤ mid file) → IsUnreadFile mid now request.input name → IsUnread words before now name
-unread_of words request before mid now name e later h = rw e (inr h.0, rose_later (before name) (mid name) (now name) (later name) h.1)
+unread_of : (words : List (List ℕ)) (kept : Files) (request : Request) (before mid now : Counts) (name : List ℕ) (p : ProgramTree) (names : List (List ℕ)) → asked words ≡ Some request → ((file : List ℕ) → before file ≤ mid file) →
+    IfSome (bytes_in kept request.source) (λ source. IsCompiled source p names) → IsUnreadFile mid now request.input name → IsUnread words kept before now name
+unread_of words kept request before mid now name p names e later found h =
+    rw e (
+      inr (h.0, map_some (bytes_in kept request.source) (λ source. IsCompiled source p names) IsSource found (λ source c. (c.lexed, p, c.is_program))),
+      rose_later (before name) (mid name) (now name) (later name) h.1,
+    )
+
+-- counts that stay in both parts of a run stay
+pub reads_kept : (before mid now : Counts) → ((name : List ℕ) → mid name ≡ before name) → (stop : Stop) → KeepsReads mid now stop → KeepsReads before now stop
+reads_kept before mid now e Usage h = λ name. h name ∙ e name
+reads_kept before mid now e Source h = λ name. h name ∙ e name
+reads_kept before mid now e (Unread file) h = h
+reads_kept before mid now e Input h = λ name. h name ∙ e name
+reads_kept before mid now e Depth h = λ name. h name ∙ e name
+reads_kept before mid now e Memory h = λ name. h name ∙ e name
+reads_kept before mid now e Unwritten h = λ name. h name ∙ e name
 
 pub stop_of : (words : List (List ℕ)) (kept mid : Files) (request : Request) (reads_before reads_mid reads_now : Counts) (before now : Option (List ℕ)) (faults_before faults_now : ℕ) (p : ProgramTree) (names : List (List ℕ)) →
     asked words ≡ Some request → ((name : List ℕ) → mid name ≡ kept name) → ((name : List ℕ) → reads_before name ≤ reads_mid name) →
@@ -80,7 +95,7 @@ pub stop_of : (words : List (List ℕ)) (kept mid : Files) (request : Request) (
 stop_of words kept mid request reads_before reads_mid reads_now before now faults_before faults_now p names e same later found Usage h = absurd h
 stop_of words kept mid request reads_before reads_mid reads_now before now faults_before faults_now p names e same later found Source h = absurd h
 stop_of words kept mid request reads_before reads_mid reads_now before now faults_before faults_now p names e same later found (Unread name) h =
-    unread_of words request reads_before reads_mid reads_now name.now e later h
+    unread_of words kept request reads_before reads_mid reads_now name.now p names e later found h
 stop_of words kept mid request reads_before reads_mid reads_now before now faults_before faults_now p names e same later found Input h =
     on_request words kept mid request p names (IsNoInputOf p) IsNoInput e same found h (no_input_of p names)
 stop_of words kept mid request reads_before reads_mid reads_now before now faults_before faults_now p names e same later found Depth h =

@@ -17,6 +17,10 @@ pub told_some : (o : Option (List ℕ)) (b : List ℕ) (Q P : List ℕ → Type 
 told_some None b Q P h p = tt {0}
 told_some (Some a) b Q P h p = subst P h.0 p
 
+pub map_some : (o : Option (List ℕ)) (Q P : List ℕ → Type 0) → IfSome o Q → ((a : List ℕ) → Q a → P a) → IfSome o P
+map_some None Q P h k = tt {0}
+map_some (Some a) Q P h k = k a h
+
 -- what holds of the source and of the input, where each is told, holds of both
 pub both_some : (o i : Option (List ℕ)) (C D : List ℕ → Type 0) (P : List ℕ → List ℕ → Type 0) → IfSome o C → IfSome i D → ((source input : List ℕ) → C source → D input → P source input) → IfSome o (λ source. IfSome i (λ input. P source input))
 both_some None i C D P h k go = tt {0}

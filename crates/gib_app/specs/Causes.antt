@@ -2,7 +2,7 @@
 use Rattle.std.specs.Prelude.{◌≡◌, ℕ, ◌⊎◌, List, Option, Some, IfSome, MatchOption}
 use Rattle.gib_edge.specs.Causes.{Rose, Appends, AppendsPart}
 use Rattle.gib_app.specs.Words.{Document, Brought, Named, Request, asked, Files, bytes_in}
-use Rattle.gib_app.specs.Running.{IsOutput}
+use Rattle.gib_app.specs.Running.{IsSource, IsOutput}
 
 -- The words are taken, and this holds of the source, where it is told.
 abbrev pub OfSource : List (List ℕ) → Files → (List ℕ → Type 0) → Type 0
@@ -25,6 +25,7 @@ PutsPart before now source input = (output : List ℕ) × IsOutput source input 
 abbrev pub Prints : List (List ℕ) → Files → Option (List ℕ) → Option (List ℕ) → Type 0
 Prints words kept before now = OfBoth words kept (Puts before now)
 
+-- A front of that output was put.
 abbrev pub PrintsPart : List (List ℕ) → Files → Option (List ℕ) → Option (List ℕ) → Type 0
 PrintsPart words kept before now = OfBoth words kept (PutsPart before now)
 
@@ -37,9 +38,15 @@ abbrev pub HasRisen : Document → Counts → Counts → Type 0
 HasRisen (Brought bytes) before now = ⊥
 HasRisen (Named name) before now = Rose (before name) (now name)
 
--- A count of one of the files that the words ask to read rose.
-abbrev pub ReadRose : List (List ℕ) → Counts → Counts → Type 0
-ReadRose words before now = MatchOption (asked words) ⊥ (λ request. HasRisen request.source before now ⊎ HasRisen request.input before now)
+-- The source, where it is told, is a program.
+abbrev pub HasProgram : Files → Document → Type 0
+HasProgram kept document = IfSome (bytes_in kept document) IsSource
+
+-- A count of one of the files that the words ask to read rose: that of the source, or else that of the input,
+-- and the source is a program where it is told.
+abbrev pub ReadRose : List (List ℕ) → Files → Counts → Counts → Type 0
+ReadRose words kept before now =
+    MatchOption (asked words) ⊥ (λ request. HasRisen request.source before now ⊎ (HasRisen request.input before now × HasProgram kept request.source))
 
 -- The words are taken, both documents are told, the program means a value on the input, and no count rose.
 pub record GoesWell (words : List (List ℕ)) (kept : Files) (reads_before reads_now : Counts) (faults_before faults_now : ℕ) : Type 0 where
@@ -51,5 +58,5 @@ pub record GoesWell (words : List (List ℕ)) (kept : Files) (reads_before reads
   pub source_told : bytes_in kept request.source ≡ Some source
   pub input_told : bytes_in kept request.input ≡ Some input
   pub is_output : IsOutput source input output
-  pub no_read : ReadRose words reads_before reads_now → ⊥
+  pub no_read : (HasRisen request.source reads_before reads_now ⊎ HasRisen request.input reads_before reads_now) → ⊥
   pub no_write : Rose faults_before faults_now → ⊥

@@ -3,6 +3,7 @@ use Rattle.std.specs.Prelude.{ℕ}
 use Rattle.gib_app.specs.declared.status.Status.{Status}
 use Rattle.gib_app.specs.declared.status.Status.TheVariants.{Done, Source, Usage, Depth, Full, Memory, ReadFault, WriteFault, Input}
 
+-- From 0 on, in this order.
 abbrev pub code_of : Status → ℕ
 code_of Done = 0
 code_of Source = 1

@@ -17,9 +17,33 @@ IsEnding words kept reads_before reads_now before now faults_before faults_now U
 IsEnding words kept reads_before reads_now before now faults_before faults_now Depth = OfBoth words kept RunsOut
 IsEnding words kept reads_before reads_now before now faults_before faults_now Full = ⊥
 IsEnding words kept reads_before reads_now before now faults_before faults_now Memory = Unit {0}
-IsEnding words kept reads_before reads_now before now faults_before faults_now ReadFault = ReadRose words reads_before reads_now
+IsEnding words kept reads_before reads_now before now faults_before faults_now ReadFault = ReadRose words kept reads_before reads_now
 IsEnding words kept reads_before reads_now before now faults_before faults_now WriteFault = Rose faults_before faults_now × PrintsPart words kept before now
 IsEnding words kept reads_before reads_now before now faults_before faults_now Input = OfBoth words kept IsNoInput
+
+-- Counts of reads stay, but where a file could not be read.
+abbrev pub ReadsStay : Counts → Counts → Status → Type 0
+ReadsStay before now Done = (name : List ℕ) → now name ≡ before name
+ReadsStay before now Source = (name : List ℕ) → now name ≡ before name
+ReadsStay before now Usage = (name : List ℕ) → now name ≡ before name
+ReadsStay before now Depth = (name : List ℕ) → now name ≡ before name
+ReadsStay before now Full = (name : List ℕ) → now name ≡ before name
+ReadsStay before now Memory = (name : List ℕ) → now name ≡ before name
+ReadsStay before now ReadFault = Unit {0}
+ReadsStay before now WriteFault = (name : List ℕ) → now name ≡ before name
+ReadsStay before now Input = (name : List ℕ) → now name ≡ before name
+
+-- The sink's count of faults stays, but where it refused some of the output.
+abbrev pub FaultsStay : ℕ → ℕ → Status → Type 0
+FaultsStay before now Done = now ≡ before
+FaultsStay before now Source = now ≡ before
+FaultsStay before now Usage = now ≡ before
+FaultsStay before now Depth = now ≡ before
+FaultsStay before now Full = now ≡ before
+FaultsStay before now Memory = now ≡ before
+FaultsStay before now ReadFault = now ≡ before
+FaultsStay before now WriteFault = Unit {0}
+FaultsStay before now Input = now ≡ before
 
 -- With every status but two the sink took nothing.
 abbrev pub IsQuiet : Option (List ℕ) → Option (List ℕ) → Status → Type 0

@@ -36,6 +36,10 @@ pub record IsOutput (source input output : List ℕ) : Type 0 where
   pub means : run program call_depth value ≡ Gives result
   pub is_text : output ≡ text (table_of_program program) lexed.names result ++ 10 ∷ []
 
+-- The source is a program.
+abbrev pub IsSource : List ℕ → Type 0
+IsSource source = (lexed : Lexed) × (p : ProgramTree) × IsProgram source lexed p
+
 -- The source is no program: it is too long, spells none, or is not typed.
 abbrev pub IsNoProgram : List ℕ → Type 0
 IsNoProgram source = (lexed : Lexed) (p : ProgramTree) → IsProgram source lexed p → ⊥

@@ -10,19 +10,21 @@ use Rattle.gib_app.specs.declared.stop.Stop.{Stop}
 use Rattle.gib_app.specs.declared.stop.Stop.TheVariants.{Usage, Source, Unread, Input, Depth, Memory, Unwritten}
 use Rattle.gib_app.specs.Words.{Document, asked, Files, bytes_in}
 use Rattle.gib_app.specs.Running.{IsInput, call_depth, IsNoProgram, IsNoInput, RunsOut}
-use Rattle.gib_app.specs.Causes.{Counts, OfSource, OfBoth, PrintsPart}
+use Rattle.gib_app.specs.Causes.{Counts, HasProgram, OfSource, OfBoth, PrintsPart}
 use Rattle.gib_app.specs.Lines.{IsFile}
 
--- A file that the words ask to read, and whose count of faults rose, has this name.
-abbrev pub IsUnread : List (List ℕ) → Counts → Counts → List ℕ → Type 0
-IsUnread words before now name =
-    MatchOption (asked words) ⊥ (λ request. (IsFile request.source name ⊎ IsFile request.input name) × Rose (before name) (now name))
+-- The file of this name could not be read: it is the source, or else the input, and the source is a program where
+-- it is told; the count of its faults rose.
+abbrev pub IsUnread : List (List ℕ) → Files → Counts → Counts → List ℕ → Type 0
+IsUnread words kept before now name =
+    MatchOption (asked words) ⊥
+    (λ request. (IsFile request.source name ⊎ (IsFile request.input name × HasProgram kept request.source)) × Rose (before name) (now name))
 
 -- Each stop by its cause.
 abbrev pub IsStop : List (List ℕ) → Files → Counts → Counts → Option (List ℕ) → Option (List ℕ) → ℕ → ℕ → Stop → Type 0
 IsStop words kept reads_before reads_now before now faults_before faults_now Usage = asked words ≡ None
 IsStop words kept reads_before reads_now before now faults_before faults_now Source = OfSource words kept IsNoProgram
-IsStop words kept reads_before reads_now before now faults_before faults_now (Unread name) = IsUnread words reads_before reads_now name.now
+IsStop words kept reads_before reads_now before now faults_before faults_now (Unread name) = IsUnread words kept reads_before reads_now name.now
 IsStop words kept reads_before reads_now before now faults_before faults_now Input = OfBoth words kept IsNoInput
 IsStop words kept reads_before reads_now before now faults_before faults_now Depth = OfBoth words kept RunsOut
 IsStop words kept reads_before reads_now before now faults_before faults_now Memory = Unit {0}
@@ -37,6 +39,26 @@ IsSilent before now Input = now ≡ before
 IsSilent before now Depth = now ≡ before
 IsSilent before now Memory = now ≡ before
 IsSilent before now Unwritten = Unit {0}
+
+-- Counts of reads stay, unless a file could not be read.
+abbrev pub KeepsReads : Counts → Counts → Stop → Type 0
+KeepsReads before now Usage = (name : List ℕ) → now name ≡ before name
+KeepsReads before now Source = (name : List ℕ) → now name ≡ before name
+KeepsReads before now (Unread file) = Unit {0}
+KeepsReads before now Input = (name : List ℕ) → now name ≡ before name
+KeepsReads before now Depth = (name : List ℕ) → now name ≡ before name
+KeepsReads before now Memory = (name : List ℕ) → now name ≡ before name
+KeepsReads before now Unwritten = (name : List ℕ) → now name ≡ before name
+
+-- The sink's count of faults stays, unless it refused some of the output.
+abbrev pub KeepsFaults : ℕ → ℕ → Stop → Type 0
+KeepsFaults before now Usage = now ≡ before
+KeepsFaults before now Source = now ≡ before
+KeepsFaults before now (Unread file) = now ≡ before
+KeepsFaults before now Input = now ≡ before
+KeepsFaults before now Depth = now ≡ before
+KeepsFaults before now Memory = now ≡ before
+KeepsFaults before now Unwritten = Unit {0}
 
 -- The document is the file of this name, and the count of its faults rose.
 abbrev pub IsUnreadFile : Counts → Counts → Document → List ℕ → Type 0

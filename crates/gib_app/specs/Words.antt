@@ -29,6 +29,7 @@ is_option (b ∷ rest) = b == 45
 abbrev pub sample : Request
 sample = record { source = Brought sample_source; input = Brought sample_input }
 
+-- `run` and the names of two files.
 abbrev pub run_asked : List ℕ → List ℕ → List ℕ → Option Request
 run_asked command source input =
     if bytes_eq command (codes "run") && (not (is_option source) && not (is_option input)) then Some (record { source = Named source; input = Named input }) else None

@@ -10,7 +10,7 @@ ghost use Rattle.gib_app.specs.Words.{bytes_of, bytes_in};
 ghost use Rattle.gib_app.specs.Requests.{document_of};
 ghost use Rattle.gib_app.specs.Running.{IsCompiled};
 ghost use Rattle.gib_app.specs.Causes.{Prints};
-ghost use Rattle.gib_app.specs.Stops.{IsStop, IsSilent, IsSourceStop, IsPutStop, IsInputStop, IsOutputOf, PutsOutput};
+ghost use Rattle.gib_app.specs.Stops.{IsStop, IsSilent, IsSourceStop, KeepsReads, KeepsFaults, IsPutStop, IsInputStop, IsOutputOf, PutsOutput};
 
 use crate::compile::{Compiled, SourceFault, compile};
 use crate::documents::{DocumentFault, read_document};
@@ -26,12 +26,19 @@ use std::alloc::Global;
 const DEPTH: u32 = 10_000;
 
 /// The typed program of a source.
-fn load_program<'a, S: Shelf>(alloc: Global, shelf: &mut S, document: Document<'a>) -> Result<Compiled, Stop<'a>>
+fn load_program<'a, S: Shelf>(
+    alloc: Global,
+    shelf: &mut S,
+    document: Document<'a>,
+) -> Result<Compiled, Stop<'a>>
     ensures compiled { IfOk result (λ c. IfSome (bytes_in (S.kept shelf.old) (document_of document.entry)) (λ source. IsCompiled source (program_of c.typed) c.names)) }
     ensures known { IfOk result (λ c. IsFineProgram (program_of c.typed) × AreHeld (table_of_program (program_of c.typed)) c.names) }
     ensures stop { IfErr result (IsSourceStop (S.kept shelf.old) (S.read_faults shelf.old) (S.read_faults shelf.new) (document_of document.entry)) }
     ensures same { (name : List ℕ) → S.kept shelf.new name ≡ S.kept shelf.old name }
     ensures later { (name : List ℕ) → S.read_faults shelf.old name ≤ S.read_faults shelf.new name }
+    ensures writes { (name : List ℕ) → S.write_faults shelf.new name ≡ S.write_faults shelf.old name }
+    ensures reads { OnOk result ((name : List ℕ) → S.read_faults shelf.new name ≡ S.read_faults shelf.old name) }
+    ensures kept_reads { IfErr result (KeepsReads (S.read_faults shelf.old) (S.read_faults shelf.new)) }
 {
     let source = match read_document(shelf, alloc, document, SOURCE_BYTES) {
         Ok(source) => source,
@@ -47,13 +54,20 @@ fn load_program<'a, S: Shelf>(alloc: Global, shelf: &mut S, document: Document<'
 }
 
 /// Puts what a program means on bytes that are the whole input.
-fn put_output<O: Sink>(alloc: Global, out: &mut O, compiled: &Compiled, input: &[u8]) -> Result<(), Stop<'static>>
+fn put_output<O: Sink>(
+    alloc: Global,
+    out: &mut O,
+    compiled: &Compiled,
+    input: &[u8],
+) -> Result<(), Stop<'static>>
     requires fine { IsFineProgram (program_of compiled.now.typed) }
     requires held { AreHeld (table_of_program (program_of compiled.now.typed)) compiled.now.names }
     requires short { length input.now ≤ FILE_BYTES }
     ensures done { OnOk result ((output : List ℕ) × IsOutputOf (program_of compiled.now.typed) compiled.now.names input.now output × Appends (O.taken out.old) (O.taken out.new) output) }
     ensures stop { IfErr result (IsPutStop (program_of compiled.now.typed) compiled.now.names (O.taken out.old) (O.taken out.new) (O.faults out.old) (O.faults out.new) input.now) }
     ensures silent { IfErr result (IsSilent (O.taken out.old) (O.taken out.new)) }
+    ensures faults { OnOk result (O.faults out.new ≡ O.faults out.old) }
+    ensures kept_faults { IfErr result (KeepsFaults (O.faults out.old) (O.faults out.new)) }
 {
     let value = match read_input(alloc, &compiled.typed, input) {
         Ok(value) => value,
@@ -84,7 +98,13 @@ fn put_meaning<'a, S: Shelf, O: Sink>(
     ensures done { OnOk result (PutsOutput (program_of compiled.now.typed) compiled.now.names (S.kept shelf.old) (O.taken out.old) (O.taken out.new) (document_of document.entry)) }
     ensures stop { IfErr result (IsInputStop (program_of compiled.now.typed) compiled.now.names (S.kept shelf.old) (S.read_faults shelf.old) (S.read_faults shelf.new) (O.taken out.old) (O.taken out.new) (O.faults out.old) (O.faults out.new) (document_of document.entry)) }
     ensures silent { IfErr result (IsSilent (O.taken out.old) (O.taken out.new)) }
+    ensures faults { OnOk result (O.faults out.new ≡ O.faults out.old) }
+    ensures kept_faults { IfErr result (KeepsFaults (O.faults out.old) (O.faults out.new)) }
     ensures same { (name : List ℕ) → S.kept shelf.new name ≡ S.kept shelf.old name }
+    ensures later { (name : List ℕ) → S.read_faults shelf.old name ≤ S.read_faults shelf.new name }
+    ensures writes { (name : List ℕ) → S.write_faults shelf.new name ≡ S.write_faults shelf.old name }
+    ensures reads { OnOk result ((name : List ℕ) → S.read_faults shelf.new name ≡ S.read_faults shelf.old name) }
+    ensures kept_reads { IfErr result (KeepsReads (S.read_faults shelf.old) (S.read_faults shelf.new)) }
 {
     let input = match read_document(shelf, alloc, document, FILE_BYTES) {
         Ok(input) => input,
@@ -105,7 +125,13 @@ pub fn run<'a, S: Shelf, O: Sink>(
     ensures done { OnOk result (Prints (bytes_of words.now) (S.kept shelf.old) (O.taken out.old) (O.taken out.new)) }
     ensures stop { IfErr result (IsStop (bytes_of words.now) (S.kept shelf.old) (S.read_faults shelf.old) (S.read_faults shelf.new) (O.taken out.old) (O.taken out.new) (O.faults out.old) (O.faults out.new)) }
     ensures silent { IfErr result (IsSilent (O.taken out.old) (O.taken out.new)) }
+    ensures faults { OnOk result (O.faults out.new ≡ O.faults out.old) }
+    ensures kept_faults { IfErr result (KeepsFaults (O.faults out.old) (O.faults out.new)) }
     ensures same { (name : List ℕ) → S.kept shelf.new name ≡ S.kept shelf.old name }
+    ensures later { (name : List ℕ) → S.read_faults shelf.old name ≤ S.read_faults shelf.new name }
+    ensures writes { (name : List ℕ) → S.write_faults shelf.new name ≡ S.write_faults shelf.old name }
+    ensures reads { OnOk result ((name : List ℕ) → S.read_faults shelf.new name ≡ S.read_faults shelf.old name) }
+    ensures kept_reads { IfErr result (KeepsReads (S.read_faults shelf.old) (S.read_faults shelf.new)) }
 {
     let Some(request) = read_words(words) else {
         return Err(Stop::Usage);

@@ -32,6 +32,7 @@ pub fn read_document<'a, S: Shelf>(
     ensures faults { IfErr result (IsDocumentFault (S.kept shelf.old) (S.read_faults shelf.old) (S.read_faults shelf.new) (document_of document.entry) most) }
     ensures same { (name : List ℕ) → S.kept shelf.new name ≡ S.kept shelf.old name }
     ensures later { (name : List ℕ) → S.read_faults shelf.old name ≤ S.read_faults shelf.new name }
+    ensures writes { (name : List ℕ) → S.write_faults shelf.new name ≡ S.write_faults shelf.old name }
     ensures quiet { IfOk result (λ _. (name : List ℕ) → S.read_faults shelf.new name ≡ S.read_faults shelf.old name) }
 {
     match document {

@@ -23,7 +23,12 @@ pub enum RunFault {
 }
 
 /// The text of the value that a program means, with a line feed.
-pub fn evaluate(alloc: Global, compiled: &Compiled, value: Value, depth: u32) -> Result<Vec<u8>, RunFault>
+pub fn evaluate(
+    alloc: Global,
+    compiled: &Compiled,
+    value: Value,
+    depth: u32,
+) -> Result<Vec<u8>, RunFault>
     requires fine { IsFineProgram (program_of compiled.now.typed) }
     requires typed { HasType (table_of_program (program_of compiled.now.typed)) value (input_type (program_of compiled.now.typed)) }
     requires held { AreHeld (table_of_program (program_of compiled.now.typed)) compiled.now.names }

@@ -5,7 +5,7 @@ ghost use Rattle.gib_edge.specs.Causes.{Rose, HasCause, Appends};
 ghost use Rattle.gib_app.specs.Words.{bytes_of};
 ghost use Rattle.gib_app.specs.Causes.{GoesWell};
 ghost use Rattle.gib_app.specs.Lines.{IsLine};
-ghost use Rattle.gib_app.specs.Ending.{IsEnding, IsQuiet};
+ghost use Rattle.gib_app.specs.Ending.{IsEnding, IsQuiet, ReadsStay, FaultsStay};
 ghost use Rattle.gib_app.specs.Endings.{status_for, words_for, name_for, line_for};
 
 use crate::command::run;
@@ -16,8 +16,8 @@ use gib_file::one_file;
 use gib_lex::laws::one_reading;
 use gib_parse::law::one_program;
 use std::alloc::Global;
-use std::thread::Threads;
 use std::sync::Wait;
+use std::thread::Threads;
 
 /// The status of a stop.
 fn status_of(stop: Stop<'_>) -> Status
@@ -96,6 +96,12 @@ pub fn gib<R: Threads + Wait + Sync, S: Shelf, O: Sink, E: Sink, G: Gate + Sync>
     ensures cause { IsEnding (bytes_of words.now) (S.kept shelf.old) (S.read_faults shelf.old) (S.read_faults shelf.new) (O.taken out.old) (O.taken out.new) (O.faults out.old) (O.faults out.new) result }
     ensures quiet { IsQuiet (O.taken out.old) (O.taken out.new) result }
     ensures same { (name : List ℕ) → S.kept shelf.new name ≡ S.kept shelf.old name }
+
+    // Counts of faults never fall, and rise only with the status that tells of them.
+    ensures later { (name : List ℕ) → S.read_faults shelf.old name ≤ S.read_faults shelf.new name }
+    ensures reads { ReadsStay (S.read_faults shelf.old) (S.read_faults shelf.new) result }
+    ensures writes { (name : List ℕ) → S.write_faults shelf.new name ≡ S.write_faults shelf.old name }
+    ensures faults { FaultsStay (O.faults out.old) (O.faults out.new) result }
 
     // Where all goes well the output is put, unless memory runs out.
     ensures complete { GoesWell (bytes_of words.now) (S.kept shelf.old) (S.read_faults shelf.old) (S.read_faults shelf.new) (O.faults out.old) (O.faults out.new) → (result ≡ Status.Done) ⊎ (result ≡ Status.Memory) }

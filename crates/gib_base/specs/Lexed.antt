@@ -55,6 +55,7 @@ name_in piece.Constructor text = text ∷ []
 name_in (piece.Number n) text = []
 name_in piece.TooBig text = []
 
+-- The name that a part is, where it is one.
 abbrev pub name_at : Part → List (List ℕ)
 name_at p = name_in (piece_of p.text) p.text
 
@@ -71,6 +72,7 @@ token_in piece.Constructor number = token.Constructor (record { 0 = number }) �
 token_in (piece.Number n) number = token.Number n ∷ []
 token_in piece.TooBig number = []
 
+-- The token of a part, where it is one, with the names by their numbers.
 abbrev pub token_at : List (List ℕ) → Part → List Token
 token_at names p = token_in (piece_of p.text) (number_of names p.text)
 
@@ -83,6 +85,7 @@ span_in piece.Constructor span = span ∷ []
 span_in (piece.Number n) span = span ∷ []
 span_in piece.TooBig span = []
 
+-- The span of a part, where it is a token.
 abbrev pub span_at : Part → List Span
 span_at p = span_in (piece_of p.text) (record { start = p.start; end = p.start + length p.text })
 

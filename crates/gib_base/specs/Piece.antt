@@ -29,6 +29,7 @@ pub data Class : Type 0 where
   Single : Class
   Other : Class
 
+-- The class of a byte, by the first of these tests that it passes.
 abbrev pub class_of : ℕ → Class
 class_of b =
     if is_blank b then Blank

@@ -90,6 +90,7 @@ single_of b =
     else (if b == 42 then sign.Times
     else sign.Less))))))))
 
+-- What a piece of a class is, by its first byte and the bytes behind it; no piece is of class `Other`.
 abbrev pub piece_in : Class → ℕ → List ℕ → Piece
 piece_in Blank b rest = piece.Gap
 piece_in Letter b rest = name_piece b (word_of (b ∷ rest))

@@ -7,11 +7,12 @@ use Rattle.gib_check.specs.declared.fault.TypeFault.TheVariants as t
 use Rattle.gib_check.specs.declared.rules.Variable.{Variable}
 use Rattle.gib_check.specs.Faults.{Checked}
 
--- The answer is that of the rules, unless memory ran out.
+-- A refusal is that of the rules, unless memory ran out.
 abbrev pub IsFaultOf : {B : Type 0} → TypeFault → Checked B → Type 0
 IsFaultOf t.Memory checked = Unit {0}
 IsFaultOf (t.Broken fault) checked = checked ≡ Err fault
 
+-- The answer, in this view, is what the rules give, unless memory ran out.
 abbrev pub Gives : {A B : Type 0} → (A → B) → Result A TypeFault → Checked B → Type 0
 Gives view (Ok x) checked = checked ≡ Ok (view x)
 Gives view (Err e) checked = IsFaultOf e checked

@@ -14,7 +14,7 @@ pub record IsChecked (parts : Parts) (table : Table) : Type 0 where
   pub typed : IsTypedProgram (program_of parts)
   pub types : table ≡ table_of_program (program_of parts)
 
--- No rule is refused.
+-- The refusal is for want of memory, and not for a rule.
 abbrev pub IsMemory : TypeFault → Type 0
 IsMemory t.Memory = Unit {0}
 IsMemory (t.Broken fault) = ⊥

@@ -58,13 +58,15 @@ new_variable scope n x =
     and_then (allowed (is_none (type_in scope (number_of x))) kind.Twice x.span (tt {0}))
     (λ _. allowed (nat_lt n.variables 200) kind.Limit x.span (record n { variables = n.variables + 1 }))
 
--- `Unknown`: the type of a variable, a function, a constructor.
+-- `Unknown`: the type of a variable.
 abbrev pub variable : Scope → Ident → Checked Ty
 variable scope x = found (type_in scope (number_of x)) kind.Unknown x.span
 
+-- `Unknown`: the function of a name.
 abbrev pub function : List FunctionTree → Ident → Checked FunctionTree
 function functions f = found (function_named functions (number_of f)) kind.Unknown f.span
 
+-- `Unknown`: the number of the constructor of a name.
 abbrev pub constructor : Table → Ident → Checked ℕ
 constructor table k = found (constructor_named table (number_of k)) kind.Unknown k.span
 
@@ -99,11 +101,12 @@ abbrev pub all_of : Ty → List Part → Checked (Unit {0})
 all_of t [] = Ok (tt {0})
 all_of t (part ∷ parts) = and_then (wanted t part) (λ _. all_of t parts)
 
+-- How many arguments there are.
 abbrev pub argument_count : Arguments → ℕ
 argument_count NoArgument = 0
 argument_count (Argument a xs) = argument_count xs + 1
 
--- `Shape`: the declared type of a variable, `Shape` at the variable where it has none.
+-- `Shape`: the number of a variable's type, where that is a declared one; the fault is at the variable.
 abbrev pub declared_type : Ty → Ident → Checked ℕ
 declared_type Whole x = Err (record { kind = kind.Shape; span = x.span })
 declared_type Truth x = Err (record { kind = kind.Shape; span = x.span })
@@ -114,6 +117,7 @@ pub record ArmHead : Type 0 where
   pub constructor : Ident
   pub variables : List Ident
 
+-- The heads of arms, in the order of the text.
 abbrev pub heads : Arms → List ArmHead
 heads (LastArm k xs e) = record { constructor = k; variables = xs } ∷ []
 heads (NextArm k xs e arms) = record { constructor = k; variables = xs } ∷ heads arms
@@ -156,6 +160,7 @@ abbrev pub fields_if : Table → Option ℕ → List Ty
 fields_if table None = []
 fields_if table (Some c) = fields_at table c
 
+-- The types of the fields of the constructor of a name, none where it is not declared.
 abbrev pub fields_named : Table → Ident → List Ty
 fields_named table k = fields_if table (constructor_named table (number_of k))
 

@@ -34,11 +34,12 @@ type_place (ty.Whole p) = p
 type_place (ty.Truth p) = p
 type_place (ty.Declared x) = x.span
 
--- `Limit`: at most eight fields; the type of the ninth one is named.
+-- `Limit`: there is no ninth field; the fault is at its type.
 abbrev pub no_ninth : Option TypeName → Checked (Unit {0})
 no_ninth None = Ok (tt {0})
 no_ninth (Some ninth) = Err (record { kind = kind.Limit; span = type_place ninth })
 
+-- `Limit`: at most eight fields.
 abbrev pub few_fields : List TypeName → Checked (Unit {0})
 few_fields fields = no_ninth (slice_get fields 8)
 
@@ -68,10 +69,12 @@ abbrev pub check_types : List ℕ → List TypeName → Checked (Unit {0})
 check_types types [] = Ok (tt {0})
 check_types types (a ∷ as') = and_then (known types a) (λ _. check_types types as')
 
+-- Field types of constructors, in the order of the text.
 abbrev pub check_constructor_fields : List ℕ → List ConstructorTree → Checked (Unit {0})
 check_constructor_fields types [] = Ok (tt {0})
 check_constructor_fields types (c ∷ cs) = and_then (check_types types c.fields) (λ _. check_constructor_fields types cs)
 
+-- Field types of declared types, in the order of the text.
 abbrev pub check_fields : List ℕ → List DataTree → Checked (Unit {0})
 check_fields types [] = Ok (tt {0})
 check_fields types (d ∷ ds) = and_then (check_constructor_fields types d.constructors) (λ _. check_fields types ds)
@@ -84,6 +87,7 @@ check_parameters types scope n (q ∷ qs) =
     (λ m. and_then (known types q.ty)
     (λ t. check_parameters types (bound q.name t scope) m qs))
 
+-- No variable and no expression was met yet.
 abbrev pub nothing_met : Counts
 nothing_met = record { variables = 0; expressions = 0 }
 
@@ -113,6 +117,7 @@ check_body g parameters result body =
     and_then (infer g (with_parameters g.table.types parameters []) (record { variables = length parameters; expressions = 0 }) body)
     (λ r. wanted (type_of_name g.table.types result) (record { ty = r.0; place = place body }))
 
+-- Bodies of functions, in the order of the text.
 abbrev pub check_bodies : Globals → List FunctionTree → Checked (Unit {0})
 check_bodies g [] = Ok (tt {0})
 check_bodies g (f ∷ fs) = and_then (check_body g f.parameters f.result f.body) (λ _. check_bodies g fs)
@@ -132,6 +137,7 @@ check_program p =
     (λ _. and_then (check_bodies (globals_of p) p.functions)
     (λ _. check_body (globals_of p) (p.main.parameter ∷ []) p.main.result p.main.body))
 
+-- The fault, where a rule is broken.
 abbrev pub fault_in : Checked (Unit {0}) → Option Fault
 fault_in (Ok x) = None
 fault_in (Err fault) = Some fault

@@ -12,15 +12,19 @@ use Rattle.gib_check.specs.declared.counts.Counts.{Counts}
 use Rattle.gib_check.specs.declared.rules.Part.{Part}
 use Rattle.gib_check.specs.Faults.{Checked, and_then, place, ArmHead, infer, infer_arm}
 
+-- The table of a program's types and constructors.
 abbrev pub table_in : Parts → Table
 table_in parts = table_of_program (program_of parts)
 
+-- The names of a program's declared types.
 abbrev pub types_in : Parts → List ℕ
 types_in parts = type_names (program_of parts)
 
+-- What the bodies of a program may name besides their variables.
 abbrev pub globals_in : Parts → Globals
 globals_in parts = globals_of (program_of parts)
 
+-- The functions of a program, as trees.
 abbrev pub functions_in : Parts → List FunctionTree
 functions_in parts = (program_of parts).functions
 
@@ -28,16 +32,19 @@ functions_in parts = (program_of parts).functions
 abbrev pub tree_in : Parts → ℕ → Expression
 tree_in parts id = tree_of parts.exprs id
 
+-- The number of a function's name.
 abbrev pub function_number : FunctionDecl → ℕ
 function_number d = number_of d.name
 
+-- The number of a declared type's name.
 abbrev pub tree_number : DataTree → ℕ
 tree_number d = number_of d.name
 
+-- The number of a constructor's name.
 abbrev pub row_name : Row → ℕ
 row_name row = row.name
 
--- The functions of a program, as trees.
+-- A function of a program, as a tree.
 abbrev pub function_in : Parts → FunctionDecl → FunctionTree
 function_in parts d = function_tree (tree_of parts.exprs) d
 

@@ -12,7 +12,8 @@ pub struct Failed;
 /// Why a shelf refuses.
 #[derive(Clone, Copy, Debug, PartialEq, Eq)]
 pub enum ShelfFault {
-    /// The file could not be read or written; a name that is not there cannot be read.
+    /// The file could not be read or written. Implementors answer it also for a read of a name that is not
+    /// there; no clause says so.
     Failed,
     Memory,
 }
@@ -65,10 +66,12 @@ pub trait Sink {
         ensures cause { HasCause (faults self.old) (faults self.new) result };
 }
 
-/// The most bytes that one put of `put_all` has.
+/// The size of the pieces of `put_all`, in bytes.
 pub const PIECE_BYTES: usize = 4096;
 
-/// Puts bytes in pieces of 4,096 and a last shorter one, and never a piece of none.
+/// Puts these bytes, or a front of them and fails.
+///
+/// A test shows the pieces, which no clause tells: of `PIECE_BYTES` each and a last shorter one, none of no bytes.
 pub fn put_all<O: Sink>(out: &mut O, bytes: &[u8]) -> Result<(), Failed>
     ensures ok { OnOk result (Appends (O.taken out.old) (O.taken out.new) bytes.now) }
     ensures part { OnErr result (AppendsPart (O.taken out.old) (O.taken out.new) bytes.now) }
@@ -98,7 +101,10 @@ pub enum Point {
     Answered,
 }
 
-/// Where workers call at each point, with no lock held. It tells nothing, and returns.
+/// Where workers call at each point.
+///
+/// The rule for implementors, which no clause says: a gate tells nothing, and returns. For who writes workers:
+/// no lock is held at a call.
 pub trait Gate {
     fn at(&self, worker: u32, point: Point);
 }

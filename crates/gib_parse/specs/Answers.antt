@@ -16,6 +16,7 @@ abbrev pub place_in : List Span → ℕ → ℕ → ℕ
 place_in spans len zero = len
 place_in spans len (suc k) = (places_of spans (suc k)).start
 
+-- The same by what lexing made of the text.
 abbrev pub place_of : Lexed → ℕ → ℕ
 place_of l left = place_in l.spans l.len left
 

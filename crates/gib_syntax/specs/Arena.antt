@@ -34,10 +34,12 @@ PartsBelow (n.Case p x arms) id = ArmsBelow arms.items id
 pub record IsArena (nodes : List Node) : Type 0 where
   pub below : (id : ℕ) (node : Node) → slice_get nodes id ≡ Some node → PartsBelow node id
 
+-- Arguments as a tree, where their numbers have these trees.
 abbrev pub arguments_from : (ℕ → Expression) → List ExprId → Arguments
 arguments_from f [] = NoArgument
 arguments_from f (i ∷ is) = Argument (f i.0) (arguments_from f is)
 
+-- Arms, one at least, as a tree, where the numbers of their expressions have these trees.
 abbrev pub arms_from : (ℕ → Expression) → Arm → List Arm → Arms
 arms_from f arm [] = LastArm arm.constructor arm.variables.items (f arm.body.0)
 arms_from f arm (next ∷ arms) = NextArm arm.constructor arm.variables.items (f arm.body.0) (arms_from f next arms)
@@ -46,6 +48,7 @@ arms_from f arm (next ∷ arms) = NextArm arm.constructor arm.variables.items (f
 abbrev pub nothing : Expression
 nothing = Bit (record { start = 0; end = 0 }) Rattle.std.specs.Prelude.false
 
+-- A case of these arms; of no arm, the tree of no node.
 abbrev pub case_from : (ℕ → Expression) → List Arm → (Arms → Expression) → Expression
 case_from f [] make = nothing
 case_from f (arm ∷ arms) make = make (arms_from f arm arms)
@@ -65,6 +68,7 @@ layer f (Some (n.LetPar p x a y b c)) = Par p x (f a.0) y (f b.0) (f c.0)
 layer f (Some (n.If p a b c)) = If p (f a.0) (f b.0) (f c.0)
 layer f (Some (n.Case p x arms)) = case_from f arms.items (Case p x)
 
+-- The tree of the node of a number, cut after so many levels: below them stands the tree of no node.
 unfoldable pub tree_at : ℕ → List Node → ℕ → Expression
 tree_at zero nodes id = nothing
 tree_at (suc k) nodes id = layer (tree_at k nodes) (slice_get nodes id)

@@ -49,6 +49,7 @@ with_values [] go = go []
 with_values (Stops why ∷ rest) go = Stops why
 with_values (Gives v ∷ rest) go = with_values rest (λ vs. go (v ∷ vs))
 
+-- `Int` and `Bool` are scalars, a declared type is none.
 abbrev pub is_scalar : Ty → Bool
 is_scalar Whole = true
 is_scalar Truth = true
@@ -67,23 +68,26 @@ abbrev pub with_fields : List Ty → List Outcome → (List Datum → Outcome) �
 with_fields types outcomes go =
     with_values (at_fields true types outcomes ++ at_fields false types outcomes) (λ _. with_values outcomes go)
 
+-- The number where a value is one; of any other value, which typing excludes, 0.
 abbrev pub number_in : Datum → ℤ
 number_in (whole z) = z
 number_in (truth b) = pos 0
 number_in (con k vs) = pos 0
 
+-- The value is `True`.
 abbrev pub is_true : Datum → Bool
 is_true (whole z) = false
 is_true (truth b) = b
 is_true (con k vs) = false
 
--- The constructor of a value, and the values of its fields.
+-- The value is made by this constructor.
 abbrev pub is_made_by : Option ℕ → Datum → Bool
 is_made_by None v = false
 is_made_by (Some c) (whole z) = false
 is_made_by (Some c) (truth b) = false
 is_made_by (Some c) (con k vs) = c == k
 
+-- The values of a constructor's fields, in declared order; a scalar has none.
 abbrev pub parts : Datum → List Datum
 parts (whole z) = []
 parts (truth b) = []
@@ -97,10 +101,12 @@ operate o.Multiply x y = whole (int_wrapping_mul w64 x y)
 operate o.Equal x y = truth (int_eq x y)
 operate o.Less x y = truth (int_lt x y)
 
+-- What a constructor with these arguments means; of one that is not declared, which typing excludes, 0.
 abbrev pub made : Table → Option ℕ → List Outcome → Outcome
 made table None outcomes = Gives (whole (pos 0))
 made table (Some c) outcomes = with_fields (fields_at table c) outcomes (λ vs. Gives (con c (data_of vs)))
 
+-- The first outcome where the test holds, else the second.
 abbrev pub choose : Bool → Outcome → Outcome → Outcome
 choose true a b = a
 choose false a b = b
@@ -122,6 +128,7 @@ abbrev mutual
   eval table call (If p a b c) env = with_value (eval table call a env) (λ v. choose (is_true v) (eval table call b env) (eval table call c env))
   eval table call (Case p x arms) env = eval_arms table call arms (value_in env (number_of x)) env
 
+  -- What arguments mean, each by itself, in their order.
   pub eval_all : Table → (ℕ → List Datum → Outcome) → Arguments → Environment → List Outcome
   eval_all table call NoArgument env = []
   eval_all table call (Argument a xs) env = eval table call a env ∷ eval_all table call xs env
@@ -133,9 +140,11 @@ abbrev mutual
   eval_arms table call (NextArm k xs e arms) v env =
       choose (is_made_by (constructor_named table (number_of k)) v) (eval table call e (bind xs (parts v) env)) (eval_arms table call arms v env)
 
+-- The names of parameters, in their order.
 abbrev pub names_of : List Parameter → List Ident
 names_of qs = map (λ (q : Parameter). q.name) qs
 
+-- Goes on with a function; where there is none, which typing excludes, the outcome is 0.
 abbrev pub of_function : Option FunctionTree → (FunctionTree → Outcome) → Outcome
 of_function None go = Gives (whole (pos 0))
 of_function (Some f) go = go f

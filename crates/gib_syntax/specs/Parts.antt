@@ -16,6 +16,7 @@ pub record Parts : Type 0 where
   pub functions : List FunctionDecl
   pub main : MainDecl
 
+-- The body of a function is one of so many expressions.
 abbrev pub IsFunctionInside : ℕ → FunctionDecl → Type 0
 IsFunctionInside n f = f.body.0 < n
 
@@ -24,15 +25,19 @@ pub record AreInside (parts : Parts) : Type 0 where
   pub functions : AllByRecursion (IsFunctionInside (length parts.exprs)) parts.functions
   pub main : parts.main.body.0 < length parts.exprs
 
+-- A constructor of a data declaration, as a tree.
 abbrev pub constructor_tree : ConstructorDecl → ConstructorTree
 constructor_tree c = record { name = c.name; fields = c.fields.items }
 
+-- A data declaration, as a tree.
 abbrev pub data_tree : DataDecl → DataTree
 data_tree d = record { name = d.name; constructors = map constructor_tree d.constructors.items }
 
+-- A function as a tree, where expressions have these trees.
 abbrev pub function_tree : (ℕ → Expression) → FunctionDecl → FunctionTree
 function_tree f d = record { name = d.name; parameters = d.parameters.items; result = d.result; body = f d.body.0 }
 
+-- Main as a tree, where expressions have these trees.
 abbrev pub main_tree : (ℕ → Expression) → MainDecl → MainTree
 main_tree f m = record { parameter = m.parameter; result = m.result; body = f m.body.0 }
 

@@ -83,6 +83,7 @@ spell_constructors (c ∷ cs) rest = spell_constructor c (spell_more cs rest)
 abbrev pub spell_data : DataTree → List Token → List Token
 spell_data d rest = t.Sign s.Data ∷ t.Constructor d.name.name ∷ t.Sign s.Equals ∷ spell_constructors d.constructors (t.Sign s.Semicolon ∷ rest)
 
+-- Data declarations one after another.
 abbrev pub spell_datas : List DataTree → List Token → List Token
 spell_datas [] rest = rest
 spell_datas (d ∷ ds) rest = spell_data d (spell_datas ds rest)
@@ -91,6 +92,7 @@ spell_datas (d ∷ ds) rest = spell_data d (spell_datas ds rest)
 abbrev pub spell_parameter : Parameter → List Token → List Token
 spell_parameter q rest = t.Sign s.Open ∷ t.Variable q.name.name ∷ t.Sign s.Colon ∷ spell_type q.ty (t.Sign s.Close ∷ rest)
 
+-- Parameters one after another.
 abbrev pub spell_parameters : List Parameter → List Token → List Token
 spell_parameters [] rest = rest
 spell_parameters (q ∷ qs) rest = spell_parameter q (spell_parameters qs rest)
@@ -103,6 +105,7 @@ spell_body result body rest = t.Sign s.Colon ∷ spell_type result (t.Sign s.Equ
 abbrev pub spell_function : FunctionTree → List Token → List Token
 spell_function f rest = t.Sign s.Fun ∷ t.Variable f.name.name ∷ spell_parameters f.parameters (spell_body f.result f.body rest)
 
+-- Functions one after another.
 abbrev pub spell_functions : List FunctionTree → List Token → List Token
 spell_functions [] rest = rest
 spell_functions (f ∷ fs) rest = spell_function f (spell_functions fs rest)
@@ -170,13 +173,15 @@ abbrev mutual
   HasFine (LastArm k xs e) = IsFine e
   HasFine (NextArm k xs e arms) = IsFine e × HasFine arms
 
--- A data declaration has a constructor at least, a function a parameter.
+-- A data declaration has a constructor at least.
 abbrev pub HasConstructor : DataTree → Type 0
 HasConstructor d = d.constructors ≢ []
 
+-- A function has a parameter at least, and its body is an expression that the grammar has.
 abbrev pub IsFineFunction : FunctionTree → Type 0
 IsFineFunction f = (f.parameters ≢ []) × IsFine f.body
 
+-- The grammar has the program: its data declarations, its functions, and main's body.
 pub record IsFineProgram (p : ProgramTree) : Type 0 where
   pub datas : AllByRecursion HasConstructor p.datas
   pub functions : AllByRecursion IsFineFunction p.functions
@@ -205,6 +210,7 @@ abbrev mutual
   levels_arms (LastArm k xs e) = levels e
   levels_arms (NextArm k xs e arms) = max (levels e) (levels_arms arms)
 
+-- The most levels that the body of one of these functions has; with no function, 0.
 abbrev pub levels_functions : List FunctionTree → ℕ
 levels_functions [] = 0
 levels_functions (f ∷ fs) = max (levels f.body) (levels_functions fs)
@@ -221,6 +227,7 @@ Places = ℕ → Span
 abbrev pub IsAt : Places → Ident → List Token → Type 0
 IsAt at x rest = x.span ≡ at (suc (length rest))
 
+-- The names stand one after another before the rest.
 abbrev pub AreAt : Places → List Ident → List Token → Type 0
 AreAt at [] rest = Unit {0}
 AreAt at (x ∷ xs) rest = IsAt at x (spell_variables xs rest) × AreAt at xs rest
@@ -266,52 +273,63 @@ abbrev mutual
       × AreAt at xs (t.Sign s.Arrow ∷ spell e (t.Sign s.Semicolon ∷ spell_arms arms rest))
       × IsPlaced at e (t.Sign s.Semicolon ∷ spell_arms arms rest) × HavePlaces at arms rest
 
--- The same for the parts of declarations.
+-- A type carries the span of its token, behind which the rest stands.
 abbrev pub IsTypeAt : Places → TypeName → List Token → Type 0
 IsTypeAt at (ty.Whole p) rest = p ≡ at (suc (length rest))
 IsTypeAt at (ty.Truth p) rest = p ≡ at (suc (length rest))
 IsTypeAt at (ty.Declared x) rest = IsAt at x rest
 
+-- Types one after another carry the spans of their tokens.
 abbrev pub AreTypesAt : Places → List TypeName → List Token → Type 0
 AreTypesAt at [] rest = Unit {0}
 AreTypesAt at (a ∷ as') rest = IsTypeAt at a (spell_types as' rest) × AreTypesAt at as' rest
 
+-- The name and the field types of a constructor carry the spans of their tokens.
 abbrev pub IsConstructorAt : Places → ConstructorTree → List Token → Type 0
 IsConstructorAt at c rest = IsAt at c.name (spell_types c.fields rest) × AreTypesAt at c.fields rest
 
+-- Constructors with a bar between two carry the spans of their tokens.
 abbrev pub AreConstructorsAt : Places → List ConstructorTree → List Token → Type 0
 AreConstructorsAt at [] rest = Unit {0}
 AreConstructorsAt at (c ∷ cs) rest = IsConstructorAt at c (spell_more cs rest) × AreConstructorsAt at cs rest
 
+-- The name and the constructors of a data declaration carry the spans of their tokens.
 abbrev pub IsDataAt : Places → DataTree → List Token → Type 0
 IsDataAt at d rest =
     IsAt at d.name (t.Sign s.Equals ∷ spell_constructors d.constructors (t.Sign s.Semicolon ∷ rest))
     × AreConstructorsAt at d.constructors (t.Sign s.Semicolon ∷ rest)
 
+-- Data declarations one after another carry the spans of their tokens.
 abbrev pub AreDatasAt : Places → List DataTree → List Token → Type 0
 AreDatasAt at [] rest = Unit {0}
 AreDatasAt at (d ∷ ds) rest = IsDataAt at d (spell_datas ds rest) × AreDatasAt at ds rest
 
+-- The name and the type of a parameter carry the spans of their tokens.
 abbrev pub IsParameterAt : Places → Parameter → List Token → Type 0
 IsParameterAt at q rest = IsAt at q.name (t.Sign s.Colon ∷ spell_type q.ty (t.Sign s.Close ∷ rest)) × IsTypeAt at q.ty (t.Sign s.Close ∷ rest)
 
+-- Parameters one after another carry the spans of their tokens.
 abbrev pub AreParametersAt : Places → List Parameter → List Token → Type 0
 AreParametersAt at [] rest = Unit {0}
 AreParametersAt at (q ∷ qs) rest = IsParameterAt at q (spell_parameters qs rest) × AreParametersAt at qs rest
 
+-- The result type and the body of a function carry the spans of their tokens.
 abbrev pub IsBodyAt : Places → TypeName → Expression → List Token → Type 0
 IsBodyAt at result body rest =
     IsTypeAt at result (t.Sign s.Equals ∷ spell body (t.Sign s.Semicolon ∷ rest)) × IsPlaced at body (t.Sign s.Semicolon ∷ rest)
 
+-- The name, the parameters, the result type and the body of a function carry the spans of their tokens.
 abbrev pub IsFunctionAt : Places → FunctionTree → List Token → Type 0
 IsFunctionAt at f rest =
     IsAt at f.name (spell_parameters f.parameters (spell_body f.result f.body rest))
     × AreParametersAt at f.parameters (spell_body f.result f.body rest) × IsBodyAt at f.result f.body rest
 
+-- Functions one after another carry the spans of their tokens.
 abbrev pub AreFunctionsAt : Places → List FunctionTree → List Token → Type 0
 AreFunctionsAt at [] rest = Unit {0}
 AreFunctionsAt at (f ∷ fs) rest = IsFunctionAt at f (spell_functions fs rest) × AreFunctionsAt at fs rest
 
+-- The parameter, the result type and the body of main carry the spans of their tokens.
 abbrev pub IsMainAt : Places → MainTree → List Token → Type 0
 IsMainAt at m rest = IsParameterAt at m.parameter (spell_body m.result m.body rest) × IsBodyAt at m.result m.body rest
 

@@ -18,6 +18,7 @@ pub record Globals : Type 0 where
   pub table : Table
   pub functions : List FunctionTree
 
+-- The constructors and functions of a program.
 abbrev pub globals_of : ProgramTree → Globals
 globals_of p = record { table = table_of_program p; functions = p.functions }
 
@@ -45,10 +46,11 @@ BindsAll scope [] (t ∷ ts) inner = ⊥
 BindsAll scope (x ∷ xs) [] inner = ⊥
 BindsAll scope (x ∷ xs) (t ∷ ts) inner = IsNew scope x × BindsAll (bound x t scope) xs ts inner
 
--- The types of a function's parameters, and of its result.
+-- The types of a function's parameters.
 abbrev pub parameter_types : Table → FunctionTree → List Ty
 parameter_types table f = map (λ (q : Parameter). type_of_name table.types q.ty) f.parameters
 
+-- The type of a function's result.
 abbrev pub result_type : Table → FunctionTree → Ty
 result_type table f = type_of_name table.types f.result
 
@@ -161,6 +163,7 @@ abbrev mutual
 abbrev pub IsKnown : List ℕ → TypeName → Type 0
 IsKnown types a = (t : Ty) × (type_written types a ≡ Some t)
 
+-- The type of a parameter is known.
 abbrev pub HasKnownType : List ℕ → Parameter → Type 0
 HasKnownType types q = IsKnown types q.ty
 
@@ -176,12 +179,15 @@ pub record IsTypedFunction (g : Globals) (parameters : List Parameter) (result :
   pub few_variables : length parameters + bindings body ≤ 200
   pub few_expressions : expressions body ≤ 2000
 
+-- A function is typed, where its body may name these constructors and functions.
 abbrev pub IsTypedHere : Globals → FunctionTree → Type 0
 IsTypedHere g f = IsTypedFunction g f.parameters f.result f.body
 
+-- A constructor has at most eight fields, of known types.
 abbrev pub HasKnownFields : List ℕ → ConstructorTree → Type 0
 HasKnownFields types c = (length c.fields ≤ 8) × AllByRecursion (IsKnown types) c.fields
 
+-- Each constructor of a data declaration has at most eight fields, of known types.
 abbrev pub HasKnownConstructors : List ℕ → DataTree → Type 0
 HasKnownConstructors types d = AllByRecursion (HasKnownFields types) d.constructors
 

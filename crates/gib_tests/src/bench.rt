@@ -9,6 +9,7 @@ use std::sync::Wait;
 use std::thread::Threads;
 
 /// How a call ended, and what it put.
+#[derive(Drop)]
 pub struct Ended {
     pub status: Status,
     pub out: MemSink,
@@ -17,7 +18,10 @@ pub struct Ended {
 
 /// A file by its bytes.
 pub fn file(alloc: Global, name: &str, bytes: &[u8]) -> Result<(String, Vec<u8>), AllocError> {
-    Ok((String::from_str(alloc, name)?, Vec::from_slice(alloc, bytes)?))
+    Ok((
+        String::from_str(alloc, name)?,
+        Vec::from_slice(alloc, bytes)?,
+    ))
 }
 
 /// The packed file of a payload.

@@ -51,10 +51,20 @@ fn value(alloc: Global, typed: &Typed, file: &[u8]) -> Option<Value> {
 fn a_long_list_is_run(rt: HostRuntime) -> Result<(), Fail> {
     let alloc = rt.alloc();
     let files = vec![in alloc;
-        file(alloc, "a.gib", b"data List = Nil | Cons Int List ; main (l : List) : List = l ;")?,
+        file(
+            alloc,
+            "a.gib",
+            b"data List = Nil | Cons Int List ; main (l : List) : List = l ;"
+        )?,
         file(alloc, "a.gbp", &ones(alloc, CELLS)?)?,
     ]?;
-    let ended = call(&rt, alloc, &["gib", "run", "a.gib", "a.gbp"], files, Vec::new(alloc))?;
+    let ended = call(
+        &rt,
+        alloc,
+        &["gib", "run", "a.gib", "a.gbp"],
+        files,
+        Vec::new(alloc),
+    )?;
     assert_eq!(rt; ended.status, Status::Done);
     // Each cell is `(Cons 1 ` and a `)`; then `Nil` and a line feed.
     assert_eq!(rt; ended.out.bytes().len(), 9 * CELLS + 4);
@@ -64,7 +74,8 @@ fn a_long_list_is_run(rt: HostRuntime) -> Result<(), Fail> {
 #[test]
 fn calls_go_a_million_deep(rt: HostRuntime) -> Result<(), Fail> {
     let alloc = rt.alloc();
-    let source = "data List = Nil | Cons Int List ; fun size (l : List) : Int = case l of { Nil -> 0 ; Cons n rest -> (1 + size rest) } ; main (l : List) : Int = size l ;";
+    let source =
+        "data List = Nil | Cons Int List ; fun size (l : List) : Int = case l of { Nil -> 0 ; Cons n rest -> (1 + size rest) } ; main (l : List) : Int = size l ;";
     let Some(program) = typed(alloc, source) else {
         assert!(rt; false);
         return Ok(());

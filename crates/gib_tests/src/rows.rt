@@ -172,7 +172,14 @@ fn programs_end_as_they_mean(rt: HostRuntime) -> Result<(), Fail> {
             "gib: source\n",
         ),
         ("", "", [].as_slice(), Status::Source, "", "gib: source\n"),
-        ("", "main @", [].as_slice(), Status::Source, "", "gib: source\n"),
+        (
+            "",
+            "main @",
+            [].as_slice(),
+            Status::Source,
+            "",
+            "gib: source\n",
+        ),
         (
             "",
             "main (n : Int) : Int = m ;",
@@ -188,7 +195,13 @@ fn programs_end_as_they_mean(rt: HostRuntime) -> Result<(), Fail> {
             file(alloc, "a.gib", source.as_bytes())?,
             file(alloc, "a.gbp", &input)?,
         ]?;
-        let ended = call(&rt, alloc, &["gib", "run", "a.gib", "a.gbp"], files, Vec::new(alloc))?;
+        let ended = call(
+            &rt,
+            alloc,
+            &["gib", "run", "a.gib", "a.gbp"],
+            files,
+            Vec::new(alloc),
+        )?;
         assert_eq!(rt; ended.status, status, "{source}");
         assert_eq!(rt; ended.out.bytes(), out.as_bytes(), "{source}");
         assert_eq!(rt; ended.err.bytes(), err.as_bytes(), "{source}");
@@ -218,11 +231,23 @@ fn words_that_are_not_taken_are_usage(rt: HostRuntime) -> Result<(), Fail> {
 #[test]
 fn a_file_that_is_not_there_is_named(rt: HostRuntime) -> Result<(), Fail> {
     let alloc = rt.alloc();
-    let ended = call(&rt, alloc, &["gib", "run", "a.gib", "a.gbp"], Vec::new(alloc), Vec::new(alloc))?;
+    let ended = call(
+        &rt,
+        alloc,
+        &["gib", "run", "a.gib", "a.gbp"],
+        Vec::new(alloc),
+        Vec::new(alloc),
+    )?;
     assert_eq!(rt; ended.status, Status::ReadFault);
     assert_eq!(rt; ended.err.bytes(), b"gib: cannot read a.gib\n".as_slice());
     let files = vec![in alloc; file(alloc, "a.gib", b"main (n : Int) : Int = n ;")?]?;
-    let ended = call(&rt, alloc, &["gib", "run", "a.gib", "a.gbp"], files, Vec::new(alloc))?;
+    let ended = call(
+        &rt,
+        alloc,
+        &["gib", "run", "a.gib", "a.gbp"],
+        files,
+        Vec::new(alloc),
+    )?;
     assert_eq!(rt; ended.status, Status::ReadFault);
     assert_eq!(rt; ended.err.bytes(), b"gib: cannot read a.gbp\n".as_slice());
     Ok(())
@@ -242,7 +267,10 @@ fn ones(alloc: Global, count: usize) -> Result<Vec<u8>, AllocError> {
 fn a_second_put_that_fails_leaves_the_first(rt: HostRuntime) -> Result<(), Fail> {
     let alloc = rt.alloc();
     let source = with_types(alloc, LIST, "main (l : List) : List = l ;")?;
-    for (fails, status, taken) in [(vec![in alloc; (1, 0)]?, Status::WriteFault, 4096), (vec![in alloc]?, Status::Done, 5404)] {
+    for (fails, status, taken) in [
+        (vec![in alloc; (1, 0)]?, Status::WriteFault, 4096),
+        (vec![in alloc]?, Status::Done, 5404),
+    ] {
         let files = vec![in alloc;
             file(alloc, "a.gib", source.as_bytes())?,
             file(alloc, "a.gbp", &packed(alloc, &ones(alloc, 600)?)?)?,

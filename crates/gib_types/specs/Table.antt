@@ -14,14 +14,17 @@ if_owned ty con (Some row) = if row.owner == ty then Some con else None
 abbrev pub con_at : Table → ℕ → ℕ → Option ℕ
 con_at table ty tag = if_owned ty tag (slice_get table.rows tag)
 
+-- The field types of a row; of no row, none.
 abbrev pub fields_of : Option Row → List Ty
 fields_of None = []
 fields_of (Some row) = row.fields
 
+-- The type that a row belongs to; of no row, 0.
 abbrev pub owner_of : Option Row → ℕ
 owner_of None = 0
 owner_of (Some row) = row.owner
 
+-- The number of a row's name; of no row, 0.
 abbrev pub name_of : Option Row → ℕ
 name_of None = 0
 name_of (Some row) = row.name

@@ -51,11 +51,12 @@ abbrev mutual
   all_constructors none = 0
   all_constructors (more v vs) = constructors v + all_constructors vs
 
--- Fields as a list, and back.
+-- A list of values as fields.
 abbrev pub data_of : List Datum → Data
 data_of [] = none
 data_of (v ∷ vs) = more v (data_of vs)
 
+-- Fields as a list of values.
 abbrev pub list_of : Data → List Datum
 list_of none = []
 list_of (more v vs) = v ∷ list_of vs

@@ -26,6 +26,6 @@ returns-clause-stop g c =
     let names = c.args.compiled.now.names in
     if_err c.put_output.result _ _ c.put_output.ensures.stop
     (λ stop h.
-      let P : List ℕ → Type 0 = λ input. IsPutStop p names (g.O.Sink.taken c.args.out.now) (g.O.Sink.taken c.put_output.new.out) (g.O.Sink.faults c.args.out.now) (g.O.Sink.faults c.put_output.new.out) input stop in
-      stop_on_document p names (g.S.Shelf.kept c.args.shelf.now) (g.S.Shelf.read_faults c.args.shelf.now) (g.S.Shelf.read_faults c.read_document.new.shelf) (g.O.Sink.taken c.args.out.now) (g.O.Sink.taken c.put_output.new.out) (g.O.Sink.faults c.args.out.now) (g.O.Sink.faults c.put_output.new.out)
-      (document_of c.args.document) c.in-Ok.input.items (λ a. length a ≤ FILE_BYTES) c.in-Ok.ensures.bytes stop (subst P c.deref.ensures.value h))
+    let P : List ℕ → Type 0 = λ input. IsPutStop p names (g.O.Sink.taken c.args.out.now) (g.O.Sink.taken c.put_output.new.out) (g.O.Sink.faults c.args.out.now) (g.O.Sink.faults c.put_output.new.out) input stop in
+    stop_on_document p names (g.S.Shelf.kept c.args.shelf.now) (g.S.Shelf.read_faults c.args.shelf.now) (g.S.Shelf.read_faults c.read_document.new.shelf) (g.O.Sink.taken c.args.out.now) (g.O.Sink.taken c.put_output.new.out) (g.O.Sink.faults c.args.out.now) (g.O.Sink.faults c.put_output.new.out)
+    (document_of c.args.document) c.in-Ok.input.items (λ a. length a ≤ FILE_BYTES) c.in-Ok.ensures.bytes stop (subst P c.deref.ensures.value h))
