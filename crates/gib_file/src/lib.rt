@@ -3,6 +3,7 @@
 
 mod decode;
 mod encode;
+pub mod examples;
 mod fault;
 mod header;
 mod law;

@@ -1,6 +1,7 @@
 //! The trees of programs: their spelling as tokens, their types and their meaning.
 #![tactic(auto)]
 
+pub mod examples;
 pub mod exprs;
 pub mod law;
 pub mod print;

@@ -7,6 +7,7 @@ pub mod law;
 pub mod node;
 pub mod read;
 pub mod value;
+pub mod worked_examples;
 pub mod write;
 
 pub use fault::TextFault;
