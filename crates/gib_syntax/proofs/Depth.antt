@@ -5,7 +5,7 @@ use Rattle.gib_types.specs.Table.{Table, fields_at}
 use Rattle.gib_types.specs.Tree.{Datum, whole, con, data_of}
 use Rattle.gib_syntax.specs.Tree.{Expression, Arguments, Arms, Var, Num, Bit, Paren, Op, Call, Make, Let, Par, If, Case, NoArgument, Argument, LastArm, NextArm, FunctionTree, ProgramTree}
 use Rattle.gib_syntax.specs.Declarations.{number_of, constructor_named, function_named, table_of_program}
-use Rattle.gib_syntax.specs.Meaning.{Outcome, Gives, Stops, Environment, value_in, bind, with_value, with_values, is_scalar, at_fields, with_fields, number_in, is_true, is_made_by, parts, operate, made, choose, eval, eval_all, eval_arms, names_of, of_function, calls, means, run}
+use Rattle.gib_syntax.specs.Meaning.{Outcome, Gives, Stops, Environment, value_in, bind, with_value, with_values, is_scalar, at_fields, is_true, is_made_by, parts, made, choose, eval, eval_all, eval_arms, names_of, of_function, calls, run}
 
 -- where the first outcome is a value, the second is the same
 abbrev pub Keeps : Outcome → Outcome → Type 0
