@@ -2,14 +2,13 @@
 #![tactic(auto)]
 
 ghost use Rattle.std.specs.Prelude.{◌≡◌, IfOk, IfErr};
-ghost use Rattle.std.specs.List.{AllByRecursion};
 ghost use Rattle.gib_syntax.specs.Parts.{program_of};
-ghost use Rattle.gib_syntax.specs.Spelling.{HasConstructor};
 ghost use Rattle.gib_syntax.specs.Typing.{IsTypedProgram};
+ghost use Rattle.gib_types.specs.Table.{IsTable};
 ghost use Rattle.gib_check.specs.Answers.{Gives};
 ghost use Rattle.gib_check.specs.Checked.{IsMemory, IsFirst};
 ghost use Rattle.gib_check.specs.FirstFault as rule;
-ghost use Rattle.gib_check.specs.Views.{types_in};
+ghost use Rattle.gib_check.specs.Views.{table_in, types_in};
 
 mod arms;
 mod bodies;
@@ -43,6 +42,8 @@ pub use typed::Typed;
 fn check_declarations(alloc: Global, program: &Program) -> Result<NameList, TypeFault>
     ensures read { Gives (λ _. tt {0}) result (rule.check_declarations (program_of program.now)) }
     ensures types { IfOk result (λ types. types ≡ types_in program.now) }
+    // Declarations that break no rule make a table.
+    ensures table { IfOk result (λ _. IsTable (table_in program.now)) }
 {
     let datas = program.data_decls();
     check_datas(alloc, datas)?;
@@ -57,7 +58,6 @@ fn check_declarations(alloc: Global, program: &Program) -> Result<NameList, Type
 /// All rules, in their order.
 #[tactic(auto, unfolding(crate::specs::FirstFault::check_program))]
 fn check_rules(alloc: Global, program: Program) -> Result<Declared, TypeFault>
-    requires { AllByRecursion HasConstructor (program_of program).datas }
     ensures read { Gives (λ _. tt {0}) result (rule.check_program (program_of program)) }
     ensures same { IfOk result (λ declared. declared ≡ program) }
 {
@@ -75,7 +75,6 @@ fn check_rules(alloc: Global, program: Program) -> Result<Declared, TypeFault>
 ///
 /// The first broken rule, and want of memory.
 pub fn check(alloc: Global, program: Program) -> Result<Typed, TypeFault>
-    requires { AllByRecursion HasConstructor (program_of program).datas }
     ensures same { IfOk result (λ typed. typed ≡ program) }
     ensures typed { IfOk result (λ _. IsTypedProgram (program_of program)) }
     // What is typed is refused for want of memory alone.

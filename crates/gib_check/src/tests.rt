@@ -1,5 +1,3 @@
-ghost use Rattle.std.specs.Prelude.{◌≡◌, [], IfOk};
-
 use crate::{Fault, Kind, TypeFault, check};
 use gib_base::{Memory, Name, Span};
 use gib_syntax::{Exprs, Ident, MainDecl, Node, Parameter, Program, TypeName};
@@ -18,9 +16,7 @@ fn ident(name: u32, start: u32) -> Ident {
 }
 
 /// The program `main (n : Int) : Int = x`, where `x` is the name of this number, at place 20.
-fn main_of(alloc: Global, x: u32) -> Result<Program, Memory>
-    ensures { IfOk result (λ program. program.data_decls ≡ []) }
-{
+fn main_of(alloc: Global, x: u32) -> Result<Program, Memory> {
     let mut exprs = Exprs::new(alloc);
     let body = exprs.put(Node::Variable(ident(x, 20)))?;
     let parameter = Parameter {

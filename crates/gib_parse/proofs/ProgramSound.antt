@@ -8,8 +8,8 @@ use Rattle.gib_syntax.specs.declared.tree.TypeName.{TypeName}
 use Rattle.gib_syntax.specs.declared.tree.Parameter.{Parameter}
 use Rattle.gib_syntax.specs.Tree.{Expression, ConstructorTree, DataTree, FunctionTree, MainTree, ProgramTree}
 use Rattle.gib_syntax.specs.Spelling.{Places, AreTypesAt, IsConstructorAt, AreConstructorsAt, IsDataAt, AreDatasAt, IsParameterAt, AreParametersAt, IsBodyAt, IsFunctionAt, AreFunctionsAt, IsMainAt, IsPlacedProgram, IsFine, IsFineFunction, IsFineProgram, HasConstructor, levels, levels_functions, levels_program, Derives, spell, spell_type, spell_types, spell_constructor, spell_more, spell_constructors, spell_data, spell_datas, spell_parameter, spell_parameters, spell_body, spell_function, spell_functions, spell_main, spell_program}
-use Rattle.gib_parse.specs.Reading.{At, Any, type_at, starts_type, is_sign, constructor_at, alternative_at, constructors_at, data_at, parameter_at, parameters_at, BodyTree, body_at, function_at, main_at, program_at, ends_at, whole_in, parse}
-use Rattle.gib_parse.proofs.Tools.{Holds, holds_ok, holds_err, then_holds, want_holds, var_holds, con_holds, type_holds, IsType}
+use Rattle.gib_parse.specs.Reading.{At, Any, type_at, starts_type, is_sign, many, constructor_at, alternative_at, constructors_at, data_at, parameter_at, parameters_at, BodyTree, body_at, function_at, main_at, program_at, ends_at, whole_in, parse}
+use Rattle.gib_parse.proofs.Tools.{done, Holds, holds_ok, holds_err, then_holds, want_holds, var_holds, con_holds, type_holds, IsType}
 use Rattle.gib_parse.proofs.Many.{Chain, many_sound, Shrinks}
 use Rattle.gib_parse.proofs.Sound.{parse_sound, onward}
 use Rattle.gib_parse.proofs.Longer.{type_longer, spell_longer}
@@ -98,6 +98,9 @@ datas_sound at (d ∷ ds) ts rest c =
     let more = datas_sound at ds c.0 rest c.2 in
     let first = subst (λ (r : List Token). SoundData at ts d r) more.spelled c.1 in
     record { spelled = first.spelled; fine = (first.fine, more.fine); placed = (first.placed, more.placed) }
+
+pub read_constructors : (at : Places) (ts rest : List Token) (ds : List DataTree) → many (is_sign s.Data) (data_at at) ts ≡ done ds rest → AllByRecursion HasConstructor ds
+read_constructors at ts rest ds e = (datas_sound at ds ts rest ((many_sound (SoundData at) (is_sign s.Data) (data_at at) (data_sound at) ts).by ds rest e)).fine
 
 -- ---- functions
 

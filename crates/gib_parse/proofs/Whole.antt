@@ -2,10 +2,13 @@
 use Rattle.std.proofs.Common.{◌≡◌, ℕ, zero, suc, ◌+◌, ◌<◌, ◌≤◌, ◌-◌, max, List, [], ◌∷◌, ◌++◌, length, take, refl, sym, ap, ◌∙◌, subst, arith, length-append, append_assoc, ◌⊎◌, inl, inr}
 use Rattle.std.proofs.lemmas.List.{take_at}
 use Rattle.std.proofs.lemmas.Bool.{cases_lt}
+use Rattle.gib_base.specs.Lexed.{Lexed}
 use Rattle.gib_base.specs.declared.token.Token.{Token}
 use Rattle.gib_base.specs.declared.token.Token.TheVariants as t
 use Rattle.gib_syntax.specs.Tree.{ProgramTree}
-use Rattle.gib_syntax.specs.Spelling.{Places, IsPlacedProgram, levels_program, Derives, Blames}
+use Rattle.gib_syntax.specs.Source.{Spells}
+use Rattle.gib_syntax.specs.Spelling.{Places, places_of, IsPlacedProgram, levels_program, Derives, Blames}
+use Rattle.gib_lex.proofs.Cuts.{one_reading}
 use Rattle.gib_parse.specs.Reading.{At, Nested, Read, whole_in, Deepens}
 use Rattle.gib_parse.proofs.Tools.{done, failed}
 use Rattle.gib_parse.proofs.Come.{Comes, Came, Sank, comes_at}
@@ -47,6 +50,14 @@ one_program_lem at tokens p q dp dq pp pq =
     let l = max (levels_program p) (levels_program q) in
     let nothing : List Token = [] in
     done_is p q nothing nothing (sym (placed_is_read l at tokens p dp pp (omega arith)) ∙ placed_is_read l at tokens q dq pq (omega arith))
+
+-- A text is lexed in one way, and its tokens spell one program.
+pub one_text_lem : (text : List ℕ) (l m : Lexed) (p q : ProgramTree) → Spells text l p → Spells text m q → (l ≡ m) × (p ≡ q)
+one_text_lem text l m p q sp sq =
+    let e : l ≡ m = one_reading text l m sp.is_lexed sq.is_lexed in
+    let d : Derives l.tokens q = subst (λ (x : Lexed). Derives x.tokens q) (sym e) sq.derived in
+    let placed : IsPlacedProgram (places_of l.spans) q = subst (λ (x : Lexed). IsPlacedProgram (places_of x.spans) q) (sym e) sq.placed in
+    (e, one_program_lem (places_of l.spans) l.tokens p q sp.derived d sp.placed placed)
 
 -- ---- what is refused
 

@@ -1,7 +1,9 @@
 //! Laws of reading: functions that do nothing, whose contracts say what holds of every list of tokens.
 
 ghost use Rattle.std.specs.Prelude.{◌≡◌, ◌≤◌, ◌<◌, ℕ, List, [], Ok, Err, length};
+ghost use Rattle.gib_base.specs.Lexed.{Lexed};
 ghost use Rattle.gib_base.specs.declared.token.Token.{Token};
+ghost use Rattle.gib_syntax.specs.Source.{Spells};
 ghost use Rattle.gib_syntax.specs.Tree.{ProgramTree};
 ghost use Rattle.gib_syntax.specs.Spelling.{Places, Derives, IsPlacedProgram, levels_program, Blames};
 ghost use Rattle.gib_parse.specs.Reading.{Fault, At, Nested, left_of, whole_in, whole, Deepens, Begun};
@@ -53,4 +55,9 @@ pub fn refused_at_any_level()
 /// Tokens spell one program at most, given the spans of the tokens.
 pub fn one_program()
     ensures { (at : Places) (tokens : List Token) (p q : ProgramTree) → Derives tokens p → Derives tokens q → IsPlacedProgram at p → IsPlacedProgram at q → p ≡ q }
+{}
+
+/// A source text spells one program at most, with one list of tokens.
+pub fn one_text()
+    ensures { (text : List ℕ) (l m : Lexed) (p q : ProgramTree) → Spells text l p → Spells text m q → (l ≡ m) × (p ≡ q) }
 {}

@@ -8,6 +8,7 @@ use Rattle.gib_syntax.specs.declared.tree.FunctionDecl.{FunctionDecl}
 use Rattle.gib_syntax.specs.declared.tree.MainDecl.{MainDecl}
 use Rattle.gib_syntax.specs.Tree.{Expression, ConstructorTree, DataTree, FunctionTree, MainTree, ProgramTree}
 use Rattle.gib_syntax.specs.Arena.{tree_of}
+use Rattle.gib_syntax.specs.Spelling.{HasConstructor}
 
 -- The expressions of all bodies, and the declarations.
 pub record Parts : Type 0 where
@@ -16,15 +17,6 @@ pub record Parts : Type 0 where
   pub functions : List FunctionDecl
   pub main : MainDecl
 
--- The body of a function is one of so many expressions.
-abbrev pub IsFunctionInside : ℕ → FunctionDecl → Type 0
-IsFunctionInside n f = f.body.0 < n
-
--- Each body is one of the expressions.
-pub record AreInside (parts : Parts) : Type 0 where
-  pub functions : AllByRecursion (IsFunctionInside (length parts.exprs)) parts.functions
-  pub main : parts.main.body.0 < length parts.exprs
-
 -- A constructor of a data declaration, as a tree.
 abbrev pub constructor_tree : ConstructorDecl → ConstructorTree
 constructor_tree c = record { name = c.name; fields = c.fields.items }
@@ -32,6 +24,16 @@ constructor_tree c = record { name = c.name; fields = c.fields.items }
 -- A data declaration, as a tree.
 abbrev pub data_tree : DataDecl → DataTree
 data_tree d = record { name = d.name; constructors = map constructor_tree d.constructors.items }
+
+-- The body of a function is one of so many expressions.
+abbrev pub IsFunctionInside : ℕ → FunctionDecl → Type 0
+IsFunctionInside n f = f.body.0 < n
+
+-- Each body is one of the expressions, and each data declaration has a constructor.
+pub record AreInside (parts : Parts) : Type 0 where
+  pub functions : AllByRecursion (IsFunctionInside (length parts.exprs)) parts.functions
+  pub main : parts.main.body.0 < length parts.exprs
+  pub constructors : AllByRecursion HasConstructor (map data_tree parts.data_decls)
 
 -- A function as a tree, where expressions have these trees.
 abbrev pub function_tree : (ℕ → Expression) → FunctionDecl → FunctionTree

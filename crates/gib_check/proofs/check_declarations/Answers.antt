@@ -1,6 +1,8 @@
 use Rattle.std.proofs.lemmas.Result.{err_from_is_err_and}
 use Rattle.gib_syntax.specs.Arena.{tree_of}
+use Rattle.gib_syntax.specs.Parts.{program_of}
 use Rattle.gib_check.proofs.Declaring.{fields_fail, heads_fail, main_fail, all_kept}
+use Rattle.gib_check.proofs.RowRules.{checked_table}
 use Rattle.gib_check.proofs.check_declarations.Goals as goal
 
 pub returns-in_err-check_fields-clause-read : goal.returns-in_err-check_fields-clause-read
@@ -21,3 +23,7 @@ returns-in_err-check_head-clause-read c =
 pub returns-clause-read : goal.returns-clause-read
 returns-clause-read c =
     all_kept c.args.program.now c.data_decls-datas.result.now c.in_ok-types.types c.functions.result.now c.main-main.result (record { are_datas = c.data_decls-datas.ensures; are_types = c.in_ok-types.ensures }) c.in_ok-check_datas.ensures c.in_ok-check_fields.ensures c.functions.ensures.value (c.in_ok-check_heads.ensures (tree_of c.args.program.now.exprs)) c.main-main.ensures.value c.in_ok-check_head.ensures
+
+pub returns-clause-table : goal.returns-clause-table
+returns-clause-table c =
+    checked_table (program_of c.args.program.now) (returns-clause-read c) c.main-main.ensures.inside.constructors
