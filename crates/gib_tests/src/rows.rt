@@ -28,9 +28,11 @@ fn prints_the_sample<R: Threads + Wait + Sync>(
     texts: &[&str],
 ) -> Result<bool, AllocError> {
     let ended = call(rt, alloc, texts, Vec::new(alloc), Vec::new(alloc))?;
-    Ok(ended.status == Status::Done
-        && ended.out.bytes() == b"(Node (Leaf 2) (Leaf 3))\n".as_slice()
-        && ended.err.bytes().is_empty())
+    Ok(
+        ended.status == Status::Done
+            && ended.out.bytes() == b"(Node (Leaf 2) (Leaf 3))\n".as_slice()
+            && ended.err.bytes().is_empty(),
+    )
 }
 
 #[test]
