@@ -3,7 +3,9 @@
 use crate::bench::{call, file, packed};
 use gib_app::Status;
 use std::alloc::{AllocError, Global};
+use std::sync::Wait;
 use std::test::Fail;
+use std::thread::Threads;
 
 const TREE: &str = "data Tree = Leaf Int | Node Tree Tree ; ";
 
@@ -19,15 +21,25 @@ fn with_types(alloc: Global, types: &str, rest: &str) -> Result<String, AllocErr
     Ok(text)
 }
 
+/// Runs the top call on these words with no file; it has to print the sample's value.
+fn prints_the_sample<R: Threads + Wait + Sync>(
+    rt: &R,
+    alloc: Global,
+    texts: &[&str],
+) -> Result<bool, AllocError> {
+    let ended = call(rt, alloc, texts, Vec::new(alloc), Vec::new(alloc))?;
+    Ok(
+        ended.status == Status::Done
+            && ended.out.bytes() == b"(Node (Leaf 2) (Leaf 3))\n".as_slice()
+            && ended.err.bytes().is_empty(),
+    )
+}
+
 #[test]
 fn the_sample_runs_without_words(rt: HostRuntime) -> Result<(), Fail> {
     let alloc = rt.alloc();
-    for words in [[].as_slice(), ["gib"].as_slice()] {
-        let ended = call(&rt, alloc, words, Vec::new(alloc), Vec::new(alloc))?;
-        assert_eq!(rt; ended.status, Status::Done);
-        assert_eq!(rt; ended.out.bytes(), b"(Node (Leaf 2) (Leaf 3))\n".as_slice());
-        assert_eq!(rt; ended.err.bytes(), b"".as_slice());
-    }
+    assert!(rt; prints_the_sample(&rt, alloc, &[])?);
+    assert!(rt; prints_the_sample(&rt, alloc, &["gib"])?);
     Ok(())
 }
 
