@@ -8,4 +8,8 @@ mod checks;
 #[cfg(test)]
 mod deep;
 #[cfg(test)]
+mod meanings;
+#[cfg(test)]
+mod programs;
+#[cfg(test)]
 mod rows;
