@@ -13,3 +13,5 @@ mod meanings;
 mod programs;
 #[cfg(test)]
 mod rows;
+#[cfg(test)]
+mod texts;
