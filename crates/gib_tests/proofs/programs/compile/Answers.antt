@@ -3,7 +3,6 @@ use Rattle.gib_types.specs.Table.{Table}
 use Rattle.gib_value.specs.Text.{AreHeld}
 use Rattle.gib_tests.proofs.programs.compile.Goals as goal
 
--- src/programs.rt:46:1
 pub returns-clause-held : goal.returns-clause-held
 returns-clause-held c =
     let P : Table → Type 0 = λ table. AreHeld table c.into_names-names.result in

@@ -8,7 +8,6 @@ use Rattle.gib_syntax.specs.Declarations.{table_of_program, output_type}
 use Rattle.gib_syntax.specs.Meaning.{Outcome, OutcomeHas}
 use Rattle.gib_tests.proofs.programs.run.Goals as goal
 
--- src/programs.rt:118:11
 pub write_text-requires-clause-typed : goal.write_text-requires-clause-typed
 write_text-requires-clause-typed c =
     let p = program_of c.args.compiled.now.typed in

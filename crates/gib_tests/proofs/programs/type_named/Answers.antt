@@ -3,7 +3,6 @@ use Rattle.std.proofs.lemmas.Bool.{eqb-true}
 use Rattle.gib_tests.proofs.First.{first_type}
 use Rattle.gib_tests.proofs.programs.type_named.Goals as goal
 
--- src/programs.rt:76:17
 pub returns-then-eq : goal.returns-then-eq
 returns-then-eq c =
     sym (first_type c.args.types.now.types c.args.name.0
