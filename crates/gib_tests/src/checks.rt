@@ -596,7 +596,7 @@ fn push_numbered(
 #[test]
 fn two_hundred_constructors_and_a_thousand_functions(rt: HostRuntime) -> Result<(), Fail> {
     let alloc = rt.alloc();
-    // Past the limit a name that is declared already is past the limit.
+    // A name past the limit is answered as that, also where it is declared already.
     for (front, before, behind, count, rest, answer) in [
         (
             "data T = K",

@@ -1,14 +1,10 @@
 //! Values and calls a million deep.
 
 use crate::bench::{call, file, packed};
+use crate::programs::{compile, read_value};
 use gib_app::Status;
-use gib_check::{Typed, check};
-use gib_file::{read_header, survey, unpack};
-use gib_lex::lex;
-use gib_parse::parse;
 use gib_plain::{Outcome, plain};
-use gib_types::{Ty, TyId};
-use gib_value::{Node, Value};
+use gib_value::Node;
 use std::alloc::{AllocError, Global};
 use std::test::Fail;
 
@@ -23,28 +19,6 @@ fn ones(alloc: Global, count: usize) -> Result<Vec<u8>, AllocError> {
     }
     payload.push(0)?;
     packed(alloc, &payload)
-}
-
-/// The typed program of a source, where it is one.
-fn typed(alloc: Global, source: &str) -> Option<Typed> {
-    let Ok(tokens) = lex(alloc, source.as_bytes()) else {
-        return None;
-    };
-    let Ok(program) = parse(alloc, &tokens) else {
-        return None;
-    };
-    check(alloc, program).ok()
-}
-
-/// The value of a packed file, where it is one of the first declared type.
-fn value(alloc: Global, typed: &Typed, file: &[u8]) -> Option<Value> {
-    let Ok(payload) = read_header(file) else {
-        return None;
-    };
-    let Ok(survey) = survey(alloc, typed.types(), Ty::Tree(TyId(0)), payload) else {
-        return None;
-    };
-    unpack(alloc, survey).ok()
 }
 
 #[test]
@@ -76,17 +50,17 @@ fn calls_go_a_million_deep(rt: HostRuntime) -> Result<(), Fail> {
     let alloc = rt.alloc();
     let source =
         "data List = Nil | Cons Int List ; fun size (l : List) : Int = case l of { Nil -> 0 ; Cons n rest -> (1 + size rest) } ; main (l : List) : Int = size l ;";
-    let Some(program) = typed(alloc, source) else {
+    let Some(compiled) = compile(alloc, source) else {
         assert!(rt; false);
         return Ok(());
     };
     // A call for each cell, one for the end; the body of main takes none.
     for (depth, want) in [(1_000_000, Some(999_999)), (999_999, None)] {
-        let Some(list) = value(alloc, &program, &ones(alloc, CELLS - 1)?) else {
+        let Some(list) = read_value(alloc, &compiled.typed, &ones(alloc, CELLS - 1)?) else {
             assert!(rt; false);
             return Ok(());
         };
-        match plain(alloc, &program, list, depth)? {
+        match plain(alloc, &compiled.typed, list, depth)? {
             Outcome::Gives(result) => {
                 let (_, root) = result.parts();
                 match root {

@@ -8,4 +8,10 @@ mod checks;
 #[cfg(test)]
 mod deep;
 #[cfg(test)]
+mod meanings;
+#[cfg(test)]
+mod programs;
+#[cfg(test)]
 mod rows;
+#[cfg(test)]
+mod texts;

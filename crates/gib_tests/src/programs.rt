@@ -1,0 +1,151 @@
+//! Programs from their sources, and what they give.
+
+ghost use Rattle.std.specs.Prelude.{◌≡◌, IsTrue, IfSome};
+ghost use Rattle.gib_types.specs.Tree.{HasType};
+ghost use Rattle.gib_value.specs.Text.{AreHeld};
+ghost use Rattle.gib_syntax.specs.Spelling.{IsFineProgram};
+ghost use Rattle.gib_syntax.specs.Parts.{program_of};
+ghost use Rattle.gib_syntax.specs.Declarations.{table_of_program, input_type};
+ghost use Rattle.gib_app.specs.Types.{type_at};
+
+use crate::bench::packed;
+use gib_base::{Name, Names};
+use gib_check::{Typed, check};
+use gib_file::{read_header, survey, unpack};
+use gib_lex::lex;
+use gib_parse::parse;
+use gib_plain::{Outcome, plain};
+use gib_syntax::TypeName;
+use gib_syntax::law::results_are_typed;
+use gib_types::{ConId, Ty, TyId, TypeTable};
+use gib_value::{Value, write_text};
+use std::alloc::{AllocError, Global};
+
+/// A typed program, and the names of its source.
+#[derive(Drop)]
+pub struct Compiled {
+    pub typed: Typed,
+    pub names: Names,
+}
+
+/// Whether the name of each constructor is held.
+fn are_held(types: &TypeTable, names: &Names) -> bool
+    ensures { IsTrue result → AreHeld types.now names.now }
+{
+    let count = types.len();
+    let mut number = 0;
+    'constructors: while number < count {
+        if types.name_of(ConId(number)).0 >= names.len() {
+            return false;
+        }
+        number += 1;
+    }
+    true
+}
+
+/// The typed program of a source, where it is one.
+pub fn compile(alloc: Global, source: &str) -> Option<Compiled>
+    ensures fine { IfSome result (λ c. IsFineProgram (program_of c.typed)) }
+    ensures held { IfSome result (λ c. AreHeld (table_of_program (program_of c.typed)) c.names) }
+{
+    let Ok(tokens) = lex(alloc, source.as_bytes()) else {
+        return None;
+    };
+    let Ok(program) = parse(alloc, &tokens) else {
+        return None;
+    };
+    let Ok(typed) = check(alloc, program) else {
+        return None;
+    };
+    let names = tokens.into_names();
+    if !are_held(typed.types(), &names) {
+        return None;
+    }
+    Some(Compiled { typed, names })
+}
+
+/// The type of a name, where it is the first declared type.
+fn type_named(types: &TypeTable, name: Name) -> Option<Ty>
+    ensures { IfSome result (λ ty. ty ≡ type_at types.now.types name.0) }
+{
+    if types.type_count() == 0 {
+        return None;
+    }
+    if types.type_name(TyId(0)) == name {
+        return Some(Ty::Tree(TyId(0)));
+    }
+    None
+}
+
+/// The type of main's parameter, where no declared type but the first will do.
+fn parameter_type(typed: &Typed) -> Option<Ty>
+    ensures { IfSome result (λ ty. ty ≡ input_type (program_of typed.now)) }
+{
+    match typed.program().main().parameter.ty {
+        TypeName::Whole(_) => Some(Ty::Whole),
+        TypeName::Truth(_) => Some(Ty::Truth),
+        TypeName::Declared(ident) => match type_named(typed.types(), ident.name) {
+            Some(ty) => Some(ty),
+            None => None,
+        },
+    }
+}
+
+/// The value of a packed file, where it is one of the type of main's parameter.
+pub fn read_value(alloc: Global, typed: &Typed, file: &[u8]) -> Option<Value>
+    ensures { IfSome result (λ v. HasType (table_of_program (program_of typed.now)) v (input_type (program_of typed.now))) }
+{
+    let Some(ty) = parameter_type(typed) else {
+        return None;
+    };
+    let Ok(payload) = read_header(file) else {
+        return None;
+    };
+    let Ok(survey) = survey(alloc, typed.types(), ty, payload) else {
+        return None;
+    };
+    unpack(alloc, survey).ok()
+}
+
+/// The text of what a program gives on a value; `deep` where its calls nest deeper than this.
+pub fn run(
+    alloc: Global,
+    compiled: &Compiled,
+    value: Value,
+    depth: u32,
+) -> Result<Vec<u8>, AllocError>
+    requires fine { IsFineProgram (program_of compiled.now.typed) }
+    requires typed { HasType (table_of_program (program_of compiled.now.typed)) value (input_type (program_of compiled.now.typed)) }
+    requires held { AreHeld (table_of_program (program_of compiled.now.typed)) compiled.now.names }
+{
+    let _program = compiled.typed.program();
+    results_are_typed();
+    let result = match plain(alloc, &compiled.typed, value, depth) {
+        Ok(Outcome::Gives(result)) => result,
+        Ok(Outcome::Deep) => return Vec::from_slice(alloc, b"deep"),
+        Err(_) => return Err(AllocError),
+    };
+    let types = compiled.typed.types();
+    match write_text(alloc, types, &compiled.names, &result) {
+        Ok(text) => Ok(text),
+        Err(_) => Err(AllocError),
+    }
+}
+
+/// The text of what a source's program gives on a packed payload; `deep` where its calls nest deeper than
+/// this, and nothing where one of the two isn't read.
+pub fn meaning(
+    alloc: Global,
+    source: &str,
+    payload: &[u8],
+    depth: u32,
+) -> Result<Vec<u8>, AllocError> {
+    let file = packed(alloc, payload)?;
+    let Some(compiled) = compile(alloc, source) else {
+        return Ok(Vec::new(alloc));
+    };
+    let Some(value) = read_value(alloc, &compiled.typed, &file) else {
+        return Ok(Vec::new(alloc));
+    };
+    run(alloc, &compiled, value, depth)
+}
