@@ -10,6 +10,8 @@ mod deep;
 #[cfg(test)]
 mod meanings;
 #[cfg(test)]
+mod printed;
+#[cfg(test)]
 mod programs;
 #[cfg(test)]
 mod rows;
