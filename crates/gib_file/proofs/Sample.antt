@@ -11,15 +11,15 @@ use Rattle.gib_types.specs.Table.{Row, Table, row_of, table_of, con_at, IsRow, I
 abbrev pub sample_types : List ℕ
 sample_types = 0 ∷ 1 ∷ 2 ∷ 3 ∷ []
 
-abbrev row : ℕ → ℕ → List Ty → Row
-row name owner fields = record { name = name; owner = owner; fields = fields }
+abbrev entry : ℕ → ℕ → List Ty → Row
+entry name owner fields = record { name = name; owner = owner; fields = fields }
 
 abbrev tree : ℕ → Ty
 tree n = Tree (record { 0 = n })
 
 -- the constructors
 abbrev pub sample_rows : List Row
-sample_rows = row 10 0 (Whole ∷ []) ∷ row 11 0 (tree 0 ∷ tree 0 ∷ []) ∷ row 12 1 (tree 0 ∷ Whole ∷ []) ∷ row 13 2 (Truth ∷ []) ∷ row 14 3 [] ∷ row 15 3 (Whole ∷ tree 3 ∷ []) ∷ []
+sample_rows = entry 10 0 (Whole ∷ []) ∷ entry 11 0 (tree 0 ∷ tree 0 ∷ []) ∷ entry 12 1 (tree 0 ∷ Whole ∷ []) ∷ entry 13 2 (Truth ∷ []) ∷ entry 14 3 [] ∷ entry 15 3 (Whole ∷ tree 3 ∷ []) ∷ []
 
 abbrev sample : Table
 sample = record { types = sample_types; rows = sample_rows }
@@ -35,12 +35,12 @@ same_row : (con : ℕ) (a b : Row) → Placed con a → ◌≡◌ {A = Option Ro
 same_row con a b h e = let same : a ≡ b = cc in subst (λ (r : Row). Placed con r) same h
 
 placed : (con : ℕ) (r : Row) → slice_get sample_rows con ≡ Some r → Placed con r
-placed zero r e = same_row 0 (row 10 0 (Whole ∷ [])) r (record { below = omega arith; named = refl; owned = refl; good = record { owned = omega arith; few = omega arith; known = (tt, tt) } }) e
-placed (suc zero) r e = same_row 1 (row 11 0 (tree 0 ∷ tree 0 ∷ [])) r (record { below = omega arith; named = refl; owned = refl; good = record { owned = omega arith; few = omega arith; known = (omega arith, (omega arith, tt)) } }) e
-placed (suc (suc zero)) r e = same_row 2 (row 12 1 (tree 0 ∷ Whole ∷ [])) r (record { below = omega arith; named = refl; owned = refl; good = record { owned = omega arith; few = omega arith; known = (omega arith, (tt, tt)) } }) e
-placed (suc (suc (suc zero))) r e = same_row 3 (row 13 2 (Truth ∷ [])) r (record { below = omega arith; named = refl; owned = refl; good = record { owned = omega arith; few = omega arith; known = (tt, tt) } }) e
-placed (suc (suc (suc (suc zero)))) r e = same_row 4 (row 14 3 []) r (record { below = omega arith; named = refl; owned = refl; good = record { owned = omega arith; few = omega arith; known = tt } }) e
-placed (suc (suc (suc (suc (suc zero))))) r e = same_row 5 (row 15 3 (Whole ∷ tree 3 ∷ [])) r (record { below = omega arith; named = refl; owned = refl; good = record { owned = omega arith; few = omega arith; known = (tt, (omega arith, tt)) } }) e
+placed zero r e = same_row 0 (entry 10 0 (Whole ∷ [])) r (record { below = omega arith; named = refl; owned = refl; good = record { owned = omega arith; few = omega arith; known = (tt, tt) } }) e
+placed (suc zero) r e = same_row 1 (entry 11 0 (tree 0 ∷ tree 0 ∷ [])) r (record { below = omega arith; named = refl; owned = refl; good = record { owned = omega arith; few = omega arith; known = (omega arith, (omega arith, tt)) } }) e
+placed (suc (suc zero)) r e = same_row 2 (entry 12 1 (tree 0 ∷ Whole ∷ [])) r (record { below = omega arith; named = refl; owned = refl; good = record { owned = omega arith; few = omega arith; known = (omega arith, (tt, tt)) } }) e
+placed (suc (suc (suc zero))) r e = same_row 3 (entry 13 2 (Truth ∷ [])) r (record { below = omega arith; named = refl; owned = refl; good = record { owned = omega arith; few = omega arith; known = (tt, tt) } }) e
+placed (suc (suc (suc (suc zero)))) r e = same_row 4 (entry 14 3 []) r (record { below = omega arith; named = refl; owned = refl; good = record { owned = omega arith; few = omega arith; known = tt } }) e
+placed (suc (suc (suc (suc (suc zero))))) r e = same_row 5 (entry 15 3 (Whole ∷ tree 3 ∷ [])) r (record { below = omega arith; named = refl; owned = refl; good = record { owned = omega arith; few = omega arith; known = (tt, (omega arith, tt)) } }) e
 placed (suc (suc (suc (suc (suc (suc con)))))) r e = absurd cc
 
 same_name : (a b : ℕ) → ◌≡◌ {A = Option ℕ} (Some a) (Some b) → b ≡ a

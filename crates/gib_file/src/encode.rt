@@ -8,7 +8,8 @@ ghost use Rattle.gib_types.specs.Tree.{HasType, IsTyped};
 ghost use Rattle.gib_value.specs.Heap.{value_of, IsWithin};
 ghost use Rattle.gib_file.specs.Packed.{packed, number, bit};
 ghost use Rattle.gib_file.specs.Framed.{header, File};
-ghost use Rattle.gib_file.specs.Packing.{node_scalars, node_trees, HasTags};
+ghost use Rattle.gib_value.specs.Tags.{HasTags};
+ghost use Rattle.gib_file.specs.Packing.{node_scalars, node_trees};
 
 use byteorder::{ByteOrder, LittleEndian};
 use gib_base::Memory;

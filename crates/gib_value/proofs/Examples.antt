@@ -7,7 +7,7 @@ use Rattle.gib_types.specs.Row.{row_of, table_of}
 use Rattle.gib_types.specs.Table.{Row, Table, IsTable, IsRow, con_at}
 use Rattle.gib_value.specs.Text.{AreHeld}
 use Rattle.gib_value.specs.Reading.{AreWords}
-use Rattle.gib_value.specs.Example.{tree, row, table, names}
+use Rattle.gib_value.specs.Example.{tree, entry, table, names}
 
 record Fact (con : ℕ) (r : Row) : Type 0 where
   name : r.name ≡ con + 3
@@ -80,7 +80,7 @@ seen_words t n e f = subst (λ (x : Table). AreWords x n) (sym e) (subst (λ (l 
 -- what the tests make is a table
 pub made_rules : (types : List TypeName) (cs : List Constructor) (a b c d e f : Constructor)
     → types ≡ record { 0 = 0 } ∷ record { 0 = 1 } ∷ record { 0 = 2 } ∷ [] → cs ≡ a ∷ b ∷ c ∷ d ∷ e ∷ f ∷ []
-    → row_of a ≡ row 3 0 (Whole ∷ []) → row_of b ≡ row 4 0 (tree 0 ∷ tree 0 ∷ []) → row_of c ≡ row 5 1 [] → row_of d ≡ row 6 1 (Truth ∷ tree 1 ∷ []) → row_of e ≡ row 7 2 [] → row_of f ≡ row 8 2 []
+    → row_of a ≡ entry 3 0 (Whole ∷ []) → row_of b ≡ entry 4 0 (tree 0 ∷ tree 0 ∷ []) → row_of c ≡ entry 5 1 [] → row_of d ≡ entry 6 1 (Truth ∷ tree 1 ∷ []) → row_of e ≡ entry 7 2 [] → row_of f ≡ entry 8 2 []
     → IsTable (table_of types cs)
 made_rules types cs a b c d e f ht hc ha hb hcc hd he hf =
     let t : Row → Row → Row → Row → Row → Row → Table = λ u v w x y z. record { types = 0 ∷ 1 ∷ 2 ∷ []; rows = u ∷ v ∷ w ∷ x ∷ y ∷ z ∷ [] } in
@@ -88,9 +88,9 @@ made_rules types cs a b c d e f ht hc ha hb hcc hd he hf =
     ap (λ (l : List TypeName). table_of l cs) ht
     ∙ ap (λ (l : List Constructor). table_of (record { 0 = 0 } ∷ record { 0 = 1 } ∷ record { 0 = 2 } ∷ []) l) hc
     ∙ ap (λ (u : Row). t u (row_of b) (row_of c) (row_of d) (row_of e) (row_of f)) ha
-    ∙ ap (λ (u : Row). t (row 3 0 (Whole ∷ [])) u (row_of c) (row_of d) (row_of e) (row_of f)) hb
-    ∙ ap (λ (u : Row). t (row 3 0 (Whole ∷ [])) (row 4 0 (tree 0 ∷ tree 0 ∷ [])) u (row_of d) (row_of e) (row_of f)) hcc
-    ∙ ap (λ (u : Row). t (row 3 0 (Whole ∷ [])) (row 4 0 (tree 0 ∷ tree 0 ∷ [])) (row 5 1 []) u (row_of e) (row_of f)) hd
-    ∙ ap (λ (u : Row). t (row 3 0 (Whole ∷ [])) (row 4 0 (tree 0 ∷ tree 0 ∷ [])) (row 5 1 []) (row 6 1 (Truth ∷ tree 1 ∷ [])) u (row_of f)) he
-    ∙ ap (λ (u : Row). t (row 3 0 (Whole ∷ [])) (row 4 0 (tree 0 ∷ tree 0 ∷ [])) (row 5 1 []) (row 6 1 (Truth ∷ tree 1 ∷ [])) (row 7 2 []) u) hf in
+    ∙ ap (λ (u : Row). t (entry 3 0 (Whole ∷ [])) u (row_of c) (row_of d) (row_of e) (row_of f)) hb
+    ∙ ap (λ (u : Row). t (entry 3 0 (Whole ∷ [])) (entry 4 0 (tree 0 ∷ tree 0 ∷ [])) u (row_of d) (row_of e) (row_of f)) hcc
+    ∙ ap (λ (u : Row). t (entry 3 0 (Whole ∷ [])) (entry 4 0 (tree 0 ∷ tree 0 ∷ [])) (entry 5 1 []) u (row_of e) (row_of f)) hd
+    ∙ ap (λ (u : Row). t (entry 3 0 (Whole ∷ [])) (entry 4 0 (tree 0 ∷ tree 0 ∷ [])) (entry 5 1 []) (entry 6 1 (Truth ∷ tree 1 ∷ [])) u (row_of f)) he
+    ∙ ap (λ (u : Row). t (entry 3 0 (Whole ∷ [])) (entry 4 0 (tree 0 ∷ tree 0 ∷ [])) (entry 5 1 []) (entry 6 1 (Truth ∷ tree 1 ∷ [])) (entry 7 2 []) u) hf in
     table_rules (table_of types cs) all

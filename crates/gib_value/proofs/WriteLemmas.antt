@@ -13,7 +13,8 @@ use Rattle.gib_value.specs.declared.write.Due.{Due}
 use Rattle.gib_value.specs.declared.write.Due.TheVariants.{Field, Close}
 use Rattle.gib_value.specs.Heap.{value_of, IsWithin}
 use Rattle.gib_value.specs.Text.{con_text, spell, spell_fields}
-use Rattle.gib_value.specs.Writing.{due_text, HasTags, HaveTags, IsDue, size, sizes, due_size}
+use Rattle.gib_value.specs.Tags.{HasTags, HaveTags}
+use Rattle.gib_value.specs.Writing.{due_text, IsDue, size, sizes, due_size}
 use Rattle.gib_value.proofs.HeapLemmas.{All-append}
 
 pub record Writes (table : Table) (names : List (List ℕ)) (heap : List Datum) (all : List ℕ) (due : List Due) (out : List ℕ) : Type 0 where

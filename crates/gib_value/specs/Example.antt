@@ -10,14 +10,14 @@ abbrev pub tree : ℕ → Ty
 tree n = Tree (record { 0 = n })
 
 -- A constructor by the numbers of its name and its type, and its fields.
-abbrev pub row : ℕ → ℕ → List Ty → Row
-row name owner fields = record { name = name; owner = owner; fields = fields }
+abbrev pub entry : ℕ → ℕ → List Ty → Row
+entry name owner fields = record { name = name; owner = owner; fields = fields }
 
 -- The table of these types.
 abbrev pub table : Table
 table = record {
   types = 0 ∷ 1 ∷ 2 ∷ [];
-  rows = row 3 0 (Whole ∷ []) ∷ row 4 0 (tree 0 ∷ tree 0 ∷ []) ∷ row 5 1 [] ∷ row 6 1 (Truth ∷ tree 1 ∷ []) ∷ row 7 2 [] ∷ row 8 2 [] ∷ [];
+  rows = entry 3 0 (Whole ∷ []) ∷ entry 4 0 (tree 0 ∷ tree 0 ∷ []) ∷ entry 5 1 [] ∷ entry 6 1 (Truth ∷ tree 1 ∷ []) ∷ entry 7 2 [] ∷ entry 8 2 [] ∷ [];
 }
 
 -- Their names.

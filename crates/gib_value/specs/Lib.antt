@@ -1,5 +1,6 @@
 pub mod Heap
 pub mod Text
+pub mod Tags
 pub mod Writing
 pub mod Reading
 pub mod Example

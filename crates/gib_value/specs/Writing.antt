@@ -6,23 +6,13 @@ use Rattle.gib_value.specs.declared.write.Due.{Due}
 use Rattle.gib_value.specs.declared.write.Due.TheVariants.{Field, Close}
 use Rattle.gib_value.specs.Heap.{value_of, IsWithin}
 use Rattle.gib_value.specs.Text.{spell}
+use Rattle.gib_value.specs.Tags.{HasTags}
 
 -- The text of what is due, the first one first.
 abbrev pub due_text : Table → List (List ℕ) → List Datum → List Due → List ℕ
 due_text table names heap [] = []
 due_text table names heap (Field n ∷ due) = 32 ∷ spell table names (value_of heap n) (due_text table names heap due)
 due_text table names heap (Close ∷ due) = 41 ∷ due_text table names heap due
-
--- Each constructor of the value is one of so many.
-abbrev mutual
-  pub HasTags : ℕ → Datum → Type 0
-  HasTags n (whole z) = Unit {0}
-  HasTags n (truth b) = Unit {0}
-  HasTags n (con k vs) = (k < n) × HaveTags n vs
-
-  pub HaveTags : ℕ → Data → Type 0
-  HaveTags n none = Unit {0}
-  HaveTags n (more v vs) = HasTags n v × HaveTags n vs
 
 -- What is due stands in the heap, and each of its constructors is one of so many.
 abbrev pub IsDue : ℕ → List Datum → Due → Type 0

@@ -2,7 +2,7 @@
 
 ghost use Rattle.std.specs.Prelude.{◌≡◌, IfOk};
 ghost use Rattle.gib_types.specs.Table.{row_of, table_of};
-ghost use Rattle.gib_value.specs.Example.{row, table as example_table, names as example_names};
+ghost use Rattle.gib_value.specs.Example.{entry, table as example_table, names as example_names};
 
 use crate::fault::TextFault;
 use crate::read::read_text;
@@ -19,7 +19,7 @@ const CHAIN: Ty = Ty::Tree(TyId(1));
 const MARK: Ty = Ty::Tree(TyId(2));
 
 fn constructor(alloc: Global, name: u32, owner: u32, fields: &[Ty]) -> Result<Constructor, Memory>
-    ensures { IfOk result (λ c. row_of c ≡ row name owner fields.now) }
+    ensures { IfOk result (λ c. row_of c ≡ entry name owner fields.now) }
 {
     let fields = Vec::from_slice(alloc, fields)?;
     Ok(Constructor {

@@ -1,6 +1,6 @@
 use Rattle.std.proofs.Common.{subst, sym, length}
 use Rattle.gib_types.specs.Tree.{Datum}
-use Rattle.gib_value.specs.Writing.{HasTags}
+use Rattle.gib_value.specs.Tags.{HasTags}
 use Rattle.gib_value.proofs.WriteLemmas.{HasTags-typed}
 use Rattle.gib_value.proofs.write.write_text.Goals as goal
 
