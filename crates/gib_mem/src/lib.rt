@@ -53,4 +53,3 @@ pub trait Mem {
     /// No more chunks are drawn than there are.
     ghost small: { (m : Self) → ((view m).drawn ≤ (view m).limit) × ((view m).limit < 2 ^ 32) };
 }
-

@@ -68,7 +68,11 @@ fn lay_out(fields: &[Ty], has_offsets: bool) -> Layout
             Ty::Tree(_) => packed += 1,
         }
     }
-    let offsets = if has_offsets && packed > 0 { 8 * (packed - 1) } else { 0 };
+    let offsets = if has_offsets && packed > 0 {
+        8 * (packed - 1)
+    } else {
+        0
+    };
     Layout {
         head: 1 + offsets + scalars,
         offsets,
