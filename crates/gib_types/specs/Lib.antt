@@ -1,5 +1,6 @@
 pub mod Row
 pub mod Table
 pub mod Index
+pub mod Layout
 pub mod Tree
 pub mod TreeCode

@@ -1,6 +1,8 @@
 //! The declared types of a program, and the values of these types.
 #![tactic(auto)]
 
+pub mod layouts;
 pub mod table;
 
+pub use layouts::{Layout, Layouts};
 pub use table::{ConId, Constructor, Ty, TyId, TypeTable};
