@@ -1,0 +1,98 @@
+-- Nodes that name each other by their numbers, seen as terms.
+use Rattle.std.specs.Prelude.{◌≡◌, ℕ, zero, suc, pos, ◌<◌, ◌≤◌, List, [], ◌∷◌, length, map, Option, Some, None, slice_get}
+use Rattle.std.specs.List.{AllByRecursion}
+use Rattle.gib_core.specs.declared.atom.Atom.TheVariants as a
+use Rattle.gib_core.specs.declared.node.BoundTerm.{BoundTerm}
+use Rattle.gib_core.specs.declared.node.Binding.{Binding}
+use Rattle.gib_core.specs.declared.node.Binding.TheVariants as b
+use Rattle.gib_core.specs.declared.node.Branch.{Branch}
+use Rattle.gib_core.specs.declared.node.Node.{Node}
+use Rattle.gib_core.specs.declared.node.Node.TheVariants as n
+use Rattle.gib_core.specs.Tree.{Term, Then, Write, Point, CallTerm, Give, CaseTerm, IfTerm, Bind, Past, One, Both, Prim, Reach, Side, On, Branches, NoBranch, BranchThen}
+
+-- The terms of a binding have smaller numbers.
+abbrev pub IsBindingBelow : ℕ → Binding → Type 0
+IsBindingBelow id (b.Past h k) = Unit {0}
+IsBindingBelow id (b.One s) = s.term.0 < id
+IsBindingBelow id (b.Par fork l r) = (l.term.0 < id) × (r.term.0 < id)
+IsBindingBelow id (b.Prim x f y z) = Unit {0}
+IsBindingBelow id (b.Reach y by) = Unit {0}
+
+-- The term of a branch has a smaller number.
+abbrev pub IsBranchBelow : ℕ → Branch → Type 0
+IsBranchBelow id branch = branch.term.0 < id
+
+-- The parts of a node have smaller numbers.
+abbrev pub PartsBelow : Node → ℕ → Type 0
+PartsBelow (n.Then binding rest) id = IsBindingBelow id binding × (rest.0 < id)
+PartsBelow (n.Write h k ss ps) id = Unit {0}
+PartsBelow (n.Point x) id = Unit {0}
+PartsBelow (n.Call f xs) id = Unit {0}
+PartsBelow (n.Give x) id = Unit {0}
+PartsBelow (n.Case x branches) id = AllByRecursion (IsBranchBelow id) branches.items
+PartsBelow (n.If x t u) id = (t.0 < id) × (u.0 < id)
+
+-- Each node stands behind its parts.
+pub record IsArena (nodes : List Node) : Type 0 where
+  pub below : (id : ℕ) (node : Node) → slice_get nodes id ≡ Some node → PartsBelow node id
+
+-- A side, where numbers have these terms.
+abbrev pub side_from : (ℕ → Term) → BoundTerm → Side
+side_from f s = On s.kind s.variable s.ty (f s.term.0)
+
+-- A binding, where numbers have these terms.
+abbrev pub bind_from : (ℕ → Term) → Binding → Bind
+bind_from f (b.Past h k) = Past h k
+bind_from f (b.One s) = One (side_from f s)
+bind_from f (b.Par fork l r) = Both fork (side_from f l) (side_from f r)
+bind_from f (b.Prim x g y z) = Prim x g y z
+bind_from f (b.Reach y by) = Reach y by
+
+-- Bindings, where numbers have these terms.
+abbrev pub binds_from : (ℕ → Term) → List Binding → List Bind
+binds_from f bs = map (bind_from f) bs
+
+-- Branches, where numbers have these terms.
+abbrev pub branches_from : (ℕ → Term) → List Branch → Branches
+branches_from f [] = NoBranch
+branches_from f (branch ∷ branches) = BranchThen branch.constructor branch.variables.items (f branch.term.0) (branches_from f branches)
+
+-- The term of no node.
+abbrev pub nothing : Term
+nothing = Give (a.Whole (pos 0))
+
+-- A node as a term, where its parts are these terms.
+abbrev pub layer : (ℕ → Term) → Option Node → Term
+layer f None = nothing
+layer f (Some (n.Then binding rest)) = Then (bind_from f binding) (f rest.0)
+layer f (Some (n.Write h k ss ps)) = Write h k ss.items ps.items
+layer f (Some (n.Point x)) = Point x
+layer f (Some (n.Call g xs)) = CallTerm g xs.items
+layer f (Some (n.Give x)) = Give x
+layer f (Some (n.Case x branches)) = CaseTerm x (branches_from f branches.items)
+layer f (Some (n.If x t u)) = IfTerm x (f t.0) (f u.0)
+
+-- The term of the node of a number, cut after so many levels: below them stands the term of no node.
+unfoldable pub term_at : ℕ → List Node → ℕ → Term
+term_at zero nodes id = nothing
+term_at (suc k) nodes id = layer (term_at k nodes) (slice_get nodes id)
+
+-- The term of the node of a number.
+unfoldable pub term_of : List Node → ℕ → Term
+term_of nodes id = term_at (suc id) nodes id
+
+-- What a node tells of the term of its number: its layer over the terms of its parts, which have
+-- smaller numbers.
+abbrev pub Opens : List Node → ℕ → Node → Type 0
+Opens nodes id node = (term_of nodes id ≡ layer (term_of nodes) (Some node)) × PartsBelow node id
+
+-- The terms that were there stay.
+pub record Grows (old new : List Node) : Type 0 where
+  pub longer : length old ≤ length new
+  pub same : (id : ℕ) → id < length old → term_of new id ≡ term_of old id
+
+-- A node was put at a number.
+pub record Makes (old new : List Node) (id : ℕ) (node : Node) : Type 0 where
+  pub grows : Grows old new
+  pub inside : id < length new
+  pub term : term_of new id ≡ layer (term_of old) (Some node)

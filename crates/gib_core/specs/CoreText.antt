@@ -1,0 +1,169 @@
+-- The text of a core.
+use Rattle.std.specs.Prelude.{ℕ, zero, suc, ◌+◌, Bool, true, false, List, [], ◌∷◌, ◌++◌, codes, slice_get, unwrap_or}
+use Rattle.std.specs.List.{flat_map}
+use Rattle.std.specs.Fmt.{decimal, signed_decimal}
+use Rattle.gib_base.specs.declared.name.Name.{Name}
+use Rattle.gib_types.specs.declared.table.Ty.{Ty}
+use Rattle.gib_types.specs.declared.table.Ty.TheVariants as ty
+use Rattle.gib_types.specs.declared.table.ConId.{ConId}
+use Rattle.gib_types.specs.Table.{Table, name_at}
+use Rattle.gib_syntax.specs.declared.tree.Operator.{Operator}
+use Rattle.gib_syntax.specs.declared.tree.Operator.TheVariants as o
+use Rattle.gib_core.specs.declared.atom.Variable.{Variable}
+use Rattle.gib_core.specs.declared.atom.Atom.{Atom}
+use Rattle.gib_core.specs.declared.atom.Atom.TheVariants as a
+use Rattle.gib_core.specs.declared.atom.Kind.{Kind}
+use Rattle.gib_core.specs.declared.atom.Kind.TheVariants.{Here, Region, Scalar}
+use Rattle.gib_core.specs.declared.atom.Access.{Access}
+use Rattle.gib_core.specs.declared.atom.Access.TheVariants.{Offset, Skip}
+use Rattle.gib_core.specs.declared.piece.Keyword.{Keyword}
+use Rattle.gib_core.specs.declared.piece.Keyword.TheVariants as k
+use Rattle.gib_core.specs.declared.piece.Piece.{Piece}
+use Rattle.gib_core.specs.declared.piece.Piece.TheVariants as p
+use Rattle.gib_core.specs.Tree.{Term, Then, Write, Point, CallTerm, Give, CaseTerm, IfTerm, Bind, Past, One, Both, Prim, Reach, Side, On, Branches, NoBranch, BranchThen, FunctionTerm, MainTerm, CoreTree}
+
+-- The pieces of variables, and then the rest.
+abbrev pub spell_variables : List Variable → List Piece → List Piece
+spell_variables [] rest = rest
+spell_variables (x ∷ xs) rest = p.Variable x ∷ spell_variables xs rest
+
+-- The pieces of atoms, and then the rest.
+abbrev pub spell_atoms : List Atom → List Piece → List Piece
+spell_atoms [] rest = rest
+spell_atoms (x ∷ xs) rest = p.Atom x ∷ spell_atoms xs rest
+
+abbrev pub kind_word : Kind → Keyword
+kind_word Here = k.Here
+kind_word Region = k.Region
+kind_word Scalar = k.Scalar
+
+abbrev pub spell_access : Access → Piece
+spell_access Offset = p.ByOffset
+spell_access (Skip z) = p.BySkip z
+
+abbrev pub spell_fork : Bool → List Piece → List Piece
+spell_fork false rest = rest
+spell_fork true rest = p.Fork ∷ rest
+
+abbrev mutual
+  -- The pieces of a term on a level, and then the rest.
+  pub spell_term : ℕ → Term → List Piece → List Piece
+  spell_term d (Then b t) rest = spell_bind d b (spell_term d t rest)
+  spell_term d (Write h c ss ps) rest = p.Line d k.Write ∷ p.Variable h ∷ spell_atoms ss (spell_atoms ps (p.End ∷ rest))
+  spell_term d (Point x) rest = p.Line d k.Point ∷ p.Atom x ∷ p.End ∷ rest
+  spell_term d (CallTerm f xs) rest = p.Line d k.Call ∷ p.Function f ∷ spell_atoms xs (p.End ∷ rest)
+  spell_term d (Give x) rest = p.Line d k.Give ∷ p.Atom x ∷ p.End ∷ rest
+  spell_term d (CaseTerm x branches) rest = p.Line d k.Case ∷ p.Atom x ∷ p.End ∷ spell_branches (d + 1) branches rest
+  spell_term d (IfTerm x t u) rest =
+      p.Line d k.If ∷ p.Atom x ∷ p.End ∷ spell_term (d + 1) t (p.Line d k.Else ∷ p.End ∷ spell_term (d + 1) u rest)
+
+  pub spell_bind : ℕ → Bind → List Piece → List Piece
+  spell_bind d (Past h c) rest = p.Line d k.Past ∷ p.Variable h ∷ p.Constructor c ∷ p.End ∷ rest
+  spell_bind d (One s) rest = spell_side d s rest
+  spell_bind d (Both fork l r) rest = p.Line d k.Par ∷ spell_fork fork (p.End ∷ spell_side (d + 1) l (spell_side (d + 1) r rest))
+  spell_bind d (Prim x f y z) rest = p.Line d k.Prim ∷ p.Variable x ∷ p.Equals ∷ p.Atom y ∷ p.Operator f ∷ p.Atom z ∷ p.End ∷ rest
+  spell_bind d (Reach y by) rest = p.Line d k.Reach ∷ p.Variable y ∷ spell_access by ∷ p.End ∷ rest
+
+  pub spell_side : ℕ → Side → List Piece → List Piece
+  spell_side d (On kind x ty t) rest = p.Line d (kind_word kind) ∷ p.Variable x ∷ p.End ∷ spell_term (d + 1) t rest
+
+  -- Each arm's line, and its term on the level below it.
+  pub spell_branches : ℕ → Branches → List Piece → List Piece
+  spell_branches d NoBranch rest = rest
+  spell_branches d (BranchThen c xs t branches) rest =
+      p.Arm d c ∷ spell_variables xs (p.End ∷ spell_term (d + 1) t (spell_branches d branches rest))
+
+-- Parameters, which are the variables from a number on.
+abbrev pub spell_parameters : ℕ → List Ty → List Piece → List Piece
+spell_parameters n [] rest = rest
+spell_parameters n (t ∷ ts) rest = p.Parameter (record { 0 = n }) t ∷ spell_parameters (n + 1) ts rest
+
+-- A function: its line, and its body.
+abbrev pub spell_function : FunctionTerm → List Piece → List Piece
+spell_function f rest =
+    p.Line 0 k.Fun ∷ p.Function f.name ∷ spell_parameters 0 f.parameters (p.Result f.result ∷ p.End ∷ spell_term 1 f.body rest)
+
+abbrev pub spell_functions : List FunctionTerm → List Piece → List Piece
+spell_functions [] rest = rest
+spell_functions (f ∷ fs) rest = spell_function f (spell_functions fs rest)
+
+-- Main: its line, and its body.
+abbrev pub spell_main : MainTerm → List Piece → List Piece
+spell_main m rest =
+    p.Line 0 k.Main ∷ p.Parameter (record { 0 = 0 }) m.parameter ∷ p.Result m.result ∷ p.End ∷ spell_term 1 m.body rest
+
+-- The pieces of a core.
+abbrev pub spell_core : CoreTree → List Piece
+spell_core core = spell_functions core.functions (spell_main core.main [])
+
+-- The word that a line begins with.
+abbrev pub keyword_text : Keyword → List ℕ
+keyword_text k.Fun = codes "fun"
+keyword_text k.Main = codes "main"
+keyword_text k.Case = codes "case"
+keyword_text k.If = codes "if"
+keyword_text k.Else = codes "else"
+keyword_text k.Past = codes "past"
+keyword_text k.Write = codes "write"
+keyword_text k.Point = codes "point"
+keyword_text k.Give = codes "give"
+keyword_text k.Call = codes "call"
+keyword_text k.Here = codes "here"
+keyword_text k.Region = codes "region"
+keyword_text k.Scalar = codes "scalar"
+keyword_text k.Prim = codes "prim"
+keyword_text k.Par = codes "par"
+keyword_text k.Reach = codes "reach"
+
+abbrev pub operator_text : Operator → List ℕ
+operator_text o.Add = codes "+"
+operator_text o.Subtract = codes "-"
+operator_text o.Multiply = codes "*"
+operator_text o.Equal = codes "=="
+operator_text o.Less = codes "<"
+
+-- Two spaces for each level.
+abbrev pub indent : ℕ → List ℕ
+indent zero = []
+indent (suc d) = 32 ∷ 32 ∷ indent d
+
+-- The text of a name, by its number.
+abbrev pub name_text : List (List ℕ) → ℕ → List ℕ
+name_text names n = unwrap_or (slice_get names n) []
+
+-- A variable is `%` (37) with its number.
+abbrev pub variable_text : Variable → List ℕ
+variable_text x = 37 ∷ decimal x.0
+
+abbrev pub atom_text : Atom → List ℕ
+atom_text (a.Variable x) = variable_text x
+atom_text (a.Whole z) = signed_decimal z
+atom_text (a.Truth false) = codes "False"
+atom_text (a.Truth true) = codes "True"
+
+abbrev pub type_text : List (List ℕ) → Table → Ty → List ℕ
+type_text names table ty.Whole = codes "Int"
+type_text names table ty.Truth = codes "Bool"
+type_text names table (ty.Tree t) = name_text names (unwrap_or (slice_get table.types t.0) 0)
+
+-- How a piece is written: what does not begin a line comes behind a space (32), and a line ends with a line
+-- feed (10).
+abbrev pub piece_text : List (List ℕ) → Table → Piece → List ℕ
+piece_text names table (p.Line d word) = indent d ++ keyword_text word
+piece_text names table (p.Arm d c) = indent d ++ name_text names (name_at table c.0)
+piece_text names table (p.Function f) = 32 ∷ name_text names f.0
+piece_text names table (p.Constructor c) = 32 ∷ name_text names (name_at table c.0)
+piece_text names table (p.Variable x) = 32 ∷ variable_text x
+piece_text names table (p.Atom x) = 32 ∷ atom_text x
+piece_text names table (p.Parameter x t) = 32 ∷ (variable_text x ++ 58 ∷ type_text names table t)
+piece_text names table (p.Result t) = codes " : " ++ type_text names table t
+piece_text names table (p.Operator f) = 32 ∷ operator_text f
+piece_text names table p.Equals = codes " ="
+piece_text names table p.Fork = codes " fork"
+piece_text names table p.ByOffset = codes " by offset"
+piece_text names table (p.BySkip z) = codes " by skip " ++ variable_text z
+piece_text names table p.End = 10 ∷ []
+
+-- The text of a core, with the names by their numbers.
+abbrev pub core_text : List (List ℕ) → CoreTree → List ℕ
+core_text names core = flat_map (piece_text names core.table) (spell_core core)

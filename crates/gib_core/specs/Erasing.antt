@@ -1,0 +1,149 @@
+-- The source term that is left of a core without destinations, heads, reaches and marks.
+use Rattle.std.specs.Prelude.{ℕ, zero, suc, ℤ, pos, negsuc, ◌==◌, if◌then◌else◌, Bool, List, [], ◌∷◌, map, Option, Some, None}
+use Rattle.gib_base.specs.declared.Span.{Span}
+use Rattle.gib_base.specs.declared.name.Name.{Name}
+use Rattle.gib_types.specs.declared.table.Ty.{Ty}
+use Rattle.gib_types.specs.declared.table.Ty.TheVariants.{Whole, Truth, Tree}
+use Rattle.gib_types.specs.declared.table.ConId.{ConId}
+use Rattle.gib_types.specs.Table.{Table, fields_at, name_at}
+use Rattle.gib_syntax.specs.declared.tree.Ident.{Ident}
+use Rattle.gib_syntax.specs.declared.tree.Parameter.{Parameter}
+use Rattle.gib_syntax.specs.declared.tree.TypeName.{TypeName}
+use Rattle.gib_syntax.specs.declared.tree.TypeName.TheVariants as ty
+use Rattle.gib_syntax.specs.Tree.{Expression, Arguments, Arms, Var, Num, Bit, Op, Call, Make, Let, Par, If, Case, NoArgument, Argument, LastArm, NextArm, DataTree, FunctionTree, ProgramTree}
+use Rattle.gib_core.specs.declared.atom.Variable.{Variable}
+use Rattle.gib_core.specs.declared.atom.Atom.{Atom}
+use Rattle.gib_core.specs.declared.atom.Atom.TheVariants as a
+use Rattle.gib_core.specs.declared.atom.Kind.{Kind}
+use Rattle.gib_core.specs.declared.atom.Kind.TheVariants.{Here, Region, Scalar}
+use Rattle.gib_core.specs.Tree.{Term, Then, Write, Point, CallTerm, Give, CaseTerm, IfTerm, Bind, Past, One, Both, Prim, Reach, Side, On, Branches, NoBranch, BranchThen, variable_of, FunctionTerm, MainTerm, CoreTree}
+use Rattle.gib_core.specs.Meaning.{merge}
+
+-- The place of what stands in no source text.
+abbrev pub nowhere : Span
+nowhere = record { start = 0; end = 0 }
+
+-- A name of a number, in no source text.
+abbrev pub ident : ℕ → Ident
+ident n = record { name = record { 0 = n }; span = nowhere }
+
+-- A number that is no literal of the source is 0; terms have none.
+abbrev pub literal_of : ℤ → ℕ
+literal_of (pos n) = n
+literal_of (negsuc n) = 0
+
+-- An atom as an expression.
+abbrev pub expression_of : Atom → Expression
+expression_of (a.Variable x) = Var (ident x.0)
+expression_of (a.Whole z) = Num nowhere (literal_of z)
+expression_of (a.Truth b) = Bit nowhere b
+
+-- Expressions as arguments.
+abbrev pub arguments_of : List Expression → Arguments
+arguments_of [] = NoArgument
+arguments_of (e ∷ es) = Argument e (arguments_of es)
+
+-- What variables are put for: an atom for each, the newest first. Any other variable stays.
+abbrev pub Substitution : Type 0
+Substitution = List (ℕ × Atom)
+
+-- What is put for a variable.
+abbrev pub put_for : Substitution → Variable → Atom
+put_for [] x = a.Variable x
+put_for (b ∷ sub) x = if b.0 == x.0 then b.1 else put_for sub x
+
+-- What is put for an atom.
+abbrev pub put_in : Substitution → Atom → Atom
+put_in sub (a.Variable x) = put_for sub x
+put_in sub (a.Whole z) = a.Whole z
+put_in sub (a.Truth b) = a.Truth b
+
+-- An atom as an expression, with what is put for it.
+abbrev pub erase_atom : Substitution → Atom → Expression
+erase_atom sub x = expression_of (put_in sub x)
+
+-- A case of these arms on an atom; on a literal, or of no arm, which no core of a source has, it is 0.
+abbrev pub case_of : Atom → Option Arms → Expression
+case_of x None = Num nowhere 0
+case_of (a.Variable x) (Some arms) = Case nowhere (ident x.0) arms
+case_of (a.Whole z) (Some arms) = Num nowhere 0
+case_of (a.Truth b) (Some arms) = Num nowhere 0
+
+-- One more arm, before the others.
+abbrev pub arm_before : Ident → List Ident → Expression → Option Arms → Option Arms
+arm_before k xs e None = Some (LastArm k xs e)
+arm_before k xs e (Some arms) = Some (NextArm k xs e arms)
+
+abbrev mutual
+  -- The expression that is left of a term. A `here` or `region` whose right side is `point y`, and that is no
+  -- side of a par, is left out, and y put for its variable.
+  pub erase : Table → Substitution → Term → Expression
+  erase table sub (Then b rest) = erase_bind table sub b (λ s. erase table s rest)
+  erase table sub (Write h k ss ps) =
+      Make (ident (name_at table k.0)) (arguments_of (merge (fields_at table k.0) (map (erase_atom sub) ss) (map (erase_atom sub) ps)))
+  erase table sub (Point x) = erase_atom sub x
+  erase table sub (CallTerm f xs) = Call (ident f.0) (arguments_of (map (erase_atom sub) xs))
+  erase table sub (Give x) = erase_atom sub x
+  erase table sub (CaseTerm x branches) = case_of (put_in sub x) (erase_branches table sub branches)
+  erase table sub (IfTerm x t u) = If nowhere (erase_atom sub x) (erase table sub t) (erase table sub u)
+
+  -- A binding before the rest of its line.
+  pub erase_bind : Table → Substitution → Bind → (Substitution → Expression) → Expression
+  erase_bind table sub (Past h k) rest = rest sub
+  erase_bind table sub (One s) rest = erase_one table sub s rest
+  erase_bind table sub (Both fork l r) rest =
+      Par nowhere (ident (variable_of l).0) (erase_side table sub l) (ident (variable_of r).0) (erase_side table sub r) (rest sub)
+  erase_bind table sub (Prim x f y z) rest = Let nowhere (ident x.0) (Op nowhere f (erase_atom sub y) (erase_atom sub z)) (rest sub)
+  erase_bind table sub (Reach y by) rest = rest sub
+
+  pub erase_one : Table → Substitution → Side → (Substitution → Expression) → Expression
+  erase_one table sub (On Here x ty (Point y)) rest = rest ((x.0, put_in sub y) ∷ sub)
+  erase_one table sub (On Region x ty (Point y)) rest = rest ((x.0, put_in sub y) ∷ sub)
+  erase_one table sub (On Scalar x ty (Point y)) rest = Let nowhere (ident x.0) (erase_atom sub y) (rest sub)
+  erase_one table sub (On kind x ty t) rest = Let nowhere (ident x.0) (erase table sub t) (rest sub)
+
+  pub erase_side : Table → Substitution → Side → Expression
+  erase_side table sub (On kind x ty t) = erase table sub t
+
+  pub erase_branches : Table → Substitution → Branches → Option Arms
+  erase_branches table sub NoBranch = None
+  erase_branches table sub (BranchThen k xs t rest) =
+      arm_before (ident (name_at table k.0)) (map (λ (x : Variable). ident x.0) xs) (erase table sub t) (erase_branches table sub rest)
+
+-- The name of a declared type.
+abbrev pub declared_name : List ℕ → ℕ → ℕ
+declared_name [] n = 0
+declared_name (x ∷ xs) zero = x
+declared_name (x ∷ xs) (suc n) = declared_name xs n
+
+-- A type as it is written.
+abbrev pub type_name : Table → Ty → TypeName
+type_name table Whole = ty.Whole nowhere
+type_name table Truth = ty.Truth nowhere
+type_name table (Tree t) = ty.Declared (ident (declared_name table.types t.0))
+
+-- The variables from a number on as parameters of these types.
+abbrev pub parameters_from : Table → ℕ → List Ty → List Parameter
+parameters_from table n [] = []
+parameters_from table n (t ∷ ts) = record { name = ident n; ty = type_name table t } ∷ parameters_from table (suc n) ts
+
+-- The function that is left.
+abbrev pub erase_function : Table → FunctionTerm → FunctionTree
+erase_function table f = record {
+  name = record { name = f.name; span = nowhere };
+  parameters = parameters_from table 0 f.parameters;
+  result = type_name table f.result;
+  body = erase table [] f.body;
+}
+
+-- The program that is left, with the data declarations of the source.
+abbrev pub erase_core : List DataTree → CoreTree → ProgramTree
+erase_core datas core = record {
+  datas = datas;
+  functions = map (erase_function core.table) core.functions;
+  main = record {
+    parameter = record { name = ident 0; ty = type_name core.table core.main.parameter };
+    result = type_name core.table core.main.result;
+    body = erase core.table [] core.main.body;
+  };
+}

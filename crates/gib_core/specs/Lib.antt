@@ -1,0 +1,10 @@
+pub mod Tree
+pub mod Arena
+pub mod Parts
+pub mod Meaning
+pub mod Erasing
+pub mod Inferring
+pub mod Reaching
+pub mod Met
+pub mod Rules
+pub mod CoreText

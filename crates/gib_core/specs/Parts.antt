@@ -1,0 +1,44 @@
+-- A core as the code keeps it, and the core that it is.
+use Rattle.std.specs.Prelude.{ℕ, ◌<◌, List, map, length}
+use Rattle.std.specs.List.{AllByRecursion}
+use Rattle.gib_types.specs.declared.table.ConId.{ConId}
+use Rattle.gib_types.specs.Row.{Table}
+use Rattle.gib_core.specs.declared.node.Node.{Node}
+use Rattle.gib_core.specs.declared.program.CoreFunction.{CoreFunction}
+use Rattle.gib_core.specs.declared.program.CoreMain.{CoreMain}
+use Rattle.gib_core.specs.Tree.{Term, FunctionTerm, MainTerm, CoreTree}
+use Rattle.gib_core.specs.Arena.{term_of}
+
+-- The table, the terms of all bodies, the functions, main, and the constructors with offsets.
+pub record Parts : Type 0 where
+  pub table : Table
+  pub terms : List Node
+  pub functions : List CoreFunction
+  pub main : CoreMain
+  pub offsets : List ConId
+
+-- The body of a function is one of so many terms.
+abbrev pub IsFunctionInside : ℕ → CoreFunction → Type 0
+IsFunctionInside n f = f.body.0 < n
+
+-- Each body is one of the terms.
+pub record AreInside (parts : Parts) : Type 0 where
+  pub functions : AllByRecursion (IsFunctionInside (length parts.terms)) parts.functions
+  pub main : parts.main.body.0 < length parts.terms
+
+-- A function, where numbers have these terms.
+abbrev pub function_term : (ℕ → Term) → CoreFunction → FunctionTerm
+function_term f d = record { name = d.name; parameters = d.parameters.items; result = d.result; body = f d.body.0 }
+
+-- Main, where numbers have these terms.
+abbrev pub main_term : (ℕ → Term) → CoreMain → MainTerm
+main_term f m = record { parameter = m.parameter; result = m.result; body = f m.body.0 }
+
+-- The core that parts are.
+abbrev pub core_of : Parts → CoreTree
+core_of parts = record {
+  table = parts.table;
+  functions = map (function_term (term_of parts.terms)) parts.functions;
+  main = main_term (term_of parts.terms) parts.main;
+  offsets = parts.offsets;
+}

@@ -1,0 +1,40 @@
+//! The small things that terms are made of.
+
+/// A variable: its number in its function, in the order in which the printed text binds them.
+#[derive(Clone, Copy, Debug, PartialEq, Eq)]
+pub struct Variable(pub u32);
+
+/// A variable or a literal.
+#[derive(Clone, Copy, Debug, PartialEq, Eq)]
+pub enum Atom {
+    Variable(Variable),
+    Whole(i64),
+    Truth(bool),
+}
+
+/// Where the value of a bound term is put.
+#[derive(Clone, Copy, Debug, PartialEq, Eq)]
+pub enum Kind {
+    /// At the place of the next field of the open head.
+    Here,
+    /// In a region of its own.
+    Region,
+    /// Nowhere: it is a scalar.
+    Scalar,
+}
+
+/// How a field of an arm is reached.
+#[derive(Clone, Copy, Debug, PartialEq, Eq)]
+pub enum Access {
+    /// By the offset that its head stores.
+    Offset,
+    /// From the end of the field directly before it.
+    Skip(Variable),
+}
+
+/// How all fields of a core are reached.
+#[derive(Clone, Copy, Debug, PartialEq, Eq)]
+pub enum AccessMode {
+    Skips,
+    Offsets,
+}

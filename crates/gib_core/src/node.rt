@@ -1,0 +1,149 @@
+//! Terms as nodes in a vector, each behind its parts.
+
+use crate::atom::{Access, Atom, Kind, Variable};
+use gib_base::{Memory, Name};
+use gib_syntax::Operator;
+use gib_types::{ConId, Ty};
+use std::alloc::{AllocError, Global};
+use std::marker::Model;
+
+/// The number of a term.
+#[derive(Clone, Copy, Debug, PartialEq, Eq)]
+pub struct TermId(pub u32);
+
+/// A variable with its type, and the term that it is bound to.
+#[derive(Clone, Copy, Debug)]
+pub struct BoundTerm {
+    pub kind: Kind,
+    pub variable: Variable,
+    pub ty: Ty,
+    pub term: TermId,
+}
+
+/// One binding.
+#[derive(Clone, Copy, Debug)]
+pub enum Binding {
+    /// Room for the head of a constructor, which the variable names.
+    Past {
+        head: Variable,
+        constructor: ConId,
+    },
+    /// A variable that is bound to a term.
+    One(BoundTerm),
+    /// Two sides; `fork` marks those that may run at the same time.
+    Par {
+        fork: bool,
+        left: BoundTerm,
+        right: BoundTerm,
+    },
+    /// An operation.
+    Prim {
+        variable: Variable,
+        operator: Operator,
+        left: Atom,
+        right: Atom,
+    },
+    /// From here on a field of an arm can be used.
+    Reach { field: Variable, access: Access },
+}
+
+/// A branch of a case: a constructor, the variables of its fields in declared order, and its term.
+#[derive(Debug, Drop)]
+pub struct Branch {
+    pub constructor: ConId,
+    pub variables: Vec<Variable>,
+    pub term: TermId,
+}
+
+/// One term, with its parts by their numbers.
+#[derive(Debug, Drop)]
+pub enum Node {
+    /// A binding, and the rest of its line.
+    Then(Binding, TermId),
+    /// Fills the open head of the constructor: its scalar fields, and its packed ones.
+    Write {
+        head: Variable,
+        constructor: ConId,
+        scalars: Vec<Atom>,
+        packed: Vec<Atom>,
+    },
+    /// An indirection to a packed value.
+    Point(Atom),
+    /// A call of a function.
+    Call(Name, Vec<Atom>),
+    /// A scalar result.
+    Give(Atom),
+    Case {
+        subject: Atom,
+        branches: Vec<Branch>,
+    },
+    If {
+        condition: Atom,
+        then_part: TermId,
+        else_part: TermId,
+    },
+}
+
+/// Terms, each behind its parts.
+#[derive(Drop)]
+pub struct Terms {
+    nodes: Vec<Node>,
+}
+
+impl Model for Terms {
+    ghost use Rattle.std.specs.Prelude.{List};
+    ghost use Rattle.gib_core.specs.declared.node.Node.{Node as Item};
+    ghost use Rattle.gib_core.specs.Arena.{IsArena};
+
+    ghost Value = { List Item };
+
+    ghost view = { λ t. t.nodes.items };
+
+    ghost invariant = { λ t. IsArena t.nodes.items };
+}
+
+impl Terms {
+    ghost use Rattle.std.specs.Prelude.{◌≡◌, ◌<◌, [], length, IfOk, OnErr};
+    ghost use Rattle.gib_core.specs.Arena.{PartsBelow, Opens, Makes};
+
+    /// No terms.
+    pub fn new(alloc: Global) -> Terms
+        ensures { result ≡ [] }
+    {
+        Terms {
+            nodes: Vec::new(alloc),
+        }
+    }
+
+    /// How many terms there are.
+    pub fn len(&self) -> usize
+        ensures { result ≡ length self.now }
+    {
+        self.nodes.len()
+    }
+
+    /// The term of a number.
+    pub fn node(&self, id: TermId) -> &Node
+        requires { id.0 < length self.now }
+        ensures { Opens self.now id.0 result.now }
+    {
+        &self.nodes[id.0 as usize]
+    }
+
+    /// One more term, whose parts stand here already. Those that stand here stay as they are.
+    ///
+    /// # Errors
+    ///
+    /// Want of memory, where no further number is left too.
+    pub fn put(&mut self, node: Node) -> Result<TermId, Memory>
+        requires { PartsBelow node (length self.old) }
+        ensures made { IfOk result (λ id. Makes self.old self.new id.0 node) }
+        ensures same { OnErr result (self.new ≡ self.old) }
+    {
+        let Ok(number) = u32::try_from(self.nodes.len()) else {
+            return Err(AllocError);
+        };
+        self.nodes.push(node)?;
+        Ok(TermId(number))
+    }
+}

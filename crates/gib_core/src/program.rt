@@ -1,0 +1,126 @@
+//! Whole cores.
+
+ghost use Rattle.std.specs.Prelude.{◌≡◌};
+
+use crate::node::{TermId, Terms};
+use gib_base::Name;
+use gib_types::{ConId, Ty, TypeTable};
+use std::marker::Model;
+
+/// A function of a core. Its parameters are its first variables.
+#[derive(Debug, Drop)]
+pub struct CoreFunction {
+    pub name: Name,
+    pub parameters: Vec<Ty>,
+    pub result: Ty,
+    pub body: TermId,
+}
+
+/// Main of a core. Its parameter is its first variable.
+#[derive(Clone, Copy, Debug)]
+pub struct CoreMain {
+    pub parameter: Ty,
+    pub result: Ty,
+    pub body: TermId,
+}
+
+/// A core: the types of the program, its functions, the terms in which their bodies stand, and the
+/// constructors whose heads store offsets.
+#[derive(Drop)]
+pub struct Core {
+    types: TypeTable,
+    terms: Terms,
+    functions: Vec<CoreFunction>,
+    main: CoreMain,
+    offsets: Vec<ConId>,
+}
+
+impl Model for Core {
+    ghost use Rattle.gib_core.specs.Parts.{Parts, AreInside};
+
+    ghost Value = { Parts };
+
+    ghost view = { λ c. record { table = c.types; terms = c.terms; functions = c.functions.items; main = c.main; offsets = c.offsets.items } };
+
+    ghost invariant = { λ c. AreInside (record { table = c.types; terms = c.terms; functions = c.functions.items; main = c.main; offsets = c.offsets.items }) };
+}
+
+impl Core {
+    ghost use Rattle.gib_core.specs.Parts.{Parts, AreInside};
+
+    /// A core of these parts.
+    pub fn new(
+        types: TypeTable,
+        terms: Terms,
+        functions: Vec<CoreFunction>,
+        main: CoreMain,
+        offsets: Vec<ConId>,
+    ) -> Core
+        requires { AreInside (record { table = types; terms = terms; functions = functions.items; main = main; offsets = offsets.items }) }
+        ensures { result ≡ record { table = types; terms = terms; functions = functions.items; main = main; offsets = offsets.items } }
+    {
+        Core {
+            types,
+            terms,
+            functions,
+            main,
+            offsets,
+        }
+    }
+
+    /// The table of the program's types and constructors.
+    pub fn types(&self) -> &TypeTable
+        ensures { result.now ≡ self.now.table }
+    {
+        &self.types
+    }
+
+    /// The terms of all bodies.
+    pub fn terms(&self) -> &Terms
+        ensures value { result.now ≡ self.now.terms }
+        ensures inside { AreInside self.now }
+    {
+        &self.terms
+    }
+
+    /// The functions but main, in the order of the text.
+    pub fn functions(&self) -> &[CoreFunction]
+        ensures value { result.now ≡ self.now.functions }
+        ensures inside { AreInside self.now }
+    {
+        &self.functions
+    }
+
+    /// Main.
+    pub fn main(&self) -> CoreMain
+        ensures value { result ≡ self.now.main }
+        ensures inside { AreInside self.now }
+    {
+        self.main
+    }
+
+    /// The constructors whose heads store offsets.
+    pub fn offsets(&self) -> &[ConId]
+        ensures { result.now ≡ self.now.offsets }
+    {
+        &self.offsets
+    }
+
+    /// The parts of a core.
+    pub fn into_parts(self) -> (TypeTable, Terms, Vec<CoreFunction>, CoreMain, Vec<ConId>)
+        ensures types { result.0 ≡ self.table }
+        ensures terms { result.1 ≡ self.terms }
+        ensures functions { result.2.items ≡ self.functions }
+        ensures main { result.3 ≡ self.main }
+        ensures offsets { result.4.items ≡ self.offsets }
+        ensures inside { AreInside self }
+    {
+        (
+            self.types,
+            self.terms,
+            self.functions,
+            self.main,
+            self.offsets,
+        )
+    }
+}
