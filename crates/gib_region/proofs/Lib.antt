@@ -1,0 +1,3 @@
+pub mod Puts
+pub mod Placing
+pub mod Keeping
