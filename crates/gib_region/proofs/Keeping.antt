@@ -5,7 +5,8 @@ use Rattle.std.proofs.lemmas.Bool.Decides.{leb_tells}
 use Rattle.gib_mem.specs.Memory.{Store, Memory, fresh, after_puts, after_draw, Owned}
 use Rattle.gib_region.specs.Region.{rest, Behind, pointer, Placed, here, turned, IsApart, from_none, from_one, AreOwned, no_tails, one_more, Begins, at_tail, at_chunk, finished}
 use Rattle.gib_region.specs.Leaving.{IsBounded, TailsKept, BeginsOwned}
-use Rattle.gib_region.proofs.Puts.{puts_before, puts_past, open_before, open_in, there_below, fresh_there}
+use Rattle.gib_mem.proofs.Puts.{puts_before, puts_past, open_before, open_in}
+use Rattle.gib_region.proofs.Bounds.{there_below, fresh_there}
 
 -- two rests of chunks that are not the same chunk have no address in common
 apart_rests : (t at q : ℕ) → t / 4096 ≢ at / 4096 → t ≤ q → q < t + rest t → at ≤ q → q < at + rest at → ⊥

@@ -1,3 +1,3 @@
-pub mod Puts
+pub mod Bounds
 pub mod Placing
 pub mod Keeping

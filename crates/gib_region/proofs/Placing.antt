@@ -3,7 +3,8 @@ use Rattle.std.proofs.Common.{◌≡◌, ℕ, ◌+◌, ◌*◌, ◌≤◌, refl,
 use Rattle.gib_mem.specs.Memory.{Memory, fresh, after_draw, Owned}
 use Rattle.gib_region.specs.Region.{rest, Behind, pointer, Placed, here, turned}
 use Rattle.gib_region.specs.Leaving.{IsBounded, Leaves}
-use Rattle.gib_region.proofs.Puts.{puts_past, puts_hold, puts_grow, open_before, open_in, there_below, fresh_there, draw_grows}
+use Rattle.gib_mem.proofs.Puts.{puts_past, puts_hold, puts_grow, open_before, open_in}
+use Rattle.gib_region.proofs.Bounds.{there_below, fresh_there, draw_grows}
 
 pub leaves : (m : Memory) (at k : ℕ) (m' : Memory) (a : ℕ) → IsBounded m → Behind m.cells at → 9 ≤ rest at → k ≤ 65 → Placed m at k m' a → Leaves m m' at k a
 leaves m at k _ _ bounded b nine le (here room) =

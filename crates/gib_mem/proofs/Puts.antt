@@ -1,8 +1,7 @@
--- What putting bytes and drawing a chunk leave.
-use Rattle.std.proofs.Common.{◌≡◌, ◌≢◌, ℕ, ◌+◌, ◌*◌, ◌<◌, ◌≤◌, Bool, true, false, List, [], ◌∷◌, length, nat_lt, sym, ap, refl, ◌∙◌, arith, eqb, inl, inr, cond}
+-- What putting bytes and opening a chunk leave.
+use Rattle.std.proofs.Common.{◌≡◌, ◌≢◌, ℕ, ◌+◌, ◌*◌, ◌<◌, ◌≤◌, Bool, true, false, List, [], ◌∷◌, length, nat_lt, ap, refl, ◌∙◌, arith, eqb, inl, inr, cond}
 use Rattle.std.proofs.lemmas.Bool.Decides.{nat_tests, leb_tells}
-use Rattle.gib_mem.specs.Memory.{Store, Cell, Memory, absent, fresh, byte, set_cell, open_chunk, after_put, after_puts, Owned, Holds, none, more, Grows}
-use Rattle.gib_region.specs.Leaving.{IsBounded}
+use Rattle.gib_mem.specs.Memory.{Store, Cell, Memory, fresh, byte, set_cell, open_chunk, after_put, after_puts, Owned, Holds, none, more, Grows}
 
 pub set_same : (s : Store) (at : ℕ) (c : Cell) → set_cell s at c at ≡ c
 set_same s at c = let e : eqb at at ≡ true = grind (arith, nat_tests) in ap (λ (b : Bool). cond b c (s at)) e
@@ -51,23 +50,3 @@ open_in s c q le lt =
     let e : nat_lt q (4096 * c) ≡ false = grind (arith, nat_tests) in
     let f : nat_lt q (4096 * c + 4096) ≡ true = grind (arith, nat_tests) in
     ap (λ (b : Bool). cond b (s q) (cond (nat_lt q (4096 * c + 4096)) fresh (s q))) e ∙ ap (λ (b : Bool). cond b fresh (s q)) f
-
--- what is there stands in a chunk that was seen drawn
-pub there_below : (m : Memory) (q : ℕ) (c : Cell) → IsBounded m → m.cells q ≡ c → c ≢ absent → q < 4096 * m.drawn
-there_below m q c b e ne = elim (leb_tells (4096 * m.drawn) q) [
-  | inl high ↦ (let f = b.above q high.1 in absurd (ne (sym e ∙ f)))
-  | inr low ↦ low.1
-]
-
-pub fresh_there : fresh ≢ absent
-fresh_there e = cc
-
-pub byte_there : (b : ℕ) → byte b ≢ absent
-byte_there b e = cc
-
-pub draw_grows : (m : Memory) (c : ℕ) → IsBounded m → m.drawn ≤ c → Grows m.cells (open_chunk m.cells c)
-draw_grows m c bounded le = record {
-  kept = λ q b e.
-      let below = there_below m q (byte b) bounded e (byte_there b) in
-      open_before m.cells c q (omega arith) ∙ e;
-}
