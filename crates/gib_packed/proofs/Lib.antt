@@ -1,0 +1,4 @@
+pub mod HoldsLemmas
+pub mod Grow
+pub mod HeadLemmas
+pub mod Unique
