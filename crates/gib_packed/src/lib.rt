@@ -2,6 +2,8 @@
 #![tactic(auto)]
 
 pub mod law;
+pub mod read;
 pub mod root;
 
+pub use read::{follow, skip, tag_at, truth_at, whole_at, word_at};
 pub use root::Root;
