@@ -8,3 +8,4 @@ pub mod Spans
 pub mod SpanLemmas
 pub mod WalkLemmas
 pub mod FollowLemmas
+pub mod Typed
