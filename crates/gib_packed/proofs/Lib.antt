@@ -1,0 +1,11 @@
+pub mod HoldsLemmas
+pub mod Grow
+pub mod HeadLemmas
+pub mod Unique
+pub mod HoldsAt
+pub mod Steps
+pub mod Spans
+pub mod SpanLemmas
+pub mod WalkLemmas
+pub mod FollowLemmas
+pub mod Typed

@@ -1,0 +1,5 @@
+pub mod Scalars
+pub mod Head
+pub mod Decoding
+pub mod Stands
+pub mod Reaching

@@ -1,0 +1,9 @@
+//! Values in region memory: what stands there, and how it is read.
+#![tactic(auto)]
+
+pub mod law;
+pub mod read;
+pub mod root;
+
+pub use read::{follow, skip, tag_at, truth_at, whole_at, word_at};
+pub use root::Root;
