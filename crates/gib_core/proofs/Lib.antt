@@ -1,3 +1,4 @@
 pub mod Layers
 pub mod Unbroken
 pub mod Indented
+pub mod Copied

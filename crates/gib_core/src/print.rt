@@ -229,14 +229,21 @@ fn put_parameters(parameters: &[Ty], out: &mut Written) -> Result<(), Memory>
     Ok(())
 }
 
+/// The type of a result, the end of its line, and the body below it.
+fn put_body(terms: &Terms, ty: Ty, body: TermId, out: &mut Written) -> Result<(), Memory>
+    requires { body.0 < length terms.now }
+    ensures { OnOk result (out.new ≡ Piece.Result ty ∷ Piece.End ∷ spell_term 1 (term_of terms.now body.0) out.old) }
+{
+    put_term(terms, 1, body, out)?;
+    out.put(Piece::End)?;
+    out.put(Piece::Result(ty))
+}
+
 fn put_function(terms: &Terms, function: &CoreFunction, out: &mut Written) -> Result<(), Memory>
     requires { function.now.body.0 < length terms.now }
     ensures { OnOk result (out.new ≡ spell_function (function_term (term_of terms.now) function.now) out.old) }
 {
-    let body = function.body;
-    put_term(terms, 1, body, out)?;
-    out.put(Piece::End)?;
-    out.put(Piece::Result(function.result))?;
+    put_body(terms, function.result, function.body, out)?;
     put_parameters(&function.parameters, out)?;
     out.put(Piece::Function(function.name))?;
     out.put_line(0, Keyword::Fun)
@@ -258,9 +265,7 @@ fn put_main(terms: &Terms, main: CoreMain, out: &mut Written) -> Result<(), Memo
     requires { main.body.0 < length terms.now }
     ensures { OnOk result (out.new ≡ spell_main (main_term (term_of terms.now) main) out.old) }
 {
-    put_term(terms, 1, main.body, out)?;
-    out.put(Piece::End)?;
-    out.put(Piece::Result(main.result))?;
+    put_body(terms, main.result, main.body, out)?;
     out.put(Piece::Parameter(Variable(0), main.parameter))?;
     out.put_line(0, Keyword::Main)
 }
