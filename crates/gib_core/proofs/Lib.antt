@@ -8,3 +8,4 @@ mod Together
 mod Places
 mod Same
 mod Cases
+mod Whole
