@@ -1,2 +1,11 @@
 pub mod Layers
 pub mod Unbroken
+pub mod Indented
+pub mod Copied
+mod Agreeing
+mod Envs
+mod Together
+mod Places
+mod Same
+mod Cases
+mod Whole
