@@ -1,0 +1,5 @@
+pub mod Heads
+pub mod Going
+pub mod Steps
+pub mod Ends
+pub mod Rooms

@@ -1,0 +1,6 @@
+//! Loads a checked payload into region memory.
+#![tactic(auto)]
+
+pub mod loading;
+
+pub use loading::{LoadFault, load};
