@@ -3,3 +3,5 @@ pub mod Going
 pub mod Steps
 pub mod Ends
 pub mod Rooms
+pub mod Spots
+pub mod Sound

@@ -2,6 +2,7 @@
 use Rattle.std.specs.Prelude.{◌≡◌, ℕ, List, ◌∷◌, ◌++◌}
 use Rattle.gib_mem.specs.Memory.{Memory}
 use Rattle.gib_types.specs.Layout.{LaidOut}
+use Rattle.gib_types.specs.Loaded.{Loaded}
 use Rattle.gib_types.specs.Tree.{Datum}
 use Rattle.gib_region.specs.Region.{HasRoom}
 use Rattle.gib_load.specs.Preorder.{Head, heads}
@@ -23,3 +24,8 @@ pub record Stuck (laid : LaidOut) (r : Open) (hs : List Head) (m : Memory) : Typ
 pub data Refused (laid : LaidOut) (m : Memory) (v : Datum) : Memory → Type 0 where
   at_start : m.drawn ≡ m.limit → Refused laid m v m
   at_head : {m' : Memory} → Stuck laid (begun m) (heads v) m' → Refused laid m v m'
+
+-- All chunks are drawn, and the value needs them.
+pub record Spent (v : Datum) (m : Memory) : Type 0 where
+  pub all : m.drawn ≡ m.limit
+  pub loaded : Loaded m.limit v
