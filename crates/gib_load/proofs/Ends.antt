@@ -1,12 +1,11 @@
 -- A region that is begun for a value, and finished.
-use Rattle.std.proofs.Common.{◌≡◌, ℕ, ◌+◌, ◌*◌, ◌≤◌, List, [], ◌∷◌, ◌++◌, length, refl, sym, ap, subst, subst₂, ◌∙◌, arith, length-append, true}
-use Rattle.gib_mem.specs.Memory.{Memory, Owned, after_draw}
+use Rattle.std.proofs.Common.{◌≡◌, ℕ, ◌*◌, ◌≤◌, List, [], ◌∷◌, length, refl, sym, ap, subst, ◌∙◌, arith, length-append, true}
+use Rattle.gib_mem.specs.Memory.{Memory, after_draw}
 use Rattle.gib_mem.proofs.Puts.{open_in}
 use Rattle.gib_types.specs.declared.table.Ty.TheVariants as ty
 use Rattle.gib_types.specs.declared.table.TyId.{TyId}
 use Rattle.gib_types.specs.Layout.{LaidOut}
 use Rattle.gib_types.specs.Tree.{Datum, whole, truth, con, HasType}
-use Rattle.gib_packed.specs.declared.root.Root.{Root}
 use Rattle.gib_packed.specs.declared.root.Root.TheVariants.{At}
 use Rattle.gib_region.specs.Region.{rest, Behind, Begins, at_tail, at_chunk, IsFull, finished}
 use Rattle.gib_load.specs.Preorder.{heads}

@@ -1,5 +1,5 @@
 -- The loop over heads: what was placed, and what is left.
-use Rattle.std.proofs.Common.{◌≡◌, ℕ, List, [], ◌∷◌, ◌++◌}
+use Rattle.std.proofs.Common.{◌≡◌, ℕ, List, ◌++◌}
 use Rattle.gib_types.specs.Layout.{LaidOut}
 use Rattle.gib_types.specs.Tree.{Datum}
 use Rattle.gib_load.specs.Preorder.{Head, heads}

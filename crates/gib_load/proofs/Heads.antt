@@ -1,10 +1,9 @@
 -- The heads of a value: their bytes and types, and where they go.
-use Rattle.std.proofs.Common.{◌≡◌, ℕ, ◌+◌, ◌<◌, ◌≤◌, List, [], ◌∷◌, ◌++◌, length, refl, sym, ap, subst, ◌∙◌, arith, append_assoc, length-append, Bool, true, false, Option, Some, None}
-use Rattle.std.specs.Prelude.{slice_get}
+use Rattle.std.proofs.Common.{◌≡◌, ℕ, ◌+◌, List, [], ◌∷◌, ◌++◌, length, refl, sym, ap, ◌∙◌, arith, append_assoc, length-append, true, false, Some}
 use Rattle.gib_types.specs.declared.table.Ty.{Ty}
 use Rattle.gib_types.specs.declared.table.Ty.TheVariants as ty
 use Rattle.gib_types.specs.Table.{Table, con_at, fields_at}
-use Rattle.gib_types.specs.Layout.{LaidOut, scalar_size, packed_count, layout_at, offset_size, is_among}
+use Rattle.gib_types.specs.Layout.{LaidOut, scalar_size, layout_at, is_among}
 use Rattle.gib_types.specs.Tree.{Datum, whole, truth, con, Data, none, more, HasType, HaveTypes, constructors, all_constructors}
 use Rattle.gib_file.specs.Packed.{tree, trees, scalar as scalar_in_file, scalars as scalars_in_file}
 use Rattle.gib_packed.specs.Scalars.{scalar, scalars}

@@ -1,5 +1,5 @@
 -- A head that is placed in an open region.
-use Rattle.std.proofs.Common.{◌≡◌, ℕ, ◌+◌, ◌-◌, ◌*◌, ◌<◌, ◌≤◌, ◌^◌, List, [], ◌∷◌, ◌++◌, length, refl, sym, ap, subst, ◌∙◌, arith, length-append, Bool, true, false, cond, inl, inr}
+use Rattle.std.proofs.Common.{◌≡◌, ℕ, ◌+◌, ◌*◌, ◌<◌, ◌≤◌, ◌^◌, List, [], ◌∷◌, length, refl, sym, ap, subst, ◌∙◌, arith, length-append, Bool, cond, inl, inr}
 use Rattle.std.specs.Prelude.{◌⊎◌}
 use Rattle.std.proofs.lemmas.Bool.Decides.{leb_tells}
 use Rattle.gib_mem.specs.Memory.{Memory, Store, absent, fresh, after_puts, after_draw, Holds, Owned, Grows}
@@ -7,17 +7,17 @@ use Rattle.gib_mem.proofs.Puts.{puts_past, puts_hold, puts_grow, puts_drawn, put
 use Rattle.gib_types.specs.declared.table.Ty.{Ty}
 use Rattle.gib_types.specs.declared.table.Ty.TheVariants as ty
 use Rattle.gib_types.specs.Table.{fields_at}
-use Rattle.gib_types.specs.Layout.{LaidOut, layout_at, is_among, offset_size, packed_count, scalar_size}
-use Rattle.gib_types.specs.Tree.{Datum, whole, truth, con, Data, none, more, HaveTypes}
+use Rattle.gib_types.specs.Layout.{LaidOut, is_among, offset_size, packed_count}
+use Rattle.gib_types.specs.Tree.{whole, truth, con, Data, none, more, HaveTypes}
 use Rattle.gib_packed.specs.Scalars.{scalars}
 use Rattle.gib_packed.specs.Head.{head_bytes, offset_bytes}
 use Rattle.gib_packed.proofs.HeadLemmas.{offset_bytes-length}
-use Rattle.gib_region.specs.Region.{rest, Behind, pointer, HasRoom, Draws, Placed, here, turned, redirected}
+use Rattle.gib_region.specs.Region.{rest, Behind, pointer, Placed, here, turned, redirected}
 use Rattle.gib_region.specs.Leaving.{IsBounded, Leaves}
 use Rattle.gib_region.proofs.Bounds.{there_below, fresh_there}
 use Rattle.gib_region.proofs.Placing.{leaves}
-use Rattle.gib_load.specs.Preorder.{Head, heads}
-use Rattle.gib_load.specs.Spot.{Spot, head_size, goes_here, start_of, past_item, past_value, places}
+use Rattle.gib_load.specs.Preorder.{Head}
+use Rattle.gib_load.specs.Spot.{Spot, head_size, start_of, past_item, past_value, places}
 use Rattle.gib_load.specs.Placement.{Open, spot_of, with_room, place_head}
 use Rattle.gib_load.proofs.Heads.{IsHead, scalars-length}
 use Rattle.gib_load.proofs.Steps.{behind_item}

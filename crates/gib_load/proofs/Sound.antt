@@ -1,28 +1,25 @@
 -- What is placed stands.
-use Rattle.std.proofs.Common.{◌≡◌, ℕ, ◌+◌, ◌-◌, ◌*◌, ◌<◌, ◌≤◌, ◌^◌, ◌%◌, List, [], ◌∷◌, ◌++◌, length, refl, sym, ap, subst, subst₂, ◌∙◌, arith, length-append, Bool, true, false, cond, inl, inr, Some}
-use Rattle.std.specs.Prelude.{◌⊎◌}
-use Rattle.std.proofs.lemmas.Bool.Decides.{leb_tells}
-use Rattle.gib_mem.specs.Memory.{Memory, Store, absent, Holds, Owned, Grows, after_draw}
+use Rattle.std.proofs.Common.{◌≡◌, ℕ, ◌+◌, ◌<◌, ◌≤◌, List, [], ◌∷◌, refl, sym, ap, subst, subst₂, ◌∙◌, arith, inl, inr, Some}
+use Rattle.gib_mem.specs.Memory.{Memory, Store, Holds, Grows}
 use Rattle.gib_mem.proofs.Puts.{open_in, open_past}
 use Rattle.gib_types.specs.declared.table.Ty.{Ty}
 use Rattle.gib_types.specs.declared.table.Ty.TheVariants as ty
 use Rattle.gib_types.specs.declared.table.TyId.{TyId}
-use Rattle.gib_types.specs.Table.{Table, con_at, fields_at, IsTable}
+use Rattle.gib_types.specs.Table.{con_at, fields_at, IsTable}
 use Rattle.gib_types.specs.Layout.{LaidOut}
-use Rattle.gib_types.specs.Loaded.{Loaded}
-use Rattle.gib_types.specs.Tree.{Datum, whole, truth, con, Data, none, more, HasType, HaveTypes, constructors}
+use Rattle.gib_types.specs.Tree.{Datum, whole, truth, con, Data, none, more, HasType, HaveTypes}
 use Rattle.gib_packed.specs.Decoding.{Dec, redirect, head, Decs, done, whole_field, truth_field, tree_field}
 use Rattle.gib_packed.specs.Head.{head_bytes}
-use Rattle.gib_packed.specs.Stands.{Stands, a_whole, a_truth, a_tree}
-use Rattle.gib_packed.proofs.Grow.{Holds-grows, Dec-grows, Decs-grows}
-use Rattle.gib_region.specs.Region.{rest, Behind, pointer, IsApart, from_none, AreOwned, no_tails, finished}
-use Rattle.gib_region.specs.Leaving.{IsBounded, TailsKept}
+use Rattle.gib_packed.specs.Stands.{a_whole, a_truth, a_tree}
+use Rattle.gib_packed.proofs.Grow.{Holds-grows, Dec-grows}
+use Rattle.gib_region.specs.Region.{from_none, no_tails}
+use Rattle.gib_region.specs.Leaving.{IsBounded}
 use Rattle.gib_region.proofs.Keeping.{finished_owned}
 use Rattle.gib_load.specs.Preorder.{Head, heads, all_heads}
-use Rattle.gib_load.specs.Spot.{Spot, head_size, goes_here, start_of, past_item, past_value, past_fields, places}
+use Rattle.gib_load.specs.Spot.{Spot, head_size, past_item, past_value, past_fields, places}
 use Rattle.gib_load.specs.Placement.{Open, spot_of, place_head, place_heads, begun, placed_in}
 use Rattle.gib_load.specs.Holding.{Holding}
-use Rattle.gib_load.proofs.Heads.{IsHead, place-append, heads-count}
+use Rattle.gib_load.proofs.Heads.{place-append, heads-count}
 use Rattle.gib_load.proofs.Steps.{known_tag}
 use Rattle.gib_load.proofs.Spots.{Sizes, value_spot, value_draws, fields_draw, heads_limit, heads_loaded}
 use Rattle.gib_load.proofs.Rooms.{Ready, HeadPlaced, head_placed}
@@ -93,9 +90,9 @@ value_stands laid sizes t k vs r all owned typed ready small =
     let less = fields_draw laid (past_item (spot_of r) (head_size laid k)) vs in
     let placed = head_placed laid r h (record { owner = t; owned = owned; typed = typed }) ready (sizes.heads k) (omega (arith, less, small)) in
     let small1 : (past_fields laid (spot_of (place_head laid r h)) vs).drawn ≤ (place_head laid r h).memory.limit =
-        subst₂ (λ (s : Spot) (n : ℕ). (past_fields laid s vs).drawn ≤ n) (sym placed.spot) (sym placed.limit) small in
+    subst₂ (λ (s : Spot) (n : ℕ). (past_fields laid s vs).drawn ≤ n) (sym placed.spot) (sym placed.limit) small in
     head_first laid t k vs r (place_head laid r h) (place_heads laid (place_head laid r h) (all_heads vs)) _ sizes.rules owned placed
-      (all (fields_at laid.table k) (place_head laid r h) typed placed.ready small1)
+    (all (fields_at laid.table k) (place_head laid r h) typed placed.ready small1)
 
 fields_stand : (laid : LaidOut) → Sizes laid → (vs : Data) (ts : List Ty) (r : Open) → HaveTypes laid.table vs ts → Ready r → (past_fields laid (spot_of r) vs).drawn ≤ r.memory.limit → AllStood laid ts vs r (place_heads laid r (all_heads vs))
 fields_stand laid sizes none [] r h ready small = record { ready = ready; grows = record { kept = λ q b e. e }; decs = done; spot = refl; limit = refl }
@@ -110,7 +107,7 @@ fields_stand laid sizes (more (con k ws) vs) (ty.Tree t ∷ ts) r h ready small 
     let a = value_stands laid sizes t.0 k ws r (λ us x g y z. fields_stand laid sizes ws us x g y z) h.0.0 h.0.1 ready (omega (arith, less, small)) in
     let r1 = place_heads laid r (heads (con k ws)) in
     let small1 : (past_fields laid (spot_of r1) vs).drawn ≤ r1.memory.limit =
-        subst₂ (λ (s : Spot) (n : ℕ). (past_fields laid s vs).drawn ≤ n) (sym a.spot) (sym a.limit) small in
+    subst₂ (λ (s : Spot) (n : ℕ). (past_fields laid s vs).drawn ≤ n) (sym a.spot) (sym a.limit) small in
     let b = fields_stand laid sizes vs ts r1 h.1 a.ready small1 in
     subst (λ (x : Open). AllStood laid (ty.Tree t ∷ ts) (more (con k ws) vs) r x) (sym (place-append laid r (heads (con k ws)) (all_heads vs))) (tree_first laid t k ws ts vs r r1 (place_heads laid r1 (all_heads vs)) a b)
 fields_stand laid sizes (more (whole z) vs) (ty.Truth ∷ ts) r h ready small = absurd h.0

@@ -1,11 +1,11 @@
 -- Where heads go, and how many chunks they take.
-use Rattle.std.proofs.Common.{◌≡◌, ℕ, ◌+◌, ◌-◌, ◌*◌, ◌<◌, ◌≤◌, ◌%◌, List, [], ◌∷◌, ◌++◌, length, refl, sym, ap, subst, ◌∙◌, arith, length-append, Bool, true, false, cond, inl, inr}
+use Rattle.std.proofs.Common.{◌≡◌, ℕ, ◌+◌, ◌-◌, ◌*◌, ◌≤◌, ◌%◌, List, [], ◌∷◌, length, refl, sym, ap, subst, ◌∙◌, arith, length-append, Bool, true, false, cond, inl, inr}
 use Rattle.std.proofs.lemmas.Bool.Decides.{leb_tells}
-use Rattle.gib_mem.specs.Memory.{Memory, after_puts, after_draw}
+use Rattle.gib_mem.specs.Memory.{Memory, after_draw}
 use Rattle.gib_mem.proofs.Puts.{puts_drawn, puts_limit}
 use Rattle.gib_types.specs.Table.{IsTable}
 use Rattle.gib_types.specs.Layout.{LaidOut}
-use Rattle.gib_types.specs.Tree.{Datum, whole, truth, con, Data, none, more, constructors}
+use Rattle.gib_types.specs.Tree.{Datum, whole, truth, con, Data, none, more}
 use Rattle.gib_packed.specs.Head.{head_bytes}
 use Rattle.gib_region.specs.Region.{rest, pointer, redirected}
 use Rattle.gib_load.specs.Preorder.{Head, heads, all_heads}
@@ -95,15 +95,15 @@ record Filled (n : ℕ) (s : Spot) : Type 0 where
 item_fills : (n : ℕ) (s : Spot) (k : ℕ) → k ≤ 65 → Filled n s → Filled (n + 1) (past_item s k)
 item_fills n s k few f = elim (leb_tells (k + 9) (rest s.at)) [
   | inl le ↦ subst (λ (b : Bool). Filled (n + 1) (past_by s k b)) (sym le.0) (record {
-      some = f.some;
-      nine = omega (arith, le.1);
-      fill = let e : (s.at + k) % 4096 ≡ s.at % 4096 + k = omega (arith, le.1) in omega (arith, e, f.fill, few);
-    })
+    some = f.some;
+    nine = omega (arith, le.1);
+    fill = let e : (s.at + k) % 4096 ≡ s.at % 4096 + k = omega (arith, le.1) in omega (arith, e, f.fill, few);
+  })
   | inr lt ↦ subst (λ (b : Bool). Filled (n + 1) (past_by s k b)) (sym lt.0) (record {
-      some = omega arith;
-      nine = let e : (4096 * s.drawn + k) % 4096 ≡ k = omega (arith, few) in omega (arith, e, few);
-      fill = let e : (4096 * s.drawn + k) % 4096 ≡ k = omega (arith, few) in omega (arith, e, f.fill, few, lt.1, f.some);
-    })
+    some = omega arith;
+    nine = let e : (4096 * s.drawn + k) % 4096 ≡ k = omega (arith, few) in omega (arith, e, few);
+    fill = let e : (4096 * s.drawn + k) % 4096 ≡ k = omega (arith, few) in omega (arith, e, f.fill, few, lt.1, f.some);
+  })
 ]
 
 heads_fill : (laid : LaidOut) → Sizes laid → (n : ℕ) (r : Open) (hs : List Head) → Filled n (spot_of r) → Filled (n + length hs) (spot_of (place_heads laid r hs))

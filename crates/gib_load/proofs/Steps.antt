@@ -1,6 +1,6 @@
 -- One head more.
-use Rattle.std.proofs.Common.{◌≡◌, ℕ, ◌+◌, ◌-◌, ◌*◌, ◌<◌, ◌≤◌, ◌^◌, List, [], ◌∷◌, ◌++◌, length, get_or, drop, take, refl, sym, ap, subst, subst₂, ◌∙◌, arith, add-one, length-append, length-drop, append_assoc, append-nil, Bool, true, false, cond, Option, Some, None, inl, inr, nat_lt}
-use Rattle.std.specs.Prelude.{slice_get, nat_le}
+use Rattle.std.proofs.Common.{◌≡◌, ℕ, ◌+◌, ◌-◌, ◌*◌, ◌<◌, ◌≤◌, ◌^◌, List, [], ◌∷◌, ◌++◌, length, get_or, drop, take, refl, sym, ap, subst, subst₂, ◌∙◌, arith, add-one, length-append, length-drop, append_assoc, append-nil, Bool, true, false, cond, Option, Some, None, inl, inr}
+use Rattle.std.specs.Prelude.{slice_get}
 use Rattle.std.proofs.Math.Seq.{drop-cons, take-append_seam, drop-append_seam, drop-drop}
 use Rattle.std.proofs.lemmas.Bool.Decides.{leb_tells}
 use Rattle.std.proofs.lemmas.Option.{slice_get_within}
@@ -9,17 +9,17 @@ use Rattle.gib_mem.proofs.Puts.{puts_past, puts_alone}
 use Rattle.gib_types.specs.declared.table.Ty.TheVariants as ty
 use Rattle.gib_types.specs.declared.table.TyId.{TyId}
 use Rattle.gib_types.specs.Table.{Row, Table, con_at, if_owned, fields_at}
-use Rattle.gib_types.specs.Layout.{LaidOut, layout_at, scalar_size}
-use Rattle.gib_types.specs.Tree.{Datum, whole, truth, con, HasType}
+use Rattle.gib_types.specs.Layout.{LaidOut, layout_at}
+use Rattle.gib_types.specs.Tree.{Datum, whole, truth, con}
 use Rattle.gib_file.specs.Packed.{Packed}
 use Rattle.gib_packed.specs.Scalars.{scalars}
-use Rattle.gib_region.specs.Region.{rest, Behind, pointer, HasRoom, Draws, Placed, here, turned, redirected, IsFull}
+use Rattle.gib_region.specs.Region.{rest, Behind, pointer, HasRoom, Placed, here, turned, redirected, IsFull}
 use Rattle.gib_region.specs.Leaving.{IsBounded, Leaves}
 use Rattle.gib_load.specs.Preorder.{Head, heads}
 use Rattle.gib_load.specs.Spot.{Spot, head_size, goes_here, start_of, past_item, places}
 use Rattle.gib_load.specs.Placement.{Open, spot_of, with_room, place_head, place_heads}
 use Rattle.gib_load.specs.Refusal.{Stuck}
-use Rattle.gib_load.proofs.Heads.{bytes_of, tree-bytes, IsHead, AreHeads, no_heads, one_head, heads-typed, scalars-length, place-append, plain_bytes, plain_size}
+use Rattle.gib_load.proofs.Heads.{bytes_of, tree-bytes, IsHead, AreHeads, one_head, heads-typed, scalars-length, place-append, plain_bytes, plain_size}
 use Rattle.gib_load.proofs.Going.{Going}
 
 drop_next : (p : List ℕ) (at : ℕ) → at < length p → drop at p ≡ get_or p at 0 ∷ drop (at + 1) p

@@ -1,6 +1,4 @@
 -- What holds of a value that was loaded.
-use Rattle.std.specs.Prelude.{ℕ}
-use Rattle.gib_mem.specs.Memory.{Memory}
 use Rattle.gib_types.specs.declared.table.Ty.{Ty}
 use Rattle.gib_types.specs.Layout.{LaidOut}
 use Rattle.gib_types.specs.Loaded.{Loaded}

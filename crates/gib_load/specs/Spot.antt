@@ -1,5 +1,5 @@
 -- Where items go, by their lengths alone.
-use Rattle.std.specs.Prelude.{ℕ, ◌+◌, ◌*◌, ◌<◌, Bool, List, [], ◌∷◌, nat_le, if◌then◌else◌}
+use Rattle.std.specs.Prelude.{ℕ, ◌+◌, ◌*◌, Bool, List, [], ◌∷◌, nat_le, if◌then◌else◌}
 use Rattle.gib_types.specs.Layout.{LaidOut, layout_at}
 use Rattle.gib_types.specs.Tree.{Datum, whole, truth, con, Data, none, more}
 use Rattle.gib_region.specs.Region.{rest}

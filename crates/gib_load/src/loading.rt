@@ -4,13 +4,12 @@ ghost use Rattle.std.specs.Prelude.{◌≡◌, ◌<◌, ◌≤◌, ◌+◌, [], 
 ghost use Rattle.std.specs.Int.{w64};
 ghost use Rattle.gib_types.specs.declared.table.Ty.TheVariants.{Tree, Whole as WholeType};
 ghost use Rattle.gib_types.specs.Tree.{Datum};
-ghost use Rattle.gib_types.specs.Loaded.{Loaded};
 ghost use Rattle.gib_file.specs.Packed.{Packed, number, bit};
-ghost use Rattle.gib_packed.specs.Stands.{Stands};
+ghost use Rattle.gib_load.specs.Holding.{Holding};
 ghost use Rattle.gib_region.specs.Region.{Behind, rest, AreOwned};
 ghost use Rattle.gib_load.specs.Preorder.{heads};
 ghost use Rattle.gib_load.specs.Placement.{Open, place_heads as heads_placed, placed_in, begun, finished_at};
-ghost use Rattle.gib_load.specs.Refusal.{Stuck, Refused};
+ghost use Rattle.gib_load.specs.Refusal.{Stuck, Refused, Spent};
 
 use byteorder::{ByteOrder, LittleEndian};
 use gib_file::Survey;
@@ -45,7 +44,6 @@ fn place_heads<M: Mem>(
     ensures full { OnErr result ((t : _) (v : Datum) → Packed layouts.now.table (Tree t) v payload.now → Stuck layouts.now (record { memory = M.view mem.old; at = cursor.old.at }) (heads v) (M.view mem.new)) }
 {
     layouts.heads();
-    layouts.types().rules();
     let mut at = 0;
     'heads: while at < payload.len() {
         let head = layouts.layout(ConId(payload[at] as u32)).head;
@@ -104,6 +102,32 @@ fn truth_of(payload: &[u8]) -> bool
     payload[0] == 1
 }
 
+/// Places a value: a scalar is its own root.
+fn place_value<M: Mem>(
+    layouts: &Layouts<'_>,
+    ty: Ty,
+    payload: &[u8],
+    mem: &mut M,
+    tails: &mut Tails,
+) -> Result<Root, Full>
+    requires packed { (v : Datum) × Packed layouts.now.table ty v payload.now }
+    requires plain { layouts.now.with_offsets ≡ [] }
+    requires alone { (M.view mem.old).alone ≡ true }
+    requires tails { tails.old ≡ [] }
+    ensures placed { IfOk result (λ root. (v : Datum) → Packed layouts.now.table ty v payload.now → record { memory = M.view mem.new; root = root; tails = tails.new } ≡ placed_in layouts.now (M.view mem.old) v) }
+    ensures full { OnErr result ((v : Datum) → Packed layouts.now.table ty v payload.now → Refused layouts.now (M.view mem.old) v (M.view mem.new)) }
+    ensures none { OnErr result (tails.new ≡ []) }
+{
+    match ty {
+        Ty::Whole => Ok(Root::Whole(number_of(payload))),
+        Ty::Truth => Ok(Root::Truth(truth_of(payload))),
+        Ty::Tree(_) => match place_tree(layouts, payload, mem, tails) {
+            Ok(root) => Ok(Root::At(root)),
+            Err(full) => Err(full),
+        },
+    }
+}
+
 /// Loads the value of a checked payload into a memory in which nothing is drawn: a scalar is its own root; else a
 /// region is begun, the heads are placed in preorder, and the region is finished.
 ///
@@ -123,16 +147,15 @@ pub fn load<M: Mem>(
     requires undrawn { (M.view mem.old).drawn ≡ 0 }
     requires tails { tails.old ≡ [] }
     ensures placed { IfOk result (λ root. (v : Datum) → Packed layouts.now.table survey.entry.ty v survey.entry.bytes → record { memory = M.view mem.new; root = root; tails = tails.new } ≡ placed_in layouts.now (M.view mem.old) v) }
+    ensures holds { IfOk result (λ root. (v : Datum) → Packed layouts.now.table survey.entry.ty v survey.entry.bytes → Holding layouts.now survey.entry.ty v (record { memory = M.view mem.new; root = root; tails = tails.new })) }
     ensures full { IsErrOf result LoadFault.Full → (v : Datum) → Packed layouts.now.table survey.entry.ty v survey.entry.bytes → Refused layouts.now (M.view mem.old) v (M.view mem.new) }
+    ensures spent { IsErrOf result LoadFault.Full → (v : Datum) → Packed layouts.now.table survey.entry.ty v survey.entry.bytes → Spent v (M.view mem.new) }
     ensures none { OnErr result (tails.new ≡ []) }
 {
-    let payload = survey.payload();
-    match survey.ty() {
-        Ty::Whole => Ok(Root::Whole(number_of(payload))),
-        Ty::Truth => Ok(Root::Truth(truth_of(payload))),
-        Ty::Tree(_) => match place_tree(layouts, payload, mem, tails) {
-            Ok(root) => Ok(Root::At(root)),
-            Err(_) => Err(LoadFault::Full),
-        },
+    layouts.heads();
+    layouts.types().rules();
+    match place_value(layouts, survey.ty(), survey.payload(), mem, tails) {
+        Ok(root) => Ok(root),
+        Err(_) => Err(LoadFault::Full),
     }
 }

@@ -1,10 +1,9 @@
-use Rattle.std.proofs.Common.{◌≡◌, ◌+◌, ◌-◌, ◌≤◌, ℕ, take, drop, refl, sym, ap, subst, subst₂, ◌∙◌, arith}
+use Rattle.std.proofs.Common.{◌+◌, ◌-◌, ◌≤◌, ℕ, take, drop, sym, ap, subst, subst₂, ◌∙◌, arith}
 use Rattle.std.proofs.lemmas.List.{drop_all}
 use Rattle.gib_mem.specs.Memory.{Memory, Owned}
 use Rattle.gib_mem.proofs.Puts.{puts_alone}
 use Rattle.gib_region.specs.Region.{Behind, rest}
 use Rattle.gib_region.proofs.Placing.{leaves}
-use Rattle.gib_load.specs.Placement.{Open}
 use Rattle.gib_load.proofs.Going.{Going}
 use Rattle.gib_load.proofs.Steps.{first_going, last_going, known, fits, slice_long, goes_on, stuck, full_same, full_all, behind_item, bounded_of, alone_kept}
 use Rattle.gib_load.proofs.loading.place_heads.Goals as goal

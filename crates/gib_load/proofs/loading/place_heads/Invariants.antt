@@ -1,4 +1,4 @@
-use Rattle.std.proofs.Common.{◌≡◌, ◌≤◌, ◌-◌, ℕ, length, drop, true}
+use Rattle.std.proofs.Common.{◌≡◌, ◌≤◌, ◌-◌, length, drop, true}
 use Rattle.gib_types.specs.declared.table.Ty.TheVariants.{Tree}
 use Rattle.gib_types.specs.Tree.{Datum}
 use Rattle.gib_file.specs.Packed.{Packed}

@@ -1,4 +1,4 @@
-use Rattle.std.proofs.Common.{◌≡◌, ℕ, List, [], sym, ap, subst, ◌∙◌}
+use Rattle.std.proofs.Common.{ℕ, List, sym, ap, subst, ◌∙◌}
 use Rattle.gib_region.specs.Region.{AreOwned, no_tails}
 use Rattle.gib_load.specs.Preorder.{heads}
 use Rattle.gib_load.specs.Placement.{Open, place_heads}
