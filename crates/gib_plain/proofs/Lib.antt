@@ -3,3 +3,4 @@ pub mod Stacks
 pub mod Moves
 pub mod Runs
 pub mod Steps
+mod ArmsFound

@@ -1,5 +1,5 @@
 -- The machine's state, what it still owes, and the work that is left.
-use Rattle.std.specs.Prelude.{◌≡◌, ℕ, zero, suc, ◌+◌, ◌<◌, ◌≤◌, ◌==◌, if◌then◌else◌, Bool, true, false, pos, List, [], ◌∷◌, ◌++◌, Option, Some, None, get_or, drop, length}
+use Rattle.std.specs.Prelude.{◌≡◌, ℕ, zero, suc, ◌+◌, ◌<◌, ◌≤◌, if◌then◌else◌, Bool, true, false, pos, List, [], ◌∷◌, ◌++◌, Option, Some, None, get_or, drop, length}
 use Rattle.gib_types.specs.Table.{Table}
 use Rattle.gib_types.specs.Tree.{Datum, whole, truth, con, data_of}
 use Rattle.gib_syntax.specs.declared.exprs.Arm.{Arm}
@@ -7,6 +7,7 @@ use Rattle.gib_syntax.specs.Tree.{Expression, Arguments, Arms, Var, Num, Bit, Pa
 use Rattle.gib_syntax.specs.Arena.{tree_of}
 use Rattle.gib_syntax.specs.Parts.{Parts, program_of}
 use Rattle.gib_syntax.specs.Declarations.{number_of, constructor_named, function_named, table_of_program}
+pub use Rattle.gib_check.specs.ArmPlaces.{is_number}
 use Rattle.gib_syntax.specs.Meaning.{Outcome, Gives, Stops, Deep, Environment, value_in, bind, with_values, number_in, is_true, is_made_by, parts, operate, choose, eval, eval_all, names_of, calls}
 
 -- An expression whose parts are being evaluated: the calls left, the variables in scope, the values of the
@@ -278,11 +279,6 @@ abbrev pub is_over : State → Bool
 is_over s = elim s.doing [ Entering i ↦ false | Leaving v ↦ is_empty s.frames | Ended ↦ true ]
 
 -- Cases.
-
--- The constructor is there and has this number.
-abbrev pub is_number : Option ℕ → ℕ → Bool
-is_number None k = false
-is_number (Some c) k = c == k
 
 -- The first arm of a constructor.
 abbrev pub arm_of : Table → List Arm → ℕ → Option Arm

@@ -1,10 +1,12 @@
 //! What the names and parts of a program are.
 
-ghost use Rattle.std.specs.Prelude.{◌≡◌, ◌+◌, ℕ, [], ◌∷◌, None, Some, MatchOption, drop};
-ghost use Rattle.gib_syntax.specs.Tree.{Expression};
-ghost use Rattle.gib_syntax.specs.Arena.{layer, tree_of, arguments_from};
+ghost use Rattle.std.specs.Prelude.{◌≡◌, ◌<◌, ◌+◌, ℕ, [], ◌∷◌, None, Some, MatchOption, drop, length};
+ghost use Rattle.gib_base.specs.declared.Span.{Span};
+ghost use Rattle.gib_syntax.specs.declared.tree.Ident.{Ident};
+ghost use Rattle.gib_syntax.specs.Tree.{Expression, Case};
+ghost use Rattle.gib_syntax.specs.Arena.{layer, tree_of, arguments_from, case_from};
 ghost use Rattle.gib_syntax.specs.Parts.{program_of, function_tree};
-ghost use Rattle.gib_syntax.specs.Declarations.{table_of_program, constructor_named, function_named};
+ghost use Rattle.gib_syntax.specs.Declarations.{table_of_program, function_named};
 ghost use Rattle.gib_plain.specs.Running.{first_parts, expressions_of, arm_of};
 
 use gib_base::Name;
@@ -12,49 +14,29 @@ use gib_check::Typed;
 use gib_syntax::{Arm, ExprId, FunctionDecl, Node};
 use gib_types::ConId;
 
-/// The constructor of a name.
-pub fn constructor(typed: &Typed, name: Name) -> Option<ConId>
-    ensures { MatchOption result
-        (constructor_named (table_of_program (program_of typed.now)) name.0 ≡ None)
-        (λ con. constructor_named (table_of_program (program_of typed.now)) name.0 ≡ Some con.0) }
-{
-    let _program = typed.program();
-    typed.types().con_named(name)
-}
-
 /// The function of a name.
 pub fn function(typed: &Typed, name: Name) -> Option<&FunctionDecl>
     ensures { MatchOption result
         (function_named (program_of typed.now).functions name.0 ≡ None)
         (λ f. function_named (program_of typed.now).functions name.0 ≡ Some (function_tree (tree_of typed.now.exprs) f.now)) }
 {
-    let functions = typed.program().functions();
-    let mut i = 0;
-    'functions: while i < functions.len() {
-        if functions[i].name.name.0 == name.0 {
-            return Some(&functions[i]);
-        }
-        i += 1;
+    match typed.function(name) {
+        Some(id) => Some(typed.declaration(id)),
+        None => None,
     }
-    None
 }
 
-/// The first arm of a constructor.
-pub fn arm<'a>(typed: &Typed, arms: &'a [Arm], con: ConId) -> Option<&'a Arm>
-    ensures { MatchOption result
+/// The first arm of a constructor, where these are the arms of the expression.
+pub fn arm<'a>(typed: &Typed, id: ExprId, arms: &'a [Arm], con: ConId) -> Option<&'a Arm>
+    requires { id.0 < length typed.now.exprs }
+    ensures { (span : Span) (x : Ident) → tree_of typed.now.exprs id.0 ≡ case_from (tree_of typed.now.exprs) arms.now (Case span x) → MatchOption result
         (arm_of (table_of_program (program_of typed.now)) arms.now con.0 ≡ None)
         (λ a. arm_of (table_of_program (program_of typed.now)) arms.now con.0 ≡ Some a.now) }
 {
-    let mut i = 0;
-    'arms: while i < arms.len() {
-        if let Some(found) = constructor(typed, arms[i].constructor.name) {
-            if found.0 == con.0 {
-                return Some(&arms[i]);
-            }
-        }
-        i += 1;
+    match typed.arm_place(id, con) {
+        Some(place) => arms.get(place as usize),
+        None => None,
     }
-    None
 }
 
 /// The part at a place where there is one part.

@@ -16,7 +16,7 @@ ghost use Rattle.std.specs.List.{AllByRecursion};
 ghost use Rattle.gib_value.specs.Heap.{IsWithin};
 ghost use Rattle.gib_plain.specs.Told.{told};
 
-use crate::lookup::{arm, constructor, function, next_part};
+use crate::lookup::{arm, function, next_part};
 use crate::operators::{operated, truth_of};
 use crate::outcome::Outcome;
 use crate::stack::{Binding, between, newest, node_at, push_bindings, push_parameters};
@@ -324,7 +324,7 @@ impl Machine {
             tree_of typed.now.exprs f.id ≡ Make ident xs → ident.name ≡ name →
             ComesTo (code_of typed.now) self.new fs (finished (code_of typed.now) f f.finished) (finished_cost (code_of typed.now) f f.finished)) }
     {
-        match constructor(typed, name) {
+        match typed.constructor(name) {
             Some(con) => self.build(con),
             None => {
                 self.give_up();
@@ -413,7 +413,7 @@ impl Machine {
         ensures { OnOk result ((xs : Arguments) (ident : Ident) → self.old.doing ≡ Entering id.0 →
             tree_of typed.now.exprs id.0 ≡ Make ident xs → ident.name ≡ name → Goes (code_of typed.now) self.old self.new) }
     {
-        match constructor(typed, name) {
+        match typed.constructor(name) {
             Some(_) => self.begin(typed, id),
             None => {
                 self.leave_whole(0);
@@ -423,17 +423,24 @@ impl Machine {
     }
 
     // The arm for a variable's value.
-    fn enter_case(&mut self, typed: &Typed, name: Name, arms: &[Arm]) -> Result<(), Memory>
-        ensures { OnOk result ((id : ℕ) (span : Span) (ident : Ident) → self.old.doing ≡ Entering id →
-            tree_of typed.now.exprs id ≡ case_from (tree_of typed.now.exprs) arms.now (Case span ident) → ident.name ≡ name →
-            ArmsBelow arms.now id → Goes (code_of typed.now) self.old self.new) }
+    fn enter_case(
+        &mut self,
+        typed: &Typed,
+        id: ExprId,
+        name: Name,
+        arms: &[Arm],
+    ) -> Result<(), Memory>
+        requires { id.0 < length typed.now.exprs }
+        ensures { OnOk result ((span : Span) (ident : Ident) → self.old.doing ≡ Entering id.0 →
+            tree_of typed.now.exprs id.0 ≡ case_from (tree_of typed.now.exprs) arms.now (Case span ident) → ident.name ≡ name →
+            ArmsBelow arms.now id.0 → Goes (code_of typed.now) self.old self.new) }
     {
         match self.constructor_of(name) {
             None => {
                 self.leave_whole(0);
                 Ok(())
             }
-            Some(con) => match arm(typed, arms, con) {
+            Some(con) => match arm(typed, id, arms, con) {
                 None => {
                     self.leave_whole(0);
                     Ok(())
@@ -476,7 +483,9 @@ impl Machine {
             Syntax::Let { .. } => self.begin(typed, id),
             Syntax::LetPar { .. } => self.begin(typed, id),
             Syntax::If { .. } => self.begin(typed, id),
-            Syntax::Case { variable, arms, .. } => self.enter_case(typed, variable.name, arms),
+            Syntax::Case { variable, arms, .. } => {
+                self.enter_case(typed, id, variable.name, arms)
+            }
         }
     }
 

@@ -12,6 +12,6 @@ returns-in-Some c =
     on_ok c.begin.result
     (λ h. λ xs ident here tree same.
     let table = table_of_program (program_of c.args.typed.now) in
-    let found : constructor_named table (number_of ident) ≡ Some c.in-Some.field-0.0 = ap (λ (n : Name). constructor_named table n.0) same ∙ c.in-Some.ensures in
+    let found : constructor_named table (number_of ident) ≡ Some c.in-Some.field-0.0 = ap (λ (n : Name). constructor_named table n.0) same ∙ c.in-Some.ensures.named in
     goes_begin (code_of c.args.typed.now) c.args.self.now c.begin.new.self c.args.id.0 (Make ident xs) here tree (c.in-Some.field-0.0, found) h)
     c.begin.ensures
