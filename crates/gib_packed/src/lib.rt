@@ -7,3 +7,6 @@ pub mod root;
 
 pub use read::{follow, skip, tag_at, truth_at, whole_at, word_at};
 pub use root::Root;
+
+#[cfg(test)]
+mod tests;

@@ -59,7 +59,8 @@ pub fn truth_at<M: Mem>(mem: &mut M, at: u64) -> bool
     ensures value { (M.view mem.old).cells at ≡ byte (bit result) }
     ensures same { M.view mem.new ≡ M.view mem.old }
 {
-    mem.get(at) == 1
+    let byte = mem.get(at);
+    byte == 1
 }
 
 /// Where the head of the value stands: redirects and indirections are followed.
