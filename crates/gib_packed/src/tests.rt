@@ -76,16 +76,17 @@ fn example(alloc: Global) -> Result<PlainMem, Fail>
     Ok(mem)
 }
 
-// The tag at a place of the example, where its head stands, and where the value ends.
-fn read_at<M: Mem>(mem: &mut M, layouts: &Layouts, at: u64) -> (u8, u64, u64)
+// The tag at a place of the example, where redirects lead, where the head stands, and where the value ends.
+fn read_at<M: Mem>(mem: &mut M, layouts: &Layouts, at: u64) -> (u8, u64, u64, u64)
     requires bytes { Holds (M.view mem.old).cells 0 example_bytes }
     requires laid { layouts.now ≡ laid }
     requires place { IsPlace at }
 {
     let tag = tag_at(mem, at);
+    let place = pass_redirects(mem, at);
     let head = follow(mem, at);
     let end = skip(mem, layouts, at);
-    (tag, head, end)
+    (tag, place, head, end)
 }
 
 // The scalars of the example's heads, and an address.
@@ -100,7 +101,7 @@ fn read_scalars<M: Mem>(mem: &mut M) -> (bool, i64, i64, u64)
 }
 
 // What `read_at` gives in a memory of its own.
-fn reads(alloc: Global, at: u64) -> Result<(u8, u64, u64), Fail>
+fn reads(alloc: Global, at: u64) -> Result<(u8, u64, u64, u64), Fail>
     requires { IsPlace at }
 {
     let types = make_types(alloc)?;
@@ -113,12 +114,12 @@ fn reads(alloc: Global, at: u64) -> Result<(u8, u64, u64), Fail>
 #[test]
 fn heads_redirects_and_indirections_are_read(rt: HostRuntime) -> Result<(), Fail> {
     let alloc = rt.alloc();
-    assert!(rt; reads(alloc, 0)? == (255, 28, 38));
-    assert!(rt; reads(alloc, 9)? == (254, 28, 18));
-    assert!(rt; reads(alloc, 18)? == (2, 18, 47));
-    assert!(rt; reads(alloc, 28)? == (1, 28, 38));
-    assert!(rt; reads(alloc, 37)? == (0, 37, 38));
-    assert!(rt; reads(alloc, 38)? == (254, 28, 47));
+    assert!(rt; reads(alloc, 0)? == (255, 28, 28, 38));
+    assert!(rt; reads(alloc, 9)? == (254, 9, 28, 18));
+    assert!(rt; reads(alloc, 18)? == (2, 18, 18, 47));
+    assert!(rt; reads(alloc, 28)? == (1, 28, 28, 38));
+    assert!(rt; reads(alloc, 37)? == (0, 37, 37, 38));
+    assert!(rt; reads(alloc, 38)? == (254, 38, 28, 47));
     Ok(())
 }
 
