@@ -69,3 +69,9 @@ Reaches-known l = go l.reaches
     go : {s : Store} {n a : ℕ} → Reaches s n a → (b : ℕ) × (s a ≡ byte b)
     go (there {k = k} e lt) = (k, e)
     go (hop {tag = tag} p lt d) = (tag, Holds-first p.bytes)
+
+-- the value stands where a redirect leads, and ends there
+pub Dec-redirect : {laid : LaidOut} {s : Store} {a b t z : ℕ} {v : Datum} → Dec laid s a t v z → Points s a 255 b → Dec laid s b t v z
+Dec-redirect {laid = laid} {s = s} {t = t} {z = z} {v = v} (dec.redirect p d) q = let e = Points-same p q in subst (λ (x : ℕ). Dec laid s x t v z) e.target d
+Dec-redirect (dec.indirect p d f) q = let e = Points-same p q in absurd (omega arith)
+Dec-redirect {s = s} {a = a} (dec.head b i h ds) q = let same = same_byte s a _ _ (Holds-first h) (Holds-first q.bytes) in absurd (omega arith)

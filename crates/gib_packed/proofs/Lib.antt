@@ -9,3 +9,4 @@ pub mod SpanLemmas
 pub mod WalkLemmas
 pub mod FollowLemmas
 pub mod Typed
+pub mod Examples

@@ -3,3 +3,4 @@ pub mod Head
 pub mod Decoding
 pub mod Stands
 pub mod Reaching
+pub mod Example

@@ -8,7 +8,7 @@ ghost use Rattle.gib_types.specs.Tree.{Datum};
 ghost use Rattle.gib_packed.specs.Scalars.{number, bit};
 ghost use Rattle.gib_packed.specs.Head.{address};
 ghost use Rattle.gib_packed.specs.Decoding.{Dec, Decodes};
-ghost use Rattle.gib_packed.specs.Reaching.{Leads};
+ghost use Rattle.gib_packed.specs.Reaching.{Leads, Redirects};
 
 use gib_mem::Mem;
 use gib_types::{ConId, Layouts};
@@ -59,7 +59,24 @@ pub fn truth_at<M: Mem>(mem: &mut M, at: u64) -> bool
     ensures value { (M.view mem.old).cells at ≡ byte (bit result) }
     ensures same { M.view mem.new ≡ M.view mem.old }
 {
-    mem.get(at) == 1
+    let byte = mem.get(at);
+    byte == 1
+}
+
+/// Where the value stands once redirects are passed: at a head or an indirection.
+pub fn pass_redirects<M: Mem>(mem: &mut M, at: u64) -> u64
+    requires { (laid : LaidOut) × Decodes laid (M.view mem.old).cells at }
+    ensures leads { Redirects (M.view mem.old).cells at result }
+    ensures value { (laid : LaidOut) (t : ℕ) (v : Datum) (z : ℕ) → Dec laid (M.view mem.old).cells at t v z → Dec laid (M.view mem.old).cells result t v z }
+    ensures same { M.view mem.new ≡ M.view mem.old }
+{
+    let mut place = at;
+    let mut tag = mem.get(place);
+    'redirects: while tag == REDIRECT {
+        place = word_at(mem, place + 1);
+        tag = mem.get(place);
+    }
+    place
 }
 
 /// Where the head of the value stands: redirects and indirections are followed.
