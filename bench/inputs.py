@@ -76,7 +76,8 @@ PAIR = """fun step_{k} (n : Int) (tree : Tree) : Int =
     Node left right ->
       let par low = step_{b} (n + {a}) left and high = step_{a} (n - {b}) right in
       let middle = ((low + high) * (n - {k})) in
-      if (low == high) then ((low * middle) + n)
+      let box = Box_{d} middle left in
+      if (low == high) then case box of {{ Box_{d} inner boxed -> step_{b} (inner - n) boxed }}
       else let tip = grow_{c} middle (Node left right) in step_{c} (high + low) tip
   }} ;
 
@@ -101,15 +102,22 @@ fun grow_{k} (n : Int) (tree : Tree) : Tree =
 # A million bytes have 1,000 functions, which is the limit. What a pair leaves of this is filled with comments.
 BYTES_PER_PAIR = 2000
 
+PAIRS_PER_TYPE = 5
+
+
+def pair(k, pairs):
+    """The k-th pair, with calls of three others."""
+    others = {"a": (k * 7 + 3) % pairs, "b": (k * 31 + 11) % pairs, "c": (k * 131 + 29) % pairs}
+    return PAIR.format(k=k, d=k // PAIRS_PER_TYPE, **others)
+
 
 def source(size):
-    """A typed source of about so many bytes: a type, pairs of functions that call others, and main."""
-    types = "data Tree = Leaf Int | Node Tree Tree ;\n\n"
-    main = "main (n : Int) : Int = n ;\n"
+    """A typed source of about so many bytes: types, pairs of functions that call others, and main."""
     pairs = size // BYTES_PER_PAIR
-    functions = "".join(
-        PAIR.format(k=k, a=(k * 7 + 3) % pairs, b=(k * 31 + 11) % pairs, c=(k * 131 + 29) % pairs) for k in range(pairs)
-    )
+    boxes = (f"data Box_{k} = Box_{k} Int Tree ;\n" for k in range(pairs // PAIRS_PER_TYPE))
+    types = "data Tree = Leaf Int | Node Tree Tree ;\n\n" + "".join(boxes) + "\n"
+    functions = "".join(pair(k, pairs) for k in range(pairs))
+    main = "main (n : Int) : Int = n ;\n"
     comment = "-- " + "x" * 96 + "\n"
     left = size - len(types) - len(functions) - len(main)
     return (types + functions + comment * (left // len(comment)) + main).encode()
