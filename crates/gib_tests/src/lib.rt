@@ -8,6 +8,10 @@ mod checks;
 #[cfg(test)]
 mod deep;
 #[cfg(test)]
+mod example_sources;
+#[cfg(test)]
+mod examples;
+#[cfg(test)]
 mod meanings;
 #[cfg(test)]
 mod printed;

@@ -1,0 +1,123 @@
+"""Makes what the bench measures on: packed files and their texts of a stated size, and sources."""
+
+HEADER = b"GIBP\x01\0\0\0"
+
+# Bytes of a cell, of a leaf with its node, and of the text of these two.
+CELL = 9
+LEAF = 10
+LEAF_TEXT = 16
+
+LIST = "data List = Nil | Cons Int List ;\n\nmain (list : List) : List = list ;\n"
+
+TREE = """data Tree = Leaf Int | Node Tree Tree ;
+
+fun add_one (tree : Tree) : Tree =
+  case tree of {
+    Leaf n -> Leaf (n + 1) ;
+    Node left right -> let par a = add_one left and b = add_one right in Node a b
+  } ;
+
+main (tree : Tree) : Tree = add_one tree ;
+"""
+
+
+def packed(payload):
+    return HEADER + len(payload).to_bytes(8, "little") + payload
+
+
+def number(n):
+    return n.to_bytes(8, "little", signed=True)
+
+
+def list_file(cells):
+    return packed((b"\x01" + number(1)) * cells + b"\x00")
+
+
+def list_text(cells):
+    return b"(Cons 1 " * cells + b"Nil" + b")" * cells + b"\n"
+
+
+def full_tree(leaves, leaf, node):
+    """The bytes of a tree in which each node halves its leaves; `node` joins the bytes of two trees."""
+    made = {1: leaf}
+
+    def tree(count):
+        if count not in made:
+            made[count] = node(tree(count // 2), tree(count - count // 2))
+        return made[count]
+
+    return tree(leaves)
+
+
+def tree_file(leaves):
+    return packed(full_tree(leaves, b"\x00" + number(1), lambda left, right: b"\x01" + left + right))
+
+
+def tree_text(leaves, value=1):
+    leaf = b"(Leaf %d)" % value
+    return full_tree(leaves, leaf, lambda left, right: b"(Node %s %s)" % (left, right)) + b"\n"
+
+
+def next_text(leaves):
+    """The text of what TREE gives on the tree."""
+    return tree_text(leaves, 2)
+
+
+PAIR = """fun step_{k} (n : Int) (tree : Tree) : Int =
+  case tree of {{
+    Leaf m ->
+      let first = ((n * {k}) + (m - 17)) in
+      let second = if (first < {a}) then (first + 1) else (first - m) in
+      let wide = ((first * (second - 5)) + (m * (n + {c}))) in
+      let clipped = if (wide < 100000) then wide else (wide - (first * {b})) in
+      let par third = step_{a} second tree and fourth = step_{b} (clipped * 3) tree in
+      let total = ((third + fourth) * (first - (second + {b}))) in
+      if (total == clipped) then step_{c} (total - 1) tree else (total + (third * fourth)) ;
+    Node left right ->
+      let par low = step_{b} (n + {a}) left and high = step_{a} (n - {b}) right in
+      let middle = ((low + high) * (n - {k})) in
+      let box = Box_{d} middle left in
+      if (low == high) then case box of {{ Box_{d} inner boxed -> step_{b} (inner - n) boxed }}
+      else let tip = grow_{c} middle (Node left right) in step_{c} (high + low) tip
+  }} ;
+
+-- Makes a tree of another by its sums; the counterpart of step_{k}.
+fun grow_{k} (n : Int) (tree : Tree) : Tree =
+  case tree of {{
+    Leaf m ->
+      let near = ((m * n) + {a}) in
+      let far = ((near - {b}) * (m + 1)) in
+      if (m < n) then Node (Leaf (m + n)) (Leaf {k})
+      else if (near == far) then grow_{b} (near - far) tree
+      else Node (Node (Leaf near) (Leaf far)) (Leaf (n * (m + {c}))) ;
+    Node left right ->
+      let par fresh = grow_{a} (n + 1) right and other = grow_{c} (n - 1) left in
+      let weight = (step_{k} n fresh + step_{b} (n * 2) other) in
+      let tip = if (weight < {c}) then Leaf weight else Node (Leaf (0 - weight)) fresh in
+      Node (Node fresh left) (Node other (Node tip (Leaf (weight + {a}))))
+  }} ;
+
+"""
+
+# A million bytes have 1,000 functions, which is the limit. What a pair leaves of this is filled with comments.
+BYTES_PER_PAIR = 2000
+
+PAIRS_PER_TYPE = 5
+
+
+def pair(k, pairs):
+    """The k-th pair, with calls of three others."""
+    others = {"a": (k * 7 + 3) % pairs, "b": (k * 31 + 11) % pairs, "c": (k * 131 + 29) % pairs}
+    return PAIR.format(k=k, d=k // PAIRS_PER_TYPE, **others)
+
+
+def source(size):
+    """A typed source of about so many bytes: types, pairs of functions that call others, and main."""
+    pairs = size // BYTES_PER_PAIR
+    boxes = (f"data Box_{k} = Box_{k} Int Tree ;\n" for k in range(pairs // PAIRS_PER_TYPE))
+    types = "data Tree = Leaf Int | Node Tree Tree ;\n\n" + "".join(boxes) + "\n"
+    functions = "".join(pair(k, pairs) for k in range(pairs))
+    main = "main (n : Int) : Int = n ;\n"
+    comment = "-- " + "x" * 96 + "\n"
+    left = size - len(types) - len(functions) - len(main)
+    return (types + functions + comment * (left // len(comment)) + main).encode()

@@ -1,0 +1,134 @@
+"""Times the program on inputs and sources of two sizes, one ten times the other, and holds the aims against them."""
+
+import os
+import subprocess
+import sys
+import tempfile
+
+import inputs
+
+# Ten times the input may take so many times the time.
+MOST_RATIO = 13
+# Bytes of memory at the peak for each byte of payload and of source.
+MOST_PER_PAYLOAD = 40
+MOST_PER_SOURCE = 100
+# The least time of so many runs counts.
+RUNS = 3
+
+LAUNCH = os.path.join(os.path.dirname(os.path.abspath(__file__)), "launch.py")
+
+PAYLOADS = (1_600_000, 16_000_000)
+SOURCES = (100_000, 1_000_000)
+
+
+class Missed(Exception):
+    """The program did not do what it was measured at."""
+
+
+def run_once(words, out):
+    """Runs a command with its output in a file. Answers processor seconds and the peak memory in bytes."""
+    ran = subprocess.run([sys.executable, "-I", "-S", LAUNCH, out, *words], capture_output=True, text=True)
+    if ran.returncode:
+        raise Missed(ran.stderr.strip().split("\n")[-1])
+    status, seconds, peak = ran.stdout.split()
+    if status != "0":
+        raise Missed(f"status {status} {ran.stderr.strip()}")
+    return float(seconds), int(peak)
+
+
+def measure(words, out, result, due):
+    """The least time and the greatest peak of some runs, each of which has to leave what is due in `result`."""
+    seconds, peaks = [], []
+    for _ in range(RUNS):
+        time, peak = run_once(words, out)
+        with open(result, "rb") as made:
+            if made.read() != due:
+                raise Missed("another result than is due")
+        seconds.append(time)
+        peaks.append(peak)
+    return min(seconds), max(peaks)
+
+
+class Bench:
+    """Runs a program's commands in a folder of its own and prints a line for each."""
+
+    def __init__(self, gib, folder):
+        self.gib, self.folder, self.failed = gib, folder, 0
+
+    def at(self, name):
+        return os.path.join(self.folder, name)
+
+    def put(self, name, data):
+        with open(self.at(name), "wb") as file:
+            file.write(data)
+
+    def case(self, what, most_memory, sizes, words, due, result="out"):
+        """Measures a command on `NAME.0` and `NAME.1`, for the names among its words, of the two sizes."""
+        found, faults = [], []
+        for place, size in enumerate(sizes):
+            here = [self.at(f"{word[1:]}.{place}") if word.startswith("@") else word for word in words]
+            try:
+                seconds, peak = measure([*self.gib, *here], self.at("out"), self.at(result), due[place])
+            except Missed as missed:
+                faults.append(str(missed))
+                break
+            found.append(seconds)
+            per_byte = peak / size
+            print(f"{what if not place else '':22}{size:>12,}{seconds:>10.3f} s{peak / 1e6:>10.1f} MB{per_byte:>8.1f}", end="")
+            if place:
+                ratio = found[1] / found[0]
+                print(f"{ratio:>8.1f}", end="")
+                if ratio > MOST_RATIO:
+                    faults.append(f"more than {MOST_RATIO} times the time")
+                # at the greater size alone, where the program's own few million bytes don't matter
+                if per_byte > most_memory:
+                    faults.append(f"more than {most_memory} bytes a byte")
+            print(flush=True)
+        for fault in faults:
+            print(f"{what}: MISSED: {fault}", flush=True)
+        self.failed += bool(faults)
+
+
+def measure_sources(bench):
+    for place, size in enumerate(SOURCES):
+        bench.put(f"large.{place}", inputs.source(size))
+        bench.put(f"one.{place}", inputs.packed(inputs.number(1)))
+    bench.case("check, source", MOST_PER_SOURCE, SOURCES, ["check", "@large"], [b"ok\n"] * 2)
+    bench.case("run, source", MOST_PER_SOURCE, SOURCES, ["run", "@large", "@one"], [b"1\n"] * 2)
+
+
+def measure_values(bench, what, program, file, text, result, counts, texts):
+    """Shows and runs values of these counts, made by `file`, and packs texts of the other counts."""
+    for place, count in enumerate(counts):
+        bench.put(f"program.{place}", program.encode())
+        bench.put(f"packed.{place}", file(count))
+    sizes = [len(file(count)) - len(inputs.packed(b"")) for count in counts]
+    shown = [text(count) for count in counts]
+    bench.case(f"show, {what}", MOST_PER_PAYLOAD, sizes, ["show", "@program", "@packed"], shown)
+    run = [result(count) for count in counts]
+    bench.case(f"run, {what}", MOST_PER_PAYLOAD, sizes, ["run", "@program", "@packed"], run)
+    for place, count in enumerate(texts):
+        bench.put(f"text.{place}", text(count))
+    sizes = [len(file(count)) - len(inputs.packed(b"")) for count in texts]
+    words = ["pack", "@program", "@text", bench.at("made")]
+    bench.case(f"pack, {what}", MOST_PER_PAYLOAD, sizes, words, [file(count) for count in texts], "made")
+
+
+def main():
+    gib = sys.argv[1].split()
+    with tempfile.TemporaryDirectory(prefix="gib-bench-") as folder:
+        bench = Bench(gib, folder)
+        print(f"{'':22}{'bytes':>12}{'time':>12}{'peak':>13}{'a byte':>8}{'ratio':>8}")
+        measure_sources(bench)
+        cells = [size // inputs.CELL for size in PAYLOADS]
+        measure_values(bench, "list", inputs.LIST, inputs.list_file, inputs.list_text, inputs.list_text, cells, cells)
+        leaves = [size // inputs.LEAF for size in PAYLOADS]
+        # a tree's text is longer than its payload
+        texts = [size // inputs.LEAF_TEXT for size in PAYLOADS]
+        measure_values(bench, "tree", inputs.TREE, inputs.tree_file, inputs.tree_text, inputs.next_text, leaves, texts)
+    print(f"{bench.failed} missed")
+    sys.exit(1 if bench.failed else 0)
+
+
+if __name__ == "__main__":
+    main()
