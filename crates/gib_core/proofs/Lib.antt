@@ -9,3 +9,4 @@ mod Places
 mod Same
 mod Cases
 mod Whole
+mod Ordered
