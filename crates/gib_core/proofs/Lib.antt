@@ -10,3 +10,6 @@ mod Same
 mod Cases
 mod Whole
 mod Ordered
+mod Erases
+mod Left
+mod Reaches

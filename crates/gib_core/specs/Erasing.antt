@@ -1,5 +1,5 @@
 -- The source term that is left of a core without destinations, heads, reaches and marks.
-use Rattle.std.specs.Prelude.{ℕ, zero, suc, ℤ, pos, negsuc, ◌==◌, if◌then◌else◌, Bool, List, [], ◌∷◌, map, Option, Some, None}
+use Rattle.std.specs.Prelude.{ℕ, zero, suc, ◌+◌, ℤ, pos, negsuc, ◌==◌, if◌then◌else◌, Bool, List, [], ◌∷◌, map, Option, Some, None}
 use Rattle.gib_base.specs.declared.Span.{Span}
 use Rattle.gib_base.specs.declared.name.Name.{Name}
 use Rattle.gib_types.specs.declared.table.Ty.{Ty}
@@ -133,7 +133,7 @@ type_name table (Tree t) = ty.Declared (ident (declared_name table.types t.0))
 -- The variables from a number on as parameters of these types.
 abbrev pub parameters_from : Table → ℕ → List Ty → List Parameter
 parameters_from table n [] = []
-parameters_from table n (t ∷ ts) = record { name = ident n; ty = type_name table t } ∷ parameters_from table (suc n) ts
+parameters_from table n (t ∷ ts) = record { name = ident n; ty = type_name table t } ∷ parameters_from table (n + 1) ts
 
 -- The function that is left.
 abbrev pub erase_function : Table → FunctionTerm → FunctionTree
