@@ -145,9 +145,9 @@ module _ (tb : Table) (call : Calls) where
   some_gives (j ∷ ks) as' bs sc n k vs env b h is has below =
       let rest = λ (e : (j == k) ≡ false) (m : ℕ) (le : n ≤ m). some_gives ks as' bs sc m k vs env b h is (sym (ap (λ t. if t then true else listed ks k) e) ∙ has) (all_below_less n m sc le below) in
       branch_of_gives ks as' sc n j k vs env (arm_for as' j) (choice_for bs j) (b.body (bind b.names (list_of vs) (env_of sc env))) below (same_for sc as' bs j h)
-        (λ e. ap (λ p. take_one p (list_of vs) (env_of sc env)) (ap (choice_for bs) (eqb-true j k e) ∙ is))
-        (go (j == k) refl rest)
-        rest
+      (λ e. ap (λ p. take_one p (list_of vs) (env_of sc env)) (ap (choice_for bs) (eqb-true j k e) ∙ is))
+      (go (j == k) refl rest)
+      rest
     where
       Out : ℕ → Type 0
       Out m = mean_branches tb call (branches_of tb ks as' sc m).branches (con k vs) env ≡ b.body (bind b.names (list_of vs) (env_of sc env))

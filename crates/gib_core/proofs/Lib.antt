@@ -9,3 +9,7 @@ mod Places
 mod Same
 mod Cases
 mod Whole
+mod Ordered
+mod Erases
+mod Left
+mod Reaches

@@ -91,13 +91,13 @@ module _ (tb : Table) (call : Calls) where
         grows = omega arith;
         below = omega arith;
         agree = rw run_all-append (agree_then (run_all tb call (c.binds ++ prim ∷ [])) (λ v. with_value (g (env_of sc env)) (λ w. Gives (operate op (number_in v) (number_in w)))) l.agree
-          (λ v e1 is1 k1.
+            (λ v e1 is1 k1.
             let r = hg a.fresh e1 b' in
             let same : g (env_of sc e1) ≡ g (env_of sc env) = ap g (env_of-keeps sc k1 b) in
             rw (run_all-append, sym same) (agree_then (run_all tb call (prim ∷ [])) (λ w. Gives (operate op (number_in v) (number_in w))) r.agree
-              (λ w e2 is2 k2. rw (value-keeps a.atom k2 l.below, is1, is2) (prim_agree c.fresh e2 (Gives (operate op (number_in v) (number_in w)))))
-              up'))
-          up);
+            (λ w e2 is2 k2. rw (value-keeps a.atom k2 l.below, is1, is2) (prim_agree c.fresh e2 (Gives (operate op (number_in v) (number_in w)))))
+            up'))
+            up);
       }
 
   -- arguments
@@ -125,7 +125,7 @@ module _ (tb : Table) (call : Calls) where
         grows = omega arith;
         below = (below_less a.fresh r.fresh a.atom up' l.below, rest.below);
         agree = rw run_all-append (also_collects (run_all tb call r.binds) (gather (each_of fs (env_of sc env))) l.agree l.below up
-          (λ new k.
+            (λ new k.
             let same : gather (each_of fs (env_of sc new)) ≡ gather (each_of fs (env_of sc env)) = ap (λ e. gather (each_of fs e)) (env_of-keeps sc k b) in
             subst (λ (p : Together). Collects a.fresh r.atoms new p (run_all tb call r.binds new)) same (several_good cs fs sc h.1 a.fresh new b').agree));
       }
@@ -257,17 +257,17 @@ module _ (tb : Table) (call : Calls) where
       record {
         grows = omega arith;
         gives =
-          ap (λ t. mean tb call t env) (prepend-append ss.binds (ps.binds ++ tail_of k types ss ps) (write_of k ss ps) ∙ ap (prepend ss.binds) (prepend-append ps.binds (tail_of k types ss ps) (write_of k ss ps)))
-          ∙ mean-prepend tb call ss.binds (prepend ps.binds ends) env
-          ∙ gives_all (mean tb call (prepend ps.binds ends)) (λ vs. with_all (gather (each_of (at_fields false flags fs) e)) (λ ws. go (merge flags vs ws))) s.agree
+            ap (λ t. mean tb call t env) (prepend-append ss.binds (ps.binds ++ tail_of k types ss ps) (write_of k ss ps) ∙ ap (prepend ss.binds) (prepend-append ps.binds (tail_of k types ss ps) (write_of k ss ps)))
+            ∙ mean-prepend tb call ss.binds (prepend ps.binds ends) env
+            ∙ gives_all (mean tb call (prepend ps.binds ends)) (λ vs. with_all (gather (each_of (at_fields false flags fs) e)) (λ ws. go (merge flags vs ws))) s.agree
             (λ vs e1 is1 k1.
-              let r = several_good (at_fields false flags cs) (at_fields false flags fs) sc good ss.fresh e1 b' in
-              let same : gather (each_of (at_fields false flags fs) (env_of sc e1)) ≡ gather (each_of (at_fields false flags fs) e) = ap (λ z. gather (each_of (at_fields false flags fs) z)) (env_of-keeps sc k1 b) in
-              mean-prepend tb call ps.binds ends e1
-              ∙ gives_all (mean tb call ends) (λ ws. go (merge flags vs ws)) r.agree (λ ws e2 is2 k2. tail_mean k types ss ps e2 vs ws (each_below_less ss.fresh ps.fresh ss.atoms up' s.below) below (values-keep ss.atoms k2 s.below ∙ is1) is2)
-              ∙ ap (λ q. with_all q (λ ws. go (merge flags vs ws))) same)
-          ∙ sym (λ i. with_all (gather (each_of-select true flags fs e i)) (λ vs. with_all (gather (each_of-select false flags fs e i)) (λ ws. go (merge flags vs ws))))
-          ∙ sym (fields_merged flags (each_of fs e) go (each_length fs e ∙ long));
+            let r = several_good (at_fields false flags cs) (at_fields false flags fs) sc good ss.fresh e1 b' in
+            let same : gather (each_of (at_fields false flags fs) (env_of sc e1)) ≡ gather (each_of (at_fields false flags fs) e) = ap (λ z. gather (each_of (at_fields false flags fs) z)) (env_of-keeps sc k1 b) in
+            mean-prepend tb call ps.binds ends e1
+            ∙ gives_all (mean tb call ends) (λ ws. go (merge flags vs ws)) r.agree (λ ws e2 is2 k2. tail_mean k types ss ps e2 vs ws (each_below_less ss.fresh ps.fresh ss.atoms up' s.below) below (values-keep ss.atoms k2 s.below ∙ is1) is2)
+            ∙ ap (λ q. with_all q (λ ws. go (merge flags vs ws))) same)
+            ∙ sym (λ i. with_all (gather (each_of-select true flags fs e i)) (λ vs. with_all (gather (each_of-select false flags fs e i)) (λ ws. go (merge flags vs ws))))
+            ∙ sym (fields_merged flags (each_of fs e) go (each_length fs e ∙ long));
       }
 
   -- a `let`
@@ -282,8 +282,8 @@ module _ (tb : Table) (call : Calls) where
       record {
         grows = omega arith;
         gives =
-          mean-prepend tb call l.binds (body sc' l.fresh).term env
-          ∙ gives_then (mean tb call (body sc' l.fresh).term) (λ v. g ((number_of x, v) ∷ env_of sc env)) s.agree
+            mean-prepend tb call l.binds (body sc' l.fresh).term env
+            ∙ gives_then (mean tb call (body sc' l.fresh).term) (λ v. g ((number_of x, v) ∷ env_of sc env)) s.agree
             (λ v new is k. (hb l.atom l.ty l.fresh new b').gives ∙ (λ i. g ((number_of x, is i) ∷ env_of-keeps sc k b i)));
       }
 
@@ -312,7 +312,7 @@ module _ (tb : Table) (call : Calls) where
       record {
         grows = omega arith;
         gives = par_runs (kind_of l.ty) (kind_of r.ty) n m l.ty r.ty l.term r.term env (f e) (g e) (mean tb call (body sc' r.fresh).term) (λ v w. h ((number_of y, w) ∷ (number_of x, v) ∷ e)) s.gives q.gives
-          (λ v w.
+            (λ v w.
             let e1 : Environment = (n, v) ∷ env in
             let e2 : Environment = (m, w) ∷ e1 in
             let k1 : Keeps n env e1 = keeps_bind n n v env (omega arith) in
@@ -339,8 +339,8 @@ module _ (tb : Table) (call : Calls) where
       record {
         grows = omega arith;
         gives = mean-prepend tb call a.binds (IfTerm a.atom l.term r.term) env
-          ∙ gives_then (mean tb call (IfTerm a.atom l.term r.term)) (λ v. choose (is_true v) (f e) (g e)) s.agree
+            ∙ gives_then (mean tb call (IfTerm a.atom l.term r.term)) (λ v. choose (is_true v) (f e) (g e)) s.agree
             (λ v new is k.
-              let same = env_of-keeps sc k b in
-              (λ i. choose (is_true (is i)) (((hf a.fresh new b1).gives ∙ ap f same) i) (((hg l.fresh new b2).gives ∙ ap g same) i)));
+            let same = env_of-keeps sc k b in
+            (λ i. choose (is_true (is i)) (((hf a.fresh new b1).gives ∙ ap f same) i) (((hg l.fresh new b2).gives ∙ ap g same) i)));
       }

@@ -36,8 +36,8 @@ module _ (tb : Table) (call : Calls) where
         λ i. with_value (eval_same d env other h i) (λ v. eval_same e ((number_of x, v) ∷ env) ((number_of x, v) ∷ other) (same_more (number_of x) v env other h) i)
     eval_same (Par p x d y e f) env other h =
         λ i. with_value (eval_same d env other h i) (λ v. with_value (eval_same e env other h i) (λ w.
-          eval_same f ((number_of y, w) ∷ (number_of x, v) ∷ env) ((number_of y, w) ∷ (number_of x, v) ∷ other)
-          (same_more (number_of y) w ((number_of x, v) ∷ env) ((number_of x, v) ∷ other) (same_more (number_of x) v env other h)) i))
+        eval_same f ((number_of y, w) ∷ (number_of x, v) ∷ env) ((number_of y, w) ∷ (number_of x, v) ∷ other)
+        (same_more (number_of y) w ((number_of x, v) ∷ env) ((number_of x, v) ∷ other) (same_more (number_of x) v env other h)) i))
     eval_same (If p c d e) env other h = λ i. with_value (eval_same c env other h i) (λ v. choose (is_true v) (eval_same d env other h i) (eval_same e env other h i))
     eval_same (Case p x arms) env other h = ap (λ v. eval_arms tb call arms v env) (h (number_of x)) ∙ arms_same arms (value_in other (number_of x)) env other h
 
@@ -94,7 +94,7 @@ fields_same (x ∷ xs) (t ∷ types) known inner sc e h others n [] env below =
     let zeroed : Environment = (n, whole (pos 0)) ∷ env in
     let sc' : Scope = slot x (var n) (first_type others) ∷ sc in
     let more = fields_same xs types (typing.bound x t known) inner sc' e.1 (hides_bound known sc x t (var n) (first_type others) h) (further_types others) (n + 1) [] zeroed
-        (omega arith, all_below_less n (n + 1) sc (omega arith) below) in
+    (omega arith, all_below_less n (n + 1) sc (omega arith) below) in
     let now : env_of sc' zeroed ≡ (number_of x, whole (pos 0)) ∷ env_of sc env = λ i. (number_of x, value_in-here n (whole (pos 0)) env i) ∷ env_of-keeps sc (keeps_bind n n (whole (pos 0)) env (omega arith)) below i in
     let all = env_of (with_fields xs (further_types others) (n + 1) sc') (core.bind (variables_from (n + 1) xs) [] zeroed) in
     same_trans all ((number_of x, whole (pos 0)) ∷ env_of sc env) (env_of sc env)
@@ -104,7 +104,7 @@ fields_same (x ∷ xs) (t ∷ types) known inner sc e h others n (v ∷ vs) env 
     let bound : Environment = (n, v) ∷ env in
     let sc' : Scope = slot x (var n) (first_type others) ∷ sc in
     let more = fields_same xs types (typing.bound x t known) inner sc' e.1 (hides_bound known sc x t (var n) (first_type others) h) (further_types others) (n + 1) vs bound
-        (omega arith, all_below_less n (n + 1) sc (omega arith) below) in
+    (omega arith, all_below_less n (n + 1) sc (omega arith) below) in
     let now : env_of sc' bound ≡ (number_of x, v) ∷ env_of sc env = λ i. (number_of x, value_in-here n v env i) ∷ env_of-keeps sc (keeps_bind n n v env (omega arith)) below i in
     let all = env_of (with_fields xs (further_types others) (n + 1) sc') (core.bind (variables_from (n + 1) xs) vs bound) in
     subst (λ (z : Environment). AreSame all (bind xs vs z)) now more

@@ -150,13 +150,13 @@ module _ (g : Globals) (call : Calls) (is : IsTable g.table) where
       let ks = constructors_of g.table (owner_at g.table (first_constructor as')) in
       let own = first_owner ty arms d in
       let has : (k : ℕ) (c : Choice) → choice_for g.table call bs k ≡ Some c → listed ks k ≡ true =
-          λ k c e. subst (λ (t : ℕ). listed (constructors_of g.table t) k ≡ true) (sym own) (choices_listed ty arms d k c e) in
+      λ k c e. subst (λ (t : ℕ). listed (constructors_of g.table t) k ≡ true) (sym own) (choices_listed ty arms d k c e) in
       record {
         grows = alts_grow g.table call ks as' bs sc n h b;
         gives =
-          case_gives g.table call ks as' bs sc n env (value env (atom_at sc (number_of x))) h has b
-          ∙ ap (λ v. choose_on v bs (env_of sc env)) (sym (value_in-env_of sc env (number_of x)))
-          ∙ arms_chosen ty arms (value_in (env_of sc env) (number_of x)) (env_of sc env) d;
+            case_gives g.table call ks as' bs sc n env (value env (atom_at sc (number_of x))) h has b
+            ∙ ap (λ v. choose_on v bs (env_of sc env)) (sym (value_in-env_of sc env (number_of x)))
+            ∙ arms_chosen ty arms (value_in (env_of sc env) (number_of x)) (env_of sc env) d;
       }
 
   good_as : (c : Code) (f h : Environment → Outcome) (sc : Scope) → ((env : Environment) → f env ≡ h env) → Good g.table call c f sc → Good g.table call c h sc
@@ -185,21 +185,21 @@ module _ (g : Globals) (call : Calls) (is : IsTable g.table) where
         good_as (infer g (Make k xs)) (λ env. made g.table (Some c) (each_of (evals xs) env)) (eval g.table call (Make k xs)) sc
         (λ env i. made g.table (is_named i) (evals_each xs env i))
         (line_good g.table call line (λ env. made g.table (Some c) (each_of (evals xs) env)) sc
-          (make_good g.table call (record { 0 = c }) (infer_all g xs) (evals xs) sc (evals_count xs known (fields_at g.table c) types) (all_good xs known (fields_at g.table c) sc types hides)))
+        (make_good g.table call (record { 0 = c }) (infer_all g xs) (evals xs) sc (evals_count xs known (fields_at g.table c) types) (all_good xs known (fields_at g.table c) sc types hides)))
     good (Let p x d e) known ty sc h hides =
         line_good g.table call (let_line x (infer g d).bound (infer g e).line) (eval g.table call (Let p x d e)) sc
         (let_good g.table call x (infer g d).bound (infer g e).line (eval g.table call d) (eval g.table call e) sc (good d known h.0 sc h.1 hides).bound
-          (λ at t. (good e (typing.bound x h.0 known) ty (slot x at t ∷ sc) h.3 (hides_bound known sc x h.0 at t hides)).line))
+        (λ at t. (good e (typing.bound x h.0 known) ty (slot x at t ∷ sc) h.3 (hides_bound known sc x h.0 at t hides)).line))
     good (Par p x d y e f) known ty sc h hides =
         line_good g.table call (par_line x (infer g d).side y (infer g e).side (infer g f).line) (eval g.table call (Par p x d y e f)) sc
         (par_good g.table call x (infer g d).side y (infer g e).side (infer g f).line (eval g.table call d) (eval g.table call e) (eval g.table call f) sc
-          (good d known h.0 sc h.2 hides).side (good e known h.1 sc h.3 hides).side
-          (λ at1 at2 t1 t2. (good f (typing.bound y h.1 (typing.bound x h.0 known)) ty (slot y at2 t2 ∷ slot x at1 t1 ∷ sc) h.6
-            (hides_bound (typing.bound x h.0 known) (slot x at1 t1 ∷ sc) y h.1 at2 t2 (hides_bound known sc x h.0 at1 t1 hides))).line))
+        (good d known h.0 sc h.2 hides).side (good e known h.1 sc h.3 hides).side
+        (λ at1 at2 t1 t2. (good f (typing.bound y h.1 (typing.bound x h.0 known)) ty (slot y at2 t2 ∷ slot x at1 t1 ∷ sc) h.6
+        (hides_bound (typing.bound x h.0 known) (slot x at1 t1 ∷ sc) y h.1 at2 t2 (hides_bound known sc x h.0 at1 t1 hides))).line))
     good (If p c d e) known ty sc h hides =
         line_good g.table call (if_line (infer g c).atom (infer g d).line (infer g e).line) (eval g.table call (If p c d e)) sc
         (if_good g.table call (infer g c).atom (infer g d).line (infer g e).line (eval g.table call c) (eval g.table call d) (eval g.table call e) sc
-          (good c known Truth sc h.0 hides).atom (good d known ty sc h.1 hides).line (good e known ty sc h.2 hides).line)
+        (good c known Truth sc h.0 hides).atom (good d known ty sc h.1 hides).line (good e known ty sc h.2 hides).line)
     good (Case p x arms) known ty sc h hides =
         line_good g.table call (case_line g.table x (infer_arms g arms)) (eval g.table call (Case p x arms)) sc
         (case_good h.0.0 x arms sc (all_declared h.0.0 arms h.2.own) (arms_good arms known ty sc h.3 hides))
@@ -210,20 +210,24 @@ module _ (g : Globals) (call : Calls) (is : IsTable g.table) where
     all_good (Argument e xs) known (t ∷ types) sc h hides = (good e known t sc h.0 hides, all_good xs known types sc h.1 hides)
 
     pub arms_good : (arms : Arms) (known : typing.Scope) (ty : Ty) (sc : Scope) → HaveArms g known arms ty → Hides known sc → AllArms g.table call sc (infer_arms g arms) (choices arms)
-    arms_good (LastArm k xs e) known ty sc h hides =
-        (record {
-          con = refl;
-          code = λ types n. good e h.1 ty (with_fields xs types n sc) h.4 (hides_all xs (fields_at g.table h.0) known h.1 sc h.3 hides types n);
-          fields = λ types n vs env below. fields_same xs (fields_at g.table h.0) known h.1 sc h.3 hides types n vs env below;
-          same = λ env other s. eval_same g.table call e env other s;
-        }, tt)
-    arms_good (NextArm k xs e arms) known ty sc h hides =
-        (record {
-          con = refl;
-          code = λ types n. good e h.0.1 ty (with_fields xs types n sc) h.0.4 (hides_all xs (fields_at g.table h.0.0) known h.0.1 sc h.0.3 hides types n);
-          fields = λ types n vs env below. fields_same xs (fields_at g.table h.0.0) known h.0.1 sc h.0.3 hides types n vs env below;
-          same = λ env other s. eval_same g.table call e env other s;
-        }, arms_good arms known ty sc h.1 hides)
+    arms_good (LastArm k xs e) known ty sc h hides = (
+      record {
+        con = refl;
+        code = λ types n. good e h.1 ty (with_fields xs types n sc) h.4 (hides_all xs (fields_at g.table h.0) known h.1 sc h.3 hides types n);
+        fields = λ types n vs env below. fields_same xs (fields_at g.table h.0) known h.1 sc h.3 hides types n vs env below;
+        same = λ env other s. eval_same g.table call e env other s;
+      },
+      tt,
+    )
+    arms_good (NextArm k xs e arms) known ty sc h hides = (
+      record {
+        con = refl;
+        code = λ types n. good e h.0.1 ty (with_fields xs types n sc) h.0.4 (hides_all xs (fields_at g.table h.0.0) known h.0.1 sc h.0.3 hides types n);
+        fields = λ types n vs env below. fields_same xs (fields_at g.table h.0.0) known h.0.1 sc h.0.3 hides types n vs env below;
+        same = λ env other s. eval_same g.table call e env other s;
+      },
+      arms_good arms known ty sc h.1 hides,
+    )
 
   -- A body, with values for its parameters.
   pub body_means : (names : List Ident) (types : List Ty) (scope : typing.Scope) (e : Expression) (ty : Ty) (vs : List Datum) → BindsAll [] names types scope → Has g scope e ty
@@ -237,7 +241,7 @@ module _ (g : Globals) (call : Calls) (is : IsTable g.table) where
 
 -- Calls.
 
-variables_same : {A B : Type 0} (n : ℕ) (xs : List A) (ys : List B) → length xs ≡ length ys → variables_from n xs ≡ variables_from n ys
+pub variables_same : {A B : Type 0} (n : ℕ) (xs : List A) (ys : List B) → length xs ≡ length ys → variables_from n xs ≡ variables_from n ys
 variables_same n [] [] e = refl
 variables_same n [] (y ∷ ys) e = absurd cc
 variables_same n (x ∷ xs) [] e = absurd cc
@@ -255,7 +259,7 @@ function_at-infer g (k ∷ fs) f go go' h = step (number_of k.name == f) (functi
     step true more same = same k refl
     step false more same = more same
 
-typed_function : (g : Globals) (fs : List FunctionTree) (f : ℕ) (h : FunctionTree) → AllByRecursion (IsTypedHere g) fs → function_named fs f ≡ Some h → IsTypedHere g h
+pub typed_function : (g : Globals) (fs : List FunctionTree) (f : ℕ) (h : FunctionTree) → AllByRecursion (IsTypedHere g) fs → function_named fs f ≡ Some h → IsTypedHere g h
 typed_function g [] f h typed e = absurd cc
 typed_function g (k ∷ fs) f h typed e = step (number_of k.name == f) (typed_function g fs f h typed.1) e
   where
@@ -277,9 +281,9 @@ calls_same p is typed zero = refl
 calls_same p is typed (suc n) = λ i f vs. (
     ap (λ c. core.of_function (function_at (map (infer_function (globals_of p)) p.functions) f) (λ k. mean (table_of_program p) c k.body (core.bind (variables_from 0 k.parameters) vs []))) (calls_same p is typed n)
     ∙ function_at-infer (globals_of p) p.functions f
-      (λ k. eval (table_of_program p) (calls p n) k.body (bind (names_of k.parameters) vs []))
-      (λ k. mean (table_of_program p) (calls p n) k.body (core.bind (variables_from 0 k.parameters) vs []))
-      (λ h e. function_means (globals_of p) (calls p n) is h vs (typed_function (globals_of p) p.functions f h typed.functions e))) i
+    (λ k. eval (table_of_program p) (calls p n) k.body (bind (names_of k.parameters) vs []))
+    (λ k. mean (table_of_program p) (calls p n) k.body (core.bind (variables_from 0 k.parameters) vs []))
+    (λ h e. function_means (globals_of p) (calls p n) is h vs (typed_function (globals_of p) p.functions f h typed.functions e))) i
 
 pub run_same : (p : ProgramTree) → IsTable (table_of_program p) → IsTypedProgram p → (depth : ℕ) (v : Datum) → core_run (infer_program p) depth v ≡ run p depth v
 run_same p is typed depth v =
