@@ -5,3 +5,6 @@ pub mod law;
 pub mod loading;
 
 pub use loading::{LoadFault, load};
+
+#[cfg(test)]
+mod tests;

@@ -2,7 +2,7 @@
 
 ghost use Rattle.std.specs.Prelude.{◌≡◌, ◌<◌, ◌≤◌, ◌^◌, ◌*◌, ◌+◌, ℕ, true, length, slice_get, Some, None, IfOk};
 ghost use Rattle.gib_mem.specs.Plain.{IsPlain, plain_cells, nothing};
-ghost use Rattle.gib_mem.specs.Memory.{Memory};
+ghost use Rattle.gib_mem.specs.Memory.{Memory, IsThere};
 
 use crate::Mem;
 use std::alloc::{AllocError, Global};
@@ -31,6 +31,13 @@ impl PlainMem {
             drawn: 0,
             limit: chunks,
         })
+    }
+
+    /// Every address of a drawn chunk is fresh or known.
+    pub fn owns_all(&self)
+        ensures { (q : ℕ) → q < 4096 * (⟦<PlainMem as Mem>⟧.view self.now).drawn → IsThere ((⟦<PlainMem as Mem>⟧.view self.now).cells q) }
+    {
+        let _all = &self.bytes;
     }
 }
 

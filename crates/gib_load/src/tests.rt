@@ -1,0 +1,191 @@
+//! Values in memory, byte by byte.
+
+ghost use Rattle.std.specs.Prelude.{◌≡◌, ◌++◌, ◌∷◌, [], map, IfOk, OnOk};
+ghost use Rattle.gib_types.specs.Table.{row_of};
+
+use super::*;
+use gib_base::{Memory, Name};
+use gib_file::{read_header, survey};
+use gib_mem::{Mem, PlainMem};
+use gib_packed::Root;
+use gib_region::Tails;
+use gib_types::{Constructor, Layouts, Ty, TyId, TypeTable};
+use std::alloc::Global;
+use std::test::*;
+
+const TREE: Ty = Ty::Tree(TyId(0));
+
+const PAIR: Ty = Ty::Tree(TyId(1));
+
+const TRUTH: Ty = Ty::Tree(TyId(2));
+
+const LIST: Ty = Ty::Tree(TyId(3));
+
+fn add(
+    alloc: Global,
+    rows: &mut Vec<Constructor>,
+    name: u32,
+    owner: u32,
+    fields: &[Ty],
+) -> Result<(), Memory>
+    ensures { OnOk result (map row_of rows.new.items ≡ map row_of rows.old.items ++ record { name = name; owner = owner; fields = fields.now } ∷ []) }
+{
+    let fields = Vec::from_slice(alloc, fields)?;
+    rows.push(Constructor {
+        name: Name(name),
+        owner: TyId(owner),
+        fields,
+    })?;
+    Ok(())
+}
+
+// data Tree = Leaf Int | Node Tree Tree ; data P = P Tree Int ; data B = B Bool ; data List = Nil | Cons Int List ;
+fn table(alloc: Global) -> Result<TypeTable, Memory> {
+    let types = Vec::from_slice(alloc, &[Name(0), Name(1), Name(2), Name(3)])?;
+    let mut rows = Vec::new(alloc);
+    add(alloc, &mut rows, 10, 0, &[Ty::Whole])?;
+    add(alloc, &mut rows, 11, 0, &[TREE, TREE])?;
+    add(alloc, &mut rows, 12, 1, &[TREE, Ty::Whole])?;
+    add(alloc, &mut rows, 13, 2, &[Ty::Truth])?;
+    add(alloc, &mut rows, 14, 3, &[])?;
+    add(alloc, &mut rows, 15, 3, &[Ty::Whole, LIST])?;
+    TypeTable::make(alloc, types, rows)
+}
+
+// The payload's file.
+fn framed(alloc: Global, payload: &[u8]) -> Result<Vec<u8>, Memory> {
+    let mut file = Vec::from_slice(alloc, b"GIBP\x01\0\0\0")?;
+    file.extend_from_slice(&(payload.len() as u64).to_le_bytes())?;
+    file.extend_from_slice(payload)?;
+    Ok(file)
+}
+
+// A list of so many cells that all hold 7.
+fn cells(alloc: Global, count: usize) -> Result<Vec<u8>, Memory> {
+    let mut payload = Vec::new(alloc);
+    for _ in 0..count {
+        payload.extend_from_slice(b"\x05\x07\0\0\0\0\0\0\0")?;
+    }
+    payload.push(4)?;
+    Ok(payload)
+}
+
+// What loading a payload into so many chunks answers, and the memory then.
+fn load_payload(
+    alloc: Global,
+    types: &TypeTable,
+    ty: Ty,
+    payload: &[u8],
+    chunks: u32,
+) -> Result<(Result<Root, LoadFault>, PlainMem), Fail> {
+    let file = framed(alloc, payload)?;
+    let header = read_header(&file).map_err(|_| "header")?;
+    let survey = survey(alloc, types, ty, header).map_err(|_| "payload")?;
+    let layouts = Layouts::make(alloc, types, &[])?;
+    let mut mem = PlainMem::make(alloc, chunks)?;
+    let mut tails = Tails::new();
+    let loaded = load(&layouts, survey, &mut mem, &mut tails);
+    Ok((loaded, mem))
+}
+
+// The bytes of drawn chunks from a place on, at most so many.
+fn look_at(alloc: Global, mem: &mut PlainMem, from: u64, count: usize) -> Result<Vec<u8>, Memory> {
+    let mut bytes = Vec::new(alloc);
+    for i in 0..count {
+        let at = from.wrapping_add(i as u64);
+        if at < 4096 * mem.chunks() as u64 {
+            mem.owns_all();
+            bytes.push(mem.look(at))?;
+        }
+    }
+    Ok(bytes)
+}
+
+#[test]
+fn short_values_stand_as_they_are_packed(rt: HostRuntime) -> Result<(), Fail> {
+    let alloc = rt.alloc();
+    let types = table(alloc)?;
+    let cases: [(Ty, &[u8]); 4] = [
+        (TREE, b"\x01\x00\x01\0\0\0\0\0\0\0\x00\x02\0\0\0\0\0\0\0"),
+        (PAIR, b"\x02\x07\0\0\0\0\0\0\0\x00\x05\0\0\0\0\0\0\0"),
+        (TRUTH, b"\x03\x01"),
+        (LIST, b"\x05\x07\0\0\0\0\0\0\0\x05\x07\0\0\0\0\0\0\0\x04"),
+    ];
+    for (ty, payload) in cases {
+        let (loaded, mut mem) = load_payload(alloc, &types, ty, payload, 16)?;
+        assert!(rt; loaded == Ok(Root::At(0)));
+        assert_eq!(rt; mem.chunks(), 1);
+        let bytes = look_at(alloc, &mut mem, 0, payload.len())?;
+        assert_eq!(rt; bytes.as_slice(), payload);
+        let behind = look_at(alloc, &mut mem, payload.len() as u64, 9)?;
+        assert_eq!(rt; behind.as_slice(), [0u8; 9].as_slice());
+    }
+    Ok(())
+}
+
+#[test]
+fn scalars_are_their_own_roots(rt: HostRuntime) -> Result<(), Fail> {
+    let alloc = rt.alloc();
+    let types = table(alloc)?;
+    let cases: [(Ty, &[u8], Root); 3] = [
+        (
+            Ty::Whole,
+            b"\xff\xff\xff\xff\xff\xff\xff\x7f",
+            Root::Whole(9_223_372_036_854_775_807),
+        ),
+        (
+            Ty::Whole,
+            b"\xfe\xff\xff\xff\xff\xff\xff\xff",
+            Root::Whole(-2),
+        ),
+        (Ty::Truth, b"\x01", Root::Truth(true)),
+    ];
+    for (ty, payload, root) in cases {
+        let (loaded, mut mem) = load_payload(alloc, &types, ty, payload, 0)?;
+        assert!(rt; loaded == Ok(root));
+        assert_eq!(rt; mem.chunks(), 0);
+    }
+    Ok(())
+}
+
+#[test]
+fn a_long_list_turns_to_a_new_chunk(rt: HostRuntime) -> Result<(), Fail> {
+    let alloc = rt.alloc();
+    let types = table(alloc)?;
+    let fits = cells(alloc, 454)?;
+    let (loaded, mut mem) = load_payload(alloc, &types, LIST, &fits, 16)?;
+    assert!(rt; loaded == Ok(Root::At(0)));
+    assert_eq!(rt; mem.chunks(), 1);
+    let bytes = look_at(alloc, &mut mem, 0, 4096)?;
+    assert_eq!(rt; &bytes[..4087], fits.as_slice());
+    assert_eq!(rt; &bytes[4087..], [0u8; 9].as_slice());
+    let turns = cells(alloc, 455)?;
+    let (loaded, mut mem) = load_payload(alloc, &types, LIST, &turns, 16)?;
+    assert!(rt; loaded == Ok(Root::At(0)));
+    assert_eq!(rt; mem.chunks(), 2);
+    let bytes = look_at(alloc, &mut mem, 0, 4107)?;
+    assert_eq!(rt; &bytes[..4086], &turns[..4086]);
+    assert_eq!(rt;
+        &bytes[4086..4096],
+        b"\xff\x00\x10\0\0\0\0\0\0\0".as_slice()
+    );
+    assert_eq!(rt; &bytes[4096..], b"\x05\x07\0\0\0\0\0\0\0\x04\0".as_slice());
+    Ok(())
+}
+
+#[test]
+fn loading_ends_where_all_chunks_are_drawn(rt: HostRuntime) -> Result<(), Fail> {
+    let alloc = rt.alloc();
+    let types = table(alloc)?;
+    let turns = cells(alloc, 455)?;
+    let (loaded, mut mem) = load_payload(alloc, &types, LIST, &turns, 1)?;
+    assert!(rt; loaded == Err(LoadFault::Full));
+    assert_eq!(rt; mem.chunks(), 1);
+    let bytes = look_at(alloc, &mut mem, 0, 4096)?;
+    assert_eq!(rt; &bytes[..4086], &turns[..4086]);
+    assert_eq!(rt; &bytes[4086..], [0u8; 10].as_slice());
+    let (loaded, mut mem) = load_payload(alloc, &types, TRUTH, b"\x03\x01", 0)?;
+    assert!(rt; loaded == Err(LoadFault::Full));
+    assert_eq!(rt; mem.chunks(), 0);
+    Ok(())
+}

@@ -1,0 +1,33 @@
+use Rattle.std.proofs.Common.{◌≡◌, ℕ, ◌+◌, ◌*◌, ◌<◌, ◌≤◌, ◌^◌, List, length, sym, ap, subst, subst₂, ◌∙◌, arith}
+use Rattle.gib_mem.specs.Memory.{Memory, Owned, after_puts}
+use Rattle.gib_mem.proofs.Puts.{puts_past}
+use Rattle.gib_region.specs.Region.{Behind, AreOwned, no_tails}
+use Rattle.gib_region.specs.Leaving.{IsBounded}
+use Rattle.gib_region.proofs.Placing.{leaves}
+use Rattle.gib_region.proofs.Keeping.{begins_owned}
+use Rattle.gib_region.proofs.tests.place_two.Goals as goal
+
+pub begin-requires : goal.begin-requires
+begin-requires g c = subst (λ (l : List ℕ). AreOwned (g.M.Mem.view c.args.mem.now).cells l) (sym c.new-tails.ensures) no_tails
+
+pub fill-requires-clause-owned : goal.fill-requires-clause-owned
+fill-requires-clause-owned g c =
+    let first : IsBounded (g.M.Mem.view c.args.mem.now) = record { above = g.met.M.Mem.bounded c.args.mem.now; order = (g.met.M.Mem.small c.args.mem.now).0; small = (g.met.M.Mem.small c.args.mem.now).1 } in
+    let second : IsBounded (g.M.Mem.view c.begin.new.mem) = record { above = g.met.M.Mem.bounded c.begin.new.mem; order = (g.met.M.Mem.small c.begin.new.mem).0; small = (g.met.M.Mem.small c.begin.new.mem).1 } in
+    let owned = subst (λ (l : List ℕ). AreOwned (g.M.Mem.view c.args.mem.now).cells l) (sym c.new-tails.ensures) no_tails in
+    let begun = begins_owned _ _ _ _ _ first owned c.in-Ok.ensures.begins in
+    let long = begun.long in
+    let left = leaves _ _ _ _ _ second begun.behind (omega (arith, long)) (omega arith) c.in-Ok-reserve.ensures.placed in
+    subst (λ (n : ℕ). Owned (g.M.Mem.view c.reserve.new.mem).cells c.in-Ok-reserve.at n) (sym c.requires) left.owned
+
+pub point-requires-clause-owned : goal.point-requires-clause-owned
+point-requires-clause-owned g c =
+    let first : IsBounded (g.M.Mem.view c.args.mem.now) = record { above = g.met.M.Mem.bounded c.args.mem.now; order = (g.met.M.Mem.small c.args.mem.now).0; small = (g.met.M.Mem.small c.args.mem.now).1 } in
+    let second : IsBounded (g.M.Mem.view c.begin.new.mem) = record { above = g.met.M.Mem.bounded c.begin.new.mem; order = (g.met.M.Mem.small c.begin.new.mem).0; small = (g.met.M.Mem.small c.begin.new.mem).1 } in
+    let owned = subst (λ (l : List ℕ). AreOwned (g.M.Mem.view c.args.mem.now).cells l) (sym c.new-tails.ensures) no_tails in
+    let begun = begins_owned _ _ _ _ _ first owned c.in-Ok.ensures.begins in
+    let long = begun.long in
+    let left = leaves _ _ _ _ _ second begun.behind (omega (arith, long)) (omega arith) c.in-Ok-reserve.ensures.placed in
+    let behind : (bytes : List ℕ) (m : Memory) → m ≡ after_puts (g.M.Mem.view c.reserve.new.mem) c.in-Ok-reserve.at bytes → length bytes ≡ 65 → Behind m.cells (c.in-Ok-reserve.at + 65) =
+    λ bytes m e n. subst (λ (x : Memory). Behind x.cells (c.in-Ok-reserve.at + 65)) (sym e) (record { owned = record { all = λ q x y. puts_past (g.M.Mem.view c.reserve.new.mem) c.in-Ok-reserve.at bytes q (omega (arith, n, x)) ∙ left.behind.all q x y } }) in
+    subst (λ (a : ℕ). Behind (g.M.Mem.view c.fill.new.mem).cells a) (sym c.in-Ok-reserve.ensures.cursor) (behind c.args.bytes.now _ c.fill.ensures c.requires)
