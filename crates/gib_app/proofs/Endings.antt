@@ -1,5 +1,6 @@
--- From the stop of a run to the status of the call.
-use Rattle.std.proofs.Common.{◌≡◌, ◌∙◌, refl, ℕ, List, Option, Some, None, IfSome, MatchOption, ◌⊎◌, inl, inr, subst, sym}
+-- From the stop of a call to its status, and from the status that is due to the one that is answered.
+use Rattle.std.specs.Prelude.{codes}
+use Rattle.std.proofs.Common.{◌≡◌, ◌∙◌, refl, ℕ, ◌≤◌, List, ◌++◌, Option, Some, None, IfSome, MatchOption, ◌⊎◌, inl, inr, subst, sym, Bool}
 use Rattle.gib_base.specs.Lexed.{Lexed, IsLexed}
 use Rattle.gib_base.specs.declared.token.Token.{Token}
 use Rattle.gib_types.specs.declared.table.Ty.{Ty}
@@ -10,108 +11,357 @@ use Rattle.gib_syntax.specs.Tree.{ProgramTree}
 use Rattle.gib_syntax.specs.Spelling.{Places, Derives, IsPlacedProgram, places_of}
 use Rattle.gib_syntax.specs.Declarations.{table_of_program, input_type}
 use Rattle.gib_syntax.specs.Meaning.{Outcome, Gives, Stops, Deep, run}
-use Rattle.gib_edge.specs.Causes.{Rose}
+use Rattle.gib_edge.specs.Causes.{Rose, Appends, AppendsPart}
+use Rattle.gib_app.specs.declared.input_fault.InputFault.{InputFault}
 use Rattle.gib_app.specs.declared.status.Status.{Status}
 use Rattle.gib_app.specs.declared.status.Status.TheVariants as status
 use Rattle.gib_app.specs.declared.stop.Stop.{Stop}
-use Rattle.gib_app.specs.declared.stop.Stop.TheVariants.{Usage, Source, Unread, Input, Depth, Memory, Unwritten}
-use Rattle.gib_app.specs.Words.{Document, Brought, Named, Request, asked, Files, bytes_in}
-use Rattle.gib_app.specs.Running.{IsProgram, IsInput, IsOutput, IsNoProgram, IsNoInput, RunsOut, call_depth}
-use Rattle.gib_app.specs.Causes.{Counts, HasProgram, OfSource, OfBoth, HasRisen, ReadRose, GoesWell}
-use Rattle.gib_app.specs.Lines.{IsFile}
-use Rattle.gib_app.specs.Stops.{IsStop}
-use Rattle.gib_app.specs.Endings.{status_for}
-use Rattle.gib_app.specs.Ending.{IsEnding}
+use Rattle.gib_app.specs.declared.stop.Stop.TheVariants.{Usage, Source, Unread, Input, Depth, Memory, Unwritten, Unput}
+use Rattle.gib_app.specs.Words.{Document, Request, Run, Plain, Check, Pack, Show, asked, Files, bytes_in}
+use Rattle.gib_app.specs.Running.{IsProgram, IsSource, IsNoProgram, IsOutput, RunsOut}
+use Rattle.gib_app.specs.SourceFaults.{IsSourceFault}
+use Rattle.gib_app.specs.Commands.{source_of, second_of, target_of, Makes, Accepts, Refuses, Exhausts, printed, IsWritten, OnProgram}
+use Rattle.gib_app.specs.Causes.{ShelfView, SinkView, Holds, HoldsSecond, OnSource, OnFiles, AsksSource, AsksProgram, IsUnwritten, FailsToRead}
+use Rattle.gib_app.specs.Lines.{IsLine, line}
+use Rattle.gib_app.specs.Ending.{IsEnding, IsTold, DueOfSource, DueOfFiles, TakesAll, IsDue}
+use Rattle.gib_app.specs.Stops.{IsStop, OnBoth}
+use Rattle.gib_app.specs.Stopping.{status_for, line_for}
+use Rattle.gib_app.specs.Performing.{IsCallStop}
+use Rattle.gib_app.proofs.Performing.{map_both, makes_accepts}
 
-has_risen : (d : Document) (before now : Counts) (name : List ℕ) → IsFile d name → Rose (before name) (now name) → HasRisen d before now
-has_risen (Brought bytes) before now name is h = absurd is
-has_risen (Named file) before now name is h = let P : List ℕ → Type 0 = λ n. Rose (before n) (now n) in subst P (sym is) h
+map_asked : (o : Option Request) (P Q : Request → Type 0) → ((r : Request) → P r → Q r) → MatchOption o ⊥ P → MatchOption o ⊥ Q
+map_asked None P Q go h = h
+map_asked (Some r) P Q go h = go r h
 
-risen_of : (kept : Files) (r : Request) (before now : Counts) (name : List ℕ) → (IsFile r.source name ⊎ (IsFile r.input name × HasProgram kept r.source)) → Rose (before name) (now name) → HasRisen r.source before now ⊎ (HasRisen r.input before now × HasProgram kept r.source)
-risen_of kept r before now name (inl is) h = inl (has_risen r.source before now name is h)
-risen_of kept r before now name (inr is) h = inr (has_risen r.input before now name is.0 h, is.1)
+on_source : (kept : Files) (d : Document) (P Q : List ℕ → Type 0) → ((source : List ℕ) → P source → Q source) → OnSource kept d P → OnSource kept d Q
+on_source kept d P Q go h = record { source = h.source; source_held = h.source_held; holds = go h.source h.holds }
 
-asked_rose : (kept : Files) (o : Option Request) (before now : Counts) (name : List ℕ) → MatchOption o ⊥ (λ r. (IsFile r.source name ⊎ (IsFile r.input name × HasProgram kept r.source)) × Rose (before name) (now name)) → MatchOption o ⊥ (λ r. HasRisen r.source before now ⊎ (HasRisen r.input before now × HasProgram kept r.source))
-asked_rose kept None before now name h = h
-asked_rose kept (Some r) before now name h = risen_of kept r before now name h.0 h.1
+-- what a stop at a refused second file is
+abbrev Refused : Request → ProgramTree → List (List ℕ) → List ℕ → InputFault → Type 0
+Refused r p names second fault = Refuses r p names second fault × (Accepts r p names second → ⊥)
 
-pub ending_of : (words : List (List ℕ)) (kept : Files) (reads_before reads_now : Counts) (before now : Option (List ℕ)) (faults_before faults_now : ℕ) (stop : Stop) →
-    IsStop words kept reads_before reads_now before now faults_before faults_now stop → IsEnding words kept reads_before reads_now before now faults_before faults_now (status_for stop)
-ending_of words kept reads_before reads_now before now faults_before faults_now Usage h = h
-ending_of words kept reads_before reads_now before now faults_before faults_now Source h = h
-ending_of words kept reads_before reads_now before now faults_before faults_now (Unread name) h = asked_rose kept (asked words) reads_before reads_now name.now h
-ending_of words kept reads_before reads_now before now faults_before faults_now Input h = h
-ending_of words kept reads_before reads_now before now faults_before faults_now Depth h = h
-ending_of words kept reads_before reads_now before now faults_before faults_now Memory h = h
-ending_of words kept reads_before reads_now before now faults_before faults_now Unwritten h = h
+pub ending_of : (tells : Bool) (words : List (List ℕ)) (before now : ShelfView) (out_before out_now : SinkView) (stop : Stop) → IsCallStop tells words before now out_before out_now stop → IsEnding tells words before now out_before out_now (status_for stop)
+ending_of tells words before now out_before out_now Usage h = h
+ending_of tells words before now out_before out_now (Source fault) h =
+    map_asked (asked words) (λ r. IsStop before now r (Source fault)) (λ r. OnSource before.kept (source_of r) IsNoProgram)
+    (λ r k. on_source before.kept (source_of r) (λ bytes. IsSourceFault bytes fault × IsNoProgram bytes) IsNoProgram (λ bytes both. both.1) k) h
+ending_of tells words before now out_before out_now (Unread name) h =
+    map_asked (asked words) (λ r. IsStop before now r (Unread name)) (λ r. (file : List ℕ) × FailsToRead before now r file) (λ r k. (name.now, k)) h
+ending_of tells words before now out_before out_now (Input fault) h =
+    map_asked (asked words) (λ r. IsStop before now r (Input fault)) (λ r. OnBoth before.kept r (λ p names second. Accepts r p names second → ⊥))
+    (λ r k. map_both before.kept r (λ p names second. Refused r p names second fault) (λ p names second. Accepts r p names second → ⊥) (λ p names second both. both.1) k) h
+ending_of tells words before now out_before out_now Depth h = h
+ending_of tells words before now out_before out_now Memory h = h
+ending_of tells words before now out_before out_now (Unwritten name) h =
+    inl (
+      map_asked (asked words) (λ r. IsStop before now r (Unwritten name)) (λ r. OnBoth before.kept r (λ p names second. (file : List ℕ) × IsUnwritten before now r p names second file))
+          (λ r k. map_both before.kept r (λ p names second. IsUnwritten before now r p names second name.now) (λ p names second. (file : List ℕ) × IsUnwritten before now r p names second file) (λ p names second one. (name.now, one)) k) h.0,
+      h.1,
+    )
+ending_of tells words before now out_before out_now Unput h = inr h
 
--- Completeness
+pub line_of : (tells : Bool) (words : List (List ℕ)) (before now : ShelfView) (out_before out_now : SinkView) (stop : Stop) → IsCallStop tells words before now out_before out_now stop → IsLine words before now out_before out_now (status_for stop) (line_for stop)
+line_of tells words before now out_before out_now Usage h = refl
+line_of tells words before now out_before out_now (Source fault) h = (
+  fault,
+  map_asked (asked words) (λ r. IsStop before now r (Source fault)) (λ r. OnSource before.kept (source_of r) (λ bytes. IsSourceFault bytes fault))
+      (λ r k. on_source before.kept (source_of r) (λ bytes. IsSourceFault bytes fault × IsNoProgram bytes) (λ bytes. IsSourceFault bytes fault) (λ bytes both. both.0) k) h,
+  refl,
+)
+line_of tells words before now out_before out_now (Unread name) h =
+    map_asked (asked words) (λ r. IsStop before now r (Unread name)) (λ r. (file : List ℕ) × FailsToRead before now r file × (line_for (Unread name) ≡ line (codes "cannot read " ++ file))) (λ r k. (name.now, k, refl)) h
+line_of tells words before now out_before out_now (Input fault) h = (
+  fault,
+  map_asked (asked words) (λ r. IsStop before now r (Input fault)) (λ r. OnBoth before.kept r (λ p names second. Refuses r p names second fault))
+      (λ r k. map_both before.kept r (λ p names second. Refused r p names second fault) (λ p names second. Refuses r p names second fault) (λ p names second both. both.0) k) h,
+  refl,
+)
+line_of tells words before now out_before out_now Depth h = refl
+line_of tells words before now out_before out_now Memory h = refl
+line_of tells words before now out_before out_now (Unwritten name) h = inl (name.now, h.0, refl)
+line_of tells words before now out_before out_now Unput h = inr (h.1, refl)
 
-source_of : (words : List (List ℕ)) (kept : Files) (request : Request) (source : List ℕ) (P : List ℕ → Type 0) → asked words ≡ Some request → bytes_in kept request.source ≡ Some source → OfSource words kept P → P source
-source_of words kept request source P e f h =
-    let Q : Option Request → Type 0 = λ o. MatchOption o ⊥ (λ r. IfSome (bytes_in kept r.source) P) in
-    let R : Option (List ℕ) → Type 0 = λ o. IfSome o P in
-    subst R f (subst Q e h)
+-- The laws that make a program and an input one
 
-both_of : (words : List (List ℕ)) (kept : Files) (request : Request) (source input : List ℕ) (P : List ℕ → List ℕ → Type 0) → asked words ≡ Some request → bytes_in kept request.source ≡ Some source → bytes_in kept request.input ≡ Some input → OfBoth words kept P → P source input
-both_of words kept request source input P e f k h =
-    let Q : Option Request → Type 0 = λ o. MatchOption o ⊥ (λ r. IfSome (bytes_in kept r.source) (λ s. IfSome (bytes_in kept r.input) (λ i. P s i))) in
-    let R : Option (List ℕ) → Type 0 = λ o. IfSome o (λ s. IfSome (bytes_in kept request.input) (λ i. P s i)) in
-    let S : Option (List ℕ) → Type 0 = λ o. IfSome o (λ i. P source i) in
-    subst S k (subst R f (subst Q e h))
-
-one_of : (A B C : Type 0) → (A ⊎ (B × C)) → A ⊎ B
-one_of A B C (inl a) = inl a
-one_of A B C (inr b) = inr b.0
-
-read_of : (words : List (List ℕ)) (kept : Files) (request : Request) (before now : Counts) → asked words ≡ Some request → ReadRose words kept before now → HasRisen request.source before now ⊎ HasRisen request.input before now
-read_of words kept request before now e h =
-    let Q : Option Request → Type 0 = λ o. MatchOption o ⊥ (λ r. HasRisen r.source before now ⊎ (HasRisen r.input before now × HasProgram kept r.source)) in
-    one_of (HasRisen request.source before now) (HasRisen request.input before now) (HasProgram kept request.source) (subst Q e h)
-
--- the laws that make a program and an input one
 pub record Laws : Type 0 where
   pub lexed : (bytes : List ℕ) (l m : Lexed) → IsLexed bytes l → IsLexed bytes m → l ≡ m
   pub parsed : (at : Places) (tokens : List Token) (p q : ProgramTree) → Derives tokens p → Derives tokens q → IsPlacedProgram at p → IsPlacedProgram at q → p ≡ q
   pub filed : (table : Table) (ty : Ty) (v w : Datum) (bytes : List ℕ) → File table ty v bytes → File table ty w bytes → v ≡ w
 
+same_lexed : Laws → (source : List ℕ) (l m : Lexed) (p q : ProgramTree) → IsProgram source l p → IsProgram source m q → l ≡ m
+same_lexed laws source l m p q h k = laws.lexed source l m h.spelled.is_lexed k.spelled.is_lexed
+
 same_program : Laws → (source : List ℕ) (l m : Lexed) (p q : ProgramTree) → IsProgram source l p → IsProgram source m q → p ≡ q
 same_program laws source l m p q h k =
-    let e = laws.lexed source m l k.spelled.is_lexed h.spelled.is_lexed in
+    let e = same_lexed laws source m l q p k h in
     let D : Lexed → Type 0 = λ x. Derives x.tokens q in
     let A : Lexed → Type 0 = λ x. IsPlacedProgram (places_of x.spans) q in
     laws.parsed (places_of l.spans) l.tokens p q h.spelled.derived (subst D e k.spelled.derived) h.spelled.placed (subst A e k.spelled.placed)
+
+-- what holds of the program of a source, and what else holds of it, hold of one
+together : Laws → (source : List ℕ) (P Q : ProgramTree → List (List ℕ) → Type 0) → OnProgram source P → OnProgram source Q → (p : ProgramTree) × (names : List (List ℕ)) × P p names × Q p names
+together laws source P Q a b =
+    let el = same_lexed laws source b.lexed a.lexed b.program a.program b.is_program a.is_program in
+    let ep = same_program laws source b.lexed a.lexed b.program a.program b.is_program a.is_program in
+    let L : Lexed → Type 0 = λ x. Q b.program x.names in
+    let R : ProgramTree → Type 0 = λ x. Q x a.lexed.names in
+    (a.program, a.lexed.names, a.holds, subst R ep (subst L el b.holds))
+
+same_bytes : (o : Option (List ℕ)) (a b : List ℕ) → o ≡ Some a → IfSome o (λ all. b ≡ all) → b ≡ a
+same_bytes o a b e h = let P : Option (List ℕ) → Type 0 = λ x. IfSome x (λ all. b ≡ all) in subst P e h
+
+same_second : (kept : Files) (o : Option Document) (a b : List ℕ) → IsTold kept o a → HoldsSecond kept o b → b ≡ a
+same_second kept None a b e h = h ∙ sym e
+same_second kept (Some d) a b e h = same_bytes (bytes_in kept d) a b e h
+
+-- what is due and what is answered hold of the same files
+clash : Laws → (before now : ShelfView) (r : Request) (P Q : ProgramTree → List (List ℕ) → List ℕ → Type 0) → DueOfFiles before now r P → OnBoth before.kept r Q →
+    (p : ProgramTree) × (names : List (List ℕ)) × (second : List ℕ) × P p names second × Q p names second
+clash laws before now r P Q due end' =
+    let es = same_bytes (bytes_in before.kept (source_of r)) due.source end'.source due.source_told end'.source_held in
+    let eb = same_second before.kept (second_of r) due.second end'.second due.second_told end'.second_held in
+    let S : List ℕ → Type 0 = λ s. OnProgram s (λ p names. Q p names end'.second) in
+    let B : List ℕ → Type 0 = λ b. OnProgram due.source (λ p names. Q p names b) in
+    let both = together laws due.source (λ p names. P p names due.second) (λ p names. Q p names due.second) due.holds (subst B eb (subst S es end'.holds)) in
+    (both.0, both.1, due.second, both.2, both.3)
+
+no_program : (before now : ShelfView) (r : Request) (P : ProgramTree → List (List ℕ) → List ℕ → Type 0) → DueOfFiles before now r P → OnSource before.kept (source_of r) IsNoProgram → ⊥
+no_program before now r P due end' =
+    let es = same_bytes (bytes_in before.kept (source_of r)) due.source end'.source due.source_told end'.source_held in
+    subst IsNoProgram es end'.holds due.holds.lexed due.holds.program due.holds.is_program
+
+a_program : (before now : ShelfView) (r : Request) (Q : ProgramTree → List (List ℕ) → List ℕ → Type 0) → DueOfSource before now r IsNoProgram → OnBoth before.kept r Q → ⊥
+a_program before now r Q due end' =
+    let es = same_bytes (bytes_in before.kept (source_of r)) due.source end'.source due.source_told end'.source_held in
+    subst IsNoProgram (sym es) due.holds end'.holds.lexed end'.holds.program end'.holds.is_program
+
+a_source : (before now : ShelfView) (r : Request) → DueOfSource before now r IsNoProgram → OnSource before.kept (source_of r) IsSource → ⊥
+a_source before now r due end' =
+    let es = same_bytes (bytes_in before.kept (source_of r)) due.source end'.source due.source_told end'.source_held in
+    subst IsNoProgram (sym es) due.holds end'.holds.0 end'.holds.1 end'.holds.2
+
+read_both : (before now : ShelfView) (r : Request) (P : ProgramTree → List (List ℕ) → List ℕ → Type 0) (name : List ℕ) → DueOfFiles before now r P → FailsToRead before now r name → ⊥
+read_both before now r P name due (inl h) = due.source_read name h
+read_both before now r P name due (inr h) = due.second_read name h.0
+
+read_one : (before now : ShelfView) (r : Request) (name : List ℕ) → DueOfSource before now r IsNoProgram → FailsToRead before now r name → ⊥
+read_one before now r name due (inl h) = due.source_read name h
+read_one before now r name due (inr h) = a_source before now r due h.1
 
 not_both : (r : Outcome) (v : Datum) → r ≡ Gives v → r ≡ Stops Deep → ⊥
 not_both (Gives u) v e f = cc
 not_both (Stops why) v e f = cc
 
-no_input : Laws → (source input output : List ℕ) → IsOutput source input output → IsNoInput source input → ⊥
-no_input laws source input output o n =
-    let e = same_program laws source o.lexed n.lexed o.program n.program o.is_program n.is_program in
-    let P : ProgramTree → Type 0 = λ p. IsInput p o.value input in
-    n.refused o.value (subst P e o.is_input)
+runs_well : Laws → (p : ProgramTree) (names : List (List ℕ)) (depth : ℕ) (input output : List ℕ) → IsOutput p names depth input output → RunsOut p depth input → ⊥
+runs_well laws p names depth input output o d =
+    let v = laws.filed (table_of_program p) (input_type p) d.value o.value input d.is_input.file o.is_input.file in
+    let S : Datum → Type 0 = λ x. run p depth x ≡ Stops Deep in
+    not_both (run p depth o.value) o.result o.means (subst S v d.means)
 
-no_depth : Laws → (source input output : List ℕ) → IsOutput source input output → RunsOut source input → ⊥
-no_depth laws source input output o d =
-    let e = same_program laws source d.lexed o.lexed d.program o.program d.is_program o.is_program in
-    let P : ProgramTree → Type 0 = λ p. IsInput p d.value input in
-    let R : ProgramTree → Type 0 = λ p. run p call_depth d.value ≡ Stops Deep in
-    let v = laws.filed (table_of_program o.program) (input_type o.program) d.value o.value input ((subst P e d.is_input).file) o.is_input.file in
-    let S : Datum → Type 0 = λ x. run o.program call_depth x ≡ Stops Deep in
-    not_both (run o.program call_depth o.value) o.result o.means (subst S v (subst R e d.means))
+makes_well : Laws → (r : Request) (p : ProgramTree) (names : List (List ℕ)) (second made : List ℕ) → Makes r p names second made → Exhausts r p second → ⊥
+makes_well laws (Run s i depth) p names second made h k = runs_well laws p names depth second made h k
+makes_well laws (Plain s i depth) p names second made h k = runs_well laws p names depth second made h k
+makes_well laws (Check s) p names second made h k = k
+makes_well laws (Pack s i target) p names second made h k = k
+makes_well laws (Show s i) p names second made h k = k
 
-pub complete_ending : Laws → (words : List (List ℕ)) (kept : Files) (reads_before reads_now : Counts) (before now : Option (List ℕ)) (faults_before faults_now : ℕ) (end' : Status) →
-    IsEnding words kept reads_before reads_now before now faults_before faults_now end' → GoesWell words kept reads_before reads_now faults_before faults_now → (end' ≡ status.Done) ⊎ (end' ≡ status.Memory)
-complete_ending laws words kept reads_before reads_now before now faults_before faults_now status.Done h w = inl refl
-complete_ending laws words kept reads_before reads_now before now faults_before faults_now status.Source h w =
-    absurd (source_of words kept w.request w.source IsNoProgram w.taken w.source_told h w.is_output.lexed w.is_output.program w.is_output.is_program)
-complete_ending laws words kept reads_before reads_now before now faults_before faults_now status.Usage h w = let both = sym h ∙ w.taken in absurd cc
-complete_ending laws words kept reads_before reads_now before now faults_before faults_now status.Depth h w =
-    absurd (no_depth laws w.source w.input w.output w.is_output (both_of words kept w.request w.source w.input RunsOut w.taken w.source_told w.input_told h))
-complete_ending laws words kept reads_before reads_now before now faults_before faults_now status.Full h w = absurd h
-complete_ending laws words kept reads_before reads_now before now faults_before faults_now status.Memory h w = inr refl
-complete_ending laws words kept reads_before reads_now before now faults_before faults_now status.ReadFault h w = absurd (w.no_read (read_of words kept w.request reads_before reads_now w.taken h))
-complete_ending laws words kept reads_before reads_now before now faults_before faults_now status.WriteFault h w = absurd (w.no_write h.0)
-complete_ending laws words kept reads_before reads_now before now faults_before faults_now status.Input h w =
-    absurd (no_input laws w.source w.input w.output w.is_output (both_of words kept w.request w.source w.input IsNoInput w.taken w.source_told w.input_told h))
+exhausts_accepts : (r : Request) (p : ProgramTree) (names : List (List ℕ)) (second : List ℕ) → Exhausts r p second → Accepts r p names second
+exhausts_accepts (Run s i depth) p names second h = (h.value, h.is_input)
+exhausts_accepts (Plain s i depth) p names second h = (h.value, h.is_input)
+exhausts_accepts (Check s) p names second h = absurd h
+exhausts_accepts (Pack s i target) p names second h = absurd h
+exhausts_accepts (Show s i) p names second h = absurd h
+
+exhausts_writes : (r : Request) (p : ProgramTree) (second name : List ℕ) → Exhausts r p second → target_of r ≡ Some name → ⊥
+exhausts_writes (Run s i depth) p second name h e = cc
+exhausts_writes (Plain s i depth) p second name h e = cc
+exhausts_writes (Check s) p second name h e = h
+exhausts_writes (Pack s i target) p second name h e = h
+exhausts_writes (Show s i) p second name h e = h
+
+-- The status that is due
+
+both_asked : (o : Option Request) (P Q : Request → Type 0) → MatchOption o ⊥ P → MatchOption o ⊥ Q → (r : Request) × P r × Q r
+both_asked None P Q h k = absurd h
+both_asked (Some r) P Q h k = (r, h, k)
+
+none_asked : (o : Option Request) (P : Request → Type 0) → o ≡ None → MatchOption o ⊥ P → ⊥
+none_asked None P e h = h
+none_asked (Some r) P e h = cc
+
+-- bytes were made and written, and the sink took them
+abbrev Whole : Bool → ShelfView → SinkView → SinkView → Request → ProgramTree → List (List ℕ) → List ℕ → Type 0
+Whole tells now a b r p names second =
+    (made : List ℕ) × Makes r p names second made × IsWritten tells now.kept r made × Appends a.taken b.taken (printed r made)
+
+-- bytes were made and written, and the sink took a front of them
+abbrev Front : Bool → ShelfView → SinkView → SinkView → Request → ProgramTree → List (List ℕ) → List ℕ → Type 0
+Front tells now a b r p names second =
+    (made : List ℕ) × Makes r p names second made × IsWritten tells now.kept r made × AppendsPart a.taken b.taken (printed r made)
+
+abbrev Somewhere : ShelfView → ShelfView → Request → ProgramTree → List (List ℕ) → List ℕ → Type 0
+Somewhere before now r p names second = (name : List ℕ) × IsUnwritten before now r p names second name
+
+abbrev Made : Request → ProgramTree → List (List ℕ) → List ℕ → Type 0
+Made r p names second = (made : List ℕ) × Makes r p names second made
+
+abbrev Exhausted : Request → ProgramTree → List (List ℕ) → List ℕ → Type 0
+Exhausted r p names second = Exhausts r p second
+
+abbrev Unfit : Request → ProgramTree → List (List ℕ) → List ℕ → Type 0
+Unfit r p names second = Accepts r p names second → ⊥
+
+abbrev Fails : ShelfView → ShelfView → Request → Type 0
+Fails before now r = (name : List ℕ) × FailsToRead before now r name
+
+abbrev DueAll : ShelfView → ShelfView → SinkView → SinkView → Request → Type 0
+DueAll before now a b r = DueOfFiles before now r (Made r) × TakesAll before now a b r
+
+-- the output is due
+
+done_due : Laws → (tells : Bool) (words : List (List ℕ)) (before now : ShelfView) (a b : SinkView) → MatchOption (asked words) ⊥ (DueAll before now a b) → (end' : Status) → IsEnding tells words before now a b end' → (end' ≡ status.Done) ⊎ (end' ≡ status.Memory)
+done_due laws tells words before now a b due status.Done h = inl refl
+done_due laws tells words before now a b due status.Source h =
+    let k = both_asked (asked words) (DueAll before now a b) (λ r. OnSource before.kept (source_of r) IsNoProgram) due h in
+    absurd (no_program before now k.0 (Made k.0) k.1.0 k.2)
+done_due laws tells words before now a b due status.Usage h = absurd (none_asked (asked words) (DueAll before now a b) h due)
+done_due laws tells words before now a b due status.Depth h =
+    let k = both_asked (asked words) (DueAll before now a b) (λ r. OnBoth before.kept r (Exhausted r)) due h in
+    let both = clash laws before now k.0 (Made k.0) (Exhausted k.0) k.1.0 k.2 in
+    absurd (makes_well laws k.0 both.0 both.1 both.2 both.3.0 both.3.1 both.4)
+done_due laws tells words before now a b due status.Full h = absurd h
+done_due laws tells words before now a b due status.Memory h = inr refl
+done_due laws tells words before now a b due status.ReadFault h =
+    let k = both_asked (asked words) (DueAll before now a b) (Fails before now) due h in
+    absurd (read_both before now k.0 (Made k.0) k.2.0 k.1.0 k.2.1)
+done_due laws tells words before now a b due status.WriteFault (inl h) =
+    let k = both_asked (asked words) (DueAll before now a b) (λ r. OnBoth before.kept r (Somewhere before now r)) due h.0 in
+    let found = k.2.holds.holds in
+    absurd (k.1.1.target found.0 found.1.0 found.1.3)
+done_due laws tells words before now a b due status.WriteFault (inr h) =
+    let k = both_asked (asked words) (DueAll before now a b) (λ r. OnBoth before.kept r (Front tells now a b r)) due h.0 in
+    absurd (k.1.1.out h.1)
+done_due laws tells words before now a b due status.Input h =
+    let k = both_asked (asked words) (DueAll before now a b) (λ r. OnBoth before.kept r (Unfit r)) due h in
+    let both = clash laws before now k.0 (Made k.0) (Unfit k.0) k.1.0 k.2 in
+    absurd (both.4 (makes_accepts k.0 both.0 both.1 both.2 both.3.0 both.3.1))
+
+-- a refusal of the source is due
+
+abbrev DueRefusal : ShelfView → ShelfView → Request → Type 0
+DueRefusal before now r = DueOfSource before now r IsNoProgram
+
+source_due : (tells : Bool) (words : List (List ℕ)) (before now : ShelfView) (a b : SinkView) → MatchOption (asked words) ⊥ (DueRefusal before now) → (end' : Status) → IsEnding tells words before now a b end' → (end' ≡ status.Source) ⊎ (end' ≡ status.Memory)
+source_due tells words before now a b due status.Done h =
+    let k = both_asked (asked words) (DueRefusal before now) (λ r. OnBoth before.kept r (Whole tells now a b r)) due h in
+    absurd (a_program before now k.0 (Whole tells now a b k.0) k.1 k.2)
+source_due tells words before now a b due status.Source h = inl refl
+source_due tells words before now a b due status.Usage h = absurd (none_asked (asked words) (DueRefusal before now) h due)
+source_due tells words before now a b due status.Depth h =
+    let k = both_asked (asked words) (DueRefusal before now) (λ r. OnBoth before.kept r (Exhausted r)) due h in
+    absurd (a_program before now k.0 (Exhausted k.0) k.1 k.2)
+source_due tells words before now a b due status.Full h = absurd h
+source_due tells words before now a b due status.Memory h = inr refl
+source_due tells words before now a b due status.ReadFault h =
+    let k = both_asked (asked words) (DueRefusal before now) (Fails before now) due h in
+    absurd (read_one before now k.0 k.2.0 k.1 k.2.1)
+source_due tells words before now a b due status.WriteFault (inl h) =
+    let k = both_asked (asked words) (DueRefusal before now) (λ r. OnBoth before.kept r (Somewhere before now r)) due h.0 in
+    absurd (a_program before now k.0 (Somewhere before now k.0) k.1 k.2)
+source_due tells words before now a b due status.WriteFault (inr h) =
+    let k = both_asked (asked words) (DueRefusal before now) (λ r. OnBoth before.kept r (Front tells now a b r)) due h.0 in
+    absurd (a_program before now k.0 (Front tells now a b k.0) k.1 k.2)
+source_due tells words before now a b due status.Input h =
+    let k = both_asked (asked words) (DueRefusal before now) (λ r. OnBoth before.kept r (Unfit r)) due h in
+    absurd (a_program before now k.0 (Unfit k.0) k.1 k.2)
+
+-- want of depth is due
+
+abbrev DueDepth : ShelfView → ShelfView → Request → Type 0
+DueDepth before now r = DueOfFiles before now r (Exhausted r)
+
+depth_due : Laws → (tells : Bool) (words : List (List ℕ)) (before now : ShelfView) (a b : SinkView) → MatchOption (asked words) ⊥ (DueDepth before now) → (end' : Status) → IsEnding tells words before now a b end' → (end' ≡ status.Depth) ⊎ (end' ≡ status.Memory)
+depth_due laws tells words before now a b due status.Done h =
+    let k = both_asked (asked words) (DueDepth before now) (λ r. OnBoth before.kept r (Whole tells now a b r)) due h in
+    let both = clash laws before now k.0 (Exhausted k.0) (Whole tells now a b k.0) k.1 k.2 in
+    absurd (makes_well laws k.0 both.0 both.1 both.2 both.4.0 both.4.1 both.3)
+depth_due laws tells words before now a b due status.Source h =
+    let k = both_asked (asked words) (DueDepth before now) (λ r. OnSource before.kept (source_of r) IsNoProgram) due h in
+    absurd (no_program before now k.0 (Exhausted k.0) k.1 k.2)
+depth_due laws tells words before now a b due status.Usage h = absurd (none_asked (asked words) (DueDepth before now) h due)
+depth_due laws tells words before now a b due status.Depth h = inl refl
+depth_due laws tells words before now a b due status.Full h = absurd h
+depth_due laws tells words before now a b due status.Memory h = inr refl
+depth_due laws tells words before now a b due status.ReadFault h =
+    let k = both_asked (asked words) (DueDepth before now) (Fails before now) due h in
+    absurd (read_both before now k.0 (Exhausted k.0) k.2.0 k.1 k.2.1)
+depth_due laws tells words before now a b due status.WriteFault (inl h) =
+    let k = both_asked (asked words) (DueDepth before now) (λ r. OnBoth before.kept r (Somewhere before now r)) due h.0 in
+    let found = k.2.holds.holds in
+    absurd (exhausts_writes k.0 k.1.holds.program k.1.second found.0 k.1.holds.holds found.1.0)
+depth_due laws tells words before now a b due status.WriteFault (inr h) =
+    let k = both_asked (asked words) (DueDepth before now) (λ r. OnBoth before.kept r (Front tells now a b r)) due h.0 in
+    let both = clash laws before now k.0 (Exhausted k.0) (Front tells now a b k.0) k.1 k.2 in
+    absurd (makes_well laws k.0 both.0 both.1 both.2 both.4.0 both.4.1 both.3)
+depth_due laws tells words before now a b due status.Input h =
+    let k = both_asked (asked words) (DueDepth before now) (λ r. OnBoth before.kept r (Unfit r)) due h in
+    let both = clash laws before now k.0 (Exhausted k.0) (Unfit k.0) k.1 k.2 in
+    absurd (both.4 (exhausts_accepts k.0 both.0 both.1 both.2 both.3))
+
+-- a refusal of the second file is due
+
+abbrev DueUnfit : ShelfView → ShelfView → Request → Type 0
+DueUnfit before now r = DueOfFiles before now r (Unfit r)
+
+input_due : Laws → (tells : Bool) (words : List (List ℕ)) (before now : ShelfView) (a b : SinkView) → MatchOption (asked words) ⊥ (DueUnfit before now) → (end' : Status) → IsEnding tells words before now a b end' → (end' ≡ status.Input) ⊎ (end' ≡ status.Memory)
+input_due laws tells words before now a b due status.Done h =
+    let k = both_asked (asked words) (DueUnfit before now) (λ r. OnBoth before.kept r (Whole tells now a b r)) due h in
+    let both = clash laws before now k.0 (Unfit k.0) (Whole tells now a b k.0) k.1 k.2 in
+    absurd (both.3 (makes_accepts k.0 both.0 both.1 both.2 both.4.0 both.4.1))
+input_due laws tells words before now a b due status.Source h =
+    let k = both_asked (asked words) (DueUnfit before now) (λ r. OnSource before.kept (source_of r) IsNoProgram) due h in
+    absurd (no_program before now k.0 (Unfit k.0) k.1 k.2)
+input_due laws tells words before now a b due status.Usage h = absurd (none_asked (asked words) (DueUnfit before now) h due)
+input_due laws tells words before now a b due status.Depth h =
+    let k = both_asked (asked words) (DueUnfit before now) (λ r. OnBoth before.kept r (Exhausted r)) due h in
+    let both = clash laws before now k.0 (Unfit k.0) (Exhausted k.0) k.1 k.2 in
+    absurd (both.3 (exhausts_accepts k.0 both.0 both.1 both.2 both.4))
+input_due laws tells words before now a b due status.Full h = absurd h
+input_due laws tells words before now a b due status.Memory h = inr refl
+input_due laws tells words before now a b due status.ReadFault h =
+    let k = both_asked (asked words) (DueUnfit before now) (Fails before now) due h in
+    absurd (read_both before now k.0 (Unfit k.0) k.2.0 k.1 k.2.1)
+input_due laws tells words before now a b due status.WriteFault (inl h) =
+    let k = both_asked (asked words) (DueUnfit before now) (λ r. OnBoth before.kept r (Somewhere before now r)) due h.0 in
+    let both = clash laws before now k.0 (Unfit k.0) (Somewhere before now k.0) k.1 k.2 in
+    absurd (both.3 both.4.1.1)
+input_due laws tells words before now a b due status.WriteFault (inr h) =
+    let k = both_asked (asked words) (DueUnfit before now) (λ r. OnBoth before.kept r (Front tells now a b r)) due h.0 in
+    let both = clash laws before now k.0 (Unfit k.0) (Front tells now a b k.0) k.1 k.2 in
+    absurd (both.3 (makes_accepts k.0 both.0 both.1 both.2 both.4.0 both.4.1))
+input_due laws tells words before now a b due status.Input h = inl refl
+
+-- the words are not taken
+
+usage_due : (tells : Bool) (words : List (List ℕ)) (before now : ShelfView) (a b : SinkView) → asked words ≡ None → (end' : Status) → IsEnding tells words before now a b end' → (end' ≡ status.Usage) ⊎ (end' ≡ status.Memory)
+usage_due tells words before now a b due status.Done h = absurd (none_asked (asked words) (λ r. OnBoth before.kept r (Whole tells now a b r)) due h)
+usage_due tells words before now a b due status.Source h = absurd (none_asked (asked words) (λ r. OnSource before.kept (source_of r) IsNoProgram) due h)
+usage_due tells words before now a b due status.Usage h = inl refl
+usage_due tells words before now a b due status.Depth h = absurd (none_asked (asked words) (λ r. OnBoth before.kept r (Exhausted r)) due h)
+usage_due tells words before now a b due status.Full h = absurd h
+usage_due tells words before now a b due status.Memory h = inr refl
+usage_due tells words before now a b due status.ReadFault h = absurd (none_asked (asked words) (Fails before now) due h)
+usage_due tells words before now a b due status.WriteFault (inl h) = absurd (none_asked (asked words) (λ r. OnBoth before.kept r (Somewhere before now r)) due h.0)
+usage_due tells words before now a b due status.WriteFault (inr h) = absurd (none_asked (asked words) (λ r. OnBoth before.kept r (Front tells now a b r)) due h.0)
+usage_due tells words before now a b due status.Input h = absurd (none_asked (asked words) (λ r. OnBoth before.kept r (Unfit r)) due h)
+
+pub due_ends : Laws → (tells : Bool) (words : List (List ℕ)) (before now : ShelfView) (a b : SinkView) (end' : Status) → IsEnding tells words before now a b end' → (due : Status) → IsDue words before now a b due → (end' ≡ due) ⊎ (end' ≡ status.Memory)
+due_ends laws tells words before now a b end' h status.Done due = done_due laws tells words before now a b due end' h
+due_ends laws tells words before now a b end' h status.Source due = source_due tells words before now a b due end' h
+due_ends laws tells words before now a b end' h status.Usage due = usage_due tells words before now a b due end' h
+due_ends laws tells words before now a b end' h status.Depth due = depth_due laws tells words before now a b due end' h
+due_ends laws tells words before now a b end' h status.Full due = absurd due
+due_ends laws tells words before now a b end' h status.Memory due = absurd due
+due_ends laws tells words before now a b end' h status.ReadFault due = absurd due
+due_ends laws tells words before now a b end' h status.WriteFault due = absurd due
+due_ends laws tells words before now a b end' h status.Input due = input_due laws tells words before now a b due end' h

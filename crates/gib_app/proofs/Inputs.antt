@@ -4,6 +4,11 @@ use Rattle.gib_types.specs.declared.table.Ty.{Ty}
 use Rattle.gib_types.specs.Table.{Table}
 use Rattle.gib_types.specs.Tree.{Datum, HasType}
 use Rattle.gib_file.specs.Packed.{packed}
+use Rattle.gib_file.specs.Framed.{IsFirstFault}
+use Rattle.gib_file.specs.declared.fault.HeadFault.{HeadFault}
+use Rattle.gib_file.specs.declared.fault.HeadFault.TheVariants as header
+use Rattle.gib_app.specs.InputFaults.{IsFileFault}
+use Rattle.gib_app.specs.PassFaults.{header_fault}
 
 -- packed bytes of a type are those of one value
 abbrev pub OneReading : Type 0
@@ -11,3 +16,10 @@ OneReading = (table : Table) (ty : Ty) (v w : Datum) (x y : List ℕ) → HasTyp
 
 pub same_value : (table : Table) (ty : Ty) (v w : Datum) (payload : List ℕ) → OneReading → HasType table v ty → HasType table w ty → payload ≡ packed v → payload ≡ packed w → w ≡ v
 same_value table ty v w payload one hv hw ev ew = sym ((one table ty v w [] [] hv hw (ap (λ l. l ++ []) (sym ev ∙ ew))).0)
+
+-- a fault of the header
+pub header_refused : (table : Table) (ty : Ty) (bytes : List ℕ) (fault : HeadFault) → IsFirstFault bytes fault → IsFileFault table ty bytes (header_fault fault)
+header_refused table ty bytes header.Magic h = h
+header_refused table ty bytes (header.Version v) h = h
+header_refused table ty bytes header.Reserved h = h
+header_refused table ty bytes header.Length h = h

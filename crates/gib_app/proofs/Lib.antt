@@ -2,5 +2,8 @@ mod Held
 mod Places
 mod Inputs
 mod Told
-mod Stopping
+mod Making
+mod Decimals
+mod Performing
 mod Endings
+mod SourceLaws

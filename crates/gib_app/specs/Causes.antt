@@ -1,62 +1,93 @@
--- Why a call ends as it does, by its words, the files that they name, and the counts of faults.
-use Rattle.std.specs.Prelude.{◌≡◌, ℕ, ◌⊎◌, List, Option, Some, IfSome, MatchOption}
+-- What the words of a call ask for, the bytes of its files, and the counts of faults.
+use Rattle.std.specs.Prelude.{◌≡◌, ℕ, ◌⊎◌, List, [], Option, None, Some, IfSome, MatchOption, Bool}
 use Rattle.gib_edge.specs.Causes.{Rose, Appends, AppendsPart}
+use Rattle.gib_syntax.specs.Tree.{ProgramTree}
 use Rattle.gib_app.specs.Words.{Document, Brought, Named, Request, asked, Files, bytes_in}
-use Rattle.gib_app.specs.Running.{IsSource, IsOutput}
+use Rattle.gib_app.specs.Running.{IsSource}
+use Rattle.gib_app.specs.Commands.{source_of, second_of, target_of, Makes, Accepts, Refuses, Exhausts, printed, IsWritten, OnProgram}
 
--- The words are taken, and this holds of the source, where it is told.
-abbrev pub OfSource : List (List ℕ) → Files → (List ℕ → Type 0) → Type 0
-OfSource words kept P = MatchOption (asked words) ⊥ (λ request. IfSome (bytes_in kept request.source) P)
-
--- The words are taken, and this holds of the source and the input, where both are told.
-abbrev pub OfBoth : List (List ℕ) → Files → (List ℕ → List ℕ → Type 0) → Type 0
-OfBoth words kept P =
-    MatchOption (asked words) ⊥ (λ request. IfSome (bytes_in kept request.source) (λ source. IfSome (bytes_in kept request.input) (λ input. P source input)))
-
--- The sink took the output, whole and nothing else.
-abbrev pub Puts : Option (List ℕ) → Option (List ℕ) → List ℕ → List ℕ → Type 0
-Puts before now source input = (output : List ℕ) × IsOutput source input output × Appends before now output
-
--- The sink took a front of the output.
-abbrev pub PutsPart : Option (List ℕ) → Option (List ℕ) → List ℕ → List ℕ → Type 0
-PutsPart before now source input = (output : List ℕ) × IsOutput source input output × AppendsPart before now output
-
--- The output of the source and the input that the words name was put.
-abbrev pub Prints : List (List ℕ) → Files → Option (List ℕ) → Option (List ℕ) → Type 0
-Prints words kept before now = OfBoth words kept (Puts before now)
-
--- A front of that output was put.
-abbrev pub PrintsPart : List (List ℕ) → Files → Option (List ℕ) → Option (List ℕ) → Type 0
-PrintsPart words kept before now = OfBoth words kept (PutsPart before now)
-
--- How often reads of names have failed.
+-- How often reads or writes of names have failed.
 abbrev pub Counts : Type 0
 Counts = List ℕ → ℕ
 
--- The count of the document's file rose.
-abbrev pub HasRisen : Document → Counts → Counts → Type 0
-HasRisen (Brought bytes) before now = ⊥
-HasRisen (Named name) before now = Rose (before name) (now name)
+-- What is seen of a shelf: what names hold, and the counts of faults of reads and of writes.
+pub record ShelfView : Type 0 where
+  pub kept : Files
+  pub reads : Counts
+  pub writes : Counts
 
--- The source, where it is told, is a program.
-abbrev pub HasProgram : Files → Document → Type 0
-HasProgram kept document = IfSome (bytes_in kept document) IsSource
+-- What is seen of a sink: the bytes that it took, where they are told, and the count of its faults.
+pub record SinkView : Type 0 where
+  pub taken : Option (List ℕ)
+  pub faults : ℕ
 
--- A count of one of the files that the words ask to read rose: that of the source, or else that of the input,
--- and the source is a program where it is told.
-abbrev pub ReadRose : List (List ℕ) → Files → Counts → Counts → Type 0
-ReadRose words kept before now =
-    MatchOption (asked words) ⊥ (λ request. HasRisen request.source before now ⊎ (HasRisen request.input before now × HasProgram kept request.source))
+-- These are the bytes of the document, where those are told.
+abbrev pub Holds : Files → Document → List ℕ → Type 0
+Holds kept document bytes = IfSome (bytes_in kept document) (λ all. bytes ≡ all)
 
--- The words are taken, both documents are told, the program means a value on the input, and no count rose.
-pub record GoesWell (words : List (List ℕ)) (kept : Files) (reads_before reads_now : Counts) (faults_before faults_now : ℕ) : Type 0 where
-  pub request : Request
+-- The same of a second file; where none is read there are no bytes.
+abbrev pub HoldsSecond : Files → Option Document → List ℕ → Type 0
+HoldsSecond kept None bytes = bytes ≡ []
+HoldsSecond kept (Some document) bytes = Holds kept document bytes
+
+-- The document has these bytes, of which this holds.
+pub record OnSource (kept : Files) (first : Document) (P : List ℕ → Type 0) : Type 0 where
   pub source : List ℕ
-  pub input : List ℕ
-  pub output : List ℕ
-  pub taken : asked words ≡ Some request
-  pub source_told : bytes_in kept request.source ≡ Some source
-  pub input_told : bytes_in kept request.input ≡ Some input
-  pub is_output : IsOutput source input output
-  pub no_read : (HasRisen request.source reads_before reads_now ⊎ HasRisen request.input reads_before reads_now) → ⊥
-  pub no_write : Rose faults_before faults_now → ⊥
+  pub source_held : Holds kept first source
+  pub holds : P source
+
+-- The source and the second file have these bytes, of which this holds.
+pub record OnFiles (kept : Files) (first : Document) (other : Option Document) (P : List ℕ → List ℕ → Type 0) : Type 0 where
+  pub source : List ℕ
+  pub second : List ℕ
+  pub source_held : Holds kept first source
+  pub second_held : HoldsSecond kept other second
+  pub holds : P source second
+
+-- The words are taken, and this holds of the bytes of the source that they name.
+abbrev pub AsksSource : List (List ℕ) → Files → (List ℕ → Type 0) → Type 0
+AsksSource words kept P = MatchOption (asked words) ⊥ (λ request. OnSource kept (source_of request) P)
+
+-- The words are taken, and this holds of the bytes of both files that they name.
+abbrev pub AsksFiles : List (List ℕ) → Files → (Request → List ℕ → List ℕ → Type 0) → Type 0
+AsksFiles words kept P = MatchOption (asked words) ⊥ (λ request. OnFiles kept (source_of request) (second_of request) (P request))
+
+-- The same where the source is a program, of which this holds with its names and the bytes of the second file.
+abbrev pub AsksProgram : List (List ℕ) → Files → (Request → ProgramTree → List (List ℕ) → List ℕ → Type 0) → Type 0
+AsksProgram words kept P = AsksFiles words kept (λ request source second. OnProgram source (λ p names. P request p names second))
+
+-- What the words ask for was made, and `out` took it, whole and nothing else; what is to be written is written.
+abbrev pub Prints : Bool → List (List ℕ) → ShelfView → ShelfView → SinkView → SinkView → Type 0
+Prints tells words before now out_before out_now =
+    AsksProgram words before.kept
+    (λ request p names second. (made : List ℕ) × Makes request p names second made × IsWritten tells now.kept request made
+    × Appends out_before.taken out_now.taken (printed request made))
+
+-- The same, but `out` took a front alone, and its count rose.
+abbrev pub PrintsPart : Bool → List (List ℕ) → ShelfView → ShelfView → SinkView → SinkView → Type 0
+PrintsPart tells words before now out_before out_now =
+    AsksProgram words before.kept
+    (λ request p names second. (made : List ℕ) × Makes request p names second made × IsWritten tells now.kept request made
+    × AppendsPart out_before.taken out_now.taken (printed request made))
+
+-- The second file is accepted, and the count of the file that is to be written rose; it is not told what that
+-- holds now.
+abbrev pub IsUnwritten : ShelfView → ShelfView → Request → ProgramTree → List (List ℕ) → List ℕ → List ℕ → Type 0
+IsUnwritten before now request p names second name =
+    (target_of request ≡ Some name) × Accepts request p names second × (now.kept name ≡ None) × Rose (before.writes name) (now.writes name)
+
+-- The count of the document's file rose, which has this name.
+abbrev pub IsUnread : ShelfView → ShelfView → Document → List ℕ → Type 0
+IsUnread before now (Brought bytes) name = ⊥
+IsUnread before now (Named file) name = (file ≡ name) × Rose (before.reads name) (now.reads name)
+
+-- The same of a second file.
+abbrev pub IsSecondUnread : ShelfView → ShelfView → Option Document → List ℕ → Type 0
+IsSecondUnread before now None name = ⊥
+IsSecondUnread before now (Some document) name = IsUnread before now document name
+
+-- The file of this name could not be read: it is the source, or else the second file, and the source is a program.
+abbrev pub FailsToRead : ShelfView → ShelfView → Request → List ℕ → Type 0
+FailsToRead before now request name =
+    IsUnread before now (source_of request) name
+    ⊎ (IsSecondUnread before now (second_of request) name × OnSource before.kept (source_of request) IsSource)

@@ -1,25 +1,50 @@
--- Each status by its cause.
-use Rattle.std.specs.Prelude.{◌≡◌, ℕ, List, Option, None}
+-- Each status by its cause, and what stays with it.
+use Rattle.std.specs.Prelude.{◌≡◌, ◌⊎◌, ℕ, List, [], Option, None, Some, MatchOption, Bool, ⊤}
 use Rattle.gib_edge.specs.Causes.{Rose}
+use Rattle.gib_syntax.specs.Tree.{ProgramTree}
 use Rattle.gib_app.specs.declared.status.Status.{Status}
 use Rattle.gib_app.specs.declared.status.Status.TheVariants.{Done, Source, Usage, Depth, Full, Memory, ReadFault, WriteFault, Input}
-use Rattle.gib_app.specs.Words.{asked, Files}
-use Rattle.gib_app.specs.Running.{IsNoProgram, IsNoInput, RunsOut}
-use Rattle.gib_app.specs.Causes.{Counts, OfSource, OfBoth, Prints, PrintsPart, ReadRose}
+use Rattle.gib_app.specs.Words.{Document, Request, asked, Files, bytes_in}
+use Rattle.gib_app.specs.Running.{IsSource, IsNoProgram}
+use Rattle.gib_app.specs.Commands.{source_of, second_of, target_of, Makes, Accepts, Exhausts, OnProgram}
+use Rattle.gib_app.specs.Causes.{Counts, ShelfView, SinkView, AsksSource, AsksProgram, Prints, PrintsPart, IsUnwritten, IsUnread, IsSecondUnread, FailsToRead}
 
--- Why a call ends with a status: the output was put; the source is no program; the words are not taken; the
--- meaning runs out of depth; a count of a file that is read rose; the count of the sink rose, and it took a
--- front of the output; the input is none of the program. `Full` does not come yet. Want of memory is free.
-abbrev pub IsEnding : List (List ℕ) → Files → Counts → Counts → Option (List ℕ) → Option (List ℕ) → ℕ → ℕ → Status → Type 0
-IsEnding words kept reads_before reads_now before now faults_before faults_now Done = Prints words kept before now
-IsEnding words kept reads_before reads_now before now faults_before faults_now Source = OfSource words kept IsNoProgram
-IsEnding words kept reads_before reads_now before now faults_before faults_now Usage = asked words ≡ None
-IsEnding words kept reads_before reads_now before now faults_before faults_now Depth = OfBoth words kept RunsOut
-IsEnding words kept reads_before reads_now before now faults_before faults_now Full = ⊥
-IsEnding words kept reads_before reads_now before now faults_before faults_now Memory = Unit {0}
-IsEnding words kept reads_before reads_now before now faults_before faults_now ReadFault = ReadRose words kept reads_before reads_now
-IsEnding words kept reads_before reads_now before now faults_before faults_now WriteFault = Rose faults_before faults_now × PrintsPart words kept before now
-IsEnding words kept reads_before reads_now before now faults_before faults_now Input = OfBoth words kept IsNoInput
+-- The file that is to be written could not be, and `out` was not asked; or `out` took a front of what is
+-- printed, and its count rose.
+abbrev pub IsWriteEnding : Bool → List (List ℕ) → ShelfView → ShelfView → SinkView → SinkView → Type 0
+IsWriteEnding tells words before now out_before out_now =
+    (AsksProgram words before.kept (λ request p names second. (name : List ℕ) × IsUnwritten before now request p names second name) × (out_now ≡ out_before))
+    ⊎ (PrintsPart tells words before now out_before out_now × Rose out_before.faults out_now.faults × ((name : List ℕ) → now.writes name ≡ before.writes name))
+
+-- Why a call ends with a status: what is asked for was made, put and written; the source is no program; the words are not
+-- taken; the meaning runs out of depth; a file could not be read, or not be written; the second file is none
+-- that the command accepts. `Full` does not come yet. Want of memory is free.
+abbrev pub IsEnding : Bool → List (List ℕ) → ShelfView → ShelfView → SinkView → SinkView → Status → Type 0
+IsEnding tells words before now out_before out_now Done = Prints tells words before now out_before out_now
+IsEnding tells words before now out_before out_now Source = AsksSource words before.kept IsNoProgram
+IsEnding tells words before now out_before out_now Usage = asked words ≡ None
+IsEnding tells words before now out_before out_now Depth = AsksProgram words before.kept (λ request p names second. Exhausts request p second)
+IsEnding tells words before now out_before out_now Full = ⊥
+IsEnding tells words before now out_before out_now Memory = Unit {0}
+IsEnding tells words before now out_before out_now ReadFault = MatchOption (asked words) ⊥ (λ request. (name : List ℕ) × FailsToRead before now request name)
+IsEnding tells words before now out_before out_now WriteFault = IsWriteEnding tells words before now out_before out_now
+IsEnding tells words before now out_before out_now Input = AsksProgram words before.kept (λ request p names second. Accepts request p names second → ⊥)
+
+-- Not the name of the file that the words ask to write.
+abbrev pub IsNoTarget : List (List ℕ) → List ℕ → Type 0
+IsNoTarget words name = MatchOption (asked words) ⊤ (λ request. target_of request ≡ Some name → ⊥)
+
+-- What names hold stays, but for the file that is to be written at `Done` and at `WriteFault`.
+abbrev pub FilesStay : List (List ℕ) → Files → Files → Status → Type 0
+FilesStay words before now Done = (name : List ℕ) → IsNoTarget words name → now name ≡ before name
+FilesStay words before now Source = (name : List ℕ) → now name ≡ before name
+FilesStay words before now Usage = (name : List ℕ) → now name ≡ before name
+FilesStay words before now Depth = (name : List ℕ) → now name ≡ before name
+FilesStay words before now Full = (name : List ℕ) → now name ≡ before name
+FilesStay words before now Memory = (name : List ℕ) → now name ≡ before name
+FilesStay words before now ReadFault = (name : List ℕ) → now name ≡ before name
+FilesStay words before now WriteFault = (name : List ℕ) → IsNoTarget words name → now name ≡ before name
+FilesStay words before now Input = (name : List ℕ) → now name ≡ before name
 
 -- Counts of reads stay, but where a file could not be read.
 abbrev pub ReadsStay : Counts → Counts → Status → Type 0
@@ -33,26 +58,69 @@ ReadsStay before now ReadFault = Unit {0}
 ReadsStay before now WriteFault = (name : List ℕ) → now name ≡ before name
 ReadsStay before now Input = (name : List ℕ) → now name ≡ before name
 
--- The sink's count of faults stays, but where it refused some of the output.
-abbrev pub FaultsStay : ℕ → ℕ → Status → Type 0
-FaultsStay before now Done = now ≡ before
-FaultsStay before now Source = now ≡ before
-FaultsStay before now Usage = now ≡ before
-FaultsStay before now Depth = now ≡ before
-FaultsStay before now Full = now ≡ before
-FaultsStay before now Memory = now ≡ before
-FaultsStay before now ReadFault = now ≡ before
-FaultsStay before now WriteFault = Unit {0}
-FaultsStay before now Input = now ≡ before
+-- Counts of writes stay, but where a file could not be written.
+abbrev pub WritesStay : Counts → Counts → Status → Type 0
+WritesStay before now Done = (name : List ℕ) → now name ≡ before name
+WritesStay before now Source = (name : List ℕ) → now name ≡ before name
+WritesStay before now Usage = (name : List ℕ) → now name ≡ before name
+WritesStay before now Depth = (name : List ℕ) → now name ≡ before name
+WritesStay before now Full = (name : List ℕ) → now name ≡ before name
+WritesStay before now Memory = (name : List ℕ) → now name ≡ before name
+WritesStay before now ReadFault = (name : List ℕ) → now name ≡ before name
+WritesStay before now WriteFault = Unit {0}
+WritesStay before now Input = (name : List ℕ) → now name ≡ before name
 
--- With every status but two the sink took nothing.
-abbrev pub IsQuiet : Option (List ℕ) → Option (List ℕ) → Status → Type 0
-IsQuiet before now Done = Unit {0}
-IsQuiet before now Source = now ≡ before
-IsQuiet before now Usage = now ≡ before
-IsQuiet before now Depth = now ≡ before
-IsQuiet before now Full = now ≡ before
-IsQuiet before now Memory = now ≡ before
-IsQuiet before now ReadFault = now ≡ before
-IsQuiet before now WriteFault = Unit {0}
-IsQuiet before now Input = now ≡ before
+-- With every status but two `out` is as before; at `Done` its count of faults is.
+abbrev pub OutStays : SinkView → SinkView → Status → Type 0
+OutStays before now Done = now.faults ≡ before.faults
+OutStays before now Source = now ≡ before
+OutStays before now Usage = now ≡ before
+OutStays before now Depth = now ≡ before
+OutStays before now Full = now ≡ before
+OutStays before now Memory = now ≡ before
+OutStays before now ReadFault = now ≡ before
+OutStays before now WriteFault = Unit {0}
+OutStays before now Input = now ≡ before
+
+-- The bytes of a second file, which are told; where none is read there are no bytes.
+abbrev pub IsTold : Files → Option Document → List ℕ → Type 0
+IsTold kept None bytes = bytes ≡ []
+IsTold kept (Some document) bytes = bytes_in kept document ≡ Some bytes
+
+-- The bytes of the source are told, this holds of them, and the count of its file did not rise.
+pub record DueOfSource (before now : ShelfView) (request : Request) (P : List ℕ → Type 0) : Type 0 where
+  pub source : List ℕ
+  pub source_told : bytes_in before.kept (source_of request) ≡ Some source
+  pub source_read : (name : List ℕ) → IsUnread before now (source_of request) name → ⊥
+  pub holds : P source
+
+-- The bytes of both files are told, the source is a program, of which this holds with its names and the bytes
+-- of the second file, and the counts of both files did not rise.
+pub record DueOfFiles (before now : ShelfView) (request : Request) (P : ProgramTree → List (List ℕ) → List ℕ → Type 0) : Type 0 where
+  pub source : List ℕ
+  pub second : List ℕ
+  pub source_told : bytes_in before.kept (source_of request) ≡ Some source
+  pub second_told : IsTold before.kept (second_of request) second
+  pub source_read : (name : List ℕ) → IsUnread before now (source_of request) name → ⊥
+  pub second_read : (name : List ℕ) → IsSecondUnread before now (second_of request) name → ⊥
+  pub holds : OnProgram source (λ p names. P p names second)
+
+-- The counts of `out` and of the file that is to be written did not rise.
+pub record TakesAll (before now : ShelfView) (out_before out_now : SinkView) (request : Request) : Type 0 where
+  pub target : (name : List ℕ) → target_of request ≡ Some name → Rose (before.writes name) (now.writes name) → ⊥
+  pub out : Rose out_before.faults out_now.faults → ⊥
+
+-- The status that is due by the words and by the bytes of the files that they name, where these are told and no
+-- count on the way rose.
+abbrev pub IsDue : List (List ℕ) → ShelfView → ShelfView → SinkView → SinkView → Status → Type 0
+IsDue words before now out_before out_now Done =
+    MatchOption (asked words) ⊥
+    (λ request. DueOfFiles before now request (λ p names second. (made : List ℕ) × Makes request p names second made) × TakesAll before now out_before out_now request)
+IsDue words before now out_before out_now Source = MatchOption (asked words) ⊥ (λ request. DueOfSource before now request IsNoProgram)
+IsDue words before now out_before out_now Usage = asked words ≡ None
+IsDue words before now out_before out_now Depth = MatchOption (asked words) ⊥ (λ request. DueOfFiles before now request (λ p names second. Exhausts request p second))
+IsDue words before now out_before out_now Full = ⊥
+IsDue words before now out_before out_now Memory = ⊥
+IsDue words before now out_before out_now ReadFault = ⊥
+IsDue words before now out_before out_now WriteFault = ⊥
+IsDue words before now out_before out_now Input = MatchOption (asked words) ⊥ (λ request. DueOfFiles before now request (λ p names second. Accepts request p names second → ⊥))

@@ -1,35 +1,85 @@
 -- The line that a call puts for each status but `Done`.
-use Rattle.std.specs.Prelude.{ℕ, List, [], ◌∷◌, ◌++◌, codes, ◌⊎◌, MatchOption}
-use Rattle.std.specs.Prelude.{◌≡◌}
+use Rattle.std.specs.Prelude.{◌≡◌, ℕ, ◌⊎◌, List, [], ◌∷◌, ◌++◌, codes, MatchOption}
+use Rattle.std.specs.Fmt.{decimal}
 use Rattle.gib_edge.specs.Causes.{Rose}
-use Rattle.gib_app.specs.Causes.{Counts}
+use Rattle.gib_check.specs.declared.fault.Kind.{Kind}
+use Rattle.gib_check.specs.declared.fault.Kind.TheVariants as rule
+use Rattle.gib_app.specs.declared.source_fault.SourceFault.{SourceFault}
+use Rattle.gib_app.specs.declared.source_fault.SourceFault.TheVariants as source
+use Rattle.gib_app.specs.declared.input_fault.InputFault.{InputFault}
+use Rattle.gib_app.specs.declared.input_fault.InputFault.TheVariants as input
 use Rattle.gib_app.specs.declared.status.Status.{Status}
 use Rattle.gib_app.specs.declared.status.Status.TheVariants.{Done, Source, Usage, Depth, Full, Memory, ReadFault, WriteFault, Input}
-use Rattle.gib_app.specs.Words.{Document, Brought, Named, asked}
+use Rattle.gib_app.specs.Words.{Request, asked}
+use Rattle.gib_app.specs.Commands.{Refuses}
+use Rattle.gib_app.specs.Causes.{ShelfView, SinkView, AsksSource, AsksProgram, FailsToRead, IsUnwritten}
+use Rattle.gib_app.specs.SourceFaults.{IsSourceFault}
 
--- `gib: `, what is said, and a line feed.
+-- A line: `gib: `, what is said, and a line feed.
 abbrev pub line : List ℕ → List ℕ
 line said = codes "gib: " ++ said ++ 10 ∷ []
 
--- The document is the file of this name.
-abbrev pub IsFile : Document → List ℕ → Type 0
-IsFile (Brought bytes) name = ⊥
-IsFile (Named file) name = file ≡ name
+-- What is said of a broken rule of typing, before its place.
+abbrev pub rule_text : Kind → List ℕ
+rule_text rule.Unknown = codes "unknown name at "
+rule_text rule.Twice = codes "name bound twice at "
+rule_text rule.Shape = codes "wrong type at "
+rule_text rule.Arms = codes "wrong arms at "
+rule_text rule.Count = codes "wrong count at "
+rule_text rule.Limit = codes "over a limit at "
 
--- The line names a file that the words ask to read, and whose count of faults rose.
-abbrev pub NamesUnread : List (List ℕ) → Counts → Counts → List ℕ → Type 0
-NamesUnread words before now said =
-    MatchOption (asked words) ⊥
-    (λ request. (name : List ℕ) × (IsFile request.source name ⊎ IsFile request.input name) × Rose (before name) (now name) × (said ≡ line (codes "cannot read " ++ name)))
+-- What is said of a source that is no program.
+abbrev pub source_text : SourceFault → List ℕ
+source_text source.Long = codes "source: longer than 1048576 bytes"
+source_text (source.BadCharacter place) = codes "source: bad character at " ++ decimal place
+source_text (source.BigNumber place) = codes "source: number too large at " ++ decimal place
+source_text source.ManyNames = codes "source: more than 65535 names"
+source_text (source.Syntax place) = codes "source: syntax at " ++ decimal place
+source_text (source.Nested place) = codes "source: nested too deep at " ++ decimal place
+source_text (source.Broken kind place) = codes "source: " ++ rule_text kind ++ decimal place
 
--- The line of a status; that of a file that could not be read names it.
-abbrev pub IsLine : List (List ℕ) → Counts → Counts → Status → List ℕ → Type 0
-IsLine words before now Done said = said ≡ []
-IsLine words before now Source said = said ≡ line (codes "source")
-IsLine words before now Usage said = said ≡ line (codes "usage")
-IsLine words before now Depth said = said ≡ line (codes "depth")
-IsLine words before now Full said = said ≡ line (codes "chunks")
-IsLine words before now Memory said = said ≡ line (codes "memory")
-IsLine words before now ReadFault said = NamesUnread words before now said
-IsLine words before now WriteFault said = said ≡ line (codes "cannot write")
-IsLine words before now Input said = said ≡ line (codes "input")
+-- What is said of a second file that is refused.
+abbrev pub input_text : InputFault → List ℕ
+input_text (input.Long most) = codes "input: longer than " ++ decimal most ++ codes " bytes"
+input_text input.Magic = codes "input: not a packed file"
+input_text (input.Version v) = codes "input: version " ++ decimal v
+input_text input.Reserved = codes "input: reserved bytes"
+input_text input.Length = codes "input: wrong length"
+input_text (input.Short place) = codes "input: short at " ++ decimal place
+input_text (input.Tag place) = codes "input: bad tag at " ++ decimal place
+input_text (input.Truth place) = codes "input: bad truth value at " ++ decimal place
+input_text (input.Trailing place) = codes "input: trailing bytes at " ++ decimal place
+input_text (input.Text place) = codes "input: bad text at " ++ decimal place
+
+-- The line tells the fault of the source.
+abbrev pub TellsSource : List (List ℕ) → ShelfView → List ℕ → Type 0
+TellsSource words before said = (fault : SourceFault) × AsksSource words before.kept (λ bytes. IsSourceFault bytes fault) × (said ≡ line (source_text fault))
+
+-- The line tells the fault of the second file.
+abbrev pub TellsInput : List (List ℕ) → ShelfView → List ℕ → Type 0
+TellsInput words before said =
+    (fault : InputFault) × AsksProgram words before.kept (λ request p names second. Refuses request p names second fault) × (said ≡ line (input_text fault))
+
+-- The line names the file that could not be read.
+abbrev pub TellsUnread : List (List ℕ) → ShelfView → ShelfView → List ℕ → Type 0
+TellsUnread words before now said =
+    MatchOption (asked words) ⊥ (λ request. (name : List ℕ) × FailsToRead before now request name × (said ≡ line (codes "cannot read " ++ name)))
+
+-- The line names the file that could not be written; or it names none, and the count of `out` rose.
+abbrev pub TellsUnwritten : List (List ℕ) → ShelfView → ShelfView → SinkView → SinkView → List ℕ → Type 0
+TellsUnwritten words before now out_before out_now said =
+    ((name : List ℕ) × AsksProgram words before.kept (λ request p names second. IsUnwritten before now request p names second name)
+    × (said ≡ line (codes "cannot write " ++ name)))
+    ⊎ (Rose out_before.faults out_now.faults × (said ≡ line (codes "cannot write")))
+
+-- The line of a status.
+abbrev pub IsLine : List (List ℕ) → ShelfView → ShelfView → SinkView → SinkView → Status → List ℕ → Type 0
+IsLine words before now out_before out_now Done said = said ≡ []
+IsLine words before now out_before out_now Source said = TellsSource words before said
+IsLine words before now out_before out_now Usage said = said ≡ line (codes "usage")
+IsLine words before now out_before out_now Depth said = said ≡ line (codes "depth")
+IsLine words before now out_before out_now Full said = said ≡ line (codes "chunks")
+IsLine words before now out_before out_now Memory said = said ≡ line (codes "memory")
+IsLine words before now out_before out_now ReadFault said = TellsUnread words before now said
+IsLine words before now out_before out_now WriteFault said = TellsUnwritten words before now out_before out_now said
+IsLine words before now out_before out_now Input said = TellsInput words before said

@@ -1,115 +1,153 @@
--- Why a run puts no output, or not all of it.
-use Rattle.std.specs.Prelude.{◌≡◌, ◌++◌, ◌∷◌, [], ℕ, ◌⊎◌, List, Option, None, IfSome, MatchOption}
+-- What the parts of a call answer, and why they stop.
+use Rattle.std.specs.Prelude.{◌≡◌, ◌<◌, ℕ, List, length}
+use Rattle.gib_base.specs.Lexed.{Lexed}
+use Rattle.gib_types.specs.declared.table.Ty.{Ty}
+use Rattle.gib_types.specs.Table.{Table}
 use Rattle.gib_types.specs.Tree.{Datum}
-use Rattle.gib_value.specs.Text.{text}
+use Rattle.gib_value.specs.Text.{AreHeld}
+use Rattle.gib_value.specs.Reading.{AreWords}
 use Rattle.gib_syntax.specs.Tree.{ProgramTree}
+use Rattle.gib_syntax.specs.Spelling.{IsFineProgram}
 use Rattle.gib_syntax.specs.Declarations.{table_of_program}
-use Rattle.gib_syntax.specs.Meaning.{Gives, Stops, Deep, run}
-use Rattle.gib_edge.specs.Causes.{Rose, Appends, AppendsPart}
+use Rattle.gib_app.specs.declared.compile.CompileFault.{CompileFault}
+use Rattle.gib_app.specs.declared.compile.CompileFault.TheVariants as compile
+use Rattle.gib_app.specs.declared.documents.DocumentFault.{DocumentFault}
+use Rattle.gib_app.specs.declared.documents.DocumentFault.TheVariants as document
+use Rattle.gib_app.specs.declared.input_fault.InputFault.{InputFault}
+use Rattle.gib_app.specs.declared.input_fault.InputFault.TheVariants as input
+use Rattle.gib_app.specs.declared.packed.PackedFault.{PackedFault}
+use Rattle.gib_app.specs.declared.packed.PackedFault.TheVariants as packed
 use Rattle.gib_app.specs.declared.stop.Stop.{Stop}
-use Rattle.gib_app.specs.declared.stop.Stop.TheVariants.{Usage, Source, Unread, Input, Depth, Memory, Unwritten}
-use Rattle.gib_app.specs.Words.{Document, asked, Files, bytes_in}
-use Rattle.gib_app.specs.Running.{IsInput, call_depth, IsNoProgram, IsNoInput, RunsOut}
-use Rattle.gib_app.specs.Causes.{Counts, HasProgram, OfSource, OfBoth, PrintsPart}
-use Rattle.gib_app.specs.Lines.{IsFile}
+use Rattle.gib_app.specs.declared.stop.Stop.TheVariants.{Usage, Source, Unread, Input, Depth, Memory, Unwritten, Unput}
+use Rattle.gib_app.specs.Words.{Document, Request, Run, Plain, Check, Pack, Show, Files}
+use Rattle.gib_app.specs.Running.{IsProgram, IsNoProgram, IsInput, RunsOut}
+use Rattle.gib_app.specs.Packing.{IsPackedText}
+use Rattle.gib_app.specs.SourceFaults.{IsSourceFault}
+use Rattle.gib_app.specs.InputFaults.{IsFileFault, IsInputFault, IsShowFault, IsTextFault}
+use Rattle.gib_app.specs.Commands.{source_of, second_of, Makes, Accepts, Refuses, Exhausts, OnProgram}
+use Rattle.gib_app.specs.Causes.{Counts, ShelfView, HoldsSecond, OnSource, OnFiles, IsUnread, IsSecondUnread, FailsToRead, IsUnwritten}
 
--- The file of this name could not be read: it is the source, or else the input, and the source is a program where
--- it is told; the count of its faults rose.
-abbrev pub IsUnread : List (List ℕ) → Files → Counts → Counts → List ℕ → Type 0
-IsUnread words kept before now name =
-    MatchOption (asked words) ⊥
-    (λ request. (IsFile request.source name ⊎ (IsFile request.input name × HasProgram kept request.source)) × Rose (before name) (now name))
+-- The source spells this program with these names, and it is typed.
+pub record IsCompiled (source : List ℕ) (p : ProgramTree) (names : List (List ℕ)) : Type 0 where
+  pub lexed : Lexed
+  pub is_program : IsProgram source lexed p
+  pub same : names ≡ lexed.names
 
--- Each stop by its cause.
-abbrev pub IsStop : List (List ℕ) → Files → Counts → Counts → Option (List ℕ) → Option (List ℕ) → ℕ → ℕ → Stop → Type 0
-IsStop words kept reads_before reads_now before now faults_before faults_now Usage = asked words ≡ None
-IsStop words kept reads_before reads_now before now faults_before faults_now Source = OfSource words kept IsNoProgram
-IsStop words kept reads_before reads_now before now faults_before faults_now (Unread name) = IsUnread words kept reads_before reads_now name.now
-IsStop words kept reads_before reads_now before now faults_before faults_now Input = OfBoth words kept IsNoInput
-IsStop words kept reads_before reads_now before now faults_before faults_now Depth = OfBoth words kept RunsOut
-IsStop words kept reads_before reads_now before now faults_before faults_now Memory = Unit {0}
-IsStop words kept reads_before reads_now before now faults_before faults_now Unwritten = Rose faults_before faults_now × PrintsPart words kept before now
+-- What a program is run with, and its values are read and written with: its bodies are of the grammar, and the
+-- names of its constructors are held, and are words.
+pub record IsReady (p : ProgramTree) (names : List (List ℕ)) : Type 0 where
+  pub fine : IsFineProgram p
+  pub held : AreHeld (table_of_program p) names
+  pub words : AreWords (table_of_program p) names
 
--- The sink took nothing, unless it refused some of the output.
-abbrev pub IsSilent : Option (List ℕ) → Option (List ℕ) → Stop → Type 0
-IsSilent before now Usage = now ≡ before
-IsSilent before now Source = now ≡ before
-IsSilent before now (Unread name) = now ≡ before
-IsSilent before now Input = now ≡ before
-IsSilent before now Depth = now ≡ before
-IsSilent before now Memory = now ≡ before
-IsSilent before now Unwritten = Unit {0}
+-- Why a source is not compiled.
+abbrev pub IsCompileFault : List ℕ → CompileFault → Type 0
+IsCompileFault source compile.Memory = Unit {0}
+IsCompileFault source (compile.Refused fault) = IsSourceFault source fault × IsNoProgram source
 
--- Counts of reads stay, unless a file could not be read.
-abbrev pub KeepsReads : Counts → Counts → Stop → Type 0
-KeepsReads before now Usage = (name : List ℕ) → now name ≡ before name
-KeepsReads before now Source = (name : List ℕ) → now name ≡ before name
-KeepsReads before now (Unread file) = Unit {0}
-KeepsReads before now Input = (name : List ℕ) → now name ≡ before name
-KeepsReads before now Depth = (name : List ℕ) → now name ≡ before name
-KeepsReads before now Memory = (name : List ℕ) → now name ≡ before name
-KeepsReads before now Unwritten = (name : List ℕ) → now name ≡ before name
+-- Why a packed file is not read.
+abbrev pub IsPackedStop : Table → Ty → List ℕ → PackedFault → Type 0
+IsPackedStop table ty bytes packed.Memory = Unit {0}
+IsPackedStop table ty bytes (packed.Refused fault) = IsFileFault table ty bytes fault
 
--- The sink's count of faults stays, unless it refused some of the output.
-abbrev pub KeepsFaults : ℕ → ℕ → Stop → Type 0
-KeepsFaults before now Usage = now ≡ before
-KeepsFaults before now Source = now ≡ before
-KeepsFaults before now (Unread file) = now ≡ before
-KeepsFaults before now Input = now ≡ before
-KeepsFaults before now Depth = now ≡ before
-KeepsFaults before now Memory = now ≡ before
-KeepsFaults before now Unwritten = Unit {0}
+-- Why the bytes of a document are not read: they are more than so many, or the count of its file rose.
+abbrev pub IsDocumentFault : ShelfView → ShelfView → Document → ℕ → DocumentFault → Type 0
+IsDocumentFault before now d most document.Memory = Unit {0}
+IsDocumentFault before now d most document.Long = OnSource before.kept d (λ bytes. most < length bytes)
+IsDocumentFault before now d most (document.Unread name) = IsUnread before now d name.now
 
--- The document is the file of this name, and the count of its faults rose.
-abbrev pub IsUnreadFile : Counts → Counts → Document → List ℕ → Type 0
-IsUnreadFile before now document name = IsFile document name × Rose (before name) (now name)
+-- Counts of reads stay, but where a file could not be read.
+abbrev pub DocumentReads : Counts → Counts → DocumentFault → Type 0
+DocumentReads before now document.Memory = (name : List ℕ) → now name ≡ before name
+DocumentReads before now document.Long = (name : List ℕ) → now name ≡ before name
+DocumentReads before now (document.Unread file) = Unit {0}
+
+-- How many bytes of its second file a request reads at most.
+abbrev pub most_of : Request → ℕ
+most_of (Run source input depth) = 16777216
+most_of (Plain source input depth) = 16777216
+most_of (Check source) = 0
+most_of (Pack source text target) = 16777216
+most_of (Show source file) = 268435480
 
 -- Why no program comes of a source.
-abbrev pub IsSourceStop : Files → Counts → Counts → Document → Stop → Type 0
-IsSourceStop kept before now document Usage = ⊥
-IsSourceStop kept before now document Source = IfSome (bytes_in kept document) IsNoProgram
-IsSourceStop kept before now document (Unread name) = IsUnreadFile before now document name.now
-IsSourceStop kept before now document Input = ⊥
-IsSourceStop kept before now document Depth = ⊥
-IsSourceStop kept before now document Memory = Unit {0}
-IsSourceStop kept before now document Unwritten = ⊥
+abbrev pub IsSourceStop : ShelfView → ShelfView → Document → Stop → Type 0
+IsSourceStop before now d Usage = ⊥
+IsSourceStop before now d (Source fault) = OnSource before.kept d (λ bytes. IsSourceFault bytes fault × IsNoProgram bytes)
+IsSourceStop before now d (Unread name) = IsUnread before now d name.now
+IsSourceStop before now d (Input fault) = ⊥
+IsSourceStop before now d Depth = ⊥
+IsSourceStop before now d Memory = Unit {0}
+IsSourceStop before now d (Unwritten name) = ⊥
+IsSourceStop before now d Unput = ⊥
 
--- What a program means on an input, as the bytes that are printed.
-abbrev pub IsOutputOf : ProgramTree → List (List ℕ) → List ℕ → List ℕ → Type 0
-IsOutputOf p names input output =
-    (v u : Datum) × IsInput p v input × (run p call_depth v ≡ Gives u) × (output ≡ text (table_of_program p) names u ++ 10 ∷ [])
+-- A second file of more bytes than a request reads.
+pub record IsLongSecond (before : ShelfView) (request : Request) (fault : InputFault) : Type 0 where
+  pub is : fault ≡ input.Long (most_of request)
+  pub second : List ℕ
+  pub second_held : HoldsSecond before.kept (second_of request) second
+  pub many : most_of request < length second
 
--- The program runs out of depth on an input.
-abbrev pub RunsOutOn : ProgramTree → List ℕ → Type 0
-RunsOutOn p input = (v : Datum) × IsInput p v input × (run p call_depth v ≡ Stops Deep)
+-- Why the bytes of the second file are not read.
+abbrev pub IsSecondStop : ShelfView → ShelfView → Request → Stop → Type 0
+IsSecondStop before now request Usage = ⊥
+IsSecondStop before now request (Source fault) = ⊥
+IsSecondStop before now request (Unread name) = IsSecondUnread before now (second_of request) name.now
+IsSecondStop before now request (Input fault) = IsLongSecond before request fault
+IsSecondStop before now request Depth = ⊥
+IsSecondStop before now request Memory = Unit {0}
+IsSecondStop before now request (Unwritten name) = ⊥
+IsSecondStop before now request Unput = ⊥
 
--- The input is none of the program.
-abbrev pub IsNoInputOf : ProgramTree → List ℕ → Type 0
-IsNoInputOf p input = (v : Datum) → IsInput p v input → ⊥
+-- Why nothing is made of a second file: it is refused so, or the program runs out of depth.
+abbrev pub IsStopBy : (InputFault → Type 0) → Type 0 → Stop → Type 0
+IsStopBy refused exhausted Usage = ⊥
+IsStopBy refused exhausted (Source fault) = ⊥
+IsStopBy refused exhausted (Unread name) = ⊥
+IsStopBy refused exhausted (Input fault) = refused fault
+IsStopBy refused exhausted Depth = exhausted
+IsStopBy refused exhausted Memory = Unit {0}
+IsStopBy refused exhausted (Unwritten name) = ⊥
+IsStopBy refused exhausted Unput = ⊥
 
--- Why the output of a program is not put, or not all of it, where the bytes of the input are there.
-abbrev pub IsPutStop : ProgramTree → List (List ℕ) → Option (List ℕ) → Option (List ℕ) → ℕ → ℕ → List ℕ → Stop → Type 0
-IsPutStop p names before now faults_before faults_now input Usage = ⊥
-IsPutStop p names before now faults_before faults_now input Source = ⊥
-IsPutStop p names before now faults_before faults_now input (Unread name) = ⊥
-IsPutStop p names before now faults_before faults_now input Input = IsNoInputOf p input
-IsPutStop p names before now faults_before faults_now input Depth = RunsOutOn p input
-IsPutStop p names before now faults_before faults_now input Memory = Unit {0}
-IsPutStop p names before now faults_before faults_now input Unwritten =
-    Rose faults_before faults_now × ((output : List ℕ) × IsOutputOf p names input output × AppendsPart before now output)
+-- Why a program gives no output on an input.
+abbrev pub IsRunStop : ProgramTree → ℕ → List ℕ → Stop → Type 0
+IsRunStop p depth input = IsStopBy (λ fault. IsInputFault p input fault × (((v : Datum) × IsInput p v input) → ⊥)) (RunsOut p depth input)
 
--- Why the output of a program on an input is not put, or not all of it.
-abbrev pub IsInputStop : ProgramTree → List (List ℕ) → Files → Counts → Counts → Option (List ℕ) → Option (List ℕ) → ℕ → ℕ → Document → Stop → Type 0
-IsInputStop p names kept reads_before reads_now before now faults_before faults_now document Usage = ⊥
-IsInputStop p names kept reads_before reads_now before now faults_before faults_now document Source = ⊥
-IsInputStop p names kept reads_before reads_now before now faults_before faults_now document (Unread name) = IsUnreadFile reads_before reads_now document name.now
-IsInputStop p names kept reads_before reads_now before now faults_before faults_now document Input = IfSome (bytes_in kept document) (IsNoInputOf p)
-IsInputStop p names kept reads_before reads_now before now faults_before faults_now document Depth = IfSome (bytes_in kept document) (RunsOutOn p)
-IsInputStop p names kept reads_before reads_now before now faults_before faults_now document Memory = Unit {0}
-IsInputStop p names kept reads_before reads_now before now faults_before faults_now document Unwritten =
-    Rose faults_before faults_now × IfSome (bytes_in kept document) (λ input. (output : List ℕ) × IsOutputOf p names input output × AppendsPart before now output)
+-- Why a file is not shown.
+abbrev pub IsShowStop : ProgramTree → List ℕ → Stop → Type 0
+IsShowStop p file = IsStopBy (λ fault. IsShowFault p file fault × (((v : Datum) × IsInput p v file) → ⊥)) ⊥
 
--- The output of a program on an input was put.
-abbrev pub PutsOutput : ProgramTree → List (List ℕ) → Files → Option (List ℕ) → Option (List ℕ) → Document → Type 0
-PutsOutput p names kept before now document =
-    IfSome (bytes_in kept document) (λ input. (output : List ℕ) × IsOutputOf p names input output × Appends before now output)
+-- Why a text is not packed.
+abbrev pub IsPackStop : ProgramTree → List (List ℕ) → List ℕ → Stop → Type 0
+IsPackStop p names bytes = IsStopBy (λ fault. IsTextFault p names bytes fault × (((file : List ℕ) × IsPackedText p names bytes file) → ⊥)) ⊥
+
+-- Why nothing is made, for this program, of the bytes of the second file.
+abbrev pub IsMakeStop : Request → ProgramTree → List (List ℕ) → List ℕ → Stop → Type 0
+IsMakeStop request p names second = IsStopBy (λ fault. Refuses request p names second fault × (Accepts request p names second → ⊥)) (Exhausts request p second)
+
+-- The source is a program, of which this holds with its names and the bytes of the second file.
+abbrev pub OnBoth : Files → Request → (ProgramTree → List (List ℕ) → List ℕ → Type 0) → Type 0
+OnBoth kept request P = OnFiles kept (source_of request) (second_of request) (λ source second. OnProgram source (λ p names. P p names second))
+
+-- Why what is asked for is not made, or not written.
+abbrev pub IsStop : ShelfView → ShelfView → Request → Stop → Type 0
+IsStop before now request Usage = ⊥
+IsStop before now request (Source fault) = OnSource before.kept (source_of request) (λ bytes. IsSourceFault bytes fault × IsNoProgram bytes)
+IsStop before now request (Unread name) = FailsToRead before now request name.now
+IsStop before now request (Input fault) = OnBoth before.kept request (λ p names second. Refuses request p names second fault × (Accepts request p names second → ⊥))
+IsStop before now request Depth = OnBoth before.kept request (λ p names second. Exhausts request p second)
+IsStop before now request Memory = Unit {0}
+IsStop before now request (Unwritten name) = OnBoth before.kept request (λ p names second. IsUnwritten before now request p names second name.now)
+IsStop before now request Unput = ⊥
+
+-- Counts of reads stay, but where a file could not be read.
+abbrev pub StopReads : Counts → Counts → Stop → Type 0
+StopReads before now Usage = (name : List ℕ) → now name ≡ before name
+StopReads before now (Source fault) = (name : List ℕ) → now name ≡ before name
+StopReads before now (Unread file) = Unit {0}
+StopReads before now (Input fault) = (name : List ℕ) → now name ≡ before name
+StopReads before now Depth = (name : List ℕ) → now name ≡ before name
+StopReads before now Memory = (name : List ℕ) → now name ≡ before name
+StopReads before now (Unwritten file) = (name : List ℕ) → now name ≡ before name
+StopReads before now Unput = (name : List ℕ) → now name ≡ before name

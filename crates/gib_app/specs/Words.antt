@@ -1,5 +1,5 @@
 -- What the words of a command line ask for.
-use Rattle.std.specs.Prelude.{ℕ, ◌==◌, ◌&&◌, not, Bool, false, if◌then◌else◌, List, [], ◌∷◌, map, codes, Option, Some, None}
+use Rattle.std.specs.Prelude.{ℕ, if◌then◌else◌, List, [], ◌∷◌, map, codes, Option, Some, None}
 use Rattle.std.specs.String.{string_bytes}
 use Rattle.std.specs.declared.string.String.{String}
 use Rattle.std.specs.declared.alloc.Global.{Global}
@@ -15,34 +15,48 @@ pub data Document : Type 0 where
   Brought : List ℕ → Document
   Named : List ℕ → Document
 
--- What is asked for: to run the program of a source on an input.
-pub record Request : Type 0 where
-  pub source : Document
-  pub input : Document
-
--- A word that begins with `-` (45) names no file.
-abbrev pub is_option : List ℕ → Bool
-is_option [] = false
-is_option (b ∷ rest) = b == 45
+-- What is asked for.
+pub data Request : Type 0 where
+  -- the value of a program on a packed input, by the product's own way: source, input, depth of calls
+  Run : Document → Document → ℕ → Request
+  -- the same by the plain evaluator
+  Plain : Document → Document → ℕ → Request
+  -- whether a source is a typed program
+  Check : Document → Request
+  -- a packed file of a value that is given as text: source, text, name of the file that is written
+  Pack : Document → Document → List ℕ → Request
+  -- the text of the value of a packed file: source, packed file
+  Show : Document → Document → Request
 
 -- The product's own program on its own input.
 abbrev pub sample : Request
-sample = record { source = Brought sample_source; input = Brought sample_input }
+sample = Run (Brought sample_source) (Brought sample_input) 10000
 
--- `run` and the names of two files.
-abbrev pub run_asked : List ℕ → List ℕ → List ℕ → Option Request
-run_asked command source input =
-    if bytes_eq command (codes "run") && (not (is_option source) && not (is_option input)) then Some (record { source = Named source; input = Named input }) else None
+-- A command and one file.
+abbrev pub one_asked : List ℕ → List ℕ → Option Request
+one_asked command source = if bytes_eq command (codes "check") then Some (Check (Named source)) else None
 
--- What words ask for, the program's name first: the sample where there are no others, or `run` and the names
--- of a source file and of a packed file. All other words are not taken.
+-- A command and two files.
+abbrev pub two_asked : List ℕ → List ℕ → List ℕ → Option Request
+two_asked command source second =
+    if bytes_eq command (codes "run") then Some (Run (Named source) (Named second) 10000)
+    else (if bytes_eq command (codes "plain") then Some (Plain (Named source) (Named second) 10000)
+    else (if bytes_eq command (codes "show") then Some (Show (Named source) (Named second))
+    else None))
+
+-- A command and three files.
+abbrev pub three_asked : List ℕ → List ℕ → List ℕ → List ℕ → Option Request
+three_asked command source second target = if bytes_eq command (codes "pack") then Some (Pack (Named source) (Named second) target) else None
+
+-- What words ask for, the program's name first: the sample where there are no others.
 abbrev pub asked : List (List ℕ) → Option Request
 asked [] = Some sample
 asked (program ∷ []) = Some sample
 asked (program ∷ command ∷ []) = None
-asked (program ∷ command ∷ source ∷ []) = None
-asked (program ∷ command ∷ source ∷ input ∷ []) = run_asked command source input
-asked (program ∷ command ∷ source ∷ input ∷ further ∷ more) = None
+asked (program ∷ command ∷ source ∷ []) = one_asked command source
+asked (program ∷ command ∷ source ∷ second ∷ []) = two_asked command source second
+asked (program ∷ command ∷ source ∷ second ∷ third ∷ []) = three_asked command source second third
+asked (program ∷ command ∷ source ∷ second ∷ third ∷ further ∷ more) = None
 
 -- What names hold, where that is told.
 abbrev pub Files : Type 0

@@ -1,9 +1,9 @@
 //! The bytes of a document, whole.
 
-ghost use Rattle.std.specs.Prelude.{◌≡◌, ◌<◌, ◌≤◌, ◌^◌, ℕ, List, length, IfOk, IfErr, IfSome};
-ghost use Rattle.gib_app.specs.Words.{bytes_in};
+ghost use Rattle.std.specs.Prelude.{◌≡◌, ◌<◌, ◌≤◌, ◌^◌, ℕ, List, length, IfOk, IfErr};
 ghost use Rattle.gib_app.specs.Requests.{document_of};
-ghost use Rattle.gib_app.specs.Documents.{IsDocumentFault};
+ghost use Rattle.gib_app.specs.Causes.{Holds};
+ghost use Rattle.gib_app.specs.Stops.{IsDocumentFault, DocumentReads};
 
 use crate::words::Document;
 use gib_edge::outside::{Shelf, ShelfFault};
@@ -27,13 +27,14 @@ pub fn read_document<'a, S: Shelf>(
     most: u64,
 ) -> Result<Vec<u8>, DocumentFault<'a>>
     requires { most < 2 ^ 40 }
-    ensures bytes { IfOk result (λ bytes. IfSome (bytes_in (S.kept shelf.old) (document_of document.entry)) (λ all. (bytes.items ≡ all) × (length all ≤ most))) }
+    ensures bytes { IfOk result (λ bytes. Holds (S.kept shelf.old) (document_of document.entry) bytes.items) }
     ensures most { IfOk result (λ bytes. length bytes.items ≤ most) }
-    ensures faults { IfErr result (IsDocumentFault (S.kept shelf.old) (S.read_faults shelf.old) (S.read_faults shelf.new) (document_of document.entry) most) }
+    ensures faults { IfErr result (IsDocumentFault (record { kept = S.kept shelf.old; reads = S.read_faults shelf.old; writes = S.write_faults shelf.old }) (record { kept = S.kept shelf.new; reads = S.read_faults shelf.new; writes = S.write_faults shelf.new }) (document_of document.entry) most) }
     ensures same { (name : List ℕ) → S.kept shelf.new name ≡ S.kept shelf.old name }
     ensures later { (name : List ℕ) → S.read_faults shelf.old name ≤ S.read_faults shelf.new name }
     ensures writes { (name : List ℕ) → S.write_faults shelf.new name ≡ S.write_faults shelf.old name }
     ensures quiet { IfOk result (λ _. (name : List ℕ) → S.read_faults shelf.new name ≡ S.read_faults shelf.old name) }
+    ensures reads { IfErr result (DocumentReads (S.read_faults shelf.old) (S.read_faults shelf.new)) }
 {
     match document {
         Document::Brought(bytes) => {

@@ -1,12 +1,21 @@
 //! The top call: from the words of a command line to output, a line and a status.
 #![tactic(auto)]
 
-mod command;
 mod compile;
 mod documents;
-mod evaluate;
-mod input;
+pub mod input_fault;
+pub mod law;
+mod lines;
+mod make;
+mod pack;
+mod packed;
+mod perform;
+mod printing;
+mod request_files;
+mod run;
 mod sample;
+mod show;
+pub mod source_fault;
 pub mod status;
 mod stop;
 pub mod top;

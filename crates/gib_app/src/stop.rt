@@ -1,18 +1,24 @@
-//! Why a run puts no output, or not all of it.
+//! Why a call puts no output, or not all of it.
 
+use crate::input_fault::InputFault;
+use crate::source_fault::SourceFault;
+
+/// Why a call puts no output, or not all of it.
 #[derive(Clone, Copy, Debug)]
 pub enum Stop<'a> {
     /// The words are not taken.
     Usage,
     /// The source is no program.
-    Source,
+    Source(SourceFault),
     /// The file of this name could not be read.
     Unread(&'a str),
-    /// The input is no packed file of a value of the type of main's parameter.
-    Input,
+    /// The second file is refused.
+    Input(InputFault),
     /// The program's meaning runs out of depth.
     Depth,
     Memory,
+    /// The file of this name could not be written.
+    Unwritten(&'a str),
     /// The sink did not take all of the output.
-    Unwritten,
+    Unput,
 }

@@ -1,17 +1,21 @@
 //! The top call.
 
-ghost use Rattle.std.specs.Prelude.{◌≡◌, ◌≢◌, ◌⊎◌, ◌++◌, ◌≤◌, ℕ, List, OnOk};
-ghost use Rattle.gib_edge.specs.Causes.{Rose, HasCause, Appends};
+ghost use Rattle.std.specs.Prelude.{◌≡◌, ◌⊎◌, ◌≤◌, ℕ, List, OnOk, IfErr};
+ghost use Rattle.gib_edge.specs.Causes.{Rose, Appends};
+ghost use Rattle.gib_app.specs.declared.status.Status.{Status as Statuses};
 ghost use Rattle.gib_app.specs.Words.{bytes_of};
-ghost use Rattle.gib_app.specs.Causes.{GoesWell};
+ghost use Rattle.gib_app.specs.Causes.{Prints};
 ghost use Rattle.gib_app.specs.Lines.{IsLine};
-ghost use Rattle.gib_app.specs.Ending.{IsEnding, IsQuiet, ReadsStay, FaultsStay};
-ghost use Rattle.gib_app.specs.Endings.{status_for, words_for, name_for, line_for};
+ghost use Rattle.gib_app.specs.Ending.{IsEnding, IsNoTarget, FilesStay, ReadsStay, WritesStay, OutStays, IsDue};
+ghost use Rattle.gib_app.specs.Performing.{IsCallStop};
+ghost use Rattle.gib_app.specs.Stopping.{status_for};
 
-use crate::command::run;
+use crate::lines::put_line;
+use crate::perform::perform;
 use crate::status::Status;
 use crate::stop::Stop;
-use gib_edge::outside::{Failed, Gate, Shelf, Sink, put_all};
+use crate::words::read_words;
+use gib_edge::outside::{Gate, Shelf, Sink, put_all};
 use gib_file::one_file;
 use gib_lex::laws::one_reading;
 use gib_parse::law::one_program;
@@ -25,62 +29,55 @@ fn status_of(stop: Stop<'_>) -> Status
 {
     match stop {
         Stop::Usage => Status::Usage,
-        Stop::Source => Status::Source,
+        Stop::Source(_) => Status::Source,
         Stop::Unread(_) => Status::ReadFault,
-        Stop::Input => Status::Input,
+        Stop::Input(_) => Status::Input,
         Stop::Depth => Status::Depth,
         Stop::Memory => Status::Memory,
-        Stop::Unwritten => Status::WriteFault,
+        Stop::Unwritten(_) => Status::WriteFault,
+        Stop::Unput => Status::WriteFault,
     }
 }
 
-/// What the line of a stop says, but for the name of a file.
-fn words_of(stop: Stop<'_>) -> &'static [u8]
-    ensures { result.now ≡ words_for stop.entry }
+/// Does what the words ask for, and puts what is printed.
+fn call<'a, S: Shelf, O: Sink>(
+    alloc: Global,
+    words: &'a [String],
+    shelf: &mut S,
+    out: &mut O,
+) -> Result<(), Stop<'a>>
+    ensures done { OnOk result (Prints S.tells (bytes_of words.now) (record { kept = S.kept shelf.old; reads = S.read_faults shelf.old; writes = S.write_faults shelf.old }) (record { kept = S.kept shelf.new; reads = S.read_faults shelf.new; writes = S.write_faults shelf.new }) (record { taken = O.taken out.old; faults = O.faults out.old }) (record { taken = O.taken out.new; faults = O.faults out.new })) }
+    ensures stop { IfErr result (IsCallStop S.tells (bytes_of words.now) (record { kept = S.kept shelf.old; reads = S.read_faults shelf.old; writes = S.write_faults shelf.old }) (record { kept = S.kept shelf.new; reads = S.read_faults shelf.new; writes = S.write_faults shelf.new }) (record { taken = O.taken out.old; faults = O.faults out.old }) (record { taken = O.taken out.new; faults = O.faults out.new })) }
+    ensures others { (name : List ℕ) → IsNoTarget (bytes_of words.now) name → S.kept shelf.new name ≡ S.kept shelf.old name }
+    ensures same { IfErr result (λ stop. FilesStay (bytes_of words.now) (S.kept shelf.old) (S.kept shelf.new) (status_for stop)) }
+    ensures reads_later { (name : List ℕ) → S.read_faults shelf.old name ≤ S.read_faults shelf.new name }
+    ensures reads_quiet { OnOk result ((name : List ℕ) → S.read_faults shelf.new name ≡ S.read_faults shelf.old name) }
+    ensures reads { IfErr result (λ stop. ReadsStay (S.read_faults shelf.old) (S.read_faults shelf.new) (status_for stop)) }
+    ensures writes_later { (name : List ℕ) → S.write_faults shelf.old name ≤ S.write_faults shelf.new name }
+    ensures writes_quiet { OnOk result ((name : List ℕ) → S.write_faults shelf.new name ≡ S.write_faults shelf.old name) }
+    ensures writes { IfErr result (λ stop. WritesStay (S.write_faults shelf.old) (S.write_faults shelf.new) (status_for stop)) }
+    ensures out_quiet { OnOk result (O.faults out.new ≡ O.faults out.old) }
+    ensures out { IfErr result (λ stop. OutStays (record { taken = O.taken out.old; faults = O.faults out.old }) (record { taken = O.taken out.new; faults = O.faults out.new }) (status_for stop)) }
 {
-    match stop {
-        Stop::Usage => b"usage",
-        Stop::Source => b"source",
-        Stop::Unread(_) => b"cannot read ",
-        Stop::Input => b"input",
-        Stop::Depth => b"depth",
-        Stop::Memory => b"memory",
-        Stop::Unwritten => b"cannot write",
+    let request = match read_words(alloc, words) {
+        Ok(request) => request,
+        Err(_) => return Err(Stop::Memory),
+    };
+    let Some(request) = request else {
+        return Err(Stop::Usage);
+    };
+    let output = match perform(alloc, shelf, request) {
+        Ok(output) => output,
+        Err(stop) => return Err(stop),
+    };
+    match put_all(out, &output) {
+        Ok(()) => Ok(()),
+        Err(_) => Err(Stop::Unput),
     }
 }
 
-/// The name of the file that the line of a stop says.
-fn name_of(stop: Stop<'_>) -> &[u8]
-    ensures { result.now ≡ name_for stop.entry }
-{
-    match stop {
-        Stop::Unread(name) => name.as_bytes(),
-        _ => b"",
-    }
-}
-
-/// Puts two runs of bytes, one after the other.
-fn put_both<E: Sink>(err: &mut E, first: &[u8], second: &[u8]) -> Result<(), Failed>
-    ensures ok { OnOk result (Appends (E.taken err.old) (E.taken err.new) (first.now ++ second.now)) }
-    ensures cause { HasCause (E.faults err.old) (E.faults err.new) result }
-{
-    put_all(err, first)?;
-    put_all(err, second)?;
-    Ok(())
-}
-
-/// Puts the line of a stop, in pieces that take no memory.
-fn put_line<E: Sink>(err: &mut E, stop: Stop<'_>) -> Result<(), Failed>
-    ensures ok { OnOk result (Appends (E.taken err.old) (E.taken err.new) (line_for stop.entry)) }
-    ensures cause { HasCause (E.faults err.old) (E.faults err.new) result }
-{
-    put_both(err, b"gib: ", words_of(stop))?;
-    put_both(err, name_of(stop), b"\n")?;
-    Ok(())
-}
-
-/// Does what the words of a command line ask for: reads the files that they name, puts the output, and for
-/// every status but `Done` puts one line about it on `err`.
+/// Does what the words of a command line ask for: reads the files that they name, writes the one that they name
+/// for that, puts what is printed on `out`, and for every status but `Done` puts one line about it on `err`.
 ///
 /// `words` begin with the program's name, which is not looked at.
 pub fn gib<R: Threads + Wait + Sync, S: Shelf, O: Sink, E: Sink, G: Gate + Sync>(
@@ -92,25 +89,29 @@ pub fn gib<R: Threads + Wait + Sync, S: Shelf, O: Sink, E: Sink, G: Gate + Sync>
     err: &mut E,
     gate: &G,
 ) -> Status
-    // Each status comes only by its cause; `Done` only where the text of the value that the program means was put.
-    ensures cause { IsEnding (bytes_of words.now) (S.kept shelf.old) (S.read_faults shelf.old) (S.read_faults shelf.new) (O.taken out.old) (O.taken out.new) (O.faults out.old) (O.faults out.new) result }
-    ensures quiet { IsQuiet (O.taken out.old) (O.taken out.new) result }
-    ensures same { (name : List ℕ) → S.kept shelf.new name ≡ S.kept shelf.old name }
+    // Each status comes only by its cause; `Done` only where what the words ask for was made and put: for `run` the text of
+    // the value that the program means on the input within the depth, for `pack` also its file was written.
+    ensures cause { IsEnding S.tells (bytes_of words.now) (record { kept = S.kept shelf.old; reads = S.read_faults shelf.old; writes = S.write_faults shelf.old }) (record { kept = S.kept shelf.new; reads = S.read_faults shelf.new; writes = S.write_faults shelf.new }) (record { taken = O.taken out.old; faults = O.faults out.old }) (record { taken = O.taken out.new; faults = O.faults out.new }) result }
 
-    // Counts of faults never fall, and rise only with the status that tells of them.
-    ensures later { (name : List ℕ) → S.read_faults shelf.old name ≤ S.read_faults shelf.new name }
+    // Where the files are told and no count on the way rises, the status that is due is answered, unless memory runs out.
+    ensures complete { (due : Statuses) → IsDue (bytes_of words.now) (record { kept = S.kept shelf.old; reads = S.read_faults shelf.old; writes = S.write_faults shelf.old }) (record { kept = S.kept shelf.new; reads = S.read_faults shelf.new; writes = S.write_faults shelf.new }) (record { taken = O.taken out.old; faults = O.faults out.old }) (record { taken = O.taken out.new; faults = O.faults out.new }) due → (result ≡ due) ⊎ (result ≡ Status.Memory) }
+
+    // What files hold stays, but for the one that is written; counts of faults never fall, and rise only with
+    // the status that tells of them; but at `Done` and `WriteFault` nothing is put.
+    ensures same { FilesStay (bytes_of words.now) (S.kept shelf.old) (S.kept shelf.new) result }
+    ensures reads_later { (name : List ℕ) → S.read_faults shelf.old name ≤ S.read_faults shelf.new name }
     ensures reads { ReadsStay (S.read_faults shelf.old) (S.read_faults shelf.new) result }
-    ensures writes { (name : List ℕ) → S.write_faults shelf.new name ≡ S.write_faults shelf.old name }
-    ensures faults { FaultsStay (O.faults out.old) (O.faults out.new) result }
+    ensures writes_later { (name : List ℕ) → S.write_faults shelf.old name ≤ S.write_faults shelf.new name }
+    ensures writes { WritesStay (S.write_faults shelf.old) (S.write_faults shelf.new) result }
+    ensures quiet { OutStays (record { taken = O.taken out.old; faults = O.faults out.old }) (record { taken = O.taken out.new; faults = O.faults out.new }) result }
 
-    // Where all goes well the output is put, unless memory runs out.
-    ensures complete { GoesWell (bytes_of words.now) (S.kept shelf.old) (S.read_faults shelf.old) (S.read_faults shelf.new) (O.faults out.old) (O.faults out.new) → (result ≡ Status.Done) ⊎ (result ≡ Status.Memory) }
-    ensures line { (Rose (E.faults err.old) (E.faults err.new) → ⊥) → (said : List ℕ) × IsLine (bytes_of words.now) (S.read_faults shelf.old) (S.read_faults shelf.new) result said × Appends (E.taken err.old) (E.taken err.new) said }
+    // One line about the status is appended to `err`, where its count did not rise.
+    ensures line { (Rose (E.faults err.old) (E.faults err.new) → ⊥) → (said : List ℕ) × IsLine (bytes_of words.now) (record { kept = S.kept shelf.old; reads = S.read_faults shelf.old; writes = S.write_faults shelf.old }) (record { kept = S.kept shelf.new; reads = S.read_faults shelf.new; writes = S.write_faults shelf.new }) (record { taken = O.taken out.old; faults = O.faults out.old }) (record { taken = O.taken out.new; faults = O.faults out.new }) result said × Appends (E.taken err.old) (E.taken err.new) said }
 {
     one_reading();
     one_program();
     one_file();
-    let stop = match run(alloc, words, shelf, out) {
+    let stop = match call(alloc, words, shelf, out) {
         Ok(()) => return Status::Done,
         Err(stop) => stop,
     };

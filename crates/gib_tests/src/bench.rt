@@ -8,10 +8,11 @@ use std::alloc::{AllocError, Global};
 use std::sync::Wait;
 use std::thread::Threads;
 
-/// How a call ended, and what it put.
+/// How a call ended, the files after it, and what it put.
 #[derive(Drop)]
 pub struct Ended {
     pub status: Status,
+    pub shelf: MemShelf,
     pub out: MemSink,
     pub err: MemSink,
 }
@@ -41,6 +42,29 @@ pub fn words(alloc: Global, texts: &[&str]) -> Result<Vec<String>, AllocError> {
     Ok(words)
 }
 
+/// Runs the top call on these words and files; the shelf fails at the calls of these numbers, and `out` as the
+/// pairs say.
+pub fn call_failing<R: Threads + Wait + Sync>(
+    rt: &R,
+    alloc: Global,
+    texts: &[&str],
+    files: Vec<(String, Vec<u8>)>,
+    shelf_fails: Vec<u64>,
+    out_fails: Vec<(u64, u64)>,
+) -> Result<Ended, AllocError> {
+    let words = words(alloc, texts)?;
+    let mut shelf = MemShelf::make(alloc, files, shelf_fails)?;
+    let mut out = MemSink::make(alloc, 16_777_216, out_fails)?;
+    let mut err = MemSink::make(alloc, 4_096, Vec::new(alloc))?;
+    let status = gib(rt, alloc, &words, &mut shelf, &mut out, &mut err, &FreeGate);
+    Ok(Ended {
+        status,
+        shelf,
+        out,
+        err,
+    })
+}
+
 /// Runs the top call on these words and files; `out` fails as the pairs say.
 pub fn call<R: Threads + Wait + Sync>(
     rt: &R,
@@ -49,10 +73,5 @@ pub fn call<R: Threads + Wait + Sync>(
     files: Vec<(String, Vec<u8>)>,
     fails: Vec<(u64, u64)>,
 ) -> Result<Ended, AllocError> {
-    let words = words(alloc, texts)?;
-    let mut shelf = MemShelf::make(alloc, files, Vec::new(alloc))?;
-    let mut out = MemSink::make(alloc, 16_777_216, fails)?;
-    let mut err = MemSink::make(alloc, 4_096, Vec::new(alloc))?;
-    let status = gib(rt, alloc, &words, &mut shelf, &mut out, &mut err, &FreeGate);
-    Ok(Ended { status, out, err })
+    call_failing(rt, alloc, texts, files, Vec::new(alloc), fails)
 }

@@ -6,6 +6,8 @@ mod bench;
 #[cfg(test)]
 mod checks;
 #[cfg(test)]
+mod commands;
+#[cfg(test)]
 mod deep;
 #[cfg(test)]
 mod example_sources;

@@ -133,7 +133,7 @@ fn programs_end_as_they_mean(rt: HostRuntime) -> Result<(), Fail> {
             [0, 2].as_slice(),
             Status::Input,
             "",
-            "gib: input\n",
+            "gib: input: bad truth value at 1\n",
         ),
         (
             TREE,
@@ -141,7 +141,7 @@ fn programs_end_as_they_mean(rt: HostRuntime) -> Result<(), Fail> {
             [2, 0, 1, 0, 0, 0, 0, 0, 0, 0, 0, 2, 0, 0, 0, 0, 0, 0, 0].as_slice(),
             Status::Input,
             "",
-            "gib: input\n",
+            "gib: input: bad tag at 0\n",
         ),
         (
             TREE,
@@ -149,7 +149,7 @@ fn programs_end_as_they_mean(rt: HostRuntime) -> Result<(), Fail> {
             [254, 0, 1, 0, 0, 0, 0, 0, 0, 0, 0, 2, 0, 0, 0, 0, 0, 0, 0].as_slice(),
             Status::Input,
             "",
-            "gib: input\n",
+            "gib: input: bad tag at 0\n",
         ),
         (
             TREE,
@@ -157,7 +157,7 @@ fn programs_end_as_they_mean(rt: HostRuntime) -> Result<(), Fail> {
             [1, 0, 1, 0, 0, 0, 0, 0, 0, 0, 0, 2, 0, 0, 0, 0, 0, 0].as_slice(),
             Status::Input,
             "",
-            "gib: input\n",
+            "gib: input: short at 11\n",
         ),
         (
             TREE,
@@ -165,7 +165,7 @@ fn programs_end_as_they_mean(rt: HostRuntime) -> Result<(), Fail> {
             [1, 0, 1, 0, 0, 0, 0, 0, 0, 0, 0, 2, 0, 0, 0, 0, 0, 0, 0, 0].as_slice(),
             Status::Input,
             "",
-            "gib: input\n",
+            "gib: input: trailing bytes at 19\n",
         ),
         (
             "",
@@ -173,7 +173,7 @@ fn programs_end_as_they_mean(rt: HostRuntime) -> Result<(), Fail> {
             [0, 0, 0, 0, 0, 0, 0, 0].as_slice(),
             Status::Source,
             "",
-            "gib: source\n",
+            "gib: source: number too large at 23\n",
         ),
         (
             "",
@@ -181,16 +181,23 @@ fn programs_end_as_they_mean(rt: HostRuntime) -> Result<(), Fail> {
             [0].as_slice(),
             Status::Source,
             "",
-            "gib: source\n",
+            "gib: source: wrong arms at 38\n",
         ),
-        ("", "", [].as_slice(), Status::Source, "", "gib: source\n"),
+        (
+            "",
+            "",
+            [].as_slice(),
+            Status::Source,
+            "",
+            "gib: source: syntax at 0\n",
+        ),
         (
             "",
             "main @",
             [].as_slice(),
             Status::Source,
             "",
-            "gib: source\n",
+            "gib: source: bad character at 5\n",
         ),
         (
             "",
@@ -198,25 +205,22 @@ fn programs_end_as_they_mean(rt: HostRuntime) -> Result<(), Fail> {
             [0, 0, 0, 0, 0, 0, 0, 0].as_slice(),
             Status::Source,
             "",
-            "gib: source\n",
+            "gib: source: unknown name at 23\n",
         ),
     ] {
         let source = with_types(alloc, types, rest)?;
         let input = packed(alloc, payload)?;
-        let files = vec![in alloc;
-            file(alloc, "a.gib", source.as_bytes())?,
-            file(alloc, "a.gbp", &input)?,
-        ]?;
-        let ended = call(
-            &rt,
-            alloc,
-            &["gib", "run", "a.gib", "a.gbp"],
-            files,
-            Vec::new(alloc),
-        )?;
-        assert_eq!(rt; ended.status, status, "{source}");
-        assert_eq!(rt; ended.out.bytes(), out.as_bytes(), "{source}");
-        assert_eq!(rt; ended.err.bytes(), err.as_bytes(), "{source}");
+        for command in ["run", "plain"] {
+            let files = vec![in alloc;
+                file(alloc, "a.gib", source.as_bytes())?,
+                file(alloc, "a.gbp", &input)?,
+            ]?;
+            let texts = ["gib", command, "a.gib", "a.gbp"];
+            let ended = call(&rt, alloc, &texts, files, Vec::new(alloc))?;
+            assert_eq!(rt; ended.status, status, "{command} {source}");
+            assert_eq!(rt; ended.out.bytes(), out.as_bytes(), "{command} {source}");
+            assert_eq!(rt; ended.err.bytes(), err.as_bytes(), "{command} {source}");
+        }
     }
     Ok(())
 }
@@ -229,7 +233,9 @@ fn words_that_are_not_taken_are_usage(rt: HostRuntime) -> Result<(), Fail> {
         ["gib", "run", "a.gib"].as_slice(),
         ["gib", "run", "a.gib", "a.gbp", "--fast"].as_slice(),
         ["gib", "run", "--a.gib", "a.gbp"].as_slice(),
-        ["gib", "run", "a.gib", "-"].as_slice(),
+        ["gib", "pack", "a.gib", "a.txt"].as_slice(),
+        ["gib", "check"].as_slice(),
+        ["gib", "show", "a.gib"].as_slice(),
         ["gib", "walk", "a.gib", "a.gbp"].as_slice(),
     ] {
         let ended = call(&rt, alloc, words, Vec::new(alloc), Vec::new(alloc))?;
@@ -290,6 +296,12 @@ fn a_second_put_that_fails_leaves_the_first(rt: HostRuntime) -> Result<(), Fail>
         let ended = call(&rt, alloc, &["gib", "run", "a.gib", "a.gbp"], files, fails)?;
         assert_eq!(rt; ended.status, status);
         assert_eq!(rt; ended.out.bytes().len(), taken);
+        let line = if status == Status::Done {
+            b"".as_slice()
+        } else {
+            b"gib: cannot write\n".as_slice()
+        };
+        assert_eq!(rt; ended.err.bytes(), line);
     }
     Ok(())
 }

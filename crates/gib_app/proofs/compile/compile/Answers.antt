@@ -1,30 +1,18 @@
-use Rattle.std.proofs.Common.{sym, subst, arith}
+use Rattle.std.proofs.Common.{sym, subst}
 use Rattle.gib_syntax.specs.Parts.{Parts, program_of}
-use Rattle.gib_app.specs.Running.{IsCompiled}
-use Rattle.gib_app.proofs.Held.{names_held}
+use Rattle.gib_app.specs.Stops.{IsReady}
+use Rattle.gib_app.proofs.Held.{names_held, names_are_words}
 use Rattle.gib_app.proofs.compile.compile.Goals as goal
 
--- src/compile.rt:36:1
-pub returns-in-Ok-check-clause-compiled : goal.returns-in-Ok-check-clause-compiled
-returns-in-Ok-check-clause-compiled c =
-    let are = c.tokens-known.ensures.whole in
-    let lexed = c.in-Ok.ensures.lexed in
+-- src/compile.rt:76:1
+pub returns-in-Ok-check-clause-ready : goal.returns-in-Ok-check-clause-ready
+returns-in-Ok-check-clause-ready c =
     let derived = c.in-Ok-parse.ensures.found in
-    let P : Parts → Type 0 = λ p. IsCompiled c.args.source.now (program_of p) c.into_names.result in
+    let p = program_of c.in-Ok-parse.program in
+    let P : Parts → Type 0 = λ parts. IsReady (program_of parts) c.into_names.result in
     subst P (sym c.in-Ok-check.ensures.same)
     (record {
-      lexed = c.in-Ok.tokens;
-      is_program = record {
-        spelled = record {
-          is_lexed = lexed;
-          derived = derived;
-          placed = c.in-Ok-parse.ensures.placed;
-          short = omega (arith, lexed.len, are.short);
-          few_names = are.few;
-          shallow = c.in-Ok-parse.ensures.levels;
-        };
-        typed = c.in-Ok-check.ensures.typed;
-      };
-      same = c.into_names.ensures;
-      held = rw (c.into_names.ensures) (names_held c.in-Ok.tokens (program_of c.in-Ok-parse.program) are derived);
+      fine = derived.fine;
+      held = rw (c.into_names.ensures) (names_held c.in-Ok.tokens p c.tokens-known.ensures.whole derived);
+      words = rw (c.into_names.ensures) (names_are_words c.in-Ok.tokens p (c.same_again.ensures.writable c.args.source.now c.in-Ok.tokens c.in-Ok.ensures.lexed) derived);
     })

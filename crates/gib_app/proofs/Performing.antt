@@ -1,0 +1,173 @@
+-- From the parts of a call to the whole.
+use Rattle.std.proofs.Common.{◌≡◌, ◌∙◌, refl, ℕ, ◌≤◌, List, Option, Some, None, MatchOption, subst, sym, inl, inr, Bool}
+use Rattle.std.specs.Prelude.{⊤}
+use Rattle.gib_edge.specs.Causes.{Rose, Appends, AppendsPart}
+use Rattle.gib_syntax.specs.Tree.{ProgramTree}
+use Rattle.gib_app.specs.declared.stop.Stop.{Stop}
+use Rattle.gib_app.specs.declared.stop.Stop.TheVariants.{Usage, Source, Unread, Input, Depth, Memory, Unwritten, Unput}
+use Rattle.gib_app.specs.Words.{Request, Run, Plain, Check, Pack, Show, Files, asked}
+use Rattle.gib_app.specs.Commands.{target_of, Makes, Accepts, OnProgram, printed, IsWritten}
+use Rattle.gib_app.specs.Causes.{Counts, ShelfView, SinkView, OnFiles, Prints, PrintsPart, IsUnwritten}
+use Rattle.gib_app.specs.Ending.{IsNoTarget, FilesStay, ReadsStay, WritesStay, OutStays}
+use Rattle.gib_app.specs.Stops.{IsStop, StopReads, OnBoth}
+use Rattle.gib_app.specs.Stopping.{status_for}
+use Rattle.gib_app.specs.Performing.{IsWriteStop, IsPerformed, OthersStay, StopFiles, IsCallStop}
+
+pub map_both : (kept : Files) (r : Request) (P Q : ProgramTree → List (List ℕ) → List ℕ → Type 0) → ((p : ProgramTree) (names : List (List ℕ)) (second : List ℕ) → P p names second → Q p names second) → OnBoth kept r P → OnBoth kept r Q
+map_both kept r P Q go h = record {
+  source = h.source;
+  second = h.second;
+  source_held = h.source_held;
+  second_held = h.second_held;
+  holds = record { lexed = h.holds.lexed; program = h.holds.program; is_program = h.holds.is_program; holds = go h.holds.program h.holds.lexed.names h.second h.holds.holds };
+}
+
+pub makes_accepts : (r : Request) (p : ProgramTree) (names : List (List ℕ)) (second made : List ℕ) → Makes r p names second made → Accepts r p names second
+makes_accepts (Run s i depth) p names second made h = (h.value, h.is_input)
+makes_accepts (Plain s i depth) p names second made h = (h.value, h.is_input)
+makes_accepts (Check s) p names second made h = tt {0}
+makes_accepts (Pack s i target) p names second made h = (made, h)
+makes_accepts (Show s i) p names second made h = (h.value, h.is_input)
+
+-- Writing, after what was made
+
+pub performed : (tells : Bool) (kept now : Files) (r : Request) (made output : List ℕ) → OnBoth kept r (λ p names second. Makes r p names second made) → IsWritten tells now r made → output ≡ printed r made → IsPerformed tells kept now r output
+performed tells kept now r made output h written is =
+    map_both kept r (λ p names second. Makes r p names second made)
+    (λ p names second. (made' : List ℕ) × Makes r p names second made' × IsWritten tells now r made' × (output ≡ printed r made'))
+    (λ p names second k. (made, k, written, is)) h
+
+pub write_stop : (before mid now : ShelfView) (r : Request) (made : List ℕ) → ((name : List ℕ) → mid.writes name ≡ before.writes name) → OnBoth before.kept r (λ p names second. Makes r p names second made) →
+    (stop : Stop) → IsWriteStop mid now r stop → IsStop before now r stop
+write_stop before mid now r made e on Usage h = h
+write_stop before mid now r made e on (Source fault) h = absurd h
+write_stop before mid now r made e on (Unread name) h = absurd h
+write_stop before mid now r made e on (Input fault) h = absurd h
+write_stop before mid now r made e on Depth h = absurd h
+write_stop before mid now r made e on Memory h = h
+write_stop before mid now r made e on (Unwritten name) h =
+    let R : ℕ → Type 0 = λ n. Rose n (now.writes name.now) in
+    map_both before.kept r (λ p names second. Makes r p names second made) (λ p names second. IsUnwritten before now r p names second name.now)
+    (λ p names second k. (h.0, makes_accepts r p names second made k, h.1, subst R (e name.now) h.2)) on
+write_stop before mid now r made e on Unput h = h
+
+pub files_stay : (r : Request) (before now : Files) → ((name : List ℕ) → now name ≡ before name) → (stop : Stop) → StopFiles r before now stop
+files_stay r before now e Usage = e
+files_stay r before now e (Source fault) = e
+files_stay r before now e (Unread file) = e
+files_stay r before now e (Input fault) = e
+files_stay r before now e Depth = e
+files_stay r before now e Memory = e
+files_stay r before now e (Unwritten file) = λ name no'. e name
+files_stay r before now e Unput = λ name no'. e name
+
+pub files_kept : (r : Request) (before mid now : Files) → ((name : List ℕ) → mid name ≡ before name) → (stop : Stop) → StopFiles r mid now stop → StopFiles r before now stop
+files_kept r before mid now e Usage h = λ name. h name ∙ e name
+files_kept r before mid now e (Source fault) h = λ name. h name ∙ e name
+files_kept r before mid now e (Unread file) h = λ name. h name ∙ e name
+files_kept r before mid now e (Input fault) h = λ name. h name ∙ e name
+files_kept r before mid now e Depth h = λ name. h name ∙ e name
+files_kept r before mid now e Memory h = λ name. h name ∙ e name
+files_kept r before mid now e (Unwritten file) h = λ name other. h name other ∙ e name
+files_kept r before mid now e Unput h = λ name other. h name other ∙ e name
+
+pub reads_of : (before now : Counts) (stop : Stop) → StopReads before now stop → ReadsStay before now (status_for stop)
+reads_of before now Usage h = h
+reads_of before now (Source fault) h = h
+reads_of before now (Unread file) h = h
+reads_of before now (Input fault) h = h
+reads_of before now Depth h = h
+reads_of before now Memory h = h
+reads_of before now (Unwritten file) h = h
+reads_of before now Unput h = h
+
+pub reads_all : (before now : Counts) → ((name : List ℕ) → now name ≡ before name) → (stop : Stop) → ReadsStay before now (status_for stop)
+reads_all before now e Usage = e
+reads_all before now e (Source fault) = e
+reads_all before now e (Unread file) = tt {0}
+reads_all before now e (Input fault) = e
+reads_all before now e Depth = e
+reads_all before now e Memory = e
+reads_all before now e (Unwritten file) = e
+reads_all before now e Unput = e
+
+pub writes_all : (before now : Counts) → ((name : List ℕ) → now name ≡ before name) → (stop : Stop) → WritesStay before now (status_for stop)
+writes_all before now e Usage = e
+writes_all before now e (Source fault) = e
+writes_all before now e (Unread file) = e
+writes_all before now e (Input fault) = e
+writes_all before now e Depth = e
+writes_all before now e Memory = e
+writes_all before now e (Unwritten file) = tt {0}
+writes_all before now e Unput = tt {0}
+
+pub writes_kept : (before mid now : Counts) → ((name : List ℕ) → mid name ≡ before name) → (stop : Stop) → WritesStay mid now (status_for stop) → WritesStay before now (status_for stop)
+writes_kept before mid now e Usage h = λ name. h name ∙ e name
+writes_kept before mid now e (Source fault) h = λ name. h name ∙ e name
+writes_kept before mid now e (Unread file) h = λ name. h name ∙ e name
+writes_kept before mid now e (Input fault) h = λ name. h name ∙ e name
+writes_kept before mid now e Depth h = λ name. h name ∙ e name
+writes_kept before mid now e Memory h = λ name. h name ∙ e name
+writes_kept before mid now e (Unwritten file) h = h
+writes_kept before mid now e Unput h = h
+
+-- The call, by what the words ask for
+
+pub asked_of : (o : Option Request) (r : Request) (P : Request → Type 0) → o ≡ Some r → P r → MatchOption o ⊥ P
+asked_of o r P e h = let Q : Option Request → Type 0 = λ x. MatchOption x ⊥ P in subst Q (sym e) h
+
+no_target : (o : Option Request) (r : Request) (P : Request → Type 0) → o ≡ Some r → MatchOption o ⊤ P → P r
+no_target o r P e h = let Q : Option Request → Type 0 = λ x. MatchOption x ⊤ P in subst Q e h
+
+pub others_stay : (words : List (List ℕ)) (r : Request) (before now : Files) → asked words ≡ Some r → OthersStay r before now → (name : List ℕ) → IsNoTarget words name → now name ≡ before name
+others_stay words r before now e h name no' = h name (no_target (asked words) r (λ request. target_of request ≡ Some name → ⊥) e no')
+
+pub files_of : (words : List (List ℕ)) (r : Request) (before now : Files) → asked words ≡ Some r → (stop : Stop) → StopFiles r before now stop → FilesStay words before now (status_for stop)
+files_of words r before now e Usage h = h
+files_of words r before now e (Source fault) h = h
+files_of words r before now e (Unread file) h = h
+files_of words r before now e (Input fault) h = h
+files_of words r before now e Depth h = h
+files_of words r before now e Memory h = h
+files_of words r before now e (Unwritten file) h = others_stay words r before now e h
+files_of words r before now e Unput h = others_stay words r before now e h
+
+pub prints : (tells : Bool) (words : List (List ℕ)) (before now : ShelfView) (out_before out_now : SinkView) (r : Request) (output : List ℕ) → asked words ≡ Some r →
+    IsPerformed tells before.kept now.kept r output → Appends out_before.taken out_now.taken output → Prints tells words before now out_before out_now
+prints tells words before now out_before out_now r output e h put =
+    let A : List ℕ → Type 0 = Appends out_before.taken out_now.taken in
+    asked_of (asked words) r
+    (λ request. OnBoth before.kept request (λ p names second. (made : List ℕ) × Makes request p names second made × IsWritten tells now.kept request made × Appends out_before.taken out_now.taken (printed request made))) e
+    (map_both before.kept r (λ p names second. (made : List ℕ) × Makes r p names second made × IsWritten tells now.kept r made × (output ≡ printed r made))
+    (λ p names second. (made : List ℕ) × Makes r p names second made × IsWritten tells now.kept r made × Appends out_before.taken out_now.taken (printed r made))
+    (λ p names second k. (k.0, k.1, k.2, subst A k.3 put)) h)
+
+pub prints_part : (tells : Bool) (words : List (List ℕ)) (before now : ShelfView) (out_before out_now : SinkView) (r : Request) (output : List ℕ) → asked words ≡ Some r →
+    IsPerformed tells before.kept now.kept r output → AppendsPart out_before.taken out_now.taken output → PrintsPart tells words before now out_before out_now
+prints_part tells words before now out_before out_now r output e h put =
+    let A : List ℕ → Type 0 = AppendsPart out_before.taken out_now.taken in
+    asked_of (asked words) r
+    (λ request. OnBoth before.kept request (λ p names second. (made : List ℕ) × Makes request p names second made × IsWritten tells now.kept request made × AppendsPart out_before.taken out_now.taken (printed request made))) e
+    (map_both before.kept r (λ p names second. (made : List ℕ) × Makes r p names second made × IsWritten tells now.kept r made × (output ≡ printed r made))
+    (λ p names second. (made : List ℕ) × Makes r p names second made × IsWritten tells now.kept r made × AppendsPart out_before.taken out_now.taken (printed r made))
+    (λ p names second k. (k.0, k.1, k.2, subst A k.3 put)) h)
+
+pub call_stop : (tells : Bool) (words : List (List ℕ)) (before now : ShelfView) (out : SinkView) (r : Request) → asked words ≡ Some r → (stop : Stop) → IsStop before now r stop → IsCallStop tells words before now out out stop
+call_stop tells words before now out r e Usage h = absurd h
+call_stop tells words before now out r e (Source fault) h = asked_of (asked words) r (λ request. IsStop before now request (Source fault)) e h
+call_stop tells words before now out r e (Unread name) h = asked_of (asked words) r (λ request. IsStop before now request (Unread name)) e h
+call_stop tells words before now out r e (Input fault) h = asked_of (asked words) r (λ request. IsStop before now request (Input fault)) e h
+call_stop tells words before now out r e Depth h = asked_of (asked words) r (λ request. IsStop before now request Depth) e h
+call_stop tells words before now out r e Memory h = tt {0}
+call_stop tells words before now out r e (Unwritten name) h = (asked_of (asked words) r (λ request. IsStop before now request (Unwritten name)) e h, refl)
+call_stop tells words before now out r e Unput h = absurd h
+
+pub out_of : (out : SinkView) (stop : Stop) → OutStays out out (status_for stop)
+out_of out Usage = refl
+out_of out (Source fault) = refl
+out_of out (Unread file) = refl
+out_of out (Input fault) = refl
+out_of out Depth = refl
+out_of out Memory = refl
+out_of out (Unwritten file) = tt {0}
+out_of out Unput = tt {0}

@@ -1,0 +1,111 @@
+-- A source is refused for one fault, and then it is no program.
+use Rattle.std.proofs.Common.{◌≡◌, ◌∙◌, refl, ℕ, ◌≤◌, List, [], length, Option, Some, None, Result, Ok, Err, subst, sym, ap}
+use Rattle.gib_base.specs.Lexed.{Lexed, IsLexed}
+use Rattle.gib_base.specs.declared.token.Token.{Token}
+use Rattle.gib_lex.specs.declared.fault.LexFault.{LexFault}
+use Rattle.gib_lex.specs.declared.fault.LexFault.TheVariants as lexing
+use Rattle.gib_lex.specs.Refused.{IsRefused}
+use Rattle.gib_parse.specs.Answers.{place_of, read_of}
+use Rattle.gib_parse.specs.Reading.{Fault as ReadFault, At, Nested as TooDeep, whole}
+use Rattle.gib_check.specs.declared.fault.Fault.{Fault}
+use Rattle.gib_check.specs.FirstFault.{first_fault}
+use Rattle.gib_syntax.specs.Tree.{ProgramTree}
+use Rattle.gib_syntax.specs.Spelling.{Places, Derives, IsPlacedProgram, places_of, levels_program}
+use Rattle.gib_syntax.specs.Source.{Spells}
+use Rattle.gib_syntax.specs.Typing.{IsTypedProgram}
+use Rattle.gib_app.specs.declared.source_fault.SourceFault.{SourceFault}
+use Rattle.gib_app.specs.declared.source_fault.SourceFault.TheVariants.{Long, BadCharacter, BigNumber, ManyNames, Syntax, Nested, Broken}
+use Rattle.gib_app.specs.Running.{IsProgram, IsNoProgram}
+use Rattle.gib_app.specs.SourceFaults.{IsSourceFault, HasTokens}
+
+pub record Laws : Type 0 where
+  pub nothing : (bytes : List ℕ) (fault : LexFault) (l : Lexed) → IsRefused bytes fault → IsLexed bytes l → length bytes ≤ 1048576 → length l.names ≤ 65535 → ⊥
+  pub one : (bytes : List ℕ) (f g : LexFault) → IsRefused bytes f → IsRefused bytes g → f ≡ g
+  pub lexed : (bytes : List ℕ) (l m : Lexed) → IsLexed bytes l → IsLexed bytes m → l ≡ m
+  pub text : (text : List ℕ) (l m : Lexed) (p q : ProgramTree) → Spells text l p → Spells text m q → (l ≡ m) × (p ≡ q)
+  pub read : (at : Places) (tokens : List Token) (p : ProgramTree) → Derives tokens p → IsPlacedProgram at p → levels_program p ≤ 200 → whole at tokens ≡ Ok (p, [])
+  pub typed : (p : ProgramTree) → IsTypedProgram p → first_fault p ≡ None
+
+-- the fault of a source by that of its lexing, of its tokens, of its program
+
+abbrev of_lexing : LexFault → SourceFault
+of_lexing lexing.Memory = Long
+of_lexing lexing.Long = Long
+of_lexing (lexing.At place) = BadCharacter place
+of_lexing (lexing.Big place) = BigNumber place
+of_lexing lexing.Many = ManyNames
+
+abbrev of_reading : Lexed → ReadFault → SourceFault
+of_reading l (At left) = Syntax (place_of l left)
+of_reading l (TooDeep left) = Nested (place_of l left)
+
+abbrev of_typing : Fault → SourceFault
+of_typing fault = Broken fault.kind fault.span.start
+
+data Stage (source : List ℕ) (f : SourceFault) : Type 0 where
+  Lexing : (fault : LexFault) → IsRefused source fault → f ≡ of_lexing fault → Stage source f
+  Reading : (l : Lexed) (fault : ReadFault) → HasTokens source l → read_of l ≡ Err fault → f ≡ of_reading l fault → Stage source f
+  Typing : (l : Lexed) (p : ProgramTree) (fault : Fault) → Spells source l p → first_fault p ≡ Some fault → f ≡ of_typing fault → Stage source f
+
+stage : (source : List ℕ) (f : SourceFault) → IsSourceFault source f → Stage source f
+stage source Long h = Lexing lexing.Long h refl
+stage source (BadCharacter place) h = Lexing (lexing.At place) h refl
+stage source (BigNumber place) h = Lexing (lexing.Big place) h refl
+stage source ManyNames h = Lexing lexing.Many h refl
+stage source (Syntax place) h = Reading h.lexed (At h.refused.left) h.tokens h.refused.read (ap Syntax h.refused.here)
+stage source (Nested place) h = Reading h.lexed (TooDeep h.nested.left) h.tokens h.nested.read (ap Nested h.nested.here)
+stage source (Broken kind place) h =
+    Typing h.lexed h.program h.fault h.spelled h.first (ap (λ k. Broken k place) (sym h.of_kind) ∙ ap (Broken h.fault.kind) (sym h.here))
+
+-- a text that is refused by its tokens is no program's
+
+not_read : Laws → (source : List ℕ) (l m : Lexed) (fault : ReadFault) (p : ProgramTree) → HasTokens source l → read_of l ≡ Err fault → Spells source m p → ⊥
+not_read laws source l m fault p tokens e spells =
+    let same = laws.lexed source m l spells.is_lexed tokens.is_lexed in
+    let R : Lexed → Type 0 = λ x. read_of x ≡ Ok (p, []) in
+    let ok = subst R same (laws.read (places_of m.spans) m.tokens p spells.derived spells.placed spells.shallow) in
+    let both = sym e ∙ ok in cc
+
+not_lexed : Laws → (source : List ℕ) (fault : LexFault) (m : Lexed) (p : ProgramTree) → IsRefused source fault → Spells source m p → ⊥
+not_lexed laws source fault m p h spells = laws.nothing source fault m h spells.is_lexed spells.short spells.few_names
+
+not_tokens : Laws → (source : List ℕ) (fault : LexFault) (m : Lexed) → IsRefused source fault → HasTokens source m → ⊥
+not_tokens laws source fault m h tokens = laws.nothing source fault m h tokens.is_lexed tokens.short tokens.few_names
+
+read_fault : (l m : Lexed) (f g : ReadFault) → l ≡ m → read_of l ≡ Err f → read_of m ≡ Err g → of_reading l f ≡ of_reading m g
+read_fault l m f g e a b =
+    let R : Lexed → Type 0 = λ x. read_of x ≡ Err f in
+    let both = sym (subst R e a) ∙ b in
+    let same : f ≡ g = cc in
+    ap (λ x. of_reading x f) e ∙ ap (of_reading m) same
+
+type_fault : (p q : ProgramTree) (f g : Fault) → p ≡ q → first_fault p ≡ Some f → first_fault q ≡ Some g → of_typing f ≡ of_typing g
+type_fault p q f g e a b =
+    let T : ProgramTree → Type 0 = λ x. first_fault x ≡ Some f in
+    let both = sym (subst T e a) ∙ b in
+    let same : f ≡ g = cc in
+    ap of_typing same
+
+one_stage : Laws → (source : List ℕ) (f g : SourceFault) → Stage source f → Stage source g → f ≡ g
+one_stage laws source f g (Lexing a ra ea) (Lexing b rb eb) = ea ∙ ap of_lexing (laws.one source a b ra rb) ∙ sym eb
+one_stage laws source f g (Lexing a ra ea) (Reading m b tokens rb eb) = absurd (not_tokens laws source a m ra tokens)
+one_stage laws source f g (Lexing a ra ea) (Typing m q b spells rb eb) = absurd (not_lexed laws source a m q ra spells)
+one_stage laws source f g (Reading l a tokens ra ea) (Lexing b rb eb) = absurd (not_tokens laws source b l rb tokens)
+one_stage laws source f g (Reading l a tokens ra ea) (Reading m b others rb eb) = ea ∙ read_fault l m a b (laws.lexed source l m tokens.is_lexed others.is_lexed) ra rb ∙ sym eb
+one_stage laws source f g (Reading l a tokens ra ea) (Typing m q b spells rb eb) = absurd (not_read laws source l m a q tokens ra spells)
+one_stage laws source f g (Typing l p a spells ra ea) (Lexing b rb eb) = absurd (not_lexed laws source b l p rb spells)
+one_stage laws source f g (Typing l p a spells ra ea) (Reading m b tokens rb eb) = absurd (not_read laws source m l b p tokens rb spells)
+one_stage laws source f g (Typing l p a spells ra ea) (Typing m q b others rb eb) = ea ∙ type_fault p q a b ((laws.text source l m p q spells others).1) ra rb ∙ sym eb
+
+pub one_fault : Laws → (source : List ℕ) (f g : SourceFault) → IsSourceFault source f → IsSourceFault source g → f ≡ g
+one_fault laws source f g h k = one_stage laws source f g (stage source f h) (stage source g k)
+
+no_stage : Laws → (source : List ℕ) (f : SourceFault) → Stage source f → IsNoProgram source
+no_stage laws source f (Lexing a ra ea) m q prog = not_lexed laws source a m q ra prog.spelled
+no_stage laws source f (Reading l a tokens ra ea) m q prog = not_read laws source l m a q tokens ra prog.spelled
+no_stage laws source f (Typing l p a spells ra ea) m q prog =
+    let T : ProgramTree → Type 0 = λ x. first_fault x ≡ Some a in
+    let both = sym (subst T ((laws.text source l m p q spells prog.spelled).1) ra) ∙ laws.typed q prog.typed in cc
+
+pub no_program : Laws → (source : List ℕ) (f : SourceFault) → IsSourceFault source f → IsNoProgram source
+no_program laws source f h = no_stage laws source f (stage source f h)

@@ -1,0 +1,53 @@
+-- Why a source is no program. Places count its bytes from 0.
+use Rattle.std.specs.Prelude.{◌≡◌, ◌≤◌, ℕ, List, length, Some}
+use Rattle.gib_base.specs.Lexed.{Lexed, IsLexed}
+use Rattle.gib_syntax.specs.Tree.{ProgramTree}
+use Rattle.gib_syntax.specs.Source.{Spells}
+use Rattle.gib_lex.specs.declared.fault.LexFault.TheVariants as lexing
+use Rattle.gib_lex.specs.Refused.{IsRefused}
+use Rattle.gib_parse.specs.Answers.{IsRefusedAt, IsNestedAt}
+use Rattle.gib_check.specs.declared.fault.Fault.{Fault}
+use Rattle.gib_check.specs.declared.fault.Kind.{Kind}
+use Rattle.gib_check.specs.FirstFault.{first_fault}
+use Rattle.gib_app.specs.declared.source_fault.SourceFault.{SourceFault}
+use Rattle.gib_app.specs.declared.source_fault.SourceFault.TheVariants.{Long, BadCharacter, BigNumber, ManyNames, Syntax, Nested, Broken}
+
+-- What lexing makes of the source, which is within the limits on bytes and names.
+pub record HasTokens (source : List ℕ) (lexed : Lexed) : Type 0 where
+  pub is_lexed : IsLexed source lexed
+  pub short : length source ≤ 1048576
+  pub few_names : length lexed.names ≤ 65535
+
+-- A token that may not stand at the place is the first fault of the source's tokens.
+pub record IsBadSyntax (source : List ℕ) (place : ℕ) : Type 0 where
+  pub lexed : Lexed
+  pub tokens : HasTokens source lexed
+  pub refused : IsRefusedAt lexed place
+
+-- An expression at the place, nested too deep, is the first fault of the source's tokens.
+pub record IsTooDeep (source : List ℕ) (place : ℕ) : Type 0 where
+  pub lexed : Lexed
+  pub tokens : HasTokens source lexed
+  pub nested : IsNestedAt lexed place
+
+-- The source spells a program, and the first rule of typing that it breaks is of this kind; what breaks it
+-- begins at the place.
+pub record IsBroken (source : List ℕ) (kind : Kind) (place : ℕ) : Type 0 where
+  pub lexed : Lexed
+  pub program : ProgramTree
+  pub spelled : Spells source lexed program
+  pub fault : Fault
+  pub first : first_fault program ≡ Some fault
+  pub of_kind : fault.kind ≡ kind
+  pub here : fault.span.start ≡ place
+
+-- The source is refused for this fault: it has too many bytes; or the first fault of lexing, else of its
+-- tokens by the grammar, else of its program by the rules of typing.
+abbrev pub IsSourceFault : List ℕ → SourceFault → Type 0
+IsSourceFault source Long = IsRefused source lexing.Long
+IsSourceFault source (BadCharacter place) = IsRefused source (lexing.At place)
+IsSourceFault source (BigNumber place) = IsRefused source (lexing.Big place)
+IsSourceFault source ManyNames = IsRefused source lexing.Many
+IsSourceFault source (Syntax place) = IsBadSyntax source place
+IsSourceFault source (Nested place) = IsTooDeep source place
+IsSourceFault source (Broken kind place) = IsBroken source kind place
