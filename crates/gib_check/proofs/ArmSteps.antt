@@ -1,11 +1,9 @@
 -- The places of arms, by their constructors.
-use Rattle.std.proofs.Common.{◌≡◌, ℕ, suc, ◌+◌, ◌-◌, ◌<◌, ◌≤◌, Bool, true, false, cond, eqb, ltb, List, [], ◌∷◌, map, length, get_or, take, drop, Option, Some, None, refl, sym, ap, ◌∙◌, subst, arith}
-use Rattle.std.proofs.lemmas.Bool.{eqb-true, eqb-false, eq-eqb, ne_eqb, ltb-true}
+use Rattle.std.proofs.Common.{◌≡◌, ℕ, ◌-◌, ◌<◌, ◌≤◌, List, map, Option, None}
 use Rattle.gib_types.specs.Table.{Table}
 use Rattle.gib_syntax.specs.declared.exprs.Arm.{Arm}
-use Rattle.gib_syntax.specs.Declarations.{next_place, constructor_named}
 use Rattle.gib_check.specs.Entries.{entry_at, first_of}
-use Rattle.gib_check.specs.ArmPlaces.{is_number, place_named, arm_name}
+use Rattle.gib_check.specs.ArmPlaces.{place_named, arm_name}
 use Rattle.gib_check.proofs.Places.{further}
 
 -- No arm that was passed has a constructor below this one.

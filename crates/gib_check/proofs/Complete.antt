@@ -101,7 +101,7 @@ there_ok : (ty c : ℕ) (row : Row) (o : Option ℕ) (b : Bool) → eqb row.owne
 there_ok ty c row o false e h = refl
 there_ok ty c row o true e h = ap (λ (z : Option ℕ). is_some z) (h refl).1
 
-covers_ok : (table : Table) (ty : ℕ) (names : List ℕ) → Covers table ty names → covers table ty names ≡ true
+pub covers_ok : (table : Table) (ty : ℕ) (names : List ℕ) → Covers table ty names → covers table ty names ≡ true
 covers_ok table ty names h =
     both _ _ (own_ok table ty names h.own)
     (both _ _ (different_ok names h.once)

@@ -1,17 +1,15 @@
 -- The type that an expression has comes from where it is said to come from.
-use Rattle.std.proofs.Common.{◌≡◌, ℕ, Bool, true, false, cond, eqb, List, [], ◌∷◌, Option, Some, None, refl, sym, ap, ◌∙◌, subst}
+use Rattle.std.proofs.Common.{◌≡◌, Bool, true, false, cond, eqb, List, [], ◌∷◌, Option, Some, None, refl, sym, ap, ◌∙◌, subst}
 use Rattle.std.proofs.lemmas.Bool.{eqb-true}
 use Rattle.gib_types.specs.declared.table.Ty.{Ty}
-use Rattle.gib_types.specs.declared.table.Ty.TheVariants.{Tree}
-use Rattle.gib_types.specs.Table.{Table, fields_at, owner_at}
-use Rattle.gib_base.specs.declared.name.Name.{Name}
+use Rattle.gib_types.specs.Table.{Table, fields_at}
 use Rattle.gib_syntax.specs.declared.tree.Ident.{Ident}
 use Rattle.gib_syntax.specs.Tree.{Expression, Arms, Var, Num, Bit, Paren, Op, Call, Make, Let, Par, If, Case, LastArm, NextArm, FunctionTree}
-use Rattle.gib_syntax.specs.Declarations.{number_of, constructor_named, function_named}
+use Rattle.gib_syntax.specs.Declarations.{number_of, function_named}
 use Rattle.gib_syntax.specs.Typing.{Globals, Scope, type_in, IsNew, bound, BindsAll, result_type, Has, HaveArms}
 use Rattle.gib_check.specs.declared.origin.TypeOrigin.{TypeOrigin}
 use Rattle.gib_check.specs.declared.origin.TypeOrigin.TheVariants.{Fixed, Variable}
-use Rattle.gib_check.specs.Faults.{fields_if, fields_named}
+use Rattle.gib_check.specs.Faults.{fields_if}
 use Rattle.gib_check.specs.Origins.{type_from, outside, outside_arm, result_if, made_type, origin, origin_first}
 
 -- Outside of a binding whose variable's type comes from there.

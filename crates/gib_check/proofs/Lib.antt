@@ -7,7 +7,6 @@ pub mod Opening
 pub mod Places
 pub mod Programs
 pub mod Rows
-pub mod Scopes
 pub mod Sound
 pub mod Steps
 pub mod RowRules
@@ -16,5 +15,7 @@ mod Naming
 mod Numbering
 mod Passing
 mod Had
+mod InScope
+mod KindLaws
 mod Knowing
 pub mod Declaring

@@ -1,10 +1,6 @@
 -- Functions by their numbers.
-use Rattle.std.proofs.Common.{◌≡◌, ℕ, zero, suc, ◌<◌, Bool, true, false, cond, eqb, List, [], ◌∷◌, map, length, get_or, Option, Some, None, refl, sym, ap, ◌∙◌, subst, arith, slice_get}
-use Rattle.std.specs.Prelude.{option_map}
+use Rattle.std.proofs.Common.{◌≡◌, ℕ, zero, suc, Bool, true, false, cond, eqb, List, [], ◌∷◌, map, length, Option, Some, None, refl, sym, ap, ◌∙◌, subst, arith, slice_get}
 use Rattle.std.proofs.lemmas.List.{length-map}
-use Rattle.std.proofs.lemmas.Option.{slice_get-map, slice_get_read}
-use Rattle.gib_types.specs.declared.table.Ty.{Ty}
-use Rattle.gib_types.specs.Table.{Table}
 use Rattle.gib_syntax.specs.declared.tree.FunctionDecl.{FunctionDecl}
 use Rattle.gib_syntax.specs.Tree.{Expression, FunctionTree}
 use Rattle.gib_syntax.specs.Arena.{tree_of}

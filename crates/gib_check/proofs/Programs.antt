@@ -18,9 +18,9 @@ use Rattle.gib_check.specs.declared.fault.Kind.TheVariants as kind
 use Rattle.gib_check.specs.declared.fault.TypeFault.{TypeFault}
 use Rattle.gib_check.specs.declared.fault.TypeFault.TheVariants as t
 use Rattle.gib_check.specs.Answers.{IsFaultOf}
-use Rattle.gib_check.specs.Checked.{IsFirst, IsMemory}
+use Rattle.gib_check.specs.Checked.{IsFirst, IsMemory, IsMemoryOr}
 use Rattle.gib_check.specs.Faults.{Checked, and_then, allowed, place}
-use Rattle.gib_check.specs.FirstFault.{new_name, fewer, type_place, no_ninth, few_fields, known, check_constructors, check_datas, check_types, check_constructor_fields, check_fields, check_parameters, nothing_met, check_head, check_heads, with_parameters, check_body, check_bodies, check_declarations, check_program, fault_in}
+use Rattle.gib_check.specs.FirstFault.{new_name, fewer, type_place, no_ninth, few_fields, known, check_constructors, check_datas, check_types, check_constructor_fields, check_fields, check_parameters, nothing_met, check_head, check_heads, with_parameters, check_body, check_bodies, check_declarations, check_program, fault_in, first_fault}
 use Rattle.gib_check.proofs.Different.{different_push, new_of, snoc, none_short, short_none}
 use Rattle.gib_check.proofs.Steps.{Holds, holds_ok, holds_err, then_holds, allowed_holds, found_holds, new_variable_holds, wanted_holds}
 use Rattle.gib_check.proofs.Sound.{infer_sound}
@@ -479,3 +479,12 @@ refused_memory p t.Memory h k = tt
 refused_memory p (t.Broken fault) h k = let both = sym h ∙ typed_program p k in absurd (no_both fault both) where
   no_both : (fault : Fault) → refusal fault ≡ Ok (tt {0}) → ⊥
   no_both fault e = absurd cc
+
+-- Where a rule is broken, a typed program is not answered.
+pub broken_no_answer : (p : ProgramTree) (fault : Fault) → check_program p ≡ Ok (tt {0}) → first_fault p ≡ Some fault → ⊥
+broken_no_answer p fault ok e = let clash : None ≡ Some fault = sym (ap fault_in ok) ∙ e in cc
+
+-- Where a rule is broken, a refusal is for it.
+pub broken_told : (p : ProgramTree) (fault : Fault) (answer : TypeFault) → IsFaultOf answer (check_program p) → first_fault p ≡ Some fault → IsMemoryOr fault answer
+broken_told p fault t.Memory h e = tt
+broken_told p fault (t.Broken other) h e = let same : Some other ≡ Some fault = sym (ap fault_in h) ∙ e in cc

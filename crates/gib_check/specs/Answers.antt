@@ -1,10 +1,8 @@
 -- What the code answers, beside the definitions.
-use Rattle.std.specs.Prelude.{◌≡◌, ℕ, List, [], ◌∷◌, Result, Ok, Err}
+use Rattle.std.specs.Prelude.{◌≡◌, ℕ, Result, Ok, Err}
 use Rattle.gib_base.specs.declared.name.Name.{Name}
-use Rattle.gib_syntax.specs.Typing.{Scope}
 use Rattle.gib_check.specs.declared.fault.TypeFault.{TypeFault}
 use Rattle.gib_check.specs.declared.fault.TypeFault.TheVariants as t
-use Rattle.gib_check.specs.declared.rules.Variable.{Variable}
 use Rattle.gib_check.specs.Faults.{Checked}
 
 -- A refusal is that of the rules, unless memory ran out.
@@ -20,12 +18,3 @@ Gives view (Err e) checked = IsFaultOf e checked
 -- The number of a name.
 abbrev pub number : Name → ℕ
 number n = n.0
-
--- Variables, the oldest first, put before a scope.
-abbrev pub scope_onto : Scope → List Variable → Scope
-scope_onto scope [] = scope
-scope_onto scope (v ∷ vs) = scope_onto ((v.name.0, v.ty) ∷ scope) vs
-
--- The scope of variables, the oldest first.
-abbrev pub scope_of : List Variable → Scope
-scope_of vs = scope_onto [] vs

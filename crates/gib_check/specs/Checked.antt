@@ -6,6 +6,7 @@ use Rattle.gib_syntax.specs.Parts.{Parts, program_of}
 use Rattle.gib_syntax.specs.Typing.{IsTypedProgram, globals_of}
 use Rattle.gib_check.specs.declared.node_facts.NodeFacts.{NodeFacts}
 use Rattle.gib_check.specs.NodeFacts.{AreFacts}
+use Rattle.gib_check.specs.declared.fault.Fault.{Fault}
 use Rattle.gib_check.specs.declared.fault.TypeFault.{TypeFault}
 use Rattle.gib_check.specs.declared.fault.TypeFault.TheVariants as t
 use Rattle.gib_check.specs.FirstFault.{first_fault}
@@ -20,6 +21,11 @@ pub record IsChecked (parts : Parts) (facts : List NodeFacts) : Type 0 where
 abbrev pub IsMemory : TypeFault → Type 0
 IsMemory t.Memory = Unit {0}
 IsMemory (t.Broken fault) = ⊥
+
+-- The refusal is for want of memory, or this one.
+abbrev pub IsMemoryOr : Fault → TypeFault → Type 0
+IsMemoryOr fault t.Memory = Unit {0}
+IsMemoryOr fault (t.Broken other) = other ≡ fault
 
 -- A refusal is for want of memory, or for the first broken rule.
 abbrev pub IsFirst : ProgramTree → TypeFault → Type 0

@@ -52,15 +52,29 @@ place (Case p x arms) = p
 abbrev pub one_more : Counts → Span → Checked Counts
 one_more n at = allowed (nat_lt n.expressions 2000) kind.Limit at (record n { expressions = n.expressions + 1 })
 
--- `Twice`, then `Limit`: one more variable, not in scope yet, where 200 were not met yet.
+-- `Twice`: a name that is not in scope yet.
+abbrev pub unbound : Scope → Ident → Checked (Unit {0})
+unbound scope x = allowed (is_none (type_in scope (number_of x))) kind.Twice x.span (tt {0})
+
+-- `Limit`: one more variable, where 200 were not met yet.
+abbrev pub counted : Counts → Ident → Checked Counts
+counted n x = allowed (nat_lt n.variables 200) kind.Limit x.span (record n { variables = n.variables + 1 })
+
+-- One more variable, new in its scope.
 abbrev pub new_variable : Scope → Counts → Ident → Checked Counts
-new_variable scope n x =
-    and_then (allowed (is_none (type_in scope (number_of x))) kind.Twice x.span (tt {0}))
-    (λ _. allowed (nat_lt n.variables 200) kind.Limit x.span (record n { variables = n.variables + 1 }))
+new_variable scope n x = and_then (unbound scope x) (λ _. counted n x)
 
 -- `Unknown`: the type of a variable.
 abbrev pub variable : Scope → Ident → Checked Ty
 variable scope x = found (type_in scope (number_of x)) kind.Unknown x.span
+
+-- A variable: one more expression, then its type.
+abbrev pub infer_variable : Scope → Counts → Ident → Checked (Ty × Counts)
+infer_variable scope n x = and_then (one_more n x.span) (λ m. and_then (variable scope x) (λ t. Ok (t, m)))
+
+-- A literal of this type.
+abbrev pub infer_literal : Counts → Span → Ty → Checked (Ty × Counts)
+infer_literal n at t = and_then (one_more n at) (λ m. Ok (t, m))
 
 -- `Unknown`: the function of a name.
 abbrev pub function : List FunctionTree → Ident → Checked FunctionTree
@@ -224,9 +238,9 @@ abbrev mutual
   -- The type of an expression and the counts behind it, or the first broken rule: its own limit, then its
   -- own names and counts, then its parts from left to right, then the types of the parts.
   pub infer : Globals → Scope → Counts → Expression → Checked (Ty × Counts)
-  infer g scope n (Var x) = and_then (one_more n x.span) (λ m. and_then (variable scope x) (λ t. Ok (t, m)))
-  infer g scope n (Num p v) = and_then (one_more n p) (λ m. Ok (Whole, m))
-  infer g scope n (Bit p b) = and_then (one_more n p) (λ m. Ok (Truth, m))
+  infer g scope n (Var x) = infer_variable scope n x
+  infer g scope n (Num p v) = infer_literal n p Whole
+  infer g scope n (Bit p b) = infer_literal n p Truth
   infer g scope n (Paren p e) = infer g scope n e
   infer g scope n (Op p f a b) =
       and_then (one_more n p)

@@ -5,6 +5,8 @@ pub mod Entries
 pub mod Faults
 pub mod FirstFault
 pub mod Functions
+pub mod InScope
+pub mod Kinds
 pub mod NodeFacts
 pub mod Origins
 pub mod Views

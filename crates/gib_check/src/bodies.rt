@@ -1,15 +1,18 @@
 //! Bodies of functions.
 
 ghost use Rattle.std.specs.Prelude.{◌≡◌, ◌<◌, length, map, IfOk};
-ghost use Rattle.gib_check.specs.Answers.{Gives, scope_of};
+ghost use Rattle.gib_check.specs.Answers.{Gives};
 ghost use Rattle.gib_check.specs.FirstFault as rule;
 ghost use Rattle.gib_check.specs.Views.{types_in, globals_in, functions_in, tree_in};
 
 use crate::counts::Counts;
 use crate::declared::Declared;
 use crate::fault::TypeFault;
-use crate::rules::{Variable, put, wanted};
-use crate::walk::{State, infer, part};
+use crate::parts::part;
+use crate::rules::wanted;
+use crate::state::State;
+use crate::variables::Variables;
+use crate::walk::infer;
 use gib_base::Memory;
 use gib_syntax::{ExprId, Parameter, TypeName};
 use std::alloc::Global;
@@ -17,14 +20,14 @@ use std::alloc::Global;
 /// Puts parameters into the scope.
 fn push_parameters(
     declared: &Declared,
-    scope: &mut Vec<Variable>,
+    scope: &mut Variables,
     parameters: &[Parameter],
 ) -> Result<(), Memory>
-    ensures { IfOk result (λ _. scope_of scope.new.items ≡ rule.with_parameters (types_in declared.now) parameters.now (scope_of scope.old.items)) }
+    ensures { IfOk result (λ _. scope.new ≡ rule.with_parameters (types_in declared.now) parameters.now scope.old) }
 {
     let mut rest = parameters;
     'parameters: while let [parameter, after @ ..] = rest {
-        put(scope, parameter.name, declared.type_named(parameter.ty))?;
+        scope.push(parameter.name, declared.type_named(parameter.ty))?;
         rest = after;
     }
     Ok(())
@@ -45,7 +48,7 @@ pub fn check_body(
         return Err(TypeFault::Memory);
     };
     let mut state = State {
-        scope: Vec::new(alloc),
+        scope: Variables::new(alloc),
         counts: Counts {
             variables,
             expressions: 0,

@@ -11,7 +11,8 @@ use crate::counts::Counts;
 use crate::datas::{fewer, known, new_name};
 use crate::fault::TypeFault;
 use crate::names::NameList;
-use crate::rules::{new_variable, put};
+use crate::rules::new_variable;
+use crate::variables::Variables;
 use gib_base::Memory;
 use gib_base::limits::FUNCTIONS;
 use gib_syntax::{FunctionDecl, Parameter, TypeName};
@@ -29,12 +30,12 @@ fn check_parameters(
         variables: 0,
         expressions: 0,
     };
-    let mut scope = Vec::new(alloc);
+    let mut scope = Variables::new(alloc);
     let mut rest = parameters;
     'parameters: while let [parameter, after @ ..] = rest {
         new_variable(&scope, &mut counts, parameter.name)?;
         let ty = known(types, parameter.ty)?;
-        put(&mut scope, parameter.name, ty)?;
+        scope.push(parameter.name, ty)?;
         rest = after;
     }
     Ok(())

@@ -1,12 +1,14 @@
 //! The type check: which programs are typed, and else which rule is broken first.
 #![tactic(auto)]
 
-ghost use Rattle.std.specs.Prelude.{◌≡◌, IfOk, IfErr};
+ghost use Rattle.std.specs.Prelude.{◌≡◌, Some, IfOk, IfErr, MatchResult};
 ghost use Rattle.gib_syntax.specs.Parts.{program_of};
 ghost use Rattle.gib_syntax.specs.Typing.{IsTypedProgram};
 ghost use Rattle.gib_types.specs.Table.{IsTable};
 ghost use Rattle.gib_check.specs.Answers.{Gives};
-ghost use Rattle.gib_check.specs.Checked.{IsMemory, IsFirst};
+ghost use Rattle.gib_check.specs.declared.fault.Fault.{Fault};
+ghost use Rattle.gib_check.specs.Checked.{IsMemory, IsMemoryOr, IsFirst};
+ghost use Rattle.gib_check.specs.FirstFault.{first_fault};
 ghost use Rattle.gib_check.specs.FirstFault as rule;
 ghost use Rattle.gib_check.specs.Views.{table_in, types_in};
 
@@ -20,15 +22,19 @@ mod entries;
 pub mod fault;
 pub mod functions;
 mod heads;
+pub mod kinds;
 pub mod laws;
 mod names;
 mod node_facts;
 pub mod origin;
+mod parts;
 mod rules;
+mod state;
 mod tables;
 #[cfg(test)]
 mod tests;
 pub mod typed;
+pub mod variables;
 mod walk;
 
 use bodies::{check_bodies, check_body};
@@ -88,6 +94,8 @@ pub fn check(alloc: Global, program: Program) -> Result<Typed, TypeFault>
     ensures only { IsTypedProgram (program_of program) → IfErr result IsMemory }
     // Each other refusal is the first broken rule.
     ensures exact { IfErr result (IsFirst (program_of program)) }
+    // Where a rule is broken, the first one is answered.
+    ensures told { (fault : Fault) → first_fault (program_of program) ≡ Some fault → MatchResult result (λ _. ⊥) (IsMemoryOr fault) }
 {
     match check_rules(alloc, program) {
         Ok(declared) => match Typed::make(alloc, declared) {

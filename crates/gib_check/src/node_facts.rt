@@ -14,7 +14,7 @@ ghost use Rattle.gib_check.specs.Views.{table_in, tree_in, globals_in};
 use crate::arm_index::{ArmIndex, index_arms};
 use crate::declared::Declared;
 use crate::origin::{TypeOrigin, outside, outside_arm};
-use crate::walk::operator_type;
+use crate::rules::operator_type;
 use gib_base::Memory;
 use gib_syntax::{Arm, ExprId, Node};
 use gib_types::Ty;

@@ -1,23 +1,17 @@
 //! The rules that expressions keep, each by itself.
 
-ghost use Rattle.std.specs.Prelude.{◌≡◌, ◌++◌, ◌∷◌, [], length, IfOk};
-ghost use Rattle.gib_check.specs.Answers.{Gives, scope_of};
-ghost use Rattle.gib_syntax.specs.Typing.{type_in, bound};
+ghost use Rattle.std.specs.Prelude.{◌≡◌};
+ghost use Rattle.gib_syntax.specs.Typing.{operator_type as type_of_operator};
+ghost use Rattle.gib_check.specs.Answers.{Gives};
 ghost use Rattle.gib_check.specs.Faults as rule;
 
 use crate::counts::Counts;
 use crate::fault::{Fault, Kind, TypeFault};
+use crate::variables::Variables;
+use gib_base::Span;
 use gib_base::limits::{EXPRESSIONS, VARIABLES};
-use gib_base::{Memory, Name, Span};
-use gib_syntax::Ident;
+use gib_syntax::{Ident, Operator};
 use gib_types::Ty;
-
-/// A variable in scope, with its type.
-#[derive(Clone, Copy, Debug, PartialEq, Eq)]
-pub struct Variable {
-    pub name: Name,
-    pub ty: Ty,
-}
 
 /// A part of an expression, after its check: its type, and where it stands.
 #[derive(Clone, Copy, Debug, PartialEq, Eq)]
@@ -44,34 +38,21 @@ pub fn one_more(counts: &mut Counts, at: Span) -> Result<(), TypeFault>
     Ok(())
 }
 
-/// The type of the newest variable of a name.
-pub fn find(scope: &[Variable], name: Name) -> Option<Ty>
-    ensures { result ≡ type_in (scope_of scope.now) name.0 }
-{
-    let mut ty = None;
-    for variable in scope {
-        if variable.name.0 == name.0 {
-            ty = Some(variable.ty);
-        }
-    }
-    ty
-}
-
 /// The type of a variable.
-pub fn type_of(scope: &[Variable], x: Ident) -> Result<Ty, TypeFault>
-    ensures { Gives (λ t. t) result (rule.variable (scope_of scope.now) x) }
+pub fn type_of(scope: &Variables, x: Ident) -> Result<Ty, TypeFault>
+    ensures { Gives (λ t. t) result (rule.variable scope.now x) }
 {
-    match find(scope, x.name) {
+    match scope.find(x.name) {
         Some(ty) => Ok(ty),
         None => Err(broken(Kind::Unknown, x.span)),
     }
 }
 
 /// One more variable, which is not in scope yet.
-pub fn new_variable(scope: &[Variable], counts: &mut Counts, x: Ident) -> Result<(), TypeFault>
-    ensures { Gives (λ _. counts.new) result (rule.new_variable (scope_of scope.now) counts.old x) }
+pub fn new_variable(scope: &Variables, counts: &mut Counts, x: Ident) -> Result<(), TypeFault>
+    ensures { Gives (λ _. counts.new) result (rule.new_variable scope.now counts.old x) }
 {
-    if find(scope, x.name).is_some() {
+    if scope.find(x.name).is_some() {
         return Err(broken(Kind::Twice, x.span));
     }
     if counts.variables >= VARIABLES {
@@ -81,13 +62,17 @@ pub fn new_variable(scope: &[Variable], counts: &mut Counts, x: Ident) -> Result
     Ok(())
 }
 
-/// Puts a variable into the scope.
-pub fn put(scope: &mut Vec<Variable>, x: Ident, ty: Ty) -> Result<(), Memory>
-    ensures items { IfOk result (λ _. scope.new.items ≡ scope.old.items ++ record { name = x.name; ty = ty } ∷ []) }
-    ensures scope { IfOk result (λ _. scope_of scope.new.items ≡ bound x ty (scope_of scope.old.items)) }
+/// What an operator gives.
+pub fn operator_type(operator: Operator) -> Ty
+    ensures { result ≡ type_of_operator operator }
 {
-    scope.push(Variable { name: x.name, ty })?;
-    Ok(())
+    match operator {
+        Operator::Add => Ty::Whole,
+        Operator::Subtract => Ty::Whole,
+        Operator::Multiply => Ty::Whole,
+        Operator::Equal => Ty::Truth,
+        Operator::Less => Ty::Truth,
+    }
 }
 
 /// Whether two types are one.

@@ -1,108 +1,26 @@
 //! The check of one expression.
 
-ghost use Rattle.std.specs.Prelude.{◌≡◌, ◌<◌, ◌++◌, ◌∷◌, [], length, map, take, IfOk};
+ghost use Rattle.std.specs.Prelude.{◌≡◌, ◌<◌, length, map, IfOk};
 ghost use Rattle.std.specs.List.{AllByRecursion};
 ghost use Rattle.gib_syntax.specs.Arena.{IsArmBelow, arguments_from};
 ghost use Rattle.gib_syntax.specs.Tree as tree;
-ghost use Rattle.gib_syntax.specs.Typing.{bound, operator_type as type_of_operator};
-ghost use Rattle.gib_check.specs.Answers.{Gives, scope_of};
+ghost use Rattle.gib_check.specs.Answers.{Gives};
 ghost use Rattle.gib_check.specs.Faults as rule;
 ghost use Rattle.gib_check.specs.Views.{table_in, globals_in, tree_in, arm_head, infer_each_arm};
 
 use crate::arms::{all_counted, all_declared, covered};
-use crate::counts::Counts;
 use crate::declared::Declared;
 use crate::fault::TypeFault;
+use crate::parts::part;
 use crate::rules::{
-    Part, Variable, all_of, all_wanted, as_many, declared_type, first_type, new_variable, one_more,
-    put, type_of, wanted,
+    Part, all_of, all_wanted, as_many, declared_type, first_type, one_more, operator_type, type_of,
+    wanted,
 };
+use crate::state::{State, bind, bind_all, literal, variable};
 use gib_base::Span;
 use gib_syntax::{Arm, ExprId, Ident, Node, Operator};
 use gib_types::Ty;
 use std::alloc::Global;
-
-/// What is in scope, and what was met so far of a function.
-#[derive(Drop)]
-pub struct State {
-    pub scope: Vec<Variable>,
-    pub counts: Counts,
-}
-
-/// What an operator gives.
-pub fn operator_type(operator: Operator) -> Ty
-    ensures { result ≡ type_of_operator operator }
-{
-    match operator {
-        Operator::Add => Ty::Whole,
-        Operator::Subtract => Ty::Whole,
-        Operator::Multiply => Ty::Whole,
-        Operator::Equal => Ty::Truth,
-        Operator::Less => Ty::Truth,
-    }
-}
-
-/// Where an expression stands: at its first token, or inside of its parentheses.
-fn place(declared: &Declared, id: ExprId) -> Span
-    requires { id.0 < length declared.now.exprs }
-    ensures { result ≡ rule.place (tree_in declared.now id.0) }
-{
-    match declared.node(id) {
-        Node::Variable(x) => x.span,
-        Node::Whole(span, _) => *span,
-        Node::Truth(span, _) => *span,
-        Node::Paren(_, inner) => place(declared, *inner),
-        Node::Operation { span, .. } => *span,
-        Node::Call(f, _) => f.span,
-        Node::Make(k, _) => k.span,
-        Node::Let { span, .. } => *span,
-        Node::LetPar { span, .. } => *span,
-        Node::If { span, .. } => *span,
-        Node::Case { span, .. } => *span,
-    }
-}
-
-/// A part after its check.
-pub fn part(declared: &Declared, id: ExprId, ty: Ty) -> Part
-    requires { id.0 < length declared.now.exprs }
-    ensures { result ≡ record { ty = ty; place = rule.place (tree_in declared.now id.0) } }
-{
-    Part {
-        ty,
-        place: place(declared, id),
-    }
-}
-
-/// Binds a new variable.
-fn bind(state: &mut State, x: Ident, ty: Ty) -> Result<(), TypeFault>
-    ensures counts { Gives (λ _. state.new.counts) result (rule.new_variable (scope_of state.old.scope.items) state.old.counts x) }
-    ensures scope { IfOk result (λ _. state.new.scope.items ≡ state.old.scope.items ++ record { name = x.name; ty = ty } ∷ []) }
-    ensures inner { IfOk result (λ _. scope_of state.new.scope.items ≡ bound x ty (scope_of state.old.scope.items)) }
-{
-    new_variable(&state.scope, &mut state.counts, x)?;
-    put(&mut state.scope, x, ty)?;
-    Ok(())
-}
-
-/// Binds the variables of an arm.
-fn bind_all(state: &mut State, variables: &[Ident], types: &[Ty]) -> Result<(), TypeFault>
-    ensures read { Gives (λ _. (scope_of state.new.scope.items, state.new.counts)) result (rule.bind_all (scope_of state.old.scope.items) state.old.counts variables.now types.now) }
-    ensures kept { IfOk result (λ _. take (length state.old.scope.items) state.new.scope.items ≡ state.old.scope.items) }
-{
-    let mut names = variables;
-    let mut fields = types;
-    'variables: while let [name, names_after @ ..] = names {
-        match fields {
-            [] => return Ok(()),
-            [ty, fields_after @ ..] => {
-                bind(state, *name, *ty)?;
-                names = names_after;
-                fields = fields_after;
-            }
-        }
-    }
-    Ok(())
-}
 
 /// The type of an expression.
 #[cycle(infer)]
@@ -113,22 +31,13 @@ pub fn infer(
     id: ExprId,
 ) -> Result<Ty, TypeFault>
     requires { id.0 < length declared.now.exprs }
-    ensures read { Gives (λ t. (t, state.new.counts)) result (rule.infer (globals_in declared.now) (scope_of state.old.scope.items) state.old.counts (tree_in declared.now id.0)) }
-    ensures kept { IfOk result (λ _. state.new.scope.items ≡ state.old.scope.items) }
+    ensures read { Gives (λ t. (t, state.new.counts)) result (rule.infer (globals_in declared.now) state.old.scope state.old.counts (tree_in declared.now id.0)) }
+    ensures kept { IfOk result (λ _. state.new.scope ≡ state.old.scope) }
 {
     match declared.node(id) {
-        Node::Variable(x) => {
-            one_more(&mut state.counts, x.span)?;
-            type_of(&state.scope, *x)
-        }
-        Node::Whole(span, _) => {
-            one_more(&mut state.counts, *span)?;
-            Ok(Ty::Whole)
-        }
-        Node::Truth(span, _) => {
-            one_more(&mut state.counts, *span)?;
-            Ok(Ty::Truth)
-        }
+        Node::Variable(x) => variable(state, *x),
+        Node::Whole(span, _) => literal(state, *span, Ty::Whole),
+        Node::Truth(span, _) => literal(state, *span, Ty::Truth),
         Node::Paren(_, inner) => infer(alloc, declared, state, *inner),
         Node::Operation {
             span,
@@ -194,8 +103,8 @@ fn operation(
     requires inside { id.0 < length declared.now.exprs }
     requires left { left.0 < id.0 }
     requires right { right.0 < id.0 }
-    ensures read { Gives (λ t. (t, state.new.counts)) result (rule.infer (globals_in declared.now) (scope_of state.old.scope.items) state.old.counts (tree.Op span operator (tree_in declared.now left.0) (tree_in declared.now right.0))) }
-    ensures kept { IfOk result (λ _. state.new.scope.items ≡ state.old.scope.items) }
+    ensures read { Gives (λ t. (t, state.new.counts)) result (rule.infer (globals_in declared.now) state.old.scope state.old.counts (tree.Op span operator (tree_in declared.now left.0) (tree_in declared.now right.0))) }
+    ensures kept { IfOk result (λ _. state.new.scope ≡ state.old.scope) }
 {
     one_more(&mut state.counts, span)?;
     let left_ty = infer(alloc, declared, state, left)?;
@@ -216,8 +125,8 @@ fn arguments(
 ) -> Result<Vec<Part>, TypeFault>
     requires inside { id.0 < length declared.now.exprs }
     requires below { AllByRecursion (λ a. a.0 < id.0) ids.now }
-    ensures read { Gives (λ parts. (parts.items, state.new.counts)) result (rule.infer_all (globals_in declared.now) (scope_of state.old.scope.items) state.old.counts (arguments_from (tree_in declared.now) ids.now)) }
-    ensures kept { IfOk result (λ _. state.new.scope.items ≡ state.old.scope.items) }
+    ensures read { Gives (λ parts. (parts.items, state.new.counts)) result (rule.infer_all (globals_in declared.now) state.old.scope state.old.counts (arguments_from (tree_in declared.now) ids.now)) }
+    ensures kept { IfOk result (λ _. state.new.scope ≡ state.old.scope) }
 {
     let mut parts = Vec::new(alloc);
     let mut rest = ids;
@@ -241,8 +150,8 @@ fn call(
 ) -> Result<Ty, TypeFault>
     requires inside { id.0 < length declared.now.exprs }
     requires below { AllByRecursion (λ a. a.0 < id.0) ids.now }
-    ensures read { Gives (λ t. (t, state.new.counts)) result (rule.infer_call (globals_in declared.now) state.old.counts f (length ids.now) (λ n. rule.infer_all (globals_in declared.now) (scope_of state.old.scope.items) n (arguments_from (tree_in declared.now) ids.now))) }
-    ensures kept { IfOk result (λ _. state.new.scope.items ≡ state.old.scope.items) }
+    ensures read { Gives (λ t. (t, state.new.counts)) result (rule.infer_call (globals_in declared.now) state.old.counts f (length ids.now) (λ n. rule.infer_all (globals_in declared.now) state.old.scope n (arguments_from (tree_in declared.now) ids.now))) }
+    ensures kept { IfOk result (λ _. state.new.scope ≡ state.old.scope) }
 {
     one_more(&mut state.counts, f.span)?;
     let function = declared.function(f)?;
@@ -265,8 +174,8 @@ fn make(
 ) -> Result<Ty, TypeFault>
     requires inside { id.0 < length declared.now.exprs }
     requires below { AllByRecursion (λ a. a.0 < id.0) ids.now }
-    ensures read { Gives (λ t. (t, state.new.counts)) result (rule.infer_make (table_in declared.now) state.old.counts k (length ids.now) (λ n. rule.infer_all (globals_in declared.now) (scope_of state.old.scope.items) n (arguments_from (tree_in declared.now) ids.now))) }
-    ensures kept { IfOk result (λ _. state.new.scope.items ≡ state.old.scope.items) }
+    ensures read { Gives (λ t. (t, state.new.counts)) result (rule.infer_make (table_in declared.now) state.old.counts k (length ids.now) (λ n. rule.infer_all (globals_in declared.now) state.old.scope n (arguments_from (tree_in declared.now) ids.now))) }
+    ensures kept { IfOk result (λ _. state.new.scope ≡ state.old.scope) }
 {
     one_more(&mut state.counts, k.span)?;
     let con = declared.constructor(k)?;
@@ -291,8 +200,8 @@ fn let_in(
     requires inside { id.0 < length declared.now.exprs }
     requires value { value.0 < id.0 }
     requires body { body.0 < id.0 }
-    ensures read { Gives (λ t. (t, state.new.counts)) result (rule.infer (globals_in declared.now) (scope_of state.old.scope.items) state.old.counts (tree.Let span name (tree_in declared.now value.0) (tree_in declared.now body.0))) }
-    ensures kept { IfOk result (λ _. state.new.scope.items ≡ state.old.scope.items) }
+    ensures read { Gives (λ t. (t, state.new.counts)) result (rule.infer (globals_in declared.now) state.old.scope state.old.counts (tree.Let span name (tree_in declared.now value.0) (tree_in declared.now body.0))) }
+    ensures kept { IfOk result (λ _. state.new.scope ≡ state.old.scope) }
 {
     one_more(&mut state.counts, span)?;
     let value_ty = infer(alloc, declared, state, value)?;
@@ -321,8 +230,8 @@ fn let_par(
     requires left { left.0 < id.0 }
     requires right { right.0 < id.0 }
     requires body { body.0 < id.0 }
-    ensures read { Gives (λ t. (t, state.new.counts)) result (rule.infer (globals_in declared.now) (scope_of state.old.scope.items) state.old.counts (tree.Par span left_name (tree_in declared.now left.0) right_name (tree_in declared.now right.0) (tree_in declared.now body.0))) }
-    ensures kept { IfOk result (λ _. state.new.scope.items ≡ state.old.scope.items) }
+    ensures read { Gives (λ t. (t, state.new.counts)) result (rule.infer (globals_in declared.now) state.old.scope state.old.counts (tree.Par span left_name (tree_in declared.now left.0) right_name (tree_in declared.now right.0) (tree_in declared.now body.0))) }
+    ensures kept { IfOk result (λ _. state.new.scope ≡ state.old.scope) }
 {
     one_more(&mut state.counts, span)?;
     let left_ty = infer(alloc, declared, state, left)?;
@@ -351,8 +260,8 @@ fn if_else(
     requires condition { condition.0 < id.0 }
     requires then_part { then_part.0 < id.0 }
     requires else_part { else_part.0 < id.0 }
-    ensures read { Gives (λ t. (t, state.new.counts)) result (rule.infer (globals_in declared.now) (scope_of state.old.scope.items) state.old.counts (tree.If span (tree_in declared.now condition.0) (tree_in declared.now then_part.0) (tree_in declared.now else_part.0))) }
-    ensures kept { IfOk result (λ _. state.new.scope.items ≡ state.old.scope.items) }
+    ensures read { Gives (λ t. (t, state.new.counts)) result (rule.infer (globals_in declared.now) state.old.scope state.old.counts (tree.If span (tree_in declared.now condition.0) (tree_in declared.now then_part.0) (tree_in declared.now else_part.0))) }
+    ensures kept { IfOk result (λ _. state.new.scope ≡ state.old.scope) }
 {
     one_more(&mut state.counts, span)?;
     let condition_ty = infer(alloc, declared, state, condition)?;
@@ -374,8 +283,8 @@ fn arm_result(
 ) -> Result<Ty, TypeFault>
     requires inside { id.0 < length declared.now.exprs }
     requires below { arm.now.body.0 < id.0 }
-    ensures read { Gives (λ t. (t, state.new.counts)) result (rule.infer_arm (table_in declared.now) (scope_of state.old.scope.items) state.old.counts arm.now.constructor arm.now.variables.items (λ inner n. rule.infer (globals_in declared.now) inner n (tree_in declared.now arm.now.body.0))) }
-    ensures kept { IfOk result (λ _. state.new.scope.items ≡ state.old.scope.items) }
+    ensures read { Gives (λ t. (t, state.new.counts)) result (rule.infer_arm (table_in declared.now) state.old.scope state.old.counts arm.now.constructor arm.now.variables.items (λ inner n. rule.infer (globals_in declared.now) inner n (tree_in declared.now arm.now.body.0))) }
+    ensures kept { IfOk result (λ _. state.new.scope ≡ state.old.scope) }
 {
     let len = state.scope.len();
     bind_all(
@@ -399,8 +308,8 @@ fn arm_results(
 ) -> Result<Vec<Part>, TypeFault>
     requires inside { id.0 < length declared.now.exprs }
     requires below { AllByRecursion (IsArmBelow id.0) arms.now }
-    ensures read { Gives (λ parts. (parts.items, state.new.counts)) result (infer_each_arm (globals_in declared.now) (tree_in declared.now) (scope_of state.old.scope.items) state.old.counts arms.now) }
-    ensures kept { IfOk result (λ _. state.new.scope.items ≡ state.old.scope.items) }
+    ensures read { Gives (λ parts. (parts.items, state.new.counts)) result (infer_each_arm (globals_in declared.now) (tree_in declared.now) state.old.scope state.old.counts arms.now) }
+    ensures kept { IfOk result (λ _. state.new.scope ≡ state.old.scope) }
 {
     let mut parts = Vec::new(alloc);
     let mut rest = arms;
@@ -425,8 +334,8 @@ fn case(
 ) -> Result<Ty, TypeFault>
     requires inside { id.0 < length declared.now.exprs }
     requires below { AllByRecursion (IsArmBelow id.0) arms.now }
-    ensures read { Gives (λ t. (t, state.new.counts)) result (rule.infer_case (table_in declared.now) (scope_of state.old.scope.items) state.old.counts span variable (map arm_head arms.now) (λ n. infer_each_arm (globals_in declared.now) (tree_in declared.now) (scope_of state.old.scope.items) n arms.now)) }
-    ensures kept { IfOk result (λ _. state.new.scope.items ≡ state.old.scope.items) }
+    ensures read { Gives (λ t. (t, state.new.counts)) result (rule.infer_case (table_in declared.now) state.old.scope state.old.counts span variable (map arm_head arms.now) (λ n. infer_each_arm (globals_in declared.now) (tree_in declared.now) state.old.scope n arms.now)) }
+    ensures kept { IfOk result (λ _. state.new.scope ≡ state.old.scope) }
 {
     one_more(&mut state.counts, span)?;
     let ty = type_of(&state.scope, variable)?;

@@ -1,7 +1,7 @@
 use Rattle.std.proofs.Common.{sym, subst}
 use Rattle.gib_syntax.specs.Parts.{Parts, program_of}
 use Rattle.gib_syntax.specs.Typing.{IsTypedProgram}
-use Rattle.gib_check.proofs.Programs.{program_typed, refused_memory}
+use Rattle.gib_check.proofs.Programs.{program_typed, refused_memory, broken_no_answer, broken_told}
 use Rattle.gib_check.proofs.check.Goals as goal
 
 pub make-requires : goal.make-requires
@@ -12,3 +12,9 @@ returns-in-Ok-make-clause-typed c = program_typed (program_of c.args.program) c.
 
 pub returns-in-Err-clause-only : goal.returns-in-Err-clause-only
 returns-in-Err-clause-only c = refused_memory (program_of c.args.program) c.in-Err.fault c.in-Err.ensures.read
+
+pub returns-in-Ok-make-clause-told : goal.returns-in-Ok-make-clause-told
+returns-in-Ok-make-clause-told c = λ fault e. broken_no_answer (program_of c.args.program) fault c.in-Ok.ensures.read e
+
+pub returns-in-Err-clause-told : goal.returns-in-Err-clause-told
+returns-in-Err-clause-told c = λ fault e. broken_told (program_of c.args.program) fault c.in-Err.fault c.in-Err.ensures.read e

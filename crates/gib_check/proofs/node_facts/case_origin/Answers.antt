@@ -1,7 +1,6 @@
-use Rattle.std.proofs.Common.{ap, ◌∙◌, sym}
-use Rattle.gib_check.specs.Faults.{fields_named}
+use Rattle.std.proofs.Common.{◌∙◌, sym}
 use Rattle.gib_check.specs.Origins.{outside_arm}
-use Rattle.gib_check.specs.Views.{table_in, tree_in, globals_in}
+use Rattle.gib_check.specs.Views.{tree_in, globals_in}
 use Rattle.gib_check.proofs.Knowing.{case_origin_is}
 use Rattle.gib_check.proofs.node_facts.case_origin.Goals as goal
 

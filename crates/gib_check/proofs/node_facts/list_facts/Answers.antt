@@ -1,5 +1,4 @@
 use Rattle.std.proofs.Common.{rules, arith, ap, ◌∙◌, sym}
-use Rattle.std.proofs.lemmas.List.{length-append}
 use Rattle.gib_check.specs.Origins.{origin}
 use Rattle.gib_check.specs.ArmPlaces.{place_named, case_names}
 use Rattle.gib_check.specs.Views.{table_in, tree_in, globals_in}

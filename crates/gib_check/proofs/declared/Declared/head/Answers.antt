@@ -1,7 +1,7 @@
-use Rattle.std.proofs.Common.{ap, ◌∙◌, map, length, slice_get, Some, arith, sym}
+use Rattle.std.proofs.Common.{ap, ◌∙◌, map, sym}
 use Rattle.std.proofs.lemmas.Option.{slice_get_read}
 use Rattle.gib_syntax.specs.Parts.{Parts}
-use Rattle.gib_check.specs.Functions.{head_of, head_in}
+use Rattle.gib_check.specs.Functions.{head_in}
 use Rattle.gib_check.specs.Views.{types_in}
 use Rattle.gib_check.proofs.Numbering.{head_is, heads_long}
 use Rattle.gib_check.proofs.declared.Declared.head.Goals as goal

@@ -1,5 +1,5 @@
 use Rattle.gib_check.proofs.Loops.{binds_next}
-use Rattle.gib_check.proofs.walk.bind_all.Goals as goal
+use Rattle.gib_check.proofs.state.bind_all.Goals as goal
 
 pub variables-preserved : goal.variables-preserved
 variables-preserved c =

@@ -1,6 +1,6 @@
 use Rattle.std.proofs.Common.{length}
 use Rattle.gib_check.proofs.Loops.{BindsSoFar}
-use Rattle.gib_check.proofs.walk.bind_all.Given as goal
+use Rattle.gib_check.proofs.state.bind_all.Given as goal
 
 abbrev pub invariant-variables : goal.invariant-variables
 invariant-variables l = BindsSoFar l.fn.state l.state l.variables l.names l.types l.fields

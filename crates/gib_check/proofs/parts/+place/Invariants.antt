@@ -1,4 +1,4 @@
-use Rattle.gib_check.proofs.walk.+place.Given as goal
+use Rattle.gib_check.proofs.parts.+place.Given as goal
 
 abbrev pub decreases-place : goal.decreases-place
 decreases-place l = l.id.0

@@ -1,0 +1,98 @@
+//! The variables in scope, with their types.
+
+ghost use Rattle.std.specs.Prelude.{◌≡◌, ◌≤◌, ◌-◌, [], length, drop, OnOk};
+ghost use Rattle.gib_syntax.specs.Typing.{type_in, bound};
+
+use crate::entries::{entry, make_room, set_entry};
+use gib_base::{Memory, Name};
+use gib_syntax::Ident;
+use gib_types::Ty;
+use std::alloc::Global;
+use std::marker::Model;
+
+/// A variable, with the type that its name had before.
+#[derive(Clone, Copy, Debug, PartialEq, Eq)]
+pub struct Variable {
+    pub name: Name,
+    pub ty: Ty,
+    pub hidden: Option<Ty>,
+}
+
+/// Variables with their types, the oldest first. The newest of a name is found without a search.
+#[derive(Drop)]
+pub struct Variables {
+    variables: Vec<Variable>,
+    /// The type of the newest variable of each name, at the name's number.
+    types: Vec<Option<Ty>>,
+}
+
+impl Model for Variables {
+    ghost use Rattle.std.specs.Prelude.{ℕ, List};
+    ghost use Rattle.gib_types.specs.declared.table.Ty.{Ty};
+    ghost use Rattle.gib_check.specs.InScope.{scope_of, IsScope};
+
+    ghost Value = { List (ℕ × Ty) };
+
+    ghost view = { λ s. scope_of s.variables.items };
+
+    ghost invariant = { λ s. IsScope s.variables.items s.types.items };
+}
+
+impl Variables {
+    /// No variables.
+    pub fn new(alloc: Global) -> Variables
+        ensures { result ≡ [] }
+    {
+        Variables {
+            variables: Vec::new(alloc),
+            types: Vec::new(alloc),
+        }
+    }
+
+    /// How many variables there are.
+    pub fn len(&self) -> usize
+        ensures { result ≡ length self.now }
+    {
+        self.variables.len()
+    }
+
+    /// The type of the newest variable of a name.
+    pub fn find(&self, name: Name) -> Option<Ty>
+        ensures { result ≡ type_in self.now name.0 }
+    {
+        entry(&self.types, name.0)
+    }
+
+    /// One more variable.
+    pub fn push(&mut self, x: Ident, ty: Ty) -> Result<(), Memory>
+        ensures { OnOk result (self.new ≡ bound x ty self.old) }
+    {
+        make_room(&mut self.types, x.name.0)?;
+        let hidden = entry(&self.types, x.name.0);
+        self.variables.push(Variable {
+            name: x.name,
+            ty,
+            hidden,
+        })?;
+        set_entry(&mut self.types, x.name.0, Some(ty));
+        Ok(())
+    }
+
+    /// Takes the newest variable out.
+    fn pop(&mut self)
+        ensures { self.new ≡ drop 1 self.old }
+    {
+        if let Some(variable) = self.variables.pop() {
+            set_entry(&mut self.types, variable.name.0, variable.hidden);
+        }
+    }
+
+    /// Keeps so many of the oldest variables.
+    pub fn truncate(&mut self, len: usize)
+        ensures { self.new ≡ drop (length self.old - len) self.old }
+    {
+        'variables: while self.len() > len {
+            self.pop();
+        }
+    }
+}
