@@ -59,7 +59,7 @@ impl Mem for PlainMem {
 
     fn look(&mut self, at: u64) -> u8 {
         match self.bytes[at as usize] {
-            Some(byte) => byte,
+            Some(known) => known,
             None => 0,
         }
     }

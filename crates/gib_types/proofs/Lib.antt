@@ -1,3 +1,4 @@
 pub mod Owners
 pub mod Indexes
 pub mod LayoutLemmas
+pub mod Sample

@@ -6,3 +6,6 @@ pub mod table;
 
 pub use layouts::{Layout, Layouts};
 pub use table::{ConId, Constructor, Ty, TyId, TypeTable};
+
+#[cfg(test)]
+mod tests;

@@ -1,5 +1,4 @@
 use Rattle.std.proofs.Common.{subst}
-use Rattle.gib_types.specs.Row.{Table}
 use Rattle.gib_types.specs.Table.{fields_at, IsTable}
 use Rattle.gib_types.specs.Layout.{is_among, LaidOut}
 use Rattle.gib_types.proofs.LayoutLemmas.{few_fields, head_long, packed_few}

@@ -1,0 +1,7 @@
+pub mod Heads
+pub mod Going
+pub mod Steps
+pub mod Ends
+pub mod Rooms
+pub mod Spots
+pub mod Sound

@@ -1,0 +1,5 @@
+pub mod Preorder
+pub mod Spot
+pub mod Placement
+pub mod Refusal
+pub mod Holding

@@ -1,0 +1,150 @@
+//! Cursors: where the next item of a region goes.
+
+ghost use Rattle.std.specs.Prelude.{◌≡◌, ◌<◌, ◌≤◌, ◌^◌, ◌+◌, ◌*◌, ℕ, List, length, IfOk, OnErr, IfErr, IsTrue, ◌↔◌};
+ghost use Rattle.gib_mem.specs.Memory.{Owned, after_puts};
+ghost use Rattle.gib_region.specs.Region.{Behind, pointer, HasRoom, Placed, Pointed, IsFull, rest, Draws, redirected};
+
+use gib_mem::Mem;
+
+/// How many bytes a chunk has.
+const CHUNK: u64 = 4096;
+
+/// How many bytes a redirect or an indirection has: its tag and an address.
+const POINTER: u8 = 9;
+
+/// The tag of an indirection, which stands for the value at its target.
+const INDIRECTION: u8 = 254;
+
+/// The tag of a redirect: the items go on at its target.
+const REDIRECT: u8 = 255;
+
+/// All chunks are drawn.
+#[derive(Clone, Copy, Debug, PartialEq, Eq)]
+pub struct Full;
+
+/// Where the next item of a region goes, if there is room for it.
+#[derive(Debug, Drop)]
+pub struct Cursor {
+    at: u64,
+    ghost small: { at < 2 ^ 44 },
+}
+
+/// How many bytes of its chunk are left from an address on.
+pub(crate) fn rest_of_chunk(at: u64) -> u64
+    ensures { result ≡ rest at }
+{
+    CHUNK - at % CHUNK
+}
+
+/// Puts bytes one after another, at addresses that are owned.
+pub fn fill<M: Mem>(mem: &mut M, at: u64, bytes: &[u8])
+    requires small { at + length bytes.now ≤ 2 ^ 44 }
+    requires owned { Owned (M.view mem.old).cells at (length bytes.now) }
+    ensures { M.view mem.new ≡ after_puts (M.view mem.old) at bytes.now }
+{
+    'bytes: for i in 0..bytes.len() {
+        mem.put(at + i as u64, bytes[i]);
+    }
+}
+
+/// Puts a tag and an address.
+fn put_pointer<M: Mem>(mem: &mut M, at: u64, tag: u8, target: u64)
+    requires small { at + 9 ≤ 2 ^ 44 }
+    requires owned { Owned (M.view mem.old).cells at 9 }
+    ensures { M.view mem.new ≡ after_puts (M.view mem.old) at (pointer tag target) }
+{
+    mem.put(at, tag);
+    fill(mem, at + 1, &target.to_le_bytes());
+}
+
+impl Cursor {
+    /// A cursor at a place.
+    pub(crate) fn at_place(at: u64) -> Cursor
+        requires { at < 2 ^ 44 }
+        ensures { result.at ≡ at }
+    {
+        Cursor { at }
+    }
+
+    /// Where the next item goes, if there is room for it.
+    pub fn place(&self) -> u64
+        ensures { result ≡ self.now.at }
+    {
+        self.at
+    }
+
+    /// Whether there is room here for an item of so many bytes and a redirect.
+    pub fn room(&self, k: u8) -> bool
+        ensures { IsTrue result ↔ HasRoom self.now.at k }
+    {
+        rest_of_chunk(self.at) >= k as u64 + POINTER as u64
+    }
+
+    /// Goes past an item of so many bytes.
+    pub fn advance(&mut self, k: u8)
+        requires { HasRoom self.old.at k }
+        ensures { self.new.at ≡ self.old.at + k }
+    {
+        self.at += k as u64;
+    }
+
+    /// Goes to the start of a chunk.
+    pub fn turn(&mut self, chunk: u32)
+        ensures { self.new.at ≡ 4096 * chunk }
+    {
+        self.at = CHUNK * chunk as u64;
+    }
+}
+
+/// Makes a place for an item of `k` bytes: at the cursor where there is room, else in a new chunk, to which a
+/// redirect is put.
+///
+/// # Errors
+///
+/// `Full` exactly where there is no room and no chunk is left. Nothing was put then, and the cursor is as before.
+pub fn reserve<M: Mem>(cursor: &mut Cursor, mem: &mut M, k: u8) -> Result<u64, Full>
+    requires small { k ≤ 65 }
+    requires owned { Behind (M.view mem.old).cells cursor.old.at }
+    requires redirect { 9 ≤ rest cursor.old.at }
+    ensures placed { IfOk result (λ at. Placed (M.view mem.old) cursor.old.at k (M.view mem.new) at) }
+    ensures cursor { IfOk result (λ at. cursor.new.at ≡ at + k) }
+    ensures room { OnErr result (HasRoom cursor.old.at k → ⊥) }
+    ensures full { OnErr result (IsFull (M.view mem.old) (M.view mem.new)) }
+    ensures kept { OnErr result (cursor.new ≡ cursor.old) }
+{
+    if !cursor.room(k) {
+        match mem.draw() {
+            None => return Err(Full),
+            Some(chunk) => {
+                put_pointer(mem, cursor.at, REDIRECT, CHUNK * chunk as u64);
+                cursor.turn(chunk);
+            }
+        }
+    }
+    let at = cursor.at;
+    cursor.advance(k);
+    Ok(at)
+}
+
+/// Places an indirection to a target.
+///
+/// # Errors
+///
+/// `Full` exactly where there is no room and no chunk is left. Nothing was put then, and the cursor is as before.
+pub fn point<M: Mem>(cursor: &mut Cursor, mem: &mut M, target: u64) -> Result<u64, Full>
+    requires owned { Behind (M.view mem.old).cells cursor.old.at }
+    requires redirect { 9 ≤ rest cursor.old.at }
+    ensures pointed { IfOk result (λ at. Pointed (M.view mem.old) cursor.old.at target (M.view mem.new) at) }
+    ensures cursor { IfOk result (λ at. cursor.new.at ≡ at + 9) }
+    ensures room { OnErr result (HasRoom cursor.old.at 9 → ⊥) }
+    ensures full { OnErr result (IsFull (M.view mem.old) (M.view mem.new)) }
+    ensures kept { OnErr result (cursor.new ≡ cursor.old) }
+{
+    match reserve(cursor, mem, POINTER) {
+        Ok(at) => {
+            put_pointer(mem, at, INDIRECTION, target);
+            Ok(at)
+        }
+        Err(full) => Err(full),
+    }
+}
