@@ -16,7 +16,7 @@ use Rattle.gib_packed.specs.Decoding as dec
 use Rattle.gib_packed.proofs.Spans.{size_of, count_of, Span, redirect, indirect, head, Spans, done, next, Below}
 use Rattle.gib_packed.proofs.HoldsLemmas.{Holds-first, same_byte, Points-same}
 
-con_within : (table : Table) (t k : ℕ) → con_at table t k ≡ Some k → k < length table.rows
+pub con_within : (table : Table) (t k : ℕ) → con_at table t k ≡ Some k → k < length table.rows
 con_within table t k e = go (slice_get table.rows k) refl e
   where
     go : (o : Option Row) → slice_get table.rows k ≡ o → if_owned t k o ≡ Some k → k < length table.rows
