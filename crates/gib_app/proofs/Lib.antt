@@ -7,3 +7,9 @@ mod Decimals
 mod Performing
 mod Endings
 mod SourceLaws
+mod Passing
+mod Numbers
+mod Adding
+mod Taking
+mod Filling
+mod Asking

@@ -1,12 +1,14 @@
 //! The top call: from the words of a command line to output, a line and a status.
 #![tactic(auto)]
 
+mod commands;
 mod compile;
 mod documents;
 pub mod input_fault;
 pub mod law;
 mod lines;
 mod make;
+mod matches;
 mod pack;
 mod packed;
 mod perform;
@@ -19,7 +21,11 @@ pub mod source_fault;
 pub mod status;
 mod stop;
 pub mod top;
+pub mod word_laws;
 mod words;
 
 pub use status::Status;
 pub use top::gib;
+
+#[cfg(test)]
+mod tests;

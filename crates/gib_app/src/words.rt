@@ -1,10 +1,15 @@
 //! The words of a command line.
 
-ghost use Rattle.std.specs.Prelude.{◌≡◌, None, Some, IfOk, MatchOption};
-ghost use Rattle.gib_app.specs.Words.{asked, bytes_of, sample as sample_request, one_asked, two_asked, three_asked};
+ghost use Rattle.std.specs.Prelude.{◌≡◌, ◌↔◌, IsTrue, None, Some, IfOk, MatchOption, option_map};
+ghost use Rattle.clap.specs.Values.{kind_of};
+ghost use Rattle.gib_app.specs.Words.{asked, asked_by_command, bytes_of, sample as sample_request};
 ghost use Rattle.gib_app.specs.Requests.{request_of};
 
+use crate::commands::command_set;
+use crate::matches::entered_request;
 use crate::sample::{SAMPLE_INPUT, SAMPLE_SOURCE};
+use clap::Error;
+use clap::error::ErrorKind;
 use std::alloc::{AllocError, Global};
 
 /// Where bytes come from.
@@ -48,96 +53,46 @@ pub enum Request<'a> {
     },
 }
 
-/// The depth of calls where none is given.
-const DEPTH: u32 = 10_000;
-
-/// The product's own program on its own input.
+/// The product's own program on its own input, at the depth that stands where none is given.
 fn sample() -> Request<'static>
     ensures { request_of result ≡ sample_request }
 {
     Request::Run {
         source: Document::Brought(SAMPLE_SOURCE),
         input: Document::Brought(SAMPLE_INPUT),
-        depth: DEPTH,
+        depth: 10_000,
     }
 }
 
-/// A command and one file.
-fn with_one<'a>(command: &str, source: &'a str) -> Option<Request<'a>>
-    ensures { MatchOption result (one_asked command.now source.entry.now ≡ None) (λ request. one_asked command.now source.entry.now ≡ Some (request_of request)) }
+/// Whether memory alone stopped a parse.
+fn is_want_of_memory(error: &Error) -> bool
+    ensures { IsTrue result ↔ (kind_of error.now ≡ ErrorKind.OutOfMemory) }
 {
-    if command == "check" {
-        Some(Request::Check {
-            source: Document::Named(source),
-        })
-    } else {
-        None
-    }
+    matches!(error.kind(), ErrorKind::OutOfMemory)
 }
 
-/// A command and two files.
-fn with_two<'a>(command: &str, source: &'a str, second: &'a str) -> Option<Request<'a>>
-    ensures { MatchOption result (two_asked command.now source.entry.now second.entry.now ≡ None) (λ request. two_asked command.now source.entry.now second.entry.now ≡ Some (request_of request)) }
+/// What the command among the words asks for, the program's name first.
+fn read_command<'a>(alloc: Global, words: &'a [String]) -> Result<Option<Request<'a>>, AllocError>
+    ensures { IfOk result (λ r. option_map request_of r ≡ asked_by_command (bytes_of words.now)) }
 {
-    if command == "run" {
-        Some(Request::Run {
-            source: Document::Named(source),
-            input: Document::Named(second),
-            depth: DEPTH,
-        })
-    } else if command == "plain" {
-        Some(Request::Plain {
-            source: Document::Named(source),
-            input: Document::Named(second),
-            depth: DEPTH,
-        })
-    } else if command == "show" {
-        Some(Request::Show {
-            source: Document::Named(source),
-            file: Document::Named(second),
-        })
-    } else {
-        None
+    match command_set(alloc)?.try_get_matches_from(words) {
+        Ok(matches) => Ok(entered_request(&matches)),
+        Err(error) => {
+            if is_want_of_memory(&error) {
+                Err(AllocError)
+            } else {
+                Ok(None)
+            }
+        }
     }
 }
 
-/// A command and three files.
-fn with_three<'a>(
-    command: &str,
-    source: &'a str,
-    second: &'a str,
-    target: &'a str,
-) -> Option<Request<'a>>
-    ensures { MatchOption result (three_asked command.now source.entry.now second.entry.now target.entry.now ≡ None) (λ request. three_asked command.now source.entry.now second.entry.now target.entry.now ≡ Some (request_of request)) }
-{
-    if command == "pack" {
-        Some(Request::Pack {
-            source: Document::Named(source),
-            text: Document::Named(second),
-            target,
-        })
-    } else {
-        None
-    }
-}
-
-/// What the words ask for, the program's name first; none where they are not taken.
-///
-/// # Errors
-///
-/// Want of memory.
-pub fn read_words<'a>(
-    _alloc: Global,
-    words: &'a [String],
-) -> Result<Option<Request<'a>>, AllocError>
+/// What the words ask for, the program's name first, where they are taken. An `Err` is want of memory alone.
+pub fn read_words<'a>(alloc: Global, words: &'a [String]) -> Result<Option<Request<'a>>, AllocError>
     ensures { IfOk result (λ r. MatchOption r (asked (bytes_of words.now) ≡ None) (λ request. asked (bytes_of words.now) ≡ Some (request_of request))) }
 {
     match words {
-        [] => Ok(Some(sample())),
-        [_] => Ok(Some(sample())),
-        [_, command, source] => Ok(with_one(command, source)),
-        [_, command, source, second] => Ok(with_two(command, source, second)),
-        [_, command, source, second, third] => Ok(with_three(command, source, second, third)),
-        _ => Ok(None),
+        [] | [_] => Ok(Some(sample())),
+        _ => read_command(alloc, words),
     }
 }

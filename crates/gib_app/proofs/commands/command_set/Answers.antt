@@ -1,0 +1,12 @@
+use Rattle.std.proofs.Common.{refl}
+use Rattle.std.proofs.lemmas.Result.{IfOk-weaker}
+use Rattle.gib_app.proofs.Adding.{adds_command}
+use Rattle.gib_app.proofs.commands.command_set.Goals as goal
+
+pub returns : goal.returns
+returns c =
+    let one = adds_command _ _ _ _ _ c.in_ok-subcommand.ensures c.bare_program.ensures c.in_ok-run_command.ensures refl in
+    let two = adds_command _ _ _ _ _ c.in_ok-subcommand-2.ensures one c.in_ok-plain_command.ensures refl in
+    let three = adds_command _ _ _ _ _ c.in_ok-subcommand-3.ensures two c.in_ok-check_command.ensures refl in
+    let four = adds_command _ _ _ _ _ c.in_ok-subcommand-4.ensures three c.in_ok-pack_command.ensures refl in
+    IfOk-weaker c.subcommand-5.result _ _ (λ command adds. adds_command _ _ _ _ _ adds four c.in_ok-show_command.ensures refl) c.subcommand-5.ensures

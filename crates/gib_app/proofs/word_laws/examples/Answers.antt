@@ -1,0 +1,23 @@
+use Rattle.std.proofs.Common.{refl}
+use Rattle.clap.proofs.OnLiterals.{clap_on_literals}
+use Rattle.gib_app.proofs.word_laws.examples.Goals as goal
+
+pub returns-clause-run : goal.returns-clause-run
+unfolding clap_on_literals
+returns-clause-run c = refl
+
+pub returns-clause-depth : goal.returns-clause-depth
+unfolding clap_on_literals
+returns-clause-depth c = refl
+
+pub returns-clause-names : goal.returns-clause-names
+unfolding clap_on_literals
+returns-clause-names c = refl
+
+pub returns-clause-deep : goal.returns-clause-deep
+unfolding clap_on_literals
+returns-clause-deep c = refl
+
+pub returns-clause-few : goal.returns-clause-few
+unfolding clap_on_literals
+returns-clause-few c = refl

@@ -1,0 +1,98 @@
+//! The commands of the program with their arguments, as `clap` takes them.
+
+ghost use Rattle.std.specs.Prelude.{◌≡◌, IfOk, false};
+ghost use Rattle.clap.specs.Walk.{rule_of};
+ghost use Rattle.clap.specs.Simple.{app_of};
+ghost use Rattle.gib_app.specs.Words.{app_for, bare_program, command_set, depth, positional};
+ghost use Rattle.gib_app.specs.Words.{check_form, pack_form, plain_form, run_form, show_form};
+
+use clap::builder::ValueParser;
+use clap::{Arg, Command};
+use std::alloc::{AllocError, Global};
+
+/// A word by its place, which has to be there.
+fn positional<'a>(alloc: Global, id: &'a str) -> Arg<'a>
+    ensures rule { rule_of result ≡ positional id.entry.now }
+    ensures local { result.global ≡ false }
+{
+    Arg::new(alloc, id).required(true)
+}
+
+/// `--depth N`, how deep calls may go.
+fn depth<'a>(alloc: Global) -> Arg<'a>
+    ensures rule { rule_of result ≡ depth }
+    ensures local { result.global ≡ false }
+{
+    Arg::new(alloc, "depth")
+        .long("depth")
+        .value_parser(ValueParser::unsigned(1, 1_000_000))
+        .default_value("10000")
+}
+
+/// `run SOURCE INPUT [--depth N]`.
+fn run_command<'a>(alloc: Global) -> Result<Command<'a>, AllocError>
+    ensures { IfOk result (λ command. app_of command ≡ app_for run_form) }
+{
+    Command::new(alloc, "run")
+        .arg(positional(alloc, "source"))?
+        .arg(positional(alloc, "input"))?
+        .arg(depth(alloc))
+}
+
+/// `plain SOURCE INPUT [--depth N]`.
+fn plain_command<'a>(alloc: Global) -> Result<Command<'a>, AllocError>
+    ensures { IfOk result (λ command. app_of command ≡ app_for plain_form) }
+{
+    Command::new(alloc, "plain")
+        .arg(positional(alloc, "source"))?
+        .arg(positional(alloc, "input"))?
+        .arg(depth(alloc))
+}
+
+/// `check SOURCE`.
+fn check_command<'a>(alloc: Global) -> Result<Command<'a>, AllocError>
+    ensures { IfOk result (λ command. app_of command ≡ app_for check_form) }
+{
+    Command::new(alloc, "check").arg(positional(alloc, "source"))
+}
+
+/// `pack SOURCE TEXT TARGET`.
+fn pack_command<'a>(alloc: Global) -> Result<Command<'a>, AllocError>
+    ensures { IfOk result (λ command. app_of command ≡ app_for pack_form) }
+{
+    Command::new(alloc, "pack")
+        .arg(positional(alloc, "source"))?
+        .arg(positional(alloc, "text"))?
+        .arg(positional(alloc, "target"))
+}
+
+/// `show SOURCE FILE`.
+fn show_command<'a>(alloc: Global) -> Result<Command<'a>, AllocError>
+    ensures { IfOk result (λ command. app_of command ≡ app_for show_form) }
+{
+    Command::new(alloc, "show")
+        .arg(positional(alloc, "source"))?
+        .arg(positional(alloc, "file"))
+}
+
+/// The program before its commands. All that `clap` refuses is one answer here, so nothing asks for help.
+fn bare_program<'a>(alloc: Global) -> Command<'a>
+    ensures { app_of result ≡ bare_program }
+{
+    Command::new(alloc, "gib")
+        .disable_help_flag(true)
+        .disable_help_subcommand(true)
+        .subcommand_required(true)
+}
+
+/// The program with its commands.
+pub fn command_set<'a>(alloc: Global) -> Result<Command<'a>, AllocError>
+    ensures { IfOk result (λ command. app_of command ≡ command_set) }
+{
+    bare_program(alloc)
+        .subcommand(run_command(alloc)?)?
+        .subcommand(plain_command(alloc)?)?
+        .subcommand(check_command(alloc)?)?
+        .subcommand(pack_command(alloc)?)?
+        .subcommand(show_command(alloc)?)
+}
