@@ -60,12 +60,18 @@ fn framed(alloc: Global, payload: &[u8]) -> Result<Vec<u8>, Memory> {
     Ok(file)
 }
 
-// A list of so many cells that all hold 7.
+// So many cells of a list that all hold 7.
 fn cells(alloc: Global, count: usize) -> Result<Vec<u8>, Memory> {
     let mut payload = Vec::new(alloc);
     for _ in 0..count {
         payload.extend_from_slice(b"\x05\x07\0\0\0\0\0\0\0")?;
     }
+    Ok(payload)
+}
+
+// A list of these cells.
+fn list(alloc: Global, count: usize) -> Result<Vec<u8>, Memory> {
+    let mut payload = cells(alloc, count)?;
     payload.push(4)?;
     Ok(payload)
 }
@@ -152,24 +158,30 @@ fn scalars_are_their_own_roots(rt: HostRuntime) -> Result<(), Fail> {
 fn a_long_list_turns_to_a_new_chunk(rt: HostRuntime) -> Result<(), Fail> {
     let alloc = rt.alloc();
     let types = table(alloc)?;
-    let fits = cells(alloc, 454)?;
+    let fits = list(alloc, 454)?;
     let (loaded, mut mem) = load_payload(alloc, &types, LIST, &fits, 16)?;
     assert!(rt; loaded == Ok(Root::At(0)));
     assert_eq!(rt; mem.chunks(), 1);
-    let bytes = look_at(alloc, &mut mem, 0, 4096)?;
-    assert_eq!(rt; &bytes[..4087], fits.as_slice());
-    assert_eq!(rt; &bytes[4087..], [0u8; 9].as_slice());
-    let turns = cells(alloc, 455)?;
+    let bytes = look_at(alloc, &mut mem, 0, 4087)?;
+    assert_eq!(rt; bytes.as_slice(), fits.as_slice());
+    let behind = look_at(alloc, &mut mem, 4087, 10)?;
+    assert_eq!(rt; behind.as_slice(), [0u8; 9].as_slice());
+    let turns = list(alloc, 455)?;
     let (loaded, mut mem) = load_payload(alloc, &types, LIST, &turns, 16)?;
     assert!(rt; loaded == Ok(Root::At(0)));
     assert_eq!(rt; mem.chunks(), 2);
-    let bytes = look_at(alloc, &mut mem, 0, 4107)?;
-    assert_eq!(rt; &bytes[..4086], &turns[..4086]);
+    let first = look_at(alloc, &mut mem, 0, 4086)?;
+    assert_eq!(rt; first.as_slice(), cells(alloc, 454)?.as_slice());
+    let redirect = look_at(alloc, &mut mem, 4086, 10)?;
     assert_eq!(rt;
-        &bytes[4086..4096],
+        redirect.as_slice(),
         b"\xff\x00\x10\0\0\0\0\0\0\0".as_slice()
     );
-    assert_eq!(rt; &bytes[4096..], b"\x05\x07\0\0\0\0\0\0\0\x04\0".as_slice());
+    let second = look_at(alloc, &mut mem, 4096, 11)?;
+    assert_eq!(rt;
+        second.as_slice(),
+        b"\x05\x07\0\0\0\0\0\0\0\x04\0".as_slice()
+    );
     Ok(())
 }
 
@@ -177,13 +189,14 @@ fn a_long_list_turns_to_a_new_chunk(rt: HostRuntime) -> Result<(), Fail> {
 fn loading_ends_where_all_chunks_are_drawn(rt: HostRuntime) -> Result<(), Fail> {
     let alloc = rt.alloc();
     let types = table(alloc)?;
-    let turns = cells(alloc, 455)?;
+    let turns = list(alloc, 455)?;
     let (loaded, mut mem) = load_payload(alloc, &types, LIST, &turns, 1)?;
     assert!(rt; loaded == Err(LoadFault::Full));
     assert_eq!(rt; mem.chunks(), 1);
-    let bytes = look_at(alloc, &mut mem, 0, 4096)?;
-    assert_eq!(rt; &bytes[..4086], &turns[..4086]);
-    assert_eq!(rt; &bytes[4086..], [0u8; 10].as_slice());
+    let bytes = look_at(alloc, &mut mem, 0, 4086)?;
+    assert_eq!(rt; bytes.as_slice(), cells(alloc, 454)?.as_slice());
+    let behind = look_at(alloc, &mut mem, 4086, 20)?;
+    assert_eq!(rt; behind.as_slice(), [0u8; 10].as_slice());
     let (loaded, mut mem) = load_payload(alloc, &types, TRUTH, b"\x03\x01", 0)?;
     assert!(rt; loaded == Err(LoadFault::Full));
     assert_eq!(rt; mem.chunks(), 0);
