@@ -13,3 +13,4 @@ mod Ordered
 mod Erases
 mod Left
 mod Reaches
+mod Sample

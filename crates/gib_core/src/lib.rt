@@ -10,6 +10,8 @@ pub mod piece;
 pub mod print;
 pub mod program;
 pub mod scope;
+#[cfg(test)]
+mod tests;
 mod text;
 mod written;
 
