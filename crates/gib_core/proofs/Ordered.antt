@@ -1,6 +1,6 @@
 -- Terms whose variables are bound in rising order, and used behind where they are bound.
-use Rattle.std.proofs.Common.{◌≡◌, ℕ, zero, suc, ◌+◌, ◌<◌, ◌≤◌, Bool, true, false, ◌==◌, if◌then◌else◌, List, [], ◌∷◌, ◌++◌, map, length, Option, Some, None, refl, sym, ap, ◌∙◌, subst, arith}
-use Rattle.std.specs.Prelude.{ℤ, pos, slice_get}
+use Rattle.std.proofs.Common.{◌≡◌, ℕ, suc, ◌+◌, ◌<◌, ◌≤◌, Bool, true, false, ◌==◌, if◌then◌else◌, List, [], ◌∷◌, ◌++◌, length, Option, Some, None, refl, sym, ap, ◌∙◌, subst, arith}
+use Rattle.std.specs.Prelude.{pos, slice_get}
 use Rattle.std.specs.Option.{option_map}
 use Rattle.std.proofs.lemmas.Option.{same_Some, slice_get-map}
 use Rattle.std.proofs.lemmas.Bool.{eqb-true}
@@ -19,10 +19,10 @@ use Rattle.gib_syntax.specs.Meaning.{at_fields}
 use Rattle.gib_core.specs.declared.atom.Variable.{Variable}
 use Rattle.gib_core.specs.declared.atom.Atom.{Atom}
 use Rattle.gib_core.specs.declared.atom.Atom.TheVariants as atomic
-use Rattle.gib_core.specs.declared.atom.Kind.TheVariants.{Here, Scalar}
+use Rattle.gib_core.specs.declared.atom.Kind.TheVariants.{Scalar}
 use Rattle.gib_core.specs.Tree.{Term, Then, Write, Point, CallTerm, Give, CaseTerm, IfTerm, Bind, Past, One, Both, Prim, Reach, Side, On, Branches, NoBranch, BranchThen, variable_of, var, variables_from, prepend}
 use Rattle.gib_core.specs.Erasing.{literal_of}
-use Rattle.gib_core.specs.Inferring.{Slot, Scope, slot, Lined, Atomed, Several, ToLine, ToAtom, Code, kind_of, boxed, given, of_line, of_atom, result_of, plain_line, plain_atom, of_plain, several, operation_atom, call_line, call_atom, call_side, scalar_call, call_code, first_type, further_types, pointed_fields, as_atoms, make_from, make_line, let_line, par_line, if_line, ArmCode, with_fields, Branched, arm_for, branch_of, branches_of, constructors_of, first_constructor, case_line, atom_at, type_at, con_or, con_named, gives_type, infer, infer_all, infer_arms, infer_body}
+use Rattle.gib_core.specs.Inferring.{Scope, slot, Lined, Atomed, Several, ToLine, ToAtom, Code, boxed, of_line, of_atom, result_of, plain_line, of_plain, several, operation_atom, call_line, call_atom, call_side, scalar_call, call_code, first_type, further_types, pointed_fields, as_atoms, make_from, make_line, let_line, par_line, if_line, ArmCode, with_fields, Branched, arm_for, branch_of, branches_of, constructors_of, first_constructor, case_line, atom_at, type_at, con_or, con_named, gives_type, infer, infer_all, infer_arms, infer_body}
 
 -- A variable below the number, or a literal of the source.
 abbrev pub IsFit : ℕ → Atom → Type 0

@@ -1,5 +1,5 @@
 -- Each construct in each place.
-use Rattle.std.proofs.Common.{◌≡◌, ℕ, zero, suc, ◌+◌, ◌<◌, ◌≤◌, Bool, true, false, List, [], ◌∷◌, ◌++◌, map, length, refl, sym, ap, ◌∙◌, subst, arith}
+use Rattle.std.proofs.Common.{◌≡◌, ℕ, suc, ◌+◌, ◌≤◌, Bool, true, false, List, [], ◌∷◌, ◌++◌, map, length, refl, sym, ap, ◌∙◌, subst, arith}
 use Rattle.gib_base.specs.declared.name.Name.{Name}
 use Rattle.gib_types.specs.declared.table.Ty.{Ty}
 use Rattle.gib_types.specs.declared.table.Ty.TheVariants.{Whole, Truth, Tree}
@@ -12,12 +12,12 @@ use Rattle.gib_syntax.specs.Declarations.{number_of}
 use Rattle.gib_syntax.specs.Meaning.{Outcome, Gives, Stops, Environment, value_in, with_value, at_fields, with_fields, number_in, is_true, operate, choose}
 use Rattle.gib_core.specs.declared.atom.Atom.{Atom}
 use Rattle.gib_core.specs.declared.atom.Kind.{Kind}
-use Rattle.gib_core.specs.declared.atom.Kind.TheVariants.{Here, Scalar}
-use Rattle.gib_core.specs.Tree.{Term, Then, Write, Point, CallTerm, Give, IfTerm, Bind, Past, One, Both, Prim, On, var, variables_from, prepend}
-use Rattle.gib_core.specs.Meaning.{Calls, value, merge, Reached, Went, Halted, from_there, and_on, having, mean, run, run_all}
-use Rattle.gib_core.specs.Inferring.{Slot, Scope, slot, Lined, Atomed, Several, ToLine, ToAtom, Code, kind_of, boxed, given, of_line, of_atom, result_of, plain_line, plain_atom, of_plain, several, operation_atom, call_line, call_atom, call_side, scalar_call, call_code, first_type, further_types, pointed_fields, as_atoms, make_from, make_line, let_line, par_line, if_line}
-use Rattle.gib_core.proofs.Agreeing.{env_of, IsBelow, AllBelow, EachBelow, Keeps, Together, All, Lost, also, gather, with_all, each_of, Agree, came, halted, Collects, got, missed, Lines, Atoms, Manys, Good, AllGood}
-use Rattle.gib_core.proofs.Envs.{value_in-here, keeps_same, keeps_bind, keeps_more, keeps_less, below_less, all_below_less, each_below_less, value-keeps, values-keep, env_of-keeps, run_all-append, mean-prepend, agree_less, agree_back, agree_then, gives_then, with_value-Gives, collects_then, gives_all}
+use Rattle.gib_core.specs.declared.atom.Kind.TheVariants.{Scalar}
+use Rattle.gib_core.specs.Tree.{Term, Then, Write, CallTerm, Give, IfTerm, Bind, Past, One, Both, Prim, On, var, variables_from, prepend}
+use Rattle.gib_core.specs.Meaning.{Calls, value, merge, Reached, Went, from_there, and_on, having, mean, run, run_all}
+use Rattle.gib_core.specs.Inferring.{Scope, slot, Several, ToLine, ToAtom, Code, kind_of, boxed, given, of_line, of_atom, result_of, plain_line, of_plain, several, operation_atom, call_line, call_atom, call_side, scalar_call, call_code, further_types, pointed_fields, as_atoms, make_line, let_line, par_line, if_line}
+use Rattle.gib_core.proofs.Agreeing.{env_of, IsBelow, AllBelow, EachBelow, Keeps, Together, also, gather, with_all, each_of, Agree, came, halted, Collects, got, missed, Lines, Atoms, Manys, Good, AllGood}
+use Rattle.gib_core.proofs.Envs.{value_in-here, keeps_same, keeps_bind, keeps_more, keeps_less, below_less, all_below_less, each_below_less, value-keeps, values-keep, env_of-keeps, run_all-append, mean-prepend, agree_then, gives_then, with_value-Gives, collects_then, gives_all}
 use Rattle.gib_core.proofs.Together.{fields_merged}
 
 module _ (tb : Table) (call : Calls) where

@@ -4,6 +4,7 @@
 pub mod atom;
 pub mod checked;
 pub mod copy;
+pub mod examples;
 pub mod law;
 pub mod node;
 pub mod piece;
