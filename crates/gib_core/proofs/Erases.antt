@@ -24,7 +24,8 @@ use Rattle.gib_core.specs.Meaning.{Calls, value, merge, Reached, Went, Halted, f
 use Rattle.gib_core.specs.Erasing.{ident, expression_of, arguments_of, Substitution, put_for, put_in, erase_atom, case_of, arm_before, left_out, let_or_put, erase, erase_bind, erase_branches}
 use Rattle.gib_core.proofs.Agreeing.{gather, with_all, All}
 use Rattle.gib_core.proofs.Envs.{value_in-past}
-use Rattle.gib_core.proofs.Ordered.{IsFit, AllFit, next_of, FieldsOrdered, behind_fields, IsOrdered, BindOrdered, BranchesOrdered}
+use Rattle.gib_core.proofs.Fits.{IsFit, AllFit, fit_more}
+use Rattle.gib_core.proofs.Ordered.{next_of, FieldsOrdered, behind_fields, IsOrdered, BindOrdered, BranchesOrdered}
 
 -- A core's environment and that of what is left, where these are put for variables: from the number on nothing is there.
 pub record Relates (n : ℕ) (sub : Substitution) (env other : Environment) : Type 0 where
@@ -32,11 +33,6 @@ pub record Relates (n : ℕ) (sub : Substitution) (env other : Environment) : Ty
   pub fresh : (x : ℕ) → n ≤ x → value_in other x ≡ whole (pos 0)
   pub kept : (x : Variable) → n ≤ x.0 → put_for sub x ≡ atomic.Variable x
   pub below : (x : Variable) → x.0 < n → IsFit n (put_for sub x)
-
-fit_more : (n m : ℕ) (a : Atom) → n ≤ m → IsFit n a → IsFit m a
-fit_more n m (atomic.Variable x) le h = omega arith
-fit_more n m (atomic.Whole z) le h = h
-fit_more n m (atomic.Truth b) le h = tt
 
 below_more : (n m : ℕ) (sub : Substitution) (x : Variable) → n ≤ m → x.0 < m → (x.0 < n → IsFit n (put_for sub x)) → (n ≤ x.0 → put_for sub x ≡ atomic.Variable x) → IsFit m (put_for sub x)
 below_more n m sub x le lt h k =

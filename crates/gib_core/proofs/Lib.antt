@@ -9,6 +9,7 @@ mod Places
 mod Same
 mod Cases
 mod Whole
+mod Fits
 mod Ordered
 mod Erases
 mod Left

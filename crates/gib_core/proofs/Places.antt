@@ -271,7 +271,7 @@ module _ (tb : Table) (call : Calls) where
       }
 
   -- a `let`
-  pub let_good : (x : Ident) (bound : ToAtom) (body : ToLine) (f g : Environment → Outcome) (sc : Scope) → ((n : ℕ) (env : Environment) → AllBelow n sc → Atoms tb call n (bound sc n) env (f (env_of sc env))) → ((at : Atom) (t1 : Ty) (n : ℕ) (env : Environment) → AllBelow n (slot x at t1 ∷ sc) → Lines tb call n (body (slot x at t1 ∷ sc) n) env (g (env_of (slot x at t1 ∷ sc) env))) → (n : ℕ) (env : Environment) → AllBelow n sc → Lines tb call n (let_line x bound body sc n) env (with_value (f (env_of sc env)) (λ v. g ((number_of x, v) ∷ env_of sc env)))
+  pub let_good : (x : Ident) (bound : ToAtom) (body : ToLine) (f g : Environment → Outcome) (sc : Scope) → ((n : ℕ) (env : Environment) → AllBelow n sc → Atoms tb call n (bound sc n) env (f (env_of sc env))) → ((at : Atom) (s1 : Ty) (n : ℕ) (env : Environment) → AllBelow n (slot x at s1 ∷ sc) → Lines tb call n (body (slot x at s1 ∷ sc) n) env (g (env_of (slot x at s1 ∷ sc) env))) → (n : ℕ) (env : Environment) → AllBelow n sc → Lines tb call n (let_line x bound body sc n) env (with_value (f (env_of sc env)) (λ v. g ((number_of x, v) ∷ env_of sc env)))
   let_good x bound body f g sc ha hb n env b =
       let l = bound sc n in
       let s = ha n env b in
@@ -288,15 +288,15 @@ module _ (tb : Table) (call : Calls) where
       }
 
   -- a `let par`
-  par_runs : (k1 k2 : Kind) (x y : ℕ) (t1 t2 : Ty) (l r : Term) (env : Environment) (o p : Outcome) (go : Environment → Outcome) (k : Datum → Datum → Outcome) → mean tb call l env ≡ o → mean tb call r env ≡ p → ((v w : Datum) → go ((y, w) ∷ (x, v) ∷ env) ≡ k v w) → from_there (run tb call (Both false (On k1 (record { 0 = x }) t1 l) (On k2 (record { 0 = y }) t2 r)) env) go ≡ with_value o (λ v. with_value p (λ w. k v w))
-  par_runs k1 k2 x y t1 t2 l r env o p go k e1 e2 h = rw (e1, e2) (ends o p)
+  par_runs : (k1 k2 : Kind) (x y : ℕ) (s1 s2 : Ty) (l r : Term) (env : Environment) (o p : Outcome) (go : Environment → Outcome) (k : Datum → Datum → Outcome) → mean tb call l env ≡ o → mean tb call r env ≡ p → ((v w : Datum) → go ((y, w) ∷ (x, v) ∷ env) ≡ k v w) → from_there (run tb call (Both false (On k1 (record { 0 = x }) s1 l) (On k2 (record { 0 = y }) s2 r)) env) go ≡ with_value o (λ v. with_value p (λ w. k v w))
+  par_runs k1 k2 x y s1 s2 l r env o p go k e1 e2 h = rw (e1, e2) (ends o p)
     where
       ends : (o p : Outcome) → from_there (having o (λ v. having p (λ w. Went ((y, w) ∷ (x, v) ∷ env)))) go ≡ with_value o (λ v. with_value p (λ w. k v w))
       ends (Gives v) (Gives w) = h v w
       ends (Gives v) (Stops why) = refl
       ends (Stops why) p = refl
 
-  pub par_good : (x : Ident) (left : ToLine) (y : Ident) (right : ToLine) (body : ToLine) (f g h : Environment → Outcome) (sc : Scope) → ((n : ℕ) (env : Environment) → AllBelow n sc → Lines tb call n (left sc n) env (f (env_of sc env))) → ((n : ℕ) (env : Environment) → AllBelow n sc → Lines tb call n (right sc n) env (g (env_of sc env))) → ((at1 at2 : Atom) (t1 t2 : Ty) (n : ℕ) (env : Environment) → AllBelow n (slot y at2 t2 ∷ slot x at1 t1 ∷ sc) → Lines tb call n (body (slot y at2 t2 ∷ slot x at1 t1 ∷ sc) n) env (h (env_of (slot y at2 t2 ∷ slot x at1 t1 ∷ sc) env))) → (n : ℕ) (env : Environment) → AllBelow n sc → Lines tb call n (par_line x left y right body sc n) env (with_value (f (env_of sc env)) (λ v. with_value (g (env_of sc env)) (λ w. h ((number_of y, w) ∷ (number_of x, v) ∷ env_of sc env))))
+  pub par_good : (x : Ident) (left : ToLine) (y : Ident) (right : ToLine) (body : ToLine) (f g h : Environment → Outcome) (sc : Scope) → ((n : ℕ) (env : Environment) → AllBelow n sc → Lines tb call n (left sc n) env (f (env_of sc env))) → ((n : ℕ) (env : Environment) → AllBelow n sc → Lines tb call n (right sc n) env (g (env_of sc env))) → ((at1 at2 : Atom) (s1 s2 : Ty) (n : ℕ) (env : Environment) → AllBelow n (slot y at2 s2 ∷ slot x at1 s1 ∷ sc) → Lines tb call n (body (slot y at2 s2 ∷ slot x at1 s1 ∷ sc) n) env (h (env_of (slot y at2 s2 ∷ slot x at1 s1 ∷ sc) env))) → (n : ℕ) (env : Environment) → AllBelow n sc → Lines tb call n (par_line x left y right body sc n) env (with_value (f (env_of sc env)) (λ v. with_value (g (env_of sc env)) (λ w. h ((number_of y, w) ∷ (number_of x, v) ∷ env_of sc env))))
   par_good x left y right body f g h sc ha hc hb n env b =
       let l = left sc (n + 1) in
       let s = ha (n + 1) env (all_below_less n (n + 1) sc (omega arith) b) in

@@ -193,8 +193,8 @@ module _ (g : Globals) (call : Calls) (is : IsTable g.table) where
         line_good g.table call (par_line x (infer g d).side y (infer g e).side (infer g f).line) (eval g.table call (Par p x d y e f)) sc
         (par_good g.table call x (infer g d).side y (infer g e).side (infer g f).line (eval g.table call d) (eval g.table call e) (eval g.table call f) sc
         (good d known h.0 sc h.2 hides).side (good e known h.1 sc h.3 hides).side
-        (λ at1 at2 t1 t2. (good f (typing.bound y h.1 (typing.bound x h.0 known)) ty (slot y at2 t2 ∷ slot x at1 t1 ∷ sc) h.6
-        (hides_bound (typing.bound x h.0 known) (slot x at1 t1 ∷ sc) y h.1 at2 t2 (hides_bound known sc x h.0 at1 t1 hides))).line))
+        (λ at1 at2 s1 s2. (good f (typing.bound y h.1 (typing.bound x h.0 known)) ty (slot y at2 s2 ∷ slot x at1 s1 ∷ sc) h.6
+        (hides_bound (typing.bound x h.0 known) (slot x at1 s1 ∷ sc) y h.1 at2 s2 (hides_bound known sc x h.0 at1 s1 hides))).line))
     good (If p c d e) known ty sc h hides =
         line_good g.table call (if_line (infer g c).atom (infer g d).line (infer g e).line) (eval g.table call (If p c d e)) sc
         (if_good g.table call (infer g c).atom (infer g d).line (infer g e).line (eval g.table call c) (eval g.table call d) (eval g.table call e) sc
