@@ -1,5 +1,5 @@
 -- When what a source expression became means what the expression means.
-use Rattle.std.specs.Prelude.{◌≡◌, ℕ, ◌<◌, ◌≤◌, Bool, true, false, ◌==◌, ◌||◌, if◌then◌else◌, pos, List, [], ◌∷◌, map, None}
+use Rattle.std.specs.Prelude.{◌≡◌, ℕ, ◌<◌, ◌≤◌, pos, List, [], ◌∷◌, map, None}
 use Rattle.gib_types.specs.Table.{Table}
 use Rattle.gib_types.specs.Tree.{Datum, whole}
 use Rattle.gib_syntax.specs.Typing as typing
@@ -7,7 +7,7 @@ use Rattle.gib_syntax.specs.Meaning.{Reason, Outcome, Gives, Stops, Environment,
 use Rattle.gib_core.specs.declared.atom.Atom.{Atom}
 use Rattle.gib_core.specs.declared.atom.Atom.TheVariants as a
 use Rattle.gib_core.specs.Meaning.{Calls, value, Reached, Went, Halted, mean, run_all}
-use Rattle.gib_core.specs.Inferring.{Slot, Scope, Lined, Atomed, Several, Code}
+use Rattle.gib_core.specs.Inferring.{Scope, Lined, Atomed, Several, Code}
 
 -- The source's environment, read off the core's.
 abbrev pub env_of : Scope → Environment → Environment

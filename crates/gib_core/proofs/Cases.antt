@@ -1,9 +1,8 @@
 -- A `case`, whose arms come into the declared order.
-use Rattle.std.proofs.Common.{◌≡◌, ℕ, zero, suc, ◌+◌, ◌<◌, ◌≤◌, Bool, true, false, ◌==◌, ◌||◌, if◌then◌else◌, List, [], ◌∷◌, ◌++◌, map, length, Option, Some, None, refl, sym, ap, ◌∙◌, subst, arith}
+use Rattle.std.proofs.Common.{◌≡◌, ℕ, ◌+◌, ◌≤◌, Bool, true, false, ◌==◌, if◌then◌else◌, List, [], ◌∷◌, length, Option, Some, None, refl, sym, ap, ◌∙◌, subst, arith}
 use Rattle.std.specs.Prelude.{pos}
 use Rattle.std.proofs.lemmas.Bool.{eqb-true}
 use Rattle.gib_types.specs.declared.table.Ty.{Ty}
-use Rattle.gib_types.specs.declared.table.ConId.{ConId}
 use Rattle.gib_types.specs.Table.{Table, fields_at}
 use Rattle.gib_types.specs.Tree.{Data, Datum, whole, truth, con, list_of}
 use Rattle.gib_syntax.specs.declared.tree.Ident.{Ident}
@@ -12,7 +11,7 @@ use Rattle.gib_core.specs.declared.atom.Variable.{Variable}
 use Rattle.gib_core.specs.Tree.{Term, Branches, NoBranch, BranchThen, variables_from}
 use Rattle.gib_core.specs.Meaning as core
 use Rattle.gib_core.specs.Meaning.{Calls, mean, mean_branches}
-use Rattle.gib_core.specs.Inferring.{Scope, Lined, Code, ArmCode, with_fields, Branched, arm_for, branch_of, branches_of}
+use Rattle.gib_core.specs.Inferring.{Scope, Lined, ArmCode, with_fields, arm_for, branch_of, branches_of}
 use Rattle.gib_core.proofs.Agreeing.{env_of, AreSame, AllBelow, Lines, Good}
 use Rattle.gib_core.proofs.Envs.{all_below_less}
 use Rattle.gib_core.proofs.Same.{fields_below}

@@ -1,5 +1,5 @@
 -- Environments of the source and of the core.
-use Rattle.std.proofs.Common.{◌≡◌, ℕ, zero, suc, ◌+◌, ◌<◌, ◌≤◌, Bool, true, false, ◌==◌, if◌then◌else◌, List, [], ◌∷◌, ◌++◌, map, length, refl, sym, ap, ◌∙◌, subst, arith}
+use Rattle.std.proofs.Common.{◌≡◌, ℕ, ◌≤◌, Bool, true, false, ◌==◌, if◌then◌else◌, List, [], ◌∷◌, ◌++◌, map, refl, sym, ap, ◌∙◌, arith}
 use Rattle.std.proofs.lemmas.Bool.{eq-eqb, ne_eqb, eqb-true}
 use Rattle.gib_types.specs.Table.{Table}
 use Rattle.gib_types.specs.Tree.{Datum}
@@ -7,9 +7,9 @@ use Rattle.gib_syntax.specs.Meaning.{Outcome, Gives, Stops, Environment, value_i
 use Rattle.gib_core.specs.declared.atom.Atom.{Atom}
 use Rattle.gib_core.specs.declared.atom.Atom.TheVariants as atomic
 use Rattle.gib_core.specs.Tree.{Term, Bind, prepend}
-use Rattle.gib_core.specs.Meaning.{Calls, value, Reached, Went, Halted, from_there, and_on, having, mean, run, run_all}
-use Rattle.gib_core.specs.Inferring.{Slot, Scope, atom_at}
-use Rattle.gib_core.proofs.Agreeing.{env_of, AreSame, IsBelow, AllBelow, EachBelow, Keeps, Together, All, Lost, with_all, Agree, came, halted, Collects, got, missed}
+use Rattle.gib_core.specs.Meaning.{Calls, value, Reached, Went, Halted, from_there, and_on, mean, run, run_all}
+use Rattle.gib_core.specs.Inferring.{Scope, atom_at}
+use Rattle.gib_core.proofs.Agreeing.{env_of, AreSame, IsBelow, AllBelow, EachBelow, Keeps, Together, with_all, Agree, came, halted, Collects, got, missed}
 
 pub value_in-here : (x : ℕ) (v : Datum) (env : Environment) → value_in ((x, v) ∷ env) x ≡ v
 value_in-here x v env = ap (λ b. if b then v else value_in env x) (eq-eqb x x refl)

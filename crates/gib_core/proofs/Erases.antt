@@ -1,16 +1,15 @@
 -- What is left of an ordered core means what the core means.
-use Rattle.std.proofs.Common.{◌≡◌, ℕ, zero, suc, ◌+◌, ◌<◌, ◌≤◌, Bool, true, false, ◌==◌, if◌then◌else◌, List, [], ◌∷◌, ◌++◌, map, length, Option, Some, None, refl, sym, ap, ◌∙◌, subst, arith, ◌⊎◌, ⊎_elim}
-use Rattle.std.specs.Prelude.{ℤ, pos}
+use Rattle.std.proofs.Common.{◌≡◌, ℕ, ◌+◌, ◌<◌, ◌≤◌, Bool, true, false, ◌==◌, if◌then◌else◌, List, [], ◌∷◌, ◌++◌, map, Option, Some, None, refl, sym, ap, ◌∙◌, subst, arith, ⊎_elim}
+use Rattle.std.specs.Prelude.{pos}
 use Rattle.std.proofs.str.Laws.{order}
-use Rattle.std.proofs.lemmas.Bool.{eqb-true, eq-eqb, ne_eqb}
+use Rattle.std.proofs.lemmas.Bool.{eqb-true}
 use Rattle.std.proofs.lemmas.Option.{same_Some}
 use Rattle.gib_types.specs.declared.table.Ty.{Ty}
 use Rattle.gib_types.specs.declared.table.Ty.TheVariants.{Whole, Truth, Tree}
 use Rattle.gib_types.specs.Table.{Table, fields_at, name_at}
 use Rattle.gib_types.specs.Tree.{Datum, whole, truth, con, data_of}
 use Rattle.gib_syntax.specs.declared.tree.Ident.{Ident}
-use Rattle.gib_syntax.specs.declared.tree.Operator.{Operator}
-use Rattle.gib_syntax.specs.Tree.{Expression, Arguments, Arms, Num, LastArm, NextArm}
+use Rattle.gib_syntax.specs.Tree.{Expression, Arms, LastArm, NextArm}
 use Rattle.gib_syntax.specs.Declarations.{number_of, constructor_named}
 use Rattle.gib_syntax.specs.Typing.{Globals}
 use Rattle.gib_syntax.specs.Meaning.{Outcome, Gives, Stops, Environment, value_in, bind, with_value, with_values, with_fields, at_fields, made, choose, is_made_by, is_true, number_in, parts, operate, eval, eval_all, eval_arms}
@@ -19,14 +18,14 @@ use Rattle.gib_core.specs.declared.atom.Atom.{Atom}
 use Rattle.gib_core.specs.declared.atom.Atom.TheVariants as atomic
 use Rattle.gib_core.specs.declared.atom.Kind.{Kind}
 use Rattle.gib_core.specs.declared.atom.Kind.TheVariants.{Here, Region, Scalar}
-use Rattle.gib_core.specs.Tree.{Term, Then, Write, Point, CallTerm, Give, CaseTerm, IfTerm, Bind, Past, One, Both, Prim, Reach, Side, On, Branches, NoBranch, BranchThen, variable_of}
+use Rattle.gib_core.specs.Tree.{Term, Then, Write, Point, CallTerm, Give, CaseTerm, IfTerm, Bind, Past, One, Both, Prim, Reach, On, Branches, NoBranch, BranchThen}
 use Rattle.gib_core.specs.Meaning as core
 use Rattle.gib_core.specs.Meaning.{Calls, value, merge, Reached, Went, Halted, from_there, having, mean, run, mean_side, mean_branches}
-use Rattle.gib_core.specs.Erasing.{nowhere, ident, literal_of, expression_of, arguments_of, Substitution, put_for, put_in, erase_atom, case_of, arm_before, left_out, let_or_put, erase, erase_bind, erase_one, erase_side, erase_branches}
+use Rattle.gib_core.specs.Erasing.{ident, expression_of, arguments_of, Substitution, put_for, put_in, erase_atom, case_of, arm_before, left_out, let_or_put, erase, erase_bind, erase_branches}
 use Rattle.gib_core.proofs.Agreeing.{gather, with_all, All}
-use Rattle.gib_core.proofs.Envs.{value_in-here, value_in-past}
-use Rattle.gib_core.proofs.Together.{values_all, fields_merged}
-use Rattle.gib_core.proofs.Ordered.{IsFit, AllFit, next_of, FieldsOrdered, behind_fields, IsOrdered, BindOrdered, SideOrdered, BranchesOrdered}
+use Rattle.gib_core.proofs.Envs.{value_in-past}
+use Rattle.gib_core.proofs.Fits.{IsFit, AllFit, fit_more}
+use Rattle.gib_core.proofs.Ordered.{next_of, FieldsOrdered, behind_fields, IsOrdered, BindOrdered, BranchesOrdered}
 
 -- A core's environment and that of what is left, where these are put for variables: from the number on nothing is there.
 pub record Relates (n : ℕ) (sub : Substitution) (env other : Environment) : Type 0 where
@@ -34,11 +33,6 @@ pub record Relates (n : ℕ) (sub : Substitution) (env other : Environment) : Ty
   pub fresh : (x : ℕ) → n ≤ x → value_in other x ≡ whole (pos 0)
   pub kept : (x : Variable) → n ≤ x.0 → put_for sub x ≡ atomic.Variable x
   pub below : (x : Variable) → x.0 < n → IsFit n (put_for sub x)
-
-fit_more : (n m : ℕ) (a : Atom) → n ≤ m → IsFit n a → IsFit m a
-fit_more n m (atomic.Variable x) le h = omega arith
-fit_more n m (atomic.Whole z) le h = h
-fit_more n m (atomic.Truth b) le h = tt
 
 below_more : (n m : ℕ) (sub : Substitution) (x : Variable) → n ≤ m → x.0 < m → (x.0 < n → IsFit n (put_for sub x)) → (n ≤ x.0 → put_for sub x ≡ atomic.Variable x) → IsFit m (put_for sub x)
 below_more n m sub x le lt h k =

@@ -1,5 +1,5 @@
 -- What is left of a typed program's core means what the program means.
-use Rattle.std.proofs.Common.{◌≡◌, ℕ, zero, suc, ◌+◌, ◌<◌, ◌≤◌, Bool, true, false, ◌==◌, if◌then◌else◌, List, [], ◌∷◌, map, length, Option, Some, None, refl, sym, ap, ◌∙◌, subst, arith}
+use Rattle.std.proofs.Common.{◌≡◌, ℕ, zero, suc, ◌+◌, Bool, true, false, ◌==◌, if◌then◌else◌, List, [], ◌∷◌, map, length, Some, refl, sym, ap, ◌∙◌, arith}
 use Rattle.std.proofs.lemmas.List.{length-map}
 use Rattle.gib_types.specs.declared.table.Ty.{Ty}
 use Rattle.gib_types.specs.Table.{Table, IsTable}
@@ -10,14 +10,13 @@ use Rattle.gib_syntax.specs.Tree.{Expression, FunctionTree, ProgramTree}
 use Rattle.gib_syntax.specs.Declarations.{number_of, function_named, table_of_program, type_of_name}
 use Rattle.gib_syntax.specs.Typing as typing
 use Rattle.gib_syntax.specs.Typing.{Globals, globals_of, Has, BindsAll, parameter_types, IsTypedHere, IsTypedProgram}
-use Rattle.gib_syntax.specs.Meaning.{Outcome, Environment, bind, eval, names_of, of_function, calls, run}
+use Rattle.gib_syntax.specs.Meaning.{Outcome, bind, eval, names_of, of_function, calls, run}
 use Rattle.gib_core.specs.declared.atom.Variable.{Variable}
 use Rattle.gib_core.specs.Tree.{variables_from}
-use Rattle.gib_core.specs.Meaning as core
-use Rattle.gib_core.specs.Meaning.{Calls, mean}
+use Rattle.gib_core.specs.Meaning.{Calls}
 use Rattle.gib_core.specs.Erasing.{ident, erase, parameters_from, erase_function, erase_core}
 use Rattle.gib_core.specs.Inferring.{infer_body, infer_function, infer_program}
-use Rattle.gib_core.proofs.Ordered.{behind_fields, fields_ordered, fields_behind, body_ordered}
+use Rattle.gib_core.proofs.Ordered.{fields_ordered, fields_behind, body_ordered}
 use Rattle.gib_core.proofs.Erases.{Relates, relates_more, relates_fields, erases}
 use Rattle.gib_core.proofs.Whole.{body_means, variables_same, typed_function}
 

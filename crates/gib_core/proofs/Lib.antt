@@ -9,7 +9,9 @@ mod Places
 mod Same
 mod Cases
 mod Whole
+mod Fits
 mod Ordered
 mod Erases
 mod Left
 mod Reaches
+mod Sample

@@ -1,42 +1,26 @@
 -- Terms whose variables are bound in rising order, and used behind where they are bound.
-use Rattle.std.proofs.Common.{◌≡◌, ℕ, zero, suc, ◌+◌, ◌<◌, ◌≤◌, Bool, true, false, ◌==◌, if◌then◌else◌, List, [], ◌∷◌, ◌++◌, map, length, Option, Some, None, refl, sym, ap, ◌∙◌, subst, arith}
-use Rattle.std.specs.Prelude.{ℤ, pos, slice_get}
-use Rattle.std.specs.Option.{option_map}
-use Rattle.std.proofs.lemmas.Option.{same_Some, slice_get-map}
+use Rattle.std.proofs.Common.{◌≡◌, ℕ, ◌+◌, ◌≤◌, Bool, true, false, ◌==◌, if◌then◌else◌, List, [], ◌∷◌, ◌++◌, length, Option, Some, None, refl, sym, ap, ◌∙◌, subst, arith}
+use Rattle.std.specs.Prelude.{pos}
 use Rattle.std.proofs.lemmas.Bool.{eqb-true}
 use Rattle.gib_base.specs.declared.name.Name.{Name}
 use Rattle.gib_types.specs.declared.table.Ty.{Ty}
 use Rattle.gib_types.specs.declared.table.Ty.TheVariants.{Whole, Truth, Tree}
 use Rattle.gib_types.specs.declared.table.ConId.{ConId}
-use Rattle.gib_types.specs.Table.{Row, Table, fields_at, owner_at, name_of, name_at}
+use Rattle.gib_types.specs.Table.{fields_at, owner_at, name_at}
 use Rattle.gib_syntax.specs.declared.tree.Ident.{Ident}
 use Rattle.gib_syntax.specs.declared.tree.Operator.{Operator}
 use Rattle.gib_syntax.specs.Tree.{Expression, Arguments, Arms, Var, Num, Bit, Paren, Op, Call, Make, Let, Par, If, Case, NoArgument, Argument, LastArm, NextArm}
-use Rattle.gib_syntax.specs.Declarations.{number_of, place_of, next_place, constructor_names, constructor_named, function_named}
+use Rattle.gib_syntax.specs.Declarations.{number_of, constructor_named, function_named}
 use Rattle.gib_syntax.specs.Typing as typing
 use Rattle.gib_syntax.specs.Typing.{Globals, Has, HaveAll, HaveArms, parameter_types}
 use Rattle.gib_syntax.specs.Meaning.{at_fields}
 use Rattle.gib_core.specs.declared.atom.Variable.{Variable}
 use Rattle.gib_core.specs.declared.atom.Atom.{Atom}
 use Rattle.gib_core.specs.declared.atom.Atom.TheVariants as atomic
-use Rattle.gib_core.specs.declared.atom.Kind.TheVariants.{Here, Scalar}
+use Rattle.gib_core.specs.declared.atom.Kind.TheVariants.{Scalar}
 use Rattle.gib_core.specs.Tree.{Term, Then, Write, Point, CallTerm, Give, CaseTerm, IfTerm, Bind, Past, One, Both, Prim, Reach, Side, On, Branches, NoBranch, BranchThen, variable_of, var, variables_from, prepend}
-use Rattle.gib_core.specs.Erasing.{literal_of}
-use Rattle.gib_core.specs.Inferring.{Slot, Scope, slot, Lined, Atomed, Several, ToLine, ToAtom, Code, kind_of, boxed, given, of_line, of_atom, result_of, plain_line, plain_atom, of_plain, several, operation_atom, call_line, call_atom, call_side, scalar_call, call_code, first_type, further_types, pointed_fields, as_atoms, make_from, make_line, let_line, par_line, if_line, ArmCode, with_fields, Branched, arm_for, branch_of, branches_of, constructors_of, first_constructor, case_line, atom_at, type_at, con_or, con_named, gives_type, infer, infer_all, infer_arms, infer_body}
-
--- A variable below the number, or a literal of the source.
-abbrev pub IsFit : ℕ → Atom → Type 0
-IsFit n (atomic.Variable x) = x.0 < n
-IsFit n (atomic.Whole z) = z ≡ pos (literal_of z)
-IsFit n (atomic.Truth b) = Unit {0}
-
-abbrev pub AllFit : ℕ → List Atom → Type 0
-AllFit n [] = Unit {0}
-AllFit n (x ∷ xs) = IsFit n x × AllFit n xs
-
-abbrev pub ScopeFits : ℕ → Scope → Type 0
-ScopeFits n [] = Unit {0}
-ScopeFits n (s ∷ sc) = IsFit n s.atom × ScopeFits n sc
+use Rattle.gib_core.specs.Inferring.{Scope, slot, Lined, Atomed, Several, ToLine, ToAtom, Code, boxed, of_line, of_atom, result_of, plain_line, of_plain, several, operation_atom, call_line, call_atom, call_side, scalar_call, call_code, further_types, pointed_fields, as_atoms, make_from, make_line, let_line, par_line, if_line, ArmCode, with_fields, Branched, arm_for, branch_of, branches_of, constructors_of, first_constructor, case_line, atom_at, type_at, con_or, con_named, gives_type, infer, infer_all, infer_arms, infer_body}
+use Rattle.gib_core.proofs.Fits.{IsFit, AllFit, ScopeFits, fit_more, all_fit_more, scope_more, at_fit, fields_fit, named_at}
 
 -- The first number behind what a binding binds.
 abbrev pub next_of : ℕ → Bind → ℕ
@@ -53,23 +37,6 @@ FieldsOrdered n (x ∷ xs) = (n ≤ x.0) × FieldsOrdered (x.0 + 1) xs
 abbrev pub behind_fields : ℕ → List Variable → ℕ
 behind_fields n [] = n
 behind_fields n (x ∷ xs) = behind_fields (x.0 + 1) xs
-
--- The name of a constructor that was found by it.
-found_at : (xs : List ℕ) (x c : ℕ) → place_of xs x ≡ Some c → slice_get xs c ≡ Some x
-found_at [] x c e = absurd cc
-found_at (y ∷ ys) x c e = go (y == x) (place_of ys x) (eqb-true y x) (λ j f. found_at ys x j f) e
-  where
-    go : (b : Bool) (p : Option ℕ) → (b ≡ true → y ≡ x) → ((j : ℕ) → p ≡ Some j → slice_get ys j ≡ Some x) → (if b then Some 0 else next_place p) ≡ Some c → slice_get (y ∷ ys) c ≡ Some x
-    go true p is h f = subst (λ (n : ℕ). slice_get (y ∷ ys) n ≡ Some x) (same_Some 0 c f) (ap Some (is refl))
-    go false None is h f = absurd cc
-    go false (Some j) is h f = subst (λ (n : ℕ). slice_get (y ∷ ys) n ≡ Some x) (same_Some (suc j) c f) (h j refl)
-
-name_in : (r : Option Row) (x : ℕ) → option_map (λ (row : Row). row.name) r ≡ Some x → name_of r ≡ x
-name_in None x e = absurd cc
-name_in (Some row) x e = same_Some row.name x e
-
-named_at : (table : Table) (x c : ℕ) → constructor_named table x ≡ Some c → name_at table c ≡ x
-named_at table x c e = name_in (slice_get table.rows c) x (sym (slice_get-map (λ (row : Row). row.name) table.rows c) ∙ found_at (constructor_names table) x c e)
 
 module _ (g : Globals) where
   -- The constructor is found by its own name.
@@ -113,32 +80,6 @@ module _ (g : Globals) where
   rises_append : (n k m : ℕ) (xs ys : List Bind) → Rises n xs k → Rises k ys m → Rises n (xs ++ ys) m
   rises_append n k m [] ys e h = subst (λ (j : ℕ). Rises j ys m) (sym e) h
   rises_append n k m (b ∷ xs) ys e h = (e.0, (e.1.0, e.1.1, rises_append e.1.0 k m xs ys e.1.2 h))
-
-  fit_more : (n m : ℕ) (a : Atom) → n ≤ m → IsFit n a → IsFit m a
-  fit_more n m (atomic.Variable x) le h = omega arith
-  fit_more n m (atomic.Whole z) le h = h
-  fit_more n m (atomic.Truth b) le h = tt
-
-  all_fit_more : (n m : ℕ) (xs : List Atom) → n ≤ m → AllFit n xs → AllFit m xs
-  all_fit_more n m [] le h = tt
-  all_fit_more n m (a ∷ xs) le h = (fit_more n m a le h.0, all_fit_more n m xs le h.1)
-
-  scope_more : (n m : ℕ) (sc : Scope) → n ≤ m → ScopeFits n sc → ScopeFits m sc
-  scope_more n m [] le h = tt
-  scope_more n m (s ∷ sc) le h = (fit_more n m s.atom le h.0, scope_more n m sc le h.1)
-
-  at_fit : (n : ℕ) (sc : Scope) (x : ℕ) → ScopeFits n sc → IsFit n (atom_at sc x)
-  at_fit n [] x h = refl
-  at_fit n (s ∷ sc) x h = here (s.name.0 == x) (at_fit n sc x h.1)
-    where
-      here : (b : Bool) → IsFit n (atom_at sc x) → IsFit n (if b then s.atom else atom_at sc x)
-      here true e = h.0
-      here false e = e
-
-  pub fields_fit : (n m : ℕ) (xs : List Ident) (types : List Ty) (sc : Scope) → m ≡ n + length xs → ScopeFits n sc → ScopeFits m (with_fields xs types n sc)
-  fields_fit n m [] types sc e h = scope_more n m sc (omega arith) h
-  fields_fit n m (x ∷ xs) types sc e h =
-      fields_fit (n + 1) m xs (further_types types) (slot x (var n) (first_type types) ∷ sc) (omega arith) (omega arith, scope_more n (n + 1) sc (omega arith) h)
 
   -- What an expression becomes is ordered.
 
@@ -318,7 +259,7 @@ module _ (g : Globals) where
       record { grows = omega arith; term = ordered_prepend n l.fresh l.binds (body (slot x l.atom l.ty ∷ sc) l.fresh).term a.rises r.term }
 
   par_ordered : (x : Ident) (left : ToLine) (y : Ident) (right body : ToLine) (sc : Scope) → ((n : ℕ) → ScopeFits n sc → LineOrdered n (left sc n)) → ((n : ℕ) → ScopeFits n sc → LineOrdered n (right sc n))
-      → ((at1 at2 : Atom) (t1 t2 : Ty) (n : ℕ) → ScopeFits n (slot y at2 t2 ∷ slot x at1 t1 ∷ sc) → LineOrdered n (body (slot y at2 t2 ∷ slot x at1 t1 ∷ sc) n))
+      → ((at1 at2 : Atom) (s1 s2 : Ty) (n : ℕ) → ScopeFits n (slot y at2 s2 ∷ slot x at1 s1 ∷ sc) → LineOrdered n (body (slot y at2 s2 ∷ slot x at1 s1 ∷ sc) n))
       → (n : ℕ) → ScopeFits n sc → LineOrdered n (par_line x left y right body sc n)
   par_ordered x left y right body sc hl hr hb n s =
       let l = left sc (n + 1) in
@@ -430,7 +371,7 @@ module _ (g : Globals) where
     ordered (Par p x d y e f) known ty sc h =
         line_code (par_line x (infer g d).side y (infer g e).side (infer g f).line) sc
         (par_ordered x (infer g d).side y (infer g e).side (infer g f).line sc (ordered d known h.0 sc h.2).side (ordered e known h.1 sc h.3).side
-        (λ at1 at2 t1 t2. (ordered f (typing.bound y h.1 (typing.bound x h.0 known)) ty (slot y at2 t2 ∷ slot x at1 t1 ∷ sc) h.6).line))
+        (λ at1 at2 s1 s2. (ordered f (typing.bound y h.1 (typing.bound x h.0 known)) ty (slot y at2 s2 ∷ slot x at1 s1 ∷ sc) h.6).line))
     ordered (If p c d e) known ty sc h =
         line_code (if_line (infer g c).atom (infer g d).line (infer g e).line) sc
         (if_ordered (infer g c).atom (infer g d).line (infer g e).line sc (ordered c known Truth sc h.0).atom (ordered d known ty sc h.1).line (ordered e known ty sc h.2).line)

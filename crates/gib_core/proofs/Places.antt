@@ -1,5 +1,5 @@
 -- Each construct in each place.
-use Rattle.std.proofs.Common.{◌≡◌, ℕ, zero, suc, ◌+◌, ◌<◌, ◌≤◌, Bool, true, false, List, [], ◌∷◌, ◌++◌, map, length, refl, sym, ap, ◌∙◌, subst, arith}
+use Rattle.std.proofs.Common.{◌≡◌, ℕ, suc, ◌+◌, ◌≤◌, Bool, true, false, List, [], ◌∷◌, ◌++◌, map, length, refl, sym, ap, ◌∙◌, subst, arith}
 use Rattle.gib_base.specs.declared.name.Name.{Name}
 use Rattle.gib_types.specs.declared.table.Ty.{Ty}
 use Rattle.gib_types.specs.declared.table.Ty.TheVariants.{Whole, Truth, Tree}
@@ -12,12 +12,12 @@ use Rattle.gib_syntax.specs.Declarations.{number_of}
 use Rattle.gib_syntax.specs.Meaning.{Outcome, Gives, Stops, Environment, value_in, with_value, at_fields, with_fields, number_in, is_true, operate, choose}
 use Rattle.gib_core.specs.declared.atom.Atom.{Atom}
 use Rattle.gib_core.specs.declared.atom.Kind.{Kind}
-use Rattle.gib_core.specs.declared.atom.Kind.TheVariants.{Here, Scalar}
-use Rattle.gib_core.specs.Tree.{Term, Then, Write, Point, CallTerm, Give, IfTerm, Bind, Past, One, Both, Prim, On, var, variables_from, prepend}
-use Rattle.gib_core.specs.Meaning.{Calls, value, merge, Reached, Went, Halted, from_there, and_on, having, mean, run, run_all}
-use Rattle.gib_core.specs.Inferring.{Slot, Scope, slot, Lined, Atomed, Several, ToLine, ToAtom, Code, kind_of, boxed, given, of_line, of_atom, result_of, plain_line, plain_atom, of_plain, several, operation_atom, call_line, call_atom, call_side, scalar_call, call_code, first_type, further_types, pointed_fields, as_atoms, make_from, make_line, let_line, par_line, if_line}
-use Rattle.gib_core.proofs.Agreeing.{env_of, IsBelow, AllBelow, EachBelow, Keeps, Together, All, Lost, also, gather, with_all, each_of, Agree, came, halted, Collects, got, missed, Lines, Atoms, Manys, Good, AllGood}
-use Rattle.gib_core.proofs.Envs.{value_in-here, keeps_same, keeps_bind, keeps_more, keeps_less, below_less, all_below_less, each_below_less, value-keeps, values-keep, env_of-keeps, run_all-append, mean-prepend, agree_less, agree_back, agree_then, gives_then, with_value-Gives, collects_then, gives_all}
+use Rattle.gib_core.specs.declared.atom.Kind.TheVariants.{Scalar}
+use Rattle.gib_core.specs.Tree.{Term, Then, Write, CallTerm, Give, IfTerm, Bind, Past, One, Both, Prim, On, var, variables_from, prepend}
+use Rattle.gib_core.specs.Meaning.{Calls, value, merge, Reached, Went, from_there, and_on, having, mean, run, run_all}
+use Rattle.gib_core.specs.Inferring.{Scope, slot, Several, ToLine, ToAtom, Code, kind_of, boxed, given, of_line, of_atom, result_of, plain_line, of_plain, several, operation_atom, call_line, call_atom, call_side, scalar_call, call_code, further_types, pointed_fields, as_atoms, make_line, let_line, par_line, if_line}
+use Rattle.gib_core.proofs.Agreeing.{env_of, IsBelow, AllBelow, EachBelow, Keeps, Together, also, gather, with_all, each_of, Agree, came, halted, Collects, got, missed, Lines, Atoms, Manys, Good, AllGood}
+use Rattle.gib_core.proofs.Envs.{value_in-here, keeps_same, keeps_bind, keeps_more, keeps_less, below_less, all_below_less, each_below_less, value-keeps, values-keep, env_of-keeps, run_all-append, mean-prepend, agree_then, gives_then, with_value-Gives, collects_then, gives_all}
 use Rattle.gib_core.proofs.Together.{fields_merged}
 
 module _ (tb : Table) (call : Calls) where
@@ -271,7 +271,7 @@ module _ (tb : Table) (call : Calls) where
       }
 
   -- a `let`
-  pub let_good : (x : Ident) (bound : ToAtom) (body : ToLine) (f g : Environment → Outcome) (sc : Scope) → ((n : ℕ) (env : Environment) → AllBelow n sc → Atoms tb call n (bound sc n) env (f (env_of sc env))) → ((at : Atom) (t1 : Ty) (n : ℕ) (env : Environment) → AllBelow n (slot x at t1 ∷ sc) → Lines tb call n (body (slot x at t1 ∷ sc) n) env (g (env_of (slot x at t1 ∷ sc) env))) → (n : ℕ) (env : Environment) → AllBelow n sc → Lines tb call n (let_line x bound body sc n) env (with_value (f (env_of sc env)) (λ v. g ((number_of x, v) ∷ env_of sc env)))
+  pub let_good : (x : Ident) (bound : ToAtom) (body : ToLine) (f g : Environment → Outcome) (sc : Scope) → ((n : ℕ) (env : Environment) → AllBelow n sc → Atoms tb call n (bound sc n) env (f (env_of sc env))) → ((at : Atom) (s1 : Ty) (n : ℕ) (env : Environment) → AllBelow n (slot x at s1 ∷ sc) → Lines tb call n (body (slot x at s1 ∷ sc) n) env (g (env_of (slot x at s1 ∷ sc) env))) → (n : ℕ) (env : Environment) → AllBelow n sc → Lines tb call n (let_line x bound body sc n) env (with_value (f (env_of sc env)) (λ v. g ((number_of x, v) ∷ env_of sc env)))
   let_good x bound body f g sc ha hb n env b =
       let l = bound sc n in
       let s = ha n env b in
@@ -288,15 +288,15 @@ module _ (tb : Table) (call : Calls) where
       }
 
   -- a `let par`
-  par_runs : (k1 k2 : Kind) (x y : ℕ) (t1 t2 : Ty) (l r : Term) (env : Environment) (o p : Outcome) (go : Environment → Outcome) (k : Datum → Datum → Outcome) → mean tb call l env ≡ o → mean tb call r env ≡ p → ((v w : Datum) → go ((y, w) ∷ (x, v) ∷ env) ≡ k v w) → from_there (run tb call (Both false (On k1 (record { 0 = x }) t1 l) (On k2 (record { 0 = y }) t2 r)) env) go ≡ with_value o (λ v. with_value p (λ w. k v w))
-  par_runs k1 k2 x y t1 t2 l r env o p go k e1 e2 h = rw (e1, e2) (ends o p)
+  par_runs : (k1 k2 : Kind) (x y : ℕ) (s1 s2 : Ty) (l r : Term) (env : Environment) (o p : Outcome) (go : Environment → Outcome) (k : Datum → Datum → Outcome) → mean tb call l env ≡ o → mean tb call r env ≡ p → ((v w : Datum) → go ((y, w) ∷ (x, v) ∷ env) ≡ k v w) → from_there (run tb call (Both false (On k1 (record { 0 = x }) s1 l) (On k2 (record { 0 = y }) s2 r)) env) go ≡ with_value o (λ v. with_value p (λ w. k v w))
+  par_runs k1 k2 x y s1 s2 l r env o p go k e1 e2 h = rw (e1, e2) (ends o p)
     where
       ends : (o p : Outcome) → from_there (having o (λ v. having p (λ w. Went ((y, w) ∷ (x, v) ∷ env)))) go ≡ with_value o (λ v. with_value p (λ w. k v w))
       ends (Gives v) (Gives w) = h v w
       ends (Gives v) (Stops why) = refl
       ends (Stops why) p = refl
 
-  pub par_good : (x : Ident) (left : ToLine) (y : Ident) (right : ToLine) (body : ToLine) (f g h : Environment → Outcome) (sc : Scope) → ((n : ℕ) (env : Environment) → AllBelow n sc → Lines tb call n (left sc n) env (f (env_of sc env))) → ((n : ℕ) (env : Environment) → AllBelow n sc → Lines tb call n (right sc n) env (g (env_of sc env))) → ((at1 at2 : Atom) (t1 t2 : Ty) (n : ℕ) (env : Environment) → AllBelow n (slot y at2 t2 ∷ slot x at1 t1 ∷ sc) → Lines tb call n (body (slot y at2 t2 ∷ slot x at1 t1 ∷ sc) n) env (h (env_of (slot y at2 t2 ∷ slot x at1 t1 ∷ sc) env))) → (n : ℕ) (env : Environment) → AllBelow n sc → Lines tb call n (par_line x left y right body sc n) env (with_value (f (env_of sc env)) (λ v. with_value (g (env_of sc env)) (λ w. h ((number_of y, w) ∷ (number_of x, v) ∷ env_of sc env))))
+  pub par_good : (x : Ident) (left : ToLine) (y : Ident) (right : ToLine) (body : ToLine) (f g h : Environment → Outcome) (sc : Scope) → ((n : ℕ) (env : Environment) → AllBelow n sc → Lines tb call n (left sc n) env (f (env_of sc env))) → ((n : ℕ) (env : Environment) → AllBelow n sc → Lines tb call n (right sc n) env (g (env_of sc env))) → ((at1 at2 : Atom) (s1 s2 : Ty) (n : ℕ) (env : Environment) → AllBelow n (slot y at2 s2 ∷ slot x at1 s1 ∷ sc) → Lines tb call n (body (slot y at2 s2 ∷ slot x at1 s1 ∷ sc) n) env (h (env_of (slot y at2 s2 ∷ slot x at1 s1 ∷ sc) env))) → (n : ℕ) (env : Environment) → AllBelow n sc → Lines tb call n (par_line x left y right body sc n) env (with_value (f (env_of sc env)) (λ v. with_value (g (env_of sc env)) (λ w. h ((number_of y, w) ∷ (number_of x, v) ∷ env_of sc env))))
   par_good x left y right body f g h sc ha hc hb n env b =
       let l = left sc (n + 1) in
       let s = ha (n + 1) env (all_below_less n (n + 1) sc (omega arith) b) in

@@ -1,11 +1,10 @@
 -- To reach the fields of arms changes neither what is left of a core nor its meaning.
-use Rattle.std.proofs.Common.{◌≡◌, ℕ, zero, suc, Bool, true, false, ◌==◌, ◌||◌, if◌then◌else◌, List, [], ◌∷◌, ◌++◌, map, Option, Some, None, refl, sym, ap, ◌∙◌}
+use Rattle.std.proofs.Common.{◌≡◌, ℕ, zero, suc, Bool, true, false, ◌==◌, if◌then◌else◌, List, [], ◌∷◌, map, Some, refl, ap, ◌∙◌}
 use Rattle.gib_types.specs.Table.{Table}
 use Rattle.gib_types.specs.Tree.{Datum}
 use Rattle.gib_syntax.specs.Tree.{Expression, Arms, DataTree}
 use Rattle.gib_syntax.specs.Meaning.{Outcome, Environment, choose, is_made_by, is_true, parts}
 use Rattle.gib_core.specs.declared.atom.Variable.{Variable}
-use Rattle.gib_core.specs.declared.atom.Atom.{Atom}
 use Rattle.gib_core.specs.declared.atom.Access.TheVariants.{Offset, Skip}
 use Rattle.gib_core.specs.declared.atom.AccessMode.{AccessMode}
 use Rattle.gib_core.specs.declared.atom.AccessMode.TheVariants.{Skips, Offsets}
@@ -14,8 +13,8 @@ use Rattle.gib_core.specs.declared.atom.Kind.TheVariants.{Here, Region, Scalar}
 use Rattle.gib_core.specs.Tree.{Term, Then, Write, Point, CallTerm, Give, CaseTerm, IfTerm, Bind, Past, One, Both, Prim, Reach, Side, On, Branches, NoBranch, BranchThen, variable_of, prepend, FunctionTerm, CoreTree}
 use Rattle.gib_core.specs.Meaning as core
 use Rattle.gib_core.specs.Meaning.{Calls, value, from_there, having, Went, mean, run, mean_side, mean_branches, function_at, of_function, core_calls, core_run}
-use Rattle.gib_core.specs.Erasing.{ident, Substitution, put_in, case_of, arm_before, left_out, let_or_put, erase, erase_bind, erase_one, erase_side, erase_branches, erase_function, erase_core, erase_atom, nowhere}
-use Rattle.gib_core.specs.Reaching.{uses, uses_any, skips_from, offsets_from, reaches, packed_variables, reach, reach_bind, reach_side, reach_branches, reach_function, reach_core}
+use Rattle.gib_core.specs.Erasing.{ident, Substitution, put_in, case_of, arm_before, left_out, let_or_put, erase, erase_bind, erase_branches, erase_function, erase_core, erase_atom, nowhere}
+use Rattle.gib_core.specs.Reaching.{uses, uses_any, skips_from, offsets_from, reaches, packed_variables, reach, reach_bind, reach_branches, reach_function, reach_core}
 
 module _ (mode : AccessMode) (tb : Table) where
   -- reaches before a term are left out

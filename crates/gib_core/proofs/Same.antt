@@ -1,5 +1,5 @@
 -- What an expression means depends on the values of variables alone; and the variables of fields.
-use Rattle.std.proofs.Common.{◌≡◌, ℕ, zero, suc, ◌+◌, ◌<◌, ◌≤◌, Bool, true, false, ◌==◌, if◌then◌else◌, List, [], ◌∷◌, length, Option, Some, None, refl, sym, ap, ◌∙◌, subst, arith}
+use Rattle.std.proofs.Common.{◌≡◌, ℕ, ◌+◌, Bool, true, false, ◌==◌, if◌then◌else◌, List, [], ◌∷◌, length, Option, Some, None, refl, sym, ap, ◌∙◌, subst, arith}
 use Rattle.std.specs.Prelude.{pos}
 use Rattle.gib_types.specs.declared.table.Ty.{Ty}
 use Rattle.gib_types.specs.Table.{Table}
@@ -8,14 +8,14 @@ use Rattle.gib_syntax.specs.declared.tree.Ident.{Ident}
 use Rattle.gib_syntax.specs.Tree.{Expression, Arguments, Arms, Var, Num, Bit, Paren, Op, Call, Make, Let, Par, If, Case, NoArgument, Argument, LastArm, NextArm}
 use Rattle.gib_syntax.specs.Declarations.{number_of, constructor_named}
 use Rattle.gib_syntax.specs.Typing as typing
-use Rattle.gib_syntax.specs.Meaning.{Outcome, Gives, Environment, value_in, bind, with_value, with_values, number_in, is_true, is_made_by, parts, operate, made, choose, eval, eval_all, eval_arms}
+use Rattle.gib_syntax.specs.Meaning.{Gives, Environment, value_in, bind, with_value, with_values, number_in, is_true, is_made_by, parts, operate, made, choose, eval, eval_all, eval_arms}
 use Rattle.gib_core.specs.declared.atom.Atom.{Atom}
 use Rattle.gib_core.specs.Tree.{var, variables_from}
 use Rattle.gib_core.specs.Meaning as core
 use Rattle.gib_core.specs.Meaning.{Calls, value}
-use Rattle.gib_core.specs.Inferring.{Slot, Scope, slot, further_types, first_type, with_fields}
-use Rattle.gib_core.proofs.Agreeing.{env_of, AreSame, AllBelow, Keeps, Hides}
-use Rattle.gib_core.proofs.Envs.{value_in-here, same_refl, same_sym, same_trans, same_more, same_less, keeps_bind, all_below_less, env_of-keeps}
+use Rattle.gib_core.specs.Inferring.{Scope, slot, further_types, first_type, with_fields}
+use Rattle.gib_core.proofs.Agreeing.{env_of, AreSame, AllBelow, Hides}
+use Rattle.gib_core.proofs.Envs.{value_in-here, same_refl, same_trans, same_more, same_less, keeps_bind, all_below_less, env_of-keeps}
 
 pub bind_same : (xs : List Ident) (vs : List Datum) (env other : Environment) → AreSame env other → AreSame (bind xs vs env) (bind xs vs other)
 bind_same [] vs env other h = h

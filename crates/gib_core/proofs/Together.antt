@@ -1,9 +1,9 @@
 -- Outcomes of several parts, taken together.
-use Rattle.std.proofs.Common.{◌≡◌, ℕ, suc, Bool, true, false, if◌then◌else◌, List, [], ◌∷◌, ◌++◌, length, refl, sym, ap, ◌∙◌, arith}
+use Rattle.std.proofs.Common.{◌≡◌, true, false, List, [], ◌∷◌, ◌++◌, length, refl, sym, ap, ◌∙◌, arith}
 use Rattle.gib_types.specs.declared.table.Ty.{Ty}
 use Rattle.gib_types.specs.declared.table.Ty.TheVariants.{Whole, Truth, Tree}
 use Rattle.gib_types.specs.Tree.{Datum}
-use Rattle.gib_syntax.specs.Meaning.{Reason, Outcome, Gives, Stops, with_values, at_fields, with_fields}
+use Rattle.gib_syntax.specs.Meaning.{Outcome, Gives, Stops, with_values, at_fields, with_fields}
 use Rattle.gib_core.specs.Meaning.{merge}
 use Rattle.gib_core.proofs.Agreeing.{Together, All, Lost, also, gather, with_all}
 

@@ -1,15 +1,14 @@
 -- What a typed program becomes means what the program means.
-use Rattle.std.proofs.Common.{◌≡◌, ℕ, zero, suc, ◌+◌, ◌<◌, ◌≤◌, Bool, true, false, ◌==◌, if◌then◌else◌, List, [], ◌∷◌, ◌++◌, map, length, Option, Some, None, refl, sym, ap, ◌∙◌, subst, arith}
+use Rattle.std.proofs.Common.{◌≡◌, ℕ, zero, suc, ◌+◌, ◌<◌, ◌≤◌, Bool, true, false, ◌==◌, if◌then◌else◌, List, [], ◌∷◌, map, length, Option, Some, None, refl, sym, ap, ◌∙◌, subst, arith}
 use Rattle.std.specs.Prelude.{pos}
 use Rattle.std.specs.List.{AllByRecursion}
 use Rattle.std.proofs.lemmas.Bool.{eqb-true, eq-eqb}
 use Rattle.std.proofs.lemmas.Option.{same_Some}
 use Rattle.std.proofs.lemmas.List.{length-map}
 use Rattle.gib_types.specs.declared.table.Ty.{Ty}
-use Rattle.gib_types.specs.declared.table.Ty.TheVariants.{Whole, Truth, Tree}
-use Rattle.gib_types.specs.declared.table.ConId.{ConId}
-use Rattle.gib_types.specs.Table.{Row, Table, IsTable, con_at, owner_at, fields_at, first_at, count_at}
-use Rattle.gib_types.specs.Tree.{Data, Datum, whole, truth, con, list_of, data_of}
+use Rattle.gib_types.specs.declared.table.Ty.TheVariants.{Whole, Truth}
+use Rattle.gib_types.specs.Table.{Row, Table, IsTable, owner_at, fields_at, first_at, count_at}
+use Rattle.gib_types.specs.Tree.{Data, Datum, whole, truth, con, list_of}
 use Rattle.gib_types.proofs.Owners.{together, tag_there}
 use Rattle.gib_syntax.specs.declared.tree.Ident.{Ident}
 use Rattle.gib_syntax.specs.declared.tree.Parameter.{Parameter}
@@ -17,18 +16,18 @@ use Rattle.gib_syntax.specs.Tree.{Expression, Arguments, Arms, Var, Num, Bit, Pa
 use Rattle.gib_syntax.specs.Declarations.{number_of, place_of, next_place, constructor_names, constructor_named, function_named, table_of_program, type_of_name}
 use Rattle.gib_syntax.specs.Typing as typing
 use Rattle.gib_syntax.specs.Typing.{Globals, globals_of, Has, HaveAll, HaveArms, Covers, arm_names, BindsAll, parameter_types, IsTypedFunction, IsTypedHere, IsTypedProgram}
-use Rattle.gib_syntax.specs.Meaning.{Outcome, Gives, Stops, Environment, value_in, bind, with_values, is_made_by, parts, made, choose, eval, eval_all, eval_arms, names_of, of_function, calls, run}
+use Rattle.gib_syntax.specs.Meaning.{Outcome, Gives, Environment, value_in, bind, with_values, is_made_by, parts, made, choose, eval, eval_all, eval_arms, names_of, of_function, calls, run}
 use Rattle.gib_core.specs.declared.atom.Atom.TheVariants as atomic
-use Rattle.gib_core.specs.Tree.{variables_from, FunctionTerm, CoreTree}
+use Rattle.gib_core.specs.Tree.{variables_from, FunctionTerm}
 use Rattle.gib_core.specs.Meaning as core
 use Rattle.gib_core.specs.Meaning.{Calls, value, mean, function_at, core_calls, core_run}
-use Rattle.gib_core.specs.Inferring.{Slot, Scope, slot, Code, atom_at, type_at, operation_atom, make_line, let_line, par_line, if_line, case_line, ArmCode, with_fields, branches_of, numbers_from, constructors_of, first_constructor, con_or, con_named, gives_type, infer, infer_all, infer_arms, infer_body, infer_function, infer_program}
-use Rattle.gib_core.proofs.Agreeing.{env_of, AreSame, IsBelow, AllBelow, Hides, gather, with_all, each_of, Lines, Good, AllGood}
+use Rattle.gib_core.specs.Inferring.{Scope, slot, Code, atom_at, type_at, operation_atom, make_line, let_line, par_line, if_line, case_line, with_fields, numbers_from, constructors_of, first_constructor, con_or, con_named, gives_type, infer, infer_all, infer_arms, infer_body, infer_function, infer_program}
+use Rattle.gib_core.proofs.Agreeing.{env_of, AllBelow, Hides, gather, with_all, each_of, Lines, Good, AllGood}
 use Rattle.gib_core.proofs.Envs.{value_in-env_of, at_below}
 use Rattle.gib_core.proofs.Together.{values_all}
 use Rattle.gib_core.proofs.Places.{line_good, atom_good, plain_good, operation_good, call_good, make_good, let_good, par_good, if_good}
 use Rattle.gib_core.proofs.Same.{eval_same, hides_bound, hides_nothing, hides_all, fields_below, fields_same}
-use Rattle.gib_core.proofs.Cases.{Choice, choose_on, take_choice, listed, choice_for, ArmGood, AllArms, alts_grow, case_gives}
+use Rattle.gib_core.proofs.Cases.{Choice, choose_on, take_choice, listed, choice_for, AllArms, alts_grow, case_gives}
 
 -- Constructors of a type.
 
@@ -194,8 +193,8 @@ module _ (g : Globals) (call : Calls) (is : IsTable g.table) where
         line_good g.table call (par_line x (infer g d).side y (infer g e).side (infer g f).line) (eval g.table call (Par p x d y e f)) sc
         (par_good g.table call x (infer g d).side y (infer g e).side (infer g f).line (eval g.table call d) (eval g.table call e) (eval g.table call f) sc
         (good d known h.0 sc h.2 hides).side (good e known h.1 sc h.3 hides).side
-        (λ at1 at2 t1 t2. (good f (typing.bound y h.1 (typing.bound x h.0 known)) ty (slot y at2 t2 ∷ slot x at1 t1 ∷ sc) h.6
-        (hides_bound (typing.bound x h.0 known) (slot x at1 t1 ∷ sc) y h.1 at2 t2 (hides_bound known sc x h.0 at1 t1 hides))).line))
+        (λ at1 at2 s1 s2. (good f (typing.bound y h.1 (typing.bound x h.0 known)) ty (slot y at2 s2 ∷ slot x at1 s1 ∷ sc) h.6
+        (hides_bound (typing.bound x h.0 known) (slot x at1 s1 ∷ sc) y h.1 at2 s2 (hides_bound known sc x h.0 at1 s1 hides))).line))
     good (If p c d e) known ty sc h hides =
         line_good g.table call (if_line (infer g c).atom (infer g d).line (infer g e).line) (eval g.table call (If p c d e)) sc
         (if_good g.table call (infer g c).atom (infer g d).line (infer g e).line (eval g.table call c) (eval g.table call d) (eval g.table call e) sc
