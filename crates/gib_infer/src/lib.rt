@@ -1,0 +1,4 @@
+//! From typed programs to cores.
+#![tactic(auto)]
+
+mod work;
