@@ -18,7 +18,6 @@ use Rattle.gib_core.specs.declared.atom.Atom.TheVariants as a
 use Rattle.gib_core.specs.declared.atom.Kind.{Kind}
 use Rattle.gib_core.specs.declared.atom.Kind.TheVariants.{Here, Region, Scalar}
 use Rattle.gib_core.specs.Tree.{Term, Then, Write, Point, CallTerm, Give, CaseTerm, IfTerm, Bind, Past, One, Both, Prim, Side, On, Branches, NoBranch, BranchThen, var, prepend, FunctionTerm, MainTerm, CoreTree}
-
 -- What a name in scope became: an atom with its type.
 pub use Rattle.gib_core.specs.declared.scope.Slot.{Slot}
 

@@ -44,7 +44,10 @@ pub enum Binding {
         right: Atom,
     },
     /// From here on a field of an arm can be used.
-    Reach { field: Variable, access: Access },
+    Reach {
+        field: Variable,
+        access: Access,
+    },
 }
 
 /// A branch of a case: a constructor, the variables of its fields in declared order, and its term.
