@@ -1,4 +1,8 @@
 //! From typed programs to cores.
 #![tactic(auto)]
 
+mod fields;
+mod names;
+mod steps;
+mod walk;
 mod work;

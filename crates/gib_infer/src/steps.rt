@@ -1,14 +1,14 @@
 //! The ends of constructs, once the code of their parts stands.
 
 ghost use Rattle.std.specs.Prelude.{◌≡◌, ℕ, ◌+◌, ◌<◌, ◌++◌, ◌∷◌, [], length, IfOk};
-ghost use Rattle.gib_types.specs.declared.table.Ty.TheVariants.{Tree};
 ghost use Rattle.gib_core.specs.Inferring.{call_atom, make_from};
-ghost use Rattle.gib_infer.specs.Made.{AreBindingsBelow, MakesLine, MakesAtom, pending, pending_atom, plain_atoms, given_atom, ended_call, side_call};
+ghost use Rattle.gib_infer.specs.Made.{AreBindingsBelow, MakesLine, MakesAtom, PointsFields, pending, pending_atom, plain_atoms, given_atom, ended_call, side_call};
 
+use crate::fields::{first_type, further_types};
 use crate::work::{Work, new_variable, put_line};
 use gib_base::{Memory, Name};
 use gib_core::{Atom, Binding, BoundTerm, Kind, Node, TermId};
-use gib_types::{ConId, Ty, TyId};
+use gib_types::{ConId, Ty};
 use std::alloc::Global;
 
 /// A scalar that is given, behind its bindings.
@@ -135,13 +135,14 @@ pub fn end_make(
     alloc: Global,
     work: &mut Work,
     mut bindings: Vec<Binding>,
+    ty: Ty,
     constructor: ConId,
     types: &[Ty],
     scalars: Vec<Atom>,
     packed: &[Atom],
 ) -> Result<TermId, Memory>
     requires { AreBindingsBelow (length work.old.terms) bindings.items }
-    ensures { (owner : TyId) → IfOk result (λ t. MakesLine work.old work.new t (Tree owner) (make_from (Tree owner) constructor types.now (pending work.old bindings.items scalars.items) (plain_atoms work.old packed.now))) }
+    ensures { IfOk result (λ t. MakesLine work.old work.new t ty (make_from ty constructor types.now (pending work.old bindings.items scalars.items) (plain_atoms work.old packed.now))) }
 {
     let head = new_variable(work)?;
     bindings.push(Binding::Past { head, constructor })?;

@@ -1,6 +1,8 @@
 //! What the walk keeps, and the small steps that it is made of.
 
-ghost use Rattle.std.specs.Prelude.{◌≡◌, ℕ, ◌+◌, ◌<◌, ◌++◌, ◌∷◌, [], length, Some, IfOk};
+ghost use Rattle.std.specs.Prelude.{◌≡◌, ℕ, ◌+◌, ◌<◌, ◌^◌, ◌++◌, ◌∷◌, [], pos, length, Some, IfOk};
+ghost use Rattle.gib_core.specs.declared.atom.Atom.TheVariants as a;
+ghost use Rattle.gib_core.specs.declared.node.Binding.TheVariants as b;
 ghost use Rattle.gib_syntax.specs.Typing.{operator_type as type_of_operator};
 ghost use Rattle.gib_core.specs.Tree.{prepend};
 ghost use Rattle.gib_core.specs.Arena.{Grows, PartsBelow, term_of, binds_from, layer};
@@ -8,7 +10,7 @@ ghost use Rattle.gib_core.specs.Inferring.{atom_at, type_at, kind_of, result_of}
 ghost use Rattle.gib_infer.specs.Made.{scope_of, AreBindingsBelow};
 
 use gib_base::{Memory, Name};
-use gib_core::{Atom, Binding, Kind, Node, Slot, TermId, Terms, Variable};
+use gib_core::{Atom, Binding, BoundTerm, Kind, Node, Slot, TermId, Terms, Variable};
 use gib_syntax::Operator;
 use gib_types::Ty;
 use std::alloc::AllocError;
@@ -71,6 +73,32 @@ pub fn operator_type(operator: Operator) -> Ty
         Operator::Equal => Ty::Truth,
         Operator::Less => Ty::Truth,
     }
+}
+
+/// A literal.
+pub fn whole(number: u64) -> Atom
+    requires { number < 2 ^ 63 }
+    ensures { result ≡ a.Whole (pos number) }
+{
+    Atom::Whole(number as i64)
+}
+
+/// Binds a variable to a term, behind other bindings.
+pub fn push_bound(
+    bindings: &mut Vec<Binding>,
+    variable: Variable,
+    ty: Ty,
+    term: TermId,
+) -> Result<(), Memory>
+    ensures { IfOk result (λ _. bindings.new.items ≡ bindings.old.items ++ b.One (record { kind = kind_of ty; variable = variable; ty = ty; term = term }) ∷ []) }
+{
+    bindings.push(Binding::One(BoundTerm {
+        kind: kind(ty),
+        variable,
+        ty,
+        term,
+    }))?;
+    Ok(())
 }
 
 /// The bindings in front of a term.
