@@ -1,2 +1,4 @@
 pub mod Layers
 pub mod Unbroken
+pub mod Indented
+pub mod Copied

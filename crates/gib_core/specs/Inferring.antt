@@ -17,7 +17,7 @@ use Rattle.gib_core.specs.declared.atom.Atom.{Atom}
 use Rattle.gib_core.specs.declared.atom.Atom.TheVariants as a
 use Rattle.gib_core.specs.declared.atom.Kind.{Kind}
 use Rattle.gib_core.specs.declared.atom.Kind.TheVariants.{Here, Region, Scalar}
-use Rattle.gib_core.specs.Tree.{Term, Then, Write, Point, CallTerm, Give, CaseTerm, IfTerm, Bind, Past, One, Both, Prim, Side, On, Branches, NoBranch, BranchThen, var, prepend, FunctionTerm, MainTerm, CoreTree}
+use Rattle.gib_core.specs.Tree.{Term, Then, Write, Point, CallTerm, Give, CaseTerm, IfTerm, Bind, Past, One, Both, Prim, Side, On, Branches, NoBranch, BranchThen, var, variables_from, prepend, FunctionTerm, MainTerm, CoreTree}
 -- What a name in scope became: an atom with its type.
 pub use Rattle.gib_core.specs.declared.scope.Slot.{Slot}
 
@@ -180,11 +180,6 @@ further_types (t ∷ ts) = ts
 abbrev pub pointed_fields : ℕ → List Ty → List Atom → List Bind
 pointed_fields n types [] = []
 pointed_fields n types (x ∷ xs) = One (On Here (record { 0 = n }) (first_type types) (Point x)) ∷ pointed_fields (n + 1) (further_types types) xs
-
--- As many variables as there are items, from a number on.
-abbrev pub variables_from : {A : Type 0} → ℕ → List A → List Variable
-variables_from n [] = []
-variables_from n (x ∷ xs) = record { 0 = n } ∷ variables_from (n + 1) xs
 
 -- Variables as atoms.
 abbrev pub as_atoms : List Variable → List Atom

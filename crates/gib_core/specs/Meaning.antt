@@ -8,7 +8,7 @@ use Rattle.gib_syntax.specs.Meaning.{Reason, Deep, Outcome, Gives, Stops, Enviro
 use Rattle.gib_core.specs.declared.atom.Variable.{Variable}
 use Rattle.gib_core.specs.declared.atom.Atom.{Atom}
 use Rattle.gib_core.specs.declared.atom.Atom.TheVariants as a
-use Rattle.gib_core.specs.Tree.{Term, Then, Write, Point, CallTerm, Give, CaseTerm, IfTerm, Bind, Past, One, Both, Prim, Reach, Side, On, Branches, NoBranch, BranchThen, variable_of, FunctionTerm, CoreTree}
+use Rattle.gib_core.specs.Tree.{Term, Then, Write, Point, CallTerm, Give, CaseTerm, IfTerm, Bind, Past, One, Both, Prim, Reach, Side, On, Branches, NoBranch, BranchThen, variable_of, variables_from, FunctionTerm, CoreTree}
 
 -- What a call of a function of a name means.
 abbrev pub Calls : Type 0
@@ -25,12 +25,6 @@ abbrev pub bind : List Variable → List Datum → Environment → Environment
 bind [] vs env = env
 bind (x ∷ xs) [] env = bind xs [] ((x.0, whole (pos 0)) ∷ env)
 bind (x ∷ xs) (v ∷ vs) env = bind xs vs ((x.0, v) ∷ env)
-
--- Values for parameters, which are the variables from a number on.
-abbrev pub bind_parameters : ℕ → List Ty → List Datum → Environment → Environment
-bind_parameters n [] vs env = env
-bind_parameters n (t ∷ ts) [] env = env
-bind_parameters n (t ∷ ts) (v ∷ vs) env = bind_parameters (suc n) ts vs ((n, v) ∷ env)
 
 -- Scalar fields and packed fields together, in the declared order of fields of these types.
 abbrev pub merge : {A : Type 0} → List Ty → List A → List A → List A
@@ -111,7 +105,7 @@ of_function (Some g) go = go g
 abbrev pub core_calls : CoreTree → ℕ → Calls
 core_calls core zero f arguments = Stops Deep
 core_calls core (suc n) f arguments =
-    of_function (function_at core.functions f) (λ g. mean core.table (core_calls core n) g.body (bind_parameters 0 g.parameters arguments []))
+    of_function (function_at core.functions f) (λ g. mean core.table (core_calls core n) g.body (bind (variables_from 0 g.parameters) arguments []))
 
 -- What a core means: main's body, with its parameter.
 abbrev pub core_run : CoreTree → ℕ → Datum → Outcome

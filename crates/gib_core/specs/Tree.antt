@@ -1,5 +1,5 @@
 -- The terms of cores.
-use Rattle.std.specs.Prelude.{ℕ, Bool, List, [], ◌∷◌}
+use Rattle.std.specs.Prelude.{ℕ, ◌+◌, Bool, List, [], ◌∷◌}
 use Rattle.gib_base.specs.declared.name.Name.{Name}
 use Rattle.gib_types.specs.declared.table.Ty.{Ty}
 use Rattle.gib_types.specs.declared.table.ConId.{ConId}
@@ -46,6 +46,11 @@ mutual
 -- The variable of a number, as an atom.
 abbrev pub var : ℕ → Atom
 var n = a.Variable (record { 0 = n })
+
+-- As many variables as there are items, from a number on.
+abbrev pub variables_from : {A : Type 0} → ℕ → List A → List Variable
+variables_from n [] = []
+variables_from n (x ∷ xs) = record { 0 = n } ∷ variables_from (n + 1) xs
 
 -- The variable of a side.
 abbrev pub variable_of : Side → Variable

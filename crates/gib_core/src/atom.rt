@@ -1,5 +1,7 @@
 //! The small things that terms are made of.
 
+ghost use Rattle.std.specs.Prelude.{◌≡◌, ◌<◌, ◌^◌, pos};
+
 /// A variable: its number in its function, in the order in which the printed text binds them.
 #[derive(Clone, Copy, Debug, PartialEq, Eq)]
 pub struct Variable(pub u32);
@@ -37,4 +39,14 @@ pub enum Access {
 pub enum AccessMode {
     Skips,
     Offsets,
+}
+
+impl Atom {
+    /// The number of a literal of the source.
+    pub fn literal(value: u64) -> Atom
+        requires { value < 2 ^ 63 }
+        ensures { result ≡ Atom.Whole (pos value) }
+    {
+        Atom::Whole(value as i64)
+    }
 }

@@ -3,14 +3,20 @@
 
 pub mod atom;
 pub mod checked;
+pub mod copy;
 pub mod law;
 pub mod node;
 pub mod piece;
+pub mod print;
 pub mod program;
 pub mod scope;
+mod text;
+mod written;
 
 pub use atom::{Access, AccessMode, Atom, Kind, Variable};
 pub use checked::Checked;
+pub use copy::copy_types;
 pub use node::{Binding, BoundTerm, Branch, Node, TermId, Terms};
+pub use print::print_core;
 pub use program::{Core, CoreFunction, CoreMain};
 pub use scope::{Behind, Bound, Known, Slot};

@@ -1,0 +1,22 @@
+use Rattle.std.proofs.Common.{◌≡◌, ◌≤◌, ◌+◌, ◌*◌, length, drop}
+use Rattle.gib_core.specs.Arena.{term_of, branches_from}
+use Rattle.gib_core.specs.CoreText.{spell_branches}
+use Rattle.gib_core.proofs.print.+terms.Given as goal
+
+abbrev pub decreases-put_term : goal.decreases-put_term
+decreases-put_term l = 4 * l.id.0 + 3
+
+abbrev pub decreases-put_binding : goal.decreases-put_binding
+decreases-put_binding l = 4 * l.whole.0 + 2
+
+abbrev pub decreases-put_side : goal.decreases-put_side
+decreases-put_side l = 4 * l.side.term.0 + 4
+
+abbrev pub decreases-put_branches : goal.decreases-put_branches
+decreases-put_branches l = 4 * l.whole.0 + 1
+
+abbrev pub invariant-put_branches-branches : goal.invariant-put_branches-branches
+invariant-put_branches-branches l = (l.i ≤ length l.branches) × (l.out ≡ spell_branches l.level (branches_from (term_of l.terms) (drop l.i l.branches)) l.fn.out)
+
+abbrev pub decreases-put_branches-branches : goal.decreases-put_branches-branches
+decreases-put_branches-branches l = l.i

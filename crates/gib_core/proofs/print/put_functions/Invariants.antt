@@ -1,0 +1,11 @@
+use Rattle.std.proofs.Common.{◌≡◌, ◌≤◌, length, drop, map}
+use Rattle.gib_core.specs.Arena.{term_of}
+use Rattle.gib_core.specs.Parts.{function_term}
+use Rattle.gib_core.specs.CoreText.{spell_functions}
+use Rattle.gib_core.proofs.print.put_functions.Given as goal
+
+abbrev pub invariant-functions : goal.invariant-functions
+invariant-functions l = (l.i ≤ length l.functions) × (l.out ≡ spell_functions (map (function_term (term_of l.terms)) (drop l.i l.functions)) l.fn.out)
+
+abbrev pub decreases-functions : goal.decreases-functions
+decreases-functions l = l.i

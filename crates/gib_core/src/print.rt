@@ -1,0 +1,293 @@
+//! Cores as text.
+//!
+//! Pieces are put from the last one to the first: each part goes before what follows it.
+
+ghost use Rattle.std.specs.Prelude.{◌≡◌, ◌<◌, ◌+◌, ◌*◌, ◌^◌, [], ◌∷◌, ℕ, length, map, IfOk, OnOk};
+ghost use Rattle.std.specs.List.{AllByRecursion};
+ghost use Rattle.gib_core.specs.Arena.{IsBindingBelow, IsBranchBelow, term_of, side_from, bind_from, branches_from};
+ghost use Rattle.gib_core.specs.Parts.{IsFunctionInside, function_term, main_term, core_of};
+ghost use Rattle.gib_core.specs.CoreText.{kind_word, spell_access, spell_fork, spell_variables, spell_atoms, spell_term, spell_bind, spell_side, spell_branches, spell_parameters, spell_function, spell_functions, spell_main, spell_core, core_text};
+
+use crate::atom::{Access, Atom, Kind, Variable};
+use crate::node::{Binding, BoundTerm, Branch, Node, TermId, Terms};
+use crate::piece::{Keyword, Piece};
+use crate::program::{Core, CoreFunction, CoreMain};
+use crate::text::text_of;
+use crate::written::Written;
+use gib_base::{Memory, Names};
+use gib_types::Ty;
+use std::alloc::{AllocError, Global};
+
+fn put_variables(variables: &[Variable], out: &mut Written) -> Result<(), Memory>
+    ensures { OnOk result (out.new ≡ spell_variables variables.now out.old) }
+{
+    let mut i = variables.len();
+    'variables: while i > 0 {
+        i -= 1;
+        out.put(Piece::Variable(variables[i]))?;
+    }
+    Ok(())
+}
+
+fn put_atoms(atoms: &[Atom], out: &mut Written) -> Result<(), Memory>
+    ensures { OnOk result (out.new ≡ spell_atoms atoms.now out.old) }
+{
+    let mut i = atoms.len();
+    'atoms: while i > 0 {
+        i -= 1;
+        out.put(Piece::Atom(atoms[i]))?;
+    }
+    Ok(())
+}
+
+/// The line of one atom behind a word.
+fn put_atom_line(level: u64, word: Keyword, atom: Atom, out: &mut Written) -> Result<(), Memory>
+    ensures { OnOk result (out.new ≡ Piece.Line level word ∷ Piece.Atom atom ∷ Piece.End ∷ out.old) }
+{
+    out.put(Piece::End)?;
+    out.put(Piece::Atom(atom))?;
+    out.put_line(level, word)
+}
+
+/// The word for how a term is bound.
+fn kind_word(kind: Kind) -> Keyword
+    ensures { result ≡ kind_word kind }
+{
+    match kind {
+        Kind::Here => Keyword::Here,
+        Kind::Region => Keyword::Region,
+        Kind::Scalar => Keyword::Scalar,
+    }
+}
+
+fn put_access(access: Access, out: &mut Written) -> Result<(), Memory>
+    ensures { OnOk result (out.new ≡ spell_access access ∷ out.old) }
+{
+    match access {
+        Access::Offset => out.put(Piece::ByOffset),
+        Access::Skip(field) => out.put(Piece::BySkip(field)),
+    }
+}
+
+fn put_fork(fork: bool, out: &mut Written) -> Result<(), Memory>
+    ensures { OnOk result (out.new ≡ spell_fork fork out.old) }
+{
+    if fork { out.put(Piece::Fork) } else { Ok(()) }
+}
+
+/// A term on a level. This recurses as deep as terms are nested, and no deeper.
+#[cycle(terms)]
+fn put_term(terms: &Terms, level: u64, id: TermId, out: &mut Written) -> Result<(), Memory>
+    requires inside { id.0 < length terms.now }
+    requires level { level + 2 * id.0 < 2 ^ 40 }
+    ensures { OnOk result (out.new ≡ spell_term level (term_of terms.now id.0) out.old) }
+{
+    match terms.node(id) {
+        Node::Then(binding, rest) => {
+            put_term(terms, level, *rest, out)?;
+            put_binding(terms, level, id, *binding, out)
+        }
+        Node::Write {
+            head,
+            scalars,
+            packed,
+            ..
+        } => {
+            out.put(Piece::End)?;
+            put_atoms(packed, out)?;
+            put_atoms(scalars, out)?;
+            out.put(Piece::Variable(*head))?;
+            out.put_line(level, Keyword::Write)
+        }
+        Node::Point(atom) => put_atom_line(level, Keyword::Point, *atom, out),
+        Node::Call(name, arguments) => {
+            out.put(Piece::End)?;
+            put_atoms(arguments, out)?;
+            out.put(Piece::Function(*name))?;
+            out.put_line(level, Keyword::Call)
+        }
+        Node::Give(atom) => put_atom_line(level, Keyword::Give, *atom, out),
+        Node::Case { subject, branches } => {
+            put_branches(terms, level + 1, id, branches, out)?;
+            put_atom_line(level, Keyword::Case, *subject, out)
+        }
+        Node::If {
+            condition,
+            then_part,
+            else_part,
+        } => {
+            put_term(terms, level + 1, *else_part, out)?;
+            out.put(Piece::End)?;
+            out.put_line(level, Keyword::Else)?;
+            put_term(terms, level + 1, *then_part, out)?;
+            put_atom_line(level, Keyword::If, *condition, out)
+        }
+    }
+}
+
+/// A binding of the term of a number, whose terms stand below it.
+#[cycle(terms)]
+fn put_binding(
+    terms: &Terms,
+    level: u64,
+    whole: TermId,
+    binding: Binding,
+    out: &mut Written,
+) -> Result<(), Memory>
+    requires inside { whole.0 < length terms.now }
+    requires level { level + 2 * whole.0 < 2 ^ 40 }
+    requires below { IsBindingBelow whole.0 binding }
+    ensures { OnOk result (out.new ≡ spell_bind level (bind_from (term_of terms.now) binding) out.old) }
+{
+    match binding {
+        Binding::Past { head, constructor } => {
+            out.put(Piece::End)?;
+            out.put(Piece::Constructor(constructor))?;
+            out.put(Piece::Variable(head))?;
+            out.put_line(level, Keyword::Past)
+        }
+        Binding::One(side) => put_side(terms, level, side, out),
+        Binding::Par { fork, left, right } => {
+            put_side(terms, level + 1, right, out)?;
+            put_side(terms, level + 1, left, out)?;
+            out.put(Piece::End)?;
+            put_fork(fork, out)?;
+            out.put_line(level, Keyword::Par)
+        }
+        Binding::Prim {
+            variable,
+            operator,
+            left,
+            right,
+        } => {
+            out.put(Piece::End)?;
+            out.put(Piece::Atom(right))?;
+            out.put(Piece::Operator(operator))?;
+            out.put(Piece::Atom(left))?;
+            out.put(Piece::Equals)?;
+            out.put(Piece::Variable(variable))?;
+            out.put_line(level, Keyword::Prim)
+        }
+        Binding::Reach { field, access } => {
+            out.put(Piece::End)?;
+            put_access(access, out)?;
+            out.put(Piece::Variable(field))?;
+            out.put_line(level, Keyword::Reach)
+        }
+    }
+}
+
+/// A variable with the term that it is bound to.
+#[cycle(terms)]
+fn put_side(terms: &Terms, level: u64, side: BoundTerm, out: &mut Written) -> Result<(), Memory>
+    requires inside { side.term.0 < length terms.now }
+    requires level { level + 1 + 2 * side.term.0 < 2 ^ 40 }
+    ensures { OnOk result (out.new ≡ spell_side level (side_from (term_of terms.now) side) out.old) }
+{
+    put_term(terms, level + 1, side.term, out)?;
+    out.put(Piece::End)?;
+    out.put(Piece::Variable(side.variable))?;
+    out.put_line(level, kind_word(side.kind))
+}
+
+/// The branches of the case of a number, whose terms stand below it.
+#[cycle(terms)]
+fn put_branches(
+    terms: &Terms,
+    level: u64,
+    whole: TermId,
+    branches: &[Branch],
+    out: &mut Written,
+) -> Result<(), Memory>
+    requires inside { whole.0 < length terms.now }
+    requires level { level + 2 * whole.0 < 2 ^ 40 + 1 }
+    requires below { AllByRecursion (IsBranchBelow whole.0) branches.now }
+    ensures { OnOk result (out.new ≡ spell_branches level (branches_from (term_of terms.now) branches.now) out.old) }
+{
+    let mut i = branches.len();
+    'branches: while i > 0 {
+        i -= 1;
+        put_term(terms, level + 1, branches[i].term, out)?;
+        out.put(Piece::End)?;
+        put_variables(&branches[i].variables, out)?;
+        out.put(Piece::Arm(level, branches[i].constructor))?;
+    }
+    Ok(())
+}
+
+fn put_parameters(parameters: &[Ty], out: &mut Written) -> Result<(), Memory>
+    ensures { OnOk result (out.new ≡ spell_parameters 0 parameters.now out.old) }
+{
+    let mut i = parameters.len();
+    'parameters: while i > 0 {
+        i -= 1;
+        let Ok(number) = u32::try_from(i) else {
+            return Err(AllocError);
+        };
+        out.put(Piece::Parameter(Variable(number), parameters[i]))?;
+    }
+    Ok(())
+}
+
+/// The type of a result, the end of its line, and the body below it.
+fn put_body(terms: &Terms, ty: Ty, body: TermId, out: &mut Written) -> Result<(), Memory>
+    requires { body.0 < length terms.now }
+    ensures { OnOk result (out.new ≡ Piece.Result ty ∷ Piece.End ∷ spell_term 1 (term_of terms.now body.0) out.old) }
+{
+    put_term(terms, 1, body, out)?;
+    out.put(Piece::End)?;
+    out.put(Piece::Result(ty))
+}
+
+fn put_function(terms: &Terms, function: &CoreFunction, out: &mut Written) -> Result<(), Memory>
+    requires { function.now.body.0 < length terms.now }
+    ensures { OnOk result (out.new ≡ spell_function (function_term (term_of terms.now) function.now) out.old) }
+{
+    put_body(terms, function.result, function.body, out)?;
+    put_parameters(&function.parameters, out)?;
+    out.put(Piece::Function(function.name))?;
+    out.put_line(0, Keyword::Fun)
+}
+
+fn put_functions(terms: &Terms, functions: &[CoreFunction], out: &mut Written) -> Result<(), Memory>
+    requires { AllByRecursion (IsFunctionInside (length terms.now)) functions.now }
+    ensures { OnOk result (out.new ≡ spell_functions (map (function_term (term_of terms.now)) functions.now) out.old) }
+{
+    let mut i = functions.len();
+    'functions: while i > 0 {
+        i -= 1;
+        put_function(terms, &functions[i], out)?;
+    }
+    Ok(())
+}
+
+fn put_main(terms: &Terms, main: CoreMain, out: &mut Written) -> Result<(), Memory>
+    requires { main.body.0 < length terms.now }
+    ensures { OnOk result (out.new ≡ spell_main (main_term (term_of terms.now) main) out.old) }
+{
+    put_body(terms, main.result, main.body, out)?;
+    out.put(Piece::Parameter(Variable(0), main.parameter))?;
+    out.put_line(0, Keyword::Main)
+}
+
+/// The pieces of a core's text.
+fn pieces_of(alloc: Global, core: &Core) -> Result<Vec<Piece>, Memory>
+    ensures { IfOk result (λ pieces. pieces.items ≡ spell_core (core_of core.now)) }
+{
+    let mut out = Written::new(alloc);
+    put_main(core.terms(), core.main(), &mut out)?;
+    put_functions(core.terms(), core.functions(), &mut out)?;
+    Ok(out.into_pieces())
+}
+
+/// The text of a core, with the names of its program.
+///
+/// # Errors
+///
+/// Want of memory.
+pub fn print_core(alloc: Global, core: &Core, names: &Names) -> Result<Vec<u8>, Memory>
+    ensures { IfOk result (λ out. out.items ≡ core_text names.now (core_of core.now)) }
+{
+    let pieces = pieces_of(alloc, core)?;
+    text_of(alloc, &pieces, core.types(), names)
+}

@@ -1,0 +1,238 @@
+//! Pieces as text.
+
+ghost use Rattle.std.specs.Prelude.{◌≡◌, ◌++◌, [], ◌∷◌, unwrap_or, slice_get, codes, IfOk, OnOk};
+ghost use Rattle.std.specs.List.{flat_map};
+ghost use Rattle.std.specs.Fmt.{decimal, signed_decimal};
+ghost use Rattle.gib_types.specs.Table.{name_at};
+ghost use Rattle.gib_core.specs.CoreText.{keyword_text, operator_text, indent, name_text, variable_text, atom_text, type_text, piece_text};
+
+use crate::atom::{Atom, Variable};
+use crate::piece::{Keyword, Piece};
+use gib_base::{Memory, Name, Names};
+use gib_syntax::Operator;
+use gib_types::{ConId, Ty, TyId, TypeTable};
+use std::alloc::Global;
+
+/// How a word is written.
+fn keyword_text(keyword: Keyword) -> &'static [u8]
+    ensures { result.now ≡ keyword_text keyword }
+{
+    match keyword {
+        Keyword::Fun => b"fun",
+        Keyword::Main => b"main",
+        Keyword::Case => b"case",
+        Keyword::If => b"if",
+        Keyword::Else => b"else",
+        Keyword::Past => b"past",
+        Keyword::Write => b"write",
+        Keyword::Point => b"point",
+        Keyword::Give => b"give",
+        Keyword::Call => b"call",
+        Keyword::Here => b"here",
+        Keyword::Region => b"region",
+        Keyword::Scalar => b"scalar",
+        Keyword::Prim => b"prim",
+        Keyword::Par => b"par",
+        Keyword::Reach => b"reach",
+    }
+}
+
+/// How an operator is written.
+fn operator_text(operator: Operator) -> &'static [u8]
+    ensures { result.now ≡ operator_text operator }
+{
+    match operator {
+        Operator::Add => b"+",
+        Operator::Subtract => b"-",
+        Operator::Multiply => b"*",
+        Operator::Equal => b"==",
+        Operator::Less => b"<",
+    }
+}
+
+/// The text of a name; a number that no name has stands for no text.
+fn name_text(names: &Names, name: Name) -> &[u8]
+    ensures { result.now ≡ name_text names.now name.0 }
+{
+    if name.0 < names.len() {
+        names.text(name)
+    } else {
+        &[]
+    }
+}
+
+/// The name of a constructor; of a number that no constructor has, the first name.
+fn con_name(types: &TypeTable, con: ConId) -> Name
+    ensures { result.0 ≡ name_at types.now con.0 }
+{
+    if con.0 < types.len() {
+        types.name_of(con)
+    } else {
+        Name(0)
+    }
+}
+
+/// The name of a declared type; of a number that no type has, the first name.
+fn type_name(types: &TypeTable, ty: TyId) -> Name
+    ensures { result.0 ≡ unwrap_or (slice_get types.now.types ty.0) 0 }
+{
+    if ty.0 < types.type_count() {
+        types.type_name(ty)
+    } else {
+        Name(0)
+    }
+}
+
+/// The text of a type.
+fn type_text<'a>(names: &'a Names, types: &TypeTable, ty: Ty) -> &'a [u8]
+    ensures { result.now ≡ type_text names.now types.now ty }
+{
+    match ty {
+        Ty::Whole => b"Int",
+        Ty::Truth => b"Bool",
+        Ty::Tree(id) => name_text(names, type_name(types, id)),
+    }
+}
+
+/// Writes bytes behind a space.
+fn push_behind_space(out: &mut Vec<u8>, bytes: &[u8]) -> Result<(), Memory>
+    ensures { OnOk result (out.new.items ≡ out.old.items ++ 32 ∷ bytes.now) }
+{
+    out.push(b' ')?;
+    out.extend_from_slice(bytes)?;
+    Ok(())
+}
+
+/// Writes the spaces of a level.
+fn push_indent(out: &mut Vec<u8>, level: u64) -> Result<(), Memory>
+    ensures { OnOk result (out.new.items ≡ out.old.items ++ indent level) }
+{
+    let mut left = level;
+    'levels: while left > 0 {
+        out.extend_from_slice(b"  ")?;
+        left -= 1;
+    }
+    Ok(())
+}
+
+/// Writes a variable.
+fn push_variable(alloc: Global, out: &mut Vec<u8>, variable: Variable) -> Result<(), Memory>
+    ensures { OnOk result (out.new.items ≡ out.old.items ++ variable_text variable) }
+{
+    let number = variable.0;
+    let digits = format!(in alloc; "{number}")?;
+    out.push(b'%')?;
+    out.extend_from_slice(digits.as_bytes())?;
+    Ok(())
+}
+
+/// Writes a number.
+fn push_whole(alloc: Global, out: &mut Vec<u8>, value: i64) -> Result<(), Memory>
+    ensures { OnOk result (out.new.items ≡ out.old.items ++ signed_decimal value) }
+{
+    let digits = format!(in alloc; "{value}")?;
+    out.extend_from_slice(digits.as_bytes())?;
+    Ok(())
+}
+
+/// Writes an atom.
+fn push_atom(alloc: Global, out: &mut Vec<u8>, atom: Atom) -> Result<(), Memory>
+    ensures { OnOk result (out.new.items ≡ out.old.items ++ atom_text atom) }
+{
+    match atom {
+        Atom::Variable(variable) => push_variable(alloc, out, variable),
+        Atom::Whole(value) => push_whole(alloc, out, value),
+        Atom::Truth(value) => {
+            out.extend_from_slice(if value { b"True" } else { b"False" })?;
+            Ok(())
+        }
+    }
+}
+
+/// Writes a parameter with its type.
+fn push_parameter(
+    alloc: Global,
+    out: &mut Vec<u8>,
+    variable: Variable,
+    ty: &[u8],
+) -> Result<(), Memory>
+    ensures { OnOk result (out.new.items ≡ out.old.items ++ 32 ∷ (variable_text variable ++ 58 ∷ ty.now)) }
+{
+    out.push(b' ')?;
+    push_variable(alloc, out, variable)?;
+    out.push(b':')?;
+    out.extend_from_slice(ty)?;
+    Ok(())
+}
+
+/// Writes a piece.
+fn push_piece(
+    alloc: Global,
+    out: &mut Vec<u8>,
+    names: &Names,
+    types: &TypeTable,
+    piece: Piece,
+) -> Result<(), Memory>
+    ensures { OnOk result (out.new.items ≡ out.old.items ++ piece_text names.now types.now piece) }
+{
+    match piece {
+        Piece::Line(level, keyword) => {
+            push_indent(out, level)?;
+            out.extend_from_slice(keyword_text(keyword))?;
+            Ok(())
+        }
+        Piece::Arm(level, con) => {
+            push_indent(out, level)?;
+            out.extend_from_slice(name_text(names, con_name(types, con)))?;
+            Ok(())
+        }
+        Piece::Function(name) => push_behind_space(out, name_text(names, name)),
+        Piece::Constructor(con) => push_behind_space(out, name_text(names, con_name(types, con))),
+        Piece::Variable(variable) => {
+            out.push(b' ')?;
+            push_variable(alloc, out, variable)
+        }
+        Piece::Atom(atom) => {
+            out.push(b' ')?;
+            push_atom(alloc, out, atom)
+        }
+        Piece::Parameter(variable, ty) => {
+            push_parameter(alloc, out, variable, type_text(names, types, ty))
+        }
+        Piece::Result(ty) => {
+            out.extend_from_slice(b" : ")?;
+            out.extend_from_slice(type_text(names, types, ty))?;
+            Ok(())
+        }
+        Piece::Operator(operator) => push_behind_space(out, operator_text(operator)),
+        Piece::Equals => push_behind_space(out, b"="),
+        Piece::Fork => push_behind_space(out, b"fork"),
+        Piece::ByOffset => push_behind_space(out, b"by offset"),
+        Piece::BySkip(variable) => {
+            out.extend_from_slice(b" by skip ")?;
+            push_variable(alloc, out, variable)
+        }
+        Piece::End => {
+            out.push(b'\n')?;
+            Ok(())
+        }
+    }
+}
+
+/// Pieces one after another.
+pub(crate) fn text_of(
+    alloc: Global,
+    pieces: &[Piece],
+    types: &TypeTable,
+    names: &Names,
+) -> Result<Vec<u8>, Memory>
+    ensures { IfOk result (λ out. out.items ≡ flat_map (piece_text names.now types.now) pieces.now) }
+{
+    let mut out = Vec::new(alloc);
+    let mut rest = pieces;
+    'pieces: while let [piece, after @ ..] = rest {
+        push_piece(alloc, &mut out, names, types, *piece)?;
+        rest = after;
+    }
+    Ok(out)
+}
