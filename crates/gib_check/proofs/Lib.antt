@@ -1,3 +1,5 @@
+mod ArmNames
+mod ArmSteps
 pub mod Complete
 pub mod Different
 pub mod Loops
@@ -10,4 +12,9 @@ pub mod Sound
 pub mod Steps
 pub mod RowRules
 pub mod Making
+mod Naming
+mod Numbering
+mod Passing
+mod Had
+mod Knowing
 pub mod Declaring

@@ -1,5 +1,10 @@
 pub mod Answers
+pub mod ArmPlaces
 pub mod Checked
+pub mod Entries
 pub mod Faults
 pub mod FirstFault
+pub mod Functions
+pub mod NodeFacts
+pub mod Origins
 pub mod Views

@@ -10,6 +10,8 @@ use Rattle.gib_syntax.specs.Declarations.{number_of, place_of, type_names, table
 use Rattle.gib_syntax.specs.Typing.{Globals, globals_of, Scope}
 use Rattle.gib_check.specs.declared.counts.Counts.{Counts}
 use Rattle.gib_check.specs.declared.rules.Part.{Part}
+use Rattle.gib_check.specs.declared.functions.FunctionHead.{FunctionHead}
+use Rattle.gib_check.specs.Functions.{head_of, head_in}
 use Rattle.gib_check.specs.Faults.{Checked, and_then, place, ArmHead, infer, infer_arm}
 
 -- The table of a program's types and constructors.
@@ -48,13 +50,14 @@ row_name row = row.name
 abbrev pub function_in : Parts → FunctionDecl → FunctionTree
 function_in parts d = function_tree (tree_of parts.exprs) d
 
--- What stands beside a program while it is checked: the table of its types, and the names of its types,
--- constructors and functions.
-pub record IsDeclared (parts : Parts) (table : Table) (types constructors functions : List ℕ) : Type 0 where
+-- What stands beside a program while it is checked: the table of its types, the names of its types,
+-- constructors and functions, and the heads of its functions.
+pub record IsDeclared (parts : Parts) (table : Table) (types constructors functions : List ℕ) (heads : List FunctionHead) : Type 0 where
   pub is_table : table ≡ table_in parts
   pub are_types : types ≡ types_in parts
   pub are_constructors : constructors ≡ constructor_names (table_in parts)
   pub are_functions : functions ≡ map function_number parts.functions
+  pub are_heads : map head_of heads ≡ map (head_in (types_in parts)) parts.functions
 
 -- An arm without its expression.
 abbrev pub arm_head : Arm → ArmHead

@@ -1,17 +1,20 @@
 //! What a program declares, beside the program.
 
-ghost use Rattle.std.specs.Prelude.{◌≡◌, ◌<◌, length, map, IfOk};
-ghost use Rattle.gib_syntax.specs.Declarations.{type_written, type_of_name, constructor_named};
+ghost use Rattle.std.specs.Prelude.{◌≡◌, ◌<◌, length, map, slice_get, Some, None, IfOk, MatchOption};
+ghost use Rattle.gib_syntax.specs.Declarations.{type_written, type_of_name, constructor_named, function_named};
 ghost use Rattle.gib_check.specs.Answers.{Gives};
 ghost use Rattle.gib_check.specs.Faults as rule;
+ghost use Rattle.gib_check.specs.Functions.{IsNumberOf, IsHeadOf};
+ghost use Rattle.gib_syntax.specs.Tree.{FunctionTree};
+ghost use Rattle.gib_check.specs.Origins.{made_type, result_if};
 ghost use Rattle.gib_check.specs.Views.{table_in, types_in, functions_in, tree_in};
 
 use crate::fault::{Kind, TypeFault};
+use crate::functions::{FunctionHead, FunctionId, list_heads};
 use crate::heads::list_functions;
 use crate::names::NameList;
 use crate::rules::broken;
 use crate::tables::make_table;
-use crate::typed::Typed;
 use gib_base::{Memory, Name};
 use gib_syntax::{ExprId, FunctionDecl, Ident, MainDecl, Node, Program, TypeName};
 use gib_types::{ConId, Ty, TyId, TypeTable};
@@ -26,6 +29,7 @@ pub struct Declared {
     types: NameList,
     constructors: NameList,
     functions: NameList,
+    heads: Vec<FunctionHead>,
 }
 
 impl Model for Declared {
@@ -36,15 +40,15 @@ impl Model for Declared {
 
     ghost view = { λ d. d.program };
 
-    ghost invariant = { λ d. IsDeclared d.program d.table d.types d.constructors d.functions };
+    ghost invariant = { λ d. IsDeclared d.program d.table d.types d.constructors d.functions d.heads.items };
 }
 
 impl Declared {
     ghost use Rattle.std.specs.Prelude.{IfSome};
     ghost use Rattle.gib_syntax.specs.Arena.{Opens, tree_of};
-    ghost use Rattle.gib_syntax.specs.Parts.{IsFunctionInside, function_tree, program_of};
+    ghost use Rattle.gib_syntax.specs.Parts.{IsFunctionInside, function_tree};
     ghost use Rattle.std.specs.List.{AllByRecursion};
-    ghost use Rattle.gib_syntax.specs.Typing.{parameter_types, IsTypedProgram};
+    ghost use Rattle.gib_syntax.specs.Typing.{parameter_types};
     ghost use Rattle.gib_types.specs.Table.{fields_at, owner_at, name_at, IsTable};
 
     /// A program with the names of its types.
@@ -54,6 +58,7 @@ impl Declared {
         ensures { IfOk result (λ declared. declared ≡ program) }
     {
         let functions = list_functions(alloc, program.functions())?;
+        let heads = list_heads(alloc, &types, program.functions())?;
         let (table, constructors) = make_table(alloc, &types, program.data_decls())?;
         Ok(Declared {
             program,
@@ -61,6 +66,7 @@ impl Declared {
             types,
             constructors,
             functions,
+            heads,
         })
     }
 
@@ -80,19 +86,18 @@ impl Declared {
         self.program.main()
     }
 
-    /// The typed program.
-    pub fn into_typed(self) -> Typed
-        requires { IsTypedProgram (program_of self) }
-        ensures { result ≡ self }
+    /// The program.
+    pub fn program(&self) -> &Program
+        ensures { result.now ≡ self.now }
     {
-        let Declared {
-            program,
-            table,
-            types: _,
-            constructors: _,
-            functions: _,
-        } = self;
-        Typed::new(program, table)
+        &self.program
+    }
+
+    /// The table of the program's types and constructors.
+    pub fn table(&self) -> &TypeTable
+        ensures { result.now ≡ table_in self.now }
+    {
+        &self.table
     }
 
     /// The expression of a number.
@@ -101,6 +106,58 @@ impl Declared {
         ensures { Opens self.now.exprs id.0 result.now }
     {
         self.program.exprs().node(id)
+    }
+
+    /// How many expressions there are.
+    pub fn expr_count(&self) -> usize
+        ensures { result ≡ length self.now.exprs }
+    {
+        self.program.exprs().len()
+    }
+
+    /// The number of the constructor of a name.
+    pub fn number(&self, name: Name) -> Option<u32>
+        ensures { result ≡ constructor_named (table_in self.now) name.0 }
+    {
+        self.constructors.place(name)
+    }
+
+    /// The type that the constructor of a name makes, `Int` where it is not declared.
+    pub fn made_type(&self, name: Name) -> Ty
+        ensures { result ≡ made_type (table_in self.now) (constructor_named (table_in self.now) name.0) }
+    {
+        match self.constructors.place(name) {
+            Some(place) => Ty::Tree(self.table.type_of(ConId(place))),
+            None => Ty::Whole,
+        }
+    }
+
+    /// The number of the function of a name.
+    pub fn function_id(&self, name: Name) -> Option<FunctionId>
+        ensures { MatchOption result (function_named (functions_in self.now) name.0 ≡ None) (λ id. IsNumberOf (functions_in self.now) name.0 id.0) }
+    {
+        match self.functions.place(name) {
+            Some(place) => Some(FunctionId(place)),
+            None => None,
+        }
+    }
+
+    /// The types of the parameters and of the result of a function.
+    pub fn head(&self, id: FunctionId) -> &FunctionHead
+        requires { id.0 < length (functions_in self.now) }
+        ensures { (function : FunctionTree) → slice_get (functions_in self.now) id.0 ≡ Some function → IsHeadOf (table_in self.now) function result.now }
+    {
+        &self.heads[id.0 as usize]
+    }
+
+    /// The type that the function of a name gives, `Int` where it is not declared.
+    pub fn given_type(&self, name: Name) -> Ty
+        ensures { result ≡ result_if (table_in self.now) (function_named (functions_in self.now) name.0) }
+    {
+        match self.function_id(name) {
+            Some(id) => self.head(id).result,
+            None => Ty::Whole,
+        }
     }
 
     /// The constructor of a name.

@@ -10,15 +10,20 @@ ghost use Rattle.gib_check.specs.Checked.{IsMemory, IsFirst};
 ghost use Rattle.gib_check.specs.FirstFault as rule;
 ghost use Rattle.gib_check.specs.Views.{table_in, types_in};
 
+mod arm_index;
 mod arms;
 mod bodies;
 pub mod counts;
 mod datas;
 mod declared;
+mod entries;
 pub mod fault;
+pub mod functions;
 mod heads;
 pub mod laws;
 mod names;
+mod node_facts;
+pub mod origin;
 mod rules;
 mod tables;
 #[cfg(test)]
@@ -31,9 +36,11 @@ pub use counts::Counts;
 use datas::{check_datas, check_fields, list_types};
 use declared::Declared;
 pub use fault::{Fault, Kind, TypeFault};
+pub use functions::FunctionId;
 use gib_syntax::Program;
 use heads::{check_head, check_heads};
 use names::NameList;
+pub use origin::TypeOrigin;
 use std::alloc::Global;
 pub use typed::Typed;
 
@@ -83,7 +90,10 @@ pub fn check(alloc: Global, program: Program) -> Result<Typed, TypeFault>
     ensures exact { IfErr result (IsFirst (program_of program)) }
 {
     match check_rules(alloc, program) {
-        Ok(declared) => Ok(declared.into_typed()),
+        Ok(declared) => match Typed::make(alloc, declared) {
+            Ok(typed) => Ok(typed),
+            Err(_) => Err(TypeFault::Memory),
+        },
         Err(fault) => Err(fault),
     }
 }

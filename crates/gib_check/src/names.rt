@@ -1,28 +1,31 @@
 //! Names in an order, and the place of each.
 
-ghost use Rattle.std.specs.Prelude.{◌≡◌, ◌≤◌, ◌<◌, length, map, IfSome};
+ghost use Rattle.std.specs.Prelude.{◌≡◌, ◌<◌, length, IfSome};
 ghost use Rattle.gib_syntax.specs.Declarations.{place_of};
-ghost use Rattle.gib_check.specs.Answers.{number};
 
+use crate::entries::{entry, make_room, set_entry};
 use gib_base::{Memory, Name};
 use std::alloc::{AllocError, Global};
 use std::marker::Model;
 
-/// Names, each with its place.
+/// Names, each with its place, which is found without a search.
 #[derive(Drop)]
 pub struct NameList {
     names: Vec<Name>,
+    /// The first place of each name, at the name's number.
+    places: Vec<Option<u32>>,
 }
 
 impl Model for NameList {
-    ghost use Rattle.std.specs.Prelude.{ℕ, ◌<◌, ◌^◌, List, length, map};
+    ghost use Rattle.std.specs.Prelude.{ℕ, List, map};
     ghost use Rattle.gib_check.specs.Answers.{number};
+    ghost use Rattle.gib_check.specs.Entries.{ArePlaces};
 
     ghost Value = { List ℕ };
 
     ghost view = { λ l. map number l.names.items };
 
-    ghost invariant = { λ l. length l.names.items < 2 ^ 32 };
+    ghost invariant = { λ l. ArePlaces (map number l.names.items) l.places.items };
 }
 
 impl NameList {
@@ -34,6 +37,7 @@ impl NameList {
     {
         NameList {
             names: Vec::new(alloc),
+            places: Vec::new(alloc),
         }
     }
 
@@ -51,7 +55,12 @@ impl NameList {
         if self.names.len() >= u32::MAX as usize {
             return Err(AllocError);
         }
+        let place = self.names.len() as u32;
+        make_room(&mut self.places, name.0)?;
         self.names.push(name)?;
+        if entry(&self.places, name.0).is_none() {
+            set_entry(&mut self.places, name.0, Some(place));
+        }
         Ok(())
     }
 
@@ -60,26 +69,6 @@ impl NameList {
         ensures place { result ≡ place_of self.now name.0 }
         ensures within { IfSome result (λ place. place < length self.now) }
     {
-        match search(&self.names, name) {
-            Some(place) => Some(place as u32),
-            None => None,
-        }
+        entry(&self.places, name.0)
     }
-}
-
-/// The first place of a name.
-fn search(names: &[Name], name: Name) -> Option<usize>
-    ensures place { result ≡ place_of (map number names.now) name.0 }
-    ensures within { IfSome result (λ place. place < length names.now) }
-{
-    let mut place = 0;
-    let mut rest = names;
-    'names: while let [first, after @ ..] = rest {
-        if first.0 == name.0 {
-            return Some(place);
-        }
-        place += 1;
-        rest = after;
-    }
-    None
 }

@@ -30,7 +30,7 @@ pub struct State {
 }
 
 /// What an operator gives.
-fn operator_type(operator: Operator) -> Ty
+pub fn operator_type(operator: Operator) -> Ty
     ensures { result ≡ type_of_operator operator }
 {
     match operator {

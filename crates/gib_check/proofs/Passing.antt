@@ -1,0 +1,27 @@
+-- Where a type comes from, seen from outside of an arm.
+use Rattle.std.proofs.Common.{◌≡◌, ℕ, zero, suc, ◌+◌, ◌-◌, ◌<◌, ◌≤◌, List, [], ◌∷◌, drop, length, get_or, refl, sym, ap, ◌∙◌, subst, arith, ◌⊎◌, inl, inr}
+use Rattle.std.proofs.lemmas.List.{drop_more}
+use Rattle.std.proofs.Math.Seq.{drop-length}
+use Rattle.gib_types.specs.declared.table.Ty.{Ty}
+use Rattle.gib_syntax.specs.declared.tree.Ident.{Ident}
+use Rattle.gib_check.specs.declared.origin.TypeOrigin.{TypeOrigin}
+use Rattle.gib_check.specs.declared.origin.TypeOrigin.TheVariants.{Fixed}
+use Rattle.gib_check.specs.Origins.{outside, outside_arm}
+
+no_field : (xs : List Ident) (o : TypeOrigin) → outside_arm xs [] o ≡ o
+no_field [] o = refl
+no_field (x ∷ xs) o = refl
+
+pub passed_none : (xs : List Ident) (ts : List Ty) (o : TypeOrigin) (n : ℕ) → (n ≡ length xs) ⊎ (n ≡ length ts) → o ≡ outside_arm (drop n xs) (drop n ts) o
+passed_none xs ts o n (inl e) = sym (ap (λ z. outside_arm z (drop n ts) o) (ap (λ k. drop k xs) e ∙ drop-length xs))
+passed_none xs ts o n (inr e) = sym (ap (λ z. outside_arm (drop n xs) z o) (ap (λ k. drop k ts) e ∙ drop-length ts) ∙ no_field (drop n xs) o)
+
+back : (n m : ℕ) → n ≡ m + 1 → n - 1 ≡ m
+back n m e = omega (arith, e)
+
+pub passed_more : (xs : List Ident) (ts : List Ty) (o here : TypeOrigin) (n : ℕ) (x : Ident) (t : Ty) → 0 < n → n ≤ length xs → n ≤ length ts → here ≡ outside_arm (drop n xs) (drop n ts) o → outside (get_or xs (n - 1) x) (Fixed (get_or ts (n - 1) t)) here ≡ outside_arm (drop (n - 1) xs) (drop (n - 1) ts) o
+passed_more xs ts o here zero x t gt lx lt h = absurd (omega (arith, gt))
+passed_more xs ts o here (suc n) x t gt lx lt h = subst (λ m. outside (get_or xs m x) (Fixed (get_or ts m t)) here ≡ outside_arm (drop m xs) (drop m ts) o) (sym (back (suc n) n (omega arith)))
+    (sym (
+    (λ i. outside_arm (drop_more xs n x (omega (arith, lx)) i) (drop_more ts n t (omega (arith, lt)) i) o)
+    ∙ ap (λ z. outside (get_or xs n x) (Fixed (get_or ts n t)) z) ((let e : n + 1 ≡ suc n = omega arith in ap (λ m. outside_arm (drop m xs) (drop m ts) o) e) ∙ sym h)))

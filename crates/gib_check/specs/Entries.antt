@@ -1,0 +1,22 @@
+-- What stands at numbers, in a list.
+use Rattle.std.specs.Prelude.{◌≡◌, ◌<◌, ◌^◌, ℕ, List, length, Option, Some, None, slice_get}
+use Rattle.gib_syntax.specs.Declarations.{place_of}
+
+-- What there is, where there is something at all.
+abbrev pub joined : {A : Type 0} → Option (Option A) → Option A
+joined None = None
+joined (Some o) = o
+
+-- What stands at a number; past the end nothing does.
+abbrev pub entry_at : {A : Type 0} → List (Option A) → ℕ → Option A
+entry_at entries number = joined (slice_get entries number)
+
+-- The first of two, where it is there, else the second.
+abbrev pub first_of : {A : Type 0} → Option A → Option A → Option A
+first_of None o = o
+first_of (Some x) o = Some x
+
+-- At the number of each name stands the first place of the name; there are fewer than 2^32 names.
+pub record ArePlaces (names : List ℕ) (places : List (Option ℕ)) : Type 0 where
+  pub few : length names < 2 ^ 32
+  pub each : (name : ℕ) → entry_at places name ≡ place_of names name

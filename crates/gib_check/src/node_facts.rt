@@ -1,0 +1,132 @@
+//! What is known of each expression, wherever it stands.
+
+ghost use Rattle.std.specs.Prelude.{◌≡◌, ◌<◌, ℕ, None, Some, length, slice_get, IfOk};
+ghost use Rattle.gib_base.specs.declared.Span.{Span};
+ghost use Rattle.gib_syntax.specs.declared.tree.Ident.{Ident};
+ghost use Rattle.gib_syntax.specs.Arena.{layer, case_from, PartsBelow, ArmsBelow};
+ghost use Rattle.gib_syntax.specs.Tree.{Expression, Case};
+ghost use Rattle.gib_syntax.specs.Typing.{Globals};
+ghost use Rattle.gib_check.specs.ArmPlaces.{place_named, place_in, case_names};
+ghost use Rattle.gib_check.specs.NodeFacts.{AreFacts};
+ghost use Rattle.gib_check.specs.Origins.{origin};
+ghost use Rattle.gib_check.specs.Views.{table_in, tree_in, globals_in};
+
+use crate::arm_index::{ArmIndex, index_arms};
+use crate::declared::Declared;
+use crate::origin::{TypeOrigin, outside, outside_arm};
+use crate::walk::operator_type;
+use gib_base::Memory;
+use gib_syntax::{Arm, ExprId, Node};
+use gib_types::Ty;
+use std::alloc::{AllocError, Global};
+
+/// What is known of an expression: where its type comes from, and the places of its arms.
+#[derive(Debug, Drop)]
+pub struct NodeFacts {
+    pub origin: TypeOrigin,
+    pub arms: ArmIndex,
+}
+
+/// Where the type of an expression comes from.
+fn origin_at(facts: &[NodeFacts], id: ExprId) -> TypeOrigin
+    requires { id.0 < length facts.now }
+    ensures { (g : Globals) (f : ℕ → Expression) → AreFacts g f facts.now → result ≡ origin g (f id.0) }
+{
+    facts[id.0 as usize].origin
+}
+
+/// Where the type of a `case` comes from: from its first arm.
+fn case_origin(declared: &Declared, facts: &[NodeFacts], arms: &[Arm]) -> TypeOrigin
+    requires below { ArmsBelow arms.now (length facts.now) }
+    requires known { AreFacts (globals_in declared.now) (tree_in declared.now) facts.now }
+    ensures { (p : Span) (x : Ident) → result ≡ origin (globals_in declared.now) (case_from (tree_in declared.now) arms.now (Case p x)) }
+{
+    match arms {
+        [] => TypeOrigin::Fixed(Ty::Truth),
+        [first, ..] => outside_arm(
+            &first.variables,
+            declared.fields_named(first.constructor),
+            origin_at(facts, first.body),
+        ),
+    }
+}
+
+/// Where the type of a node comes from, where it is known of its parts.
+fn node_origin(declared: &Declared, facts: &[NodeFacts], node: &Node) -> TypeOrigin
+    requires below { PartsBelow node.now (length facts.now) }
+    requires known { AreFacts (globals_in declared.now) (tree_in declared.now) facts.now }
+    ensures { result ≡ origin (globals_in declared.now) (layer (tree_in declared.now) (Some node.now)) }
+{
+    match node {
+        Node::Variable(x) => TypeOrigin::Variable(x.name),
+        Node::Whole(_, _) => TypeOrigin::Fixed(Ty::Whole),
+        Node::Truth(_, _) => TypeOrigin::Fixed(Ty::Truth),
+        Node::Paren(_, inner) => origin_at(facts, *inner),
+        Node::Operation { operator, .. } => TypeOrigin::Fixed(operator_type(*operator)),
+        Node::Call(f, _) => TypeOrigin::Fixed(declared.given_type(f.name)),
+        Node::Make(k, _) => TypeOrigin::Fixed(declared.made_type(k.name)),
+        Node::Let {
+            name,
+            bound,
+            body,
+            ..
+        } => outside(*name, origin_at(facts, *bound), origin_at(facts, *body)),
+        Node::LetPar {
+            left_name,
+            left,
+            right_name,
+            right,
+            body,
+            ..
+        } => {
+            let body = outside(
+                *right_name,
+                origin_at(facts, *right),
+                origin_at(facts, *body),
+            );
+            outside(*left_name, origin_at(facts, *left), body)
+        }
+        Node::If { then_part, .. } => origin_at(facts, *then_part),
+        Node::Case { arms, .. } => case_origin(declared, facts, arms),
+    }
+}
+
+/// The places of the arms of a node, none where it is no `case`.
+fn node_arms(alloc: Global, declared: &Declared, node: &Node) -> Result<ArmIndex, Memory>
+    ensures { (f : ℕ → Expression) → IfOk result (λ index. (con : ℕ) → place_in index con ≡ place_named (table_in declared.now) (case_names (layer f (Some node.now))) con) }
+{
+    match node {
+        Node::Case { arms, .. } => index_arms(alloc, declared, arms),
+        Node::Variable(_)
+        | Node::Whole(..)
+        | Node::Truth(..)
+        | Node::Paren(..)
+        | Node::Operation { .. }
+        | Node::Call(..)
+        | Node::Make(..)
+        | Node::Let { .. }
+        | Node::LetPar { .. }
+        | Node::If { .. } => index_arms(alloc, declared, &[]),
+    }
+}
+
+/// What is known of each expression.
+pub fn list_facts(alloc: Global, declared: &Declared) -> Result<Vec<NodeFacts>, Memory>
+    ensures known { IfOk result (λ facts. AreFacts (globals_in declared.now) (tree_in declared.now) facts.items) }
+    ensures all { IfOk result (λ facts. length facts.items ≡ length declared.now.exprs) }
+{
+    let count = declared.expr_count();
+    let mut facts = Vec::new(alloc);
+    let mut id = 0_u32;
+    'nodes: while (id as usize) < count {
+        let node = declared.node(ExprId(id));
+        let origin = node_origin(declared, &facts, node);
+        let arms = node_arms(alloc, declared, node)?;
+        facts.push(NodeFacts { origin, arms })?;
+        let Some(next) = id.checked_add(1) else {
+            return Err(AllocError);
+        };
+        id = next;
+    }
+    Ok(facts)
+}
