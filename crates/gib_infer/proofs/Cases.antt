@@ -1,5 +1,6 @@
 -- Branches of a case.
 use Rattle.std.proofs.Common.{◌≡◌, ℕ, zero, suc, ◌+◌, ◌-◌, ◌<◌, ◌≤◌, List, [], ◌∷◌, ◌++◌, length, map, Option, Some, None, refl, sym, ap, ◌∙◌, subst, arith, take}
+use Rattle.std.specs.Prelude.{Result, IfOk}
 use Rattle.std.specs.Option.{option_or, unwrap_or}
 use Rattle.gib_base.specs.declared.Span.{Span}
 use Rattle.gib_types.specs.declared.table.Ty.{Ty}
@@ -9,7 +10,7 @@ use Rattle.gib_types.specs.Table.{fields_at, owner_at}
 use Rattle.gib_syntax.specs.declared.exprs.Arm.{Arm}
 use Rattle.gib_syntax.specs.declared.exprs.Node.{Node as Expr}
 use Rattle.gib_syntax.specs.declared.tree.Ident.{Ident}
-use Rattle.gib_syntax.specs.Tree.{Case}
+use Rattle.gib_syntax.specs.Tree.{Expression, Case}
 use Rattle.gib_syntax.specs.Arena.{tree_of, ArmsBelow, arms_from, case_from}
 use Rattle.gib_syntax.specs.Parts.{Parts}
 use Rattle.gib_syntax.specs.Declarations.{number_of}
@@ -21,7 +22,8 @@ use Rattle.gib_core.specs.declared.node.Branch.{Branch}
 use Rattle.gib_core.specs.declared.node.Node.{Node}
 use Rattle.gib_core.specs.Tree.{Term, CaseTerm, Branches, NoBranch, BranchThen}
 use Rattle.gib_core.specs.Arena.{Grows, branches_from, term_of}
-use Rattle.gib_core.specs.Inferring.{Scope, Lined, Branched, ArmCode, infer, infer_arms, of_line, case_line, branch_of, branches_of, arm_for, atom_at, constructors_of, numbers_from, first_constructor, with_fields, variables_from}
+use Rattle.gib_core.specs.Tree.{variables_from}
+use Rattle.gib_core.specs.Inferring.{Scope, Lined, Branched, ArmCode, infer, infer_arms, of_line, case_line, branch_of, branches_of, arm_for, atom_at, constructors_of, numbers_from, first_constructor, with_fields}
 use Rattle.gib_infer.specs.declared.work.Work.{Work}
 use Rattle.gib_infer.specs.Made.{scope_of, globals_in, code_at, arm_at, arms_at, arm_line, join, AreBranchesBelow, Keeps, MakesLine, MakesBranch, BindsFields, BranchesSoFar}
 use Rattle.gib_infer.proofs.Fronting.{branches_below_more, branches_below_push, branches_same, grows_more, grows_none}
@@ -35,6 +37,15 @@ arms-each parts exprs arm (next ∷ arms) = ap (λ z. arm_at parts exprs arm ∷
 pub case-same : (parts : Parts) (exprs : List Expr) (p : Span) (x : Ident) (arms : List Arm) (id : ℕ) → ArmsBelow arms id → infer (globals_in parts) (case_from (tree_of exprs) arms (Case p x)) ≡ of_line (case_line (globals_in parts).table x (arms_at parts exprs arms))
 case-same parts exprs p x [] id below = absurd below
 case-same parts exprs p x (arm ∷ arms) id below = ap (λ z. of_line (case_line (globals_in parts).table x z)) (arms-each parts exprs arm arms)
+
+pub case_opened : (parts : Parts) (exprs : List Expr) (tree : Expression) (p : Span) (x : Ident) (arms now : List Arm) (id : ℕ) (sc : Scope) (n : ℕ) → tree ≡ case_from (tree_of exprs) arms (Case p x) → ArmsBelow arms id → now ≡ arms → case_line (globals_in parts).table x (arms_at parts exprs now) sc n ≡ (infer (globals_in parts) tree).line sc n
+case_opened parts exprs tree p x arms now id sc n et below en =
+    (λ i. case_line (globals_in parts).table x (arms_at parts exprs (en i)) sc n)
+    ∙ sym (λ i. (case-same parts exprs p x arms id below i).line sc n)
+    ∙ sym (ap (λ (z : Expression). (infer (globals_in parts) z).line sc n) et)
+
+pub lines_same : {E : Type 0} (old new : Work) (o : Result (TermId × Ty) E) (l m : Lined) → l ≡ m → IfOk o (λ r. MakesLine old new r.0 r.1 l) → IfOk o (λ r. MakesLine old new r.0 r.1 m)
+lines_same old new o l m e h = subst (λ (z : Lined). IfOk o (λ r. MakesLine old new r.0 r.1 z)) e h
 
 -- The branch of an arm.
 pub branch_made : (parts : Parts) (exprs : List Expr) (arm : Arm) (k : ConId) (w0 w1 w2 w3 : Work) (types : List Ty) (xs : List Variable) (m : ℕ) (b : Branch) (of : Ty) → types ≡ fields_at (globals_in parts).table k.0 → BindsFields w0 w1 arm.variables.items types xs → MakesLine w1 w2 b.term of ((code_at parts exprs arm.body.0).line (scope_of w1.scope.items) w1.fresh) → m ≡ length w0.scope.items → w3.scope.items ≡ take m w2.scope.items → w3.terms ≡ w2.terms → w3.fresh ≡ w2.fresh → b.constructor ≡ k → b.variables.items ≡ xs → MakesBranch w0 w3 b of parts exprs arm k
@@ -147,9 +158,9 @@ numbers-next : (next left : ℕ) → 0 < left → numbers_from next left ≡ nex
 numbers-next next zero lt = absurd (omega (arith, lt))
 numbers-next next (suc left) lt = (let e : suc next ≡ next + 1 = omega arith in let d : left ≡ suc left - 1 = omega arith in (λ i. next ∷ numbers_from (e i) (d i)))
 
-pub case_next : (parts : Parts) (exprs : List Expr) (arms : List Arm) (start now newer : Work) (bs more : List Branch) (of made : Option Ty) (next left : ℕ) → 0 < left → CaseSoFar parts exprs arms start now bs of next left → ((start' : Work) (of' : Option Ty) (ks : List ℕ) (all : Branched) → BranchesSoFar parts exprs arms start' now bs of' (next ∷ ks) all → BranchesSoFar parts exprs arms start' newer more (option_or of' made) ks all) → CaseSoFar parts exprs arms start newer more (option_or of made) (next + 1) (left - 1)
-case_next parts exprs arms start now newer bs more of made next left lt h step = record {
-  so_far = step start of (numbers_from (next + 1) (left - 1)) (all_branches parts exprs arms start) (subst (λ ks. BranchesSoFar parts exprs arms start now bs of ks (all_branches parts exprs arms start)) (numbers-next next left lt) h.so_far);
+pub case_next : (parts : Parts) (exprs : List Expr) (arms : List Arm) (start now newer : Work) (bs more : List Branch) (of made next_of : Option Ty) (next left : ℕ) → 0 < left → next_of ≡ option_or of made → CaseSoFar parts exprs arms start now bs of next left → ((start' : Work) (of' : Option Ty) (ks : List ℕ) (all : Branched) → BranchesSoFar parts exprs arms start' now bs of' (next ∷ ks) all → BranchesSoFar parts exprs arms start' newer more (option_or of' made) ks all) → CaseSoFar parts exprs arms start newer more next_of (next + 1) (left - 1)
+case_next parts exprs arms start now newer bs more of made next_of next left lt eo h step = record {
+  so_far = rw eo (step start of (numbers_from (next + 1) (left - 1)) (all_branches parts exprs arms start) (subst (λ ks. BranchesSoFar parts exprs arms start now bs of ks (all_branches parts exprs arms start)) (numbers-next next left lt) h.so_far));
   few = (let q = h.few in omega (arith, q, lt));
 }
 
@@ -157,14 +168,14 @@ numbers-end : (next left : ℕ) → left ≤ 0 → numbers_from next left ≡ []
 numbers-end next zero le = refl
 numbers-end next (suc left) le = absurd (omega (arith, le))
 
-pub case_end : (parts : Parts) (exprs : List Expr) (arms : List Arm) (x : Ident) (start now newer : Work) (bs : List Branch) (subject : Atom) (of : Option Ty) (next left : ℕ) (id : TermId) → left ≤ 0 → CaseSoFar parts exprs arms start now bs of next left → subject ≡ atom_at (scope_of start.scope.items) (number_of x) → newer.scope.items ≡ now.scope.items → newer.fresh ≡ now.fresh → Grows now.terms newer.terms → id.0 < length newer.terms → term_of newer.terms id.0 ≡ CaseTerm subject (branches_from (term_of now.terms) bs) → MakesLine start newer id (unwrap_or of Whole) (case_line (globals_in parts).table x (arms_at parts exprs arms) (scope_of start.scope.items) start.fresh)
-case_end parts exprs arms x start now newer bs subject of next left id le h ex es ef g lt et =
+pub case_end : (parts : Parts) (exprs : List Expr) (arms : List Arm) (x : Ident) (start now newer : Work) (bs : List Branch) (subject : Atom) (of : Option Ty) (got : Ty) (next left : ℕ) (id : TermId) → left ≤ 0 → got ≡ unwrap_or of Whole → CaseSoFar parts exprs arms start now bs of next left → subject ≡ atom_at (scope_of start.scope.items) (number_of x) → newer.scope.items ≡ now.scope.items → newer.fresh ≡ now.fresh → Grows now.terms newer.terms → id.0 < length newer.terms → term_of newer.terms id.0 ≡ CaseTerm subject (branches_from (term_of now.terms) bs) → MakesLine start newer id got (case_line (globals_in parts).table x (arms_at parts exprs arms) (scope_of start.scope.items) start.fresh)
+case_end parts exprs arms x start now newer bs subject of got next left id le eg h ex es ef g lt et =
     let k = subst (λ ks. BranchesSoFar parts exprs arms start now bs of ks (all_branches parts exprs arms start)) (numbers-end next left le) h.so_far in
     let f = term_of now.terms in
     record {
       keeps = record { grows = grows_more start.terms now.terms newer.terms k.keeps.grows g; scope = es ∙ k.keeps.scope };
       inside = lt;
       term = et ∙ (λ i. CaseTerm (ex i) ((sym (join-none (branches_from f bs)) ∙ k.branches) i));
-      ty = k.ty;
+      ty = eg ∙ k.ty;
       fresh = ef ∙ k.fresh;
     }

@@ -15,7 +15,8 @@ use Rattle.gib_core.specs.declared.node.Binding.{Binding}
 use Rattle.gib_core.specs.declared.node.Binding.TheVariants as b
 use Rattle.gib_core.specs.Tree.{Term, Point, CallTerm, Bind, One, On}
 use Rattle.gib_core.specs.Arena.{Grows, binds_from, term_of}
-use Rattle.gib_core.specs.Inferring.{call_atom, first_type, further_types, pointed_fields, variables_from, as_atoms}
+use Rattle.gib_core.specs.Tree.{variables_from}
+use Rattle.gib_core.specs.Inferring.{call_atom, first_type, further_types, pointed_fields, as_atoms}
 use Rattle.gib_infer.specs.declared.work.Work.{Work}
 use Rattle.gib_infer.specs.Made.{AreBindingsBelow, Keeps, MakesAtom, PointsSoFar, plain_atoms}
 use Rattle.gib_infer.proofs.Fronting.{grows_more}

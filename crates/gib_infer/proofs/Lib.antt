@@ -6,3 +6,4 @@ pub mod Calls
 pub mod Cases
 pub mod Naming
 pub mod Arms
+pub mod Programs

@@ -24,7 +24,8 @@ use Rattle.gib_core.specs.declared.node.TermId.{TermId}
 use Rattle.gib_core.specs.declared.scope.Slot.{Slot}
 use Rattle.gib_core.specs.Tree.{Term, Give, prepend, On, Branches, NoBranch, BranchThen}
 use Rattle.gib_core.specs.Arena.{Grows, IsBindingBelow, IsBranchBelow, term_of, side_from, binds_from, branches_from}
-use Rattle.gib_core.specs.Inferring.{Scope, Lined, Atomed, Several, Code, ArmCode, Branched, infer, con_named, with_fields, variables_from, call_line, call_atom, call_side, pointed_fields, as_atoms, slot, kind_of, branches_of}
+use Rattle.gib_core.specs.Tree.{variables_from}
+use Rattle.gib_core.specs.Inferring.{Scope, Lined, Atomed, Several, Code, ArmCode, Branched, infer, con_named, with_fields, call_line, call_atom, call_side, pointed_fields, as_atoms, slot, kind_of, branches_of}
 use Rattle.gib_infer.specs.declared.work.Work.{Work}
 
 -- The names in scope, kept with the newest last.

@@ -1,8 +1,41 @@
 //! From typed programs to cores.
 #![tactic(auto)]
 
+ghost use Rattle.std.specs.Prelude.{◌≡◌, IfOk};
+ghost use Rattle.gib_syntax.specs.Parts.{program_of};
+ghost use Rattle.gib_core.specs.Parts.{core_of};
+ghost use Rattle.gib_core.specs.Inferring.{infer_program};
+
+mod bodies;
 mod fields;
 mod names;
 mod steps;
 mod walk;
 mod work;
+
+use bodies::{make_functions, make_main};
+use gib_base::Memory;
+use gib_check::Typed;
+use gib_core::{Core, Terms, copy_types};
+use std::alloc::Global;
+use work::Work;
+
+/// The core of a typed program: what is packed gets a place, and scalars are bound before they are used.
+///
+/// # Errors
+///
+/// Want of memory, where no further number of a term or variable is left too.
+pub fn infer(alloc: Global, typed: &Typed) -> Result<Core, Memory>
+    ensures { IfOk result (λ core. core_of core ≡ infer_program (program_of typed.now)) }
+{
+    let mut work = Work {
+        terms: Terms::new(alloc),
+        scope: Vec::new(alloc),
+        fresh: 0,
+    };
+    let functions = make_functions(alloc, typed, &mut work)?;
+    let main = make_main(alloc, typed, &mut work)?;
+    let types = copy_types(alloc, typed.types())?;
+    let core = Core::new(types, work.terms, functions, main, Vec::new(alloc));
+    Ok(core)
+}

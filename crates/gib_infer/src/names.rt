@@ -16,7 +16,7 @@ use gib_types::{ConId, Ty, TyId};
 pub fn constructor(typed: &Typed, name: Ident) -> ConId
     ensures { result.0 ≡ con_named (globals_in typed.now) name }
 {
-    match typed.types().con_named(name.name) {
+    match typed.constructor(name.name) {
         Some(con) => con,
         None => ConId(0),
     }
@@ -50,6 +50,7 @@ pub fn constructors_of(typed: &Typed, ty: TyId) -> (u32, u32)
     ensures few { result.0 + result.1 ≤ 200 }
 {
     let types = typed.types();
+    types.rules();
     if ty.0 < types.type_count() {
         (types.first_of(ty).0, types.count_of(ty))
     } else {
@@ -61,7 +62,10 @@ pub fn constructors_of(typed: &Typed, ty: TyId) -> (u32, u32)
 pub fn result_type(typed: &Typed, name: Ident) -> Ty
     ensures { result ≡ gives_type (globals_in typed.now).table (function_named (globals_in typed.now).functions (number_of name)) }
 {
-    Ty::Whole
+    match typed.function(name.name) {
+        Some(id) => typed.result_type(id),
+        None => Ty::Whole,
+    }
 }
 
 /// The constructor of the first of these arms.

@@ -15,7 +15,7 @@ use crate::names::{
 };
 use crate::steps::{bind_call, end_call, end_make, end_side, give};
 use crate::work::{
-    Work, find, kind, new_variable, operator_type, push_bound, put_before, put_line, put_plain, whole,
+    Work, find, kind, new_variable, operator_type, push_bound, put_before, put_line, put_plain,
 };
 use gib_base::Memory;
 use gib_check::Typed;
@@ -43,7 +43,7 @@ pub fn line(
             Ok((term, ty))
         }
         Node::Whole(_, number) => {
-            let term = put_plain(&mut work.terms, whole(*number), Ty::Whole)?;
+            let term = put_plain(&mut work.terms, Atom::literal(*number), Ty::Whole)?;
             Ok((term, Ty::Whole))
         }
         Node::Truth(_, truth) => {
@@ -151,7 +151,7 @@ fn atom(
 {
     match exprs.node(id) {
         Node::Variable(x) => Ok(find(&work.scope, x.name)),
-        Node::Whole(_, number) => Ok((whole(*number), Ty::Whole)),
+        Node::Whole(_, number) => Ok((Atom::literal(*number), Ty::Whole)),
         Node::Truth(_, truth) => Ok((Atom::Truth(*truth), Ty::Truth)),
         Node::Paren(_, inner) => atom(alloc, typed, exprs, work, bindings, *inner),
         Node::Operation {

@@ -1,7 +1,6 @@
 //! What the walk keeps, and the small steps that it is made of.
 
-ghost use Rattle.std.specs.Prelude.{◌≡◌, ℕ, ◌+◌, ◌<◌, ◌^◌, ◌++◌, ◌∷◌, [], pos, length, Some, IfOk};
-ghost use Rattle.gib_core.specs.declared.atom.Atom.TheVariants as a;
+ghost use Rattle.std.specs.Prelude.{◌≡◌, ℕ, ◌+◌, ◌<◌, ◌++◌, ◌∷◌, [], length, Some, IfOk};
 ghost use Rattle.gib_core.specs.declared.node.Binding.TheVariants as b;
 ghost use Rattle.gib_syntax.specs.Typing.{operator_type as type_of_operator};
 ghost use Rattle.gib_core.specs.Tree.{prepend};
@@ -16,6 +15,7 @@ use gib_types::Ty;
 use std::alloc::AllocError;
 
 /// The terms so far, the names in scope with the newest last, and the number of the next variable.
+#[derive(Drop)]
 pub struct Work {
     pub terms: Terms,
     pub scope: Vec<Slot>,
@@ -73,14 +73,6 @@ pub fn operator_type(operator: Operator) -> Ty
         Operator::Equal => Ty::Truth,
         Operator::Less => Ty::Truth,
     }
-}
-
-/// A literal.
-pub fn whole(number: u64) -> Atom
-    requires { number < 2 ^ 63 }
-    ensures { result ≡ a.Whole (pos number) }
-{
-    Atom::Whole(number as i64)
 }
 
 /// Binds a variable to a term, behind other bindings.
