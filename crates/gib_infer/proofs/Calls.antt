@@ -164,12 +164,12 @@ make-same ty k types ss ps = (λ i. record {
 })
 
 pub make_made : (parts : Parts) (exprs : List Expr) (name : Ident) (ids scalar_ids packed_ids : List ExprId) (k : ConId) (types packed_types : List Ty) (owner : ℕ) (w0 w1 w2 w3 : Work) (b0 b1 b2 : List Binding) (xs ys zs : List Atom) (id : TermId) →
-  k.0 ≡ con_named (globals_in parts) name → types ≡ fields_at (globals_in parts).table k.0 → owner ≡ owner_at (globals_in parts).table k.0 →
-  scalar_ids ≡ at_fields true types ids → packed_ids ≡ at_fields false types ids → packed_types ≡ at_fields false types types → b0 ≡ [] → zs ≡ ys →
-  MakesAtoms w0 w1 b0 b1 xs (several (codes_at parts exprs scalar_ids) (scope_of w0.scope.items) w0.fresh) →
-  MakesAtoms w1 w2 b1 b2 ys (several (codes_at parts exprs packed_ids) (scope_of w1.scope.items) w1.fresh) →
-  MakesLine w2 w3 id (Tree (record { 0 = owner })) (make_from (Tree (record { 0 = owner })) k packed_types (pending w2 b2 xs) (plain_atoms w2 zs)) →
-  MakesLine w0 w3 id (Tree (record { 0 = owner })) ((infer (globals_in parts) (Make name (arguments_from (tree_of exprs) ids))).line (scope_of w0.scope.items) w0.fresh)
+    k.0 ≡ con_named (globals_in parts) name → types ≡ fields_at (globals_in parts).table k.0 → owner ≡ owner_at (globals_in parts).table k.0 →
+    scalar_ids ≡ at_fields true types ids → packed_ids ≡ at_fields false types ids → packed_types ≡ at_fields false types types → b0 ≡ [] → zs ≡ ys →
+    MakesAtoms w0 w1 b0 b1 xs (several (codes_at parts exprs scalar_ids) (scope_of w0.scope.items) w0.fresh) →
+    MakesAtoms w1 w2 b1 b2 ys (several (codes_at parts exprs packed_ids) (scope_of w1.scope.items) w1.fresh) →
+    MakesLine w2 w3 id (Tree (record { 0 = owner })) (make_from (Tree (record { 0 = owner })) k packed_types (pending w2 b2 xs) (plain_atoms w2 zs)) →
+    MakesLine w0 w3 id (Tree (record { 0 = owner })) ((infer (globals_in parts) (Make name (arguments_from (tree_of exprs) ids))).line (scope_of w0.scope.items) w0.fresh)
 make_made parts exprs name ids scalar_ids packed_ids k types packed_types owner w0 w1 w2 w3 b0 b1 b2 xs ys zs id ek et eo es ep eq eb ez h1 h2 m =
     let g = globals_in parts in
     let sc = scope_of w0.scope.items in
@@ -183,13 +183,13 @@ make_made parts exprs name ids scalar_ids packed_ids k types packed_types owner 
     let k2 : MakesAtoms w1 w2 b1 b2 ys ps = subst (λ (z : Several). MakesAtoms w1 w2 b1 b2 ys z) e2 h2 in
     let ty : Ty = Tree (record { 0 = owner }) in
     let same_one : pending w2 b2 xs ≡ record { fresh = ps.fresh; binds = ss.binds ++ ps.binds; atoms = ss.atoms } =
-      (λ i. record { fresh = k2.fresh i; binds = (k2.binds ∙ ap (λ z. z ++ ps.binds) (k1.binds ∙ ap (λ z. binds_from (term_of w0.terms) z ++ ss.binds) eb)) i; atoms = k1.atoms i }) in
+    (λ i. record { fresh = k2.fresh i; binds = (k2.binds ∙ ap (λ z. z ++ ps.binds) (k1.binds ∙ ap (λ z. binds_from (term_of w0.terms) z ++ ss.binds) eb)) i; atoms = k1.atoms i }) in
     let same_two : plain_atoms w2 zs ≡ record { fresh = ps.fresh; binds = []; atoms = ps.atoms } = (λ i. record { fresh = k2.fresh i; binds = []; atoms = (ez ∙ k2.atoms) i }) in
     let con : k ≡ record { 0 = con_named g name } = (λ i. record { 0 = ek i }) in
     let to_source : make_from ty k (at_fields false types types) ss ps ≡ (infer g (Make name (arguments_from (tree_of exprs) ids))).line sc w0.fresh =
-      (λ i. let ts = et i in let s = several (at_fields true ts cs) sc w0.fresh in make_from (Tree (record { 0 = eo i })) k (at_fields false ts ts) s (several (at_fields false ts cs) sc s.fresh))
-      ∙ (λ i. make_line g.table (con i) (sym (codes-each parts exprs ids) i) sc w0.fresh) in
+    (λ i. let ts = et i in let s = several (at_fields true ts cs) sc w0.fresh in make_from (Tree (record { 0 = eo i })) k (at_fields false ts ts) s (several (at_fields false ts cs) sc s.fresh))
+    ∙ (λ i. make_line g.table (con i) (sym (codes-each parts exprs ids) i) sc w0.fresh) in
     let same : make_from ty k packed_types (pending w2 b2 xs) (plain_atoms w2 zs) ≡ (infer g (Make name (arguments_from (tree_of exprs) ids))).line sc w0.fresh =
-      (λ i. make_from ty k (eq i) (same_one i) (same_two i)) ∙ make-same ty k (at_fields false types types) ss ps ∙ to_source in
+    (λ i. make_from ty k (eq i) (same_one i) (same_two i)) ∙ make-same ty k (at_fields false types types) ss ps ∙ to_source in
     let m' : MakesLine w2 w3 id ty ((infer g (Make name (arguments_from (tree_of exprs) ids))).line sc w0.fresh) = subst (λ (z : Lined). MakesLine w2 w3 id ty z) same m in
     record { keeps = keeps_more w0 w1 w3 k1.keeps (keeps_more w1 w2 w3 k2.keeps m'.keeps); inside = m'.inside; term = m'.term; ty = m'.ty; fresh = m'.fresh }

@@ -54,7 +54,7 @@ branch_made parts exprs arm k w0 w1 w2 w3 types xs m b of et hb h em es3 et3 ef3
     let sc = scope_of w0.scope.items in
     let l = arm_line parts exprs arm k.0 sc w0.fresh in
     let same : (code_at parts exprs arm.body.0).line (scope_of w1.scope.items) w1.fresh ≡ l =
-      (λ i. (code_at parts exprs arm.body.0).line ((hb.scope ∙ ap (λ z. with_fields names z w0.fresh sc) et) i) (hb.fresh i)) in
+    (λ i. (code_at parts exprs arm.body.0).line ((hb.scope ∙ ap (λ z. with_fields names z w0.fresh sc) et) i) (hb.fresh i)) in
     let k2 : MakesLine w1 w2 b.term of l = subst (λ (z : Lined). MakesLine w1 w2 b.term of z) same h in
     let g : Grows w0.terms w3.terms = rw et3 (subst (λ (z : List Node). Grows z w2.terms) hb.terms k2.keeps.grows) in
     record {
@@ -118,11 +118,11 @@ one_branch parts exprs arms arm start now newer bs more b of found k ks all e m 
       keeps = keeps_more start now newer h.keeps m.keeps;
       inside = rw em (branches_below_push (length newer.terms) bs b (branches_below_more (length now.terms) (length newer.terms) bs m.keeps.grows.longer h.inside) m.inside);
       branches =
-        (λ i. join (branches_from f (em i)) (rest (fresh i)).branches)
-        ∙ join-last f bs b (rest l.fresh).branches
-        ∙ (λ i. join (branches_same now.terms newer.terms bs m.keeps.grows h.inside i) (BranchThen (m.constructor i) (m.variables i) (term i) (rest l.fresh).branches))
-        ∙ ap (λ (z : Branched). join (branches_from (term_of now.terms) bs) z.branches) same
-        ∙ h.branches;
+          (λ i. join (branches_from f (em i)) (rest (fresh i)).branches)
+          ∙ join-last f bs b (rest l.fresh).branches
+          ∙ (λ i. join (branches_same now.terms newer.terms bs m.keeps.grows h.inside i) (BranchThen (m.constructor i) (m.variables i) (term i) (rest l.fresh).branches))
+          ∙ ap (λ (z : Branched). join (branches_from (term_of now.terms) bs) z.branches) same
+          ∙ h.branches;
       fresh = (λ i. (rest (fresh i)).fresh) ∙ ap (λ (z : Branched). z.fresh) same ∙ h.fresh;
       ty = or-some of found (rest newer.fresh).ty ∙ (λ i. unwrap_or of (ty i)) ∙ ap (λ (z : Branched). unwrap_or of z.ty) same ∙ h.ty;
     }
@@ -142,7 +142,7 @@ pub case_start : (parts : Parts) (exprs : List Expr) (arms : List Arm) (start : 
 case_start parts exprs arms start bs k owner next left eb ek eo en few =
     let table = (globals_in parts).table in
     let same : branches_of table (numbers_from next left) (arms_at parts exprs arms) (scope_of start.scope.items) start.fresh ≡ all_branches parts exprs arms start =
-      (λ i. branches_of table ((en ∙ ap (constructors_of table) (eo ∙ ap (owner_at table) ek)) i) (arms_at parts exprs arms) (scope_of start.scope.items) start.fresh) in
+    (λ i. branches_of table ((en ∙ ap (constructors_of table) (eo ∙ ap (owner_at table) ek)) i) (arms_at parts exprs arms) (scope_of start.scope.items) start.fresh) in
     record {
       so_far = record {
         keeps = record { grows = grows_none start.terms; scope = refl };

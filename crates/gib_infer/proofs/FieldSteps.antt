@@ -62,13 +62,13 @@ points_next old now mid newer before out more types types_left types_after atoms
       keeps = keeps_more old now newer h.keeps kept;
       inside = k.below;
       binds =
-        (λ i. k.binds i ++ pointed_fields (next i) (e2 i) left)
-        ∙ append_assoc (binds_from (term_of now.terms) out) (one ∷ []) rest
-        ∙ h.binds;
+          (λ i. k.binds i ++ pointed_fields (next i) (e2 i) left)
+          ∙ append_assoc (binds_from (term_of now.terms) out) (one ∷ []) rest
+          ∙ h.binds;
       fields =
-        (λ i. (ey ∙ (λ j. xs ++ a.Variable (record { 0 = ex j }) ∷ [])) i ++ as_atoms (variables_from (next i) left))
-        ∙ append_assoc xs (a.Variable (record { 0 = now.fresh }) ∷ []) others
-        ∙ h.fields;
+          (λ i. (ey ∙ (λ j. xs ++ a.Variable (record { 0 = ex j }) ∷ [])) i ++ as_atoms (variables_from (next i) left))
+          ∙ append_assoc xs (a.Variable (record { 0 = now.fresh }) ∷ []) others
+          ∙ h.fields;
       fresh = (let q = h.fresh in omega (arith, q, next));
     } in
     subst (λ z. PointsSoFar old newer before more types types_after atoms z ys) (sym (rest-is p left)) made

@@ -68,19 +68,19 @@ operation_made w0 w1 w2 w3 b0 b1 b2 b3 f left right t1 t2 of x p q h1 h2 ex e3 e
     let same : q (scope_of w1.scope.items) w1.fresh ≡ r = (λ i. q (scope_of (h1.keeps.scope i)) (h1.fresh i)) in
     let h : MakesAtom w1 w2 b1 b2 right t2 r = subst (λ (z : Atomed). MakesAtom w1 w2 b1 b2 right t2 z) same h2 in
     let made : MakesAtom w0 (next_of w2) b0 b3 (a.Variable x) of (operation_atom f p q sc w0.fresh) =
-      let k = pushed w2.terms w2.terms b2 b3 (b.Prim x f left right) (Prim (record { 0 = r.fresh }) f l.atom r.atom) (grows_none w2.terms) h.inside tt eb (λ i. Prim (record { 0 = (ex ∙ h.fresh) i }) f (h1.atom i) (h.atom i)) in
-      record {
-        keeps = keeps_more w0 w1 (next_of w2) h1.keeps (record { grows = h.keeps.grows; scope = h.keeps.scope });
-        inside = k.below;
-        binds =
+    let k = pushed w2.terms w2.terms b2 b3 (b.Prim x f left right) (Prim (record { 0 = r.fresh }) f l.atom r.atom) (grows_none w2.terms) h.inside tt eb (λ i. Prim (record { 0 = (ex ∙ h.fresh) i }) f (h1.atom i) (h.atom i)) in
+    record {
+      keeps = keeps_more w0 w1 (next_of w2) h1.keeps (record { grows = h.keeps.grows; scope = h.keeps.scope });
+      inside = k.below;
+      binds =
           k.binds
           ∙ (λ i. (h.binds ∙ ap (λ z. z ++ r.binds) h1.binds) i ++ Prim (record { 0 = r.fresh }) f l.atom r.atom ∷ [])
           ∙ append_assoc (binds_from (term_of w0.terms) b0 ++ l.binds) r.binds (Prim (record { 0 = r.fresh }) f l.atom r.atom ∷ [])
           ∙ append_assoc (binds_from (term_of w0.terms) b0) l.binds (r.binds ++ Prim (record { 0 = r.fresh }) f l.atom r.atom ∷ []);
-        atom = (λ i. a.Variable (record { 0 = (ex ∙ h.fresh) i }));
-        ty = et;
-        fresh = ap (λ n. n + 1) h.fresh;
-      } in
+      atom = (λ i. a.Variable (record { 0 = (ex ∙ h.fresh) i }));
+      ty = et;
+      fresh = ap (λ n. n + 1) h.fresh;
+    } in
     subst (λ (w : Work). MakesAtom w0 w b0 b3 (a.Variable x) of (operation_atom f p q sc w0.fresh)) (sym e3) made
 
 -- The end of a line whose bindings are those of several atoms.
@@ -117,15 +117,15 @@ let_made w0 w1 w2 w3 w4 before bs x m at t1 of p q rest term eb h1 em hb h3 es4 
     let sc = scope_of w0.scope.items in
     let l = p sc w0.fresh in
     let inner : scope_of w2.scope.items ≡ slot x l.atom l.ty ∷ sc =
-      ap scope_of hb.scope ∙ scope_of-push w1.scope.items (slot x at t1) ∙ (λ i. slot x (h1.atom i) (h1.ty i) ∷ scope_of (h1.keeps.scope i)) in
+    ap scope_of hb.scope ∙ scope_of-push w1.scope.items (slot x at t1) ∙ (λ i. slot x (h1.atom i) (h1.ty i) ∷ scope_of (h1.keeps.scope i)) in
     let r = q (slot x l.atom l.ty ∷ sc) l.fresh in
     let same : q (scope_of w2.scope.items) w2.fresh ≡ r = (λ i. q (inner i) ((hb.fresh ∙ h1.fresh) i)) in
     let h : MakesLine w2 w3 rest of r = subst (λ (z : Lined). MakesLine w2 w3 rest of z) same h3 in
     let g13 : Grows w1.terms w3.terms = subst (λ (z : List Node). Grows z w3.terms) hb.terms h.keeps.grows in
     let back : w4.scope.items ≡ w0.scope.items =
-      es4 ∙ (λ i. take (em i) ((h.keeps.scope ∙ hb.scope) i)) ∙ take-append_seam w1.scope.items (slot x at t1 ∷ []) ∙ h1.keeps.scope in
+    es4 ∙ (λ i. take (em i) ((h.keeps.scope ∙ hb.scope) i)) ∙ take-append_seam w1.scope.items (slot x at t1 ∷ []) ∙ h1.keeps.scope in
     let front : binds_from (term_of w3.terms) bs ≡ l.binds =
-      binds_same w1.terms w3.terms bs g13 h1.inside ∙ h1.binds ∙ ap (λ z. binds_from (term_of w0.terms) z ++ l.binds) eb in
+    binds_same w1.terms w3.terms bs g13 h1.inside ∙ h1.binds ∙ ap (λ z. binds_from (term_of w0.terms) z ++ l.binds) eb in
     record {
       keeps = record { grows = grows_more w0.terms w3.terms w4.terms (grows_more w0.terms w1.terms w3.terms h1.keeps.grows g13) g4; scope = back };
       inside = lt;
@@ -163,18 +163,18 @@ par_made w0 w1 w2 w3 w4 w5 w6 x y m l r of p q body rest term h1 h2 em hx hy h5 
     let left_slot : slot x (a.Variable l.variable) l.ty ≡ slot x (var w0.fresh) u.ty = (λ i. slot x (a.Variable (h1.variable i)) (h1.ty i)) in
     let right_slot : slot y (a.Variable r.variable) r.ty ≡ slot y (var u.fresh) v.ty = (λ i. slot y (a.Variable ((k2.variable ∙ ap (λ (k : ℕ). let z : Variable = record { 0 = k } in z) h1.fresh) i)) (k2.ty i)) in
     let inner : scope_of w4.scope.items ≡ slot y (var u.fresh) v.ty ∷ slot x (var w0.fresh) u.ty ∷ sc =
-      ap scope_of hy.scope ∙ scope_of-push w3.scope.items (slot y (a.Variable r.variable) r.ty)
-      ∙ (λ i. right_slot i ∷ (ap scope_of hx.scope ∙ scope_of-push w2.scope.items (slot x (a.Variable l.variable) l.ty)) i)
-      ∙ (λ i. slot y (var u.fresh) v.ty ∷ left_slot i ∷ scope_of (k12.scope i)) in
+    ap scope_of hy.scope ∙ scope_of-push w3.scope.items (slot y (a.Variable r.variable) r.ty)
+    ∙ (λ i. right_slot i ∷ (ap scope_of hx.scope ∙ scope_of-push w2.scope.items (slot x (a.Variable l.variable) l.ty)) i)
+    ∙ (λ i. slot y (var u.fresh) v.ty ∷ left_slot i ∷ scope_of (k12.scope i)) in
     let t = body (slot y (var u.fresh) v.ty ∷ slot x (var w0.fresh) u.ty ∷ sc) v.fresh in
     let same5 : body (scope_of w4.scope.items) w4.fresh ≡ t = (λ i. body (inner i) ((hy.fresh ∙ hx.fresh ∙ k2.fresh) i)) in
     let k5 : MakesLine w4 w5 rest of t = subst (λ (z : Lined). MakesLine w4 w5 rest of z) same5 h5 in
     let g25 : Grows w2.terms w5.terms = subst (λ (z : List Node). Grows z w5.terms) (hy.terms ∙ hx.terms) k5.keeps.grows in
     let g15 = grows_more w1.terms w2.terms w5.terms k2.keeps.grows g25 in
     let outer : w4.scope.items ≡ w2.scope.items ++ (slot x (a.Variable l.variable) l.ty ∷ slot y (a.Variable r.variable) r.ty ∷ []) =
-      hy.scope ∙ ap (λ z. z ++ slot y (a.Variable r.variable) r.ty ∷ []) hx.scope ∙ append_assoc w2.scope.items (slot x (a.Variable l.variable) l.ty ∷ []) (slot y (a.Variable r.variable) r.ty ∷ []) in
+    hy.scope ∙ ap (λ z. z ++ slot y (a.Variable r.variable) r.ty ∷ []) hx.scope ∙ append_assoc w2.scope.items (slot x (a.Variable l.variable) l.ty ∷ []) (slot y (a.Variable r.variable) r.ty ∷ []) in
     let back : w6.scope.items ≡ w0.scope.items =
-      es6 ∙ (λ i. take (em i) ((k5.keeps.scope ∙ outer) i)) ∙ take-append_seam w2.scope.items (slot x (a.Variable l.variable) l.ty ∷ slot y (a.Variable r.variable) r.ty ∷ []) ∙ k12.scope in
+    es6 ∙ (λ i. take (em i) ((k5.keeps.scope ∙ outer) i)) ∙ take-append_seam w2.scope.items (slot x (a.Variable l.variable) l.ty ∷ slot y (a.Variable r.variable) r.ty ∷ []) ∙ k12.scope in
     record {
       keeps = record { grows = grows_more w0.terms w5.terms w6.terms (grows_more w0.terms w2.terms w5.terms k12.grows g25) made.grows; scope = back };
       inside = made.inside;
@@ -194,7 +194,7 @@ if_made w0 w1 w2 w3 w4 before out x t1 t2 of c p q s t term eb h1 h2 h3 es4 ef4 
     let k3 : MakesLine w2 w3 t t2 r = subst (λ (z : Lined). MakesLine w2 w3 t t2 z) (λ i. q (scope_of ((k2.keeps.scope ∙ h1.keeps.scope) i)) (k2.fresh i)) h3 in
     let g13 = grows_more w1.terms w2.terms w3.terms k2.keeps.grows k3.keeps.grows in
     let front : binds_from (term_of w3.terms) out ≡ u.binds =
-      binds_same w1.terms w3.terms out g13 h1.inside ∙ h1.binds ∙ ap (λ z. binds_from (term_of w0.terms) z ++ u.binds) eb in
+    binds_same w1.terms w3.terms out g13 h1.inside ∙ h1.binds ∙ ap (λ z. binds_from (term_of w0.terms) z ++ u.binds) eb in
     record {
       keeps = record { grows = grows_more w0.terms w3.terms w4.terms (grows_more w0.terms w1.terms w3.terms h1.keeps.grows g13) g4; scope = es4 ∙ k3.keeps.scope ∙ k2.keeps.scope ∙ h1.keeps.scope };
       inside = lt;

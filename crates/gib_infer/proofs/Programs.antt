@@ -20,11 +20,15 @@ use Rattle.gib_core.specs.declared.node.Node.{Node}
 use Rattle.gib_core.specs.declared.program.CoreFunction.{CoreFunction}
 use Rattle.gib_core.specs.Tree.{Term, FunctionTerm}
 use Rattle.gib_core.specs.Arena.{Grows, term_of}
-use Rattle.gib_core.specs.Parts.{IsFunctionInside, function_term}
-use Rattle.gib_core.specs.Inferring.{infer_body, infer_function, with_fields}
+use Rattle.gib_types.specs.declared.table.ConId.{ConId}
+use Rattle.gib_types.specs.Table.{Table}
+use Rattle.gib_syntax.specs.Declarations.{table_of_program}
+use Rattle.gib_core.specs.declared.program.CoreMain.{CoreMain}
+use Rattle.gib_core.specs.Parts.{Parts as CoreParts, IsFunctionInside, function_term, core_of}
+use Rattle.gib_core.specs.Inferring.{infer_body, infer_function, infer_program, with_fields}
 use Rattle.gib_infer.specs.declared.work.Work.{Work}
 use Rattle.gib_infer.specs.Made.{scope_of, globals_in, code_at, BindsFields, MakesLine}
-use Rattle.gib_infer.specs.Bodies.{MakesBody, MakesFunction, MakesFunctions}
+use Rattle.gib_infer.specs.Bodies.{MakesBody, MakesFunction, MakesFunctions, MakesMain}
 use Rattle.gib_infer.proofs.Fronting.{grows_more, grows_none}
 
 pub body_made : (parts : Parts) (exprs : List Expr) (names : List Ident) (types : List Ty) (id : ℕ) (w0 w1 w2 w3 : Work) (xs : List Variable) (t : TermId) (of : Ty) → exprs ≡ parts.exprs → w1.terms ≡ w0.terms → w1.scope.items ≡ [] → w1.fresh ≡ 0 → BindsFields w1 w2 names types xs → MakesLine w2 w3 t of ((code_at parts exprs id).line (scope_of w2.scope.items) w2.fresh) → MakesBody w0 w3 t (infer_body (globals_in parts) names types (tree_of parts.exprs id))
@@ -41,7 +45,7 @@ pub function_made : (parts : Parts) (d : FunctionDecl) (f : FunctionTree) (id : 
 function_made parts d f id names types w0 w1 made e1 e2 en et h enm ep er =
     let ef : function_tree (tree_of parts.exprs) d ≡ f = same_Some (function_tree (tree_of parts.exprs) d) f (sym e1 ∙ e2) in
     let body : infer_body (globals_in parts) names types (tree_of parts.exprs d.body.0) ≡ infer_body (globals_in parts) (names_of f.parameters) (parameter_types (globals_in parts).table f) f.body =
-      (λ i. infer_body (globals_in parts) ((en ∙ ap (λ (z : FunctionTree). names_of z.parameters) ef) i) (et i) (ef i).body) in
+    (λ i. infer_body (globals_in parts) ((en ∙ ap (λ (z : FunctionTree). names_of z.parameters) ef) i) (et i) (ef i).body) in
     record {
       grows = h.grows;
       inside = h.inside;
@@ -90,11 +94,11 @@ functions_next parts old now newer made more x next lt h step em =
       grows = grows_more old.terms now.terms newer.terms h.grows k.grows;
       inside = rw em (inside_push (length newer.terms) made x (inside_more (length now.terms) (length newer.terms) made k.grows.longer h.inside) k.inside);
       are =
-        (λ i. (ap (map (function_term f)) em ∙ map-append (function_term f) made (x ∷ [])) i ++ map (infer_function g) (drop (next + 1) fs))
-        ∙ (λ i. (functions_same now.terms newer.terms made k.grows h.inside i ++ k.is i ∷ []) ++ map (infer_function g) (drop (next + 1) fs))
-        ∙ append_assoc (map (function_term (term_of now.terms)) made) (infer_function g found.0 ∷ []) (map (infer_function g) (drop (next + 1) fs))
-        ∙ ap (λ z. map (function_term (term_of now.terms)) made ++ map (infer_function g) z) (sym (drop-at fs next found.0 found.1))
-        ∙ h.are;
+          (λ i. (ap (map (function_term f)) em ∙ map-append (function_term f) made (x ∷ [])) i ++ map (infer_function g) (drop (next + 1) fs))
+          ∙ (λ i. (functions_same now.terms newer.terms made k.grows h.inside i ++ k.is i ∷ []) ++ map (infer_function g) (drop (next + 1) fs))
+          ∙ append_assoc (map (function_term (term_of now.terms)) made) (infer_function g found.0 ∷ []) (map (infer_function g) (drop (next + 1) fs))
+          ∙ ap (λ z. map (function_term (term_of now.terms)) made ++ map (infer_function g) z) (sym (drop-at fs next found.0 found.1))
+          ∙ h.are;
     }
 
 drop-past : (fs : List FunctionTree) (n : ℕ) → length fs ≤ n → drop n fs ≡ []
@@ -109,3 +113,9 @@ functions_end parts old new made next le h = record {
   inside = h.inside;
   are = sym (append-nil (map (function_term (term_of new.terms)) made)) ∙ ap (λ z. map (function_term (term_of new.terms)) made ++ map (infer_function (globals_in parts)) z) (sym (drop-past (program_of parts).functions next le)) ∙ h.are;
 }
+
+-- The core of these parts.
+pub core_made : (parts : Parts) (w0 w1 w2 : Work) (table : Table) (fs : List CoreFunction) (main : CoreMain) (offsets : List ConId) (core : CoreParts) → table ≡ table_of_program (program_of parts) → MakesFunctions w0 w1 fs (map (infer_function (globals_in parts)) (program_of parts).functions) → MakesMain w1 w2 main (infer_program (program_of parts)).main → offsets ≡ [] → core ≡ record { table = table; terms = w2.terms; functions = fs; main = main; offsets = offsets } → core_of core ≡ infer_program (program_of parts)
+core_made parts w0 w1 w2 table fs main offsets core et hf hm eo e =
+    ap core_of e
+    ∙ (λ i. record { table = et i; functions = (functions_same w1.terms w2.terms fs hm.grows hf.inside ∙ hf.are) i; main = hm.is i; offsets = eo i })

@@ -111,7 +111,12 @@ pub fn bind_fields(
     let mut left = names;
     'names: while let [name, after @ ..] = left {
         let variable = new_variable(work)?;
-        bind(work, *name, Atom::Variable(variable), first_type(types_left))?;
+        bind(
+            work,
+            *name,
+            Atom::Variable(variable),
+            first_type(types_left),
+        )?;
         variables.push(variable)?;
         types_left = further_types(types_left);
         left = after;

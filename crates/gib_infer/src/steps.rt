@@ -12,12 +12,7 @@ use gib_types::{ConId, Ty};
 use std::alloc::Global;
 
 /// A scalar that is given, behind its bindings.
-pub fn give(
-    work: &mut Work,
-    bindings: Vec<Binding>,
-    atom: Atom,
-    ty: Ty,
-) -> Result<TermId, Memory>
+pub fn give(work: &mut Work, bindings: Vec<Binding>, atom: Atom, ty: Ty) -> Result<TermId, Memory>
     requires { AreBindingsBelow (length work.old.terms) bindings.items }
     ensures { IfOk result (λ t. MakesLine work.old work.new t ty (given_atom (pending_atom work.old bindings.items atom ty))) }
 {

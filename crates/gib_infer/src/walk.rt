@@ -75,7 +75,10 @@ pub fn line(
         Node::Call(f, ids) => call_line(alloc, typed, exprs, work, id, *f, ids),
         Node::Make(k, ids) => make(alloc, typed, exprs, work, id, *k, ids),
         Node::Let {
-            name, bound, body, ..
+            name,
+            bound,
+            body,
+            ..
         } => let_in(alloc, typed, exprs, work, id, *name, *bound, *body),
         Node::LetPar {
             left_name,
