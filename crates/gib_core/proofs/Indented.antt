@@ -1,5 +1,5 @@
 -- The spaces of a level, written two at a time.
-use Rattle.std.proofs.Common.{◌≡◌, ◌<◌, ◌-◌, ℕ, zero, suc, List, [], ◌∷◌, ◌++◌, refl, sym, ap, ◌∙◌, arith, append_assoc}
+use Rattle.std.proofs.Common.{◌≡◌, ◌<◌, ◌-◌, ℕ, zero, suc, List, [], ◌∷◌, ◌++◌, sym, ap, ◌∙◌, arith, append_assoc}
 use Rattle.gib_core.specs.CoreText.{indent}
 
 indent_step : (n : ℕ) → 0 < n → indent n ≡ 32 ∷ 32 ∷ indent (n - 1)

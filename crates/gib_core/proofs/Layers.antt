@@ -10,7 +10,7 @@ use Rattle.gib_core.specs.declared.node.Branch.{Branch}
 use Rattle.gib_core.specs.declared.node.Node.{Node}
 use Rattle.gib_core.specs.declared.node.Node.TheVariants as n
 use Rattle.gib_core.specs.Tree.{Term, Then, CaseTerm, IfTerm, One, Both, On, BranchThen}
-use Rattle.gib_core.specs.Arena.{IsBindingBelow, IsBranchBelow, PartsBelow, IsArena, side_from, bind_from, binds_from, branches_from, layer, term_at, term_of, Opens, Makes}
+use Rattle.gib_core.specs.Arena.{IsBindingBelow, IsBranchBelow, PartsBelow, IsArena, bind_from, binds_from, branches_from, layer, term_at, term_of, Opens, Makes}
 
 branches_same : (f g : ℕ → Term) (id : ℕ) (bs : List Branch) → AllByRecursion (IsBranchBelow id) bs → ((a : ℕ) → a < id → f a ≡ g a) → branches_from f bs ≡ branches_from g bs
 branches_same f g id [] h e = refl

@@ -2,3 +2,15 @@ pub mod Layers
 pub mod Unbroken
 pub mod Indented
 pub mod Copied
+mod Agreeing
+mod Envs
+mod Together
+mod Places
+mod Same
+mod Cases
+mod Whole
+mod Ordered
+mod Erases
+mod Left
+mod Reaches
+mod Sample

@@ -1,10 +1,8 @@
 -- The source term that is left of a core without destinations, heads, reaches and marks.
-use Rattle.std.specs.Prelude.{ℕ, zero, suc, ℤ, pos, negsuc, ◌==◌, if◌then◌else◌, Bool, List, [], ◌∷◌, map, Option, Some, None}
+use Rattle.std.specs.Prelude.{ℕ, zero, suc, ◌+◌, ℤ, pos, negsuc, ◌==◌, if◌then◌else◌, List, [], ◌∷◌, map, Option, Some, None}
 use Rattle.gib_base.specs.declared.Span.{Span}
-use Rattle.gib_base.specs.declared.name.Name.{Name}
 use Rattle.gib_types.specs.declared.table.Ty.{Ty}
 use Rattle.gib_types.specs.declared.table.Ty.TheVariants.{Whole, Truth, Tree}
-use Rattle.gib_types.specs.declared.table.ConId.{ConId}
 use Rattle.gib_types.specs.Table.{Table, fields_at, name_at}
 use Rattle.gib_syntax.specs.declared.tree.Ident.{Ident}
 use Rattle.gib_syntax.specs.declared.tree.Parameter.{Parameter}
@@ -15,8 +13,8 @@ use Rattle.gib_core.specs.declared.atom.Variable.{Variable}
 use Rattle.gib_core.specs.declared.atom.Atom.{Atom}
 use Rattle.gib_core.specs.declared.atom.Atom.TheVariants as a
 use Rattle.gib_core.specs.declared.atom.Kind.{Kind}
-use Rattle.gib_core.specs.declared.atom.Kind.TheVariants.{Here, Region, Scalar}
-use Rattle.gib_core.specs.Tree.{Term, Then, Write, Point, CallTerm, Give, CaseTerm, IfTerm, Bind, Past, One, Both, Prim, Reach, Side, On, Branches, NoBranch, BranchThen, variable_of, FunctionTerm, MainTerm, CoreTree}
+use Rattle.gib_core.specs.declared.atom.Kind.TheVariants.{Here, Region}
+use Rattle.gib_core.specs.Tree.{Term, Then, Write, Point, CallTerm, Give, CaseTerm, IfTerm, Bind, Past, One, Both, Prim, Reach, Side, On, Branches, NoBranch, BranchThen, variable_of, FunctionTerm, CoreTree}
 use Rattle.gib_core.specs.Meaning.{merge}
 
 -- The place of what stands in no source text.
@@ -74,6 +72,17 @@ abbrev pub arm_before : Ident → List Ident → Expression → Option Arms → 
 arm_before k xs e None = Some (LastArm k xs e)
 arm_before k xs e (Some arms) = Some (NextArm k xs e arms)
 
+-- The variable that a term points to, where it is `point` at a place or in a region of its own.
+abbrev pub left_out : Kind → Term → Option Atom
+left_out Here (Point y) = Some y
+left_out Region (Point y) = Some y
+left_out kind t = None
+
+-- A bound expression before the rest of its line; one that is left out has an atom put for its variable.
+abbrev pub let_or_put : Option Atom → Variable → Expression → Substitution → (Substitution → Expression) → Expression
+let_or_put None x e sub rest = Let nowhere (ident x.0) e (rest sub)
+let_or_put (Some y) x e sub rest = rest ((x.0, put_in sub y) ∷ sub)
+
 abbrev mutual
   -- The expression that is left of a term. A `here` or `region` whose right side is `point y`, and that is no
   -- side of a par, is left out, and y put for its variable.
@@ -97,10 +106,7 @@ abbrev mutual
   erase_bind table sub (Reach y by) rest = rest sub
 
   pub erase_one : Table → Substitution → Side → (Substitution → Expression) → Expression
-  erase_one table sub (On Here x ty (Point y)) rest = rest ((x.0, put_in sub y) ∷ sub)
-  erase_one table sub (On Region x ty (Point y)) rest = rest ((x.0, put_in sub y) ∷ sub)
-  erase_one table sub (On Scalar x ty (Point y)) rest = Let nowhere (ident x.0) (erase_atom sub y) (rest sub)
-  erase_one table sub (On kind x ty t) rest = Let nowhere (ident x.0) (erase table sub t) (rest sub)
+  erase_one table sub (On kind x ty t) rest = let_or_put (left_out kind t) x (erase table sub t) sub rest
 
   pub erase_side : Table → Substitution → Side → Expression
   erase_side table sub (On kind x ty t) = erase table sub t
@@ -125,7 +131,7 @@ type_name table (Tree t) = ty.Declared (ident (declared_name table.types t.0))
 -- The variables from a number on as parameters of these types.
 abbrev pub parameters_from : Table → ℕ → List Ty → List Parameter
 parameters_from table n [] = []
-parameters_from table n (t ∷ ts) = record { name = ident n; ty = type_name table t } ∷ parameters_from table (suc n) ts
+parameters_from table n (t ∷ ts) = record { name = ident n; ty = type_name table t } ∷ parameters_from table (n + 1) ts
 
 -- The function that is left.
 abbrev pub erase_function : Table → FunctionTerm → FunctionTree

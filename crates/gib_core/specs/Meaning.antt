@@ -3,7 +3,7 @@ use Rattle.std.specs.Prelude.{ℕ, zero, suc, pos, ◌==◌, if◌then◌else◌
 use Rattle.gib_types.specs.declared.table.Ty.{Ty}
 use Rattle.gib_types.specs.declared.table.Ty.TheVariants.{Whole, Truth, Tree}
 use Rattle.gib_types.specs.Table.{Table, fields_at}
-use Rattle.gib_types.specs.Tree.{Datum, whole, truth, con, data_of, list_of}
+use Rattle.gib_types.specs.Tree.{Datum, whole, truth, con, data_of}
 use Rattle.gib_syntax.specs.Meaning.{Reason, Deep, Outcome, Gives, Stops, Environment, value_in, number_in, is_true, operate, choose, parts, is_made_by}
 use Rattle.gib_core.specs.declared.atom.Variable.{Variable}
 use Rattle.gib_core.specs.declared.atom.Atom.{Atom}

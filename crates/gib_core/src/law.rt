@@ -1,10 +1,41 @@
 //! Laws of cores: functions whose contracts are the laws.
 
-ghost use Rattle.std.specs.Prelude.{◌≡◌, ◌↔◌, None};
+ghost use Rattle.std.specs.Prelude.{◌≡◌, ◌↔◌, ℕ, List, None};
+ghost use Rattle.gib_types.specs.Table.{IsTable};
+ghost use Rattle.gib_types.specs.Tree.{Datum};
+ghost use Rattle.gib_syntax.specs.Tree.{DataTree, ProgramTree};
+ghost use Rattle.gib_syntax.specs.Declarations.{table_of_program};
+ghost use Rattle.gib_syntax.specs.Typing.{IsTypedProgram};
+ghost use Rattle.gib_syntax.specs.Meaning.{calls, run};
 ghost use Rattle.gib_core.specs.Tree.{CoreTree};
+ghost use Rattle.gib_core.specs.Meaning.{core_calls, core_run};
+ghost use Rattle.gib_core.specs.declared.atom.AccessMode.{AccessMode as Mode};
+ghost use Rattle.gib_core.specs.Erasing.{erase_core};
+ghost use Rattle.gib_core.specs.Inferring.{infer_program};
+ghost use Rattle.gib_core.specs.Reaching.{reach_core};
 ghost use Rattle.gib_core.specs.Rules.{AreBuilt, first_broken};
 
 /// A core meets the build rules exactly where none is the first broken one.
 pub fn built_is_unbroken()
     ensures { (core : CoreTree) → (first_broken core ≡ None) ↔ AreBuilt core }
+{}
+
+/// What a typed program becomes means what the program means: each call, with any depth left, and main. (The
+/// table of a typed program keeps the rules of tables: `TypeTable::rules`.)
+pub fn infer_keeps_the_meaning()
+    ensures calls { (p : ProgramTree) → IsTable (table_of_program p) → IsTypedProgram p → (n : ℕ) → core_calls (infer_program p) n ≡ calls p n }
+    ensures run { (p : ProgramTree) → IsTable (table_of_program p) → IsTypedProgram p → (depth : ℕ) (v : Datum) → core_run (infer_program p) depth v ≡ run p depth v }
+{}
+
+/// The program that is left of what a typed program becomes means what the program means.
+pub fn erasing_keeps_the_meaning()
+    ensures calls { (p : ProgramTree) → IsTable (table_of_program p) → IsTypedProgram p → (n : ℕ) → calls (erase_core p.datas (infer_program p)) n ≡ calls p n }
+    ensures run { (p : ProgramTree) → IsTable (table_of_program p) → IsTypedProgram p → (depth : ℕ) (v : Datum) → run (erase_core p.datas (infer_program p)) depth v ≡ run p depth v }
+{}
+
+/// To reach the fields of arms keeps what is left of a core, and its own meaning.
+pub fn reaching_keeps_the_meaning()
+    ensures erased { (mode : Mode) (datas : List DataTree) (core : CoreTree) → erase_core datas (reach_core mode core) ≡ erase_core datas core }
+    ensures calls { (mode : Mode) (core : CoreTree) (n : ℕ) → core_calls (reach_core mode core) n ≡ core_calls core n }
+    ensures run { (mode : Mode) (core : CoreTree) (depth : ℕ) (v : Datum) → core_run (reach_core mode core) depth v ≡ core_run core depth v }
 {}

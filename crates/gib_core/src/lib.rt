@@ -4,12 +4,15 @@
 pub mod atom;
 pub mod checked;
 pub mod copy;
+pub mod examples;
 pub mod law;
 pub mod node;
 pub mod piece;
 pub mod print;
 pub mod program;
 pub mod scope;
+#[cfg(test)]
+mod tests;
 mod text;
 mod written;
 

@@ -1,4 +1,4 @@
-use Rattle.std.proofs.Common.{◌≡◌, ◌++◌, length}
+use Rattle.std.proofs.Common.{◌≡◌, ◌++◌}
 use Rattle.gib_core.specs.CoreText.{indent}
 use Rattle.gib_core.proofs.text.push_indent.Given as goal
 

@@ -1,0 +1,270 @@
+ghost use Rattle.std.specs.Prelude.{◌≡◌, ◌++◌, ◌∷◌, [], ◌<◌, ◌≤◌, length, map, IfOk, OnOk};
+ghost use Rattle.gib_types.specs.Table.{row_of};
+ghost use Rattle.gib_core.specs.Arena.{IsBindingBelow, PartsBelow};
+
+use crate::*;
+use gib_base::{Memory, Name, Names};
+use gib_syntax::Operator;
+use gib_types::{ConId, Constructor, Ty, TyId, TypeTable};
+use std::alloc::Global;
+use std::test::*;
+
+const TREE: Ty = Ty::Tree(TyId(0));
+
+const LEAF: ConId = ConId(0);
+
+const NODE: ConId = ConId(1);
+
+const ADD1: Name = Name(3);
+
+fn add(alloc: Global, rows: &mut Vec<Constructor>, name: u32, fields: &[Ty]) -> Result<(), Memory>
+    ensures { OnOk result (map row_of rows.new.items ≡ map row_of rows.old.items ++ record { name = name; owner = 0; fields = fields.now } ∷ []) }
+{
+    let fields = Vec::from_slice(alloc, fields)?;
+    rows.push(Constructor {
+        name: Name(name),
+        owner: TyId(0),
+        fields,
+    })?;
+    Ok(())
+}
+
+// data Tree = Leaf Int | Node Tree Tree ;
+fn table(alloc: Global) -> Result<TypeTable, Memory> {
+    let types = Vec::from_slice(alloc, &[Name(0)])?;
+    let mut rows = Vec::new(alloc);
+    add(alloc, &mut rows, 1, &[Ty::Whole])?;
+    add(alloc, &mut rows, 2, &[TREE, TREE])?;
+    TypeTable::make(alloc, types, rows)
+}
+
+fn names(alloc: Global) -> Result<Names, Fail> {
+    let mut names = Names::make(alloc)?;
+    for text in ["Tree", "Leaf", "Node", "add1"] {
+        names.intern(alloc, text.as_bytes()).map_err(|_| "a name")?;
+    }
+    Ok(names)
+}
+
+fn put(terms: &mut Terms, node: Node) -> Result<TermId, Memory>
+    requires { PartsBelow node (length terms.old) }
+    ensures { IfOk result (λ id. (id.0 < length terms.new) × (length terms.old ≤ length terms.new)) }
+{
+    terms.put(node)
+}
+
+fn then(terms: &mut Terms, binding: Binding, rest: TermId) -> Result<TermId, Memory>
+    requires rest { rest.0 < length terms.old }
+    requires binding { IsBindingBelow (length terms.old) binding }
+    ensures { IfOk result (λ id. (id.0 < length terms.new) × (length terms.old ≤ length terms.new)) }
+{
+    put(terms, Node::Then(binding, rest))
+}
+
+fn var(number: u32) -> Atom {
+    Atom::Variable(Variable(number))
+}
+
+// call add1 %n
+fn call(alloc: Global, terms: &mut Terms, number: u32) -> Result<TermId, Memory>
+    ensures { IfOk result (λ id. (id.0 < length terms.new) × (length terms.old ≤ length terms.new)) }
+{
+    let arguments = Vec::from_slice(alloc, &[var(number)])?;
+    put(terms, Node::Call(ADD1, arguments))
+}
+
+fn bound(kind: Kind, number: u32, term: TermId) -> BoundTerm
+    ensures { result.term ≡ term }
+{
+    BoundTerm {
+        kind,
+        variable: Variable(number),
+        ty: TREE,
+        term,
+    }
+}
+
+// here %n, and under it point %m
+fn pointed(terms: &mut Terms, number: u32, target: u32, rest: TermId) -> Result<TermId, Memory>
+    requires { rest.0 < length terms.old }
+    ensures { IfOk result (λ id. (id.0 < length terms.new) × (length terms.old ≤ length terms.new)) }
+{
+    let point = put(terms, Node::Point(var(target)))?;
+    let here = bound(Kind::Here, number, point);
+    then(terms, Binding::One(here), rest)
+}
+
+// The arm of `Leaf`: prim, past and write.
+fn leaf(alloc: Global, terms: &mut Terms) -> Result<TermId, Memory>
+    ensures { IfOk result (λ id. (id.0 < length terms.new) × (length terms.old ≤ length terms.new)) }
+{
+    let scalars = Vec::from_slice(alloc, &[var(2)])?;
+    let write = put(
+        terms,
+        Node::Write {
+            head: Variable(3),
+            constructor: LEAF,
+            scalars,
+            packed: Vec::new(alloc),
+        },
+    )?;
+    let past = then(
+        terms,
+        Binding::Past {
+            head: Variable(3),
+            constructor: LEAF,
+        },
+        write,
+    )?;
+    then(
+        terms,
+        Binding::Prim {
+            variable: Variable(2),
+            operator: Operator::Add,
+            left: var(1),
+            right: Atom::literal(1),
+        },
+        past,
+    )
+}
+
+// The end of the arm of `Node`: past, two fields and write.
+fn ends(alloc: Global, terms: &mut Terms) -> Result<TermId, Memory>
+    ensures { IfOk result (λ id. (id.0 < length terms.new) × (length terms.old ≤ length terms.new)) }
+{
+    let packed = Vec::from_slice(alloc, &[var(9), var(10)])?;
+    let write = put(
+        terms,
+        Node::Write {
+            head: Variable(8),
+            constructor: NODE,
+            scalars: Vec::new(alloc),
+            packed,
+        },
+    )?;
+    let second = pointed(terms, 10, 7, write)?;
+    let first = pointed(terms, 9, 6, second)?;
+    then(
+        terms,
+        Binding::Past {
+            head: Variable(8),
+            constructor: NODE,
+        },
+        first,
+    )
+}
+
+// The two sides, and what follows them.
+fn sides(alloc: Global, terms: &mut Terms, fork: bool) -> Result<TermId, Memory>
+    ensures { IfOk result (λ id. (id.0 < length terms.new) × (length terms.old ≤ length terms.new)) }
+{
+    let rest = ends(alloc, terms)?;
+    let first = call(alloc, terms, 4)?;
+    let second = call(alloc, terms, 5)?;
+    let left = bound(Kind::Region, 6, first);
+    let right = bound(Kind::Region, 7, second);
+    then(terms, Binding::Par { fork, left, right }, rest)
+}
+
+// The body of add1, where the second field is reached so.
+fn body(
+    alloc: Global,
+    terms: &mut Terms,
+    access: Option<Access>,
+    fork: bool,
+) -> Result<TermId, Memory>
+    ensures { IfOk result (λ id. (id.0 < length terms.new) × (length terms.old ≤ length terms.new)) }
+{
+    let first = leaf(alloc, terms)?;
+    let mut second = sides(alloc, terms, fork)?;
+    if let Some(access) = access {
+        second = then(
+            terms,
+            Binding::Reach {
+                field: Variable(5),
+                access,
+            },
+            second,
+        )?;
+    }
+    let mut branches = Vec::new(alloc);
+    branches.push(Branch {
+        constructor: LEAF,
+        variables: Vec::from_slice(alloc, &[Variable(1)])?,
+        term: first,
+    })?;
+    branches.push(Branch {
+        constructor: NODE,
+        variables: Vec::from_slice(alloc, &[Variable(4), Variable(5)])?,
+        term: second,
+    })?;
+    put(
+        terms,
+        Node::Case {
+            subject: var(0),
+            branches,
+        },
+    )
+}
+
+// fun add1 (t : Tree) : Tree = .. ; main (t : Tree) : Tree = add1 t ;
+fn program(alloc: Global, access: Option<Access>, fork: bool) -> Result<Core, Memory> {
+    let mut terms = Terms::new(alloc);
+    let body = body(alloc, &mut terms, access, fork)?;
+    let main_body = call(alloc, &mut terms, 0)?;
+    let mut functions = Vec::new(alloc);
+    functions.push(CoreFunction {
+        name: ADD1,
+        parameters: Vec::from_slice(alloc, &[TREE])?,
+        result: TREE,
+        body,
+    })?;
+    let main = CoreMain {
+        parameter: TREE,
+        result: TREE,
+        body: main_body,
+    };
+    let types = table(alloc)?;
+    let copy = copy_types(alloc, &types)?;
+    Ok(Core::new(copy, terms, functions, main, Vec::new(alloc)))
+}
+
+const FRONT: &str =
+    "fun add1 %0:Tree : Tree\n  case %0\n    Leaf %1\n      prim %2 = %1 + 1\n      past %3 Leaf\n      write %3 %2\n    Node %4 %5\n";
+
+const BACK: &str =
+    "        region %6\n          call add1 %4\n        region %7\n          call add1 %5\n      past %8 Node\n      here %9\n        point %6\n      here %10\n        point %7\n      write %8 %9 %10\nmain %0:Tree : Tree\n  call add1 %0\n";
+
+#[test]
+fn prints_the_core_of_each_pass(rt: HostRuntime) -> Result<(), Fail> {
+    let alloc = rt.alloc();
+    let names = names(alloc)?;
+    let cases: [(Option<Access>, bool, &str); 4] = [
+        (None, false, "      par\n"),
+        (
+            Some(Access::Skip(Variable(4))),
+            false,
+            "      reach %5 by skip %4\n      par\n",
+        ),
+        (
+            Some(Access::Offset),
+            false,
+            "      reach %5 by offset\n      par\n",
+        ),
+        (
+            Some(Access::Offset),
+            true,
+            "      reach %5 by offset\n      par fork\n",
+        ),
+    ];
+    for (access, fork, middle) in cases {
+        let core = program(alloc, access, fork)?;
+        let text = print_core(alloc, &core, &names)?;
+        let mut want = Vec::new(alloc);
+        want.extend_from_slice(FRONT.as_bytes())?;
+        want.extend_from_slice(middle.as_bytes())?;
+        want.extend_from_slice(BACK.as_bytes())?;
+        assert!(rt; text.as_slice() == want.as_slice(), "{middle}");
+    }
+    Ok(())
+}
