@@ -7,3 +7,4 @@ pub mod Cases
 pub mod Naming
 pub mod Arms
 pub mod Programs
+pub mod Kept

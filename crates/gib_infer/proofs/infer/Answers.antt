@@ -1,7 +1,9 @@
-use Rattle.std.proofs.Common.{◌∙◌}
-use Rattle.gib_infer.proofs.Programs.{core_made}
+use Rattle.gib_syntax.specs.Parts.{program_of}
+use Rattle.gib_infer.proofs.Kept.{kept_calls, kept_run}
 use Rattle.gib_infer.proofs.infer.Goals as goal
 
-pub returns : goal.returns
-returns c =
-    core_made c.args.typed.now _ c.make_functions.new.work c.make_main.new.work c.in_ok-types.types c.in_ok-functions.functions.items c.in_ok-main.main c.new-3.result.items c.new-core.result (c.in_ok-types.ensures ∙ c.types.ensures) c.in_ok-functions.ensures c.in_ok-main.ensures c.new-3.ensures.items c.new-core.ensures
+pub returns-clause-calls : goal.returns-clause-calls
+returns-clause-calls c = kept_calls (program_of c.args.typed.now) c.types.result.now c.make_core.result c.types.ensures c.rules.ensures c.program-typed.ensures.typed c.erasing_keeps_the_meaning.ensures.calls c.make_core.ensures
+
+pub returns-clause-run : goal.returns-clause-run
+returns-clause-run c = kept_run (program_of c.args.typed.now) c.types.result.now c.make_core.result c.types.ensures c.rules.ensures c.program-typed.ensures.typed c.erasing_keeps_the_meaning.ensures.run c.make_core.ensures
