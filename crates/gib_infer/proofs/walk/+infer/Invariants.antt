@@ -1,0 +1,70 @@
+use Rattle.std.proofs.Common.{◌+◌, ◌*◌, length}
+use Rattle.gib_infer.proofs.Calls.{ArgumentsSoFar}
+use Rattle.gib_infer.proofs.Cases.{CaseSoFar}
+use Rattle.gib_infer.proofs.walk.+infer.Given as goal
+
+abbrev pub decreases-arguments : goal.decreases-arguments
+decreases-arguments l = 8 * l.id.0
+
+abbrev pub decreases-branch : goal.decreases-branch
+decreases-branch l = 8 * l.id.0
+
+abbrev pub decreases-put_branch : goal.decreases-put_branch
+decreases-put_branch l = 8 * l.id.0 + 1
+
+abbrev pub decreases-operation : goal.decreases-operation
+decreases-operation l = 8 * l.id.0
+
+abbrev pub decreases-call_line : goal.decreases-call_line
+decreases-call_line l = 8 * l.id.0 + 1
+
+abbrev pub decreases-call_side : goal.decreases-call_side
+decreases-call_side l = 8 * l.id.0 + 1
+
+abbrev pub decreases-call_atom : goal.decreases-call_atom
+decreases-call_atom l = 8 * l.id.0 + 2
+
+abbrev pub decreases-make : goal.decreases-make
+decreases-make l = 8 * l.id.0 + 1
+
+abbrev pub decreases-let_in : goal.decreases-let_in
+decreases-let_in l = 8 * l.id.0
+
+abbrev pub decreases-let_par : goal.decreases-let_par
+decreases-let_par l = 8 * l.id.0
+
+abbrev pub decreases-if_else : goal.decreases-if_else
+decreases-if_else l = 8 * l.id.0
+
+abbrev pub decreases-case : goal.decreases-case
+decreases-case l = 8 * l.id.0 + 2
+
+abbrev pub decreases-line : goal.decreases-line
+decreases-line l = 8 * l.id.0 + 3
+
+abbrev pub decreases-side : goal.decreases-side
+decreases-side l = 8 * l.id.0 + 4
+
+abbrev pub decreases-bound_line : goal.decreases-bound_line
+decreases-bound_line l = 8 * l.id.0 + 4
+
+abbrev pub decreases-bound_side : goal.decreases-bound_side
+decreases-bound_side l = 8 * l.id.0 + 5
+
+abbrev pub decreases-atom : goal.decreases-atom
+decreases-atom l = 8 * l.id.0 + 5
+
+abbrev pub decreases-right_side : goal.decreases-right_side
+decreases-right_side l = 8 * l.id.0 + 5
+
+abbrev pub invariant-arguments-arguments : goal.invariant-arguments-arguments
+invariant-arguments-arguments l = ArgumentsSoFar l.typed l.exprs l.fn.id.0 l.fn.work l.work l.fn.bindings.items l.bindings.items l.ids l.left l.atoms.items
+
+abbrev pub decreases-arguments-arguments : goal.decreases-arguments-arguments
+decreases-arguments-arguments l = length l.left
+
+abbrev pub invariant-case-constructors : goal.invariant-case-constructors
+invariant-case-constructors l = CaseSoFar l.typed l.exprs l.arms l.fn.work l.work l.branches.items l.ty l.next l.left
+
+abbrev pub decreases-case-constructors : goal.decreases-case-constructors
+decreases-case-constructors l = l.left

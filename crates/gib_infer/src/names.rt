@@ -1,0 +1,96 @@
+//! What the names of a typed program are.
+
+ghost use Rattle.std.specs.Prelude.{◌≡◌, ◌≤◌, ◌+◌, ℕ, List, None, Some, MatchOption, IfSome};
+ghost use Rattle.gib_types.specs.Table.{fields_at, owner_at};
+ghost use Rattle.gib_syntax.specs.declared.exprs.Node.{Node as Expr};
+ghost use Rattle.gib_syntax.specs.Arena.{IsArmBelow, ArmsBelow};
+ghost use Rattle.gib_syntax.specs.Declarations.{number_of, function_named};
+ghost use Rattle.gib_core.specs.Inferring.{con_named, gives_type, numbers_from, constructors_of as all_of, first_constructor as first_of_arms, arm_for};
+ghost use Rattle.gib_infer.specs.Made.{globals_in, arms_at, arm_at};
+
+use gib_check::Typed;
+use gib_syntax::{Arm, Ident};
+use gib_types::{ConId, Ty, TyId};
+
+/// The constructor of a name.
+pub fn constructor(typed: &Typed, name: Ident) -> ConId
+    ensures { result.0 ≡ con_named (globals_in typed.now) name }
+{
+    match typed.constructor(name.name) {
+        Some(con) => con,
+        None => ConId(0),
+    }
+}
+
+/// The types of a constructor's fields, in declared order.
+pub fn fields_of(typed: &Typed, con: ConId) -> &[Ty]
+    ensures { result.now ≡ fields_at (globals_in typed.now).table con.0 }
+{
+    if con.0 < typed.types().len() {
+        typed.types().fields(con)
+    } else {
+        &[]
+    }
+}
+
+/// The type that a constructor belongs to.
+pub fn owner_of(typed: &Typed, con: ConId) -> TyId
+    ensures { result.0 ≡ owner_at (globals_in typed.now).table con.0 }
+{
+    if con.0 < typed.types().len() {
+        typed.types().type_of(con)
+    } else {
+        TyId(0)
+    }
+}
+
+/// The first constructor of a type, and how many it has.
+pub fn constructors_of(typed: &Typed, ty: TyId) -> (u32, u32)
+    ensures all { numbers_from result.0 result.1 ≡ all_of (globals_in typed.now).table ty.0 }
+    ensures few { result.0 + result.1 ≤ 200 }
+{
+    let types = typed.types();
+    types.rules();
+    if ty.0 < types.type_count() {
+        (types.first_of(ty).0, types.count_of(ty))
+    } else {
+        (0, 0)
+    }
+}
+
+/// The type that the function of a name gives.
+pub fn result_type(typed: &Typed, name: Ident) -> Ty
+    ensures { result ≡ gives_type (globals_in typed.now).table (function_named (globals_in typed.now).functions (number_of name)) }
+{
+    match typed.function(name.name) {
+        Some(id) => typed.result_type(id),
+        None => Ty::Whole,
+    }
+}
+
+/// The constructor of the first of these arms.
+pub fn first_constructor(typed: &Typed, arms: &[Arm]) -> ConId
+    ensures { (exprs : List Expr) → result.0 ≡ first_of_arms (arms_at typed.now exprs arms.now) }
+{
+    match arms {
+        [] => ConId(0),
+        [arm, ..] => constructor(typed, arm.constructor),
+    }
+}
+
+/// The first arm of a constructor.
+pub fn arm_of<'a>(typed: &Typed, arms: &'a [Arm], con: ConId) -> Option<&'a Arm>
+    ensures first { (exprs : List Expr) → MatchOption result
+        (arm_for (arms_at typed.now exprs arms.now) con.0 ≡ None)
+        (λ arm. arm_for (arms_at typed.now exprs arms.now) con.0 ≡ Some (arm_at typed.now exprs arm.now)) }
+    ensures below { (id : ℕ) → ArmsBelow arms.now id → IfSome result (λ arm. IsArmBelow id arm.now) }
+{
+    let mut left = arms;
+    'arms: while let [arm, after @ ..] = left {
+        if constructor(typed, arm.constructor).0 == con.0 {
+            return Some(arm);
+        }
+        left = after;
+    }
+    None
+}

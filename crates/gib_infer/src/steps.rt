@@ -1,0 +1,156 @@
+//! The ends of constructs, once the code of their parts stands.
+
+ghost use Rattle.std.specs.Prelude.{◌≡◌, ℕ, ◌+◌, ◌<◌, ◌++◌, ◌∷◌, [], length, IfOk};
+ghost use Rattle.gib_core.specs.Inferring.{call_atom, make_from};
+ghost use Rattle.gib_infer.specs.Made.{AreBindingsBelow, MakesLine, MakesAtom, PointsFields, pending, pending_atom, plain_atoms, given_atom, ended_call, side_call};
+
+use crate::fields::{first_type, further_types};
+use crate::work::{Work, new_variable, put_line};
+use gib_base::{Memory, Name};
+use gib_core::{Atom, Binding, BoundTerm, Kind, Node, TermId};
+use gib_types::{ConId, Ty};
+use std::alloc::Global;
+
+/// A scalar that is given, behind its bindings.
+pub fn give(work: &mut Work, bindings: Vec<Binding>, atom: Atom, ty: Ty) -> Result<TermId, Memory>
+    requires { AreBindingsBelow (length work.old.terms) bindings.items }
+    ensures { IfOk result (λ t. MakesLine work.old work.new t ty (given_atom (pending_atom work.old bindings.items atom ty))) }
+{
+    let term = put_line(&mut work.terms, bindings, Node::Give(atom))?;
+    Ok(term)
+}
+
+/// A scalar call that is bound, behind the bindings of its arguments.
+pub fn bind_call(
+    work: &mut Work,
+    bindings: &mut Vec<Binding>,
+    function: Name,
+    arguments: Vec<Atom>,
+    ty: Ty,
+) -> Result<Atom, Memory>
+    requires { AreBindingsBelow (length work.old.terms) bindings.old.items }
+    ensures { IfOk result (λ x. MakesAtom work.old work.new bindings.old.items bindings.new.items x ty (call_atom ty function (plain_atoms work.old arguments.items))) }
+{
+    let variable = new_variable(work)?;
+    let term = work.terms.put(Node::Call(function, arguments))?;
+    bindings.push(Binding::One(BoundTerm {
+        kind: Kind::Scalar,
+        variable,
+        ty,
+        term,
+    }))?;
+    Ok(Atom::Variable(variable))
+}
+
+/// A scalar call that is bound and given.
+fn give_call(
+    work: &mut Work,
+    mut bindings: Vec<Binding>,
+    function: Name,
+    arguments: Vec<Atom>,
+    ty: Ty,
+) -> Result<TermId, Memory>
+    requires { AreBindingsBelow (length work.old.terms) bindings.items }
+    ensures { IfOk result (λ t. MakesLine work.old work.new t ty (given_atom (call_atom ty function (pending work.old bindings.items arguments.items)))) }
+{
+    let atom = bind_call(work, &mut bindings, function, arguments, ty)?;
+    let term = give(work, bindings, atom, ty)?;
+    Ok(term)
+}
+
+/// A call in result place.
+pub fn end_call(
+    work: &mut Work,
+    bindings: Vec<Binding>,
+    function: Name,
+    arguments: Vec<Atom>,
+    ty: Ty,
+) -> Result<TermId, Memory>
+    requires { AreBindingsBelow (length work.old.terms) bindings.items }
+    ensures { IfOk result (λ t. MakesLine work.old work.new t ty (ended_call ty function (pending work.old bindings.items arguments.items))) }
+{
+    match ty {
+        Ty::Tree(_) => put_line(&mut work.terms, bindings, Node::Call(function, arguments)),
+        Ty::Whole => give_call(work, bindings, function, arguments, ty),
+        Ty::Truth => give_call(work, bindings, function, arguments, ty),
+    }
+}
+
+/// A call that is a side: one whose arguments need no bindings is the whole side.
+pub fn end_side(
+    work: &mut Work,
+    bindings: Vec<Binding>,
+    function: Name,
+    arguments: Vec<Atom>,
+    ty: Ty,
+) -> Result<TermId, Memory>
+    requires { AreBindingsBelow (length work.old.terms) bindings.items }
+    ensures { IfOk result (λ t. MakesLine work.old work.new t ty (side_call ty function (pending work.old bindings.items arguments.items))) }
+{
+    if bindings.is_empty() {
+        put_line(&mut work.terms, bindings, Node::Call(function, arguments))
+    } else {
+        end_call(work, bindings, function, arguments, ty)
+    }
+}
+
+/// The packed fields of a head: each points to its atom.
+fn point_fields(
+    alloc: Global,
+    work: &mut Work,
+    bindings: &mut Vec<Binding>,
+    types: &[Ty],
+    atoms: &[Atom],
+) -> Result<Vec<Atom>, Memory>
+    requires { AreBindingsBelow (length work.old.terms) bindings.old.items }
+    ensures { IfOk result (λ v. PointsFields work.old work.new bindings.old.items bindings.new.items types.now atoms.now v.items) }
+{
+    let mut fields = Vec::new(alloc);
+    let mut types_left = types;
+    let mut atoms_left = atoms;
+    'fields: while let [atom, atoms_after @ ..] = atoms_left {
+        let ty = first_type(types_left);
+        let variable = new_variable(work)?;
+        let term = work.terms.put(Node::Point(*atom))?;
+        bindings.push(Binding::One(BoundTerm {
+            kind: Kind::Here,
+            variable,
+            ty,
+            term,
+        }))?;
+        fields.push(Atom::Variable(variable))?;
+        types_left = further_types(types_left);
+        atoms_left = atoms_after;
+    }
+    Ok(fields)
+}
+
+/// A constructor behind its arguments: room for its head, its packed fields, its head.
+pub fn end_make(
+    alloc: Global,
+    work: &mut Work,
+    mut bindings: Vec<Binding>,
+    ty: Ty,
+    constructor: ConId,
+    types: &[Ty],
+    scalars: Vec<Atom>,
+    packed: &[Atom],
+) -> Result<TermId, Memory>
+    requires { AreBindingsBelow (length work.old.terms) bindings.items }
+    ensures { IfOk result (λ t. MakesLine work.old work.new t ty (make_from ty constructor types.now (pending work.old bindings.items scalars.items) (plain_atoms work.old packed.now))) }
+{
+    let head = new_variable(work)?;
+    bindings.push(Binding::Past { head, constructor })?;
+    let fields = point_fields(alloc, work, &mut bindings, types, packed)?;
+    let term = put_line(
+        &mut work.terms,
+        bindings,
+        Node::Write {
+            head,
+            constructor,
+            scalars,
+            packed: fields,
+        },
+    )?;
+    Ok(term)
+}
