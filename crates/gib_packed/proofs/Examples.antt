@@ -1,5 +1,5 @@
 -- The types of the tests are a table, and values stand in their bytes.
-use Rattle.std.proofs.Common.{◌≡◌, ℕ, zero, suc, ◌+◌, ◌*◌, ◌<◌, ◌≤◌, List, [], ◌∷◌, ◌++◌, Some, slice_get, refl, sym, ap, subst, ◌∙◌, arith, take, drop, length, true, false, Bool, cond, get_or}
+use Rattle.std.proofs.Common.{◌≡◌, ℕ, zero, suc, ◌+◌, ◌<◌, ◌≤◌, List, [], ◌∷◌, Some, slice_get, refl, sym, ap, subst, ◌∙◌, arith, take, drop, length, true, false, Bool, cond, get_or}
 use Rattle.std.specs.Prelude.{pos, negsuc, nat_lt, Option, None, IfSome}
 use Rattle.std.specs.Option.{is_some}
 use Rattle.std.proofs.lemmas.Bool.Decides.{nat_tests}
@@ -10,8 +10,8 @@ use Rattle.gib_types.specs.Tree.{Datum}
 use Rattle.gib_types.specs.Tree as tree
 use Rattle.gib_types.specs.declared.table.Constructor.{Constructor}
 use Rattle.gib_base.specs.declared.name.Name.{Name as TypeName}
-use Rattle.gib_mem.specs.Memory.{Store, Memory, Cell, absent, fresh, byte, Holds, none, more, Owned, after_draw, open_chunk}
-use Rattle.gib_packed.specs.Decoding.{Points, Dec, redirect, indirect, head, Decs, done, whole_field, truth_field, tree_field, Decodes}
+use Rattle.gib_mem.specs.Memory.{Store, Memory, absent, fresh, byte, Holds, none, more, Owned, after_draw, open_chunk}
+use Rattle.gib_packed.specs.Decoding.{Dec, redirect, indirect, head, done, whole_field, truth_field, tree_field}
 use Rattle.gib_packed.specs.Example.{row, tree as example_tree, table, laid, bytes, IsPlace}
 use Rattle.gib_types.specs.declared.table.Ty.TheVariants.{Whole, Truth}
 
@@ -63,12 +63,12 @@ table_rules t e = subst IsTable (sym e) rules
 
 -- ---- the bytes
 
-Holds-front : {s : Store} (n : ℕ) {a : ℕ} (bs : List ℕ) → Holds s a bs → Holds s a (take n bs)
+pub Holds-front : {s : Store} (n : ℕ) {a : ℕ} (bs : List ℕ) → Holds s a bs → Holds s a (take n bs)
 Holds-front zero bs h = none
 Holds-front (suc n) [] h = none
 Holds-front (suc n) (b ∷ bs) (more e h) = more e (Holds-front n bs h)
 
-Holds-back : {s : Store} (a n : ℕ) (bs : List ℕ) → n ≤ length bs → Holds s a bs → Holds s (a + n) (drop n bs)
+pub Holds-back : {s : Store} (a n : ℕ) (bs : List ℕ) → n ≤ length bs → Holds s a bs → Holds s (a + n) (drop n bs)
 Holds-back {s = s} a zero bs le h = let e : a ≡ a + 0 = omega arith in subst (λ (x : ℕ). Holds s x bs) e h
 Holds-back a (suc n) [] le h = absurd (omega arith)
 Holds-back {s = s} a (suc n) (b ∷ bs) le (more e h) = let e : a + 1 + n ≡ a + suc n = omega arith in subst (λ (x : ℕ). Holds s x (drop n bs)) e (Holds-back (a + 1) n bs (omega arith) h)

@@ -1,5 +1,5 @@
 -- What stands has its type, and one head is where redirects and indirections lead.
-use Rattle.std.proofs.Common.{◌≡◌, ℕ, ◌<◌, ◌≤◌, List, refl, sym, subst, arith}
+use Rattle.std.proofs.Common.{◌≡◌, ℕ, List, refl, sym, subst, arith}
 use Rattle.gib_types.specs.declared.table.Ty.{Ty}
 use Rattle.gib_types.specs.declared.table.Ty.TheVariants.{Tree}
 use Rattle.gib_types.specs.Layout.{LaidOut}

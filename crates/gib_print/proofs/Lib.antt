@@ -2,3 +2,4 @@ pub mod FieldLemmas
 pub mod TextLemmas
 pub mod WorkLemmas
 pub mod RootLemmas
+pub mod Examples

@@ -8,3 +8,6 @@ mod work;
 
 pub use fault::PrintFault;
 pub use print::print_at;
+
+#[cfg(test)]
+mod tests;

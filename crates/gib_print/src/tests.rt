@@ -1,0 +1,186 @@
+//! Values that were put by hand are printed.
+
+ghost use Rattle.std.specs.Prelude.{◌≡◌, ◌≤◌, ◌^◌, ◌+◌, length, true, IsTrue, IfOk};
+ghost use Rattle.gib_mem.specs.Memory.{Owned, after_puts};
+ghost use Rattle.gib_mem.specs.Plain.{nothing};
+ghost use Rattle.gib_types.specs.Table.{row_of};
+ghost use Rattle.gib_packed.specs.Example.{row, table as example_table, laid};
+ghost use Rattle.gib_print.specs.Example.{names as example_names, StandOnes};
+
+use super::*;
+use gib_base::{Memory, Name, NameFault, Names};
+use gib_edge::mem_sink::MemSink;
+use gib_mem::{Mem, PlainMem};
+use gib_packed::Root;
+use gib_types::{Constructor, Layouts, Ty, TyId, TypeTable};
+use std::alloc::Global;
+use std::test::*;
+
+const T: Ty = Ty::Tree(TyId(0));
+
+fn constructor(alloc: Global, name: u32, fields: &[Ty]) -> Result<Constructor, Memory>
+    ensures { IfOk result (λ c. row_of c ≡ row name fields.now) }
+{
+    let fields = Vec::from_slice(alloc, fields)?;
+    Ok(Constructor {
+        name: Name(name),
+        owner: TyId(0),
+        fields,
+    })
+}
+
+// data T = Nil | Cons Int T | Node Bool T Int T ;
+fn make_types(alloc: Global) -> Result<TypeTable, Memory>
+    ensures { IfOk result (λ types. types ≡ example_table) }
+{
+    let nil = constructor(alloc, 1, &[])?;
+    let cons = constructor(alloc, 2, &[Ty::Whole, T])?;
+    let node = constructor(alloc, 3, &[Ty::Truth, T, Ty::Whole, T])?;
+    let types = vec![in alloc; Name(0)]?;
+    let constructors = vec![in alloc; nil, cons, node]?;
+    let made = TypeTable::make(alloc, types, constructors)?;
+    Ok(made)
+}
+
+fn make_names(alloc: Global) -> Result<Names, NameFault>
+    ensures { IfOk result (λ names. names ≡ example_names) }
+{
+    let mut names = Names::make(alloc)?;
+    names.intern(alloc, b"T")?;
+    names.intern(alloc, b"Nil")?;
+    names.intern(alloc, b"Cons")?;
+    names.intern(alloc, b"Node")?;
+    Ok(names)
+}
+
+// Whether both chunks of a memory were drawn.
+fn draw_both<M: Mem>(mem: &mut M) -> bool
+    requires { M.view mem.old ≡ nothing 2 }
+    ensures { IsTrue result → Owned (M.view mem.new).cells 0 8192 }
+{
+    if mem.draw().is_none() {
+        return false;
+    }
+    mem.draw().is_some()
+}
+
+// Puts these bytes from an address on.
+fn put<M: Mem>(mem: &mut M, at: u64, bytes: &[u8])
+    requires small { at + length bytes.now ≤ 2 ^ 44 }
+    requires owned { Owned (M.view mem.old).cells at (length bytes.now) }
+    ensures { M.view mem.new ≡ after_puts (M.view mem.old) at bytes.now }
+{
+    'bytes: for i in 0..bytes.len() {
+        mem.put(at + i as u64, bytes[i]);
+    }
+}
+
+// Puts a list of 455 ones: 454 cells in the first chunk, and behind a redirect the last cell and the end.
+fn put_list<M: Mem>(mem: &mut M)
+    requires { Owned (M.view mem.old).cells 0 8192 }
+    ensures { StandOnes (M.view mem.new).cells 0 455 }
+{
+    put(mem, 4096, b"\x01\x01\0\0\0\0\0\0\0\x00");
+    put(mem, 4086, b"\xff\x00\x10\0\0\0\0\0\0");
+    let mut at = 4086u64;
+    'cells: while at > 0 {
+        at -= 9;
+        put(mem, at, b"\x01\x01\0\0\0\0\0\0\0");
+    }
+}
+
+// Puts the list, and prints it.
+fn print_list<M: Mem>(
+    alloc: Global,
+    mem: &mut M,
+    names: &Names,
+    layouts: &Layouts,
+    sink: &mut MemSink,
+) -> Result<(), PrintFault>
+    requires owned { Owned (M.view mem.old).cells 0 8192 }
+    requires names { names.now ≡ example_names }
+    requires laid { layouts.now ≡ laid }
+{
+    put_list(mem);
+    print_at(alloc, mem, names, layouts, Root::At(0), sink)
+}
+
+// Puts values with redirects and indirections among them, and prints one and two scalars.
+fn print_values<M: Mem>(
+    alloc: Global,
+    mem: &mut M,
+    names: &Names,
+    layouts: &Layouts,
+    sink: &mut MemSink,
+) -> Result<(), PrintFault>
+    requires owned { Owned (M.view mem.old).cells 0 8192 }
+    requires names { names.now ≡ example_names }
+    requires laid { layouts.now ≡ laid }
+{
+    put(
+        mem,
+        0,
+        b"\xff\x1c\0\0\0\0\0\0\0\xfe\0\0\0\0\0\0\0\0\x02\x01\xfe\xff\xff\xff\xff\xff\xff\xff\x01\x02\x01\0\0\0\0\0\0\x00\xfe\x09\0\0\0\0\0\0\0",
+    );
+    print_at(alloc, mem, names, layouts, Root::At(18), sink)?;
+    print_at(alloc, mem, names, layouts, Root::Whole(-7), sink)?;
+    print_at(alloc, mem, names, layouts, Root::Truth(true), sink)
+}
+
+// What was answered and taken, where the puts of these numbers fail after so many bytes.
+fn run(
+    alloc: Global,
+    is_list: bool,
+    fails: Vec<(u64, u64)>,
+) -> Result<(Result<(), PrintFault>, MemSink), Fail> {
+    let types = make_types(alloc)?;
+    let names = make_names(alloc).map_err(|_| "names")?;
+    let layouts = Layouts::make(alloc, &types, &[])?;
+    let mut mem = PlainMem::make(alloc, 2)?;
+    if !draw_both(&mut mem) {
+        return Err("chunks".into());
+    }
+    let mut sink = MemSink::make(alloc, 8192, fails)?;
+    let answer = if is_list {
+        print_list(alloc, &mut mem, &names, &layouts, &mut sink)
+    } else {
+        print_values(alloc, &mut mem, &names, &layouts, &mut sink)
+    };
+    Ok((answer, sink))
+}
+
+#[test]
+fn values_are_printed_each_with_a_line_feed(rt: HostRuntime) -> Result<(), Fail> {
+    let alloc = rt.alloc();
+    let (answer, sink) = run(alloc, false, Vec::new(alloc))?;
+    assert!(rt; answer == Ok(()));
+    let want = b"(Node True (Cons 258 Nil) -2 (Cons 258 Nil))\n-7\nTrue\n";
+    assert_eq!(rt; sink.bytes(), want.as_slice());
+    Ok(())
+}
+
+#[test]
+fn a_list_of_455_cells_is_put_in_two_pieces(rt: HostRuntime) -> Result<(), Fail> {
+    let alloc = rt.alloc();
+    let mut line = Vec::new(alloc);
+    for _ in 0..455u32 {
+        line.extend_from_slice(b"(Cons 1 ")?;
+    }
+    line.extend_from_slice(b"Nil")?;
+    for _ in 0..455u32 {
+        line.push(41)?;
+    }
+    line.push(10)?;
+    for (fails, want, taken) in [
+        ((2, 0), Ok(()), 4099),
+        ((0, 3), Err(PrintFault::Write), 3),
+        ((1, 0), Err(PrintFault::Write), 4096),
+        ((1, 2), Err(PrintFault::Write), 4098),
+    ] {
+        let (answer, sink) = run(alloc, true, vec![in alloc; fails]?)?;
+        assert!(rt; answer == want, "{taken}");
+        assert_eq!(rt; sink.bytes().len(), taken);
+        assert!(rt; line.as_slice().starts_with(sink.bytes()), "{taken}");
+    }
+    Ok(())
+}
