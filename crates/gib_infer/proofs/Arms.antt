@@ -1,13 +1,12 @@
 -- The first arm of a constructor.
-use Rattle.std.proofs.Common.{◌≡◌, ℕ, zero, ◌+◌, ◌-◌, ◌<◌, ◌≤◌, List, [], ◌∷◌, length, take, drop, get_or, cond, Option, Some, None, refl, sym, ap, ◌∙◌, subst, arith}
-use Rattle.std.specs.Prelude.{MatchOption, IfSome}
+use Rattle.std.proofs.Common.{◌≡◌, ℕ, ◌-◌, ◌<◌, ◌≤◌, List, [], ◌∷◌, length, take, drop, get_or, cond, Some, None, refl, sym, ap, ◌∙◌, subst, arith}
 use Rattle.std.specs.List.{AllByRecursion}
 use Rattle.std.proofs.lemmas.Bool.{eq-eqb, ne_eqb}
 use Rattle.gib_syntax.specs.declared.exprs.Arm.{Arm}
 use Rattle.gib_syntax.specs.declared.exprs.Node.{Node as Expr}
 use Rattle.gib_syntax.specs.Arena.{IsArmBelow, ArmsBelow}
 use Rattle.gib_syntax.specs.Parts.{Parts}
-use Rattle.gib_core.specs.Inferring.{ArmCode, arm_for, con_named}
+use Rattle.gib_core.specs.Inferring.{arm_for, con_named}
 use Rattle.gib_infer.specs.Made.{globals_in, arm_at, arms_at}
 use Rattle.gib_infer.proofs.FieldSteps.{rest-is}
 

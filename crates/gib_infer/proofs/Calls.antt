@@ -1,5 +1,5 @@
 -- Arguments, calls and constructors.
-use Rattle.std.proofs.Common.{◌≡◌, ℕ, zero, suc, ◌+◌, ◌-◌, ◌<◌, ◌≤◌, Bool, true, false, List, [], ◌∷◌, ◌++◌, length, map, refl, sym, ap, ◌∙◌, subst, arith, append_assoc, take, drop, get_or}
+use Rattle.std.proofs.Common.{◌≡◌, ℕ, ◌+◌, ◌-◌, ◌<◌, ◌≤◌, Bool, true, false, List, [], ◌∷◌, ◌++◌, length, map, refl, sym, ap, ◌∙◌, subst, arith, append_assoc, take, drop, get_or}
 use Rattle.std.proofs.lemmas.List.{append-nil}
 use Rattle.gib_base.specs.declared.name.Name.{Name}
 use Rattle.gib_types.specs.declared.table.Ty.{Ty}
@@ -26,7 +26,6 @@ use Rattle.gib_core.specs.Tree.{variables_from}
 use Rattle.gib_core.specs.Inferring.{Scope, Lined, Atomed, Several, Code, infer, infer_all, several, boxed, call_code, call_atom, make_from, make_line, con_named, gives_type, pointed_fields, as_atoms}
 use Rattle.gib_infer.specs.declared.work.Work.{Work}
 use Rattle.gib_infer.specs.Made.{scope_of, globals_in, code_at, codes_at, AreBelow, AreBindingsBelow, Keeps, MakesLine, MakesAtom, MakesAtoms, pending, plain_atoms, ended_call, side_call}
-use Rattle.gib_infer.proofs.Fronting.{grows_none}
 use Rattle.gib_infer.proofs.Making.{next_of, keeps_more, boxed_made, line_after, atom_after}
 use Rattle.gib_infer.proofs.FieldSteps.{rest-is}
 

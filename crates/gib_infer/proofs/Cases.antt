@@ -1,5 +1,5 @@
 -- Branches of a case.
-use Rattle.std.proofs.Common.{◌≡◌, ℕ, zero, suc, ◌+◌, ◌-◌, ◌<◌, ◌≤◌, List, [], ◌∷◌, ◌++◌, length, map, Option, Some, None, refl, sym, ap, ◌∙◌, subst, arith, take}
+use Rattle.std.proofs.Common.{◌≡◌, ℕ, zero, suc, ◌+◌, ◌-◌, ◌<◌, ◌≤◌, List, [], ◌∷◌, ◌++◌, length, Option, Some, None, refl, sym, ap, ◌∙◌, subst, arith, take}
 use Rattle.std.specs.Prelude.{Result, IfOk}
 use Rattle.std.specs.Option.{option_or, unwrap_or}
 use Rattle.gib_base.specs.declared.Span.{Span}
@@ -16,16 +16,15 @@ use Rattle.gib_syntax.specs.Parts.{Parts}
 use Rattle.gib_syntax.specs.Declarations.{number_of}
 use Rattle.gib_core.specs.declared.atom.Atom.{Atom}
 use Rattle.gib_core.specs.declared.atom.Variable.{Variable}
-use Rattle.gib_core.specs.declared.scope.Slot.{Slot}
 use Rattle.gib_core.specs.declared.node.TermId.{TermId}
 use Rattle.gib_core.specs.declared.node.Branch.{Branch}
 use Rattle.gib_core.specs.declared.node.Node.{Node}
 use Rattle.gib_core.specs.Tree.{Term, CaseTerm, Branches, NoBranch, BranchThen}
 use Rattle.gib_core.specs.Arena.{Grows, branches_from, term_of}
 use Rattle.gib_core.specs.Tree.{variables_from}
-use Rattle.gib_core.specs.Inferring.{Scope, Lined, Branched, ArmCode, infer, infer_arms, of_line, case_line, branch_of, branches_of, arm_for, atom_at, constructors_of, numbers_from, first_constructor, with_fields}
+use Rattle.gib_core.specs.Inferring.{Scope, Lined, Branched, infer, infer_arms, of_line, case_line, branch_of, branches_of, arm_for, atom_at, constructors_of, numbers_from, first_constructor, with_fields}
 use Rattle.gib_infer.specs.declared.work.Work.{Work}
-use Rattle.gib_infer.specs.Made.{scope_of, globals_in, code_at, arm_at, arms_at, arm_line, join, AreBranchesBelow, Keeps, MakesLine, MakesBranch, BindsFields, BranchesSoFar}
+use Rattle.gib_infer.specs.Made.{scope_of, globals_in, code_at, arm_at, arms_at, arm_line, join, MakesLine, MakesBranch, BindsFields, BranchesSoFar}
 use Rattle.gib_infer.proofs.Fronting.{branches_below_more, branches_below_push, branches_same, grows_more, grows_none}
 use Rattle.gib_infer.proofs.Making.{keeps_more}
 

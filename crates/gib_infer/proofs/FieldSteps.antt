@@ -1,5 +1,5 @@
 -- What the loops over fields keep, and a call that is bound.
-use Rattle.std.proofs.Common.{◌≡◌, ℕ, zero, suc, ◌+◌, ◌-◌, ◌<◌, ◌≤◌, Bool, List, [], ◌∷◌, ◌++◌, length, map, refl, sym, ap, ◌∙◌, subst, arith, append_assoc, take, drop, get_or}
+use Rattle.std.proofs.Common.{◌≡◌, ◌+◌, ◌-◌, ◌<◌, ◌≤◌, Bool, List, [], ◌∷◌, ◌++◌, length, refl, sym, ap, ◌∙◌, subst, arith, append_assoc, take, drop, get_or}
 use Rattle.std.proofs.lemmas.List.{append-nil}
 use Rattle.std.proofs.Math.Seq.{take-length}
 use Rattle.gib_base.specs.declared.name.Name.{Name}
@@ -13,13 +13,12 @@ use Rattle.gib_core.specs.declared.node.TermId.{TermId}
 use Rattle.gib_core.specs.declared.node.BoundTerm.{BoundTerm}
 use Rattle.gib_core.specs.declared.node.Binding.{Binding}
 use Rattle.gib_core.specs.declared.node.Binding.TheVariants as b
-use Rattle.gib_core.specs.Tree.{Term, Point, CallTerm, Bind, One, On}
+use Rattle.gib_core.specs.Tree.{Point, CallTerm, Bind, One, On}
 use Rattle.gib_core.specs.Arena.{Grows, binds_from, term_of}
 use Rattle.gib_core.specs.Tree.{variables_from}
 use Rattle.gib_core.specs.Inferring.{call_atom, first_type, further_types, pointed_fields, as_atoms}
 use Rattle.gib_infer.specs.declared.work.Work.{Work}
 use Rattle.gib_infer.specs.Made.{AreBindingsBelow, Keeps, MakesAtom, PointsSoFar, plain_atoms}
-use Rattle.gib_infer.proofs.Fronting.{grows_more}
 use Rattle.gib_infer.proofs.Making.{next_of, pushed, keeps_more}
 
 pub rest-is : {A : Type 0} (x : A) (xs : List A) → take (length (x ∷ xs) - 1) xs ≡ xs

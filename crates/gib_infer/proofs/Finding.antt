@@ -1,13 +1,11 @@
 -- The newest slot of a name.
-use Rattle.std.proofs.Common.{◌≡◌, ℕ, pos, ◌+◌, ◌<◌, List, [], ◌∷◌, ◌++◌, take, length, cond, refl, sym, ap, ◌∙◌, subst, arith, get_or, reverse}
+use Rattle.std.proofs.Common.{◌≡◌, ℕ, ◌+◌, ◌<◌, List, [], ◌∷◌, ◌++◌, take, length, cond, sym, ap, ◌∙◌, get_or}
 use Rattle.std.proofs.lemmas.List.{reverse-append, take_more}
 use Rattle.std.proofs.lemmas.Bool.{eq-eqb, ne_eqb}
 use Rattle.gib_types.specs.declared.table.Ty.{Ty}
-use Rattle.gib_types.specs.declared.table.Ty.TheVariants.{Whole}
 use Rattle.gib_core.specs.declared.scope.Slot.{Slot}
 use Rattle.gib_core.specs.declared.atom.Atom.{Atom}
-use Rattle.gib_core.specs.declared.atom.Atom.TheVariants as a
-use Rattle.gib_core.specs.Inferring.{Scope, atom_at, type_at}
+use Rattle.gib_core.specs.Inferring.{atom_at, type_at}
 use Rattle.gib_infer.specs.Made.{scope_of}
 
 pub record FindsIn (slots : List Slot) (x : ℕ) (found : Atom) (of : Ty) : Type 0 where

@@ -1,6 +1,5 @@
 -- One more binding in front.
-use Rattle.std.proofs.Common.{◌≡◌, ℕ, zero, suc, ◌+◌, ◌<◌, ◌≤◌, List, [], ◌∷◌, ◌++◌, length, map, Some, refl, sym, ap, ◌∙◌, subst, arith}
-use Rattle.std.specs.List.{AllByRecursion}
+use Rattle.std.proofs.Common.{◌≡◌, ℕ, ◌<◌, ◌≤◌, List, [], ◌∷◌, ◌++◌, length, Some, refl, sym, ap, ◌∙◌, arith}
 use Rattle.gib_core.specs.Tree.{Term, Then, One, Both, On, prepend}
 use Rattle.gib_core.specs.declared.node.TermId.{TermId}
 use Rattle.gib_core.specs.declared.node.Node.{Node}
@@ -8,7 +7,7 @@ use Rattle.gib_core.specs.declared.node.Node.TheVariants as n
 use Rattle.gib_core.specs.declared.node.Binding.{Binding}
 use Rattle.gib_core.specs.declared.node.Binding.TheVariants as b
 use Rattle.gib_core.specs.declared.node.Branch.{Branch}
-use Rattle.gib_core.specs.Tree.{Branches, BranchThen}
+use Rattle.gib_core.specs.Tree.{BranchThen}
 use Rattle.gib_core.specs.Arena.{Grows, Makes, IsBindingBelow, IsBranchBelow, bind_from, binds_from, branches_from, layer, term_of}
 use Rattle.gib_infer.specs.Made.{AreBindingsBelow, AreBranchesBelow, Fronts}
 

@@ -1,5 +1,5 @@
 -- What a core that was made means, once its places are left out.
-use Rattle.std.proofs.Common.{◌≡◌, ℕ, Ok, Err, ap, ◌∙◌, subst, sym}
+use Rattle.std.proofs.Common.{◌≡◌, ℕ, Ok, Err, ap, ◌∙◌, subst}
 use Rattle.std.specs.Prelude.{Result, IfOk}
 use Rattle.gib_types.specs.Table.{Table, IsTable}
 use Rattle.gib_types.specs.Tree.{Datum}

@@ -1,25 +1,23 @@
 -- What the steps of the walk make of what their parts made.
-use Rattle.std.proofs.Common.{◌≡◌, ℕ, zero, suc, ◌+◌, ◌-◌, ◌<◌, ◌≤◌, List, [], ◌∷◌, ◌++◌, length, map, Some, refl, sym, ap, ◌∙◌, subst, arith, append_assoc, take, drop, get_or}
-use Rattle.std.proofs.lemmas.List.{map-append, append-nil}
-use Rattle.std.proofs.Math.Seq.{take-append_seam, take-length}
+use Rattle.std.proofs.Common.{◌≡◌, ℕ, ◌+◌, ◌<◌, List, [], ◌∷◌, ◌++◌, length, sym, ap, ◌∙◌, subst, append_assoc, take}
+use Rattle.std.proofs.lemmas.List.{map-append}
+use Rattle.std.proofs.Math.Seq.{take-append_seam}
 use Rattle.gib_types.specs.declared.table.Ty.{Ty}
 use Rattle.gib_syntax.specs.declared.tree.Operator.{Operator}
 use Rattle.gib_syntax.specs.declared.tree.Ident.{Ident}
 use Rattle.gib_syntax.specs.Typing.{operator_type}
-use Rattle.gib_core.specs.declared.atom.Kind.{Kind}
 use Rattle.gib_core.specs.declared.atom.Variable.{Variable}
 use Rattle.gib_core.specs.declared.atom.Atom.{Atom}
 use Rattle.gib_core.specs.declared.atom.Atom.TheVariants as a
-use Rattle.gib_core.specs.declared.scope.Slot.{Slot}
 use Rattle.gib_core.specs.declared.node.TermId.{TermId}
 use Rattle.gib_core.specs.declared.node.BoundTerm.{BoundTerm}
 use Rattle.gib_core.specs.declared.node.Node.{Node}
 use Rattle.gib_core.specs.declared.node.Node.TheVariants as n
 use Rattle.gib_core.specs.declared.node.Binding.{Binding}
 use Rattle.gib_core.specs.declared.node.Binding.TheVariants as b
-use Rattle.gib_core.specs.Tree.{Term, Then, Give, IfTerm, Bind, One, Both, On, Prim, Side, prepend, var}
-use Rattle.gib_core.specs.Arena.{Grows, Makes, IsBindingBelow, bind_from, binds_from, side_from, term_of, layer}
-use Rattle.gib_core.specs.Inferring.{Scope, Lined, Atomed, Several, ToLine, ToAtom, Code, boxed, kind_of, operation_atom, let_line, par_line, if_line, slot}
+use Rattle.gib_core.specs.Tree.{Then, IfTerm, Bind, One, Both, On, Prim, prepend, var}
+use Rattle.gib_core.specs.Arena.{Grows, Makes, IsBindingBelow, bind_from, binds_from, side_from, term_of}
+use Rattle.gib_core.specs.Inferring.{Lined, Atomed, Several, ToLine, ToAtom, boxed, kind_of, operation_atom, let_line, par_line, if_line, slot}
 use Rattle.gib_infer.specs.declared.work.Work.{Work}
 use Rattle.gib_infer.specs.Made.{scope_of, AreBindingsBelow, Keeps, MakesLine, MakesAtom, MakesAtoms, MakesSide, Binds, pending, pending_atom}
 use Rattle.gib_infer.proofs.Finding.{scope_of-push}

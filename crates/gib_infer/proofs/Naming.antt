@@ -1,8 +1,8 @@
 -- The constructors of a type.
-use Rattle.std.proofs.Common.{◌≡◌, ℕ, zero, suc, ◌+◌, ◌-◌, ◌<◌, ◌≤◌, Bool, true, false, ltb, eqb, cond, List, [], ◌∷◌, Option, Some, None, length, map, refl, sym, ap, subst, ◌∙◌, arith}
+use Rattle.std.proofs.Common.{◌≡◌, ℕ, suc, ◌+◌, ◌≤◌, Bool, true, false, ltb, eqb, cond, List, [], ◌∷◌, Some, length, refl, sym, ap, ◌∙◌, arith}
 use Rattle.std.specs.Prelude.{slice_get}
 use Rattle.std.proofs.lemmas.Bool.{ne_eqb, ltb-true, eqb-true}
-use Rattle.gib_types.specs.Table.{Row, Table, con_at, first_at, count_at, rows_before, rows_of, IsRow, IsTable}
+use Rattle.gib_types.specs.Table.{Row, Table, first_at, count_at, rows_before, rows_of, IsRow, IsTable}
 use Rattle.gib_core.specs.Inferring.{numbers_from, constructors_of}
 
 none-of : (rows : List Row) (types ty : ℕ) → ((i : ℕ) (row : Row) → slice_get rows i ≡ Some row → IsRow types row) → types ≤ ty → rows_of ty rows ≡ 0

@@ -1,5 +1,5 @@
 -- Bodies, functions and whole programs.
-use Rattle.std.proofs.Common.{◌≡◌, ℕ, zero, suc, ◌+◌, ◌-◌, ◌<◌, ◌≤◌, List, [], ◌∷◌, ◌++◌, length, map, take, drop, Option, Some, None, refl, sym, ap, ◌∙◌, subst, arith, append_assoc}
+use Rattle.std.proofs.Common.{◌≡◌, ℕ, zero, suc, ◌+◌, ◌<◌, ◌≤◌, List, [], ◌∷◌, ◌++◌, length, map, drop, Some, refl, sym, ap, ◌∙◌, subst, arith, append_assoc}
 use Rattle.std.specs.Prelude.{slice_get}
 use Rattle.std.specs.List.{AllByRecursion}
 use Rattle.std.proofs.lemmas.List.{map-append, append-nil}
@@ -8,7 +8,6 @@ use Rattle.gib_types.specs.declared.table.Ty.{Ty}
 use Rattle.gib_syntax.specs.declared.exprs.Node.{Node as Expr}
 use Rattle.gib_syntax.specs.declared.tree.Ident.{Ident}
 use Rattle.gib_syntax.specs.declared.tree.FunctionDecl.{FunctionDecl}
-use Rattle.gib_syntax.specs.declared.tree.MainDecl.{MainDecl}
 use Rattle.gib_syntax.specs.Tree.{FunctionTree}
 use Rattle.gib_syntax.specs.Arena.{tree_of}
 use Rattle.gib_syntax.specs.Parts.{Parts, program_of, function_tree}
@@ -18,7 +17,6 @@ use Rattle.gib_core.specs.declared.atom.Variable.{Variable}
 use Rattle.gib_core.specs.declared.node.TermId.{TermId}
 use Rattle.gib_core.specs.declared.node.Node.{Node}
 use Rattle.gib_core.specs.declared.program.CoreFunction.{CoreFunction}
-use Rattle.gib_core.specs.Tree.{Term, FunctionTerm}
 use Rattle.gib_core.specs.Arena.{Grows, term_of}
 use Rattle.gib_types.specs.declared.table.ConId.{ConId}
 use Rattle.gib_types.specs.Table.{Table}

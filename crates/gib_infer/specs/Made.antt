@@ -1,5 +1,5 @@
 -- What the walk from source to core leaves behind.
-use Rattle.std.specs.Prelude.{◌≡◌, ℕ, suc, zero, ◌+◌, ◌<◌, ◌≤◌, Bool, List, [], ◌∷◌, ◌++◌, length, map, reverse, take, Option, Some, None}
+use Rattle.std.specs.Prelude.{◌≡◌, ℕ, ◌+◌, ◌<◌, ◌≤◌, List, [], ◌∷◌, ◌++◌, length, map, reverse, take, Option}
 use Rattle.std.specs.Option.{unwrap_or}
 use Rattle.std.specs.List.{AllByRecursion}
 use Rattle.gib_base.specs.declared.name.Name.{Name}
@@ -22,7 +22,7 @@ use Rattle.gib_core.specs.declared.node.Branch.{Branch}
 use Rattle.gib_core.specs.declared.node.BoundTerm.{BoundTerm}
 use Rattle.gib_core.specs.declared.node.TermId.{TermId}
 use Rattle.gib_core.specs.declared.scope.Slot.{Slot}
-use Rattle.gib_core.specs.Tree.{Term, Give, prepend, On, Branches, NoBranch, BranchThen}
+use Rattle.gib_core.specs.Tree.{Give, prepend, On, Branches, NoBranch, BranchThen}
 use Rattle.gib_core.specs.Arena.{Grows, IsBindingBelow, IsBranchBelow, term_of, side_from, binds_from, branches_from}
 use Rattle.gib_core.specs.Tree.{variables_from}
 use Rattle.gib_core.specs.Inferring.{Scope, Lined, Atomed, Several, Code, ArmCode, Branched, infer, con_named, with_fields, call_line, call_atom, call_side, pointed_fields, as_atoms, slot, kind_of, branches_of}

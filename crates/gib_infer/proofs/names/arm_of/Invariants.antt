@@ -1,7 +1,4 @@
-use Rattle.std.proofs.Common.{◌≡◌, length, List}
-use Rattle.gib_syntax.specs.declared.exprs.Node.{Node as Expr}
-use Rattle.gib_core.specs.Inferring.{arm_for}
-use Rattle.gib_infer.specs.Made.{arms_at}
+use Rattle.std.proofs.Common.{length}
 use Rattle.gib_infer.proofs.Arms.{ArmsLeft}
 use Rattle.gib_infer.proofs.names.arm_of.Given as goal
 

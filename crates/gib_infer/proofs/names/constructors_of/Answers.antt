@@ -1,7 +1,6 @@
-use Rattle.std.proofs.Common.{◌≡◌, ◌≤◌, ◌+◌, ℕ, ap, ◌∙◌, subst, arith, length, sym}
-use Rattle.gib_types.specs.Table.{Table, IsTable, first_at, count_at}
+use Rattle.std.proofs.Common.{◌≡◌, subst, arith}
+use Rattle.gib_types.specs.Table.{Table}
 use Rattle.gib_core.specs.Inferring.{constructors_of, numbers_from}
-use Rattle.gib_infer.specs.Made.{globals_in}
 use Rattle.gib_infer.proofs.Naming.{none_all, all_few}
 use Rattle.gib_infer.proofs.names.constructors_of.Goals as goal
 

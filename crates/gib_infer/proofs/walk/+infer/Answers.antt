@@ -1,7 +1,7 @@
 use Rattle.std.proofs.Common.{refl, sym, ap, ◌∙◌, subst, Some, true, false, length, rules}
 use Rattle.gib_core.specs.Inferring.{atom_at}
 use Rattle.gib_syntax.specs.Arena.{tree_of, layer, PartsBelow}
-use Rattle.gib_infer.specs.Made.{code_at, globals_in, scope_of, AreBindingsBelow}
+use Rattle.gib_infer.specs.Made.{code_at, scope_of, AreBindingsBelow}
 use Rattle.gib_infer.proofs.Making.{boxed_made, operation_made, let_made, if_made}
 use Rattle.gib_infer.proofs.Calls.{call_line_made, call_side_made, scalar_call_made, region_call_made, make_made, selected_below}
 use Rattle.gib_infer.proofs.Cases.{case_next, case_end, one_branch, case_opened, lines_same}
