@@ -46,8 +46,13 @@ finished_placement m m' root tails tails' start at m1 b e f =
     ap (λ (a : ℕ). record { memory = m'; root = At a; tails = tails' }) root_is
     ∙ ap (λ (l : List ℕ). record { memory = m'; root = At (4096 * m.drawn); tails = l }) (f ∙ ap (λ (l : List ℕ). finished l at) b.none)
 
-pub refused_start : (laid : LaidOut) (m : Memory) (v : Datum) (m' : Memory) → m.alone ≡ true → IsFull m m' → Refused laid m v m'
-refused_start laid m v m' alone full = subst (λ (x : Memory). Refused laid m v x) (sym (full_same m m' alone full)) (at_start (full.all alone))
+refused_at_start : (laid : LaidOut) (m : Memory) (t : TyId) (v : Datum) → HasType laid.table v (ty.Tree t) → m.drawn ≡ m.limit → Refused laid m v m
+refused_at_start laid m t (whole z) h full = absurd h
+refused_at_start laid m t (truth b) h full = absurd h
+refused_at_start laid m t (con k vs) h full = at_start refl full
+
+pub refused_start : (laid : LaidOut) (m : Memory) (t : TyId) (v : Datum) (m' : Memory) → HasType laid.table v (ty.Tree t) → m.alone ≡ true → IsFull m m' → Refused laid m v m'
+refused_start laid m t v m' h alone full = subst (λ (x : Memory). Refused laid m v x) (sym (full_same m m' alone full)) (refused_at_start laid m t v h (full.all alone))
 
 pub refused_head : (laid : LaidOut) (m : Memory) (v : Datum) (m1 m' : Memory) (tails : List ℕ) (start : ℕ) → Begun m m1 tails start → Stuck laid (record { memory = m1; at = start }) (heads v) m' → Refused laid m v m'
 refused_head laid m v m1 m' tails start b s = at_head (subst (λ (r : Open). Stuck laid r (heads v) m') b.is s)

@@ -122,7 +122,7 @@ pub heads_loaded : (laid : LaidOut) → Sizes laid → (m : Memory) (hs : List H
 heads_loaded laid sizes m hs e = let f = (heads_fill laid sizes 0 (begun m) hs (begun_filled m e)).fill in omega (arith, f)
 
 pub refused_spent : (laid : LaidOut) → Sizes laid → (m : Memory) (v : Datum) (m' : Memory) → m.drawn ≡ 0 → Refused laid m v m' → Spent v m'
-refused_spent laid sizes m v _ e (at_start full) = record { all = full; loaded = omega (arith, e, full) }
+refused_spent laid sizes m v _ e (at_start made full) = record { all = full; loaded = omega (arith, e, full) }
 refused_spent laid sizes m v m' e (at_head stuck) =
     let f = heads_loaded laid sizes m stuck.front e in
     let n = heads-count v in

@@ -1,9 +1,9 @@
 -- Where loading finds all chunks drawn.
-use Rattle.std.specs.Prelude.{◌≡◌, List, ◌∷◌, ◌++◌}
+use Rattle.std.specs.Prelude.{◌≡◌, ℕ, List, ◌∷◌, ◌++◌}
 use Rattle.gib_mem.specs.Memory.{Memory}
 use Rattle.gib_types.specs.Layout.{LaidOut}
 use Rattle.gib_types.specs.Loaded.{Loaded}
-use Rattle.gib_types.specs.Tree.{Datum}
+use Rattle.gib_types.specs.Tree.{Datum, con, Data}
 use Rattle.gib_region.specs.Region.{HasRoom}
 use Rattle.gib_load.specs.Preorder.{Head, heads}
 use Rattle.gib_load.specs.Spot.{head_size}
@@ -20,9 +20,10 @@ pub record Stuck (laid : LaidOut) (r : Open) (hs : List Head) (m : Memory) : Typ
   pub no_room : HasRoom (place_heads laid r front).at (head_size laid next.tag) → ⊥
   pub all : m.drawn ≡ m.limit
 
--- The loading of a value is refused: there is no chunk to begin the region in, or none for one of the heads.
+-- The loading of a value is refused: there is no chunk to begin the region of a constructor in, or none for one of the
+-- heads. A scalar needs no chunk.
 pub data Refused (laid : LaidOut) (m : Memory) (v : Datum) : Memory → Type 0 where
-  at_start : m.drawn ≡ m.limit → Refused laid m v m
+  at_start : {k : ℕ} {vs : Data} → v ≡ con k vs → m.drawn ≡ m.limit → Refused laid m v m
   at_head : {m' : Memory} → Stuck laid (begun m) (heads v) m' → Refused laid m v m'
 
 -- All chunks are drawn, and the value needs them.

@@ -151,6 +151,7 @@ pub fn load<M: Mem>(
     ensures full { IsErrOf result LoadFault.Full → (v : Datum) → Packed layouts.now.table survey.entry.ty v survey.entry.bytes → Refused layouts.now (M.view mem.old) v (M.view mem.new) }
     ensures spent { IsErrOf result LoadFault.Full → (v : Datum) → Packed layouts.now.table survey.entry.ty v survey.entry.bytes → Spent v (M.view mem.new) }
     ensures none { OnErr result (tails.new ≡ []) }
+    ensures memory { IsErrOf result LoadFault.Memory → M.view mem.new ≡ M.view mem.old }
 {
     layouts.heads();
     layouts.types().rules();

@@ -18,7 +18,7 @@ pub place_heads-requires-clause-redirect : goal.place_heads-requires-clause-redi
 place_heads-requires-clause-redirect g c = (begun_by _ _ _ _ _ c.requires.tails c.requires.alone c.in-Ok.ensures.begins).nine
 
 pub returns-in-Err-clause-full : goal.returns-in-Err-clause-full
-returns-in-Err-clause-full g c = λ t v p. refused_start c.args.layouts.now (g.M.Mem.view c.args.mem.now) v (g.M.Mem.view c.begin.new.mem) c.requires.alone c.in-Err.ensures.full
+returns-in-Err-clause-full g c = λ t v p. refused_start c.args.layouts.now (g.M.Mem.view c.args.mem.now) t v (g.M.Mem.view c.begin.new.mem) p.0 c.requires.alone c.in-Err.ensures.full
 
 pub returns-in-Ok-place_heads-clause-placed : goal.returns-in-Ok-place_heads-clause-placed
 returns-in-Ok-place_heads-clause-placed g c = λ t v p.
