@@ -59,9 +59,9 @@ fn depth_is_that_of_the_words(rt: HostRuntime) -> Result<(), Fail> {
             let files = two_files(alloc, source, "a.gbp", &packed(alloc, payload)?)?;
             let texts = ["gib", command, "a.gib", "a.gbp", "--depth", depth];
             let ended = call(&rt, alloc, &texts, files, Vec::new(alloc))?;
-            assert_eq!(rt; ended.status, status, "{command} {depth}");
-            assert_eq!(rt; ended.out.bytes(), out.as_bytes(), "{command} {depth}");
-            assert_eq!(rt; ended.err.bytes(), err.as_bytes(), "{command} {depth}");
+            assert_eq!(rt; ended.status, status, "{depth}");
+            assert_eq!(rt; ended.out.bytes(), out.as_bytes(), "{depth}");
+            assert_eq!(rt; ended.err.bytes(), err.as_bytes(), "{depth}");
         }
     }
     Ok(())

@@ -217,9 +217,9 @@ fn programs_end_as_they_mean(rt: HostRuntime) -> Result<(), Fail> {
             ]?;
             let texts = ["gib", command, "a.gib", "a.gbp"];
             let ended = call(&rt, alloc, &texts, files, Vec::new(alloc))?;
-            assert_eq!(rt; ended.status, status, "{command} {source}");
-            assert_eq!(rt; ended.out.bytes(), out.as_bytes(), "{command} {source}");
-            assert_eq!(rt; ended.err.bytes(), err.as_bytes(), "{command} {source}");
+            assert_eq!(rt; ended.status, status, "{source}");
+            assert_eq!(rt; ended.out.bytes(), out.as_bytes(), "{source}");
+            assert_eq!(rt; ended.err.bytes(), err.as_bytes(), "{source}");
         }
     }
     Ok(())
