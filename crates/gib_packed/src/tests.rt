@@ -3,7 +3,7 @@
 ghost use Rattle.std.specs.Prelude.{◌≡◌, ◌≤◌, ℕ, length, IfOk};
 ghost use Rattle.gib_mem.specs.Memory.{Holds, Owned};
 ghost use Rattle.gib_types.specs.Table.{row_of};
-ghost use Rattle.gib_packed.specs.Example.{row, table as example_table, bytes as example_bytes, laid, IsPlace};
+ghost use Rattle.gib_packed.specs.Example.{entry, table as example_table, bytes as example_bytes, laid, IsPlace};
 
 use super::*;
 use gib_base::{Memory, Name};
@@ -15,7 +15,7 @@ use std::test::*;
 const T: Ty = Ty::Tree(TyId(0));
 
 fn constructor(alloc: Global, name: u32, fields: &[Ty]) -> Result<Constructor, Memory>
-    ensures { IfOk result (λ c. row_of c ≡ row name fields.now) }
+    ensures { IfOk result (λ c. row_of c ≡ entry name fields.now) }
 {
     let fields = Vec::from_slice(alloc, fields)?;
     Ok(Constructor {

@@ -10,23 +10,23 @@ use Rattle.gib_types.specs.Table.{Row, Table, row_of, table_of, con_at, IsRow, I
 abbrev pub sample_types : List ℕ
 sample_types = 0 ∷ []
 
-abbrev row : ℕ → List Ty → Row
-row name fields = record { name = name; owner = 0; fields = fields }
+abbrev entry : ℕ → List Ty → Row
+entry name fields = record { name = name; owner = 0; fields = fields }
 
 abbrev self : Ty
 self = Tree (record { 0 = 0 })
 
 abbrev leaf : Row
-leaf = row 10 (Whole ∷ Truth ∷ [])
+leaf = entry 10 (Whole ∷ Truth ∷ [])
 
 abbrev node : Row
-node = row 11 (self ∷ Whole ∷ self ∷ [])
+node = entry 11 (self ∷ Whole ∷ self ∷ [])
 
 abbrev wide : Row
-wide = row 12 (self ∷ self ∷ self ∷ self ∷ self ∷ self ∷ self ∷ self ∷ [])
+wide = entry 12 (self ∷ self ∷ self ∷ self ∷ self ∷ self ∷ self ∷ self ∷ [])
 
 abbrev long : Row
-long = row 13 (Whole ∷ Whole ∷ Whole ∷ Whole ∷ Whole ∷ Whole ∷ Whole ∷ Whole ∷ [])
+long = entry 13 (Whole ∷ Whole ∷ Whole ∷ Whole ∷ Whole ∷ Whole ∷ Whole ∷ Whole ∷ [])
 
 -- the constructors
 abbrev pub sample_rows : List Row
