@@ -4,7 +4,7 @@ ghost use Rattle.std.specs.Prelude.{◌≡◌, ◌≤◌, ◌^◌, ◌+◌, leng
 ghost use Rattle.gib_mem.specs.Memory.{Owned, after_puts};
 ghost use Rattle.gib_mem.specs.Plain.{nothing};
 ghost use Rattle.gib_types.specs.Table.{row_of};
-ghost use Rattle.gib_packed.specs.Example.{row, table as example_table, laid};
+ghost use Rattle.gib_packed.specs.Example.{entry, table as example_table, laid};
 ghost use Rattle.gib_print.specs.Example.{names as example_names, StandOnes};
 
 use super::*;
@@ -19,7 +19,7 @@ use std::test::*;
 const T: Ty = Ty::Tree(TyId(0));
 
 fn constructor(alloc: Global, name: u32, fields: &[Ty]) -> Result<Constructor, Memory>
-    ensures { IfOk result (λ c. row_of c ≡ row name fields.now) }
+    ensures { IfOk result (λ c. row_of c ≡ entry name fields.now) }
 {
     let fields = Vec::from_slice(alloc, fields)?;
     Ok(Constructor {
