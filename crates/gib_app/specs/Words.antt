@@ -81,6 +81,7 @@ pub record Form : Type 0 where
   pub arguments : List Rule
   pub request : List Row → Option Request
 
+-- `run SOURCE INPUT [--depth N]`.
 abbrev pub run_form : Form
 run_form = record {
   name = codes "run";
@@ -89,6 +90,7 @@ run_form = record {
       (number_of (codes "depth") rows);
 }
 
+-- `plain SOURCE INPUT [--depth N]`.
 abbrev pub plain_form : Form
 plain_form = record {
   name = codes "plain";
@@ -97,6 +99,7 @@ plain_form = record {
       (number_of (codes "depth") rows);
 }
 
+-- `check SOURCE`.
 abbrev pub check_form : Form
 check_form = record {
   name = codes "check";
@@ -104,6 +107,7 @@ check_form = record {
   request = λ rows. option_map (λ source. Check source) (file_of (codes "source") rows);
 }
 
+-- `pack SOURCE TEXT TARGET`.
 abbrev pub pack_form : Form
 pack_form = record {
   name = codes "pack";
@@ -112,6 +116,7 @@ pack_form = record {
       (word_of (codes "target") rows);
 }
 
+-- `show SOURCE FILE`.
 abbrev pub show_form : Form
 show_form = record {
   name = codes "show";
@@ -119,6 +124,7 @@ show_form = record {
   request = λ rows. with_value (option_map (λ source file. Show source file) (file_of (codes "source") rows)) (file_of (codes "file") rows);
 }
 
+-- All commands.
 abbrev pub forms : List Form
 forms = run_form ∷ plain_form ∷ check_form ∷ pack_form ∷ show_form ∷ []
 

@@ -30,15 +30,18 @@ abbrev pub spell_atoms : List Atom → List Piece → List Piece
 spell_atoms [] rest = rest
 spell_atoms (x ∷ xs) rest = p.Atom x ∷ spell_atoms xs rest
 
+-- The word of the line of a side.
 abbrev pub kind_word : Kind → Keyword
 kind_word Here = k.Here
 kind_word Region = k.Region
 kind_word Scalar = k.Scalar
 
+-- How a field is reached.
 abbrev pub spell_access : Access → Piece
 spell_access Offset = p.ByOffset
 spell_access (Skip z) = p.BySkip z
 
+-- The mark of two sides that may run at the same time.
 abbrev pub spell_fork : Bool → List Piece → List Piece
 spell_fork false rest = rest
 spell_fork true rest = p.Fork ∷ rest
@@ -81,6 +84,7 @@ abbrev pub spell_function : FunctionTerm → List Piece → List Piece
 spell_function f rest =
     p.Line 0 k.Fun ∷ p.Function f.name ∷ spell_parameters 0 f.parameters (p.Result f.result ∷ p.End ∷ spell_term 1 f.body rest)
 
+-- The functions, in the order of the text.
 abbrev pub spell_functions : List FunctionTerm → List Piece → List Piece
 spell_functions [] rest = rest
 spell_functions (f ∷ fs) rest = spell_function f (spell_functions fs rest)
