@@ -7,4 +7,5 @@ pub mod Inferring
 pub mod Reaching
 pub mod Met
 pub mod Rules
+pub mod Reachable
 pub mod CoreText
