@@ -14,4 +14,11 @@ mod Ordered
 mod Erases
 mod Left
 mod Reaches
+mod Along
+mod Cased
+mod Skipped
+mod Kept
+mod Onward
+mod Suited
+mod Reached
 mod Sample

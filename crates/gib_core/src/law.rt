@@ -10,10 +10,12 @@ ghost use Rattle.gib_syntax.specs.Meaning.{calls, run};
 ghost use Rattle.gib_core.specs.Tree.{CoreTree};
 ghost use Rattle.gib_core.specs.Meaning.{core_calls, core_run};
 ghost use Rattle.gib_core.specs.declared.atom.AccessMode.{AccessMode as Mode};
+ghost use Rattle.gib_core.specs.declared.atom.AccessMode.TheVariants.{Skips};
 ghost use Rattle.gib_core.specs.Erasing.{erase_core};
 ghost use Rattle.gib_core.specs.Inferring.{infer_program};
 ghost use Rattle.gib_core.specs.Reaching.{reach_core};
 ghost use Rattle.gib_core.specs.Rules.{AreBuilt, first_broken};
+ghost use Rattle.gib_core.specs.Reachable.{AreReachable};
 
 /// A core meets the build rules exactly where none is the first broken one.
 pub fn built_is_unbroken()
@@ -38,4 +40,9 @@ pub fn reaching_keeps_the_meaning()
     ensures erased { (mode : Mode) (datas : List DataTree) (core : CoreTree) → erase_core datas (reach_core mode core) ≡ erase_core datas core }
     ensures calls { (mode : Mode) (core : CoreTree) (n : ℕ) → core_calls (reach_core mode core) n ≡ core_calls core n }
     ensures run { (mode : Mode) (core : CoreTree) (depth : ℕ) (v : Datum) → core_run (reach_core mode core) depth v ≡ core_run core depth v }
+{}
+
+/// A core whose fields only have to be reached meets the build rules once they are reached by skips.
+pub fn reaching_makes_built()
+    ensures { (core : CoreTree) → AreReachable core → AreBuilt (reach_core Skips core) }
 {}
