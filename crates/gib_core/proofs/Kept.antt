@@ -17,7 +17,7 @@ use Rattle.gib_core.specs.Tree.{FunctionTerm, CoreTree}
 use Rattle.gib_core.specs.Meaning.{function_at}
 use Rattle.gib_core.specs.Met.{Known, Setting, Line, PastLine, SideLine, PrimLine, WriteLine, PointLine, CallLine, GiveLine, CaseLine, IfLine}
 use Rattle.gib_core.specs.Reaching.{is_variable, has_variable, reach_function, reach_core}
-use Rattle.gib_core.specs.Rules.{Before, is_bound, is_usable, all_usable, gives_packed, call_fits, any_bound, arm_variables, side_rules, rules, least}
+use Rattle.gib_core.specs.Rules.{Before, is_bound, is_usable, all_usable, gives_packed, call_fits, any_bound, arm_variables, rules, least}
 use Rattle.gib_core.specs.Reachable.{all_reached}
 use Rattle.gib_core.proofs.Along.{none_broken, least_none}
 use Rattle.gib_core.proofs.Cased.{reached_where_has}

@@ -8,19 +8,19 @@ use Rattle.gib_types.specs.Table.{fields_at}
 use Rattle.gib_core.specs.declared.atom.Variable.{Variable}
 use Rattle.gib_core.specs.declared.atom.AccessMode.TheVariants.{Skips}
 use Rattle.gib_core.specs.Tree.{Term, Then, Write, Point, CallTerm, Give, CaseTerm, IfTerm, Bind, Past, One, Both, Prim, Reach, On, Branches, NoBranch, BranchThen, prepend, FunctionTerm, CoreTree}
-use Rattle.gib_core.specs.Met.{Known, Setting, Line, PastLine, SideLine, ParLine, CaseLine, IfLine, Met, known, reached, with_arm, in_side, in_arm, in_branch, left_of, right_of, behind, arms_of, met, met_bind, met_side, met_branches, Body, bodies, with_parameters, opening, met_body}
+use Rattle.gib_core.specs.Met.{Known, Setting, at, CaseLine, known, reached, in_arm, in_branch, behind, arms_of, met, met_bind, met_branches, Body, with_parameters, opening}
 use Rattle.gib_core.specs.Reaching.{is_variable, uses, bind_uses, branches_use, reaches, packed_variables, reach, reach_bind, reach_branches, reach_function, reach_core}
-use Rattle.gib_core.specs.Rules.{Before, Bound, is_among, is_bound, is_reached, arm_variables, rules, least, next, next_all, bind_parameters, before_body, LinesAreBuilt, IsBuilt, AreBuilt}
+use Rattle.gib_core.specs.Rules.{Before, Bound, is_among, is_bound, is_reached, arm_variables, rules, least, next, next_all, bind_parameters, before_body, IsBuilt, AreBuilt}
 use Rattle.gib_core.specs.Reachable.{LinesAreReachable, IsReachable, AreReachable}
 use Rattle.gib_core.proofs.Along.{reachable_split, among_append, none_split, stays_bound}
 use Rattle.gib_core.proofs.Cased.{has, has_arm, reaches_none, case_keeps, uncased}
 use Rattle.gib_core.proofs.Onward.{arms_same, reaches_next, next_same, bind_next}
 use Rattle.gib_core.proofs.Kept.{scoped, past_kept, prim_kept, write_kept, point_kept, call_kept, give_kept, case_kept, if_kept}
-use Rattle.gib_core.proofs.Suited.{Suits, ArmsSuit, serves_more, scoped_behind, cased_after, then_built, rest_suits, side_from, both_from, arm_from, rest_arms, first_arm, case_arms}
+use Rattle.gib_core.proofs.Suited.{Suits, ArmsSuit, AreFine, serves_more, scoped_behind, cased_after, then_built, rest_suits, side_from, both_from, arm_from, rest_arms, first_arm, case_arms}
 
 module _ (core : CoreTree) where
   mutual
-    built : (t : Term) (s : Setting) (ks : List Known) (b : Before) → Suits core (uses t) s ks b (met core.table s t) → LinesAreReachable core b (met core.table s t) → LinesAreBuilt (reach_core Skips core) b (met core.table (scoped s ks) (reach Skips core.table t))
+    built : (t : Term) (s : Setting) (ks : List Known) (b : Before) → Suits core (uses t) s ks b (met core.table s t) → LinesAreReachable core b (met core.table s t) → AreFine core b (met core.table (scoped s ks) (reach Skips core.table t))
     built (Then bind t) s ks b h r =
         let xs = met_bind core.table s bind in
         let ys = met core.table (behind s bind) t in
@@ -35,7 +35,7 @@ module _ (core : CoreTree) where
         then_built core b xs (met_bind core.table (scoped s ks) (reach_bind Skips core.table bind)) (met core.table (behind (scoped s ks) (reach_bind Skips core.table bind)) (reach Skips core.table t))
         (bind_next core.table bind s (scoped s ks) b)
         (bind_built bind s ks b first rs.0)
-        (subst (λ (z : Setting). LinesAreBuilt (reach_core Skips core) after (met core.table z (reach Skips core.table t))) (sym (scoped_behind core.table bind s ks))
+        (subst (λ (z : Setting). AreFine core after (met core.table z (reach Skips core.table t))) (sym (scoped_behind core.table bind s ks))
         (built t (behind s bind) (behind (scoped s ks) bind).scope after (rest_suits core bind t s ks b h rs.0) rs.1))
     built (Write c k ss ps) s ks b h r = (write_kept Skips core b s ks c k ss ps h.serves r.0, tt)
     built (Point x) s ks b h r = (point_kept Skips core b s ks x h.serves r.0, tt)
@@ -48,11 +48,11 @@ module _ (core : CoreTree) where
         let ms = met_branches core.table s branches in
         let suits : Suits core (branches_use branches) s ks b' ms = record {
           serves = λ y u m. h.serves y (or_right (is_variable y x) (branches_use branches y) u) m;
-          bound = λ y m. stays_bound core.table (Rattle.gib_core.specs.Met.at s line ∷ []) b y (h.bound y m);
-          cased = cased_after core s b (Rattle.gib_core.specs.Met.at s line ∷ []) h.bound h.cased (λ y n out c. case_keeps core b s x arms y r.0 out c);
+          bound = λ y m. stays_bound core.table (at s line ∷ []) b y (h.bound y m);
+          cased = cased_after core s b (at s line ∷ []) h.bound h.cased (λ y n out c. case_keeps core b s x arms y r.0 out c);
           differs = λ y m. (h.differs y m).1;
         } in
-        subst (λ (as' : List (ConId × List Variable)). (least (rules (reach_core Skips core) b (scoped s ks) (CaseLine x as')) ≡ None) × LinesAreBuilt (reach_core Skips core) (next core.table b (CaseLine x as')) (met_branches core.table (scoped s ks) (reach_branches Skips core.table branches)))
+        subst (λ (arms' : List (ConId × List Variable)). (least (rules (reach_core Skips core) b (scoped s ks) (CaseLine x arms')) ≡ None) × AreFine core (next core.table b (CaseLine x arms')) (met_branches core.table (scoped s ks) (reach_branches Skips core.table branches)))
         (sym (arms_same core.table branches)) (
           case_kept Skips core b s ks x arms (λ y u m. h.serves y (or_left (is_variable y x) (branches_use branches y) u) m) r.0,
           branches_built branches s ks b' suits (case_arms core x arms s b (uses (CaseTerm x branches)) ks ms h r.0) r.1,
@@ -81,7 +81,7 @@ module _ (core : CoreTree) where
         )
 
     bind_built : (bind : Bind) (s : Setting) (ks : List Known) (b : Before) → Suits core (bind_uses bind) s ks b (met_bind core.table s bind) → LinesAreReachable core b (met_bind core.table s bind)
-        → LinesAreBuilt (reach_core Skips core) b (met_bind core.table (scoped s ks) (reach_bind Skips core.table bind))
+        → AreFine core b (met_bind core.table (scoped s ks) (reach_bind Skips core.table bind))
     bind_built (Past c k) s ks b h r = (past_kept Skips core b s ks c k r.0, tt)
     bind_built (One (On kind x ty t)) s ks b h r = side_from core kind x ty t s ks b h r (built t)
     bind_built (Both fork (On kind x ty t) (On other z uy u)) s ks b h r = both_from core fork kind x ty t other z uy u s ks b h r (built t) (built u)
@@ -89,7 +89,7 @@ module _ (core : CoreTree) where
     bind_built (Reach y by) s ks b h r = absurd (reaches_none core b s y by r.0)
 
     branches_built : (branches : Branches) (s : Setting) (ks : List Known) (b : Before) → Suits core (branches_use branches) s ks b (met_branches core.table s branches) → ArmsSuit core (arm_variables (arms_of branches)) s b
-        → LinesAreReachable core b (met_branches core.table s branches) → LinesAreBuilt (reach_core Skips core) b (met_branches core.table (scoped s ks) (reach_branches Skips core.table branches))
+        → LinesAreReachable core b (met_branches core.table s branches) → AreFine core b (met_branches core.table (scoped s ks) (reach_branches Skips core.table branches))
     branches_built NoBranch s ks b h arms r = tt
     branches_built (BranchThen k vs t rest) s ks b h arms r =
         let inner = in_arm core.table s k vs in

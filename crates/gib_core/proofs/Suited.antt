@@ -12,7 +12,7 @@ use Rattle.gib_core.specs.declared.atom.AccessMode.TheVariants.{Skips}
 use Rattle.gib_core.specs.declared.atom.Kind.{Kind}
 use Rattle.gib_core.specs.declared.atom.Kind.TheVariants.{Here, Region, Scalar}
 use Rattle.gib_core.specs.Tree.{Term, Then, Bind, Past, One, Both, Prim, Reach, On, prepend, CoreTree}
-use Rattle.gib_core.specs.Met.{Known, Setting, Line, PastLine, SideLine, ParLine, CaseLine, IfLine, Met, known, reached, with_arm, in_side, in_arm, in_branch, left_of, right_of, behind, arms_of, met, met_bind, met_side, met_branches, Body, bodies, with_parameters, opening, met_body}
+use Rattle.gib_core.specs.Met.{Known, Setting, at, SideLine, CaseLine, Met, known, reached, with_arm, in_side, in_arm, left_of, right_of, behind, met, met_bind, met_side}
 use Rattle.gib_core.specs.Reaching.{uses, bind_uses, reaches, packed_variables, reach, reach_bind, reach_side, reach_core}
 use Rattle.gib_core.specs.Rules.{Before, further, is_among, is_bound, is_reached, arm_variables, any_bound, rules, least, next, next_all, LinesAreBuilt}
 use Rattle.gib_core.specs.Reachable.{all_reached, LinesAreReachable}
@@ -83,9 +83,13 @@ module _ (core : CoreTree) where
     pub others : (y : Variable) → is_among vs y ≡ true → is_among s.others y ≡ false
     pub uncased : (y : Variable) → is_among vs y ≡ true → is_among b.cased y ≡ false
 
+  -- Lines break no rule of the core whose fields are reached.
+  abbrev pub AreFine : Before → List Met → Type 0
+  AreFine b ms = LinesAreBuilt (reach_core Skips core) b ms
+
   -- The lines of a term with its fields reached break no rule.
   abbrev pub IsKept : Term → Type 0
-  IsKept t = (s : Setting) (ks : List Known) (b : Before) → Suits (uses t) s ks b (met core.table s t) → LinesAreReachable core b (met core.table s t) → LinesAreBuilt (reach_core Skips core) b (met core.table (scoped s ks) (reach Skips core.table t))
+  IsKept t = (s : Setting) (ks : List Known) (b : Before) → Suits (uses t) s ks b (met core.table s t) → LinesAreReachable core b (met core.table s t) → AreFine b (met core.table (scoped s ks) (reach Skips core.table t))
 
   out_before : (s : Setting) (b : Before) (ms : List Met) (x : Variable) → ((y : Variable) → has s.scope y ≡ true → is_bound b.bound y ≡ true) → is_bound (next_all core.table b ms).bound x ≡ false → has s.scope x ≡ false
   out_before s b ms x bound e = false_from_ne_true (has s.scope x) (λ h. both_ways (is_bound (next_all core.table b ms).bound x) e (stays_bound core.table ms b x (bound x h)))
@@ -115,8 +119,8 @@ module _ (core : CoreTree) where
   serves_behind used (Prim x f v w) s ks b r g = serves_more used x s.scope ks g
   serves_behind used (Reach y by) s ks b r g = absurd (reaches_none core b s y by r.0)
 
-  pub then_built : (b : Before) (xs xs' ys' : List Met) → next_all core.table b xs' ≡ next_all core.table b xs → LinesAreBuilt (reach_core Skips core) b xs' → LinesAreBuilt (reach_core Skips core) (next_all core.table b xs) ys' → LinesAreBuilt (reach_core Skips core) b (xs' ++ ys')
-  then_built b xs xs' ys' e p q = built_append (reach_core Skips core) b xs' ys' p (subst (λ (c : Before). LinesAreBuilt (reach_core Skips core) c ys') (sym e) q)
+  pub then_built : (b : Before) (xs xs' ys' : List Met) → next_all core.table b xs' ≡ next_all core.table b xs → AreFine b xs' → AreFine (next_all core.table b xs) ys' → AreFine b (xs' ++ ys')
+  then_built b xs xs' ys' e p q = built_append (reach_core Skips core) b xs' ys' p (subst (λ (c : Before). AreFine c ys') (sym e) q)
 
   -- The rest of a line.
   pub rest_suits : (bind : Bind) (t : Term) (s : Setting) (ks : List Known) (b : Before) → Suits (uses (Then bind t)) s ks b (met core.table s (Then bind t)) → LinesAreReachable core b (met_bind core.table s bind)
@@ -133,7 +137,7 @@ module _ (core : CoreTree) where
 
   -- A side: its line, and its term.
   pub side_from : (kind : Kind) (x : Variable) (ty : Ty) (t : Term) (s : Setting) (ks : List Known) (b : Before) → Suits (uses t) s ks b (met_side core.table s (On kind x ty t)) → LinesAreReachable core b (met_side core.table s (On kind x ty t))
-      → IsKept t → LinesAreBuilt (reach_core Skips core) b (met_side core.table (scoped s ks) (On kind x ty (reach Skips core.table t)))
+      → IsKept t → AreFine b (met_side core.table (scoped s ks) (On kind x ty (reach Skips core.table t)))
   side_from kind x ty t s ks b h r kept =
       let line = SideLine kind x ty in
       let inner = in_side core.table s kind ty in
@@ -145,7 +149,7 @@ module _ (core : CoreTree) where
         differs = λ y m. (h.differs y (ap (λ (o : List Variable). is_among o y) (sym (in_side_others core.table s kind ty)) ∙ m)).1;
       } in (
         side_kept Skips core b s ks kind x ty r.0,
-        subst (λ (z : Setting). LinesAreBuilt (reach_core Skips core) b' (met core.table z (reach Skips core.table t))) (sym (scoped_side core.table s ks kind ty)) (kept inner ks b' suits r.1),
+        subst (λ (z : Setting). AreFine b' (met core.table z (reach Skips core.table t))) (sym (scoped_side core.table s ks kind ty)) (kept inner ks b' suits r.1),
       )
 
   side_new : (b : Before) (s : Setting) (kind : Kind) (x : Variable) (ty : Ty) → least (rules core b s (SideLine kind x ty)) ≡ None → is_bound b.bound x ≡ false
@@ -157,7 +161,7 @@ module _ (core : CoreTree) where
   pub both_from : (fork : Bool) (kind : Kind) (x : Variable) (ty : Ty) (t : Term) (other : Kind) (z : Variable) (uy : Ty) (u : Term) (s : Setting) (ks : List Known) (b : Before)
       → Suits (bind_uses (Both fork (On kind x ty t) (On other z uy u))) s ks b (met_bind core.table s (Both fork (On kind x ty t) (On other z uy u)))
       → LinesAreReachable core b (met_bind core.table s (Both fork (On kind x ty t) (On other z uy u)))
-      → IsKept t → IsKept u → LinesAreBuilt (reach_core Skips core) b (met_bind core.table (scoped s ks) (reach_bind Skips core.table (Both fork (On kind x ty t) (On other z uy u))))
+      → IsKept t → IsKept u → AreFine b (met_bind core.table (scoped s ks) (reach_bind Skips core.table (Both fork (On kind x ty t) (On other z uy u))))
   both_from fork kind x ty t other z uy u s ks b h r kept kept' =
       let left = On kind x ty t in
       let right = On other z uy u in
@@ -193,7 +197,7 @@ module _ (core : CoreTree) where
   -- An arm: its fields are reached, and then its term comes.
   pub arm_from : (k : ConId) (vs : List Variable) (t : Term) (s : Setting) (ks : List Known) (b : Before) → Suits (uses t) s ks b (met core.table (in_arm core.table s k vs) t) → ArmsSuit vs s b
       → LinesAreReachable core b (met core.table (in_arm core.table s k vs) t) → IsKept t
-      → LinesAreBuilt (reach_core Skips core) b (met core.table (in_arm core.table (scoped s ks) k vs) (prepend (reaches Skips t (packed_variables core.table k vs)) (reach Skips core.table t)))
+      → AreFine b (met core.table (in_arm core.table (scoped s ks) k vs) (prepend (reaches Skips t (packed_variables core.table k vs)) (reach Skips core.table t)))
   arm_from k vs t s ks b h arms r kept =
       go (packed_variables core.table k vs) (arm_started k vs types ks arms.distinct) (fields_distinct types vs arms.distinct) (fields_among types vs) served
     where
@@ -212,8 +216,8 @@ module _ (core : CoreTree) where
       bound : (y : Variable) → has from y ≡ true → is_bound b.bound y ≡ true
       bound y m = ⊎_elim (arms.bound y) (h.bound y) (or_cases (is_among vs y) (has s.scope y) (sym (has_arm k vs types None s.scope y) ∙ m))
 
-      end' : (new : List Known) → Serves (uses t) from new → LinesAreBuilt (reach_core Skips core) b (met core.table (inside inner new) (reach Skips core.table t))
-      end' new serves = kept inner new b (record { serves = serves; bound = bound; cased = h.cased; differs = h.differs }) r
+      built_there : (new : List Known) → Serves (uses t) from new → AreFine b (met core.table (inside inner new) (reach Skips core.table t))
+      built_there new serves = kept inner new b (record { serves = serves; bound = bound; cased = h.cased; differs = h.differs }) r
 
       served : (y : Variable) → uses t y ≡ true → has from y ≡ true → ReachedOr start (further (packed_variables core.table k vs)) y
       served y u m = split (is_among vs y) refl
@@ -224,8 +228,8 @@ module _ (core : CoreTree) where
 
       go : (ps : List Variable) → Started k start ps → AreDistinct ps → ((y : Variable) → is_among ps y ≡ true → is_among vs y ≡ true)
           → ((y : Variable) → uses t y ≡ true → has from y ≡ true → ReachedOr start (further ps) y)
-          → LinesAreBuilt (reach_core Skips core) b (met core.table (inside inner start) (prepend (reaches Skips t ps) (reach Skips core.table t)))
-      go [] a d l serves = end' start (λ y u m. ⊎_elim (λ e. e) (λ e. absurd (both_ways false refl e)) (serves y u m))
+          → AreFine b (met core.table (inside inner start) (prepend (reaches Skips t ps) (reach Skips core.table t)))
+      go [] a d l serves = built_there start (λ y u m. ⊎_elim (λ e. e) (λ e. absurd (both_ways false refl e)) (serves y u m))
       go (z ∷ ys) a d l serves = skips_built (reach_core Skips core) k t (reach Skips core.table t) inner b from z ys start (record {
         first = a.0;
         chained = a.1;
@@ -233,7 +237,7 @@ module _ (core : CoreTree) where
         others = λ y m. arms.others y (l y (or_right (z.0 == y.0) (is_among ys y) m));
         uncased = λ y m. arms.uncased y (l y m);
         served = serves;
-      }) end'
+      }) built_there
 
   -- The next arms.
   pub rest_arms : (k : ConId) (vs : List Variable) (t : Term) (rest : List Variable) (s : Setting) (b : Before) → ArmsSuit (vs ++ rest) s b → LinesAreReachable core b (met core.table (in_arm core.table s k vs) t)
@@ -263,7 +267,7 @@ module _ (core : CoreTree) where
       }
 
   -- Behind the line of a case its arms' variables are new.
-  pub case_arms : (x : Atom) (arms : List (ConId × List Variable)) (s : Setting) (b : Before) (used : Variable → Bool) (ks : List Known) (ms : List Met) → Suits used s ks b (Rattle.gib_core.specs.Met.at s (CaseLine x arms) ∷ ms)
+  pub case_arms : (x : Atom) (arms : List (ConId × List Variable)) (s : Setting) (b : Before) (used : Variable → Bool) (ks : List Known) (ms : List Met) → Suits used s ks b (at s (CaseLine x arms) ∷ ms)
       → least (rules core b (all_reached s) (CaseLine x arms)) ≡ None → ArmsSuit (arm_variables arms) s (next core.table b (CaseLine x arms))
   case_arms x arms s b used ks ms h e =
       let vs = arm_variables arms in
