@@ -17,6 +17,7 @@ mod Reaches
 mod Along
 mod Cased
 mod Skipped
+mod Offered
 mod Kept
 mod Onward
 mod Suited

@@ -15,10 +15,10 @@ use Rattle.gib_core.specs.Rules.{Before, is_among, is_reached, further, may_reac
 use Rattle.gib_core.proofs.Along.{same_variable, differ_back, AreDistinct, least_none}
 use Rattle.gib_core.proofs.Cased.{has, field_named}
 
-known_first : (k : Known) (ks : List Known) (y : Variable) → (k.variable.0 == y.0) ≡ true → known (k ∷ ks) y ≡ Some k
+pub known_first : (k : Known) (ks : List Known) (y : Variable) → (k.variable.0 == y.0) ≡ true → known (k ∷ ks) y ≡ Some k
 known_first k ks y e = ap (λ b. if b then Some k else known ks y) e
 
-known_past : (k : Known) (ks : List Known) (y : Variable) → (k.variable.0 == y.0) ≡ false → known (k ∷ ks) y ≡ known ks y
+pub known_past : (k : Known) (ks : List Known) (y : Variable) → (k.variable.0 == y.0) ≡ false → known (k ∷ ks) y ≡ known ks y
 known_past k ks y e = ap (λ b. if b then Some k else known ks y) e
 
 -- A variable that is none of an arm's stands as before.
@@ -135,10 +135,10 @@ chained_past k new z (x ∷ ys) ks ks' q n h =
     (q x ∙ known_past new ks x (differ_back x new.variable parts.0) ∙ h.0, chained_past k new x ys ks ks' q parts.1 h.1)
 
 -- A field is reached.
-abbrev now_reached : ConId → Variable → Variable → Known
+abbrev pub now_reached : ConId → Variable → Variable → Known
 now_reached k y z = record (packed_field k y (Some z)) { reached = true }
 
-stays_reached : (new : Known) (ks ks' : List Known) (x : Variable) → ((v : Variable) → known ks' v ≡ known (new ∷ ks) v) → new.reached ≡ true → is_reached (known ks x) ≡ true → is_reached (known ks' x) ≡ true
+pub stays_reached : (new : Known) (ks ks' : List Known) (x : Variable) → ((v : Variable) → known ks' v ≡ known (new ∷ ks) v) → new.reached ≡ true → is_reached (known ks x) ≡ true → is_reached (known ks' x) ≡ true
 stays_reached new ks ks' x q is r = ap is_reached (q x) ∙ go (new.variable.0 == x.0)
   where
     go : (b : Bool) → is_reached (if b then Some new else known ks x) ≡ true

@@ -10,7 +10,6 @@ ghost use Rattle.gib_syntax.specs.Meaning.{calls, run};
 ghost use Rattle.gib_core.specs.Tree.{CoreTree};
 ghost use Rattle.gib_core.specs.Meaning.{core_calls, core_run};
 ghost use Rattle.gib_core.specs.declared.atom.AccessMode.{AccessMode as Mode};
-ghost use Rattle.gib_core.specs.declared.atom.AccessMode.TheVariants.{Skips};
 ghost use Rattle.gib_core.specs.Erasing.{erase_core};
 ghost use Rattle.gib_core.specs.Inferring.{infer_program};
 ghost use Rattle.gib_core.specs.Reaching.{reach_core};
@@ -42,7 +41,7 @@ pub fn reaching_keeps_the_meaning()
     ensures run { (mode : Mode) (core : CoreTree) (depth : ℕ) (v : Datum) → core_run (reach_core mode core) depth v ≡ core_run core depth v }
 {}
 
-/// A core whose fields only have to be reached meets the build rules once they are reached by skips.
+/// A core whose fields only have to be reached meets the build rules once they are reached.
 pub fn reaching_makes_built()
-    ensures { (core : CoreTree) → AreReachable core → AreBuilt (reach_core Skips core) }
+    ensures { (mode : Mode) (core : CoreTree) → AreReachable core → AreBuilt (reach_core mode core) }
 {}
