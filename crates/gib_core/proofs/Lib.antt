@@ -14,4 +14,5 @@ mod Ordered
 mod Erases
 mod Left
 mod Reaches
+mod Ready
 mod Sample
