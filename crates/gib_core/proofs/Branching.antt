@@ -1,0 +1,165 @@
+-- Lines that branch, and lines behind a binding, break no rule.
+use Rattle.std.proofs.Common.{◌≡◌, ℕ, zero, suc, ◌+◌, ◌<◌, ◌≤◌, Bool, true, false, not, ◌&&◌, ◌||◌, ◌==◌, if◌then◌else◌, List, [], ◌∷◌, ◌++◌, map, length, Option, Some, None, refl, sym, ap, ◌∙◌, subst, arith}
+use Rattle.std.proofs.lemmas.Bool.{eqb-true, eq-eqb, ne_eqb}
+use Rattle.std.proofs.lemmas.Option.{same_Some}
+use Rattle.gib_types.specs.declared.table.Ty.{Ty}
+use Rattle.gib_types.specs.declared.table.Ty.TheVariants.{Whole, Truth, Tree}
+use Rattle.gib_types.specs.declared.table.TyId.{TyId}
+use Rattle.gib_types.specs.declared.table.ConId.{ConId}
+use Rattle.gib_types.specs.Table.{Table, fields_at}
+use Rattle.gib_syntax.specs.declared.tree.Ident.{Ident}
+use Rattle.gib_syntax.specs.Declarations.{number_of}
+use Rattle.gib_syntax.specs.Tree.{FunctionTree}
+use Rattle.gib_syntax.specs.Typing as typing
+use Rattle.gib_core.specs.declared.atom.Variable.{Variable}
+use Rattle.gib_core.specs.declared.atom.Atom.{Atom}
+use Rattle.gib_core.specs.declared.atom.Atom.TheVariants as atomic
+use Rattle.gib_core.specs.declared.scope.Bound.{Bound}
+use Rattle.gib_core.specs.Tree.{Term, Bind, Branches, NoBranch, BranchThen, CaseTerm, IfTerm, var, variables_from, prepend, CoreTree}
+use Rattle.gib_core.specs.Inferring.{Scope, slot, Lined, ToLine, ToAtom, Code, first_type, further_types, as_atoms, let_line, if_line, case_line, ArmCode, with_fields, Branched, arm_for, branch_of, branches_of, atom_at, type_at}
+use Rattle.gib_core.specs.Met.{Known, Setting, Met, at, CaseLine, IfLine, behind, known, field, packed_field, packed_before, with_arm, in_arm, in_branch, arms_of, met, met_branches, result_place}
+use Rattle.gib_core.specs.Rules.{Before, is_among, is_bound, type_bound, type_of, is_type, has_type, same_type, is_reached, is_usable, is_other, are_arms, cover, bind_fields, bind_arms, any_bound, arm_variables, least, rules, next, next_all}
+use Rattle.gib_core.specs.Reachable.{as_reached, all_reached, LinesAreReachable}
+use Rattle.gib_core.proofs.Fits.{IsFit, AllFit, ScopeFits, fit_more, scope_more, at_fit, fields_fit}
+use Rattle.gib_core.proofs.Ordered.{CodeOrdered, LineOrdered, AtomOrdered}
+use Rattle.gib_core.proofs.Ready.{behind_all, CanUse, CanUseAll, Ready, PlaceFor, NamesTyped, Clean, clean_nothing, clean_then, then_all, Runs, line_then, ready_behind, ready_less, LineBuilt, LineOk, SideOk, AtomOk, AtomBuilt, CodeBuilt}
+
+-- Names in scope.
+
+names_bound : (x : Ident) (t t' : Ty) (at : Atom) (known : typing.Scope) (sc : Scope) (s : Setting) (b : Before) → CanUse s b at t
+    → ((y : ℕ) (ty : Ty) → typing.type_in known y ≡ Some ty → CanUse s b (atom_at sc y) ty)
+    → (y : ℕ) (ty : Ty) → typing.type_in (typing.bound x t known) y ≡ Some ty → CanUse s b (atom_at (slot x at t' ∷ sc) y) ty
+names_bound x t t' at known sc s b can names y ty e = here (number_of x == y) e
+  where
+    here : (c : Bool) → (if c then Some t else typing.type_in known y) ≡ Some ty → CanUse s b (if c then at else atom_at sc y) ty
+    here true e = subst (CanUse s b at) (same_Some t ty e) can
+    here false e = names y ty e
+
+pub ready_bound : (n m : ℕ) (x : Ident) (t t' : Ty) (at : Atom) (known : typing.Scope) (sc : Scope) (s : Setting) (b : Before) → Ready n m known sc s b → IsFit n at → CanUse s b at t
+    → Ready n m (typing.bound x t known) (slot x at t' ∷ sc) s b
+ready_bound n m x t t' at known sc s b r fit can = record {
+  names = names_bound x t t' at known sc s b can r.names;
+  fits = (fit, r.fits);
+  new = r.new;
+  uncased = r.uncased;
+  apart = r.apart;
+}
+
+pub names_typed_bound : (x : Ident) (t t' : Ty) (at : Atom) (known : typing.Scope) (sc : Scope) → t' ≡ t → NamesTyped known sc → NamesTyped (typing.bound x t known) (slot x at t' ∷ sc)
+names_typed_bound x t t' at known sc same h = record { types = λ y ty e. here y ty (number_of x == y) e }
+  where
+    here : (y : ℕ) (ty : Ty) (c : Bool) → (if c then Some t else typing.type_in known y) ≡ Some ty → (if c then t' else type_at sc y) ≡ ty
+    here y ty true e = same ∙ same_Some t ty e
+    here y ty false e = h.types y ty e
+
+pub names_typed_fields : (xs : List Ident) (types : List Ty) (known inner : typing.Scope) (sc : Scope) (n : ℕ) → typing.BindsAll known xs types inner → NamesTyped known sc → NamesTyped inner (with_fields xs types n sc)
+names_typed_fields [] [] known inner sc n e h = subst (λ (k : typing.Scope). NamesTyped k sc) (sym e) h
+names_typed_fields [] (t ∷ types) known inner sc n e h = absurd e
+names_typed_fields (x ∷ xs) [] known inner sc n e h = absurd e
+names_typed_fields (x ∷ xs) (t ∷ types) known inner sc n e h =
+    names_typed_fields xs types (typing.bound x t known) inner (slot x (var n) t ∷ sc) (n + 1) e.1 (names_typed_bound x t t (var n) known sc refl h)
+
+-- The names of fields.
+names_fields : (xs : List Ident) (types : List Ty) (known inner : typing.Scope) (sc : Scope) (n : ℕ) (s : Setting) (b : Before) → typing.BindsAll known xs types inner
+    → CanUseAll s b (as_atoms (variables_from n xs)) types
+    → ((y : ℕ) (ty : Ty) → typing.type_in known y ≡ Some ty → CanUse s b (atom_at sc y) ty)
+    → (y : ℕ) (ty : Ty) → typing.type_in inner y ≡ Some ty → CanUse s b (atom_at (with_fields xs types n sc) y) ty
+names_fields [] [] known inner sc n s b e can names = subst (λ (k : typing.Scope). (y : ℕ) (ty : Ty) → typing.type_in k y ≡ Some ty → CanUse s b (atom_at sc y) ty) (sym e) names
+names_fields [] (t ∷ types) known inner sc n s b e can names = absurd e
+names_fields (x ∷ xs) [] known inner sc n s b e can names = absurd e
+names_fields (x ∷ xs) (t ∷ types) known inner sc n s b e can names =
+    names_fields xs types (typing.bound x t known) inner (slot x (var n) t ∷ sc) (n + 1) s b e.1 can.1 (names_bound x t t (var n) known sc s b can.0 names)
+
+-- Settings that are alike.
+
+pub use_same : (s new : Setting) (b after : Before) (x : Atom) (ty : Ty) → new.scope ≡ s.scope → new.others ≡ s.others → type_of after x ≡ type_of b x → CanUse s b x ty → CanUse new after x ty
+use_same s new b after (atomic.Variable y) ty es eo et h = record { usable = ap (λ z. is_reached (known (map as_reached z) y)) es ∙ h.usable; of_type = et ∙ h.of_type; other = ap (λ z. is_among z y) eo ∙ h.other }
+use_same s new b after (atomic.Whole z) ty es eo et h = record { usable = refl; of_type = et ∙ h.of_type; other = refl }
+use_same s new b after (atomic.Truth t) ty es eo et h = record { usable = refl; of_type = et ∙ h.of_type; other = refl }
+
+pub other_reached : (s : Setting) (x : Atom) → is_other (all_reached s) x ≡ is_other s x
+other_reached s (atomic.Variable y) = refl
+other_reached s (atomic.Whole z) = refl
+other_reached s (atomic.Truth t) = refl
+
+same_type-refl : (t : Ty) → same_type t t ≡ true
+same_type-refl Whole = refl
+same_type-refl Truth = refl
+same_type-refl (Tree t) = eq-eqb t.0 t.0 refl
+
+pub has_its_type : (s : Setting) (b : Before) (x : Atom) (ty : Ty) → CanUse s b x ty → has_type b x ty ≡ true
+has_its_type s b x ty h = ap (λ z. is_type z ty) h.of_type ∙ same_type-refl ty
+
+module _ (core : CoreTree) where
+  type_of_below : (n k : ℕ) (b : Before) (ms : List Met) (x : Atom) → Clean core n k b ms → IsFit n x → type_of (next_all core.table b ms) x ≡ type_of b x
+  type_of_below n k b ms (atomic.Variable y) c h = c.below y h
+  type_of_below n k b ms (atomic.Whole z) c h = refl
+  type_of_below n k b ms (atomic.Truth t) c h = refl
+
+  -- Where only what stands before has changed, and the scope and the other sides are as they were.
+  pub ready_after : (n k m : ℕ) (known : typing.Scope) (sc : Scope) (s new : Setting) (b : Before) (ms : List Met) → new.scope ≡ s.scope → new.others ≡ s.others → Ready n m known sc s b → Clean core n k b ms → n ≤ k
+      → Ready k m known sc new (next_all core.table b ms)
+  ready_after n k m known sc s new b ms es eo r c le = record {
+    names = λ x ty e. use_same s new b (next_all core.table b ms) (atom_at sc x) ty es eo (type_of_below n k b ms (atom_at sc x) c (at_fit n sc x r.fits)) (r.names x ty e);
+    fits = scope_more n k sc le r.fits;
+    new = λ x lo hi. c.above x lo ∙ r.new x (omega (arith, le, lo)) hi;
+    uncased = λ x lo. c.uncased x lo ∙ r.uncased x (omega (arith, le, lo));
+    apart = λ x lo hi. ap (λ z. is_among z x) eo ∙ r.apart x (omega (arith, le, lo)) hi;
+  }
+
+  module _ (functions : List FunctionTree) where
+    -- A `let`.
+    pub let_ok : (x : Ident) (c d : Code) (t ty : Ty) (known : typing.Scope) (sc : Scope) → CodeBuilt core functions c t known sc
+        → ((at : Atom) (t' : Ty) → t' ≡ t → CodeBuilt core functions d ty (typing.bound x t known) (slot x at t' ∷ sc))
+        → LineOk core (let_line x c.bound d.line) ty known sc
+    let_ok x c d t ty known sc hc hd n m s b ready le place =
+        let l = c.bound sc n in
+        let a = hc.order.bound n ready.fits in
+        let body = hd l.atom l.ty (hc.bound_type n) in
+        let sc' : Scope = slot x l.atom l.ty ∷ sc in
+        let r = d.line sc' l.fresh in
+        let up = a.grows in
+        let o = body.order.line l.fresh (a.fit, scope_more n l.fresh sc up ready.fits) in
+        let up' = o.grows in
+        let h = hc.bound n m s b ready (omega arith) in
+        let s1 = behind_all s l.binds in
+        let b1 = then_all core s b l.binds in
+        let r1 = ready_behind core n l.fresh m known sc s b l.binds ready h.runs up in
+        let q = body.line l.fresh m s1 b1 (ready_bound l.fresh m x t l.ty l.atom known sc s1 b1 r1 a.fit h.can) le (record { destination = h.runs.destination ∙ place.destination; due = h.runs.due ∙ place.due }) in
+        record { clean = line_then core n l.fresh r.fresh s b l.binds r.term h.runs q.clean up up' }
+
+    -- An `if`.
+    if_least : (s : Setting) (b : Before) (x : Atom) → CanUse s b x Truth → least (rules core b (all_reached s) (IfLine x)) ≡ None
+    if_least s b x h = rw (other_reached s x, h.other, h.usable, has_its_type s b x Truth h) refl
+
+    pub if_ok : (c d e : Code) (ty : Ty) (known : typing.Scope) (sc : Scope) → CodeBuilt core functions c Truth known sc → CodeBuilt core functions d ty known sc → CodeBuilt core functions e ty known sc
+        → LineOk core (if_line c.atom d.line e.line) ty known sc
+    if_ok c d e ty known sc hc hd he n m s b ready le place =
+        let x = c.atom sc n in
+        let a = hc.order.atom n ready.fits in
+        let up = a.grows in
+        let l = d.line sc x.fresh in
+        let ol = hd.order.line x.fresh (scope_more n x.fresh sc up ready.fits) in
+        let up1 = ol.grows in
+        let r = e.line sc l.fresh in
+        let o = he.order.line l.fresh (scope_more n l.fresh sc (omega arith) ready.fits) in
+        let up2 = o.grows in
+        let h = hc.atom n m s b ready (omega arith) in
+        let s1 = behind_all s x.binds in
+        let b1 = then_all core s b x.binds in
+        let r1 = ready_behind core n x.fresh m known sc s b x.binds ready h.runs up in
+        let inner = in_branch s1 in
+        let place' : PlaceFor ty inner = record { destination = h.runs.destination ∙ place.destination; due = h.runs.due ∙ place.due } in
+        let ready1 = ready_after x.fresh x.fresh m known sc s1 inner b1 [] refl refl r1 (clean_nothing core x.fresh b1) (omega arith) in
+        let p = hd.line x.fresh m inner b1 ready1 (omega arith) place' in
+        let lines = met core.table inner l.term in
+        let ready2 = ready_after x.fresh l.fresh m known sc inner inner b1 lines refl refl ready1 p.clean up1 in
+        let q = he.line l.fresh m inner (next_all core.table b1 lines) ready2 le place' in
+        let both = clean_then core x.fresh l.fresh l.fresh r.fresh b1 lines (met core.table inner r.term) p.clean q.clean up1 up2 in
+        let line : Clean core x.fresh r.fresh b1 (met core.table s1 (IfTerm x.atom l.term r.term)) = record {
+          reachable = (if_least s1 b1 x.atom h.can, both.reachable);
+          below = both.below;
+          above = both.above;
+          uncased = both.uncased;
+        } in
+        record { clean = line_then core n x.fresh r.fresh s b x.binds (IfTerm x.atom l.term r.term) h.runs line up (omega arith) }
