@@ -10,19 +10,21 @@ use Rattle.gib_types.specs.Table.{Table, fields_at}
 use Rattle.gib_syntax.specs.declared.tree.Ident.{Ident}
 use Rattle.gib_syntax.specs.Declarations.{number_of}
 use Rattle.gib_syntax.specs.Tree.{FunctionTree}
+use Rattle.gib_syntax.specs.Meaning.{is_scalar}
 use Rattle.gib_syntax.specs.Typing as typing
 use Rattle.gib_core.specs.declared.atom.Variable.{Variable}
 use Rattle.gib_core.specs.declared.atom.Atom.{Atom}
 use Rattle.gib_core.specs.declared.atom.Atom.TheVariants as atomic
 use Rattle.gib_core.specs.declared.scope.Bound.{Bound}
-use Rattle.gib_core.specs.Tree.{Term, Bind, Branches, NoBranch, BranchThen, CaseTerm, IfTerm, var, variables_from, prepend, CoreTree}
-use Rattle.gib_core.specs.Inferring.{Scope, slot, Lined, ToLine, ToAtom, Code, first_type, further_types, as_atoms, let_line, if_line, case_line, ArmCode, with_fields, Branched, arm_for, branch_of, branches_of, atom_at, type_at}
-use Rattle.gib_core.specs.Met.{Known, Setting, Met, at, CaseLine, IfLine, behind, known, field, packed_field, packed_before, with_arm, in_arm, in_branch, arms_of, met, met_branches, result_place}
-use Rattle.gib_core.specs.Rules.{Before, is_among, is_bound, type_bound, type_of, is_type, has_type, same_type, is_reached, is_usable, is_other, are_arms, cover, bind_fields, bind_arms, any_bound, arm_variables, least, rules, next, next_all}
+use Rattle.gib_core.specs.Tree.{Term, Bind, Both, Side, On, IfTerm, var, variables_from, CoreTree}
+use Rattle.gib_core.specs.Inferring.{Scope, slot, Lined, ToLine, ToAtom, Code, first_type, further_types, as_atoms, kind_of, let_line, par_line, if_line, with_fields, atom_at, type_at}
+use Rattle.gib_core.specs.Met.{Setting, Met, SideLine, IfLine, behind, behind_side, in_side, left_of, right_of, known, in_branch, met, met_bind, met_side}
+use Rattle.gib_core.specs.Rules.{Before, is_among, type_bound, type_of, is_type, has_type, is_reached, is_other, least, rules, next, next_all}
 use Rattle.gib_core.specs.Reachable.{as_reached, all_reached, LinesAreReachable}
 use Rattle.gib_core.proofs.Fits.{IsFit, AllFit, ScopeFits, fit_more, scope_more, at_fit, fields_fit}
 use Rattle.gib_core.proofs.Ordered.{CodeOrdered, LineOrdered, AtomOrdered}
-use Rattle.gib_core.proofs.Ready.{behind_all, CanUse, CanUseAll, Ready, PlaceFor, NamesTyped, Clean, clean_nothing, clean_then, then_all, Runs, line_then, ready_behind, ready_less, LineBuilt, LineOk, SideOk, AtomOk, AtomBuilt, CodeBuilt}
+use Rattle.gib_core.proofs.Sides.{same_type-refl, ready_left, ready_right, side_others, side_scope, side_due, side_destination, alike_bound, can_bound, side_clean, side_type, ready_inside, place_inside, whole_inside}
+use Rattle.gib_core.proofs.Ready.{behind_all, next_all-append, Alike, CanUse, CanUseAll, Ready, PlaceFor, NamesTyped, Clean, clean_nothing, clean_then, then_all, Runs, line_then, ready_behind, ready_less, LineBuilt, LineOk, SideOk, AtomOk, AtomBuilt, CodeBuilt}
 
 -- Names in scope.
 
@@ -60,7 +62,7 @@ names_typed_fields (x ∷ xs) (t ∷ types) known inner sc n e h =
     names_typed_fields xs types (typing.bound x t known) inner (slot x (var n) t ∷ sc) (n + 1) e.1 (names_typed_bound x t t (var n) known sc refl h)
 
 -- The names of fields.
-names_fields : (xs : List Ident) (types : List Ty) (known inner : typing.Scope) (sc : Scope) (n : ℕ) (s : Setting) (b : Before) → typing.BindsAll known xs types inner
+pub names_fields : (xs : List Ident) (types : List Ty) (known inner : typing.Scope) (sc : Scope) (n : ℕ) (s : Setting) (b : Before) → typing.BindsAll known xs types inner
     → CanUseAll s b (as_atoms (variables_from n xs)) types
     → ((y : ℕ) (ty : Ty) → typing.type_in known y ≡ Some ty → CanUse s b (atom_at sc y) ty)
     → (y : ℕ) (ty : Ty) → typing.type_in inner y ≡ Some ty → CanUse s b (atom_at (with_fields xs types n sc) y) ty
@@ -82,16 +84,15 @@ other_reached s (atomic.Variable y) = refl
 other_reached s (atomic.Whole z) = refl
 other_reached s (atomic.Truth t) = refl
 
-same_type-refl : (t : Ty) → same_type t t ≡ true
-same_type-refl Whole = refl
-same_type-refl Truth = refl
-same_type-refl (Tree t) = eq-eqb t.0 t.0 refl
-
 pub has_its_type : (s : Setting) (b : Before) (x : Atom) (ty : Ty) → CanUse s b x ty → has_type b x ty ≡ true
 has_its_type s b x ty h = ap (λ z. is_type z ty) h.of_type ∙ same_type-refl ty
 
+-- The binding of two sides.
+abbrev pair_of : Lined → Lined → ℕ → Bind
+pair_of l r n = Both false (On (kind_of l.ty) (record { 0 = n }) l.ty l.term) (On (kind_of r.ty) (record { 0 = l.fresh }) r.ty r.term)
+
 module _ (core : CoreTree) where
-  type_of_below : (n k : ℕ) (b : Before) (ms : List Met) (x : Atom) → Clean core n k b ms → IsFit n x → type_of (next_all core.table b ms) x ≡ type_of b x
+  pub type_of_below : (n k : ℕ) (b : Before) (ms : List Met) (x : Atom) → Clean core n k b ms → IsFit n x → type_of (next_all core.table b ms) x ≡ type_of b x
   type_of_below n k b ms (atomic.Variable y) c h = c.below y h
   type_of_below n k b ms (atomic.Whole z) c h = refl
   type_of_below n k b ms (atomic.Truth t) c h = refl
@@ -163,3 +164,109 @@ module _ (core : CoreTree) where
           uncased = both.uncased;
         } in
         record { clean = line_then core n x.fresh r.fresh s b x.binds (IfTerm x.atom l.term r.term) h.runs line up (omega arith) }
+
+    -- The sides of a `let par`.
+    record PairBuilt (n k j : ℕ) (left right : Ty) (s : Setting) (b : Before) (bind : Bind) : Type 0 where
+      clean : Clean core n j b (met_bind core.table s bind)
+      of_left : type_bound (next_all core.table b (met_bind core.table s bind)).bound (record { 0 = n }) ≡ Some left
+      of_right : type_bound (next_all core.table b (met_bind core.table s bind)).bound (record { 0 = k }) ≡ Some right
+
+    -- A side, at a place that is ready.
+    side_term : (c : Code) (t : Ty) (n m : ℕ) (known : typing.Scope) (sc : Scope) (s : Setting) (b : Before) → CodeBuilt core functions c t known sc → Ready n m known sc s b → (c.side sc (n + 1)).fresh ≤ m
+        → LineBuilt core (n + 1) (c.side sc (n + 1)) (in_side core.table s (kind_of (c.side sc (n + 1)).ty) (c.side sc (n + 1)).ty) (next core.table b (SideLine (kind_of (c.side sc (n + 1)).ty) (record { 0 = n }) (c.side sc (n + 1)).ty))
+    side_term c t n m known sc s b h ready le =
+        let l = c.side sc (n + 1) in
+        let of = h.side_type (n + 1) in
+        let inside = in_side core.table s (kind_of l.ty) l.ty in
+        h.side (n + 1) m inside (next core.table b (SideLine (kind_of l.ty) (record { 0 = n }) l.ty)) (ready_inside core n m l.ty known sc s b ready) le
+        (subst (λ (z : Ty). PlaceFor z inside) of (place_inside core s l.ty)) (whole_inside core s l.ty ∙ ap is_scalar of)
+
+    pair_built : (c d : Code) (t u : Ty) (n m : ℕ) (known : typing.Scope) (sc : Scope) (s : Setting) (b : Before) → CodeBuilt core functions c t known sc → CodeBuilt core functions d u known sc → Ready n m known sc s b
+        → (d.side sc ((c.side sc (n + 1)).fresh + 1)).fresh ≤ m
+        → PairBuilt n (c.side sc (n + 1)).fresh (d.side sc ((c.side sc (n + 1)).fresh + 1)).fresh t u s b (pair_of (c.side sc (n + 1)) (d.side sc ((c.side sc (n + 1)).fresh + 1)) n)
+    pair_built c d t u n m known sc s b hc hd ready le =
+        let l = c.side sc (n + 1) in
+        let ol = hc.order.side (n + 1) (scope_more n (n + 1) sc (omega arith) ready.fits) in
+        let up = ol.grows in
+        let k = l.fresh in
+        let r = d.side sc (k + 1) in
+        let o = hd.order.side (k + 1) (scope_more n (k + 1) sc (omega arith) ready.fits) in
+        let up' = o.grows in
+        let left = On (kind_of l.ty) (record { 0 = n }) l.ty l.term in
+        let right = On (kind_of r.ty) (record { 0 = k }) r.ty r.term in
+        let sl = left_of s right in
+        let ready_l = ready_left n m k known sc s b right refl ready (omega arith) (omega arith) in
+        let p = side_term c t n k known sc sl b hc ready_l (omega arith) in
+        let cl = side_clean core n k k l.ty l.term known sc sl b ready_l (omega arith) (omega arith) p.clean in
+        let lines = met_side core.table sl left in
+        let b1 = next_all core.table b lines in
+        let sr = right_of s left in
+        let ready_r = ready_right n m k known sc s b b1 left refl ready (omega arith) cl.below cl.above cl.uncased in
+        let q = side_term d u k m known sc sr b1 hd ready_r le in
+        let cr = side_clean core k m r.fresh r.ty r.term known sc sr b1 ready_r (omega arith) (omega arith) q.clean in
+        let more = met_side core.table sr right in
+        let both = clean_then core n k k r.fresh b lines more cl cr (omega arith) (omega arith) in
+        let last = next_all-append core.table b lines more in
+        record {
+          clean = record { reachable = (refl, both.reachable); below = both.below; above = both.above; uncased = both.uncased };
+          of_left = ap (λ (z : Before). type_bound z.bound (record { 0 = n })) last ∙ cr.below (record { 0 = n }) (omega arith) ∙ side_type core n k l.ty l.term sl b p.clean ∙ ap Some (hc.side_type (n + 1));
+          of_right = ap (λ (z : Before). type_bound z.bound (record { 0 = k })) last ∙ side_type core k r.fresh r.ty r.term sr b1 q.clean ∙ ap Some (hd.side_type (k + 1));
+        }
+
+    -- Behind the sides both their names are in scope.
+    pair_ready : (x y : Ident) (l r : Lined) (t u : Ty) (n m : ℕ) (known : typing.Scope) (sc : Scope) (s : Setting) (b : Before) → n < l.fresh → l.fresh < r.fresh → r.fresh ≤ m → Ready n m known sc s b
+        → PairBuilt n l.fresh r.fresh t u s b (pair_of l r n)
+        → Ready r.fresh m (typing.bound y u (typing.bound x t known)) (slot y (var l.fresh) r.ty ∷ slot x (var n) l.ty ∷ sc) (behind s (pair_of l r n)) (next_all core.table b (met_bind core.table s (pair_of l r n)))
+    pair_ready x y l r t u n m known sc s b lo mid hi ready h =
+        let k = l.fresh in
+        let left = On (kind_of l.ty) (record { 0 = n }) l.ty l.term in
+        let right = On (kind_of r.ty) (record { 0 = k }) r.ty r.term in
+        let s1 = behind_side s left in
+        let s2 = behind_side s1 right in
+        let c = next_all core.table b (met_bind core.table s (pair_of l r n)) in
+        let es = side_others s left in
+        let past : Alike n s s1 b c = alike_bound n (record { 0 = n }) s s1 b c (omega arith) (side_scope s left) es h.clean.below in
+        let past' : Alike (n + 1) s1 s2 c c = alike_bound (n + 1) (record { 0 = k }) s1 s2 c c (omega arith) (side_scope s1 right) (side_others s1 right) (λ z lt. refl) in
+        let of_x : CanUse s1 c (var n) t = can_bound (record { 0 = n }) t s s1 c (side_scope s left) es (ready.apart (record { 0 = n }) (omega arith) (omega arith)) h.of_left in
+        let of_y : CanUse s2 c (var k) u = can_bound (record { 0 = k }) u s1 s2 c (side_scope s1 right) (side_others s1 right) (ap (λ z. is_among z (record { 0 = k })) es ∙ ready.apart (record { 0 = k }) (omega arith) (omega arith)) h.of_right in
+        let all : Ready r.fresh m known sc s2 c = record {
+          names = λ z ty e. past'.can (atom_at sc z) ty (fit_more n (n + 1) (atom_at sc z) (omega arith) (at_fit n sc z ready.fits)) (past.can (atom_at sc z) ty (at_fit n sc z ready.fits) (ready.names z ty e));
+          fits = scope_more n r.fresh sc (omega arith) ready.fits;
+          new = λ z low high. h.clean.above z low ∙ ready.new z (omega arith) high;
+          uncased = λ z low. h.clean.uncased z low ∙ ready.uncased z (omega arith);
+          apart = λ z low high. ap (λ w. is_among w z) (side_others s1 right ∙ es) ∙ ready.apart z (omega arith) high;
+        } in
+        ready_bound r.fresh m y u r.ty (var k) (typing.bound x t known) (slot x (var n) l.ty ∷ sc) s2 c
+        (ready_bound r.fresh m x t l.ty (var n) known sc s2 c all (omega arith) (past'.can (var n) t (omega arith) of_x)) (omega arith) of_y
+
+    -- A `let par`.
+    pub par_ok : (x y : Ident) (c d e : Code) (t u ty : Ty) (known : typing.Scope) (sc : Scope) → CodeBuilt core functions c t known sc → CodeBuilt core functions d u known sc
+        → ((at other : Atom) (t' u' : Ty) → t' ≡ t → u' ≡ u → CodeBuilt core functions e ty (typing.bound y u (typing.bound x t known)) (slot y other u' ∷ slot x at t' ∷ sc))
+        → LineOk core (par_line x c.side y d.side e.line) ty known sc
+    par_ok x y c d e t u ty known sc hc hd he n m s b ready le place =
+        let l = c.side sc (n + 1) in
+        let ol = hc.order.side (n + 1) (scope_more n (n + 1) sc (omega arith) ready.fits) in
+        let up = ol.grows in
+        let k = l.fresh in
+        let r = d.side sc (k + 1) in
+        let o = hd.order.side (k + 1) (scope_more n (k + 1) sc (omega arith) ready.fits) in
+        let up' = o.grows in
+        let body = he (var n) (var k) l.ty r.ty (hc.side_type (n + 1)) (hd.side_type (k + 1)) in
+        let sc' : Scope = slot y (var k) r.ty ∷ slot x (var n) l.ty ∷ sc in
+        let last = e.line sc' r.fresh in
+        let ob = body.order.line r.fresh (omega arith, (omega arith, scope_more n r.fresh sc (omega arith) ready.fits)) in
+        let up'' = ob.grows in
+        let bind = pair_of l r n in
+        let lines = met_bind core.table s bind in
+        let s2 = behind s bind in
+        let left = On (kind_of l.ty) (record { 0 = n }) l.ty l.term in
+        let right = On (kind_of r.ty) (record { 0 = k }) r.ty r.term in
+        let s1 = behind_side s left in
+        let pair = pair_built c d t u n m known sc s b hc hd ready (omega arith) in
+        let ready' = pair_ready x y l r t u n m known sc s b (omega arith) (omega arith) (omega arith) ready pair in
+        let place' : PlaceFor ty s2 = record {
+          destination = side_destination s1 (record { 0 = k }) r.ty r.term ∙ side_destination s (record { 0 = n }) l.ty l.term ∙ place.destination;
+          due = side_due s1 right ∙ side_due s left ∙ place.due;
+        } in
+        let q = body.line r.fresh m s2 (next_all core.table b lines) ready' le place' in
+        record { clean = clean_then core n r.fresh r.fresh last.fresh b lines (met core.table s2 last.term) pair.clean q.clean (omega arith) up'' }

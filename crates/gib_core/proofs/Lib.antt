@@ -15,5 +15,7 @@ mod Erases
 mod Left
 mod Reaches
 mod Ready
+mod Sides
 mod Branching
+mod Choosing
 mod Sample
