@@ -129,6 +129,11 @@ module _ (core : CoreTree) where
         let q = body.line l.fresh m s1 b1 (ready_bound l.fresh m x t l.ty l.atom known sc s1 b1 r1 a.fit h.can) le (record { destination = h.runs.destination ∙ place.destination; due = h.runs.due ∙ place.due }) in
         record { clean = line_then core n l.fresh r.fresh s b l.binds r.term h.runs q.clean up up' }
 
+    pub let_type : (x : Ident) (c d : Code) (t ty : Ty) (known : typing.Scope) (sc : Scope) → CodeBuilt core functions c t known sc
+        → ((at : Atom) (t' : Ty) → t' ≡ t → CodeBuilt core functions d ty (typing.bound x t known) (slot x at t' ∷ sc))
+        → (n : ℕ) → (let_line x c.bound d.line sc n).ty ≡ ty
+    let_type x c d t ty known sc hc hd n = let l = c.bound sc n in (hd l.atom l.ty (hc.bound_type n)).line_type l.fresh
+
     -- An `if`.
     if_least : (s : Setting) (b : Before) (x : Atom) → CanUse s b x Truth → least (rules core b (all_reached s) (IfLine x)) ≡ None
     if_least s b x h = rw (other_reached s x, h.other, h.usable, has_its_type s b x Truth h) refl
@@ -270,3 +275,11 @@ module _ (core : CoreTree) where
         } in
         let q = body.line r.fresh m s2 (next_all core.table b lines) ready' le place' in
         record { clean = clean_then core n r.fresh r.fresh last.fresh b lines (met core.table s2 last.term) pair.clean q.clean (omega arith) up'' }
+
+    pub par_type : (x y : Ident) (c d e : Code) (t u ty : Ty) (known : typing.Scope) (sc : Scope) → CodeBuilt core functions c t known sc → CodeBuilt core functions d u known sc
+        → ((at other : Atom) (t' u' : Ty) → t' ≡ t → u' ≡ u → CodeBuilt core functions e ty (typing.bound y u (typing.bound x t known)) (slot y other u' ∷ slot x at t' ∷ sc))
+        → (n : ℕ) → (par_line x c.side y d.side e.line sc n).ty ≡ ty
+    par_type x y c d e t u ty known sc hc hd he n =
+        let l = c.side sc (n + 1) in
+        let r = d.side sc (l.fresh + 1) in
+        (he (var n) (var l.fresh) l.ty r.ty (hc.side_type (n + 1)) (hd.side_type (l.fresh + 1))).line_type r.fresh

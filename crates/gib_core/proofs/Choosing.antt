@@ -1,7 +1,7 @@
 -- A `case` breaks no rule: its arms are those of the type, their variables are new and rise, and each arm's fields can be
 -- used.
-use Rattle.std.proofs.Common.{◌≡◌, ℕ, zero, suc, ◌+◌, ◌<◌, ◌≤◌, Bool, true, false, not, ◌&&◌, ◌||◌, ◌==◌, if◌then◌else◌, List, [], ◌∷◌, ◌++◌, map, length, Option, Some, None, refl, sym, ap, ◌∙◌, subst, arith}
-use Rattle.std.proofs.lemmas.Bool.{eqb-true, eq-eqb, ne_eqb}
+use Rattle.std.proofs.Common.{◌≡◌, ℕ, zero, suc, ◌+◌, ◌<◌, ◌≤◌, Bool, true, false, not, ◌&&◌, ◌||◌, ◌==◌, if◌then◌else◌, List, [], ◌∷◌, ◌++◌, map, length, Option, Some, None, refl, sym, ap, ◌∙◌, subst, arith, inl, inr}
+use Rattle.std.proofs.lemmas.Bool.{cases_lt, eq-eqb, ne_eqb}
 use Rattle.gib_types.specs.declared.table.Ty.{Ty}
 use Rattle.gib_types.specs.declared.table.Ty.TheVariants.{Whole, Truth, Tree}
 use Rattle.gib_types.specs.declared.table.TyId.{TyId}
@@ -100,15 +100,15 @@ none_bound n m (x ∷ xs) seen bound h new apart =
 
 -- The scope of an arm.
 
-more_reached : (f : Known) (ks : List Known) (y : Variable) → is_reached (known (map as_reached ks) y) ≡ true → is_reached (known (map as_reached (f ∷ ks)) y) ≡ true
+pub more_reached : (f : Known) (ks : List Known) (y : Variable) → is_reached (known (map as_reached ks) y) ≡ true → is_reached (known (map as_reached (f ∷ ks)) y) ≡ true
 more_reached f ks y h = go (f.variable.0 == y.0)
   where
     go : (c : Bool) → is_reached (if c then Some (as_reached f) else known (map as_reached ks) y) ≡ true
     go true = refl
     go false = h
 
-reached_here : (f : Known) (ks : List Known) (x : Variable) → f.variable ≡ x → is_reached (known (map as_reached (f ∷ ks)) x) ≡ true
-reached_here f ks x e = ap (λ c. is_reached (if c then Some (as_reached f) else known (map as_reached ks) x)) (eq-eqb f.variable.0 x.0 (ap (λ (v : Variable). v.0) e))
+pub reached_here : (f : Known) (ks : List Known) (y : Variable) → f.variable.0 ≡ y.0 → is_reached (known (map as_reached (f ∷ ks)) y) ≡ true
+reached_here f ks y e = ap (λ c. is_reached (if c then Some (as_reached f) else known (map as_reached ks) y)) (eq-eqb f.variable.0 y.0 e)
 
 field_is : (k : ConId) (x : Variable) (t : Ty) (before : Option Variable) → (field k x t before).variable ≡ x
 field_is k x Whole before = refl
@@ -122,34 +122,43 @@ arm_keeps k [] types before ks y h = h
 arm_keeps k (x ∷ xs) types before ks y h =
     arm_keeps k xs (further_types types) (packed_before x (first_type types) before) (field k x (first_type types) before ∷ ks) y (more_reached (field k x (first_type types) before) ks y h)
 
--- The fields of an arm can be used.
-fields_can : (xs : List Ident) (types : List Ty) (n : ℕ) (s : Setting) (b : Before) (k : ConId) (before : Option Variable) (ks : List Known) (bound : List Bound) → length types ≡ length xs
-    → s.scope ≡ with_arm k (variables_from n xs) types before ks
+arm_reaches : (k : ConId) (xs : List Ident) (n : ℕ) (types : List Ty) (before : Option Variable) (ks : List Known) (y : Variable) → n ≤ y.0 → y.0 < n + length xs
+    → is_reached (known (map as_reached (with_arm k (variables_from n xs) types before ks)) y) ≡ true
+arm_reaches k [] n types before ks y lo hi = absurd (omega arith)
+arm_reaches k (x ∷ xs) n types before ks y lo hi =
+    let v : Variable = record { 0 = n } in
+    let t = first_type types in
+    let ks' : List Known = field k v t before ∷ ks in
+    elim (cases_lt n y.0) [
+      | inl lt ↦ arm_reaches k xs (n + 1) (further_types types) (packed_before v t before) ks' y (omega arith) (omega arith)
+      | inr ge ↦ arm_keeps k (variables_from (n + 1) xs) (further_types types) (packed_before v t before) ks' y (reached_here (field k v t before) ks y (ap (λ (z : Variable). z.0) (field_is k v t before) ∙ (let same : n ≡ y.0 = omega arith in same)))
+    ]
+
+-- Variables that are in scope and were bound with these types can be used.
+pub fields_can : (xs : List Ident) (types : List Ty) (n : ℕ) (s : Setting) (b : Before) (bound : List Bound) → length types ≡ length xs
+    → ((y : Variable) → n ≤ y.0 → y.0 < n + length xs → is_reached (known (map as_reached s.scope) y) ≡ true)
     → ((y : Variable) → n ≤ y.0 → y.0 < n + length xs → type_bound b.bound y ≡ type_bound (bind_fields (variables_from n xs) types bound) y)
     → ((y : Variable) → n ≤ y.0 → y.0 < n + length xs → is_among s.others y ≡ false)
     → CanUseAll s b (as_atoms (variables_from n xs)) types
-fields_can [] [] n s b k before ks bound e es et eo = tt
-fields_can [] (t ∷ types) n s b k before ks bound e es et eo = absurd cc
-fields_can (x ∷ xs) [] n s b k before ks bound e es et eo = absurd cc
-fields_can (x ∷ xs) (t ∷ types) n s b k before ks bound e es et eo =
+fields_can [] [] n s b bound e es et eo = tt
+fields_can [] (t ∷ types) n s b bound e es et eo = absurd cc
+fields_can (x ∷ xs) [] n s b bound e es et eo = absurd cc
+fields_can (x ∷ xs) (t ∷ types) n s b bound e es et eo =
     let v : Variable = record { 0 = n } in
-    let ks' : List Known = field k v t before ∷ ks in
     let bound' : List Bound = record { variable = v; ty = t } ∷ bound in
     (
       record {
-        usable =
-            ap (λ z. is_reached (known (map as_reached z) v)) es
-            ∙ arm_keeps k (variables_from (n + 1) xs) types (packed_before v t before) ks' v (reached_here (field k v t before) ks v (field_is k v t before));
+        usable = es v (omega arith) (omega arith);
         of_type =
             et v (omega arith) (omega arith)
             ∙ fields_outside (n + 1) (n + 1 + length xs) (variables_from (n + 1) xs) types bound' v (rising_variables (n + 1) (n + 1 + length xs) xs (omega arith)) (λ z lo hi f. omega arith)
             ∙ ap (λ c. if c then Some t else type_bound bound v) (eq-eqb n n refl);
         other = eo v (omega arith) (omega arith);
       },
-      fields_can xs types (n + 1) s b k (packed_before v t before) ks' bound' (omega (arith, e)) es (λ y lo hi. et y (omega arith) (omega arith)) (λ y lo hi. eo y (omega arith) (omega arith)),
+      fields_can xs types (n + 1) s b bound' (omega (arith, e)) (λ y lo hi. es y (omega arith) (omega arith)) (λ y lo hi. et y (omega arith) (omega arith)) (λ y lo hi. eo y (omega arith) (omega arith)),
     )
 
-binds_length : (xs : List Ident) (types : List Ty) (outer inner : typing.Scope) → typing.BindsAll outer xs types inner → length types ≡ length xs
+pub binds_length : (xs : List Ident) (types : List Ty) (outer inner : typing.Scope) → typing.BindsAll outer xs types inner → length types ≡ length xs
 binds_length [] [] outer inner h = refl
 binds_length [] (t ∷ types) outer inner h = absurd h
 binds_length (x ∷ xs) [] outer inner h = absurd h
@@ -258,7 +267,7 @@ module _ (core : CoreTree) (functions : List FunctionTree) where
           let own : (y : Variable) → n ≤ y.0 → y.0 < l.fresh → type_bound b.bound y ≡ type_bound (bind_fields xs types []) y =
           λ y lo hi. here.bound y lo (omega arith) ∙ arms_outside core.table l.fresh r.fresh (arms_of r.branches) (bind_fields xs types []) y sh.rising (λ z l u f. omega arith) in
           let inside = in_arm core.table s (record { 0 = k }) xs in
-          let can = fields_can arm.names types n inside b (record { 0 = k }) None s.scope [] (binds_length arm.names types outer e.inner e.binds) refl (λ y lo hi. own y lo (omega arith)) (λ y lo hi. here.apart y lo (omega arith)) in
+          let can = fields_can arm.names types n inside b [] (binds_length arm.names types outer e.inner e.binds) (arm_reaches (record { 0 = k }) arm.names n types None s.scope) (λ y lo hi. own y lo (omega arith)) (λ y lo hi. here.apart y lo (omega arith)) in
           let ready : Ready start l.fresh e.inner sc' inside b = record {
             names = names_fields arm.names types outer e.inner sc n inside b e.binds can (λ y t f. in_arm_can core.table s b (record { 0 = k }) xs (atom_at sc y) t (here.names y t f));
             fits = fit;

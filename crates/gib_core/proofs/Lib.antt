@@ -16,6 +16,8 @@ mod Left
 mod Reaches
 mod Ready
 mod Sides
+mod Makes
 mod Branching
 mod Choosing
+mod Reachability
 mod Sample
