@@ -15,4 +15,5 @@ mod Erases
 mod Left
 mod Reaches
 mod Ready
+mod Sides
 mod Sample
