@@ -16,4 +16,5 @@ mod Left
 mod Reaches
 mod Ready
 mod Sides
+mod Makes
 mod Sample

@@ -165,19 +165,22 @@ module _ (core : CoreTree) where
   whole_inside s Truth = refl
   whole_inside s (Tree t) = refl
 
+  -- What could be used below a side's variable can be used inside it.
+  pub alike_inside : (n : ℕ) (ty : Ty) (s : Setting) (b : Before) → Alike n s (in_side core.table s (kind_of ty) ty) b (next core.table b (SideLine (kind_of ty) (record { 0 = n }) ty))
+  alike_inside n ty s b =
+      alike_scope n s (in_side core.table s (kind_of ty) ty) b (next core.table b (SideLine (kind_of ty) (record { 0 = n }) ty))
+      (inside_scope s ty) (λ y lt. ap (λ z. is_among z y) (inside_others s ty)) (λ y lt. bound_past b.bound (record { 0 = n }) y ty (λ z. omega (arith, lt, z)))
+
   -- Inside a side all is ready, behind its variable.
   pub ready_inside : (n m : ℕ) (ty : Ty) (known : typing.Scope) (sc : Scope) (s : Setting) (b : Before) → Ready n m known sc s b
       → Ready (n + 1) m known sc (in_side core.table s (kind_of ty) ty) (next core.table b (SideLine (kind_of ty) (record { 0 = n }) ty))
-  ready_inside n m ty known sc s b h =
-      let head = next core.table b (SideLine (kind_of ty) (record { 0 = n }) ty) in
-      let inner = in_side core.table s (kind_of ty) ty in
-      record {
-        names = λ x t f. (alike_scope n s inner b head (inside_scope s ty) (λ y lt. ap (λ z. is_among z y) (inside_others s ty)) (λ y lt. bound_past b.bound (record { 0 = n }) y ty (λ z. omega (arith, lt, z)))).can (atom_at sc x) t (at_fit n sc x h.fits) (h.names x t f);
-        fits = scope_more n (n + 1) sc (omega arith) h.fits;
-        new = λ x lo hi. bound_past b.bound (record { 0 = n }) x ty (λ z. omega (arith, lo, z)) ∙ h.new x (omega (arith, lo)) hi;
-        uncased = λ x lo. h.uncased x (omega (arith, lo));
-        apart = λ x lo hi. ap (λ z. is_among z x) (inside_others s ty) ∙ h.apart x (omega (arith, lo)) hi;
-      }
+  ready_inside n m ty known sc s b h = record {
+    names = λ x t f. (alike_inside n ty s b).can (atom_at sc x) t (at_fit n sc x h.fits) (h.names x t f);
+    fits = scope_more n (n + 1) sc (omega arith) h.fits;
+    new = λ x lo hi. bound_past b.bound (record { 0 = n }) x ty (λ z. omega (arith, lo, z)) ∙ h.new x (omega (arith, lo)) hi;
+    uncased = λ x lo. h.uncased x (omega (arith, lo));
+    apart = λ x lo hi. ap (λ z. is_among z x) (inside_others s ty) ∙ h.apart x (omega (arith, lo)) hi;
+  }
 
   -- A side breaks no rule where its term breaks none.
   pub side_clean : (n m k : ℕ) (ty : Ty) (t : Term) (known : typing.Scope) (sc : Scope) (s : Setting) (b : Before) → Ready n m known sc s b → n < m → n < k

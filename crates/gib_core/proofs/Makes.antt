@@ -1,0 +1,213 @@
+-- What an expression becomes breaks no rule, where its parts break none: each construct that binds no names and has no branches.
+use Rattle.std.proofs.Common.{◌≡◌, ℕ, suc, ◌+◌, ◌<◌, ◌≤◌, Bool, true, false, not, ◌&&◌, ◌==◌, ◌||◌, if◌then◌else◌, List, [], ◌∷◌, ◌++◌, map, length, get_or, Option, Some, None, refl, sym, ap, ◌∙◌, subst, arith, append_assoc, append-nil, length-append}
+use Rattle.std.specs.Prelude.{nat_lt, pos}
+use Rattle.std.proofs.Math.Seq.{get_or-append_seam}
+use Rattle.std.proofs.lemmas.Bool.{eq-eqb, ne_eqb, lt-ltb}
+use Rattle.gib_base.specs.declared.name.Name.{Name}
+use Rattle.gib_types.specs.declared.table.Ty.{Ty}
+use Rattle.gib_types.specs.declared.table.Ty.TheVariants.{Whole, Truth, Tree}
+use Rattle.gib_types.specs.declared.table.ConId.{ConId}
+use Rattle.gib_types.specs.Table.{fields_at, owner_at, con_at, scalar_types, tree_types}
+use Rattle.gib_syntax.specs.declared.tree.Ident.{Ident}
+use Rattle.gib_syntax.specs.declared.tree.Operator.{Operator}
+use Rattle.gib_syntax.specs.Declarations.{number_of}
+use Rattle.gib_syntax.specs.Meaning.{is_scalar, at_fields}
+use Rattle.gib_syntax.specs.Tree.{FunctionTree}
+use Rattle.gib_syntax.specs.Typing as typing
+use Rattle.gib_syntax.specs.Typing.{Globals, operator_type}
+use Rattle.gib_core.specs.declared.atom.Variable.{Variable}
+use Rattle.gib_core.specs.declared.atom.Atom.{Atom}
+use Rattle.gib_core.specs.declared.atom.Atom.TheVariants as atomic
+use Rattle.gib_core.specs.declared.atom.Kind.{Kind}
+use Rattle.gib_core.specs.declared.atom.Kind.TheVariants.{Here, Region, Scalar}
+use Rattle.gib_core.specs.Tree.{Term, Write, Point, CallTerm, Give, Bind, Past, One, Prim, On, var, variables_from, prepend, FunctionTerm, CoreTree}
+use Rattle.gib_core.specs.Meaning.{function_at}
+use Rattle.gib_core.specs.Inferring.{Scope, Several, ToLine, ToAtom, Code, kind_of, atom_at, type_at, boxed, given, of_line, of_atom, result_of, plain_line, of_plain, several, operation_atom, call_line, call_atom, call_side, scalar_call, call_code, first_type, further_types, pointed_fields, as_atoms, make_line}
+use Rattle.gib_core.specs.Met.{Setting, Met, Line, PastLine, SideLine, PrimLine, WriteLine, PointLine, CallLine, GiveLine, Destination, Nowhere, Empty, Open, at, in_side, behind, behind_side, met, met_bind, met_side, packed_types, field_due, result_place, reached, stands_too}
+use Rattle.gib_core.specs.Rules.{Before, Bound, same_type, is_nowhere, is_empty, has_room, is_among, type_bound, type_of, is_type, has_type, have_types, is_usable, all_usable, is_other, any_other, is_there, are_variables, any_cased, further, may_write, are_scalars, gives_packed, call_fits, rules, least, bound_too, type_made, binds_new, cases_on, next, next_all}
+use Rattle.gib_core.specs.Reachable.{all_reached, LinesAreReachable}
+use Rattle.gib_core.proofs.Fits.{IsFit, AllFit, ScopeFits, fit_more, all_fit_more, scope_more, at_fit}
+use Rattle.gib_core.proofs.Ordered.{CodeOrdered, LineOrdered, AtomOrdered, SeveralOrdered, AllCodes, several_ordered}
+use Rattle.gib_core.proofs.Ready.{CanUse, CanUseAll, Alike, alike_same, alike_more, use_all_alike, Ready, PlaceFor, NamesTyped, behind_all, met_all, behind_all-append, met_all-append, met-prepend, next_all-append, Clean, clean_nothing, clean_then, Runs, runs_nothing, runs_then, then_all, then_all-append, line_then, ready_behind, LineBuilt, AtomBuilt, SeveralBuilt, LineOk, SideOk, AtomOk, CodeBuilt, AllBuilt}
+use Rattle.gib_core.proofs.Sides.{same_type-refl, bound_past, bound_here, not_bound, alike_scope, alike_bound, can_bound, alike_inside, ready_inside, place_inside, whole_inside, side_clean, side_runs, side_can}
+
+-- No rule of a few is broken.
+
+pub least_two : (j k : ℕ) {x y : Bool} → x ≡ false → y ≡ false → least ((j, x) ∷ (k, y) ∷ []) ≡ None
+least_two j k e f = λ i. least ((j, e i) ∷ (k, f i) ∷ [])
+
+pub least_three : (j k l : ℕ) {x y z : Bool} → x ≡ false → y ≡ false → z ≡ false → least ((j, x) ∷ (k, y) ∷ (l, z) ∷ []) ≡ None
+least_three j k l e f g = λ i. least ((j, e i) ∷ (k, f i) ∷ (l, g i) ∷ [])
+
+pub least_four : (j k l m : ℕ) {x y z w : Bool} → x ≡ false → y ≡ false → z ≡ false → w ≡ false → least ((j, x) ∷ (k, y) ∷ (l, z) ∷ (m, w) ∷ []) ≡ None
+least_four j k l m e f g h = λ i. least ((j, e i) ∷ (k, f i) ∷ (l, g i) ∷ (m, h i) ∷ [])
+
+-- What can be used keeps the rules on atoms.
+
+pub can_have : (s : Setting) (b : Before) (x : Atom) (ty due : Ty) → CanUse s b x ty → due ≡ ty → has_type b x due ≡ true
+can_have s b x ty due h e = ap (λ o. is_type o due) h.of_type ∙ ap (same_type ty) e ∙ same_type-refl ty
+
+pub all_apart : (s : Setting) (b : Before) (xs : List Atom) (ts : List Ty) → CanUseAll s b xs ts → any_other (all_reached s) xs ≡ false
+all_apart s b [] [] h = refl
+all_apart s b [] (t ∷ ts) h = absurd h
+all_apart s b (x ∷ xs) [] h = absurd h
+all_apart s b (x ∷ xs) (t ∷ ts) h = let e : is_other (all_reached s) x ≡ false = h.0.other in (λ i. e i || all_apart s b xs ts h.1 i)
+
+pub all_can : (s : Setting) (b : Before) (xs : List Atom) (ts : List Ty) → CanUseAll s b xs ts → all_usable (all_reached s) xs ≡ true
+all_can s b [] [] h = refl
+all_can s b [] (t ∷ ts) h = absurd h
+all_can s b (x ∷ xs) [] h = absurd h
+all_can s b (x ∷ xs) (t ∷ ts) h = (λ i. h.0.usable i && all_can s b xs ts h.1 i)
+
+pub all_have : (s : Setting) (b : Before) (xs : List Atom) (ts : List Ty) → CanUseAll s b xs ts → have_types b xs ts ≡ true
+all_have s b [] [] h = refl
+all_have s b [] (t ∷ ts) h = absurd h
+all_have s b (x ∷ xs) [] h = absurd h
+all_have s b (x ∷ xs) (t ∷ ts) h = let e = can_have s b x t t h.0 refl in (λ i. e i && all_have s b xs ts h.1 i)
+
+pub all_append : (s : Setting) (b : Before) (xs ys : List Atom) (ts us : List Ty) → CanUseAll s b xs ts → CanUseAll s b ys us → CanUseAll s b (xs ++ ys) (ts ++ us)
+all_append s b [] ys [] us p q = q
+all_append s b [] ys (t ∷ ts) us p q = absurd p
+all_append s b (x ∷ xs) ys [] us p q = absurd p
+all_append s b (x ∷ xs) ys (t ∷ ts) us p q = (p.0, all_append s b xs ys ts us p.1 q)
+
+all_long : (s : Setting) (b : Before) (xs : List Atom) (ts : List Ty) → CanUseAll s b xs ts → length xs ≡ length ts
+all_long s b [] [] h = refl
+all_long s b [] (t ∷ ts) h = absurd h
+all_long s b (x ∷ xs) [] h = absurd h
+all_long s b (x ∷ xs) (t ∷ ts) h = ap suc (all_long s b xs ts h.1)
+
+-- The place of a value.
+
+nowhere : (ty : Ty) → is_scalar ty ≡ true → is_nowhere (result_place ty) ≡ true
+nowhere Whole e = refl
+nowhere Truth e = refl
+nowhere (Tree t) e = absurd cc
+
+pub place_same : (ty : Ty) (s new : Setting) → new.destination ≡ s.destination → new.due ≡ s.due → PlaceFor ty s → PlaceFor ty new
+place_same ty s new e f h = record { destination = e ∙ h.destination; due = f ∙ h.due }
+
+pub prepend-append : (xs ys : List Bind) (t : Term) → prepend (xs ++ ys) t ≡ prepend xs (prepend ys t)
+prepend-append [] ys t = refl
+prepend-append (x ∷ xs) ys t = ap (Rattle.gib_core.specs.Tree.Then x) (prepend-append xs ys t)
+
+module _ (core : CoreTree) where
+  -- A line that binds nothing and is on no variable.
+  pub end_clean : (n k : ℕ) (s : Setting) (b : Before) (line : Line) → least (rules core b (all_reached s) line) ≡ None → next core.table b line ≡ b → Clean core n k b (at s line ∷ [])
+  end_clean n k s b line e same = record {
+    reachable = (e, tt);
+    below = λ x h. ap (λ (z : Before). type_bound z.bound x) same;
+    above = λ x h. ap (λ (z : Before). type_bound z.bound x) same;
+    uncased = λ x h. ap (λ (z : Before). is_among z.cased x) same;
+  }
+
+  -- What holds behind bindings, and then more bindings.
+  pub behind_both : (P : Setting → Before → Type 0) (s : Setting) (b : Before) (xs ys : List Bind)
+      → P (behind_all (behind_all s xs) ys) (then_all core (behind_all s xs) (then_all core s b xs) ys) → P (behind_all s (xs ++ ys)) (then_all core s b (xs ++ ys))
+  behind_both P s b xs ys h =
+      subst (λ (z : Setting). P z (then_all core s b (xs ++ ys))) (sym (behind_all-append s xs ys))
+      (subst (P (behind_all (behind_all s xs) ys)) (sym (then_all-append core s b xs ys)) h)
+
+  -- Results.
+
+  pub give_clean : (n k : ℕ) (s : Setting) (b : Before) (x : Atom) (ty : Ty) → is_scalar ty ≡ true → PlaceFor ty s → CanUse s b x ty → Clean core n k b (met core.table s (Give x))
+  give_clean n k s b x ty scalar place h =
+      let there : is_nowhere s.destination ≡ true = ap is_nowhere place.destination ∙ nowhere ty scalar in
+      let typed = can_have s b x ty s.due h place.due in
+      let other : is_other (all_reached s) x ≡ false = h.other in
+      end_clean n k s b (GiveLine x) (least_three 4 8 9 other (ap not h.usable) (λ i. not (there i && typed i))) refl
+
+  pub point_least : (s : Setting) (b : Before) (x : Atom) (ty : Ty) → s.destination ≡ Empty → s.due ≡ ty → CanUse s b x ty → least (rules core b (all_reached s) (PointLine x)) ≡ None
+  point_least s b x ty e due h =
+      let typed = can_have s b x ty s.due h due in
+      let other : is_other (all_reached s) x ≡ false = h.other in
+      least_four 4 6 8 9 other (ap (λ d. not (is_empty d)) e) (ap not h.usable) (ap not typed)
+
+  pub result_clean : (ty : Ty) (n k : ℕ) (s : Setting) (b : Before) (x : Atom) → PlaceFor ty s → CanUse s b x ty → Clean core n k b (met core.table s (result_of ty x))
+  result_clean Whole n k s b x place h = give_clean n k s b x Whole refl place h
+  result_clean Truth n k s b x place h = give_clean n k s b x Truth refl place h
+  result_clean (Tree t) n k s b x place h = end_clean n k s b (PointLine x) (point_least s b x (Tree t) place.destination place.due h) refl
+
+  module _ (functions : List FunctionTree) where
+    abbrev globals : Globals
+    globals = record { table = core.table; functions = functions }
+
+    -- A line that is bound to a variable.
+    pub boxed_ok : (line : ToLine) (ty : Ty) (known : typing.Scope) (sc : Scope) → ((n : ℕ) → ScopeFits n sc → LineOrdered globals n (line sc n)) → ((n : ℕ) → (line sc n).ty ≡ ty)
+        → SideOk core line ty known sc → AtomOk core (boxed line) ty known sc
+    boxed_ok line ty known sc order typed ok n m s b ready le =
+        let l = line sc (n + 1) in
+        let e : l.ty ≡ ty = typed (n + 1) in
+        let inner = in_side core.table s (kind_of l.ty) l.ty in
+        let head = next core.table b (SideLine (kind_of l.ty) (record { 0 = n }) l.ty) in
+        let up = (order (n + 1) (scope_more n (n + 1) sc (omega arith) ready.fits)).grows in
+        let built = ok (n + 1) m inner head (ready_inside core n m l.ty known sc s b ready) le (subst (λ (t : Ty). PlaceFor t inner) e (place_inside core s l.ty)) (whole_inside core s l.ty ∙ ap is_scalar e) in
+        record {
+          runs = side_runs core n m l.fresh l.ty l.term known sc s b ready (omega arith) (omega arith) built.clean;
+          can = subst (CanUse (behind_all s (boxed line sc n).binds) (then_all core s b (boxed line sc n).binds) (var n)) e
+              (side_can core n l.fresh l.ty l.term s b (ready.apart (record { 0 = n }) (omega arith) (omega arith)) built.clean);
+        }
+
+    -- A scalar that is given.
+    pub given_ok : (atom : ToAtom) (ty : Ty) (known : typing.Scope) (sc : Scope) → ((n : ℕ) → ScopeFits n sc → AtomOrdered globals n (atom sc n)) → is_scalar ty ≡ true
+        → AtomOk core atom ty known sc → LineOk core (given atom) ty known sc
+    given_ok atom ty known sc order scalar ok n m s b ready le place =
+        let x = atom sc n in
+        let h = ok n m s b ready le in
+        let s1 = behind_all s x.binds in
+        let b1 = then_all core s b x.binds in
+        record {
+          clean = line_then core n x.fresh x.fresh s b x.binds (Give x.atom) h.runs
+              (give_clean x.fresh x.fresh s1 b1 x.atom ty scalar (place_same ty s s1 h.runs.destination h.runs.due place) h.can) (order n ready.fits).grows (omega arith);
+        }
+
+    pub line_built : (line : ToLine) (ty : Ty) (known : typing.Scope) (sc : Scope) → CodeOrdered globals (of_line line) sc → ((n : ℕ) → (line sc n).ty ≡ ty) → LineOk core line ty known sc
+        → CodeBuilt core functions (of_line line) ty known sc
+    line_built line ty known sc order typed ok =
+        let box = boxed_ok line ty known sc order.line typed (λ n m s b ready le place whole. ok n m s b ready le place) in
+        record {
+          order = order;
+          line_type = typed;
+          side_type = typed;
+          atom_type = λ n. typed (n + 1);
+          bound_type = λ n. typed (n + 1);
+          line = ok;
+          side = λ n m s b ready le place whole. ok n m s b ready le place;
+          atom = box;
+          bound = box;
+        }
+
+    pub atom_built : (atom : ToAtom) (ty : Ty) (known : typing.Scope) (sc : Scope) → CodeOrdered globals (of_atom atom) sc → is_scalar ty ≡ true → ((n : ℕ) → (atom sc n).ty ≡ ty) → AtomOk core atom ty known sc
+        → CodeBuilt core functions (of_atom atom) ty known sc
+    atom_built atom ty known sc order scalar typed ok =
+        let line = given_ok atom ty known sc order.atom scalar ok in
+        record {
+          order = order;
+          line_type = typed;
+          side_type = typed;
+          atom_type = typed;
+          bound_type = typed;
+          line = line;
+          side = λ n m s b ready le place whole. line n m s b ready le place;
+          atom = ok;
+          bound = ok;
+        }
+
+    -- A variable or literal.
+    pub plain_built : (type_in : Scope → Ty) (atom_in : Scope → Atom) (ty : Ty) (known : typing.Scope) (sc : Scope) → CodeOrdered globals (of_plain type_in atom_in) sc → type_in sc ≡ ty
+        → ((n m : ℕ) (s : Setting) (b : Before) → Ready n m known sc s b → CanUse s b (atom_in sc) ty) → CodeBuilt core functions (of_plain type_in atom_in) ty known sc
+    plain_built type_in atom_in ty known sc order typed can =
+        let line : LineOk core (plain_line type_in atom_in) ty known sc =
+        λ n m s b ready le place. record { clean = subst (λ (t : Ty). Clean core n n b (met core.table s (result_of t (atom_in sc)))) (sym typed) (result_clean ty n n s b (atom_in sc) place (can n m s b ready)) } in
+        let side : SideOk core (plain_line type_in atom_in) ty known sc = λ n m s b ready le place whole. line n m s b ready le place in
+        record {
+          order = order;
+          line_type = λ n. typed;
+          side_type = λ n. typed;
+          atom_type = λ n. typed;
+          bound_type = λ n. typed;
+          line = line;
+          side = side;
+          atom = λ n m s b ready le. record { runs = runs_nothing core n s b; can = can n m s b ready };
+          bound = boxed_ok (plain_line type_in atom_in) ty known sc order.line (λ n. typed) side;
+        }
