@@ -211,3 +211,91 @@ module _ (core : CoreTree) where
           atom = λ n m s b ready le. record { runs = runs_nothing core n s b; can = can n m s b ready };
           bound = boxed_ok (plain_line type_in atom_in) ty known sc order.line (λ n. typed) side;
         }
+
+    -- An operation.
+
+    prim_least : (f : Operator) (z : Variable) (x y : Atom) (s : Setting) (b : Before) → CanUse s b x Whole → CanUse s b y Whole → type_bound b.bound z ≡ None → least (rules core b (all_reached s) (PrimLine z f x y)) ≡ None
+    prim_least f z x y s b h k new =
+        let both : CanUseAll s b (x ∷ y ∷ []) (Whole ∷ Whole ∷ []) = (h, (k, tt)) in
+        let usable = all_can s b (x ∷ y ∷ []) (Whole ∷ Whole ∷ []) both in
+        let fresh = not_bound b.bound z new in
+        least_three 4 8 9 (all_apart s b (x ∷ y ∷ []) (Whole ∷ Whole ∷ []) both) (λ i. fresh i || not (usable i)) (ap not (all_have s b (x ∷ y ∷ []) (Whole ∷ Whole ∷ []) both))
+
+    prim_runs : (n : ℕ) (f : Operator) (x y : Atom) (s : Setting) (b : Before) → CanUse s b x Whole → CanUse s b y Whole → type_bound b.bound (record { 0 = n }) ≡ None
+        → Runs core n (n + 1) s b (Prim (record { 0 = n }) f x y ∷ [])
+    prim_runs n f x y s b h k new =
+        let z : Variable = record { 0 = n } in
+        let bind = Prim z f x y in
+        let after = next core.table b (PrimLine z f x y) in
+        record {
+          clean = record {
+            reachable = (prim_least f z x y s b h k new, tt);
+            below = λ v lt. bound_past b.bound z v (operator_type f) (λ e. omega (arith, lt, e));
+            above = λ v le. bound_past b.bound z v (operator_type f) (λ e. omega (arith, le, e));
+            uncased = λ v le. refl;
+          };
+          alike = alike_bound n z s (behind s bind) b after (omega arith) refl refl (λ v lt. bound_past b.bound z v (operator_type f) (λ e. omega (arith, lt, e)));
+          others = refl;
+          destination = refl;
+          due = refl;
+        }
+
+    pub operation_ok : (f : Operator) (left right : ToAtom) (known : typing.Scope) (sc : Scope) → ((n : ℕ) → ScopeFits n sc → AtomOrdered globals n (left sc n)) → ((n : ℕ) → ScopeFits n sc → AtomOrdered globals n (right sc n))
+        → AtomOk core left Whole known sc → AtomOk core right Whole known sc → AtomOk core (operation_atom f left right) (operator_type f) known sc
+    operation_ok f left right known sc order order' ok ok' n m s b ready le =
+        let x = left sc n in
+        let h = order n ready.fits in
+        let up = h.grows in
+        let y = right sc x.fresh in
+        let h' = order' x.fresh (scope_more n x.fresh sc up ready.fits) in
+        let up' = h'.grows in
+        let p = ok n m s b ready (omega (arith, up', le)) in
+        let s1 = behind_all s x.binds in
+        let b1 = then_all core s b x.binds in
+        let ready1 = ready_behind core n x.fresh m known sc s b x.binds ready p.runs up in
+        let q = ok' x.fresh m s1 b1 ready1 (omega (arith, le)) in
+        let s2 = behind_all s1 y.binds in
+        let b2 = then_all core s1 b1 y.binds in
+        let ready2 = ready_behind core x.fresh y.fresh m known sc s1 b1 y.binds ready1 q.runs up' in
+        let z : Variable = record { 0 = y.fresh } in
+        let bind = Prim z f x.atom y.atom in
+        let after = next core.table b2 (PrimLine z f x.atom y.atom) in
+        let last = prim_runs y.fresh f x.atom y.atom s2 b2 (q.runs.alike.can x.atom Whole h.fit p.can) q.can (ready2.new z (omega arith) (omega (arith, le))) in
+        let can = can_bound z (operator_type f) s2 (behind s2 bind) after refl refl (ready2.apart z (omega arith) (omega (arith, le))) (bound_here b2.bound z z (operator_type f) refl) in
+        record {
+          runs = runs_then core n x.fresh (y.fresh + 1) s b x.binds (y.binds ++ bind ∷ []) p.runs
+              (runs_then core x.fresh y.fresh (y.fresh + 1) s1 b1 y.binds (bind ∷ []) q.runs last up' (omega arith)) up (omega (arith, up'));
+          can = behind_both (λ z' a. CanUse z' a (var y.fresh) (operator_type f)) s b x.binds (y.binds ++ bind ∷ [])
+              (behind_both (λ z' a. CanUse z' a (var y.fresh) (operator_type f)) s1 b1 y.binds (bind ∷ []) can);
+        }
+
+    -- Arguments, one after another.
+
+    pub codes_ordered : (cs : List Code) (ts : List Ty) (known : typing.Scope) (sc : Scope) → AllBuilt core functions cs ts known sc → AllCodes globals cs sc
+    codes_ordered [] [] known sc h = tt
+    codes_ordered [] (t ∷ ts) known sc h = absurd h
+    codes_ordered (c ∷ cs) [] known sc h = absurd h
+    codes_ordered (c ∷ cs) (t ∷ ts) known sc h = (h.0.order, codes_ordered cs ts known sc h.1)
+
+    pub several_fits : (cs : List Code) (ts : List Ty) (known : typing.Scope) (sc : Scope) → AllBuilt core functions cs ts known sc → (n : ℕ) → ScopeFits n sc → SeveralOrdered globals n (several cs sc n)
+    several_fits cs ts known sc h n f = several_ordered globals cs sc (codes_ordered cs ts known sc h) n f
+
+    pub several_ok : (cs : List Code) (ts : List Ty) (known : typing.Scope) (sc : Scope) → AllBuilt core functions cs ts known sc → (n m : ℕ) (s : Setting) (b : Before) → Ready n m known sc s b
+        → (several cs sc n).fresh ≤ m → SeveralBuilt core n (several cs sc n) ts s b
+    several_ok [] [] known sc h n m s b ready le = record { runs = runs_nothing core n s b; can = tt }
+    several_ok [] (t ∷ ts) known sc h n m s b ready le = absurd h
+    several_ok (c ∷ cs) [] known sc h n m s b ready le = absurd h
+    several_ok (c ∷ cs) (t ∷ ts) known sc h n m s b ready le =
+        let x = c.atom sc n in
+        let o = h.0.order.atom n ready.fits in
+        let up = o.grows in
+        let up' = (several_fits cs ts known sc h.1 x.fresh (scope_more n x.fresh sc up ready.fits)).grows in
+        let p = h.0.atom n m s b ready (omega (arith, up', le)) in
+        let s1 = behind_all s x.binds in
+        let b1 = then_all core s b x.binds in
+        let r = several cs sc x.fresh in
+        let q = several_ok cs ts known sc h.1 x.fresh m s1 b1 (ready_behind core n x.fresh m known sc s b x.binds ready p.runs up) le in
+        record {
+          runs = runs_then core n x.fresh r.fresh s b x.binds r.binds p.runs q.runs up up';
+          can = behind_both (λ z a. CanUseAll z a (x.atom ∷ r.atoms) (t ∷ ts)) s b x.binds r.binds (q.runs.alike.can x.atom t o.fit p.can, q.can);
+        }
