@@ -299,3 +299,118 @@ module _ (core : CoreTree) where
           runs = runs_then core n x.fresh r.fresh s b x.binds r.binds p.runs q.runs up up';
           can = behind_both (λ z a. CanUseAll z a (x.atom ∷ r.atoms) (t ∷ ts)) s b x.binds r.binds (q.runs.alike.can x.atom t o.fit p.can, q.can);
         }
+
+    -- Calls.
+
+    packed_place : (ty : Ty) → (not (is_scalar ty) && not (is_empty (result_place ty))) ≡ false
+    packed_place Whole = refl
+    packed_place Truth = refl
+    packed_place (Tree t) = refl
+
+    scalar_whole : (scalar whole : Bool) → (scalar ≡ true → whole ≡ true) → (not scalar || whole) ≡ true
+    scalar_whole true whole h = h refl
+    scalar_whole false whole h = refl
+
+    -- A call of a function that is there, with arguments of the types of its parameters.
+    call_least : (f : Name) (fn : FunctionTerm) (xs : List Atom) (ty : Ty) (s : Setting) (b : Before) → function_at core.functions f.0 ≡ Some fn → fn.result ≡ ty → PlaceFor ty s → (is_scalar ty ≡ true → s.whole ≡ true)
+        → CanUseAll s b xs fn.parameters → least (rules core b (all_reached s) (CallLine f xs)) ≡ None
+    call_least f fn xs ty s b there result place whole h =
+        let packed : (gives_packed (function_at core.functions f.0) && not (is_empty s.destination)) ≡ false =
+        (λ i. gives_packed (there i) && not (is_empty (place.destination i))) ∙ ap (λ t. not (is_scalar t) && not (is_empty (result_place ty))) result ∙ packed_place ty in
+        let types = all_have s b xs fn.parameters h in
+        let same : same_type fn.result s.due ≡ true = (λ i. same_type (result i) (place.due i)) ∙ same_type-refl ty in
+        let all : (not (is_scalar fn.result) || s.whole) ≡ true = ap (λ t. not (is_scalar t) || s.whole) result ∙ scalar_whole (is_scalar ty) s.whole whole in
+        let fits : call_fits b (all_reached s) xs (function_at core.functions f.0) ≡ true = ap (call_fits b (all_reached s) xs) there ∙ (λ i. types i && (same i && all i)) in
+        least_four 4 6 8 9 (all_apart s b xs fn.parameters h) packed (ap not (all_can s b xs fn.parameters h)) (ap not fits)
+
+    call_clean : (n k : ℕ) (f : Name) (fn : FunctionTerm) (xs : List Atom) (ty : Ty) (s : Setting) (b : Before) → function_at core.functions f.0 ≡ Some fn → fn.result ≡ ty → PlaceFor ty s → (is_scalar ty ≡ true → s.whole ≡ true)
+        → CanUseAll s b xs fn.parameters → Clean core n k b (met core.table s (CallTerm f xs))
+    call_clean n k f fn xs ty s b there result place whole h = end_clean n k s b (CallLine f xs) (call_least f fn xs ty s b there result place whole h) refl
+
+    -- A packed call in result place.
+    call_line_ok : (f : Name) (fn : FunctionTerm) (cs : List Code) (ty : Ty) (known : typing.Scope) (sc : Scope) → function_at core.functions f.0 ≡ Some fn → fn.result ≡ ty → is_scalar ty ≡ false
+        → AllBuilt core functions cs fn.parameters known sc → LineOk core (λ sc n. call_line ty f (several cs sc n)) ty known sc
+    call_line_ok f fn cs ty known sc there result packed h n m s b ready le place =
+        let r = several cs sc n in
+        let up = (several_fits cs fn.parameters known sc h n ready.fits).grows in
+        let q = several_ok cs fn.parameters known sc h n m s b ready le in
+        let s1 = behind_all s r.binds in
+        let b1 = then_all core s b r.binds in
+        record {
+          clean = line_then core n r.fresh r.fresh s b r.binds (CallTerm f r.atoms) q.runs
+              (call_clean r.fresh r.fresh f fn r.atoms ty s1 b1 there result (place_same ty s s1 q.runs.destination q.runs.due place) (λ e. absurd (clash (is_scalar ty) e packed)) q.can) up (omega arith);
+        }
+      where
+        clash : (c : Bool) → c ≡ true → c ≡ false → ⊥
+        clash c e f = cc
+
+    -- A scalar call that is bound.
+    abbrev bound_call : Ty → Name → List Code → ToAtom
+    bound_call ty f cs sc n =
+        let r = several cs sc n in
+        record { fresh = r.fresh + 1; binds = r.binds ++ One (On (kind_of ty) (record { 0 = r.fresh }) ty (CallTerm f r.atoms)) ∷ []; atom = var r.fresh; ty = ty }
+
+    bound_call_ok : (f : Name) (fn : FunctionTerm) (cs : List Code) (ty : Ty) (known : typing.Scope) (sc : Scope) → function_at core.functions f.0 ≡ Some fn → fn.result ≡ ty → is_scalar ty ≡ true
+        → AllBuilt core functions cs fn.parameters known sc → AtomOk core (bound_call ty f cs) ty known sc
+    bound_call_ok f fn cs ty known sc there result scalar h n m s b ready le =
+        let r = several cs sc n in
+        let o = several_fits cs fn.parameters known sc h n ready.fits in
+        let up = o.grows in
+        let q = several_ok cs fn.parameters known sc h n m s b ready (omega (arith, le)) in
+        let s1 = behind_all s r.binds in
+        let b1 = then_all core s b r.binds in
+        let ready1 = ready_behind core n r.fresh m known sc s b r.binds ready q.runs up in
+        let call = CallTerm f r.atoms in
+        let bind = One (On (kind_of ty) (record { 0 = r.fresh }) ty call) in
+        let inner = in_side core.table s1 (kind_of ty) ty in
+        let head = next core.table b1 (SideLine (kind_of ty) (record { 0 = r.fresh }) ty) in
+        let clean = call_clean (r.fresh + 1) (r.fresh + 1) f fn r.atoms ty inner head there result (place_inside core s1 ty) (λ e. whole_inside core s1 ty ∙ e)
+        (use_all_alike r.atoms fn.parameters (alike_inside core r.fresh ty s1 b1) o.fit q.can) in
+        let runs = side_runs core r.fresh m (r.fresh + 1) ty call known sc s1 b1 ready1 (omega (arith, le)) (omega arith) clean in
+        let can = side_can core r.fresh (r.fresh + 1) ty call s1 b1 (ready1.apart (record { 0 = r.fresh }) (omega arith) (omega (arith, le))) clean in
+        record {
+          runs = runs_then core n r.fresh (r.fresh + 1) s b r.binds (bind ∷ []) q.runs runs up (omega arith);
+          can = behind_both (λ z a. CanUse z a (var r.fresh) ty) s b r.binds (bind ∷ []) can;
+        }
+
+    -- A scalar call that is a side.
+    call_side_ok : (f : Name) (fn : FunctionTerm) (cs : List Code) (ty : Ty) (known : typing.Scope) (sc : Scope) → function_at core.functions f.0 ≡ Some fn → fn.result ≡ ty → is_scalar ty ≡ true
+        → AllBuilt core functions cs fn.parameters known sc → LineOk core (given (λ sc n. call_atom ty f (several cs sc n))) ty known sc
+        → SideOk core (λ sc n. call_side ty f (several cs sc n) (several cs sc n).binds) ty known sc
+    call_side_ok f fn cs ty known sc there result scalar h line n m s b ready le place whole = go (several cs sc n).binds refl le
+      where
+        go : (bs : List Bind) → (several cs sc n).binds ≡ bs → (call_side ty f (several cs sc n) bs).fresh ≤ m → LineBuilt core n (call_side ty f (several cs sc n) bs) s b
+        go [] e le =
+            let r = several cs sc n in
+            let q = several_ok cs fn.parameters known sc h n m s b ready le in
+            let can : CanUseAll s b r.atoms fn.parameters = subst (λ (z : List Bind). CanUseAll (behind_all s z) (then_all core s b z) r.atoms fn.parameters) e q.can in
+            record { clean = call_clean n r.fresh f fn r.atoms ty s b there result place (λ t. whole ∙ t) can }
+        go (x ∷ bs) e le = record { clean = (line n m s b ready le place).clean }
+
+    scalar_built : (f : Name) (fn : FunctionTerm) (cs : List Code) (ty : Ty) (known : typing.Scope) (sc : Scope) → CodeOrdered globals (scalar_call ty f cs) sc → function_at core.functions f.0 ≡ Some fn → fn.result ≡ ty → is_scalar ty ≡ true
+        → AllBuilt core functions cs fn.parameters known sc → AtomOk core (λ sc n. call_atom ty f (several cs sc n)) ty known sc → CodeBuilt core functions (scalar_call ty f cs) ty known sc
+    scalar_built f fn cs ty known sc order there result scalar h ok =
+        let line = given_ok (λ sc n. call_atom ty f (several cs sc n)) ty known sc order.atom scalar ok in
+        record {
+          order = order;
+          line_type = λ n. refl;
+          side_type = λ n. typed (several cs sc n) (several cs sc n).binds;
+          atom_type = λ n. refl;
+          bound_type = λ n. refl;
+          line = line;
+          side = call_side_ok f fn cs ty known sc there result scalar h line;
+          atom = ok;
+          bound = ok;
+        }
+      where
+        typed : (r : Several) (bs : List Bind) → (call_side ty f r bs).ty ≡ ty
+        typed r [] = refl
+        typed r (x ∷ bs) = refl
+
+    -- A call of a function that is there.
+    pub call_built : (ty : Ty) (f : Name) (fn : FunctionTerm) (cs : List Code) (known : typing.Scope) (sc : Scope) → CodeOrdered globals (call_code ty f cs) sc → function_at core.functions f.0 ≡ Some fn → fn.result ≡ ty
+        → AllBuilt core functions cs fn.parameters known sc → CodeBuilt core functions (call_code ty f cs) ty known sc
+    call_built Whole f fn cs known sc order there result h = scalar_built f fn cs Whole known sc order there result refl h (bound_call_ok f fn cs Whole known sc there result refl h)
+    call_built Truth f fn cs known sc order there result h = scalar_built f fn cs Truth known sc order there result refl h (bound_call_ok f fn cs Truth known sc there result refl h)
+    call_built (Tree t) f fn cs known sc order there result h =
+        line_built (λ sc n. call_line (Tree t) f (several cs sc n)) (Tree t) known sc order (λ n. refl) (call_line_ok f fn cs (Tree t) known sc there result refl h)
