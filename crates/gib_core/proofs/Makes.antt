@@ -414,3 +414,76 @@ module _ (core : CoreTree) where
     call_built Truth f fn cs known sc order there result h = scalar_built f fn cs Truth known sc order there result refl h (bound_call_ok f fn cs Truth known sc there result refl h)
     call_built (Tree t) f fn cs known sc order there result h =
         line_built (λ sc n. call_line (Tree t) f (several cs sc n)) (Tree t) known sc order (λ n. refl) (call_line_ok f fn cs (Tree t) known sc there result refl h)
+
+    -- A constructor.
+
+    -- Packed fields that stand, one after another, behind those that stood.
+    record Stood (h : Variable) (k : ConId) (n : ℕ) (standing : List Variable) (xs : List Atom) (ts : List Ty) (s : Setting) (b : Before) : Type 0 where
+      pub clean : Clean core n (n + length xs) b (met_all core.table s (pointed_fields n ts xs))
+      pub cased : (then_all core s b (pointed_fields n ts xs)).cased ≡ b.cased
+      pub destination : (behind_all s (pointed_fields n ts xs)).destination ≡ Open h k (standing ++ variables_from n xs)
+      pub alike : Alike n s (behind_all s (pointed_fields n ts xs)) b (then_all core s b (pointed_fields n ts xs))
+      pub can : CanUseAll (behind_all s (pointed_fields n ts xs)) (then_all core s b (pointed_fields n ts xs)) (as_atoms (variables_from n xs)) ts
+
+    room : (k : ConId) (standing : List Variable) (earlier ts : List Ty) (t : Ty) → packed_types core.table k ≡ earlier ++ t ∷ ts → length earlier ≡ length standing
+        → nat_lt (length standing) (length (packed_types core.table k)) ≡ true
+    room k standing earlier ts t e long =
+        let all = ap length e ∙ length-append earlier (t ∷ ts) in
+        lt-ltb (length standing) (length (packed_types core.table k)) (omega arith)
+
+    due_here : (k : ConId) (standing : List Variable) (earlier ts : List Ty) (t : Ty) → packed_types core.table k ≡ earlier ++ t ∷ ts → length earlier ≡ length standing
+        → get_or (packed_types core.table k) (length standing) Whole ≡ t
+    due_here k standing earlier ts t e long = (λ i. get_or (e i) (sym long i) Whole) ∙ get_or-append_seam earlier t ts Whole
+
+    here_least : (x : Variable) (t : Ty) (s : Setting) (b : Before) → has_room core.table s.destination ≡ true → field_due core.table s.destination ≡ t → type_bound b.bound x ≡ None
+        → least (rules core b (all_reached s) (SideLine Here x t)) ≡ None
+    here_least x t s b has due new =
+        let same : same_type t (field_due core.table s.destination) ≡ true = ap (same_type t) due ∙ same_type-refl t in
+        least_three 2 8 9 (ap not has) (not_bound b.bound x new) (ap not same)
+
+    fields_stand : (h : Variable) (k : ConId) (n : ℕ) (standing : List Variable) (earlier ts : List Ty) (xs : List Atom) (s : Setting) (b : Before) → s.destination ≡ Open h k standing
+        → packed_types core.table k ≡ earlier ++ ts → length earlier ≡ length standing → CanUseAll s b xs ts → AllFit n xs
+        → ((x : Variable) → n ≤ x.0 → x.0 < n + length xs → type_bound b.bound x ≡ None) → ((x : Variable) → n ≤ x.0 → x.0 < n + length xs → is_among s.others x ≡ false)
+        → Stood h k n standing xs ts s b
+    fields_stand h k n standing earlier [] [] s b place types long can fit new apart = record {
+      clean = record { reachable = tt; below = λ x lo. refl; above = λ x hi. refl; uncased = λ x hi. refl };
+      cased = refl;
+      destination = place ∙ ap (Open h k) (sym (append-nil standing));
+      alike = alike_same n s b;
+      can = tt;
+    }
+    fields_stand h k n standing earlier (t ∷ ts) [] s b place types long can fit new apart = absurd can
+    fields_stand h k n standing earlier [] (x ∷ xs) s b place types long can fit new apart = absurd can
+    fields_stand h k n standing earlier (t ∷ ts) (x ∷ xs) s b place types long can fit new apart =
+        let v : Variable = record { 0 = n } in
+        let side = On Here v t (Point x) in
+        let s1 = behind_side s side in
+        let inner = in_side core.table s Here t in
+        let b1 = next core.table b (SideLine Here v t) in
+        let has : has_room core.table s.destination ≡ true = ap (has_room core.table) place ∙ room k standing earlier ts t types long in
+        let due : field_due core.table s.destination ≡ t = ap (field_due core.table) place ∙ due_here k standing earlier ts t types long in
+        let apart_here : is_among s.others v ≡ false = apart v (omega arith) (omega arith) in
+        let first = here_least v t s b has due (new v (omega arith) (omega arith)) in
+        let past : (y : Variable) → (n ≡ y.0 → ⊥) → type_bound b1.bound y ≡ type_bound b.bound y = λ y ne. bound_past b.bound v y t ne in
+        let like : Alike n s inner b b1 = alike_scope n s inner b b1 refl (λ y lt. refl) (λ y lt. past y (λ z. omega (arith, lt, z))) in
+        let second = point_least inner b1 x t refl due (like.can x t fit.0 can.0) in
+        let out : Alike n s s1 b b1 = alike_bound n v s s1 b b1 (omega arith) refl refl (λ y lt. past y (λ z. omega (arith, lt, z))) in
+        let place' : s1.destination ≡ Open h k (standing ++ v ∷ []) = ap (stands_too Here v) place in
+        let e1 = length-append earlier (t ∷ []) in
+        let e2 = length-append standing (v ∷ []) in
+        let r = fields_stand h k (n + 1) (standing ++ v ∷ []) (earlier ++ t ∷ []) ts xs s1 b1 place' (types ∙ sym (append_assoc earlier (t ∷ []) ts)) (omega arith)
+        (use_all_alike xs ts out fit.1 can.1) (all_fit_more n (n + 1) xs (omega arith) fit.1)
+        (λ y lo hi. past y (λ z. omega (arith, lo, z)) ∙ new y (omega (arith, lo)) (omega (arith, hi))) (λ y lo hi. apart y (omega (arith, lo)) (omega (arith, hi))) in
+        let mine = can_bound v t s s1 b1 refl refl apart_here (bound_here b.bound v v t refl) in
+        record {
+          clean = record {
+            reachable = (first, (second, r.clean.reachable));
+            below = λ y lo. r.clean.below y (omega (arith, lo)) ∙ past y (λ z. omega (arith, lo, z));
+            above = λ y hi. r.clean.above y (omega (arith, hi)) ∙ past y (λ z. omega (arith, hi, z));
+            uncased = λ y hi. r.clean.uncased y (omega (arith, hi));
+          };
+          cased = r.cased;
+          destination = r.destination ∙ ap (Open h k) (append_assoc standing (v ∷ []) (variables_from (n + 1) xs));
+          alike = alike_more out r.alike (omega arith);
+          can = (r.alike.can (var n) t (omega arith) mine, r.can);
+        }
