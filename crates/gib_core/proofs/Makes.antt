@@ -24,7 +24,7 @@ use Rattle.gib_core.specs.Tree.{Term, Write, Point, CallTerm, Give, Bind, Past, 
 use Rattle.gib_core.specs.Meaning.{function_at}
 use Rattle.gib_core.specs.Inferring.{Scope, Several, ToLine, ToAtom, Code, kind_of, atom_at, type_at, boxed, given, of_line, of_atom, result_of, plain_line, of_plain, several, operation_atom, call_line, call_atom, call_side, scalar_call, call_code, first_type, further_types, pointed_fields, as_atoms, make_line}
 use Rattle.gib_core.specs.Met.{Setting, Met, Line, PastLine, SideLine, PrimLine, WriteLine, PointLine, CallLine, GiveLine, Destination, Nowhere, Empty, Open, at, in_side, behind, behind_side, met, met_bind, met_side, packed_types, field_due, result_place, reached, stands_too}
-use Rattle.gib_core.specs.Rules.{Before, Bound, same_type, is_nowhere, is_empty, has_room, is_among, type_bound, type_of, is_type, has_type, have_types, is_usable, all_usable, is_other, any_other, is_there, are_variables, any_cased, further, may_write, are_scalars, gives_packed, call_fits, rules, least, bound_too, type_made, binds_new, cases_on, next, next_all}
+use Rattle.gib_core.specs.Rules.{Before, Bound, same_type, is_nowhere, is_empty, has_room, is_among, type_bound, type_of, is_type, has_type, have_types, is_usable, all_usable, is_other, any_other, is_there, is_of_type, are_variables, any_cased, further, may_write, are_scalars, gives_packed, call_fits, rules, least, bound_too, type_made, binds_new, cases_on, next, next_all}
 use Rattle.gib_core.specs.Reachable.{all_reached, LinesAreReachable}
 use Rattle.gib_core.proofs.Fits.{IsFit, AllFit, ScopeFits, fit_more, all_fit_more, scope_more, at_fit}
 use Rattle.gib_core.proofs.Ordered.{CodeOrdered, LineOrdered, AtomOrdered, SeveralOrdered, AllCodes, several_ordered}
@@ -487,3 +487,144 @@ module _ (core : CoreTree) where
           alike = alike_more out r.alike (omega arith);
           can = (r.alike.can (var n) t (omega arith) mine, r.can);
         }
+
+    -- The write.
+
+    variables_long : {A : Type 0} (n : ℕ) (xs : List A) → length (variables_from n xs) ≡ length xs
+    variables_long n [] = refl
+    variables_long n (x ∷ xs) = ap suc (variables_long (n + 1) xs)
+
+    are_same : (xs : List Variable) → are_variables xs (as_atoms xs) ≡ true
+    are_same [] = refl
+    are_same (x ∷ xs) = (λ i. eq-eqb x.0 x.0 refl i && are_same xs i)
+
+    none_cased : {A : Type 0} (cased : List Variable) (n : ℕ) (xs : List A) → ((x : Variable) → n ≤ x.0 → is_among cased x ≡ false) → any_cased cased (variables_from n xs) ≡ false
+    none_cased cased n [] h = refl
+    none_cased cased n (x ∷ xs) h = let e = h (record { 0 = n }) (omega arith) in (λ i. e i || none_cased cased (n + 1) xs (λ y lo. h y (omega (arith, lo))) i)
+
+    further_cased : {A : Type 0} (cased : List Variable) (n : ℕ) (xs : List A) → ((x : Variable) → n ≤ x.0 → is_among cased x ≡ false) → any_cased cased (further (variables_from n xs)) ≡ false
+    further_cased cased n [] h = refl
+    further_cased cased n (x ∷ xs) h = none_cased cased (n + 1) xs (λ y lo. h y (omega (arith, lo)))
+
+    write_least : (h : Variable) (k : ConId) (n : ℕ) (ss ps : List Atom) (ts : List Ty) (s : Setting) (b : Before) → s.destination ≡ Open h k (variables_from n ps) → length ps ≡ length (packed_types core.table k)
+        → ((x : Variable) → n ≤ x.0 → is_among b.cased x ≡ false) → CanUseAll s b ss (scalar_types (fields_at core.table k.0)) → CanUseAll s b (as_atoms (variables_from n ps)) ts
+        → least (rules core b (all_reached s) (WriteLine h k ss (as_atoms (variables_from n ps)))) ≡ None
+    write_least h k n ss ps ts s b place long uncased can_scalars can_packed =
+        let vs = variables_from n ps in
+        let us = scalar_types (fields_at core.table k.0) in
+        let all = all_append s b ss (as_atoms vs) us ts can_scalars can_packed in
+        let lengths : (length vs == length (packed_types core.table k)) ≡ true = eq-eqb (length vs) (length (packed_types core.table k)) (variables_long n ps ∙ long) in
+        let heads : (h.0 == h.0 && k.0 == k.0) ≡ true = (λ i. eq-eqb h.0 h.0 refl i && eq-eqb k.0 k.0 refl i) in
+        let never = further_cased b.cased n ps uncased in
+        let may : may_write core.table b s.destination h k (as_atoms vs) ≡ true =
+        ap (λ d. may_write core.table b d h k (as_atoms vs)) place ∙ (λ i. heads i && ((lengths i && are_same vs i) && not (never i))) in
+        let scalars : are_scalars core.table b s.destination ss ≡ true = ap (λ d. are_scalars core.table b d ss) place ∙ all_have s b ss us can_scalars in
+        least_four 4 5 8 9 (all_apart s b (ss ++ as_atoms vs) (us ++ ts) all) (ap not may) (ap not (all_can s b (ss ++ as_atoms vs) (us ++ ts) all)) (ap not scalars)
+
+    -- The head of a constructor, and its fields.
+
+    past_least : (h : Variable) (k : ConId) (s : Setting) (b : Before) → con_at core.table (owner_at core.table k.0) k.0 ≡ Some k.0 → PlaceFor (type_made core.table k) s → type_bound b.bound h ≡ None
+        → least (rules core b (all_reached s) (PastLine h k)) ≡ None
+    past_least h k s b there place new =
+        let right : (is_empty s.destination && is_of_type core.table k s.due) ≡ true = (λ i. is_empty (place.destination i) && is_of_type core.table k (place.due i)) ∙ ap is_there there in
+        least_two 1 8 (ap not right) (not_bound b.bound h new)
+
+    tree_fields : (ts : List Ty) → at_fields false ts ts ≡ tree_types ts
+    tree_fields [] = refl
+    tree_fields (Whole ∷ ts) = tree_fields ts
+    tree_fields (Truth ∷ ts) = tree_fields ts
+    tree_fields (Tree t ∷ ts) = ap (λ us. Tree t ∷ us) (tree_fields ts)
+
+    scalar_fields : (ts : List Ty) → at_fields true ts ts ≡ scalar_types ts
+    scalar_fields [] = refl
+    scalar_fields (Whole ∷ ts) = ap (λ us. Whole ∷ us) (scalar_fields ts)
+    scalar_fields (Truth ∷ ts) = ap (λ us. Truth ∷ us) (scalar_fields ts)
+    scalar_fields (Tree t ∷ ts) = scalar_fields ts
+
+    built_fields : (kind : Bool) (cs : List Code) (ts : List Ty) (known : typing.Scope) (sc : Scope) → AllBuilt core functions cs ts known sc → AllBuilt core functions (at_fields kind ts cs) (at_fields kind ts ts) known sc
+    built_fields kind [] [] known sc h = tt
+    built_fields kind [] (t ∷ ts) known sc h = absurd h
+    built_fields kind (c ∷ cs) [] known sc h = absurd h
+    built_fields true (c ∷ cs) (Whole ∷ ts) known sc h = (h.0, built_fields true cs ts known sc h.1)
+    built_fields true (c ∷ cs) (Truth ∷ ts) known sc h = (h.0, built_fields true cs ts known sc h.1)
+    built_fields true (c ∷ cs) (Tree t ∷ ts) known sc h = built_fields true cs ts known sc h.1
+    built_fields false (c ∷ cs) (Whole ∷ ts) known sc h = built_fields false cs ts known sc h.1
+    built_fields false (c ∷ cs) (Truth ∷ ts) known sc h = built_fields false cs ts known sc h.1
+    built_fields false (c ∷ cs) (Tree t ∷ ts) known sc h = (h.0, built_fields false cs ts known sc h.1)
+
+    -- Behind its arguments: room for the head, its packed fields, the head.
+    make_clean : (k : ConId) (h m : ℕ) (ss ps : List Atom) (s : Setting) (b : Before) → con_at core.table (owner_at core.table k.0) k.0 ≡ Some k.0 → PlaceFor (type_made core.table k) s
+        → CanUseAll s b ss (scalar_types (fields_at core.table k.0)) → CanUseAll s b ps (packed_types core.table k) → AllFit h ss → AllFit h ps
+        → ((x : Variable) → h ≤ x.0 → x.0 < m → type_bound b.bound x ≡ None) → ((x : Variable) → h ≤ x.0 → is_among b.cased x ≡ false) → ((x : Variable) → h ≤ x.0 → x.0 < m → is_among s.others x ≡ false)
+        → h + 1 + length ps ≤ m
+        → Clean core h (h + 1 + length ps) b (met core.table s (prepend (Past (record { 0 = h }) k ∷ pointed_fields (h + 1) (packed_types core.table k) ps) (Write (record { 0 = h }) k ss (as_atoms (variables_from (h + 1) ps)))))
+    make_clean k h m ss ps s b there place can_scalars can_packed fit_scalars fit_packed new uncased apart le =
+        let head : Variable = record { 0 = h } in
+        let n = h + 1 in
+        let ts = packed_types core.table k in
+        let us = scalar_types (fields_at core.table k.0) in
+        let s1 = behind s (Past head k) in
+        let b1 = next core.table b (PastLine head k) in
+        let made = type_made core.table k in
+        let past : (y : Variable) → (h ≡ y.0 → ⊥) → type_bound b1.bound y ≡ type_bound b.bound y = λ y ne. bound_past b.bound head y made ne in
+        let like : Alike h s s1 b b1 = alike_scope h s s1 b b1 refl (λ y lt. refl) (λ y lt. past y (λ z. omega (arith, lt, z))) in
+        let binds = pointed_fields n ts ps in
+        let r = fields_stand head k n [] [] ts ps s1 b1 refl refl refl (use_all_alike ps ts like fit_packed can_packed) (all_fit_more h n ps (omega arith) fit_packed)
+        (λ y lo hi. past y (λ z. omega (arith, lo, z)) ∙ new y (omega (arith, lo)) (omega (arith, hi, le))) (λ y lo hi. apart y (omega (arith, lo)) (omega (arith, hi, le))) in
+        let s2 = behind_all s1 binds in
+        let b2 = then_all core s1 b1 binds in
+        let end = Write head k ss (as_atoms (variables_from n ps)) in
+        let write = write_least head k n ss ps ts s2 b2 r.destination (all_long s b ps ts can_packed) (λ x lo. ap (λ z. is_among z x) r.cased ∙ uncased x (omega (arith, lo)))
+        (use_all_alike ss us (alike_more like r.alike (omega arith)) fit_scalars can_scalars) r.can in
+        let last = end_clean (n + length ps) (n + length ps) s2 b2 (WriteLine head k ss (as_atoms (variables_from n ps))) write refl in
+        let rest : Clean core n (n + length ps) b1 (met core.table s1 (prepend binds end)) =
+        subst (Clean core n (n + length ps) b1) (sym (met-prepend core.table s1 binds end))
+        (clean_then core n (n + length ps) (n + length ps) (n + length ps) b1 (met_all core.table s1 binds) (met core.table s2 end) r.clean last (omega arith) (omega arith)) in
+        record {
+          reachable = (past_least head k s b there place (new head (omega arith) (omega (arith, le))), rest.reachable);
+          below = λ y lo. rest.below y (omega (arith, lo)) ∙ past y (λ z. omega (arith, lo, z));
+          above = λ y hi. rest.above y hi ∙ past y (λ z. omega (arith, hi, z));
+          uncased = λ y hi. rest.uncased y hi;
+        }
+
+    pub make_line_ok : (k : ConId) (cs : List Code) (known : typing.Scope) (sc : Scope) → con_at core.table (owner_at core.table k.0) k.0 ≡ Some k.0 → AllBuilt core functions cs (fields_at core.table k.0) known sc
+        → LineOk core (make_line core.table k cs) (type_made core.table k) known sc
+    make_line_ok k cs known sc there built n m s b ready le place =
+        let types = fields_at core.table k.0 in
+        let scalars = built_fields true cs types known sc built in
+        let packed = built_fields false cs types known sc built in
+        let ts = at_fields true types types in
+        let us = at_fields false types types in
+        let ss = several (at_fields true types cs) sc n in
+        let o = several_fits (at_fields true types cs) ts known sc scalars n ready.fits in
+        let up = o.grows in
+        let ps = several (at_fields false types cs) sc ss.fresh in
+        let o' = several_fits (at_fields false types cs) us known sc packed ss.fresh (scope_more n ss.fresh sc up ready.fits) in
+        let up' = o'.grows in
+        let p = several_ok (at_fields true types cs) ts known sc scalars n m s b ready (omega (arith, up', le)) in
+        let s1 = behind_all s ss.binds in
+        let b1 = then_all core s b ss.binds in
+        let ready1 = ready_behind core n ss.fresh m known sc s b ss.binds ready p.runs up in
+        let q = several_ok (at_fields false types cs) us known sc packed ss.fresh m s1 b1 ready1 (omega (arith, le)) in
+        let s2 = behind_all s1 ps.binds in
+        let b2 = then_all core s1 b1 ps.binds in
+        let ready2 = ready_behind core ss.fresh ps.fresh m known sc s1 b1 ps.binds ready1 q.runs up' in
+        let h = ps.fresh in
+        let place2 = place_same (type_made core.table k) s s2 (q.runs.destination ∙ p.runs.destination) (q.runs.due ∙ p.runs.due) place in
+        let can_scalars : CanUseAll s2 b2 ss.atoms (scalar_types types) = subst (CanUseAll s2 b2 ss.atoms) (scalar_fields types) (use_all_alike ss.atoms ts q.runs.alike o.fit p.can) in
+        let can_packed : CanUseAll s2 b2 ps.atoms (tree_types types) = subst (CanUseAll s2 b2 ps.atoms) (tree_fields types) q.can in
+        let fields = λ (zs : List Ty). Past (record { 0 = h }) k ∷ pointed_fields (h + 1) zs ps.atoms in
+        let end = Write (record { 0 = h }) k ss.atoms (as_atoms (variables_from (h + 1) ps.atoms)) in
+        let last = make_clean k h m ss.atoms ps.atoms s2 b2 there place2 can_scalars can_packed (all_fit_more ss.fresh h ss.atoms up' o.fit) o'.fit ready2.new ready2.uncased ready2.apart le in
+        let last' : Clean core h (h + 1 + length ps.atoms) b2 (met core.table s2 (prepend (fields us) end)) =
+        subst (λ (zs : List Ty). Clean core h (h + 1 + length ps.atoms) b2 (met core.table s2 (prepend (fields zs) end))) (sym (tree_fields types)) last in
+        let rest = line_then core ss.fresh h (h + 1 + length ps.atoms) s1 b1 ps.binds (prepend (fields us) end) q.runs last' up' (omega arith) in
+        let all = line_then core n ss.fresh (h + 1 + length ps.atoms) s b ss.binds (prepend ps.binds (prepend (fields us) end)) p.runs rest up (omega (arith, up')) in
+        let same : prepend (ss.binds ++ (ps.binds ++ fields us)) end ≡ prepend ss.binds (prepend ps.binds (prepend (fields us) end)) =
+        prepend-append ss.binds (ps.binds ++ fields us) end ∙ ap (prepend ss.binds) (prepend-append ps.binds (fields us) end) in
+        record { clean = subst (λ (t : Term). Clean core n (h + 1 + length ps.atoms) b (met core.table s t)) (sym same) all }
+
+    -- A constructor that is there.
+    pub make_built : (k : ConId) (cs : List Code) (known : typing.Scope) (sc : Scope) → CodeOrdered globals (of_line (make_line core.table k cs)) sc → con_at core.table (owner_at core.table k.0) k.0 ≡ Some k.0
+        → AllBuilt core functions cs (fields_at core.table k.0) known sc → CodeBuilt core functions (of_line (make_line core.table k cs)) (type_made core.table k) known sc
+    make_built k cs known sc order there built = line_built (make_line core.table k cs) (type_made core.table k) known sc order (λ n. refl) (make_line_ok k cs known sc there built)
