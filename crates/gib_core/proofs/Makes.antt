@@ -1,16 +1,14 @@
 -- What an expression becomes breaks no rule, where its parts break none: each construct that binds no names and has no branches.
-use Rattle.std.proofs.Common.{◌≡◌, ℕ, suc, ◌+◌, ◌<◌, ◌≤◌, Bool, true, false, not, ◌&&◌, ◌==◌, ◌||◌, if◌then◌else◌, List, [], ◌∷◌, ◌++◌, map, length, get_or, Option, Some, None, refl, sym, ap, ◌∙◌, subst, arith, append_assoc, append-nil, length-append}
-use Rattle.std.specs.Prelude.{nat_lt, pos}
+use Rattle.std.proofs.Common.{◌≡◌, ℕ, suc, ◌+◌, ◌<◌, ◌≤◌, Bool, true, false, not, ◌&&◌, ◌==◌, ◌||◌, List, [], ◌∷◌, ◌++◌, length, get_or, Some, None, refl, sym, ap, ◌∙◌, subst, arith, append_assoc, append-nil, length-append}
+use Rattle.std.specs.Prelude.{nat_lt}
 use Rattle.std.proofs.Math.Seq.{get_or-append_seam}
-use Rattle.std.proofs.lemmas.Bool.{eq-eqb, ne_eqb, lt-ltb}
+use Rattle.std.proofs.lemmas.Bool.{eq-eqb, lt-ltb}
 use Rattle.gib_base.specs.declared.name.Name.{Name}
 use Rattle.gib_types.specs.declared.table.Ty.{Ty}
 use Rattle.gib_types.specs.declared.table.Ty.TheVariants.{Whole, Truth, Tree}
 use Rattle.gib_types.specs.declared.table.ConId.{ConId}
 use Rattle.gib_types.specs.Table.{fields_at, owner_at, con_at, scalar_types, tree_types}
-use Rattle.gib_syntax.specs.declared.tree.Ident.{Ident}
 use Rattle.gib_syntax.specs.declared.tree.Operator.{Operator}
-use Rattle.gib_syntax.specs.Declarations.{number_of}
 use Rattle.gib_syntax.specs.Meaning.{is_scalar, at_fields}
 use Rattle.gib_syntax.specs.Tree.{FunctionTree}
 use Rattle.gib_syntax.specs.Typing as typing
@@ -18,18 +16,17 @@ use Rattle.gib_syntax.specs.Typing.{Globals, operator_type}
 use Rattle.gib_core.specs.declared.atom.Variable.{Variable}
 use Rattle.gib_core.specs.declared.atom.Atom.{Atom}
 use Rattle.gib_core.specs.declared.atom.Atom.TheVariants as atomic
-use Rattle.gib_core.specs.declared.atom.Kind.{Kind}
-use Rattle.gib_core.specs.declared.atom.Kind.TheVariants.{Here, Region, Scalar}
-use Rattle.gib_core.specs.Tree.{Term, Write, Point, CallTerm, Give, Bind, Past, One, Prim, On, var, variables_from, prepend, FunctionTerm, CoreTree}
+use Rattle.gib_core.specs.declared.atom.Kind.TheVariants.{Here}
+use Rattle.gib_core.specs.Tree.{Term, Then, Write, Point, CallTerm, Give, Bind, Past, One, Prim, On, var, variables_from, prepend, FunctionTerm, CoreTree}
 use Rattle.gib_core.specs.Meaning.{function_at}
-use Rattle.gib_core.specs.Inferring.{Scope, Several, ToLine, ToAtom, Code, kind_of, atom_at, type_at, boxed, given, of_line, of_atom, result_of, plain_line, of_plain, several, operation_atom, call_line, call_atom, call_side, scalar_call, call_code, first_type, further_types, pointed_fields, as_atoms, make_line}
-use Rattle.gib_core.specs.Met.{Setting, Met, Line, PastLine, SideLine, PrimLine, WriteLine, PointLine, CallLine, GiveLine, Destination, Nowhere, Empty, Open, at, in_side, behind, behind_side, met, met_bind, met_side, packed_types, field_due, result_place, reached, stands_too}
-use Rattle.gib_core.specs.Rules.{Before, Bound, same_type, is_nowhere, is_empty, has_room, is_among, type_bound, type_of, is_type, has_type, have_types, is_usable, all_usable, is_other, any_other, is_there, is_of_type, are_variables, any_cased, further, may_write, are_scalars, gives_packed, call_fits, rules, least, bound_too, type_made, binds_new, cases_on, next, next_all}
-use Rattle.gib_core.specs.Reachable.{all_reached, LinesAreReachable}
-use Rattle.gib_core.proofs.Fits.{IsFit, AllFit, ScopeFits, fit_more, all_fit_more, scope_more, at_fit}
+use Rattle.gib_core.specs.Inferring.{Scope, Several, ToLine, ToAtom, Code, kind_of, boxed, given, of_line, of_atom, result_of, plain_line, of_plain, several, operation_atom, call_line, call_atom, call_side, scalar_call, call_code, pointed_fields, as_atoms, make_line}
+use Rattle.gib_core.specs.Met.{Setting, Line, PastLine, SideLine, PrimLine, WriteLine, PointLine, CallLine, GiveLine, Empty, Open, at, in_side, behind, behind_side, met, packed_types, field_due, result_place, stands_too}
+use Rattle.gib_core.specs.Rules.{Before, same_type, is_nowhere, is_empty, has_room, is_among, type_bound, is_type, has_type, have_types, all_usable, is_other, any_other, is_there, is_of_type, are_variables, any_cased, further, may_write, are_scalars, gives_packed, call_fits, rules, least, type_made, next}
+use Rattle.gib_core.specs.Reachable.{all_reached}
+use Rattle.gib_core.proofs.Fits.{AllFit, ScopeFits, all_fit_more, scope_more}
 use Rattle.gib_core.proofs.Ordered.{CodeOrdered, LineOrdered, AtomOrdered, SeveralOrdered, AllCodes, several_ordered}
-use Rattle.gib_core.proofs.Ready.{CanUse, CanUseAll, Alike, alike_same, alike_more, use_all_alike, Ready, PlaceFor, NamesTyped, behind_all, met_all, behind_all-append, met_all-append, met-prepend, next_all-append, Clean, clean_nothing, clean_then, Runs, runs_nothing, runs_then, then_all, then_all-append, line_then, ready_behind, LineBuilt, AtomBuilt, SeveralBuilt, LineOk, SideOk, AtomOk, CodeBuilt, AllBuilt}
-use Rattle.gib_core.proofs.Sides.{same_type-refl, bound_past, bound_here, not_bound, alike_scope, alike_bound, can_bound, alike_inside, ready_inside, place_inside, whole_inside, side_clean, side_runs, side_can}
+use Rattle.gib_core.proofs.Ready.{CanUse, CanUseAll, Alike, alike_same, alike_more, use_all_alike, Ready, PlaceFor, behind_all, met_all, behind_all-append, met-prepend, Clean, clean_then, Runs, runs_nothing, runs_then, then_all, then_all-append, line_then, ready_behind, LineBuilt, SeveralBuilt, LineOk, SideOk, AtomOk, CodeBuilt, AllBuilt}
+use Rattle.gib_core.proofs.Sides.{same_type-refl, bound_past, bound_here, not_bound, alike_scope, alike_bound, can_bound, alike_inside, ready_inside, place_inside, whole_inside, side_runs, side_can}
 
 -- No rule of a few is broken.
 
@@ -89,7 +86,7 @@ place_same ty s new e f h = record { destination = e ∙ h.destination; due = f 
 
 pub prepend-append : (xs ys : List Bind) (t : Term) → prepend (xs ++ ys) t ≡ prepend xs (prepend ys t)
 prepend-append [] ys t = refl
-prepend-append (x ∷ xs) ys t = ap (Rattle.gib_core.specs.Tree.Then x) (prepend-append xs ys t)
+prepend-append (x ∷ xs) ys t = ap (Then x) (prepend-append xs ys t)
 
 module _ (core : CoreTree) where
   -- A line that binds nothing and is on no variable.

@@ -1,5 +1,5 @@
 -- A side that is bound: what stands inside it, and behind it.
-use Rattle.std.proofs.Common.{◌≡◌, ℕ, ◌+◌, ◌<◌, ◌≤◌, Bool, true, false, ◌==◌, ◌||◌, if◌then◌else◌, List, [], ◌∷◌, ◌++◌, map, Option, Some, None, refl, sym, ap, ◌∙◌, subst, arith}
+use Rattle.std.proofs.Common.{◌≡◌, ℕ, ◌+◌, ◌<◌, ◌≤◌, Bool, true, false, ◌==◌, ◌||◌, if◌then◌else◌, List, [], ◌∷◌, map, Some, None, refl, sym, ap, ◌∙◌, subst, arith}
 use Rattle.std.proofs.lemmas.Bool.{eq-eqb, ne_eqb}
 use Rattle.gib_types.specs.declared.table.Ty.{Ty}
 use Rattle.gib_types.specs.declared.table.Ty.TheVariants.{Whole, Truth, Tree}
@@ -8,14 +8,13 @@ use Rattle.gib_syntax.specs.Typing as typing
 use Rattle.gib_core.specs.declared.atom.Variable.{Variable}
 use Rattle.gib_core.specs.declared.atom.Atom.{Atom}
 use Rattle.gib_core.specs.declared.atom.Atom.TheVariants as atomic
-use Rattle.gib_core.specs.declared.atom.Kind.{Kind}
-use Rattle.gib_core.specs.Tree.{Term, Bind, One, Side, On, variable_of, var, CoreTree}
+use Rattle.gib_core.specs.Tree.{Term, One, Side, On, variable_of, var, CoreTree}
 use Rattle.gib_core.specs.Inferring.{Scope, kind_of, atom_at}
 use Rattle.gib_core.specs.Met.{Known, Setting, SideLine, reached, known, in_side, behind_side, behind, left_of, right_of, met, met_side}
-use Rattle.gib_core.specs.Rules.{Bound, Before, same_type, is_among, is_bound, type_bound, type_of, is_reached, is_usable, is_other, side_rules, least, bound_too, next, next_all}
+use Rattle.gib_core.specs.Rules.{Bound, Before, same_type, is_among, is_bound, type_bound, is_reached, is_usable, side_rules, least, bound_too, next, next_all}
 use Rattle.gib_core.specs.Reachable.{as_reached, all_reached}
 use Rattle.gib_core.proofs.Fits.{IsFit, scope_more, at_fit}
-use Rattle.gib_core.proofs.Ready.{CanUse, Alike, Ready, PlaceFor, behind_all, met_all, Clean, Runs, then_all, clean_nothing, clean_then, next_all-append}
+use Rattle.gib_core.proofs.Ready.{CanUse, Alike, Ready, PlaceFor, behind_all, Clean, Runs, then_all, clean_nothing, clean_then, next_all-append}
 
 pub same_type-refl : (ty : Ty) → same_type ty ty ≡ true
 same_type-refl Whole = refl
