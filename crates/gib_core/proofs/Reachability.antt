@@ -7,8 +7,9 @@ use Rattle.std.proofs.lemmas.Option.{same_Some, slice_get_within, slice_get-get_
 use Rattle.std.proofs.lemmas.List.{length-map}
 use Rattle.gib_types.specs.declared.table.Ty.{Ty}
 use Rattle.gib_types.specs.declared.table.Ty.TheVariants.{Whole, Truth, Tree}
+use Rattle.gib_types.specs.declared.table.ConId.{ConId}
 use Rattle.gib_types.specs.Table.{Row, Table, IsTable, name_at, name_of, owner_at, fields_at, first_at, count_at}
-use Rattle.gib_types.proofs.Owners.{together, tag_back}
+use Rattle.gib_types.proofs.Owners.{together, tag_there, tag_back}
 use Rattle.gib_syntax.specs.declared.tree.Ident.{Ident}
 use Rattle.gib_syntax.specs.declared.tree.Parameter.{Parameter}
 use Rattle.gib_syntax.specs.declared.tree.Operator.{Operator}
@@ -24,7 +25,7 @@ use Rattle.gib_core.specs.declared.atom.Atom.TheVariants as atomic
 use Rattle.gib_core.specs.declared.scope.Bound.{Bound}
 use Rattle.gib_core.specs.Tree.{var, variables_from, FunctionTerm, CoreTree}
 use Rattle.gib_core.specs.Meaning.{function_at}
-use Rattle.gib_core.specs.Inferring.{Scope, slot, Code, first_type, further_types, atom_at, type_at, of_atom, call_code, operation_atom, make_line, let_line, par_line, if_line, case_line, ArmCode, with_fields, branches_of, arm_for, numbers_from, constructors_of, first_constructor, con_or, con_named, gives_type, infer, infer_all, infer_arms, infer_body, infer_function, infer_program}
+use Rattle.gib_core.specs.Inferring.{Scope, slot, Code, first_type, further_types, atom_at, type_at, of_line, of_atom, call_code, operation_atom, make_line, let_line, par_line, if_line, case_line, ArmCode, with_fields, branches_of, arm_for, numbers_from, constructors_of, first_constructor, con_or, con_named, gives_type, infer, infer_all, infer_arms, infer_body, infer_function, infer_program}
 use Rattle.gib_core.specs.Met.{Known, Setting, known, reached, Body, bodies, opening, with_parameters}
 use Rattle.gib_core.specs.Rules.{Before, is_among, type_bound, bound_too, is_reached, bind_fields, bind_parameters, before_body}
 use Rattle.gib_core.specs.Reachable.{as_reached, IsReachable, AreReachable}
@@ -33,7 +34,7 @@ use Rattle.gib_core.proofs.Ordered.{CodeOrdered, ordered}
 use Rattle.gib_core.proofs.Whole.{place_below, named_listed}
 use Rattle.gib_core.proofs.Cases.{listed}
 use Rattle.gib_core.proofs.Ready.{CanUse, CanUseAll, Ready, PlaceFor, NamesTyped, CodeBuilt, AllBuilt}
-use Rattle.gib_core.proofs.Makes.{line_built, atom_built, plain_built, operation_ok, call_built}
+use Rattle.gib_core.proofs.Makes.{line_built, atom_built, plain_built, operation_ok, call_built, make_built}
 use Rattle.gib_core.proofs.Branching.{names_typed_bound, names_typed_fields, names_fields, let_ok, let_type, if_ok, par_ok, par_type}
 use Rattle.gib_core.proofs.Choosing.{Rising, rising_variables, fields_outside, more_reached, reached_here, fields_can, binds_length, ArmBuilt, Taken, AllTaken, branches_type, case_ok}
 
@@ -54,6 +55,30 @@ same_name table c k is lt lt' e = go (slice_get table.rows c) (slice_get table.r
 abbrev has_arm : List ArmCode → ℕ → Bool
 has_arm [] k = false
 has_arm (arm ∷ arms) k = if arm.con == k then true else has_arm arms k
+
+-- Parameters.
+
+parameters_same : (n : ℕ) (xs : List Ident) (types : List Ty) (bound : List Bound) → length types ≡ length xs → bind_parameters n types bound ≡ bind_fields (variables_from n xs) types bound
+parameters_same n [] [] bound e = refl
+parameters_same n [] (t ∷ types) bound e = absurd cc
+parameters_same n (x ∷ xs) [] bound e = absurd cc
+parameters_same n (x ∷ xs) (t ∷ types) bound e =
+    let next : suc n ≡ n + 1 = omega arith in
+    parameters_same (suc n) xs types (bound_too (record { 0 = n }) t bound) (omega (arith, e))
+    ∙ ap (λ m. bind_fields (variables_from m xs) types (bound_too (record { 0 = n }) t bound)) next
+
+parameters_keep : (n : ℕ) (types : List Ty) (ks : List Known) (y : Variable) → is_reached (known (map as_reached ks) y) ≡ true → is_reached (known (map as_reached (with_parameters n types ks)) y) ≡ true
+parameters_keep n [] ks y h = h
+parameters_keep n (t ∷ types) ks y h = parameters_keep (suc n) types (reached (record { 0 = n }) ∷ ks) y (more_reached (reached (record { 0 = n })) ks y h)
+
+parameters_reach : (types : List Ty) (n : ℕ) (ks : List Known) (y : Variable) → n ≤ y.0 → y.0 < n + length types → is_reached (known (map as_reached (with_parameters n types ks)) y) ≡ true
+parameters_reach [] n ks y lo hi = absurd (omega arith)
+parameters_reach (t ∷ types) n ks y lo hi =
+    let ks' : List Known = reached (record { 0 = n }) ∷ ks in
+    elim (cases_lt n y.0) [
+      | inl lt ↦ parameters_reach types (suc n) ks' y (omega arith) (omega arith)
+      | inr ge ↦ parameters_keep (suc n) types ks' y (reached_here (reached (record { 0 = n })) ks y (let same : n ≡ y.0 = omega arith in same))
+    ]
 
 module _ (core : CoreTree) (functions : List FunctionTree) (is : IsTable core.table) where
   abbrev g : Globals
@@ -87,12 +112,14 @@ module _ (core : CoreTree) (functions : List FunctionTree) (is : IsTable core.ta
   abbrev NamedHere : ℕ → ℕ → Type 0
   NamedHere ty x = (c : ℕ) × (constructor_named core.table x ≡ Some c) × (owner_at core.table c ≡ ty)
 
+  named_within : (x c : ℕ) → constructor_named core.table x ≡ Some c → c < length core.table.rows
+  named_within x c e = let at = place_below (constructor_names core.table) x c e in let l = length-map core.table.rows (λ (r : Row). r.name) in omega arith
+
   -- The constructor that is named is k, where their names are the same.
   con_is : (j : Ident) (k ty : ℕ) → NamedHere ty (number_of j) → k < length core.table.rows → number_of j ≡ name_at core.table k → con_named g j ≡ k
   con_is j k ty own lt e =
       let named : con_named g j ≡ own.0 = ap con_or own.1 in
-      let within : own.0 < length core.table.rows = let at = place_below (constructor_names core.table) (number_of j) own.0 own.1 in let l = length-map core.table.rows (λ (r : Row). r.name) in omega arith in
-      named ∙ same_name core.table own.0 k is within lt (named_at core.table (number_of j) own.0 own.1 ∙ e)
+      named ∙ same_name core.table own.0 k is (named_within (number_of j) own.0 own.1) lt (named_at core.table (number_of j) own.0 own.1 ∙ e)
 
   arm_there : (arms : Arms) (ty k i : ℕ) → Own ty arms → k < length core.table.rows → place_of (arm_names arms) (name_at core.table k) ≡ Some i → has_arm (infer_arms g arms) k ≡ true
   arm_there (LastArm j xs e) ty k i own lt is_at = go (number_of j == name_at core.table k) (eqb-true (number_of j) (name_at core.table k)) is_at
@@ -164,6 +191,16 @@ module _ (core : CoreTree) (functions : List FunctionTree) (is : IsTable core.ta
       (atom_built core functions (operation_atom f c.atom d.atom) (operator_type f) outer sc order (operator_scalar f) (λ n. refl)
       (operation_ok core functions f c.atom d.atom outer sc hc.order.atom hd.order.atom hc.atom hd.atom))
 
+  make_here : (k : Ident) (cs : List Code) (c : ℕ) (ty : Ty) (outer : typing.Scope) (sc : Scope) → CodeOrdered g (of_line (make_line core.table (record { 0 = con_named g k }) cs)) sc
+      → constructor_named core.table (number_of k) ≡ Some c → ty ≡ Tree (record { 0 = owner_at core.table c }) → AllBuilt core functions cs (fields_at core.table (con_named g k)) outer sc
+      → Built (of_line (make_line core.table (record { 0 = con_named g k }) cs)) ty outer sc
+  make_here k cs c ty outer sc order e same all =
+      let named : con_named g k ≡ c = ap con_or e in
+      let at : ConId = record { 0 = con_named g k } in
+      let within : con_named g k < length core.table.rows = named_within (number_of k) (con_named g k) (e ∙ ap Some (sym named)) in
+      subst (λ (z : Ty). Built (of_line (make_line core.table at cs)) z outer sc) (ap (λ z. Tree (record { 0 = owner_at core.table z })) named ∙ sym same)
+      (make_built core functions at cs outer sc order (tag_there core.table (con_named g k) within) all)
+
   -- Each function is there.
   module _ (there : (f : ℕ) (h : FunctionTree) → function_named functions f ≡ Some h → function_at core.functions f ≡ Some (infer_function g h)) where
     call_here : (f : Ident) (xs : List Code) (h : FunctionTree) (ty : Ty) (outer : typing.Scope) (sc : Scope) → CodeOrdered g (call_of f xs) sc → function_named functions (number_of f) ≡ Some h → ty ≡ result_type core.table h
@@ -185,7 +222,9 @@ module _ (core : CoreTree) (functions : List FunctionTree) (is : IsTable core.ta
       built (Paren p e) outer ty sc h names = built e outer ty sc h names
       built (Op p f d e) outer ty sc h names = operation_built f (infer g d) (infer g e) ty outer sc h.0 (ordered g (Op p f d e) outer ty sc h) (built d outer Whole sc h.1 names) (built e outer Whole sc h.2 names)
       built (Call f xs) outer ty sc h names = call_here f (infer_all g xs) h.0 ty outer sc (ordered g (Call f xs) outer ty sc h) h.1 h.2 (all_built xs outer (parameter_types core.table h.0) sc h.3 names)
-      built (Make k xs) outer ty sc h names = ?
+      built (Make k xs) outer ty sc h names =
+          let types : HaveAll g outer xs (fields_at core.table (con_named g k)) = subst (λ (z : ℕ). HaveAll g outer xs (fields_at core.table z)) (sym (ap con_or h.1)) h.3 in
+          make_here k (infer_all g xs) h.0 ty outer sc (ordered g (Make k xs) outer ty sc h) h.1 h.2 (all_built xs outer (fields_at core.table (con_named g k)) sc types names)
       built (Let p x d e) outer ty sc h names =
           let first = built d outer h.0 sc h.1 names in
           let rest = λ (at : Atom) (t' : Ty) (same : t' ≡ h.0). built e (typing.bound x h.0 outer) ty (slot x at t' ∷ sc) h.3 (names_typed_bound x h.0 t' at outer sc same names) in
@@ -224,3 +263,59 @@ module _ (core : CoreTree) (functions : List FunctionTree) (is : IsTable core.ta
             record { inner = h.0.1; binds = binds; code = λ n. built e h.0.1 ty (with_fields xs (fields_at core.table (con_named g k)) n sc) h.0.4 (names_typed_fields xs (fields_at core.table (con_named g k)) outer h.0.1 sc n binds names) },
             arms_built arms outer ty sc h.1 names,
           )
+
+    -- A body whose parameters have these names and types.
+    pub body_reachable : (names : List Ident) (types : List Ty) (inner : typing.Scope) (e : Expression) (ty : Ty) → BindsAll [] names types inner → Has g inner e ty
+        → IsReachable core (record { parameters = types; result = ty; term = infer_body g names types e })
+    body_reachable names types inner e ty binds h =
+        let body : Body = record { parameters = types; result = ty; term = infer_body g names types e } in
+        let s = opening body in
+        let b = before_body body in
+        let n = length names in
+        let sc = with_fields names types 0 [] in
+        let long = binds_length names types [] inner binds in
+        let code = built e inner ty sc h (names_typed_fields names types [] inner [] 0 binds (record { types = λ x t f. absurd cc })) in
+        let same = parameters_same 0 names types [] long in
+        let of : (y : Variable) → type_bound b.bound y ≡ type_bound (bind_fields (variables_from 0 names) types []) y = λ y. ap (λ z. type_bound z y) same in
+        let can = fields_can names types 0 s b [] long (λ y lo hi. parameters_reach types 0 [] y lo (omega (arith, long, hi))) (λ y lo hi. of y) (λ y lo hi. refl) in
+        let l = (infer g e).line sc n in
+        let ready : Ready n l.fresh inner sc s b = record {
+          names = names_fields names types [] inner [] 0 s b binds can (λ y t f. absurd cc);
+          fits = fields_fit 0 n names types [] (omega arith) tt;
+          new = λ y lo hi. of y ∙ fields_outside 0 n (variables_from 0 names) types [] y (rising_variables 0 n names (omega arith)) (λ z l u f. omega arith);
+          uncased = λ y lo. refl;
+          apart = λ y lo hi. refl;
+        } in
+        (code.line n l.fresh s b ready (omega arith) (record { destination = refl; due = refl })).clean.reachable
+
+-- Each body of a program.
+
+abbrev body_of : FunctionTerm → Body
+body_of f = record { parameters = f.parameters; result = f.result; term = f.body }
+
+function_there : (g : Globals) (fs : List FunctionTree) (f : ℕ) (h : FunctionTree) → function_named fs f ≡ Some h → function_at (map (infer_function g) fs) f ≡ Some (infer_function g h)
+function_there g [] f h e = absurd cc
+function_there g (k ∷ fs) f h e = go (number_of k.name == f) e (function_there g fs f h)
+  where
+    go : (c : Bool) → (if c then Some k else function_named fs f) ≡ Some h → (function_named fs f ≡ Some h → function_at (map (infer_function g) fs) f ≡ Some (infer_function g h))
+        → (if c then Some (infer_function g k) else function_at (map (infer_function g) fs) f) ≡ Some (infer_function g h)
+    go true e more = ap (λ z. Some (infer_function g z)) (same_Some k h e)
+    go false e more = more e
+
+all_bodies : (core : CoreTree) (g : Globals) (fs : List FunctionTree) (last : Body) → ((h : FunctionTree) → IsTypedHere g h → IsReachable core (body_of (infer_function g h))) → AllByRecursion (IsTypedHere g) fs → IsReachable core last
+    → AllByRecursion (IsReachable core) (map body_of (map (infer_function g) fs) ++ last ∷ [])
+all_bodies core g [] last each typed h = (h, tt)
+all_bodies core g (f ∷ fs) last each typed h = (each f typed.0, all_bodies core g fs last each typed.1 h)
+
+-- What a typed program becomes breaks no rule.
+pub infer_reachable : (p : ProgramTree) → IsTable (table_of_program p) → IsTypedProgram p → AreReachable (infer_program p)
+infer_reachable p is typed =
+    let core = infer_program p in
+    let g = globals_of p in
+    let parameter = type_of_name g.table.types p.main.parameter.ty in
+    let result = type_of_name g.table.types p.main.result in
+    let there = function_there g p.functions in
+    let last = body_reachable core p.functions is there (p.main.parameter.name ∷ []) (parameter ∷ []) typed.main.scope p.main.body result typed.main.bound typed.main.typed in
+    all_bodies core g p.functions (record { parameters = parameter ∷ []; result = result; term = core.main.body })
+    (λ h t. body_reachable core p.functions is there (names_of h.parameters) (parameter_types g.table h) t.scope h.body (result_type g.table h) t.bound t.typed)
+    typed.functions last
