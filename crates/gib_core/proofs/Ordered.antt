@@ -229,7 +229,7 @@ module _ (g : Globals) where
             (found, all_fit_more ss.fresh m ss.atoms (omega arith) hs.fit, variables_fit (h + 1) m ps.atoms (omega arith));
       }
 
-  pub select_codes : (kind : Bool) (types : List Ty) (cs : List Code) (sc : Scope) → AllCodes cs sc → AllCodes (at_fields kind types cs) sc
+  select_codes : (kind : Bool) (types : List Ty) (cs : List Code) (sc : Scope) → AllCodes cs sc → AllCodes (at_fields kind types cs) sc
   select_codes kind [] cs sc h = tt
   select_codes kind (t ∷ types) [] sc h = tt
   select_codes true (Whole ∷ types) (c ∷ cs) sc h = (h.0, select_codes true types cs sc h.1)
