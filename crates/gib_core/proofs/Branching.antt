@@ -1,30 +1,23 @@
 -- Lines that branch, and lines behind a binding, break no rule.
-use Rattle.std.proofs.Common.{◌≡◌, ℕ, zero, suc, ◌+◌, ◌<◌, ◌≤◌, Bool, true, false, not, ◌&&◌, ◌||◌, ◌==◌, if◌then◌else◌, List, [], ◌∷◌, ◌++◌, map, length, Option, Some, None, refl, sym, ap, ◌∙◌, subst, arith}
-use Rattle.std.proofs.lemmas.Bool.{eqb-true, eq-eqb, ne_eqb}
+use Rattle.std.proofs.Common.{◌≡◌, ℕ, ◌+◌, ◌<◌, ◌≤◌, Bool, true, false, ◌==◌, if◌then◌else◌, List, [], ◌∷◌, map, Some, None, refl, sym, ap, ◌∙◌, subst, arith}
 use Rattle.std.proofs.lemmas.Option.{same_Some}
 use Rattle.gib_types.specs.declared.table.Ty.{Ty}
-use Rattle.gib_types.specs.declared.table.Ty.TheVariants.{Whole, Truth, Tree}
-use Rattle.gib_types.specs.declared.table.TyId.{TyId}
-use Rattle.gib_types.specs.declared.table.ConId.{ConId}
-use Rattle.gib_types.specs.Table.{Table, fields_at}
+use Rattle.gib_types.specs.declared.table.Ty.TheVariants.{Truth}
 use Rattle.gib_syntax.specs.declared.tree.Ident.{Ident}
 use Rattle.gib_syntax.specs.Declarations.{number_of}
 use Rattle.gib_syntax.specs.Tree.{FunctionTree}
 use Rattle.gib_syntax.specs.Meaning.{is_scalar}
 use Rattle.gib_syntax.specs.Typing as typing
-use Rattle.gib_core.specs.declared.atom.Variable.{Variable}
 use Rattle.gib_core.specs.declared.atom.Atom.{Atom}
 use Rattle.gib_core.specs.declared.atom.Atom.TheVariants as atomic
-use Rattle.gib_core.specs.declared.scope.Bound.{Bound}
-use Rattle.gib_core.specs.Tree.{Term, Bind, Both, Side, On, IfTerm, var, variables_from, CoreTree}
-use Rattle.gib_core.specs.Inferring.{Scope, slot, Lined, ToLine, ToAtom, Code, first_type, further_types, as_atoms, kind_of, let_line, par_line, if_line, with_fields, atom_at, type_at}
+use Rattle.gib_core.specs.Tree.{Bind, Both, On, IfTerm, var, variables_from, CoreTree}
+use Rattle.gib_core.specs.Inferring.{Scope, slot, Lined, Code, as_atoms, kind_of, let_line, par_line, if_line, with_fields, atom_at, type_at}
 use Rattle.gib_core.specs.Met.{Setting, Met, SideLine, IfLine, behind, behind_side, in_side, left_of, right_of, known, in_branch, met, met_bind, met_side}
 use Rattle.gib_core.specs.Rules.{Before, is_among, type_bound, type_of, is_type, has_type, is_reached, is_other, least, rules, next, next_all}
-use Rattle.gib_core.specs.Reachable.{as_reached, all_reached, LinesAreReachable}
-use Rattle.gib_core.proofs.Fits.{IsFit, AllFit, ScopeFits, fit_more, scope_more, at_fit, fields_fit}
-use Rattle.gib_core.proofs.Ordered.{CodeOrdered, LineOrdered, AtomOrdered}
+use Rattle.gib_core.specs.Reachable.{as_reached, all_reached}
+use Rattle.gib_core.proofs.Fits.{IsFit, fit_more, scope_more, at_fit}
 use Rattle.gib_core.proofs.Sides.{same_type-refl, ready_left, ready_right, side_others, side_scope, side_due, side_destination, alike_bound, can_bound, side_clean, side_type, ready_inside, place_inside, whole_inside}
-use Rattle.gib_core.proofs.Ready.{behind_all, next_all-append, Alike, CanUse, CanUseAll, Ready, PlaceFor, NamesTyped, Clean, clean_nothing, clean_then, then_all, Runs, line_then, ready_behind, ready_less, LineBuilt, LineOk, SideOk, AtomOk, AtomBuilt, CodeBuilt}
+use Rattle.gib_core.proofs.Ready.{behind_all, next_all-append, Alike, CanUse, CanUseAll, Ready, PlaceFor, NamesTyped, Clean, clean_nothing, clean_then, then_all, line_then, ready_behind, LineBuilt, LineOk, CodeBuilt}
 
 -- Names in scope.
 

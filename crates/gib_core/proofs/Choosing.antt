@@ -1,6 +1,6 @@
 -- A `case` breaks no rule: its arms are those of the type, their variables are new and rise, and each arm's fields can be
 -- used.
-use Rattle.std.proofs.Common.{◌≡◌, ℕ, zero, suc, ◌+◌, ◌<◌, ◌≤◌, Bool, true, false, not, ◌&&◌, ◌||◌, ◌==◌, if◌then◌else◌, List, [], ◌∷◌, ◌++◌, map, length, Option, Some, None, refl, sym, ap, ◌∙◌, subst, arith, inl, inr}
+use Rattle.std.proofs.Common.{◌≡◌, ℕ, suc, ◌+◌, ◌<◌, ◌≤◌, Bool, true, false, ◌&&◌, ◌||◌, ◌==◌, if◌then◌else◌, List, [], ◌∷◌, ◌++◌, map, length, Option, Some, None, refl, sym, ap, ◌∙◌, subst, arith, inl, inr}
 use Rattle.std.proofs.lemmas.Bool.{cases_lt, eq-eqb, ne_eqb}
 use Rattle.gib_types.specs.declared.table.Ty.{Ty}
 use Rattle.gib_types.specs.declared.table.Ty.TheVariants.{Whole, Truth, Tree}
@@ -15,14 +15,13 @@ use Rattle.gib_core.specs.declared.atom.Variable.{Variable}
 use Rattle.gib_core.specs.declared.atom.Atom.{Atom}
 use Rattle.gib_core.specs.declared.atom.Atom.TheVariants as atomic
 use Rattle.gib_core.specs.declared.scope.Bound.{Bound}
-use Rattle.gib_core.specs.Tree.{Term, Branches, NoBranch, BranchThen, CaseTerm, var, variables_from, CoreTree}
-use Rattle.gib_core.specs.Inferring.{Scope, slot, Lined, ToLine, first_type, further_types, as_atoms, case_line, ArmCode, with_fields, Branched, arm_for, branch_of, branches_of, constructors_of, first_constructor, atom_at}
-use Rattle.gib_core.specs.Met.{Known, Setting, Met, CaseLine, known, field, packed_field, packed_before, with_arm, in_arm, arms_of, met, met_branches}
-use Rattle.gib_core.specs.Rules.{Before, is_among, is_bound, type_bound, type_of, is_reached, is_usable, is_other, are_arms, cover, bind_fields, bind_arms, any_bound, arm_variables, least, rules, cases_on, next, next_all}
+use Rattle.gib_core.specs.Tree.{CaseTerm, variables_from, CoreTree}
+use Rattle.gib_core.specs.Inferring.{Scope, first_type, further_types, as_atoms, case_line, ArmCode, with_fields, Branched, arm_for, branch_of, branches_of, constructors_of, first_constructor, atom_at}
+use Rattle.gib_core.specs.Met.{Known, Setting, CaseLine, known, field, packed_before, with_arm, in_arm, arms_of, met, met_branches}
+use Rattle.gib_core.specs.Rules.{Before, is_among, type_bound, type_of, is_reached, are_arms, bind_fields, bind_arms, any_bound, arm_variables, least, rules, cases_on, next, next_all}
 use Rattle.gib_core.specs.Reachable.{as_reached, all_reached}
 use Rattle.gib_core.proofs.Fits.{IsFit, ScopeFits, fit_more, scope_more, at_fit, fields_fit}
-use Rattle.gib_core.proofs.Ordered.{LineOrdered}
-use Rattle.gib_core.proofs.Ready.{CanUse, CanUseAll, Ready, PlaceFor, Clean, clean_nothing, clean_then, LineBuilt, LineOk, CodeBuilt}
+use Rattle.gib_core.proofs.Ready.{CanUse, CanUseAll, Ready, PlaceFor, Clean, clean_nothing, clean_then, LineOk, CodeBuilt}
 use Rattle.gib_core.proofs.Sides.{not_bound}
 use Rattle.gib_core.proofs.Branching.{names_fields, use_same, other_reached, type_of_below}
 
@@ -145,8 +144,7 @@ fields_can [] (t ∷ types) n s b bound e es et eo = absurd cc
 fields_can (x ∷ xs) [] n s b bound e es et eo = absurd cc
 fields_can (x ∷ xs) (t ∷ types) n s b bound e es et eo =
     let v : Variable = record { 0 = n } in
-    let bound' : List Bound = record { variable = v; ty = t } ∷ bound in
-    (
+    let bound' : List Bound = record { variable = v; ty = t } ∷ bound in (
       record {
         usable = es v (omega arith) (omega arith);
         of_type =

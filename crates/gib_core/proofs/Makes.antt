@@ -15,7 +15,6 @@ use Rattle.gib_syntax.specs.Typing as typing
 use Rattle.gib_syntax.specs.Typing.{Globals, operator_type}
 use Rattle.gib_core.specs.declared.atom.Variable.{Variable}
 use Rattle.gib_core.specs.declared.atom.Atom.{Atom}
-use Rattle.gib_core.specs.declared.atom.Atom.TheVariants as atomic
 use Rattle.gib_core.specs.declared.atom.Kind.TheVariants.{Here}
 use Rattle.gib_core.specs.Tree.{Term, Then, Write, Point, CallTerm, Give, Bind, Past, One, Prim, On, var, variables_from, prepend, FunctionTerm, CoreTree}
 use Rattle.gib_core.specs.Meaning.{function_at}

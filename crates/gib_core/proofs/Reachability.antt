@@ -2,8 +2,8 @@
 use Rattle.std.proofs.Common.{◌≡◌, ℕ, zero, suc, ◌+◌, ◌<◌, ◌≤◌, Bool, true, false, ◌==◌, if◌then◌else◌, List, [], ◌∷◌, ◌++◌, map, length, Option, Some, None, refl, sym, ap, ◌∙◌, subst, arith, inl, inr}
 use Rattle.std.specs.Prelude.{pos, slice_get}
 use Rattle.std.specs.List.{AllByRecursion}
-use Rattle.std.proofs.lemmas.Bool.{cases_lt, eqb-true, eq-eqb, ne_eqb}
-use Rattle.std.proofs.lemmas.Option.{same_Some, slice_get_within, slice_get-get_or}
+use Rattle.std.proofs.lemmas.Bool.{cases_lt, eqb-true, eq-eqb}
+use Rattle.std.proofs.lemmas.Option.{same_Some, slice_get-get_or}
 use Rattle.std.proofs.lemmas.List.{length-map}
 use Rattle.gib_types.specs.declared.table.Ty.{Ty}
 use Rattle.gib_types.specs.declared.table.Ty.TheVariants.{Whole, Truth, Tree}
@@ -11,7 +11,6 @@ use Rattle.gib_types.specs.declared.table.ConId.{ConId}
 use Rattle.gib_types.specs.Table.{Row, Table, IsTable, name_at, name_of, owner_at, fields_at, first_at, count_at}
 use Rattle.gib_types.proofs.Owners.{together, tag_there, tag_back}
 use Rattle.gib_syntax.specs.declared.tree.Ident.{Ident}
-use Rattle.gib_syntax.specs.declared.tree.Parameter.{Parameter}
 use Rattle.gib_syntax.specs.declared.tree.Operator.{Operator}
 use Rattle.gib_syntax.specs.declared.tree.Operator.TheVariants as o
 use Rattle.gib_syntax.specs.Tree.{Expression, Arguments, Arms, Var, Num, Bit, Paren, Op, Call, Make, Let, Par, If, Case, NoArgument, Argument, LastArm, NextArm, FunctionTree, ProgramTree}
@@ -23,20 +22,20 @@ use Rattle.gib_core.specs.declared.atom.Variable.{Variable}
 use Rattle.gib_core.specs.declared.atom.Atom.{Atom}
 use Rattle.gib_core.specs.declared.atom.Atom.TheVariants as atomic
 use Rattle.gib_core.specs.declared.scope.Bound.{Bound}
-use Rattle.gib_core.specs.Tree.{var, variables_from, FunctionTerm, CoreTree}
+use Rattle.gib_core.specs.Tree.{variables_from, FunctionTerm, CoreTree}
 use Rattle.gib_core.specs.Meaning.{function_at}
-use Rattle.gib_core.specs.Inferring.{Scope, slot, Code, first_type, further_types, atom_at, type_at, of_line, of_atom, call_code, operation_atom, make_line, let_line, par_line, if_line, case_line, ArmCode, with_fields, branches_of, arm_for, numbers_from, constructors_of, first_constructor, con_or, con_named, gives_type, infer, infer_all, infer_arms, infer_body, infer_function, infer_program}
-use Rattle.gib_core.specs.Met.{Known, Setting, known, reached, Body, bodies, opening, with_parameters}
-use Rattle.gib_core.specs.Rules.{Before, is_among, type_bound, bound_too, is_reached, bind_fields, bind_parameters, before_body}
+use Rattle.gib_core.specs.Inferring.{Scope, slot, Code, atom_at, type_at, of_line, of_atom, call_code, operation_atom, make_line, let_line, par_line, if_line, case_line, ArmCode, with_fields, branches_of, arm_for, numbers_from, constructors_of, first_constructor, con_or, con_named, gives_type, infer, infer_all, infer_arms, infer_body, infer_function, infer_program}
+use Rattle.gib_core.specs.Met.{Known, known, reached, Body, opening, with_parameters}
+use Rattle.gib_core.specs.Rules.{type_bound, bound_too, is_reached, bind_fields, bind_parameters, before_body}
 use Rattle.gib_core.specs.Reachable.{as_reached, IsReachable, AreReachable}
 use Rattle.gib_core.proofs.Fits.{named_at, fields_fit}
 use Rattle.gib_core.proofs.Ordered.{CodeOrdered, ordered}
 use Rattle.gib_core.proofs.Whole.{place_below, named_listed}
 use Rattle.gib_core.proofs.Cases.{listed}
-use Rattle.gib_core.proofs.Ready.{CanUse, CanUseAll, Ready, PlaceFor, NamesTyped, CodeBuilt, AllBuilt}
+use Rattle.gib_core.proofs.Ready.{Ready, NamesTyped, CodeBuilt, AllBuilt}
 use Rattle.gib_core.proofs.Makes.{line_built, atom_built, plain_built, operation_ok, call_built, make_built}
 use Rattle.gib_core.proofs.Branching.{names_typed_bound, names_typed_fields, names_fields, let_ok, let_type, if_ok, par_ok, par_type}
-use Rattle.gib_core.proofs.Choosing.{Rising, rising_variables, fields_outside, more_reached, reached_here, fields_can, binds_length, ArmBuilt, Taken, AllTaken, branches_type, case_ok}
+use Rattle.gib_core.proofs.Choosing.{rising_variables, fields_outside, more_reached, reached_here, fields_can, binds_length, ArmBuilt, Taken, AllTaken, branches_type, case_ok}
 
 -- Constructors and arms.
 
@@ -105,12 +104,13 @@ module _ (core : CoreTree) (functions : List FunctionTree) (is : IsTable core.ta
   taken_from n zero arms ty outer sc has h = tt
   taken_from n (suc count) arms ty outer sc has h = (taken arms n ty outer sc (has n (omega arith) (omega arith)) h, taken_from (suc n) count arms ty outer sc (λ k lo hi. has k (omega arith) (omega arith)) h)
 
-  -- Each arm's constructor is one of the type.
-  abbrev Own : ℕ → Arms → Type 0
-  Own ty arms = AllByRecursion (λ k. (c : ℕ) × (constructor_named core.table k ≡ Some c) × (owner_at core.table c ≡ ty)) (arm_names arms)
-
+  -- The name is that of a constructor of the type.
   abbrev NamedHere : ℕ → ℕ → Type 0
   NamedHere ty x = (c : ℕ) × (constructor_named core.table x ≡ Some c) × (owner_at core.table c ≡ ty)
+
+  -- Each arm's constructor is one of the type.
+  abbrev Own : ℕ → Arms → Type 0
+  Own ty arms = AllByRecursion (NamedHere ty) (arm_names arms)
 
   named_within : (x c : ℕ) → constructor_named core.table x ≡ Some c → c < length core.table.rows
   named_within x c e = let at = place_below (constructor_names core.table) x c e in let l = length-map core.table.rows (λ (r : Row). r.name) in omega arith
@@ -158,6 +158,7 @@ module _ (core : CoreTree) (functions : List FunctionTree) (is : IsTable core.ta
           let found = covers.each k at in
           arm_there arms t k found.0 covers.own (tag_back core.table t k k at).1 found.1
 
+  -- Branches of constructors, where there is one.
   some_type : (ks : List ℕ) (c : ℕ) (arms : List ArmCode) (ty : Ty) (outer : typing.Scope) (sc : Scope) → listed ks c ≡ true → AllTaken core functions ks arms ty outer sc → (n : ℕ) → (branches_of core.table ks arms sc n).ty ≡ ty
   some_type [] c arms ty outer sc e h n = absurd cc
   some_type (k ∷ ks) c arms ty outer sc e h n = branches_type core functions k ks arms ty outer sc h n
@@ -169,6 +170,8 @@ module _ (core : CoreTree) (functions : List FunctionTree) (is : IsTable core.ta
       let own = first_own arms t covers.own in
       some_type (constructors_of core.table (owner_at core.table (first_constructor (infer_arms g arms)))) (first_constructor (infer_arms g arms)) (infer_arms g arms) ty outer sc (first_listed arms t covers.own)
       (subst (λ (z : ℕ). AllTaken core functions (constructors_of core.table z) (infer_arms g arms) ty outer sc) (sym own) all) n
+
+  -- Parts of expressions.
 
   fields_named : (k : Ident) (xs : List Ident) (outer : typing.Scope) (c : ℕ) (inner : typing.Scope) → constructor_named core.table (number_of k) ≡ Some c → BindsAll outer xs (fields_at core.table c) inner
       → BindsAll outer xs (fields_at core.table (con_named g k)) inner
@@ -258,8 +261,7 @@ module _ (core : CoreTree) (functions : List FunctionTree) (is : IsTable core.ta
           let binds = fields_named k xs outer h.0 h.1 h.2 h.3 in
           (record { inner = h.1; binds = binds; code = λ n. built e h.1 ty (with_fields xs (fields_at core.table (con_named g k)) n sc) h.4 (names_typed_fields xs (fields_at core.table (con_named g k)) outer h.1 sc n binds names) }, tt)
       arms_built (NextArm k xs e arms) outer ty sc h names =
-          let binds = fields_named k xs outer h.0.0 h.0.1 h.0.2 h.0.3 in
-          (
+          let binds = fields_named k xs outer h.0.0 h.0.1 h.0.2 h.0.3 in (
             record { inner = h.0.1; binds = binds; code = λ n. built e h.0.1 ty (with_fields xs (fields_at core.table (con_named g k)) n sc) h.0.4 (names_typed_fields xs (fields_at core.table (con_named g k)) outer h.0.1 sc n binds names) },
             arms_built arms outer ty sc h.1 names,
           )

@@ -10,7 +10,7 @@ use Rattle.gib_core.specs.declared.atom.Atom.{Atom}
 use Rattle.gib_core.specs.declared.atom.Atom.TheVariants as atomic
 use Rattle.gib_core.specs.Tree.{Term, One, Side, On, variable_of, var, CoreTree}
 use Rattle.gib_core.specs.Inferring.{Scope, kind_of, atom_at}
-use Rattle.gib_core.specs.Met.{Known, Setting, SideLine, reached, known, in_side, behind_side, behind, left_of, right_of, met, met_side}
+use Rattle.gib_core.specs.Met.{Known, Setting, SideLine, reached, known, in_side, behind_side, left_of, right_of, met, met_side}
 use Rattle.gib_core.specs.Rules.{Bound, Before, same_type, is_among, is_bound, type_bound, is_reached, is_usable, side_rules, least, bound_too, next, next_all}
 use Rattle.gib_core.specs.Reachable.{as_reached, all_reached}
 use Rattle.gib_core.proofs.Fits.{IsFit, scope_more, at_fit}
