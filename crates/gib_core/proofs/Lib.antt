@@ -14,4 +14,10 @@ mod Ordered
 mod Erases
 mod Left
 mod Reaches
+mod Ready
+mod Sides
+mod Makes
+mod Branching
+mod Choosing
+mod Reachability
 mod Sample

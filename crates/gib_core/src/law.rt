@@ -14,6 +14,7 @@ ghost use Rattle.gib_core.specs.Erasing.{erase_core};
 ghost use Rattle.gib_core.specs.Inferring.{infer_program};
 ghost use Rattle.gib_core.specs.Reaching.{reach_core};
 ghost use Rattle.gib_core.specs.Rules.{AreBuilt, first_broken};
+ghost use Rattle.gib_core.specs.Reachable.{AreReachable};
 
 /// A core meets the build rules exactly where none is the first broken one.
 pub fn built_is_unbroken()
@@ -38,4 +39,9 @@ pub fn reaching_keeps_the_meaning()
     ensures erased { (mode : Mode) (datas : List DataTree) (core : CoreTree) → erase_core datas (reach_core mode core) ≡ erase_core datas core }
     ensures calls { (mode : Mode) (core : CoreTree) (n : ℕ) → core_calls (reach_core mode core) n ≡ core_calls core n }
     ensures run { (mode : Mode) (core : CoreTree) (depth : ℕ) (v : Datum) → core_run (reach_core mode core) depth v ≡ core_run core depth v }
+{}
+
+/// What a typed program becomes breaks no build rule, where each field in scope counts as reached.
+pub fn infer_gives_reachable()
+    ensures { (p : ProgramTree) → IsTable (table_of_program p) → IsTypedProgram p → AreReachable (infer_program p) }
 {}
