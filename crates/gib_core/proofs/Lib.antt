@@ -20,4 +20,11 @@ mod Makes
 mod Branching
 mod Choosing
 mod Reachability
+mod Along
+mod Cased
+mod Skipped
+mod Kept
+mod Onward
+mod Suited
+mod Reached
 mod Sample

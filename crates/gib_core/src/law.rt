@@ -10,6 +10,7 @@ ghost use Rattle.gib_syntax.specs.Meaning.{calls, run};
 ghost use Rattle.gib_core.specs.Tree.{CoreTree};
 ghost use Rattle.gib_core.specs.Meaning.{core_calls, core_run};
 ghost use Rattle.gib_core.specs.declared.atom.AccessMode.{AccessMode as Mode};
+ghost use Rattle.gib_core.specs.declared.atom.AccessMode.TheVariants.{Skips};
 ghost use Rattle.gib_core.specs.Erasing.{erase_core};
 ghost use Rattle.gib_core.specs.Inferring.{infer_program};
 ghost use Rattle.gib_core.specs.Reaching.{reach_core};
@@ -44,4 +45,9 @@ pub fn reaching_keeps_the_meaning()
 /// What a typed program becomes breaks no build rule, where each field in scope counts as reached.
 pub fn infer_gives_reachable()
     ensures { (p : ProgramTree) → IsTable (table_of_program p) → IsTypedProgram p → AreReachable (infer_program p) }
+{}
+
+/// A core whose fields only have to be reached meets the build rules once they are reached by skips.
+pub fn reaching_makes_built()
+    ensures { (core : CoreTree) → AreReachable core → AreBuilt (reach_core Skips core) }
 {}
