@@ -1,2 +1,3 @@
 pub mod Fronting
 pub mod Walking
+pub mod Arms

@@ -16,7 +16,7 @@ or-turn false true false = refl
 or-turn false false true = refl
 or-turn false false false = refl
 
-or-none : (a : Bool) → a ≡ a || false
+pub or-none : (a : Bool) → a ≡ a || false
 or-none true = refl
 or-none false = refl
 
