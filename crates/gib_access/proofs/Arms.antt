@@ -1,5 +1,5 @@
 -- Arms, and the branches of a case.
-use Rattle.std.proofs.Common.{◌≡◌, ℕ, suc, ◌+◌, ◌<◌, ◌≤◌, Bool, true, false, ◌||◌, cond, List, [], ◌∷◌, ◌++◌, length, drop, get_or, reverse, refl, sym, ap, ◌∙◌, subst, arith, append_assoc}
+use Rattle.std.proofs.Common.{◌≡◌, ℕ, ◌+◌, ◌<◌, ◌≤◌, Bool, false, ◌||◌, cond, List, [], ◌∷◌, ◌++◌, length, drop, get_or, reverse, refl, sym, ap, ◌∙◌, subst, arith, append_assoc}
 use Rattle.std.specs.List.{AllByRecursion, list_any}
 use Rattle.std.proofs.lemmas.List.{drop_more, reverse-append}
 use Rattle.gib_types.specs.declared.table.ConId.{ConId}
@@ -11,12 +11,12 @@ use Rattle.gib_core.specs.declared.atom.AccessMode.TheVariants.{Skips, Offsets}
 use Rattle.gib_core.specs.declared.node.Branch.{Branch}
 use Rattle.gib_core.specs.declared.node.Node.{Node}
 use Rattle.gib_core.specs.declared.node.TermId.{TermId}
-use Rattle.gib_core.specs.Tree.{Term, Bind, Reach, Branches, BranchThen, prepend}
+use Rattle.gib_core.specs.Tree.{Term, Reach, BranchThen, prepend}
 use Rattle.gib_core.specs.Arena.{Grows, IsBranchBelow, term_of, branches_from}
-use Rattle.gib_core.specs.Reaching.{uses, uses_any, skips_from, offsets_from, reaches, packed_variables, offset_of, offsets_in, branch_offsets, branches_use, reach, reach_branches}
+use Rattle.gib_core.specs.Reaching.{uses, uses_any, skips_from, offsets_from, reaches, packed_variables, offset_of, offsets_in, branch_offsets, branches_use}
 use Rattle.gib_access.specs.declared.work.Work.{Work}
 use Rattle.gib_access.specs.Used.{Seen, Marks, Enters, since, unused, skips_by, offsets_by_use, reaches_by, offset_by}
-use Rattle.gib_access.specs.Made.{Walked, ReachesTerm, ReachesBranch, ReachesBranches, MakesBranches, Fronts, reach_arm, arm_offsets}
+use Rattle.gib_access.specs.Made.{Walked, ReachesTerm, ReachesBranch, ReachesBranches, Fronts, arm_offsets}
 use Rattle.gib_access.proofs.Fronting.{grows_more}
 use Rattle.gib_access.proofs.Walking.{or-none, marks_then, walked_then}
 

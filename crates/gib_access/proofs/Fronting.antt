@@ -1,19 +1,19 @@
 -- Reaches in front of an arm's term.
-use Rattle.std.proofs.Common.{◌≡◌, ℕ, suc, ◌+◌, ◌<◌, ◌≤◌, Bool, true, false, ◌||◌, cond, List, [], ◌∷◌, ◌++◌, length, drop, get_or, refl, sym, ap, ◌∙◌, subst, arith}
+use Rattle.std.proofs.Common.{◌≡◌, ℕ, ◌+◌, ◌<◌, ◌≤◌, Bool, false, ◌||◌, cond, List, [], ◌∷◌, ◌++◌, length, drop, get_or, refl, sym, ap, ◌∙◌, subst, arith}
 use Rattle.std.proofs.lemmas.List.{append-nil, drop_more}
 use Rattle.std.specs.List.{list_any}
 use Rattle.gib_types.specs.declared.table.Ty.{Ty}
 use Rattle.gib_syntax.specs.Meaning.{at_fields}
 use Rattle.gib_core.specs.declared.atom.Access.{Access}
-use Rattle.gib_core.specs.declared.atom.Access.TheVariants.{Offset, Skip}
+use Rattle.gib_core.specs.declared.atom.Access.TheVariants.{Skip}
 use Rattle.gib_core.specs.declared.atom.Variable.{Variable}
 use Rattle.gib_core.specs.declared.node.Binding.TheVariants as b
 use Rattle.gib_core.specs.declared.node.Node.{Node}
 use Rattle.gib_core.specs.declared.node.Node.TheVariants as n
 use Rattle.gib_core.specs.declared.node.TermId.{TermId}
-use Rattle.gib_core.specs.Tree.{Then, Bind, Reach, prepend}
-use Rattle.gib_core.specs.Arena.{Grows, Makes, term_of}
-use Rattle.gib_access.specs.Used.{before_at, skips_by, offsets_by_use}
+use Rattle.gib_core.specs.Tree.{Then, Bind, Reach}
+use Rattle.gib_core.specs.Arena.{Grows, Makes}
+use Rattle.gib_access.specs.Used.{before_at, skips_by}
 use Rattle.gib_access.specs.Made.{Fronts}
 
 -- Nothing is left.

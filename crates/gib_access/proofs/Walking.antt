@@ -1,13 +1,11 @@
 -- What the walk's steps leave behind.
-use Rattle.std.proofs.Common.{◌≡◌, ℕ, suc, ◌+◌, ◌<◌, ◌≤◌, Bool, true, false, ◌||◌, List, [], ◌∷◌, ◌++◌, length, refl, sym, ap, ◌∙◌, subst, arith, append_assoc}
+use Rattle.std.proofs.Common.{◌≡◌, Bool, true, false, ◌||◌, List, ◌++◌, refl, sym, ap, ◌∙◌, arith, append_assoc}
 use Rattle.gib_types.specs.declared.table.ConId.{ConId}
 use Rattle.gib_core.specs.declared.atom.Variable.{Variable}
-use Rattle.gib_core.specs.declared.node.Node.{Node}
-use Rattle.gib_core.specs.Arena.{Grows, Makes, term_of}
 use Rattle.gib_access.specs.declared.work.Work.{Work}
 use Rattle.gib_access.specs.Used.{Seen, Marks, since}
 use Rattle.gib_access.specs.Made.{Walked}
-use Rattle.gib_access.proofs.Fronting.{grows_more, grows_none}
+use Rattle.gib_access.proofs.Fronting.{grows_more}
 
 or-turn : (a b c : Bool) → (a || b) || c ≡ a || (c || b)
 or-turn true b c = refl

@@ -1,5 +1,5 @@
 -- What the walk that reaches fields leaves behind.
-use Rattle.std.specs.Prelude.{◌≡◌, ℕ, ◌<◌, Bool, List, ◌++◌, length, map}
+use Rattle.std.specs.Prelude.{◌≡◌, ◌<◌, Bool, List, ◌++◌, length}
 use Rattle.std.specs.List.{AllByRecursion}
 use Rattle.gib_types.specs.declared.table.ConId.{ConId}
 use Rattle.gib_types.specs.Table.{Table}
@@ -10,11 +10,8 @@ use Rattle.gib_core.specs.declared.node.BoundTerm.{BoundTerm}
 use Rattle.gib_core.specs.declared.node.Branch.{Branch}
 use Rattle.gib_core.specs.declared.node.Node.{Node}
 use Rattle.gib_core.specs.declared.node.TermId.{TermId}
-use Rattle.gib_core.specs.declared.program.CoreFunction.{CoreFunction}
-use Rattle.gib_core.specs.declared.program.CoreMain.{CoreMain}
-use Rattle.gib_core.specs.Tree.{Term, Bind, Side, Branches, prepend, FunctionTerm, MainTerm}
+use Rattle.gib_core.specs.Tree.{Term, Bind, Side, Branches, prepend}
 use Rattle.gib_core.specs.Arena.{Grows, IsBindingBelow, IsBranchBelow, term_of, bind_from, side_from, branches_from}
-use Rattle.gib_core.specs.Parts.{IsFunctionInside, function_term, main_term}
 use Rattle.gib_core.specs.Reaching.{uses, bind_uses, side_uses, branches_use, reach, reach_bind, reach_side, reach_branches, reaches, packed_variables, offset_of, offsets_in, bind_offsets, side_offsets, branch_offsets}
 use Rattle.gib_access.specs.declared.work.Work.{Work}
 use Rattle.gib_access.specs.Used.{Marks}

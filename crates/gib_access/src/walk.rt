@@ -31,7 +31,9 @@ pub fn reach_term(
     ensures { IfOk result (λ made. ReachesTerm mode types.now work.old work.new made (term_of terms.now id.0)) }
 {
     match terms.node(id) {
-        Node::Then(binding, rest) => reach_line(alloc, mode, types, terms, work, id, *binding, *rest),
+        Node::Then(binding, rest) => reach_line(
+            alloc, mode, types, terms, work, id, *binding, *rest,
+        ),
         Node::Write {
             head,
             constructor,
@@ -222,7 +224,13 @@ fn reach_branch(
     let start = work.stamps.enter()?;
     let body = reach_term(alloc, mode, types, terms, work, branch.term)?;
     let packed = packed_variables(alloc, types, branch.constructor, &branch.variables)?;
-    list_constructor(&mut work.offsets, &work.stamps, start, branch.constructor, &packed)?;
+    list_constructor(
+        &mut work.offsets,
+        &work.stamps,
+        start,
+        branch.constructor,
+        &packed,
+    )?;
     let term = put_reaches(mode, &mut work.terms, &work.stamps, start, &packed, body)?;
     let variables = Vec::from_slice(alloc, &branch.variables)?;
     Ok(Branch {

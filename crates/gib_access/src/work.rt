@@ -22,6 +22,20 @@ pub struct Work {
     pub offsets: OffsetList,
 }
 
+impl Work {
+    /// Nothing is made, and no variable was used.
+    pub fn new(alloc: Global) -> Work
+        ensures terms { result.terms ≡ [] }
+        ensures offsets { result.offsets ≡ [] }
+    {
+        Work {
+            terms: Terms::new(alloc),
+            stamps: Stamps::new(alloc),
+            offsets: OffsetList::new(alloc),
+        }
+    }
+}
+
 /// Fills a head.
 pub fn put_write(
     alloc: Global,
