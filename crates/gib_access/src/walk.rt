@@ -1,7 +1,7 @@
 //! The walk that reaches the fields of all arms.
 //!
-//! It goes from the last part of a term to the first, so that constructors are listed in the order of the text,
-//! and an arm is entered before its term is walked.
+//! It goes from the last part of a term to the first: an arm is listed when its term is done, in front of what
+//! was listed before, and so constructors stand in the order of the text.
 
 ghost use Rattle.std.specs.Prelude.{◌≡◌, ◌<◌, length, IfOk};
 ghost use Rattle.std.specs.List.{AllByRecursion};
@@ -95,23 +95,23 @@ fn reach_binding(
     ensures { IfOk result (λ made. ReachesBinding mode types.now work.old work.new made (bind_from (term_of terms.now) binding)) }
 {
     match binding {
-        Binding::Past { .. } => {}
+        Binding::Past { .. } => Ok(binding),
         Binding::One(side) => {
             let side = reach_side(alloc, mode, types, terms, work, side)?;
-            return Ok(Binding::One(side));
+            Ok(Binding::One(side))
         }
         Binding::Par { fork, left, right } => {
             let right = reach_side(alloc, mode, types, terms, work, right)?;
             let left = reach_side(alloc, mode, types, terms, work, left)?;
-            return Ok(Binding::Par { fork, left, right });
+            Ok(Binding::Par { fork, left, right })
         }
         Binding::Prim { left, right, .. } => {
             mark_atom(&mut work.stamps, right)?;
             mark_atom(&mut work.stamps, left)?;
+            Ok(binding)
         }
-        Binding::Reach { .. } => {}
+        Binding::Reach { .. } => Ok(binding),
     }
-    Ok(binding)
 }
 
 /// A variable with the term that it is bound to.
