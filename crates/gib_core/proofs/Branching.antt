@@ -1,5 +1,5 @@
 -- Lines that branch, and lines behind a binding, break no rule.
-use Rattle.std.proofs.Common.{◌≡◌, ℕ, ◌+◌, ◌<◌, ◌≤◌, Bool, true, false, ◌==◌, if◌then◌else◌, List, [], ◌∷◌, map, Some, None, refl, sym, ap, ◌∙◌, subst, arith}
+use Rattle.std.proofs.Common.{◌≡◌, ℕ, ◌+◌, ◌<◌, ◌≤◌, Bool, true, false, not, ◌==◌, if◌then◌else◌, List, [], ◌∷◌, map, Some, None, refl, sym, ap, ◌∙◌, subst, arith}
 use Rattle.std.proofs.lemmas.Option.{same_Some}
 use Rattle.gib_types.specs.declared.table.Ty.{Ty}
 use Rattle.gib_types.specs.declared.table.Ty.TheVariants.{Truth}
@@ -13,10 +13,11 @@ use Rattle.gib_core.specs.declared.atom.Atom.TheVariants as atomic
 use Rattle.gib_core.specs.Tree.{Bind, Both, On, IfTerm, var, variables_from, CoreTree}
 use Rattle.gib_core.specs.Inferring.{Scope, slot, Lined, Code, as_atoms, kind_of, let_line, par_line, if_line, with_fields, atom_at, type_at}
 use Rattle.gib_core.specs.Met.{Setting, Met, SideLine, IfLine, behind, behind_side, in_side, left_of, right_of, known, in_branch, met, met_bind, met_side}
-use Rattle.gib_core.specs.Rules.{Before, is_among, type_bound, type_of, is_type, has_type, is_reached, is_other, least, rules, next, next_all}
+use Rattle.gib_core.specs.Rules.{Before, is_among, type_bound, type_of, is_reached, least, rules, next, next_all}
 use Rattle.gib_core.specs.Reachable.{as_reached, all_reached}
 use Rattle.gib_core.proofs.Fits.{IsFit, fit_more, scope_more, at_fit}
-use Rattle.gib_core.proofs.Sides.{same_type-refl, ready_left, ready_right, side_others, side_scope, side_due, side_destination, alike_bound, can_bound, side_clean, side_type, ready_inside, place_inside, whole_inside}
+use Rattle.gib_core.proofs.Sides.{ready_left, ready_right, side_others, side_scope, side_due, side_destination, alike_bound, can_bound, side_clean, side_type, ready_inside, place_inside, whole_inside}
+use Rattle.gib_core.proofs.Makes.{least_three, can_have}
 use Rattle.gib_core.proofs.Ready.{behind_all, next_all-append, Alike, CanUse, CanUseAll, Ready, PlaceFor, NamesTyped, Clean, clean_nothing, clean_then, then_all, line_then, ready_behind, LineBuilt, LineOk, CodeBuilt}
 
 -- Names in scope.
@@ -72,14 +73,6 @@ use_same s new b after (atomic.Variable y) ty es eo et h = record { usable = ap 
 use_same s new b after (atomic.Whole z) ty es eo et h = record { usable = refl; of_type = et ∙ h.of_type; other = refl }
 use_same s new b after (atomic.Truth t) ty es eo et h = record { usable = refl; of_type = et ∙ h.of_type; other = refl }
 
-pub other_reached : (s : Setting) (x : Atom) → is_other (all_reached s) x ≡ is_other s x
-other_reached s (atomic.Variable y) = refl
-other_reached s (atomic.Whole z) = refl
-other_reached s (atomic.Truth t) = refl
-
-pub has_its_type : (s : Setting) (b : Before) (x : Atom) (ty : Ty) → CanUse s b x ty → has_type b x ty ≡ true
-has_its_type s b x ty h = ap (λ z. is_type z ty) h.of_type ∙ same_type-refl ty
-
 -- The binding of two sides.
 abbrev pair_of : Lined → Lined → ℕ → Bind
 pair_of l r n = Both false (On (kind_of l.ty) (record { 0 = n }) l.ty l.term) (On (kind_of r.ty) (record { 0 = l.fresh }) r.ty r.term)
@@ -129,7 +122,7 @@ module _ (core : CoreTree) where
 
     -- An `if`.
     if_least : (s : Setting) (b : Before) (x : Atom) → CanUse s b x Truth → least (rules core b (all_reached s) (IfLine x)) ≡ None
-    if_least s b x h = rw (other_reached s x, h.other, h.usable, has_its_type s b x Truth h) refl
+    if_least s b x h = least_three 4 8 9 h.other (ap not h.usable) (ap not (can_have s b x Truth Truth h refl))
 
     pub if_ok : (c d e : Code) (ty : Ty) (known : typing.Scope) (sc : Scope) → CodeBuilt core functions c Truth known sc → CodeBuilt core functions d ty known sc → CodeBuilt core functions e ty known sc
         → LineOk core (if_line c.atom d.line e.line) ty known sc

@@ -18,12 +18,12 @@ use Rattle.gib_core.specs.declared.scope.Bound.{Bound}
 use Rattle.gib_core.specs.Tree.{CaseTerm, variables_from, CoreTree}
 use Rattle.gib_core.specs.Inferring.{Scope, first_type, further_types, as_atoms, case_line, ArmCode, with_fields, Branched, arm_for, branch_of, branches_of, constructors_of, first_constructor, atom_at}
 use Rattle.gib_core.specs.Met.{Known, Setting, CaseLine, known, field, packed_before, with_arm, in_arm, arms_of, met, met_branches}
-use Rattle.gib_core.specs.Rules.{Before, is_among, type_bound, type_of, is_reached, are_arms, bind_fields, bind_arms, any_bound, arm_variables, least, rules, cases_on, next, next_all}
+use Rattle.gib_core.specs.Rules.{Before, is_among, is_other, type_bound, type_of, is_reached, are_arms, bind_fields, bind_arms, any_bound, arm_variables, least, rules, cases_on, next, next_all}
 use Rattle.gib_core.specs.Reachable.{as_reached, all_reached}
 use Rattle.gib_core.proofs.Fits.{IsFit, ScopeFits, fit_more, scope_more, at_fit, fields_fit}
 use Rattle.gib_core.proofs.Ready.{CanUse, CanUseAll, Ready, PlaceFor, Clean, clean_nothing, clean_then, LineOk, CodeBuilt}
 use Rattle.gib_core.proofs.Sides.{not_bound}
-use Rattle.gib_core.proofs.Branching.{names_fields, use_same, other_reached, type_of_below}
+use Rattle.gib_core.proofs.Branching.{names_fields, use_same, type_of_below}
 
 -- Variables from a number on, that rise and stay below another one.
 abbrev pub Rising : ℕ → List Variable → ℕ → Type 0
@@ -289,7 +289,7 @@ module _ (core : CoreTree) (functions : List FunctionTree) where
 
   case_least : (s : Setting) (b : Before) (x : Atom) (t : TyId) (arms : List (ConId × List Variable)) → CanUse s b x (Tree t) → are_arms core.table (constructors_of core.table t.0) arms ≡ true → any_bound (arm_variables arms) [] b.bound ≡ false
       → least (rules core b (all_reached s) (CaseLine x arms)) ≡ None
-  case_least s b x t arms h full new = rw (other_reached s x, h.other, h.usable, h.of_type, full, new) refl
+  case_least s b x t arms h full new = let other : is_other (all_reached s) x ≡ false = h.other in rw (other, h.usable, h.of_type, full, new) refl
 
   type_of_cased : (n m : ℕ) (arms : List (ConId × List Variable)) (b : Before) (x y : Atom) → IsFit n y → Rising n (arm_variables arms) m → type_of (next core.table b (CaseLine x arms)) y ≡ type_of b y
   type_of_cased n m arms b x (atomic.Variable y) fit rising = arms_outside core.table n m arms b.bound y rising (λ z l u f. omega (arith, fit, l, f))
