@@ -1,5 +1,4 @@
--- What the terms of a core have to be met with, for its fields to be reached by skips; and that it goes on from each term to
--- its parts.
+-- What the terms of a core are met with where its fields are reached, and how that goes on from a term to its parts.
 use Rattle.std.proofs.Common.{◌≡◌, inl, ⊎_elim, Bool, true, false, ◌==◌, ◌||◌, if◌then◌else◌, List, [], ◌∷◌, ◌++◌, Some, None, refl, sym, ap, ◌∙◌, subst}
 use Rattle.std.proofs.lemmas.Bool.{eq-eqb, both_ways, or_parts, or_from, or_left, or_right, or_cases, false_from_ne_true, true_from_ne_false}
 use Rattle.gib_types.specs.declared.table.Ty.{Ty}
@@ -67,15 +66,15 @@ scoped_side tb s ks Region ty = refl
 scoped_side tb s ks Scalar ty = refl
 
 module _ (core : CoreTree) where
-  -- What a term is met with serves it, and it breaks no rule with fields counted as reached: what it uses is reached in
-  -- the scope, what is in scope or was cased was bound, and it binds no variable of another side.
+  -- A term is met so, in this scope of the core whose fields are reached: what it uses is reached there, what is in scope or was
+  -- cased was bound, and its lines bind no variable of another side.
   pub record Suits (used : Variable → Bool) (s : Setting) (ks : List Known) (b : Before) (ms : List Met) : Type 0 where
     pub serves : Serves used s.scope ks
     pub bound : (x : Variable) → has s.scope x ≡ true → is_bound b.bound x ≡ true
     pub cased : (x : Variable) → is_among b.cased x ≡ true → is_bound b.bound x ≡ true
     pub differs : (x : Variable) → is_among s.others x ≡ true → NoneBinds x ms
 
-  -- The variables of arms that come now.
+  -- Arms with these variables come now: they were just bound, they differ, and they are not in scope, another side's or cased.
   pub record ArmsSuit (vs : List Variable) (s : Setting) (b : Before) : Type 0 where
     pub distinct : AreDistinct vs
     pub bound : (y : Variable) → is_among vs y ≡ true → is_bound b.bound y ≡ true
