@@ -14,6 +14,12 @@ mod Ordered
 mod Erases
 mod Left
 mod Reaches
+mod Ready
+mod Sides
+mod Makes
+mod Branching
+mod Choosing
+mod Reachability
 mod Along
 mod Cased
 mod Skipped

@@ -103,7 +103,7 @@ module _ (g : Globals) where
     pub atom : (n : ℕ) → ScopeFits n sc → AtomOrdered n (c.atom sc n)
     pub bound : (n : ℕ) → ScopeFits n sc → AtomOrdered n (c.bound sc n)
 
-  abbrev AllCodes : List Code → Scope → Type 0
+  abbrev pub AllCodes : List Code → Scope → Type 0
   AllCodes [] sc = Unit {0}
   AllCodes (c ∷ cs) sc = CodeOrdered c sc × AllCodes cs sc
 
@@ -144,7 +144,7 @@ module _ (g : Globals) where
     bound = λ n s. boxed_ordered (plain_line ty atom) sc n (record { grows = omega arith; term = result_ordered (ty sc) (atom sc) (n + 1) (fit_more n (n + 1) (atom sc) (omega arith) (h n s)) });
   }
 
-  several_ordered : (cs : List Code) (sc : Scope) → AllCodes cs sc → (n : ℕ) → ScopeFits n sc → SeveralOrdered n (several cs sc n)
+  pub several_ordered : (cs : List Code) (sc : Scope) → AllCodes cs sc → (n : ℕ) → ScopeFits n sc → SeveralOrdered n (several cs sc n)
   several_ordered [] sc h n s = record { grows = omega arith; fit = tt; rises = refl }
   several_ordered (c ∷ cs) sc h n s =
       let x = c.atom sc n in

@@ -45,7 +45,7 @@ numbers_listed n (suc count) k le lt = go (n == k) refl (λ le'. numbers_listed 
     go true e more = refl
     go false e more = let ne = different n k e in more (omega (arith, ne))
 
-place_below : (xs : List ℕ) (x i : ℕ) → place_of xs x ≡ Some i → i < length xs
+pub place_below : (xs : List ℕ) (x i : ℕ) → place_of xs x ≡ Some i → i < length xs
 place_below [] x i e = absurd cc
 place_below (y ∷ ys) x i e = go (y == x) (place_of ys x) (λ j f. place_below ys x j f) e
   where
@@ -55,7 +55,7 @@ place_below (y ∷ ys) x i e = go (y == x) (place_of ys x) (λ j f. place_below 
     go false (Some j) h f = let lt = h j refl in let z = same_Some (suc j) i f in omega arith
 
 -- A constructor with a name is one of the constructors of its type.
-named_listed : (table : Table) (k c : ℕ) → IsTable table → constructor_named table k ≡ Some c → listed (constructors_of table (owner_at table c)) c ≡ true
+pub named_listed : (table : Table) (k c : ℕ) → IsTable table → constructor_named table k ≡ Some c → listed (constructors_of table (owner_at table c)) c ≡ true
 named_listed table k c is e =
     let within : c < length table.rows = let lt = place_below (constructor_names table) k c e in let l = length-map table.rows (λ (r : Row). r.name) in omega arith in
     let among = (together table (owner_at table c) c is).0 (tag_there table c within) in

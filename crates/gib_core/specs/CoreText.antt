@@ -117,6 +117,7 @@ keyword_text k.Prim = codes "prim"
 keyword_text k.Par = codes "par"
 keyword_text k.Reach = codes "reach"
 
+-- How an operator is written.
 abbrev pub operator_text : Operator → List ℕ
 operator_text o.Add = codes "+"
 operator_text o.Subtract = codes "-"
@@ -137,12 +138,14 @@ name_text names n = unwrap_or (slice_get names n) []
 abbrev pub variable_text : Variable → List ℕ
 variable_text x = 37 ∷ decimal x.0
 
+-- How a variable or literal is written.
 abbrev pub atom_text : Atom → List ℕ
 atom_text (a.Variable x) = variable_text x
 atom_text (a.Whole z) = signed_decimal z
 atom_text (a.Truth false) = codes "False"
 atom_text (a.Truth true) = codes "True"
 
+-- How a type is written, with the names of the program.
 abbrev pub type_text : List (List ℕ) → Table → Ty → List ℕ
 type_text names table ty.Whole = codes "Int"
 type_text names table ty.Truth = codes "Bool"

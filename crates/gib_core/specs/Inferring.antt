@@ -57,9 +57,11 @@ pub record Several : Type 0 where
   pub binds : List Bind
   pub atoms : List Atom
 
+-- The line that stands for an expression, by the names in scope and the first unused number.
 abbrev pub ToLine : Type 0
 ToLine = Scope → ℕ → Lined
 
+-- The atom that stands for an expression, behind bindings, by the names in scope and the first unused number.
 abbrev pub ToAtom : Type 0
 ToAtom = Scope → ℕ → Atomed
 
@@ -101,9 +103,11 @@ result_of Whole x = Give x
 result_of Truth x = Give x
 result_of (Tree t) x = Point x
 
+-- A variable or literal as a line: it takes no number.
 abbrev pub plain_line : (Scope → Ty) → (Scope → Atom) → ToLine
 plain_line ty atom scope n = record { fresh = n; term = result_of (ty scope) (atom scope); ty = ty scope }
 
+-- A variable or literal as an atom: it needs no bindings.
 abbrev pub plain_atom : (Scope → Ty) → (Scope → Atom) → ToAtom
 plain_atom ty atom scope n = record { fresh = n; binds = []; atom = atom scope; ty = ty scope }
 
@@ -154,6 +158,7 @@ abbrev pub call_side : Ty → Name → Several → List Bind → Lined
 call_side ty f r [] = record { fresh = r.fresh; term = CallTerm f r.atoms; ty = ty }
 call_side ty f r (b ∷ bs) = record { fresh = r.fresh + 1; term = prepend (call_atom ty f r).binds (Give (var r.fresh)); ty = ty }
 
+-- A scalar call: bound wherever it stands, but as a side whose arguments need no bindings.
 abbrev pub scalar_call : Ty → Name → List Code → Code
 scalar_call ty f cs =
     let atom : ToAtom = λ scope n. call_atom ty f (several cs scope n) in
@@ -201,12 +206,14 @@ make_line table k cs scope n =
     let ps = several (at_fields false types cs) scope ss.fresh in
     make_from (Tree (record { 0 = owner_at table k.0 })) k (at_fields false types types) ss ps
 
+-- A `let`: the bindings of its right side, and then its body, where the name stands for that atom.
 abbrev pub let_line : Ident → ToAtom → ToLine → ToLine
 let_line x bound body scope n =
     let l = bound scope n in
     let r = body (slot x l.atom l.ty ∷ scope) l.fresh in
     record { fresh = r.fresh; term = prepend l.binds r.term; ty = r.ty }
 
+-- A `let par`: both sides see the names outside alone, the body sees both.
 abbrev pub par_line : Ident → ToLine → Ident → ToLine → ToLine → ToLine
 par_line x left y right body scope n =
     let l = left scope (n + 1) in
@@ -218,6 +225,7 @@ par_line x left y right body scope n =
       ty = t.ty;
     }
 
+-- An `if`: the bindings of its condition, and then its branches, which share no variable.
 abbrev pub if_line : ToAtom → ToLine → ToLine → ToLine
 if_line condition left right scope n =
     let x = condition scope n in

@@ -140,6 +140,7 @@ abbrev pub offsets_by : AccessMode → CoreTree → List ConId
 offsets_by Skips core = []
 offsets_by Offsets core = all_offsets core
 
+-- A function, with the fields of all arms of its body reached.
 abbrev pub reach_function : AccessMode → Table → FunctionTerm → FunctionTerm
 reach_function mode table f = record f { body = reach mode table f.body }
 

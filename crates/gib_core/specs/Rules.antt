@@ -39,11 +39,13 @@ same_type (Tree t) Whole = false
 same_type (Tree t) Truth = false
 same_type (Tree t) (Tree u) = t.0 == u.0
 
+-- The value is put nowhere: a scalar is due.
 abbrev pub is_nowhere : Destination → Bool
 is_nowhere Nowhere = true
 is_nowhere Empty = false
 is_nowhere (Open h k standing) = false
 
+-- The value is put at an empty place.
 abbrev pub is_empty : Destination → Bool
 is_empty Nowhere = false
 is_empty Empty = true
@@ -108,6 +110,7 @@ is_usable s (a.Variable x) = is_reached (known s.scope x)
 is_usable s (a.Whole z) = true
 is_usable s (a.Truth t) = true
 
+-- All atoms can be used.
 abbrev pub all_usable : Setting → List Atom → Bool
 all_usable s [] = true
 all_usable s (x ∷ xs) = is_usable s x && all_usable s xs
@@ -118,6 +121,7 @@ is_other s (a.Variable x) = is_among s.others x
 is_other s (a.Whole z) = false
 is_other s (a.Truth t) = false
 
+-- One of the atoms is the variable of another side.
 abbrev pub any_other : Setting → List Atom → Bool
 any_other s [] = false
 any_other s (x ∷ xs) = is_other s x || any_other s xs
@@ -227,6 +231,7 @@ arm_variables (arm ∷ arms) = arm.1 ++ arm_variables arms
 abbrev pub Judgement : Type 0
 Judgement = ℕ × Bool
 
+-- The rules for a variable that is bound to a term: room for a field, a packed type, a new variable, the type due.
 abbrev pub side_rules : Table → Before → Setting → Kind → Variable → Ty → List Judgement
 side_rules table b s Here x ty = (2, not (has_room table s.destination)) ∷ (8, is_bound b.bound x) ∷ (9, not (same_type ty (field_due table s.destination))) ∷ []
 side_rules table b s Region x ty = (3, is_scalar ty) ∷ (8, is_bound b.bound x) ∷ []

@@ -41,6 +41,11 @@ pub fn reaching_keeps_the_meaning()
     ensures run { (mode : Mode) (core : CoreTree) (depth : ℕ) (v : Datum) → core_run (reach_core mode core) depth v ≡ core_run core depth v }
 {}
 
+/// What a typed program becomes breaks no build rule, where each field in scope counts as reached.
+pub fn infer_gives_reachable()
+    ensures { (p : ProgramTree) → IsTable (table_of_program p) → IsTypedProgram p → AreReachable (infer_program p) }
+{}
+
 /// A core whose fields only have to be reached meets the build rules once they are reached.
 pub fn reaching_makes_built()
     ensures { (mode : Mode) (core : CoreTree) → AreReachable core → AreBuilt (reach_core mode core) }

@@ -1,0 +1,4 @@
+pub mod Fronting
+pub mod Walking
+pub mod Arms
+pub mod Programs
