@@ -2,3 +2,4 @@ pub mod Fronting
 pub mod Walking
 pub mod Arms
 pub mod Programs
+pub mod Sample

@@ -14,6 +14,8 @@ mod bodies;
 mod fields;
 mod offset_list;
 mod stamps;
+#[cfg(test)]
+mod tests;
 mod walk;
 mod work;
 
