@@ -18,6 +18,8 @@ use Rattle.gib_core.specs.Arena.{Grows, term_of}
 use Rattle.gib_core.specs.Parts.{Parts, AreInside, IsFunctionInside, function_term, main_term, core_of}
 use Rattle.gib_core.specs.Meaning.{core_calls, core_run}
 use Rattle.gib_core.specs.Erasing.{erase_core}
+use Rattle.gib_core.specs.Reachable.{AreReachable}
+use Rattle.gib_core.specs.Rules.{AreBuilt}
 use Rattle.gib_core.specs.Reaching.{offsets_in, offsets_by, reach_function, reach_core}
 use Rattle.gib_access.specs.declared.work.Work.{Work}
 use Rattle.gib_access.specs.Bodies.{ReachesFunction, ReachesFunctions, ReachesMain, offsets_of, offsets_kept}
@@ -131,3 +133,7 @@ kept_calls mode core (Err x) law e = tt
 pub kept_run : {E : Type 0} (mode : AccessMode) (core : CoreTree) (o : Result Parts E) → ((m : AccessMode) (c : CoreTree) (depth : ℕ) (v : Datum) → core_run (reach_core m c) depth v ≡ core_run c depth v) → IfOk o (λ made. core_of made ≡ reach_core mode core) → IfOk o (λ made. (depth : ℕ) (v : Datum) → core_run (core_of made) depth v ≡ core_run core depth v)
 kept_run mode core (Ok made) law e = λ depth v. ap (λ z. core_run z depth v) e ∙ law mode core depth v
 kept_run mode core (Err x) law e = tt
+
+pub kept_built : {E : Type 0} (mode : AccessMode) (core : CoreTree) (o : Result Parts E) → ((m : AccessMode) (c : CoreTree) → AreReachable c → AreBuilt (reach_core m c)) → IfOk o (λ made. core_of made ≡ reach_core mode core) → AreReachable core → IfOk o (λ made. AreBuilt (core_of made))
+kept_built mode core (Ok made) law e is = subst AreBuilt (sym e) (law mode core is)
+kept_built mode core (Err x) law e is = tt

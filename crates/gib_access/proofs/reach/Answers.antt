@@ -1,5 +1,5 @@
 use Rattle.gib_core.specs.Parts.{core_of}
-use Rattle.gib_access.proofs.Programs.{kept_erased, kept_calls, kept_run}
+use Rattle.gib_access.proofs.Programs.{kept_built, kept_erased, kept_calls, kept_run}
 use Rattle.gib_access.proofs.reach.Goals as goal
 
 pub returns-clause-erased : goal.returns-clause-erased
@@ -10,3 +10,6 @@ returns-clause-calls c = kept_calls c.args.mode (core_of c.args.core) c.reached.
 
 pub returns-clause-run : goal.returns-clause-run
 returns-clause-run c = kept_run c.args.mode (core_of c.args.core) c.reached.result c.reaching_keeps_the_meaning.ensures.run c.reached.ensures
+
+pub returns-clause-built : goal.returns-clause-built
+returns-clause-built c = λ is. kept_built c.args.mode (core_of c.args.core) c.reached.result c.reaching_makes_built.ensures c.reached.ensures is
