@@ -1,0 +1,42 @@
+-- What the walk answers.
+use Rattle.std.specs.Prelude.{◌≡◌, ℕ, ◌+◌, List, [], ◌∷◌, ◌++◌, length, Option, Some, None}
+use Rattle.gib_core.specs.declared.scope.Known.{Known}
+use Rattle.gib_core.specs.Tree.{CoreTree}
+use Rattle.gib_core.specs.Met.{Setting, Met, Line}
+use Rattle.gib_core.specs.Rules.{Broken, broken_from, next_all}
+use Rattle.gib_loccheck.specs.declared.state.Walk.{Walk}
+use Rattle.gib_loccheck.specs.declared.state.Target.{Target}
+use Rattle.gib_loccheck.specs.declared.fault.LocFault.{LocFault}
+use Rattle.gib_loccheck.specs.declared.fault.LocFault.TheVariants as fault
+use Rattle.gib_loccheck.specs.Views.{before_of, setting_of}
+
+-- One line with what it is met with.
+abbrev pub one : Setting → Line → List Met
+one s line = record { line = line; with = s } ∷ []
+
+-- The lines break no rule where the walk was, and it stands behind them.
+pub record Passes (core : CoreTree) (old new : Walk) (lines : List Met) : Type 0 where
+  pub unbroken : broken_from core old.place (before_of old) lines ≡ None
+  pub before : before_of new ≡ next_all core.table (before_of old) lines
+  pub place : new.place ≡ old.place + length lines
+
+-- A refusal for a rule names the first broken one.
+abbrev pub Says : LocFault → Broken → Type 0
+Says fault.Memory broken = Unit {0}
+Says (fault.Rule rule place) broken = broken ≡ Some (rule, place)
+
+-- A refusal for a rule names the first one that the lines break where the walk was.
+abbrev pub Blames : CoreTree → Walk → List Met → LocFault → Type 0
+Blames core old lines e = Says e (broken_from core old.place (before_of old) lines)
+
+-- What is in scope is again the same.
+pub record Kept (old new : Walk) : Type 0 where
+  pub scope : new.scope.items ≡ old.scope.items
+  pub others : new.others.items ≡ old.others.items
+
+-- More is in scope, and what stands behind is met with this.
+pub record Binds (old new : Walk) (target : Target) (now : Setting) : Type 0 where
+  pub more : List Known
+  pub scope : new.scope.items ≡ old.scope.items ++ more
+  pub others : new.others.items ≡ old.others.items
+  pub setting : setting_of new target ≡ now

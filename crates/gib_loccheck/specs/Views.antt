@@ -1,0 +1,39 @@
+-- The state of the walk, as the rules see it.
+use Rattle.std.specs.Prelude.{List, [], ◌∷◌, map, reverse}
+use Rattle.gib_types.specs.declared.table.ConId.{ConId}
+use Rattle.gib_core.specs.declared.atom.Variable.{Variable}
+use Rattle.gib_core.specs.declared.node.Branch.{Branch}
+use Rattle.gib_core.specs.Met.{Destination, Nowhere, Empty, Open, Setting}
+use Rattle.gib_core.specs.Rules.{Before}
+use Rattle.gib_loccheck.specs.declared.state.Walk.{Walk}
+use Rattle.gib_loccheck.specs.declared.state.Target.{Target}
+use Rattle.gib_loccheck.specs.declared.state.Destination.{Destination as Stored}
+use Rattle.gib_loccheck.specs.declared.state.Destination.TheVariants as d
+
+-- Where a value is put.
+abbrev pub destination_of : Stored → Destination
+destination_of d.Nowhere = Nowhere
+destination_of d.Empty = Empty
+destination_of (d.Open h k standing) = Open h k standing.items
+
+-- What a term is met with.
+abbrev pub setting_of : Walk → Target → Setting
+setting_of w t = record {
+  destination = destination_of t.destination;
+  due = t.due;
+  scope = reverse w.scope.items;
+  others = reverse w.others.items;
+  whole = t.whole;
+}
+
+-- What stands before a term.
+abbrev pub before_of : Walk → Before
+before_of w = record { bound = reverse w.bound.items; cased = reverse w.cased.items }
+
+-- A branch without its term.
+abbrev pub arm_of : Branch → ConId × List Variable
+arm_of branch = (branch.constructor, branch.variables.items)
+
+-- Branches without their terms.
+abbrev pub arms_in : List Branch → List (ConId × List Variable)
+arms_in branches = map arm_of branches

@@ -1,0 +1,8 @@
+//! The location checker: which cores meet the build rules, and else which rule is broken first.
+#![tactic(auto)]
+
+mod fault;
+mod state;
+mod table;
+
+pub use fault::LocFault;
