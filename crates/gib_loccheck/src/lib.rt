@@ -1,7 +1,9 @@
 //! The location checker: which cores meet the build rules, and else which rule is broken first.
 #![tactic(auto)]
 
+mod atoms;
 mod fault;
+mod rules;
 mod state;
 mod table;
 

@@ -3,8 +3,7 @@
 ghost use Rattle.std.specs.Prelude.{◌≡◌, ℕ, reverse, IfOk};
 ghost use Rattle.gib_core.specs.Met.{known, field_due as due_at, stands_too, in_side};
 ghost use Rattle.gib_core.specs.Rules.{is_among, is_bound as bound_in, type_bound as type_in, is_nowhere as nowhere, is_empty as empty, has_room as room_in, is_usable as usable, is_other as other, type_of as type_in_atom, has_type as typed};
-ghost use Rattle.gib_loccheck.specs.Views.{destination_of, setting_of, before_of};
-ghost use Rattle.gib_loccheck.specs.declared.state.Target.{Target as Due};
+ghost use Rattle.gib_loccheck.specs.Views.{destination_of, in_scope, setting_of, before_of};
 ghost use Rattle.gib_loccheck.specs.declared.state.Walk.{Walk as State};
 
 use crate::table::{fields_of, packed_at, packed_count, same_type};
@@ -106,7 +105,7 @@ pub fn type_bound(bound: &[Bound], variable: Variable) -> Option<Ty>
 impl Walk {
     /// Whether an atom can be used here: it is a literal, or a variable in scope that is reached.
     pub fn is_usable(&self, atom: Atom) -> bool
-        ensures { (t : Due) → result ≡ usable (setting_of self.now t) atom }
+        ensures { result ≡ usable (in_scope self.now) atom }
     {
         match atom {
             Atom::Variable(x) => match find(&self.scope, x) {
@@ -120,7 +119,7 @@ impl Walk {
 
     /// Whether an atom is the variable of another side.
     pub fn is_other(&self, atom: Atom) -> bool
-        ensures { (t : Due) → result ≡ other (setting_of self.now t) atom }
+        ensures { result ≡ other (in_scope self.now) atom }
     {
         match atom {
             Atom::Variable(x) => is_listed(&self.others, x),

@@ -1,4 +1,4 @@
-use Rattle.std.proofs.Common.{◌≡◌, arith}
+use Rattle.std.proofs.Common.{arith}
 use Rattle.gib_loccheck.proofs.Naming.{none_all, all_few}
 use Rattle.gib_loccheck.proofs.table.constructors_of.Goals as goal
 
