@@ -56,3 +56,9 @@ access_same core b w t (Some f) (Skip z) = refl
 pub reach_same : (core : CoreTree) (b : Before) (w : Walk) (t : Target) (k : Option Known) (by : Access) → may_reach core b (in_scope w) k by ≡ may_reach core b (setting_of w t) k by
 reach_same core b w t None by = refl
 reach_same core b w t (Some k) by = ap (λ r. Rattle.std.specs.Prelude.not k.reached && r) (access_same core b w t k.behind by)
+
+pub both_usable : (w : Walk) (t : Target) (xs ys : List Atom) → (all_usable (in_scope w) xs && all_usable (in_scope w) ys) ≡ all_usable (setting_of w t) (xs ++ ys)
+both_usable w t xs ys = (λ i. all_usable_same w t xs i && all_usable_same w t ys i) ∙ sym (all_usable_both (setting_of w t) xs ys)
+
+pub both_other : (w : Walk) (t : Target) (xs ys : List Atom) → (any_other (in_scope w) xs || any_other (in_scope w) ys) ≡ any_other (setting_of w t) (xs ++ ys)
+both_other w t xs ys = (λ i. any_other_same w t xs i || any_other_same w t ys i) ∙ sym (any_other_both (setting_of w t) xs ys)

@@ -1,14 +1,15 @@
 //! The build rules of one line, each from what stands before it: the first that it breaks, or none.
 
-ghost use Rattle.std.specs.Prelude.{◌≡◌, ◌&&◌, ◌||◌, not, MatchOption, None, Some};
+ghost use Rattle.std.specs.Prelude.{◌≡◌, ◌==◌, ◌&&◌, ◌||◌, not, length, MatchOption, None, Some};
 ghost use Rattle.gib_types.specs.Table.{Table};
 ghost use Rattle.gib_core.specs.Tree.{CoreTree};
 ghost use Rattle.gib_syntax.specs.declared.tree.Operator.{Operator};
+ghost use Rattle.gib_syntax.specs.Meaning.{is_scalar as scalar};
 ghost use Rattle.gib_core.specs.Arena.{term_of, branches_from};
 ghost use Rattle.gib_core.specs.Parts.{core_of, function_term};
 ghost use Rattle.gib_core.specs.Meaning.{function_at};
-ghost use Rattle.gib_core.specs.Met.{PastLine, SideLine, PrimLine, ReachLine, WriteLine, PointLine, CallLine, GiveLine, CaseLine, IfLine, known};
-ghost use Rattle.gib_core.specs.Rules.{least, rules, side_rules, may_write as writes, are_scalars as scalars_are, by_access as accessed, may_reach as reaches, gives_packed as packed_given, call_fits as fits, cover as covers, is_reached, is_among};
+ghost use Rattle.gib_core.specs.Met.{PastLine, SideLine, PrimLine, ReachLine, WriteLine, PointLine, CallLine, GiveLine, CaseLine, IfLine, known, packed_types};
+ghost use Rattle.gib_core.specs.Rules.{least, rules, side_rules, may_write as writes, are_scalars as scalars_are, by_access as accessed, may_reach as reaches, gives_packed as packed_given, call_fits as fits, cover as covers, is_reached, is_among, are_variables as variables_are};
 ghost use Rattle.gib_loccheck.specs.Views.{destination_of, setting_of, in_scope, before_of, arms_in};
 
 use crate::atoms::{all_usable, any_cased, any_other, are_variables, further, have_scalar_types, have_types, is_one_of};
@@ -163,4 +164,159 @@ pub fn reach_rule(core: &Core, walk: &Walk, field: Variable, access: Access) -> 
         return Some(8);
     }
     None
+}
+
+/// Whether as many fields stand as the open head has, and these atoms name them in their order.
+fn is_filled(types: &TypeTable, constructor: ConId, standing: &[Variable], packed: &[Atom]) -> bool
+    ensures { result ≡ (length standing.now == length (packed_types types.now constructor) && variables_are standing.now packed.now) }
+{
+    standing.len() == packed_count(fields_of(types, constructor)) && are_variables(standing, packed)
+}
+
+/// Whether the open head can be filled so.
+fn may_write(
+    types: &TypeTable,
+    walk: &Walk,
+    target: &Target,
+    head: Variable,
+    constructor: ConId,
+    packed: &[Atom],
+) -> bool
+    ensures { result ≡ writes types.now (before_of walk.now) (destination_of target.now.destination) head constructor packed.now }
+{
+    match &target.destination {
+        Destination::Nowhere => false,
+        Destination::Empty => false,
+        Destination::Open {
+            head: open,
+            constructor: opened,
+            standing,
+        } => {
+            if open.0 != head.0 {
+                return false;
+            }
+            if opened.0 != constructor.0 {
+                return false;
+            }
+            if !is_filled(types, *opened, standing, packed) {
+                return false;
+            }
+            !any_cased(walk, further(standing))
+        }
+    }
+}
+
+/// Whether these scalars are those of the open head.
+fn are_scalars(types: &TypeTable, walk: &Walk, target: &Target, scalars: &[Atom]) -> bool
+    ensures { result ≡ scalars_are types.now (before_of walk.now) (destination_of target.now.destination) scalars.now }
+{
+    match &target.destination {
+        Destination::Nowhere => true,
+        Destination::Empty => true,
+        Destination::Open { constructor, .. } => {
+            have_scalar_types(walk, scalars, fields_of(types, *constructor))
+        }
+    }
+}
+
+/// The open head is filled.
+#[tactic(auto, using(crate::proofs::Scoping::both_other, crate::proofs::Scoping::both_usable))]
+pub fn write_rule(
+    core: &Core,
+    walk: &Walk,
+    target: &Target,
+    head: Variable,
+    constructor: ConId,
+    scalars: &[Atom],
+    packed: &[Atom],
+) -> Option<u8>
+    ensures { result ≡ least (rules (core_of core.now) (before_of walk.now) (setting_of walk.now target.now) (WriteLine head constructor scalars.now packed.now)) }
+{
+    if any_other(walk, scalars) || any_other(walk, packed) {
+        return Some(4);
+    }
+    if !may_write(core.types(), walk, target, head, constructor, packed) {
+        return Some(5);
+    }
+    if !(all_usable(walk, scalars) && all_usable(walk, packed)) {
+        return Some(8);
+    }
+    if !are_scalars(core.types(), walk, target, scalars) {
+        return Some(9);
+    }
+    None
+}
+
+/// An indirection to a packed value.
+#[tactic(auto, using(crate::proofs::Scoping::other_same, crate::proofs::Scoping::usable_same))]
+pub fn point_rule(core: &Core, walk: &Walk, target: &Target, atom: Atom) -> Option<u8>
+    ensures { result ≡ least (rules (core_of core.now) (before_of walk.now) (setting_of walk.now target.now) (PointLine atom)) }
+{
+    if walk.is_other(atom) {
+        return Some(4);
+    }
+    if !target.is_empty() {
+        return Some(6);
+    }
+    if !walk.is_usable(atom) {
+        return Some(8);
+    }
+    if !walk.has_type(atom, target.due) {
+        return Some(9);
+    }
+    None
+}
+
+/// A scalar result.
+#[tactic(auto, using(crate::proofs::Scoping::other_same, crate::proofs::Scoping::usable_same))]
+pub fn give_rule(core: &Core, walk: &Walk, target: &Target, atom: Atom) -> Option<u8>
+    ensures { result ≡ least (rules (core_of core.now) (before_of walk.now) (setting_of walk.now target.now) (GiveLine atom)) }
+{
+    if walk.is_other(atom) {
+        return Some(4);
+    }
+    if !walk.is_usable(atom) {
+        return Some(8);
+    }
+    if !(target.is_nowhere() && walk.has_type(atom, target.due)) {
+        return Some(9);
+    }
+    None
+}
+
+/// The condition of branches.
+pub fn if_rule(core: &Core, walk: &Walk, condition: Atom) -> Option<u8>
+    ensures { result ≡ least (rules (core_of core.now) (before_of walk.now) (in_scope walk.now) (IfLine condition)) }
+{
+    if walk.is_other(condition) {
+        return Some(4);
+    }
+    if !walk.is_usable(condition) {
+        return Some(8);
+    }
+    if !walk.has_type(condition, Ty::Truth) {
+        return Some(9);
+    }
+    None
+}
+
+/// The function of a name: the first one.
+fn find_function(core: &Core, name: Name) -> Option<&CoreFunction>
+    ensures { MatchOption result (function_at (core_of core.now).functions name.0 ≡ None) (λ f. function_at (core_of core.now).functions name.0 ≡ Some (function_term (term_of core.now.terms) f.now)) }
+{
+    let mut left = core.functions();
+    'functions: while let [function, after @ ..] = left {
+        if function.name.0 == name.0 {
+            return Some(function);
+        }
+        left = after;
+    }
+    None
+}
+
+/// Whether a scalar call may stand here: it is the whole right side of a `scalar`.
+fn may_give(target: &Target, ty: Ty) -> bool
+    ensures { result ≡ (not (scalar ty) || target.now.whole) }
+{
+    !is_scalar(ty) || target.whole
 }
