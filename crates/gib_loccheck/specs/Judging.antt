@@ -29,6 +29,11 @@ Says (fault.Rule rule place) broken = broken ≡ Some (rule, place)
 abbrev pub Blames : CoreTree → Walk → List Met → LocFault → Type 0
 Blames core old lines e = Says e (broken_from core old.place (before_of old) lines)
 
+-- More is in scope, on top.
+pub record Extends (old new : List Known) : Type 0 where
+  pub more : List Known
+  pub is : new ≡ old ++ more
+
 -- What is in scope is again the same.
 pub record Kept (old new : Walk) : Type 0 where
   pub scope : new.scope.items ≡ old.scope.items

@@ -2,6 +2,8 @@
 #![tactic(auto)]
 
 mod atoms;
+mod calls;
+mod cases;
 mod fault;
 mod rules;
 mod state;

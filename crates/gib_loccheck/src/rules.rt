@@ -299,24 +299,3 @@ pub fn if_rule(core: &Core, walk: &Walk, condition: Atom) -> Option<u8>
     }
     None
 }
-
-/// The function of a name: the first one.
-fn find_function(core: &Core, name: Name) -> Option<&CoreFunction>
-    ensures { MatchOption result (function_at (core_of core.now).functions name.0 ≡ None) (λ f. function_at (core_of core.now).functions name.0 ≡ Some (function_term (term_of core.now.terms) f.now)) }
-{
-    let mut left = core.functions();
-    'functions: while let [function, after @ ..] = left {
-        if function.name.0 == name.0 {
-            return Some(function);
-        }
-        left = after;
-    }
-    None
-}
-
-/// Whether a scalar call may stand here: it is the whole right side of a `scalar`.
-fn may_give(target: &Target, ty: Ty) -> bool
-    ensures { result ≡ (not (scalar ty) || target.now.whole) }
-{
-    !is_scalar(ty) || target.whole
-}

@@ -1,8 +1,7 @@
 use Rattle.gib_types.specs.Table.{scalar_types}
 use Rattle.std.proofs.Common.{◌≡◌, length}
 use Rattle.gib_core.specs.Rules.{have_types}
-use Rattle.gib_loccheck.specs.Views.{setting_of, before_of}
-use Rattle.gib_loccheck.specs.declared.state.Target.{Target}
+use Rattle.gib_loccheck.specs.Views.{before_of}
 use Rattle.gib_loccheck.proofs.atoms.have_scalar_types.Given as goal
 
 abbrev pub invariant-fields : goal.invariant-fields
