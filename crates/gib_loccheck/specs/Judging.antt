@@ -1,9 +1,12 @@
 -- What the walk answers.
-use Rattle.std.specs.Prelude.{◌≡◌, ℕ, ◌+◌, List, [], ◌∷◌, ◌++◌, length, Option, Some, None}
+use Rattle.std.specs.Prelude.{◌≡◌, ℕ, ◌+◌, List, [], ◌∷◌, ◌++◌, length, reverse, Option, Some, None}
+use Rattle.gib_types.specs.declared.table.Ty.{Ty}
+use Rattle.gib_core.specs.declared.atom.Variable.{Variable}
+use Rattle.gib_core.specs.declared.atom.Atom.{Atom}
 use Rattle.gib_core.specs.declared.scope.Known.{Known}
 use Rattle.gib_core.specs.Tree.{CoreTree}
-use Rattle.gib_core.specs.Met.{Setting, Met, Line}
-use Rattle.gib_core.specs.Rules.{Broken, broken_from, next_all}
+use Rattle.gib_core.specs.Met.{Setting, Met, Line, CaseLine}
+use Rattle.gib_core.specs.Rules.{Broken, broken_from, next_all, cases_on}
 use Rattle.gib_loccheck.specs.declared.state.Walk.{Walk}
 use Rattle.gib_loccheck.specs.declared.state.Target.{Target}
 use Rattle.gib_loccheck.specs.declared.fault.LocFault.{LocFault}
@@ -45,3 +48,19 @@ pub record Binds (old new : Walk) (target : Target) (now : Setting) : Type 0 whe
   pub scope : new.scope.items ≡ old.scope.items ++ more
   pub others : new.others.items ≡ old.others.items
   pub setting : setting_of new target ≡ now
+
+-- One more variable was bound, and nothing else is new.
+pub record BindsToo (old new : Walk) (x : Variable) (ty : Ty) : Type 0 where
+  pub bound : reverse new.bound.items ≡ record { variable = x; ty = ty } ∷ reverse old.bound.items
+  pub cased : new.cased.items ≡ old.cased.items
+  pub scope : new.scope.items ≡ old.scope.items
+  pub others : new.others.items ≡ old.others.items
+  pub place : new.place ≡ old.place
+
+-- A `case` was on one more variable, where it was on one, and nothing else is new.
+pub record CasesToo (old new : Walk) (x : Atom) : Type 0 where
+  pub cased : reverse new.cased.items ≡ cases_on (CaseLine x []) (reverse old.cased.items)
+  pub bound : new.bound.items ≡ old.bound.items
+  pub scope : new.scope.items ≡ old.scope.items
+  pub others : new.others.items ≡ old.others.items
+  pub place : new.place ≡ old.place

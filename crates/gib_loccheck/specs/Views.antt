@@ -1,6 +1,6 @@
 -- The state of the walk, as the rules see it.
 use Rattle.std.specs.Prelude.{List, [], ◌∷◌, map, reverse}
-use Rattle.std.specs.Prelude.{false, not, ◌&&◌, Option}
+use Rattle.std.specs.Prelude.{false, not, ◌&&◌, ◌||◌, Option}
 use Rattle.gib_core.specs.Tree.{FunctionTerm}
 use Rattle.gib_core.specs.declared.atom.Atom.{Atom}
 use Rattle.gib_types.specs.declared.table.Ty.TheVariants.{Whole}
@@ -8,7 +8,7 @@ use Rattle.gib_types.specs.declared.table.ConId.{ConId}
 use Rattle.gib_core.specs.declared.atom.Variable.{Variable}
 use Rattle.gib_core.specs.declared.node.Branch.{Branch}
 use Rattle.gib_core.specs.Met.{Destination, Nowhere, Empty, Open, Setting}
-use Rattle.gib_core.specs.Rules.{Before, Judgement, any_other, gives_packed, is_empty, all_usable, call_fits}
+use Rattle.gib_core.specs.Rules.{Before, Judgement, any_other, is_bound, have_types, gives_packed, is_empty, all_usable, call_fits}
 use Rattle.gib_loccheck.specs.declared.state.Walk.{Walk}
 use Rattle.gib_loccheck.specs.declared.state.Target.{Target}
 use Rattle.gib_loccheck.specs.declared.state.Destination.{Destination as Stored}
@@ -53,3 +53,10 @@ call_rules b s xs f =
     ∷ (6, gives_packed f && not (is_empty s.destination))
     ∷ (8, not (all_usable s xs))
     ∷ (9, not (call_fits b s xs f)) ∷ []
+
+-- What the rules on an operation are judged by: neither its operator nor the core matters.
+abbrev pub prim_rules : Before → Setting → Variable → Atom → Atom → List Judgement
+prim_rules b s x y z =
+    (4, any_other s (y ∷ z ∷ []))
+    ∷ (8, is_bound b.bound x || not (all_usable s (y ∷ z ∷ [])))
+    ∷ (9, not (have_types b (y ∷ z ∷ []) (Whole ∷ Whole ∷ []))) ∷ []

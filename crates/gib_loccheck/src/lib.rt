@@ -5,6 +5,7 @@ mod atoms;
 mod calls;
 mod cases;
 mod fault;
+mod lines;
 mod rules;
 mod state;
 mod table;

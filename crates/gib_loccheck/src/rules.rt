@@ -2,15 +2,13 @@
 
 ghost use Rattle.std.specs.Prelude.{◌≡◌, ◌==◌, ◌&&◌, ◌||◌, not, length, MatchOption, None, Some};
 ghost use Rattle.gib_types.specs.Table.{Table};
-ghost use Rattle.gib_core.specs.Tree.{CoreTree};
-ghost use Rattle.gib_syntax.specs.declared.tree.Operator.{Operator};
 ghost use Rattle.gib_syntax.specs.Meaning.{is_scalar as scalar};
 ghost use Rattle.gib_core.specs.Arena.{term_of, branches_from};
 ghost use Rattle.gib_core.specs.Parts.{core_of, function_term};
 ghost use Rattle.gib_core.specs.Meaning.{function_at};
 ghost use Rattle.gib_core.specs.Met.{PastLine, SideLine, PrimLine, ReachLine, WriteLine, PointLine, CallLine, GiveLine, CaseLine, IfLine, known, packed_types};
 ghost use Rattle.gib_core.specs.Rules.{least, rules, side_rules, may_write as writes, are_scalars as scalars_are, by_access as accessed, may_reach as reaches, gives_packed as packed_given, call_fits as fits, cover as covers, is_reached, is_among, are_variables as variables_are};
-ghost use Rattle.gib_loccheck.specs.Views.{destination_of, setting_of, in_scope, before_of, arms_in};
+ghost use Rattle.gib_loccheck.specs.Views.{destination_of, setting_of, in_scope, before_of, prim_rules};
 
 use crate::atoms::{all_usable, any_cased, any_other, are_variables, further, have_scalar_types, have_types, is_one_of};
 use crate::state::{Destination, Target, Walk, find, is_bound, is_listed};
@@ -106,7 +104,7 @@ pub fn side_rule(
 
 /// An operation.
 pub fn prim_rule(walk: &Walk, variable: Variable, left: Atom, right: Atom) -> Option<u8>
-    ensures { (core : CoreTree) (f : Operator) → result ≡ least (rules core (before_of walk.now) (in_scope walk.now) (PrimLine variable f left right)) }
+    ensures { result ≡ least (prim_rules (before_of walk.now) (in_scope walk.now) variable left right) }
 {
     if walk.is_other(left) || walk.is_other(right) {
         return Some(4);
