@@ -3,9 +3,10 @@ use Rattle.std.specs.Prelude.{◌≡◌, ℕ, ◌+◌, List, [], ◌∷◌, ◌+
 use Rattle.gib_types.specs.declared.table.Ty.{Ty}
 use Rattle.gib_core.specs.declared.atom.Variable.{Variable}
 use Rattle.gib_core.specs.declared.atom.Atom.{Atom}
+use Rattle.gib_core.specs.declared.atom.Kind.{Kind}
 use Rattle.gib_core.specs.declared.scope.Known.{Known}
 use Rattle.gib_core.specs.Tree.{CoreTree}
-use Rattle.gib_core.specs.Met.{Setting, Met, Line, CaseLine}
+use Rattle.gib_core.specs.Met.{Setting, Met, Line, CaseLine, stands_too, reached_too, known}
 use Rattle.gib_core.specs.Rules.{Broken, broken_from, next_all, cases_on}
 use Rattle.gib_loccheck.specs.declared.state.Walk.{Walk}
 use Rattle.gib_loccheck.specs.declared.state.Target.{Target}
@@ -64,3 +65,37 @@ pub record CasesToo (old new : Walk) (x : Atom) : Type 0 where
   pub scope : new.scope.items ≡ old.scope.items
   pub others : new.others.items ≡ old.others.items
   pub place : new.place ≡ old.place
+
+-- What judges lines is the same: what was bound and cased, and the number of the next term.
+pub record Stays (old new : Walk) : Type 0 where
+  pub bound : new.bound.items ≡ old.bound.items
+  pub cased : new.cased.items ≡ old.cased.items
+  pub place : new.place ≡ old.place
+
+-- One more variable is another side's.
+abbrev pub with_other : Variable → Setting → Setting
+with_other x s = record s { others = x ∷ s.others }
+
+-- What a term behind a bound field of the head is met with, before the field is in scope.
+abbrev pub past_field : Kind → Variable → Setting → Setting
+past_field kind x s = record s { destination = stands_too kind x s.destination }
+
+-- One more variable is in scope, and nothing else is new.
+pub record Enters (old new : Walk) (k : Known) : Type 0 where
+  pub scope : new.scope.items ≡ old.scope.items ++ k ∷ []
+  pub others : new.others.items ≡ old.others.items
+  pub stays : Stays old new
+
+-- The field is reached, where it is in scope, and nothing else is new.
+pub record Reaches (old new : Walk) (x : Variable) : Type 0 where
+  pub more : List Known
+  pub scope : new.scope.items ≡ old.scope.items ++ more
+  pub field : reverse new.scope.items ≡ reached_too (known (reverse old.scope.items) x) (reverse old.scope.items)
+  pub others : new.others.items ≡ old.others.items
+  pub stays : Stays old new
+
+-- One more variable is another side's, and nothing else is new.
+pub record HasOther (old new : Walk) (x : Variable) : Type 0 where
+  pub others : new.others.items ≡ old.others.items ++ x ∷ []
+  pub scope : new.scope.items ≡ old.scope.items
+  pub stays : Stays old new

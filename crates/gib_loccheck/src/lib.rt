@@ -2,6 +2,7 @@
 #![tactic(auto)]
 
 mod atoms;
+mod bindings;
 mod calls;
 mod cases;
 mod fault;
@@ -9,5 +10,6 @@ mod lines;
 mod rules;
 mod state;
 mod table;
+mod walk;
 
 pub use fault::LocFault;

@@ -254,4 +254,26 @@ impl Destination {
             }
         }
     }
+
+    /// The same destination.
+    pub fn clone(&self) -> Result<Destination, Memory>
+        ensures { IfOk result (λ d. destination_of d ≡ destination_of self.now) }
+    {
+        match self {
+            Destination::Nowhere => Ok(Destination::Nowhere),
+            Destination::Empty => Ok(Destination::Empty),
+            Destination::Open {
+                head,
+                constructor,
+                standing,
+            } => {
+                let standing = standing.clone()?;
+                Ok(Destination::Open {
+                    head: *head,
+                    constructor: *constructor,
+                    standing,
+                })
+            }
+        }
+    }
 }
