@@ -1,5 +1,6 @@
 pub mod Answering
 pub mod Arms
+pub mod OneBody
 pub mod Branching
 pub mod Judges
 pub mod Naming

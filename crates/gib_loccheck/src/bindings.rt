@@ -22,7 +22,7 @@ use gib_types::ConId;
 use std::alloc::Global;
 
 /// A variable that is reached comes into scope.
-fn enter(walk: &mut Walk, variable: Variable) -> Result<(), Memory>
+pub fn enter(walk: &mut Walk, variable: Variable) -> Result<(), Memory>
     ensures { OnOk result (Enters walk.old walk.new (record { variable = variable; reached = true; behind = None })) }
 {
     walk.scope.push(Known {

@@ -3,6 +3,7 @@
 
 mod atoms;
 mod bindings;
+mod bodies;
 mod calls;
 mod cases;
 mod fault;
