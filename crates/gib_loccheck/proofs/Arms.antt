@@ -10,8 +10,8 @@ use Rattle.gib_loccheck.specs.Views.{arms_in}
 
 -- The first branch is the next constructor's: what is left to judge are the others.
 pub arms_next : (table : Table) (k m : ℕ) (branch : Branch) (left : List Branch) → 1 ≤ length left → branch ≡ get_or left 0 branch → (m ≡ 0 → ⊥)
-  → (k == branch.constructor.0 && length (fields_at table k) == length branch.variables.items) ≡ true
-  → are_arms table (numbers_from (k + 1) (m - 1)) (arms_in (take (length left - 1) (drop 1 left))) ≡ are_arms table (numbers_from k m) (arms_in left)
+    → (k == branch.constructor.0 && length (fields_at table k) == length branch.variables.items) ≡ true
+    → are_arms table (numbers_from (k + 1) (m - 1)) (arms_in (take (length left - 1) (drop 1 left))) ≡ are_arms table (numbers_from k m) (arms_in left)
 arms_next table k m branch [] long at more ok = absurd (omega (arith, long))
 arms_next table k zero branch (b ∷ left) long at more ok = absurd (more refl)
 arms_next table k (suc m) branch (b ∷ left) long at more ok =

@@ -22,7 +22,7 @@ or_later-else (Some r) p a b = refl
 
 module _ (core : CoreTree) where
   pub broken-append : (p : ℕ) (b : Before) (xs ys : List Met)
-    → broken_from core p b (xs ++ ys) ≡ or_else (broken_from core p b xs) (broken_from core (p + length xs) (next_all core.table b xs) ys)
+      → broken_from core p b (xs ++ ys) ≡ or_else (broken_from core p b xs) (broken_from core (p + length xs) (next_all core.table b xs) ys)
   broken-append p b [] ys = ap (λ (q : ℕ). broken_from core q b ys) (omega arith)
   broken-append p b (x ∷ xs) ys =
       ap (or_later (least (rules core b x.with x.line)) p) (broken-append (p + 1) (next core.table b x.line) xs ys)

@@ -190,7 +190,12 @@ pub fn open_arm(
     ensures stays { IfOk result (λ _. Stays walk.old walk.new) }
 {
     let types = fields_of(core.types(), branch.constructor);
-    enter_arm(&mut walk.scope, branch.constructor, &branch.variables, types)?;
+    enter_arm(
+        &mut walk.scope,
+        branch.constructor,
+        &branch.variables,
+        types,
+    )?;
     let inner = not_whole(target)?;
     Ok(inner)
 }

@@ -119,11 +119,7 @@ pub fn case_rule(
 }
 
 /// The fields of an arm were bound, with their types.
-fn bind_fields(
-    bound: &mut Vec<Bound>,
-    variables: &[Variable],
-    types: &[Ty],
-) -> Result<(), Memory>
+fn bind_fields(bound: &mut Vec<Bound>, variables: &[Variable], types: &[Ty]) -> Result<(), Memory>
     ensures { OnOk result (reverse bound.new.items ≡ fields_bound variables.now types.now (reverse bound.old.items)) }
 {
     let mut types_left = types;
@@ -149,7 +145,11 @@ pub fn bind_arms(
 {
     let mut left = branches;
     'branches: while let [branch, after @ ..] = left {
-        bind_fields(bound, &branch.variables, fields_of(types, branch.constructor))?;
+        bind_fields(
+            bound,
+            &branch.variables,
+            fields_of(types, branch.constructor),
+        )?;
         left = after;
     }
     Ok(())

@@ -4,7 +4,7 @@ use gib_base::Memory;
 use std::alloc::AllocFailed;
 
 /// Why a core was not checked to its end, or is not built.
-#[derive(Debug, Drop)]
+#[derive(Clone, Copy, Debug, PartialEq, Eq, Drop)]
 pub enum LocFault {
     /// Want of memory, or more terms than a number counts.
     Memory,

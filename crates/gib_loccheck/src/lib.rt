@@ -1,10 +1,10 @@
 //! The location checker: which cores meet the build rules, and else which rule is broken first.
 #![tactic(auto)]
 
-ghost use Rattle.std.specs.Prelude.{◌≡◌, IfOk, IfErr};
+ghost use Rattle.std.specs.Prelude.{◌≡◌, ℕ, Some, IfOk, IfErr, MatchResult};
 ghost use Rattle.gib_core.specs.Parts.{core_of};
 ghost use Rattle.gib_core.specs.Rules.{AreBuilt, first_broken};
-ghost use Rattle.gib_loccheck.specs.Judging.{Says};
+ghost use Rattle.gib_loccheck.specs.Answers.{IsMemory, IsMemoryOr, IsFirst};
 
 mod atoms;
 mod bindings;
@@ -33,14 +33,16 @@ use std::alloc::Global;
 pub fn loccheck(alloc: Global, core: Core) -> Result<Checked, LocFault>
     ensures checked { IfOk result (λ checked. checked ≡ core) }
     ensures built { IfOk result (λ _. AreBuilt (core_of core)) }
-    // A refusal for a rule names the first one that is broken.
-    ensures fault { IfErr result (λ e. Says e (first_broken (core_of core))) }
+    // What is built is refused for want of memory alone.
+    ensures only { AreBuilt (core_of core) → IfErr result IsMemory }
+    // Each other refusal is the first broken rule.
+    ensures exact { IfErr result (IsFirst (core_of core)) }
+    // Where a rule is broken, the first one is answered.
+    ensures told { (rule place : ℕ) → first_broken (core_of core) ≡ Some (rule, place) → MatchResult result (λ _. ⊥) (IsMemoryOr rule place) }
 {
+    built_is_unbroken();
     match check_bodies(alloc, &core) {
         Err(fault) => Err(fault),
-        Ok(()) => {
-            built_is_unbroken();
-            Ok(Checked::make(core))
-        }
+        Ok(()) => Ok(Checked::make(core)),
     }
 }

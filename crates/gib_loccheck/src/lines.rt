@@ -11,7 +11,9 @@ ghost use Rattle.gib_loccheck.specs.Judging.{one, Says, Passes, Blames, Kept, Bi
 use crate::calls::call_rule;
 use crate::cases::{bind_arms, case_rule};
 use crate::fault::LocFault;
-use crate::rules::{give_rule, if_rule, past_rule, point_rule, prim_rule, reach_rule, side_rule, write_rule};
+use crate::rules::{
+    give_rule, if_rule, past_rule, point_rule, prim_rule, reach_rule, side_rule, write_rule,
+};
 use crate::state::{Target, Walk};
 use crate::table::{operator_type, type_made};
 use gib_base::Name;
@@ -46,7 +48,13 @@ fn bind(walk: &mut Walk, variable: Variable, ty: Ty) -> Result<(), LocFault>
 }
 
 /// Room for the head of a constructor.
-pub fn past(core: &Core, walk: &mut Walk, target: &Target, head: Variable, constructor: ConId) -> Result<(), LocFault>
+pub fn past(
+    core: &Core,
+    walk: &mut Walk,
+    target: &Target,
+    head: Variable,
+    constructor: ConId,
+) -> Result<(), LocFault>
     ensures passes { IfOk result (λ _. Passes (core_of core.now) walk.old walk.new (one (setting_of walk.old target.now) (PastLine head constructor))) }
     ensures kept { IfOk result (λ _. Kept walk.old walk.new) }
     ensures broken { IfErr result (Blames (core_of core.now) walk.old (one (setting_of walk.old target.now) (PastLine head constructor))) }
@@ -57,7 +65,14 @@ pub fn past(core: &Core, walk: &mut Walk, target: &Target, head: Variable, const
 }
 
 /// A variable that is bound to a term.
-pub fn side_line(core: &Core, walk: &mut Walk, target: &Target, kind: Kind, variable: Variable, ty: Ty) -> Result<(), LocFault>
+pub fn side_line(
+    core: &Core,
+    walk: &mut Walk,
+    target: &Target,
+    kind: Kind,
+    variable: Variable,
+    ty: Ty,
+) -> Result<(), LocFault>
     ensures passes { IfOk result (λ _. Passes (core_of core.now) walk.old walk.new (one (setting_of walk.old target.now) (SideLine kind variable ty))) }
     ensures kept { IfOk result (λ _. Kept walk.old walk.new) }
     ensures broken { IfErr result (Blames (core_of core.now) walk.old (one (setting_of walk.old target.now) (SideLine kind variable ty))) }
@@ -77,7 +92,13 @@ pub fn par(walk: &mut Walk) -> Result<(), LocFault>
 }
 
 /// An operation.
-pub fn prim(walk: &mut Walk, variable: Variable, operator: Operator, left: Atom, right: Atom) -> Result<(), LocFault>
+pub fn prim(
+    walk: &mut Walk,
+    variable: Variable,
+    operator: Operator,
+    left: Atom,
+    right: Atom,
+) -> Result<(), LocFault>
     ensures passes { (core : CoreTree) → IfOk result (λ _. Passes core walk.old walk.new (one (in_scope walk.old) (PrimLine variable operator left right))) }
     ensures kept { IfOk result (λ _. Kept walk.old walk.new) }
     ensures broken { (core : CoreTree) → IfErr result (Blames core walk.old (one (in_scope walk.old) (PrimLine variable operator left right))) }
@@ -98,7 +119,15 @@ pub fn reach(core: &Core, walk: &mut Walk, field: Variable, access: Access) -> R
 }
 
 /// The open head is filled.
-pub fn write(core: &Core, walk: &mut Walk, target: &Target, head: Variable, constructor: ConId, scalars: &[Atom], packed: &[Atom]) -> Result<(), LocFault>
+pub fn write(
+    core: &Core,
+    walk: &mut Walk,
+    target: &Target,
+    head: Variable,
+    constructor: ConId,
+    scalars: &[Atom],
+    packed: &[Atom],
+) -> Result<(), LocFault>
     ensures passes { IfOk result (λ _. Passes (core_of core.now) walk.old walk.new (one (setting_of walk.old target.now) (WriteLine head constructor scalars.now packed.now))) }
     ensures kept { IfOk result (λ _. Kept walk.old walk.new) }
     ensures broken { IfErr result (Blames (core_of core.now) walk.old (one (setting_of walk.old target.now) (WriteLine head constructor scalars.now packed.now))) }
@@ -118,7 +147,13 @@ pub fn point(core: &Core, walk: &mut Walk, target: &Target, atom: Atom) -> Resul
 }
 
 /// A call.
-pub fn call(core: &Core, walk: &mut Walk, target: &Target, name: Name, arguments: &[Atom]) -> Result<(), LocFault>
+pub fn call(
+    core: &Core,
+    walk: &mut Walk,
+    target: &Target,
+    name: Name,
+    arguments: &[Atom],
+) -> Result<(), LocFault>
     ensures passes { IfOk result (λ _. Passes (core_of core.now) walk.old walk.new (one (setting_of walk.old target.now) (CallLine name arguments.now))) }
     ensures kept { IfOk result (λ _. Kept walk.old walk.new) }
     ensures broken { IfErr result (Blames (core_of core.now) walk.old (one (setting_of walk.old target.now) (CallLine name arguments.now))) }
@@ -148,7 +183,14 @@ pub fn condition(core: &Core, walk: &mut Walk, condition: Atom) -> Result<(), Lo
 }
 
 /// The subject of a case, and what its arms bind.
-pub fn subject(alloc: Global, core: &Core, walk: &mut Walk, target: &Target, subject: Atom, branches: &[Branch]) -> Result<(), LocFault>
+pub fn subject(
+    alloc: Global,
+    core: &Core,
+    walk: &mut Walk,
+    target: &Target,
+    subject: Atom,
+    branches: &[Branch],
+) -> Result<(), LocFault>
     ensures passes { IfOk result (λ _. Passes (core_of core.now) walk.old walk.new (one (setting_of walk.old target.now) (CaseLine subject (arms_in branches.now)))) }
     ensures kept { IfOk result (λ _. Kept walk.old walk.new) }
     ensures broken { IfErr result (Blames (core_of core.now) walk.old (one (setting_of walk.old target.now) (CaseLine subject (arms_in branches.now)))) }

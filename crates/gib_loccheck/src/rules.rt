@@ -10,11 +10,14 @@ ghost use Rattle.gib_core.specs.Met.{PastLine, SideLine, PrimLine, ReachLine, Wr
 ghost use Rattle.gib_core.specs.Rules.{least, rules, side_rules, may_write as writes, are_scalars as scalars_are, by_access as accessed, may_reach as reaches, gives_packed as packed_given, call_fits as fits, cover as covers, is_reached, is_among, are_variables as variables_are};
 ghost use Rattle.gib_loccheck.specs.Views.{destination_of, setting_of, in_scope, before_of, prim_rules};
 
-use crate::atoms::{all_usable, any_cased, any_other, are_variables, further, have_scalar_types, have_types, is_one_of};
+use crate::atoms::{
+    all_usable, any_cased, any_other, are_variables, further, have_scalar_types, have_types,
+    is_one_of,
+};
 use crate::state::{Destination, Target, Walk, find, is_bound, is_listed};
 use crate::table::{fields_of, is_of_type, is_scalar, packed_count, same_type};
 use gib_base::Name;
-use gib_core::{Access, Atom, Behind, Core, CoreFunction, Known, Kind, Variable};
+use gib_core::{Access, Atom, Behind, Core, CoreFunction, Kind, Known, Variable};
 use gib_types::{ConId, Ty, TypeTable};
 
 /// Room for the head of a constructor.
@@ -37,13 +40,7 @@ pub fn past_rule(
 }
 
 /// A field of the open head.
-fn here_rule(
-    core: &Core,
-    walk: &Walk,
-    target: &Target,
-    variable: Variable,
-    ty: Ty,
-) -> Option<u8>
+fn here_rule(core: &Core, walk: &Walk, target: &Target, variable: Variable, ty: Ty) -> Option<u8>
     ensures { result ≡ least (rules (core_of core.now) (before_of walk.now) (setting_of walk.now target.now) (SideLine Kind.Here variable ty)) }
 {
     if !target.has_room(core.types()) {

@@ -9,7 +9,10 @@ ghost use Rattle.gib_core.specs.Met.{met, met_bind, met_side, met_branches, behi
 ghost use Rattle.gib_loccheck.specs.Views.{setting_of};
 ghost use Rattle.gib_loccheck.specs.Judging.{Passes, Blames, Kept, Binds, with_other};
 
-use crate::bindings::{add_other, behind_field, not_whole, open_arm, open_head, operate, reach_field, stand, stand_both};
+use crate::bindings::{
+    add_other, behind_field, not_whole, open_arm, open_head, operate, reach_field, stand,
+    stand_both,
+};
 use crate::fault::LocFault;
 use crate::lines::{call, condition, give, par, point, side_line, subject, write};
 use crate::state::{Target, Walk};

@@ -12,6 +12,6 @@ returns-in-Err-clause-broken c =
 pub returns-in_ok-next-in-Ok-clause-passes : goal.returns-in_ok-next-in-Ok-clause-passes
 returns-in_ok-next-in-Ok-clause-passes c =
     λ core. stays_passes core c.args.walk.now c.args.walk.now c.prim.new.walk c.enter.new.walk (one (setting_of c.args.walk.now c.args.target.now) (PrimLine c.args.variable c.args.operator c.args.left c.args.right))
-      (stays_same c.args.walk.now)
-      (prim_passes core c.args.walk.now c.prim.new.walk c.args.target.now c.args.variable c.args.operator c.args.left c.args.right (c.in-Ok.ensures.passes core))
-      c.in_ok-enter-in-Ok.ensures.stays
+    (stays_same c.args.walk.now)
+    (prim_passes core c.args.walk.now c.prim.new.walk c.args.target.now c.args.variable c.args.operator c.args.left c.args.right (c.in-Ok.ensures.passes core))
+    c.in_ok-enter-in-Ok.ensures.stays
