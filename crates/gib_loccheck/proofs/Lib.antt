@@ -1,0 +1,9 @@
+pub mod Answering
+pub mod Arms
+pub mod OneBody
+pub mod Branching
+pub mod Judges
+pub mod Naming
+pub mod OneLine
+pub mod Scoping
+pub mod Walking

@@ -1,0 +1,228 @@
+-- The lines of a term, from those of its parts.
+use Rattle.std.proofs.Common.{◌≡◌, ℕ, ◌+◌, ◌-◌, ◌≤◌, Bool, true, false, List, [], ◌∷◌, ◌++◌, None, refl, sym, ap, ◌∙◌, subst, reverse, arith, take, drop, get_or, length, append_assoc}
+use Rattle.std.proofs.Math.Seq.{take-length}
+use Rattle.std.specs.List.{AllByRecursion}
+use Rattle.gib_types.specs.declared.table.Ty.{Ty}
+use Rattle.gib_types.specs.declared.table.ConId.{ConId}
+use Rattle.gib_core.specs.declared.atom.Variable.{Variable}
+use Rattle.gib_core.specs.declared.atom.Atom.{Atom}
+use Rattle.gib_core.specs.declared.atom.Kind.{Kind}
+use Rattle.gib_core.specs.declared.node.Branch.{Branch}
+use Rattle.gib_core.specs.Tree.{CoreTree, Term, Then, IfTerm, CaseTerm, Bind, Both, Side, On, variable_of}
+use Rattle.gib_core.specs.Arena.{branches_from, IsBranchBelow}
+use Rattle.gib_core.specs.Met.{Setting, Met, Line, ParLine, CaseLine, IfLine, met, met_bind, met_side, met_branches, behind, behind_side, in_arm, in_branch, arms_of}
+use Rattle.gib_loccheck.specs.declared.state.Walk.{Walk}
+use Rattle.gib_loccheck.specs.declared.state.Target.{Target}
+use Rattle.gib_loccheck.specs.declared.fault.LocFault.{LocFault}
+use Rattle.gib_loccheck.specs.declared.fault.LocFault.TheVariants as fault
+use Rattle.gib_loccheck.specs.Views.{in_scope, setting_of, arms_in, arm_of}
+use Rattle.gib_loccheck.specs.Judging.{one, Passes, Blames, Kept, Binds, Stays, with_other, past_field}
+use Rattle.gib_loccheck.proofs.Branching.{ArmsSoFar}
+use Rattle.gib_loccheck.proofs.Judges.{passes_then, blames_front, blames_back, stays_passes, stays_same, setting-kept, kept_then}
+use Rattle.gib_loccheck.proofs.OneLine.{if_passes, if_blames}
+
+pub arms_known : (f : ℕ → Term) (bs : List Branch) → arms_of (branches_from f bs) ≡ arms_in bs
+arms_known f [] = refl
+arms_known f (b ∷ bs) = ap (λ z. arm_of b ∷ z) (arms_known f bs)
+
+pub kept_binds : (a b c : Walk) (t target : Target) (bd : Bind) → Kept a b → Binds b c t (behind (setting_of b target) bd) → Binds a c t (behind (setting_of a target) bd)
+kept_binds a b c t target bd k h = record {
+  more = h.more;
+  scope = h.scope ∙ ap (λ z. z ++ h.more) k.scope;
+  others = h.others ∙ k.others;
+  setting = h.setting ∙ ap (λ z. behind z bd) (setting-kept a b target k);
+}
+
+pub binds_both : (a b c : Walk) (inner target t : Target) (l r : Side) → Binds a b inner (behind_side (setting_of a target) l) → Binds b c t (behind_side (setting_of b inner) r)
+    → Binds a c t (behind_side (behind_side (setting_of a target) l) r)
+binds_both a b c inner target t l r p q = record {
+  more = p.more ++ q.more;
+  scope = q.scope ∙ ap (λ z. z ++ q.more) p.scope ∙ append_assoc a.scope.items p.more q.more;
+  others = q.others ∙ p.others;
+  setting = q.setting ∙ ap (λ z. behind_side z r) p.setting;
+}
+
+module _ (core : CoreTree) where
+  -- A binding, and the rest of its line.
+  pub line_passes : (a b c d : Walk) (s : Setting) (inner : Target) (bd : Bind) (rest : Term)
+      → Passes core a b (met_bind core.table s bd) → Binds a b inner (behind s bd) → Passes core b c (met core.table (setting_of b inner) rest) → Stays c d
+      → Passes core a d (met core.table s (Then bd rest))
+  line_passes a b c d s inner bd rest p h q k =
+      let r = subst (λ (z : Setting). Passes core b c (met core.table z rest)) h.setting q in
+      stays_passes core a a c d (met core.table s (Then bd rest)) (stays_same a) (passes_then core a b c (met_bind core.table s bd) (met core.table (behind s bd) rest) p r) k
+
+  pub line_blames_bind : (e : LocFault) (a : Walk) (s : Setting) (bd : Bind) (rest : Term)
+      → Blames core a (met_bind core.table s bd) e → Blames core a (met core.table s (Then bd rest)) e
+  line_blames_bind e a s bd rest h = blames_front core e a (met_bind core.table s bd) (met core.table (behind s bd) rest) h
+
+  pub line_blames_rest : (e : LocFault) (a b : Walk) (s : Setting) (inner : Target) (bd : Bind) (rest : Term)
+      → Passes core a b (met_bind core.table s bd) → Binds a b inner (behind s bd) → Blames core b (met core.table (setting_of b inner) rest) e
+      → Blames core a (met core.table s (Then bd rest)) e
+  line_blames_rest e a b s inner bd rest p h q =
+      let r = subst (λ (z : Setting). Blames core b (met core.table z rest) e) h.setting q in
+      blames_back core e a b (met_bind core.table s bd) (met core.table (behind s bd) rest) p r
+
+  -- A case: its subject, and its branches.
+  pub case_passes : (a b c : Walk) (target : Target) (x : Atom) (f : ℕ → Term) (bs : List Branch)
+      → Passes core a b (one (setting_of a target) (CaseLine x (arms_in bs))) → Kept a b → Passes core b c (met_branches core.table (setting_of b target) (branches_from f bs))
+      → Passes core a c (met core.table (setting_of a target) (CaseTerm x (branches_from f bs)))
+  case_passes a b c target x f bs p k q =
+      let s = setting_of a target in
+      let p' = subst (λ (z : List (ConId × List Variable)). Passes core a b (one s (CaseLine x z))) (sym (arms_known f bs)) p in
+      let q' = subst (λ (z : Setting). Passes core b c (met_branches core.table z (branches_from f bs))) (setting-kept a b target k) q in
+      passes_then core a b c (one s (CaseLine x (arms_of (branches_from f bs)))) (met_branches core.table s (branches_from f bs)) p' q'
+
+  pub case_blames_subject : (e : LocFault) (a : Walk) (target : Target) (x : Atom) (f : ℕ → Term) (bs : List Branch)
+      → Blames core a (one (setting_of a target) (CaseLine x (arms_in bs))) e → Blames core a (met core.table (setting_of a target) (CaseTerm x (branches_from f bs))) e
+  case_blames_subject e a target x f bs h =
+      let s = setting_of a target in
+      let h' = subst (λ (z : List (ConId × List Variable)). Blames core a (one s (CaseLine x z)) e) (sym (arms_known f bs)) h in
+      blames_front core e a (one s (CaseLine x (arms_of (branches_from f bs)))) (met_branches core.table s (branches_from f bs)) h'
+
+  pub case_blames_arms : (e : LocFault) (a b : Walk) (target : Target) (x : Atom) (f : ℕ → Term) (bs : List Branch)
+      → Passes core a b (one (setting_of a target) (CaseLine x (arms_in bs))) → Kept a b → Blames core b (met_branches core.table (setting_of b target) (branches_from f bs)) e
+      → Blames core a (met core.table (setting_of a target) (CaseTerm x (branches_from f bs))) e
+  case_blames_arms e a b target x f bs p k q =
+      let s = setting_of a target in
+      let p' = subst (λ (z : List (ConId × List Variable)). Passes core a b (one s (CaseLine x z))) (sym (arms_known f bs)) p in
+      let q' = subst (λ (z : Setting). Blames core b (met_branches core.table z (branches_from f bs)) e) (setting-kept a b target k) q in
+      blames_back core e a b (one s (CaseLine x (arms_of (branches_from f bs)))) (met_branches core.table s (branches_from f bs)) p' q'
+
+  -- Both branches of an `if`.
+  inner_same : (a b : Walk) (target inner : Target) → Kept a b → ((w : Walk) → setting_of w inner ≡ record (setting_of w target) { whole = false }) → setting_of b inner ≡ in_branch (setting_of a target)
+  inner_same a b target inner k e = e b ∙ ap (λ (z : Setting). record z { whole = false }) (setting-kept a b target k)
+
+  pub if_else_passes : (a b c d : Walk) (target inner : Target) (x : Atom) (t u : Term)
+      → Passes core a b (one (in_scope a) (IfLine x)) → Kept a b → ((w : Walk) → setting_of w inner ≡ record (setting_of w target) { whole = false })
+      → Passes core b c (met core.table (setting_of b inner) t) → Kept b c → Passes core c d (met core.table (setting_of c inner) u)
+      → Passes core a d (met core.table (setting_of a target) (IfTerm x t u))
+  if_else_passes a b c d target inner x t u p k e q l r =
+      let s = setting_of a target in
+      let q' = subst (λ (z : Setting). Passes core b c (met core.table z t)) (inner_same a b target inner k e) q in
+      let r' = subst (λ (z : Setting). Passes core c d (met core.table z u)) (inner_same a c target inner (kept_then a b c k l) e) r in
+      passes_then core a b d (one s (IfLine x)) (met core.table (in_branch s) t ++ met core.table (in_branch s) u) (if_passes core a b target x p)
+      (passes_then core b c d (met core.table (in_branch s) t) (met core.table (in_branch s) u) q' r')
+
+  pub if_else_blames_first : (e : LocFault) (a b : Walk) (target inner : Target) (x : Atom) (t u : Term)
+      → Passes core a b (one (in_scope a) (IfLine x)) → Kept a b → ((w : Walk) → setting_of w inner ≡ record (setting_of w target) { whole = false })
+      → Blames core b (met core.table (setting_of b inner) t) e
+      → Blames core a (met core.table (setting_of a target) (IfTerm x t u)) e
+  if_else_blames_first e a b target inner x t u p k i q =
+      let s = setting_of a target in
+      let q' = subst (λ (z : Setting). Blames core b (met core.table z t) e) (inner_same a b target inner k i) q in
+      blames_back core e a b (one s (IfLine x)) (met core.table (in_branch s) t ++ met core.table (in_branch s) u) (if_passes core a b target x p)
+      (blames_front core e b (met core.table (in_branch s) t) (met core.table (in_branch s) u) q')
+
+  pub if_else_blames_second : (e : LocFault) (a b c : Walk) (target inner : Target) (x : Atom) (t u : Term)
+      → Passes core a b (one (in_scope a) (IfLine x)) → Kept a b → ((w : Walk) → setting_of w inner ≡ record (setting_of w target) { whole = false })
+      → Passes core b c (met core.table (setting_of b inner) t) → Kept b c → Blames core c (met core.table (setting_of c inner) u) e
+      → Blames core a (met core.table (setting_of a target) (IfTerm x t u)) e
+  if_else_blames_second e a b c target inner x t u p k i q l r =
+      let s = setting_of a target in
+      let q' = subst (λ (z : Setting). Passes core b c (met core.table z t)) (inner_same a b target inner k i) q in
+      let r' = subst (λ (z : Setting). Blames core c (met core.table z u) e) (inner_same a c target inner (kept_then a b c k l) i) r in
+      blames_back core e a b (one s (IfLine x)) (met core.table (in_branch s) t ++ met core.table (in_branch s) u) (if_passes core a b target x p)
+      (blames_back core e b c (met core.table (in_branch s) t) (met core.table (in_branch s) u) q' r')
+
+  pub if_else_blames_condition : (e : LocFault) (a : Walk) (target : Target) (x : Atom) (t u : Term)
+      → Blames core a (one (in_scope a) (IfLine x)) e → Blames core a (met core.table (setting_of a target) (IfTerm x t u)) e
+  if_else_blames_condition e a target x t u h =
+      let s = setting_of a target in
+      blames_front core e a (one s (IfLine x)) (met core.table (in_branch s) t ++ met core.table (in_branch s) u) (if_blames core a target x e h)
+
+  -- Two sides.
+  par_passes : (a b : Walk) (s : Setting) → Passes core a b (one (in_scope a) ParLine) → Passes core a b (one s ParLine)
+  par_passes a b s p = record { unbroken = refl; before = p.before; place = p.place }
+
+  other_kept : (a b : Walk) (target : Target) (x : Variable) → Kept a b → with_other x (setting_of b target) ≡ with_other x (setting_of a target)
+  other_kept a b target x k = ap (with_other x) (setting-kept a b target k)
+
+  past_kept : (a b : Walk) (target next : Target) (kind : Kind) (x : Variable) → Kept a b → ((w : Walk) → setting_of w next ≡ past_field kind x (setting_of w target))
+      → with_other x (setting_of b next) ≡ with_other x (past_field kind x (setting_of a target))
+  past_kept a b target next kind x k e = ap (with_other x) (e b ∙ ap (past_field kind x) (setting-kept a b target k))
+
+  pub sides_pass : (a b c d : Walk) (target next : Target) (kind : Kind) (x : Variable) (ty : Ty) (t : Term) (r : Side) (y : Variable) → y ≡ variable_of r
+      → Passes core a b (one (in_scope a) ParLine) → Kept a b
+      → Passes core b c (met_side core.table (with_other y (setting_of b target)) (On kind x ty t)) → Kept b c
+      → ((w : Walk) → setting_of w next ≡ past_field kind x (setting_of w target))
+      → Passes core c d (met_side core.table (with_other x (setting_of c next)) r)
+      → Passes core a d (met_bind core.table (setting_of a target) (Both false (On kind x ty t) r))
+  sides_pass a b c d target next kind x ty t r y same p k q l e h =
+      let s = setting_of a target in
+      let y' = variable_of r in
+      let q' = subst (λ (z : Setting). Passes core b c (met_side core.table z (On kind x ty t))) (other_kept a b target y k ∙ ap (λ v. with_other v s) same) q in
+      let h' = subst (λ (z : Setting). Passes core c d (met_side core.table z r)) (past_kept a c target next kind x (kept_then a b c k l) e) h in
+      passes_then core a b d (one s ParLine) (met_side core.table (with_other y' s) (On kind x ty t) ++ met_side core.table (with_other x (past_field kind x s)) r) (par_passes a b s p)
+      (passes_then core b c d (met_side core.table (with_other y' s) (On kind x ty t)) (met_side core.table (with_other x (past_field kind x s)) r) q' h')
+
+  pub sides_blame_left : (e : LocFault) (a b : Walk) (target : Target) (kind : Kind) (x : Variable) (ty : Ty) (t : Term) (r : Side) (y : Variable) → y ≡ variable_of r
+      → Passes core a b (one (in_scope a) ParLine) → Kept a b
+      → Blames core b (met_side core.table (with_other y (setting_of b target)) (On kind x ty t)) e
+      → Blames core a (met_bind core.table (setting_of a target) (Both false (On kind x ty t) r)) e
+  sides_blame_left e a b target kind x ty t r y same p k q =
+      let s = setting_of a target in
+      let y' = variable_of r in
+      let q' = subst (λ (z : Setting). Blames core b (met_side core.table z (On kind x ty t)) e) (other_kept a b target y k ∙ ap (λ v. with_other v s) same) q in
+      blames_back core e a b (one s ParLine) (met_side core.table (with_other y' s) (On kind x ty t) ++ met_side core.table (with_other x (past_field kind x s)) r) (par_passes a b s p)
+      (blames_front core e b (met_side core.table (with_other y' s) (On kind x ty t)) (met_side core.table (with_other x (past_field kind x s)) r) q')
+
+  pub sides_blame_right : (e : LocFault) (a b c : Walk) (target next : Target) (kind : Kind) (x : Variable) (ty : Ty) (t : Term) (r : Side) (y : Variable) → y ≡ variable_of r
+      → Passes core a b (one (in_scope a) ParLine) → Kept a b
+      → Passes core b c (met_side core.table (with_other y (setting_of b target)) (On kind x ty t)) → Kept b c
+      → ((w : Walk) → setting_of w next ≡ past_field kind x (setting_of w target))
+      → Blames core c (met_side core.table (with_other x (setting_of c next)) r) e
+      → Blames core a (met_bind core.table (setting_of a target) (Both false (On kind x ty t) r)) e
+  sides_blame_right e a b c target next kind x ty t r y same p k q l i h =
+      let s = setting_of a target in
+      let y' = variable_of r in
+      let q' = subst (λ (z : Setting). Passes core b c (met_side core.table z (On kind x ty t))) (other_kept a b target y k ∙ ap (λ v. with_other v s) same) q in
+      let h' = subst (λ (z : Setting). Blames core c (met_side core.table z r) e) (past_kept a c target next kind x (kept_then a b c k l) i) h in
+      blames_back core e a b (one s ParLine) (met_side core.table (with_other y' s) (On kind x ty t) ++ met_side core.table (with_other x (past_field kind x s)) r) (par_passes a b s p)
+      (blames_back core e b c (met_side core.table (with_other y' s) (On kind x ty t)) (met_side core.table (with_other x (past_field kind x s)) r) q' h')
+
+  pub sides_blame_par : (e : LocFault) (a : Walk) (target : Target) (l r : Side) → Blames core a (one (in_scope a) ParLine) e → Blames core a (met_bind core.table (setting_of a target) (Both false l r)) e
+  sides_blame_par fault.Memory a target l r h = tt {0}
+  sides_blame_par (fault.Rule n q) a target l r h = absurd cc
+
+  -- One more branch.
+  arms_step : (a b c : Walk) (target : Target) (f : ℕ → Term) (bs : List Branch) (whole : ℕ) (branch : Branch) (after : List Branch)
+      → ArmsSoFar core a b target f bs (branch ∷ after) whole
+      → Passes core b c (met core.table (in_arm core.table (setting_of b target) branch.constructor branch.variables.items) (f branch.term.0)) → Kept b c
+      → ArmsSoFar core a c target f bs after whole
+  arms_step a b c target f bs whole branch after so p k =
+      let s = setting_of a target in
+      let ms = met core.table (in_arm core.table s branch.constructor branch.variables.items) (f branch.term.0) in
+      let p' = subst (λ (z : Setting). Passes core b c (met core.table (in_arm core.table z branch.constructor branch.variables.items) (f branch.term.0))) (setting-kept a b target so.kept) p in
+      record {
+        lines = so.lines ++ ms;
+        all = so.all ∙ sym (append_assoc so.lines ms (met_branches core.table s (branches_from f after)));
+        passes = passes_then core a b c so.lines ms so.passes p';
+        kept = kept_then a b c so.kept k;
+        below = so.below.1;
+      }
+
+  rest_of : (b : Branch) (left : List Branch) → take (length (b ∷ left) - 1) left ≡ left
+  rest_of b left = ap (λ (n : ℕ). take n left) (omega arith) ∙ take-length left
+
+  pub arms_next : (a b c : Walk) (target : Target) (f : ℕ → Term) (bs left : List Branch) (whole : ℕ) (branch : Branch) → 1 ≤ length left → branch ≡ get_or left 0 branch
+      → ArmsSoFar core a b target f bs left whole
+      → Passes core b c (met core.table (in_arm core.table (setting_of b target) branch.constructor branch.variables.items) (f branch.term.0)) → Kept b c
+      → ArmsSoFar core a c target f bs (take (length left - 1) (drop 1 left)) whole
+  arms_next a b c target f bs [] whole branch long at so p k = absurd (omega (arith, long))
+  arms_next a b c target f bs (first ∷ left) whole branch long at so p k =
+      subst (λ (z : List Branch). ArmsSoFar core a c target f bs z whole) (sym (rest_of first left))
+      (arms_step a b c target f bs whole first left so
+      (subst (λ (z : Branch). Passes core b c (met core.table (in_arm core.table (setting_of b target) z.constructor z.variables.items) (f z.term.0))) at p) k)
+
+  pub arms_blame : (e : LocFault) (a b : Walk) (target : Target) (f : ℕ → Term) (bs left : List Branch) (whole : ℕ) (branch : Branch) → 1 ≤ length left → branch ≡ get_or left 0 branch
+      → ArmsSoFar core a b target f bs left whole
+      → Blames core b (met core.table (in_arm core.table (setting_of b target) branch.constructor branch.variables.items) (f branch.term.0)) e
+      → Blames core a (met_branches core.table (setting_of a target) (branches_from f bs)) e
+  arms_blame e a b target f bs [] whole branch long at so h = absurd (omega (arith, long))
+  arms_blame e a b target f bs (first ∷ left) whole branch long at so h =
+      let s = setting_of a target in
+      let ms = met core.table (in_arm core.table s first.constructor first.variables.items) (f first.term.0) in
+      let h1 = subst (λ (z : Branch). Blames core b (met core.table (in_arm core.table (setting_of b target) z.constructor z.variables.items) (f z.term.0)) e) at h in
+      let h2 = subst (λ (z : Setting). Blames core b (met core.table (in_arm core.table z first.constructor first.variables.items) (f first.term.0)) e) (setting-kept a b target so.kept) h1 in
+      let h3 = blames_front core e b ms (met_branches core.table s (branches_from f left)) h2 in
+      subst (λ (z : List Met). Blames core a z e) (sym so.all) (blames_back core e a b so.lines (ms ++ met_branches core.table s (branches_from f left)) so.passes h3)

@@ -1,0 +1,62 @@
+-- The state of the walk, as the rules see it.
+use Rattle.std.specs.Prelude.{List, [], ◌∷◌, map, reverse}
+use Rattle.std.specs.Prelude.{false, not, ◌&&◌, ◌||◌, Option}
+use Rattle.gib_core.specs.Tree.{FunctionTerm}
+use Rattle.gib_core.specs.declared.atom.Atom.{Atom}
+use Rattle.gib_types.specs.declared.table.Ty.TheVariants.{Whole}
+use Rattle.gib_types.specs.declared.table.ConId.{ConId}
+use Rattle.gib_core.specs.declared.atom.Variable.{Variable}
+use Rattle.gib_core.specs.declared.node.Branch.{Branch}
+use Rattle.gib_core.specs.Met.{Destination, Nowhere, Empty, Open, Setting}
+use Rattle.gib_core.specs.Rules.{Before, Judgement, any_other, is_bound, have_types, gives_packed, is_empty, all_usable, call_fits}
+use Rattle.gib_loccheck.specs.declared.state.Walk.{Walk}
+use Rattle.gib_loccheck.specs.declared.state.Target.{Target}
+use Rattle.gib_loccheck.specs.declared.state.Destination.{Destination as Stored}
+use Rattle.gib_loccheck.specs.declared.state.Destination.TheVariants as d
+
+-- Where a value is put.
+abbrev pub destination_of : Stored → Destination
+destination_of d.Nowhere = Nowhere
+destination_of d.Empty = Empty
+destination_of (d.Open h k standing) = Open h k standing.items
+
+-- What a term is met with.
+abbrev pub setting_of : Walk → Target → Setting
+setting_of w t = record {
+  destination = destination_of t.destination;
+  due = t.due;
+  scope = reverse w.scope.items;
+  others = reverse w.others.items;
+  whole = t.whole;
+}
+
+-- What a term is met with, whatever is due there: what can be used tells no difference.
+abbrev pub in_scope : Walk → Setting
+in_scope w = record { destination = Nowhere; due = Whole; scope = reverse w.scope.items; others = reverse w.others.items; whole = false }
+
+-- What stands before a term.
+abbrev pub before_of : Walk → Before
+before_of w = record { bound = reverse w.bound.items; cased = reverse w.cased.items }
+
+-- A branch without its term.
+abbrev pub arm_of : Branch → ConId × List Variable
+arm_of branch = (branch.constructor, branch.variables.items)
+
+-- Branches without their terms.
+abbrev pub arms_in : List Branch → List (ConId × List Variable)
+arms_in branches = map arm_of branches
+
+-- What the rules on a call are judged by: its function, where there is one.
+abbrev pub call_rules : Before → Setting → List Atom → Option FunctionTerm → List Judgement
+call_rules b s xs f =
+    (4, any_other s xs)
+    ∷ (6, gives_packed f && not (is_empty s.destination))
+    ∷ (8, not (all_usable s xs))
+    ∷ (9, not (call_fits b s xs f)) ∷ []
+
+-- What the rules on an operation are judged by: neither its operator nor the core matters.
+abbrev pub prim_rules : Before → Setting → Variable → Atom → Atom → List Judgement
+prim_rules b s x y z =
+    (4, any_other s (y ∷ z ∷ []))
+    ∷ (8, is_bound b.bound x || not (all_usable s (y ∷ z ∷ [])))
+    ∷ (9, not (have_types b (y ∷ z ∷ []) (Whole ∷ Whole ∷ []))) ∷ []

@@ -1,0 +1,201 @@
+//! What stands behind a binding.
+
+ghost use Rattle.std.specs.Prelude.{◌≡◌, ◌++◌, ◌∷◌, [], ℕ, true, false, None, IfOk, IfErr, OnOk};
+ghost use Rattle.gib_types.specs.declared.table.Ty.{Ty as AnyType};
+ghost use Rattle.gib_core.specs.Tree.{CoreTree, Term, Past, Prim, Reach, On, Both};
+ghost use Rattle.gib_core.specs.Arena.{side_from};
+ghost use Rattle.gib_core.specs.Parts.{core_of};
+ghost use Rattle.gib_core.specs.Met.{PastLine, PrimLine, ReachLine, behind, behind_side, in_arm};
+ghost use Rattle.gib_loccheck.specs.Views.{setting_of};
+ghost use Rattle.gib_loccheck.specs.Judging.{one, Passes, Blames, Binds, Stays, Enters, Reaches, HasOther, past_field};
+ghost use Rattle.gib_loccheck.specs.declared.state.Walk.{Walk as State};
+
+use crate::cases::enter_arm;
+use crate::fault::LocFault;
+use crate::lines::{past, prim, reach};
+use crate::state::{Destination, Target, Walk, find};
+use crate::table::fields_of;
+use gib_base::Memory;
+use gib_core::{Access, Atom, BoundTerm, Branch, Core, Kind, Known, Variable};
+use gib_syntax::Operator;
+use gib_types::ConId;
+use std::alloc::Global;
+
+/// A variable that is reached comes into scope.
+pub fn enter(walk: &mut Walk, variable: Variable) -> Result<(), Memory>
+    ensures { OnOk result (Enters walk.old walk.new (record { variable = variable; reached = true; behind = None })) }
+{
+    walk.scope.push(Known {
+        variable,
+        reached: true,
+        behind: None,
+    })?;
+    Ok(())
+}
+
+/// Behind a field that stands, or another bound term, before its variable is in scope.
+pub fn behind_field(target: &Target, kind: Kind, variable: Variable) -> Result<Target, Memory>
+    ensures { IfOk result (λ t. (w : State) → setting_of w t ≡ past_field kind variable (setting_of w target.now)) }
+{
+    let destination = target.destination.behind(kind, variable)?;
+    Ok(Target {
+        destination,
+        due: target.due,
+        whole: target.whole,
+    })
+}
+
+/// The same, where a scalar call may not stand.
+pub fn not_whole(target: &Target) -> Result<Target, Memory>
+    ensures { IfOk result (λ t. (w : State) → setting_of w t ≡ record (setting_of w target.now) { whole = false }) }
+{
+    let destination = target.destination.clone()?;
+    Ok(Target {
+        destination,
+        due: target.due,
+        whole: false,
+    })
+}
+
+/// Behind a side, whose variable is in scope from here on.
+pub fn stand(
+    walk: &mut Walk,
+    target: &Target,
+    kind: Kind,
+    variable: Variable,
+) -> Result<Target, Memory>
+    ensures binds { IfOk result (λ t. (ty : AnyType) (inner : Term) → Binds walk.old walk.new t (behind_side (setting_of walk.old target.now) (On kind variable ty inner))) }
+    ensures stays { IfOk result (λ _. Stays walk.old walk.new) }
+{
+    let destination = target.destination.behind(kind, variable)?;
+    enter(walk, variable)?;
+    Ok(Target {
+        destination,
+        due: target.due,
+        whole: false,
+    })
+}
+
+/// Behind room for a head: it is open now.
+pub fn open_head(
+    alloc: Global,
+    core: &Core,
+    walk: &mut Walk,
+    target: &Target,
+    head: Variable,
+    constructor: ConId,
+) -> Result<Target, LocFault>
+    ensures passes { IfOk result (λ _. Passes (core_of core.now) walk.old walk.new (one (setting_of walk.old target.now) (PastLine head constructor))) }
+    ensures binds { IfOk result (λ t. Binds walk.old walk.new t (behind (setting_of walk.old target.now) (Past head constructor))) }
+    ensures broken { IfErr result (Blames (core_of core.now) walk.old (one (setting_of walk.old target.now) (PastLine head constructor))) }
+{
+    past(core, walk, target, head, constructor)?;
+    Ok(Target {
+        destination: Destination::Open {
+            head,
+            constructor,
+            standing: Vec::new(alloc),
+        },
+        due: target.due,
+        whole: false,
+    })
+}
+
+/// Behind an operation.
+pub fn operate(
+    walk: &mut Walk,
+    target: &Target,
+    variable: Variable,
+    operator: Operator,
+    left: Atom,
+    right: Atom,
+) -> Result<Target, LocFault>
+    ensures passes { (core : CoreTree) → IfOk result (λ _. Passes core walk.old walk.new (one (setting_of walk.old target.now) (PrimLine variable operator left right))) }
+    ensures binds { IfOk result (λ t. Binds walk.old walk.new t (behind (setting_of walk.old target.now) (Prim variable operator left right))) }
+    ensures broken { (core : CoreTree) → IfErr result (Blames core walk.old (one (setting_of walk.old target.now) (PrimLine variable operator left right))) }
+{
+    match prim(walk, variable, operator, left, right) {
+        Err(fault) => Err(fault),
+        Ok(()) => {
+            enter(walk, variable)?;
+            let next = not_whole(target)?;
+            Ok(next)
+        }
+    }
+}
+
+/// A field is reached from here on.
+fn enter_field(walk: &mut Walk, field: Variable) -> Result<(), Memory>
+    ensures { OnOk result (Reaches walk.old walk.new field) }
+{
+    if let Some(known) = find(&walk.scope, field) {
+        walk.scope.push(Known {
+            variable: known.variable,
+            reached: true,
+            behind: known.behind,
+        })?;
+    }
+    Ok(())
+}
+
+/// Behind a field that is reached.
+pub fn reach_field(
+    core: &Core,
+    walk: &mut Walk,
+    target: &Target,
+    field: Variable,
+    access: Access,
+) -> Result<Target, LocFault>
+    ensures passes { IfOk result (λ _. Passes (core_of core.now) walk.old walk.new (one (setting_of walk.old target.now) (ReachLine field access))) }
+    ensures binds { IfOk result (λ t. Binds walk.old walk.new t (behind (setting_of walk.old target.now) (Reach field access))) }
+    ensures broken { IfErr result (Blames (core_of core.now) walk.old (one (setting_of walk.old target.now) (ReachLine field access))) }
+{
+    reach(core, walk, field, access)?;
+    enter_field(walk, field)?;
+    let next = not_whole(target)?;
+    Ok(next)
+}
+
+/// A variable is another side's.
+pub fn add_other(walk: &mut Walk, variable: Variable) -> Result<(), Memory>
+    ensures { OnOk result (HasOther walk.old walk.new variable) }
+{
+    walk.others.push(variable)?;
+    Ok(())
+}
+
+/// Behind two sides, whose variables are in scope from here on.
+pub fn stand_both(
+    walk: &mut Walk,
+    target: &Target,
+    left: BoundTerm,
+    right: BoundTerm,
+) -> Result<Target, Memory>
+    ensures binds { (f : ℕ → Term) → IfOk result (λ t. Binds walk.old walk.new t (behind (setting_of walk.old target.now) (Both false (side_from f left) (side_from f right)))) }
+    ensures stays { IfOk result (λ _. Stays walk.old walk.new) }
+{
+    let inner = stand(walk, target, left.kind, left.variable)?;
+    let next = stand(walk, &inner, right.kind, right.variable)?;
+    Ok(next)
+}
+
+/// What the term of a branch is met with: its fields are in scope.
+pub fn open_arm(
+    core: &Core,
+    walk: &mut Walk,
+    target: &Target,
+    branch: &Branch,
+) -> Result<Target, Memory>
+    ensures binds { IfOk result (λ t. Binds walk.old walk.new t (in_arm core.now.table (setting_of walk.old target.now) branch.now.constructor branch.now.variables.items)) }
+    ensures stays { IfOk result (λ _. Stays walk.old walk.new) }
+{
+    let types = fields_of(core.types(), branch.constructor);
+    enter_arm(
+        &mut walk.scope,
+        branch.constructor,
+        &branch.variables,
+        types,
+    )?;
+    let inner = not_whole(target)?;
+    Ok(inner)
+}

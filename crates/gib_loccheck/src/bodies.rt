@@ -1,0 +1,133 @@
+//! The walk over the bodies of a core: its functions', and main's at last.
+
+ghost use Rattle.std.specs.Prelude.{◌≡◌, ◌<◌, [], ◌∷◌, length, None, IfOk, IfErr, OnOk};
+ghost use Rattle.std.specs.List.{AllByRecursion};
+ghost use Rattle.gib_core.specs.Arena.{term_of};
+ghost use Rattle.gib_core.specs.Parts.{IsFunctionInside, core_of};
+ghost use Rattle.gib_core.specs.Met.{Body, result_place as place_of};
+ghost use Rattle.gib_core.specs.Rules.{first_broken};
+ghost use Rattle.gib_loccheck.specs.Views.{destination_of};
+ghost use Rattle.gib_loccheck.specs.Judging.{Says};
+ghost use Rattle.gib_loccheck.specs.Bodies.{Pass, Blame, Opens, body_of, bodies_of};
+
+use crate::bindings::enter;
+use crate::fault::LocFault;
+use crate::state::{Destination, Target, Walk};
+use crate::walk::term;
+use gib_base::Memory;
+use gib_core::{Bound, Core, CoreFunction, TermId, Variable};
+use gib_types::Ty;
+use std::alloc::{AllocError, Global};
+
+/// Where the result of a body is put.
+fn result_place(ty: Ty) -> Destination
+    ensures { destination_of result ≡ place_of ty }
+{
+    match ty {
+        Ty::Whole => Destination::Nowhere,
+        Ty::Truth => Destination::Nowhere,
+        Ty::Tree(_) => Destination::Empty,
+    }
+}
+
+/// The walk begins a body: its parameters are bound and in scope, and nothing else is.
+fn open_body(walk: &mut Walk, parameters: &[Ty]) -> Result<(), Memory>
+    ensures { OnOk result (Opens walk.old walk.new parameters.now) }
+{
+    walk.bound.clear();
+    walk.cased.clear();
+    walk.scope.clear();
+    walk.others.clear();
+    let mut number: u32 = 0;
+    let mut left = parameters;
+    'parameters: while let [ty, after @ ..] = left {
+        if number == u32::MAX {
+            return Err(AllocError);
+        }
+        let variable = Variable(number);
+        walk.bound.push(Bound { variable, ty: *ty })?;
+        enter(walk, variable)?;
+        number += 1;
+        left = after;
+    }
+    Ok(())
+}
+
+/// One body.
+fn body(
+    alloc: Global,
+    core: &Core,
+    walk: &mut Walk,
+    parameters: &[Ty],
+    result_type: Ty,
+    id: TermId,
+) -> Result<(), LocFault>
+    requires { id.0 < length core.now.terms }
+    ensures passes { IfOk result (λ _. Pass (core_of core.now) walk.old.place walk.new.place (record { parameters = parameters.now; result = result_type; term = term_of core.now.terms id.0 } ∷ [])) }
+    ensures broken { IfErr result (Blame (core_of core.now) walk.old.place (record { parameters = parameters.now; result = result_type; term = term_of core.now.terms id.0 } ∷ [])) }
+{
+    open_body(walk, parameters)?;
+    let target = Target {
+        destination: result_place(result_type),
+        due: result_type,
+        whole: false,
+    };
+    match term(alloc, core, walk, &target, id) {
+        Err(fault) => Err(fault),
+        Ok(()) => Ok(()),
+    }
+}
+
+/// The bodies of functions, one after another.
+fn functions(
+    alloc: Global,
+    core: &Core,
+    walk: &mut Walk,
+    functions: &[CoreFunction],
+) -> Result<(), LocFault>
+    requires { AllByRecursion (IsFunctionInside (length core.now.terms)) functions.now }
+    ensures passes { IfOk result (λ _. Pass (core_of core.now) walk.old.place walk.new.place (bodies_of (term_of core.now.terms) functions.now)) }
+    ensures broken { IfErr result (Blame (core_of core.now) walk.old.place (bodies_of (term_of core.now.terms) functions.now)) }
+{
+    let mut left = functions;
+    'functions: while let [function, after @ ..] = left {
+        match body(
+            alloc,
+            core,
+            walk,
+            &function.parameters,
+            function.result,
+            function.body,
+        ) {
+            Err(fault) => return Err(fault),
+            Ok(()) => left = after,
+        }
+    }
+    Ok(())
+}
+
+/// All bodies of a core.
+pub fn check_bodies(alloc: Global, core: &Core) -> Result<(), LocFault>
+    ensures unbroken { IfOk result (λ _. first_broken (core_of core.now) ≡ None) }
+    ensures broken { IfErr result (λ e. Says e (first_broken (core_of core.now))) }
+{
+    let mut walk = Walk {
+        bound: Vec::new(alloc),
+        cased: Vec::new(alloc),
+        scope: Vec::new(alloc),
+        others: Vec::new(alloc),
+        place: 0,
+    };
+    let main = core.main();
+    match functions(alloc, core, &mut walk, core.functions()) {
+        Err(fault) => Err(fault),
+        Ok(()) => body(
+            alloc,
+            core,
+            &mut walk,
+            &[main.parameter],
+            main.result,
+            main.body,
+        ),
+    }
+}

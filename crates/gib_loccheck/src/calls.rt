@@ -1,0 +1,102 @@
+//! The build rules of a call.
+
+ghost use Rattle.std.specs.Prelude.{◌≡◌, ◌&&◌, ◌||◌, not, MatchOption, [], None, Some};
+ghost use Rattle.gib_syntax.specs.Meaning.{is_scalar as scalar};
+ghost use Rattle.gib_core.specs.Arena.{term_of};
+ghost use Rattle.gib_core.specs.Parts.{core_of, function_term};
+ghost use Rattle.gib_core.specs.Meaning.{function_at};
+ghost use Rattle.gib_core.specs.Met.{CallLine};
+ghost use Rattle.gib_core.specs.Rules.{least, rules as all_rules, call_fits as fits};
+ghost use Rattle.gib_loccheck.specs.Views.{setting_of, before_of, call_rules};
+
+use crate::atoms::{all_usable, any_other, have_types};
+use crate::state::{Target, Walk};
+use crate::table::{is_scalar, same_type};
+use gib_base::Name;
+use gib_core::{Atom, Core, CoreFunction};
+use gib_types::Ty;
+
+/// The function of a name: the first one.
+fn find_function(core: &Core, name: Name) -> Option<&CoreFunction>
+    ensures { MatchOption result (function_at (core_of core.now).functions name.0 ≡ None) (λ f. function_at (core_of core.now).functions name.0 ≡ Some (function_term (term_of core.now.terms) f.now)) }
+{
+    let mut left = core.functions();
+    'functions: while let [function, after @ ..] = left {
+        if function.name.0 == name.0 {
+            return Some(function);
+        }
+        left = after;
+    }
+    None
+}
+
+/// Whether a scalar call may stand here: it is the whole right side of a `scalar`.
+fn may_give(target: &Target, ty: Ty) -> bool
+    ensures { result ≡ (not (scalar ty) || target.now.whole) }
+{
+    !is_scalar(ty) || target.whole
+}
+
+/// Whether a call fits its function.
+fn call_fits(walk: &Walk, target: &Target, arguments: &[Atom], function: &CoreFunction) -> bool
+    ensures { result ≡ fits (before_of walk.now) (setting_of walk.now target.now) arguments.now (Some (function_term (term_of []) function.now)) }
+{
+    have_types(walk, arguments, &function.parameters)
+        && same_type(function.result, target.due)
+        && may_give(target, function.result)
+}
+
+/// A call of this function.
+#[tactic(auto, using(crate::proofs::Scoping::any_other_same, crate::proofs::Scoping::all_usable_same))]
+fn known_call_rule(
+    walk: &Walk,
+    target: &Target,
+    arguments: &[Atom],
+    function: &CoreFunction,
+) -> Option<u8>
+    ensures { result ≡ least (call_rules (before_of walk.now) (setting_of walk.now target.now) arguments.now (Some (function_term (term_of []) function.now))) }
+{
+    if any_other(walk, arguments) {
+        return Some(4);
+    }
+    if !is_scalar(function.result) && !target.is_empty() {
+        return Some(6);
+    }
+    if !all_usable(walk, arguments) {
+        return Some(8);
+    }
+    if !call_fits(walk, target, arguments, function) {
+        return Some(9);
+    }
+    None
+}
+
+/// A call of a function that is not there.
+#[tactic(auto, using(crate::proofs::Scoping::any_other_same, crate::proofs::Scoping::all_usable_same))]
+fn unknown_call_rule(walk: &Walk, target: &Target, arguments: &[Atom]) -> Option<u8>
+    ensures { result ≡ least (call_rules (before_of walk.now) (setting_of walk.now target.now) arguments.now None) }
+{
+    if any_other(walk, arguments) {
+        return Some(4);
+    }
+    if !all_usable(walk, arguments) {
+        return Some(8);
+    }
+    Some(9)
+}
+
+/// A call.
+pub fn call_rule(
+    core: &Core,
+    walk: &Walk,
+    target: &Target,
+    name: Name,
+    arguments: &[Atom],
+) -> Option<u8>
+    ensures { result ≡ least (all_rules (core_of core.now) (before_of walk.now) (setting_of walk.now target.now) (CallLine name arguments.now)) }
+{
+    match find_function(core, name) {
+        Some(function) => known_call_rule(walk, target, arguments, function),
+        None => unknown_call_rule(walk, target, arguments),
+    }
+}

@@ -1,0 +1,216 @@
+//! The build rules of a `case`, and what its arms bind.
+
+ghost use Rattle.std.specs.Prelude.{◌≡◌, ◌==◌, ◌&&◌, [], length, reverse, IfOk, OnOk, None};
+ghost use Rattle.gib_types.specs.Table.{fields_at};
+ghost use Rattle.gib_core.specs.Parts.{core_of};
+ghost use Rattle.gib_core.specs.Met.{CaseLine, with_arm, field as field_of_arm, packed_before as packed_before_next};
+ghost use Rattle.gib_core.specs.Inferring.{constructors_of as all_of, numbers_from};
+ghost use Rattle.gib_core.specs.Rules.{least, rules, cover, are_arms as arms_are, arm_variables, any_bound as bound_again, bind_fields as fields_bound, bind_arms as arms_bound};
+ghost use Rattle.gib_loccheck.specs.Views.{setting_of, before_of, arms_in};
+ghost use Rattle.gib_loccheck.specs.Judging.{Extends};
+
+use crate::state::{Target, Walk, is_bound, is_listed};
+use crate::table::{constructors_of, fields_of, first_type, further_types};
+use gib_base::Memory;
+use gib_core::{Atom, Behind, Bound, Branch, Core, Known, Variable};
+use gib_types::{ConId, Ty, TyId, TypeTable};
+use std::alloc::Global;
+
+/// Whether a branch is one of this constructor, with a variable for each field.
+fn is_arm(types: &TypeTable, constructor: u32, branch: &Branch) -> bool
+    ensures { result ≡ (constructor == branch.now.constructor.0 && length (fields_at types.now constructor) == length branch.now.variables.items) }
+{
+    constructor == branch.constructor.0
+        && fields_of(types, ConId(constructor)).len() == branch.variables.len()
+}
+
+/// Whether branches are those of a type, in its order, each with a variable for each field.
+fn are_arms(types: &TypeTable, ty: TyId, branches: &[Branch]) -> bool
+    ensures { result ≡ arms_are types.now (all_of types.now ty.0) (arms_in branches.now) }
+{
+    let (first, count) = constructors_of(types, ty);
+    let mut next = first;
+    let mut more = count;
+    let mut left = branches;
+    'branches: while let [branch, after @ ..] = left {
+        if more == 0 {
+            return false;
+        }
+        if !is_arm(types, next, branch) {
+            return false;
+        }
+        next += 1;
+        more -= 1;
+        left = after;
+    }
+    more == 0
+}
+
+/// Whether branches are those of a packed type. A variable that was not bound has none: it breaks the rule on
+/// what is in scope.
+fn covers(types: &TypeTable, ty: Option<Ty>, branches: &[Branch]) -> bool
+    ensures { result ≡ cover types.now ty (arms_in branches.now) }
+{
+    match ty {
+        None => true,
+        Some(ty) => match ty {
+            Ty::Whole => false,
+            Ty::Truth => false,
+            Ty::Tree(id) => are_arms(types, id, branches),
+        },
+    }
+}
+
+/// The variables of all branches.
+fn variables_of(alloc: Global, branches: &[Branch]) -> Result<Vec<Variable>, Memory>
+    ensures { IfOk result (λ v. v.items ≡ arm_variables (arms_in branches.now)) }
+{
+    let mut variables = Vec::new(alloc);
+    let mut left = branches;
+    'branches: while let [branch, after @ ..] = left {
+        variables.extend_from_slice(&branch.variables)?;
+        left = after;
+    }
+    Ok(variables)
+}
+
+/// Whether one of these variables was bound before, or is there twice.
+fn any_bound(alloc: Global, walk: &Walk, variables: &[Variable]) -> Result<bool, Memory>
+    ensures { IfOk result (λ again. again ≡ bound_again variables.now [] (before_of walk.now).bound) }
+{
+    let mut seen = Vec::new(alloc);
+    let mut left = variables;
+    'variables: while let [variable, after @ ..] = left {
+        if is_bound(&walk.bound, *variable) || is_listed(&seen, *variable) {
+            return Ok(true);
+        }
+        seen.push(*variable)?;
+        left = after;
+    }
+    Ok(false)
+}
+
+/// A case.
+#[tactic(auto, using(crate::proofs::Scoping::other_same, crate::proofs::Scoping::usable_same))]
+pub fn case_rule(
+    alloc: Global,
+    core: &Core,
+    walk: &Walk,
+    target: &Target,
+    subject: Atom,
+    branches: &[Branch],
+) -> Result<Option<u8>, Memory>
+    ensures { IfOk result (λ rule. rule ≡ least (rules (core_of core.now) (before_of walk.now) (setting_of walk.now target.now) (CaseLine subject (arms_in branches.now)))) }
+{
+    if walk.is_other(subject) {
+        return Ok(Some(4));
+    }
+    if !covers(core.types(), walk.type_of(subject), branches) {
+        return Ok(Some(7));
+    }
+    if !walk.is_usable(subject) {
+        return Ok(Some(8));
+    }
+    let variables = variables_of(alloc, branches)?;
+    if any_bound(alloc, walk, &variables)? {
+        return Ok(Some(8));
+    }
+    Ok(None)
+}
+
+/// The fields of an arm were bound, with their types.
+fn bind_fields(bound: &mut Vec<Bound>, variables: &[Variable], types: &[Ty]) -> Result<(), Memory>
+    ensures { OnOk result (reverse bound.new.items ≡ fields_bound variables.now types.now (reverse bound.old.items)) }
+{
+    let mut types_left = types;
+    let mut left = variables;
+    'variables: while let [variable, after @ ..] = left {
+        bound.push(Bound {
+            variable: *variable,
+            ty: first_type(types_left),
+        })?;
+        types_left = further_types(types_left);
+        left = after;
+    }
+    Ok(())
+}
+
+/// The fields of all branches were bound.
+pub fn bind_arms(
+    types: &TypeTable,
+    bound: &mut Vec<Bound>,
+    branches: &[Branch],
+) -> Result<(), Memory>
+    ensures { OnOk result (reverse bound.new.items ≡ arms_bound types.now (arms_in branches.now) (reverse bound.old.items)) }
+{
+    let mut left = branches;
+    'branches: while let [branch, after @ ..] = left {
+        bind_fields(
+            bound,
+            &branch.variables,
+            fields_of(types, branch.constructor),
+        )?;
+        left = after;
+    }
+    Ok(())
+}
+
+/// A field of an arm, with the packed field before it: the first one is reached at once.
+fn field(constructor: ConId, variable: Variable, ty: Ty, before: Option<Variable>) -> Known
+    ensures { result ≡ field_of_arm constructor variable ty before }
+{
+    let at_once = Known {
+        variable,
+        reached: true,
+        behind: None,
+    };
+    match ty {
+        Ty::Whole => at_once,
+        Ty::Truth => at_once,
+        Ty::Tree(_) => match before {
+            None => at_once,
+            Some(before) => Known {
+                variable,
+                reached: false,
+                behind: Some(Behind {
+                    constructor,
+                    before,
+                }),
+            },
+        },
+    }
+}
+
+/// The packed field before the next one.
+fn packed_before(variable: Variable, ty: Ty, before: Option<Variable>) -> Option<Variable>
+    ensures { result ≡ packed_before_next variable ty before }
+{
+    match ty {
+        Ty::Whole => before,
+        Ty::Truth => before,
+        Ty::Tree(_) => Some(variable),
+    }
+}
+
+/// The variables of an arm come into scope.
+pub fn enter_arm(
+    scope: &mut Vec<Known>,
+    constructor: ConId,
+    variables: &[Variable],
+    types: &[Ty],
+) -> Result<(), Memory>
+    ensures scope { OnOk result (reverse scope.new.items ≡ with_arm constructor variables.now types.now None (reverse scope.old.items)) }
+    ensures more { OnOk result (Extends scope.old.items scope.new.items) }
+{
+    let mut before = None;
+    let mut types_left = types;
+    let mut left = variables;
+    'variables: while let [variable, after @ ..] = left {
+        let ty = first_type(types_left);
+        scope.push(field(constructor, *variable, ty, before))?;
+        before = packed_before(*variable, ty, before);
+        types_left = further_types(types_left);
+        left = after;
+    }
+    Ok(())
+}

@@ -1,0 +1,55 @@
+//! The location checker: which cores meet the build rules, and else which rule is broken first.
+#![tactic(auto)]
+
+ghost use Rattle.std.specs.Prelude.{◌≡◌, ℕ, Some, IfOk, IfErr, MatchResult};
+ghost use Rattle.gib_core.specs.declared.atom.AccessMode.{AccessMode as Mode};
+ghost use Rattle.gib_core.specs.Tree.{CoreTree};
+ghost use Rattle.gib_core.specs.Parts.{core_of};
+ghost use Rattle.gib_core.specs.Reaching.{reach_core};
+ghost use Rattle.gib_core.specs.Reachable.{AreReachable};
+ghost use Rattle.gib_core.specs.Rules.{AreBuilt, first_broken};
+ghost use Rattle.gib_loccheck.specs.Answers.{IsMemory, IsMemoryOr, IsFirst};
+
+mod atoms;
+mod bindings;
+mod bodies;
+mod calls;
+mod cases;
+mod fault;
+mod lines;
+mod rules;
+mod state;
+mod table;
+mod walk;
+
+use bodies::check_bodies;
+pub use fault::LocFault;
+use gib_core::law::{built_is_unbroken, reaching_makes_built};
+use gib_core::{Checked, Core};
+use std::alloc::Global;
+
+/// Checks a core: which build rule it breaks first, or none.
+///
+/// # Errors
+///
+/// The first broken build rule: that of the smallest term, there the smallest rule. Want of memory, where no
+/// further number of a term is left too.
+pub fn loccheck(alloc: Global, core: Core) -> Result<Checked, LocFault>
+    ensures checked { IfOk result (λ checked. checked ≡ core) }
+    ensures built { IfOk result (λ _. AreBuilt (core_of core)) }
+    // What is built is refused for want of memory alone.
+    ensures only { AreBuilt (core_of core) → IfErr result IsMemory }
+    // So is what the pass that reaches fields gives, where they only had to be reached.
+    ensures reached { (mode : Mode) (c : CoreTree) → AreReachable c → core_of core ≡ reach_core mode c → IfErr result IsMemory }
+    // Each other refusal is the first broken rule.
+    ensures exact { IfErr result (IsFirst (core_of core)) }
+    // Where a rule is broken, the first one is answered.
+    ensures told { (rule place : ℕ) → first_broken (core_of core) ≡ Some (rule, place) → MatchResult result (λ _. ⊥) (IsMemoryOr rule place) }
+{
+    built_is_unbroken();
+    reaching_makes_built();
+    match check_bodies(alloc, &core) {
+        Err(fault) => Err(fault),
+        Ok(()) => Ok(Checked::make(core)),
+    }
+}

@@ -1,0 +1,296 @@
+//! The build rules of one line, each from what stands before it: the first that it breaks, or none.
+
+ghost use Rattle.std.specs.Prelude.{◌≡◌, ◌==◌, ◌&&◌, ◌||◌, not, length, MatchOption, None, Some};
+ghost use Rattle.gib_types.specs.Table.{Table};
+ghost use Rattle.gib_syntax.specs.Meaning.{is_scalar as scalar};
+ghost use Rattle.gib_core.specs.Arena.{term_of, branches_from};
+ghost use Rattle.gib_core.specs.Parts.{core_of, function_term};
+ghost use Rattle.gib_core.specs.Meaning.{function_at};
+ghost use Rattle.gib_core.specs.Met.{PastLine, SideLine, PrimLine, ReachLine, WriteLine, PointLine, CallLine, GiveLine, CaseLine, IfLine, known, packed_types};
+ghost use Rattle.gib_core.specs.Rules.{least, rules, side_rules, may_write as writes, are_scalars as scalars_are, by_access as accessed, may_reach as reaches, gives_packed as packed_given, call_fits as fits, cover as covers, is_reached, is_among, are_variables as variables_are};
+ghost use Rattle.gib_loccheck.specs.Views.{destination_of, setting_of, in_scope, before_of, prim_rules};
+
+use crate::atoms::{
+    all_usable, any_cased, any_other, are_variables, further, have_scalar_types, have_types,
+    is_one_of,
+};
+use crate::state::{Destination, Target, Walk, find, is_bound, is_listed};
+use crate::table::{fields_of, is_of_type, is_scalar, packed_count, same_type};
+use gib_base::Name;
+use gib_core::{Access, Atom, Behind, Core, CoreFunction, Kind, Known, Variable};
+use gib_types::{ConId, Ty, TypeTable};
+
+/// Room for the head of a constructor.
+pub fn past_rule(
+    core: &Core,
+    walk: &Walk,
+    target: &Target,
+    head: Variable,
+    constructor: ConId,
+) -> Option<u8>
+    ensures { result ≡ least (rules (core_of core.now) (before_of walk.now) (setting_of walk.now target.now) (PastLine head constructor)) }
+{
+    if !(target.is_empty() && is_of_type(core.types(), constructor, target.due)) {
+        return Some(1);
+    }
+    if is_bound(&walk.bound, head) {
+        return Some(8);
+    }
+    None
+}
+
+/// A field of the open head.
+fn here_rule(core: &Core, walk: &Walk, target: &Target, variable: Variable, ty: Ty) -> Option<u8>
+    ensures { result ≡ least (rules (core_of core.now) (before_of walk.now) (setting_of walk.now target.now) (SideLine Kind.Here variable ty)) }
+{
+    if !target.has_room(core.types()) {
+        return Some(2);
+    }
+    if is_bound(&walk.bound, variable) {
+        return Some(8);
+    }
+    if !same_type(ty, target.field_due(core.types())) {
+        return Some(9);
+    }
+    None
+}
+
+/// A packed value in a region of its own.
+fn region_rule(walk: &Walk, variable: Variable, ty: Ty) -> Option<u8>
+    ensures { (table : Table) → result ≡ least (side_rules table (before_of walk.now) (in_scope walk.now) Kind.Region variable ty) }
+{
+    if is_scalar(ty) {
+        return Some(3);
+    }
+    if is_bound(&walk.bound, variable) {
+        return Some(8);
+    }
+    None
+}
+
+/// A scalar.
+fn scalar_rule(walk: &Walk, variable: Variable, ty: Ty) -> Option<u8>
+    ensures { (table : Table) → result ≡ least (side_rules table (before_of walk.now) (in_scope walk.now) Kind.Scalar variable ty) }
+{
+    if is_bound(&walk.bound, variable) {
+        return Some(8);
+    }
+    if !is_scalar(ty) {
+        return Some(9);
+    }
+    None
+}
+
+/// A variable that is bound to a term.
+pub fn side_rule(
+    core: &Core,
+    walk: &Walk,
+    target: &Target,
+    kind: Kind,
+    variable: Variable,
+    ty: Ty,
+) -> Option<u8>
+    ensures { result ≡ least (rules (core_of core.now) (before_of walk.now) (setting_of walk.now target.now) (SideLine kind variable ty)) }
+{
+    match kind {
+        Kind::Here => here_rule(core, walk, target, variable, ty),
+        Kind::Region => region_rule(walk, variable, ty),
+        Kind::Scalar => scalar_rule(walk, variable, ty),
+    }
+}
+
+/// An operation.
+pub fn prim_rule(walk: &Walk, variable: Variable, left: Atom, right: Atom) -> Option<u8>
+    ensures { result ≡ least (prim_rules (before_of walk.now) (in_scope walk.now) variable left right) }
+{
+    if walk.is_other(left) || walk.is_other(right) {
+        return Some(4);
+    }
+    if is_bound(&walk.bound, variable) {
+        return Some(8);
+    }
+    if !(walk.is_usable(left) && walk.is_usable(right)) {
+        return Some(8);
+    }
+    if !(walk.has_type(left, Ty::Whole) && walk.has_type(right, Ty::Whole)) {
+        return Some(9);
+    }
+    None
+}
+
+/// Whether a field that stands behind another one can be reached so.
+fn by_access(core: &Core, walk: &Walk, behind: Option<Behind>, access: Access) -> bool
+    ensures { result ≡ accessed (core_of core.now) (before_of walk.now) (in_scope walk.now) behind access }
+{
+    match behind {
+        None => false,
+        Some(behind) => match access {
+            Access::Offset => is_one_of(core.offsets(), behind.constructor),
+            Access::Skip(z) => behind.before.0 == z.0 && ends_known(walk, z),
+        },
+    }
+}
+
+/// Whether the end of a field is known: it is reached, and no `case` was on it.
+fn ends_known(walk: &Walk, field: Variable) -> bool
+    ensures { result ≡ (is_reached (known (in_scope walk.now).scope field) && not (is_among (before_of walk.now).cased field)) }
+{
+    walk.is_usable(Atom::Variable(field)) && !is_listed(&walk.cased, field)
+}
+
+/// Whether a field that is in scope and not reached can be reached so.
+fn may_reach(core: &Core, walk: &Walk, field: Option<Known>, access: Access) -> bool
+    ensures { result ≡ reaches (core_of core.now) (before_of walk.now) (in_scope walk.now) field access }
+{
+    match field {
+        None => false,
+        Some(known) => !known.reached && by_access(core, walk, known.behind, access),
+    }
+}
+
+/// From here on a field of an arm can be used.
+pub fn reach_rule(core: &Core, walk: &Walk, field: Variable, access: Access) -> Option<u8>
+    ensures { result ≡ least (rules (core_of core.now) (before_of walk.now) (in_scope walk.now) (ReachLine field access)) }
+{
+    if is_listed(&walk.others, field) {
+        return Some(4);
+    }
+    if !may_reach(core, walk, find(&walk.scope, field), access) {
+        return Some(8);
+    }
+    None
+}
+
+/// Whether as many fields stand as the open head has, and these atoms name them in their order.
+fn is_filled(types: &TypeTable, constructor: ConId, standing: &[Variable], packed: &[Atom]) -> bool
+    ensures { result ≡ (length standing.now == length (packed_types types.now constructor) && variables_are standing.now packed.now) }
+{
+    standing.len() == packed_count(fields_of(types, constructor)) && are_variables(standing, packed)
+}
+
+/// Whether the open head can be filled so.
+fn may_write(
+    types: &TypeTable,
+    walk: &Walk,
+    target: &Target,
+    head: Variable,
+    constructor: ConId,
+    packed: &[Atom],
+) -> bool
+    ensures { result ≡ writes types.now (before_of walk.now) (destination_of target.now.destination) head constructor packed.now }
+{
+    match &target.destination {
+        Destination::Nowhere => false,
+        Destination::Empty => false,
+        Destination::Open {
+            head: open,
+            constructor: opened,
+            standing,
+        } => {
+            if open.0 != head.0 {
+                return false;
+            }
+            if opened.0 != constructor.0 {
+                return false;
+            }
+            if !is_filled(types, *opened, standing, packed) {
+                return false;
+            }
+            !any_cased(walk, further(standing))
+        }
+    }
+}
+
+/// Whether these scalars are those of the open head.
+fn are_scalars(types: &TypeTable, walk: &Walk, target: &Target, scalars: &[Atom]) -> bool
+    ensures { result ≡ scalars_are types.now (before_of walk.now) (destination_of target.now.destination) scalars.now }
+{
+    match &target.destination {
+        Destination::Nowhere => true,
+        Destination::Empty => true,
+        Destination::Open { constructor, .. } => {
+            have_scalar_types(walk, scalars, fields_of(types, *constructor))
+        }
+    }
+}
+
+/// The open head is filled.
+#[tactic(auto, using(crate::proofs::Scoping::both_other, crate::proofs::Scoping::both_usable))]
+pub fn write_rule(
+    core: &Core,
+    walk: &Walk,
+    target: &Target,
+    head: Variable,
+    constructor: ConId,
+    scalars: &[Atom],
+    packed: &[Atom],
+) -> Option<u8>
+    ensures { result ≡ least (rules (core_of core.now) (before_of walk.now) (setting_of walk.now target.now) (WriteLine head constructor scalars.now packed.now)) }
+{
+    if any_other(walk, scalars) || any_other(walk, packed) {
+        return Some(4);
+    }
+    if !may_write(core.types(), walk, target, head, constructor, packed) {
+        return Some(5);
+    }
+    if !(all_usable(walk, scalars) && all_usable(walk, packed)) {
+        return Some(8);
+    }
+    if !are_scalars(core.types(), walk, target, scalars) {
+        return Some(9);
+    }
+    None
+}
+
+/// An indirection to a packed value.
+#[tactic(auto, using(crate::proofs::Scoping::other_same, crate::proofs::Scoping::usable_same))]
+pub fn point_rule(core: &Core, walk: &Walk, target: &Target, atom: Atom) -> Option<u8>
+    ensures { result ≡ least (rules (core_of core.now) (before_of walk.now) (setting_of walk.now target.now) (PointLine atom)) }
+{
+    if walk.is_other(atom) {
+        return Some(4);
+    }
+    if !target.is_empty() {
+        return Some(6);
+    }
+    if !walk.is_usable(atom) {
+        return Some(8);
+    }
+    if !walk.has_type(atom, target.due) {
+        return Some(9);
+    }
+    None
+}
+
+/// A scalar result.
+#[tactic(auto, using(crate::proofs::Scoping::other_same, crate::proofs::Scoping::usable_same))]
+pub fn give_rule(core: &Core, walk: &Walk, target: &Target, atom: Atom) -> Option<u8>
+    ensures { result ≡ least (rules (core_of core.now) (before_of walk.now) (setting_of walk.now target.now) (GiveLine atom)) }
+{
+    if walk.is_other(atom) {
+        return Some(4);
+    }
+    if !walk.is_usable(atom) {
+        return Some(8);
+    }
+    if !(target.is_nowhere() && walk.has_type(atom, target.due)) {
+        return Some(9);
+    }
+    None
+}
+
+/// The condition of branches.
+pub fn if_rule(core: &Core, walk: &Walk, condition: Atom) -> Option<u8>
+    ensures { result ≡ least (rules (core_of core.now) (before_of walk.now) (in_scope walk.now) (IfLine condition)) }
+{
+    if walk.is_other(condition) {
+        return Some(4);
+    }
+    if !walk.is_usable(condition) {
+        return Some(8);
+    }
+    if !walk.has_type(condition, Ty::Truth) {
+        return Some(9);
+    }
+    None
+}

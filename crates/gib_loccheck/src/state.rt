@@ -1,0 +1,279 @@
+//! What the walk keeps, and what a term is met with.
+
+ghost use Rattle.std.specs.Prelude.{◌≡◌, ℕ, reverse, IfOk};
+ghost use Rattle.gib_core.specs.Met.{known, field_due as due_at, stands_too, in_side};
+ghost use Rattle.gib_core.specs.Rules.{is_among, is_bound as bound_in, type_bound as type_in, is_nowhere as nowhere, is_empty as empty, has_room as room_in, is_usable as usable, is_other as other, type_of as type_in_atom, has_type as typed};
+ghost use Rattle.gib_loccheck.specs.Views.{destination_of, in_scope, setting_of, before_of};
+ghost use Rattle.gib_loccheck.specs.declared.state.Walk.{Walk as State};
+
+use crate::table::{fields_of, packed_at, packed_count, same_type};
+use gib_base::Memory;
+use gib_core::{Atom, Bound, Kind, Known, Variable};
+use gib_types::{ConId, Ty, TypeTable};
+
+/// Where a value is put.
+#[derive(Drop)]
+pub enum Destination {
+    /// Nowhere, since it is a scalar.
+    Nowhere,
+    /// At an empty place.
+    Empty,
+    /// Behind the fields of an open head that stand.
+    Open {
+        head: Variable,
+        constructor: ConId,
+        standing: Vec<Variable>,
+    },
+}
+
+/// What is due at a term: where its value is put, its type, and whether the term begins the right side of
+/// a `scalar`.
+#[derive(Drop)]
+pub struct Target {
+    pub destination: Destination,
+    pub due: Ty,
+    pub whole: bool,
+}
+
+/// What stands before a term, with the newest last.
+#[derive(Drop)]
+pub struct Walk {
+    /// The variables that were bound in this function.
+    pub bound: Vec<Bound>,
+    /// The variables that a `case` of this function was on.
+    pub cased: Vec<Variable>,
+    /// The variables in scope.
+    pub scope: Vec<Known>,
+    /// The variables of the other sides of the pars around the term.
+    pub others: Vec<Variable>,
+    /// The number of the term in the order of the text.
+    pub place: u64,
+}
+
+/// Whether a variable is one of these.
+pub fn is_listed(variables: &[Variable], variable: Variable) -> bool
+    ensures { result ≡ is_among (reverse variables.now) variable }
+{
+    let mut found = false;
+    for known in variables {
+        if known.0 == variable.0 {
+            found = true;
+        }
+    }
+    found
+}
+
+/// What is known of a variable in scope: the newest counts.
+pub fn find(scope: &[Known], variable: Variable) -> Option<Known>
+    ensures { result ≡ known (reverse scope.now) variable }
+{
+    let mut found = None;
+    for known in scope {
+        if known.variable.0 == variable.0 {
+            found = Some(*known);
+        }
+    }
+    found
+}
+
+/// Whether a variable was bound.
+pub fn is_bound(bound: &[Bound], variable: Variable) -> bool
+    ensures { result ≡ bound_in (reverse bound.now) variable }
+{
+    let mut found = false;
+    for one in bound {
+        if one.variable.0 == variable.0 {
+            found = true;
+        }
+    }
+    found
+}
+
+/// The type that a variable was bound with: the newest counts.
+pub fn type_bound(bound: &[Bound], variable: Variable) -> Option<Ty>
+    ensures { result ≡ type_in (reverse bound.now) variable }
+{
+    let mut found = None;
+    for one in bound {
+        if one.variable.0 == variable.0 {
+            found = Some(one.ty);
+        }
+    }
+    found
+}
+
+impl Walk {
+    /// Whether an atom can be used here: it is a literal, or a variable in scope that is reached.
+    pub fn is_usable(&self, atom: Atom) -> bool
+        ensures { result ≡ usable (in_scope self.now) atom }
+    {
+        match atom {
+            Atom::Variable(x) => match find(&self.scope, x) {
+                Some(known) => known.reached,
+                None => false,
+            },
+            Atom::Whole(_) => true,
+            Atom::Truth(_) => true,
+        }
+    }
+
+    /// Whether an atom is the variable of another side.
+    pub fn is_other(&self, atom: Atom) -> bool
+        ensures { result ≡ other (in_scope self.now) atom }
+    {
+        match atom {
+            Atom::Variable(x) => is_listed(&self.others, x),
+            Atom::Whole(_) => false,
+            Atom::Truth(_) => false,
+        }
+    }
+
+    /// The type of an atom.
+    pub fn type_of(&self, atom: Atom) -> Option<Ty>
+        ensures { result ≡ type_in_atom (before_of self.now) atom }
+    {
+        match atom {
+            Atom::Variable(x) => type_bound(&self.bound, x),
+            Atom::Whole(_) => Some(Ty::Whole),
+            Atom::Truth(_) => Some(Ty::Truth),
+        }
+    }
+
+    /// Whether an atom has the type.
+    pub fn has_type(&self, atom: Atom, ty: Ty) -> bool
+        ensures { result ≡ typed (before_of self.now) atom ty }
+    {
+        match self.type_of(atom) {
+            Some(found) => same_type(found, ty),
+            None => false,
+        }
+    }
+}
+
+impl Target {
+    /// Whether a scalar is due.
+    pub fn is_nowhere(&self) -> bool
+        ensures { result ≡ nowhere (destination_of self.now.destination) }
+    {
+        match &self.destination {
+            Destination::Nowhere => true,
+            Destination::Empty => false,
+            Destination::Open { .. } => false,
+        }
+    }
+
+    /// Whether a packed value is due at an empty place.
+    pub fn is_empty(&self) -> bool
+        ensures { result ≡ empty (destination_of self.now.destination) }
+    {
+        match &self.destination {
+            Destination::Nowhere => false,
+            Destination::Empty => true,
+            Destination::Open { .. } => false,
+        }
+    }
+
+    /// Whether fewer fields of the open head stand than it has.
+    pub fn has_room(&self, types: &TypeTable) -> bool
+        ensures { result ≡ room_in types.now (destination_of self.now.destination) }
+    {
+        match &self.destination {
+            Destination::Nowhere => false,
+            Destination::Empty => false,
+            Destination::Open {
+                constructor,
+                standing,
+                ..
+            } => standing.len() < packed_count(fields_of(types, *constructor)),
+        }
+    }
+
+    /// The type of the field that is due at the open head.
+    pub fn field_due(&self, types: &TypeTable) -> Ty
+        ensures { result ≡ due_at types.now (destination_of self.now.destination) }
+    {
+        match &self.destination {
+            Destination::Nowhere => Ty::Whole,
+            Destination::Empty => Ty::Whole,
+            Destination::Open {
+                constructor,
+                standing,
+                ..
+            } => packed_at(fields_of(types, *constructor), standing.len()),
+        }
+    }
+
+    /// What is due at the term of a side.
+    pub fn in_side(&self, types: &TypeTable, kind: Kind, ty: Ty) -> Target
+        ensures { (w : State) → setting_of w result ≡ in_side types.now (setting_of w self.now) kind ty }
+    {
+        match kind {
+            Kind::Here => Target {
+                destination: Destination::Empty,
+                due: self.field_due(types),
+                whole: false,
+            },
+            Kind::Region => Target {
+                destination: Destination::Empty,
+                due: ty,
+                whole: false,
+            },
+            Kind::Scalar => Target {
+                destination: Destination::Nowhere,
+                due: ty,
+                whole: true,
+            },
+        }
+    }
+}
+
+impl Destination {
+    /// The destination behind a bound term.
+    pub fn behind(&self, kind: Kind, variable: Variable) -> Result<Destination, Memory>
+        ensures { IfOk result (λ d. destination_of d ≡ stands_too kind variable (destination_of self.now)) }
+    {
+        match self {
+            Destination::Nowhere => Ok(Destination::Nowhere),
+            Destination::Empty => Ok(Destination::Empty),
+            Destination::Open {
+                head,
+                constructor,
+                standing,
+            } => {
+                let mut standing_too = standing.clone()?;
+                match kind {
+                    Kind::Here => standing_too.push(variable)?,
+                    Kind::Region => {}
+                    Kind::Scalar => {}
+                }
+                Ok(Destination::Open {
+                    head: *head,
+                    constructor: *constructor,
+                    standing: standing_too,
+                })
+            }
+        }
+    }
+
+    /// The same destination.
+    pub fn clone(&self) -> Result<Destination, Memory>
+        ensures { IfOk result (λ d. destination_of d ≡ destination_of self.now) }
+    {
+        match self {
+            Destination::Nowhere => Ok(Destination::Nowhere),
+            Destination::Empty => Ok(Destination::Empty),
+            Destination::Open {
+                head,
+                constructor,
+                standing,
+            } => {
+                let standing = standing.clone()?;
+                Ok(Destination::Open {
+                    head: *head,
+                    constructor: *constructor,
+                    standing,
+                })
+            }
+        }
+    }
+}
