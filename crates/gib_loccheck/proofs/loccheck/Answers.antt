@@ -1,5 +1,6 @@
+use Rattle.std.proofs.Common.{sym, subst}
 use Rattle.gib_core.specs.Parts.{core_of}
-use Rattle.gib_core.specs.Rules.{first_broken}
+use Rattle.gib_core.specs.Rules.{AreBuilt, first_broken}
 use Rattle.gib_loccheck.proofs.Answering.{memory_alone, memory_or, is_first, never}
 use Rattle.gib_loccheck.proofs.loccheck.Goals as goal
 
@@ -9,6 +10,11 @@ make-requires c = (c.built_is_unbroken.ensures (core_of c.args.core)).0 c.in-Ok.
 pub returns-in-Err-clause-only : goal.returns-in-Err-clause-only
 returns-in-Err-clause-only c =
     λ built. memory_alone c.in-Err.fault (first_broken (core_of c.args.core)) c.in-Err.ensures.broken ((c.built_is_unbroken.ensures (core_of c.args.core)).1 built)
+
+pub returns-in-Err-clause-reached : goal.returns-in-Err-clause-reached
+returns-in-Err-clause-reached c =
+    λ mode tree reachable e. memory_alone c.in-Err.fault (first_broken (core_of c.args.core)) c.in-Err.ensures.broken
+    ((c.built_is_unbroken.ensures (core_of c.args.core)).1 (subst AreBuilt (sym e) (c.reaching_makes_built.ensures mode tree reachable)))
 
 pub returns-in-Err-clause-exact : goal.returns-in-Err-clause-exact
 returns-in-Err-clause-exact c = is_first (core_of c.args.core) c.in-Err.fault c.in-Err.ensures.broken
