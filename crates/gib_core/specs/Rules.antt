@@ -200,9 +200,9 @@ are_arms table [] (arm ∷ arms) = false
 are_arms table (k ∷ ks) [] = false
 are_arms table (k ∷ ks) (arm ∷ arms) = (k == arm.0.0 && length (fields_at table k) == length arm.1) && are_arms table ks arms
 
--- Arms are those of a packed type. A variable that was not bound has none: it breaks the rule on what is in scope.
+-- Arms are those of a packed type. A variable that nothing before bound has no type, so it is not packed.
 abbrev pub cover : Table → Option Ty → List (ConId × List Variable) → Bool
-cover table None arms = true
+cover table None arms = false
 cover table (Some Whole) arms = false
 cover table (Some Truth) arms = false
 cover table (Some (Tree t)) arms = are_arms table (constructors_of table t.0) arms

@@ -46,13 +46,13 @@ fn are_arms(types: &TypeTable, ty: TyId, branches: &[Branch]) -> bool
     more == 0
 }
 
-/// Whether branches are those of a packed type. A variable that was not bound has none: it breaks the rule on
-/// what is in scope.
+/// Whether branches are those of a packed type. A variable that nothing before bound has no type, so it is not
+/// packed.
 fn covers(types: &TypeTable, ty: Option<Ty>, branches: &[Branch]) -> bool
     ensures { result ≡ cover types.now ty (arms_in branches.now) }
 {
     match ty {
-        None => true,
+        None => false,
         Some(ty) => match ty {
             Ty::Whole => false,
             Ty::Truth => false,
