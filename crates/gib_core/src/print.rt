@@ -75,7 +75,8 @@ fn put_fork(fork: bool, out: &mut Written) -> Result<(), Memory>
     if fork { out.put(Piece::Fork) } else { Ok(()) }
 }
 
-/// A term on a level. This recurses as deep as terms are nested, and no deeper.
+/// A term on a level. This recurses along its line and into the terms that are nested in it, so at most as deep as
+/// its function has terms.
 #[cycle(terms)]
 fn put_term(terms: &Terms, level: u64, id: TermId, out: &mut Written) -> Result<(), Memory>
     requires inside { id.0 < length terms.now }
