@@ -1,0 +1,5 @@
+pub mod Fronting
+pub mod Walking
+pub mod Arms
+pub mod Programs
+pub mod Sample

@@ -1,0 +1,133 @@
+-- Whole cores.
+use Rattle.std.proofs.Common.{◌≡◌, ℕ, ◌<◌, ◌≤◌, List, [], ◌∷◌, ◌++◌, map, length, reverse, refl, sym, ap, ◌∙◌, subst, arith, append_assoc}
+use Rattle.std.specs.Prelude.{Result, Ok, Err, IfOk}
+use Rattle.std.specs.List.{AllByRecursion}
+use Rattle.std.proofs.lemmas.List.{append-nil, map-append, reverse-append}
+use Rattle.std.proofs.lemmas.Grind.{flat_map-append}
+use Rattle.gib_types.specs.declared.table.ConId.{ConId}
+use Rattle.gib_types.specs.Table.{Table}
+use Rattle.gib_types.specs.Tree.{Datum}
+use Rattle.gib_syntax.specs.Tree.{DataTree}
+use Rattle.gib_core.specs.declared.atom.AccessMode.{AccessMode}
+use Rattle.gib_core.specs.declared.atom.AccessMode.TheVariants.{Skips, Offsets}
+use Rattle.gib_core.specs.declared.node.Node.{Node}
+use Rattle.gib_core.specs.declared.program.CoreFunction.{CoreFunction}
+use Rattle.gib_core.specs.declared.program.CoreMain.{CoreMain}
+use Rattle.gib_core.specs.Tree.{Term, FunctionTerm, CoreTree}
+use Rattle.gib_core.specs.Arena.{Grows, term_of}
+use Rattle.gib_core.specs.Parts.{Parts, AreInside, IsFunctionInside, function_term, main_term, core_of}
+use Rattle.gib_core.specs.Meaning.{core_calls, core_run}
+use Rattle.gib_core.specs.Erasing.{erase_core}
+use Rattle.gib_core.specs.Reaching.{offsets_in, offsets_by, reach_function, reach_core}
+use Rattle.gib_access.specs.declared.work.Work.{Work}
+use Rattle.gib_access.specs.Bodies.{ReachesFunction, ReachesFunctions, ReachesMain, offsets_of, offsets_kept}
+use Rattle.gib_access.proofs.Fronting.{grows_more, grows_none}
+
+-- Some functions were reached; with those that are left they are all.
+pub record FunctionsSoFar (mode : AccessMode) (table : Table) (terms : List Node) (old now : Work) (all rest done : List CoreFunction) : Type 0 where
+  pub grows : Grows old.terms now.terms
+  pub left : AllByRecursion (IsFunctionInside (length terms)) rest
+  pub inside : AllByRecursion (IsFunctionInside (length now.terms)) done
+  pub are : map (reach_function mode table) (map (function_term (term_of terms)) rest) ++ map (function_term (term_of now.terms)) done ≡ map (reach_function mode table) (map (function_term (term_of terms)) all)
+  pub offsets : offsets_of table (map (function_term (term_of terms)) rest) ++ now.offsets ≡ offsets_of table (map (function_term (term_of terms)) all) ++ old.offsets
+
+pub functions_start : (mode : AccessMode) (table : Table) (terms : List Node) (old : Work) (all : List CoreFunction) → AllByRecursion (IsFunctionInside (length terms)) all → FunctionsSoFar mode table terms old old all all []
+functions_start mode table terms old all h = record {
+  grows = grows_none old.terms;
+  left = h;
+  inside = tt;
+  are = append-nil (map (reach_function mode table) (map (function_term (term_of terms)) all));
+  offsets = refl;
+}
+
+functions_more : (n m : ℕ) (fs : List CoreFunction) → n ≤ m → AllByRecursion (IsFunctionInside n) fs → AllByRecursion (IsFunctionInside m) fs
+functions_more n m [] le p = tt
+functions_more n m (x ∷ fs) le p = (let q = p.0 in omega arith, functions_more n m fs le p.1)
+
+functions_same : (f g : ℕ → Term) (n : ℕ) (fs : List CoreFunction) → AllByRecursion (IsFunctionInside n) fs → ((a : ℕ) → a < n → f a ≡ g a) → map (function_term f) fs ≡ map (function_term g) fs
+functions_same f g n [] h e = refl
+functions_same f g n (x ∷ fs) h e = (λ i. record { name = x.name; parameters = x.parameters.items; result = x.result; body = e x.body.0 h.0 i } ∷ functions_same f g n fs h.1 e i)
+
+front : (n : ℕ) (fs : List CoreFunction) (x : CoreFunction) → AllByRecursion (IsFunctionInside n) (fs ++ x ∷ []) → AllByRecursion (IsFunctionInside n) fs
+front n [] x p = tt
+front n (y ∷ fs) x p = (p.0, front n fs x p.1)
+
+last : (n : ℕ) (fs : List CoreFunction) (x : CoreFunction) → AllByRecursion (IsFunctionInside n) (fs ++ x ∷ []) → IsFunctionInside n x
+last n [] x p = p.0
+last n (y ∷ fs) x p = last n fs x p.1
+
+-- The last one that is left.
+pub next_inside : (mode : AccessMode) (table : Table) (terms : List Node) (old now : Work) (all was left done : List CoreFunction) (x : CoreFunction) → was ≡ left ++ x ∷ [] → FunctionsSoFar mode table terms old now all was done → x.body.0 < length terms
+next_inside mode table terms old now all was left done x ew h = last (length terms) left x (subst (λ z. AllByRecursion (IsFunctionInside (length terms)) z) ew h.left)
+
+pub functions_next : (mode : AccessMode) (table : Table) (terms : List Node) (old now new : Work) (all was left done more : List CoreFunction) (x made : CoreFunction) → was ≡ left ++ x ∷ [] → more ≡ done ++ made ∷ [] → FunctionsSoFar mode table terms old now all was (reverse done) → ReachesFunction mode table now new made (function_term (term_of terms) x) → FunctionsSoFar mode table terms old new all left (reverse more)
+functions_next mode table terms old now new all was left done more x made ew em h p =
+    let f = function_term (term_of terms) in
+    let r = reach_function mode table in
+    let finished = reverse done in
+    let order : reverse more ≡ made ∷ finished = ap reverse em ∙ reverse-append done (made ∷ []) in
+    let parts : map f was ≡ map f left ++ f x ∷ [] = ap (map f) ew ∙ map-append f left (x ∷ []) in
+    let so_far : FunctionsSoFar mode table terms old new all left (made ∷ finished) = record {
+      grows = grows_more old.terms now.terms new.terms h.grows p.grows;
+      left = front (length terms) left x (subst (λ z. AllByRecursion (IsFunctionInside (length terms)) z) ew h.left);
+      inside = (p.inside, functions_more (length now.terms) (length new.terms) finished p.grows.longer h.inside);
+      are =
+          (λ i. map r (map f left) ++ p.is i ∷ functions_same (term_of new.terms) (term_of now.terms) (length now.terms) finished h.inside p.grows.same i)
+          ∙ sym (append_assoc (map r (map f left)) (r (f x) ∷ []) (map (function_term (term_of now.terms)) finished))
+          ∙ (λ i. sym (ap (map r) parts ∙ map-append r (map f left) (f x ∷ [])) i ++ map (function_term (term_of now.terms)) finished)
+          ∙ h.are;
+      offsets =
+          ap (λ z. offsets_of table (map f left) ++ z) p.offsets
+          ∙ sym (append_assoc (offsets_of table (map f left)) (offsets_in table (f x).body) now.offsets)
+          ∙ (λ i. sym (ap (offsets_of table) parts ∙ flat_map-append (λ (g : FunctionTerm). offsets_in table g.body) (map f left) (f x ∷ []) ∙ ap (λ z. offsets_of table (map f left) ++ z) (append-nil (offsets_in table (f x).body))) i ++ now.offsets)
+          ∙ h.offsets;
+    } in
+    subst (λ z. FunctionsSoFar mode table terms old new all left z) (sym order) so_far
+
+pub functions_end : (mode : AccessMode) (table : Table) (terms : List Node) (old new : Work) (all left done : List CoreFunction) → left ≡ [] → FunctionsSoFar mode table terms old new all left done → ReachesFunctions mode table old new done (map (function_term (term_of terms)) all)
+functions_end mode table terms old new all left done el h =
+    let h' : FunctionsSoFar mode table terms old new all [] done = subst (λ z. FunctionsSoFar mode table terms old new all z done) el h in
+    record { grows = h.grows; offsets = h'.offsets; inside = h.inside; are = h'.are }
+
+-- The parts of the new core.
+pub parts_inside : (mode : AccessMode) (table : Table) (now new : Work) (functions : List CoreFunction) (main : CoreMain) (fs : List FunctionTerm) (offsets : List ConId) → main.body.0 < length now.terms → ReachesFunctions mode table now new functions fs → AreInside (record { table = table; terms = new.terms; functions = functions; main = main; offsets = offsets })
+parts_inside mode table now new functions main fs offsets lt h = record { functions = h.inside; main = (let l = h.grows.longer in omega arith) }
+
+listed : (mode : AccessMode) (core : CoreTree) (ks : List ConId) → ks ≡ offsets_of core.table core.functions ++ offsets_in core.table core.main.body → offsets_kept mode ks ≡ offsets_by mode core
+listed Skips core ks e = refl
+listed Offsets core ks e = e
+
+-- What the parts are.
+pub parts_reached : (mode : AccessMode) (was made : Parts) (old now new : Work) → old.offsets ≡ [] → made.table ≡ was.table → made.terms ≡ new.terms → ReachesMain mode was.table old now made.main (core_of was).main → ReachesFunctions mode was.table now new made.functions (core_of was).functions → made.offsets ≡ offsets_kept mode new.offsets → core_of made ≡ reach_core mode (core_of was)
+parts_reached mode was made old now new eo et en m f ek =
+    let core = core_of was in
+    let main : main_term (term_of new.terms) made.main ≡ (reach_core mode core).main = (λ i. record { parameter = made.main.parameter; result = made.main.result; body = f.grows.same made.main.body.0 m.inside i }) ∙ m.is in
+    let all : new.offsets ≡ offsets_of was.table core.functions ++ offsets_in was.table core.main.body =
+    f.offsets ∙ ap (λ z. offsets_of was.table core.functions ++ z) (m.offsets ∙ ap (λ z. offsets_in was.table core.main.body ++ z) eo ∙ append-nil (offsets_in was.table core.main.body)) in
+    (λ i. record {
+      table = et i;
+      functions = ((λ j. map (function_term (term_of (en j))) made.functions) ∙ f.are) i;
+      main = ((λ j. main_term (term_of (en j)) made.main) ∙ main) i;
+      offsets = (ek ∙ listed mode core new.offsets all) i;
+    })
+
+-- What the new core is, where the parts of the old one are these.
+pub core_reached : (mode : AccessMode) (was made : Parts) (table : Table) (terms : List Node) (functions fs : List CoreFunction) (main m : CoreMain) (ks : List ConId) (old now new : Work) → table ≡ was.table → terms ≡ was.terms → functions ≡ was.functions → main ≡ was.main → old.offsets ≡ [] → made ≡ record { table = table; terms = new.terms; functions = fs; main = m; offsets = ks } → ReachesMain mode table old now m (main_term (term_of terms) main) → ReachesFunctions mode table now new fs (map (function_term (term_of terms)) functions) → ks ≡ offsets_kept mode new.offsets → core_of made ≡ reach_core mode (core_of was)
+core_reached mode was made table terms functions fs main m ks old now new e0 e1 e2 e3 eo em hm hf ek =
+    let parts : Parts = record { table = table; terms = terms; functions = functions; main = main; offsets = was.offsets } in
+    let fresh : Parts = record { table = table; terms = new.terms; functions = fs; main = m; offsets = ks } in
+    let same : parts ≡ was = (λ i. record { table = e0 i; terms = e1 i; functions = e2 i; main = e3 i; offsets = was.offsets }) in
+    ap core_of em ∙ parts_reached mode parts fresh old now new eo refl refl hm hf ek ∙ ap (λ z. reach_core mode (core_of z)) same
+
+-- What holds of the core that is to be made holds of the one that was made.
+pub kept_erased : {E : Type 0} (mode : AccessMode) (core : CoreTree) (o : Result Parts E) → ((m : AccessMode) (datas : List DataTree) (c : CoreTree) → erase_core datas (reach_core m c) ≡ erase_core datas c) → IfOk o (λ made. core_of made ≡ reach_core mode core) → IfOk o (λ made. (datas : List DataTree) → erase_core datas (core_of made) ≡ erase_core datas core)
+kept_erased mode core (Ok made) law e = λ datas. ap (erase_core datas) e ∙ law mode datas core
+kept_erased mode core (Err x) law e = tt
+
+pub kept_calls : {E : Type 0} (mode : AccessMode) (core : CoreTree) (o : Result Parts E) → ((m : AccessMode) (c : CoreTree) (n : ℕ) → core_calls (reach_core m c) n ≡ core_calls c n) → IfOk o (λ made. core_of made ≡ reach_core mode core) → IfOk o (λ made. (n : ℕ) → core_calls (core_of made) n ≡ core_calls core n)
+kept_calls mode core (Ok made) law e = λ n. ap (λ z. core_calls z n) e ∙ law mode core n
+kept_calls mode core (Err x) law e = tt
+
+pub kept_run : {E : Type 0} (mode : AccessMode) (core : CoreTree) (o : Result Parts E) → ((m : AccessMode) (c : CoreTree) (depth : ℕ) (v : Datum) → core_run (reach_core m c) depth v ≡ core_run c depth v) → IfOk o (λ made. core_of made ≡ reach_core mode core) → IfOk o (λ made. (depth : ℕ) (v : Datum) → core_run (core_of made) depth v ≡ core_run core depth v)
+kept_run mode core (Ok made) law e = λ depth v. ap (λ z. core_run z depth v) e ∙ law mode core depth v
+kept_run mode core (Err x) law e = tt

@@ -1,0 +1,66 @@
+-- Which variables were used since a time, and what that says of the fields of an arm.
+use Rattle.std.specs.Prelude.{◌≡◌, ℕ, ◌≤◌, Bool, false, ◌||◌, if◌then◌else◌, nat_le, slice_index, slice_index_or, List, [], ◌∷◌}
+use Rattle.std.specs.List.{list_any}
+use Rattle.gib_types.specs.declared.table.ConId.{ConId}
+use Rattle.gib_core.specs.declared.atom.Variable.{Variable}
+use Rattle.gib_core.specs.declared.atom.Access.TheVariants.{Offset, Skip}
+use Rattle.gib_core.specs.declared.atom.AccessMode.{AccessMode}
+use Rattle.gib_core.specs.declared.atom.AccessMode.TheVariants.{Skips, Offsets}
+use Rattle.gib_core.specs.Tree.{Bind, Reach}
+
+-- A clock, and at the number of each variable the time at which it was used last; past the end, 0.
+pub record Seen : Type 0 where
+  pub clock : ℕ
+  pub times : List ℕ
+
+-- The variable was used at this time or later.
+abbrev pub since : Seen → ℕ → Variable → Bool
+since seen start x = nat_le start (slice_index seen.times x.0)
+
+-- No time is later than the clock.
+abbrev pub ArePast : ℕ → List ℕ → Type 0
+ArePast clock times = (x : ℕ) → slice_index times x ≤ clock
+
+-- Between two moments just these variables were used.
+pub record Marks (old new : Seen) (used : Variable → Bool) : Type 0 where
+  pub clock : old.clock ≤ new.clock
+  pub since : (start : ℕ) → start ≤ old.clock → (x : Variable) → since new start x ≡ (since old start x || used x)
+
+-- No variable.
+abbrev pub unused : Variable → Bool
+unused x = false
+
+-- An arm begins, at a time since which no variable was used.
+pub record Enters (old new : Seen) (start : ℕ) : Type 0 where
+  pub marks : Marks old new unused
+  pub clock : start ≡ new.clock
+  pub fresh : (x : Variable) → since new start x ≡ false
+
+-- What stands directly before the field of a number, where a first field stands before them all.
+abbrev pub before_at : Variable → List Variable → ℕ → Variable
+before_at z ys i = slice_index_or (z ∷ ys) i z
+
+-- Each of the fields that stand behind a field, up to the last one that is used, is reached by a skip.
+abbrev pub skips_by : (Variable → Bool) → Variable → List Variable → List Bind
+skips_by used z [] = []
+skips_by used z (y ∷ ys) = if list_any used (y ∷ ys) then Reach y (Skip z) ∷ skips_by used y ys else []
+
+-- Each of the fields that is used is reached by its offset.
+abbrev pub offsets_by_use : (Variable → Bool) → List Variable → List Bind
+offsets_by_use used [] = []
+offsets_by_use used (y ∷ ys) = if used y then Reach y Offset ∷ offsets_by_use used ys else offsets_by_use used ys
+
+-- The fields behind the first one are reached.
+abbrev pub reaches_by : AccessMode → (Variable → Bool) → List Variable → List Bind
+reaches_by mode used [] = []
+reaches_by Skips used (z ∷ ys) = skips_by used z ys
+reaches_by Offsets used (z ∷ ys) = offsets_by_use used ys
+
+-- A field behind the first one is used.
+abbrev pub is_behind_used : (Variable → Bool) → List Variable → Bool
+is_behind_used used [] = false
+is_behind_used used (z ∷ ys) = list_any used ys
+
+-- The constructor, where a field behind the first one is used.
+abbrev pub offset_by : ConId → (Variable → Bool) → List Variable → List ConId
+offset_by k used xs = if is_behind_used used xs then k ∷ [] else []

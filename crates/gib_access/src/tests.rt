@@ -1,0 +1,142 @@
+ghost use Rattle.std.specs.Prelude.{◌≡◌, ◌++◌, ◌∷◌, [], ◌<◌, ◌≤◌, length, map, IfOk, OnOk};
+ghost use Rattle.gib_types.specs.Table.{row_of};
+ghost use Rattle.gib_core.specs.Arena.{PartsBelow};
+
+use crate::reach;
+use gib_base::{Memory, Name, Names};
+use gib_core::*;
+use gib_types::{ConId, Constructor, Ty, TyId, TypeTable};
+use std::alloc::Global;
+use std::test::*;
+
+const TREE: Ty = Ty::Tree(TyId(0));
+
+const LEAF: ConId = ConId(0);
+
+const PAIR: ConId = ConId(1);
+
+const NODE: ConId = ConId(2);
+
+const LAST: Name = Name(4);
+
+fn add(alloc: Global, rows: &mut Vec<Constructor>, name: u32, fields: &[Ty]) -> Result<(), Memory>
+    ensures { OnOk result (map row_of rows.new.items ≡ map row_of rows.old.items ++ record { name = name; owner = 0; fields = fields.now } ∷ []) }
+{
+    let fields = Vec::from_slice(alloc, fields)?;
+    rows.push(Constructor {
+        name: Name(name),
+        owner: TyId(0),
+        fields,
+    })?;
+    Ok(())
+}
+
+// data Tree = Leaf Int | Pair Tree Tree | Node Tree Tree Tree ;
+fn table(alloc: Global) -> Result<TypeTable, Memory> {
+    let types = Vec::from_slice(alloc, &[Name(0)])?;
+    let mut rows = Vec::new(alloc);
+    add(alloc, &mut rows, 1, &[Ty::Whole])?;
+    add(alloc, &mut rows, 2, &[TREE, TREE])?;
+    add(alloc, &mut rows, 3, &[TREE, TREE, TREE])?;
+    TypeTable::make(alloc, types, rows)
+}
+
+fn names(alloc: Global) -> Result<Names, Fail> {
+    let mut names = Names::make(alloc)?;
+    for text in ["Tree", "Leaf", "Pair", "Node", "last"] {
+        names.intern(alloc, text.as_bytes()).map_err(|_| "a name")?;
+    }
+    Ok(names)
+}
+
+fn put(terms: &mut Terms, node: Node) -> Result<TermId, Memory>
+    requires { PartsBelow node (length terms.old) }
+    ensures { IfOk result (λ id. (id.0 < length terms.new) × (length terms.old ≤ length terms.new)) }
+{
+    terms.put(node)
+}
+
+// call last %n
+fn call(alloc: Global, terms: &mut Terms, number: u32) -> Result<TermId, Memory>
+    ensures { IfOk result (λ id. (id.0 < length terms.new) × (length terms.old ≤ length terms.new)) }
+{
+    let arguments = Vec::from_slice(alloc, &[Atom::Variable(Variable(number))])?;
+    put(terms, Node::Call(LAST, arguments))
+}
+
+fn branch(
+    alloc: Global,
+    constructor: ConId,
+    variables: &[Variable],
+    term: TermId,
+) -> Result<Branch, Memory>
+    ensures { IfOk result (λ branch. branch.term ≡ term) }
+{
+    let variables = Vec::from_slice(alloc, variables)?;
+    Ok(Branch {
+        constructor,
+        variables,
+        term,
+    })
+}
+
+// case %0, where each arm but the first goes on with its last field.
+fn body(alloc: Global, terms: &mut Terms) -> Result<TermId, Memory>
+    ensures { IfOk result (λ id. (id.0 < length terms.new) × (length terms.old ≤ length terms.new)) }
+{
+    let subject = Atom::Variable(Variable(0));
+    let leaf = put(terms, Node::Point(subject))?;
+    let pair = call(alloc, terms, 3)?;
+    let node = call(alloc, terms, 6)?;
+    let mut branches = Vec::new(alloc);
+    let of_pair = [Variable(2), Variable(3)];
+    let of_node = [Variable(4), Variable(5), Variable(6)];
+    branches.push(branch(alloc, LEAF, &[Variable(1)], leaf)?)?;
+    branches.push(branch(alloc, PAIR, &of_pair, pair)?)?;
+    branches.push(branch(alloc, NODE, &of_node, node)?)?;
+    put(terms, Node::Case { subject, branches })
+}
+
+// fun last (t : Tree) : Tree = .. ; main (t : Tree) : Tree = last(t) ;
+fn program(alloc: Global) -> Result<Core, Memory> {
+    let mut terms = Terms::new(alloc);
+    let body = body(alloc, &mut terms)?;
+    let main_body = call(alloc, &mut terms, 0)?;
+    let mut functions = Vec::new(alloc);
+    functions.push(CoreFunction {
+        name: LAST,
+        parameters: Vec::from_slice(alloc, &[TREE])?,
+        result: TREE,
+        body,
+    })?;
+    let main = CoreMain {
+        parameter: TREE,
+        result: TREE,
+        body: main_body,
+    };
+    let types = table(alloc)?;
+    Ok(Core::new(types, terms, functions, main, Vec::new(alloc)))
+}
+
+const SKIPS: &str =
+    "fun last %0:Tree : Tree\n  case %0\n    Leaf %1\n      point %0\n    Pair %2 %3\n      reach %3 by skip %2\n      call last %3\n    Node %4 %5 %6\n      reach %5 by skip %4\n      reach %6 by skip %5\n      call last %6\nmain %0:Tree : Tree\n  call last %0\n";
+
+const OFFSETS: &str =
+    "fun last %0:Tree : Tree\n  case %0\n    Leaf %1\n      point %0\n    Pair %2 %3\n      reach %3 by offset\n      call last %3\n    Node %4 %5 %6\n      reach %6 by offset\n      call last %6\nmain %0:Tree : Tree\n  call last %0\n";
+
+#[test]
+fn reaches_the_fields_of_arms(rt: HostRuntime) -> Result<(), Fail> {
+    let alloc = rt.alloc();
+    let names = names(alloc)?;
+    let cases: [(AccessMode, &str, &[ConId]); 2] = [
+        (AccessMode::Skips, SKIPS, &[]),
+        (AccessMode::Offsets, OFFSETS, &[PAIR, NODE]),
+    ];
+    for (mode, want, offsets) in cases {
+        let core = reach(alloc, program(alloc)?, mode)?;
+        let text = print_core(alloc, &core, &names)?;
+        assert!(rt; text.as_slice() == want.as_bytes(), "{want}");
+        assert!(rt; core.offsets() == offsets, "{want}");
+    }
+    Ok(())
+}

@@ -1,0 +1,241 @@
+//! The walk that reaches the fields of all arms.
+//!
+//! It goes from the last part of a term to the first: an arm is listed when its term is done, in front of what
+//! was listed before, and so constructors stand in the order of the text.
+
+ghost use Rattle.std.specs.Prelude.{◌≡◌, ◌<◌, length, IfOk};
+ghost use Rattle.std.specs.List.{AllByRecursion};
+ghost use Rattle.gib_core.specs.Arena.{IsBindingBelow, IsBranchBelow, term_of, side_from, bind_from, branches_from};
+ghost use Rattle.gib_core.specs.Tree.{Then, CaseTerm, IfTerm};
+ghost use Rattle.gib_access.specs.Made.{ReachesTerm, ReachesBinding, ReachesSide, ReachesBranches, ReachesBranch};
+
+use crate::fields::{list_constructor, packed_variables, put_reaches};
+use crate::stamps::mark_atom;
+use crate::work::{Work, put_call, put_give, put_point, put_write};
+use gib_base::Memory;
+use gib_core::{AccessMode, Atom, Binding, BoundTerm, Branch, Node, TermId, Terms};
+use gib_types::TypeTable;
+use std::alloc::Global;
+
+/// A term with the fields of all its arms reached. This recurses as deep as terms are nested, and no deeper.
+#[cycle(reach)]
+pub fn reach_term(
+    alloc: Global,
+    mode: AccessMode,
+    types: &TypeTable,
+    terms: &Terms,
+    work: &mut Work,
+    id: TermId,
+) -> Result<TermId, Memory>
+    requires { id.0 < length terms.now }
+    ensures { IfOk result (λ made. ReachesTerm mode types.now work.old work.new made (term_of terms.now id.0)) }
+{
+    match terms.node(id) {
+        Node::Then(binding, rest) => reach_line(
+            alloc, mode, types, terms, work, id, *binding, *rest,
+        ),
+        Node::Write {
+            head,
+            constructor,
+            scalars,
+            packed,
+        } => put_write(alloc, work, *head, *constructor, scalars, packed),
+        Node::Point(atom) => put_point(work, *atom),
+        Node::Call(name, arguments) => put_call(alloc, work, *name, arguments),
+        Node::Give(atom) => put_give(work, *atom),
+        Node::Case { subject, branches } => {
+            reach_case(alloc, mode, types, terms, work, id, *subject, branches)
+        }
+        Node::If {
+            condition,
+            then_part,
+            else_part,
+        } => reach_if(
+            alloc, mode, types, terms, work, id, *condition, *then_part, *else_part,
+        ),
+    }
+}
+
+/// A binding of the term of a number, and the rest of its line.
+#[cycle(reach)]
+fn reach_line(
+    alloc: Global,
+    mode: AccessMode,
+    types: &TypeTable,
+    terms: &Terms,
+    work: &mut Work,
+    whole: TermId,
+    binding: Binding,
+    rest: TermId,
+) -> Result<TermId, Memory>
+    requires inside { whole.0 < length terms.now }
+    requires binding { IsBindingBelow whole.0 binding }
+    requires rest { rest.0 < whole.0 }
+    ensures { IfOk result (λ made. ReachesTerm mode types.now work.old work.new made (Then (bind_from (term_of terms.now) binding) (term_of terms.now rest.0))) }
+{
+    let rest = reach_term(alloc, mode, types, terms, work, rest)?;
+    let binding = reach_binding(alloc, mode, types, terms, work, whole, binding)?;
+    let made = work.terms.put(Node::Then(binding, rest))?;
+    Ok(made)
+}
+
+/// A binding of the term of a number, whose terms stand below it.
+#[cycle(reach)]
+fn reach_binding(
+    alloc: Global,
+    mode: AccessMode,
+    types: &TypeTable,
+    terms: &Terms,
+    work: &mut Work,
+    whole: TermId,
+    binding: Binding,
+) -> Result<Binding, Memory>
+    requires inside { whole.0 < length terms.now }
+    requires below { IsBindingBelow whole.0 binding }
+    ensures { IfOk result (λ made. ReachesBinding mode types.now work.old work.new made (bind_from (term_of terms.now) binding)) }
+{
+    match binding {
+        Binding::Past { .. } => Ok(binding),
+        Binding::One(side) => {
+            let side = reach_side(alloc, mode, types, terms, work, side)?;
+            Ok(Binding::One(side))
+        }
+        Binding::Par { fork, left, right } => {
+            let right = reach_side(alloc, mode, types, terms, work, right)?;
+            let left = reach_side(alloc, mode, types, terms, work, left)?;
+            Ok(Binding::Par { fork, left, right })
+        }
+        Binding::Prim { left, right, .. } => {
+            mark_atom(&mut work.stamps, right)?;
+            mark_atom(&mut work.stamps, left)?;
+            Ok(binding)
+        }
+        Binding::Reach { .. } => Ok(binding),
+    }
+}
+
+/// A variable with the term that it is bound to.
+#[cycle(reach)]
+fn reach_side(
+    alloc: Global,
+    mode: AccessMode,
+    types: &TypeTable,
+    terms: &Terms,
+    work: &mut Work,
+    side: BoundTerm,
+) -> Result<BoundTerm, Memory>
+    requires { side.term.0 < length terms.now }
+    ensures { IfOk result (λ made. ReachesSide mode types.now work.old work.new made (side_from (term_of terms.now) side)) }
+{
+    let term = reach_term(alloc, mode, types, terms, work, side.term)?;
+    Ok(BoundTerm { term, ..side })
+}
+
+/// The `if` of a number, whose parts stand below it.
+#[cycle(reach)]
+fn reach_if(
+    alloc: Global,
+    mode: AccessMode,
+    types: &TypeTable,
+    terms: &Terms,
+    work: &mut Work,
+    whole: TermId,
+    condition: Atom,
+    then_part: TermId,
+    else_part: TermId,
+) -> Result<TermId, Memory>
+    requires inside { whole.0 < length terms.now }
+    requires then_part { then_part.0 < whole.0 }
+    requires else_part { else_part.0 < whole.0 }
+    ensures { IfOk result (λ made. ReachesTerm mode types.now work.old work.new made (IfTerm condition (term_of terms.now then_part.0) (term_of terms.now else_part.0))) }
+{
+    let else_part = reach_term(alloc, mode, types, terms, work, else_part)?;
+    let then_part = reach_term(alloc, mode, types, terms, work, then_part)?;
+    mark_atom(&mut work.stamps, condition)?;
+    let made = work.terms.put(Node::If {
+        condition,
+        then_part,
+        else_part,
+    })?;
+    Ok(made)
+}
+
+/// The case of a number, whose branches' terms stand below it.
+#[cycle(reach)]
+fn reach_case(
+    alloc: Global,
+    mode: AccessMode,
+    types: &TypeTable,
+    terms: &Terms,
+    work: &mut Work,
+    whole: TermId,
+    subject: Atom,
+    branches: &[Branch],
+) -> Result<TermId, Memory>
+    requires inside { whole.0 < length terms.now }
+    requires below { AllByRecursion (IsBranchBelow whole.0) branches.now }
+    ensures { IfOk result (λ made. ReachesTerm mode types.now work.old work.new made (CaseTerm subject (branches_from (term_of terms.now) branches.now))) }
+{
+    let branches = reach_branches(alloc, mode, types, terms, work, whole, branches)?;
+    mark_atom(&mut work.stamps, subject)?;
+    let made = work.terms.put(Node::Case { subject, branches })?;
+    Ok(made)
+}
+
+/// The branches of the case of a number.
+#[cycle(reach)]
+fn reach_branches(
+    alloc: Global,
+    mode: AccessMode,
+    types: &TypeTable,
+    terms: &Terms,
+    work: &mut Work,
+    whole: TermId,
+    branches: &[Branch],
+) -> Result<Vec<Branch>, Memory>
+    requires inside { whole.0 < length terms.now }
+    requires below { AllByRecursion (IsBranchBelow whole.0) branches.now }
+    ensures { IfOk result (λ made. ReachesBranches mode types.now work.old work.new made.items (branches_from (term_of terms.now) branches.now)) }
+{
+    let mut reversed = Vec::new(alloc);
+    let mut i = branches.len();
+    'branches: while i > 0 {
+        i -= 1;
+        let branch = reach_branch(alloc, mode, types, terms, work, &branches[i])?;
+        reversed.push(branch)?;
+    }
+    reversed.reverse();
+    Ok(reversed)
+}
+
+/// A branch: its fields are reached where its term uses them.
+#[cycle(reach)]
+fn reach_branch(
+    alloc: Global,
+    mode: AccessMode,
+    types: &TypeTable,
+    terms: &Terms,
+    work: &mut Work,
+    branch: &Branch,
+) -> Result<Branch, Memory>
+    requires { branch.now.term.0 < length terms.now }
+    ensures { IfOk result (λ made. ReachesBranch mode types.now work.old work.new made branch.now (term_of terms.now branch.now.term.0)) }
+{
+    let start = work.stamps.enter()?;
+    let body = reach_term(alloc, mode, types, terms, work, branch.term)?;
+    let packed = packed_variables(alloc, types, branch.constructor, &branch.variables)?;
+    list_constructor(
+        &mut work.offsets,
+        &work.stamps,
+        start,
+        branch.constructor,
+        &packed,
+    )?;
+    let term = put_reaches(mode, &mut work.terms, &work.stamps, start, &packed, body)?;
+    let variables = Vec::from_slice(alloc, &branch.variables)?;
+    Ok(Branch {
+        constructor: branch.constructor,
+        variables,
+        term,
+    })
+}
