@@ -1,6 +1,6 @@
 -- From the stop of a call to its status, and from the status that is due to the one that is answered.
 use Rattle.std.specs.Prelude.{codes}
-use Rattle.std.proofs.Common.{◌≡◌, ◌∙◌, refl, ℕ, ◌≤◌, List, ◌++◌, Option, Some, None, IfSome, MatchOption, ◌⊎◌, inl, inr, subst, sym, Bool}
+use Rattle.std.proofs.Common.{◌≡◌, ◌∙◌, refl, ℕ, List, ◌++◌, Option, Some, None, IfSome, MatchOption, ◌⊎◌, inl, inr, subst, sym, Bool}
 use Rattle.gib_base.specs.Lexed.{Lexed, IsLexed}
 use Rattle.gib_base.specs.declared.token.Token.{Token}
 use Rattle.gib_types.specs.declared.table.Ty.{Ty}
@@ -11,7 +11,7 @@ use Rattle.gib_syntax.specs.Tree.{ProgramTree}
 use Rattle.gib_syntax.specs.Spelling.{Places, Derives, IsPlacedProgram, places_of}
 use Rattle.gib_syntax.specs.Declarations.{table_of_program, input_type}
 use Rattle.gib_syntax.specs.Meaning.{Outcome, Gives, Stops, Deep, run}
-use Rattle.gib_edge.specs.Causes.{Rose, Appends, AppendsPart}
+use Rattle.gib_edge.specs.Causes.{Appends, AppendsPart}
 use Rattle.gib_app.specs.declared.input_fault.InputFault.{InputFault}
 use Rattle.gib_app.specs.declared.status.Status.{Status}
 use Rattle.gib_app.specs.declared.status.Status.TheVariants as status
@@ -21,7 +21,7 @@ use Rattle.gib_app.specs.Words.{Document, Request, Run, Plain, Check, Core, Pack
 use Rattle.gib_app.specs.Running.{IsProgram, IsSource, IsNoProgram, IsOutput, RunsOut}
 use Rattle.gib_app.specs.SourceFaults.{IsSourceFault}
 use Rattle.gib_app.specs.Commands.{source_of, second_of, target_of, Makes, Accepts, Refuses, Exhausts, printed, IsWritten, OnProgram}
-use Rattle.gib_app.specs.Causes.{ShelfView, SinkView, Holds, HoldsSecond, OnSource, OnFiles, AsksSource, AsksProgram, IsUnwritten, FailsToRead}
+use Rattle.gib_app.specs.Causes.{ShelfView, SinkView, HoldsSecond, OnSource, IsUnwritten, FailsToRead}
 use Rattle.gib_app.specs.Lines.{IsLine, line}
 use Rattle.gib_app.specs.Ending.{IsEnding, IsTold, DueOfSource, DueOfFiles, TakesAll, IsDue}
 use Rattle.gib_app.specs.Stops.{IsStop, OnBoth}

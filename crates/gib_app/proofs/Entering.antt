@@ -1,7 +1,7 @@
 -- From the command that a parse entered to what it asks for.
 use Rattle.std.specs.Prelude.{Box, option_and_then}
 use Rattle.std.specs.Box.{box_value}
-use Rattle.std.proofs.Common.{◌≡◌, ◌∙◌, List, Option, None, Some, is_some, option_map, ap, ap₂, sym, true≢false}
+use Rattle.std.proofs.Common.{◌≡◌, ◌∙◌, List, Option, None, Some, is_some, option_map, ap, ap₂, true≢false}
 use Rattle.clap.specs.Walk.{Row, Text}
 use Rattle.clap.specs.Simple.{subcommand_rows}
 use Rattle.clap.specs.declared.parser.matches.ArgMatches.TheViews.{out-SubCommand}

@@ -1,13 +1,13 @@
 -- From the parts of a call to the whole.
-use Rattle.std.proofs.Common.{◌≡◌, ◌∙◌, refl, ℕ, ◌≤◌, List, Option, Some, None, MatchOption, subst, sym, inl, inr, Bool}
+use Rattle.std.proofs.Common.{◌≡◌, ◌∙◌, refl, ℕ, List, Option, Some, MatchOption, subst, sym, Bool}
 use Rattle.std.specs.Prelude.{⊤}
 use Rattle.gib_edge.specs.Causes.{Rose, Appends, AppendsPart}
 use Rattle.gib_syntax.specs.Tree.{ProgramTree}
 use Rattle.gib_app.specs.declared.stop.Stop.{Stop}
 use Rattle.gib_app.specs.declared.stop.Stop.TheVariants.{Usage, Source, Unread, Input, Depth, Memory, Unwritten, Unput}
 use Rattle.gib_app.specs.Words.{Request, Run, Plain, Check, Core, Pack, Show, Files, asked}
-use Rattle.gib_app.specs.Commands.{target_of, Makes, Accepts, OnProgram, printed, IsWritten}
-use Rattle.gib_app.specs.Causes.{Counts, ShelfView, SinkView, OnFiles, Prints, PrintsPart, IsUnwritten}
+use Rattle.gib_app.specs.Commands.{target_of, Makes, Accepts, printed, IsWritten}
+use Rattle.gib_app.specs.Causes.{Counts, ShelfView, SinkView, Prints, PrintsPart, IsUnwritten}
 use Rattle.gib_app.specs.Ending.{IsNoTarget, FilesStay, ReadsStay, WritesStay, OutStays}
 use Rattle.gib_app.specs.Stops.{IsStop, StopReads, OnBoth}
 use Rattle.gib_app.specs.Stopping.{status_for}

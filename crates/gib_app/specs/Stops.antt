@@ -24,7 +24,7 @@ use Rattle.gib_app.specs.Running.{IsProgram, IsNoProgram, IsInput, RunsOut}
 use Rattle.gib_app.specs.Packing.{IsPackedText}
 use Rattle.gib_app.specs.SourceFaults.{IsSourceFault}
 use Rattle.gib_app.specs.InputFaults.{IsFileFault, IsInputFault, IsShowFault, IsTextFault}
-use Rattle.gib_app.specs.Commands.{source_of, second_of, Makes, Accepts, Refuses, Exhausts, OnProgram}
+use Rattle.gib_app.specs.Commands.{source_of, second_of, Accepts, Refuses, Exhausts, OnProgram}
 use Rattle.gib_app.specs.Causes.{Counts, ShelfView, HoldsSecond, OnSource, OnFiles, IsUnread, IsSecondUnread, FailsToRead, IsUnwritten}
 
 -- The source spells this program with these names, and it is typed.
