@@ -18,7 +18,7 @@ use Rattle.clap.proofs.OnLiterals.{clap_on_literals}
 use Rattle.clap.proofs.WalkLemmas.{both}
 use Rattle.clap.proofs.ValueTestLemmas.{Accepts-accepts, accepts-Accepts}
 use Rattle.gib_app.specs.Words.{Form, app_for, asked_by_command, command_set, file_of, number_in, number_of, requested, with_value, word_of}
-use Rattle.gib_app.specs.Words.{check_form, pack_form, plain_form, run_form, show_form}
+use Rattle.gib_app.specs.Words.{check_form, core_form, pack_form, plain_form, run_form, show_form}
 use Rattle.gib_app.proofs.Filling.{AllFilled, AllKnown, AllOf, Filled, Known, is_valued, level_filled}
 
 -- ---- Rows
@@ -195,6 +195,19 @@ check_asks words passes =
     let source = both (is_given (codes "source") rows) _ given in
     mapped _ (file_of (codes "source") rows) (file_there s.rules rows (codes "source") _ filled refl refl source.0)
 
+core_asks : Asks (built_form core_form)
+unfolding clap_on_literals
+core_asks words passes =
+    let s = built_form core_form in
+    let rows = rows_after s.rules [] words in
+    let is : AllOf (Known s.rules) s.rules = ((refl, refl), ((refl, refl), tt)) in
+    let filled = level_filled s (all_known s.rules is) words is passes in
+    let source = both (is_given (codes "source") rows) _ (required_given s words refl passes) in
+    let has : has_row (codes "pass") rows ≡ true = default_row s words (codes "pass") _ (codes "4") refl refl in
+    joined (option_map _ (file_of (codes "source") rows)) (number_of (codes "pass") rows)
+    (mapped _ (file_of (codes "source") rows) (file_there s.rules rows (codes "source") _ filled refl refl source.0))
+    (number_there s.rules rows (codes "pass") _ 1 4 filled refl refl refl (omega arith) has)
+
 show_asks : Asks (built_form show_form)
 unfolding clap_on_literals
 show_asks words passes =
@@ -258,7 +271,7 @@ plain_asks words passes =
 
 all_ask : AllOf Asks (built command_set).subs
 unfolding clap_on_literals
-all_ask = (run_asks, (plain_asks, (check_asks, (pack_asks, (show_asks, tt)))))
+all_ask = (run_asks, (plain_asks, (check_asks, (core_asks, (pack_asks, (show_asks, tt))))))
 
 needs_command : (built command_set).top.subcommand_required ≡ true
 unfolding clap_on_literals

@@ -1,6 +1,6 @@
 -- From the stop of a call to its status, and from the status that is due to the one that is answered.
 use Rattle.std.specs.Prelude.{codes}
-use Rattle.std.proofs.Common.{◌≡◌, ◌∙◌, refl, ℕ, ◌≤◌, List, ◌++◌, Option, Some, None, IfSome, MatchOption, ◌⊎◌, inl, inr, subst, sym, Bool}
+use Rattle.std.proofs.Common.{◌≡◌, ◌∙◌, refl, ℕ, List, ◌++◌, Option, Some, None, IfSome, MatchOption, ◌⊎◌, inl, inr, subst, sym, Bool}
 use Rattle.gib_base.specs.Lexed.{Lexed, IsLexed}
 use Rattle.gib_base.specs.declared.token.Token.{Token}
 use Rattle.gib_types.specs.declared.table.Ty.{Ty}
@@ -11,17 +11,17 @@ use Rattle.gib_syntax.specs.Tree.{ProgramTree}
 use Rattle.gib_syntax.specs.Spelling.{Places, Derives, IsPlacedProgram, places_of}
 use Rattle.gib_syntax.specs.Declarations.{table_of_program, input_type}
 use Rattle.gib_syntax.specs.Meaning.{Outcome, Gives, Stops, Deep, run}
-use Rattle.gib_edge.specs.Causes.{Rose, Appends, AppendsPart}
+use Rattle.gib_edge.specs.Causes.{Appends, AppendsPart}
 use Rattle.gib_app.specs.declared.input_fault.InputFault.{InputFault}
 use Rattle.gib_app.specs.declared.status.Status.{Status}
 use Rattle.gib_app.specs.declared.status.Status.TheVariants as status
 use Rattle.gib_app.specs.declared.stop.Stop.{Stop}
 use Rattle.gib_app.specs.declared.stop.Stop.TheVariants.{Usage, Source, Unread, Input, Depth, Memory, Unwritten, Unput}
-use Rattle.gib_app.specs.Words.{Document, Request, Run, Plain, Check, Pack, Show, asked, Files, bytes_in}
+use Rattle.gib_app.specs.Words.{Document, Request, Run, Plain, Check, Core, Pack, Show, asked, Files, bytes_in}
 use Rattle.gib_app.specs.Running.{IsProgram, IsSource, IsNoProgram, IsOutput, RunsOut}
 use Rattle.gib_app.specs.SourceFaults.{IsSourceFault}
 use Rattle.gib_app.specs.Commands.{source_of, second_of, target_of, Makes, Accepts, Refuses, Exhausts, printed, IsWritten, OnProgram}
-use Rattle.gib_app.specs.Causes.{ShelfView, SinkView, Holds, HoldsSecond, OnSource, OnFiles, AsksSource, AsksProgram, IsUnwritten, FailsToRead}
+use Rattle.gib_app.specs.Causes.{ShelfView, SinkView, HoldsSecond, OnSource, IsUnwritten, FailsToRead}
 use Rattle.gib_app.specs.Lines.{IsLine, line}
 use Rattle.gib_app.specs.Ending.{IsEnding, IsTold, DueOfSource, DueOfFiles, TakesAll, IsDue}
 use Rattle.gib_app.specs.Stops.{IsStop, OnBoth}
@@ -162,6 +162,7 @@ makes_well : Laws → (r : Request) (p : ProgramTree) (names : List (List ℕ)) 
 makes_well laws (Run s i depth) p names second made h k = runs_well laws p names depth second made h k
 makes_well laws (Plain s i depth) p names second made h k = runs_well laws p names depth second made h k
 makes_well laws (Check s) p names second made h k = k
+makes_well laws (Core s pass) p names second made h k = k
 makes_well laws (Pack s i target) p names second made h k = k
 makes_well laws (Show s i) p names second made h k = k
 
@@ -169,6 +170,7 @@ exhausts_accepts : (r : Request) (p : ProgramTree) (names : List (List ℕ)) (se
 exhausts_accepts (Run s i depth) p names second h = (h.value, h.is_input)
 exhausts_accepts (Plain s i depth) p names second h = (h.value, h.is_input)
 exhausts_accepts (Check s) p names second h = absurd h
+exhausts_accepts (Core s pass) p names second h = absurd h
 exhausts_accepts (Pack s i target) p names second h = absurd h
 exhausts_accepts (Show s i) p names second h = absurd h
 
@@ -176,6 +178,7 @@ exhausts_writes : (r : Request) (p : ProgramTree) (second name : List ℕ) → E
 exhausts_writes (Run s i depth) p second name h e = cc
 exhausts_writes (Plain s i depth) p second name h e = cc
 exhausts_writes (Check s) p second name h e = h
+exhausts_writes (Core s pass) p second name h e = h
 exhausts_writes (Pack s i target) p second name h e = h
 exhausts_writes (Show s i) p second name h e = h
 

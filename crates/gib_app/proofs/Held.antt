@@ -1,26 +1,24 @@
 -- The names of a program's constructors are names of its tokens.
-use Rattle.std.proofs.Common.{◌≡◌, ◌∙◌, refl, ℕ, zero, suc, ◌<◌, List, [], ◌∷◌, ◌++◌, length, map, subst, sym, ap, arith, Bool, true, false, if◌then◌else◌, Option, Some, None}
+use Rattle.std.proofs.Common.{◌≡◌, ◌∙◌, refl, ℕ, zero, suc, ◌<◌, List, [], ◌∷◌, ◌++◌, length, map, subst, sym, ap, arith, Bool, true, false, if◌then◌else◌, Some}
 use Rattle.std.specs.Prelude.{slice_get, unwrap_or, nat_lt, ◌==◌, ◌^◌}
 use Rattle.std.specs.List.{AllByRecursion, list_all}
 use Rattle.std.specs.Char.{is_ascii_digit, is_ascii_alphabetic}
 use Rattle.gib_base.specs.declared.name.Name.{Name}
 use Rattle.gib_base.specs.declared.token.Token.{Token}
 use Rattle.gib_base.specs.declared.token.Token.TheVariants as t
-use Rattle.gib_base.specs.declared.token.Sign.{Sign}
 use Rattle.gib_base.specs.declared.token.Sign.TheVariants as sign
-use Rattle.gib_base.specs.declared.token.Piece.{Piece}
 use Rattle.gib_base.specs.declared.token.Piece.TheVariants as kinds
 use Rattle.gib_base.specs.Piece.{Class, Blank, Letter, Digit, Dash, Equal, Single, Other, class_of, is_piece, is_name_byte, is_blank, is_sign_byte}
-use Rattle.gib_base.specs.Spelling.{piece_of, piece_in, number_piece, value_from, dash_piece, equal_piece}
+use Rattle.gib_base.specs.Spelling.{piece_of, piece_in, value_from, dash_piece, equal_piece}
 use Rattle.gib_base.specs.Lexed.{Lexed, AreTokens, IsTokenOf}
-use Rattle.gib_base.specs.Printing.{IsWritable, IsNameOf}
+use Rattle.gib_base.specs.Printing.{IsWritable}
 use Rattle.gib_types.specs.Table.{Row, name_of, name_at}
 use Rattle.gib_syntax.specs.declared.tree.TypeName.{TypeName}
 use Rattle.gib_syntax.specs.declared.tree.TypeName.TheVariants as ty
 use Rattle.gib_syntax.specs.Tree.{ConstructorTree, DataTree, ProgramTree}
 use Rattle.gib_syntax.specs.Spelling.{Derives, spell_type, spell_types, spell_more, spell_constructors, spell_datas, spell_functions, spell_main, spell_program}
 use Rattle.gib_syntax.specs.Declarations.{type_names, row_in, rows_from, table_of_program}
-use Rattle.gib_value.specs.Text.{AreHeld, con_text}
+use Rattle.gib_value.specs.Text.{AreHeld}
 use Rattle.gib_value.specs.Reading.{AreWords, IsWord}
 
 -- this holds of the token of the constructor's name

@@ -13,3 +13,4 @@ mod Adding
 mod Taking
 mod Filling
 mod Asking
+mod Entering

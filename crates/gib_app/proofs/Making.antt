@@ -1,18 +1,17 @@
 -- From the parts of making to the whole.
-use Rattle.std.proofs.Common.{◌≡◌, ◌∙◌, refl, ℕ, ◌≤◌, ◌<◌, List, [], length, Option, Some, None, IfSome, subst, sym, ap, inl, inr, arith}
-use Rattle.gib_types.specs.Tree.{Datum}
+use Rattle.std.proofs.Common.{◌≡◌, ◌∙◌, refl, ℕ, ◌<◌, List, length, Option, Some, None, subst, sym, ap, inl, inr, arith}
 use Rattle.gib_edge.specs.Causes.{Rose}
 use Rattle.gib_syntax.specs.Tree.{ProgramTree}
 use Rattle.gib_app.specs.declared.input_fault.InputFault.{InputFault}
 use Rattle.gib_app.specs.declared.input_fault.InputFault.TheVariants as input
 use Rattle.gib_app.specs.declared.stop.Stop.{Stop}
 use Rattle.gib_app.specs.declared.stop.Stop.TheVariants.{Usage, Source, Unread, Input, Depth, Memory, Unwritten, Unput}
-use Rattle.gib_app.specs.Words.{Document, Brought, Named, Request, Run, Plain, Check, Pack, Show, Files, bytes_in}
+use Rattle.gib_app.specs.Words.{Document, Brought, Named, Request, Run, Plain, Check, Core, Pack, Show, Files}
 use Rattle.gib_app.specs.Running.{IsSource, IsNoProgram}
 use Rattle.gib_app.specs.SourceFaults.{IsSourceFault}
-use Rattle.gib_app.specs.Commands.{source_of, second_of, Makes, Accepts, Refuses, Exhausts, OnProgram}
-use Rattle.gib_app.specs.Causes.{Counts, ShelfView, Holds, HoldsSecond, OnSource, OnFiles, IsUnread, IsSecondUnread}
-use Rattle.gib_app.specs.Stops.{IsCompiled, IsSourceStop, IsSecondStop, IsLongSecond, IsMakeStop, IsStop, StopReads, OnBoth, most_of}
+use Rattle.gib_app.specs.Commands.{source_of, second_of, Accepts, Refuses, Exhausts}
+use Rattle.gib_app.specs.Causes.{Counts, ShelfView, Holds, HoldsSecond, OnSource, IsUnread, IsSecondUnread}
+use Rattle.gib_app.specs.Stops.{IsCompiled, IsSourceStop, IsSecondStop, IsMakeStop, IsStop, StopReads, OnBoth, most_of}
 use Rattle.gib_app.proofs.Told.{held_before}
 
 -- what holds of the compiled program and the second file holds of the request's files
@@ -64,6 +63,7 @@ long_refused : (kept : Files) (r : Request) (p : ProgramTree) (names : List (Lis
 long_refused kept (Run s i depth) p names second held many = ((refl, many), λ a. let short = a.1.short in absurd (omega (arith, many, short)))
 long_refused kept (Plain s i depth) p names second held many = ((refl, many), λ a. let short = a.1.short in absurd (omega (arith, many, short)))
 long_refused kept (Check s) p names second held many = absurd (omega (arith, many, ap length held))
+long_refused kept (Core s pass) p names second held many = absurd (omega (arith, many, ap length held))
 long_refused kept (Pack s i target) p names second held many = ((refl, inl many), λ a. let short = a.1.short in absurd (omega (arith, many, short)))
 long_refused kept (Show s i) p names second held many = (inl (refl, many), λ a. let short = a.1.short in absurd (omega (arith, many, short)))
 

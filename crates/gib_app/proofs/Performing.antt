@@ -1,13 +1,13 @@
 -- From the parts of a call to the whole.
-use Rattle.std.proofs.Common.{◌≡◌, ◌∙◌, refl, ℕ, ◌≤◌, List, Option, Some, None, MatchOption, subst, sym, inl, inr, Bool}
+use Rattle.std.proofs.Common.{◌≡◌, ◌∙◌, refl, ℕ, List, Option, Some, MatchOption, subst, sym, Bool}
 use Rattle.std.specs.Prelude.{⊤}
 use Rattle.gib_edge.specs.Causes.{Rose, Appends, AppendsPart}
 use Rattle.gib_syntax.specs.Tree.{ProgramTree}
 use Rattle.gib_app.specs.declared.stop.Stop.{Stop}
 use Rattle.gib_app.specs.declared.stop.Stop.TheVariants.{Usage, Source, Unread, Input, Depth, Memory, Unwritten, Unput}
-use Rattle.gib_app.specs.Words.{Request, Run, Plain, Check, Pack, Show, Files, asked}
-use Rattle.gib_app.specs.Commands.{target_of, Makes, Accepts, OnProgram, printed, IsWritten}
-use Rattle.gib_app.specs.Causes.{Counts, ShelfView, SinkView, OnFiles, Prints, PrintsPart, IsUnwritten}
+use Rattle.gib_app.specs.Words.{Request, Run, Plain, Check, Core, Pack, Show, Files, asked}
+use Rattle.gib_app.specs.Commands.{target_of, Makes, Accepts, printed, IsWritten}
+use Rattle.gib_app.specs.Causes.{Counts, ShelfView, SinkView, Prints, PrintsPart, IsUnwritten}
 use Rattle.gib_app.specs.Ending.{IsNoTarget, FilesStay, ReadsStay, WritesStay, OutStays}
 use Rattle.gib_app.specs.Stops.{IsStop, StopReads, OnBoth}
 use Rattle.gib_app.specs.Stopping.{status_for}
@@ -26,6 +26,7 @@ pub makes_accepts : (r : Request) (p : ProgramTree) (names : List (List ℕ)) (s
 makes_accepts (Run s i depth) p names second made h = (h.value, h.is_input)
 makes_accepts (Plain s i depth) p names second made h = (h.value, h.is_input)
 makes_accepts (Check s) p names second made h = tt {0}
+makes_accepts (Core s pass) p names second made h = tt {0}
 makes_accepts (Pack s i target) p names second made h = (made, h)
 makes_accepts (Show s i) p names second made h = (h.value, h.is_input)
 

@@ -1,5 +1,5 @@
 -- A source is refused for one fault, and then it is no program.
-use Rattle.std.proofs.Common.{◌≡◌, ◌∙◌, refl, ℕ, ◌≤◌, List, [], length, Option, Some, None, Result, Ok, Err, subst, sym, ap}
+use Rattle.std.proofs.Common.{◌≡◌, ◌∙◌, refl, ℕ, ◌≤◌, List, [], length, Some, None, Ok, Err, subst, sym, ap}
 use Rattle.gib_base.specs.Lexed.{Lexed, IsLexed}
 use Rattle.gib_base.specs.declared.token.Token.{Token}
 use Rattle.gib_lex.specs.declared.fault.LexFault.{LexFault}
@@ -15,7 +15,7 @@ use Rattle.gib_syntax.specs.Source.{Spells}
 use Rattle.gib_syntax.specs.Typing.{IsTypedProgram}
 use Rattle.gib_app.specs.declared.source_fault.SourceFault.{SourceFault}
 use Rattle.gib_app.specs.declared.source_fault.SourceFault.TheVariants.{Long, BadCharacter, BigNumber, ManyNames, Syntax, Nested, Broken}
-use Rattle.gib_app.specs.Running.{IsProgram, IsNoProgram}
+use Rattle.gib_app.specs.Running.{IsNoProgram}
 use Rattle.gib_app.specs.SourceFaults.{IsSourceFault, HasTokens}
 
 pub record Laws : Type 0 where

@@ -4,7 +4,7 @@ use Rattle.gib_edge.specs.Causes.{Rose, Appends, AppendsPart}
 use Rattle.gib_syntax.specs.Tree.{ProgramTree}
 use Rattle.gib_app.specs.Words.{Document, Brought, Named, Request, asked, Files, bytes_in}
 use Rattle.gib_app.specs.Running.{IsSource}
-use Rattle.gib_app.specs.Commands.{source_of, second_of, target_of, Makes, Accepts, Refuses, Exhausts, printed, IsWritten, OnProgram}
+use Rattle.gib_app.specs.Commands.{source_of, second_of, target_of, Makes, Accepts, printed, IsWritten, OnProgram}
 
 -- How often reads or writes of names have failed.
 abbrev pub Counts : Type 0

@@ -5,7 +5,7 @@ use Rattle.gib_syntax.specs.Tree.{ProgramTree}
 use Rattle.gib_app.specs.declared.status.Status.{Status}
 use Rattle.gib_app.specs.declared.status.Status.TheVariants.{Done, Source, Usage, Depth, Full, Memory, ReadFault, WriteFault, Input}
 use Rattle.gib_app.specs.Words.{Document, Request, asked, Files, bytes_in}
-use Rattle.gib_app.specs.Running.{IsSource, IsNoProgram}
+use Rattle.gib_app.specs.Running.{IsNoProgram}
 use Rattle.gib_app.specs.Commands.{source_of, second_of, target_of, Makes, Accepts, Exhausts, OnProgram}
 use Rattle.gib_app.specs.Causes.{Counts, ShelfView, SinkView, AsksSource, AsksProgram, Prints, PrintsPart, IsUnwritten, IsUnread, IsSecondUnread, FailsToRead}
 

@@ -4,6 +4,7 @@ pub mod Words
 pub mod Requests
 pub mod Running
 pub mod Packing
+pub mod Cores
 pub mod SourceFaults
 pub mod InputFaults
 pub mod Commands

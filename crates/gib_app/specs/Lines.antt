@@ -10,7 +10,7 @@ use Rattle.gib_app.specs.declared.input_fault.InputFault.{InputFault}
 use Rattle.gib_app.specs.declared.input_fault.InputFault.TheVariants as input
 use Rattle.gib_app.specs.declared.status.Status.{Status}
 use Rattle.gib_app.specs.declared.status.Status.TheVariants.{Done, Source, Usage, Depth, Full, Memory, ReadFault, WriteFault, Input}
-use Rattle.gib_app.specs.Words.{Request, asked}
+use Rattle.gib_app.specs.Words.{asked}
 use Rattle.gib_app.specs.Commands.{Refuses}
 use Rattle.gib_app.specs.Causes.{ShelfView, SinkView, AsksSource, AsksProgram, FailsToRead, IsUnwritten}
 use Rattle.gib_app.specs.SourceFaults.{IsSourceFault}

@@ -1,5 +1,5 @@
 -- A text file of a value, and the packed file of that value.
-use Rattle.std.specs.Prelude.{◌≡◌, ℕ, ◌≤◌, ◌-◌, ◌==◌, Bool, false, if◌then◌else◌, List, length, take, slice_get, Option, Some, None}
+use Rattle.std.specs.Prelude.{ℕ, ◌≤◌, ◌-◌, ◌==◌, Bool, false, if◌then◌else◌, List, length, take, slice_get, Option, Some, None}
 use Rattle.gib_types.specs.Tree.{Datum}
 use Rattle.gib_file.specs.Framed.{File}
 use Rattle.gib_value.specs.Reading.{IsTextOf}

@@ -1,11 +1,11 @@
 -- What is written and put, why that stops, and what stays.
-use Rattle.std.specs.Prelude.{◌≡◌, ℕ, List, Option, None, Some, MatchOption, Bool}
+use Rattle.std.specs.Prelude.{◌≡◌, ℕ, List, None, Some, MatchOption, Bool}
 use Rattle.gib_edge.specs.Causes.{Rose}
 use Rattle.gib_app.specs.declared.stop.Stop.{Stop}
 use Rattle.gib_app.specs.declared.stop.Stop.TheVariants.{Usage, Source, Unread, Input, Depth, Memory, Unwritten, Unput}
 use Rattle.gib_app.specs.Words.{Request, Files, asked}
 use Rattle.gib_app.specs.Commands.{target_of, Makes, printed, IsWritten}
-use Rattle.gib_app.specs.Causes.{Counts, ShelfView, SinkView, PrintsPart}
+use Rattle.gib_app.specs.Causes.{ShelfView, SinkView, PrintsPart}
 use Rattle.gib_app.specs.Stops.{OnBoth, IsStop}
 
 -- Why a file is not written.

@@ -19,12 +19,12 @@ use Rattle.gib_app.specs.declared.packed.PackedFault.{PackedFault}
 use Rattle.gib_app.specs.declared.packed.PackedFault.TheVariants as packed
 use Rattle.gib_app.specs.declared.stop.Stop.{Stop}
 use Rattle.gib_app.specs.declared.stop.Stop.TheVariants.{Usage, Source, Unread, Input, Depth, Memory, Unwritten, Unput}
-use Rattle.gib_app.specs.Words.{Document, Request, Run, Plain, Check, Pack, Show, Files}
+use Rattle.gib_app.specs.Words.{Document, Request, Run, Plain, Check, Core, Pack, Show, Files}
 use Rattle.gib_app.specs.Running.{IsProgram, IsNoProgram, IsInput, RunsOut}
 use Rattle.gib_app.specs.Packing.{IsPackedText}
 use Rattle.gib_app.specs.SourceFaults.{IsSourceFault}
 use Rattle.gib_app.specs.InputFaults.{IsFileFault, IsInputFault, IsShowFault, IsTextFault}
-use Rattle.gib_app.specs.Commands.{source_of, second_of, Makes, Accepts, Refuses, Exhausts, OnProgram}
+use Rattle.gib_app.specs.Commands.{source_of, second_of, Accepts, Refuses, Exhausts, OnProgram}
 use Rattle.gib_app.specs.Causes.{Counts, ShelfView, HoldsSecond, OnSource, OnFiles, IsUnread, IsSecondUnread, FailsToRead, IsUnwritten}
 
 -- The source spells this program with these names, and it is typed.
@@ -67,6 +67,7 @@ abbrev pub most_of : Request → ℕ
 most_of (Run source input depth) = 16777216
 most_of (Plain source input depth) = 16777216
 most_of (Check source) = 0
+most_of (Core source pass) = 0
 most_of (Pack source text target) = 16777216
 most_of (Show source file) = 268435480
 

@@ -30,6 +30,8 @@ pub data Request : Type 0 where
   Plain : Document → Document → ℕ → Request
   -- whether a source is a typed program
   Check : Document → Request
+  -- the core of a program after a pass, from 1 to 4: source, pass
+  Core : Document → ℕ → Request
   -- a packed file of a value that is given as text: source, text, name of the file that is written
   Pack : Document → Document → List ℕ → Request
   -- the text of the value of a packed file: source, packed file
@@ -49,6 +51,10 @@ number name least most default =
 -- How deep calls may go.
 abbrev pub depth : Rule
 depth = number (codes "depth") 1 1000000 (codes "10000")
+
+-- After which pass.
+abbrev pub pass : Rule
+pass = number (codes "pass") 1 4 (codes "4")
 
 -- ---- Their values
 
@@ -107,6 +113,14 @@ check_form = record {
   request = λ rows. option_map (λ source. Check source) (file_of (codes "source") rows);
 }
 
+-- `core SOURCE [--pass P]`.
+abbrev pub core_form : Form
+core_form = record {
+  name = codes "core";
+  arguments = positional (codes "source") ∷ pass ∷ [];
+  request = λ rows. with_value (option_map (λ source pass. Core source pass) (file_of (codes "source") rows)) (number_of (codes "pass") rows);
+}
+
 -- `pack SOURCE TEXT TARGET`.
 abbrev pub pack_form : Form
 pack_form = record {
@@ -126,7 +140,7 @@ show_form = record {
 
 -- All commands.
 abbrev pub forms : List Form
-forms = run_form ∷ plain_form ∷ check_form ∷ pack_form ∷ show_form ∷ []
+forms = run_form ∷ plain_form ∷ check_form ∷ core_form ∷ pack_form ∷ show_form ∷ []
 
 -- A command as clap sees it.
 abbrev pub app_for : Form → App

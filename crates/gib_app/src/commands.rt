@@ -3,8 +3,8 @@
 ghost use Rattle.std.specs.Prelude.{◌≡◌, IfOk, false};
 ghost use Rattle.clap.specs.Walk.{rule_of};
 ghost use Rattle.clap.specs.Simple.{app_of};
-ghost use Rattle.gib_app.specs.Words.{app_for, bare_program, command_set, depth, positional};
-ghost use Rattle.gib_app.specs.Words.{check_form, pack_form, plain_form, run_form, show_form};
+ghost use Rattle.gib_app.specs.Words.{app_for, bare_program, command_set, depth, pass, positional};
+ghost use Rattle.gib_app.specs.Words.{check_form, core_form, pack_form, plain_form, run_form, show_form};
 
 use clap::builder::ValueParser;
 use clap::{Arg, Command};
@@ -27,6 +27,17 @@ fn depth<'a>(alloc: Global) -> Arg<'a>
         .long("depth")
         .value_parser(ValueParser::unsigned(1, 1_000_000))
         .default_value("10000")
+}
+
+/// `--pass P`, after which pass.
+fn pass<'a>(alloc: Global) -> Arg<'a>
+    ensures rule { rule_of result ≡ pass }
+    ensures local { result.global ≡ false }
+{
+    Arg::new(alloc, "pass")
+        .long("pass")
+        .value_parser(ValueParser::unsigned(1, 4))
+        .default_value("4")
 }
 
 /// `run SOURCE INPUT [--depth N]`.
@@ -54,6 +65,15 @@ fn check_command<'a>(alloc: Global) -> Result<Command<'a>, AllocError>
     ensures { IfOk result (λ command. app_of command ≡ app_for check_form) }
 {
     Command::new(alloc, "check").arg(positional(alloc, "source"))
+}
+
+/// `core SOURCE [--pass P]`.
+fn core_command<'a>(alloc: Global) -> Result<Command<'a>, AllocError>
+    ensures { IfOk result (λ command. app_of command ≡ app_for core_form) }
+{
+    Command::new(alloc, "core")
+        .arg(positional(alloc, "source"))?
+        .arg(pass(alloc))
 }
 
 /// `pack SOURCE TEXT TARGET`.
@@ -93,6 +113,7 @@ pub fn command_set<'a>(alloc: Global) -> Result<Command<'a>, AllocError>
         .subcommand(run_command(alloc)?)?
         .subcommand(plain_command(alloc)?)?
         .subcommand(check_command(alloc)?)?
+        .subcommand(core_command(alloc)?)?
         .subcommand(pack_command(alloc)?)?
         .subcommand(show_command(alloc)?)
 }

@@ -3,6 +3,7 @@
 
 mod commands;
 mod compile;
+mod core_text;
 mod documents;
 pub mod input_fault;
 pub mod law;

@@ -8,6 +8,7 @@ ghost use Rattle.gib_app.specs.Requests.{document_of, request_of};
 ghost use Rattle.gib_app.specs.Stops.{most_of as most_asked, IsCompiled, IsReady, IsSourceStop, IsSecondStop, IsMakeStop, IsStop, StopReads, OnBoth};
 
 use crate::compile::{CompileFault, Compiled, compile};
+use crate::core_text::print_after;
 use crate::documents::{DocumentFault, read_document};
 use crate::input_fault::InputFault;
 use crate::pack::pack_text;
@@ -93,6 +94,10 @@ fn make_of(
         Request::Run { depth, .. } => run_on(alloc, compiled, second, depth),
         Request::Plain { depth, .. } => run_on(alloc, compiled, second, depth),
         Request::Check { .. } => match ok_answer(alloc) {
+            Ok(made) => Ok(made),
+            Err(_) => Err(Stop::Memory),
+        },
+        Request::Core { pass, .. } => match print_after(alloc, compiled, pass) {
             Ok(made) => Ok(made),
             Err(_) => Err(Stop::Memory),
         },

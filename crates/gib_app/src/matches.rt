@@ -5,7 +5,7 @@ ghost use Rattle.clap.specs.Walk.{rows_of};
 ghost use Rattle.clap.specs.Simple.{subcommand_rows_of};
 ghost use Rattle.clap.specs.Matches.{found_of};
 ghost use Rattle.gib_app.specs.Words.{file_of, number_of, requested, word_of};
-ghost use Rattle.gib_app.specs.Words.{check_form, pack_form, plain_form, run_form, show_form};
+ghost use Rattle.gib_app.specs.Words.{check_form, core_form, pack_form, plain_form, run_form, show_form};
 ghost use Rattle.gib_app.specs.Requests.{document_of, request_of};
 
 use crate::words::{Document, Request};
@@ -60,6 +60,15 @@ fn check_request<'a>(matches: &ArgMatches<'a>) -> Option<Request<'a>>
     })
 }
 
+fn core_request<'a>(matches: &ArgMatches<'a>) -> Option<Request<'a>>
+    ensures { option_map request_of result ≡ core_form.request (rows_of (found_of matches.now)) }
+{
+    Some(Request::Core {
+        source: file(matches, "source")?,
+        pass: number(matches, "pass")?,
+    })
+}
+
 fn pack_request<'a>(matches: &ArgMatches<'a>) -> Option<Request<'a>>
     ensures { option_map request_of result ≡ pack_form.request (rows_of (found_of matches.now)) }
 {
@@ -87,6 +96,7 @@ fn command_request<'a>(name: &str, matches: &ArgMatches<'a>) -> Option<Request<'
         "run" => run_request(matches),
         "plain" => plain_request(matches),
         "check" => check_request(matches),
+        "core" => core_request(matches),
         "pack" => pack_request(matches),
         "show" => show_request(matches),
         _ => None,

@@ -19,6 +19,7 @@ pub fn source_of(request: Request<'_>) -> Document<'_>
         Request::Run { source, .. } => source,
         Request::Plain { source, .. } => source,
         Request::Check { source } => source,
+        Request::Core { source, .. } => source,
         Request::Pack { source, .. } => source,
         Request::Show { source, .. } => source,
     }
@@ -32,6 +33,7 @@ pub fn second_of(request: Request<'_>) -> Option<Document<'_>>
         Request::Run { input, .. } => Some(input),
         Request::Plain { input, .. } => Some(input),
         Request::Check { .. } => None,
+        Request::Core { .. } => None,
         Request::Pack { text, .. } => Some(text),
         Request::Show { file, .. } => Some(file),
     }
@@ -45,6 +47,7 @@ pub fn most_of(request: Request<'_>) -> u64
         Request::Run { .. } => FILE_BYTES,
         Request::Plain { .. } => FILE_BYTES,
         Request::Check { .. } => 0,
+        Request::Core { .. } => 0,
         Request::Pack { .. } => FILE_BYTES,
         Request::Show { .. } => IMAGE_BYTES,
     }
@@ -58,6 +61,7 @@ pub fn target_of(request: Request<'_>) -> Option<&str>
         Request::Run { .. } => None,
         Request::Plain { .. } => None,
         Request::Check { .. } => None,
+        Request::Core { .. } => None,
         Request::Pack { target, .. } => Some(target),
         Request::Show { .. } => None,
     }

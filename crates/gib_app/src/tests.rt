@@ -31,6 +31,7 @@ fn shown(alloc: Global, request: Option<Request<'_>>) -> Result<String, AllocErr
             },
         ) => format!(in alloc; "plain {} {} {depth}", name(source), name(input)),
         Some(Request::Check { source }) => format!(in alloc; "check {}", name(source)),
+        Some(Request::Core { source, pass }) => format!(in alloc; "core {} {pass}", name(source)),
         Some(
             Request::Pack {
                 source,
@@ -85,7 +86,7 @@ fn no_words_ask_for_the_sample(rt: HostRuntime) -> Result<(), Fail> {
 #[test]
 fn commands_take_their_words(rt: HostRuntime) -> Result<(), Fail> {
     let alloc = rt.alloc();
-    let cases: [(&[&str], &str); 26] = [
+    let cases: [(&[&str], &str); 33] = [
         (&["run", "s", "i"], "run s i 10000"),
         (&["plain", "s", "i"], "plain s i 10000"),
         (&["check", "s"], "check s"),
@@ -119,6 +120,14 @@ fn commands_take_their_words(rt: HostRuntime) -> Result<(), Fail> {
         (&["check", "s", "--depth", "5"], "not taken"),
         (&["run", "s", "i", "-d", "5"], "not taken"),
         (&["--depth", "5", "run", "s", "i"], "not taken"),
+        // The pass, on both sides of its range.
+        (&["core", "s"], "core s 4"),
+        (&["core", "s", "--pass", "1"], "core s 1"),
+        (&["core", "--pass=4", "s"], "core s 4"),
+        (&["core", "s", "--pass", "0"], "not taken"),
+        (&["core", "s", "--pass", "5"], "not taken"),
+        (&["core", "s", "--pass", "1", "--pass", "1"], "not taken"),
+        (&["check", "s", "--pass", "1"], "not taken"),
     ];
     for (texts, expected) in cases {
         let line = asked(alloc, texts)?;
@@ -155,7 +164,7 @@ fn names_of_files_are_any_words(rt: HostRuntime) -> Result<(), Fail> {
 #[test]
 fn other_words_are_not_taken(rt: HostRuntime) -> Result<(), Fail> {
     let alloc = rt.alloc();
-    let cases: [&[&str]; 26] = [
+    let cases: [&[&str]; 28] = [
         &[""],
         &["--"],
         &["-"],
@@ -165,6 +174,8 @@ fn other_words_are_not_taken(rt: HostRuntime) -> Result<(), Fail> {
         &["plain", "s"],
         &["check"],
         &["check", "s", "x"],
+        &["core"],
+        &["core", "s", "x"],
         &["pack", "s", "t"],
         &["pack", "s", "t", "o", "x"],
         &["show", "s"],

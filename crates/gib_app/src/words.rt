@@ -40,6 +40,11 @@ pub enum Request<'a> {
     Check {
         source: Document<'a>,
     },
+    /// The core of a program after a pass.
+    Core {
+        source: Document<'a>,
+        pass: u32,
+    },
     /// A packed file, named `target`, of a value that is given as text.
     Pack {
         source: Document<'a>,

@@ -8,6 +8,8 @@ mod checks;
 #[cfg(test)]
 mod commands;
 #[cfg(test)]
+mod cores;
+#[cfg(test)]
 mod deep;
 #[cfg(test)]
 mod example_sources;

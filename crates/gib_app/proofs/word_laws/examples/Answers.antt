@@ -18,6 +18,14 @@ pub returns-clause-deep : goal.returns-clause-deep
 unfolding clap_on_literals
 returns-clause-deep c = refl
 
+pub returns-clause-core : goal.returns-clause-core
+unfolding clap_on_literals
+returns-clause-core c = refl
+
+pub returns-clause-pass : goal.returns-clause-pass
+unfolding clap_on_literals
+returns-clause-pass c = refl
+
 pub returns-clause-few : goal.returns-clause-few
 unfolding clap_on_literals
 returns-clause-few c = refl

@@ -1,0 +1,19 @@
+-- From the command that a parse entered to what it asks for.
+use Rattle.std.specs.Prelude.{Box, option_and_then}
+use Rattle.std.specs.Box.{box_value}
+use Rattle.std.proofs.Common.{◌≡◌, ◌∙◌, List, Option, None, Some, is_some, option_map, ap, ap₂, true≢false}
+use Rattle.clap.specs.Walk.{Row, Text}
+use Rattle.clap.specs.Simple.{subcommand_rows}
+use Rattle.clap.specs.declared.parser.matches.ArgMatches.TheViews.{out-SubCommand}
+use Rattle.clap.specs.declared.parser.matches.SubCommand.{SubCommand}
+use Rattle.gib_app.specs.Words.{Request, requested}
+
+module _ {Z : Type 0} where
+  -- the command that is met is known by its name and its rows
+  pub entered_asked : (sub : Option (Box SubCommand Z)) (name : Text) (rows : List Row) (request : Option Request)
+      → Some name ≡ option_map (λ b. (out-SubCommand (box_value b)).name.now) sub → Some rows ≡ option_map (λ p. p.1) (subcommand_rows sub)
+      → request ≡ requested name rows → request ≡ option_and_then (λ e. requested e.0 e.1) (subcommand_rows sub)
+  entered_asked None name rows request named found is = absurd (true≢false (ap is_some named))
+  entered_asked (Some b) name rows request named found is =
+      let same : name ≡ (out-SubCommand (box_value b)).name.now = cc in
+      is ∙ ap₂ requested same cc

@@ -1,0 +1,13 @@
+-- The core of a program after each pass.
+use Rattle.std.specs.Prelude.{ℕ, nat_lt, if◌then◌else◌}
+use Rattle.gib_syntax.specs.Tree.{ProgramTree}
+use Rattle.gib_core.specs.declared.atom.AccessMode.TheVariants.{Skips}
+use Rattle.gib_core.specs.Tree.{CoreTree}
+use Rattle.gib_core.specs.Inferring.{infer_program}
+use Rattle.gib_core.specs.Reaching.{reach_core}
+
+-- The core of a program after a pass: 1 makes it of the program, 2 places values directly, 3 reaches the fields
+-- of arms, 4 marks sides that may run at the same time. Direct placement and marks are not there yet: 2 leaves the
+-- core as it is after 1, and 4 as after 3.
+abbrev pub core_after : ℕ → ProgramTree → CoreTree
+core_after pass p = if nat_lt pass 3 then infer_program p else reach_core Skips (infer_program p)

@@ -1,0 +1,353 @@
+//! The text of cores after each pass, as `core` prints it.
+
+use crate::bench::{call, file};
+use gib_app::Status;
+use std::alloc::{AllocError, Global};
+use std::sync::Wait;
+use std::test::Fail;
+use std::thread::Threads;
+
+const ADD_ONE: &str =
+    "data Tree = Leaf Int | Node Tree Tree ; fun add1 (t : Tree) : Tree = case t of { Leaf n -> Leaf (n + 1) ; Node l r -> let par a = add1 l and b = add1 r in Node a b } ; main (t : Tree) : Tree = add1 t ;";
+
+/// Its core: lines, and a line that stands behind them where fields are reached.
+const ADD_ONE_CORE: [(&str, &str); 2] = [
+    (
+        "fun add1 %0:Tree : Tree
+  case %0
+    Leaf %1
+      prim %2 = %1 + 1
+      past %3 Leaf
+      write %3 %2
+    Node %4 %5
+",
+        "      reach %5 by skip %4\n",
+    ),
+    (
+        "      par
+        region %6
+          call add1 %4
+        region %7
+          call add1 %5
+      past %8 Node
+      here %9
+        point %6
+      here %10
+        point %7
+      write %8 %9 %10
+main %0:Tree : Tree
+  call add1 %0
+",
+        "",
+    ),
+];
+
+const RIGHT: &str =
+    "data Tree = Leaf Int | Node Tree Tree ; fun right (t : Tree) : Int = case t of { Leaf n -> n ; Node l r -> right r } ; main (t : Tree) : Int = right t ;";
+
+/// Its core, in the same way.
+const RIGHT_CORE: [(&str, &str); 2] = [
+    (
+        "fun right %0:Tree : Int
+  case %0
+    Leaf %1
+      give %1
+    Node %2 %3
+",
+        "      reach %3 by skip %2\n",
+    ),
+    (
+        "      scalar %4
+        call right %3
+      give %4
+main %0:Tree : Int
+  scalar %1
+    call right %0
+  give %1
+",
+        "",
+    ),
+];
+
+/// A program with each construct: an arm before another in the text but not in the declaration, fields out of
+/// their order in memory, scalars and packed values in each place where an expression may stand.
+const EACH: &str = "data Mark = Mark Bool Row Int | Bare ;
+data Row = End | Cell Int Row Row ;
+fun sum (r : Row) (n : Int) (up : Bool) : Int =
+  if up then case r of {
+    Cell k left right ->
+      let par a = sum left (n + k) True and b = sum right n (k < 9223372036854775807) in (a * (b - n)) ;
+    End -> n
+  } else let c = sum r 0 True in (c - 1) ;
+fun both (b : Bool) : Bool =
+  let c = (1 == 2) in
+  let par d = both False and e = if b then c else True in
+  if d then e else both b ;
+fun turn (r : Row) (f : Bool) : Row = case r of {
+    End -> let e = End in Cell (0 - 1) e r ;
+    Cell n a b ->
+      let par left = turn b True and n2 = (n + sum a 1 f) in
+      let right = if f then turn (turn a (n < n2)) False else a in
+      Cell (n2 + n2) left right
+  } ;
+fun deep (m : Mark) : Row = case m of {
+    Bare -> turn (Cell 1 End End) False ;
+    Mark b r n -> if b then Cell n r (deep Bare) else case r of { End -> r ; Cell k l q -> turn q (k == n) }
+  } ;
+main (m : Mark) : Mark = let r = deep m in Mark (both (sum r 2 False < 0)) r (sum r (1 + 1) True) ;";
+
+/// Its core, in the same way.
+const EACH_CORE: [(&str, &str); 4] = [
+    (
+        "fun sum %0:Row %1:Int %2:Bool : Int
+  if %2
+    case %0
+      End
+        give %1
+      Cell %3 %4 %5
+",
+        "        reach %5 by skip %4\n",
+    ),
+    (
+        "        par
+          scalar %6
+            prim %7 = %1 + %3
+            scalar %8
+              call sum %4 %7 True
+            give %8
+          scalar %9
+            prim %10 = %3 < 9223372036854775807
+            scalar %11
+              call sum %5 %1 %10
+            give %11
+        prim %12 = %9 - %1
+        prim %13 = %6 * %12
+        give %13
+  else
+    scalar %14
+      call sum %0 0 True
+    prim %15 = %14 - 1
+    give %15
+fun both %0:Bool : Bool
+  prim %1 = 1 == 2
+  par
+    scalar %2
+      call both False
+    scalar %3
+      if %0
+        give %1
+      else
+        give True
+  if %2
+    give %3
+  else
+    scalar %4
+      call both %0
+    give %4
+fun turn %0:Row %1:Bool : Row
+  case %0
+    End
+      region %2
+        past %3 End
+        write %3
+      prim %4 = 0 - 1
+      past %5 Cell
+      here %6
+        point %2
+      here %7
+        point %0
+      write %5 %4 %6 %7
+    Cell %8 %9 %10
+",
+        "      reach %10 by skip %9\n",
+    ),
+    (
+        "      par
+        region %11
+          call turn %10 True
+        scalar %12
+          scalar %13
+            call sum %9 1 %1
+          prim %14 = %8 + %13
+          give %14
+      region %15
+        if %1
+          region %16
+            prim %17 = %8 < %12
+            call turn %9 %17
+          call turn %16 False
+        else
+          point %9
+      prim %18 = %12 + %12
+      past %19 Cell
+      here %20
+        point %11
+      here %21
+        point %15
+      write %19 %18 %20 %21
+fun deep %0:Mark : Row
+  case %0
+    Mark %1 %2 %3
+      if %1
+        region %4
+          region %5
+            past %6 Bare
+            write %6
+          call deep %5
+        past %7 Cell
+        here %8
+          point %2
+        here %9
+          point %4
+        write %7 %3 %8 %9
+      else
+        case %2
+          End
+            point %2
+          Cell %10 %11 %12
+",
+        "            reach %12 by skip %11\n",
+    ),
+    (
+        "            prim %13 = %10 == %3
+            call turn %12 %13
+    Bare
+      region %14
+        region %15
+          past %16 End
+          write %16
+        region %17
+          past %18 End
+          write %18
+        past %19 Cell
+        here %20
+          point %15
+        here %21
+          point %17
+        write %19 1 %20 %21
+      call turn %14 False
+main %0:Mark : Mark
+  region %1
+    call deep %0
+  scalar %2
+    call sum %1 2 False
+  prim %3 = %2 < 0
+  scalar %4
+    call both %3
+  prim %5 = 1 + 1
+  scalar %6
+    call sum %1 %5 True
+  past %7 Mark
+  here %8
+    point %1
+  write %7 %4 %6 %8
+",
+        "",
+    ),
+];
+
+/// The text of a core, with the lines that reach fields or without them.
+fn core_text(alloc: Global, pieces: &[(&str, &str)], reached: bool) -> Result<String, AllocError> {
+    let mut text = String::new(alloc);
+    for (lines, reach) in pieces {
+        text.push_str(lines)?;
+        if reached {
+            text.push_str(reach)?;
+        }
+    }
+    Ok(text)
+}
+
+/// Whether `core` with these further words prints this core of a source, and nothing else.
+fn prints<R: Threads + Wait + Sync>(
+    rt: &R,
+    alloc: Global,
+    source: &str,
+    further: &[&str],
+    core: &str,
+) -> Result<bool, AllocError> {
+    let files = vec![in alloc; file(alloc, "a.gib", source.as_bytes())?]?;
+    let mut texts = vec![in alloc; "gib", "core", "a.gib"]?;
+    texts.extend_from_slice(further)?;
+    let ended = call(rt, alloc, &texts, files, Vec::new(alloc))?;
+    Ok(
+        ended.status == Status::Done
+            && ended.out.bytes() == core.as_bytes()
+            && ended.err.bytes().is_empty(),
+    )
+}
+
+/// Whether `core` prints this core of a source after each pass.
+fn prints_each_pass<R: Threads + Wait + Sync>(
+    rt: &R,
+    alloc: Global,
+    source: &str,
+    pieces: &[(&str, &str)],
+) -> Result<bool, AllocError> {
+    let placed = core_text(alloc, pieces, false)?;
+    let reached = core_text(alloc, pieces, true)?;
+    Ok(
+        prints(rt, alloc, source, &["--pass", "1"], placed.as_str())?
+            && prints(rt, alloc, source, &["--pass", "2"], placed.as_str())?
+            && prints(rt, alloc, source, &["--pass", "3"], reached.as_str())?
+            && prints(rt, alloc, source, &["--pass", "4"], reached.as_str())?
+            && prints(rt, alloc, source, &[], reached.as_str())?,
+    )
+}
+
+#[test]
+fn a_core_is_printed_after_each_pass(rt: HostRuntime) -> Result<(), Fail> {
+    let alloc = rt.alloc();
+    assert!(rt; prints_each_pass(&rt, alloc, ADD_ONE, &ADD_ONE_CORE)?);
+    assert!(rt; prints_each_pass(&rt, alloc, RIGHT, &RIGHT_CORE)?);
+    assert!(rt; prints_each_pass(&rt, alloc, EACH, &EACH_CORE)?);
+    Ok(())
+}
+
+#[test]
+fn words_of_core_that_are_not_taken_are_usage(rt: HostRuntime) -> Result<(), Fail> {
+    let alloc = rt.alloc();
+    for words in [
+        ["gib", "core"].as_slice(),
+        ["gib", "core", "a.gib", "b.gib"].as_slice(),
+        ["gib", "core", "a.gib", "--pass"].as_slice(),
+        ["gib", "core", "a.gib", "--pass", "0"].as_slice(),
+        ["gib", "core", "a.gib", "--pass", "5"].as_slice(),
+        ["gib", "core", "a.gib", "--pass", "1", "--pass", "1"].as_slice(),
+        ["gib", "core", "a.gib", "--depth", "5"].as_slice(),
+        ["gib", "check", "a.gib", "--pass", "1"].as_slice(),
+    ] {
+        let files = vec![in alloc; file(alloc, "a.gib", ADD_ONE.as_bytes())?]?;
+        let ended = call(&rt, alloc, words, files, Vec::new(alloc))?;
+        assert_eq!(rt; ended.status, Status::Usage);
+        assert_eq!(rt; ended.out.bytes(), b"".as_slice());
+        assert_eq!(rt; ended.err.bytes(), b"gib: usage\n".as_slice());
+    }
+    Ok(())
+}
+
+#[test]
+fn a_source_that_is_not_typed_has_no_core(rt: HostRuntime) -> Result<(), Fail> {
+    let alloc = rt.alloc();
+    for (source, err) in [
+        ("main @", "gib: source: bad character at 5\n"),
+        ("main (n : Int) : Int =", "gib: source: syntax at 22\n"),
+        (
+            "main (n : Int) : Int = True ;",
+            "gib: source: wrong type at 23\n",
+        ),
+    ] {
+        let files = vec![in alloc; file(alloc, "a.gib", source.as_bytes())?]?;
+        let ended = call(
+            &rt,
+            alloc,
+            &["gib", "core", "a.gib"],
+            files,
+            Vec::new(alloc),
+        )?;
+        assert_eq!(rt; ended.status, Status::Source, "{source}");
+        assert_eq!(rt; ended.out.bytes(), b"".as_slice(), "{source}");
+        assert_eq!(rt; ended.err.bytes(), err.as_bytes(), "{source}");
+    }
+    Ok(())
+}
