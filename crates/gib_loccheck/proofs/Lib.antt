@@ -5,5 +5,6 @@ pub mod Branching
 pub mod Judges
 pub mod Naming
 pub mod OneLine
+pub mod Sample
 pub mod Scoping
 pub mod Walking

@@ -16,6 +16,8 @@ mod lines;
 mod rules;
 mod state;
 mod table;
+#[cfg(test)]
+mod tests;
 mod walk;
 
 use bodies::check_bodies;
