@@ -114,12 +114,7 @@ fn bound(kind: Kind, number: u32, ty: Ty, term: TermId) -> BoundTerm
 }
 
 // past %h, and the rest
-fn past(
-    terms: &mut Terms,
-    head: u32,
-    constructor: ConId,
-    rest: TermId,
-) -> Result<TermId, Memory>
+fn past(terms: &mut Terms, head: u32, constructor: ConId, rest: TermId) -> Result<TermId, Memory>
     requires { rest.0 < length terms.old }
     ensures { IfOk result (λ id. (id.0 < length terms.new) × (length terms.old ≤ length terms.new)) }
 {
@@ -417,12 +412,7 @@ fn line(alloc: Global, terms: &mut Terms, number: u32) -> Result<TermId, Memory>
 }
 
 // fun f (t : Tree) : a type = a body
-fn function(
-    alloc: Global,
-    name: Name,
-    ty: Ty,
-    body: TermId,
-) -> Result<CoreFunction, Memory>
+fn function(alloc: Global, name: Name, ty: Ty, body: TermId) -> Result<CoreFunction, Memory>
     ensures { IfOk result (λ f. f.body ≡ body) }
 {
     let parameters = Vec::from_slice(alloc, &[TREE])?;
@@ -453,13 +443,7 @@ fn program(alloc: Global, copied: Atom, number: u32) -> Result<Core, Memory> {
         result: TREE,
         body,
     };
-    Ok(Core::new(
-        table(alloc)?,
-        terms,
-        functions,
-        main,
-        Vec::new(alloc),
-    ))
+    Ok(Core::new(table(alloc)?, terms, functions, main, Vec::new(alloc)))
 }
 
 #[test]
