@@ -1,5 +1,5 @@
 -- The branches of a case, one after another.
-use Rattle.std.proofs.Common.{◌≡◌, ℕ, List, [], ◌∷◌, ◌++◌}
+use Rattle.std.proofs.Common.{◌≡◌, ℕ, List, ◌++◌}
 use Rattle.std.specs.List.{AllByRecursion}
 use Rattle.gib_core.specs.declared.node.Branch.{Branch}
 use Rattle.gib_core.specs.Tree.{CoreTree, Term}

@@ -1,20 +1,15 @@
 -- Some lines behind others.
-use Rattle.std.proofs.Common.{◌≡◌, ℕ, ◌+◌, Bool, true, false, List, [], ◌∷◌, ◌++◌, Option, Some, None, refl, sym, ap, ◌∙◌, subst, reverse, arith, take, length, append_assoc, length-append}
-use Rattle.std.proofs.Math.Seq.{take-append_seam}
+use Rattle.std.proofs.Common.{◌≡◌, ℕ, ◌+◌, List, [], ◌∷◌, ◌++◌, Option, Some, None, refl, sym, ap, ◌∙◌, reverse, arith, length, length-append}
 use Rattle.gib_types.specs.Table.{Table}
-use Rattle.gib_core.specs.declared.atom.Variable.{Variable}
-use Rattle.gib_core.specs.declared.atom.Atom.{Atom}
-use Rattle.gib_core.specs.declared.atom.Access.{Access}
-use Rattle.gib_core.specs.declared.scope.Known.{Known}
-use Rattle.gib_core.specs.Tree.{CoreTree, Term, Then, IfTerm, Bind, Side}
-use Rattle.gib_core.specs.Met.{Setting, Met, Line, met, met_bind, met_side, behind, behind_side}
+use Rattle.gib_core.specs.Tree.{CoreTree}
+use Rattle.gib_core.specs.Met.{Met}
 use Rattle.gib_core.specs.Rules.{Before, Broken, or_later, or_else, least, rules, next, next_all, broken_from}
 use Rattle.gib_loccheck.specs.declared.state.Walk.{Walk}
 use Rattle.gib_loccheck.specs.declared.state.Target.{Target}
 use Rattle.gib_loccheck.specs.declared.fault.LocFault.{LocFault}
 use Rattle.gib_loccheck.specs.declared.fault.LocFault.TheVariants as fault
 use Rattle.gib_loccheck.specs.Views.{before_of, setting_of}
-use Rattle.gib_loccheck.specs.Judging.{one, Says, Passes, Blames, Kept, Binds, Stays}
+use Rattle.gib_loccheck.specs.Judging.{Passes, Blames, Kept, Stays}
 
 or_later-else : (r : Option ℕ) (p : ℕ) (a b : Broken) → or_later r p (or_else a b) ≡ or_else (or_later r p a) b
 or_later-else None p a b = refl

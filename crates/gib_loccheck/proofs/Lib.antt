@@ -3,7 +3,9 @@ pub mod Arms
 pub mod OneBody
 pub mod Branching
 pub mod Judges
+pub mod Named
 pub mod Naming
 pub mod OneLine
+pub mod Sample
 pub mod Scoping
 pub mod Walking

@@ -2,14 +2,13 @@
 use Rattle.std.proofs.Common.{false, ◌≡◌, ℕ, ◌+◌, ◌-◌, ◌≤◌, List, [], ◌∷◌, ◌++◌, map, None, refl, sym, ap, ◌∙◌, subst, arith, take, drop, get_or, length, reverse}
 use Rattle.std.proofs.Math.Seq.{take-length}
 use Rattle.std.specs.List.{AllByRecursion}
-use Rattle.gib_types.specs.declared.table.Ty.{Ty}
 use Rattle.gib_core.specs.declared.program.CoreFunction.{CoreFunction}
 use Rattle.gib_core.specs.Tree.{CoreTree, Term, FunctionTerm}
 use Rattle.gib_core.specs.declared.program.CoreMain.{CoreMain}
 use Rattle.gib_core.specs.Arena.{term_of}
 use Rattle.gib_core.specs.Parts.{Parts, IsFunctionInside, core_of, function_term}
-use Rattle.gib_core.specs.Met.{Met, Setting, Body, met, met_body, bodies, opening, result_place}
-use Rattle.gib_core.specs.Rules.{Before, Broken, or_else, broken_from, broken_in, before_body, first_broken}
+use Rattle.gib_core.specs.Met.{Body, met, met_body, bodies, opening, result_place}
+use Rattle.gib_core.specs.Rules.{Broken, or_else, broken_from, broken_in, before_body, first_broken}
 use Rattle.gib_loccheck.specs.declared.state.Walk.{Walk}
 use Rattle.gib_loccheck.specs.declared.state.Target.{Target}
 use Rattle.gib_loccheck.specs.declared.fault.LocFault.{LocFault}

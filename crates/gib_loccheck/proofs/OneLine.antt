@@ -1,20 +1,19 @@
 -- A line whose rules ask nothing of what is due is judged the same, whatever is due.
-use Rattle.std.proofs.Common.{◌≡◌, ℕ, ◌+◌, Bool, List, [], ◌∷◌, None, refl, sym, ap, ◌∙◌, subst}
-use Rattle.std.specs.Prelude.{not, ◌&&◌, ◌||◌}
+use Rattle.std.proofs.Common.{◌≡◌, [], ◌∷◌, None, sym, ◌∙◌, subst}
+use Rattle.std.specs.Prelude.{not, ◌||◌}
 use Rattle.gib_types.specs.declared.table.Ty.TheVariants.{Whole, Truth}
 use Rattle.gib_syntax.specs.declared.tree.Operator.{Operator}
 use Rattle.gib_core.specs.declared.atom.Variable.{Variable}
 use Rattle.gib_core.specs.declared.atom.Atom.{Atom}
 use Rattle.gib_core.specs.Tree.{CoreTree}
-use Rattle.gib_core.specs.Met.{Line, PrimLine, IfLine, Setting}
-use Rattle.gib_core.specs.Rules.{Before, Broken, broken_from, least, or_later, rules, is_usable, is_other, is_bound, have_types, has_type, all_usable, any_other}
+use Rattle.gib_core.specs.Met.{PrimLine, IfLine}
+use Rattle.gib_core.specs.Rules.{Broken, broken_from, least, or_later, is_bound, have_types, has_type}
 use Rattle.gib_loccheck.specs.declared.state.Walk.{Walk}
 use Rattle.gib_loccheck.specs.declared.state.Target.{Target}
 use Rattle.gib_loccheck.specs.declared.fault.LocFault.{LocFault}
 use Rattle.gib_loccheck.specs.Views.{in_scope, setting_of, before_of}
-use Rattle.gib_loccheck.specs.Judging.{one, Says, Passes, Blames, Stays}
+use Rattle.gib_loccheck.specs.Judging.{one, Says, Passes, Blames}
 use Rattle.gib_loccheck.proofs.Scoping.{usable_same, other_same, all_usable_same, any_other_same}
-use Rattle.gib_loccheck.proofs.Judges.{stays_same, stays_passes}
 
 prim_line : (core : CoreTree) (w : Walk) (t : Target) (x : Variable) (f : Operator) (y z : Atom)
     → broken_from core w.place (before_of w) (one (in_scope w) (PrimLine x f y z)) ≡ broken_from core w.place (before_of w) (one (setting_of w t) (PrimLine x f y z))

@@ -1,7 +1,6 @@
 -- The lines of a term, from those of its parts.
-use Rattle.std.proofs.Common.{◌≡◌, ℕ, ◌+◌, ◌-◌, ◌≤◌, Bool, true, false, List, [], ◌∷◌, ◌++◌, None, refl, sym, ap, ◌∙◌, subst, reverse, arith, take, drop, get_or, length, append_assoc}
+use Rattle.std.proofs.Common.{◌≡◌, ℕ, ◌-◌, ◌≤◌, false, List, [], ◌∷◌, ◌++◌, refl, sym, ap, ◌∙◌, subst, arith, take, drop, get_or, length, append_assoc}
 use Rattle.std.proofs.Math.Seq.{take-length}
-use Rattle.std.specs.List.{AllByRecursion}
 use Rattle.gib_types.specs.declared.table.Ty.{Ty}
 use Rattle.gib_types.specs.declared.table.ConId.{ConId}
 use Rattle.gib_core.specs.declared.atom.Variable.{Variable}
@@ -9,8 +8,8 @@ use Rattle.gib_core.specs.declared.atom.Atom.{Atom}
 use Rattle.gib_core.specs.declared.atom.Kind.{Kind}
 use Rattle.gib_core.specs.declared.node.Branch.{Branch}
 use Rattle.gib_core.specs.Tree.{CoreTree, Term, Then, IfTerm, CaseTerm, Bind, Both, Side, On, variable_of}
-use Rattle.gib_core.specs.Arena.{branches_from, IsBranchBelow}
-use Rattle.gib_core.specs.Met.{Setting, Met, Line, ParLine, CaseLine, IfLine, met, met_bind, met_side, met_branches, behind, behind_side, in_arm, in_branch, arms_of}
+use Rattle.gib_core.specs.Arena.{branches_from}
+use Rattle.gib_core.specs.Met.{Setting, Met, ParLine, CaseLine, IfLine, met, met_bind, met_side, met_branches, behind, behind_side, in_arm, in_branch, arms_of}
 use Rattle.gib_loccheck.specs.declared.state.Walk.{Walk}
 use Rattle.gib_loccheck.specs.declared.state.Target.{Target}
 use Rattle.gib_loccheck.specs.declared.fault.LocFault.{LocFault}

@@ -12,11 +12,12 @@ ghost use Rattle.gib_loccheck.specs.declared.state.Walk.{Walk as State};
 
 use crate::cases::enter_arm;
 use crate::fault::LocFault;
+use crate::indexed::IndexedCore;
 use crate::lines::{past, prim, reach};
 use crate::state::{Destination, Target, Walk, find};
 use crate::table::fields_of;
 use gib_base::Memory;
-use gib_core::{Access, Atom, BoundTerm, Branch, Core, Kind, Known, Variable};
+use gib_core::{Access, Atom, BoundTerm, Branch, Kind, Known, Variable};
 use gib_syntax::Operator;
 use gib_types::ConId;
 use std::alloc::Global;
@@ -79,7 +80,7 @@ pub fn stand(
 /// Behind room for a head: it is open now.
 pub fn open_head(
     alloc: Global,
-    core: &Core,
+    core: &IndexedCore,
     walk: &mut Walk,
     target: &Target,
     head: Variable,
@@ -140,7 +141,7 @@ fn enter_field(walk: &mut Walk, field: Variable) -> Result<(), Memory>
 
 /// Behind a field that is reached.
 pub fn reach_field(
-    core: &Core,
+    core: &IndexedCore,
     walk: &mut Walk,
     target: &Target,
     field: Variable,
@@ -181,7 +182,7 @@ pub fn stand_both(
 
 /// What the term of a branch is met with: its fields are in scope.
 pub fn open_arm(
-    core: &Core,
+    core: &IndexedCore,
     walk: &mut Walk,
     target: &Target,
     branch: &Branch,

@@ -12,10 +12,11 @@ ghost use Rattle.gib_loccheck.specs.Bodies.{Pass, Blame, Opens, body_of, bodies_
 
 use crate::bindings::enter;
 use crate::fault::LocFault;
+use crate::indexed::IndexedCore;
 use crate::state::{Destination, Target, Walk};
 use crate::walk::term;
 use gib_base::Memory;
-use gib_core::{Bound, Core, CoreFunction, TermId, Variable};
+use gib_core::{Bound, CoreFunction, TermId, Variable};
 use gib_types::Ty;
 use std::alloc::{AllocError, Global};
 
@@ -56,7 +57,7 @@ fn open_body(walk: &mut Walk, parameters: &[Ty]) -> Result<(), Memory>
 /// One body.
 fn body(
     alloc: Global,
-    core: &Core,
+    core: &IndexedCore,
     walk: &mut Walk,
     parameters: &[Ty],
     result_type: Ty,
@@ -81,7 +82,7 @@ fn body(
 /// The bodies of functions, one after another.
 fn functions(
     alloc: Global,
-    core: &Core,
+    core: &IndexedCore,
     walk: &mut Walk,
     functions: &[CoreFunction],
 ) -> Result<(), LocFault>
@@ -107,7 +108,7 @@ fn functions(
 }
 
 /// All bodies of a core.
-pub fn check_bodies(alloc: Global, core: &Core) -> Result<(), LocFault>
+pub fn check_bodies(alloc: Global, core: &IndexedCore) -> Result<(), LocFault>
     ensures unbroken { IfOk result (λ _. first_broken (core_of core.now) ≡ None) }
     ensures broken { IfErr result (λ e. Says e (first_broken (core_of core.now))) }
 {

@@ -10,25 +10,12 @@ ghost use Rattle.gib_core.specs.Rules.{least, rules as all_rules, call_fits as f
 ghost use Rattle.gib_loccheck.specs.Views.{setting_of, before_of, call_rules};
 
 use crate::atoms::{all_usable, any_other, have_types};
+use crate::indexed::IndexedCore;
 use crate::state::{Target, Walk};
 use crate::table::{is_scalar, same_type};
 use gib_base::Name;
-use gib_core::{Atom, Core, CoreFunction};
+use gib_core::{Atom, CoreFunction};
 use gib_types::Ty;
-
-/// The function of a name: the first one.
-fn find_function(core: &Core, name: Name) -> Option<&CoreFunction>
-    ensures { MatchOption result (function_at (core_of core.now).functions name.0 ≡ None) (λ f. function_at (core_of core.now).functions name.0 ≡ Some (function_term (term_of core.now.terms) f.now)) }
-{
-    let mut left = core.functions();
-    'functions: while let [function, after @ ..] = left {
-        if function.name.0 == name.0 {
-            return Some(function);
-        }
-        left = after;
-    }
-    None
-}
 
 /// Whether a scalar call may stand here: it is the whole right side of a `scalar`.
 fn may_give(target: &Target, ty: Ty) -> bool
@@ -87,7 +74,7 @@ fn unknown_call_rule(walk: &Walk, target: &Target, arguments: &[Atom]) -> Option
 
 /// A call.
 pub fn call_rule(
-    core: &Core,
+    core: &IndexedCore,
     walk: &Walk,
     target: &Target,
     name: Name,
@@ -95,7 +82,7 @@ pub fn call_rule(
 ) -> Option<u8>
     ensures { result ≡ least (all_rules (core_of core.now) (before_of walk.now) (setting_of walk.now target.now) (CallLine name arguments.now)) }
 {
-    match find_function(core, name) {
+    match core.function(name) {
         Some(function) => known_call_rule(walk, target, arguments, function),
         None => unknown_call_rule(walk, target, arguments),
     }

@@ -9,10 +9,11 @@ ghost use Rattle.gib_core.specs.Rules.{least, rules, cover, are_arms as arms_are
 ghost use Rattle.gib_loccheck.specs.Views.{setting_of, before_of, arms_in};
 ghost use Rattle.gib_loccheck.specs.Judging.{Extends};
 
+use crate::indexed::IndexedCore;
 use crate::state::{Target, Walk, is_bound, is_listed};
 use crate::table::{constructors_of, fields_of, first_type, further_types};
 use gib_base::Memory;
-use gib_core::{Atom, Behind, Bound, Branch, Core, Known, Variable};
+use gib_core::{Atom, Behind, Bound, Branch, Known, Variable};
 use gib_types::{ConId, Ty, TyId, TypeTable};
 use std::alloc::Global;
 
@@ -94,7 +95,7 @@ fn any_bound(alloc: Global, walk: &Walk, variables: &[Variable]) -> Result<bool,
 #[tactic(auto, using(crate::proofs::Scoping::other_same, crate::proofs::Scoping::usable_same))]
 pub fn case_rule(
     alloc: Global,
-    core: &Core,
+    core: &IndexedCore,
     walk: &Walk,
     target: &Target,
     subject: Atom,

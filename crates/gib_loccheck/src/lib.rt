@@ -1,13 +1,14 @@
 //! The location checker: which cores meet the build rules, and else which rule is broken first.
 #![tactic(auto)]
 
-ghost use Rattle.std.specs.Prelude.{◌≡◌, ℕ, Some, IfOk, IfErr, MatchResult};
+ghost use Rattle.std.specs.Prelude.{◌≡◌, ℕ, None, Some, IfOk, IfErr, MatchResult};
 ghost use Rattle.gib_core.specs.declared.atom.AccessMode.{AccessMode as Mode};
 ghost use Rattle.gib_core.specs.Tree.{CoreTree};
 ghost use Rattle.gib_core.specs.Parts.{core_of};
 ghost use Rattle.gib_core.specs.Reaching.{reach_core};
 ghost use Rattle.gib_core.specs.Reachable.{AreReachable};
 ghost use Rattle.gib_core.specs.Rules.{AreBuilt, first_broken};
+ghost use Rattle.gib_loccheck.specs.Judging.{Says};
 ghost use Rattle.gib_loccheck.specs.Answers.{IsMemory, IsMemoryOr, IsFirst};
 
 mod atoms;
@@ -16,17 +17,34 @@ mod bodies;
 mod calls;
 mod cases;
 mod fault;
+mod indexed;
 mod lines;
 mod rules;
 mod state;
 mod table;
+#[cfg(test)]
+mod tests;
 mod walk;
 
 use bodies::check_bodies;
 pub use fault::LocFault;
 use gib_core::law::{built_is_unbroken, reaching_makes_built};
 use gib_core::{Checked, Core};
+use indexed::IndexedCore;
 use std::alloc::Global;
+
+/// A core that breaks no build rule.
+fn unbroken(alloc: Global, core: Core) -> Result<Core, LocFault>
+    ensures same { IfOk result (λ same. same ≡ core) }
+    ensures unbroken { IfOk result (λ _. first_broken (core_of core) ≡ None) }
+    ensures broken { IfErr result (λ e. Says e (first_broken (core_of core))) }
+{
+    let indexed = IndexedCore::make(alloc, core)?;
+    match check_bodies(alloc, &indexed) {
+        Err(fault) => Err(fault),
+        Ok(()) => Ok(indexed.into_core()),
+    }
+}
 
 /// Checks a core: which build rule it breaks first, or none.
 ///
@@ -48,8 +66,8 @@ pub fn loccheck(alloc: Global, core: Core) -> Result<Checked, LocFault>
 {
     built_is_unbroken();
     reaching_makes_built();
-    match check_bodies(alloc, &core) {
+    match unbroken(alloc, core) {
         Err(fault) => Err(fault),
-        Ok(()) => Ok(Checked::make(core)),
+        Ok(core) => Ok(Checked::make(core)),
     }
 }

@@ -11,13 +11,14 @@ ghost use Rattle.gib_loccheck.specs.Judging.{one, Says, Passes, Blames, Kept, Bi
 use crate::calls::call_rule;
 use crate::cases::{bind_arms, case_rule};
 use crate::fault::LocFault;
+use crate::indexed::IndexedCore;
 use crate::rules::{
     give_rule, if_rule, past_rule, point_rule, prim_rule, reach_rule, side_rule, write_rule,
 };
 use crate::state::{Target, Walk};
 use crate::table::{operator_type, type_made};
 use gib_base::Name;
-use gib_core::{Access, Atom, Bound, Branch, Core, Kind, Variable};
+use gib_core::{Access, Atom, Bound, Branch, Kind, Variable};
 use gib_syntax::Operator;
 use gib_types::{ConId, Ty};
 use std::alloc::Global;
@@ -49,7 +50,7 @@ fn bind(walk: &mut Walk, variable: Variable, ty: Ty) -> Result<(), LocFault>
 
 /// Room for the head of a constructor.
 pub fn past(
-    core: &Core,
+    core: &IndexedCore,
     walk: &mut Walk,
     target: &Target,
     head: Variable,
@@ -66,7 +67,7 @@ pub fn past(
 
 /// A variable that is bound to a term.
 pub fn side_line(
-    core: &Core,
+    core: &IndexedCore,
     walk: &mut Walk,
     target: &Target,
     kind: Kind,
@@ -109,7 +110,12 @@ pub fn prim(
 }
 
 /// From here on a field of an arm can be used.
-pub fn reach(core: &Core, walk: &mut Walk, field: Variable, access: Access) -> Result<(), LocFault>
+pub fn reach(
+    core: &IndexedCore,
+    walk: &mut Walk,
+    field: Variable,
+    access: Access,
+) -> Result<(), LocFault>
     ensures passes { IfOk result (λ _. Passes (core_of core.now) walk.old walk.new (one (in_scope walk.old) (ReachLine field access))) }
     ensures kept { IfOk result (λ _. Kept walk.old walk.new) }
     ensures broken { IfErr result (Blames (core_of core.now) walk.old (one (in_scope walk.old) (ReachLine field access))) }
@@ -120,7 +126,7 @@ pub fn reach(core: &Core, walk: &mut Walk, field: Variable, access: Access) -> R
 
 /// The open head is filled.
 pub fn write(
-    core: &Core,
+    core: &IndexedCore,
     walk: &mut Walk,
     target: &Target,
     head: Variable,
@@ -137,7 +143,12 @@ pub fn write(
 }
 
 /// An indirection to a packed value.
-pub fn point(core: &Core, walk: &mut Walk, target: &Target, atom: Atom) -> Result<(), LocFault>
+pub fn point(
+    core: &IndexedCore,
+    walk: &mut Walk,
+    target: &Target,
+    atom: Atom,
+) -> Result<(), LocFault>
     ensures passes { IfOk result (λ _. Passes (core_of core.now) walk.old walk.new (one (setting_of walk.old target.now) (PointLine atom))) }
     ensures kept { IfOk result (λ _. Kept walk.old walk.new) }
     ensures broken { IfErr result (Blames (core_of core.now) walk.old (one (setting_of walk.old target.now) (PointLine atom))) }
@@ -148,7 +159,7 @@ pub fn point(core: &Core, walk: &mut Walk, target: &Target, atom: Atom) -> Resul
 
 /// A call.
 pub fn call(
-    core: &Core,
+    core: &IndexedCore,
     walk: &mut Walk,
     target: &Target,
     name: Name,
@@ -163,7 +174,12 @@ pub fn call(
 }
 
 /// A scalar result.
-pub fn give(core: &Core, walk: &mut Walk, target: &Target, atom: Atom) -> Result<(), LocFault>
+pub fn give(
+    core: &IndexedCore,
+    walk: &mut Walk,
+    target: &Target,
+    atom: Atom,
+) -> Result<(), LocFault>
     ensures passes { IfOk result (λ _. Passes (core_of core.now) walk.old walk.new (one (setting_of walk.old target.now) (GiveLine atom))) }
     ensures kept { IfOk result (λ _. Kept walk.old walk.new) }
     ensures broken { IfErr result (Blames (core_of core.now) walk.old (one (setting_of walk.old target.now) (GiveLine atom))) }
@@ -173,7 +189,7 @@ pub fn give(core: &Core, walk: &mut Walk, target: &Target, atom: Atom) -> Result
 }
 
 /// The condition of branches.
-pub fn condition(core: &Core, walk: &mut Walk, condition: Atom) -> Result<(), LocFault>
+pub fn condition(core: &IndexedCore, walk: &mut Walk, condition: Atom) -> Result<(), LocFault>
     ensures passes { IfOk result (λ _. Passes (core_of core.now) walk.old walk.new (one (in_scope walk.old) (IfLine condition))) }
     ensures kept { IfOk result (λ _. Kept walk.old walk.new) }
     ensures broken { IfErr result (Blames (core_of core.now) walk.old (one (in_scope walk.old) (IfLine condition))) }
@@ -185,7 +201,7 @@ pub fn condition(core: &Core, walk: &mut Walk, condition: Atom) -> Result<(), Lo
 /// The subject of a case, and what its arms bind.
 pub fn subject(
     alloc: Global,
-    core: &Core,
+    core: &IndexedCore,
     walk: &mut Walk,
     target: &Target,
     subject: Atom,

@@ -14,15 +14,16 @@ use crate::atoms::{
     all_usable, any_cased, any_other, are_variables, further, have_scalar_types, have_types,
     is_one_of,
 };
+use crate::indexed::IndexedCore;
 use crate::state::{Destination, Target, Walk, find, is_bound, is_listed};
 use crate::table::{fields_of, is_of_type, is_scalar, packed_count, same_type};
 use gib_base::Name;
-use gib_core::{Access, Atom, Behind, Core, CoreFunction, Kind, Known, Variable};
+use gib_core::{Access, Atom, Behind, CoreFunction, Kind, Known, Variable};
 use gib_types::{ConId, Ty, TypeTable};
 
 /// Room for the head of a constructor.
 pub fn past_rule(
-    core: &Core,
+    core: &IndexedCore,
     walk: &Walk,
     target: &Target,
     head: Variable,
@@ -40,7 +41,13 @@ pub fn past_rule(
 }
 
 /// A field of the open head.
-fn here_rule(core: &Core, walk: &Walk, target: &Target, variable: Variable, ty: Ty) -> Option<u8>
+fn here_rule(
+    core: &IndexedCore,
+    walk: &Walk,
+    target: &Target,
+    variable: Variable,
+    ty: Ty,
+) -> Option<u8>
     ensures { result ≡ least (rules (core_of core.now) (before_of walk.now) (setting_of walk.now target.now) (SideLine Kind.Here variable ty)) }
 {
     if !target.has_room(core.types()) {
@@ -83,7 +90,7 @@ fn scalar_rule(walk: &Walk, variable: Variable, ty: Ty) -> Option<u8>
 
 /// A variable that is bound to a term.
 pub fn side_rule(
-    core: &Core,
+    core: &IndexedCore,
     walk: &Walk,
     target: &Target,
     kind: Kind,
@@ -119,7 +126,7 @@ pub fn prim_rule(walk: &Walk, variable: Variable, left: Atom, right: Atom) -> Op
 }
 
 /// Whether a field that stands behind another one can be reached so.
-fn by_access(core: &Core, walk: &Walk, behind: Option<Behind>, access: Access) -> bool
+fn by_access(core: &IndexedCore, walk: &Walk, behind: Option<Behind>, access: Access) -> bool
     ensures { result ≡ accessed (core_of core.now) (before_of walk.now) (in_scope walk.now) behind access }
 {
     match behind {
@@ -139,7 +146,7 @@ fn ends_known(walk: &Walk, field: Variable) -> bool
 }
 
 /// Whether a field that is in scope and not reached can be reached so.
-fn may_reach(core: &Core, walk: &Walk, field: Option<Known>, access: Access) -> bool
+fn may_reach(core: &IndexedCore, walk: &Walk, field: Option<Known>, access: Access) -> bool
     ensures { result ≡ reaches (core_of core.now) (before_of walk.now) (in_scope walk.now) field access }
 {
     match field {
@@ -149,7 +156,7 @@ fn may_reach(core: &Core, walk: &Walk, field: Option<Known>, access: Access) -> 
 }
 
 /// From here on a field of an arm can be used.
-pub fn reach_rule(core: &Core, walk: &Walk, field: Variable, access: Access) -> Option<u8>
+pub fn reach_rule(core: &IndexedCore, walk: &Walk, field: Variable, access: Access) -> Option<u8>
     ensures { result ≡ least (rules (core_of core.now) (before_of walk.now) (in_scope walk.now) (ReachLine field access)) }
 {
     if is_listed(&walk.others, field) {
@@ -217,7 +224,7 @@ fn are_scalars(types: &TypeTable, walk: &Walk, target: &Target, scalars: &[Atom]
 /// The open head is filled.
 #[tactic(auto, using(crate::proofs::Scoping::both_other, crate::proofs::Scoping::both_usable))]
 pub fn write_rule(
-    core: &Core,
+    core: &IndexedCore,
     walk: &Walk,
     target: &Target,
     head: Variable,
@@ -244,7 +251,7 @@ pub fn write_rule(
 
 /// An indirection to a packed value.
 #[tactic(auto, using(crate::proofs::Scoping::other_same, crate::proofs::Scoping::usable_same))]
-pub fn point_rule(core: &Core, walk: &Walk, target: &Target, atom: Atom) -> Option<u8>
+pub fn point_rule(core: &IndexedCore, walk: &Walk, target: &Target, atom: Atom) -> Option<u8>
     ensures { result ≡ least (rules (core_of core.now) (before_of walk.now) (setting_of walk.now target.now) (PointLine atom)) }
 {
     if walk.is_other(atom) {
@@ -264,7 +271,7 @@ pub fn point_rule(core: &Core, walk: &Walk, target: &Target, atom: Atom) -> Opti
 
 /// A scalar result.
 #[tactic(auto, using(crate::proofs::Scoping::other_same, crate::proofs::Scoping::usable_same))]
-pub fn give_rule(core: &Core, walk: &Walk, target: &Target, atom: Atom) -> Option<u8>
+pub fn give_rule(core: &IndexedCore, walk: &Walk, target: &Target, atom: Atom) -> Option<u8>
     ensures { result ≡ least (rules (core_of core.now) (before_of walk.now) (setting_of walk.now target.now) (GiveLine atom)) }
 {
     if walk.is_other(atom) {
@@ -280,7 +287,7 @@ pub fn give_rule(core: &Core, walk: &Walk, target: &Target, atom: Atom) -> Optio
 }
 
 /// The condition of branches.
-pub fn if_rule(core: &Core, walk: &Walk, condition: Atom) -> Option<u8>
+pub fn if_rule(core: &IndexedCore, walk: &Walk, condition: Atom) -> Option<u8>
     ensures { result ≡ least (rules (core_of core.now) (before_of walk.now) (in_scope walk.now) (IfLine condition)) }
 {
     if walk.is_other(condition) {

@@ -14,13 +14,14 @@ use crate::bindings::{
     stand_both,
 };
 use crate::fault::LocFault;
+use crate::indexed::IndexedCore;
 use crate::lines::{call, condition, give, par, point, side_line, subject, write};
 use crate::state::{Target, Walk};
-use gib_core::{Atom, Binding, BoundTerm, Branch, Core, Node, TermId, Variable};
+use gib_core::{Atom, Binding, BoundTerm, Branch, Node, TermId, Variable};
 use std::alloc::Global;
 
 /// The term of a number.
-fn node_at(core: &Core, id: TermId) -> &Node
+fn node_at(core: &IndexedCore, id: TermId) -> &Node
     requires { id.0 < length core.now.terms }
     ensures { Opens core.now.terms id.0 result.now }
 {
@@ -31,7 +32,7 @@ fn node_at(core: &Core, id: TermId) -> &Node
 #[cycle(lines)]
 pub fn term(
     alloc: Global,
-    core: &Core,
+    core: &IndexedCore,
     walk: &mut Walk,
     target: &Target,
     id: TermId,
@@ -69,7 +70,7 @@ pub fn term(
 #[cycle(lines)]
 fn line(
     alloc: Global,
-    core: &Core,
+    core: &IndexedCore,
     walk: &mut Walk,
     target: &Target,
     whole: TermId,
@@ -94,7 +95,7 @@ fn line(
 #[cycle(lines)]
 fn bind(
     alloc: Global,
-    core: &Core,
+    core: &IndexedCore,
     walk: &mut Walk,
     target: &Target,
     whole: TermId,
@@ -128,7 +129,7 @@ fn bind(
 #[cycle(lines)]
 fn side(
     alloc: Global,
-    core: &Core,
+    core: &IndexedCore,
     walk: &mut Walk,
     target: &Target,
     whole: TermId,
@@ -149,7 +150,7 @@ fn side(
 #[cycle(lines)]
 fn one_side(
     alloc: Global,
-    core: &Core,
+    core: &IndexedCore,
     walk: &mut Walk,
     target: &Target,
     whole: TermId,
@@ -170,7 +171,7 @@ fn one_side(
 #[cycle(lines)]
 fn beside(
     alloc: Global,
-    core: &Core,
+    core: &IndexedCore,
     walk: &mut Walk,
     target: &Target,
     whole: TermId,
@@ -194,7 +195,7 @@ fn beside(
 #[cycle(lines)]
 fn sides(
     alloc: Global,
-    core: &Core,
+    core: &IndexedCore,
     walk: &mut Walk,
     target: &Target,
     whole: TermId,
@@ -218,7 +219,7 @@ fn sides(
 #[cycle(lines)]
 fn both_sides(
     alloc: Global,
-    core: &Core,
+    core: &IndexedCore,
     walk: &mut Walk,
     target: &Target,
     whole: TermId,
@@ -241,7 +242,7 @@ fn both_sides(
 #[cycle(lines)]
 fn case(
     alloc: Global,
-    core: &Core,
+    core: &IndexedCore,
     walk: &mut Walk,
     target: &Target,
     whole: TermId,
@@ -262,7 +263,7 @@ fn case(
 #[cycle(lines)]
 fn arms(
     alloc: Global,
-    core: &Core,
+    core: &IndexedCore,
     walk: &mut Walk,
     target: &Target,
     whole: TermId,
@@ -286,7 +287,7 @@ fn arms(
 #[cycle(lines)]
 fn arm(
     alloc: Global,
-    core: &Core,
+    core: &IndexedCore,
     walk: &mut Walk,
     target: &Target,
     whole: TermId,
@@ -309,7 +310,7 @@ fn arm(
 #[cycle(lines)]
 fn if_else(
     alloc: Global,
-    core: &Core,
+    core: &IndexedCore,
     walk: &mut Walk,
     target: &Target,
     whole: TermId,

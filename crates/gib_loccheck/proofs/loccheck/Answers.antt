@@ -1,11 +1,12 @@
-use Rattle.std.proofs.Common.{sym, subst}
-use Rattle.gib_core.specs.Parts.{core_of}
+use Rattle.std.proofs.Common.{subst, sym}
+use Rattle.gib_core.specs.Parts.{Parts, core_of}
 use Rattle.gib_core.specs.Rules.{AreBuilt, first_broken}
 use Rattle.gib_loccheck.proofs.Answering.{memory_alone, memory_or, is_first, never}
 use Rattle.gib_loccheck.proofs.loccheck.Goals as goal
 
 pub make-requires : goal.make-requires
-make-requires c = (c.built_is_unbroken.ensures (core_of c.args.core)).0 c.in-Ok.ensures.unbroken
+make-requires c =
+    subst (λ (p : Parts). AreBuilt (core_of p)) (sym c.in-Ok.ensures.same) ((c.built_is_unbroken.ensures (core_of c.args.core)).0 c.in-Ok.ensures.unbroken)
 
 pub returns-in-Err-clause-only : goal.returns-in-Err-clause-only
 returns-in-Err-clause-only c =

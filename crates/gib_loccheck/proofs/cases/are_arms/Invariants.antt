@@ -1,7 +1,7 @@
-use Rattle.std.proofs.Common.{◌≡◌, ◌+◌, ◌≤◌, ◌++◌, [], length, reverse}
+use Rattle.std.proofs.Common.{◌≡◌, ◌+◌, ◌≤◌, length}
 use Rattle.gib_core.specs.Inferring.{constructors_of, numbers_from}
 use Rattle.gib_core.specs.Rules.{are_arms}
-use Rattle.gib_loccheck.specs.Views.{before_of, arms_in}
+use Rattle.gib_loccheck.specs.Views.{arms_in}
 use Rattle.gib_loccheck.proofs.cases.are_arms.Given as goal
 
 abbrev pub invariant-branches : goal.invariant-branches

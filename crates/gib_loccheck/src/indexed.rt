@@ -1,0 +1,163 @@
+//! Cores whose functions are found by their names in constant time.
+
+ghost use Rattle.std.specs.Prelude.{◌≡◌, ◌==◌, ◌<◌, ℕ, if◌then◌else◌, length, None, Some, IfOk, OnOk};
+ghost use Rattle.gib_loccheck.specs.Indexing.{IsIndex, entry_at};
+
+use gib_base::{Memory, Name};
+use gib_core::{Core, CoreFunction, CoreMain, Terms};
+use gib_types::{ConId, TypeTable};
+use std::alloc::Global;
+use std::marker::Model;
+
+/// What stands at a number, None past the end.
+fn entry(entries: &[Option<usize>], number: u32) -> Option<usize>
+    ensures { result ≡ entry_at entries.now number }
+{
+    let place = number as usize;
+    if place < entries.len() {
+        entries[place]
+    } else {
+        None
+    }
+}
+
+/// Makes room for an entry at a number: what stands there, and elsewhere, stays.
+fn make_room(entries: &mut Vec<Option<usize>>, number: u32) -> Result<(), Memory>
+    ensures room { OnOk result (number < length entries.new.items) }
+    ensures same { (other : ℕ) → entry_at entries.new.items other ≡ entry_at entries.old.items other }
+{
+    let place = number as usize;
+    if entries.len() <= place {
+        entries.resize(place + 1, None)?;
+    }
+    Ok(())
+}
+
+/// Puts a place at a number, where there is room for it.
+fn set_entry(entries: &mut Vec<Option<usize>>, number: u32, place: usize)
+    requires { number < length entries.old.items }
+    ensures { (other : ℕ) → entry_at entries.new.items other ≡ (if number == other then Some place else entry_at entries.old.items other) }
+{
+    entries[number as usize] = Some(place);
+}
+
+/// Puts a place at the number of a name.
+fn put_place(entries: &mut Vec<Option<usize>>, name: Name, place: usize) -> Result<(), Memory>
+    ensures { OnOk result ((other : ℕ) → entry_at entries.new.items other ≡ (if name.0 == other then Some place else entry_at entries.old.items other)) }
+{
+    make_room(entries, name.0)?;
+    set_entry(entries, name.0, place);
+    Ok(())
+}
+
+/// The place of the first function of each name. The last function comes first, so that the first one stays.
+fn list_places(alloc: Global, functions: &[CoreFunction]) -> Result<Vec<Option<usize>>, Memory>
+    ensures { IfOk result (λ places. IsIndex functions.now places.items) }
+{
+    let mut places = Vec::new(alloc);
+    let mut next = functions.len();
+    'functions: while next > 0 {
+        next -= 1;
+        put_place(&mut places, functions[next].name, next)?;
+    }
+    Ok(places)
+}
+
+/// A core, with the places of its functions by the numbers of their names.
+#[derive(Drop)]
+pub struct IndexedCore {
+    core: Core,
+    places: Vec<Option<usize>>,
+}
+
+impl Model for IndexedCore {
+    ghost use Rattle.gib_core.specs.Parts.{Parts};
+    ghost use Rattle.gib_loccheck.specs.Indexing.{IsIndex};
+
+    ghost Value = { Parts };
+
+    ghost view = { λ i. i.core };
+
+    ghost invariant = { λ i. IsIndex i.core.functions i.places.items };
+}
+
+impl IndexedCore {
+    ghost use Rattle.std.specs.Prelude.{◌≡◌, IfOk, MatchOption, None, Some};
+    ghost use Rattle.gib_core.specs.Arena.{term_of};
+    ghost use Rattle.gib_core.specs.Meaning.{function_at};
+    ghost use Rattle.gib_core.specs.Parts.{AreInside, core_of, function_term};
+    ghost use Rattle.gib_loccheck.specs.Indexing.{first_named};
+
+    /// A core with its index.
+    pub fn make(alloc: Global, core: Core) -> Result<IndexedCore, Memory>
+        ensures { IfOk result (λ indexed. indexed ≡ core) }
+    {
+        let places = list_places(alloc, core.functions())?;
+        Ok(IndexedCore { core, places })
+    }
+
+    /// The core without its index.
+    pub fn into_core(self) -> Core
+        ensures { result ≡ self }
+    {
+        self.core
+    }
+
+    /// The table of the program's types and constructors.
+    pub fn types(&self) -> &TypeTable
+        ensures { result.now ≡ self.now.table }
+    {
+        self.core.types()
+    }
+
+    /// The terms of all bodies.
+    pub fn terms(&self) -> &Terms
+        ensures { result.now ≡ self.now.terms }
+    {
+        self.core.terms()
+    }
+
+    /// The functions but main, in the order of the text.
+    pub fn functions(&self) -> &[CoreFunction]
+        ensures value { result.now ≡ self.now.functions }
+        ensures inside { AreInside self.now }
+    {
+        self.core.functions()
+    }
+
+    /// Main.
+    pub fn main(&self) -> CoreMain
+        ensures value { result ≡ self.now.main }
+        ensures inside { AreInside self.now }
+    {
+        self.core.main()
+    }
+
+    /// The constructors whose heads store offsets.
+    pub fn offsets(&self) -> &[ConId]
+        ensures { result.now ≡ self.now.offsets }
+    {
+        self.core.offsets()
+    }
+
+    /// The first function of a name.
+    fn first(&self, name: Name) -> Option<&CoreFunction>
+        ensures { MatchOption result (first_named self.now.functions name.0 ≡ None) (λ f. first_named self.now.functions name.0 ≡ Some f.now) }
+    {
+        match entry(&self.places, name.0) {
+            None => None,
+            Some(place) => self.core.functions().get(place),
+        }
+    }
+
+    /// The function of a name: the first one; None exactly where no function has it.
+    #[tactic(auto, using(crate::proofs::Named::none_named, crate::proofs::Named::some_named))]
+    pub fn function(&self, name: Name) -> Option<&CoreFunction>
+        ensures { MatchOption result (function_at (core_of self.now).functions name.0 ≡ None) (λ f. function_at (core_of self.now).functions name.0 ≡ Some (function_term (term_of self.now.terms) f.now)) }
+    {
+        match self.first(name) {
+            None => None,
+            Some(function) => Some(function),
+        }
+    }
+}

@@ -1,0 +1,495 @@
+ghost use Rattle.std.specs.Prelude.{◌≡◌, ◌++◌, ◌∷◌, [], ◌<◌, ◌≤◌, length, map, IfOk, OnOk};
+ghost use Rattle.gib_types.specs.Table.{row_of};
+ghost use Rattle.gib_core.specs.Arena.{IsBindingBelow, PartsBelow};
+
+use crate::{LocFault, loccheck};
+use gib_base::{Memory, Name};
+use gib_core::{
+    Access, Atom, Binding, BoundTerm, Branch, Core, CoreFunction, CoreMain, Kind, Node, TermId,
+    Terms, Variable,
+};
+use gib_syntax::Operator;
+use gib_types::{ConId, Constructor, Ty, TyId, TypeTable};
+use std::alloc::Global;
+use std::test::*;
+
+const TREE: Ty = Ty::Tree(TyId(0));
+
+const LEAF: ConId = ConId(0);
+
+const NODE: ConId = ConId(1);
+
+const COPY: Name = Name(3);
+
+const SIZE: Name = Name(4);
+
+fn add(alloc: Global, rows: &mut Vec<Constructor>, name: u32, fields: &[Ty]) -> Result<(), Memory>
+    ensures { OnOk result (map row_of rows.new.items ≡ map row_of rows.old.items ++ record { name = name; owner = 0; fields = fields.now } ∷ []) }
+{
+    let fields = Vec::from_slice(alloc, fields)?;
+    rows.push(Constructor {
+        name: Name(name),
+        owner: TyId(0),
+        fields,
+    })?;
+    Ok(())
+}
+
+// data Tree = Leaf Int | Node Tree Tree ;
+fn table(alloc: Global) -> Result<TypeTable, Memory> {
+    let types = Vec::from_slice(alloc, &[Name(0)])?;
+    let mut rows = Vec::new(alloc);
+    add(alloc, &mut rows, 1, &[Ty::Whole])?;
+    add(alloc, &mut rows, 2, &[TREE, TREE])?;
+    TypeTable::make(alloc, types, rows)
+}
+
+fn var(number: u32) -> Atom {
+    Atom::Variable(Variable(number))
+}
+
+fn put(terms: &mut Terms, node: Node) -> Result<TermId, Memory>
+    requires { PartsBelow node (length terms.old) }
+    ensures { IfOk result (λ id. (id.0 < length terms.new) × (length terms.old ≤ length terms.new)) }
+{
+    terms.put(node)
+}
+
+fn then(terms: &mut Terms, binding: Binding, rest: TermId) -> Result<TermId, Memory>
+    requires rest { rest.0 < length terms.old }
+    requires binding { IsBindingBelow (length terms.old) binding }
+    ensures { IfOk result (λ id. (id.0 < length terms.new) × (length terms.old ≤ length terms.new)) }
+{
+    put(terms, Node::Then(binding, rest))
+}
+
+// point %n
+fn point(terms: &mut Terms, number: u32) -> Result<TermId, Memory>
+    ensures { IfOk result (λ id. (id.0 < length terms.new) × (length terms.old ≤ length terms.new)) }
+{
+    put(terms, Node::Point(var(number)))
+}
+
+// call f %n
+fn call(alloc: Global, terms: &mut Terms, name: Name, number: u32) -> Result<TermId, Memory>
+    ensures { IfOk result (λ id. (id.0 < length terms.new) × (length terms.old ≤ length terms.new)) }
+{
+    let arguments = Vec::from_slice(alloc, &[var(number)])?;
+    put(terms, Node::Call(name, arguments))
+}
+
+// write %h of the scalars and the packed fields
+fn write(
+    alloc: Global,
+    terms: &mut Terms,
+    head: u32,
+    constructor: ConId,
+    scalars: &[Atom],
+    packed: &[Atom],
+) -> Result<TermId, Memory>
+    ensures { IfOk result (λ id. (id.0 < length terms.new) × (length terms.old ≤ length terms.new)) }
+{
+    let scalars = Vec::from_slice(alloc, scalars)?;
+    let packed = Vec::from_slice(alloc, packed)?;
+    put(
+        terms,
+        Node::Write {
+            head: Variable(head),
+            constructor,
+            scalars,
+            packed,
+        },
+    )
+}
+
+fn bound(kind: Kind, number: u32, ty: Ty, term: TermId) -> BoundTerm
+    ensures { result.term ≡ term }
+{
+    BoundTerm {
+        kind,
+        variable: Variable(number),
+        ty,
+        term,
+    }
+}
+
+// past %h, and the rest
+fn past(terms: &mut Terms, head: u32, constructor: ConId, rest: TermId) -> Result<TermId, Memory>
+    requires { rest.0 < length terms.old }
+    ensures { IfOk result (λ id. (id.0 < length terms.new) × (length terms.old ≤ length terms.new)) }
+{
+    then(
+        terms,
+        Binding::Past {
+            head: Variable(head),
+            constructor,
+        },
+        rest,
+    )
+}
+
+// here %n, and under it point %m, and the rest
+fn here(terms: &mut Terms, number: u32, target: u32, rest: TermId) -> Result<TermId, Memory>
+    requires { rest.0 < length terms.old }
+    ensures { IfOk result (λ id. (id.0 < length terms.new) × (length terms.old ≤ length terms.new)) }
+{
+    let point = point(terms, target)?;
+    let here = bound(Kind::Here, number, TREE, point);
+    then(terms, Binding::One(here), rest)
+}
+
+// scalar %n, and under it a call of size on %2, behind a prim where it is not the whole right side, and the rest
+fn scalar(
+    alloc: Global,
+    terms: &mut Terms,
+    number: u32,
+    whole: bool,
+    rest: TermId,
+) -> Result<TermId, Memory>
+    requires { rest.0 < length terms.old }
+    ensures { IfOk result (λ id. (id.0 < length terms.new) × (length terms.old ≤ length terms.new)) }
+{
+    let mut term = call(alloc, terms, SIZE, 2)?;
+    if !whole {
+        term = prim(terms, 9, Atom::literal(1), term)?;
+    }
+    let scalar = bound(Kind::Scalar, number, Ty::Whole, term);
+    then(terms, Binding::One(scalar), rest)
+}
+
+// prim %n = a + 1, and the rest
+fn prim(terms: &mut Terms, number: u32, left: Atom, rest: TermId) -> Result<TermId, Memory>
+    requires { rest.0 < length terms.old }
+    ensures { IfOk result (λ id. (id.0 < length terms.new) × (length terms.old ≤ length terms.new)) }
+{
+    then(
+        terms,
+        Binding::Prim {
+            variable: Variable(number),
+            operator: Operator::Add,
+            left,
+            right: Atom::literal(1),
+        },
+        rest,
+    )
+}
+
+// reach %3 by skip %2, and the rest
+fn reach(terms: &mut Terms, rest: TermId) -> Result<TermId, Memory>
+    requires { rest.0 < length terms.old }
+    ensures { IfOk result (λ id. (id.0 < length terms.new) × (length terms.old ≤ length terms.new)) }
+{
+    then(
+        terms,
+        Binding::Reach {
+            field: Variable(3),
+            access: Access::Skip(Variable(2)),
+        },
+        rest,
+    )
+}
+
+// region %6 of a type, and under it point %2, and the rest
+fn region(terms: &mut Terms, ty: Ty, rest: TermId) -> Result<TermId, Memory>
+    requires { rest.0 < length terms.old }
+    ensures { IfOk result (λ id. (id.0 < length terms.new) × (length terms.old ≤ length terms.new)) }
+{
+    let point = point(terms, 2)?;
+    let region = bound(Kind::Region, 6, ty, point);
+    then(terms, Binding::One(region), rest)
+}
+
+// par of regions %6 and %7, whose left side copies %n, and the rest
+fn par(alloc: Global, terms: &mut Terms, number: u32, rest: TermId) -> Result<TermId, Memory>
+    requires { rest.0 < length terms.old }
+    ensures { IfOk result (λ id. (id.0 < length terms.new) × (length terms.old ≤ length terms.new)) }
+{
+    let first = call(alloc, terms, COPY, number)?;
+    let second = call(alloc, terms, COPY, 2)?;
+    let left = bound(Kind::Region, 6, TREE, first);
+    let right = bound(Kind::Region, 7, TREE, second);
+    then(
+        terms,
+        Binding::Par {
+            fork: false,
+            left,
+            right,
+        },
+        rest,
+    )
+}
+
+fn arm(
+    alloc: Global,
+    constructor: ConId,
+    variables: &[Variable],
+    term: TermId,
+) -> Result<Branch, Memory>
+    ensures { IfOk result (λ b. b.term ≡ term) }
+{
+    let variables = Vec::from_slice(alloc, variables)?;
+    Ok(Branch {
+        constructor,
+        variables,
+        term,
+    })
+}
+
+// case %n, whose arms bind variables from a number on, in declared order or in the other one
+fn case(
+    alloc: Global,
+    terms: &mut Terms,
+    subject: u32,
+    first: u32,
+    leaf: TermId,
+    node: TermId,
+    ordered: bool,
+) -> Result<TermId, Memory>
+    requires leaf { leaf.0 < length terms.old }
+    requires node { node.0 < length terms.old }
+    requires first { first < 100 }
+    ensures { IfOk result (λ id. (id.0 < length terms.new) × (length terms.old ≤ length terms.new)) }
+{
+    let leaf = arm(alloc, LEAF, &[Variable(first)], leaf)?;
+    let fields = [Variable(first + 1), Variable(first + 2)];
+    let node = arm(alloc, NODE, &fields, node)?;
+    let mut branches = Vec::new(alloc);
+    if ordered {
+        branches.push(leaf)?;
+        branches.push(node)?;
+    } else {
+        branches.push(node)?;
+        branches.push(leaf)?;
+    }
+    put(
+        terms,
+        Node::Case {
+            subject: var(subject),
+            branches,
+        },
+    )
+}
+
+// Every kind of line, and no broken rule.
+fn accepted(alloc: Global, terms: &mut Terms) -> Result<TermId, Memory>
+    ensures { IfOk result (λ id. (id.0 < length terms.new) × (length terms.old ≤ length terms.new)) }
+{
+    let leaf = write(alloc, terms, 10, LEAF, &[var(8)], &[])?;
+    let leaf = past(terms, 10, LEAF, leaf)?;
+    let leaf = scalar(alloc, terms, 8, true, leaf)?;
+    let node = write(alloc, terms, 13, NODE, &[], &[var(14), var(15)])?;
+    let node = here(terms, 15, 7, node)?;
+    let node = here(terms, 14, 6, node)?;
+    let node = past(terms, 13, NODE, node)?;
+    let rest = case(alloc, terms, 6, 20, leaf, node, true)?;
+    let rest = par(alloc, terms, 3, rest)?;
+    reach(terms, rest)
+}
+
+// A head in a head.
+fn two_heads(terms: &mut Terms) -> Result<TermId, Memory>
+    ensures { IfOk result (λ id. (id.0 < length terms.new) × (length terms.old ≤ length terms.new)) }
+{
+    let rest = point(terms, 2)?;
+    let rest = past(terms, 5, NODE, rest)?;
+    past(terms, 4, NODE, rest)
+}
+
+// A field with no open head.
+fn no_room(terms: &mut Terms) -> Result<TermId, Memory>
+    ensures { IfOk result (λ id. (id.0 < length terms.new) × (length terms.old ≤ length terms.new)) }
+{
+    let rest = point(terms, 2)?;
+    here(terms, 4, 2, rest)
+}
+
+// A scalar in a region.
+fn scalar_region(terms: &mut Terms) -> Result<TermId, Memory>
+    ensures { IfOk result (λ id. (id.0 < length terms.new) × (length terms.old ≤ length terms.new)) }
+{
+    let rest = point(terms, 2)?;
+    region(terms, Ty::Whole, rest)
+}
+
+// A side that uses the other side's variable.
+fn other_side(alloc: Global, terms: &mut Terms) -> Result<TermId, Memory>
+    ensures { IfOk result (λ id. (id.0 < length terms.new) × (length terms.old ≤ length terms.new)) }
+{
+    let rest = point(terms, 2)?;
+    par(alloc, terms, 7, rest)
+}
+
+// Fields in another order than they stand in.
+fn fields_swapped(alloc: Global, terms: &mut Terms) -> Result<TermId, Memory>
+    ensures { IfOk result (λ id. (id.0 < length terms.new) × (length terms.old ≤ length terms.new)) }
+{
+    let rest = write(alloc, terms, 4, NODE, &[], &[var(6), var(5)])?;
+    let rest = here(terms, 6, 2, rest)?;
+    let rest = here(terms, 5, 2, rest)?;
+    past(terms, 4, NODE, rest)
+}
+
+// An indirection where a head is open.
+fn point_in_head(terms: &mut Terms) -> Result<TermId, Memory>
+    ensures { IfOk result (λ id. (id.0 < length terms.new) × (length terms.old ≤ length terms.new)) }
+{
+    let rest = point(terms, 2)?;
+    past(terms, 4, NODE, rest)
+}
+
+// Arms in another order than declared.
+fn arms_swapped(alloc: Global, terms: &mut Terms) -> Result<TermId, Memory>
+    ensures { IfOk result (λ id. (id.0 < length terms.new) × (length terms.old ≤ length terms.new)) }
+{
+    let leaf = point(terms, 2)?;
+    let node = point(terms, 2)?;
+    case(alloc, terms, 2, 20, leaf, node, false)
+}
+
+// A field is reached by the end of one that a case was on.
+fn reach_behind_case(alloc: Global, terms: &mut Terms) -> Result<TermId, Memory>
+    ensures { IfOk result (λ id. (id.0 < length terms.new) × (length terms.old ≤ length terms.new)) }
+{
+    let leaf = point(terms, 2)?;
+    let node = point(terms, 3)?;
+    let node = reach(terms, node)?;
+    case(alloc, terms, 2, 20, leaf, node, true)
+}
+
+// A head as a value.
+fn head_as_value(alloc: Global, terms: &mut Terms) -> Result<TermId, Memory>
+    ensures { IfOk result (λ id. (id.0 < length terms.new) × (length terms.old ≤ length terms.new)) }
+{
+    let rest = write(alloc, terms, 4, LEAF, &[var(4)], &[])?;
+    past(terms, 4, LEAF, rest)
+}
+
+// A variable that is bound twice.
+fn bound_twice(terms: &mut Terms) -> Result<TermId, Memory>
+    ensures { IfOk result (λ id. (id.0 < length terms.new) × (length terms.old ≤ length terms.new)) }
+{
+    let rest = point(terms, 2)?;
+    let rest = region(terms, TREE, rest)?;
+    region(terms, TREE, rest)
+}
+
+// An operation on a packed value.
+fn packed_operand(terms: &mut Terms) -> Result<TermId, Memory>
+    ensures { IfOk result (λ id. (id.0 < length terms.new) × (length terms.old ≤ length terms.new)) }
+{
+    let rest = point(terms, 2)?;
+    prim(terms, 4, var(2), rest)
+}
+
+// A scalar call that is not the whole right side.
+fn call_behind_prim(alloc: Global, terms: &mut Terms) -> Result<TermId, Memory>
+    ensures { IfOk result (λ id. (id.0 < length terms.new) × (length terms.old ≤ length terms.new)) }
+{
+    let rest = point(terms, 2)?;
+    scalar(alloc, terms, 8, false, rest)
+}
+
+// The line of a number.
+fn line(alloc: Global, terms: &mut Terms, number: u32) -> Result<TermId, Memory>
+    ensures { IfOk result (λ id. (id.0 < length terms.new) × (length terms.old ≤ length terms.new)) }
+{
+    match number {
+        0 => accepted(alloc, terms),
+        1 => two_heads(terms),
+        2 => no_room(terms),
+        3 => scalar_region(terms),
+        4 => other_side(alloc, terms),
+        5 => fields_swapped(alloc, terms),
+        6 => point_in_head(terms),
+        7 => arms_swapped(alloc, terms),
+        8 => reach_behind_case(alloc, terms),
+        9 => head_as_value(alloc, terms),
+        10 => bound_twice(terms),
+        11 => packed_operand(terms),
+        12 => call_behind_prim(alloc, terms),
+        _ => point(terms, 3),
+    }
+}
+
+// fun f (t : Tree) : a type = a body
+fn function(alloc: Global, name: Name, ty: Ty, body: TermId) -> Result<CoreFunction, Memory>
+    ensures { IfOk result (λ f. f.body ≡ body) }
+{
+    let parameters = Vec::from_slice(alloc, &[TREE])?;
+    Ok(CoreFunction {
+        name,
+        parameters,
+        result: ty,
+        body,
+    })
+}
+
+// fun copy (t : Tree) : Tree = an atom ; fun size (t : Tree) : Int = 0 ;
+// main (t : Tree) : Tree = case t { Leaf n -> t | Node a b -> the line of a number }
+//
+// copy's body is term 0, size's 1, the case 2 and its first arm 3: the line begins at 4, with %2 and %3 for a and b.
+fn program(alloc: Global, copied: Atom, number: u32) -> Result<Core, Memory> {
+    let mut terms = Terms::new(alloc);
+    let copy = put(&mut terms, Node::Point(copied))?;
+    let size = put(&mut terms, Node::Give(Atom::literal(0)))?;
+    let leaf = point(&mut terms, 0)?;
+    let node = line(alloc, &mut terms, number)?;
+    let body = case(alloc, &mut terms, 0, 1, leaf, node, true)?;
+    let mut functions = Vec::new(alloc);
+    functions.push(function(alloc, COPY, TREE, copy)?)?;
+    functions.push(function(alloc, SIZE, Ty::Whole, size)?)?;
+    let main = CoreMain {
+        parameter: TREE,
+        result: TREE,
+        body,
+    };
+    Ok(Core::new(table(alloc)?, terms, functions, main, Vec::new(alloc)))
+}
+
+#[test]
+fn accepts_a_core_that_breaks_no_rule(rt: HostRuntime) -> Result<(), Fail> {
+    let alloc = rt.alloc();
+    let core = program(alloc, var(0), 0)?;
+    let checked = loccheck(alloc, core)?;
+    assert_eq!(rt; checked.core().functions().len(), 2);
+    Ok(())
+}
+
+#[test]
+fn names_the_first_broken_rule_and_its_term(rt: HostRuntime) -> Result<(), Fail> {
+    let alloc = rt.alloc();
+    let cases: [(u32, u8, u64); 13] = [
+        (1, 1, 5),
+        (2, 2, 4),
+        (3, 3, 4),
+        (4, 4, 6),
+        (5, 5, 9),
+        (6, 6, 5),
+        (7, 7, 4),
+        (8, 8, 6),
+        (9, 8, 5),
+        (10, 8, 6),
+        (11, 9, 4),
+        (12, 9, 6),
+        (13, 8, 4),
+    ];
+    for (number, rule, term) in cases {
+        let core = program(alloc, var(0), number)?;
+        match loccheck(alloc, core) {
+            Ok(_) => assert!(rt; false, "line {number} was accepted"),
+            Err(fault) => assert_eq!(rt; fault, LocFault::Rule(rule, term)),
+        }
+    }
+    Ok(())
+}
+
+#[test]
+fn an_earlier_function_counts_first(rt: HostRuntime) -> Result<(), Fail> {
+    let alloc = rt.alloc();
+    let core = program(alloc, Atom::literal(0), 1)?;
+    match loccheck(alloc, core) {
+        Ok(_) => assert!(rt; false, "a number was accepted as a tree"),
+        Err(fault) => assert_eq!(rt; fault, LocFault::Rule(9, 0)),
+    }
+    Ok(())
+}
