@@ -3,6 +3,7 @@ pub mod Arms
 pub mod OneBody
 pub mod Branching
 pub mod Judges
+pub mod Lining
 pub mod Named
 pub mod Naming
 pub mod OneLine

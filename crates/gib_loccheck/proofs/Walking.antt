@@ -7,7 +7,7 @@ use Rattle.gib_core.specs.declared.atom.Variable.{Variable}
 use Rattle.gib_core.specs.declared.atom.Atom.{Atom}
 use Rattle.gib_core.specs.declared.atom.Kind.{Kind}
 use Rattle.gib_core.specs.declared.node.Branch.{Branch}
-use Rattle.gib_core.specs.Tree.{CoreTree, Term, Then, IfTerm, CaseTerm, Bind, Both, Side, On, variable_of}
+use Rattle.gib_core.specs.Tree.{CoreTree, Term, IfTerm, CaseTerm, Bind, Both, Side, On, variable_of}
 use Rattle.gib_core.specs.Arena.{branches_from}
 use Rattle.gib_core.specs.Met.{Setting, Met, ParLine, CaseLine, IfLine, met, met_bind, met_side, met_branches, behind, behind_side, in_arm, in_branch, arms_of}
 use Rattle.gib_loccheck.specs.declared.state.Walk.{Walk}
@@ -15,9 +15,9 @@ use Rattle.gib_loccheck.specs.declared.state.Target.{Target}
 use Rattle.gib_loccheck.specs.declared.fault.LocFault.{LocFault}
 use Rattle.gib_loccheck.specs.declared.fault.LocFault.TheVariants as fault
 use Rattle.gib_loccheck.specs.Views.{in_scope, setting_of, arms_in, arm_of}
-use Rattle.gib_loccheck.specs.Judging.{one, Passes, Blames, Kept, Binds, Stays, with_other, past_field}
+use Rattle.gib_loccheck.specs.Judging.{one, Passes, Blames, Kept, Binds, with_other, past_field}
 use Rattle.gib_loccheck.proofs.Branching.{ArmsSoFar}
-use Rattle.gib_loccheck.proofs.Judges.{passes_then, blames_front, blames_back, stays_passes, stays_same, setting-kept, kept_then}
+use Rattle.gib_loccheck.proofs.Judges.{passes_then, blames_front, blames_back, setting-kept, kept_then}
 use Rattle.gib_loccheck.proofs.OneLine.{if_passes, if_blames}
 
 pub arms_known : (f : ℕ → Term) (bs : List Branch) → arms_of (branches_from f bs) ≡ arms_in bs
@@ -42,25 +42,6 @@ binds_both a b c inner target t l r p q = record {
 }
 
 module _ (core : CoreTree) where
-  -- A binding, and the rest of its line.
-  pub line_passes : (a b c d : Walk) (s : Setting) (inner : Target) (bd : Bind) (rest : Term)
-      → Passes core a b (met_bind core.table s bd) → Binds a b inner (behind s bd) → Passes core b c (met core.table (setting_of b inner) rest) → Stays c d
-      → Passes core a d (met core.table s (Then bd rest))
-  line_passes a b c d s inner bd rest p h q k =
-      let r = subst (λ (z : Setting). Passes core b c (met core.table z rest)) h.setting q in
-      stays_passes core a a c d (met core.table s (Then bd rest)) (stays_same a) (passes_then core a b c (met_bind core.table s bd) (met core.table (behind s bd) rest) p r) k
-
-  pub line_blames_bind : (e : LocFault) (a : Walk) (s : Setting) (bd : Bind) (rest : Term)
-      → Blames core a (met_bind core.table s bd) e → Blames core a (met core.table s (Then bd rest)) e
-  line_blames_bind e a s bd rest h = blames_front core e a (met_bind core.table s bd) (met core.table (behind s bd) rest) h
-
-  pub line_blames_rest : (e : LocFault) (a b : Walk) (s : Setting) (inner : Target) (bd : Bind) (rest : Term)
-      → Passes core a b (met_bind core.table s bd) → Binds a b inner (behind s bd) → Blames core b (met core.table (setting_of b inner) rest) e
-      → Blames core a (met core.table s (Then bd rest)) e
-  line_blames_rest e a b s inner bd rest p h q =
-      let r = subst (λ (z : Setting). Blames core b (met core.table z rest) e) h.setting q in
-      blames_back core e a b (met_bind core.table s bd) (met core.table (behind s bd) rest) p r
-
   -- A case: its subject, and its branches.
   pub case_passes : (a b c : Walk) (target : Target) (x : Atom) (f : ℕ → Term) (bs : List Branch)
       → Passes core a b (one (setting_of a target) (CaseLine x (arms_in bs))) → Kept a b → Passes core b c (met_branches core.table (setting_of b target) (branches_from f bs))
@@ -91,35 +72,37 @@ module _ (core : CoreTree) where
   inner_same : (a b : Walk) (target inner : Target) → Kept a b → ((w : Walk) → setting_of w inner ≡ record (setting_of w target) { whole = false }) → setting_of b inner ≡ in_branch (setting_of a target)
   inner_same a b target inner k e = e b ∙ ap (λ (z : Setting). record z { whole = false }) (setting-kept a b target k)
 
-  pub if_else_passes : (a b c d : Walk) (target inner : Target) (x : Atom) (t u : Term)
-      → Passes core a b (one (in_scope a) (IfLine x)) → Kept a b → ((w : Walk) → setting_of w inner ≡ record (setting_of w target) { whole = false })
-      → Passes core b c (met core.table (setting_of b inner) t) → Kept b c → Passes core c d (met core.table (setting_of c inner) u)
+  pub if_else_passes : (a b c d : Walk) (target first second : Target) (x : Atom) (t u : Term)
+      → Passes core a b (one (in_scope a) (IfLine x)) → Kept a b → ((w : Walk) → setting_of w first ≡ record (setting_of w target) { whole = false })
+      → Passes core b c (met core.table (setting_of b first) t) → Kept b c → ((w : Walk) → setting_of w second ≡ record (setting_of w target) { whole = false })
+      → Passes core c d (met core.table (setting_of c second) u)
       → Passes core a d (met core.table (setting_of a target) (IfTerm x t u))
-  if_else_passes a b c d target inner x t u p k e q l r =
+  if_else_passes a b c d target first second x t u p k e q l f r =
       let s = setting_of a target in
-      let q' = subst (λ (z : Setting). Passes core b c (met core.table z t)) (inner_same a b target inner k e) q in
-      let r' = subst (λ (z : Setting). Passes core c d (met core.table z u)) (inner_same a c target inner (kept_then a b c k l) e) r in
+      let q' = subst (λ (z : Setting). Passes core b c (met core.table z t)) (inner_same a b target first k e) q in
+      let r' = subst (λ (z : Setting). Passes core c d (met core.table z u)) (inner_same a c target second (kept_then a b c k l) f) r in
       passes_then core a b d (one s (IfLine x)) (met core.table (in_branch s) t ++ met core.table (in_branch s) u) (if_passes core a b target x p)
       (passes_then core b c d (met core.table (in_branch s) t) (met core.table (in_branch s) u) q' r')
 
-  pub if_else_blames_first : (e : LocFault) (a b : Walk) (target inner : Target) (x : Atom) (t u : Term)
-      → Passes core a b (one (in_scope a) (IfLine x)) → Kept a b → ((w : Walk) → setting_of w inner ≡ record (setting_of w target) { whole = false })
-      → Blames core b (met core.table (setting_of b inner) t) e
+  pub if_else_blames_first : (e : LocFault) (a b : Walk) (target first : Target) (x : Atom) (t u : Term)
+      → Passes core a b (one (in_scope a) (IfLine x)) → Kept a b → ((w : Walk) → setting_of w first ≡ record (setting_of w target) { whole = false })
+      → Blames core b (met core.table (setting_of b first) t) e
       → Blames core a (met core.table (setting_of a target) (IfTerm x t u)) e
-  if_else_blames_first e a b target inner x t u p k i q =
+  if_else_blames_first e a b target first x t u p k i q =
       let s = setting_of a target in
-      let q' = subst (λ (z : Setting). Blames core b (met core.table z t) e) (inner_same a b target inner k i) q in
+      let q' = subst (λ (z : Setting). Blames core b (met core.table z t) e) (inner_same a b target first k i) q in
       blames_back core e a b (one s (IfLine x)) (met core.table (in_branch s) t ++ met core.table (in_branch s) u) (if_passes core a b target x p)
       (blames_front core e b (met core.table (in_branch s) t) (met core.table (in_branch s) u) q')
 
-  pub if_else_blames_second : (e : LocFault) (a b c : Walk) (target inner : Target) (x : Atom) (t u : Term)
-      → Passes core a b (one (in_scope a) (IfLine x)) → Kept a b → ((w : Walk) → setting_of w inner ≡ record (setting_of w target) { whole = false })
-      → Passes core b c (met core.table (setting_of b inner) t) → Kept b c → Blames core c (met core.table (setting_of c inner) u) e
+  pub if_else_blames_second : (e : LocFault) (a b c : Walk) (target first second : Target) (x : Atom) (t u : Term)
+      → Passes core a b (one (in_scope a) (IfLine x)) → Kept a b → ((w : Walk) → setting_of w first ≡ record (setting_of w target) { whole = false })
+      → Passes core b c (met core.table (setting_of b first) t) → Kept b c → ((w : Walk) → setting_of w second ≡ record (setting_of w target) { whole = false })
+      → Blames core c (met core.table (setting_of c second) u) e
       → Blames core a (met core.table (setting_of a target) (IfTerm x t u)) e
-  if_else_blames_second e a b c target inner x t u p k i q l r =
+  if_else_blames_second e a b c target first second x t u p k i q l f r =
       let s = setting_of a target in
-      let q' = subst (λ (z : Setting). Passes core b c (met core.table z t)) (inner_same a b target inner k i) q in
-      let r' = subst (λ (z : Setting). Blames core c (met core.table z u) e) (inner_same a c target inner (kept_then a b c k l) i) r in
+      let q' = subst (λ (z : Setting). Passes core b c (met core.table z t)) (inner_same a b target first k i) q in
+      let r' = subst (λ (z : Setting). Blames core c (met core.table z u) e) (inner_same a c target second (kept_then a b c k l) f) r in
       blames_back core e a b (one s (IfLine x)) (met core.table (in_branch s) t ++ met core.table (in_branch s) u) (if_passes core a b target x p)
       (blames_back core e b c (met core.table (in_branch s) t) (met core.table (in_branch s) u) q' r')
 

@@ -1,6 +1,6 @@
 //! What stands behind a binding.
 
-ghost use Rattle.std.specs.Prelude.{◌≡◌, ◌++◌, ◌∷◌, [], ℕ, true, false, None, IfOk, IfErr, OnOk};
+ghost use Rattle.std.specs.Prelude.{◌≡◌, ℕ, true, false, None, IfOk, IfErr, OnOk};
 ghost use Rattle.gib_types.specs.declared.table.Ty.{Ty as AnyType};
 ghost use Rattle.gib_core.specs.Tree.{CoreTree, Term, Past, Prim, Reach, On, Both};
 ghost use Rattle.gib_core.specs.Arena.{side_from};

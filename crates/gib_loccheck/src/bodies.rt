@@ -4,11 +4,11 @@ ghost use Rattle.std.specs.Prelude.{◌≡◌, ◌<◌, [], ◌∷◌, length, N
 ghost use Rattle.std.specs.List.{AllByRecursion};
 ghost use Rattle.gib_core.specs.Arena.{term_of};
 ghost use Rattle.gib_core.specs.Parts.{IsFunctionInside, core_of};
-ghost use Rattle.gib_core.specs.Met.{Body, result_place as place_of};
+ghost use Rattle.gib_core.specs.Met.{result_place as place_of};
 ghost use Rattle.gib_core.specs.Rules.{first_broken};
 ghost use Rattle.gib_loccheck.specs.Views.{destination_of};
 ghost use Rattle.gib_loccheck.specs.Judging.{Says};
-ghost use Rattle.gib_loccheck.specs.Bodies.{Pass, Blame, Opens, body_of, bodies_of};
+ghost use Rattle.gib_loccheck.specs.Bodies.{Pass, Blame, Opens, bodies_of};
 
 use crate::bindings::enter;
 use crate::fault::LocFault;
@@ -73,7 +73,7 @@ fn body(
         due: result_type,
         whole: false,
     };
-    match term(alloc, core, walk, &target, id) {
+    match term(alloc, core, walk, target, id) {
         Err(fault) => Err(fault),
         Ok(()) => Ok(()),
     }

@@ -1,10 +1,9 @@
 //! The build rules of a call.
 
-ghost use Rattle.std.specs.Prelude.{◌≡◌, ◌&&◌, ◌||◌, not, MatchOption, [], None, Some};
+ghost use Rattle.std.specs.Prelude.{◌≡◌, ◌||◌, not, [], None, Some};
 ghost use Rattle.gib_syntax.specs.Meaning.{is_scalar as scalar};
 ghost use Rattle.gib_core.specs.Arena.{term_of};
 ghost use Rattle.gib_core.specs.Parts.{core_of, function_term};
-ghost use Rattle.gib_core.specs.Meaning.{function_at};
 ghost use Rattle.gib_core.specs.Met.{CallLine};
 ghost use Rattle.gib_core.specs.Rules.{least, rules as all_rules, call_fits as fits};
 ghost use Rattle.gib_loccheck.specs.Views.{setting_of, before_of, call_rules};

@@ -1,24 +1,19 @@
 //! The build rules of one line, each from what stands before it: the first that it breaks, or none.
 
-ghost use Rattle.std.specs.Prelude.{◌≡◌, ◌==◌, ◌&&◌, ◌||◌, not, length, MatchOption, None, Some};
+ghost use Rattle.std.specs.Prelude.{◌≡◌, ◌==◌, ◌&&◌, not, length};
 ghost use Rattle.gib_types.specs.Table.{Table};
-ghost use Rattle.gib_syntax.specs.Meaning.{is_scalar as scalar};
-ghost use Rattle.gib_core.specs.Arena.{term_of, branches_from};
-ghost use Rattle.gib_core.specs.Parts.{core_of, function_term};
-ghost use Rattle.gib_core.specs.Meaning.{function_at};
-ghost use Rattle.gib_core.specs.Met.{PastLine, SideLine, PrimLine, ReachLine, WriteLine, PointLine, CallLine, GiveLine, CaseLine, IfLine, known, packed_types};
-ghost use Rattle.gib_core.specs.Rules.{least, rules, side_rules, may_write as writes, are_scalars as scalars_are, by_access as accessed, may_reach as reaches, gives_packed as packed_given, call_fits as fits, cover as covers, is_reached, is_among, are_variables as variables_are};
+ghost use Rattle.gib_core.specs.Parts.{core_of};
+ghost use Rattle.gib_core.specs.Met.{PastLine, SideLine, ReachLine, WriteLine, PointLine, GiveLine, IfLine, known, packed_types};
+ghost use Rattle.gib_core.specs.Rules.{least, rules, side_rules, may_write as writes, are_scalars as scalars_are, by_access as accessed, may_reach as reaches, is_reached, is_among, are_variables as variables_are};
 ghost use Rattle.gib_loccheck.specs.Views.{destination_of, setting_of, in_scope, before_of, prim_rules};
 
 use crate::atoms::{
-    all_usable, any_cased, any_other, are_variables, further, have_scalar_types, have_types,
-    is_one_of,
+    all_usable, any_cased, any_other, are_variables, further, have_scalar_types, is_one_of,
 };
 use crate::indexed::IndexedCore;
 use crate::state::{Destination, Target, Walk, find, is_bound, is_listed};
 use crate::table::{fields_of, is_of_type, is_scalar, packed_count, same_type};
-use gib_base::Name;
-use gib_core::{Access, Atom, Behind, CoreFunction, Kind, Known, Variable};
+use gib_core::{Access, Atom, Behind, Kind, Known, Variable};
 use gib_types::{ConId, Ty, TypeTable};
 
 /// Room for the head of a constructor.

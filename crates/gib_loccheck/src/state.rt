@@ -1,6 +1,6 @@
 //! What the walk keeps, and what a term is met with.
 
-ghost use Rattle.std.specs.Prelude.{◌≡◌, ℕ, reverse, IfOk};
+ghost use Rattle.std.specs.Prelude.{◌≡◌, reverse, IfOk};
 ghost use Rattle.gib_core.specs.Met.{known, field_due as due_at, stands_too, in_side};
 ghost use Rattle.gib_core.specs.Rules.{is_among, is_bound as bound_in, type_bound as type_in, is_nowhere as nowhere, is_empty as empty, has_room as room_in, is_usable as usable, is_other as other, type_of as type_in_atom, has_type as typed};
 ghost use Rattle.gib_loccheck.specs.Views.{destination_of, in_scope, setting_of, before_of};

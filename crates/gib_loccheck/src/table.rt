@@ -1,15 +1,14 @@
 //! What the rules ask of types and constructors. A core may name constructors and types that its table does
 //! not have.
 
-ghost use Rattle.std.specs.Prelude.{◌≡◌, ℕ, ◌+◌, ◌≤◌, List, length, get_or, ◌==◌};
-ghost use Rattle.gib_types.specs.Table.{fields_at, owner_at, tree_types};
+ghost use Rattle.std.specs.Prelude.{◌≡◌, ◌+◌, ◌≤◌, length, get_or};
+ghost use Rattle.gib_types.specs.Table.{fields_at, tree_types};
 ghost use Rattle.gib_types.specs.declared.table.Ty.TheVariants.{Whole};
 ghost use Rattle.gib_syntax.specs.Meaning.{is_scalar as scalar};
 ghost use Rattle.gib_syntax.specs.Typing.{operator_type as type_of_operator};
 ghost use Rattle.gib_core.specs.Inferring.{numbers_from, constructors_of as all_of, first_type as first, further_types as further};
 ghost use Rattle.gib_core.specs.Rules.{same_type as same, is_of_type as of_type, type_made as made};
 
-use gib_core::Core;
 use gib_syntax::Operator;
 use gib_types::{ConId, Ty, TyId, TypeTable};
 

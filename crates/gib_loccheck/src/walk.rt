@@ -1,13 +1,13 @@
 //! The walk over the terms of one body, in the order of the text.
 
-ghost use Rattle.std.specs.Prelude.{◌≡◌, ◌<◌, length, false, IfOk, IfErr};
+ghost use Rattle.std.specs.Prelude.{◌<◌, length, false, IfOk, IfErr};
 ghost use Rattle.std.specs.List.{AllByRecursion};
-ghost use Rattle.gib_core.specs.Tree.{Then, CaseTerm, IfTerm, One, Both};
+ghost use Rattle.gib_core.specs.Tree.{CaseTerm, IfTerm, One, Both};
 ghost use Rattle.gib_core.specs.Arena.{Opens, IsBindingBelow, IsBranchBelow, term_of, side_from, bind_from, branches_from};
 ghost use Rattle.gib_core.specs.Parts.{core_of};
 ghost use Rattle.gib_core.specs.Met.{met, met_bind, met_side, met_branches, behind, in_arm};
 ghost use Rattle.gib_loccheck.specs.Views.{setting_of};
-ghost use Rattle.gib_loccheck.specs.Judging.{Passes, Blames, Kept, Binds, with_other};
+ghost use Rattle.gib_loccheck.specs.Judging.{IsEnd, Passes, Blames, Kept, Binds, with_other};
 
 use crate::bindings::{
     add_other, behind_field, not_whole, open_arm, open_head, operate, reach_field, stand,
@@ -28,22 +28,53 @@ fn node_at(core: &IndexedCore, id: TermId) -> &Node
     core.terms().node(id)
 }
 
-/// The lines of a term.
+/// The lines of a term. This recurses as deep as terms are nested in bindings and branches, and not along a line.
 #[cycle(lines)]
 pub fn term(
     alloc: Global,
     core: &IndexedCore,
     walk: &mut Walk,
-    target: &Target,
+    target: Target,
     id: TermId,
 ) -> Result<(), LocFault>
     requires { id.0 < length core.now.terms }
+    ensures passes { IfOk result (λ _. Passes (core_of core.now) walk.old walk.new (met core.now.table (setting_of walk.old target) (term_of core.now.terms id.0))) }
+    ensures kept { IfOk result (λ _. Kept walk.old walk.new) }
+    ensures broken { IfErr result (Blames (core_of core.now) walk.old (met core.now.table (setting_of walk.old target) (term_of core.now.terms id.0))) }
+{
+    let outer = walk.scope.len();
+    let mut inner = target;
+    let mut rest = id;
+    let mut node = node_at(core, id);
+    'bindings: while let Node::Then(binding, after) = node {
+        inner = bind(alloc, core, walk, &inner, rest, *binding)?;
+        rest = *after;
+        node = node_at(core, rest);
+    }
+    end(alloc, core, walk, &inner, rest, node)?;
+    walk.scope.truncate(outer);
+    Ok(())
+}
+
+/// The end of a line.
+#[cycle(lines)]
+fn end(
+    alloc: Global,
+    core: &IndexedCore,
+    walk: &mut Walk,
+    target: &Target,
+    id: TermId,
+    node: &Node,
+) -> Result<(), LocFault>
+    requires inside { id.0 < length core.now.terms }
+    requires node { Opens core.now.terms id.0 node.now }
+    requires end { IsEnd node.now }
     ensures passes { IfOk result (λ _. Passes (core_of core.now) walk.old walk.new (met core.now.table (setting_of walk.old target.now) (term_of core.now.terms id.0))) }
     ensures kept { IfOk result (λ _. Kept walk.old walk.new) }
     ensures broken { IfErr result (Blames (core_of core.now) walk.old (met core.now.table (setting_of walk.old target.now) (term_of core.now.terms id.0))) }
 {
-    match node_at(core, id) {
-        Node::Then(binding, rest) => line(alloc, core, walk, target, id, *binding, *rest),
+    match node {
+        Node::Then(_, _) => Err(LocFault::Memory),
         Node::Write {
             head,
             constructor,
@@ -64,31 +95,6 @@ pub fn term(
             alloc, core, walk, target, id, *condition, *then_part, *else_part,
         ),
     }
-}
-
-/// A binding, and the rest of its line.
-#[cycle(lines)]
-fn line(
-    alloc: Global,
-    core: &IndexedCore,
-    walk: &mut Walk,
-    target: &Target,
-    whole: TermId,
-    binding: Binding,
-    rest: TermId,
-) -> Result<(), LocFault>
-    requires inside { whole.0 < length core.now.terms }
-    requires binding { IsBindingBelow whole.0 binding }
-    requires rest { rest.0 < whole.0 }
-    ensures passes { IfOk result (λ _. Passes (core_of core.now) walk.old walk.new (met core.now.table (setting_of walk.old target.now) (Then (bind_from (term_of core.now.terms) binding) (term_of core.now.terms rest.0)))) }
-    ensures kept { IfOk result (λ _. Kept walk.old walk.new) }
-    ensures broken { IfErr result (Blames (core_of core.now) walk.old (met core.now.table (setting_of walk.old target.now) (Then (bind_from (term_of core.now.terms) binding) (term_of core.now.terms rest.0)))) }
-{
-    let outer = walk.scope.len();
-    let inner = bind(alloc, core, walk, target, whole, binding)?;
-    term(alloc, core, walk, &inner, rest)?;
-    walk.scope.truncate(outer);
-    Ok(())
 }
 
 /// A binding, and what its rest is met with.
@@ -143,7 +149,7 @@ fn side(
 {
     side_line(core, walk, target, bound.kind, bound.variable, bound.ty)?;
     let inner = target.in_side(core.types(), bound.kind, bound.ty);
-    term(alloc, core, walk, &inner, bound.term)
+    term(alloc, core, walk, inner, bound.term)
 }
 
 /// A variable that is bound to a term, and what stands behind it.
@@ -301,7 +307,7 @@ fn arm(
 {
     let outer = walk.scope.len();
     let inner = open_arm(core, walk, target, branch)?;
-    term(alloc, core, walk, &inner, branch.term)?;
+    term(alloc, core, walk, inner, branch.term)?;
     walk.scope.truncate(outer);
     Ok(())
 }
@@ -326,7 +332,8 @@ fn if_else(
     ensures broken { IfErr result (Blames (core_of core.now) walk.old (met core.now.table (setting_of walk.old target.now) (IfTerm atom (term_of core.now.terms then_part.0) (term_of core.now.terms else_part.0)))) }
 {
     condition(core, walk, atom)?;
-    let inner = not_whole(target)?;
-    term(alloc, core, walk, &inner, then_part)?;
-    term(alloc, core, walk, &inner, else_part)
+    let first = not_whole(target)?;
+    term(alloc, core, walk, first, then_part)?;
+    let second = not_whole(target)?;
+    term(alloc, core, walk, second, else_part)
 }

@@ -1,10 +1,10 @@
-use Rattle.std.proofs.Common.{refl, false, rules}
+use Rattle.std.proofs.Common.{refl, false, rules, ◌∙◌}
 use Rattle.gib_core.specs.Tree.{One, Both}
-use Rattle.gib_core.specs.Arena.{term_of, side_from, bind_from}
+use Rattle.gib_core.specs.Arena.{term_of, side_from}
 use Rattle.gib_core.specs.Parts.{core_of}
-use Rattle.gib_loccheck.specs.Views.{setting_of}
 use Rattle.gib_loccheck.proofs.Answering.{ok_then, err_then}
-use Rattle.gib_loccheck.proofs.Walking.{kept_binds, line_passes, line_blames_bind, line_blames_rest, case_passes, case_blames_subject, case_blames_arms, if_else_passes, if_else_blames_first, if_else_blames_second, sides_pass, sides_blame_par, sides_blame_left, sides_blame_right, arms_next, arms_blame}
+use Rattle.gib_loccheck.proofs.Lining.{line_first, line_next, line_blame, line_blame_end, line_passes, line_kept}
+use Rattle.gib_loccheck.proofs.Walking.{kept_binds, case_passes, case_blames_subject, case_blames_arms, if_else_passes, if_else_blames_first, if_else_blames_second, sides_pass, sides_blame_par, sides_blame_left, sides_blame_right, arms_next, arms_blame}
 use Rattle.gib_loccheck.proofs.walk.+lines.Goals as goal
 
 pub arms-returns-in_err-arm-clause-broken : goal.arms-returns-in_err-arm-clause-broken
@@ -33,27 +33,15 @@ case-returns-clause-broken t c =
 
 pub if_else-returns-in_err-term-clause-broken : goal.if_else-returns-in_err-term-clause-broken
 if_else-returns-in_err-term-clause-broken t c =
-    let h = if_else_blames_first (core_of c.args.core.now) c.in_err-term.field-0.0 c.args.walk.now c.condition.new.walk c.args.target.now c.in_ok-inner.inner c.args.atom (term_of c.args.core.now.terms c.args.then_part.0) (term_of c.args.core.now.terms c.args.else_part.0) c.in_ok-condition.ensures.passes c.in_ok-condition.ensures.kept c.in_ok-inner.ensures c.in_err-term.ensures.broken in search rules
+    let h = if_else_blames_first (core_of c.args.core.now) c.in_err-term.field-0.0 c.args.walk.now c.condition.new.walk c.args.target.now c.in_ok-first.first c.args.atom (term_of c.args.core.now.terms c.args.then_part.0) (term_of c.args.core.now.terms c.args.else_part.0) c.in_ok-condition.ensures.passes c.in_ok-condition.ensures.kept c.in_ok-first.ensures c.in_err-term.ensures.broken in search rules
 
 pub if_else-returns-clause-passes : goal.if_else-returns-clause-passes
 if_else-returns-clause-passes t c =
-    ok_then c.term-2.result (λ q. if_else_passes (core_of c.args.core.now) c.args.walk.now c.condition.new.walk c.term.new.walk c.term-2.new.walk c.args.target.now c.in_ok-inner.inner c.args.atom (term_of c.args.core.now.terms c.args.then_part.0) (term_of c.args.core.now.terms c.args.else_part.0) c.in_ok-condition.ensures.passes c.in_ok-condition.ensures.kept c.in_ok-inner.ensures c.in_ok-term.ensures.passes c.in_ok-term.ensures.kept q) c.term-2.ensures.passes
+    ok_then c.term-2.result (λ q. if_else_passes (core_of c.args.core.now) c.args.walk.now c.condition.new.walk c.term.new.walk c.term-2.new.walk c.args.target.now c.in_ok-first.first c.in_ok-second.second c.args.atom (term_of c.args.core.now.terms c.args.then_part.0) (term_of c.args.core.now.terms c.args.else_part.0) c.in_ok-condition.ensures.passes c.in_ok-condition.ensures.kept c.in_ok-first.ensures c.in_ok-term.ensures.passes c.in_ok-term.ensures.kept c.in_ok-second.ensures q) c.term-2.ensures.passes
 
 pub if_else-returns-clause-broken : goal.if_else-returns-clause-broken
 if_else-returns-clause-broken t c =
-    err_then c.term-2.result (λ e q. if_else_blames_second (core_of c.args.core.now) e c.args.walk.now c.condition.new.walk c.term.new.walk c.args.target.now c.in_ok-inner.inner c.args.atom (term_of c.args.core.now.terms c.args.then_part.0) (term_of c.args.core.now.terms c.args.else_part.0) c.in_ok-condition.ensures.passes c.in_ok-condition.ensures.kept c.in_ok-inner.ensures c.in_ok-term.ensures.passes c.in_ok-term.ensures.kept q) c.term-2.ensures.broken
-
-pub line-returns-in_err-inner-clause-broken : goal.line-returns-in_err-inner-clause-broken
-line-returns-in_err-inner-clause-broken t c =
-    let h = line_blames_bind (core_of c.args.core.now) c.in_err-inner.field-0.0 c.args.walk.now (setting_of c.args.walk.now c.args.target.now) (bind_from (term_of c.args.core.now.terms) c.args.binding) (term_of c.args.core.now.terms c.args.rest.0) c.in_err-inner.ensures.broken in search rules
-
-pub line-returns-in_err-term-clause-broken : goal.line-returns-in_err-term-clause-broken
-line-returns-in_err-term-clause-broken t c =
-    let h = line_blames_rest (core_of c.args.core.now) c.in_err-term.field-0.0 c.args.walk.now c.bind.new.walk (setting_of c.args.walk.now c.args.target.now) c.in_ok-inner.inner (bind_from (term_of c.args.core.now.terms) c.args.binding) (term_of c.args.core.now.terms c.args.rest.0) c.in_ok-inner.ensures.passes c.in_ok-inner.ensures.binds c.in_err-term.ensures.broken in search rules
-
-pub line-returns-clause-passes : goal.line-returns-clause-passes
-line-returns-clause-passes t c =
-    line_passes (core_of c.args.core.now) c.args.walk.now c.bind.new.walk c.term.new.walk (record c.term.new.walk { scope = c.truncate.new.self }) (setting_of c.args.walk.now c.args.target.now) c.in_ok-inner.inner (bind_from (term_of c.args.core.now.terms) c.args.binding) (term_of c.args.core.now.terms c.args.rest.0) c.in_ok-inner.ensures.passes c.in_ok-inner.ensures.binds c.in_ok-term.ensures.passes (record { bound = refl; cased = refl; place = refl })
+    err_then c.term-2.result (λ e q. if_else_blames_second (core_of c.args.core.now) e c.args.walk.now c.condition.new.walk c.term.new.walk c.args.target.now c.in_ok-first.first c.in_ok-second.second c.args.atom (term_of c.args.core.now.terms c.args.then_part.0) (term_of c.args.core.now.terms c.args.else_part.0) c.in_ok-condition.ensures.passes c.in_ok-condition.ensures.kept c.in_ok-first.ensures c.in_ok-term.ensures.passes c.in_ok-term.ensures.kept c.in_ok-second.ensures q) c.term-2.ensures.broken
 
 pub one_side-returns-clause-binds : goal.one_side-returns-clause-binds
 one_side-returns-clause-binds t c =
@@ -74,3 +62,27 @@ sides-returns-clause-passes t c =
 pub sides-returns-clause-broken : goal.sides-returns-clause-broken
 sides-returns-clause-broken t c =
     err_then c.beside-2.result (λ e q. sides_blame_right (core_of c.args.core.now) e c.args.walk.now c.par.new.walk c.beside.new.walk c.args.target.now c.in_ok-next.next c.args.left.kind c.args.left.variable c.args.left.ty (term_of c.args.core.now.terms c.args.left.term.0) (side_from (term_of c.args.core.now.terms) c.args.right) c.args.right.variable refl (c.in_ok-par.ensures.passes (core_of c.args.core.now)) c.in_ok-par.ensures.kept c.in_ok-beside.ensures.passes c.in_ok-beside.ensures.kept c.in_ok-next.ensures q) c.beside-2.ensures.broken
+
+pub term-bindings-init : goal.term-bindings-init
+term-bindings-init t c =
+    line_first (core_of c.args.core.now) c.args.core.now.terms c.args.walk.now c.args.target c.args.id.0 c.node_at-node.result.now c.node_at-node.ensures c.requires
+
+pub term-returns-in_err-inner-clause-broken : goal.term-returns-in_err-inner-clause-broken
+term-returns-in_err-inner-clause-broken t c =
+    let h = line_blame (core_of c.args.core.now) c.args.core.now.terms c.in_err-inner.field-0.0 c.args.walk.now c.bindings.walk c.args.target c.bindings.inner c.args.id.0 c.bindings.rest.0 c.bindings.node.now c.in-Then.binding c.in-Then.after c.bindings.invariant c.in-Then.is c.in_err-inner.ensures.broken in search rules
+
+pub term-bindings-preserved : goal.term-bindings-preserved
+term-bindings-preserved t c =
+    line_next (core_of c.args.core.now) c.args.core.now.terms c.args.walk.now c.bindings.walk c.bind.new.walk c.args.target c.bindings.inner c.in_ok-inner.inner c.args.id.0 c.bindings.rest.0 c.bindings.node.now c.node_at-node-in-Then.result.now c.in-Then.binding c.in-Then.after c.bindings.invariant c.in-Then.is c.in_ok-inner.ensures.passes c.in_ok-inner.ensures.binds c.node_at-node-in-Then.ensures
+
+pub term-returns-in_err-end-clause-broken : goal.term-returns-in_err-end-clause-broken
+term-returns-in_err-end-clause-broken t c =
+    let h = line_blame_end (core_of c.args.core.now) c.args.core.now.terms c.in_err-end.field-0.0 c.args.walk.now c.bindings.walk c.args.target c.bindings.inner c.args.id.0 c.bindings.rest.0 c.bindings.node.now c.bindings.invariant c.in_err-end.ensures.broken in search rules
+
+pub term-returns-clause-passes : goal.term-returns-clause-passes
+term-returns-clause-passes t c =
+    line_passes (core_of c.args.core.now) c.args.core.now.terms c.args.walk.now c.bindings.walk c.end.new.walk (record c.end.new.walk { scope = c.truncate.new.self }) c.args.target c.bindings.inner c.args.id.0 c.bindings.rest.0 c.bindings.node.now c.bindings.invariant c.in_ok-end.ensures.passes (record { bound = refl; cased = refl; place = refl })
+
+pub term-returns-clause-kept : goal.term-returns-clause-kept
+term-returns-clause-kept t c =
+    line_kept (core_of c.args.core.now) c.args.core.now.terms c.args.walk.now c.bindings.walk c.end.new.walk (record c.end.new.walk { scope = c.truncate.new.self }) c.args.target c.bindings.inner c.args.id.0 c.bindings.rest.0 c.bindings.node.now c.len-outer.result c.bindings.invariant c.in_ok-end.ensures.kept (c.len-outer.ensures ∙ c.args.walk.now.scope.ok.0) c.truncate.ensures.items refl
