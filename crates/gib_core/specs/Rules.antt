@@ -237,6 +237,21 @@ side_rules table b s Here x ty = (2, not (has_room table s.destination)) ∷ (8,
 side_rules table b s Region x ty = (3, is_scalar ty) ∷ (8, is_bound b.bound x) ∷ []
 side_rules table b s Scalar x ty = (8, is_bound b.bound x) ∷ (9, not (is_scalar ty)) ∷ []
 
+-- The build rules, by their numbers.
+-- 1. Room for a head is kept at an empty place, for a constructor of the type that is due.
+-- 2. `here` stands where the open head has a packed field left.
+-- 3. `region` binds a packed value.
+-- 4. A side of a `par` does not use the other side's variable.
+-- 5. `write` fills the open head, whose packed fields all stand: it names them in their order, and no `case` on one of them past
+--    the first stands before.
+-- 6. `point` and a packed call give their value to an empty place.
+-- 7. `case` is on a packed value, with an arm for each constructor in declared order and a variable for each field.
+-- 8. A variable that is bound is new in its function; one that is used is in scope, and reached where it is a field. A field is
+--    reached once: from the end of the field directly before it, which is reached and on which no `case` stands before, or by
+--    the offset that its head stores, where its constructor has offsets.
+-- 9. Arguments, operands, conditions and results have the types that are due, as many as there are; a scalar is given where none
+--    has a place; a scalar call is the whole right side of a `scalar`.
+
 -- The rules that a line can break, in their order.
 abbrev pub rules : CoreTree → Before → Setting → Line → List Judgement
 rules core b s (PastLine h k) =
