@@ -1,4 +1,5 @@
 pub mod Layers
+pub mod Lining
 pub mod Unbroken
 pub mod Indented
 pub mod Copied
