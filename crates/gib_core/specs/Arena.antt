@@ -8,7 +8,7 @@ use Rattle.gib_core.specs.declared.node.Binding.TheVariants as b
 use Rattle.gib_core.specs.declared.node.Branch.{Branch}
 use Rattle.gib_core.specs.declared.node.Node.{Node}
 use Rattle.gib_core.specs.declared.node.Node.TheVariants as n
-use Rattle.gib_core.specs.Tree.{Term, Then, Write, Point, CallTerm, Give, CaseTerm, IfTerm, Bind, Past, One, Both, Prim, Reach, Side, On, Branches, NoBranch, BranchThen}
+use Rattle.gib_core.specs.Tree.{Term, Then, Write, Point, CallTerm, Give, CaseTerm, IfTerm, Bind, Past, One, Both, Prim, Reach, Side, On, Branches, NoBranch, BranchThen, prepend}
 
 -- The terms of a binding have smaller numbers.
 abbrev pub IsBindingBelow : ℕ → Binding → Type 0
@@ -85,6 +85,23 @@ term_of nodes id = term_at (suc id) nodes id
 -- smaller numbers.
 abbrev pub Opens : List Node → ℕ → Node → Type 0
 Opens nodes id node = (term_of nodes id ≡ layer (term_of nodes) (Some node)) × PartsBelow node id
+
+-- The term is no binding: a line ends with it.
+abbrev pub IsEnd : Term → Type 0
+IsEnd (Then bind rest) = ⊥
+IsEnd (Write h k ss ps) = Unit {0}
+IsEnd (Point x) = Unit {0}
+IsEnd (CallTerm f xs) = Unit {0}
+IsEnd (Give x) = Unit {0}
+IsEnd (CaseTerm x branches) = Unit {0}
+IsEnd (IfTerm x t u) = Unit {0}
+
+-- The line that begins at a number: its bindings, whose terms stand below that number, and the number of its end.
+pub record IsLine (nodes : List Node) (id : ℕ) (bindings : List Binding) (last : ℕ) : Type 0 where
+  pub term : term_of nodes id ≡ prepend (binds_from (term_of nodes) bindings) (term_of nodes last)
+  pub below : AllByRecursion (IsBindingBelow id) bindings
+  pub within : last ≤ id
+  pub ends : IsEnd (term_of nodes last)
 
 -- The terms that were there stay.
 pub record Grows (old new : List Node) : Type 0 where

@@ -107,7 +107,7 @@ impl Model for Terms {
 
 impl Terms {
     ghost use Rattle.std.specs.Prelude.{◌≡◌, ◌<◌, [], length, IfOk, OnErr};
-    ghost use Rattle.gib_core.specs.Arena.{PartsBelow, Opens, Makes};
+    ghost use Rattle.gib_core.specs.Arena.{PartsBelow, Opens, IsLine, Makes};
 
     /// No terms.
     pub fn new(alloc: Global) -> Terms
@@ -131,6 +131,26 @@ impl Terms {
         ensures { Opens self.now id.0 result.now }
     {
         &self.nodes[id.0 as usize]
+    }
+
+    /// The bindings of the line that begins at a number, in their order, and the number of its end.
+    ///
+    /// # Errors
+    ///
+    /// Want of memory.
+    pub fn line(&self, alloc: Global, id: TermId) -> Result<(Vec<Binding>, TermId), Memory>
+        requires { id.0 < length self.now }
+        ensures { IfOk result (λ found. IsLine self.now id.0 found.0.items found.1.0) }
+    {
+        let mut bindings = Vec::new(alloc);
+        let mut last = id;
+        let mut node = self.node(id);
+        'bindings: while let Node::Then(binding, rest) = node {
+            bindings.push(*binding)?;
+            last = *rest;
+            node = self.node(last);
+        }
+        Ok((bindings, last))
     }
 
     /// One more term, whose parts stand here already. Those that stand here stay as they are.
