@@ -1,5 +1,6 @@
 pub mod Fronting
 pub mod Walking
+pub mod Lining
 pub mod Arms
 pub mod Programs
 pub mod Sample

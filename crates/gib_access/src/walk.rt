@@ -5,8 +5,8 @@
 
 ghost use Rattle.std.specs.Prelude.{◌≡◌, ◌<◌, length, IfOk};
 ghost use Rattle.std.specs.List.{AllByRecursion};
-ghost use Rattle.gib_core.specs.Arena.{IsBindingBelow, IsBranchBelow, term_of, side_from, bind_from, branches_from};
-ghost use Rattle.gib_core.specs.Tree.{Then, CaseTerm, IfTerm};
+ghost use Rattle.gib_core.specs.Arena.{IsBindingBelow, IsBranchBelow, IsEnd, term_of, side_from, bind_from, branches_from};
+ghost use Rattle.gib_core.specs.Tree.{CaseTerm, IfTerm};
 ghost use Rattle.gib_access.specs.Made.{ReachesTerm, ReachesBinding, ReachesSide, ReachesBranches, ReachesBranch};
 
 use crate::fields::{list_constructor, packed_variables, put_reaches};
@@ -17,7 +17,8 @@ use gib_core::{AccessMode, Atom, Binding, BoundTerm, Branch, Node, TermId, Terms
 use gib_types::TypeTable;
 use std::alloc::Global;
 
-/// A term with the fields of all its arms reached. This recurses as deep as terms are nested, and no deeper.
+/// A term with the fields of all its arms reached. This recurses as deep as terms are nested in bindings and
+/// branches, and not along a line.
 #[cycle(reach)]
 pub fn reach_term(
     alloc: Global,
@@ -30,10 +31,33 @@ pub fn reach_term(
     requires { id.0 < length terms.now }
     ensures { IfOk result (λ made. ReachesTerm mode types.now work.old work.new made (term_of terms.now id.0)) }
 {
+    let (bindings, last) = terms.line(alloc, id)?;
+    let mut made = reach_end(alloc, mode, types, terms, work, last)?;
+    let mut i = bindings.len();
+    'bindings: while i > 0 {
+        i -= 1;
+        let binding = reach_binding(alloc, mode, types, terms, work, id, bindings[i])?;
+        made = work.terms.put(Node::Then(binding, made))?;
+    }
+    Ok(made)
+}
+
+/// The end of a line.
+#[cycle(reach)]
+fn reach_end(
+    alloc: Global,
+    mode: AccessMode,
+    types: &TypeTable,
+    terms: &Terms,
+    work: &mut Work,
+    id: TermId,
+) -> Result<TermId, Memory>
+    requires inside { id.0 < length terms.now }
+    requires end { IsEnd (term_of terms.now id.0) }
+    ensures { IfOk result (λ made. ReachesTerm mode types.now work.old work.new made (term_of terms.now id.0)) }
+{
     match terms.node(id) {
-        Node::Then(binding, rest) => reach_line(
-            alloc, mode, types, terms, work, id, *binding, *rest,
-        ),
+        Node::Then(_, _) => unreachable!(),
         Node::Write {
             head,
             constructor,
@@ -54,29 +78,6 @@ pub fn reach_term(
             alloc, mode, types, terms, work, id, *condition, *then_part, *else_part,
         ),
     }
-}
-
-/// A binding of the term of a number, and the rest of its line.
-#[cycle(reach)]
-fn reach_line(
-    alloc: Global,
-    mode: AccessMode,
-    types: &TypeTable,
-    terms: &Terms,
-    work: &mut Work,
-    whole: TermId,
-    binding: Binding,
-    rest: TermId,
-) -> Result<TermId, Memory>
-    requires inside { whole.0 < length terms.now }
-    requires binding { IsBindingBelow whole.0 binding }
-    requires rest { rest.0 < whole.0 }
-    ensures { IfOk result (λ made. ReachesTerm mode types.now work.old work.new made (Then (bind_from (term_of terms.now) binding) (term_of terms.now rest.0))) }
-{
-    let rest = reach_term(alloc, mode, types, terms, work, rest)?;
-    let binding = reach_binding(alloc, mode, types, terms, work, whole, binding)?;
-    let made = work.terms.put(Node::Then(binding, rest))?;
-    Ok(made)
 }
 
 /// A binding of the term of a number, whose terms stand below it.

@@ -1,31 +1,38 @@
 use Rattle.std.proofs.Common.{◌≤◌, ◌+◌, ◌*◌, length, drop, reverse}
 use Rattle.gib_core.specs.Arena.{term_of, branches_from}
 use Rattle.gib_access.specs.Made.{ReachesBranches}
+use Rattle.gib_access.proofs.Lining.{LineSoFar}
 use Rattle.gib_access.proofs.walk.+reach.Given as goal
 
 abbrev pub decreases-reach_term : goal.decreases-reach_term
-decreases-reach_term l = 4 * l.id.0 + 3
+decreases-reach_term l = 5 * l.id.0 + 4
 
-abbrev pub decreases-reach_line : goal.decreases-reach_line
-decreases-reach_line l = 4 * l.whole.0 + 2
+abbrev pub decreases-reach_end : goal.decreases-reach_end
+decreases-reach_end l = 5 * l.id.0 + 3
 
 abbrev pub decreases-reach_binding : goal.decreases-reach_binding
-decreases-reach_binding l = 4 * l.whole.0 + 1
+decreases-reach_binding l = 5 * l.whole.0 + 2
 
 abbrev pub decreases-reach_side : goal.decreases-reach_side
-decreases-reach_side l = 4 * l.side.term.0 + 4
+decreases-reach_side l = 5 * l.side.term.0 + 5
 
 abbrev pub decreases-reach_if : goal.decreases-reach_if
-decreases-reach_if l = 4 * l.whole.0 + 2
+decreases-reach_if l = 5 * l.whole.0 + 2
 
 abbrev pub decreases-reach_case : goal.decreases-reach_case
-decreases-reach_case l = 4 * l.whole.0 + 2
+decreases-reach_case l = 5 * l.whole.0 + 2
 
 abbrev pub decreases-reach_branches : goal.decreases-reach_branches
-decreases-reach_branches l = 4 * l.whole.0 + 1
+decreases-reach_branches l = 5 * l.whole.0 + 1
 
 abbrev pub decreases-reach_branch : goal.decreases-reach_branch
-decreases-reach_branch l = 4 * l.branch.now.term.0 + 4
+decreases-reach_branch l = 5 * l.branch.now.term.0 + 5
+
+abbrev pub invariant-reach_term-bindings : goal.invariant-reach_term-bindings
+invariant-reach_term-bindings l = LineSoFar l.mode l.types l.terms l.id.0 l.bindings.items l.i l.fn.work l.work l.made
+
+abbrev pub decreases-reach_term-bindings : goal.decreases-reach_term-bindings
+decreases-reach_term-bindings l = l.i
 
 abbrev pub invariant-reach_branches-branches : goal.invariant-reach_branches-branches
 invariant-reach_branches-branches l = (l.i ≤ length l.branches) × ReachesBranches l.mode l.types l.fn.work l.work (reverse l.reversed.items) (branches_from (term_of l.terms) (drop l.i l.branches))
