@@ -36,10 +36,8 @@ fn unbroken(alloc: Global, core: Core) -> Result<Core, LocFault>
     ensures broken { IfErr result (λ e. Says e (first_broken (core_of core))) }
 {
     let indexed = IndexedCore::make(alloc, core)?;
-    match check_bodies(alloc, &indexed) {
-        Err(fault) => Err(fault),
-        Ok(()) => Ok(indexed.into_core()),
-    }
+    check_bodies(alloc, &indexed)?;
+    Ok(indexed.into_core())
 }
 
 /// Checks a core: which build rule it breaks first, or none.
@@ -59,8 +57,6 @@ pub fn loccheck(alloc: Global, core: Core) -> Result<Checked, LocFault>
     ensures told { (rule place : ℕ) → first_broken (core_of core) ≡ Some (rule, place) → MatchResult result (λ _. ⊥) (IsMemoryOr rule place) }
 {
     built_is_unbroken();
-    match unbroken(alloc, core) {
-        Err(fault) => Err(fault),
-        Ok(core) => Ok(Checked::make(core)),
-    }
+    let unbroken = unbroken(alloc, core)?;
+    Ok(Checked::make(unbroken))
 }
