@@ -115,14 +115,10 @@ pub fn operate(
     ensures binds { IfOk result (λ t. Binds walk.old walk.new t (behind (setting_of walk.old target.now) (Prim variable operator left right))) }
     ensures broken { (core : CoreTree) → IfErr result (Blames core walk.old (one (setting_of walk.old target.now) (PrimLine variable operator left right))) }
 {
-    match prim(walk, variable, operator, left, right) {
-        Err(fault) => Err(fault),
-        Ok(()) => {
-            enter(walk, variable)?;
-            let next = not_whole(target)?;
-            Ok(next)
-        }
-    }
+    prim(walk, variable, operator, left, right)?;
+    enter(walk, variable)?;
+    let next = not_whole(target)?;
+    Ok(next)
 }
 
 /// A field is reached from here on.

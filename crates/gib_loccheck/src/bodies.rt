@@ -73,10 +73,7 @@ fn body(
         due: result_type,
         whole: false,
     };
-    match term(alloc, core, walk, target, id) {
-        Err(fault) => Err(fault),
-        Ok(()) => Ok(()),
-    }
+    term(alloc, core, walk, target, id)
 }
 
 /// The bodies of functions, one after another.
@@ -92,17 +89,15 @@ fn functions(
 {
     let mut left = functions;
     'functions: while let [function, after @ ..] = left {
-        match body(
+        body(
             alloc,
             core,
             walk,
             &function.parameters,
             function.result,
             function.body,
-        ) {
-            Err(fault) => return Err(fault),
-            Ok(()) => left = after,
-        }
+        )?;
+        left = after;
     }
     Ok(())
 }
@@ -119,16 +114,8 @@ pub fn check_bodies(alloc: Global, core: &IndexedCore) -> Result<(), LocFault>
         others: Vec::new(alloc),
         place: 0,
     };
+    functions(alloc, core, &mut walk, core.functions())?;
     let main = core.main();
-    match functions(alloc, core, &mut walk, core.functions()) {
-        Err(fault) => Err(fault),
-        Ok(()) => body(
-            alloc,
-            core,
-            &mut walk,
-            &[main.parameter],
-            main.result,
-            main.body,
-        ),
-    }
+    let parameters = [main.parameter];
+    body(alloc, core, &mut walk, &parameters, main.result, main.body)
 }

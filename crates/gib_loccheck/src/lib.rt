@@ -40,10 +40,8 @@ fn unbroken(alloc: Global, core: Core) -> Result<Core, LocFault>
     ensures broken { IfErr result (λ e. Says e (first_broken (core_of core))) }
 {
     let indexed = IndexedCore::make(alloc, core)?;
-    match check_bodies(alloc, &indexed) {
-        Err(fault) => Err(fault),
-        Ok(()) => Ok(indexed.into_core()),
-    }
+    check_bodies(alloc, &indexed)?;
+    Ok(indexed.into_core())
 }
 
 /// Checks a core: which build rule it breaks first, or none.
@@ -66,8 +64,6 @@ pub fn loccheck(alloc: Global, core: Core) -> Result<Checked, LocFault>
 {
     built_is_unbroken();
     reaching_makes_built();
-    match unbroken(alloc, core) {
-        Err(fault) => Err(fault),
-        Ok(core) => Ok(Checked::make(core)),
-    }
+    let unbroken = unbroken(alloc, core)?;
+    Ok(Checked::make(unbroken))
 }

@@ -389,6 +389,17 @@ fn call_behind_prim(alloc: Global, terms: &mut Terms) -> Result<TermId, Memory>
     scalar(alloc, terms, 8, false, rest)
 }
 
+// A line of operations, which bind the variables from %100 up to a number.
+fn long_line(terms: &mut Terms, count: u32) -> Result<TermId, Memory>
+    ensures { IfOk result (λ id. (id.0 < length terms.new) × (length terms.old ≤ length terms.new)) }
+{
+    let mut rest = point(terms, 2)?;
+    for number in 100..count {
+        rest = prim(terms, number, Atom::literal(1), rest)?;
+    }
+    Ok(rest)
+}
+
 // The line of a number.
 fn line(alloc: Global, terms: &mut Terms, number: u32) -> Result<TermId, Memory>
     ensures { IfOk result (λ id. (id.0 < length terms.new) × (length terms.old ≤ length terms.new)) }
@@ -407,6 +418,7 @@ fn line(alloc: Global, terms: &mut Terms, number: u32) -> Result<TermId, Memory>
         10 => bound_twice(terms),
         11 => packed_operand(terms),
         12 => call_behind_prim(alloc, terms),
+        13 => long_line(terms, 20_000),
         _ => point(terms, 3),
     }
 }
@@ -456,6 +468,15 @@ fn accepts_a_core_that_breaks_no_rule(rt: HostRuntime) -> Result<(), Fail> {
 }
 
 #[test]
+fn accepts_a_line_of_many_bindings(rt: HostRuntime) -> Result<(), Fail> {
+    let alloc = rt.alloc();
+    let core = program(alloc, var(0), 13)?;
+    let checked = loccheck(alloc, core)?;
+    assert_eq!(rt; checked.core().functions().len(), 2);
+    Ok(())
+}
+
+#[test]
 fn names_the_first_broken_rule_and_its_term(rt: HostRuntime) -> Result<(), Fail> {
     let alloc = rt.alloc();
     let cases: [(u32, u8, u64); 13] = [
@@ -471,7 +492,7 @@ fn names_the_first_broken_rule_and_its_term(rt: HostRuntime) -> Result<(), Fail>
         (10, 8, 6),
         (11, 9, 4),
         (12, 9, 6),
-        (13, 8, 4),
+        (14, 8, 4),
     ];
     for (number, rule, term) in cases {
         let core = program(alloc, var(0), number)?;

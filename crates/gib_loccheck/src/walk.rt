@@ -74,6 +74,7 @@ fn end(
     ensures broken { IfErr result (Blames (core_of core.now) walk.old (met core.now.table (setting_of walk.old target.now) (term_of core.now.terms id.0))) }
 {
     match node {
+        // Excluded: this is no binding.
         Node::Then(_, _) => Err(LocFault::Memory),
         Node::Write {
             head,

@@ -1,3 +1,4 @@
+use Rattle.std.proofs.Common.{rules}
 use Rattle.gib_loccheck.proofs.Judges.{stays_same, stays_passes}
 use Rattle.gib_loccheck.proofs.OneLine.{prim_blames, prim_passes}
 use Rattle.gib_loccheck.specs.Judging.{one}
@@ -5,13 +6,13 @@ use Rattle.gib_loccheck.specs.Views.{setting_of}
 use Rattle.gib_core.specs.Met.{PrimLine}
 use Rattle.gib_loccheck.proofs.bindings.operate.Goals as goal
 
-pub returns-in-Err-clause-broken : goal.returns-in-Err-clause-broken
-returns-in-Err-clause-broken c =
-    λ core. prim_blames core c.args.walk.now c.args.target.now c.args.variable c.args.operator c.args.left c.args.right c.in-Err.fault (c.in-Err.ensures.broken core)
+pub returns-in_err-prim-clause-broken : goal.returns-in_err-prim-clause-broken
+returns-in_err-prim-clause-broken c =
+    λ core. let h = prim_blames core c.args.walk.now c.args.target.now c.args.variable c.args.operator c.args.left c.args.right c.in_err-prim.field-0.0 (c.in_err-prim.ensures.broken core) in search rules
 
-pub returns-in_ok-next-in-Ok-clause-passes : goal.returns-in_ok-next-in-Ok-clause-passes
-returns-in_ok-next-in-Ok-clause-passes c =
+pub returns-clause-passes : goal.returns-clause-passes
+returns-clause-passes c =
     λ core. stays_passes core c.args.walk.now c.args.walk.now c.prim.new.walk c.enter.new.walk (one (setting_of c.args.walk.now c.args.target.now) (PrimLine c.args.variable c.args.operator c.args.left c.args.right))
     (stays_same c.args.walk.now)
-    (prim_passes core c.args.walk.now c.prim.new.walk c.args.target.now c.args.variable c.args.operator c.args.left c.args.right (c.in-Ok.ensures.passes core))
-    c.in_ok-enter-in-Ok.ensures.stays
+    (prim_passes core c.args.walk.now c.prim.new.walk c.args.target.now c.args.variable c.args.operator c.args.left c.args.right (c.in_ok-prim.ensures.passes core))
+    c.in_ok-enter.ensures.stays
