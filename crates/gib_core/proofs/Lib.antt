@@ -30,4 +30,5 @@ mod Kept
 mod Onward
 mod Suited
 mod Reached
+mod Numbered
 mod Sample

@@ -8,4 +8,5 @@ pub mod Reaching
 pub mod Met
 pub mod Rules
 pub mod Reachable
+pub mod Numbering
 pub mod CoreText

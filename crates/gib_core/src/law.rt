@@ -15,6 +15,7 @@ ghost use Rattle.gib_core.specs.Inferring.{infer_program};
 ghost use Rattle.gib_core.specs.Reaching.{reach_core};
 ghost use Rattle.gib_core.specs.Rules.{AreBuilt, first_broken};
 ghost use Rattle.gib_core.specs.Reachable.{AreReachable};
+ghost use Rattle.gib_core.specs.Numbering.{AreNumbered};
 
 /// A core meets the build rules exactly where none is the first broken one.
 pub fn built_is_unbroken()
@@ -49,4 +50,11 @@ pub fn infer_gives_reachable()
 /// A core whose fields only have to be reached meets the build rules once they are reached.
 pub fn reaching_makes_built()
     ensures { (mode : Mode) (core : CoreTree) → AreReachable core → AreBuilt (reach_core mode core) }
+{}
+
+/// In what a program becomes, the variables of each function are numbered in the order in which the text binds
+/// them; to reach fields keeps that.
+pub fn variables_are_numbered()
+    ensures infer { (p : ProgramTree) → AreNumbered (infer_program p) }
+    ensures reach { (mode : Mode) (core : CoreTree) → AreNumbered core → AreNumbered (reach_core mode core) }
 {}
