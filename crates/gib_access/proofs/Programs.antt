@@ -18,6 +18,7 @@ use Rattle.gib_core.specs.Arena.{Grows, term_of}
 use Rattle.gib_core.specs.Parts.{Parts, AreInside, IsFunctionInside, function_term, main_term, core_of}
 use Rattle.gib_core.specs.Meaning.{core_calls, core_run}
 use Rattle.gib_core.specs.Erasing.{erase_core}
+use Rattle.gib_core.specs.Numbering.{AreNumbered}
 use Rattle.gib_core.specs.Reachable.{AreReachable}
 use Rattle.gib_core.specs.Rules.{AreBuilt}
 use Rattle.gib_core.specs.Reaching.{offsets_in, offsets_by, reach_function, reach_core}
@@ -137,3 +138,7 @@ kept_run mode core (Err x) law e = tt
 pub kept_built : {E : Type 0} (mode : AccessMode) (core : CoreTree) (o : Result Parts E) → ((m : AccessMode) (c : CoreTree) → AreReachable c → AreBuilt (reach_core m c)) → IfOk o (λ made. core_of made ≡ reach_core mode core) → AreReachable core → IfOk o (λ made. AreBuilt (core_of made))
 kept_built mode core (Ok made) law e is = subst AreBuilt (sym e) (law mode core is)
 kept_built mode core (Err x) law e is = tt
+
+pub kept_numbered : {E : Type 0} (mode : AccessMode) (core : CoreTree) (o : Result Parts E) → ((m : AccessMode) (c : CoreTree) → AreNumbered c → AreNumbered (reach_core m c)) → IfOk o (λ made. core_of made ≡ reach_core mode core) → AreNumbered core → IfOk o (λ made. AreNumbered (core_of made))
+kept_numbered mode core (Ok made) law e is = subst AreNumbered (sym e) (law mode core is)
+kept_numbered mode core (Err x) law e is = tt

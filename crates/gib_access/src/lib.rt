@@ -8,6 +8,7 @@ ghost use Rattle.gib_core.specs.Parts.{core_of};
 ghost use Rattle.gib_core.specs.Meaning.{core_calls, core_run};
 ghost use Rattle.gib_core.specs.Erasing.{erase_core};
 ghost use Rattle.gib_core.specs.Reaching.{reach_core};
+ghost use Rattle.gib_core.specs.Numbering.{AreNumbered};
 ghost use Rattle.gib_core.specs.Reachable.{AreReachable};
 ghost use Rattle.gib_core.specs.Rules.{AreBuilt};
 ghost use Rattle.gib_access.specs.Bodies.{offsets_kept as kept};
@@ -23,7 +24,7 @@ mod work;
 
 use bodies::{reach_functions, reach_main};
 use gib_base::Memory;
-use gib_core::law::{reaching_keeps_the_meaning, reaching_makes_built};
+use gib_core::law::{reaching_keeps_the_meaning, reaching_makes_built, variables_are_numbered};
 use gib_core::{AccessMode, Core};
 use gib_types::ConId;
 use offset_list::OffsetList;
@@ -62,6 +63,8 @@ pub fn reach(alloc: Global, core: Core, mode: AccessMode) -> Result<Core, Memory
     ensures core { IfOk result (λ made. core_of made ≡ reach_core mode (core_of core)) }
     // Where the fields of the core only had to be reached, the build rules hold now.
     ensures built { AreReachable (core_of core) → IfOk result (λ made. AreBuilt (core_of made)) }
+    // Variables that were numbered in the order of the text still are.
+    ensures numbered { AreNumbered (core_of core) → IfOk result (λ made. AreNumbered (core_of made)) }
     // What is left of the core without its places stays.
     ensures erased { IfOk result (λ made. (datas : List DataTree) → erase_core datas (core_of made) ≡ erase_core datas (core_of core)) }
     // So does what each call means, with any depth left.
@@ -71,5 +74,6 @@ pub fn reach(alloc: Global, core: Core, mode: AccessMode) -> Result<Core, Memory
 {
     reaching_keeps_the_meaning();
     reaching_makes_built();
+    variables_are_numbered();
     reached(alloc, core, mode)
 }

@@ -10,6 +10,7 @@ use Rattle.gib_syntax.specs.Meaning.{calls, run}
 use Rattle.gib_core.specs.Parts.{Parts, core_of}
 use Rattle.gib_core.specs.Erasing.{erase_core}
 use Rattle.gib_core.specs.Inferring.{infer_program}
+use Rattle.gib_core.specs.Numbering.{AreNumbered}
 use Rattle.gib_core.specs.Reachable.{AreReachable}
 
 pub kept_calls : {E : Type 0} (p : ProgramTree) (table : Table) (o : Result Parts E) → table ≡ table_of_program p → IsTable table → IsTypedProgram p → ((q : ProgramTree) → IsTable (table_of_program q) → IsTypedProgram q → (n : ℕ) → calls (erase_core q.datas (infer_program q)) n ≡ calls q n) → IfOk o (λ core. core_of core ≡ infer_program p) → IfOk o (λ core. (n : ℕ) → calls (erase_core p.datas (core_of core)) n ≡ calls p n)
@@ -23,3 +24,7 @@ kept_run p table (Err x) et is typed law e = tt
 pub kept_reachable : {E : Type 0} (p : ProgramTree) (table : Table) (o : Result Parts E) → table ≡ table_of_program p → IsTable table → IsTypedProgram p → ((q : ProgramTree) → IsTable (table_of_program q) → IsTypedProgram q → AreReachable (infer_program q)) → IfOk o (λ core. core_of core ≡ infer_program p) → IfOk o (λ core. AreReachable (core_of core))
 kept_reachable p table (Ok core) et is typed law e = subst AreReachable (sym e) (law p (subst IsTable et is) typed)
 kept_reachable p table (Err x) et is typed law e = tt
+
+pub kept_numbered : {E : Type 0} (p : ProgramTree) (o : Result Parts E) → ((q : ProgramTree) → AreNumbered (infer_program q)) → IfOk o (λ core. core_of core ≡ infer_program p) → IfOk o (λ core. AreNumbered (core_of core))
+kept_numbered p (Ok core) law e = subst AreNumbered (sym e) (law p)
+kept_numbered p (Err x) law e = tt

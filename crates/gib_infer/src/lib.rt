@@ -8,6 +8,7 @@ ghost use Rattle.gib_syntax.specs.Meaning.{calls, run};
 ghost use Rattle.gib_core.specs.Parts.{core_of};
 ghost use Rattle.gib_core.specs.Erasing.{erase_core};
 ghost use Rattle.gib_core.specs.Inferring.{infer_program};
+ghost use Rattle.gib_core.specs.Numbering.{AreNumbered};
 ghost use Rattle.gib_core.specs.Reachable.{AreReachable};
 
 mod bodies;
@@ -20,7 +21,7 @@ mod work;
 use bodies::{make_functions, make_main};
 use gib_base::Memory;
 use gib_check::Typed;
-use gib_core::law::{erasing_keeps_the_meaning, infer_gives_reachable};
+use gib_core::law::{erasing_keeps_the_meaning, infer_gives_reachable, variables_are_numbered};
 use gib_core::{Core, Terms, copy_types};
 use std::alloc::Global;
 use work::Work;
@@ -50,6 +51,8 @@ pub fn infer(alloc: Global, typed: &Typed) -> Result<Core, Memory>
     ensures core { IfOk result (λ core. core_of core ≡ infer_program (program_of typed.now)) }
     // The core breaks no build rule but that its fields are not reached yet.
     ensures reachable { IfOk result (λ core. AreReachable (core_of core)) }
+    // Its variables are numbered in the order of the text.
+    ensures numbered { IfOk result (λ core. AreNumbered (core_of core)) }
     // What is left of the core without its places means what the program means: each call, with any depth left.
     ensures calls { IfOk result (λ core. (n : ℕ) → calls (erase_core (program_of typed.now).datas (core_of core)) n ≡ calls (program_of typed.now) n) }
     // So does main, on any value.
@@ -59,5 +62,6 @@ pub fn infer(alloc: Global, typed: &Typed) -> Result<Core, Memory>
     typed.types().rules();
     erasing_keeps_the_meaning();
     infer_gives_reachable();
+    variables_are_numbered();
     make_core(alloc, typed)
 }

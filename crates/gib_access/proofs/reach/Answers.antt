@@ -1,5 +1,5 @@
 use Rattle.gib_core.specs.Parts.{core_of}
-use Rattle.gib_access.proofs.Programs.{kept_built, kept_erased, kept_calls, kept_run}
+use Rattle.gib_access.proofs.Programs.{kept_built, kept_erased, kept_calls, kept_numbered, kept_run}
 use Rattle.gib_access.proofs.reach.Goals as goal
 
 pub returns-clause-erased : goal.returns-clause-erased
@@ -13,3 +13,6 @@ returns-clause-run c = kept_run c.args.mode (core_of c.args.core) c.reached.resu
 
 pub returns-clause-built : goal.returns-clause-built
 returns-clause-built c = λ is. kept_built c.args.mode (core_of c.args.core) c.reached.result c.reaching_makes_built.ensures c.reached.ensures is
+
+pub returns-clause-numbered : goal.returns-clause-numbered
+returns-clause-numbered c = λ is. kept_numbered c.args.mode (core_of c.args.core) c.reached.result c.variables_are_numbered.ensures.reach c.reached.ensures is

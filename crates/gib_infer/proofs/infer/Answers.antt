@@ -1,5 +1,5 @@
 use Rattle.gib_syntax.specs.Parts.{program_of}
-use Rattle.gib_infer.proofs.Kept.{kept_calls, kept_reachable, kept_run}
+use Rattle.gib_infer.proofs.Kept.{kept_calls, kept_numbered, kept_reachable, kept_run}
 use Rattle.gib_infer.proofs.infer.Goals as goal
 
 pub returns-clause-calls : goal.returns-clause-calls
@@ -10,3 +10,6 @@ returns-clause-run c = kept_run (program_of c.args.typed.now) c.types.result.now
 
 pub returns-clause-reachable : goal.returns-clause-reachable
 returns-clause-reachable c = kept_reachable (program_of c.args.typed.now) c.types.result.now c.make_core.result c.types.ensures c.rules.ensures c.program-typed.ensures.typed c.infer_gives_reachable.ensures c.make_core.ensures
+
+pub returns-clause-numbered : goal.returns-clause-numbered
+returns-clause-numbered c = kept_numbered (program_of c.args.typed.now) c.make_core.result c.variables_are_numbered.ensures.infer c.make_core.ensures
