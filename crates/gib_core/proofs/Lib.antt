@@ -1,5 +1,5 @@
 pub mod Layers
-pub mod Lining
+mod Lining
 mod Spelling
 pub mod Unbroken
 pub mod Indented
