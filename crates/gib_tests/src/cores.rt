@@ -7,7 +7,7 @@ use std::sync::Wait;
 use std::test::Fail;
 use std::thread::Threads;
 
-const ADD_ONE: &str =
+pub const ADD_ONE: &str =
     "data Tree = Leaf Int | Node Tree Tree ; fun add1 (t : Tree) : Tree = case t of { Leaf n -> Leaf (n + 1) ; Node l r -> let par a = add1 l and b = add1 r in Node a b } ; main (t : Tree) : Tree = add1 t ;";
 
 /// Its core: lines, and a line that stands behind them where fields are reached.
@@ -42,7 +42,7 @@ main %0:Tree : Tree
     ),
 ];
 
-const RIGHT: &str =
+pub const RIGHT: &str =
     "data Tree = Leaf Int | Node Tree Tree ; fun right (t : Tree) : Int = case t of { Leaf n -> n ; Node l r -> right r } ; main (t : Tree) : Int = right t ;";
 
 /// Its core, in the same way.
@@ -71,7 +71,7 @@ main %0:Tree : Int
 
 /// A program with each construct: an arm before another in the text but not in the declaration, fields out of
 /// their order in memory, scalars and packed values in each place where an expression may stand.
-const EACH: &str = "data Mark = Mark Bool Row Int | Bare ;
+pub const EACH: &str = "data Mark = Mark Bool Row Int | Bare ;
 data Row = End | Cell Int Row Row ;
 fun sum (r : Row) (n : Int) (up : Bool) : Int =
   if up then case r of {
@@ -349,5 +349,23 @@ fn a_source_that_is_not_typed_has_no_core(rt: HostRuntime) -> Result<(), Fail> {
         assert_eq!(rt; ended.out.bytes(), b"".as_slice(), "{source}");
         assert_eq!(rt; ended.err.bytes(), err.as_bytes(), "{source}");
     }
+    Ok(())
+}
+
+#[test]
+fn a_source_that_is_not_read_and_a_core_that_is_not_put_are_faults(
+    rt: HostRuntime,
+) -> Result<(), Fail> {
+    let alloc = rt.alloc();
+    let words = ["gib", "core", "a.gib"];
+    let ended = call(&rt, alloc, &words, Vec::new(alloc), Vec::new(alloc))?;
+    assert_eq!(rt; ended.status, Status::ReadFault);
+    assert_eq!(rt; ended.out.bytes(), b"".as_slice());
+    assert_eq!(rt; ended.err.bytes(), b"gib: cannot read a.gib\n".as_slice());
+    let files = vec![in alloc; file(alloc, "a.gib", RIGHT.as_bytes())?]?;
+    let ended = call(&rt, alloc, &words, files, vec![in alloc; (0, 3)]?)?;
+    assert_eq!(rt; ended.status, Status::WriteFault);
+    assert_eq!(rt; ended.out.bytes(), b"fun".as_slice());
+    assert_eq!(rt; ended.err.bytes(), b"gib: cannot write\n".as_slice());
     Ok(())
 }

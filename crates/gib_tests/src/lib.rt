@@ -16,6 +16,8 @@ mod example_sources;
 #[cfg(test)]
 mod examples;
 #[cfg(test)]
+mod locations;
+#[cfg(test)]
 mod meanings;
 #[cfg(test)]
 mod printed;
