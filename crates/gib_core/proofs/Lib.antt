@@ -1,5 +1,6 @@
 pub mod Layers
-pub mod Lining
+mod Lining
+mod Spelling
 pub mod Unbroken
 pub mod Indented
 pub mod Copied

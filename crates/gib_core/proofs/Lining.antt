@@ -56,7 +56,3 @@ line_next nodes id rest bindings now node new x after so is put opens =
 
 pub line_last : (nodes : List Node) (id rest : ℕ) (bindings : List Binding) (node : Node) → LineSoFar nodes id bindings rest node → IsEnd (layer (term_of nodes) (Some node)) → IsLine nodes id bindings rest
 line_last nodes id rest bindings node so ends = record { term = so.term; below = so.below; within = so.within; ends = subst IsEnd (sym so.opens.0) ends }
-
--- The node at the end of a line is no binding.
-pub end_not_then : (nodes : List Node) (last : ℕ) (node : Node) (x : Binding) (after : TermId) → Opens nodes last node → IsEnd (term_of nodes last) → node ≡ n.Then x after → ⊥
-end_not_then nodes last node x after opens ends is = subst IsEnd (opens.0 ∙ ap (λ (z : Node). layer (term_of nodes) (Some z)) is) ends

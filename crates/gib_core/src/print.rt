@@ -4,7 +4,7 @@
 
 ghost use Rattle.std.specs.Prelude.{◌≡◌, ◌<◌, ◌+◌, ◌*◌, ◌^◌, [], ◌∷◌, ℕ, length, map, IfOk, OnOk};
 ghost use Rattle.std.specs.List.{AllByRecursion};
-ghost use Rattle.gib_core.specs.Arena.{IsBindingBelow, IsBranchBelow, term_of, side_from, bind_from, branches_from};
+ghost use Rattle.gib_core.specs.Arena.{IsBindingBelow, IsBranchBelow, IsEnd, term_of, side_from, bind_from, branches_from};
 ghost use Rattle.gib_core.specs.Parts.{IsFunctionInside, function_term, main_term, core_of};
 ghost use Rattle.gib_core.specs.CoreText.{kind_word, spell_access, spell_fork, spell_variables, spell_atoms, spell_term, spell_bind, spell_side, spell_branches, spell_parameters, spell_function, spell_functions, spell_main, spell_core, core_text};
 
@@ -75,19 +75,45 @@ fn put_fork(fork: bool, out: &mut Written) -> Result<(), Memory>
     if fork { out.put(Piece::Fork) } else { Ok(()) }
 }
 
-/// A term on a level. This recurses along its line and into the terms that are nested in it, so at most as deep as
-/// its function has terms.
+/// A term on a level. This recurses as deep as terms are nested in bindings and branches, and not along a line.
 #[cycle(terms)]
-fn put_term(terms: &Terms, level: u64, id: TermId, out: &mut Written) -> Result<(), Memory>
+fn put_term(
+    alloc: Global,
+    terms: &Terms,
+    level: u64,
+    id: TermId,
+    out: &mut Written,
+) -> Result<(), Memory>
     requires inside { id.0 < length terms.now }
     requires level { level + 2 * id.0 < 2 ^ 40 }
     ensures { OnOk result (out.new ≡ spell_term level (term_of terms.now id.0) out.old) }
 {
+    let (bindings, last) = terms.line(alloc, id)?;
+    put_end(alloc, terms, level, last, out)?;
+    let mut i = bindings.len();
+    'bindings: while i > 0 {
+        i -= 1;
+        put_binding(alloc, terms, level, id, bindings[i], out)?;
+    }
+    Ok(())
+}
+
+/// The end of a line.
+#[cycle(terms)]
+fn put_end(
+    alloc: Global,
+    terms: &Terms,
+    level: u64,
+    id: TermId,
+    out: &mut Written,
+) -> Result<(), Memory>
+    requires inside { id.0 < length terms.now }
+    requires level { level + 2 * id.0 < 2 ^ 40 }
+    requires last { IsEnd (term_of terms.now id.0) }
+    ensures { OnOk result (out.new ≡ spell_term level (term_of terms.now id.0) out.old) }
+{
     match terms.node(id) {
-        Node::Then(binding, rest) => {
-            put_term(terms, level, *rest, out)?;
-            put_binding(terms, level, id, *binding, out)
-        }
+        Node::Then(_, _) => unreachable!(),
         Node::Write {
             head,
             scalars,
@@ -109,7 +135,7 @@ fn put_term(terms: &Terms, level: u64, id: TermId, out: &mut Written) -> Result<
         }
         Node::Give(atom) => put_atom_line(level, Keyword::Give, *atom, out),
         Node::Case { subject, branches } => {
-            put_branches(terms, level + 1, id, branches, out)?;
+            put_branches(alloc, terms, level + 1, id, branches, out)?;
             put_atom_line(level, Keyword::Case, *subject, out)
         }
         Node::If {
@@ -117,10 +143,10 @@ fn put_term(terms: &Terms, level: u64, id: TermId, out: &mut Written) -> Result<
             then_part,
             else_part,
         } => {
-            put_term(terms, level + 1, *else_part, out)?;
+            put_term(alloc, terms, level + 1, *else_part, out)?;
             out.put(Piece::End)?;
             out.put_line(level, Keyword::Else)?;
-            put_term(terms, level + 1, *then_part, out)?;
+            put_term(alloc, terms, level + 1, *then_part, out)?;
             put_atom_line(level, Keyword::If, *condition, out)
         }
     }
@@ -129,6 +155,7 @@ fn put_term(terms: &Terms, level: u64, id: TermId, out: &mut Written) -> Result<
 /// A binding of the term of a number, whose terms stand below it.
 #[cycle(terms)]
 fn put_binding(
+    alloc: Global,
     terms: &Terms,
     level: u64,
     whole: TermId,
@@ -147,10 +174,10 @@ fn put_binding(
             out.put(Piece::Variable(head))?;
             out.put_line(level, Keyword::Past)
         }
-        Binding::One(side) => put_side(terms, level, side, out),
+        Binding::One(side) => put_side(alloc, terms, level, side, out),
         Binding::Par { fork, left, right } => {
-            put_side(terms, level + 1, right, out)?;
-            put_side(terms, level + 1, left, out)?;
+            put_side(alloc, terms, level + 1, right, out)?;
+            put_side(alloc, terms, level + 1, left, out)?;
             out.put(Piece::End)?;
             put_fork(fork, out)?;
             out.put_line(level, Keyword::Par)
@@ -180,12 +207,18 @@ fn put_binding(
 
 /// A variable with the term that it is bound to.
 #[cycle(terms)]
-fn put_side(terms: &Terms, level: u64, side: BoundTerm, out: &mut Written) -> Result<(), Memory>
+fn put_side(
+    alloc: Global,
+    terms: &Terms,
+    level: u64,
+    side: BoundTerm,
+    out: &mut Written,
+) -> Result<(), Memory>
     requires inside { side.term.0 < length terms.now }
     requires level { level + 1 + 2 * side.term.0 < 2 ^ 40 }
     ensures { OnOk result (out.new ≡ spell_side level (side_from (term_of terms.now) side) out.old) }
 {
-    put_term(terms, level + 1, side.term, out)?;
+    put_term(alloc, terms, level + 1, side.term, out)?;
     out.put(Piece::End)?;
     out.put(Piece::Variable(side.variable))?;
     out.put_line(level, kind_word(side.kind))
@@ -194,6 +227,7 @@ fn put_side(terms: &Terms, level: u64, side: BoundTerm, out: &mut Written) -> Re
 /// The branches of the case of a number, whose terms stand below it.
 #[cycle(terms)]
 fn put_branches(
+    alloc: Global,
     terms: &Terms,
     level: u64,
     whole: TermId,
@@ -208,7 +242,7 @@ fn put_branches(
     let mut i = branches.len();
     'branches: while i > 0 {
         i -= 1;
-        put_term(terms, level + 1, branches[i].term, out)?;
+        put_term(alloc, terms, level + 1, branches[i].term, out)?;
         out.put(Piece::End)?;
         put_variables(&branches[i].variables, out)?;
         out.put(Piece::Arm(level, branches[i].constructor))?;
@@ -231,42 +265,58 @@ fn put_parameters(parameters: &[Ty], out: &mut Written) -> Result<(), Memory>
 }
 
 /// The type of a result, the end of its line, and the body below it.
-fn put_body(terms: &Terms, ty: Ty, body: TermId, out: &mut Written) -> Result<(), Memory>
+fn put_body(
+    alloc: Global,
+    terms: &Terms,
+    ty: Ty,
+    body: TermId,
+    out: &mut Written,
+) -> Result<(), Memory>
     requires { body.0 < length terms.now }
     ensures { OnOk result (out.new ≡ Piece.Result ty ∷ Piece.End ∷ spell_term 1 (term_of terms.now body.0) out.old) }
 {
-    put_term(terms, 1, body, out)?;
+    put_term(alloc, terms, 1, body, out)?;
     out.put(Piece::End)?;
     out.put(Piece::Result(ty))
 }
 
-fn put_function(terms: &Terms, function: &CoreFunction, out: &mut Written) -> Result<(), Memory>
+fn put_function(
+    alloc: Global,
+    terms: &Terms,
+    function: &CoreFunction,
+    out: &mut Written,
+) -> Result<(), Memory>
     requires { function.now.body.0 < length terms.now }
     ensures { OnOk result (out.new ≡ spell_function (function_term (term_of terms.now) function.now) out.old) }
 {
-    put_body(terms, function.result, function.body, out)?;
+    put_body(alloc, terms, function.result, function.body, out)?;
     put_parameters(&function.parameters, out)?;
     out.put(Piece::Function(function.name))?;
     out.put_line(0, Keyword::Fun)
 }
 
-fn put_functions(terms: &Terms, functions: &[CoreFunction], out: &mut Written) -> Result<(), Memory>
+fn put_functions(
+    alloc: Global,
+    terms: &Terms,
+    functions: &[CoreFunction],
+    out: &mut Written,
+) -> Result<(), Memory>
     requires { AllByRecursion (IsFunctionInside (length terms.now)) functions.now }
     ensures { OnOk result (out.new ≡ spell_functions (map (function_term (term_of terms.now)) functions.now) out.old) }
 {
     let mut i = functions.len();
     'functions: while i > 0 {
         i -= 1;
-        put_function(terms, &functions[i], out)?;
+        put_function(alloc, terms, &functions[i], out)?;
     }
     Ok(())
 }
 
-fn put_main(terms: &Terms, main: CoreMain, out: &mut Written) -> Result<(), Memory>
+fn put_main(alloc: Global, terms: &Terms, main: CoreMain, out: &mut Written) -> Result<(), Memory>
     requires { main.body.0 < length terms.now }
     ensures { OnOk result (out.new ≡ spell_main (main_term (term_of terms.now) main) out.old) }
 {
-    put_body(terms, main.result, main.body, out)?;
+    put_body(alloc, terms, main.result, main.body, out)?;
     out.put(Piece::Parameter(Variable(0), main.parameter))?;
     out.put_line(0, Keyword::Main)
 }
@@ -276,8 +326,8 @@ fn pieces_of(alloc: Global, core: &Core) -> Result<Vec<Piece>, Memory>
     ensures { IfOk result (λ pieces. pieces.items ≡ spell_core (core_of core.now)) }
 {
     let mut out = Written::new(alloc);
-    put_main(core.terms(), core.main(), &mut out)?;
-    put_functions(core.terms(), core.functions(), &mut out)?;
+    put_main(alloc, core.terms(), core.main(), &mut out)?;
+    put_functions(alloc, core.terms(), core.functions(), &mut out)?;
     Ok(out.into_pieces())
 }
 

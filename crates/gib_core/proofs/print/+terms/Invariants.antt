@@ -1,10 +1,14 @@
 use Rattle.std.proofs.Common.{◌≡◌, ◌≤◌, ◌+◌, ◌*◌, length, drop}
-use Rattle.gib_core.specs.Arena.{term_of, branches_from}
+use Rattle.gib_core.specs.Arena.{term_of, binds_from, branches_from}
 use Rattle.gib_core.specs.CoreText.{spell_branches}
+use Rattle.gib_core.proofs.Spelling.{spell_binds}
 use Rattle.gib_core.proofs.print.+terms.Given as goal
 
 abbrev pub decreases-put_term : goal.decreases-put_term
 decreases-put_term l = 4 * l.id.0 + 3
+
+abbrev pub decreases-put_end : goal.decreases-put_end
+decreases-put_end l = 4 * l.id.0 + 2
 
 abbrev pub decreases-put_binding : goal.decreases-put_binding
 decreases-put_binding l = 4 * l.whole.0 + 2
@@ -20,3 +24,11 @@ invariant-put_branches-branches l = (l.i ≤ length l.branches) × (l.out ≡ sp
 
 abbrev pub decreases-put_branches-branches : goal.decreases-put_branches-branches
 decreases-put_branches-branches l = l.i
+
+abbrev pub invariant-put_term-bindings : goal.invariant-put_term-bindings
+invariant-put_term-bindings l =
+    (l.i ≤ length l.bindings.items)
+    × (l.out ≡ spell_binds l.level (binds_from (term_of l.terms) (drop l.i l.bindings.items)) l.initial.out)
+
+abbrev pub decreases-put_term-bindings : goal.decreases-put_term-bindings
+decreases-put_term-bindings l = l.i
