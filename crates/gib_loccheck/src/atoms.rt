@@ -2,13 +2,13 @@
 
 ghost use Rattle.std.specs.Prelude.{◌≡◌, [], ◌∷◌};
 ghost use Rattle.gib_types.specs.Table.{scalar_types};
-ghost use Rattle.gib_core.specs.Rules.{all_usable as usable, any_other as other, have_types as typed, are_variables as variables_are, any_cased as cased_in, further as further_in, is_one_of as one_of};
+ghost use Rattle.gib_core.specs.Rules.{all_usable as usable, any_other as other, have_types as typed, are_variables as variables_are, any_cased as cased_in, further as further_in};
 ghost use Rattle.gib_loccheck.specs.Views.{in_scope, before_of};
 
 use crate::state::{Walk, is_listed};
 use crate::table::is_scalar;
 use gib_core::{Atom, Variable};
-use gib_types::{ConId, Ty};
+use gib_types::Ty;
 
 /// Whether all these atoms can be used here.
 pub fn all_usable(walk: &Walk, atoms: &[Atom]) -> bool
@@ -139,18 +139,4 @@ pub fn further(variables: &[Variable]) -> &[Variable]
         [] => variables,
         [_, after @ ..] => after,
     }
-}
-
-/// Whether a constructor is one of these.
-pub fn is_one_of(constructors: &[ConId], constructor: ConId) -> bool
-    ensures { result ≡ one_of constructors.now constructor }
-{
-    let mut left = constructors;
-    'constructors: while let [one, after @ ..] = left {
-        if one.0 == constructor.0 {
-            return true;
-        }
-        left = after;
-    }
-    false
 }

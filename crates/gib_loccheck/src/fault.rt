@@ -18,7 +18,8 @@ pub enum LocFault {
     /// 5. `write` names the packed fields of the open head in their order, and no `case` was on one past the first.
     /// 6. `point` and a packed call give their value to an empty place.
     /// 7. `case` is on a packed value, with an arm for each constructor in declared order.
-    /// 8. A variable is bound once, and used in scope, a field behind its `reach`, which knows where it begins.
+    /// 8. A variable is bound once, and used in scope; a field of an arm is reached first, once, and only where its
+    ///    beginning is known.
     /// 9. Values have the types that are due; a scalar call is the whole right side of a `scalar`.
     Rule(u8, u64),
 }

@@ -16,6 +16,7 @@ mod bodies;
 mod calls;
 mod cases;
 mod fault;
+mod flagging;
 mod indexed;
 mod lines;
 mod rules;
