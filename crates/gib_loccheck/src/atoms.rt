@@ -14,28 +14,14 @@ use gib_types::Ty;
 pub fn all_usable(walk: &Walk, atoms: &[Atom]) -> bool
     ensures { result ≡ usable (in_scope walk.now) atoms.now }
 {
-    let mut left = atoms;
-    'atoms: while let [atom, after @ ..] = left {
-        if !walk.is_usable(*atom) {
-            return false;
-        }
-        left = after;
-    }
-    true
+    atoms.iter().all(|atom| walk.is_usable(*atom))
 }
 
 /// Whether one of these atoms is the variable of another side.
 pub fn any_other(walk: &Walk, atoms: &[Atom]) -> bool
     ensures { result ≡ other (in_scope walk.now) atoms.now }
 {
-    let mut left = atoms;
-    'atoms: while let [atom, after @ ..] = left {
-        if walk.is_other(*atom) {
-            return true;
-        }
-        left = after;
-    }
-    false
+    atoms.iter().any(|atom| walk.is_other(*atom))
 }
 
 /// Whether atoms have these types, as many as there are.
@@ -121,14 +107,9 @@ fn is_variable(variable: Variable, atom: Atom) -> bool
 pub fn any_cased(walk: &Walk, variables: &[Variable]) -> bool
     ensures { result ≡ cased_in (before_of walk.now).cased variables.now }
 {
-    let mut left = variables;
-    'variables: while let [variable, after @ ..] = left {
-        if is_listed(&walk.cased, *variable) {
-            return true;
-        }
-        left = after;
-    }
-    false
+    variables
+        .iter()
+        .any(|variable| is_listed(&walk.cased, *variable))
 }
 
 /// The variables behind the first one.
