@@ -1,12 +1,11 @@
 -- What follows from answers.
 use Rattle.std.proofs.Common.{◌≡◌, ℕ, None, Some, sym, ap, ◌∙◌}
 use Rattle.std.specs.Prelude.{Result, Ok, Err, IfOk, IfErr}
-use Rattle.gib_core.specs.Tree.{CoreTree}
-use Rattle.gib_core.specs.Rules.{Broken, first_broken}
+use Rattle.gib_core.specs.Rules.{Broken}
 use Rattle.gib_loccheck.specs.declared.fault.LocFault.{LocFault}
 use Rattle.gib_loccheck.specs.declared.fault.LocFault.TheVariants as fault
 use Rattle.gib_loccheck.specs.Judging.{Says}
-use Rattle.gib_loccheck.specs.Answers.{IsMemory, IsMemoryOr, IsFirst}
+use Rattle.gib_loccheck.specs.Answers.{IsMemory, IsMemoryOr}
 
 pub ok_then : {P Q : Type 0} (r : Result (Unit {0}) LocFault) → (P → Q) → IfOk r (λ _. P) → IfOk r (λ _. Q)
 ok_then (Ok x) f h = f h
@@ -28,10 +27,6 @@ same_pair x y e = cc
 pub memory_or : (e : LocFault) (o : Broken) (rule place : ℕ) → Says e o → o ≡ Some (rule, place) → IsMemoryOr rule place e
 memory_or fault.Memory o rule place h s = tt {0}
 memory_or (fault.Rule r p) o rule place h s = let q = same_pair (r, p) (rule, place) (sym h ∙ s) in (ap (λ (z : ℕ × ℕ). z.0) q, ap (λ (z : ℕ × ℕ). z.1) q)
-
-pub is_first : (core : CoreTree) (e : LocFault) → Says e (first_broken core) → IsFirst core e
-is_first core fault.Memory h = tt {0}
-is_first core (fault.Rule r p) h = h
 
 -- Nothing is both broken and unbroken.
 pub never : (o : Broken) (rule place : ℕ) → o ≡ None → o ≡ Some (rule, place) → ⊥

@@ -9,4 +9,5 @@ pub mod Naming
 pub mod OneLine
 pub mod Sample
 pub mod Scoping
+pub mod Searching
 pub mod Walking

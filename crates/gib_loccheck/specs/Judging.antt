@@ -4,8 +4,6 @@ use Rattle.gib_types.specs.declared.table.Ty.{Ty}
 use Rattle.gib_core.specs.declared.atom.Variable.{Variable}
 use Rattle.gib_core.specs.declared.atom.Atom.{Atom}
 use Rattle.gib_core.specs.declared.atom.Kind.{Kind}
-use Rattle.gib_core.specs.declared.node.Node.{Node}
-use Rattle.gib_core.specs.declared.node.Node.TheVariants as n
 use Rattle.gib_core.specs.declared.scope.Known.{Known}
 use Rattle.gib_core.specs.Tree.{CoreTree}
 use Rattle.gib_core.specs.Met.{Setting, Met, Line, CaseLine, stands_too, reached_too, known}
@@ -101,13 +99,3 @@ pub record HasOther (old new : Walk) (x : Variable) : Type 0 where
   pub others : new.others.items ≡ old.others.items ++ x ∷ []
   pub scope : new.scope.items ≡ old.scope.items
   pub stays : Stays old new
-
--- The node is no binding: a line ends there.
-abbrev pub IsEnd : Node → Type 0
-IsEnd (n.Then binding rest) = ⊥
-IsEnd (n.Write h k ss ps) = Unit {0}
-IsEnd (n.Point x) = Unit {0}
-IsEnd (n.Call f xs) = Unit {0}
-IsEnd (n.Give x) = Unit {0}
-IsEnd (n.Case x branches) = Unit {0}
-IsEnd (n.If x t u) = Unit {0}

@@ -2,40 +2,26 @@
 
 ghost use Rattle.std.specs.Prelude.{◌≡◌, [], ◌∷◌};
 ghost use Rattle.gib_types.specs.Table.{scalar_types};
-ghost use Rattle.gib_core.specs.Rules.{all_usable as usable, any_other as other, have_types as typed, are_variables as variables_are, any_cased as cased_in, further as further_in, is_one_of as one_of};
+ghost use Rattle.gib_core.specs.Rules.{all_usable as usable, any_other as other, have_types as typed, are_variables as variables_are, any_cased as cased_in, further as further_in};
 ghost use Rattle.gib_loccheck.specs.Views.{in_scope, before_of};
 
 use crate::state::{Walk, is_listed};
 use crate::table::is_scalar;
 use gib_core::{Atom, Variable};
-use gib_types::{ConId, Ty};
+use gib_types::Ty;
 
 /// Whether all these atoms can be used here.
 pub fn all_usable(walk: &Walk, atoms: &[Atom]) -> bool
     ensures { result ≡ usable (in_scope walk.now) atoms.now }
 {
-    let mut left = atoms;
-    'atoms: while let [atom, after @ ..] = left {
-        if !walk.is_usable(*atom) {
-            return false;
-        }
-        left = after;
-    }
-    true
+    atoms.iter().all(|atom| walk.is_usable(*atom))
 }
 
 /// Whether one of these atoms is the variable of another side.
 pub fn any_other(walk: &Walk, atoms: &[Atom]) -> bool
     ensures { result ≡ other (in_scope walk.now) atoms.now }
 {
-    let mut left = atoms;
-    'atoms: while let [atom, after @ ..] = left {
-        if walk.is_other(*atom) {
-            return true;
-        }
-        left = after;
-    }
-    false
+    atoms.iter().any(|atom| walk.is_other(*atom))
 }
 
 /// Whether atoms have these types, as many as there are.
@@ -121,14 +107,9 @@ fn is_variable(variable: Variable, atom: Atom) -> bool
 pub fn any_cased(walk: &Walk, variables: &[Variable]) -> bool
     ensures { result ≡ cased_in (before_of walk.now).cased variables.now }
 {
-    let mut left = variables;
-    'variables: while let [variable, after @ ..] = left {
-        if is_listed(&walk.cased, *variable) {
-            return true;
-        }
-        left = after;
-    }
-    false
+    variables
+        .iter()
+        .any(|variable| is_listed(&walk.cased, *variable))
 }
 
 /// The variables behind the first one.
@@ -139,18 +120,4 @@ pub fn further(variables: &[Variable]) -> &[Variable]
         [] => variables,
         [_, after @ ..] => after,
     }
-}
-
-/// Whether a constructor is one of these.
-pub fn is_one_of(constructors: &[ConId], constructor: ConId) -> bool
-    ensures { result ≡ one_of constructors.now constructor }
-{
-    let mut left = constructors;
-    'constructors: while let [one, after @ ..] = left {
-        if one.0 == constructor.0 {
-            return true;
-        }
-        left = after;
-    }
-    false
 }

@@ -1,8 +1,10 @@
-//! Cores whose functions are found by their names in constant time.
+//! Cores whose functions are found by their names, and whose constructors with offsets by their numbers, in
+//! constant time.
 
 ghost use Rattle.std.specs.Prelude.{◌≡◌, ◌==◌, ◌<◌, ℕ, if◌then◌else◌, length, None, Some, IfOk, OnOk};
 ghost use Rattle.gib_loccheck.specs.Indexing.{IsIndex, entry_at};
 
+use crate::flagging::{is_flagged, list_flags};
 use gib_base::{Memory, Name};
 use gib_core::{Core, CoreFunction, CoreMain, Terms};
 use gib_types::{ConId, TypeTable};
@@ -63,22 +65,24 @@ fn list_places(alloc: Global, functions: &[CoreFunction]) -> Result<Vec<Option<u
     Ok(places)
 }
 
-/// A core, with the places of its functions by the numbers of their names.
+/// A core, with the places of its functions by the numbers of their names, and with flags of the constructors
+/// whose heads store offsets.
 #[derive(Drop)]
 pub struct IndexedCore {
     core: Core,
     places: Vec<Option<usize>>,
+    flags: Vec<bool>,
 }
 
 impl Model for IndexedCore {
     ghost use Rattle.gib_core.specs.Parts.{Parts};
-    ghost use Rattle.gib_loccheck.specs.Indexing.{IsIndex};
+    ghost use Rattle.gib_loccheck.specs.Indexing.{IsIndex, AreFlagged};
 
     ghost Value = { Parts };
 
     ghost view = { λ i. i.core };
 
-    ghost invariant = { λ i. IsIndex i.core.functions i.places.items };
+    ghost invariant = { λ i. IsIndex i.core.functions i.places.items × AreFlagged i.core.offsets i.flags.items };
 }
 
 impl IndexedCore {
@@ -86,6 +90,7 @@ impl IndexedCore {
     ghost use Rattle.gib_core.specs.Arena.{term_of};
     ghost use Rattle.gib_core.specs.Meaning.{function_at};
     ghost use Rattle.gib_core.specs.Parts.{AreInside, core_of, function_term};
+    ghost use Rattle.gib_core.specs.Rules.{is_one_of};
     ghost use Rattle.gib_loccheck.specs.Indexing.{first_named};
 
     /// A core with its index.
@@ -93,7 +98,12 @@ impl IndexedCore {
         ensures { IfOk result (λ indexed. indexed ≡ core) }
     {
         let places = list_places(alloc, core.functions())?;
-        Ok(IndexedCore { core, places })
+        let flags = list_flags(alloc, core.offsets())?;
+        Ok(IndexedCore {
+            core,
+            places,
+            flags,
+        })
     }
 
     /// The core without its index.
@@ -133,11 +143,11 @@ impl IndexedCore {
         self.core.main()
     }
 
-    /// The constructors whose heads store offsets.
-    pub fn offsets(&self) -> &[ConId]
-        ensures { result.now ≡ self.now.offsets }
+    /// Whether the heads of a constructor store offsets.
+    pub fn has_offsets(&self, constructor: ConId) -> bool
+        ensures { result ≡ is_one_of self.now.offsets constructor }
     {
-        self.core.offsets()
+        is_flagged(&self.flags, constructor.0)
     }
 
     /// The first function of a name.

@@ -8,7 +8,6 @@ ghost use Rattle.gib_core.specs.Parts.{core_of};
 ghost use Rattle.gib_core.specs.Reaching.{reach_core};
 ghost use Rattle.gib_core.specs.Reachable.{AreReachable};
 ghost use Rattle.gib_core.specs.Rules.{AreBuilt, first_broken};
-ghost use Rattle.gib_loccheck.specs.Judging.{Says};
 ghost use Rattle.gib_loccheck.specs.Answers.{IsMemory, IsMemoryOr, IsFirst};
 
 mod atoms;
@@ -17,6 +16,7 @@ mod bodies;
 mod calls;
 mod cases;
 mod fault;
+mod flagging;
 mod indexed;
 mod lines;
 mod rules;
@@ -37,7 +37,7 @@ use std::alloc::Global;
 fn unbroken(alloc: Global, core: Core) -> Result<Core, LocFault>
     ensures same { IfOk result (λ same. same ≡ core) }
     ensures unbroken { IfOk result (λ _. first_broken (core_of core) ≡ None) }
-    ensures broken { IfErr result (λ e. Says e (first_broken (core_of core))) }
+    ensures broken { IfErr result (IsFirst (core_of core)) }
 {
     let indexed = IndexedCore::make(alloc, core)?;
     check_bodies(alloc, &indexed)?;

@@ -7,9 +7,7 @@ ghost use Rattle.gib_core.specs.Met.{PastLine, SideLine, ReachLine, WriteLine, P
 ghost use Rattle.gib_core.specs.Rules.{least, rules, side_rules, may_write as writes, are_scalars as scalars_are, by_access as accessed, may_reach as reaches, is_reached, is_among, are_variables as variables_are};
 ghost use Rattle.gib_loccheck.specs.Views.{destination_of, setting_of, in_scope, before_of, prim_rules};
 
-use crate::atoms::{
-    all_usable, any_cased, any_other, are_variables, further, have_scalar_types, is_one_of,
-};
+use crate::atoms::{all_usable, any_cased, any_other, are_variables, further, have_scalar_types};
 use crate::indexed::IndexedCore;
 use crate::state::{Destination, Target, Walk, find, is_bound, is_listed};
 use crate::table::{fields_of, is_of_type, is_scalar, packed_count, same_type};
@@ -127,7 +125,7 @@ fn by_access(core: &IndexedCore, walk: &Walk, behind: Option<Behind>, access: Ac
     match behind {
         None => false,
         Some(behind) => match access {
-            Access::Offset => is_one_of(core.offsets(), behind.constructor),
+            Access::Offset => core.has_offsets(behind.constructor),
             Access::Skip(z) => behind.before.0 == z.0 && ends_known(walk, z),
         },
     }

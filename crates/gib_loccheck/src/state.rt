@@ -54,52 +54,42 @@ pub struct Walk {
 pub fn is_listed(variables: &[Variable], variable: Variable) -> bool
     ensures { result ≡ is_among (reverse variables.now) variable }
 {
-    let mut found = false;
-    for known in variables {
-        if known.0 == variable.0 {
-            found = true;
-        }
-    }
-    found
+    variables.iter().rev().any(|known| known.0 == variable.0)
 }
 
 /// What is known of a variable in scope: the newest counts.
 pub fn find(scope: &[Known], variable: Variable) -> Option<Known>
     ensures { result ≡ known (reverse scope.now) variable }
 {
-    let mut found = None;
-    for known in scope {
+    let mut left = scope;
+    'scope: while let [before @ .., known] = left {
         if known.variable.0 == variable.0 {
-            found = Some(*known);
+            return Some(*known);
         }
+        left = before;
     }
-    found
+    None
 }
 
 /// Whether a variable was bound.
 pub fn is_bound(bound: &[Bound], variable: Variable) -> bool
     ensures { result ≡ bound_in (reverse bound.now) variable }
 {
-    let mut found = false;
-    for one in bound {
-        if one.variable.0 == variable.0 {
-            found = true;
-        }
-    }
-    found
+    bound.iter().rev().any(|one| one.variable.0 == variable.0)
 }
 
 /// The type that a variable was bound with: the newest counts.
 pub fn type_bound(bound: &[Bound], variable: Variable) -> Option<Ty>
     ensures { result ≡ type_in (reverse bound.now) variable }
 {
-    let mut found = None;
-    for one in bound {
+    let mut left = bound;
+    'bound: while let [before @ .., one] = left {
         if one.variable.0 == variable.0 {
-            found = Some(one.ty);
+            return Some(one.ty);
         }
+        left = before;
     }
-    found
+    None
 }
 
 impl Walk {

@@ -23,6 +23,8 @@ const COPY: Name = Name(3);
 
 const SIZE: Name = Name(4);
 
+const BEHIND: Access = Access::Skip(Variable(2));
+
 fn add(alloc: Global, rows: &mut Vec<Constructor>, name: u32, fields: &[Ty]) -> Result<(), Memory>
     ensures { OnOk result (map row_of rows.new.items ≡ map row_of rows.old.items ++ record { name = name; owner = 0; fields = fields.now } ∷ []) }
 {
@@ -151,14 +153,20 @@ fn scalar(
 {
     let mut term = call(alloc, terms, SIZE, 2)?;
     if !whole {
-        term = prim(terms, 9, Atom::literal(1), term)?;
+        term = prim(terms, 9, Operator::Add, Atom::literal(1), term)?;
     }
     let scalar = bound(Kind::Scalar, number, Ty::Whole, term);
     then(terms, Binding::One(scalar), rest)
 }
 
-// prim %n = a + 1, and the rest
-fn prim(terms: &mut Terms, number: u32, left: Atom, rest: TermId) -> Result<TermId, Memory>
+// prim %n = an operation on an atom and 1, and the rest
+fn prim(
+    terms: &mut Terms,
+    number: u32,
+    operator: Operator,
+    left: Atom,
+    rest: TermId,
+) -> Result<TermId, Memory>
     requires { rest.0 < length terms.old }
     ensures { IfOk result (λ id. (id.0 < length terms.new) × (length terms.old ≤ length terms.new)) }
 {
@@ -166,7 +174,7 @@ fn prim(terms: &mut Terms, number: u32, left: Atom, rest: TermId) -> Result<Term
         terms,
         Binding::Prim {
             variable: Variable(number),
-            operator: Operator::Add,
+            operator,
             left,
             right: Atom::literal(1),
         },
@@ -174,8 +182,8 @@ fn prim(terms: &mut Terms, number: u32, left: Atom, rest: TermId) -> Result<Term
     )
 }
 
-// reach %3 by skip %2, and the rest
-fn reach(terms: &mut Terms, rest: TermId) -> Result<TermId, Memory>
+// reach %3, and the rest
+fn reach(terms: &mut Terms, access: Access, rest: TermId) -> Result<TermId, Memory>
     requires { rest.0 < length terms.old }
     ensures { IfOk result (λ id. (id.0 < length terms.new) × (length terms.old ≤ length terms.new)) }
 {
@@ -183,7 +191,7 @@ fn reach(terms: &mut Terms, rest: TermId) -> Result<TermId, Memory>
         terms,
         Binding::Reach {
             field: Variable(3),
-            access: Access::Skip(Variable(2)),
+            access,
         },
         rest,
     )
@@ -270,20 +278,45 @@ fn case(
     )
 }
 
-// Every kind of line, and no broken rule.
+// if %n then a term else another one
+fn if_else(
+    terms: &mut Terms,
+    condition: u32,
+    then_part: TermId,
+    else_part: TermId,
+) -> Result<TermId, Memory>
+    requires first { then_part.0 < length terms.old }
+    requires second { else_part.0 < length terms.old }
+    ensures { IfOk result (λ id. (id.0 < length terms.new) × (length terms.old ≤ length terms.new)) }
+{
+    put(
+        terms,
+        Node::If {
+            condition: var(condition),
+            then_part,
+            else_part,
+        },
+    )
+}
+
+// With the bodies of copy and size every kind of line, and no broken rule.
 fn accepted(alloc: Global, terms: &mut Terms) -> Result<TermId, Memory>
     ensures { IfOk result (λ id. (id.0 < length terms.new) × (length terms.old ≤ length terms.new)) }
 {
-    let leaf = write(alloc, terms, 10, LEAF, &[var(8)], &[])?;
+    let leaf = write(alloc, terms, 10, LEAF, &[var(9)], &[])?;
     let leaf = past(terms, 10, LEAF, leaf)?;
+    let leaf = prim(terms, 9, Operator::Add, var(8), leaf)?;
     let leaf = scalar(alloc, terms, 8, true, leaf)?;
     let node = write(alloc, terms, 13, NODE, &[], &[var(14), var(15)])?;
     let node = here(terms, 15, 7, node)?;
     let node = here(terms, 14, 6, node)?;
     let node = past(terms, 13, NODE, node)?;
+    let other = point(terms, 2)?;
+    let node = if_else(terms, 12, node, other)?;
+    let node = prim(terms, 12, Operator::Less, Atom::literal(0), node)?;
     let rest = case(alloc, terms, 6, 20, leaf, node, true)?;
     let rest = par(alloc, terms, 3, rest)?;
-    reach(terms, rest)
+    reach(terms, BEHIND, rest)
 }
 
 // A head in a head.
@@ -352,8 +385,16 @@ fn reach_behind_case(alloc: Global, terms: &mut Terms) -> Result<TermId, Memory>
 {
     let leaf = point(terms, 2)?;
     let node = point(terms, 3)?;
-    let node = reach(terms, node)?;
+    let node = reach(terms, BEHIND, node)?;
     case(alloc, terms, 2, 20, leaf, node, true)
+}
+
+// A field is reached by the offset that its head stores.
+fn reach_by_offset(terms: &mut Terms) -> Result<TermId, Memory>
+    ensures { IfOk result (λ id. (id.0 < length terms.new) × (length terms.old ≤ length terms.new)) }
+{
+    let rest = point(terms, 3)?;
+    reach(terms, Access::Offset, rest)
 }
 
 // A head as a value.
@@ -378,7 +419,7 @@ fn packed_operand(terms: &mut Terms) -> Result<TermId, Memory>
     ensures { IfOk result (λ id. (id.0 < length terms.new) × (length terms.old ≤ length terms.new)) }
 {
     let rest = point(terms, 2)?;
-    prim(terms, 4, var(2), rest)
+    prim(terms, 4, Operator::Add, var(2), rest)
 }
 
 // A scalar call that is not the whole right side.
@@ -395,31 +436,52 @@ fn long_line(terms: &mut Terms, count: u32) -> Result<TermId, Memory>
 {
     let mut rest = point(terms, 2)?;
     for number in 100..count {
-        rest = prim(terms, number, Atom::literal(1), rest)?;
+        rest = prim(terms, number, Operator::Add, Atom::literal(1), rest)?;
     }
     Ok(rest)
 }
 
-// The line of a number.
-fn line(alloc: Global, terms: &mut Terms, number: u32) -> Result<TermId, Memory>
+/// The line that main's second arm is.
+#[derive(Clone, Copy, Debug, PartialEq, Eq)]
+enum Line {
+    Accepted,
+    LongLine,
+    TwoHeads,
+    NoRoom,
+    ScalarRegion,
+    OtherSide,
+    FieldsSwapped,
+    PointInHead,
+    ArmsSwapped,
+    ReachBehindCase,
+    ReachByOffset,
+    HeadAsValue,
+    BoundTwice,
+    NotReached,
+    PackedOperand,
+    CallBehindPrim,
+}
+
+fn put_line(alloc: Global, terms: &mut Terms, line: Line) -> Result<TermId, Memory>
     ensures { IfOk result (λ id. (id.0 < length terms.new) × (length terms.old ≤ length terms.new)) }
 {
-    match number {
-        0 => accepted(alloc, terms),
-        1 => two_heads(terms),
-        2 => no_room(terms),
-        3 => scalar_region(terms),
-        4 => other_side(alloc, terms),
-        5 => fields_swapped(alloc, terms),
-        6 => point_in_head(terms),
-        7 => arms_swapped(alloc, terms),
-        8 => reach_behind_case(alloc, terms),
-        9 => head_as_value(alloc, terms),
-        10 => bound_twice(terms),
-        11 => packed_operand(terms),
-        12 => call_behind_prim(alloc, terms),
-        13 => long_line(terms, 20_000),
-        _ => point(terms, 3),
+    match line {
+        Line::Accepted => accepted(alloc, terms),
+        Line::LongLine => long_line(terms, 20_000),
+        Line::TwoHeads => two_heads(terms),
+        Line::NoRoom => no_room(terms),
+        Line::ScalarRegion => scalar_region(terms),
+        Line::OtherSide => other_side(alloc, terms),
+        Line::FieldsSwapped => fields_swapped(alloc, terms),
+        Line::PointInHead => point_in_head(terms),
+        Line::ArmsSwapped => arms_swapped(alloc, terms),
+        Line::ReachBehindCase => reach_behind_case(alloc, terms),
+        Line::ReachByOffset => reach_by_offset(terms),
+        Line::HeadAsValue => head_as_value(alloc, terms),
+        Line::BoundTwice => bound_twice(terms),
+        Line::NotReached => point(terms, 3),
+        Line::PackedOperand => packed_operand(terms),
+        Line::CallBehindPrim => call_behind_prim(alloc, terms),
     }
 }
 
@@ -437,15 +499,15 @@ fn function(alloc: Global, name: Name, ty: Ty, body: TermId) -> Result<CoreFunct
 }
 
 // fun copy (t : Tree) : Tree = an atom ; fun size (t : Tree) : Int = 0 ;
-// main (t : Tree) : Tree = case t { Leaf n -> t | Node a b -> the line of a number }
+// main (t : Tree) : Tree = case t { Leaf n -> t | Node a b -> the line }
 //
 // copy's body is term 0, size's 1, the case 2 and its first arm 3: the line begins at 4, with %2 and %3 for a and b.
-fn program(alloc: Global, copied: Atom, number: u32) -> Result<Core, Memory> {
+fn program(alloc: Global, copied: Atom, line: Line, offsets: &[ConId]) -> Result<Core, Memory> {
     let mut terms = Terms::new(alloc);
     let copy = put(&mut terms, Node::Point(copied))?;
     let size = put(&mut terms, Node::Give(Atom::literal(0)))?;
     let leaf = point(&mut terms, 0)?;
-    let node = line(alloc, &mut terms, number)?;
+    let node = put_line(alloc, &mut terms, line)?;
     let body = case(alloc, &mut terms, 0, 1, leaf, node, true)?;
     let mut functions = Vec::new(alloc);
     functions.push(function(alloc, COPY, TREE, copy)?)?;
@@ -455,13 +517,14 @@ fn program(alloc: Global, copied: Atom, number: u32) -> Result<Core, Memory> {
         result: TREE,
         body,
     };
-    Ok(Core::new(table(alloc)?, terms, functions, main, Vec::new(alloc)))
+    let offsets = Vec::from_slice(alloc, offsets)?;
+    Ok(Core::new(table(alloc)?, terms, functions, main, offsets))
 }
 
 #[test]
 fn accepts_a_core_that_breaks_no_rule(rt: HostRuntime) -> Result<(), Fail> {
     let alloc = rt.alloc();
-    let core = program(alloc, var(0), 0)?;
+    let core = program(alloc, var(0), Line::Accepted, &[])?;
     let checked = loccheck(alloc, core)?;
     assert_eq!(rt; checked.core().functions().len(), 2);
     Ok(())
@@ -470,7 +533,7 @@ fn accepts_a_core_that_breaks_no_rule(rt: HostRuntime) -> Result<(), Fail> {
 #[test]
 fn accepts_a_line_of_many_bindings(rt: HostRuntime) -> Result<(), Fail> {
     let alloc = rt.alloc();
-    let core = program(alloc, var(0), 13)?;
+    let core = program(alloc, var(0), Line::LongLine, &[])?;
     let checked = loccheck(alloc, core)?;
     assert_eq!(rt; checked.core().functions().len(), 2);
     Ok(())
@@ -479,25 +542,25 @@ fn accepts_a_line_of_many_bindings(rt: HostRuntime) -> Result<(), Fail> {
 #[test]
 fn names_the_first_broken_rule_and_its_term(rt: HostRuntime) -> Result<(), Fail> {
     let alloc = rt.alloc();
-    let cases: [(u32, u8, u64); 13] = [
-        (1, 1, 5),
-        (2, 2, 4),
-        (3, 3, 4),
-        (4, 4, 6),
-        (5, 5, 9),
-        (6, 6, 5),
-        (7, 7, 4),
-        (8, 8, 6),
-        (9, 8, 5),
-        (10, 8, 6),
-        (11, 9, 4),
-        (12, 9, 6),
-        (14, 8, 4),
+    let cases: [(Line, u8, u64); 13] = [
+        (Line::TwoHeads, 1, 5),
+        (Line::NoRoom, 2, 4),
+        (Line::ScalarRegion, 3, 4),
+        (Line::OtherSide, 4, 6),
+        (Line::FieldsSwapped, 5, 9),
+        (Line::PointInHead, 6, 5),
+        (Line::ArmsSwapped, 7, 4),
+        (Line::ReachBehindCase, 8, 6),
+        (Line::HeadAsValue, 8, 5),
+        (Line::BoundTwice, 8, 6),
+        (Line::NotReached, 8, 4),
+        (Line::PackedOperand, 9, 4),
+        (Line::CallBehindPrim, 9, 6),
     ];
-    for (number, rule, term) in cases {
-        let core = program(alloc, var(0), number)?;
+    for (line, rule, term) in cases {
+        let core = program(alloc, var(0), line, &[])?;
         match loccheck(alloc, core) {
-            Ok(_) => assert!(rt; false, "line {number} was accepted"),
+            Ok(_) => assert!(rt; false, "{line:?} was accepted"),
             Err(fault) => assert_eq!(rt; fault, LocFault::Rule(rule, term)),
         }
     }
@@ -505,9 +568,23 @@ fn names_the_first_broken_rule_and_its_term(rt: HostRuntime) -> Result<(), Fail>
 }
 
 #[test]
+fn reaches_by_the_offsets_that_heads_store(rt: HostRuntime) -> Result<(), Fail> {
+    let alloc = rt.alloc();
+    let stored = program(alloc, var(0), Line::ReachByOffset, &[NODE])?;
+    let checked = loccheck(alloc, stored)?;
+    assert_eq!(rt; checked.core().functions().len(), 2);
+    let missing = program(alloc, var(0), Line::ReachByOffset, &[LEAF])?;
+    match loccheck(alloc, missing) {
+        Ok(_) => assert!(rt; false, "an offset was read that no head stores"),
+        Err(fault) => assert_eq!(rt; fault, LocFault::Rule(8, 4)),
+    }
+    Ok(())
+}
+
+#[test]
 fn an_earlier_function_counts_first(rt: HostRuntime) -> Result<(), Fail> {
     let alloc = rt.alloc();
-    let core = program(alloc, Atom::literal(0), 1)?;
+    let core = program(alloc, Atom::literal(0), Line::TwoHeads, &[])?;
     match loccheck(alloc, core) {
         Ok(_) => assert!(rt; false, "a number was accepted as a tree"),
         Err(fault) => assert_eq!(rt; fault, LocFault::Rule(9, 0)),

@@ -1,13 +1,13 @@
 //! The walk over the terms of one body, in the order of the text.
 
-ghost use Rattle.std.specs.Prelude.{◌<◌, length, false, IfOk, IfErr};
+ghost use Rattle.std.specs.Prelude.{◌<◌, length, false, Some, IfOk, IfErr};
 ghost use Rattle.std.specs.List.{AllByRecursion};
 ghost use Rattle.gib_core.specs.Tree.{CaseTerm, IfTerm, One, Both};
-ghost use Rattle.gib_core.specs.Arena.{Opens, IsBindingBelow, IsBranchBelow, term_of, side_from, bind_from, branches_from};
+ghost use Rattle.gib_core.specs.Arena.{Opens, IsEnd, IsBindingBelow, IsBranchBelow, layer, term_of, side_from, bind_from, branches_from};
 ghost use Rattle.gib_core.specs.Parts.{core_of};
 ghost use Rattle.gib_core.specs.Met.{met, met_bind, met_side, met_branches, behind, in_arm};
 ghost use Rattle.gib_loccheck.specs.Views.{setting_of};
-ghost use Rattle.gib_loccheck.specs.Judging.{IsEnd, Passes, Blames, Kept, Binds, with_other};
+ghost use Rattle.gib_loccheck.specs.Judging.{Passes, Blames, Kept, Binds, with_other};
 
 use crate::bindings::{
     add_other, behind_field, not_whole, open_arm, open_head, operate, reach_field, stand,
@@ -68,14 +68,13 @@ fn end(
 ) -> Result<(), LocFault>
     requires inside { id.0 < length core.now.terms }
     requires node { Opens core.now.terms id.0 node.now }
-    requires end { IsEnd node.now }
+    requires end { IsEnd (layer (term_of core.now.terms) (Some node.now)) }
     ensures passes { IfOk result (λ _. Passes (core_of core.now) walk.old walk.new (met core.now.table (setting_of walk.old target.now) (term_of core.now.terms id.0))) }
     ensures kept { IfOk result (λ _. Kept walk.old walk.new) }
     ensures broken { IfErr result (Blames (core_of core.now) walk.old (met core.now.table (setting_of walk.old target.now) (term_of core.now.terms id.0))) }
 {
     match node {
-        // Excluded: this is no binding.
-        Node::Then(_, _) => Err(LocFault::Memory),
+        Node::Then(_, _) => unreachable!(),
         Node::Write {
             head,
             constructor,

@@ -1,7 +1,7 @@
 use Rattle.std.proofs.Common.{subst, sym, rules}
 use Rattle.gib_core.specs.Parts.{Parts, core_of}
 use Rattle.gib_core.specs.Rules.{AreBuilt, first_broken}
-use Rattle.gib_loccheck.proofs.Answering.{memory_alone, memory_or, is_first, never}
+use Rattle.gib_loccheck.proofs.Answering.{memory_alone, memory_or, never}
 use Rattle.gib_loccheck.proofs.loccheck.Goals as goal
 
 pub make-requires : goal.make-requires
@@ -18,10 +18,6 @@ returns-in_err-unbroken-clause-reached c =
     let h = memory_alone c.in_err-unbroken.field-0.0 (first_broken (core_of c.args.core)) c.in_err-unbroken.ensures.broken
     ((c.built_is_unbroken.ensures (core_of c.args.core)).1 (subst AreBuilt (sym e) (c.reaching_makes_built.ensures mode tree reachable))) in
     search rules
-
-pub returns-in_err-unbroken-clause-exact : goal.returns-in_err-unbroken-clause-exact
-returns-in_err-unbroken-clause-exact c =
-    let h = is_first (core_of c.args.core) c.in_err-unbroken.field-0.0 c.in_err-unbroken.ensures.broken in search rules
 
 pub returns-in_err-unbroken-clause-told : goal.returns-in_err-unbroken-clause-told
 returns-in_err-unbroken-clause-told c =

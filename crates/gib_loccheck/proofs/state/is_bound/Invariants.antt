@@ -1,6 +1,0 @@
-use Rattle.std.proofs.Common.{◌≡◌, take, reverse}
-use Rattle.gib_core.specs.Rules.{is_bound}
-use Rattle.gib_loccheck.proofs.state.is_bound.Given as goal
-
-abbrev pub invariant-loop-one : goal.invariant-loop-one
-invariant-loop-one l = l.found ≡ is_bound (reverse (take l.one-index l.bound)) l.variable
