@@ -15,6 +15,7 @@ pub record Open : Type 0 where
   pub memory : Memory
   pub at : ℕ
 
+-- Where an open region's cursor is, with the chunks that are drawn.
 abbrev pub spot_of : Open → Spot
 spot_of r = record { at = r.at; drawn = r.memory.drawn }
 

@@ -61,5 +61,6 @@ pub record Found (laid : LaidOut) (s : Store) (t : ℕ) (v : Datum) (z : ℕ) (w
   pub value : Dec laid s head t v end
   pub left : (names : List (List ℕ)) (rest : List ℕ) → Left laid names s work z rest → Left laid names s new_work end rest
 
+-- Whichever value stands at a place, a head of it was found here.
 abbrev pub Finds : LaidOut → Store → ℕ → List Work → List Work → ℕ → Type 0
 Finds laid s at work new_work head = (t : ℕ) (v : Datum) (z : ℕ) → Dec laid s at t v z → Found laid s t v z work new_work head
