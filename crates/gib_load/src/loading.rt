@@ -29,7 +29,7 @@ pub enum LoadFault {
 
 /// Places the heads of a payload one after another, from the cursor on.
 fn place_heads<M: Mem>(
-    layouts: &Layouts<'_>,
+    layouts: &Layouts,
     payload: &[u8],
     cursor: &mut Cursor,
     mem: &mut M,
@@ -58,7 +58,7 @@ fn place_heads<M: Mem>(
 
 /// Places a constructor's value in a region of its own, and answers where it stands.
 fn place_tree<M: Mem>(
-    layouts: &Layouts<'_>,
+    layouts: &Layouts,
     payload: &[u8],
     mem: &mut M,
     tails: &mut Tails,
@@ -103,7 +103,7 @@ fn truth_of(payload: &[u8]) -> bool
 
 /// Places a value: a scalar is its own root.
 fn place_value<M: Mem>(
-    layouts: &Layouts<'_>,
+    layouts: &Layouts,
     ty: Ty,
     payload: &[u8],
     mem: &mut M,
@@ -135,7 +135,7 @@ fn place_value<M: Mem>(
 /// `Full` exactly where all chunks are drawn and the next head needs one. The memory then holds the heads that were
 /// placed before, and their redirects, and no other byte.
 pub fn load<M: Mem>(
-    layouts: &Layouts<'_>,
+    layouts: &Layouts,
     survey: Survey<'_>,
     mem: &mut M,
     tails: &mut Tails,

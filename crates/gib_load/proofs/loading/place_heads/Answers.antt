@@ -17,9 +17,6 @@ heads-init g c = record {
   going = λ t v p. first_going c.args.layouts.now (record { memory = g.M.Mem.view c.args.mem.now; at = c.args.cursor.now.at }) t v c.args.payload.now p;
 }
 
-pub layout-head-requires : goal.layout-head-requires
-layout-head-requires g c = known _ c.requires.plain _ c.heads.at c.heads-test.true _ _ _ (c.heads.invariant.going _ _ c.requires.packed.2)
-
 pub returns-in-Err-clause-full : goal.returns-in-Err-clause-full
 returns-in-Err-clause-full g c = λ t v p.
     stuck _ c.requires.plain _ c.heads.at c.heads-test.true _ _ _ (c.heads.invariant.going t v p) c.layout-head.result.head (ap (λ l. l.head) c.layout-head.ensures) (g.M.Mem.view c.reserve.new.mem) c.in-Err.ensures.room (full_same _ _ c.heads.invariant.alone c.in-Err.ensures.full) (full_all _ _ c.in-Err.ensures.full)

@@ -64,12 +64,6 @@ walk-preserved-then-tag-2 g c = record {
       (passed _ _ _ _ _ _ w c.walk-test.true tag).goes;
 }
 
-pub layout-layout-requires : goal.layout-layout-requires
-layout-layout-requires g c =
-    let w = c.walk.invariant.goes _ _ _ c.requires.3 in
-    let tag = sym (ap (λ (m : Memory). m.cells c.walk.place) c.walk.invariant.same) ∙ c.get-tag.ensures.value in
-    (entered _ _ _ _ _ _ w c.walk-test.true _ tag c.if-tag.false c.if-tag-2.false).0
-
 pub walk-smaller : goal.walk-smaller
 walk-smaller g c =
     let w = c.walk.invariant.goes _ _ _ c.requires.3 in
