@@ -36,9 +36,6 @@ returns-in_default-con_of c =
     let long = enough _ _ _ _ _ _ _ _ c.in-Some.ensures.items c.loop-next.invariant.same (ty.Tree c.in-Tree.of) c.in-Tree.is (omega (arith, c.least.ensures, c.if-payload-at.false)) in
     tree_none _ _ _ _ _ _ _ _ c.in-Some.ensures.items c.loop-next.invariant.same c.in-Tree.of c.in-Tree.is (omega arith) c.in_default-con_of.ensures
 
-pub fields-requires : goal.fields-requires
-fields-requires c = con_at_within c.args.types.now _ _ _ c.in-Some-con_of.ensures
-
 pub loop-next-preserved : goal.loop-next-preserved
 loop-next-preserved c =
     let long = enough _ _ _ _ _ _ _ _ c.in-Some.ensures.items c.loop-next.invariant.same (ty.Tree c.in-Tree.of) c.in-Tree.is (omega (arith, c.least.ensures, c.if-payload-at.false)) in
