@@ -6,7 +6,7 @@ ghost use Rattle.gib_types.specs.declared.table.Ty.TheVariants.{Tree, Whole as W
 ghost use Rattle.gib_types.specs.Tree.{Datum};
 ghost use Rattle.gib_file.specs.Packed.{Packed, number, bit};
 ghost use Rattle.gib_load.specs.Holding.{Holding};
-ghost use Rattle.gib_region.specs.Region.{Behind, rest, AreOwned};
+ghost use Rattle.gib_region.specs.Region.{Behind};
 ghost use Rattle.gib_load.specs.Preorder.{heads};
 ghost use Rattle.gib_load.specs.Placement.{Open, place_heads as heads_placed, placed_in, begun, finished_at};
 ghost use Rattle.gib_load.specs.Refusal.{Stuck, Refused, Spent};
@@ -38,7 +38,6 @@ fn place_heads<M: Mem>(
     requires plain { layouts.now.with_offsets ≡ [] }
     requires alone { (M.view mem.old).alone ≡ true }
     requires owned { Behind (M.view mem.old).cells cursor.old.at }
-    requires redirect { 9 ≤ rest cursor.old.at }
     ensures placed { OnOk result ((t : _) (v : Datum) → Packed layouts.now.table (Tree t) v payload.now → record { memory = M.view mem.new; at = cursor.new.at } ≡ heads_placed layouts.now (record { memory = M.view mem.old; at = cursor.old.at }) (heads v)) }
     ensures owned { OnOk result (Behind (M.view mem.new).cells cursor.new.at) }
     ensures full { OnErr result ((t : _) (v : Datum) → Packed layouts.now.table (Tree t) v payload.now → Stuck layouts.now (record { memory = M.view mem.old; at = cursor.old.at }) (heads v) (M.view mem.new)) }

@@ -11,7 +11,7 @@ use Rattle.gib_packed.proofs.read.skip.Goals as goal
 pub walk-init : goal.walk-init
 walk-init g c = record {
   same = refl;
-  goes = λ t v z d. Dec-goes c.heads.ensures.packed (known_below (g.M.Mem.view c.args.mem.now) (g.met.M.Mem.bounded c.args.mem.now) (g.met.M.Mem.small c.args.mem.now)) d;
+  goes = λ t v z d. Dec-goes c.heads.ensures.packed (known_below (g.M.Mem.view c.args.mem.now) (g.met.M.Mem.bounded c.args.mem.now)) d;
 }
 
 pub get-tag-requires : goal.get-tag-requires
