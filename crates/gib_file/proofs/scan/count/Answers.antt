@@ -33,9 +33,6 @@ returns-then-at-payload-2 c = tree_short _ _ _ _ _ _ _ _ c.in-Some.ensures.items
 pub returns-in_default-con_of : goal.returns-in_default-con_of
 returns-in_default-con_of c = tree_none _ _ _ _ _ _ _ _ c.in-Some.ensures.items c.loop-next.invariant.same c.in-Tree.of c.in-Tree.is (omega arith) c.in_default-con_of.ensures
 
-pub fields-requires : goal.fields-requires
-fields-requires c = con_at_within c.args.types.now _ _ _ c.in-Some-con_of.ensures
-
 pub loop-next-preserved : goal.loop-next-preserved
 loop-next-preserved c = record {
   within = omega arith;
