@@ -26,3 +26,8 @@ pub mod Bills
 pub mod Memories
 pub mod Example
 pub mod Roots
+pub mod Shares
+pub mod Weaves
+pub mod Events
+pub mod Progress
+pub mod Picks

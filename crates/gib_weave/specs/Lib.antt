@@ -3,3 +3,4 @@ pub mod Tight
 pub mod Sound
 pub mod Root
 pub mod Example
+pub mod Weave
