@@ -7,11 +7,12 @@ use Rattle.gib_types.specs.Tree.{Datum, constructors}
 use Rattle.gib_mem.specs.Memory.{Memory, after_draw}
 use Rattle.gib_region.specs.Region.{Draws, IsFull}
 use Rattle.gib_core.specs.Tree.{CoreTree}
-use Rattle.gib_region.specs.Count.{Count, Balanced, loaded_count}
+use Rattle.gib_region.specs.Count.{Balanced, loaded_count}
 use Rattle.gib_region.proofs.Counting.{joins}
 use Rattle.gib_weave.specs.Cost.{Cost, plus, body_cost, run_cost}
 use Rattle.gib_weave.specs.Tight.{Tight}
-use Rattle.gib_weave.specs.Sound.{Share, AtMost, done_by, Spends, Bill, Debt, Owed, dues, new_share, with_rest, with_side, with_count, Counted, root_share, whole_of, region_of}
+use Rattle.gib_weave.specs.Owing.{Debt, Owed}
+use Rattle.gib_weave.specs.Paying.{Share, AtMost, done_by, Spends, Bill, dues, new_share, with_rest, with_side, with_count, Counted, root_share, whole_of, region_of}
 use Rattle.gib_weave.proofs.Starts.{root_costs}
 
 -- a value that was loaded leaves the balance

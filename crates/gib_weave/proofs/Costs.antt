@@ -1,19 +1,19 @@
 -- What the rest of a line costs costs what its parts do.
-use Rattle.std.proofs.Common.{◌≡◌, ℕ, suc, ◌+◌, Bool, true, false, cond, List, [], ◌∷◌, Option, Some, map, refl, sym, ap, subst, ◌∙◌, arith}
+use Rattle.std.proofs.Common.{◌≡◌, ℕ, suc, Bool, true, false, cond, List, [], ◌∷◌, Option, Some, map, refl, sym, ap, subst, arith}
 use Rattle.gib_base.specs.declared.name.Name.{Name}
-use Rattle.gib_types.specs.declared.table.Ty.{Ty}
 use Rattle.gib_types.specs.Tree.{Datum}
 use Rattle.gib_syntax.specs.Meaning.{Outcome, Gives, Stops, Environment}
 use Rattle.gib_core.specs.declared.atom.Atom.{Atom}
-use Rattle.gib_core.specs.declared.atom.Kind.{Kind}
 use Rattle.gib_core.specs.declared.atom.Kind.TheVariants.{Here, Region, Scalar}
 use Rattle.gib_core.specs.declared.atom.Variable.{Variable}
 use Rattle.gib_core.specs.Tree.{Term, Then, CallTerm, One, Both, Side, On, variable_of, variables_from, FunctionTerm, CoreTree}
-use Rattle.gib_core.specs.Meaning.{core_calls, value, bind, having, Went, from_there, function_at, of_function}
+use Rattle.gib_core.specs.Meaning.{core_calls, value, bind, having, Went, from_there, function_at}
 use Rattle.gib_core.specs.Reaching.{side_uses}
-use Rattle.gib_weave.specs.Cost.{Cost, nothing, one_item, plus, own, own_of_right, cost_from, cost_of_function, call_costs}
+use Rattle.gib_weave.specs.Cost.{Cost, nothing, one_item, plus, own, cost_from, cost_of_function, call_costs}
 use Rattle.gib_machine.specs.Machine.{Par}
-use Rattle.gib_weave.specs.Sound.{Rest, Plain, Part, Meet, Leave, Kont, AtMost, cost_after, rest_costs, later_costs, left_costs, means, side_gives, costs, side_costs, task_costs, own_region, kind_link, kind_region, link}
+use Rattle.gib_weave.specs.Continuing.{Plain, Part, Meet}
+use Rattle.gib_weave.specs.Owing.{means, side_gives, costs, side_costs, task_costs, own_region, link}
+use Rattle.gib_weave.specs.Paying.{AtMost, cost_after, rest_costs}
 use Rattle.gib_weave.proofs.Uses.{side_same, cost_side_same, but_new}
 
 -- a binding alone

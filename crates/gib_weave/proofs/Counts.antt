@@ -2,10 +2,10 @@
 use Rattle.std.proofs.Common.{◌≡◌, ℕ, ◌+◌, ◌*◌, ◌≤◌, List, [], ◌∷◌, map, refl, sym, ap, subst, ◌∙◌, arith}
 use Rattle.gib_region.specs.Region.{HasRoom}
 use Rattle.gib_machine.specs.Machine.{Open as OpenRegion}
-use Rattle.gib_region.specs.Count.{Open as Cursor, Count, Balanced, IsInnermost, joined, advance_first, turn_first, close_first, after_item, after_turn, after_tail, after_chunk, after_finish}
+use Rattle.gib_region.specs.Count.{Open as Cursor, Count, Balanced, IsInnermost, advance_first, turn_first, close_first, after_item, after_turn, after_tail, after_chunk, after_finish}
 use Rattle.gib_region.proofs.Counting.{tail_begun, chunk_begun, turns, places, finishes, joins}
 use Rattle.gib_weave.specs.Cost.{Cost, nothing, one_item, one_region, plus}
-use Rattle.gib_weave.specs.Sound.{Share, AtMost, Counted, Spends, with_count}
+use Rattle.gib_weave.specs.Paying.{Share, AtMost, Counted, Spends, with_count}
 
 abbrev pub cursors : List Cursor → List ℕ
 cursors os = map (λ (o : Cursor). o.at) os

@@ -15,7 +15,11 @@ use Rattle.gib_region.specs.Count.{Balanced}
 use Rattle.gib_region.proofs.Counting.{joins as count_joins}
 use Rattle.gib_weave.specs.Cost.{Cost, nothing, plus}
 use Rattle.gib_weave.proofs.Shares.{total_same, total_one, total_two}
-use Rattle.gib_weave.specs.Sound.{Share, Spends, Leads, new_share, with_rest, with_side, with_count, Owned, Owed, Debt, with_chunk, IsNew, IsSmall, Safe, SideSafe, IsAnswer, After, Forks, Meets, Others, AreBodies}
+use Rattle.gib_weave.specs.Owing.{Owed, Debt}
+use Rattle.gib_weave.specs.Paying.{Share, Spends, new_share, with_rest, with_side, with_count}
+use Rattle.gib_weave.specs.Places.{Owned, with_chunk, IsNew, IsSmall}
+use Rattle.gib_weave.specs.Sound.{Leads, SideSafe, IsAnswer, After, Forks, Meets, Others}
+use Rattle.gib_weave.specs.Starting.{AreBodies}
 use Rattle.gib_weave.specs.Weave as ev
 use Rattle.gib_weave.specs.Weave.{Status, Waits, Runs, Stage, Running, Finished, Joined, Task, Weave, Event, no_task, task, moved, with_sides, NoneWaits, Stolen, oldest, older, IsOn, Next, Family, IsThere, OneSide, AllSides, SoundAs, IsSound, Sound, Shared, waiting_costs, bill_of, bill_at, total}
 use Rattle.gib_weave.proofs.Basics.{by_test, put-same, put-other}

@@ -13,7 +13,10 @@ use Rattle.gib_core.specs.Fits.{put}
 use Rattle.gib_region.specs.Count.{Balanced}
 use Rattle.gib_weave.specs.Cost.{Cost}
 use Rattle.gib_weave.proofs.Shares.{total_one}
-use Rattle.gib_weave.specs.Sound.{Share, AtMost, counts, Owned, Owed, Debt, with_chunk, Safe, rests, moves, Moves, silent, get, puts, draws, ended, at_term, unwinds, over, SideSafe, Others}
+use Rattle.gib_weave.specs.Owing.{Owed, Debt}
+use Rattle.gib_weave.specs.Paying.{Share, AtMost}
+use Rattle.gib_weave.specs.Places.{Owned, with_chunk}
+use Rattle.gib_weave.specs.Sound.{counts, Safe, rests, moves, Moves, silent, get, puts, draws, ended, at_term, unwinds, over, SideSafe, Others}
 use Rattle.gib_weave.specs.Weave.{Status, Waits, Runs, Stage, Running, Finished, Joined, Task, Weave, no_task, task, Family, IsThere, AllSides, SoundAs, IsSound, Sound, Shared, bill_of, bill_at, total}
 use Rattle.gib_weave.proofs.Basics.{by_test, put-same, put-other}
 use Rattle.gib_weave.proofs.Ends.{widen}
