@@ -13,7 +13,7 @@ use gib_base::Names;
 use gib_edge::outside::{Sink, put_all};
 use gib_mem::Mem;
 use gib_packed::Root;
-use gib_types::Layouts;
+use gib_types::{Layouts, TypeTable};
 use std::alloc::Global;
 
 /// Puts the text of the value that stands for a root, and a line feed, by `put_all`. All memory is taken before the
@@ -25,21 +25,23 @@ use std::alloc::Global;
 pub fn print_at<M: Mem, O: Sink>(
     alloc: Global,
     mem: &mut M,
+    _types: &TypeTable,
     names: &Names,
     layouts: &Layouts,
     root: Root,
     sink: &mut O,
 ) -> Result<(), PrintFault>
+    requires types { _types.now ≡ layouts.now.table }
     requires names { AreHeld layouts.now.table names.now }
     requires stands { (ty : Type_of) × (v : Datum) × Stands layouts.now (M.view mem.old).cells root ty v }
     ensures done { (ty : Type_of) (v : Datum) → Stands layouts.now (M.view mem.old).cells root ty v
-        → OnOk result (Appends (O.taken sink.old) (O.taken sink.new) (text layouts.now.table names.now v ++ 10 ∷ [])) }
+        → OnOk result (Appends (O.view sink.old).taken (O.view sink.new).taken (text layouts.now.table names.now v ++ 10 ∷ [])) }
     ensures part { (ty : Type_of) (v : Datum) → Stands layouts.now (M.view mem.old).cells root ty v
-        → IsErrOf result PrintFault.Write → AppendsPart (O.taken sink.old) (O.taken sink.new) (text layouts.now.table names.now v ++ 10 ∷ []) }
-    ensures cause { IsErrOf result PrintFault.Write → Rose (O.faults sink.old) (O.faults sink.new) }
-    ensures later { O.faults sink.old ≤ O.faults sink.new }
-    ensures quiet { (IsErrOf result PrintFault.Write → ⊥) → O.faults sink.new ≡ O.faults sink.old }
-    ensures silent { IsErrOf result PrintFault.Memory → O.taken sink.new ≡ O.taken sink.old }
+        → IsErrOf result PrintFault.Write → AppendsPart (O.view sink.old).taken (O.view sink.new).taken (text layouts.now.table names.now v ++ 10 ∷ []) }
+    ensures cause { IsErrOf result PrintFault.Write → Rose (O.view sink.old).faults (O.view sink.new).faults }
+    ensures later { (O.view sink.old).faults ≤ (O.view sink.new).faults }
+    ensures quiet { (IsErrOf result PrintFault.Write → ⊥) → (O.view sink.new).faults ≡ (O.view sink.old).faults }
+    ensures silent { IsErrOf result PrintFault.Memory → (O.view sink.new).taken ≡ (O.view sink.old).taken }
     ensures same { M.view mem.new ≡ M.view mem.old }
 {
     let line = line_of(alloc, mem, names, layouts, root)?;
