@@ -6,7 +6,7 @@ ghost use Rattle.gib_types.specs.declared.table.Ty.TheVariants.{Tree, Whole as W
 ghost use Rattle.gib_types.specs.Tree.{Datum};
 ghost use Rattle.gib_file.specs.Packed.{Packed, number, bit};
 ghost use Rattle.gib_load.specs.Holding.{Holding};
-ghost use Rattle.gib_region.specs.Region.{Behind, rest, AreOwned};
+ghost use Rattle.gib_region.specs.Region.{Behind};
 ghost use Rattle.gib_load.specs.Preorder.{heads};
 ghost use Rattle.gib_load.specs.Placement.{Open, place_heads as heads_placed, placed_in, begun, finished_at};
 ghost use Rattle.gib_load.specs.Refusal.{Stuck, Refused, Spent};
@@ -29,7 +29,7 @@ pub enum LoadFault {
 
 /// Places the heads of a payload one after another, from the cursor on.
 fn place_heads<M: Mem>(
-    layouts: &Layouts<'_>,
+    layouts: &Layouts,
     payload: &[u8],
     cursor: &mut Cursor,
     mem: &mut M,
@@ -38,7 +38,6 @@ fn place_heads<M: Mem>(
     requires plain { layouts.now.with_offsets ≡ [] }
     requires alone { (M.view mem.old).alone ≡ true }
     requires owned { Behind (M.view mem.old).cells cursor.old.at }
-    requires redirect { 9 ≤ rest cursor.old.at }
     ensures placed { OnOk result ((t : _) (v : Datum) → Packed layouts.now.table (Tree t) v payload.now → record { memory = M.view mem.new; at = cursor.new.at } ≡ heads_placed layouts.now (record { memory = M.view mem.old; at = cursor.old.at }) (heads v)) }
     ensures owned { OnOk result (Behind (M.view mem.new).cells cursor.new.at) }
     ensures full { OnErr result ((t : _) (v : Datum) → Packed layouts.now.table (Tree t) v payload.now → Stuck layouts.now (record { memory = M.view mem.old; at = cursor.old.at }) (heads v) (M.view mem.new)) }
@@ -59,7 +58,7 @@ fn place_heads<M: Mem>(
 
 /// Places a constructor's value in a region of its own, and answers where it stands.
 fn place_tree<M: Mem>(
-    layouts: &Layouts<'_>,
+    layouts: &Layouts,
     payload: &[u8],
     mem: &mut M,
     tails: &mut Tails,
@@ -104,7 +103,7 @@ fn truth_of(payload: &[u8]) -> bool
 
 /// Places a value: a scalar is its own root.
 fn place_value<M: Mem>(
-    layouts: &Layouts<'_>,
+    layouts: &Layouts,
     ty: Ty,
     payload: &[u8],
     mem: &mut M,
@@ -136,7 +135,7 @@ fn place_value<M: Mem>(
 /// `Full` exactly where all chunks are drawn and the next head needs one. The memory then holds the heads that were
 /// placed before, and their redirects, and no other byte.
 pub fn load<M: Mem>(
-    layouts: &Layouts<'_>,
+    layouts: &Layouts,
     survey: Survey<'_>,
     mem: &mut M,
     tails: &mut Tails,

@@ -3,7 +3,7 @@ use Rattle.std.proofs.Common.{◌≡◌, ℕ, zero, suc, ◌+◌, ◌*◌, ◌-�
 use Rattle.std.specs.Int.{w64, from_le_bytes}
 use Rattle.std.proofs.lemmas.Nat.{from_le_bytes-to_le_bytes_8}
 use Rattle.std.proofs.lemmas.Bool.Decides.{leb_tells, nat_tests}
-use Rattle.gib_mem.specs.Memory.{Memory, absent, Store, Cell, Holds, byte, look_of, none, more}
+use Rattle.gib_mem.specs.Memory.{Memory, IsBounded, Store, Cell, Holds, byte, look_of, none, more}
 use Rattle.gib_types.specs.Layout.{LaidOut}
 use Rattle.gib_packed.specs.Head.{address}
 use Rattle.gib_packed.specs.Decoding.{Points, Dec}
@@ -187,10 +187,10 @@ pub ended : (laid : LaidOut) (s : Store) (bound a left z : ℕ) → Goes laid s 
 ended laid s bound a left z w empty = go_end (subst (λ (x : ℕ). Walk laid s (7 * bound) w.walks.count a x z) empty w.walks.walk)
 
 -- what a memory knows stands below 2 ^ 44
-pub known_below : (m : Memory) → ((q : ℕ) → 4096 * m.drawn ≤ q → m.cells q ≡ absent) → (m.drawn ≤ m.limit) × (m.limit < 2 ^ 32) → Below m.cells (2 ^ 44)
-known_below m absent_above small = record {
+pub known_below : (m : Memory) → IsBounded m → Below m.cells (2 ^ 44)
+known_below m bounded = record {
   below = λ q b e. elim (leb_tells (2 ^ 44) q) [
-    | inl high ↦ (let none_there = absent_above q (omega (arith, high.1)) in absurd cc)
+    | inl high ↦ (let none_there = bounded.above q (omega (arith, high.1, bounded.order, bounded.small)) in absurd cc)
     | inr low ↦ low.1
   ];
 }

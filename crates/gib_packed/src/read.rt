@@ -10,17 +10,8 @@ ghost use Rattle.gib_packed.specs.Head.{address};
 ghost use Rattle.gib_packed.specs.Decoding.{Dec, Decodes};
 ghost use Rattle.gib_packed.specs.Reaching.{Leads, Redirects};
 
-use gib_mem::Mem;
+use gib_mem::{INDIRECTION, Mem, POINTER_BYTES, REDIRECT};
 use gib_types::{ConId, Layouts};
-
-/// The tag of a redirect: the value that is due here stands at the address behind it.
-pub const REDIRECT: u8 = 255;
-
-/// The tag of an indirection: the value stands at the address behind it, and ends here with that address.
-pub const INDIRECTION: u8 = 254;
-
-/// The bytes of an indirection, and of a redirect: the tag and an address.
-pub const POINTER_BYTES: u64 = 9;
 
 /// The address that stands in eight bytes, the lowest first.
 pub fn word_at<M: Mem>(mem: &mut M, at: u64) -> u64

@@ -1,6 +1,8 @@
 //! The declared types of a program, and the values of these types.
 #![tactic(auto)]
 
+mod copy;
+pub mod law;
 pub mod layouts;
 pub mod table;
 

@@ -14,13 +14,13 @@ points {s = s} {a = a} {b = b} e p = subst (λ (x : ℕ). Points s a x b) e p
 
 pub get-tag-requires : goal.get-tag-requires
 get-tag-requires g c =
-    Reaches-known (Dec-reaches (known_below (g.M.Mem.view c.args.mem.now) (g.met.M.Mem.bounded c.args.mem.now) (g.met.M.Mem.small c.args.mem.now)) c.requires.1.3)
+    Reaches-known (Dec-reaches (known_below (g.M.Mem.view c.args.mem.now) (g.met.M.Mem.bounded c.args.mem.now)) c.requires.1.3)
 
 pub redirects-init : goal.redirects-init
 redirects-init g c = record {
   same = c.get-tag.ensures.same;
   tagged = c.get-tag.ensures.value;
-  reaches = Dec-reaches (known_below (g.M.Mem.view c.args.mem.now) (g.met.M.Mem.bounded c.args.mem.now) (g.met.M.Mem.small c.args.mem.now)) c.requires.1.3;
+  reaches = Dec-reaches (known_below (g.M.Mem.view c.args.mem.now) (g.met.M.Mem.bounded c.args.mem.now)) c.requires.1.3;
   leads = λ h l. l;
   stands = λ laid t v z d. d;
 }

@@ -11,7 +11,7 @@ use Rattle.gib_packed.proofs.read.skip.Goals as goal
 pub walk-init : goal.walk-init
 walk-init g c = record {
   same = refl;
-  goes = λ t v z d. Dec-goes c.heads.ensures.packed (known_below (g.M.Mem.view c.args.mem.now) (g.met.M.Mem.bounded c.args.mem.now) (g.met.M.Mem.small c.args.mem.now)) d;
+  goes = λ t v z d. Dec-goes c.heads.ensures.packed (known_below (g.M.Mem.view c.args.mem.now) (g.met.M.Mem.bounded c.args.mem.now)) d;
 }
 
 pub get-tag-requires : goal.get-tag-requires
@@ -63,12 +63,6 @@ walk-preserved-then-tag-2 g c = record {
       let tag = sym (ap (λ (m : Memory). m.cells c.walk.place) c.walk.invariant.same) ∙ c.get-tag.ensures.value ∙ ap byte c.if-tag-2.true in
       (passed _ _ _ _ _ _ w c.walk-test.true tag).goes;
 }
-
-pub layout-layout-requires : goal.layout-layout-requires
-layout-layout-requires g c =
-    let w = c.walk.invariant.goes _ _ _ c.requires.3 in
-    let tag = sym (ap (λ (m : Memory). m.cells c.walk.place) c.walk.invariant.same) ∙ c.get-tag.ensures.value in
-    (entered _ _ _ _ _ _ w c.walk-test.true _ tag c.if-tag.false c.if-tag-2.false).0
 
 pub walk-smaller : goal.walk-smaller
 walk-smaller g c =

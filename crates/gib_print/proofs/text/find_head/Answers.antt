@@ -18,7 +18,7 @@ pub overflow_add-place : goal.overflow_add-place
 overflow_add-place g c =
     let d = c.pass_redirects-place.ensures.value _ _ _ _ c.requires.3 in
     let known = Dec-known d in
-    let below = (known_below (g.M.Mem.view c.args.mem.now) (g.met.M.Mem.bounded c.args.mem.now) (g.met.M.Mem.small c.args.mem.now)).below c.pass_redirects-place.result known.0 known.1 in
+    let below = (known_below (g.M.Mem.view c.args.mem.now) (g.met.M.Mem.bounded c.args.mem.now)).below c.pass_redirects-place.result known.0 known.1 in
     omega (arith, below)
 
 pub returns-clause-found : goal.returns-clause-found

@@ -2,7 +2,7 @@ use Rattle.std.proofs.Common.{subst}
 use Rattle.gib_types.specs.Table.{fields_at, IsTable}
 use Rattle.gib_types.specs.Layout.{is_among, LaidOut}
 use Rattle.gib_types.proofs.LayoutLemmas.{few_fields, head_long, packed_few}
-use Rattle.gib_types.proofs.layouts.Layouts.heads.Goals as goal
+use Rattle.gib_types.proofs.layouts.Layouts.rules.Goals as goal
 
 pub returns-clause-long : goal.returns-clause-long
 returns-clause-long c = λ con.
