@@ -32,3 +32,4 @@ pub mod Events
 pub mod Progress
 pub mod Picks
 pub mod Row
+pub mod Fine
