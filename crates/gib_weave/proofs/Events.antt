@@ -38,14 +38,14 @@ byte_absent e = absurd cc
 same_others : (own : Owned) (s : Store) → IsSmall s → Others own s s
 same_others own s m = record { grows = record { kept = λ q b h. h }; mine = λ q h. refl; drawn = λ q h. h; small = m }
 
-bounded_put : (v : Memory) (a b : ℕ) → v.cells a ≡ fresh → IsBounded v → IsBounded (after_put v a b)
+pub bounded_put : (v : Memory) (a b : ℕ) → v.cells a ≡ fresh → IsBounded v → IsBounded (after_put v a b)
 bounded_put v a b f bd = record {
   above = λ q h. by_test q a (λ t. cond t (byte b) (v.cells q) ≡ absent) (λ e. absurd (fresh_absent (sym f ∙ ap v.cells (sym e) ∙ bd.above q h))) (λ e. bd.above q h);
   order = bd.order;
   small = bd.small;
 }
 
-bounded_draw : (v : Memory) (c : ℕ) → Draws v c → IsBounded v → IsBounded (after_draw v c)
+pub bounded_draw : (v : Memory) (c : ℕ) → Draws v c → IsBounded v → IsBounded (after_draw v c)
 bounded_draw v c dr bd = record {
   above = λ q h. above q h (zero_or_one (4096 * c) 4096 q);
   order = let i = dr.within in omega (arith, i);

@@ -11,3 +11,4 @@ pub mod Starting
 pub mod Root
 pub mod Example
 pub mod Weave
+pub mod Calling
