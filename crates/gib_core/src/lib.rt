@@ -4,9 +4,12 @@
 pub mod atom;
 pub mod checked;
 pub mod copy;
+mod cost_examples;
 pub mod examples;
 pub mod law;
+mod literals;
 mod lowered;
+mod marking;
 pub mod node;
 pub mod piece;
 pub mod print;
