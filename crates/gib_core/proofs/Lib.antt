@@ -3,7 +3,6 @@ mod Lining
 mod Spelling
 pub mod Unbroken
 pub mod Indented
-pub mod Copied
 pub mod Agreeing
 pub mod Envs
 pub mod Erases

@@ -23,7 +23,7 @@ mod work;
 use bodies::{make_functions, make_main};
 use gib_base::Memory;
 use gib_check::Typed;
-use gib_core::{Core, Terms, copy_types};
+use gib_core::{Core, Terms};
 use law::{infer_gives_reachable, infer_keeps_the_meaning, infer_leaves_the_meaning, infer_numbers_variables};
 use std::alloc::Global;
 use work::Work;
@@ -39,7 +39,7 @@ fn make_core(alloc: Global, typed: &Typed) -> Result<Core, Memory>
     };
     let functions = make_functions(alloc, typed, &mut work)?;
     let main = make_main(alloc, typed, &mut work)?;
-    let types = copy_types(alloc, typed.types())?;
+    let types = typed.types().copy(alloc)?;
     let core = Core::new(types, work.terms, functions, main, Vec::new(alloc));
     Ok(core)
 }

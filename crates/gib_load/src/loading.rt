@@ -17,13 +17,17 @@ use gib_mem::Mem;
 use gib_packed::Root;
 use gib_region::{Cursor, Full, Tails, begin, fill, finish, reserve};
 use gib_types::{ConId, Layouts, Ty};
+use std::alloc::Global;
+use thiserror::Error;
 
 /// Why a value is not loaded.
-#[derive(Clone, Copy, Debug, PartialEq, Eq)]
+#[derive(Clone, Copy, Debug, PartialEq, Eq, Error)]
 pub enum LoadFault {
     /// Want of memory.
+    #[error("out of memory")]
     Memory,
     /// All chunks are drawn, and there is no room for the next head.
+    #[error("no chunk is left")]
     Full,
 }
 
@@ -42,7 +46,7 @@ fn place_heads<M: Mem>(
     ensures owned { OnOk result (Behind (M.view mem.new).cells cursor.new.at) }
     ensures full { OnErr result ((t : _) (v : Datum) → Packed layouts.now.table (Tree t) v payload.now → Stuck layouts.now (record { memory = M.view mem.old; at = cursor.old.at }) (heads v) (M.view mem.new)) }
 {
-    layouts.heads();
+    layouts.rules();
     let mut at = 0;
     'heads: while at < payload.len() {
         let head = layouts.layout(ConId(payload[at] as u32)).head;
@@ -133,8 +137,10 @@ fn place_value<M: Mem>(
 /// # Errors
 ///
 /// `Full` exactly where all chunks are drawn and the next head needs one. The memory then holds the heads that were
-/// placed before, and their redirects, and no other byte.
+/// placed before, and their redirects, and no other byte. `Memory`, and nothing was drawn or put; this cannot come where
+/// no constructor has offsets, since then nothing is allocated.
 pub fn load<M: Mem>(
+    _alloc: Global,
     layouts: &Layouts,
     survey: Survey<'_>,
     mem: &mut M,
@@ -151,9 +157,9 @@ pub fn load<M: Mem>(
     ensures spent { IsErrOf result LoadFault.Full → (v : Datum) → Packed layouts.now.table survey.entry.ty v survey.entry.bytes → Spent v (M.view mem.new) }
     ensures none { OnErr result (tails.new ≡ []) }
     ensures memory { IsErrOf result LoadFault.Memory → M.view mem.new ≡ M.view mem.old }
+    ensures ample { layouts.now.with_offsets ≡ [] → IsErrOf result LoadFault.Memory → ⊥ }
 {
-    layouts.heads();
-    layouts.types().rules();
+    layouts.rules();
     match place_value(layouts, survey.ty(), survey.payload(), mem, tails) {
         Ok(root) => Ok(root),
         Err(_) => Err(LoadFault::Full),

@@ -30,7 +30,7 @@ pub fill-requires : goal.fill-requires
 fill-requires g c =
     let going = c.heads.invariant.going _ _ c.requires.packed.2 in
     let n = slice_long _ c.requires.plain _ c.heads.at c.heads-test.true _ _ _ going c.layout-head.result.head (ap (λ l. l.head) c.layout-head.ensures) in
-    let small : c.layout-head.result.head ≤ 65 = subst (λ (k : ℕ). k ≤ 65) (sym (ap (λ l. l.head) c.layout-head.ensures)) (c.heads-2.ensures.long _) in
+    let small : c.layout-head.result.head ≤ 65 = subst (λ (k : ℕ). k ≤ 65) (sym (ap (λ l. l.head) c.layout-head.ensures)) (c.rules.ensures.long _) in
     let left = leaves _ _ _ _ _ (g.met.M.Mem.bounded c.heads.mem) c.heads.invariant.behind c.heads.invariant.nine small c.in-Ok.ensures.placed in
     subst (λ (i : ℕ). Owned (g.M.Mem.view c.reserve.new.mem).cells c.in-Ok.place i) (sym n) left.owned
 
@@ -40,7 +40,7 @@ heads-preserved g c =
     let size = ap (λ l. l.head) c.layout-head.ensures in
     let n = slice_long _ c.requires.plain _ c.heads.at c.heads-test.true _ _ _ going c.layout-head.result.head size in
     let w = fits _ c.requires.plain _ c.heads.at c.heads-test.true _ _ _ going c.layout-head.result.head size in
-    let small : c.layout-head.result.head ≤ 65 = subst (λ (k : ℕ). k ≤ 65) (sym size) (c.heads-2.ensures.long _) in
+    let small : c.layout-head.result.head ≤ 65 = subst (λ (k : ℕ). k ≤ 65) (sym size) (c.rules.ensures.long _) in
     let left = leaves _ _ _ _ _ (g.met.M.Mem.bounded c.heads.mem) c.heads.invariant.behind c.heads.invariant.nine small c.in-Ok.ensures.placed in
     let bytes = take (c.heads.at + c.layout-head.result.head - c.heads.at) (drop c.heads.at c.args.payload.now) in
     let behind = behind_item _ _ _ _ _ bytes left n in
