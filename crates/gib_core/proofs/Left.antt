@@ -6,7 +6,7 @@ use Rattle.gib_types.specs.Table.{Table}
 use Rattle.gib_types.specs.Tree.{Datum}
 use Rattle.gib_syntax.specs.Tree.{DataTree}
 use Rattle.gib_syntax.specs.Declarations.{function_named, table_of_program}
-use Rattle.gib_syntax.specs.Meaning.{Outcome, bind, eval, names_of, of_function as of_source, calls, run}
+use Rattle.gib_syntax.specs.Meaning.{bind, eval, names_of, of_function as of_source, calls, run}
 use Rattle.gib_core.specs.declared.atom.Variable.{Variable}
 use Rattle.gib_core.specs.Tree.{Term, FunctionTerm, CoreTree, variables_from}
 use Rattle.gib_core.specs.Meaning as core

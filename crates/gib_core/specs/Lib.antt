@@ -18,3 +18,4 @@ pub mod LoweredParts
 pub mod Cost
 pub mod Tight
 pub mod CoreText
+pub mod SampleCores

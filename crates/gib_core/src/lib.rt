@@ -13,6 +13,7 @@ pub mod node;
 pub mod piece;
 pub mod print;
 pub mod program;
+mod rule_examples;
 pub mod scope;
 #[cfg(test)]
 mod tests;
