@@ -1,5 +1,5 @@
 -- What a call of the machine's step leaves of a task, by the turn that it answers.
-use Rattle.std.specs.Prelude.{◌≡◌, ℕ, ◌+◌, [], true, Option, Some, None}
+use Rattle.std.specs.Prelude.{◌≡◌, ℕ, suc, ◌<◌, ◌+◌, [], true, Option, Some, None}
 use Rattle.gib_mem.specs.Memory.{Memory, IsBounded}
 use Rattle.gib_region.specs.Region.{IsFull}
 use Rattle.gib_core.specs.Tree.{CoreTree}
@@ -12,8 +12,8 @@ use Rattle.gib_core.specs.Fits.{AllFit}
 use Rattle.gib_core.specs.Meaning.{core_run}
 use Rattle.gib_core.specs.Tight.{Tight}
 use Rattle.gib_core.specs.Low.{IsLowered}
-use Rattle.gib_machine.specs.Machine.{State, widest}
-use Rattle.gib_machine.specs.Stepping.{Runs}
+use Rattle.gib_machine.specs.Machine.{State, next, widest}
+use Rattle.gib_machine.specs.Stepping.{Made, Runs}
 use Rattle.gib_weave.specs.Owing.{Owed}
 use Rattle.gib_weave.specs.Paying.{Share, Spends}
 use Rattle.gib_weave.specs.Places.{Owned}
@@ -39,6 +39,26 @@ Turned core code owed own sh s v s' v' turn.AtFork = (s' ≡ s) × (v' ≡ v) ×
 Turned core code owed own sh s v s' v' turn.AtJoin = (s' ≡ s) × (v' ≡ v) × (sh' : Share) × Spends sh sh' 0 × Meets core code owed own sh' v.cells s
 Turned core code owed own sh s v s' v' (turn.Ended a) = (s' ≡ s) × (v' ≡ v) × (owed.sides ≡ []) × IsAnswer code.laid v.cells owed.ty owed.all a
 Turned core code owed own sh s v s' v' turn.Full = (s' ≡ s) × IsFull v v'
+
+-- So many steps, one after another.
+pub data Walks (code : CodeTree) (s : State) (v : Memory) : ℕ → State → Memory → Type 0 where
+  stands : Walks code s v 0 s v
+  walks : {n : ℕ} {s' s'' : State} {v' v'' : Memory} → Walks code s v n s' v' → Made (next code s') s' s'' v' v'' turn.Went → Walks code s v (suc n) s'' v''
+
+-- After fewer steps than so many another turn came.
+pub record Stops (code : CodeTree) (s : State) (v : Memory) (steps : ℕ) (s'' : State) (v'' : Memory) (r : Turn) : Type 0 where
+  pub count : ℕ
+  pub few : count < steps
+  pub state : State
+  pub memory : Memory
+  pub walks : Walks code s v count state memory
+  pub other : r ≡ turn.Went → ⊥
+  pub made : Made (next code state) state s'' memory v'' r
+
+-- All steps were made, or another turn came before.
+abbrev pub Walked : CodeTree → State → Memory → (steps : ℕ) → State → Memory → Option Turn → Type 0
+Walked code s v steps s' v' None = Walks code s v steps s' v'
+Walked code s v steps s' v' (Some r) = Stops code s v steps s' v' r
 
 -- A task that is sound over a memory, whose machine runs the code of a core of which each body fits.
 pub record IsTask (code : CodeTree) (s : State) (v : Memory) : Type 0 where
