@@ -1,7 +1,6 @@
 -- What a call of the machine's step leaves of a task.
-use Rattle.std.proofs.Common.{◌≡◌, ◌⊎◌, inl, inr, ℕ, ◌+◌, refl, sym, ap, subst, ◌∙◌, arith, true, Some, None}
+use Rattle.std.proofs.Common.{◌≡◌, inl, inr, ℕ, ◌+◌, refl, sym, ap, subst, ◌∙◌, arith, Some}
 use Rattle.gib_mem.specs.Memory.{Memory, IsBounded, byte, after_put, after_draw}
-use Rattle.gib_region.specs.Region.{Draws, IsFull}
 use Rattle.gib_core.specs.Tree.{CoreTree}
 use Rattle.gib_code.specs.Program.{CodeTree}
 use Rattle.gib_machine.specs.declared.turn.Turn.{Turn}
@@ -14,13 +13,12 @@ use Rattle.gib_weave.proofs.Counts.{no_spending}
 use Rattle.gib_weave.proofs.Memories.{over_memory}
 use Rattle.gib_weave.proofs.Starts.{lowered_bodies}
 use Rattle.gib_weave.proofs.Step.{step_keeps}
-use Rattle.gib_weave.specs.Sound.{Forks}
 use Rattle.gib_weave.specs.Calling.{GoesOn, IsTask, Ran, Turned}
 use Rattle.gib_weave.specs.Owing.{Owed}
 use Rattle.gib_weave.specs.Paying.{Share, Spends}
 use Rattle.gib_weave.specs.Places.{Owned, with_chunk}
 use Rattle.gib_weave.specs.Root.{AfterOver}
-use Rattle.gib_weave.specs.Sound.{Safe, After, Leads}
+use Rattle.gib_weave.specs.Sound.{After, Leads}
 use Rattle.gib_weave.proofs.Events.{bounded_put, bounded_draw}
 
 -- the memory can answer

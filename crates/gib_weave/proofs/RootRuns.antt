@@ -1,5 +1,5 @@
 -- What some steps of the root leave.
-use Rattle.std.proofs.Common.{◌≡◌, ℕ, ◌+◌, List, [], true, Option, Some, None, refl, sym, ap, subst, ◌∙◌, arith}
+use Rattle.std.proofs.Common.{◌≡◌, ℕ, List, [], true, Option, Some, None, refl, sym, subst, ◌∙◌}
 use Rattle.gib_types.specs.Loaded.{Loaded}
 use Rattle.gib_types.specs.Tree.{Datum}
 use Rattle.gib_mem.specs.Memory.{Memory, IsBounded}
@@ -15,7 +15,7 @@ use Rattle.gib_machine.specs.declared.turn.Turn.{Turn}
 use Rattle.gib_machine.specs.declared.turn.Turn.TheVariants as turn
 use Rattle.gib_machine.specs.Machine.{State}
 use Rattle.gib_machine.specs.Stepping.{Runs}
-use Rattle.gib_weave.specs.Calling.{GoesOn, IsTask, Ran, RootRan}
+use Rattle.gib_weave.specs.Calling.{IsTask, Ran, RootRan}
 use Rattle.gib_weave.specs.Owing.{Owed}
 use Rattle.gib_weave.specs.Paying.{Bill, root_share, whole_of}
 use Rattle.gib_weave.specs.Places.{tail_covers}

@@ -8,7 +8,7 @@ use gib_machine::{Machine, Turn};
 use gib_mem::Mem;
 use gib_region::Tails;
 
-/// Runs a task for at most so many steps: `None` where it may go on, else why it stands.
+/// Runs a task for at most so many steps: no turn where all were made, else the other turn that came before.
 ///
 /// At its end the answer is what the task owed. `Full` is answered where it draws and all chunks are drawn.
 pub fn run_for<M: Mem>(
