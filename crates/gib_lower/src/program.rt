@@ -11,7 +11,7 @@ ghost use Rattle.gib_core.specs.Fits.{AllFit};
 ghost use Rattle.gib_lower.specs.Counting.{variables_of};
 ghost use Rattle.gib_lower.specs.Lowering.{label_in, entry_in, entry_of, numbered, lowered, lowered_functions, begun, lower_program};
 
-use crate::counts::{Counts, number_of, plus};
+use crate::counts::{Counts, count_of, plus};
 use crate::emitted::Emitted;
 use crate::ending::Ending;
 use crate::fields::Fields;
@@ -53,7 +53,7 @@ fn lower_function(
     ensures entry { IfOk result (λ entry. entry ≡ entry_of (Some function.now.name) function.now.result (length out.new.code) (length function.now.parameters.items) (term_of source.now.terms function.now.body.0)) }
 {
     let start = lower_body(source, function.body, out)?;
-    let parameters = number_of(&function.parameters)?;
+    let parameters = count_of(&function.parameters)?;
     let slots = plus(parameters, counts.of(function.body))?;
     Ok(Entry {
         name: Some(function.name),

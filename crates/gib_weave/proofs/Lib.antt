@@ -26,3 +26,12 @@ pub mod Bills
 pub mod Memories
 pub mod Example
 pub mod Roots
+pub mod Shares
+pub mod Weaves
+pub mod Events
+pub mod Progress
+pub mod Picks
+pub mod Row
+pub mod Fine
+pub mod Calls
+pub mod Mades

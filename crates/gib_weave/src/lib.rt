@@ -2,4 +2,6 @@
 //! does, and ends with what the source means.
 #![tactic(auto)]
 
+pub mod call_law;
 pub mod law;
+pub mod weave_law;

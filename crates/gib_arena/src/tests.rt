@@ -1,0 +1,1 @@
+//! Two threads over one arena.
