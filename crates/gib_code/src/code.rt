@@ -1,14 +1,14 @@
 //! The code of a program.
 
-use crate::heads::Heads;
 use crate::instruction::{Entry, Instr};
+use gib_types::Layouts;
 use std::marker::Model;
 
 /// The code of a program.
 #[derive(Drop)]
 pub struct Code {
     /// How the heads of its constructors lie in memory.
-    layouts: Heads,
+    layouts: Layouts,
     instructions: Vec<Instr>,
     /// In the order of the text, main last.
     functions: Vec<Entry>,
@@ -30,7 +30,7 @@ impl Code {
 
     /// Code of these parts: how heads lie in memory, the instructions from label 0 on, and the functions in the order of
     /// the text, main last.
-    pub fn new(layouts: Heads, instructions: Vec<Instr>, functions: Vec<Entry>) -> Code
+    pub fn new(layouts: Layouts, instructions: Vec<Instr>, functions: Vec<Entry>) -> Code
         ensures { result ≡ record { laid = layouts; instructions = map instruction_of instructions.items; functions = functions.items } }
     {
         Code {
@@ -41,7 +41,7 @@ impl Code {
     }
 
     /// How the heads of its constructors lie in memory.
-    pub fn layouts(&self) -> &Heads
+    pub fn layouts(&self) -> &Layouts
         ensures { result.now ≡ self.now.laid }
     {
         &self.layouts

@@ -3,12 +3,10 @@
 
 mod answer;
 mod code;
-mod heads;
 mod instruction;
 mod text;
 
 pub use answer::{Answer, Side};
 pub use code::Code;
-pub use heads::Heads;
 pub use instruction::{Arm, Entry, Instr, Kind, Operand, Operation};
 pub use text::listing;

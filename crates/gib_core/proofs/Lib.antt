@@ -3,7 +3,6 @@ mod Lining
 mod Spelling
 pub mod Unbroken
 pub mod Indented
-pub mod Copied
 mod Agreeing
 mod Envs
 mod Together

@@ -3,7 +3,6 @@
 
 pub mod atom;
 pub mod checked;
-pub mod copy;
 pub mod examples;
 pub mod law;
 mod lowered;
@@ -19,7 +18,6 @@ mod written;
 
 pub use atom::{Access, AccessMode, Atom, Kind, Variable};
 pub use checked::Checked;
-pub use copy::copy_types;
 pub use lowered::Lowered;
 pub use node::{Binding, BoundTerm, Branch, Node, TermId, Terms};
 pub use print::print_core;

@@ -94,9 +94,9 @@ pub(crate) fn put_piece<O: Sink>(
 ) -> Result<(), Failed>
     requires known { IsKnown types.now piece }
     requires names { AreHeld types.now names.now }
-    ensures ok { (start : Option (List ℕ)) (printed : List ℕ) → IsPut start (O.taken sink.old) waiting.old printed → OnOk result (IsPut start (O.taken sink.new) waiting.new (printed ++ piece_text types.now names.now piece)) }
-    ensures part { (start : Option (List ℕ)) (printed : List ℕ) → IsPut start (O.taken sink.old) waiting.old printed → OnErr result (AppendsPart start (O.taken sink.new) (printed ++ piece_text types.now names.now piece)) }
-    ensures cause { HasCause (O.faults sink.old) (O.faults sink.new) result }
+    ensures ok { (start : Option (List ℕ)) (printed : List ℕ) → IsPut start (O.view sink.old).taken waiting.old printed → OnOk result (IsPut start (O.view sink.new).taken waiting.new (printed ++ piece_text types.now names.now piece)) }
+    ensures part { (start : Option (List ℕ)) (printed : List ℕ) → IsPut start (O.view sink.old).taken waiting.old printed → OnErr result (AppendsPart start (O.view sink.new).taken (printed ++ piece_text types.now names.now piece)) }
+    ensures cause { HasCause (O.view sink.old).faults (O.view sink.new).faults result }
 {
     let mut digits = Buffer::new();
     let word = word_of(&mut digits, types, names, piece);

@@ -23,9 +23,9 @@ use std::alloc::Global;
 
 /// Ends the line, and puts what still waits.
 fn end_line<O: Sink>(waiting: &mut Waiting, sink: &mut O) -> Result<(), Failed>
-    ensures ok { (start : Option (List ℕ)) (printed : List ℕ) → IsPut start (O.taken sink.old) waiting.old printed → OnOk result (Appends start (O.taken sink.new) (printed ++ 10 ∷ [])) }
-    ensures part { (start : Option (List ℕ)) (printed : List ℕ) → IsPut start (O.taken sink.old) waiting.old printed → OnErr result (AppendsPart start (O.taken sink.new) (printed ++ 10 ∷ [])) }
-    ensures cause { HasCause (O.faults sink.old) (O.faults sink.new) result }
+    ensures ok { (start : Option (List ℕ)) (printed : List ℕ) → IsPut start (O.view sink.old).taken waiting.old printed → OnOk result (Appends start (O.view sink.new).taken (printed ++ 10 ∷ [])) }
+    ensures part { (start : Option (List ℕ)) (printed : List ℕ) → IsPut start (O.view sink.old).taken waiting.old printed → OnErr result (AppendsPart start (O.view sink.new).taken (printed ++ 10 ∷ [])) }
+    ensures cause { HasCause (O.view sink.old).faults (O.view sink.new).faults result }
 {
     match waiting.put_byte(sink, 10) {
         Ok(()) => waiting.flush(sink),
@@ -35,9 +35,9 @@ fn end_line<O: Sink>(waiting: &mut Waiting, sink: &mut O) -> Result<(), Failed>
 
 /// Puts bytes, and a line feed.
 fn print_bytes<O: Sink>(bytes: &[u8], sink: &mut O) -> Result<(), Failed>
-    ensures ok { OnOk result (Appends (O.taken sink.old) (O.taken sink.new) (bytes.now ++ 10 ∷ [])) }
-    ensures part { OnErr result (AppendsPart (O.taken sink.old) (O.taken sink.new) (bytes.now ++ 10 ∷ [])) }
-    ensures cause { HasCause (O.faults sink.old) (O.faults sink.new) result }
+    ensures ok { OnOk result (Appends (O.view sink.old).taken (O.view sink.new).taken (bytes.now ++ 10 ∷ [])) }
+    ensures part { OnErr result (AppendsPart (O.view sink.old).taken (O.view sink.new).taken (bytes.now ++ 10 ∷ [])) }
+    ensures cause { HasCause (O.view sink.old).faults (O.view sink.new).faults result }
 {
     let mut waiting = Waiting::new();
     match waiting.put_bytes(sink, bytes) {
@@ -64,9 +64,9 @@ fn print_tree<M: Mem, O: Sink>(
     requires names { AreHeld layouts.now.table names.now }
     requires value { Decodes layouts.now (M.view mem.old).cells counted.at }
     requires counted { IsCounted layouts.now names.now (M.view mem.old).cells counted }
-    ensures ok { (t : ℕ) (v : Datum) (z : ℕ) → Dec layouts.now (M.view mem.old).cells counted.at t v z → OnOk result (Appends (O.taken sink.old) (O.taken sink.new) (text layouts.now.table names.now v ++ 10 ∷ [])) }
-    ensures part { (t : ℕ) (v : Datum) (z : ℕ) → Dec layouts.now (M.view mem.old).cells counted.at t v z → OnErr result (AppendsPart (O.taken sink.old) (O.taken sink.new) (text layouts.now.table names.now v ++ 10 ∷ [])) }
-    ensures cause { HasCause (O.faults sink.old) (O.faults sink.new) result }
+    ensures ok { (t : ℕ) (v : Datum) (z : ℕ) → Dec layouts.now (M.view mem.old).cells counted.at t v z → OnOk result (Appends (O.view sink.old).taken (O.view sink.new).taken (text layouts.now.table names.now v ++ 10 ∷ [])) }
+    ensures part { (t : ℕ) (v : Datum) (z : ℕ) → Dec layouts.now (M.view mem.old).cells counted.at t v z → OnErr result (AppendsPart (O.view sink.old).taken (O.view sink.new).taken (text layouts.now.table names.now v ++ 10 ∷ [])) }
+    ensures cause { HasCause (O.view sink.old).faults (O.view sink.new).faults result }
     ensures same { M.view mem.new ≡ M.view mem.old }
 {
     let mut waiting = Waiting::new();
@@ -95,13 +95,13 @@ pub fn print_at<M: Mem, O: Sink>(
     requires names { AreHeld layouts.now.table names.now }
     requires stands { (ty : Type_of) × (v : Datum) × Stands layouts.now (M.view mem.old).cells root ty v }
     ensures done { (ty : Type_of) (v : Datum) → Stands layouts.now (M.view mem.old).cells root ty v
-        → OnOk result (Appends (O.taken sink.old) (O.taken sink.new) (text layouts.now.table names.now v ++ 10 ∷ [])) }
+        → OnOk result (Appends (O.view sink.old).taken (O.view sink.new).taken (text layouts.now.table names.now v ++ 10 ∷ [])) }
     ensures part { (ty : Type_of) (v : Datum) → Stands layouts.now (M.view mem.old).cells root ty v
-        → IsErrOf result PrintFault.Write → AppendsPart (O.taken sink.old) (O.taken sink.new) (text layouts.now.table names.now v ++ 10 ∷ []) }
-    ensures cause { IsErrOf result PrintFault.Write → Rose (O.faults sink.old) (O.faults sink.new) }
-    ensures later { O.faults sink.old ≤ O.faults sink.new }
-    ensures quiet { (IsErrOf result PrintFault.Write → ⊥) → O.faults sink.new ≡ O.faults sink.old }
-    ensures silent { IsErrOf result PrintFault.Memory → O.taken sink.new ≡ O.taken sink.old }
+        → IsErrOf result PrintFault.Write → AppendsPart (O.view sink.old).taken (O.view sink.new).taken (text layouts.now.table names.now v ++ 10 ∷ []) }
+    ensures cause { IsErrOf result PrintFault.Write → Rose (O.view sink.old).faults (O.view sink.new).faults }
+    ensures later { (O.view sink.old).faults ≤ (O.view sink.new).faults }
+    ensures quiet { (IsErrOf result PrintFault.Write → ⊥) → (O.view sink.new).faults ≡ (O.view sink.old).faults }
+    ensures silent { IsErrOf result PrintFault.Memory → (O.view sink.new).taken ≡ (O.view sink.old).taken }
     ensures same { M.view mem.new ≡ M.view mem.old }
 {
     types.rules();

@@ -40,10 +40,10 @@ impl Waiting {
 
     /// Puts what waits.
     pub(crate) fn flush<O: Sink>(&mut self, sink: &mut O) -> Result<(), Failed>
-        ensures ok { (start : Option (List ℕ)) (printed : List ℕ) → IsPut start (O.taken sink.old) self.old printed → OnOk result (IsPut start (O.taken sink.new) [] printed) }
+        ensures ok { (start : Option (List ℕ)) (printed : List ℕ) → IsPut start (O.view sink.old).taken self.old printed → OnOk result (IsPut start (O.view sink.new).taken [] printed) }
         ensures empty { OnOk result (self.new ≡ []) }
-        ensures part { (start : Option (List ℕ)) (printed : List ℕ) → IsPut start (O.taken sink.old) self.old printed → OnErr result (AppendsPart start (O.taken sink.new) printed) }
-        ensures cause { HasCause (O.faults sink.old) (O.faults sink.new) result }
+        ensures part { (start : Option (List ℕ)) (printed : List ℕ) → IsPut start (O.view sink.old).taken self.old printed → OnErr result (AppendsPart start (O.view sink.new).taken printed) }
+        ensures cause { HasCause (O.view sink.old).faults (O.view sink.new).faults result }
     {
         match sink.put(self.as_slice()) {
             Ok(()) => {
@@ -86,9 +86,9 @@ impl Waiting {
 
     /// One byte more; what waits is put where it is a whole piece.
     pub(crate) fn put_byte<O: Sink>(&mut self, sink: &mut O, byte: u8) -> Result<(), Failed>
-        ensures ok { (start : Option (List ℕ)) (printed : List ℕ) → IsPut start (O.taken sink.old) self.old printed → OnOk result (IsPut start (O.taken sink.new) self.new (printed ++ byte ∷ [])) }
-        ensures part { (start : Option (List ℕ)) (printed : List ℕ) → IsPut start (O.taken sink.old) self.old printed → OnErr result (AppendsPart start (O.taken sink.new) printed) }
-        ensures cause { HasCause (O.faults sink.old) (O.faults sink.new) result }
+        ensures ok { (start : Option (List ℕ)) (printed : List ℕ) → IsPut start (O.view sink.old).taken self.old printed → OnOk result (IsPut start (O.view sink.new).taken self.new (printed ++ byte ∷ [])) }
+        ensures part { (start : Option (List ℕ)) (printed : List ℕ) → IsPut start (O.view sink.old).taken self.old printed → OnErr result (AppendsPart start (O.view sink.new).taken printed) }
+        ensures cause { HasCause (O.view sink.old).faults (O.view sink.new).faults result }
     {
         if self.is_full() {
             match self.flush(sink) {
@@ -102,9 +102,9 @@ impl Waiting {
 
     /// Bytes, one after another.
     pub(crate) fn put_bytes<O: Sink>(&mut self, sink: &mut O, bytes: &[u8]) -> Result<(), Failed>
-        ensures ok { (start : Option (List ℕ)) (printed : List ℕ) → IsPut start (O.taken sink.old) self.old printed → OnOk result (IsPut start (O.taken sink.new) self.new (printed ++ bytes.now)) }
-        ensures part { (start : Option (List ℕ)) (printed : List ℕ) → IsPut start (O.taken sink.old) self.old printed → OnErr result (AppendsPart start (O.taken sink.new) (printed ++ bytes.now)) }
-        ensures cause { HasCause (O.faults sink.old) (O.faults sink.new) result }
+        ensures ok { (start : Option (List ℕ)) (printed : List ℕ) → IsPut start (O.view sink.old).taken self.old printed → OnOk result (IsPut start (O.view sink.new).taken self.new (printed ++ bytes.now)) }
+        ensures part { (start : Option (List ℕ)) (printed : List ℕ) → IsPut start (O.view sink.old).taken self.old printed → OnErr result (AppendsPart start (O.view sink.new).taken (printed ++ bytes.now)) }
+        ensures cause { HasCause (O.view sink.old).faults (O.view sink.new).faults result }
     {
         let mut i = 0;
         'bytes: while i < bytes.len() {
@@ -124,9 +124,9 @@ impl Waiting {
         first: &[u8],
         second: &[u8],
     ) -> Result<(), Failed>
-        ensures ok { (start : Option (List ℕ)) (printed : List ℕ) → IsPut start (O.taken sink.old) self.old printed → OnOk result (IsPut start (O.taken sink.new) self.new (printed ++ (first.now ++ second.now))) }
-        ensures part { (start : Option (List ℕ)) (printed : List ℕ) → IsPut start (O.taken sink.old) self.old printed → OnErr result (AppendsPart start (O.taken sink.new) (printed ++ (first.now ++ second.now))) }
-        ensures cause { HasCause (O.faults sink.old) (O.faults sink.new) result }
+        ensures ok { (start : Option (List ℕ)) (printed : List ℕ) → IsPut start (O.view sink.old).taken self.old printed → OnOk result (IsPut start (O.view sink.new).taken self.new (printed ++ (first.now ++ second.now))) }
+        ensures part { (start : Option (List ℕ)) (printed : List ℕ) → IsPut start (O.view sink.old).taken self.old printed → OnErr result (AppendsPart start (O.view sink.new).taken (printed ++ (first.now ++ second.now))) }
+        ensures cause { HasCause (O.view sink.old).faults (O.view sink.new).faults result }
     {
         match self.put_bytes(sink, first) {
             Ok(()) => self.put_bytes(sink, second),

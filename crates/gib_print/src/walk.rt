@@ -72,9 +72,9 @@ pub(crate) fn put_text<M: Mem, O: Sink>(
     requires names { AreHeld layouts.now.table names.now }
     requires value { Decodes layouts.now (M.view mem.old).cells counted.at }
     requires counted { IsCounted layouts.now names.now (M.view mem.old).cells counted }
-    ensures ok { (t : ℕ) (v : Datum) (z : ℕ) (start : Option (List ℕ)) → Dec layouts.now (M.view mem.old).cells counted.at t v z → IsPut start (O.taken sink.old) waiting.old [] → OnOk result (IsPut start (O.taken sink.new) waiting.new (text layouts.now.table names.now v)) }
-    ensures part { (t : ℕ) (v : Datum) (z : ℕ) (start : Option (List ℕ)) → Dec layouts.now (M.view mem.old).cells counted.at t v z → IsPut start (O.taken sink.old) waiting.old [] → OnErr result (AppendsPart start (O.taken sink.new) (text layouts.now.table names.now v)) }
-    ensures cause { HasCause (O.faults sink.old) (O.faults sink.new) result }
+    ensures ok { (t : ℕ) (v : Datum) (z : ℕ) (start : Option (List ℕ)) → Dec layouts.now (M.view mem.old).cells counted.at t v z → IsPut start (O.view sink.old).taken waiting.old [] → OnOk result (IsPut start (O.view sink.new).taken waiting.new (text layouts.now.table names.now v)) }
+    ensures part { (t : ℕ) (v : Datum) (z : ℕ) (start : Option (List ℕ)) → Dec layouts.now (M.view mem.old).cells counted.at t v z → IsPut start (O.view sink.old).taken waiting.old [] → OnErr result (AppendsPart start (O.view sink.new).taken (text layouts.now.table names.now v)) }
+    ensures cause { HasCause (O.view sink.old).faults (O.view sink.new).faults result }
     ensures same { M.view mem.new ≡ M.view mem.old }
 {
     layouts.rules();

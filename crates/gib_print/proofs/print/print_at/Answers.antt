@@ -30,21 +30,21 @@ returns-in_err-print_bytes-in-Whole-clause-part g c = λ ty v st e.
     let fits : FitsSigned w64 c.in-Whole.z = search in
     let kept = to_z-of_z w64 c.in-Whole.z fits in
     let is = whole_text c.args.names.now c.in-Whole.z c.as_bytes.result.now st c.in-Whole.is (c.as_bytes.ensures.value ∙ c.format.ensures.text ∙ ap signed_decimal kept) in
-    subst (λ (l : List ℕ). AppendsPart (g.O.Sink.taken c.args.sink.now) (g.O.Sink.taken c.print_bytes.new.sink) (l ++ 10 ∷ [])) is c.in_err-print_bytes-in-Whole.ensures.part
+    subst (λ (l : List ℕ). AppendsPart (g.O.Sink.view c.args.sink.now).taken (g.O.Sink.view c.print_bytes.new.sink).taken (l ++ 10 ∷ [])) is c.in_err-print_bytes-in-Whole.ensures.part
 
 pub returns-in_ok-print_bytes-in-Whole-clause-done : goal.returns-in_ok-print_bytes-in-Whole-clause-done
 returns-in_ok-print_bytes-in-Whole-clause-done g c = λ ty v st.
     let fits : FitsSigned w64 c.in-Whole.z = search in
     let kept = to_z-of_z w64 c.in-Whole.z fits in
     let is = whole_text c.args.names.now c.in-Whole.z c.as_bytes.result.now st c.in-Whole.is (c.as_bytes.ensures.value ∙ c.format.ensures.text ∙ ap signed_decimal kept) in
-    subst (λ (l : List ℕ). Appends (g.O.Sink.taken c.args.sink.now) (g.O.Sink.taken c.print_bytes.new.sink) (l ++ 10 ∷ [])) is c.in_ok-print_bytes-in-Whole.ensures.ok
+    subst (λ (l : List ℕ). Appends (g.O.Sink.view c.args.sink.now).taken (g.O.Sink.view c.print_bytes.new.sink).taken (l ++ 10 ∷ [])) is c.in_ok-print_bytes-in-Whole.ensures.ok
 
 pub returns-in_err-print_bytes-in-Truth-clause-part : goal.returns-in_err-print_bytes-in-Truth-clause-part
 returns-in_err-print_bytes-in-Truth-clause-part g c = λ ty v st e.
     let is = truth_is_text c.args.names.now c.in-Truth.b c.truth_word.result.now st c.in-Truth.is c.truth_word.ensures in
-    subst (λ (l : List ℕ). AppendsPart (g.O.Sink.taken c.args.sink.now) (g.O.Sink.taken c.print_bytes-in-Truth.new.sink) (l ++ 10 ∷ [])) is c.in_err-print_bytes-in-Truth.ensures.part
+    subst (λ (l : List ℕ). AppendsPart (g.O.Sink.view c.args.sink.now).taken (g.O.Sink.view c.print_bytes-in-Truth.new.sink).taken (l ++ 10 ∷ [])) is c.in_err-print_bytes-in-Truth.ensures.part
 
 pub returns-in_ok-print_bytes-in-Truth-clause-done : goal.returns-in_ok-print_bytes-in-Truth-clause-done
 returns-in_ok-print_bytes-in-Truth-clause-done g c = λ ty v st.
     let is = truth_is_text c.args.names.now c.in-Truth.b c.truth_word.result.now st c.in-Truth.is c.truth_word.ensures in
-    subst (λ (l : List ℕ). Appends (g.O.Sink.taken c.args.sink.now) (g.O.Sink.taken c.print_bytes-in-Truth.new.sink) (l ++ 10 ∷ [])) is c.in_ok-print_bytes-in-Truth.ensures.ok
+    subst (λ (l : List ℕ). Appends (g.O.Sink.view c.args.sink.now).taken (g.O.Sink.view c.print_bytes-in-Truth.new.sink).taken (l ++ 10 ∷ [])) is c.in_ok-print_bytes-in-Truth.ensures.ok

@@ -10,10 +10,10 @@ use Rattle.gib_print.proofs.walk.put_text.Given as goal
 abbrev pub invariant-work : goal.invariant-work
 invariant-work g l = record {
   same : g.M.Mem.view l.mem ≡ g.M.Mem.view l.fn.mem;
-  quiet : g.O.Sink.faults l.sink ≡ g.O.Sink.faults l.fn.sink;
+  quiet : (g.O.Sink.view l.sink).faults ≡ (g.O.Sink.view l.fn.sink).faults;
   room : vec_capacity l.walk.work ≡ vec_capacity l.fn.counted.work;
   puts : (t : ℕ) (v : Datum) (z : ℕ) → Dec l.layouts (g.M.Mem.view l.fn.mem).cells l.fn.counted.at t v z
-      → Putting l.layouts l.names (g.M.Mem.view l.fn.mem).cells (vec_capacity l.walk.work) (reverse l.walk.work.items) l.walk.end l.left (text l.layouts.table l.names v) (g.O.Sink.taken l.fn.sink) (g.O.Sink.taken l.sink) l.fn.waiting l.waiting;
+      → Putting l.layouts l.names (g.M.Mem.view l.fn.mem).cells (vec_capacity l.walk.work) (reverse l.walk.work.items) l.walk.end l.left (text l.layouts.table l.names v) (g.O.Sink.view l.fn.sink).taken (g.O.Sink.view l.sink).taken l.fn.waiting l.waiting;
 }
 
 abbrev pub decreases-work : goal.decreases-work

@@ -1,0 +1,143 @@
+-- A task that keeps what it owes.
+use Rattle.std.specs.Prelude.{◌≡◌, ℕ, suc, ◌<◌, ◌≤◌, true, List, [], ◌∷◌, length, slice_get, if◌then◌else◌, FitsSigned}
+use Rattle.std.specs.Int.{w64}
+use Rattle.gib_types.specs.declared.table.Ty.{Ty}
+use Rattle.gib_types.specs.declared.table.Ty.TheVariants.{Whole, Truth, Tree}
+use Rattle.gib_types.specs.Layout.{LaidOut}
+use Rattle.gib_types.specs.Tree.{Datum, whole, truth}
+use Rattle.gib_syntax.specs.Meaning.{Outcome, Gives, Stops, Deep}
+use Rattle.gib_mem.specs.Memory.{Store, absent, fresh, byte, set_cell, open_chunk, Grows}
+use Rattle.gib_core.specs.Tree.{Term, CoreTree}
+use Rattle.gib_code.specs.declared.answer.Answer.{Answer}
+use Rattle.gib_code.specs.declared.answer.Answer.TheVariants as answer
+use Rattle.gib_code.specs.Program.{CodeTree}
+use Rattle.gib_core.specs.Fits.{dest_type}
+use Rattle.gib_region.specs.Count.{Count, Balanced}
+use Rattle.gib_weave.specs.Cost.{Cost, plus, own}
+use Rattle.gib_machine.specs.Machine.{State, Ready, Over, Unwinding, Par, Waiting, times, widest, left_starts, right_of, side_start, takes, joins, Ask, Silent, Get, Put, Draw, AtFork, AtJoin, Ended, next, cursor}
+use Rattle.gib_weave.specs.Environment.{Ctx, Matches, StandsAt}
+use Rattle.gib_weave.specs.Continuing.{AllCalm, AllUnder, Kont, Next, Plain, Rest, RestCode, RestFits, due, end_of, pars_of, rest_cased, rest_nest, rest_pars, root, side_of}
+use Rattle.gib_weave.specs.Owing.{Debt, Owed, level_after, rest_means, rest_sides, resume, sides_of}
+use Rattle.gib_weave.specs.Paying.{AtMost, Counted, Share, Spends, left_costs, new_share, with_count, with_rest, with_side}
+use Rattle.gib_weave.specs.Places.{AllRoom, Apart, HasRoom, HaveRoom, IsNew, IsSmall, Owned, TailsHaveRoom, covers, freed, with_chunk}
+use Rattle.gib_weave.specs.Stacks.{Stack}
+
+-- A task at what is next in a line.
+pub record AtRest (core : CoreTree) (code : CodeTree) (owed : Owed) (own : Owned) (sh : Share) (s : Store) (m : State) (u : Rest) (c : Ctx) (k : Kont) : Type 0 where
+  pub ready : m.doing ≡ Ready
+  pub low : RestCode core code c.scope m.ip u (end_of k)
+  pub fits : RestFits core u c.scope c.dest
+  pub kind : dest_type c.dest ≡ due k
+  pub matches : Matches code.laid s m.words c (cursor m.regions)
+  pub stack : Stack core code s k m.words m.frames c.front m.regions
+  pub under : AllUnder c.scope c.env k
+  pub calm : AllCalm (rest_cased u) k
+  pub places : Apart own s (covers code.laid c k m)
+  pub rooms : HaveRoom m.regions
+  pub tail_rooms : TailsHaveRoom m.tails
+  pub small : IsSmall s
+  pub owes : resume core m.depth k (rest_means core m.depth u c.env) ≡ owed.all
+  pub sides : rest_sides core m.depth m.level u c.env (sides_of core m.depth (level_after m.level u) k) ≡ owed.sides
+  pub pars : m.pars ≡ rest_pars u (pars_of k)
+  pub side : m.side ≡ side_of k
+  pub free : Next u k
+  pub result : m.result ≡ root k
+  pub type : owed.ty ≡ root k
+  pub counted : Counted m.regions (left_costs core m.depth m.level u c.env k) sh
+  pub narrow : rest_nest u ≤ widest code.functions
+  pub nests : HasRoom (times m.depth (widest code.functions)) u m.room
+  pub all_room : AllRoom (widest code.functions) m.depth (freed u m.room) k
+
+-- A task at the start of a term.
+abbrev pub AtTerm : CoreTree → CodeTree → Owed → Owned → Share → Store → State → Term → Ctx → Kont → Type 0
+AtTerm core code owed own sh s m u c k = AtRest core code owed own sh s m (Plain u) c k
+
+-- How many left sides run here whose right sides were not joined.
+abbrev pub lefts : List Par → ℕ
+lefts [] = 0
+lefts (p ∷ ps) = if p.left then suc (lefts ps) else lefts ps
+
+-- A left side had no depth left: its task stands at the join, whose right side is not looked at.
+pub record IsUnwinding (owed : Owed) (m : State) : Type 0 where
+  pub unwinding : m.doing ≡ Unwinding
+  pub par : Par
+  pub outer : List Par
+  pub pars : m.pars ≡ par ∷ outer
+  pub left : par.left ≡ true
+  pub count : suc (lefts outer) ≡ length owed.sides
+  pub owes : owed.all ≡ Stops Deep
+
+-- The answer is what was owed.
+abbrev pub IsAnswer : LaidOut → Store → Ty → Outcome → Answer → Type 0
+IsAnswer laid s ty owed (answer.At a) = (t : ℕ) × (v : Datum) × (ty ≡ Tree (record { 0 = t })) × (owed ≡ Gives v) × StandsAt laid s t a v
+IsAnswer laid s ty owed (answer.Whole z) = (ty ≡ Whole) × FitsSigned w64 z × (owed ≡ Gives (whole z))
+IsAnswer laid s ty owed (answer.Truth b) = (ty ≡ Truth) × (owed ≡ Gives (truth b))
+IsAnswer laid s ty owed answer.Deep = owed ≡ Stops Deep
+
+pub data Rests (core : CoreTree) (code : CodeTree) (owed : Owed) (own : Owned) (sh : Share) (s : Store) (m : State) : Type 0 where
+  at_term : {u : Rest} {c : Ctx} {k : Kont} → AtRest core code owed own sh s m u c k → Rests core code owed own sh s m
+  unwinds : IsUnwinding owed m → Rests core code owed own sh s m
+  -- no side is left
+  over : {a : Answer} → m.doing ≡ Over a → owed.sides ≡ [] → IsAnswer code.laid s owed.ty owed.all a → Rests core code owed own sh s m
+
+-- Whatever the memory answers, the running instruction gets what is known, puts what is fresh, pays for what it does, and comes
+-- to rest.
+mutual
+  pub data Safe (core : CoreTree) (code : CodeTree) (owed : Owed) : Owned → Share → Store → State → Type 0 where
+    rests : {own : Owned} {sh : Share} {s : Store} {m : State} → Rests core code owed own sh s m → Safe core code owed own sh s m
+    -- what was done so far, or is left, is counted anew
+    counts : {own : Owned} {sh sh' : Share} {s : Store} {m : State} → Spends sh sh' 0 → Safe core code owed own sh' s m → Safe core code owed own sh s m
+    moves : {own : Owned} {sh : Share} {s : Store} {m : State} → Moves core code owed own sh s m → Safe core code owed own sh s m
+
+  pub data Moves (core : CoreTree) (code : CodeTree) (owed : Owed) : Owned → Share → Store → State → Type 0 where
+    silent : {own : Owned} {sh : Share} {s : Store} {m m' : State} → next code m ≡ Silent m' → Safe core code owed own sh s m' → Moves core code owed own sh s m
+    get : {own : Owned} {sh : Share} {s : Store} {m : State} {a b : ℕ} {k : ℕ → State} → next code m ≡ Get a k → s a ≡ byte b → Safe core code owed own sh s (k b) → Moves core code owed own sh s m
+    puts : {own : Owned} {sh : Share} {s : Store} {m m' : State} {a b : ℕ} → next code m ≡ Put a b m' → s a ≡ fresh → 0 < own a → Safe core code owed own sh (set_cell s a (byte b)) m' → Moves core code owed own sh s m
+    draws : {own : Owned} {sh : Share} {s : Store} {m : State} {k : ℕ → State} (sh' : ℕ → Share) → next code m ≡ Draw k → ((c : ℕ) → IsNew s c → Spends sh (sh' c) 1)
+        → ((c : ℕ) → IsNew s c → Safe core code owed (with_chunk own c) (sh' c) (open_chunk s c) (k c)) → Moves core code owed own sh s m
+    ended : {own : Owned} {sh : Share} {s : Store} {m : State} {a : Answer} → next code m ≡ Ended a → owed.sides ≡ [] → IsAnswer code.laid s owed.ty owed.all a → Moves core code owed own sh s m
+
+-- A right side that is not begun is safe in this store and in each later one, owning nothing, with all that it may cost left.
+pub record SideSafe (core : CoreTree) (code : CodeTree) (d : Debt) (s : Store) (w : Waiting) : Type 0 where
+  pub safe : (r : Store) → Grows s r → IsSmall r → Safe core code (record { ty = d.ty; all = d.owed; sides = [] }) (λ q. 0) (new_share d.most) r (side_start code w)
+
+-- At a fork: the left side is safe, with one more side that is not joined, whose cost is paid for; the right side is safe for
+-- whoever begins it.
+pub record Forks (core : CoreTree) (code : CodeTree) (owed : Owed) (own : Owned) (sh : Share) (s : Store) (m : State) : Type 0 where
+  pub room : 0 < m.room
+  pub debt : Debt
+  pub rest : Cost
+  pub pays : AtMost (plus debt.most rest) sh.rest
+  pub left : Safe core code (record { ty = owed.ty; all = owed.all; sides = debt ∷ owed.sides }) own (with_rest sh rest) s (left_starts m (slice_get code.instructions m.ip))
+  pub right : SideSafe core code debt s (right_of m (slice_get code.instructions m.ip))
+
+-- At a join: some side is not joined; it can be taken, with what it may cost, and any answer that it owes can be, whatever was
+-- done for it.
+pub record Meets (core : CoreTree) (code : CodeTree) (owed : Owed) (own : Owned) (sh : Share) (s : Store) (m : State) : Type 0 where
+  pub debt : Debt
+  pub others : List Debt
+  pub sides : owed.sides ≡ debt ∷ others
+  pub take : Safe core code (record { ty = owed.ty; all = owed.all; sides = others }) own (with_side sh debt.most) s (takes m)
+  pub join : (a : Answer) (c : Count) → IsAnswer code.laid s debt.ty debt.owed a → Balanced c → Safe core code (record { ty = owed.ty; all = owed.all; sides = others }) own (with_count sh c) s (joins m a)
+
+-- The task is safe once this was spent.
+abbrev pub Leads : CoreTree → CodeTree → Owed → Owned → Share → ℕ → Store → State → Type 0
+Leads core code owed own sh drew s m = (sh' : Share) × Spends sh sh' drew × Safe core code owed own sh' s m
+
+-- What a task owes in the next event, by what its machine asks.
+abbrev pub After : CoreTree → CodeTree → Owed → Owned → Share → Store → State → Ask → Type 0
+After core code owed own sh s old (Silent m) = Leads core code owed own sh 0 s m
+After core code owed own sh s old (Get a k) = (b : ℕ) × (s a ≡ byte b) × Leads core code owed own sh 0 s (k b)
+After core code owed own sh s old (Put a b m) = (s a ≡ fresh) × (0 < own a) × Leads core code owed own sh 0 (set_cell s a (byte b)) m
+After core code owed own sh s old (Draw k) = (c : ℕ) → IsNew s c → Leads core code owed (with_chunk own c) sh 1 (open_chunk s c) (k c)
+After core code owed own sh s old AtFork = (sh' : Share) × Spends sh sh' 0 × Forks core code owed own sh' s old
+After core code owed own sh s old AtJoin = (sh' : Share) × Spends sh sh' 0 × Meets core code owed own sh' s old
+After core code owed own sh s old (Ended a) = (owed.sides ≡ []) × IsAnswer code.laid s owed.ty owed.all a
+
+-- The store went from s to r by steps of others: what is known stays, what is this task's own is as it was, and no chunk was
+-- given back.
+pub record Others (own : Owned) (s r : Store) : Type 0 where
+  pub grows : Grows s r
+  pub mine : (q : ℕ) → 0 < own q → r q ≡ s q
+  pub drawn : (q : ℕ) → r q ≡ absent → s q ≡ absent
+  pub small : IsSmall r
