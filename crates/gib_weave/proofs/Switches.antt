@@ -22,7 +22,7 @@ use Rattle.gib_code.specs.Instruction as i
 use Rattle.gib_code.specs.Program.{CodeTree, IsAt, AreAt}
 use Rattle.gib_core.specs.Low.{LowArms, End, laid_of, slot_of, Field as StoredField, scalar_reads, first_reach, arm_opening}
 use Rattle.gib_machine.specs.Machine.{Slots, slot, set, Frame, Open as OpenRegion, label_of, size, arms_of}
-use Rattle.gib_weave.specs.Cost.{Cost, plus, cost_branches, call_costs}
+use Rattle.gib_core.specs.Cost.{Cost, plus, cost_branches, call_costs}
 use Rattle.gib_core.specs.Fits.{put, Sort, Outside, Absent, Scalar, Held, Placed, Loose, AtHead, Field, Scope, is_there, has_slot, tree_type, Dest, Fits, BranchesFit, cased, branches_cased, is_of, AreNew, arm_scope}
 use Rattle.gib_weave.specs.Environment.{Ctx, StandsAt, IsAtHead, Has}
 use Rattle.gib_weave.specs.Continuing.{Plain, KSide, KLast, Kont, KEnd, KHere, KRegion, KScalar, KCall, KCallScalar, end_of, Goes, Under, AllUnder, branches_nest, IsCode, Agrees}

@@ -1,12 +1,15 @@
 -- What a call of the machine's step leaves of a task, by the turn that it answers.
-use Rattle.std.specs.Prelude.{◌≡◌, ℕ, ◌+◌, [], true}
+use Rattle.std.specs.Prelude.{◌≡◌, ℕ, ◌+◌, [], true, Option, Some, None}
 use Rattle.gib_mem.specs.Memory.{Memory, IsBounded}
 use Rattle.gib_region.specs.Region.{IsFull}
 use Rattle.gib_core.specs.Tree.{CoreTree}
 use Rattle.gib_code.specs.Program.{CodeTree}
 use Rattle.gib_machine.specs.declared.turn.Turn.{Turn}
 use Rattle.gib_machine.specs.declared.turn.Turn.TheVariants as turn
-use Rattle.gib_machine.specs.Machine.{State}
+use Rattle.gib_core.specs.Fits.{AllFit}
+use Rattle.gib_core.specs.Low.{IsLowered}
+use Rattle.gib_machine.specs.Machine.{State, widest}
+use Rattle.gib_machine.specs.Stepping.{Runs}
 use Rattle.gib_weave.specs.Owing.{Owed}
 use Rattle.gib_weave.specs.Paying.{Share, Spends}
 use Rattle.gib_weave.specs.Places.{Owned}
@@ -20,6 +23,7 @@ pub record GoesOn (core : CoreTree) (code : CodeTree) (owed : Owed) (sh : Share)
   pub spends : Spends sh share drew
   pub drawn : v.alone ≡ true → v'.drawn ≡ v.drawn + drew
   pub safe : Safe core code owed own share v'.cells s'
+  pub alone : v'.alone ≡ v.alone
   pub bounded : IsBounded v'
 
 -- By the turn. Where all chunks are drawn the task is as it was.
@@ -29,3 +33,25 @@ Turned core code owed own sh s v s' v' turn.AtFork = (s' ≡ s) × (v' ≡ v) ×
 Turned core code owed own sh s v s' v' turn.AtJoin = (s' ≡ s) × (v' ≡ v) × (sh' : Share) × Spends sh sh' 0 × Meets core code owed own sh' v.cells s
 Turned core code owed own sh s v s' v' (turn.Ended a) = (s' ≡ s) × (v' ≡ v) × (owed.sides ≡ []) × IsAnswer code.laid v.cells owed.ty owed.all a
 Turned core code owed own sh s v s' v' turn.Full = (s' ≡ s) × IsFull v v'
+
+-- A task that is sound over a memory, whose machine runs the code of a core of which each body fits.
+pub record IsTask (code : CodeTree) (s : State) (v : Memory) : Type 0 where
+  pub core : CoreTree
+  pub owed : Owed
+  pub own : Owned
+  pub share : Share
+  pub lowered : IsLowered core code
+  pub fits : AllFit core
+  pub runs : Runs code
+  pub made : s.width ≡ widest code.functions
+  pub bounded : IsBounded v
+  pub safe : Safe core code owed own share v.cells s
+
+-- What some steps of a task leave of it: it goes on; or it stands at a fork, a join or its end; or it draws, and all chunks are drawn.
+abbrev pub Ran : (code : CodeTree) (s : State) (v : Memory) → IsTask code s v → State → Memory → Option Turn → Type 0
+Ran code s v t s' v' None = GoesOn t.core code t.owed t.share v s' v'
+Ran code s v t s' v' (Some turn.Went) = ⊥
+Ran code s v t s' v' (Some turn.AtFork) = (o : GoesOn t.core code t.owed t.share v s' v') × (sh' : Share) × Spends o.share sh' 0 × Forks t.core code t.owed o.own sh' v'.cells s'
+Ran code s v t s' v' (Some turn.AtJoin) = (o : GoesOn t.core code t.owed t.share v s' v') × (sh' : Share) × Spends o.share sh' 0 × Meets t.core code t.owed o.own sh' v'.cells s'
+Ran code s v t s' v' (Some (turn.Ended a)) = GoesOn t.core code t.owed t.share v s' v' × (t.owed.sides ≡ []) × IsAnswer code.laid v'.cells t.owed.ty t.owed.all a
+Ran code s v t s' v' (Some turn.Full) = (w : Memory) × GoesOn t.core code t.owed t.share v s' w × IsFull w v'

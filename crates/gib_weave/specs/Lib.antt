@@ -1,5 +1,3 @@
-pub mod Cost
-pub mod Tight
 pub mod Environment
 pub mod Continuing
 pub mod Owing

@@ -8,7 +8,7 @@ use Rattle.gib_core.specs.declared.atom.Kind.TheVariants as kind
 use Rattle.gib_core.specs.Tree as t
 use Rattle.gib_core.specs.Tree.{Term, Side, CoreTree, variable_of}
 use Rattle.gib_core.specs.Meaning.{mean, mean_side, core_calls}
-use Rattle.gib_weave.specs.Cost.{Cost, nothing, plus, one_region, one_item, own, cost, cost_side, call_costs}
+use Rattle.gib_core.specs.Cost.{Cost, nothing, plus, one_region, one_item, own, cost, cost_side, call_costs}
 use Rattle.gib_weave.specs.Continuing.{KCall, KCallScalar, KEnd, KHere, KLast, KRegion, KScalar, KSide, Kont, Last, Leave, Meet, Part, Plain, Rest}
 
 -- What a term means with so many calls left.

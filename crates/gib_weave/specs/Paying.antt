@@ -6,7 +6,7 @@ use Rattle.gib_types.specs.Tree.{Datum, constructors}
 use Rattle.gib_syntax.specs.Meaning.{Environment, Outcome, Gives, Stops}
 use Rattle.gib_core.specs.Tree.{CoreTree, variable_of}
 use Rattle.gib_region.specs.Count.{Open as Cursor, Count, Balanced, nothing_done, joined, loaded_count}
-use Rattle.gib_weave.specs.Cost.{Cost, nothing, plus, one_region, body_cost, run_cost}
+use Rattle.gib_core.specs.Cost.{Cost, nothing, plus, one_region, body_cost, run_cost}
 use Rattle.gib_machine.specs.Machine.{Open as OpenRegion}
 use Rattle.gib_weave.specs.Continuing.{KCall, KCallScalar, KEnd, KHere, KLast, KRegion, KScalar, KSide, Kont, Last, Leave, Meet, Part, Plain, Rest}
 use Rattle.gib_weave.specs.Owing.{Debt, Owed, costs, link, means, own_region, side_costs, side_gives}

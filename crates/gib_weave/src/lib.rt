@@ -4,4 +4,7 @@
 
 pub mod call_law;
 pub mod law;
+mod run;
 pub mod weave_law;
+
+pub use run::run_for;
