@@ -38,23 +38,33 @@ same_byte e = cc
 
 module _ (core : CoreTree) (code : CodeTree) (owed : Owed) (own : Owned) (sh : Share) (v : Memory) (s : State) (bd : IsBounded v) where
   -- no chunk was drawn
-  goes : (v' : Memory) → v'.drawn ≡ v.drawn → v'.alone ≡ v.alone → IsBounded v' → (m : State) → Leads core code owed own sh 0 v'.cells m → GoesOn core code owed sh v m v'
-  goes v' e al b m h = record { alone = al; own = own; share = h.0; drew = 0; spends = h.1; drawn = λ x. e ∙ omega arith; safe = h.2; bounded = b }
+  goes : (v' : Memory) → v'.drawn ≡ v.drawn → v'.alone ≡ v.alone → v'.limit ≡ v.limit → IsBounded v' → (m : State) → Leads core code owed own sh 0 v'.cells m → GoesOn core code owed sh v m v'
+  goes v' e al li b m h = record {
+    alone = al;
+    limit = li;
+    own = own;
+    share = h.0;
+    drew = 0;
+    spends = h.1;
+    drawn = λ x. e ∙ omega arith;
+    safe = h.2;
+    bounded = b;
+  }
 
   by_turn : (s' m : State) (v' w : Memory) (r : Turn) → r ≡ turn.Went → s' ≡ m → v' ≡ w → GoesOn core code owed sh v m w → Turned core code owed own sh s v s' v' r
   by_turn s' m v' w r a b c h =
       subst (Turned core code owed own sh s v s' v') (sym a) (subst (λ (q : State). GoesOn core code owed sh v q v') (sym b) (subst (λ (q : Memory). GoesOn core code owed sh v m q) (sym c) h))
 
   pub made_keeps : (a : Ask) (s' : State) (v' : Memory) (r : Turn) → AfterOver core code owed own sh v s a → Made a s s' v v' r → Turned core code owed own sh s v s' v' r
-  made_keeps (Silent m) s' v' r h p = by_turn s' m v' v r p.0 p.1 p.2 (goes v refl refl bd m h)
-  made_keeps (Get a k) s' v' r h p = by_turn s' (k p.0) v' v r p.2 p.3 p.4 (goes v refl refl bd (k p.0) (subst (λ (q : ℕ). Leads core code owed own sh 0 v.cells (k q)) (same_byte (sym h.1 ∙ p.1)) h.2))
-  made_keeps (Put a b m) s' v' r h p = by_turn s' m v' (after_put v a b) r p.0 p.1 p.2 (goes (after_put v a b) refl refl (bounded_put v a b h.0 bd) m h.1)
+  made_keeps (Silent m) s' v' r h p = by_turn s' m v' v r p.0 p.1 p.2 (goes v refl refl refl bd m h)
+  made_keeps (Get a k) s' v' r h p = by_turn s' (k p.0) v' v r p.2 p.3 p.4 (goes v refl refl refl bd (k p.0) (subst (λ (q : ℕ). Leads core code owed own sh 0 v.cells (k q)) (same_byte (sym h.1 ∙ p.1)) h.2))
+  made_keeps (Put a b m) s' v' r h p = by_turn s' m v' (after_put v a b) r p.0 p.1 p.2 (goes (after_put v a b) refl refl refl (bounded_put v a b h.0 bd) m h.1)
   made_keeps (Draw k) s' v' r h (inl p) =
       let c = p.0 in
       let d = p.1 in
       let l = h c d in
       by_turn s' (k c) v' (after_draw v c) r p.2 p.3 p.4
-      (record { alone = refl; own = with_chunk own c; share = l.0; drew = 1; spends = l.1; drawn = λ x. let i = d.alone x in omega (arith, i); safe = l.2; bounded = bounded_draw v c d bd })
+      (record { alone = refl; limit = refl; own = with_chunk own c; share = l.0; drew = 1; spends = l.1; drawn = λ x. let i = d.alone x in omega (arith, i); safe = l.2; bounded = bounded_draw v c d bd })
   made_keeps (Draw k) s' v' r h (inr p) = subst (Turned core code owed own sh s v s' v') (sym p.0) (p.1, p.2)
   made_keeps AtFork s' v' r h p = subst (Turned core code owed own sh s v s' v') (sym p.0) (p.1, p.2, h.0, h.1, h.2)
   made_keeps AtJoin s' v' r h p = subst (Turned core code owed own sh s v s' v') (sym p.0) (p.1, p.2, h.0, h.1, h.2)
@@ -70,7 +80,7 @@ spends_more p q = record {
 }
 
 pub at_first : (code : CodeTree) (s : State) (v : Memory) (t : IsTask code s v) → GoesOn t.core code t.owed t.share v s v
-at_first code s v t = record { own = t.own; share = t.share; drew = 0; spends = no_spending t.share; drawn = λ x. omega arith; safe = t.safe; alone = refl; bounded = t.bounded }
+at_first code s v t = record { own = t.own; share = t.share; drew = 0; spends = no_spending t.share; drawn = λ x. omega arith; safe = t.safe; alone = refl; limit = refl; bounded = t.bounded }
 
 pub further : (core : CoreTree) (code : CodeTree) (owed : Owed) (sh : Share) (v v1 v2 : Memory) (s1 s2 : State) (o : GoesOn core code owed sh v s1 v1) → GoesOn core code owed o.share v1 s2 v2 → GoesOn core code owed sh v s2 v2
 further core code owed sh v v1 v2 s1 s2 o p = record {
@@ -81,6 +91,7 @@ further core code owed sh v v1 v2 s1 s2 o p = record {
   drawn = λ x. let a = o.drawn x in let b = p.drawn (o.alone ∙ x) in omega (arith, a, b);
   safe = p.safe;
   alone = p.alone ∙ o.alone;
+  limit = p.limit ∙ o.limit;
   bounded = p.bounded;
 }
 

@@ -35,3 +35,4 @@ pub mod Row
 pub mod Fine
 pub mod Calls
 pub mod Mades
+pub mod RootRuns

@@ -1,7 +1,7 @@
 //! Runs a task for some steps.
 
 ghost use Rattle.gib_machine.specs.Stepping.{with_tails};
-ghost use Rattle.gib_weave.specs.Calling.{IsTask, Ran};
+ghost use Rattle.gib_weave.specs.Calling.{IsTask, Ran, Walked};
 
 use gib_code::Code;
 use gib_machine::{Machine, Turn};
@@ -19,7 +19,8 @@ pub fn run_for<M: Mem>(
     steps: u64,
 ) -> Option<Turn>
     requires { IsTask code.now (with_tails machine.old tails.old) (M.view mem.old) }
-    ensures { (t : IsTask code.now (with_tails machine.old tails.old) (M.view mem.old))
+    ensures walks { Walked code.now (with_tails machine.old tails.old) (M.view mem.old) steps (with_tails machine.new tails.new) (M.view mem.new) result }
+    ensures task { (t : IsTask code.now (with_tails machine.old tails.old) (M.view mem.old))
         → Ran code.now (with_tails machine.old tails.old) (M.view mem.old) t (with_tails machine.new tails.new) (M.view mem.new) result }
 {
     let mut left = steps;
