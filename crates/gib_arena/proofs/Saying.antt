@@ -16,8 +16,8 @@ use Rattle.gib_arena.specs.Tree.{stands}
 use Rattle.gib_arena.specs.Rule.{holding, branch, ArenaRule}
 use Rattle.gib_arena.specs.Says.{IsPass, Says}
 use Rattle.gib_arena.proofs.Totals.{total_at, total_some}
-use Rattle.gib_arena.proofs.Ones.{once_yes}
-use Rattle.gib_arena.proofs.BytesKeep.{owned, one_owner, fresh_empty}
+use Rattle.gib_arena.proofs.Ones.{once_yes, few}
+use Rattle.gib_arena.proofs.BytesKeep.{owned, one_owner, fresh_empty, sound}
 use Rattle.gib_arena.specs.CellLaws.{option_cases, cell_owned}
 use Rattle.gib_arena.proofs.Standing.{known_stored, fresh_is, own_known}
 use Rattle.gib_arena.proofs.TreeKeep.{outs, stands_yes, one_path, live_out, alone}
@@ -62,6 +62,7 @@ module _ (limit : ℕ) (s : State (Unit {0}) View) (r : ArenaRule limit s) where
     shares_add_up = sym (total_map share holding s.views) ∙ r.bytes.shares;
     within_limit = r.bytes.capped;
     seen_is = λ j v p. (holds_it limit s r j v p).seen_is;
+    share_seen = λ j v p. few v.holding.seen v.holding.chunks (sound limit s.words hs r.bytes j v.holding (at_map holding s.views j v p)).once (holds_it limit s r j v p).own_seen;
     paths_differ = λ i j v w p q l m e. one_path limit bs r.tree i j v.branch w.branch (at_map branch s.views i v p) (at_map branch s.views j w q) l m e;
     has_parent = λ j w p l ne. let b = w.branch in let y = stands_yes b.path b l refl in let t = total_at (stands b.path) bs j b (at_map branch s.views j w p) in let d = r.tree.parents b.path ne in
         let u = total_some (outs b.path) bs (omega arith) in let m = map_at branch s.views u.0 u.1 u.2 in

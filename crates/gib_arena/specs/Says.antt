@@ -26,10 +26,11 @@ pub record Says (limit : ℕ) (words : List ℕ) (views : List View) : Type 0 wh
   pub whole : Store
   pub grows : (j : ℕ) (v : View) → IsPass views j v → Grows (cells_of v.holding) whole
   pub fresh_is_free : (j : ℕ) (v : View) → IsPass views j v → (a : ℕ) → cells_of v.holding a ≡ fresh → whole a ≡ absent
-  -- the counter is the sum of the shares, no pass saw more, and it is at most the limit
+  -- the counter is the sum of the shares and at most the limit; no pass saw more, and none has more chunks than it saw
   pub shares_add_up : total (λ (v : View). share v.holding) views ≡ slice_index words 0
   pub within_limit : slice_index words 0 ≤ limit
   pub seen_is : (j : ℕ) (v : View) → IsPass views j v → v.holding.seen ≤ slice_index words 0
+  pub share_seen : (j : ℕ) (v : View) → IsPass views j v → share v.holding ≤ v.holding.seen
   -- live passes have paths of their own; each but the first is out of a live one, whose path is a front of it
   pub paths_differ : (i j : ℕ) (v w : View) → IsPass views i v → IsPass views j w → v.branch.live ≡ true → w.branch.live ≡ true → v.branch.path ≡ w.branch.path → i ≡ j
   pub has_parent : (j : ℕ) (w : View) → IsPass views j w → w.branch.live ≡ true → w.branch.path ≢ [] → (i : ℕ) × (v : View) × IsPass views i v × (v.branch.live ≡ true) × (0 < times_path w.branch.path v.branch.out) × IsUnder v.branch.path w.branch.path

@@ -115,12 +115,7 @@ impl Pass {
         ensures same { view self.new ≡ view self.old }
         ensures value { cells self.old at ≡ byte result }
     {
-        let _limit = arena.limit;
-        arena
-            .table
-            .shared
-            .load::<Read>(&mut self.seat, (at / WORD_BYTES) as usize + 1)
-            .to_le_bytes()[(at % WORD_BYTES) as usize]
+        self.look(arena, at)
     }
 
     /// The byte at a known address; 0 at a fresh one.
