@@ -1,29 +1,14 @@
 -- To reach fields keeps that variables are numbered in the order of the text.
-use Rattle.std.proofs.Common.{◌≡◌, ℕ, suc, ◌+◌, Bool, true, false, ◌==◌, if◌then◌else◌, List, [], ◌∷◌, ◌++◌, map, length, Option, Some, None, refl, sym, ap, ◌∙◌, subst, arith}
-use Rattle.std.specs.Prelude.{pos}
+use Rattle.std.proofs.Common.{◌≡◌, ℕ, Bool, true, false, if◌then◌else◌, List, [], ◌∷◌, ◌++◌, map, length, refl, sym, ◌∙◌, subst}
 use Rattle.std.specs.List.{AllByRecursion}
-use Rattle.std.proofs.lemmas.List.{append_assoc, length-map}
-use Rattle.gib_base.specs.declared.name.Name.{Name}
 use Rattle.gib_types.specs.declared.table.Ty.{Ty}
-use Rattle.gib_types.specs.declared.table.Ty.TheVariants.{Whole, Truth, Tree}
-use Rattle.gib_types.specs.declared.table.ConId.{ConId}
-use Rattle.gib_types.specs.Table.{Table, fields_at, owner_at}
-use Rattle.gib_syntax.specs.declared.tree.Ident.{Ident}
-use Rattle.gib_syntax.specs.declared.tree.Operator.{Operator}
-use Rattle.gib_syntax.specs.declared.tree.Parameter.{Parameter}
-use Rattle.gib_syntax.specs.Tree.{Expression, Arguments, Arms, Var, Num, Bit, Paren, Op, Call, Make, Let, Par, If, Case, NoArgument, Argument, LastArm, NextArm, FunctionTree, ProgramTree}
-use Rattle.gib_syntax.specs.Declarations.{number_of, function_named, type_of_name}
-use Rattle.gib_syntax.specs.Typing.{Globals, globals_of, parameter_types, result_type}
-use Rattle.gib_syntax.specs.Meaning.{at_fields, names_of}
+use Rattle.gib_types.specs.Table.{Table}
 use Rattle.gib_core.specs.declared.atom.Variable.{Variable}
-use Rattle.gib_core.specs.declared.atom.Atom.{Atom}
-use Rattle.gib_core.specs.declared.atom.Atom.TheVariants as atomic
 use Rattle.gib_core.specs.declared.atom.Access.TheVariants.{Offset, Skip}
 use Rattle.gib_core.specs.declared.atom.AccessMode.{AccessMode}
 use Rattle.gib_core.specs.declared.atom.AccessMode.TheVariants.{Skips, Offsets}
-use Rattle.gib_core.specs.declared.atom.Kind.TheVariants.{Scalar}
-use Rattle.gib_core.specs.Tree.{Term, Then, Write, Point, CallTerm, Give, CaseTerm, IfTerm, Bind, Past, One, Both, Prim, Reach, Side, On, Branches, NoBranch, BranchThen, var, variables_from, prepend, FunctionTerm, CoreTree}
-use Rattle.gib_core.specs.Inferring.{Scope, slot, Lined, Atomed, Several, ToLine, ToAtom, Code, boxed, given, of_line, of_atom, result_of, plain_line, of_plain, several, operation_atom, call_line, call_atom, call_side, scalar_call, call_code, further_types, pointed_fields, as_atoms, make_from, make_line, let_line, par_line, if_line, ArmCode, with_fields, arm_for, branch_of, branches_of, numbers_from, constructors_of, first_constructor, case_line, atom_at, type_at, con_named, gives_type, infer, infer_all, infer_arms, infer_body, infer_function, infer_program}
+use Rattle.gib_core.specs.Tree.{Term, Then, Write, Point, CallTerm, Give, CaseTerm, IfTerm, Bind, Past, One, Both, Prim, Reach, Side, On, Branches, NoBranch, BranchThen, prepend, FunctionTerm, CoreTree}
+use Rattle.gib_core.specs.Inferring.{numbers_from}
 use Rattle.gib_core.specs.Reaching.{uses, uses_any, skips_from, offsets_from, reaches, packed_variables, reach, reach_bind, reach_side, reach_branches, reach_function, reach_core}
 use Rattle.gib_core.specs.Met.{Body}
 use Rattle.gib_core.specs.Numbering.{binders, bind_binders, side_binders, branch_binders, IsNumbered, AreNumbered}

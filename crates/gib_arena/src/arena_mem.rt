@@ -18,14 +18,16 @@ impl<'a> ArenaMem<'a> {
     /// A pass of the arena, as a memory.
     pub fn make(arena: &'a Arena, pass: Pass) -> ArenaMem<'a>
         requires { IsOf arena.now pass }
-        ensures { (result.pass ≡ pass) × (result.arena ≡ arena.entry) }
+        ensures arena { result.arena ≡ arena.entry }
+        ensures pass { result.pass ≡ pass }
     {
         ArenaMem { arena, pass }
     }
 
     /// The arena and the pass.
     pub fn into_pass(self) -> (&'a Arena, Pass)
-        ensures { (result.1 ≡ self.entry.pass) × (result.0 ≡ self.entry.arena) }
+        ensures arena { result.0 ≡ self.entry.arena }
+        ensures pass { result.1 ≡ self.entry.pass }
     {
         let ArenaMem { arena, pass } = self;
         (arena, pass)

@@ -1,6 +1,6 @@
 //! The calls of an arena and its passes. None but `arena` takes memory, and none waits.
-ghost use Rattle.std.specs.Prelude.{◌≡◌, ℕ, max, ◌%◌, ◌<◌, ◌≤◌, IfOk, IfSome, IfNone};
-ghost use Rattle.gib_mem.specs.Memory.{fresh, byte, IsThere, look_of, Grows};
+ghost use Rattle.std.specs.Prelude.{◌≡◌, ℕ, max, ◌*◌, ◌%◌, ◌<◌, ◌≤◌, IfOk, IfSome, IfNone};
+ghost use Rattle.gib_mem.specs.Memory.{absent, fresh, byte, IsThere, look_of, Grows};
 ghost use Rattle.gib_arena.specs.Sums.{times_path};
 ghost use Rattle.gib_arena.specs.Bytes.{share, lone};
 ghost use Rattle.gib_arena.specs.Tree.{IsAlone};
@@ -42,6 +42,16 @@ pub fn arena(alloc: Global, chunks: u32) -> Result<(Arena, Pass), AllocError>
 }
 
 impl Pass {
+    /// What is fresh or known lies in chunks that were seen drawn, of which there are no more than the arena has; and a pass
+    /// has no more chunks than it saw. It does nothing.
+    pub fn is_bounded(&self)
+        ensures above { (q : ℕ) → 4096 * (view self.now).holding.seen ≤ q → cells self.now q ≡ absent }
+        ensures order { (view self.now).holding.seen ≤ (view self.now).branch.limit }
+        ensures share { share (view self.now).holding ≤ (view self.now).holding.seen }
+    {
+        let _seat = &self.seat;
+    }
+
     /// How many chunks are drawn. Where no other pass is out, these are the chunks of this pass, each once.
     pub fn chunks(&mut self, arena: &Arena) -> u32
         requires { IsOf arena.now self.old }
@@ -115,12 +125,7 @@ impl Pass {
         ensures same { view self.new ≡ view self.old }
         ensures value { cells self.old at ≡ byte result }
     {
-        let _limit = arena.limit;
-        arena
-            .table
-            .shared
-            .load::<Read>(&mut self.seat, (at / WORD_BYTES) as usize + 1)
-            .to_le_bytes()[(at % WORD_BYTES) as usize]
+        self.look(arena, at)
     }
 
     /// The byte at a known address; 0 at a fresh one.

@@ -24,7 +24,10 @@ use bodies::{make_functions, make_main};
 use gib_base::Memory;
 use gib_check::Typed;
 use gib_core::{Core, Terms};
-use law::{infer_gives_reachable, infer_keeps_the_meaning, infer_leaves_the_meaning, infer_numbers_variables};
+use law::{
+    infer_gives_reachable, infer_keeps_the_meaning, infer_leaves_the_meaning,
+    infer_numbers_variables,
+};
 use std::alloc::Global;
 use work::Work;
 

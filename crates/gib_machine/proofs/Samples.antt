@@ -1,7 +1,7 @@
 -- A table without types.
-use Rattle.std.proofs.Common.{◌≡◌, ℕ, zero, suc, ◌<◌, ◌≤◌, List, [], ◌∷◌, length, arith, refl, ap}
+use Rattle.std.proofs.Common.{◌≡◌, ℕ, [], arith, ap}
 use Rattle.std.specs.Prelude.{Option, Some, None, slice_get}
-use Rattle.gib_types.specs.Table.{Table, Row, IsTable, IsRow}
+use Rattle.gib_types.specs.Table.{Row, IsTable}
 
 abbrev tag : {X : Type 0} → Option X → ℕ
 tag None = 0
