@@ -30,3 +30,4 @@ mod FunctionCode
 pub mod Adding
 pub mod LiteralTerms
 pub mod Marks
+mod Orders

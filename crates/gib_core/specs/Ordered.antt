@@ -72,3 +72,42 @@ abbrev mutual
 -- Each body is ordered behind its parameters.
 abbrev pub AreOrdered : CoreTree → Type 0
 AreOrdered core = AllByRecursion (λ (b : Body). IsOrdered core.table (length b.parameters) b.term) (bodies core)
+
+-- No literal is negative.
+
+abbrev pub IsNatural : Atom → Type 0
+IsNatural (atomic.Variable x) = Unit {0}
+IsNatural (atomic.Whole z) = z ≡ pos (literal_of z)
+IsNatural (atomic.Truth b) = Unit {0}
+
+abbrev pub AreNaturalAtoms : List Atom → Type 0
+AreNaturalAtoms [] = Unit {0}
+AreNaturalAtoms (x ∷ xs) = IsNatural x × AreNaturalAtoms xs
+
+abbrev mutual
+  pub IsNaturalTerm : Term → Type 0
+  IsNaturalTerm (Then b rest) = IsNaturalBind b × IsNaturalTerm rest
+  IsNaturalTerm (Write h k ss ps) = AreNaturalAtoms ss × AreNaturalAtoms ps
+  IsNaturalTerm (Point x) = IsNatural x
+  IsNaturalTerm (CallTerm f xs) = AreNaturalAtoms xs
+  IsNaturalTerm (Give x) = IsNatural x
+  IsNaturalTerm (CaseTerm x branches) = IsNatural x × AreNaturalBranches branches
+  IsNaturalTerm (IfTerm x t u) = IsNatural x × IsNaturalTerm t × IsNaturalTerm u
+
+  pub IsNaturalBind : Bind → Type 0
+  IsNaturalBind (Past h k) = Unit {0}
+  IsNaturalBind (One s) = IsNaturalSide s
+  IsNaturalBind (Both fork l r) = IsNaturalSide l × IsNaturalSide r
+  IsNaturalBind (Prim x f y z) = IsNatural y × IsNatural z
+  IsNaturalBind (Reach y by) = Unit {0}
+
+  pub IsNaturalSide : Side → Type 0
+  IsNaturalSide (On kind x ty t) = IsNaturalTerm t
+
+  pub AreNaturalBranches : Branches → Type 0
+  AreNaturalBranches NoBranch = Unit {0}
+  AreNaturalBranches (BranchThen k xs t rest) = IsNaturalTerm t × AreNaturalBranches rest
+
+-- No body of a core has a negative literal; no source has one.
+abbrev pub AreNatural : CoreTree → Type 0
+AreNatural core = AllByRecursion (λ (b : Body). IsNaturalTerm b.term) (bodies core)

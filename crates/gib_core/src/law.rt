@@ -14,7 +14,7 @@ ghost use Rattle.gib_core.specs.Reaching.{reach_core};
 ghost use Rattle.gib_core.specs.Rules.{AreBuilt, first_broken};
 ghost use Rattle.gib_core.specs.Reachable.{AreReachable};
 ghost use Rattle.gib_core.specs.Numbering.{AreNumbered};
-ghost use Rattle.gib_core.specs.Ordered.{AreOrdered};
+ghost use Rattle.gib_core.specs.Ordered.{AreOrdered, AreNatural};
 ghost use Rattle.gib_core.specs.Literals.{AllLiteralsFit};
 ghost use Rattle.gib_core.specs.Fits.{AllFit};
 ghost use Rattle.gib_core.specs.Cost.{Costs, plus, cost_from, cost, cost_all};
@@ -36,6 +36,13 @@ pub fn erasing_keeps_the_meaning()
 /// A core whose fields only have to be reached meets the build rules once they are reached.
 pub fn reaching_makes_built()
     ensures { (mode : Mode) (core : CoreTree) → AreReachable core → AreBuilt (reach_core mode core) }
+{}
+
+/// A core that meets the build rules, is numbered in the order of the text, and has no negative literal, binds its variables
+/// in rising order. So what is left of it without its places means what it means.
+#[tactic(auto, using(crate::proofs::Orders::built_ordered))]
+pub fn built_is_ordered()
+    ensures { (core : CoreTree) → IsTable core.table → AreNumbered core → AreNatural core → AreBuilt core → AreOrdered core }
 {}
 
 /// Each body of a core fits that meets the build rules, is numbered in the order of the text, and has literals of 64 bits.
