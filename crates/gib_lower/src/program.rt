@@ -16,7 +16,6 @@ use crate::emitted::Emitted;
 use crate::ending::Ending;
 use crate::fields::Fields;
 use crate::law::lowering_gives_its_code;
-use crate::literals::literals_fit;
 use crate::numbering::{label_in, number_all};
 use crate::source::Source;
 use crate::walk::{Lowering, lower_term};
@@ -157,15 +156,14 @@ fn lower_core(alloc: Global, source: &Source) -> Result<(Vec<Instr>, Vec<Entry>)
 }
 
 /// Each body of the core fits.
-fn all_fits(checked: &Checked) -> Result<(), Memory>
+fn all_fits(checked: &Checked)
     requires { AreNumbered (core_of checked.now) }
-    ensures { IfOk result (λ _. AllFit (core_of checked.now)) }
+    ensures { AllFit (core_of checked.now) }
 {
     built_fits();
     let core = checked.core();
     core.types().rules();
-    literals_fit(core)?;
-    Ok(())
+    core.literals_fit();
 }
 
 /// A core with its code.
@@ -179,7 +177,7 @@ pub fn lower(alloc: Global, checked: Checked) -> Result<Lowered, Memory>
     ensures code { IfOk result (λ lowered. lowered.code ≡ lower_program (core_of checked)) }
 {
     lowering_gives_its_code();
-    all_fits(&checked)?;
+    all_fits(&checked);
     let source = Source::make(alloc, checked.into_core())?;
     let (instructions, functions) = lower_core(alloc, &source)?;
     let (core, layouts) = source.into_parts();
