@@ -7,3 +7,4 @@ pub mod Unwinds
 pub mod Steps
 pub mod Starts
 pub mod Widths
+pub mod Samples

@@ -1,6 +1,6 @@
 //! Calls and their ends: they have no memory action.
 
-ghost use Rattle.std.specs.Prelude.{◌≡◌, ◌<◌, ◌+◌, ◌^◌, ℕ, List, length};
+ghost use Rattle.std.specs.Prelude.{◌≡◌, ◌<◌, ◌+◌, ◌^◌, ℕ, List};
 ghost use Rattle.gib_machine.specs.Machine.{word, words, called, returned, gave, unwound, slots_at, widest};
 ghost use Rattle.gib_machine.specs.Machine as m;
 ghost use Rattle.gib_machine.specs.Stepping.{with_tails};

@@ -1,6 +1,6 @@
 //! The bytes of an item that are still to be put.
 
-ghost use Rattle.std.specs.Prelude.{◌≡◌, ◌<◌, ◌≤◌, ◌+◌, ◌-◌, ◌++◌, ℕ, List, [], ◌∷◌, length, take, drop, ◌↔◌, IsTrue};
+ghost use Rattle.std.specs.Prelude.{◌≡◌, ◌<◌, ◌≤◌, ◌+◌, ◌-◌, ◌++◌, ℕ, [], ◌∷◌, length, drop, ◌↔◌, IsTrue};
 ghost use Rattle.std.specs.Int.{w64, to_le_bytes};
 ghost use Rattle.gib_machine.specs.Items.{Bytes, bytes_of};
 

@@ -1,6 +1,6 @@
 //! Instructions that read: each gets a byte in a step.
 
-ghost use Rattle.std.specs.Prelude.{◌≡◌, ◌<◌, ◌≤◌, ◌+◌, ◌-◌, ◌^◌, ℕ, List, [], ◌∷◌, ◌++◌, take, length, slice_get};
+ghost use Rattle.std.specs.Prelude.{◌≡◌, ◌<◌, ◌≤◌, ◌+◌, ◌-◌, ◌^◌, ℕ, List, [], ◌∷◌, ◌++◌, take, slice_get};
 ghost use Rattle.gib_mem.specs.Memory.{byte};
 ghost use Rattle.gib_machine.specs.Machine.{Get, slot, sets, read_on, looked, followed, skip_on, skipped, skip_turned, arms_of};
 ghost use Rattle.gib_machine.specs.Machine as m;

@@ -1,6 +1,6 @@
 //! A machine at its first instruction.
 
-ghost use Rattle.std.specs.Prelude.{◌≡◌, ◌≤◌, ◌<◌, ℕ, List, [], length, Option, Some, None, IfOk, IfSome, IfNone, if◌then◌else◌};
+ghost use Rattle.std.specs.Prelude.{◌≡◌, ◌≤◌, ◌<◌, ℕ, length, Option, Some, None, IfOk, IfSome, IfNone, if◌then◌else◌};
 ghost use Rattle.gib_code.specs.Instruction.{instruction_of};
 ghost use Rattle.gib_machine.specs.Machine.{Ready, Opening, fork_of, side_doing, side_start};
 ghost use Rattle.gib_machine.specs.Machine as m;

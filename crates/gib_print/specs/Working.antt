@@ -11,7 +11,7 @@ use Rattle.gib_value.specs.Text.{spell, truth_text}
 use Rattle.gib_packed.specs.Scalars.{number, bit}
 use Rattle.gib_packed.specs.Decoding.{Dec}
 use Rattle.gib_print.specs.declared.work.Work.{Work}
-use Rattle.gib_print.specs.declared.work.Work.TheVariants.{Whole, Truth, Tree, From, Close}
+use Rattle.gib_print.specs.declared.work.Work.TheVariants.{Whole, Truth, Tree, Root, From, Close}
 
 -- The fields of a head, the scalars of which stand from an address on.
 abbrev pub fields_from : ℕ → List Ty → List Work
@@ -20,12 +20,7 @@ fields_from a (ty.Whole ∷ ts) = Whole a ∷ fields_from (a + 8) ts
 fields_from a (ty.Truth ∷ ts) = Truth a ∷ fields_from (a + 1) ts
 fields_from a (ty.Tree t ∷ ts) = Tree ∷ fields_from a ts
 
--- What the text of a constructor with these fields begins with.
-abbrev pub front : List Ty → List ℕ → List ℕ
-front [] name = name
-front (t ∷ ts) name = 40 ∷ name
-
--- The work behind that, where the head ends at an address, before other work.
+-- The work behind the name of a constructor with these fields, where its head ends at an address, before other work.
 abbrev pub with_fields : List Ty → ℕ → List Work → List Work
 with_fields [] end work = work
 with_fields (t ∷ ts) end work = fields_from (end - scalar_size (t ∷ ts)) (t ∷ ts) ++ Close ∷ work
@@ -37,30 +32,5 @@ pub data Left (laid : LaidOut) (names : List (List ℕ)) (s : Store) : List Work
   go_on : {ws : List Work} {a b : ℕ} {rest : List ℕ} → Left laid names s ws b rest → Left laid names s (From b ∷ ws) a rest
   a_whole : {ws : List Work} {a b : ℕ} {z : ℤ} {rest : List ℕ} → FitsSigned w64 z → Holds s b (number z) → Left laid names s ws a rest → Left laid names s (Whole b ∷ ws) a (32 ∷ (signed_decimal z ++ rest))
   a_truth : {ws : List Work} {a b : ℕ} (x : Bool) {rest : List ℕ} → s b ≡ byte (bit x) → Left laid names s ws a rest → Left laid names s (Truth b ∷ ws) a (32 ∷ (truth_text x ++ rest))
+  a_root : {ws : List Work} {a t z : ℕ} {v : Datum} {rest : List ℕ} → Dec laid s a t v z → Left laid names s ws z rest → Left laid names s (Root ∷ ws) a (spell laid.table names v rest)
   a_tree : {ws : List Work} {a t z : ℕ} {v : Datum} {rest : List ℕ} → Dec laid s a t v z → Left laid names s ws z rest → Left laid names s (Tree ∷ ws) a (32 ∷ spell laid.table names v rest)
-
--- What was printed and what the work prints together are the text.
-pub record Prints (laid : LaidOut) (names : List (List ℕ)) (s : Store) (out : List ℕ) (work : List Work) (a : ℕ) (text : List ℕ) : Type 0 where
-  pub rest : List ℕ
-  pub left : Left laid names s work a rest
-  pub whole : out ++ rest ≡ text
-
--- Of each value that stands at the place `at`, whatever is printed behind it: before, its text was to be printed; now its front is.
-abbrev pub Opens : LaidOut → List (List ℕ) → Store → ℕ → List ℕ → List Work → List ℕ → List Work → ℕ → Type 0
-Opens laid names s at out work new_out new_work a =
-    (t z : ℕ) (v : Datum) (rest : List ℕ) → Dec laid s at t v z → Left laid names s work z rest
-    → Prints laid names s new_out new_work a (out ++ spell laid.table names v rest)
-
--- Of each value that stands at a place, whatever is printed behind it: a head of it stands here, and the new work goes on
--- where it ends.
-pub record Found (laid : LaidOut) (s : Store) (t : ℕ) (v : Datum) (z : ℕ) (work new_work : List Work) (head : ℕ) : Type 0 where
-  pub tag : ℕ
-  pub is : s head ≡ byte tag
-  pub small : tag < 254
-  pub end : ℕ
-  pub value : Dec laid s head t v end
-  pub left : (names : List (List ℕ)) (rest : List ℕ) → Left laid names s work z rest → Left laid names s new_work end rest
-
--- Whichever value stands at a place, a head of it was found here.
-abbrev pub Finds : LaidOut → Store → ℕ → List Work → List Work → ℕ → Type 0
-Finds laid s at work new_work head = (t : ℕ) (v : Datum) (z : ℕ) → Dec laid s at t v z → Found laid s t v z work new_work head

@@ -33,3 +33,6 @@ pub mod Progress
 pub mod Picks
 pub mod Row
 pub mod Fine
+pub mod Calls
+pub mod Mades
+pub mod RootRuns

@@ -1,4 +1,4 @@
-use Rattle.std.proofs.Common.{◌≡◌, ◌≤◌, ◌+◌, ◌*◌, ◌++◌, length, map}
+use Rattle.std.proofs.Common.{◌≡◌, ◌≤◌, ◌*◌, ◌++◌, length}
 use Rattle.gib_types.specs.Table.{scalar_types}
 use Rattle.gib_machine.specs.Machine.{words, scalar_bytes}
 use Rattle.gib_machine.proofs.placing.push_scalars.Given as goal

@@ -1,4 +1,4 @@
-use Rattle.std.proofs.Common.{rules, ◌≡◌, ◌-◌, ℕ, List, sym, subst}
+use Rattle.std.proofs.Common.{rules, ◌≡◌, ◌-◌, ℕ, sym, subst}
 use Rattle.gib_region.specs.Region.{Begins}
 use Rattle.gib_machine.specs.Machine.{sets, opened}
 use Rattle.gib_machine.specs.Stepping.{with_tails}

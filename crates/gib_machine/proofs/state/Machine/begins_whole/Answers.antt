@@ -1,7 +1,5 @@
-use Rattle.std.proofs.Common.{rules, ◌≡◌, ◌-◌, ℕ, List, sym, subst}
+use Rattle.std.proofs.Common.{rules, ℕ, sym, subst}
 use Rattle.gib_region.specs.Region.{Begins}
-use Rattle.gib_machine.specs.Machine.{opened}
-use Rattle.gib_machine.specs.Stepping.{with_tails}
 use Rattle.gib_machine.proofs.Latest.{begun}
 use Rattle.gib_machine.proofs.state.Machine.begins_whole.Goals as goal
 

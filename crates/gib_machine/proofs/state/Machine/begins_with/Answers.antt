@@ -1,4 +1,4 @@
-use Rattle.std.proofs.Common.{rules, ◌≡◌, ◌-◌, List, ℕ, refl, sym, ap, subst, ◌∙◌, take}
+use Rattle.std.proofs.Common.{List, refl, sym, ap, subst, ◌∙◌}
 use Rattle.std.specs.Prelude.{Some, None}
 use Rattle.gib_code.specs.declared.instruction.Operand.{Operand}
 use Rattle.gib_code.specs.declared.instruction.Instr.{Instr}

@@ -1,4 +1,4 @@
-use Rattle.std.proofs.Common.{rules, ◌≡◌, ◌-◌, List, ℕ, refl, sym, ap, subst, ◌∙◌, take}
+use Rattle.std.proofs.Common.{◌≡◌, ◌-◌, sym, ap, subst, ◌∙◌, take}
 use Rattle.gib_machine.specs.declared.state.Doing.{Doing}
 use Rattle.gib_machine.specs.Machine.{State, goes_on}
 use Rattle.gib_machine.specs.Machine as m

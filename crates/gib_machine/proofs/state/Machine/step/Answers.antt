@@ -1,4 +1,3 @@
-use Rattle.std.proofs.Common.{rules}
 use Rattle.gib_machine.proofs.Steps.{small_ask}
 use Rattle.gib_machine.proofs.state.Machine.step.Goals as goal
 

@@ -1,4 +1,4 @@
-use Rattle.std.proofs.Common.{rules, ◌≡◌, ℕ, sym, ap, ◌∙◌}
+use Rattle.std.proofs.Common.{◌≡◌, sym, ap, ◌∙◌}
 use Rattle.gib_machine.specs.contracts.state.Machine.{the_view}
 use Rattle.gib_machine.specs.Machine.{State, Unwinding}
 use Rattle.gib_machine.specs.Openings.{Opened, from_left}
