@@ -1,19 +1,21 @@
 -- The two walks over a value.
 use Rattle.std.proofs.Common.{◌≡◌, ℕ, zero, suc, eqb, false, ◌+◌, ◌-◌, ◌<◌, ◌≤◌, List, [], ◌∷◌, ◌++◌, length, refl, sym, ap, subst, ◌∙◌, arith, append_assoc, append-nil, length-append}
 use Rattle.std.specs.Prelude.{Option}
-use Rattle.gib_edge.specs.Causes.{AppendsPart}
+use Rattle.gib_edge.specs.Causes.{AppendsPart, PutsSomePieces}
+use Rattle.gib_edge.specs.Views.{SinkView}
 use Rattle.gib_types.specs.Layout.{LaidOut}
 use Rattle.gib_types.specs.Tree.{Datum}
 use Rattle.gib_mem.specs.Memory.{Store}
 use Rattle.gib_value.specs.Text.{text}
 use Rattle.gib_packed.specs.Decoding.{Dec}
 use Rattle.gib_print.specs.Piece.{piece_text}
-use Rattle.gib_print.specs.Waiting.{IsPut}
+use Rattle.gib_print.specs.Waiting.{IsPut, IsPutWhole}
 use Rattle.gib_print.specs.Working.{Left, nothing, a_root}
 use Rattle.gib_print.specs.Stepping.{Step, Run, end, more}
 use Rattle.gib_print.specs.declared.piece.Piece.{Piece}
 use Rattle.gib_print.specs.declared.work.Work.{Work}
 use Rattle.gib_print.specs.declared.work.Work.TheVariants as w
+use Rattle.gib_print.proofs.SizeLemmas.{some_appended}
 use Rattle.gib_print.proofs.WaitingLemmas.{part_more}
 use Rattle.gib_print.proofs.StepLemmas.{step_left, run_step}
 
@@ -70,7 +72,7 @@ module _ {laid : LaidOut} {names : List (List ℕ)} {s : Store} {room stop at by
 -- ---- the second walk
 
 -- a front of the text was put, and what is left prints the rest of it in the room that there is
-pub record Putting (laid : LaidOut) (names : List (List ℕ)) (s : Store) (room : ℕ) (ws : List Work) (stop left : ℕ) (all : List ℕ) (before now : Option (List ℕ)) (old waiting : List ℕ) : Type 0 where
+pub record Putting (laid : LaidOut) (names : List (List ℕ)) (s : Store) (room : ℕ) (ws : List Work) (stop left : ℕ) (all : List ℕ) (before now : SinkView) (old waiting : List ℕ) : Type 0 where
   pub front : List ℕ
   pub rest : List ℕ
   pub run : Run laid names s room ws stop rest
@@ -78,9 +80,10 @@ pub record Putting (laid : LaidOut) (names : List (List ℕ)) (s : Store) (room 
   pub long : length rest ≡ left
   pub spelt : List ℕ
   pub spells : Left laid names s ws stop spelt
-  pub puts : (start : Option (List ℕ)) → IsPut start before old [] → IsPut start now waiting front
+  pub puts : (start : Option (List ℕ)) → IsPut start before.taken old [] → IsPut start now.taken waiting front
+  pub pieces : (start : SinkView) → IsPutWhole start before old [] → IsPutWhole start now waiting front
 
-pub putting_start : (laid : LaidOut) (names : List (List ℕ)) (s : Store) (room at left t z : ℕ) (v : Datum) (ws : List Work) (before : Option (List ℕ)) (old : List ℕ) → ws ≡ w.Root ∷ [] → Dec laid s at t v z
+pub putting_start : (laid : LaidOut) (names : List (List ℕ)) (s : Store) (room at left t z : ℕ) (v : Datum) (ws : List Work) (before : SinkView) (old : List ℕ) → ws ≡ w.Root ∷ [] → Dec laid s at t v z
     → Run laid names s room (w.Root ∷ []) at (text laid.table names v) → length (text laid.table names v) ≡ left → Putting laid names s room ws at left (text laid.table names v) before before old old
 putting_start laid names s room at left t z v ws before old e d r long = record {
   front = [];
@@ -91,9 +94,10 @@ putting_start laid names s room at left t z v ws before old e d r long = record 
   spelt = text laid.table names v;
   spells = subst (λ (x : List Work). Left laid names s x at (text laid.table names v)) (sym e) (a_root d nothing);
   puts = λ start h. h;
+  pieces = λ start h. h;
 }
 
-pub putting_fits : {laid : LaidOut} {names : List (List ℕ)} {s : Store} {room stop left b : ℕ} {ws new : List Work} {all : List ℕ} {before now : Option (List ℕ)} {old waiting : List ℕ} {piece : Piece} → Putting laid names s room ws stop left all before now old waiting → Step laid s ws stop piece new b
+pub putting_fits : {laid : LaidOut} {names : List (List ℕ)} {s : Store} {room stop left b : ℕ} {ws new : List Work} {all : List ℕ} {before now : SinkView} {old waiting : List ℕ} {piece : Piece} → Putting laid names s room ws stop left all before now old waiting → Step laid s ws stop piece new b
     → length (piece_text laid.table names piece) ≤ left
 putting_fits {laid = laid} {names = names} {piece = piece} p step =
     let r = run_step p.run step in
@@ -101,10 +105,11 @@ putting_fits {laid = laid} {names = names} {piece = piece} p step =
     let f = length-append (piece_text laid.table names piece) r.later in
     omega (arith, e, f, p.long)
 
-pub putting_step : {laid : LaidOut} {names : List (List ℕ)} {s : Store} {room stop left b : ℕ} {ws new : List Work} {all : List ℕ} {before now next : Option (List ℕ)} {old waiting later : List ℕ} {piece : Piece} → Putting laid names s room ws stop left all before now old waiting → Step laid s ws stop piece new b
-    → ((start : Option (List ℕ)) (printed : List ℕ) → IsPut start now waiting printed → IsPut start next later (printed ++ piece_text laid.table names piece))
+pub putting_step : {laid : LaidOut} {names : List (List ℕ)} {s : Store} {room stop left b : ℕ} {ws new : List Work} {all : List ℕ} {before now next : SinkView} {old waiting later : List ℕ} {piece : Piece} → Putting laid names s room ws stop left all before now old waiting → Step laid s ws stop piece new b
+    → ((start : Option (List ℕ)) (printed : List ℕ) → IsPut start now.taken waiting printed → IsPut start next.taken later (printed ++ piece_text laid.table names piece))
+    → ((start : SinkView) (printed : List ℕ) → IsPutWhole start now waiting printed → IsPutWhole start next later (printed ++ piece_text laid.table names piece))
     → Putting laid names s room new b (left - length (piece_text laid.table names piece)) all before next old later
-putting_step {laid = laid} {names = names} {piece = piece} p step put =
+putting_step {laid = laid} {names = names} {piece = piece} p step put send =
     let text_of = piece_text laid.table names piece in
     let r = run_step p.run step in
     let l = step_left step p.spells in
@@ -119,6 +124,7 @@ putting_step {laid = laid} {names = names} {piece = piece} p step put =
       spelt = l.later;
       spells = l.left;
       puts = λ start h. put start p.front (p.puts start h);
+      pieces = λ start h. send start p.front (p.pieces start h);
     }
 
 run_nothing : {laid : LaidOut} {names : List (List ℕ)} {s : Store} {room a : ℕ} {rest : List ℕ} → Run laid names s room [] a rest → rest ≡ []
@@ -126,20 +132,27 @@ run_nothing end = refl
 run_nothing (more le step r) = elim step [ ]
 
 -- all was put
-pub putting_end : {laid : LaidOut} {names : List (List ℕ)} {s : Store} {room stop left : ℕ} {ws : List Work} {all : List ℕ} {before now : Option (List ℕ)} {old waiting : List ℕ} → Putting laid names s room ws stop left all before now old waiting → ws ≡ [] → (start : Option (List ℕ)) → IsPut start before old [] → IsPut start now waiting all
-putting_end {laid = laid} {names = names} {s = s} {room = room} {stop = stop} {now = now} {waiting = waiting} p empty start h =
+all_put : {laid : LaidOut} {names : List (List ℕ)} {s : Store} {room stop left : ℕ} {ws : List Work} {all : List ℕ} {before now : SinkView} {old waiting : List ℕ} (p : Putting laid names s room ws stop left all before now old waiting) → ws ≡ [] → p.front ≡ all
+all_put {laid = laid} {names = names} {s = s} {room = room} {stop = stop} p empty =
     let none = run_nothing (subst (λ (x : List Work). Run laid names s room x stop p.rest) empty p.run) in
-    let same = sym (append-nil p.front) ∙ ap (λ (x : List ℕ). p.front ++ x) (sym none) ∙ p.whole in
-    subst (λ (x : List ℕ). IsPut start now waiting x) same (p.puts start h)
+    sym (append-nil p.front) ∙ ap (λ (x : List ℕ). p.front ++ x) (sym none) ∙ p.whole
+
+pub putting_end : {laid : LaidOut} {names : List (List ℕ)} {s : Store} {room stop left : ℕ} {ws : List Work} {all : List ℕ} {before now : SinkView} {old waiting : List ℕ} → Putting laid names s room ws stop left all before now old waiting → ws ≡ [] → (start : Option (List ℕ)) → IsPut start before.taken old [] → IsPut start now.taken waiting all
+putting_end {now = now} {waiting = waiting} p empty start h = subst (λ (x : List ℕ). IsPut start now.taken waiting x) (all_put p empty) (p.puts start h)
+
+pub putting_pieces : {laid : LaidOut} {names : List (List ℕ)} {s : Store} {room stop left : ℕ} {ws : List Work} {all : List ℕ} {before now : SinkView} {old waiting : List ℕ} → Putting laid names s room ws stop left all before now old waiting → ws ≡ [] → (start : SinkView) → IsPutWhole start before old [] → IsPutWhole start now waiting all
+putting_pieces {now = now} {waiting = waiting} p empty start h = subst (λ (x : List ℕ). IsPutWhole start now waiting x) (all_put p empty) (p.pieces start h)
 
 -- where a piece failed, a front of all was put
-pub putting_part : {laid : LaidOut} {names : List (List ℕ)} {s : Store} {room stop left b : ℕ} {ws new : List Work} {all : List ℕ} {before now : Option (List ℕ)} {old waiting : List ℕ} {piece : Piece} (start next : Option (List ℕ)) (p : Putting laid names s room ws stop left all before now old waiting) → Step laid s ws stop piece new b
-    → AppendsPart start next (p.front ++ piece_text laid.table names piece) → AppendsPart start next all
-putting_part {laid = laid} {names = names} {piece = piece} start next p step part =
-    let text_of = piece_text laid.table names piece in
-    let r = run_step p.run step in
-    let whole = append_assoc p.front text_of r.later ∙ ap (λ (x : List ℕ). p.front ++ x) (sym r.whole) ∙ p.whole in
-    subst (λ (x : List ℕ). AppendsPart start next x) whole (part_more start next (p.front ++ text_of) r.later part)
+module _ {laid : LaidOut} {names : List (List ℕ)} {s : Store} {room stop left b : ℕ} {ws new : List Work} {all : List ℕ} {before now : SinkView} {old waiting : List ℕ} {piece : Piece} (p : Putting laid names s room ws stop left all before now old waiting) (step : Step laid s ws stop piece new b) where
+  still_to_put : (rest : List ℕ) × ((p.front ++ piece_text laid.table names piece) ++ rest ≡ all)
+  still_to_put = let r = run_step p.run step in (r.later, append_assoc p.front (piece_text laid.table names piece) r.later ∙ ap (λ (x : List ℕ). p.front ++ x) (sym r.whole) ∙ p.whole)
+
+  pub putting_part : (start next : Option (List ℕ)) → AppendsPart start next (p.front ++ piece_text laid.table names piece) → AppendsPart start next all
+  putting_part start next part = subst (λ (x : List ℕ). AppendsPart start next x) still_to_put.1 (part_more start next (p.front ++ piece_text laid.table names piece) still_to_put.0 part)
+
+  pub putting_some : (start next : SinkView) → PutsSomePieces start next (length (p.front ++ piece_text laid.table names piece)) → PutsSomePieces start next (length all)
+  putting_some start next part = subst (λ (x : List ℕ). PutsSomePieces start next (length x)) still_to_put.1 (some_appended start next (p.front ++ piece_text laid.table names piece) still_to_put.0 part)
 
 pub no_items : (ws : List Work) → length ws ≡ 0 → ws ≡ []
 no_items [] e = refl

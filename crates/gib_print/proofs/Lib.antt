@@ -5,3 +5,4 @@ pub mod WaitingLemmas
 pub mod RootLemmas
 pub mod Examples
 pub mod CountLemmas
+pub mod SizeLemmas

@@ -1,8 +1,8 @@
 -- What is printed when a head is met.
-use Rattle.std.proofs.Common.{◌≡◌, ◌≢◌, ℕ, ◌+◌, ◌-◌, ◌<◌, List, [], ◌∷◌, ◌++◌, length, refl, sym, ap, subst, ◌∙◌, arith, Some, inl, inr}
+use Rattle.std.proofs.Common.{◌≡◌, ◌≢◌, ℕ, ◌+◌, ◌-◌, ◌<◌, List, [], ◌∷◌, ◌++◌, length, refl, sym, subst, arith, Some, inl, inr}
 use Rattle.gib_types.specs.declared.table.Ty.{Ty}
 use Rattle.gib_types.specs.Table.{con_at, fields_at}
-use Rattle.gib_types.specs.Layout.{LaidOut, layout_at, is_among, scalar_size, head_size}
+use Rattle.gib_types.specs.Layout.{LaidOut, layout_at, is_among, scalar_size}
 use Rattle.gib_types.specs.Tree.{Datum, con, Data}
 use Rattle.gib_mem.specs.Memory.{Store, Holds, byte}
 use Rattle.gib_mem.specs.Memory as mem

@@ -1,10 +1,11 @@
 //! The pieces of a text, each with the bytes that it is.
 
 ghost use Rattle.std.specs.Prelude.{◌≡◌, ◌++◌, ℕ, List, length, Option, OnOk, OnErr};
-ghost use Rattle.gib_edge.specs.Causes.{HasCause, AppendsPart};
+ghost use Rattle.gib_edge.specs.Causes.{HasCause, AppendsPart, PutsSomePieces};
+ghost use Rattle.gib_edge.specs.Views.{SinkView};
 ghost use Rattle.gib_value.specs.Text.{AreHeld};
 ghost use Rattle.gib_print.specs.Piece.{front_text, word_text, piece_text, IsKnown};
-ghost use Rattle.gib_print.specs.Waiting.{IsPut};
+ghost use Rattle.gib_print.specs.Waiting.{IsPut, IsPutWhole};
 
 use crate::waiting::Waiting;
 use gib_base::Names;
@@ -97,6 +98,8 @@ pub(crate) fn put_piece<O: Sink>(
     ensures ok { (start : Option (List ℕ)) (printed : List ℕ) → IsPut start (O.view sink.old).taken waiting.old printed → OnOk result (IsPut start (O.view sink.new).taken waiting.new (printed ++ piece_text types.now names.now piece)) }
     ensures part { (start : Option (List ℕ)) (printed : List ℕ) → IsPut start (O.view sink.old).taken waiting.old printed → OnErr result (AppendsPart start (O.view sink.new).taken (printed ++ piece_text types.now names.now piece)) }
     ensures cause { HasCause (O.view sink.old).faults (O.view sink.new).faults result }
+    ensures pieces { (start : SinkView) (printed : List ℕ) → IsPutWhole start (O.view sink.old) waiting.old printed → OnOk result (IsPutWhole start (O.view sink.new) waiting.new (printed ++ piece_text types.now names.now piece)) }
+    ensures some { (start : SinkView) (printed : List ℕ) → IsPutWhole start (O.view sink.old) waiting.old printed → OnErr result (PutsSomePieces start (O.view sink.new) (length (printed ++ piece_text types.now names.now piece))) }
 {
     let mut digits = Buffer::new();
     let word = word_of(&mut digits, types, names, piece);

@@ -1,10 +1,11 @@
 //! Puts the text of a value.
 
-ghost use Rattle.std.specs.Prelude.{◌≡◌, ◌++◌, ◌∷◌, [], ◌≤◌, ℕ, List, Option, OnOk, OnErr, IfOk, IsErrOf};
-ghost use Rattle.gib_edge.specs.Causes.{Rose, HasCause, Appends, AppendsPart};
+ghost use Rattle.std.specs.Prelude.{◌≡◌, ◌++◌, ◌∷◌, [], ◌≤◌, ◌+◌, ℕ, List, length, Option, OnOk, OnErr, IfOk, IsErrOf};
+ghost use Rattle.gib_edge.specs.Causes.{Rose, HasCause, Appends, AppendsPart, PutsPieces, PutsSomePieces};
+ghost use Rattle.gib_edge.specs.Views.{SinkView};
 ghost use Rattle.gib_packed.specs.Decoding.{Dec, Decodes};
 ghost use Rattle.gib_print.specs.Counting.{IsCounted};
-ghost use Rattle.gib_print.specs.Waiting.{IsPut};
+ghost use Rattle.gib_print.specs.Waiting.{IsPut, IsPutWhole};
 ghost use Rattle.gib_types.specs.declared.table.Ty.{Ty as Type_of};
 ghost use Rattle.gib_types.specs.Tree.{Datum};
 ghost use Rattle.gib_value.specs.Text.{text, truth_text, AreHeld};
@@ -26,6 +27,8 @@ fn end_line<O: Sink>(waiting: &mut Waiting, sink: &mut O) -> Result<(), Failed>
     ensures ok { (start : Option (List ℕ)) (printed : List ℕ) → IsPut start (O.view sink.old).taken waiting.old printed → OnOk result (Appends start (O.view sink.new).taken (printed ++ 10 ∷ [])) }
     ensures part { (start : Option (List ℕ)) (printed : List ℕ) → IsPut start (O.view sink.old).taken waiting.old printed → OnErr result (AppendsPart start (O.view sink.new).taken (printed ++ 10 ∷ [])) }
     ensures cause { HasCause (O.view sink.old).faults (O.view sink.new).faults result }
+    ensures pieces { (start : SinkView) (printed : List ℕ) → IsPutWhole start (O.view sink.old) waiting.old printed → OnOk result (PutsPieces start (O.view sink.new) (length printed + 1)) }
+    ensures some { (start : SinkView) (printed : List ℕ) → IsPutWhole start (O.view sink.old) waiting.old printed → OnErr result (PutsSomePieces start (O.view sink.new) (length printed + 1)) }
 {
     match waiting.put_byte(sink, 10) {
         Ok(()) => waiting.flush(sink),
@@ -38,6 +41,8 @@ fn print_bytes<O: Sink>(bytes: &[u8], sink: &mut O) -> Result<(), Failed>
     ensures ok { OnOk result (Appends (O.view sink.old).taken (O.view sink.new).taken (bytes.now ++ 10 ∷ [])) }
     ensures part { OnErr result (AppendsPart (O.view sink.old).taken (O.view sink.new).taken (bytes.now ++ 10 ∷ [])) }
     ensures cause { HasCause (O.view sink.old).faults (O.view sink.new).faults result }
+    ensures pieces { OnOk result (PutsPieces (O.view sink.old) (O.view sink.new) (length bytes.now + 1)) }
+    ensures some { OnErr result (PutsSomePieces (O.view sink.old) (O.view sink.new) (length bytes.now + 1)) }
 {
     let mut waiting = Waiting::new();
     match waiting.put_bytes(sink, bytes) {
@@ -67,6 +72,8 @@ fn print_tree<M: Mem, O: Sink>(
     ensures ok { (t : ℕ) (v : Datum) (z : ℕ) → Dec layouts.now (M.view mem.old).cells counted.at t v z → OnOk result (Appends (O.view sink.old).taken (O.view sink.new).taken (text layouts.now.table names.now v ++ 10 ∷ [])) }
     ensures part { (t : ℕ) (v : Datum) (z : ℕ) → Dec layouts.now (M.view mem.old).cells counted.at t v z → OnErr result (AppendsPart (O.view sink.old).taken (O.view sink.new).taken (text layouts.now.table names.now v ++ 10 ∷ [])) }
     ensures cause { HasCause (O.view sink.old).faults (O.view sink.new).faults result }
+    ensures pieces { (t : ℕ) (v : Datum) (z : ℕ) → Dec layouts.now (M.view mem.old).cells counted.at t v z → OnOk result (PutsPieces (O.view sink.old) (O.view sink.new) (length (text layouts.now.table names.now v) + 1)) }
+    ensures some { (t : ℕ) (v : Datum) (z : ℕ) → Dec layouts.now (M.view mem.old).cells counted.at t v z → OnErr result (PutsSomePieces (O.view sink.old) (O.view sink.new) (length (text layouts.now.table names.now v) + 1)) }
     ensures same { M.view mem.new ≡ M.view mem.old }
 {
     let mut waiting = Waiting::new();
@@ -76,12 +83,13 @@ fn print_tree<M: Mem, O: Sink>(
     }
 }
 
-/// Puts the text of the value that stands for a root in pieces of 4,096 bytes, and a line feed. The value is walked
-/// twice: the first walk takes all memory, which is what the nesting of the value needs and not what its text is long.
+/// Puts the text of the value that stands for a root and a line feed, in pieces of 4,096 bytes and a last one that may be
+/// shorter. The value is walked twice: the first walk takes all memory, which is what the nesting of the value needs and
+/// not what its text is long.
 ///
 /// # Errors
 ///
-/// `Memory`, and nothing was put; `Write` where the sink failed, which took a front of the bytes.
+/// `Memory`, and the sink was not called; `Write` where the sink failed, which took a front of the bytes.
 pub fn print_at<M: Mem, O: Sink>(
     alloc: Global,
     mem: &mut M,
@@ -102,6 +110,11 @@ pub fn print_at<M: Mem, O: Sink>(
     ensures later { (O.view sink.old).faults ≤ (O.view sink.new).faults }
     ensures quiet { (IsErrOf result PrintFault.Write → ⊥) → (O.view sink.new).faults ≡ (O.view sink.old).faults }
     ensures silent { IsErrOf result PrintFault.Memory → (O.view sink.new).taken ≡ (O.view sink.old).taken }
+    ensures pieces { (ty : Type_of) (v : Datum) → Stands layouts.now (M.view mem.old).cells root ty v
+        → OnOk result (PutsPieces (O.view sink.old) (O.view sink.new) (length (text layouts.now.table names.now v) + 1)) }
+    ensures some { (ty : Type_of) (v : Datum) → Stands layouts.now (M.view mem.old).cells root ty v
+        → IsErrOf result PrintFault.Write → PutsSomePieces (O.view sink.old) (O.view sink.new) (length (text layouts.now.table names.now v) + 1) }
+    ensures still { IsErrOf result PrintFault.Memory → O.view sink.new ≡ O.view sink.old }
     ensures same { M.view mem.new ≡ M.view mem.old }
 {
     types.rules();

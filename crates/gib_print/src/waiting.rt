@@ -1,8 +1,9 @@
 //! Puts bytes in pieces.
 
-ghost use Rattle.std.specs.Prelude.{◌≡◌, ◌++◌, ◌∷◌, [], ℕ, ◌<◌, List, length, Option, OnOk, OnErr, IsFalse};
-ghost use Rattle.gib_edge.specs.Causes.{HasCause, AppendsPart};
-ghost use Rattle.gib_print.specs.Waiting.{IsPut};
+ghost use Rattle.std.specs.Prelude.{◌≡◌, ◌++◌, ◌∷◌, [], ℕ, ◌<◌, ◌≤◌, List, length, Option, OnOk, OnErr, IsTrue, IsFalse};
+ghost use Rattle.gib_edge.specs.Causes.{HasCause, AppendsPart, HasPut, PutsSomePieces};
+ghost use Rattle.gib_edge.specs.Views.{SinkView};
+ghost use Rattle.gib_print.specs.Waiting.{IsPut, IsPutWhole};
 
 use gib_edge::outside::{Failed, Sink};
 use std::marker::Model;
@@ -44,6 +45,8 @@ impl Waiting {
         ensures empty { OnOk result (self.new ≡ []) }
         ensures part { (start : Option (List ℕ)) (printed : List ℕ) → IsPut start (O.view sink.old).taken self.old printed → OnErr result (AppendsPart start (O.view sink.new).taken printed) }
         ensures cause { HasCause (O.view sink.old).faults (O.view sink.new).faults result }
+        ensures called { HasPut (O.view sink.old) (O.view sink.new) (length self.old) }
+        ensures few { length self.old ≤ 4096 }
     {
         match sink.put(self.as_slice()) {
             Ok(()) => {
@@ -56,7 +59,8 @@ impl Waiting {
 
     /// What waits.
     fn as_slice(&self) -> &[u8]
-        ensures { result.now ≡ self.now }
+        ensures value { result.now ≡ self.now }
+        ensures few { length self.now ≤ 4096 }
     {
         &self.bytes[..self.count]
     }
@@ -79,7 +83,8 @@ impl Waiting {
 
     /// Whether a whole piece waits.
     fn is_full(&self) -> bool
-        ensures { IsFalse result → length self.now < 4096 }
+        ensures not { IsFalse result → length self.now < 4096 }
+        ensures full { IsTrue result → length self.now ≡ 4096 }
     {
         self.count == PIECE
     }
@@ -89,6 +94,9 @@ impl Waiting {
         ensures ok { (start : Option (List ℕ)) (printed : List ℕ) → IsPut start (O.view sink.old).taken self.old printed → OnOk result (IsPut start (O.view sink.new).taken self.new (printed ++ byte ∷ [])) }
         ensures part { (start : Option (List ℕ)) (printed : List ℕ) → IsPut start (O.view sink.old).taken self.old printed → OnErr result (AppendsPart start (O.view sink.new).taken printed) }
         ensures cause { HasCause (O.view sink.old).faults (O.view sink.new).faults result }
+        ensures pieces { (start : SinkView) (printed : List ℕ) → IsPutWhole start (O.view sink.old) self.old printed → OnOk result (IsPutWhole start (O.view sink.new) self.new (printed ++ byte ∷ [])) }
+        ensures some { (start : SinkView) (printed : List ℕ) → IsPutWhole start (O.view sink.old) self.old printed → OnErr result (PutsSomePieces start (O.view sink.new) (length printed)) }
+        ensures waits { OnOk result (0 < length self.new) }
     {
         if self.is_full() {
             match self.flush(sink) {
@@ -105,6 +113,8 @@ impl Waiting {
         ensures ok { (start : Option (List ℕ)) (printed : List ℕ) → IsPut start (O.view sink.old).taken self.old printed → OnOk result (IsPut start (O.view sink.new).taken self.new (printed ++ bytes.now)) }
         ensures part { (start : Option (List ℕ)) (printed : List ℕ) → IsPut start (O.view sink.old).taken self.old printed → OnErr result (AppendsPart start (O.view sink.new).taken (printed ++ bytes.now)) }
         ensures cause { HasCause (O.view sink.old).faults (O.view sink.new).faults result }
+        ensures pieces { (start : SinkView) (printed : List ℕ) → IsPutWhole start (O.view sink.old) self.old printed → OnOk result (IsPutWhole start (O.view sink.new) self.new (printed ++ bytes.now)) }
+        ensures some { (start : SinkView) (printed : List ℕ) → IsPutWhole start (O.view sink.old) self.old printed → OnErr result (PutsSomePieces start (O.view sink.new) (length (printed ++ bytes.now))) }
     {
         let mut i = 0;
         'bytes: while i < bytes.len() {
@@ -127,6 +137,8 @@ impl Waiting {
         ensures ok { (start : Option (List ℕ)) (printed : List ℕ) → IsPut start (O.view sink.old).taken self.old printed → OnOk result (IsPut start (O.view sink.new).taken self.new (printed ++ (first.now ++ second.now))) }
         ensures part { (start : Option (List ℕ)) (printed : List ℕ) → IsPut start (O.view sink.old).taken self.old printed → OnErr result (AppendsPart start (O.view sink.new).taken (printed ++ (first.now ++ second.now))) }
         ensures cause { HasCause (O.view sink.old).faults (O.view sink.new).faults result }
+        ensures pieces { (start : SinkView) (printed : List ℕ) → IsPutWhole start (O.view sink.old) self.old printed → OnOk result (IsPutWhole start (O.view sink.new) self.new (printed ++ (first.now ++ second.now))) }
+        ensures some { (start : SinkView) (printed : List ℕ) → IsPutWhole start (O.view sink.old) self.old printed → OnErr result (PutsSomePieces start (O.view sink.new) (length (printed ++ (first.now ++ second.now)))) }
     {
         match self.put_bytes(sink, first) {
             Ok(()) => self.put_bytes(sink, second),

@@ -1,12 +1,13 @@
 //! The two walks over a value: the first one takes all memory and counts, the second one puts.
 
-ghost use Rattle.std.specs.Prelude.{◌≡◌, ◌++◌, [], ℕ, List, Option, IfOk, OnOk, OnErr};
-ghost use Rattle.gib_edge.specs.Causes.{HasCause, AppendsPart};
+ghost use Rattle.std.specs.Prelude.{◌≡◌, ◌++◌, [], ℕ, List, length, Option, IfOk, OnOk, OnErr};
+ghost use Rattle.gib_edge.specs.Causes.{HasCause, AppendsPart, PutsSomePieces};
+ghost use Rattle.gib_edge.specs.Views.{SinkView};
 ghost use Rattle.gib_types.specs.Tree.{Datum};
 ghost use Rattle.gib_value.specs.Text.{text, AreHeld};
 ghost use Rattle.gib_packed.specs.Decoding.{Dec, Decodes};
 ghost use Rattle.gib_print.specs.Counting.{IsCounted};
-ghost use Rattle.gib_print.specs.Waiting.{IsPut};
+ghost use Rattle.gib_print.specs.Waiting.{IsPut, IsPutWhole};
 
 use crate::piece::{piece_len, put_piece};
 use crate::step::{MOST, Walk, step};
@@ -75,6 +76,8 @@ pub(crate) fn put_text<M: Mem, O: Sink>(
     ensures ok { (t : ℕ) (v : Datum) (z : ℕ) (start : Option (List ℕ)) → Dec layouts.now (M.view mem.old).cells counted.at t v z → IsPut start (O.view sink.old).taken waiting.old [] → OnOk result (IsPut start (O.view sink.new).taken waiting.new (text layouts.now.table names.now v)) }
     ensures part { (t : ℕ) (v : Datum) (z : ℕ) (start : Option (List ℕ)) → Dec layouts.now (M.view mem.old).cells counted.at t v z → IsPut start (O.view sink.old).taken waiting.old [] → OnErr result (AppendsPart start (O.view sink.new).taken (text layouts.now.table names.now v)) }
     ensures cause { HasCause (O.view sink.old).faults (O.view sink.new).faults result }
+    ensures pieces { (t : ℕ) (v : Datum) (z : ℕ) (start : SinkView) → Dec layouts.now (M.view mem.old).cells counted.at t v z → IsPutWhole start (O.view sink.old) waiting.old [] → OnOk result (IsPutWhole start (O.view sink.new) waiting.new (text layouts.now.table names.now v)) }
+    ensures some { (t : ℕ) (v : Datum) (z : ℕ) (start : SinkView) → Dec layouts.now (M.view mem.old).cells counted.at t v z → IsPutWhole start (O.view sink.old) waiting.old [] → OnErr result (PutsSomePieces start (O.view sink.new) (length (text layouts.now.table names.now v))) }
     ensures same { M.view mem.new ≡ M.view mem.old }
 {
     layouts.rules();

@@ -1,4 +1,5 @@
-use Rattle.std.proofs.Common.{[], ◌∷◌}
+use Rattle.std.proofs.Common.{[], ◌∷◌, ◌+◌, length, arith}
+use Rattle.gib_print.proofs.SizeLemmas.{some_more, whole_start}
 use Rattle.gib_print.proofs.WaitingLemmas.{part_more, put_start}
 use Rattle.gib_print.proofs.print.print_bytes.Goals as goal
 
@@ -16,3 +17,18 @@ pub returns-in-Err-clause-part : goal.returns-in-Err-clause-part
 returns-in-Err-clause-part g c =
     let t = (g.O.Sink.view c.args.sink.now).taken in
     part_more t _ c.args.bytes.now (10 ∷ []) (c.in-Err.ensures.part t [] (put_start t _ c.new-waiting.ensures))
+
+pub returns-in-Ok-clause-pieces : goal.returns-in-Ok-clause-pieces
+returns-in-Ok-clause-pieces g c =
+    let o = g.O.Sink.view c.args.sink.now in
+    c.end_line.ensures.pieces o c.args.bytes.now (c.in-Ok.ensures.pieces o [] (whole_start o _ c.new-waiting.ensures))
+
+pub returns-in-Ok-clause-some : goal.returns-in-Ok-clause-some
+returns-in-Ok-clause-some g c =
+    let o = g.O.Sink.view c.args.sink.now in
+    c.end_line.ensures.some o c.args.bytes.now (c.in-Ok.ensures.pieces o [] (whole_start o _ c.new-waiting.ensures))
+
+pub returns-in-Err-clause-some : goal.returns-in-Err-clause-some
+returns-in-Err-clause-some g c =
+    let o = g.O.Sink.view c.args.sink.now in
+    some_more o _ (length c.args.bytes.now) (length c.args.bytes.now + 1) (omega arith) (c.in-Err.ensures.some o [] (whole_start o _ c.new-waiting.ensures))

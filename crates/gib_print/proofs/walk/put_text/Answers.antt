@@ -1,17 +1,18 @@
-use Rattle.std.proofs.Common.{◌≡◌, ℕ, ◌+◌, ◌*◌, ◌-◌, ◌≤◌, ◌<◌, [], ◌∷◌, ◌++◌, List, length, reverse, refl, sym, ap, subst, ◌∙◌, arith}
+use Rattle.std.proofs.Common.{ℕ, ◌+◌, ◌*◌, ◌-◌, ◌<◌, [], ◌∷◌, ◌++◌, List, length, reverse, refl, sym, ap, subst, ◌∙◌, arith}
 use Rattle.std.specs.Prelude.{Option, vec_capacity}
 use Rattle.std.proofs.lemmas.List.{length-reverse}
 use Rattle.std.proofs.lemmas.Bool.{eqb-true}
 use Rattle.gib_mem.specs.Memory.{Memory}
-use Rattle.gib_edge.specs.Causes.{AppendsPart}
+use Rattle.gib_edge.specs.Causes.{AppendsPart, PutsSomePieces}
+use Rattle.gib_edge.specs.Views.{SinkView}
 use Rattle.gib_types.specs.Table.{Table}
 use Rattle.gib_value.specs.Text.{text}
 use Rattle.gib_print.specs.Piece.{piece_text, IsKnown}
 use Rattle.gib_print.specs.Stepping.{Step, Run}
-use Rattle.gib_print.specs.Waiting.{IsPut}
+use Rattle.gib_print.specs.Waiting.{IsPut, IsPutWhole}
 use Rattle.gib_print.specs.declared.work.Work.{Work}
 use Rattle.gib_print.specs.declared.work.Work.TheVariants as w
-use Rattle.gib_print.proofs.CountLemmas.{Putting, putting_start, putting_step, putting_fits, putting_part, putting_end, no_items, some}
+use Rattle.gib_print.proofs.CountLemmas.{Putting, putting_start, putting_step, putting_fits, putting_part, putting_some, putting_end, putting_pieces, no_items, some}
 use Rattle.gib_print.proofs.StepLemmas.{step_less, step_known, run_room, weight}
 use Rattle.gib_print.proofs.walk.put_text.Goals as goal
 
@@ -28,7 +29,7 @@ work-init g c = record {
   puts = λ t v z d.
       let run = subst (λ (r : ℕ). Run c.args.layouts.now c.args.names.now (g.M.Mem.view c.args.mem.now).cells r (w.Root ∷ []) c.args.counted.at (text c.args.layouts.now.table c.args.names.now v)) (sym c.push_reserved.ensures.capacity) (c.requires.counted.runs t v z d) in
       let top = ap reverse (c.push_reserved.ensures.items ∙ ap (λ (xs : List Work). xs ++ w.Root ∷ []) c.requires.counted.done) in
-      putting_start c.args.layouts.now c.args.names.now (g.M.Mem.view c.args.mem.now).cells (vec_capacity c.push_reserved.new.self) c.args.counted.at c.args.counted.bytes t z v (reverse c.push_reserved.new.self.items) (g.O.Sink.view c.args.sink.now).taken c.args.waiting.now top d run (c.requires.counted.bytes t v z d);
+      putting_start c.args.layouts.now c.args.names.now (g.M.Mem.view c.args.mem.now).cells (vec_capacity c.push_reserved.new.self) c.args.counted.at c.args.counted.bytes t z v (reverse c.push_reserved.new.self.items) (g.O.Sink.view c.args.sink.now) c.args.waiting.now top d run (c.requires.counted.bytes t v z d);
 }
 
 pub step-piece-requires-clause-room : goal.step-piece-requires-clause-room
@@ -71,9 +72,10 @@ work-preserved g c = record {
       let step = subst (λ (m : Memory). Step c.args.layouts.now m.cells (reverse c.work.walk.work.items) c.work.walk.end c.step-piece.result (reverse c.step-piece.new.walk.work.items) c.step-piece.new.walk.end) c.work.invariant.same c.step-piece.ensures.step in
       let len = c.piece_len-left.ensures ∙ ap (λ (t : Table). length (piece_text t c.args.names.now c.step-piece.result)) c.types.ensures in
       let put = subst (λ (t : Table). (start : Option (List ℕ)) (printed : List ℕ) → IsPut start (g.O.Sink.view c.work.sink).taken c.work.waiting printed → IsPut start (g.O.Sink.view c.put_piece.new.sink).taken c.put_piece.new.waiting (printed ++ piece_text t c.args.names.now c.step-piece.result)) c.types-in-work.ensures c.in-Ok.ensures.ok in
-      let next = putting_step (c.work.invariant.puts t v z d) step put in
-      subst (λ (n : ℕ). Putting c.args.layouts.now c.args.names.now cells (vec_capacity c.step-piece.new.walk.work) (reverse c.step-piece.new.walk.work.items) c.step-piece.new.walk.end (c.work.left - n) (text c.args.layouts.now.table c.args.names.now v) (g.O.Sink.view c.args.sink.now).taken (g.O.Sink.view c.put_piece.new.sink).taken c.args.waiting.now c.put_piece.new.waiting) (sym len)
-      (subst (λ (r : ℕ). Putting c.args.layouts.now c.args.names.now cells r (reverse c.step-piece.new.walk.work.items) c.step-piece.new.walk.end (c.work.left - length (piece_text c.args.layouts.now.table c.args.names.now c.step-piece.result)) (text c.args.layouts.now.table c.args.names.now v) (g.O.Sink.view c.args.sink.now).taken (g.O.Sink.view c.put_piece.new.sink).taken c.args.waiting.now c.put_piece.new.waiting) (sym c.step-piece.ensures.room) next);
+      let send = subst (λ (t : Table). (start : SinkView) (printed : List ℕ) → IsPutWhole start (g.O.Sink.view c.work.sink) c.work.waiting printed → IsPutWhole start (g.O.Sink.view c.put_piece.new.sink) c.put_piece.new.waiting (printed ++ piece_text t c.args.names.now c.step-piece.result)) c.types-in-work.ensures c.in-Ok.ensures.pieces in
+      let next = putting_step (c.work.invariant.puts t v z d) step put send in
+      subst (λ (n : ℕ). Putting c.args.layouts.now c.args.names.now cells (vec_capacity c.step-piece.new.walk.work) (reverse c.step-piece.new.walk.work.items) c.step-piece.new.walk.end (c.work.left - n) (text c.args.layouts.now.table c.args.names.now v) (g.O.Sink.view c.args.sink.now) (g.O.Sink.view c.put_piece.new.sink) c.args.waiting.now c.put_piece.new.waiting) (sym len)
+      (subst (λ (r : ℕ). Putting c.args.layouts.now c.args.names.now cells r (reverse c.step-piece.new.walk.work.items) c.step-piece.new.walk.end (c.work.left - length (piece_text c.args.layouts.now.table c.args.names.now c.step-piece.result)) (text c.args.layouts.now.table c.args.names.now v) (g.O.Sink.view c.args.sink.now) (g.O.Sink.view c.put_piece.new.sink) c.args.waiting.now c.put_piece.new.waiting) (sym c.step-piece.ensures.room) next);
 }
 
 pub returns-in-Err-clause-part : goal.returns-in-Err-clause-part
@@ -81,10 +83,23 @@ returns-in-Err-clause-part g c = λ t v z start d h.
     let step = subst (λ (m : Memory). Step c.args.layouts.now m.cells (reverse c.work.walk.work.items) c.work.walk.end c.step-piece.result (reverse c.step-piece.new.walk.work.items) c.step-piece.new.walk.end) c.work.invariant.same c.step-piece.ensures.step in
     let p = c.work.invariant.puts t v z d in
     let part = subst (λ (t : Table). AppendsPart start (g.O.Sink.view c.put_piece.new.sink).taken (p.front ++ piece_text t c.args.names.now c.step-piece.result)) c.types-in-work.ensures (c.in-Err.ensures.part start p.front (p.puts start h)) in
-    putting_part start (g.O.Sink.view c.put_piece.new.sink).taken p step part
+    putting_part p step start (g.O.Sink.view c.put_piece.new.sink).taken part
+
+pub returns-in-Err-clause-some : goal.returns-in-Err-clause-some
+returns-in-Err-clause-some g c = λ t v z start d h.
+    let step = subst (λ (m : Memory). Step c.args.layouts.now m.cells (reverse c.work.walk.work.items) c.work.walk.end c.step-piece.result (reverse c.step-piece.new.walk.work.items) c.step-piece.new.walk.end) c.work.invariant.same c.step-piece.ensures.step in
+    let p = c.work.invariant.puts t v z d in
+    let part = subst (λ (t : Table). PutsSomePieces start (g.O.Sink.view c.put_piece.new.sink) (length (p.front ++ piece_text t c.args.names.now c.step-piece.result))) c.types-in-work.ensures (c.in-Err.ensures.some start p.front (p.pieces start h)) in
+    putting_some p step start (g.O.Sink.view c.put_piece.new.sink) part
 
 pub returns-clause-ok : goal.returns-clause-ok
 returns-clause-ok g c = λ t v z start d h.
     let none = eqb-true _ _ (sym c.is_empty.ensures ∙ c.work-test.false) in
     let empty = ap reverse (no_items c.work.walk.work.items (omega (arith, none, c.work.walk.work.ok))) in
     putting_end (c.work.invariant.puts t v z d) empty start h
+
+pub returns-clause-pieces : goal.returns-clause-pieces
+returns-clause-pieces g c = λ t v z start d h.
+    let none = eqb-true _ _ (sym c.is_empty.ensures ∙ c.work-test.false) in
+    let empty = ap reverse (no_items c.work.walk.work.items (omega (arith, none, c.work.walk.work.ok))) in
+    putting_pieces (c.work.invariant.puts t v z d) empty start h
