@@ -14,3 +14,5 @@ mod Taking
 mod Filling
 mod Asking
 mod Entering
+mod Calling
+mod Headlines

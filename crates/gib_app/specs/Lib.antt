@@ -9,6 +9,7 @@ pub mod SourceFaults
 pub mod InputFaults
 pub mod Commands
 pub mod Causes
+pub mod Calls
 pub mod Lines
 pub mod Ending
 pub mod Codes
@@ -16,3 +17,4 @@ pub mod Stops
 pub mod PassFaults
 pub mod Stopping
 pub mod Performing
+pub mod Headline

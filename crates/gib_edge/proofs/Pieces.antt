@@ -1,9 +1,10 @@
 -- Bytes that are put piece by piece.
-use Rattle.std.proofs.Common.{◌≡◌, ℕ, zero, suc, ◌+◌, ◌-◌, ◌≤◌, List, [], ◌∷◌, ◌++◌, Option, Some, None, Result, Ok, Err, take, drop, length, refl, sym, ap, ◌∙◌, arith, append_assoc, subst}
-use Rattle.std.specs.Prelude.{OnErr}
+use Rattle.std.proofs.Common.{inl, inr, ◌*◌, ◌<◌, ◌≡◌, ℕ, zero, suc, ◌+◌, ◌-◌, ◌≤◌, List, [], ◌∷◌, ◌++◌, Option, Some, None, Result, Ok, Err, take, drop, length, refl, sym, ap, ◌∙◌, arith, append_assoc, subst}
+use Rattle.std.specs.Prelude.{OnErr, ◌⊎◌}
 use Rattle.std.proofs.lemmas.List.{take_all, length-drop}
 use Rattle.std.specs.Io.KnownBytes as known
-use Rattle.gib_edge.specs.Causes.{Appends, AppendsPart, Rose}
+use Rattle.gib_edge.specs.Causes.{Appends, AppendsPart, Rose, raised, pieces}
+use Rattle.gib_edge.specs.Views.{SinkView}
 
 pub take-split : (n m : ℕ) (bs : List ℕ) → n ≤ m → take n bs ++ take (m - n) (drop n bs) ≡ take m bs
 take-split zero m bs le = let e : m - zero ≡ m = omega arith in ap (λ k. take k bs) e
@@ -50,7 +51,34 @@ appends_none (Some bs) = ap Some (sym (append-nil bs))
     append-nil (x ∷ xs) = ap (λ ys. x ∷ ys) (append-nil xs)
 
 pub rose_since : (a b c : ℕ) → a ≤ b → Rose b c → Rose a c
-rose_since a b c le r = omega arith
+rose_since a b c le (inl r) = inl (omega arith)
+rose_since a b c le (inr r) = inr r
+
+-- the number of pieces of at most 4,096 bytes, by its bounds
+pub pieces_are : (n k : ℕ) → n ≤ 4096 * k → 4096 * k < n + 4096 → pieces n ≡ k
+pieces_are n k enough least = omega arith
+
+-- How many pieces were put up to a place: all but the last are of 4,096 bytes.
+pub record Put (at len before now : ℕ) : Type 0 where
+  pub count : ℕ
+  pub raised_by : now ≡ raised before count
+  pub enough : at ≤ 4096 * count
+  pub least : 4096 * count < at + 4096
+  pub aligned : (at ≡ 4096 * count) ⊎ (at ≡ len)
+
+pub put_none : (len before : ℕ) → Put 0 len before before
+put_none len before = record { count = 0; raised_by = omega arith; enough = omega arith; least = omega arith; aligned = inl (omega arith) }
+
+pub put_more : (at end' len before now next : ℕ) → at < len → (end' ≡ len) × (len - at < 4096) ⊎ (end' ≡ at + 4096) → end' ≤ len → Put at len before now → next ≡ raised now 1 → Put end' len before next
+put_more at end' len before now next lt to within p e = go p.aligned to
+  where
+    go : (at ≡ 4096 * p.count) ⊎ (at ≡ len) → (end' ≡ len) × (len - at < 4096) ⊎ (end' ≡ at + 4096) → Put end' len before next
+    go (inr all) to = absurd (omega arith)
+    go (inl whole) (inl last) = record { count = p.count + 1; raised_by = omega (arith, p.raised_by); enough = omega (arith, last.0, last.1); least = omega (arith, last.0); aligned = inr last.0 }
+    go (inl whole) (inr full) = record { count = p.count + 1; raised_by = omega (arith, p.raised_by); enough = omega arith; least = omega arith; aligned = inl (omega arith) }
+
+pub put_whole : (len : ℕ) (before now : SinkView) → Put len len before.puts now.puts → now.puts ≡ raised before.puts (pieces len)
+put_whole len before now p = p.raised_by ∙ ap (raised before.puts) (sym (pieces_are len p.count p.enough p.least))
 
 pub on_err : {T E X : Type 0} (r : Result T E) → X → OnErr r X
 on_err (Ok t) x = tt

@@ -1,9 +1,14 @@
--- When a fault may be told, and what a shelf or a sink tells of its bytes.
-use Rattle.std.specs.Prelude.{◌≡◌, ℕ, ◌+◌, ◌-◌, ◌^◌, ◌≤◌, min, Bool, List, ◌++◌, take, Option, Some, None, if◌then◌else◌, Result, IfSome, OnOk, OnErr}
+-- When a fault may be told, and what a shelf or a sink tells of its bytes and its calls.
+use Rattle.std.specs.Prelude.{◌≡◌, ◌⊎◌, ℕ, ◌+◌, ◌-◌, ◌^◌, ◌/◌, ◌<◌, ◌≤◌, min, max, Bool, List, ◌++◌, take, Option, Some, if◌then◌else◌, Result, IfSome, OnOk, OnErr}
+use Rattle.gib_edge.specs.Views.{Held, Hidden, Missing, Has, SinkView}
 
 -- The count went up, or stands at 2^64 - 1, where a 64-bit counter stays.
 abbrev pub Rose : ℕ → ℕ → Type 0
-Rose before now = min (before + 1) (2 ^ 64 - 1) ≤ now
+Rose before now = (before < now) ⊎ (now ≡ 2 ^ 64 - 1)
+
+-- A count after so many more; it goes no further than 2^64 - 1, and never falls.
+abbrev pub raised : ℕ → ℕ → ℕ
+raised count more = max count (min (count + more) (2 ^ 64 - 1))
 
 -- The count never falls, an error is answered only where it rose, and it stays where there is none.
 pub record HasCause {T E : Type 0} (before now : ℕ) (result : Result T E) : Type 0 where
@@ -12,13 +17,50 @@ pub record HasCause {T E : Type 0} (before now : ℕ) (result : Result T E) : Ty
   pub quiet : OnOk result (now ≡ before)
 
 -- The bytes, where they are told.
-abbrev pub told : Bool → List ℕ → Option (List ℕ)
-told tells bytes = if tells then Some bytes else None
+abbrev pub told : Bool → List ℕ → Held
+told tells bytes = if tells then Has bytes else Hidden
 
--- Where the bytes taken so far are told: these were added at their end.
-abbrev pub Appends : Option (List ℕ) → Option (List ℕ) → List ℕ → Type 0
-Appends old new bytes = IfSome old (λ before. new ≡ Some (before ++ bytes))
+-- These are all bytes of a name, where that is told; none are those of a name that is not there.
+abbrev pub IsAllOf : Held → List ℕ → Type 0
+IsAllOf Hidden bytes = Unit {0}
+IsAllOf Missing bytes = ⊥
+IsAllOf (Has all) bytes = bytes ≡ all
 
--- Where the bytes taken so far are told: a front of these was added at their end.
-abbrev pub AppendsPart : Option (List ℕ) → Option (List ℕ) → List ℕ → Type 0
-AppendsPart old new bytes = IfSome old (λ before. (n : ℕ) × (new ≡ Some (before ++ take n bytes)))
+-- These are the bytes of a name, or the first of so many; none are those of a name that is not there.
+abbrev pub IsFrontOf : Held → ℕ → List ℕ → Type 0
+IsFrontOf Hidden most bytes = Unit {0}
+IsFrontOf Missing most bytes = ⊥
+IsFrontOf (Has all) most bytes = bytes ≡ take most all
+
+-- No bytes are told of a name.
+abbrev pub IsUntold : Held → Type 0
+IsUntold Hidden = Unit {0}
+IsUntold Missing = Unit {0}
+IsUntold (Has all) = ⊥
+
+-- Where the items so far are told: these were added at their end.
+abbrev pub Appends : {X : Type 0} → Option (List X) → Option (List X) → List X → Type 0
+Appends old new items = IfSome old (λ before. new ≡ Some (before ++ items))
+
+-- Where the items so far are told: a front of these was added at their end.
+abbrev pub AppendsPart : {X : Type 0} → Option (List X) → Option (List X) → List X → Type 0
+AppendsPart old new items = IfSome old (λ before. (n : ℕ) × (new ≡ Some (before ++ take n items)))
+
+-- One more piece was put, of so many bytes.
+pub record HasPut (before now : SinkView) (bytes : ℕ) : Type 0 where
+  pub puts : now.puts ≡ raised before.puts 1
+  pub longest : now.longest ≡ max before.longest bytes
+
+-- In how many pieces of at most 4,096 bytes, none of them empty, so many bytes can be put at best.
+abbrev pub pieces : ℕ → ℕ
+pieces bytes = (bytes + 4095) / 4096
+
+-- So many bytes were put in as few pieces as can be, each of at most 4,096 bytes.
+pub record PutsPieces (before now : SinkView) (bytes : ℕ) : Type 0 where
+  pub puts : now.puts ≡ raised before.puts (pieces bytes)
+  pub longest : now.longest ≤ max before.longest 4096
+
+-- A front of so many bytes was put in such pieces.
+pub record PutsSomePieces (before now : SinkView) (bytes : ℕ) : Type 0 where
+  pub puts : now.puts ≤ raised before.puts (pieces bytes)
+  pub longest : now.longest ≤ max before.longest 4096

@@ -1,9 +1,5 @@
 -- The calls at which a shelf or a sink in memory fails.
-use Rattle.std.specs.Prelude.{ℕ, List, [], ◌∷◌, Option, Some, None, if◌then◌else◌, ◌==◌, ◌+◌, ◌-◌, ◌^◌, min}
-
--- The number of the call after this one; it stays at 2^64 - 1.
-abbrev pub next_call : ℕ → ℕ
-next_call call = min (call + 1) (2 ^ 64 - 1)
+use Rattle.std.specs.Prelude.{ℕ, List, [], ◌∷◌, Option, Some, None, if◌then◌else◌, ◌==◌}
 
 -- After how many bytes a call fails, by the first pair with its number; none: it does not fail.
 abbrev pub part_at : List (ℕ × ℕ) → ℕ → Option ℕ

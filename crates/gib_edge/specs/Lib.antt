@@ -1,3 +1,4 @@
+pub mod Views
 pub mod Causes
 pub mod Fails
 pub mod Files

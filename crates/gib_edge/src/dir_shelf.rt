@@ -1,14 +1,15 @@
 //! The files of the current folder.
 
-ghost use Rattle.std.specs.Prelude.{◌≡◌, ℕ, List, None, false};
+ghost use Rattle.std.specs.Prelude.{◌≡◌, ◌≢◌, ℕ, List, ◌∷◌, [], ◌≤◌, length, OnOk, OnErr, IfOk, IsErrOf, IfErr, IfSome, None, false};
 
 use crate::outside::{Shelf, ShelfFault};
-use crate::streams::{read_front, write_whole};
+use crate::streams::{closed, counted, read_opened, write_opened};
 use std::alloc::Global;
 use std::fs;
 use std::rt::Files;
 
-/// The files of the current folder. What they hold is not told, since others may change them.
+/// The files of the current folder. What they hold is not told, since others may change them, and no more is told of
+/// its calls than how often they failed.
 #[derive(Drop)]
 pub struct DirShelf<'a, R: Files> {
     rt: &'a R,
@@ -19,8 +20,8 @@ pub struct DirShelf<'a, R: Files> {
 impl<'a, R: Files> DirShelf<'a, R> {
     /// The current folder of this runtime.
     pub fn new(rt: &'a R) -> Self
-        ensures reads { (name : List ℕ) → ⟦<DirShelf<'a, R> as Shelf>⟧.read_faults result name ≡ 0 }
-        ensures writes { (name : List ℕ) → ⟦<DirShelf<'a, R> as Shelf>⟧.write_faults result name ≡ 0 }
+        ensures reads { (name : List ℕ) → (⟦<DirShelf<'a, R> as Shelf>⟧.view result).reads name ≡ 0 }
+        ensures writes { (name : List ℕ) → (⟦<DirShelf<'a, R> as Shelf>⟧.view result).writes name ≡ 0 }
     {
         DirShelf {
             rt,
@@ -31,32 +32,20 @@ impl<'a, R: Files> DirShelf<'a, R> {
 }
 
 impl<R: Files> Shelf for DirShelf<'_, R> {
+    ghost use Rattle.gib_edge.specs.Views.{Hidden, ReadOf, WriteOf};
+    ghost use Rattle.gib_edge.specs.Causes.{Rose, raised};
+
     ghost tells = { false };
 
-    ghost kept = { λ shelf name. None };
-
-    ghost read_faults = { λ shelf name. shelf.read_faults };
-
-    ghost write_faults = { λ shelf name. shelf.write_faults };
+    ghost view = { λ shelf. record { kept = λ name. Hidden; reads = λ name. shelf.read_faults; writes = λ name. shelf.write_faults; calls = None } };
 
     fn read(&mut self, alloc: Global, name: &str, most: u64) -> Result<Vec<u8>, ShelfFault> {
-        let read = match fs::open(self.rt, name) {
-            Ok(mut file) => read_front(&mut file, alloc, most),
-            Err(_) => Err(ShelfFault::Failed),
-        };
-        if let Err(ShelfFault::Failed) = read {
-            self.read_faults = self.read_faults.saturating_add(1);
-        }
-        read
+        let read = read_opened(fs::open(self.rt, name), alloc, most);
+        counted(&mut self.read_faults, read)
     }
 
     fn write(&mut self, _alloc: Global, name: &str, bytes: &[u8]) -> Result<(), ShelfFault> {
-        if let Ok(mut file) = fs::create(self.rt, name) {
-            if write_whole(&mut file, bytes).is_ok() {
-                return Ok(());
-            }
-        }
-        self.write_faults = self.write_faults.saturating_add(1);
-        Err(ShelfFault::Failed)
+        let written = write_opened(fs::create(self.rt, name), bytes);
+        counted(&mut self.write_faults, closed(written))
     }
 }

@@ -1,14 +1,24 @@
 //! A shelf in memory, which fails when it is told to.
 
-ghost use Rattle.std.specs.Prelude.{if◌then◌else◌, bytes_eq, ◌≡◌, ◌≢◌, ◌+◌, ◌≤◌, ◌++◌, ℕ, [], List, length, take, Some, None, IfOk, OnOk, OnErr, vec_capacity, vec_len, MatchOption, IfSome, IsErrOf, IsTrue, IsSome, true, false};
-ghost use Rattle.gib_edge.specs.Causes.{Rose};
-ghost use Rattle.gib_edge.specs.InMemory.{kept_by, failed_reads, failed_writes, is_due, ShelfTurned, IsNewShelf};
-ghost use Rattle.gib_edge.specs.Files.{held, others};
+ghost use Rattle.std.specs.Prelude.{if◌then◌else◌, bytes_eq, ◌≡◌, ◌≢◌, ◌+◌, ◌≤◌, ◌++◌, ◌∷◌, ℕ, [], List, length, take, map, Some, None, IfOk, OnOk, OnErr, IsErr, vec_capacity, vec_len, MatchOption, IsErrOf, IsTrue, true, false};
+ghost use Rattle.gib_edge.specs.Views.{Missing, Has, ReadOf, WriteOf};
+ghost use Rattle.gib_edge.specs.Causes.{Rose, raised, IsFrontOf, IsUntold, Appends, AppendsPart};
+ghost use Rattle.gib_edge.specs.InMemory.{kept_by, failed_reads, failed_writes, call_of, calls_of, shelf_view, is_due, ShelfTurned, IsNewShelf};
+ghost use Rattle.gib_edge.specs.Files.{held, held_or_missing, others};
 
 use crate::Memory;
 use crate::mem_sink::prefix;
 use crate::outside::{Shelf, ShelfFault};
 use std::alloc::{AllocError, Global};
+
+/// A call of a shelf.
+#[derive(Drop)]
+pub enum KeptCall {
+    /// A read of this name, which asks for so many bytes.
+    Read(String, u64),
+    /// A write of this name.
+    Write(String),
+}
 
 /// A shelf that keeps its files.
 #[derive(Drop)]
@@ -16,6 +26,7 @@ pub struct MemShelf {
     files: Vec<(String, Vec<u8>)>,
     fails: Vec<u64>,
     calls: u64,
+    called: Vec<KeptCall>,
     read_faults: u64,
     write_faults: u64,
 }
@@ -24,17 +35,18 @@ impl MemShelf {
     /// A shelf with these files; of two with one name it has the first.
     /// It fails at the calls, reads and writes together, whose numbers (from 0) are listed.
     pub fn make(
-        _alloc: Global,
+        alloc: Global,
         files: Vec<(String, Vec<u8>)>,
         fails: Vec<u64>,
     ) -> Result<MemShelf, Memory>
-        ensures files { IfOk result (λ shelf. (name : List ℕ) → kept_by shelf name ≡ held files.items name) }
+        ensures files { IfOk result (λ shelf. (name : List ℕ) → kept_by shelf name ≡ held_or_missing (held files.items name)) }
         ensures new { IfOk result (IsNewShelf fails.items) }
     {
         Ok(MemShelf {
             files,
             fails,
             calls: 0,
+            called: Vec::new(alloc),
             read_faults: 0,
             write_faults: 0,
         })
@@ -42,7 +54,7 @@ impl MemShelf {
 
     /// What a name holds.
     pub fn file(&self, name: &str) -> Option<&[u8]>
-        ensures { MatchOption result (kept_by self.now name.now ≡ None) (λ bytes. kept_by self.now name.now ≡ Some bytes.now) }
+        ensures { MatchOption result (kept_by self.now name.now ≡ Missing) (λ bytes. kept_by self.now name.now ≡ Has bytes.now) }
     {
         find(&self.files, name)
     }
@@ -61,11 +73,19 @@ impl MemShelf {
         self.write_faults
     }
 
+    /// How many calls there were.
+    pub fn calls(&self) -> usize
+        ensures { result ≡ length (calls_of self.now) }
+    {
+        self.called.len()
+    }
+
     // Whether this call fails; one more was made.
     fn fails_now(&mut self) -> bool
         ensures due { result ≡ is_due self.old }
         ensures turn { ShelfTurned self.old self.new }
         ensures files { self.new.files ≡ self.old.files }
+        ensures called { self.new.called ≡ self.old.called }
         ensures reads { self.new.read_faults ≡ self.old.read_faults }
         ensures writes { self.new.write_faults ≡ self.old.write_faults }
     {
@@ -78,28 +98,29 @@ impl MemShelf {
 impl Shelf for MemShelf {
     ghost tells = { true };
 
-    ghost kept = { kept_by };
+    ghost view = { shelf_view };
 
-    ghost read_faults = { λ shelf name. failed_reads shelf };
-
-    ghost write_faults = { λ shelf name. failed_writes shelf };
-
+    // It fails at the listed calls, and where the name is not there.
     fn read(&mut self, alloc: Global, name: &str, most: u64) -> Result<Vec<u8>, ShelfFault>
-        ensures bytes { IfOk result (λ bytes. IfSome (kept_by self.old name.now) (λ all. bytes.items ≡ take most all)) }
+        ensures bytes { IfOk result (λ bytes. IsFrontOf (kept_by self.old name.now) most bytes.items) }
         ensures most { IfOk result (λ bytes. length bytes.items ≤ most) }
         ensures cause { IsErrOf result ShelfFault.Failed → Rose (failed_reads self.old) (failed_reads self.new) }
         ensures same { (other : List ℕ) → kept_by self.new other ≡ kept_by self.old other }
         ensures later { (other : List ℕ) → failed_reads self.old ≤ failed_reads self.new }
         ensures quiet { (IsErrOf result ShelfFault.Failed → ⊥) → (other : List ℕ) → failed_reads self.new ≡ failed_reads self.old }
         ensures writes { (other : List ℕ) → failed_writes self.new ≡ failed_writes self.old }
-
-        // It fails at the listed calls, and where the name is not there.
-        ensures due { IsTrue (is_due self.old) → IsErrOf result ShelfFault.Failed }
-        ensures missing { kept_by self.old name.now ≡ None → IsErrOf result ShelfFault.Failed }
-        ensures sure { is_due self.old ≡ false → IsSome (kept_by self.old name.now) → IsErrOf result ShelfFault.Failed → ⊥ }
+        ensures called { OnOk result (Appends (Some (calls_of self.old)) (Some (calls_of self.new)) (ReadOf name.now most ∷ [])) }
+        ensures once { OnErr result (AppendsPart (Some (calls_of self.old)) (Some (calls_of self.new)) (ReadOf name.now most ∷ [])) }
+        ensures due { IsTrue (is_due self.old) → IsErr result }
+        ensures sure { is_due self.old ≡ false → (kept_by self.old name.now ≡ Missing → ⊥) → IsErrOf result ShelfFault.Failed → ⊥ }
+        ensures counted { IsErrOf result ShelfFault.Failed → failed_reads self.new ≡ raised (failed_reads self.old) 1 }
         ensures turn { ShelfTurned self.old self.new }
     {
-        if !self.fails_now() {
+        let fails = self.fails_now();
+        if note_read(&mut self.called, alloc, name, most).is_err() {
+            return Err(ShelfFault::Memory);
+        }
+        if !fails {
             if let Some(bytes) = find(&self.files, name) {
                 return match Vec::from_slice(alloc, prefix(bytes, most)) {
                     Ok(bytes) => Ok(bytes),
@@ -111,23 +132,28 @@ impl Shelf for MemShelf {
         Err(ShelfFault::Failed)
     }
 
-    // A write that fails loses the file.
+    // It fails at the listed calls alone. A write that fails loses the file.
     fn write(&mut self, alloc: Global, name: &str, bytes: &[u8]) -> Result<(), ShelfFault>
-        ensures ok { OnOk result (kept_by self.new name.now ≡ Some bytes.now) }
-        ensures failed { IsErrOf result ShelfFault.Failed → kept_by self.new name.now ≡ None }
+        ensures ok { OnOk result (kept_by self.new name.now ≡ Has bytes.now) }
+        ensures failed { IsErrOf result ShelfFault.Failed → IsUntold (kept_by self.new name.now) }
         ensures memory { IsErrOf result ShelfFault.Memory → (other : List ℕ) → kept_by self.new other ≡ kept_by self.old other }
         ensures others { (other : List ℕ) → other ≢ name.now → kept_by self.new other ≡ kept_by self.old other }
         ensures cause { IsErrOf result ShelfFault.Failed → Rose (failed_writes self.old) (failed_writes self.new) }
         ensures later { (other : List ℕ) → failed_writes self.old ≤ failed_writes self.new }
         ensures quiet { (IsErrOf result ShelfFault.Failed → ⊥) → (other : List ℕ) → failed_writes self.new ≡ failed_writes self.old }
         ensures reads { (other : List ℕ) → failed_reads self.new ≡ failed_reads self.old }
-
-        // It fails at the listed calls alone.
-        ensures due { IsTrue (is_due self.old) → IsErrOf result ShelfFault.Failed }
+        ensures called { OnOk result (Appends (Some (calls_of self.old)) (Some (calls_of self.new)) (WriteOf name.now ∷ [])) }
+        ensures once { OnErr result (AppendsPart (Some (calls_of self.old)) (Some (calls_of self.new)) (WriteOf name.now ∷ [])) }
+        ensures due { IsTrue (is_due self.old) → IsErr result }
         ensures sure { is_due self.old ≡ false → IsErrOf result ShelfFault.Failed → ⊥ }
+        ensures counted { IsErrOf result ShelfFault.Failed → failed_writes self.new ≡ raised (failed_writes self.old) 1 }
         ensures turn { ShelfTurned self.old self.new }
     {
-        if self.fails_now() {
+        let fails = self.fails_now();
+        if note_write(&mut self.called, alloc, name).is_err() {
+            return Err(ShelfFault::Memory);
+        }
+        if fails {
             remove(&mut self.files, name);
             self.write_faults = self.write_faults.saturating_add(1);
             return Err(ShelfFault::Failed);
@@ -137,6 +163,31 @@ impl Shelf for MemShelf {
             Err(_) => Err(ShelfFault::Memory),
         }
     }
+}
+
+// Puts a read at the end of the calls.
+fn note_read(
+    called: &mut Vec<KeptCall>,
+    alloc: Global,
+    name: &str,
+    most: u64,
+) -> Result<(), AllocError>
+    ensures ok { OnOk result (map call_of called.new.items ≡ map call_of called.old.items ++ ReadOf name.now most ∷ []) }
+    ensures err { OnErr result (called.new.items ≡ called.old.items) }
+{
+    let name = String::from_str(alloc, name)?;
+    called.push(KeptCall::Read(name, most))?;
+    Ok(())
+}
+
+// Puts a write at the end of the calls.
+fn note_write(called: &mut Vec<KeptCall>, alloc: Global, name: &str) -> Result<(), AllocError>
+    ensures ok { OnOk result (map call_of called.new.items ≡ map call_of called.old.items ++ WriteOf name.now ∷ []) }
+    ensures err { OnErr result (called.new.items ≡ called.old.items) }
+{
+    let name = String::from_str(alloc, name)?;
+    called.push(KeptCall::Write(name))?;
+    Ok(())
 }
 
 // The bytes of the first file of a name.

@@ -1,7 +1,7 @@
 //! A sink in memory, which fails when it is told to.
 
 ghost use Rattle.std.specs.Prelude.{◌≡◌, ◌+◌, ◌≤◌, ◌++◌, ℕ, [], List, length, take, Some, None, IfOk, vec_capacity, vec_len, OnOk, OnErr, IsOk, IsErr, IfSome, ◌<◌};
-ghost use Rattle.gib_edge.specs.Causes.{HasCause, Appends, AppendsPart};
+ghost use Rattle.gib_edge.specs.Causes.{HasCause, Appends, AppendsPart, raised};
 ghost use Rattle.gib_edge.specs.Fails.{part_at};
 
 use crate::Memory;
@@ -16,6 +16,7 @@ pub struct MemSink {
     left: usize,
     fails: Vec<(u64, u64)>,
     calls: u64,
+    longest: usize,
     faults: u64,
     ghost room: { vec_len bytes + left ≤ vec_capacity bytes },
 }
@@ -34,6 +35,7 @@ impl MemSink {
             left,
             fails,
             calls: 0,
+            longest: 0,
             faults: 0,
         })
     }
@@ -59,6 +61,7 @@ impl MemSink {
         ensures left { self.new.left + length piece.now ≡ self.old.left }
         ensures fails { self.new.fails ≡ self.old.fails }
         ensures calls { self.new.calls ≡ self.old.calls }
+        ensures longest { self.new.longest ≡ self.old.longest }
         ensures faults { self.new.faults ≡ self.old.faults }
     {
         let _ = self.bytes.extend_from_slice(piece);
@@ -67,26 +70,27 @@ impl MemSink {
 }
 
 impl Sink for MemSink {
-    ghost use Rattle.gib_edge.specs.InMemory.{taken_by, room_left, failed_puts, part_due, SinkTurned};
+    ghost use Rattle.gib_edge.specs.Causes.{HasPut};
+    ghost use Rattle.gib_edge.specs.InMemory.{taken_by, room_left, failed_puts, part_due, sink_view};
 
-    ghost taken = { λ sink. Some (taken_by sink) };
+    ghost view = { sink_view };
 
-    ghost faults = { failed_puts };
-
+    // A piece that passes the room is refused whole. Else only the listed puts fail, after their part.
     fn put(&mut self, bytes: &[u8]) -> Result<(), Failed>
         ensures ok { OnOk result (Appends (Some (taken_by self.old)) (Some (taken_by self.new)) bytes.now) }
         ensures part { OnErr result (AppendsPart (Some (taken_by self.old)) (Some (taken_by self.new)) bytes.now) }
         ensures cause { HasCause (failed_puts self.old) (failed_puts self.new) result }
-
-        // A piece that passes the room is refused whole. Else only the listed puts fail, after their part.
+        ensures called { HasPut (sink_view self.old) (sink_view self.new) (length bytes.now) }
         ensures full { room_left self.old < length bytes.now → IsErr result × (taken_by self.new ≡ taken_by self.old) }
         ensures due { length bytes.now ≤ room_left self.old → IfSome (part_due self.old) (λ count. IsErr result × (taken_by self.new ≡ taken_by self.old ++ take count bytes.now)) }
         ensures sure { length bytes.now ≤ room_left self.old → part_due self.old ≡ None → IsOk result }
         ensures room { length (taken_by self.new) + room_left self.new ≡ length (taken_by self.old) + room_left self.old }
-        ensures turn { SinkTurned self.old self.new }
+        ensures counted { OnErr result (failed_puts self.new ≡ raised (failed_puts self.old) 1) }
+        ensures fails { self.new.fails ≡ self.old.fails }
     {
         let call = self.calls;
         self.calls = call.saturating_add(1);
+        self.longest = self.longest.max(bytes.len());
         if bytes.len() <= self.left {
             match part_of(&self.fails, call) {
                 Some(count) => self.append(prefix(bytes, count)),

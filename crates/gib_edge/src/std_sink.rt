@@ -1,6 +1,7 @@
 //! The standard streams.
 
-ghost use Rattle.std.specs.Prelude.{◌≡◌, ℕ, List, None};
+ghost use Rattle.std.specs.Prelude.{◌≡◌, ℕ, List, OnOk, OnErr, length};
+ghost use Rattle.gib_edge.specs.Causes.{Appends, AppendsPart, HasCause, HasPut, raised};
 
 use crate::outside::{Failed, Sink};
 use crate::streams::write_whole;
@@ -12,24 +13,38 @@ use std::io::Write;
 pub struct StdSink<W: Write> {
     stream: W,
     faults: u64,
+    puts: u64,
+    longest: usize,
 }
 
 impl<W: Write> StdSink<W> {
     /// A sink over `rt.stdout()` or `rt.stderr()`.
     pub fn new(stream: W) -> Self
-        ensures taken { ⟦<StdSink<W> as Sink>⟧.taken result ≡ W.contents stream }
-        ensures faults { ⟦<StdSink<W> as Sink>⟧.faults result ≡ 0 }
+        ensures taken { (⟦<StdSink<W> as Sink>⟧.view result).taken ≡ W.contents stream }
+        ensures faults { (⟦<StdSink<W> as Sink>⟧.view result).faults ≡ 0 }
+        ensures puts { (⟦<StdSink<W> as Sink>⟧.view result).puts ≡ 0 }
     {
-        StdSink { stream, faults: 0 }
+        StdSink {
+            stream,
+            faults: 0,
+            puts: 0,
+            longest: 0,
+        }
     }
 }
 
 impl<W: Write> Sink for StdSink<W> {
-    ghost taken = { λ sink. W.contents sink.stream };
+    ghost view = { λ sink. record { taken = W.contents sink.stream; faults = sink.faults; puts = sink.puts; longest = sink.longest } };
 
-    ghost faults = { λ sink. sink.faults };
-
-    fn put(&mut self, bytes: &[u8]) -> Result<(), Failed> {
+    fn put(&mut self, bytes: &[u8]) -> Result<(), Failed>
+        ensures ok { OnOk result (Appends (W.contents self.old.stream) (W.contents self.new.stream) bytes.now) }
+        ensures part { OnErr result (AppendsPart (W.contents self.old.stream) (W.contents self.new.stream) bytes.now) }
+        ensures cause { HasCause self.old.faults self.new.faults result }
+        ensures called { HasPut (⟦<StdSink<W> as Sink>⟧.view self.old) (⟦<StdSink<W> as Sink>⟧.view self.new) (length bytes.now) }
+        ensures counted { OnErr result (self.new.faults ≡ raised self.old.faults 1) }
+    {
+        self.puts = self.puts.saturating_add(1);
+        self.longest = self.longest.max(bytes.len());
         let result = write_whole(&mut self.stream, bytes);
         if result.is_err() {
             self.faults = self.faults.saturating_add(1);

@@ -1,11 +1,12 @@
-//! Loops over readers and writers.
+//! What a shelf or a sink makes of a reader or a writer.
 
-ghost use Rattle.std.specs.Prelude.{◌≡◌, ◌≤◌, ◌<◌, ◌+◌, ℕ, List, length, take, vec_len, IfOk, OnOk, OnErr, IfSome};
-ghost use Rattle.gib_edge.specs.Causes.{Appends, AppendsPart};
+ghost use Rattle.std.specs.Prelude.{◌≡◌, ◌≤◌, ◌<◌, ◌+◌, ℕ, List, length, take, vec_len, IfOk, IfErr, OnOk, OnErr, IfSome, IsOk, Err, IsErrOf};
+ghost use Rattle.gib_edge.specs.Causes.{Rose, Appends, AppendsPart, raised};
 ghost use Rattle.gib_edge.specs.Moving.{Moves};
 
 use crate::outside::{Failed, ShelfFault};
 use std::alloc::Global;
+use std::io;
 use std::io::{Read, Write};
 
 // How many bytes one read asks for at most.
@@ -70,4 +71,63 @@ pub(crate) fn write_whole<W: Write>(writer: &mut W, bytes: &[u8]) -> Result<(), 
         at += count;
     }
     Ok(())
+}
+
+/// The bytes of a file that was opened, or the first `most` of them.
+pub(crate) fn read_opened<F: Read + Drop>(
+    opened: io::Result<F>,
+    alloc: Global,
+    most: u64,
+) -> Result<Vec<u8>, ShelfFault>
+    ensures most { IfOk result (λ bytes. length bytes.items ≤ most) }
+    ensures bytes { IfOk opened (λ file. IfOk result (λ bytes. IfSome (F.remaining file) (λ all. bytes.items ≡ take most all))) }
+    ensures closed { OnErr opened (IsErrOf result ShelfFault.Failed) }
+{
+    match opened {
+        Ok(mut file) => read_front(&mut file, alloc, most),
+        Err(_) => Err(ShelfFault::Failed),
+    }
+}
+
+/// Writes all bytes into a file that was opened, and gives it back.
+pub(crate) fn write_opened<W: Write + Drop>(
+    opened: io::Result<W>,
+    bytes: &[u8],
+) -> Result<W, ShelfFault>
+    ensures bytes { IfOk opened (λ old. IfOk result (λ new. Appends (W.contents old) (W.contents new) bytes.now)) }
+    ensures closed { OnErr opened (IsErrOf result ShelfFault.Failed) }
+    ensures failed { OnErr result (IsErrOf result ShelfFault.Failed) }
+{
+    match opened {
+        Ok(mut file) => match write_whole(&mut file, bytes) {
+            Ok(()) => Ok(file),
+            Err(_) => Err(ShelfFault::Failed),
+        },
+        Err(_) => Err(ShelfFault::Failed),
+    }
+}
+
+/// Closes the file that was written.
+pub(crate) fn closed<W: Drop>(written: Result<W, ShelfFault>) -> Result<(), ShelfFault>
+    ensures ok { OnOk written (IsOk result) }
+    ensures err { IfErr written (λ fault. result ≡ Err fault) }
+{
+    match written {
+        Ok(_) => Ok(()),
+        Err(fault) => Err(fault),
+    }
+}
+
+/// The same answer; where it is `Failed`, the count of faults goes up by one, up to its end.
+pub(crate) fn counted<T>(faults: &mut u64, answer: Result<T, ShelfFault>) -> Result<T, ShelfFault>
+    ensures same { result ≡ answer }
+    ensures failed { IsErrOf result ShelfFault.Failed → faults.new ≡ raised faults.old 1 }
+    ensures cause { IsErrOf result ShelfFault.Failed → Rose faults.old faults.new }
+    ensures quiet { (IsErrOf result ShelfFault.Failed → ⊥) → faults.new ≡ faults.old }
+    ensures later { faults.old ≤ faults.new }
+{
+    if let Err(ShelfFault::Failed) = answer {
+        *faults = faults.saturating_add(1);
+    }
+    answer
 }

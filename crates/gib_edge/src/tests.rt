@@ -74,6 +74,7 @@ fn mem_shelf_fails_at_the_listed_calls(rt: HostRuntime) -> Result<(), Fail> {
     assert!(rt; shelf.file("b") == Some(b"x".as_slice()));
     assert_eq!(rt; shelf.read_faults(), 1);
     assert_eq!(rt; shelf.write_faults(), 1);
+    assert_eq!(rt; shelf.calls(), 4);
     Ok(())
 }
 
@@ -125,16 +126,37 @@ fn dir_shelf_reads_and_writes_the_current_folder(rt: HostRuntime) -> Result<(), 
         let bytes = write_and_read(&mut shelf, alloc, name, most)?;
         assert_eq!(rt; bytes.as_slice(), want.as_bytes());
     }
-    let long = vec![in alloc; 3u8; 10_000]?;
+    let mut long = vec![in alloc; 3u8; 100_000]?;
+    long.push(4)?;
     assert_eq!(rt; shelf.write(alloc, name, &long), Ok(()));
-    let bytes = shelf.read(alloc, name, 9_999)?;
-    assert_eq!(rt; bytes.as_slice(), &long[..9_999]);
+    let whole = shelf.read(alloc, name, 200_000)?;
+    assert!(rt; whole.as_slice() == long.as_slice());
+    assert_eq!(rt; shelf.read(alloc, name, 99_999)?.len(), 99_999);
     fs::remove_file(&rt, name)?;
-    assert!(rt; shelf.read(alloc, name, 9).is_err());
-    assert_eq!(rt;
-        shelf.write(alloc, "no_such_folder/x", b"x"),
-        Err(ShelfFault::Failed)
-    );
+    Ok(())
+}
+
+#[test]
+fn dir_shelf_fails_where_bytes_are_lost(rt: HostRuntime) -> Result<(), Fail> {
+    let alloc = rt.alloc();
+    let mut shelf = DirShelf::new(&rt);
+    let long = vec![in alloc; 3u8; 100_000]?;
+    for name in ["no_such_file", ".", "no_such_folder/x"] {
+        let read = shelf.read(alloc, name, 9);
+        assert!(rt; matches!(read, Err(ShelfFault::Failed)), "{name}");
+    }
+    for (name, bytes) in [
+        ("/dev/full", b"x".as_slice()),
+        ("/dev/full", long.as_slice()),
+        (".", b"x".as_slice()),
+        ("no_such_folder/x", b"x".as_slice()),
+    ] {
+        assert_eq!(rt;
+            shelf.write(alloc, name, bytes),
+            Err(ShelfFault::Failed),
+            "{name}"
+        );
+    }
     Ok(())
 }
 

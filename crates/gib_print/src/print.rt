@@ -33,13 +33,13 @@ pub fn print_at<M: Mem, O: Sink>(
     requires names { AreHeld layouts.now.table names.now }
     requires stands { (ty : Type_of) × (v : Datum) × Stands layouts.now (M.view mem.old).cells root ty v }
     ensures done { (ty : Type_of) (v : Datum) → Stands layouts.now (M.view mem.old).cells root ty v
-        → OnOk result (Appends (O.taken sink.old) (O.taken sink.new) (text layouts.now.table names.now v ++ 10 ∷ [])) }
+        → OnOk result (Appends (O.view sink.old).taken (O.view sink.new).taken (text layouts.now.table names.now v ++ 10 ∷ [])) }
     ensures part { (ty : Type_of) (v : Datum) → Stands layouts.now (M.view mem.old).cells root ty v
-        → IsErrOf result PrintFault.Write → AppendsPart (O.taken sink.old) (O.taken sink.new) (text layouts.now.table names.now v ++ 10 ∷ []) }
-    ensures cause { IsErrOf result PrintFault.Write → Rose (O.faults sink.old) (O.faults sink.new) }
-    ensures later { O.faults sink.old ≤ O.faults sink.new }
-    ensures quiet { (IsErrOf result PrintFault.Write → ⊥) → O.faults sink.new ≡ O.faults sink.old }
-    ensures silent { IsErrOf result PrintFault.Memory → O.taken sink.new ≡ O.taken sink.old }
+        → IsErrOf result PrintFault.Write → AppendsPart (O.view sink.old).taken (O.view sink.new).taken (text layouts.now.table names.now v ++ 10 ∷ []) }
+    ensures cause { IsErrOf result PrintFault.Write → Rose (O.view sink.old).faults (O.view sink.new).faults }
+    ensures later { (O.view sink.old).faults ≤ (O.view sink.new).faults }
+    ensures quiet { (IsErrOf result PrintFault.Write → ⊥) → (O.view sink.new).faults ≡ (O.view sink.old).faults }
+    ensures silent { IsErrOf result PrintFault.Memory → (O.view sink.new).taken ≡ (O.view sink.old).taken }
     ensures same { M.view mem.new ≡ M.view mem.old }
 {
     let line = line_of(alloc, mem, names, layouts, root)?;

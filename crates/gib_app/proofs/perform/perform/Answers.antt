@@ -6,7 +6,7 @@ use Rattle.gib_app.proofs.perform.perform.Goals as goal
 pub returns-in-Err-write_made-clause-stop : goal.returns-in-Err-write_made-clause-stop
 returns-in-Err-write_made-clause-stop g c =
     write_stop
-    (record { kept = g.S.Shelf.kept c.args.shelf.now; reads = g.S.Shelf.read_faults c.args.shelf.now; writes = g.S.Shelf.write_faults c.args.shelf.now })
-    (record { kept = g.S.Shelf.kept c.make.new.shelf; reads = g.S.Shelf.read_faults c.make.new.shelf; writes = g.S.Shelf.write_faults c.make.new.shelf })
-    (record { kept = g.S.Shelf.kept c.write_made.new.shelf; reads = g.S.Shelf.read_faults c.write_made.new.shelf; writes = g.S.Shelf.write_faults c.write_made.new.shelf })
+    (g.S.Shelf.view c.args.shelf.now)
+    (g.S.Shelf.view c.make.new.shelf)
+    (g.S.Shelf.view c.write_made.new.shelf)
     (request_of c.args.request) c.in-Ok.made.items c.in-Ok.ensures.writes c.in-Ok.ensures.made c.in-Err-write_made.stop c.in-Err-write_made.ensures.stop

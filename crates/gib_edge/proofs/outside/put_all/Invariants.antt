@@ -1,12 +1,15 @@
-use Rattle.std.proofs.Common.{◌≡◌, ◌≤◌, ◌-◌, length, take}
+use Rattle.std.proofs.Common.{◌≡◌, ◌≤◌, ◌-◌, length, take, max}
 use Rattle.gib_edge.specs.Causes.{Appends}
+use Rattle.gib_edge.proofs.Pieces.{Put}
 use Rattle.gib_edge.proofs.outside.put_all.Given as goal
 
 abbrev pub invariant-loop-at : goal.invariant-loop-at
 invariant-loop-at g l = record {
   within : l.at ≤ length l.bytes;
-  taken : Appends (g.O.Sink.taken l.initial.out) (g.O.Sink.taken l.out) (take l.at l.bytes);
-  same : g.O.Sink.faults l.out ≡ g.O.Sink.faults l.initial.out;
+  taken : Appends (g.O.Sink.view l.initial.out).taken (g.O.Sink.view l.out).taken (take l.at l.bytes);
+  same : (g.O.Sink.view l.out).faults ≡ (g.O.Sink.view l.initial.out).faults;
+  puts : Put l.at (length l.bytes) (g.O.Sink.view l.initial.out).puts (g.O.Sink.view l.out).puts;
+  longest : (g.O.Sink.view l.out).longest ≤ max (g.O.Sink.view l.initial.out).longest 4096;
 }
 
 abbrev pub decreases-loop-at : goal.decreases-loop-at
