@@ -10,8 +10,8 @@ use crate::declared::type_written;
 use crate::fault::{Kind, TypeFault};
 use crate::names::NameList;
 use crate::rules::broken;
-use gib_base::limits::CONSTRUCTORS;
-use gib_base::{Memory, Span};
+use gib_base::limits::{CONSTRUCTORS, FIELDS};
+use gib_base::Span;
 use gib_syntax::{ConstructorDecl, DataDecl, Ident, TypeName};
 use gib_types::Ty;
 use std::alloc::Global;
@@ -52,7 +52,7 @@ fn type_place(written: TypeName) -> Span
 fn few_fields(fields: &[TypeName]) -> Result<(), TypeFault>
     ensures { Gives (λ _. tt {0}) result (rule.few_fields fields.now) }
 {
-    match fields.get(8) {
+    match fields.get(FIELDS as usize) {
         Some(ninth) => Err(broken(Kind::Limit, type_place(*ninth))),
         None => Ok(()),
     }
@@ -86,9 +86,10 @@ fn check_constructors(
     Ok(())
 }
 
-/// Types and constructors.
-pub fn check_datas(alloc: Global, datas: &[DataDecl]) -> Result<(), TypeFault>
-    ensures { Gives (λ _. tt {0}) result (rule.check_datas [] [] (map data_tree datas.now)) }
+/// Types and constructors; gives the names of the types, in the order of the text.
+pub fn check_datas(alloc: Global, datas: &[DataDecl]) -> Result<NameList, TypeFault>
+    ensures read { Gives (λ _. tt {0}) result (rule.check_datas [] [] (map data_tree datas.now)) }
+    ensures names { IfOk result (λ names. names ≡ map tree_number (map data_tree datas.now)) }
 {
     let mut types = NameList::new(alloc);
     let mut constructors = NameList::new(alloc);
@@ -99,20 +100,7 @@ pub fn check_datas(alloc: Global, datas: &[DataDecl]) -> Result<(), TypeFault>
         types.push(data.name.name)?;
         rest = after;
     }
-    Ok(())
-}
-
-/// The names of the types, in the order of the text.
-pub fn list_types(alloc: Global, datas: &[DataDecl]) -> Result<NameList, Memory>
-    ensures { IfOk result (λ names. names ≡ map tree_number (map data_tree datas.now)) }
-{
-    let mut names = NameList::new(alloc);
-    let mut rest = datas;
-    'datas: while let [data, after @ ..] = rest {
-        names.push(data.name.name)?;
-        rest = after;
-    }
-    Ok(names)
+    Ok(types)
 }
 
 /// Field types of a constructor.

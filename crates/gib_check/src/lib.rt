@@ -39,7 +39,7 @@ mod walk;
 
 use bodies::{check_bodies, check_body};
 pub use counts::Counts;
-use datas::{check_datas, check_fields, list_types};
+use datas::{check_datas, check_fields};
 use declared::Declared;
 pub use fault::{Fault, Kind, TypeFault};
 pub use functions::FunctionId;
@@ -59,8 +59,7 @@ fn check_declarations(alloc: Global, program: &Program) -> Result<NameList, Type
     ensures table { IfOk result (λ _. IsTable (table_in program.now)) }
 {
     let datas = program.data_decls();
-    check_datas(alloc, datas)?;
-    let types = list_types(alloc, datas)?;
+    let types = check_datas(alloc, datas)?;
     check_fields(&types, datas)?;
     check_heads(alloc, &types, program.functions())?;
     let main = program.main();

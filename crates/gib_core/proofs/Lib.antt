@@ -3,7 +3,6 @@ mod Lining
 mod Spelling
 pub mod Unbroken
 pub mod Indented
-pub mod Copied
 mod Agreeing
 mod Envs
 mod Together
@@ -32,3 +31,14 @@ mod Suited
 mod Reached
 mod Numbered
 mod Sample
+mod Facts
+mod Later
+mod Unused
+mod Vars
+mod Dests
+mod Entering
+mod Covering
+mod Fitted
+mod Builds
+mod Bodies
+mod FunctionCode

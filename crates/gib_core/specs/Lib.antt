@@ -9,4 +9,8 @@ pub mod Met
 pub mod Rules
 pub mod Reachable
 pub mod Numbering
+pub mod Literals
+pub mod Low
+pub mod Fits
+pub mod LoweredParts
 pub mod CoreText

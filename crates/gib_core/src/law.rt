@@ -1,14 +1,14 @@
 //! Laws of cores: functions whose contracts are the laws.
 
-ghost use Rattle.std.specs.Prelude.{◌≡◌, ◌↔◌, ℕ, List, None};
+ghost use Rattle.std.specs.Prelude.{◌≡◌, ◌↔◌, ℕ, List, None, Some, length};
 ghost use Rattle.gib_types.specs.Table.{IsTable};
 ghost use Rattle.gib_types.specs.Tree.{Datum};
 ghost use Rattle.gib_syntax.specs.Tree.{DataTree, ProgramTree};
 ghost use Rattle.gib_syntax.specs.Declarations.{table_of_program};
 ghost use Rattle.gib_syntax.specs.Typing.{IsTypedProgram};
 ghost use Rattle.gib_syntax.specs.Meaning.{calls, run};
-ghost use Rattle.gib_core.specs.Tree.{CoreTree};
-ghost use Rattle.gib_core.specs.Meaning.{core_calls, core_run};
+ghost use Rattle.gib_core.specs.Tree.{FunctionTerm, CoreTree};
+ghost use Rattle.gib_core.specs.Meaning.{function_at, core_calls, core_run};
 ghost use Rattle.gib_core.specs.declared.atom.AccessMode.{AccessMode as Mode};
 ghost use Rattle.gib_core.specs.Erasing.{erase_core};
 ghost use Rattle.gib_core.specs.Inferring.{infer_program};
@@ -16,6 +16,10 @@ ghost use Rattle.gib_core.specs.Reaching.{reach_core};
 ghost use Rattle.gib_core.specs.Rules.{AreBuilt, first_broken};
 ghost use Rattle.gib_core.specs.Reachable.{AreReachable};
 ghost use Rattle.gib_core.specs.Numbering.{AreNumbered};
+ghost use Rattle.gib_core.specs.Literals.{AllLiteralsFit};
+ghost use Rattle.gib_core.specs.Fits.{AllFit};
+ghost use Rattle.gib_core.specs.Low.{IsLowered, HasCode, HasMain, function_number};
+ghost use Rattle.gib_code.specs.Program.{CodeTree};
 
 /// A core meets the build rules exactly where none is the first broken one.
 pub fn built_is_unbroken()
@@ -57,4 +61,17 @@ pub fn reaching_makes_built()
 pub fn variables_are_numbered()
     ensures infer { (p : ProgramTree) → AreNumbered (infer_program p) }
     ensures reach { (mode : Mode) (core : CoreTree) → AreNumbered core → AreNumbered (reach_core mode core) }
+{}
+
+/// Each body of a core fits that meets the build rules, is numbered in the order of the text, and has literals of 64 bits.
+#[tactic(auto, using(crate::proofs::Bodies::built_fits))]
+pub fn built_fits()
+    ensures { (core : CoreTree) → IsTable core.table → AreNumbered core → AllLiteralsFit core → AreBuilt core → AllFit core }
+{}
+
+/// Each function of a core has its code at the entry of its number, and main has its at the last entry.
+#[tactic(auto, using(crate::proofs::FunctionCode::function_has_code, crate::proofs::FunctionCode::main_has_code))]
+pub fn functions_have_their_code()
+    ensures main { (core : CoreTree) (code : CodeTree) → IsLowered core code → HasMain core code code.functions (length core.functions) }
+    ensures functions { (core : CoreTree) (code : CodeTree) (f : ℕ) (g : FunctionTerm) → IsLowered core code → function_at core.functions f ≡ Some g → HasCode core code code.functions (function_number core.functions f) g }
 {}

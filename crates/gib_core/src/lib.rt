@@ -3,9 +3,9 @@
 
 pub mod atom;
 pub mod checked;
-pub mod copy;
 pub mod examples;
 pub mod law;
+mod lowered;
 pub mod node;
 pub mod piece;
 pub mod print;
@@ -18,7 +18,7 @@ mod written;
 
 pub use atom::{Access, AccessMode, Atom, Kind, Variable};
 pub use checked::Checked;
-pub use copy::copy_types;
+pub use lowered::Lowered;
 pub use node::{Binding, BoundTerm, Branch, Node, TermId, Terms};
 pub use print::print_core;
 pub use program::{Core, CoreFunction, CoreMain};

@@ -225,7 +225,7 @@ fn program(alloc: Global, access: Option<Access>, fork: bool) -> Result<Core, Me
         body: main_body,
     };
     let types = table(alloc)?;
-    let copy = copy_types(alloc, &types)?;
+    let copy = types.copy(alloc)?;
     Ok(Core::new(copy, terms, functions, main, Vec::new(alloc)))
 }
 

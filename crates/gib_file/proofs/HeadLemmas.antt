@@ -121,7 +121,7 @@ framed_rest bytes payload fits magic_is version_is reserved_are rest =
 pub is_payload : (bytes payload : List ℕ) → ((i : ℕ) → get_or bytes i 0 < 256) → payload ≡ drop 16 bytes → Framed payload bytes → IsPayload payload
 is_payload bytes payload fits is framed = record {
   fits = subst IsBytes (sym is) (IsBytes-drop 16 bytes fits);
-  filed = (bytes, framed);
+  short = framed.0;
 }
 
 -- the header of a payload whose length is not known yet

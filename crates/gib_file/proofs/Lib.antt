@@ -11,3 +11,4 @@ pub mod PackLemmas
 pub mod Sample
 pub mod Ended
 pub mod FileLaws
+pub mod Fronts

@@ -13,6 +13,7 @@ use Rattle.gib_types.specs.declared.table.Ty.TheVariants as ty
 use Rattle.gib_types.specs.Table.{Row, Table, con_at, if_owned, fields_at, in_order, scalar_types, tree_types}
 use Rattle.gib_types.specs.Tree.{whole, truth, con, Data, none, more, HaveTypes, all_constructors, data_of, list_of}
 use Rattle.gib_file.specs.Packed.{number, bit, scalars, tree, trees, packed}
+pub use Rattle.gib_file.specs.Front.{all_packed}
 use Rattle.gib_file.specs.Reading.{read, with_con}
 use Rattle.gib_file.specs.Surveyed.{IsBytes}
 use Rattle.gib_file.specs.Unpacking.{declared}
@@ -58,11 +59,6 @@ number_at_place_kept bytes at z fits long is =
     (subst (λ (x : ℤ). FitsSigned w64 x) (sym same) p.0, ap number same ∙ p.1)
 
 -- ---- values one after the other
-
--- the bytes of the values in their order
-abbrev pub all_packed : Data → List ℕ
-all_packed none = []
-all_packed (more v vs) = packed v ++ all_packed vs
 
 -- what reading took
 pub record Took (table : Table) (due : List Ty) (n : ℕ) (bytes : List ℕ) (m : ℕ) : Type 0 where

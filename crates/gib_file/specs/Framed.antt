@@ -20,10 +20,10 @@ header len = (magic ++ 1 ∷ 0 ∷ 0 ∷ 0 ∷ []) ++ to_le_bytes w64 len
 abbrev pub Framed : List ℕ → List ℕ → Type 0
 Framed payload bytes = (length payload < 2 ^ 64) × (bytes ≡ header (length payload) ++ payload)
 
--- What every payload keeps: its numbers are bytes, and it is the rest of a file.
+-- What every payload keeps: its numbers are bytes, and its length fits in eight of them.
 pub record IsPayload (payload : List ℕ) : Type 0 where
   pub fits : (i : ℕ) → slice_index payload i < 256
-  pub filed : (file : List ℕ) × Framed payload file
+  pub short : length payload < 2 ^ 64
 
 -- The bytes are the file of this value, which is of the type.
 abbrev pub File : Table → Ty → Datum → List ℕ → Type 0

@@ -4,3 +4,4 @@ pub mod Reading
 pub mod Surveyed
 pub mod Unpacking
 pub mod Packing
+pub mod Front

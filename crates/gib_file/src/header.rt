@@ -41,8 +41,8 @@ impl<'a> Payload<'a> {
     }
 }
 
-/// Whether the bytes begin with `GIBP`.
-fn has_magic(bytes: &[u8]) -> bool
+/// Whether the bytes begin with `GIBP`, as each packed file does.
+pub fn has_magic(bytes: &[u8]) -> bool
     ensures { IsTrue result ↔ HasMagic bytes.now }
 {
     matches!(bytes, [b'G', b'I', b'B', b'P', ..])

@@ -10,6 +10,7 @@ ghost use Rattle.gib_file.specs.declared.fault.PackFault.TheVariants.{Trailing};
 ghost use Rattle.gib_file.specs.Packed.{packed, Packed, IsPacked};
 ghost use Rattle.gib_file.specs.Framed.{Framed, File, IsFirstFault};
 ghost use Rattle.gib_file.specs.Reading.{read_all, IsBadAt};
+ghost use Rattle.gib_file.specs.Front.{IsFault};
 ghost use Rattle.gib_file.specs.Surveyed.{IsBytes};
 
 /// No packed bytes of a type begin others of that type, and bytes are those of one value.
@@ -37,6 +38,12 @@ pub fn trailing_is_behind()
 pub fn refused_byte()
     ensures { (table : Table) (ty : Ty) (bytes : List ℕ) (fault : PackFault) (at : ℕ) → read_all table ty bytes ≡ Err fault → IsBadAt fault at
         → (v : Datum) (y : List ℕ) → HasType table v ty → packed v ≡ take (suc at) bytes ++ y → ⊥ }
+{}
+
+/// The bytes before the place of a fault are the front of a value of the type, and what is due there does not stand:
+/// too few bytes are left, the byte is no tag or truth value, or nothing is due.
+pub fn fault_stands()
+    ensures { (table : Table) (ty : Ty) (bytes : List ℕ) (fault : PackFault) → IsBytes bytes → read_all table ty bytes ≡ Err fault → IsFault table ty bytes fault }
 {}
 
 /// A payload in which reading meets a fault, of whatever kind, is no packed value of the type.

@@ -13,10 +13,10 @@ mod surveyed;
 pub use decode::unpack;
 pub use encode::pack;
 pub use fault::{HeadFault, PackFault};
-pub use header::{Payload, read_header};
+pub use header::{Payload, has_magic, read_header};
 pub use law::{
-    one_file, one_reading, reading_is_packed, refused_byte, refused_file, refused_header,
-    refused_payload, trailing_is_behind,
+    fault_stands, one_file, one_reading, reading_is_packed, refused_byte, refused_file,
+    refused_header, refused_payload, trailing_is_behind,
 };
 pub use scan::survey;
 pub use surveyed::Survey;

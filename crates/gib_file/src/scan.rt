@@ -1,10 +1,11 @@
 //! Checks that a payload is a packed value.
 
-ghost use Rattle.std.specs.Prelude.{◌≡◌, ◌++◌, ◌∷◌, [], reverse, OnOk, IfOk, Ok};
+ghost use Rattle.std.specs.Prelude.{◌≡◌, ◌++◌, ◌∷◌, [], reverse, OnOk, IfOk, IfErr, Ok};
 ghost use Rattle.gib_types.specs.Table.{in_order, scalar_types, tree_types};
 ghost use Rattle.gib_types.specs.Tree.{Datum, constructors};
 ghost use Rattle.gib_file.specs.Packed.{Packed, IsPacked};
 ghost use Rattle.gib_file.specs.Reading.{Gives, read_all};
+ghost use Rattle.gib_file.specs.Front.{least, IsFault};
 
 use crate::fault::PackFault;
 use crate::header::Payload;
@@ -51,6 +52,17 @@ fn push_fields(due: &mut Vec<Ty>, fields: &[Ty]) -> Result<(), Memory>
     push_scalars(due, fields)
 }
 
+/// How many bytes a value of the type begins with, at least.
+fn least(ty: Ty) -> usize
+    ensures { result ≡ least ty }
+{
+    match ty {
+        Ty::Whole => 8,
+        Ty::Truth => 1,
+        Ty::Tree(_) => 1,
+    }
+}
+
 /// How many constructors the packed value has, by one walk over the payload with a stack of what is due.
 fn count(alloc: Global, types: &TypeTable, ty: Ty, payload: &[u8]) -> Result<u64, PackFault>
     ensures { Gives (λ n. n) result (read_all types.now ty payload.now) }
@@ -60,26 +72,18 @@ fn count(alloc: Global, types: &TypeTable, ty: Ty, payload: &[u8]) -> Result<u64
     let mut at = 0;
     let mut constructors = 0;
     while let Some(next) = due.pop() {
+        if payload.len() - at < least(next) {
+            return Err(PackFault::Short(at as u64));
+        }
         match next {
-            Ty::Whole => {
-                if payload.len() - at < 8 {
-                    return Err(PackFault::Short(at as u64));
-                }
-                at += 8;
-            }
+            Ty::Whole => at += 8,
             Ty::Truth => {
-                if at == payload.len() {
-                    return Err(PackFault::Short(at as u64));
-                }
                 if payload[at] > 1 {
                     return Err(PackFault::Truth(at as u64));
                 }
                 at += 1;
             }
             Ty::Tree(of) => {
-                if at == payload.len() {
-                    return Err(PackFault::Short(at as u64));
-                }
                 let Some(con) = types.con_of(of, payload[at]) else {
                     return Err(PackFault::Tag(at as u64));
                 };
@@ -113,6 +117,8 @@ pub fn survey<'a>(
     ensures same { IfOk result (λ s. s ≡ record { table = types.now; ty = ty; bytes = payload.entry; count = s.count }) }
     // What is packed passes, unless memory runs out.
     ensures only { (v : Datum) → Packed types.now ty v payload.entry → Gives (λ s. s.count) result (Ok (constructors v)) }
+    // The bytes before a fault's place can stand, and what is due there does not stand.
+    ensures fault { IfErr result (λ f. IsFault types.now ty payload.entry f) }
     // All else is refused, with the first fault in reading order.
     ensures exact { Gives (λ s. s.count) result (read_all types.now ty payload.entry) }
 {

@@ -22,7 +22,7 @@ use bodies::{make_functions, make_main};
 use gib_base::Memory;
 use gib_check::Typed;
 use gib_core::law::{erasing_keeps_the_meaning, infer_gives_reachable, variables_are_numbered};
-use gib_core::{Core, Terms, copy_types};
+use gib_core::{Core, Terms};
 use std::alloc::Global;
 use work::Work;
 
@@ -37,7 +37,7 @@ fn make_core(alloc: Global, typed: &Typed) -> Result<Core, Memory>
     };
     let functions = make_functions(alloc, typed, &mut work)?;
     let main = make_main(alloc, typed, &mut work)?;
-    let types = copy_types(alloc, typed.types())?;
+    let types = typed.types().copy(alloc)?;
     let core = Core::new(types, work.terms, functions, main, Vec::new(alloc));
     Ok(core)
 }

@@ -8,7 +8,6 @@ ghost use Rattle.gib_lex.specs.Refused.{IsRefused};
 ghost use Rattle.gib_base.specs.Printing.{IsWritable, IsReadAgain};
 
 use crate::fault::LexFault;
-use gib_base::limits::{NAMES, SOURCE_BYTES};
 use gib_base::token::Token;
 
 /// A text makes one thing at most.
@@ -18,13 +17,13 @@ pub fn one_reading()
 
 /// A text that is refused makes nothing within the limits, and it is refused for one reason, at one place.
 pub fn one_refusal()
-    ensures nothing { (bytes : List ℕ) (fault : LexFault) (l : Lexed) → IsRefused bytes fault → IsLexed bytes l → length bytes ≤ SOURCE_BYTES → length l.names ≤ NAMES → ⊥ }
+    ensures nothing { (bytes : List ℕ) (fault : LexFault) (l : Lexed) → IsRefused bytes fault → IsLexed bytes l → length bytes ≤ 1048576 → length l.names ≤ 65535 → ⊥ }
     ensures one { (bytes : List ℕ) (f g : LexFault) → IsRefused bytes f → IsRefused bytes g → f ≡ g }
 {}
 
 /// What a text within the limits makes is what `Tokens` always are.
 pub fn whole()
-    ensures { (bytes : List ℕ) (l : Lexed) → IsLexed bytes l → length bytes ≤ SOURCE_BYTES → length l.names ≤ NAMES → AreTokens l }
+    ensures { (bytes : List ℕ) (l : Lexed) → IsLexed bytes l → length bytes ≤ 1048576 → length l.names ≤ 65535 → AreTokens l }
 {}
 
 /// Tokens that are written with one space between two are read again: the same tokens, with the names that they

@@ -66,11 +66,11 @@ pub fn lex(alloc: Global, bytes: &[u8]) -> Result<Tokens, LexFault>
     ensures lexed { IfOk result (λ tokens. IsLexed bytes.now tokens) }
 
     // A text that is too long is refused as such before anything is read or kept.
-    ensures long { IsErrOf result LexFault.Long ↔ (SOURCE_BYTES < length bytes.now) }
+    ensures long { IsErrOf result LexFault.Long ↔ (1048576 < length bytes.now) }
     ensures at { (place : ℕ) → IsErrOf result (LexFault.At place) → IsStuckAt bytes.now place }
     ensures big { (place : ℕ) → IsErrOf result (LexFault.Big place) → IsBigAt bytes.now place }
     ensures many { IsErrOf result LexFault.Many → HasTooManyNames bytes.now }
-    ensures complete { (l : Lexed) → IsLexed bytes.now l → length bytes.now ≤ SOURCE_BYTES → length l.names ≤ NAMES → (result ≡ Ok l) ⊎ IsErrOf result LexFault.Memory }
+    ensures complete { (l : Lexed) → IsLexed bytes.now l → length bytes.now ≤ 1048576 → length l.names ≤ 65535 → (result ≡ Ok l) ⊎ IsErrOf result LexFault.Memory }
     ensures exact { (fault : LexFault) → IsRefused bytes.now fault → IsErrOf result fault ⊎ IsErrOf result LexFault.Memory }
 {
     if bytes.len() as u64 > SOURCE_BYTES {

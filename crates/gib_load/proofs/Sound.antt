@@ -131,7 +131,7 @@ begun_ready m b room = record {
 
 -- what loading leaves: the value stands for the root, the tails are owned, no chunk too many is drawn
 pub placement_holds : (laid : LaidOut) → Sizes laid → (m : Memory) (t : Ty) (v : Datum) → IsBounded m → m.drawn ≡ 0 → HasType laid.table v t → (placed_in laid m v).memory.drawn ≤ (placed_in laid m v).memory.limit → Holding laid t v (placed_in laid m v)
-placement_holds laid sizes m ty.Whole (whole z) b e h small = record { stands = a_whole; tails = no_tails; loaded = omega (arith, e) }
+placement_holds laid sizes m ty.Whole (whole z) b e h small = record { stands = a_whole h; tails = no_tails; loaded = omega (arith, e) }
 placement_holds laid sizes m ty.Truth (truth x) b e h small = record { stands = a_truth; tails = no_tails; loaded = omega (arith, e) }
 placement_holds laid sizes m (ty.Tree t) (con k vs) b e h small =
     let v = con k vs in

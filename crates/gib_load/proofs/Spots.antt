@@ -7,9 +7,9 @@ use Rattle.gib_types.specs.Table.{IsTable}
 use Rattle.gib_types.specs.Layout.{LaidOut}
 use Rattle.gib_types.specs.Tree.{Datum, whole, truth, con, Data, none, more}
 use Rattle.gib_packed.specs.Head.{head_bytes}
-use Rattle.gib_region.specs.Region.{rest, pointer, redirected}
+use Rattle.gib_region.specs.Region.{rest, pointer, redirected, has_room}
 use Rattle.gib_load.specs.Preorder.{Head, heads, all_heads}
-use Rattle.gib_load.specs.Spot.{Spot, head_size, goes_here, start_of, past_item, past_value, past_fields, places}
+use Rattle.gib_load.specs.Spot.{Spot, head_size, start_of, past_item, past_value, past_fields, places}
 use Rattle.gib_load.specs.Placement.{Open, spot_of, with_room, place_head, place_heads, begun}
 use Rattle.gib_load.specs.Refusal.{Refused, at_start, at_head, Spent}
 use Rattle.gib_load.proofs.Heads.{place-append, heads-count}
@@ -27,14 +27,14 @@ abbrev room_by : Open → Bool → Memory
 room_by r b = cond b r.memory (redirected r.memory r.at r.memory.drawn)
 
 room_drawn : (r : Open) (w : ℕ) → (with_room r w).drawn ≡ (past_item (spot_of r) w).drawn
-room_drawn r w = go (goes_here r.at w)
+room_drawn r w = go (has_room r.at w)
   where
     go : (b : Bool) → (room_by r b).drawn ≡ (past_by (spot_of r) w b).drawn
     go true = refl
     go false = puts_drawn (after_draw r.memory r.memory.drawn) r.at (pointer 255 (4096 * r.memory.drawn))
 
 room_limit : (r : Open) (w : ℕ) → (with_room r w).limit ≡ r.memory.limit
-room_limit r w = go (goes_here r.at w)
+room_limit r w = go (has_room r.at w)
   where
     go : (b : Bool) → (room_by r b).limit ≡ r.memory.limit
     go true = refl
@@ -70,7 +70,7 @@ mutual
 
 -- chunks are drawn, never given back
 pub item_draws : (s : Spot) (k : ℕ) → s.drawn ≤ (past_item s k).drawn
-item_draws s k = go (goes_here s.at k)
+item_draws s k = go (has_room s.at k)
   where
     go : (b : Bool) → s.drawn ≤ (past_by s k b).drawn
     go true = omega arith

@@ -13,10 +13,10 @@ use Rattle.gib_types.specs.Layout.{LaidOut, layout_at}
 use Rattle.gib_types.specs.Tree.{Datum, whole, truth, con}
 use Rattle.gib_file.specs.Packed.{Packed}
 use Rattle.gib_packed.specs.Scalars.{scalars}
-use Rattle.gib_region.specs.Region.{rest, Behind, pointer, HasRoom, Placed, here, turned, redirected, IsFull}
+use Rattle.gib_region.specs.Region.{rest, Behind, pointer, HasRoom, Placed, here, turned, redirected, IsFull, has_room}
 use Rattle.gib_region.specs.Leaving.{IsBounded, Leaves}
 use Rattle.gib_load.specs.Preorder.{Head, heads}
-use Rattle.gib_load.specs.Spot.{Spot, head_size, goes_here, start_of, past_item, places}
+use Rattle.gib_load.specs.Spot.{Spot, head_size, start_of, past_item, places}
 use Rattle.gib_load.specs.Placement.{Open, spot_of, with_room, place_head, place_heads}
 use Rattle.gib_load.specs.Refusal.{Stuck}
 use Rattle.gib_load.proofs.Heads.{bytes_of, tree-bytes, IsHead, AreHeads, one_head, heads-typed, scalars-length, place-append, plain_bytes, plain_size}
@@ -76,10 +76,10 @@ by_room r w bytes b = record {
   at = (cond {A = Spot} b (record { at = r.at + w; drawn = r.memory.drawn }) (record { at = 4096 * r.memory.drawn + w; drawn = r.memory.drawn + 1 })).at;
 }
 
-room_true : (at w : ℕ) → HasRoom at w → goes_here at w ≡ true
+room_true : (at w : ℕ) → HasRoom at w → has_room at w ≡ true
 room_true at w room = elim (leb_tells (w + 9) (rest at)) [ inl le ↦ le.0 | inr lt ↦ absurd (omega (arith, lt.1)) ]
 
-room_false : (at w : ℕ) → (HasRoom at w → ⊥) → goes_here at w ≡ false
+room_false : (at w : ℕ) → (HasRoom at w → ⊥) → has_room at w ≡ false
 room_false at w full = elim (leb_tells (w + 9) (rest at)) [ inl le ↦ absurd (full le.1) | inr lt ↦ lt.0 ]
 
 placed_item : (r : Open) (w : ℕ) (bytes : List ℕ) (m : Memory) (a : ℕ) → r.memory.alone ≡ true → Placed r.memory r.at w m a → record { memory = after_puts m a bytes; at = a + w } ≡ place_item r w bytes
@@ -168,7 +168,7 @@ module _ (laid : LaidOut) (plain : laid.with_offsets ≡ []) (payload : List ℕ
 
 -- a draw that answered nothing left all as it was
 pub full_same : (old new : Memory) → old.alone ≡ true → IsFull old new → new ≡ old
-full_same old new alone full = full.same ∙ ap (λ (n : ℕ). record { cells = old.cells; drawn = n; limit = old.limit; alone = old.alone }) (sym (full.all alone))
+full_same old new alone full = full.same ∙ ap (λ (n : ℕ). record old { drawn = n }) (sym (full.all alone))
 
 pub full_all : (old new : Memory) → IsFull old new → new.drawn ≡ new.limit
 full_all old new full = subst (λ (m : Memory). m.drawn ≡ m.limit) (sym full.same) refl
@@ -176,6 +176,3 @@ full_all old new full = subst (λ (m : Memory). m.drawn ≡ m.limit) (sym full.s
 -- the rest of the chunk behind an item that was put
 pub behind_item : (m m' : Memory) (cur w a : ℕ) (bs : List ℕ) → Leaves m m' cur w a → length bs ≡ w → Behind (after_puts m' a bs).cells (a + w)
 behind_item m m' cur w a bs leaves long = record { owned = record { all = λ q x y. puts_past m' a bs q (omega arith) ∙ leaves.behind.all q x y } }
-
-pub bounded_of : (m : Memory) → ((q : ℕ) → 4096 * m.drawn ≤ q → m.cells q ≡ Rattle.gib_mem.specs.Memory.absent) → (m.drawn ≤ m.limit) × (m.limit < 2 ^ 32) → IsBounded m
-bounded_of m above small = record { above = above; order = small.0; small = small.1 }

@@ -3,12 +3,12 @@ use Rattle.std.specs.Prelude.{ℕ, ◌*◌, List, [], ◌∷◌, if◌then◌els
 use Rattle.gib_mem.specs.Memory.{Memory, after_puts, after_draw}
 use Rattle.gib_types.specs.Layout.{LaidOut}
 use Rattle.gib_types.specs.Tree.{Datum, whole, truth, con}
-use Rattle.gib_region.specs.Region.{redirected, finished}
+use Rattle.gib_region.specs.Region.{redirected, finished, has_room}
 use Rattle.gib_packed.specs.Head.{head_bytes}
 use Rattle.gib_packed.specs.declared.root.Root.{Root}
 use Rattle.gib_packed.specs.declared.root.Root.TheVariants.{Whole, Truth, At}
 use Rattle.gib_load.specs.Preorder.{Head, heads}
-use Rattle.gib_load.specs.Spot.{Spot, head_size, goes_here, start_of, past_item, places}
+use Rattle.gib_load.specs.Spot.{Spot, head_size, start_of, past_item, places}
 
 -- A region that is open: the memory, and the cursor.
 pub record Open : Type 0 where
@@ -22,7 +22,7 @@ spot_of r = record { at = r.at; drawn = r.memory.drawn }
 -- The memory once there is room for an item of k bytes: where it does not go here, a chunk was drawn and a redirect to
 -- it put.
 abbrev pub with_room : Open → ℕ → Memory
-with_room r k = if goes_here r.at k then r.memory else redirected r.memory r.at r.memory.drawn
+with_room r k = if has_room r.at k then r.memory else redirected r.memory r.at r.memory.drawn
 
 -- One head more. The offsets in it are the places that its packed fields get.
 abbrev pub place_head : LaidOut → Open → Head → Open

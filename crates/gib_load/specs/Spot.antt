@@ -1,8 +1,8 @@
 -- Where items go, by their lengths alone.
-use Rattle.std.specs.Prelude.{ℕ, ◌+◌, ◌*◌, Bool, List, [], ◌∷◌, nat_le, if◌then◌else◌}
+use Rattle.std.specs.Prelude.{ℕ, ◌+◌, ◌*◌, List, [], ◌∷◌, if◌then◌else◌}
 use Rattle.gib_types.specs.Layout.{LaidOut, layout_at}
 use Rattle.gib_types.specs.Tree.{Datum, whole, truth, con, Data, none, more}
-use Rattle.gib_region.specs.Region.{rest}
+use Rattle.gib_region.specs.Region.{has_room}
 
 -- The cursor of a region, and how many chunks are drawn.
 pub record Spot : Type 0 where
@@ -13,17 +13,13 @@ pub record Spot : Type 0 where
 abbrev pub head_size : LaidOut → ℕ → ℕ
 head_size laid k = (layout_at laid.table laid.with_offsets k).head
 
--- Whether an item of k bytes and a redirect go here.
-abbrev pub goes_here : ℕ → ℕ → Bool
-goes_here at k = nat_le (k + 9) (rest at)
-
 -- Where an item of k bytes starts: at the cursor, or in a new chunk.
 abbrev pub start_of : Spot → ℕ → ℕ
-start_of s k = if goes_here s.at k then s.at else 4096 * s.drawn
+start_of s k = if has_room s.at k then s.at else 4096 * s.drawn
 
 -- The spot behind an item of k bytes.
 abbrev pub past_item : Spot → ℕ → Spot
-past_item s k = if goes_here s.at k then record { at = s.at + k; drawn = s.drawn } else record { at = 4096 * s.drawn + k; drawn = s.drawn + 1 }
+past_item s k = if has_room s.at k then record { at = s.at + k; drawn = s.drawn } else record { at = 4096 * s.drawn + k; drawn = s.drawn + 1 }
 
 -- The spot behind a value, and behind the values of fields; a scalar stands in its head.
 abbrev mutual

@@ -6,7 +6,7 @@ ghost use Rattle.gib_types.specs.declared.table.Ty.TheVariants.{Tree, Whole as W
 ghost use Rattle.gib_types.specs.Tree.{Datum};
 ghost use Rattle.gib_file.specs.Packed.{Packed, number, bit};
 ghost use Rattle.gib_load.specs.Holding.{Holding};
-ghost use Rattle.gib_region.specs.Region.{Behind, rest, AreOwned};
+ghost use Rattle.gib_region.specs.Region.{Behind};
 ghost use Rattle.gib_load.specs.Preorder.{heads};
 ghost use Rattle.gib_load.specs.Placement.{Open, place_heads as heads_placed, placed_in, begun, finished_at};
 ghost use Rattle.gib_load.specs.Refusal.{Stuck, Refused, Spent};
@@ -17,19 +17,23 @@ use gib_mem::Mem;
 use gib_packed::Root;
 use gib_region::{Cursor, Full, Tails, begin, fill, finish, reserve};
 use gib_types::{ConId, Layouts, Ty};
+use std::alloc::Global;
+use thiserror::Error;
 
 /// Why a value is not loaded.
-#[derive(Clone, Copy, Debug, PartialEq, Eq)]
+#[derive(Clone, Copy, Debug, PartialEq, Eq, Error)]
 pub enum LoadFault {
     /// Want of memory.
+    #[error("out of memory")]
     Memory,
     /// All chunks are drawn, and there is no room for the next head.
+    #[error("no chunk is left")]
     Full,
 }
 
 /// Places the heads of a payload one after another, from the cursor on.
 fn place_heads<M: Mem>(
-    layouts: &Layouts<'_>,
+    layouts: &Layouts,
     payload: &[u8],
     cursor: &mut Cursor,
     mem: &mut M,
@@ -38,12 +42,11 @@ fn place_heads<M: Mem>(
     requires plain { layouts.now.with_offsets ≡ [] }
     requires alone { (M.view mem.old).alone ≡ true }
     requires owned { Behind (M.view mem.old).cells cursor.old.at }
-    requires redirect { 9 ≤ rest cursor.old.at }
     ensures placed { OnOk result ((t : _) (v : Datum) → Packed layouts.now.table (Tree t) v payload.now → record { memory = M.view mem.new; at = cursor.new.at } ≡ heads_placed layouts.now (record { memory = M.view mem.old; at = cursor.old.at }) (heads v)) }
     ensures owned { OnOk result (Behind (M.view mem.new).cells cursor.new.at) }
     ensures full { OnErr result ((t : _) (v : Datum) → Packed layouts.now.table (Tree t) v payload.now → Stuck layouts.now (record { memory = M.view mem.old; at = cursor.old.at }) (heads v) (M.view mem.new)) }
 {
-    layouts.heads();
+    layouts.rules();
     let mut at = 0;
     'heads: while at < payload.len() {
         let head = layouts.layout(ConId(payload[at] as u32)).head;
@@ -59,7 +62,7 @@ fn place_heads<M: Mem>(
 
 /// Places a constructor's value in a region of its own, and answers where it stands.
 fn place_tree<M: Mem>(
-    layouts: &Layouts<'_>,
+    layouts: &Layouts,
     payload: &[u8],
     mem: &mut M,
     tails: &mut Tails,
@@ -104,7 +107,7 @@ fn truth_of(payload: &[u8]) -> bool
 
 /// Places a value: a scalar is its own root.
 fn place_value<M: Mem>(
-    layouts: &Layouts<'_>,
+    layouts: &Layouts,
     ty: Ty,
     payload: &[u8],
     mem: &mut M,
@@ -134,9 +137,11 @@ fn place_value<M: Mem>(
 /// # Errors
 ///
 /// `Full` exactly where all chunks are drawn and the next head needs one. The memory then holds the heads that were
-/// placed before, and their redirects, and no other byte.
+/// placed before, and their redirects, and no other byte. `Memory`, and nothing was drawn or put; this cannot come where
+/// no constructor has offsets, since then nothing is allocated.
 pub fn load<M: Mem>(
-    layouts: &Layouts<'_>,
+    _alloc: Global,
+    layouts: &Layouts,
     survey: Survey<'_>,
     mem: &mut M,
     tails: &mut Tails,
@@ -152,9 +157,9 @@ pub fn load<M: Mem>(
     ensures spent { IsErrOf result LoadFault.Full → (v : Datum) → Packed layouts.now.table survey.entry.ty v survey.entry.bytes → Spent v (M.view mem.new) }
     ensures none { OnErr result (tails.new ≡ []) }
     ensures memory { IsErrOf result LoadFault.Memory → M.view mem.new ≡ M.view mem.old }
+    ensures ample { layouts.now.with_offsets ≡ [] → IsErrOf result LoadFault.Memory → ⊥ }
 {
-    layouts.heads();
-    layouts.types().rules();
+    layouts.rules();
     match place_value(layouts, survey.ty(), survey.payload(), mem, tails) {
         Ok(root) => Ok(root),
         Err(_) => Err(LoadFault::Full),

@@ -90,7 +90,7 @@ fn load_payload(
     let layouts = Layouts::make(alloc, types, &[])?;
     let mut mem = PlainMem::make(alloc, chunks)?;
     let mut tails = Tails::new();
-    let loaded = load(&layouts, survey, &mut mem, &mut tails);
+    let loaded = load(alloc, &layouts, survey, &mut mem, &mut tails);
     Ok((loaded, mem))
 }
 

@@ -1,10 +1,10 @@
 //! Memory of one owner.
 
 ghost use Rattle.std.specs.Prelude.{◌≡◌, ◌<◌, ◌≤◌, ◌^◌, ◌*◌, ◌+◌, ℕ, true, length, slice_get, Some, None, IfOk};
-ghost use Rattle.gib_mem.specs.Plain.{IsPlain, plain_cells, nothing};
+ghost use Rattle.gib_mem.specs.Plain.{IsPlain, plain_memory, nothing};
 ghost use Rattle.gib_mem.specs.Memory.{Memory, IsThere};
 
-use crate::Mem;
+use crate::{CHUNK, Mem};
 use std::alloc::{AllocError, Global};
 
 /// All bytes of so many chunks, each with whether it was put: two bytes of the machine for each.
@@ -25,7 +25,7 @@ impl PlainMem {
     pub fn make(alloc: Global, chunks: u32) -> Result<PlainMem, AllocError>
         ensures { IfOk result (λ m. ⟦<PlainMem as Mem>⟧.view m ≡ nothing chunks) }
     {
-        let bytes = vec![in alloc; None; chunks as usize * 4096]?;
+        let bytes = vec![in alloc; None; chunks as usize * CHUNK as usize]?;
         Ok(PlainMem {
             bytes,
             drawn: 0,
@@ -42,7 +42,7 @@ impl PlainMem {
 }
 
 impl Mem for PlainMem {
-    ghost view = { λ m. record { cells = plain_cells m.bytes.items m.drawn; drawn = m.drawn; limit = m.limit; alone = true } };
+    ghost view = { λ m. plain_memory m.bytes.items m.drawn m.limit };
 
     fn draw(&mut self) -> Option<u32> {
         if self.drawn == self.limit {
@@ -75,7 +75,5 @@ impl Mem for PlainMem {
         self.drawn
     }
 
-    ghost bounded = { λ m q h. Rattle.gib_mem.specs.Plain.plain_bounded m.bytes.items m.drawn q h };
-
-    ghost small = { λ m. Rattle.gib_mem.specs.Plain.plain_small m.bytes.items m.drawn m.limit m.plain };
+    ghost bounded = { λ m. Rattle.gib_mem.specs.Plain.plain_bounded m.bytes.items m.drawn m.limit m.plain };
 }

@@ -10,3 +10,6 @@ pub mod WalkLemmas
 pub mod FollowLemmas
 pub mod Typed
 pub mod Examples
+pub mod WalkLaws
+pub mod FieldLemmas
+pub mod Sets

@@ -1,9 +1,9 @@
 -- Walks as functions, for their measures.
 use Rattle.std.specs.Prelude.{◌≡◌, ℕ, zero, suc, ◌+◌, ◌*◌, ◌<◌, ◌≤◌, ◌==◌, List, [], ◌∷◌, nat_lt, if◌then◌else◌}
 use Rattle.std.specs.Int.{w64, from_le_bytes}
-use Rattle.gib_types.specs.Layout.{LaidOut, layout_at}
+use Rattle.gib_types.specs.Layout.{LaidOut, head_size, packed_at}
 use Rattle.gib_mem.specs.Memory.{Store, byte, look_of}
-use Rattle.gib_packed.specs.Decoding.{Points}
+pub use Rattle.gib_packed.specs.Walking.{Reaches, there, hop}
 
 -- so many bytes from an address on
 abbrev pub bytes_at : Store → ℕ → ℕ → List ℕ
@@ -20,7 +20,7 @@ pub record Stand : Type 0 where
   pub due : ℕ
 
 abbrev pub enter_at : LaidOut → ℕ → ℕ → ℕ → Stand
-enter_at laid k a n = record { at = a + (layout_at laid.table laid.with_offsets k).head; due = (layout_at laid.table laid.with_offsets k).packed + n }
+enter_at laid k a n = record { at = a + head_size laid k; due = packed_at laid k + n }
 
 -- one step from a place at which one value and n more are due
 abbrev pub step : LaidOut → Store → ℕ → ℕ → ℕ → Stand
@@ -41,8 +41,3 @@ most (suc h) = 9 * most h
 unfoldable pub hops : ℕ → Store → ℕ → ℕ
 hops zero s a = 0
 hops (suc f) s a = if nat_lt (look_of (s a)) 254 then 0 else suc (hops f s (target_at s a))
-
--- so many redirects and indirections lead to a head
-pub data Reaches (s : Store) : ℕ → ℕ → Type 0 where
-  there : {a k : ℕ} → s a ≡ byte k → k < 254 → Reaches s 0 a
-  hop : {n a b tag : ℕ} → Points s a tag b → 254 ≤ tag → Reaches s n b → Reaches s (suc n) a

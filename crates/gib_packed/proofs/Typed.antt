@@ -7,6 +7,8 @@ use Rattle.gib_types.specs.Tree.{Datum, Data, HasType, HaveTypes}
 use Rattle.gib_mem.specs.Memory.{Store}
 use Rattle.gib_packed.specs.Decoding.{Dec, redirect, indirect, head, Decs, done, whole_field, truth_field, tree_field}
 use Rattle.gib_packed.specs.Reaching.{Leads, here, on}
+use Rattle.gib_packed.specs.declared.root.Root.{Root}
+use Rattle.gib_packed.specs.Stands.{Stands, a_whole, a_truth, a_tree}
 use Rattle.gib_packed.proofs.HoldsLemmas.{Holds-first, same_byte, Points-same}
 
 mutual
@@ -20,6 +22,11 @@ mutual
   Decs-typed (whole_field f ds) = (f, Decs-typed ds)
   Decs-typed (truth_field ds) = (tt {0}, Decs-typed ds)
   Decs-typed (tree_field d ds) = (Dec-typed d, Decs-typed ds)
+
+pub Stands-typed : {laid : LaidOut} {s : Store} {root : Root} {ty : Ty} {v : Datum} → Stands laid s root ty v → HasType laid.table v ty
+Stands-typed (a_whole f) = f
+Stands-typed a_truth = tt {0}
+Stands-typed (a_tree d) = Dec-typed d
 
 pub Leads-same : {s : Store} {a g h : ℕ} → Leads s a g → Leads s a h → g ≡ h
 Leads-same (here e lt) (here f le) = refl

@@ -3,11 +3,11 @@ use Rattle.std.proofs.Common.{◌≡◌, ℕ, zero, suc, ◌+◌, ◌*◌, ◌-�
 use Rattle.std.specs.Int.{w64, from_le_bytes}
 use Rattle.std.proofs.lemmas.Nat.{from_le_bytes-to_le_bytes_8}
 use Rattle.std.proofs.lemmas.Bool.Decides.{leb_tells, nat_tests}
-use Rattle.gib_mem.specs.Memory.{Memory, absent, Store, Cell, Holds, byte, look_of, none, more}
-use Rattle.gib_types.specs.Layout.{LaidOut}
+use Rattle.gib_mem.specs.Memory.{Memory, IsBounded, Store, Cell, Holds, byte, look_of, none, more}
+use Rattle.gib_types.specs.Layout.{LaidOut, head_size, packed_at}
 use Rattle.gib_packed.specs.Head.{address}
 use Rattle.gib_packed.specs.Decoding.{Points, Dec}
-use Rattle.gib_packed.proofs.Spans.{Span, redirect, indirect, head, Spans, done, next, Few, Walk, end, turn, pass, enter, Walks, Goes, Below, size_of, count_of}
+use Rattle.gib_packed.proofs.Spans.{Span, redirect, indirect, head, Spans, done, next, Few, Walk, end, turn, pass, enter, Walks, Goes, Below}
 use Rattle.gib_packed.proofs.Steps.{most, steps, step, enter_at, target_at, bytes_at, Stand}
 use Rattle.gib_packed.proofs.HoldsLemmas.{Holds-first, Holds-rest, same_byte}
 use Rattle.gib_packed.proofs.SpanLemmas.{Dec-span, Span-height}
@@ -45,7 +45,7 @@ mutual
       let r = Spans-walk f ds few (omega arith) w in
       let up = most-step h in
       let one = most_pos h in
-      let size : most h * count_of laid k ≤ most h * 8 = mul-le-mul_left (most h) few in
+      let size : most h * packed_at laid k ≤ most h * 8 = mul-le-mul_left (most h) few in
       record { count = suc r.count; walk = enter (omega arith) b i e r.walk; within = omega (arith, r.within) }
 
   -- m values one behind another, and then n more
@@ -97,7 +97,7 @@ step-head laid s a k n lt =
     rw (x, y) refl
 
 step-enter : (laid : LaidOut) (s : Store) {a k : ℕ} (n : ℕ) → k < 254 → s a ≡ byte k
-    → step laid s a n (look_of (s a)) ≡ record { at = a + size_of laid k; due = count_of laid k + n }
+    → step laid s a n (look_of (s a)) ≡ record { at = a + head_size laid k; due = packed_at laid k + n }
 step-enter laid s {a = a} {k = k} n lt e =
     ap (λ (x : Cell). step laid s a n (look_of x)) e ∙ step-head laid s a k n lt
 
@@ -142,7 +142,7 @@ go_pass {s = s} {a = a} (enter m b i o w) le e = let tag = same_byte s a _ _ o e
 
 pub record Entered (laid : LaidOut) (s : Store) (bound a n z k : ℕ) : Type 0 where
   pub is : k < length laid.table.rows
-  pub on : Onward laid s bound a (suc n) (a + size_of laid k) (count_of laid k + n) z
+  pub on : Onward laid s bound a (suc n) (a + head_size laid k) (packed_at laid k + n) z
 
 go_enter : {laid : LaidOut} {s : Store} {count bound a n z k : ℕ} → Walk laid s (7 * bound) count a (suc n) z → count ≤ most bound → s a ≡ byte k → k ≢ 255 → k ≢ 254 → Entered laid s bound a n z k
 go_enter {s = s} {a = a} (turn m p w) le e x y = let tag = same_byte s a _ _ (Holds-first p.bytes) e in absurd (omega arith)
@@ -151,7 +151,7 @@ go_enter {laid = laid} {s = s} {bound = bound} {a = a} {n = n} {z = z} {k = k} (
     let tag : j ≡ k = same_byte s a j k o e in
     record {
       is = subst (λ (i : ℕ). i < length laid.table.rows) tag i;
-      on = subst (λ (i : ℕ). Onward laid s bound a (suc n) (a + size_of laid i) (count_of laid i + n) z) tag (onward (enter m b i o w) w le);
+      on = subst (λ (i : ℕ). Onward laid s bound a (suc n) (a + head_size laid i) (packed_at laid i + n) z) tag (onward (enter m b i o w) w le);
     }
 
 go_stands : {laid : LaidOut} {s : Store} {roof count a n z : ℕ} → Walk laid s roof count a (suc n) z → (b : ℕ) × (s a ≡ byte b) × (n ≤ roof)
@@ -180,17 +180,17 @@ module _ (laid : LaidOut) (s : Store) (bound a left z : ℕ) (w : Goes laid s bo
   pub passed : s a ≡ byte 254 → Onward laid s bound a left (a + 9) (left - 1) z
   passed e = subst (λ (x : ℕ). Onward laid s bound a x (a + 9) (left - 1) z) same_left (go_pass at_suc w.walks.within e)
 
-  pub entered : (k : ℕ) → s a ≡ byte k → k ≢ 255 → k ≢ 254 → (k < length laid.table.rows) × Onward laid s bound a left (a + size_of laid k) (count_of laid k + (left - 1)) z
-  entered k e x y = let r = go_enter at_suc w.walks.within e x y in (r.is, subst (λ (i : ℕ). Onward laid s bound a i (a + size_of laid k) (count_of laid k + (left - 1)) z) same_left r.on)
+  pub entered : (k : ℕ) → s a ≡ byte k → k ≢ 255 → k ≢ 254 → (k < length laid.table.rows) × Onward laid s bound a left (a + head_size laid k) (packed_at laid k + (left - 1)) z
+  entered k e x y = let r = go_enter at_suc w.walks.within e x y in (r.is, subst (λ (i : ℕ). Onward laid s bound a i (a + head_size laid k) (packed_at laid k + (left - 1)) z) same_left r.on)
 
 pub ended : (laid : LaidOut) (s : Store) (bound a left z : ℕ) → Goes laid s bound a left z → left ≡ 0 → a ≡ z
 ended laid s bound a left z w empty = go_end (subst (λ (x : ℕ). Walk laid s (7 * bound) w.walks.count a x z) empty w.walks.walk)
 
 -- what a memory knows stands below 2 ^ 44
-pub known_below : (m : Memory) → ((q : ℕ) → 4096 * m.drawn ≤ q → m.cells q ≡ absent) → (m.drawn ≤ m.limit) × (m.limit < 2 ^ 32) → Below m.cells (2 ^ 44)
-known_below m absent_above small = record {
+pub known_below : (m : Memory) → IsBounded m → Below m.cells (2 ^ 44)
+known_below m bounded = record {
   below = λ q b e. elim (leb_tells (2 ^ 44) q) [
-    | inl high ↦ (let none_there = absent_above q (omega (arith, high.1)) in absurd cc)
+    | inl high ↦ (let none_there = bounded.above q (omega (arith, high.1, bounded.order, bounded.small)) in absurd cc)
     | inr low ↦ low.1
   ];
 }

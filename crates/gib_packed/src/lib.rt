@@ -5,10 +5,8 @@ pub mod law;
 pub mod read;
 pub mod root;
 
-pub use read::{
-    INDIRECTION, POINTER_BYTES, REDIRECT, follow, pass_redirects, skip, tag_at, truth_at, whole_at,
-    word_at,
-};
+pub use gib_mem::{INDIRECTION, POINTER_BYTES, REDIRECT};
+pub use read::{follow, pass_redirects, skip, tag_at, truth_at, whole_at, word_at};
 pub use root::Root;
 
 #[cfg(test)]

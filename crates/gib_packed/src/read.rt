@@ -8,19 +8,10 @@ ghost use Rattle.gib_types.specs.Tree.{Datum};
 ghost use Rattle.gib_packed.specs.Scalars.{number, bit};
 ghost use Rattle.gib_packed.specs.Head.{address};
 ghost use Rattle.gib_packed.specs.Decoding.{Dec, Decodes};
-ghost use Rattle.gib_packed.specs.Reaching.{Leads, Redirects};
+ghost use Rattle.gib_packed.specs.Reaching.{Leads, Turns};
 
-use gib_mem::Mem;
+use gib_mem::{INDIRECTION, Mem, POINTER_BYTES, REDIRECT};
 use gib_types::{ConId, Layouts};
-
-/// The tag of a redirect: the value that is due here stands at the address behind it.
-pub const REDIRECT: u8 = 255;
-
-/// The tag of an indirection: the value stands at the address behind it, and ends here with that address.
-pub const INDIRECTION: u8 = 254;
-
-/// The bytes of an indirection, and of a redirect: the tag and an address.
-pub const POINTER_BYTES: u64 = 9;
 
 /// The address that stands in eight bytes, the lowest first.
 pub fn word_at<M: Mem>(mem: &mut M, at: u64) -> u64
@@ -66,7 +57,8 @@ pub fn truth_at<M: Mem>(mem: &mut M, at: u64) -> bool
 /// Where the value stands once redirects are passed: at a head or an indirection.
 pub fn pass_redirects<M: Mem>(mem: &mut M, at: u64) -> u64
     requires { (laid : LaidOut) × Decodes laid (M.view mem.old).cells at }
-    ensures leads { Redirects (M.view mem.old).cells at result }
+    ensures turns { Turns (M.view mem.old).cells at result }
+    ensures past { (M.view mem.old).cells result ≡ byte 255 → ⊥ }
     ensures value { (laid : LaidOut) (t : ℕ) (v : Datum) (z : ℕ) → Dec laid (M.view mem.old).cells at t v z → Dec laid (M.view mem.old).cells result t v z }
     ensures same { M.view mem.new ≡ M.view mem.old }
 {
@@ -101,7 +93,7 @@ pub fn skip<M: Mem>(mem: &mut M, layouts: &Layouts, at: u64) -> u64
     ensures end { (t : ℕ) (v : Datum) (z : ℕ) → Dec layouts.now (M.view mem.old).cells at t v z → result ≡ z }
     ensures same { M.view mem.new ≡ M.view mem.old }
 {
-    layouts.heads();
+    layouts.rules();
     let mut place = at;
     let mut due = 1u64;
     'walk: while due > 0 {

@@ -17,6 +17,7 @@ use Rattle.gib_parse.specs.Answers.{read_of, AnswersRead, IsBlamedAt, IsTooDeepA
 use Rattle.gib_parse.proofs.Tools.{done, failed}
 use Rattle.gib_parse.proofs.Local.{Refused, Deep}
 use Rattle.gib_parse.proofs.BeginProgram.{whole_begun}
+use Rattle.gib_parse.proofs.Sunk.{whole_begun_with, whole_sinks, whole_floats}
 use Rattle.gib_parse.proofs.Whole.{whole_reads, derived_is_read, placed_is_read, whole_blames, whole_deepens, whole_within}
 
 -- ---- exactly what is read
@@ -73,6 +74,7 @@ blamed l place a = record {
   within = whole_within 200 (places_of l.spans) Refused l.tokens a.left a.read;
   blamed = whole_blames 200 (places_of l.spans) l.tokens a.left a.read;
   first = whole_begun (places_of l.spans) 200 l.tokens a.left a.read;
+  floats = whole_floats 200 (places_of l.spans) l.tokens a.left a.read;
   here = a.here;
 }
 
@@ -81,6 +83,8 @@ too_deep l place a = record {
   left = a.left;
   within = whole_within 200 (places_of l.spans) Deep l.tokens a.left a.read;
   deep = whole_deepens (places_of l.spans) l.tokens a.left a.read;
+  begun = whole_begun_with 200 (places_of l.spans) l.tokens a.left a.read;
+  sinks = whole_sinks (places_of l.spans) l.tokens a.left a.read;
   here = a.here;
 }
 

@@ -1,5 +1,5 @@
 -- What is spelled so is read, where the levels serve.
-use Rattle.std.proofs.Common.{◌≡◌, ℕ, zero, suc, ◌<◌, ◌^◌, Bool, true, false, List, [], ◌∷◌, length, Ok, Err, refl, ap, ◌∙◌, arith}
+use Rattle.std.proofs.Common.{◌≡◌, ℕ, zero, suc, ◌<◌, ◌^◌, Bool, true, false, List, [], ◌∷◌, ◌++◌, length, Ok, Err, refl, ap, ◌∙◌}
 use Rattle.std.proofs.lemmas.Bool.{lt-ltb}
 use Rattle.gib_base.specs.declared.Span.{Span}
 use Rattle.gib_base.specs.declared.token.Sign.{Sign}
@@ -10,14 +10,15 @@ use Rattle.gib_syntax.specs.declared.tree.Ident.{Ident}
 use Rattle.gib_syntax.specs.declared.tree.Operator.{Operator}
 use Rattle.gib_syntax.specs.declared.tree.Operator.TheVariants as o
 use Rattle.gib_syntax.specs.Tree.{Expression, Arguments, Arms, Var, Num, Bit, Paren, Op, Call, Make, Let, Par, If, Case, NoArgument, Argument, LastArm, NextArm}
-use Rattle.gib_syntax.specs.Spelling.{Places, is_application, is_atom, spell, spell_arguments, spell_arms, spell_variables, spell_operator, spell_bit, IsFine, AreFine, HasFine, levels, levels_arguments, levels_arms}
-use Rattle.gib_parse.specs.Reading.{Mode, Any, App, Atom, Read, Reader, Parts, then_at, want, before, named, var_at, next_is, many_step, many, is_variable, is_sign, is_literal, literal_at, starts_atom, starts_expression, starts, ArmTree, arms_of, arm_at, next_arm_at, arms_at, arguments_of, arguments_at, bind_at, par_at, if_at, case_at, side_at, close_at, open_at, call, atom_at, app_at, any_at, no_level, parse}
-use Rattle.gib_parse.proofs.Tools.{done}
+use Rattle.gib_syntax.specs.Spelling.{Places, is_application, is_atom, spell, spell_arguments, spell_arms, spell_variables, spell_operator, spell_bit, IsFine, AreFine, HasFine}
+use Rattle.gib_parse.specs.Reading.{Nested, Mode, Any, App, Atom, Read, Reader, Parts, then_at, want, before, named, var_at, next_is, many_step, many, is_variable, is_sign, is_literal, literal_at, starts_atom, starts_expression, starts, ArmTree, arms_of, arm_at, next_arm_at, arms_at, arguments_of, arguments_at, bind_at, par_at, if_at, case_at, side_at, close_at, open_at, call, atom_at, app_at, any_at, no_level, parse}
+use Rattle.gib_parse.proofs.Tools.{done, failed}
 use Rattle.gib_parse.proofs.Many.{Shrinks, many_none, many_is}
 use Rattle.gib_parse.proofs.Sound.{IsMode, atom_is_application}
 use Rattle.gib_parse.proofs.Longer.{parse_shrinks, var_shrinks, next_shrinks}
 use Rattle.gib_parse.proofs.Settle.{settle, settle_arguments, settle_arms, settle_name, settle_names, settled_application}
-use Rattle.gib_parse.proofs.Come.{Comes, Came, Sank, then_comes, comes_when, comes_at}
+use Rattle.gib_parse.specs.Nesting.{below, below_arguments, below_arms}
+use Rattle.gib_parse.proofs.Come.{Comes, Came, Sank, then_comes, then_last, comes_at}
 
 -- ---- variables
 
@@ -84,18 +85,9 @@ operator_ends o.Multiply rest = refl
 operator_ends o.Equal rest = refl
 operator_ends o.Less rest = refl
 
-levels_positive : (e : Expression) → 0 < levels e
-levels_positive (Var x) = omega arith
-levels_positive (Num p n) = omega arith
-levels_positive (Bit p b) = omega arith
-levels_positive (Paren p e) = omega arith
-levels_positive (Op p f a b) = omega arith
-levels_positive (Call f xs) = omega arith
-levels_positive (Make k xs) = omega arith
-levels_positive (Let p x a b) = omega arith
-levels_positive (Par p x a y b c) = omega arith
-levels_positive (If p a b c) = omega arith
-levels_positive (Case p x arms) = omega arith
+some_stand : (starts : Token → Bool) (ts : List Token) → next_is starts ts ≡ true → (k : ℕ) × (length ts ≡ suc k)
+some_stand starts [] e = absurd cc
+some_stand starts (c ∷ ts) e = (length ts, refl)
 
 -- ---- arguments
 
@@ -142,50 +134,50 @@ arms_more at n arm ts =
     ap (as_arms arm) (many_is (is_sign s.Semicolon) (next_arm_at at (parse at n Any)) (next_shrinks at n) (t.Sign s.Semicolon ∷ ts))
     ∙ regroup_arms arm (arm_at at (parse at n Any) ts) (many (is_sign s.Semicolon) (next_arm_at at (parse at n Any)))
 
-arm_comes : (at : Places) (n : ℕ) (k : Ident) (xs : List Ident) (e : Expression) (ts rest : List Token) (D : Type 0) → Comes D (parse at n Any ts) e rest
+arm_comes : (at : Places) (n : ℕ) (k : Ident) (xs : List Ident) (e : Expression) (ts rest : List Token) (D : List ℕ) → Comes D (parse at n Any ts) e rest
     → Comes D (arm_at at (parse at n Any) (t.Constructor k.name ∷ spell_variables xs (t.Sign s.Arrow ∷ ts))) (record { constructor = settle_name at k (spell_variables xs (t.Sign s.Arrow ∷ ts)); variables = settle_names at xs (t.Sign s.Arrow ∷ ts); body = e }) rest
 unfolding arm_at
 arm_comes at n k xs e ts rest D c =
     let name = settle_name at k (spell_variables xs (t.Sign s.Arrow ∷ ts)) in
     comes_at (ap (λ (r : Read (List Ident)). then_at r (λ xs ts. then_at (want s.Arrow ts) (λ _ ts. then_at (parse at n Any ts) (λ e ts. done (let arm : ArmTree = record { constructor = name; variables = xs; body = e } in arm) ts)))) (variables_come at xs s.Arrow ts))
-    (then_comes (λ e left. done (let arm : ArmTree = record { constructor = name; variables = settle_names at xs (t.Sign s.Arrow ∷ ts); body = e } in arm) left) (record { constructor = name; variables = settle_names at xs (t.Sign s.Arrow ∷ ts); body = e }) rest c (Came refl))
+    (then_last (λ e left. done (let arm : ArmTree = record { constructor = name; variables = settle_names at xs (t.Sign s.Arrow ∷ ts); body = e } in arm) left) (record { constructor = name; variables = settle_names at xs (t.Sign s.Arrow ∷ ts); body = e }) rest c refl)
 
 arms_is : (at : Places) (n : ℕ) (ts : List Token) → arms_at at (parse at n Any) ts ≡ then_at (arm_at at (parse at n Any) ts) (λ arm left. as_arms arm (many (is_sign s.Semicolon) (next_arm_at at (parse at n Any)) left))
 unfolding arms_at
 arms_is at n ts = refl
 
-arms_last : (at : Places) (n : ℕ) (k : Ident) (xs : List Ident) (e : Expression) (ts rest : List Token) (D : Type 0) → Comes D (parse at n Any ts) e (t.Sign s.CloseBrace ∷ rest)
+arms_last : (at : Places) (n : ℕ) (k : Ident) (xs : List Ident) (e : Expression) (ts rest : List Token) (D : List ℕ) → Comes D (parse at n Any ts) e (t.Sign s.CloseBrace ∷ rest)
     → Comes D (arms_at at (parse at n Any) (t.Constructor k.name ∷ spell_variables xs (t.Sign s.Arrow ∷ ts))) (LastArm (settle_name at k (spell_variables xs (t.Sign s.Arrow ∷ ts))) (settle_names at xs (t.Sign s.Arrow ∷ ts)) e) (t.Sign s.CloseBrace ∷ rest)
 unfolding arms_at
 arms_last at n k xs e ts rest D c =
     let arm : ArmTree = record { constructor = settle_name at k (spell_variables xs (t.Sign s.Arrow ∷ ts)); variables = settle_names at xs (t.Sign s.Arrow ∷ ts); body = e } in
-    then_comes (λ arm left. as_arms arm (many (is_sign s.Semicolon) (next_arm_at at (parse at n Any)) left)) (arms_of arm []) (t.Sign s.CloseBrace ∷ rest) (arm_comes at n k xs e ts (t.Sign s.CloseBrace ∷ rest) D c)
-    (Came (ap (as_arms arm) (many_none (is_sign s.Semicolon) (next_arm_at at (parse at n Any)) (t.Sign s.CloseBrace ∷ rest) refl)))
+    then_last (λ arm left. as_arms arm (many (is_sign s.Semicolon) (next_arm_at at (parse at n Any)) left)) (arms_of arm []) (t.Sign s.CloseBrace ∷ rest) (arm_comes at n k xs e ts (t.Sign s.CloseBrace ∷ rest) D c)
+    (ap (as_arms arm) (many_none (is_sign s.Semicolon) (next_arm_at at (parse at n Any)) (t.Sign s.CloseBrace ∷ rest) refl))
 
-arms_next : (at : Places) (n : ℕ) (k : Ident) (xs : List Ident) (e : Expression) (arms : Arms) (ts after rest : List Token) (D : Type 0) → Comes D (parse at n Any ts) e (t.Sign s.Semicolon ∷ after) → Comes D (arms_at at (parse at n Any) after) arms rest
-    → Comes D (arms_at at (parse at n Any) (t.Constructor k.name ∷ spell_variables xs (t.Sign s.Arrow ∷ ts))) (NextArm (settle_name at k (spell_variables xs (t.Sign s.Arrow ∷ ts))) (settle_names at xs (t.Sign s.Arrow ∷ ts)) e arms) rest
-arms_next at n k xs e arms ts after rest D c d =
+arms_next : (at : Places) (n : ℕ) (k : Ident) (xs : List Ident) (e : Expression) (arms : Arms) (ts after rest : List Token) (D E : List ℕ) → Comes D (parse at n Any ts) e (t.Sign s.Semicolon ∷ after) → Comes E (arms_at at (parse at n Any) after) arms rest
+    → Comes (D ++ E) (arms_at at (parse at n Any) (t.Constructor k.name ∷ spell_variables xs (t.Sign s.Arrow ∷ ts))) (NextArm (settle_name at k (spell_variables xs (t.Sign s.Arrow ∷ ts))) (settle_names at xs (t.Sign s.Arrow ∷ ts)) e arms) rest
+arms_next at n k xs e arms ts after rest D E c d =
     let arm : ArmTree = record { constructor = settle_name at k (spell_variables xs (t.Sign s.Arrow ∷ ts)); variables = settle_names at xs (t.Sign s.Arrow ∷ ts); body = e } in
     comes_at (arms_is at n (t.Constructor k.name ∷ spell_variables xs (t.Sign s.Arrow ∷ ts)))
     (then_comes (λ arm left. as_arms arm (many (is_sign s.Semicolon) (next_arm_at at (parse at n Any)) left)) (NextArm arm.constructor arm.variables arm.body arms) rest (arm_comes at n k xs e ts (t.Sign s.Semicolon ∷ after) D c)
-    (comes_at (arms_more at n arm after) (then_comes (λ arms left. Ok (NextArm arm.constructor arm.variables arm.body arms, left)) (NextArm arm.constructor arm.variables arm.body arms) rest d (Came refl))))
+    (comes_at (arms_more at n arm after) (then_last (λ arms left. Ok (NextArm arm.constructor arm.variables arm.body arms, left)) (NextArm arm.constructor arm.variables arm.body arms) rest d refl)))
 
 -- ---- the expressions
 
-call_comes : (at : Places) (n : ℕ) (f : Ident) (ts : List Token) (xs : Arguments) (rest : List Token) (e : Expression) (D : Type 0) → call (settle_name at f ts) xs ≡ e → Comes D (arguments_at (parse at n Atom) ts) xs rest → Comes D (app_at at (parse at n) (t.Variable f.name ∷ ts)) e rest
-call_comes at n f ts xs rest e D same c = then_comes (λ xs left. Ok (call (named at f.name ts) xs, left)) e rest c (Came (ap (λ (v : Expression). done v rest) same))
+call_comes : (at : Places) (n : ℕ) (f : Ident) (ts : List Token) (xs : Arguments) (rest : List Token) (e : Expression) (D : List ℕ) → call (settle_name at f ts) xs ≡ e → Comes D (arguments_at (parse at n Atom) ts) xs rest → Comes D (app_at at (parse at n) (t.Variable f.name ∷ ts)) e rest
+call_comes at n f ts xs rest e D same c = then_last (λ xs left. Ok (call (named at f.name ts) xs, left)) e rest c (ap (λ (v : Expression). done v rest) same)
 
-make_comes : (at : Places) (n : ℕ) (k : Ident) (ts : List Token) (xs : Arguments) (rest : List Token) (D : Type 0) → Comes D (arguments_at (parse at n Atom) ts) xs rest → Comes D (app_at at (parse at n) (t.Constructor k.name ∷ ts)) (Make (settle_name at k ts) xs) rest
-make_comes at n k ts xs rest D c = then_comes (λ xs left. Ok (Make (named at k.name ts) xs, left)) (Make (settle_name at k ts) xs) rest c (Came refl)
+make_comes : (at : Places) (n : ℕ) (k : Ident) (ts : List Token) (xs : Arguments) (rest : List Token) (D : List ℕ) → Comes D (arguments_at (parse at n Atom) ts) xs rest → Comes D (app_at at (parse at n) (t.Constructor k.name ∷ ts)) (Make (settle_name at k ts) xs) rest
+make_comes at n k ts xs rest D c = then_last (λ xs left. Ok (Make (named at k.name ts) xs, left)) (Make (settle_name at k ts) xs) rest c refl
 
-more_comes : (at : Places) (n : ℕ) (a : Expression) (xs : Arguments) (ts after rest : List Token) (D : Type 0) → next_is starts_atom ts ≡ true → Comes D (parse at n Atom ts) a after → Comes D (arguments_at (parse at n Atom) after) xs rest → Comes D (arguments_at (parse at n Atom) ts) (Argument a xs) rest
-more_comes at n a xs ts after rest D e c d =
+more_comes : (at : Places) (n : ℕ) (a : Expression) (xs : Arguments) (ts after rest : List Token) (D E : List ℕ) → next_is starts_atom ts ≡ true → Comes D (parse at n Atom ts) a after → Comes E (arguments_at (parse at n Atom) after) xs rest → Comes (D ++ E) (arguments_at (parse at n Atom) ts) (Argument a xs) rest
+more_comes at n a xs ts after rest D E e c d =
     comes_at (arguments_more (parse at n Atom) (parse_shrinks at n Atom) ts e)
-    (then_comes (λ a ts. then_at (arguments_at (parse at n Atom) ts) (λ xs ts. Ok (Argument a xs, ts))) (Argument a xs) rest c (then_comes (λ xs ts. Ok (Argument a xs, ts)) (Argument a xs) rest d (Came refl)))
+    (then_comes (λ a ts. then_at (arguments_at (parse at n Atom) ts) (λ xs ts. Ok (Argument a xs, ts))) (Argument a xs) rest c (then_last (λ xs ts. Ok (Argument a xs, ts)) (Argument a xs) rest d refl))
 
-paren_comes : (at : Places) (n : ℕ) (p : Span) (e : Expression) (ts rest : List Token) (D : Type 0) → Comes D (parse at n Any ts) e (t.Sign s.Close ∷ rest) → Comes D (open_at (parse at n) p ts) (Paren p e) rest
+paren_comes : (at : Places) (n : ℕ) (p : Span) (e : Expression) (ts rest : List Token) (D : List ℕ) → Comes D (parse at n Any ts) e (t.Sign s.Close ∷ rest) → Comes D (open_at (parse at n) p ts) (Paren p e) rest
 unfolding open_at
-paren_comes at n p e ts rest D c = then_comes (close_at (parse at n) p) (Paren p e) rest c (Came refl)
+paren_comes at n p e ts rest D c = then_last (close_at (parse at n) p) (Paren p e) rest c refl
 
 close_operator : (sub : Parts) (p : Span) (e : Expression) (f : Operator) (ts : List Token) → close_at sub p e (spell_operator f ts) ≡ side_at (is_application e) sub p f e ts
 close_operator sub p e o.Add ts = refl
@@ -194,48 +186,48 @@ close_operator sub p e o.Multiply ts = refl
 close_operator sub p e o.Equal ts = refl
 close_operator sub p e o.Less ts = refl
 
-op_comes : (at : Places) (n : ℕ) (p : Span) (f : Operator) (a b : Expression) (ts after rest : List Token) (D : Type 0) → is_application a ≡ true → Comes D (parse at n Any ts) a (spell_operator f after) → Comes D (parse at n App after) b (t.Sign s.Close ∷ rest) → Comes D (open_at (parse at n) p ts) (Op p f a b) rest
+op_comes : (at : Places) (n : ℕ) (p : Span) (f : Operator) (a b : Expression) (ts after rest : List Token) (D E : List ℕ) → is_application a ≡ true → Comes D (parse at n Any ts) a (spell_operator f after) → Comes E (parse at n App after) b (t.Sign s.Close ∷ rest) → Comes (D ++ E) (open_at (parse at n) p ts) (Op p f a b) rest
 unfolding open_at
-op_comes at n p f a b ts after rest D e c d =
+op_comes at n p f a b ts after rest D E e c d =
     then_comes (close_at (parse at n) p) (Op p f a b) rest c
-    (comes_at (close_operator (parse at n) p a f after ∙ ap (λ v. side_at v (parse at n) p f a after) e) (then_comes (λ b ts. then_at (want s.Close ts) (λ _ ts. Ok (Op p f a b, ts))) (Op p f a b) rest d (Came refl)))
+    (comes_at (close_operator (parse at n) p a f after ∙ ap (λ v. side_at v (parse at n) p f a after) e) (then_last (λ b ts. then_at (want s.Close ts) (λ _ ts. Ok (Op p f a b, ts))) (Op p f a b) rest d refl))
 
-let_comes : (at : Places) (n : ℕ) (p : Span) (x : Ident) (a b : Expression) (ts after rest : List Token) (D : Type 0) → Comes D (parse at n Any ts) a (t.Sign s.In ∷ after) → Comes D (parse at n Any after) b rest
-    → Comes D (bind_at at (parse at n) p (t.Variable x.name ∷ t.Sign s.Equals ∷ ts)) (Let p (settle_name at x (t.Sign s.Equals ∷ ts)) a b) rest
+let_comes : (at : Places) (n : ℕ) (p : Span) (x : Ident) (a b : Expression) (ts after rest : List Token) (D E : List ℕ) → Comes D (parse at n Any ts) a (t.Sign s.In ∷ after) → Comes E (parse at n Any after) b rest
+    → Comes (D ++ E) (bind_at at (parse at n) p (t.Variable x.name ∷ t.Sign s.Equals ∷ ts)) (Let p (settle_name at x (t.Sign s.Equals ∷ ts)) a b) rest
 unfolding bind_at
-let_comes at n p x a b ts after rest D c d =
+let_comes at n p x a b ts after rest D E c d =
     let y = settle_name at x (t.Sign s.Equals ∷ ts) in
     then_comes (λ a ts. then_at (want s.In ts) (λ _ ts. then_at (parse at n Any ts) (λ b ts. Ok (Let p y a b, ts)))) (Let p y a b) rest c
-    (then_comes (λ b ts. Ok (Let p y a b, ts)) (Let p y a b) rest d (Came refl))
+    (then_last (λ b ts. Ok (Let p y a b, ts)) (Let p y a b) rest d refl)
 
-par_comes : (at : Places) (n : ℕ) (p : Span) (x y : Ident) (a b c : Expression) (ts behind after rest : List Token) (D : Type 0)
-    → Comes D (parse at n Any ts) a (t.Sign s.And ∷ t.Variable y.name ∷ t.Sign s.Equals ∷ behind) → Comes D (parse at n Any behind) b (t.Sign s.In ∷ after) → Comes D (parse at n Any after) c rest
-    → Comes D (par_at at (parse at n) p (t.Variable x.name ∷ t.Sign s.Equals ∷ ts)) (Par p (settle_name at x (t.Sign s.Equals ∷ ts)) a (settle_name at y (t.Sign s.Equals ∷ behind)) b c) rest
+par_comes : (at : Places) (n : ℕ) (p : Span) (x y : Ident) (a b c : Expression) (ts behind after rest : List Token) (D E F : List ℕ)
+    → Comes D (parse at n Any ts) a (t.Sign s.And ∷ t.Variable y.name ∷ t.Sign s.Equals ∷ behind) → Comes E (parse at n Any behind) b (t.Sign s.In ∷ after) → Comes F (parse at n Any after) c rest
+    → Comes (D ++ (E ++ F)) (par_at at (parse at n) p (t.Variable x.name ∷ t.Sign s.Equals ∷ ts)) (Par p (settle_name at x (t.Sign s.Equals ∷ ts)) a (settle_name at y (t.Sign s.Equals ∷ behind)) b c) rest
 unfolding par_at
-par_comes at n p x y a b c ts behind after rest D ca cb cc' =
+par_comes at n p x y a b c ts behind after rest D E F ca cb cc' =
     let x' = settle_name at x (t.Sign s.Equals ∷ ts) in
     let y' = settle_name at y (t.Sign s.Equals ∷ behind) in
     then_comes (λ a ts. then_at (want s.And ts) (λ _ ts. then_at (var_at at ts) (λ y ts. then_at (want s.Equals ts) (λ _ ts. then_at (parse at n Any ts) (λ b ts. then_at (want s.In ts) (λ _ ts. then_at (parse at n Any ts) (λ c ts. Ok (Par p x' a y b c, ts)))))))) (Par p x' a y' b c) rest ca
     (then_comes (λ b ts. then_at (want s.In ts) (λ _ ts. then_at (parse at n Any ts) (λ c ts. Ok (Par p x' a y' b c, ts)))) (Par p x' a y' b c) rest cb
-    (then_comes (λ c ts. Ok (Par p x' a y' b c, ts)) (Par p x' a y' b c) rest cc' (Came refl)))
+    (then_last (λ c ts. Ok (Par p x' a y' b c, ts)) (Par p x' a y' b c) rest cc' refl))
 
-if_comes : (at : Places) (n : ℕ) (p : Span) (a b c : Expression) (ts behind after rest : List Token) (D : Type 0) → Comes D (parse at n Any ts) a (t.Sign s.Then ∷ behind) → Comes D (parse at n Any behind) b (t.Sign s.Else ∷ after) → Comes D (parse at n Any after) c rest
-    → Comes D (if_at (parse at n) p ts) (If p a b c) rest
+if_comes : (at : Places) (n : ℕ) (p : Span) (a b c : Expression) (ts behind after rest : List Token) (D E F : List ℕ) → Comes D (parse at n Any ts) a (t.Sign s.Then ∷ behind) → Comes E (parse at n Any behind) b (t.Sign s.Else ∷ after) → Comes F (parse at n Any after) c rest
+    → Comes (D ++ (E ++ F)) (if_at (parse at n) p ts) (If p a b c) rest
 unfolding if_at
-if_comes at n p a b c ts behind after rest D ca cb cc' =
+if_comes at n p a b c ts behind after rest D E F ca cb cc' =
     then_comes (λ a ts. then_at (want s.Then ts) (λ _ ts. then_at (parse at n Any ts) (λ b ts. then_at (want s.Else ts) (λ _ ts. then_at (parse at n Any ts) (λ c ts. Ok (If p a b c, ts)))))) (If p a b c) rest ca
     (then_comes (λ b ts. then_at (want s.Else ts) (λ _ ts. then_at (parse at n Any ts) (λ c ts. Ok (If p a b c, ts)))) (If p a b c) rest cb
-    (then_comes (λ c ts. Ok (If p a b c, ts)) (If p a b c) rest cc' (Came refl)))
+    (then_last (λ c ts. Ok (If p a b c, ts)) (If p a b c) rest cc' refl))
 
-case_comes : (at : Places) (n : ℕ) (p : Span) (x : Ident) (arms : Arms) (ts rest : List Token) (D : Type 0) → Comes D (arms_at at (parse at n Any) ts) arms (t.Sign s.CloseBrace ∷ rest)
+case_comes : (at : Places) (n : ℕ) (p : Span) (x : Ident) (arms : Arms) (ts rest : List Token) (D : List ℕ) → Comes D (arms_at at (parse at n Any) ts) arms (t.Sign s.CloseBrace ∷ rest)
     → Comes D (case_at at (parse at n) p (t.Variable x.name ∷ t.Sign s.Of ∷ t.Sign s.OpenBrace ∷ ts)) (Case p (settle_name at x (t.Sign s.Of ∷ t.Sign s.OpenBrace ∷ ts)) arms) rest
 unfolding case_at
 case_comes at n p x arms ts rest D c =
     let y = settle_name at x (t.Sign s.Of ∷ t.Sign s.OpenBrace ∷ ts) in
-    then_comes (λ arms ts. then_at (want s.CloseBrace ts) (λ _ ts. Ok (Case p y arms, ts))) (Case p y arms) rest c (Came refl)
+    then_last (λ arms ts. then_at (want s.CloseBrace ts) (λ _ ts. Ok (Case p y arms, ts))) (Case p y arms) rest c refl
 
-literal_comes : (at : Places) (n : ℕ) (rest : List Token) (D : Type 0) → n < 2 ^ 63 → Comes D (literal_at (is_literal n) (before at rest) n rest) (Num (before at rest) n) rest
-literal_comes at n rest D lt = Came (ap (λ v. literal_at v (before at rest) n rest) (lt-ltb n (2 ^ 63) lt))
+literal_comes : (at : Places) (n : ℕ) (rest : List Token) → n < 2 ^ 63 → Comes [] (literal_at (is_literal n) (before at rest) n rest) (Num (before at rest) n) rest
+literal_comes at n rest lt = Came (ap (λ v. literal_at v (before at rest) n rest) (lt-ltb n (2 ^ 63) lt)) refl
 
 bit_any : (at : Places) (n : ℕ) (b : Bool) (rest : List Token) → any_at at (parse at n) (spell_bit b rest) ≡ done (Bit (before at rest) b) rest
 bit_any at n true rest = refl
@@ -253,58 +245,61 @@ mutual
   unfolding parse
 
   -- The tree comes, with the spans of its tokens.
-  pub complete : (at : Places) (e : Expression) (n : ℕ) (m : Mode) (rest : List Token) → IsFine e → IsMode m e → Ends m rest → Comes (n < levels e) (parse at n m (spell e rest)) (settle at e rest) rest
-  complete at e zero m rest f i en = Sank (length (spell e rest)) (ap (λ v. no_level v (spell e rest)) (mode_starts m e rest f i)) (levels_positive e)
-  complete at (Var x) (suc n) Any rest f i en = call_comes at n x rest NoArgument rest (Var (settle_name at x rest)) _ refl (Came (arguments_none (parse at n Atom) rest en))
-  complete at (Var x) (suc n) App rest f i en = call_comes at n x rest NoArgument rest (Var (settle_name at x rest)) _ refl (Came (arguments_none (parse at n Atom) rest en))
-  complete at (Var x) (suc n) Atom rest f i en = Came refl
-  complete at (Num p v) (suc n) Any rest f i en = literal_comes at v rest _ f
-  complete at (Num p v) (suc n) App rest f i en = literal_comes at v rest _ f
-  complete at (Num p v) (suc n) Atom rest f i en = literal_comes at v rest _ f
-  complete at (Bit p b) (suc n) Any rest f i en = Came (bit_any at n b rest)
-  complete at (Bit p b) (suc n) App rest f i en = Came (bit_app at n b rest)
-  complete at (Bit p b) (suc n) Atom rest f i en = Came (bit_atom at n b rest)
-  complete at (Paren p e) (suc n) Any rest f i en = paren_comes at n (at (length (spell (Paren p e) rest))) (settle at e (t.Sign s.Close ∷ rest)) (spell e (t.Sign s.Close ∷ rest)) rest _ (comes_when (λ d. omega arith) (complete at e n Any (t.Sign s.Close ∷ rest) f tt refl))
-  complete at (Paren p e) (suc n) App rest f i en = paren_comes at n (at (length (spell (Paren p e) rest))) (settle at e (t.Sign s.Close ∷ rest)) (spell e (t.Sign s.Close ∷ rest)) rest _ (comes_when (λ d. omega arith) (complete at e n Any (t.Sign s.Close ∷ rest) f tt refl))
-  complete at (Paren p e) (suc n) Atom rest f i en = paren_comes at n (at (length (spell (Paren p e) rest))) (settle at e (t.Sign s.Close ∷ rest)) (spell e (t.Sign s.Close ∷ rest)) rest _ (comes_when (λ d. omega arith) (complete at e n Any (t.Sign s.Close ∷ rest) f tt refl))
-  complete at (Op p g a b) (suc n) Any rest f i en = op_comes at n (at (length (spell (Op p g a b) rest))) g (settle at a (spell_operator g (spell b (t.Sign s.Close ∷ rest)))) (settle at b (t.Sign s.Close ∷ rest)) (spell a (spell_operator g (spell b (t.Sign s.Close ∷ rest)))) (spell b (t.Sign s.Close ∷ rest)) rest _ (settled_application at a (spell_operator g (spell b (t.Sign s.Close ∷ rest))) ∙ f.2)
-      (comes_when (λ d. omega arith) (complete at a n Any (spell_operator g (spell b (t.Sign s.Close ∷ rest))) f.0 tt (operator_ends g (spell b (t.Sign s.Close ∷ rest))))) (comes_when (λ d. omega arith) (complete at b n App (t.Sign s.Close ∷ rest) f.1 f.3 refl))
-  complete at (Op p g a b) (suc n) App rest f i en = op_comes at n (at (length (spell (Op p g a b) rest))) g (settle at a (spell_operator g (spell b (t.Sign s.Close ∷ rest)))) (settle at b (t.Sign s.Close ∷ rest)) (spell a (spell_operator g (spell b (t.Sign s.Close ∷ rest)))) (spell b (t.Sign s.Close ∷ rest)) rest _ (settled_application at a (spell_operator g (spell b (t.Sign s.Close ∷ rest))) ∙ f.2)
-      (comes_when (λ d. omega arith) (complete at a n Any (spell_operator g (spell b (t.Sign s.Close ∷ rest))) f.0 tt (operator_ends g (spell b (t.Sign s.Close ∷ rest))))) (comes_when (λ d. omega arith) (complete at b n App (t.Sign s.Close ∷ rest) f.1 f.3 refl))
-  complete at (Op p g a b) (suc n) Atom rest f i en = op_comes at n (at (length (spell (Op p g a b) rest))) g (settle at a (spell_operator g (spell b (t.Sign s.Close ∷ rest)))) (settle at b (t.Sign s.Close ∷ rest)) (spell a (spell_operator g (spell b (t.Sign s.Close ∷ rest)))) (spell b (t.Sign s.Close ∷ rest)) rest _ (settled_application at a (spell_operator g (spell b (t.Sign s.Close ∷ rest))) ∙ f.2)
-      (comes_when (λ d. omega arith) (complete at a n Any (spell_operator g (spell b (t.Sign s.Close ∷ rest))) f.0 tt (operator_ends g (spell b (t.Sign s.Close ∷ rest))))) (comes_when (λ d. omega arith) (complete at b n App (t.Sign s.Close ∷ rest) f.1 f.3 refl))
+  pub complete : (at : Places) (e : Expression) (n : ℕ) (m : Mode) (rest : List Token) → IsFine e → IsMode m e → Ends m rest → Comes (below n e rest) (parse at n m (spell e rest)) (settle at e rest) rest
+  complete at e zero m rest f i en =
+      let st = mode_starts m e rest f i in
+      let some = some_stand (starts m) (spell e rest) st in
+      Sank some.0 [] (ap (λ v. no_level v (spell e rest)) st ∙ ap (λ (k : ℕ). failed (Nested k)) some.1) (ap (λ (k : ℕ). k ∷ []) some.1)
+  complete at (Var x) (suc n) Any rest f i en = call_comes at n x rest NoArgument rest (Var (settle_name at x rest)) _ refl (Came (arguments_none (parse at n Atom) rest en) refl)
+  complete at (Var x) (suc n) App rest f i en = call_comes at n x rest NoArgument rest (Var (settle_name at x rest)) _ refl (Came (arguments_none (parse at n Atom) rest en) refl)
+  complete at (Var x) (suc n) Atom rest f i en = Came refl refl
+  complete at (Num p v) (suc n) Any rest f i en = literal_comes at v rest f
+  complete at (Num p v) (suc n) App rest f i en = literal_comes at v rest f
+  complete at (Num p v) (suc n) Atom rest f i en = literal_comes at v rest f
+  complete at (Bit p b) (suc n) Any rest f i en = Came (bit_any at n b rest) refl
+  complete at (Bit p b) (suc n) App rest f i en = Came (bit_app at n b rest) refl
+  complete at (Bit p b) (suc n) Atom rest f i en = Came (bit_atom at n b rest) refl
+  complete at (Paren p e) (suc n) Any rest f i en = paren_comes at n (at (length (spell (Paren p e) rest))) (settle at e (t.Sign s.Close ∷ rest)) (spell e (t.Sign s.Close ∷ rest)) rest _ ((complete at e n Any (t.Sign s.Close ∷ rest) f tt refl))
+  complete at (Paren p e) (suc n) App rest f i en = paren_comes at n (at (length (spell (Paren p e) rest))) (settle at e (t.Sign s.Close ∷ rest)) (spell e (t.Sign s.Close ∷ rest)) rest _ ((complete at e n Any (t.Sign s.Close ∷ rest) f tt refl))
+  complete at (Paren p e) (suc n) Atom rest f i en = paren_comes at n (at (length (spell (Paren p e) rest))) (settle at e (t.Sign s.Close ∷ rest)) (spell e (t.Sign s.Close ∷ rest)) rest _ ((complete at e n Any (t.Sign s.Close ∷ rest) f tt refl))
+  complete at (Op p g a b) (suc n) Any rest f i en = op_comes at n (at (length (spell (Op p g a b) rest))) g (settle at a (spell_operator g (spell b (t.Sign s.Close ∷ rest)))) (settle at b (t.Sign s.Close ∷ rest)) (spell a (spell_operator g (spell b (t.Sign s.Close ∷ rest)))) (spell b (t.Sign s.Close ∷ rest)) rest _ _ (settled_application at a (spell_operator g (spell b (t.Sign s.Close ∷ rest))) ∙ f.2)
+      ((complete at a n Any (spell_operator g (spell b (t.Sign s.Close ∷ rest))) f.0 tt (operator_ends g (spell b (t.Sign s.Close ∷ rest))))) ((complete at b n App (t.Sign s.Close ∷ rest) f.1 f.3 refl))
+  complete at (Op p g a b) (suc n) App rest f i en = op_comes at n (at (length (spell (Op p g a b) rest))) g (settle at a (spell_operator g (spell b (t.Sign s.Close ∷ rest)))) (settle at b (t.Sign s.Close ∷ rest)) (spell a (spell_operator g (spell b (t.Sign s.Close ∷ rest)))) (spell b (t.Sign s.Close ∷ rest)) rest _ _ (settled_application at a (spell_operator g (spell b (t.Sign s.Close ∷ rest))) ∙ f.2)
+      ((complete at a n Any (spell_operator g (spell b (t.Sign s.Close ∷ rest))) f.0 tt (operator_ends g (spell b (t.Sign s.Close ∷ rest))))) ((complete at b n App (t.Sign s.Close ∷ rest) f.1 f.3 refl))
+  complete at (Op p g a b) (suc n) Atom rest f i en = op_comes at n (at (length (spell (Op p g a b) rest))) g (settle at a (spell_operator g (spell b (t.Sign s.Close ∷ rest)))) (settle at b (t.Sign s.Close ∷ rest)) (spell a (spell_operator g (spell b (t.Sign s.Close ∷ rest)))) (spell b (t.Sign s.Close ∷ rest)) rest _ _ (settled_application at a (spell_operator g (spell b (t.Sign s.Close ∷ rest))) ∙ f.2)
+      ((complete at a n Any (spell_operator g (spell b (t.Sign s.Close ∷ rest))) f.0 tt (operator_ends g (spell b (t.Sign s.Close ∷ rest))))) ((complete at b n App (t.Sign s.Close ∷ rest) f.1 f.3 refl))
   complete at (Call g NoArgument) (suc n) m rest f i en = absurd f
-  complete at (Call g (Argument a xs)) (suc n) Any rest f i en = call_comes at n g (spell_arguments (Argument a xs) rest) (settle_arguments at (Argument a xs) rest) rest _ _ refl (comes_when (λ d. omega arith) (complete_arguments at (Argument a xs) n rest f en))
-  complete at (Call g (Argument a xs)) (suc n) App rest f i en = call_comes at n g (spell_arguments (Argument a xs) rest) (settle_arguments at (Argument a xs) rest) rest _ _ refl (comes_when (λ d. omega arith) (complete_arguments at (Argument a xs) n rest f en))
+  complete at (Call g (Argument a xs)) (suc n) Any rest f i en = call_comes at n g (spell_arguments (Argument a xs) rest) (settle_arguments at (Argument a xs) rest) rest _ _ refl ((complete_arguments at (Argument a xs) n rest f en))
+  complete at (Call g (Argument a xs)) (suc n) App rest f i en = call_comes at n g (spell_arguments (Argument a xs) rest) (settle_arguments at (Argument a xs) rest) rest _ _ refl ((complete_arguments at (Argument a xs) n rest f en))
   complete at (Call g (Argument a xs)) (suc n) Atom rest f i en = absurd cc
-  complete at (Make k xs) (suc n) Any rest f i en = make_comes at n k (spell_arguments xs rest) (settle_arguments at xs rest) rest _ (comes_when (λ d. omega arith) (complete_arguments at xs n rest f en))
-  complete at (Make k xs) (suc n) App rest f i en = make_comes at n k (spell_arguments xs rest) (settle_arguments at xs rest) rest _ (comes_when (λ d. omega arith) (complete_arguments at xs n rest f en))
-  complete at (Make k NoArgument) (suc n) Atom rest f i en = Came refl
+  complete at (Make k xs) (suc n) Any rest f i en = make_comes at n k (spell_arguments xs rest) (settle_arguments at xs rest) rest _ ((complete_arguments at xs n rest f en))
+  complete at (Make k xs) (suc n) App rest f i en = make_comes at n k (spell_arguments xs rest) (settle_arguments at xs rest) rest _ ((complete_arguments at xs n rest f en))
+  complete at (Make k NoArgument) (suc n) Atom rest f i en = Came refl refl
   complete at (Make k (Argument a xs)) (suc n) Atom rest f i en = absurd cc
-  complete at (Let p x a b) (suc n) Any rest f i en = let_comes at n (at (length (spell (Let p x a b) rest))) x (settle at a (t.Sign s.In ∷ spell b rest)) (settle at b rest) (spell a (t.Sign s.In ∷ spell b rest)) (spell b rest) rest _
-      (comes_when (λ d. omega arith) (complete at a n Any (t.Sign s.In ∷ spell b rest) f.0 tt refl)) (comes_when (λ d. omega arith) (complete at b n Any rest f.1 tt en))
+  complete at (Let p x a b) (suc n) Any rest f i en = let_comes at n (at (length (spell (Let p x a b) rest))) x (settle at a (t.Sign s.In ∷ spell b rest)) (settle at b rest) (spell a (t.Sign s.In ∷ spell b rest)) (spell b rest) rest _ _
+      ((complete at a n Any (t.Sign s.In ∷ spell b rest) f.0 tt refl)) ((complete at b n Any rest f.1 tt en))
   complete at (Let p x a b) (suc n) App rest f i en = absurd cc
   complete at (Let p x a b) (suc n) Atom rest f i en = absurd cc
-  complete at (Par p x a y b c) (suc n) Any rest f i en = par_comes at n (at (length (spell (Par p x a y b c) rest))) x y (settle at a (t.Sign s.And ∷ t.Variable y.name ∷ t.Sign s.Equals ∷ spell b (t.Sign s.In ∷ spell c rest))) (settle at b (t.Sign s.In ∷ spell c rest)) (settle at c rest) (spell a (t.Sign s.And ∷ t.Variable y.name ∷ t.Sign s.Equals ∷ spell b (t.Sign s.In ∷ spell c rest))) (spell b (t.Sign s.In ∷ spell c rest)) (spell c rest) rest _
-      (comes_when (λ d. omega arith) (complete at a n Any (t.Sign s.And ∷ t.Variable y.name ∷ t.Sign s.Equals ∷ spell b (t.Sign s.In ∷ spell c rest)) f.0 tt refl)) (comes_when (λ d. omega arith) (complete at b n Any (t.Sign s.In ∷ spell c rest) f.1 tt refl)) (comes_when (λ d. omega arith) (complete at c n Any rest f.2 tt en))
+  complete at (Par p x a y b c) (suc n) Any rest f i en = par_comes at n (at (length (spell (Par p x a y b c) rest))) x y (settle at a (t.Sign s.And ∷ t.Variable y.name ∷ t.Sign s.Equals ∷ spell b (t.Sign s.In ∷ spell c rest))) (settle at b (t.Sign s.In ∷ spell c rest)) (settle at c rest) (spell a (t.Sign s.And ∷ t.Variable y.name ∷ t.Sign s.Equals ∷ spell b (t.Sign s.In ∷ spell c rest))) (spell b (t.Sign s.In ∷ spell c rest)) (spell c rest) rest _ _ _
+      ((complete at a n Any (t.Sign s.And ∷ t.Variable y.name ∷ t.Sign s.Equals ∷ spell b (t.Sign s.In ∷ spell c rest)) f.0 tt refl)) ((complete at b n Any (t.Sign s.In ∷ spell c rest) f.1 tt refl)) ((complete at c n Any rest f.2 tt en))
   complete at (Par p x a y b c) (suc n) App rest f i en = absurd cc
   complete at (Par p x a y b c) (suc n) Atom rest f i en = absurd cc
-  complete at (If p a b c) (suc n) Any rest f i en = if_comes at n (at (length (spell (If p a b c) rest))) (settle at a (t.Sign s.Then ∷ spell b (t.Sign s.Else ∷ spell c rest))) (settle at b (t.Sign s.Else ∷ spell c rest)) (settle at c rest) (spell a (t.Sign s.Then ∷ spell b (t.Sign s.Else ∷ spell c rest))) (spell b (t.Sign s.Else ∷ spell c rest)) (spell c rest) rest _
-      (comes_when (λ d. omega arith) (complete at a n Any (t.Sign s.Then ∷ spell b (t.Sign s.Else ∷ spell c rest)) f.0 tt refl)) (comes_when (λ d. omega arith) (complete at b n Any (t.Sign s.Else ∷ spell c rest) f.1 tt refl)) (comes_when (λ d. omega arith) (complete at c n Any rest f.2 tt en))
+  complete at (If p a b c) (suc n) Any rest f i en = if_comes at n (at (length (spell (If p a b c) rest))) (settle at a (t.Sign s.Then ∷ spell b (t.Sign s.Else ∷ spell c rest))) (settle at b (t.Sign s.Else ∷ spell c rest)) (settle at c rest) (spell a (t.Sign s.Then ∷ spell b (t.Sign s.Else ∷ spell c rest))) (spell b (t.Sign s.Else ∷ spell c rest)) (spell c rest) rest _ _ _
+      ((complete at a n Any (t.Sign s.Then ∷ spell b (t.Sign s.Else ∷ spell c rest)) f.0 tt refl)) ((complete at b n Any (t.Sign s.Else ∷ spell c rest) f.1 tt refl)) ((complete at c n Any rest f.2 tt en))
   complete at (If p a b c) (suc n) App rest f i en = absurd cc
   complete at (If p a b c) (suc n) Atom rest f i en = absurd cc
-  complete at (Case p x arms) (suc n) Any rest f i en = case_comes at n (at (length (spell (Case p x arms) rest))) x (settle_arms at arms (t.Sign s.CloseBrace ∷ rest)) (spell_arms arms (t.Sign s.CloseBrace ∷ rest)) rest _ (comes_when (λ d. omega arith) (complete_arms at arms n rest f))
+  complete at (Case p x arms) (suc n) Any rest f i en = case_comes at n (at (length (spell (Case p x arms) rest))) x (settle_arms at arms (t.Sign s.CloseBrace ∷ rest)) (spell_arms arms (t.Sign s.CloseBrace ∷ rest)) rest _ ((complete_arms at arms n rest f))
   complete at (Case p x arms) (suc n) App rest f i en = absurd cc
   complete at (Case p x arms) (suc n) Atom rest f i en = absurd cc
 
-  complete_arguments : (at : Places) (xs : Arguments) (n : ℕ) (rest : List Token) → AreFine xs → next_is starts_atom rest ≡ false → Comes (n < levels_arguments xs) (arguments_at (parse at n Atom) (spell_arguments xs rest)) (settle_arguments at xs rest) rest
-  complete_arguments at NoArgument n rest f en = Came (arguments_none (parse at n Atom) rest en)
+  complete_arguments : (at : Places) (xs : Arguments) (n : ℕ) (rest : List Token) → AreFine xs → next_is starts_atom rest ≡ false → Comes (below_arguments n xs rest) (arguments_at (parse at n Atom) (spell_arguments xs rest)) (settle_arguments at xs rest) rest
+  complete_arguments at NoArgument n rest f en = Came (arguments_none (parse at n Atom) rest en) refl
   complete_arguments at (Argument a xs) n rest f en =
-      more_comes at n (settle at a (spell_arguments xs rest)) (settle_arguments at xs rest) (spell a (spell_arguments xs rest)) (spell_arguments xs rest) rest _ (atom_starts a (spell_arguments xs rest) f.0 f.1)
-      (comes_when (λ d. omega arith) (complete at a n Atom (spell_arguments xs rest) f.0 f.1 tt)) (comes_when (λ d. omega arith) (complete_arguments at xs n rest f.2 en))
+      more_comes at n (settle at a (spell_arguments xs rest)) (settle_arguments at xs rest) (spell a (spell_arguments xs rest)) (spell_arguments xs rest) rest _ _ (atom_starts a (spell_arguments xs rest) f.0 f.1)
+      ((complete at a n Atom (spell_arguments xs rest) f.0 f.1 tt)) ((complete_arguments at xs n rest f.2 en))
 
-  complete_arms : (at : Places) (arms : Arms) (n : ℕ) (rest : List Token) → HasFine arms → Comes (n < levels_arms arms) (arms_at at (parse at n Any) (spell_arms arms (t.Sign s.CloseBrace ∷ rest))) (settle_arms at arms (t.Sign s.CloseBrace ∷ rest)) (t.Sign s.CloseBrace ∷ rest)
+  complete_arms : (at : Places) (arms : Arms) (n : ℕ) (rest : List Token) → HasFine arms → Comes (below_arms n arms (t.Sign s.CloseBrace ∷ rest)) (arms_at at (parse at n Any) (spell_arms arms (t.Sign s.CloseBrace ∷ rest))) (settle_arms at arms (t.Sign s.CloseBrace ∷ rest)) (t.Sign s.CloseBrace ∷ rest)
   complete_arms at (LastArm k xs e) n rest f = arms_last at n k xs (settle at e (t.Sign s.CloseBrace ∷ rest)) (spell e (t.Sign s.CloseBrace ∷ rest)) rest _ (complete at e n Any (t.Sign s.CloseBrace ∷ rest) f tt refl)
   complete_arms at (NextArm k xs e arms) n rest f =
-      arms_next at n k xs (settle at e (t.Sign s.Semicolon ∷ spell_arms arms (t.Sign s.CloseBrace ∷ rest))) (settle_arms at arms (t.Sign s.CloseBrace ∷ rest)) (spell e (t.Sign s.Semicolon ∷ spell_arms arms (t.Sign s.CloseBrace ∷ rest))) (spell_arms arms (t.Sign s.CloseBrace ∷ rest)) (t.Sign s.CloseBrace ∷ rest) _
-      (comes_when (λ d. omega arith) (complete at e n Any (t.Sign s.Semicolon ∷ spell_arms arms (t.Sign s.CloseBrace ∷ rest)) f.0 tt refl)) (comes_when (λ d. omega arith) (complete_arms at arms n rest f.1))
+      arms_next at n k xs (settle at e (t.Sign s.Semicolon ∷ spell_arms arms (t.Sign s.CloseBrace ∷ rest))) (settle_arms at arms (t.Sign s.CloseBrace ∷ rest)) (spell e (t.Sign s.Semicolon ∷ spell_arms arms (t.Sign s.CloseBrace ∷ rest))) (spell_arms arms (t.Sign s.CloseBrace ∷ rest)) (t.Sign s.CloseBrace ∷ rest) _ _
+      ((complete at e n Any (t.Sign s.Semicolon ∷ spell_arms arms (t.Sign s.CloseBrace ∷ rest)) f.0 tt refl)) ((complete_arms at arms n rest f.1))

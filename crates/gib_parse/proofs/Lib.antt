@@ -4,6 +4,7 @@ pub mod Sound
 pub mod Settle
 pub mod Longer
 pub mod Come
+pub mod Nested
 pub mod Complete
 pub mod Local
 pub mod ProgramSound
@@ -15,9 +16,11 @@ pub mod Past
 pub mod Begin
 pub mod BeginExpression
 pub mod BeginProgram
+pub mod Sunk
 pub mod SoFar
 pub mod PartsSoFar
 pub mod Levels
 pub mod ExpressionLoops
 pub mod DeclarationLoops
 pub mod Answered
+pub mod Printed

@@ -10,7 +10,9 @@ use Rattle.gib_syntax.specs.Source.{Spells}
 use Rattle.gib_syntax.specs.Spelling.{Places, places_of, IsPlacedProgram, levels_program, Derives, Blames}
 use Rattle.gib_lex.proofs.Cuts.{one_reading}
 use Rattle.gib_parse.specs.Reading.{At, Nested, Read, whole_in, Deepens}
+use Rattle.gib_parse.specs.Nesting.{below_program, IsFirst}
 use Rattle.gib_parse.proofs.Tools.{done, failed}
+use Rattle.gib_parse.proofs.Nested.{flat_program}
 use Rattle.gib_parse.proofs.Come.{Comes, Came, Sank, comes_at}
 use Rattle.gib_parse.proofs.Local.{Kind, Refused, Deep, fault}
 use Rattle.gib_parse.proofs.ProgramSound.{IsWhole, whole_sound}
@@ -25,15 +27,15 @@ whole_reads l at ts g rest e = (whole_sound l at ts).by g rest e
 
 -- ---- what is a program
 
-pub derived_comes : (l : ℕ) (at : Places) (ts : List Token) (g : ProgramTree) → Derives ts g → Comes (l < levels_program g) (whole_in l at ts) (settle_program at g) []
+pub derived_comes : (l : ℕ) (at : Places) (ts : List Token) (g : ProgramTree) → Derives ts g → Comes (below_program l g) (whole_in l at ts) (settle_program at g) []
 derived_comes l at ts g d = comes_at (ap (whole_in l at) d.spelled) (whole_comes at l g d.fine)
 
-came : {A : Type 0} {D : Type 0} {r : Read A} {a : A} {rest : List Token} → Comes D r a rest → (D → ⊥) → r ≡ done a rest
-came (Came e) n = e
-came (Sank k e d) n = absurd (n d)
+came : {A : Type 0} {met : List ℕ} {r : Read A} {a : A} {rest : List Token} → Comes met r a rest → length met ≡ 0 → r ≡ done a rest
+came (Came e m) none = e
+came (Sank k others e m) none = absurd (omega (arith, ap length m))
 
 pub derived_is_read : (l : ℕ) (at : Places) (ts : List Token) (g : ProgramTree) → Derives ts g → levels_program g ≤ l → whole_in l at ts ≡ done (settle_program at g) []
-derived_is_read l at ts g d le = came (derived_comes l at ts g d) (λ lt. omega arith)
+derived_is_read l at ts g d le = came (derived_comes l at ts g d) (flat_program l g le)
 
 pub placed_is_read : (l : ℕ) (at : Places) (ts : List Token) (g : ProgramTree) → Derives ts g → IsPlacedProgram at g → levels_program g ≤ l → whole_in l at ts ≡ done g []
 placed_is_read l at ts g d p le =
@@ -61,10 +63,10 @@ one_text_lem text l m p q sp sq =
 
 -- ---- what is refused
 
--- What a fault tells of a program that was to come.
-abbrev Means : Kind → Type 0 → Type 0
-Means Refused deep = ⊥
-Means Deep deep = deep
+-- What a fault tells of what a program has past the last level.
+abbrev Means : Kind → ℕ → List ℕ → Type 0
+Means Refused k met = ⊥
+Means Deep k met = IsFirst k met
 
 came_fails : {A : Type 0} (c : Kind) (k : ℕ) (a : A) (rest : List Token) → done a rest ≡ failed (fault c k) → ⊥
 came_fails Refused k a rest e = cc
@@ -73,10 +75,13 @@ came_fails Deep k a rest e = cc
 nested_refused : {A : Type 0} (j k : ℕ) → failed {A = A} (Nested j) ≡ failed (At k) → ⊥
 nested_refused j k e = cc
 
-means : {A : Type 0} {D : Type 0} {r : Read A} {a : A} {rest : List Token} (c : Kind) (k : ℕ) → Comes D r a rest → r ≡ failed (fault c k) → Means c D
-means {a = a} {rest = rest} c k (Came e) f = absurd (came_fails c k a rest (sym e ∙ f))
-means {A = A} Refused k (Sank j e d) f = absurd (nested_refused {A = A} j k (sym e ∙ f))
-means Deep k (Sank j e d) f = d
+nested_is : {A : Type 0} (j k : ℕ) → failed {A = A} (Nested j) ≡ failed (Nested k) → j ≡ k
+nested_is j k e = cc
+
+means : {A : Type 0} {met : List ℕ} {r : Read A} {a : A} {rest : List Token} (c : Kind) (k : ℕ) → Comes met r a rest → r ≡ failed (fault c k) → Means c k met
+means {a = a} {rest = rest} c k (Came e m) f = absurd (came_fails c k a rest (sym e ∙ f))
+means {A = A} Refused k (Sank j others e m) f = absurd (nested_refused {A = A} (suc j) k (sym e ∙ f))
+means {A = A} Deep k (Sank j others e m) f = subst (λ (l : List ℕ). IsFirst k l) (sym m) (nested_is {A = A} (suc j) k (sym e ∙ f))
 
 -- The places of a text in which other tokens follow.
 abbrev moved : Places → List Token → List Token → Places
@@ -85,17 +90,17 @@ moved at xs ys k = at ((k + length xs) - length ys)
 moved_is : (at : Places) (xs ys : List Token) (k : ℕ) → moved at xs ys (k + length ys) ≡ at (k + length xs)
 moved_is at xs ys k = let e : (k + length ys + length xs) - length ys ≡ k + length xs = omega arith in ap at e
 
-fault_here : (l : ℕ) (at : Places) (c : Kind) (front : List Token) (tok : Token) (xs more : List Token) → whole_in l at (front ++ tok ∷ xs) ≡ failed (fault c (suc (length xs))) → (g : ProgramTree) → Derives (front ++ tok ∷ more) g → Means c (l < levels_program g)
+fault_here : (l : ℕ) (at : Places) (c : Kind) (front : List Token) (tok : Token) (xs more : List Token) → whole_in l at (front ++ tok ∷ xs) ≡ failed (fault c (suc (length xs))) → (g : ProgramTree) → Derives (front ++ tok ∷ more) g → Means c (suc (length more)) (below_program l g)
 fault_here l at c front tok xs more e g d =
     let at' = moved at xs more in
     let there = (whole_local tok xs more at at' (moved_is at xs more) l (front ++ tok ∷ xs)).bad_same (front ++ tok ∷ more) (record { front = front; here = refl; there = refl }) c e in
     means c (suc (length more)) (derived_comes l at' (front ++ tok ∷ more) g d) there
 
 -- The token at which so many are left.
-abbrev Splits : List Token → ℕ → Type 0
+abbrev pub Splits : List Token → ℕ → Type 0
 Splits ts k = (front : List Token) × (tok : Token) × (xs : List Token) × (ts ≡ front ++ tok ∷ xs) × (length xs ≡ k)
 
-split_at : (ts : List Token) (k : ℕ) → k < length ts → Splits ts k
+pub split_at : (ts : List Token) (k : ℕ) → k < length ts → Splits ts k
 split_at [] k lt = absurd (omega arith)
 split_at (c ∷ ts) k lt = go (split_at ts k) (cases_lt k (length ts)) where
   go : (k < length ts → Splits ts k) → (k < length ts) ⊎ (length ts ≤ k) → Splits (c ∷ ts) k
@@ -110,7 +115,7 @@ front_of front tok xs more =
     ∙ ap (λ l. l ++ more) (take_at (front ++ tok ∷ []) xs (length (front ++ tok ∷ xs) - length xs) len)
     ∙ append_assoc front (tok ∷ []) more
 
-fault_split : (l : ℕ) (at : Places) (c : Kind) (k : ℕ) (ts : List Token) → whole_in l at ts ≡ failed (fault c (suc k)) → Splits ts k → (g : ProgramTree) (more : List Token) → Derives (take (length ts - k) ts ++ more) g → Means c (l < levels_program g)
+fault_split : (l : ℕ) (at : Places) (c : Kind) (k : ℕ) (ts : List Token) → whole_in l at ts ≡ failed (fault c (suc k)) → Splits ts k → (g : ProgramTree) (more : List Token) → Derives (take (length ts - k) ts ++ more) g → Means c (suc (length more)) (below_program l g)
 fault_split l at c k ts e r g more d =
     let front = r.0 in let tok = r.1 in let xs = r.2 in
     let here : whole_in l at (front ++ tok ∷ xs) ≡ failed (fault c (suc (length xs))) = ap (whole_in l at) (sym r.3) ∙ e ∙ ap (λ (n : ℕ). failed (fault c (suc n))) (sym r.4) in
@@ -130,6 +135,21 @@ pub whole_blames : (l : ℕ) (at : Places) (ts : List Token) (k : ℕ) → whole
 whole_blames l at ts zero e = λ g d. means Refused 0 (derived_comes l at ts g d) e
 whole_blames l at ts (suc k) e = λ g more d. fault_split l at Refused k ts e (split_at ts k (let le = whole_within l at Refused ts (suc k) e in omega arith)) g more d
 
+first_some : (k : ℕ) (met : List ℕ) → IsFirst k met → 0 < length met
+first_some k [] f = absurd f
+first_some k (first ∷ more) f = omega arith
+
+-- Where some expression stands below n levels, there are more of them.
+pub deep_program : (n k : ℕ) (p : ProgramTree) → IsFirst k (below_program n p) → n < levels_program p
+deep_program n k p f = go (cases_lt n (levels_program p)) where
+  go : (n < levels_program p) ⊎ (levels_program p ≤ n) → n < levels_program p
+  go (inl lt) = lt
+  go (inr le) = let some = first_some k (below_program n p) f in let none = flat_program n p le in absurd (omega arith)
+
+-- In each program that begins so, the token begins the first expression past the last level.
+pub whole_deep : (l : ℕ) (at : Places) (ts : List Token) (k : ℕ) → whole_in l at ts ≡ failed (Nested (suc k)) → (g : ProgramTree) (more : List Token) → Derives (take (length ts - k) ts ++ more) g → IsFirst (suc (length more)) (below_program l g)
+whole_deep l at ts k e g more d = fault_split l at Deep k ts e (split_at ts k (let le = whole_within l at Deep ts (suc k) e in omega arith)) g more d
+
 pub whole_deepens : (at : Places) (ts : List Token) (k : ℕ) → whole_in 200 at ts ≡ failed (Nested k) → Deepens ts k
-whole_deepens at ts zero e = λ g d. means Deep 0 (derived_comes 200 at ts g d) e
-whole_deepens at ts (suc k) e = λ g more d. fault_split 200 at Deep k ts e (split_at ts k (let le = whole_within 200 at Deep ts (suc k) e in omega arith)) g more d
+whole_deepens at ts zero e = λ g d. deep_program 200 0 g (means Deep 0 (derived_comes 200 at ts g d) e)
+whole_deepens at ts (suc k) e = λ g more d. deep_program 200 (suc (length more)) g (whole_deep 200 at ts k e g more d)

@@ -10,6 +10,7 @@ use Rattle.gib_parse.specs.declared.fault.ParseFault.TheVariants as fault
 use Rattle.gib_parse.specs.declared.stop.Stop.{Stop}
 use Rattle.gib_parse.specs.declared.stop.Stop.TheVariants as stop
 use Rattle.gib_parse.specs.Reading.{At, Nested, Read, whole, Deepens, Begun}
+use Rattle.gib_parse.specs.Nesting.{BegunWith, Sinks, Floats}
 
 -- The place of the token from which so many are left: its first byte; with none left, the text's length.
 abbrev pub place_in : List Span → ℕ → ℕ → ℕ
@@ -44,20 +45,23 @@ AnswersRead l (Err (fault.At place)) = IsRefusedAt l place
 AnswersRead l (Err (fault.Nested place)) = IsNestedAt l place
 
 -- At this place stands the first token such that no program's tokens begin with the tokens up to and
--- including it; or it is the text's length, and tokens are missing.
+-- including it; or it is the text's length, and tokens are missing. No expression on level 201 begins before.
 pub record IsBlamedAt (l : Lexed) (place : ℕ) : Type 0 where
   pub left : ℕ
   pub within : left ≤ length l.tokens
   pub blamed : Blames l.tokens left
   pub first : Begun l.tokens left
+  pub floats : Floats l.tokens left
   pub here : place ≡ place_of l left
 
--- At this place stands a token such that each program whose tokens begin with the tokens up to and
--- including it has more than 200 levels.
+-- At this place stands a token such that some program's tokens begin with the tokens up to and including it,
+-- and in each such program, which so has more than 200 levels, it begins the first expression on level 201.
 pub record IsTooDeepAt (l : Lexed) (place : ℕ) : Type 0 where
   pub left : ℕ
   pub within : left ≤ length l.tokens
   pub deep : Deepens l.tokens left
+  pub begun : BegunWith l.tokens left
+  pub sinks : Sinks l.tokens left
   pub here : place ≡ place_of l left
 
 -- This program is the answer, unless memory ran out.

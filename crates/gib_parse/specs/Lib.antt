@@ -1,3 +1,4 @@
 pub mod Reading
 pub mod Parsing
 pub mod Answers
+pub mod Nesting

@@ -1,12 +1,14 @@
 //! Laws of reading: functions that do nothing, whose contracts say what holds of every list of tokens.
 
 ghost use Rattle.std.specs.Prelude.{◌≡◌, ◌≤◌, ◌<◌, ℕ, List, [], Ok, Err, length};
-ghost use Rattle.gib_base.specs.Lexed.{Lexed};
+ghost use Rattle.gib_base.specs.Lexed.{Lexed, IsLexed};
+ghost use Rattle.gib_base.specs.Spelling.{tokens_text};
 ghost use Rattle.gib_base.specs.declared.token.Token.{Token};
 ghost use Rattle.gib_syntax.specs.Source.{Spells};
 ghost use Rattle.gib_syntax.specs.Tree.{ProgramTree};
-ghost use Rattle.gib_syntax.specs.Spelling.{Places, Derives, IsPlacedProgram, levels_program, Blames};
+ghost use Rattle.gib_syntax.specs.Spelling.{Places, spell_program, Derives, IsPlacedProgram, levels_program, Blames};
 ghost use Rattle.gib_parse.specs.Reading.{Fault, At, Nested, left_of, whole_in, whole, Deepens, Begun};
+ghost use Rattle.gib_parse.specs.Nesting.{BegunWith, Sinks, Floats};
 
 /// What is read is a program that the tokens spell, of at most 200 levels, with the spans of its
 /// tokens, and no token is left.
@@ -60,4 +62,28 @@ pub fn one_program()
 /// A source text spells one program at most, with one list of tokens.
 pub fn one_text()
     ensures { (text : List ℕ) (l m : Lexed) (p q : ProgramTree) → Spells text l p → Spells text m q → (l ≡ m) × (p ≡ q) }
+{}
+
+/// A token that is nested too deep stands where some program's tokens go on with it.
+pub fn nested_is_begun()
+    ensures { (at : Places) (tokens : List Token) (left : ℕ) → whole at tokens ≡ Err (Nested left) → BegunWith tokens left }
+{}
+
+/// A token that is nested too deep begins the first expression on level 201, in each program whose tokens
+/// begin with those up to and including it.
+pub fn nested_sinks()
+    ensures { (at : Places) (tokens : List Token) (left : ℕ) → whole at tokens ≡ Err (Nested left) → Sinks tokens left }
+{}
+
+/// Before a refused token no expression on level 201 begins, in no program whose tokens begin with those before
+/// it.
+pub fn none_sinks_before()
+    ensures { (at : Places) (tokens : List Token) (left : ℕ) → whole at tokens ≡ Err (At left) → Floats tokens left }
+{}
+
+/// What a program that was read from a text's tokens is printed as, with the text's names, is lexed again: into the
+/// same names and tokens, which spell the same program.
+pub fn printed_is_read()
+    ensures { (at : Places) (text : List ℕ) (l : Lexed) (p : ProgramTree) (rest : List Token) → IsLexed text l → whole at l.tokens ≡ Ok (p, rest)
+        → (m : Lexed) × IsLexed (tokens_text l.names (spell_program p [])) m × (m.names ≡ l.names) × (m.tokens ≡ l.tokens) × Derives m.tokens p }
 {}

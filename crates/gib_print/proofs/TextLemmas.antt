@@ -11,7 +11,7 @@ use Rattle.gib_value.specs.Text.{con_text, spell, spell_fields}
 use Rattle.gib_packed.specs.Scalars.{number, bit, scalars}
 use Rattle.gib_packed.specs.Head.{head_bytes, offset_bytes}
 use Rattle.gib_packed.specs.Decoding.{Dec, redirect, indirect, head, Decs, done, whole_field, truth_field, tree_field}
-use Rattle.gib_packed.specs.Reaching.{Leads, here, on, Redirects, stay, pass}
+use Rattle.gib_packed.specs.Reaching.{Leads, here, on}
 use Rattle.gib_packed.proofs.HoldsLemmas.{Holds-first, Holds-rest, same_byte}
 use Rattle.gib_packed.proofs.HeadLemmas.{Dec-no_scalar, offsets-length}
 use Rattle.gib_packed.proofs.Typed.{Leads-same}
@@ -84,10 +84,6 @@ head_within {laid = laid} {s = s} {a = a} {t = t} k (head {k = j} b i h ds) e lt
 
 -- ---- from a place to a head
 
-Redirects-stay : {s : Store} {a h : ℕ} → Redirects s a h → s h ≡ byte 255 → ⊥
-Redirects-stay (stay n) e = n e
-Redirects-stay (pass p r) e = Redirects-stay r e
-
 record Tagged (s : Store) (a : ℕ) : Type 0 where
   tag : ℕ
   is : s a ≡ byte tag
@@ -104,7 +100,7 @@ found_here laid s t v z place h work d l same =
     record { tag = k.tag; is = k.is; small = k.small; end = z; value = subst (λ (x : ℕ). Dec laid s x t v z) (sym same) d; left = λ names rest left. left }
 
 -- an indirection stands at the place
-pub found_there : (laid : LaidOut) (s : Store) (t : ℕ) (v : Datum) (z y at place h : ℕ) (work new : List Work) → Redirects s at place → Dec laid s place t v z → Leads s place h → h ≢ place → Dec laid s h t v y → new ≡ w.From (place + 9) ∷ work → Found laid s t v z work new h
+pub found_there : (laid : LaidOut) (s : Store) (t : ℕ) (v : Datum) (z y at place h : ℕ) (work new : List Work) → (s place ≡ byte 255 → ⊥) → Dec laid s place t v z → Leads s place h → h ≢ place → Dec laid s h t v y → new ≡ w.From (place + 9) ∷ work → Found laid s t v z work new h
 found_there laid s t v z y at place h work new r d l apart e pushed =
     let k = Leads-tag l in
     record {
@@ -117,7 +113,7 @@ found_there laid s t v z y at place h work new r d l apart e pushed =
     }
   where
     ends : {u : Datum} {x : ℕ} → Dec laid s place t u x → x ≡ place + 9
-    ends (redirect p b) = absurd (Redirects-stay r (Holds-first p.bytes))
+    ends (redirect p b) = absurd (r (Holds-first p.bytes))
     ends (indirect p b f) = f
     ends (head {k = k} lt i m ds) = absurd (apart (Leads-same l (here (Holds-first m) lt)))
 

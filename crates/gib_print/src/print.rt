@@ -13,7 +13,7 @@ use gib_base::Names;
 use gib_edge::outside::{Sink, put_all};
 use gib_mem::Mem;
 use gib_packed::Root;
-use gib_types::Layouts;
+use gib_types::{Layouts, TypeTable};
 use std::alloc::Global;
 
 /// Puts the text of the value that stands for a root, and a line feed, by `put_all`. All memory is taken before the
@@ -25,11 +25,13 @@ use std::alloc::Global;
 pub fn print_at<M: Mem, O: Sink>(
     alloc: Global,
     mem: &mut M,
+    _types: &TypeTable,
     names: &Names,
     layouts: &Layouts,
     root: Root,
     sink: &mut O,
 ) -> Result<(), PrintFault>
+    requires types { _types.now ≡ layouts.now.table }
     requires names { AreHeld layouts.now.table names.now }
     requires stands { (ty : Type_of) × (v : Datum) × Stands layouts.now (M.view mem.old).cells root ty v }
     ensures done { (ty : Type_of) (v : Datum) → Stands layouts.now (M.view mem.old).cells root ty v

@@ -93,26 +93,30 @@ fn put_list<M: Mem>(mem: &mut M)
 fn print_list<M: Mem>(
     alloc: Global,
     mem: &mut M,
+    types: &TypeTable,
     names: &Names,
     layouts: &Layouts,
     sink: &mut MemSink,
 ) -> Result<(), PrintFault>
+    requires types { types.now ≡ example_table }
     requires owned { Owned (M.view mem.old).cells 0 8192 }
     requires names { names.now ≡ example_names }
     requires laid { layouts.now ≡ laid }
 {
     put_list(mem);
-    print_at(alloc, mem, names, layouts, Root::At(0), sink)
+    print_at(alloc, mem, types, names, layouts, Root::At(0), sink)
 }
 
 // Puts values with redirects and indirections among them, and prints one and two scalars.
 fn print_values<M: Mem>(
     alloc: Global,
     mem: &mut M,
+    types: &TypeTable,
     names: &Names,
     layouts: &Layouts,
     sink: &mut MemSink,
 ) -> Result<(), PrintFault>
+    requires types { types.now ≡ example_table }
     requires owned { Owned (M.view mem.old).cells 0 8192 }
     requires names { names.now ≡ example_names }
     requires laid { layouts.now ≡ laid }
@@ -122,9 +126,9 @@ fn print_values<M: Mem>(
         0,
         b"\xff\x1c\0\0\0\0\0\0\0\xfe\0\0\0\0\0\0\0\0\x02\x01\xfe\xff\xff\xff\xff\xff\xff\xff\x01\x02\x01\0\0\0\0\0\0\x00\xfe\x09\0\0\0\0\0\0\0",
     );
-    print_at(alloc, mem, names, layouts, Root::At(18), sink)?;
-    print_at(alloc, mem, names, layouts, Root::Whole(-7), sink)?;
-    print_at(alloc, mem, names, layouts, Root::Truth(true), sink)
+    print_at(alloc, mem, types, names, layouts, Root::At(18), sink)?;
+    print_at(alloc, mem, types, names, layouts, Root::Whole(-7), sink)?;
+    print_at(alloc, mem, types, names, layouts, Root::Truth(true), sink)
 }
 
 // What was answered and taken, where the puts of these numbers fail after so many bytes.
@@ -142,9 +146,9 @@ fn run(
     }
     let mut sink = MemSink::make(alloc, 8192, fails)?;
     let answer = if is_list {
-        print_list(alloc, &mut mem, &names, &layouts, &mut sink)
+        print_list(alloc, &mut mem, &types, &names, &layouts, &mut sink)
     } else {
-        print_values(alloc, &mut mem, &names, &layouts, &mut sink)
+        print_values(alloc, &mut mem, &types, &names, &layouts, &mut sink)
     };
     Ok((answer, sink))
 }

@@ -104,11 +104,3 @@ finished_owned s tails at b k = go (nat_le 74 (rest at) && nat_lt (length tails)
     go : (c : Bool) → (nat_le 74 (rest at) && nat_lt (length tails) 64) ≡ c → AreOwned s (if c then tails ++ at ∷ [] else tails)
     go true e = let t : nat_le 74 (rest at) ≡ true = long_of _ _ e in add tails (elim (leb_tells 74 (rest at)) [ inl yes_long ↦ yes_long.1 | inr short ↦ absurd cc ]) k.owned k.apart
     go false e = k.owned
-
--- the latest tail is an address of a chunk that there is
-pub latest_small : (m : Memory) (old ts : List ℕ) (t : ℕ) → IsBounded m → AreOwned m.cells old → old ≡ ts ++ t ∷ [] → t < 2 ^ 44
-latest_small m old ts t b o e =
-    let r = split_tails m.cells ts t (subst (λ (l : List ℕ). AreOwned m.cells l) e o) in
-    let is = r.behind.owned.all t (omega arith) (omega arith) in
-    let below = there_below m t fresh b is fresh_there in
-    omega (arith, below, b.order, b.small)

@@ -1,3 +1,4 @@
 pub mod Bounds
 pub mod Placing
 pub mod Keeping
+pub mod Counting

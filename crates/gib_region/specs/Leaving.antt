@@ -1,13 +1,8 @@
 -- What the calls leave to those that follow.
-use Rattle.std.specs.Prelude.{◌≡◌, ℕ, ◌+◌, ◌*◌, ◌<◌, ◌≤◌, ◌^◌, ◌⊎◌, List}
-use Rattle.gib_mem.specs.Memory.{Store, Memory, absent, Owned, Holds, Grows}
+use Rattle.std.specs.Prelude.{◌≡◌, ℕ, ◌+◌, ◌≤◌, ◌^◌, ◌⊎◌, List}
+use Rattle.gib_mem.specs.Memory.{Store, Memory, Owned, Holds, Grows}
+pub use Rattle.gib_mem.specs.Memory.{IsBounded}
 use Rattle.gib_region.specs.Region.{rest, Behind, pointer, IsApart, AreOwned}
-
--- What every memory keeps: nothing stands above the chunks drawn, and these are no more than there are.
-pub record IsBounded (m : Memory) : Type 0 where
-  pub above : (q : ℕ) → 4096 * m.drawn ≤ q → m.cells q ≡ absent
-  pub order : m.drawn ≤ m.limit
-  pub small : m.limit < 2 ^ 32
 
 -- Once an item of k bytes is placed at a: its bytes are owned, so is the rest of the chunk behind it, where a redirect
 -- fits; what was known stays; the item is where the cursor was, or a redirect leads there.

@@ -2,31 +2,20 @@
 
 ghost use Rattle.std.specs.Prelude.{◌≡◌, ◌<◌, ◌≤◌, ◌^◌, ◌+◌, ◌*◌, ℕ, List, length, IfOk, OnErr, IfErr, IsTrue, ◌↔◌};
 ghost use Rattle.gib_mem.specs.Memory.{Owned, after_puts};
-ghost use Rattle.gib_region.specs.Region.{Behind, pointer, HasRoom, Placed, Pointed, IsFull, rest, Draws, redirected};
+ghost use Rattle.gib_region.specs.Region.{Behind, pointer, HasRoom, has_room, Placed, Pointed, IsFull, rest, Draws, redirected};
 
-use gib_mem::Mem;
-
-/// How many bytes a chunk has.
-const CHUNK: u64 = 4096;
-
-/// How many bytes a redirect or an indirection has: its tag and an address.
-const POINTER: u8 = 9;
-
-/// The tag of an indirection, which stands for the value at its target.
-const INDIRECTION: u8 = 254;
-
-/// The tag of a redirect: the items go on at its target.
-const REDIRECT: u8 = 255;
+use gib_mem::{CHUNK, INDIRECTION, Mem, POINTER_BYTES, REDIRECT};
 
 /// All chunks are drawn.
 #[derive(Clone, Copy, Debug, PartialEq, Eq)]
 pub struct Full;
 
-/// Where the next item of a region goes, if there is room for it.
+/// Where the next item of a region goes, if there is room for it. Nine bytes are always left in its chunk, so that a
+/// redirect fits.
 #[derive(Debug, Drop)]
 pub struct Cursor {
     at: u64,
-    ghost small: { at < 2 ^ 44 },
+    ghost roomy: { 9 ≤ rest at },
 }
 
 /// How many bytes of its chunk are left from an address on.
@@ -38,8 +27,7 @@ pub(crate) fn rest_of_chunk(at: u64) -> u64
 
 /// Puts bytes one after another, at addresses that are owned.
 pub fn fill<M: Mem>(mem: &mut M, at: u64, bytes: &[u8])
-    requires small { at + length bytes.now ≤ 2 ^ 44 }
-    requires owned { Owned (M.view mem.old).cells at (length bytes.now) }
+    requires { Owned (M.view mem.old).cells at (length bytes.now) }
     ensures { M.view mem.new ≡ after_puts (M.view mem.old) at bytes.now }
 {
     'bytes: for i in 0..bytes.len() {
@@ -49,8 +37,7 @@ pub fn fill<M: Mem>(mem: &mut M, at: u64, bytes: &[u8])
 
 /// Puts a tag and an address.
 fn put_pointer<M: Mem>(mem: &mut M, at: u64, tag: u8, target: u64)
-    requires small { at + 9 ≤ 2 ^ 44 }
-    requires owned { Owned (M.view mem.old).cells at 9 }
+    requires { Owned (M.view mem.old).cells at 9 }
     ensures { M.view mem.new ≡ after_puts (M.view mem.old) at (pointer tag target) }
 {
     mem.put(at, tag);
@@ -60,7 +47,7 @@ fn put_pointer<M: Mem>(mem: &mut M, at: u64, tag: u8, target: u64)
 impl Cursor {
     /// A cursor at a place.
     pub(crate) fn at_place(at: u64) -> Cursor
-        requires { at < 2 ^ 44 }
+        requires { 9 ≤ rest at }
         ensures { result.at ≡ at }
     {
         Cursor { at }
@@ -75,9 +62,10 @@ impl Cursor {
 
     /// Whether there is room here for an item of so many bytes and a redirect.
     pub fn room(&self, k: u8) -> bool
-        ensures { IsTrue result ↔ HasRoom self.now.at k }
+        ensures answers { result ≡ has_room self.now.at k }
+        ensures means { IsTrue result ↔ HasRoom self.now.at k }
     {
-        rest_of_chunk(self.at) >= k as u64 + POINTER as u64
+        k as u64 + POINTER_BYTES <= rest_of_chunk(self.at)
     }
 
     /// Goes past an item of so many bytes.
@@ -85,7 +73,8 @@ impl Cursor {
         requires { HasRoom self.old.at k }
         ensures { self.new.at ≡ self.old.at + k }
     {
-        self.at += k as u64;
+        let at = self.at;
+        self.at = at + k as u64;
     }
 
     /// Goes to the start of a chunk.
@@ -103,9 +92,8 @@ impl Cursor {
 ///
 /// `Full` exactly where there is no room and no chunk is left. Nothing was put then, and the cursor is as before.
 pub fn reserve<M: Mem>(cursor: &mut Cursor, mem: &mut M, k: u8) -> Result<u64, Full>
-    requires small { k ≤ 65 }
+    requires few { k ≤ 65 }
     requires owned { Behind (M.view mem.old).cells cursor.old.at }
-    requires redirect { 9 ≤ rest cursor.old.at }
     ensures placed { IfOk result (λ at. Placed (M.view mem.old) cursor.old.at k (M.view mem.new) at) }
     ensures cursor { IfOk result (λ at. cursor.new.at ≡ at + k) }
     ensures room { OnErr result (HasRoom cursor.old.at k → ⊥) }
@@ -132,15 +120,14 @@ pub fn reserve<M: Mem>(cursor: &mut Cursor, mem: &mut M, k: u8) -> Result<u64, F
 ///
 /// `Full` exactly where there is no room and no chunk is left. Nothing was put then, and the cursor is as before.
 pub fn point<M: Mem>(cursor: &mut Cursor, mem: &mut M, target: u64) -> Result<u64, Full>
-    requires owned { Behind (M.view mem.old).cells cursor.old.at }
-    requires redirect { 9 ≤ rest cursor.old.at }
+    requires { Behind (M.view mem.old).cells cursor.old.at }
     ensures pointed { IfOk result (λ at. Pointed (M.view mem.old) cursor.old.at target (M.view mem.new) at) }
     ensures cursor { IfOk result (λ at. cursor.new.at ≡ at + 9) }
     ensures room { OnErr result (HasRoom cursor.old.at 9 → ⊥) }
     ensures full { OnErr result (IsFull (M.view mem.old) (M.view mem.new)) }
     ensures kept { OnErr result (cursor.new ≡ cursor.old) }
 {
-    match reserve(cursor, mem, POINTER) {
+    match reserve(cursor, mem, POINTER_BYTES as u8) {
         Ok(at) => {
             put_pointer(mem, at, INDIRECTION, target);
             Ok(at)

@@ -1,10 +1,10 @@
 //! Rests of chunks that are kept for later regions.
 
-ghost use Rattle.std.specs.Prelude.{◌≡◌, ◌<◌, ◌≤◌, ◌^◌, ◌+◌, ◌*◌, ◌++◌, ◌∷◌, [], ℕ, List, length, take, IfOk, OnErr, IfSome, IfNone};
-ghost use Rattle.gib_region.specs.Region.{finished, Begins, IsFull, rest, AreOwned};
+ghost use Rattle.std.specs.Prelude.{◌≡◌, ◌<◌, ◌≤◌, ◌^◌, ◌+◌, ◌*◌, ◌++◌, ◌∷◌, [], ℕ, List, length, take, IsTrue, ◌↔◌, IfOk, OnErr, IfSome, IfNone};
+ghost use Rattle.gib_region.specs.Region.{finished, Begins, IsFull, rest};
 
 use crate::cursor::{Cursor, Full, rest_of_chunk};
-use gib_mem::Mem;
+use gib_mem::{CHUNK, Mem};
 use std::marker::Model;
 
 /// How many tails may be kept.
@@ -13,7 +13,7 @@ const TAILS: usize = 64;
 /// How many bytes a tail has at least: the longest head, and a redirect.
 const TAIL: u64 = 74;
 
-/// At most 64 rests of chunks, each by its first address, the latest last.
+/// At most 64 rests of chunks, each by its first address, the latest last. Each has 74 bytes at least.
 #[derive(Drop)]
 pub struct Tails {
     at: [u64; TAILS],
@@ -22,12 +22,14 @@ pub struct Tails {
 
 impl Model for Tails {
     ghost use Rattle.std.specs.Prelude.{ℕ, List, take, ◌≤◌};
+    ghost use Rattle.std.specs.List.{All};
+    ghost use Rattle.gib_region.specs.Region.{rest};
 
     ghost Value = { List ℕ };
 
     ghost view = { λ t. take t.count t.at };
 
-    ghost invariant = { λ t. t.count ≤ 64 };
+    ghost invariant = { λ t. t.count ≤ 64 × All (λ a. 74 ≤ rest a) (take t.count t.at) };
 }
 
 impl Tails {
@@ -41,9 +43,17 @@ impl Tails {
         }
     }
 
+    /// Whether no tail is kept.
+    pub fn is_empty(&self) -> bool
+        ensures { IsTrue result ↔ (self.now ≡ []) }
+    {
+        self.count == 0
+    }
+
     /// Takes the latest tail.
-    fn pop(&mut self) -> Option<u64>
+    pub fn take(&mut self) -> Option<u64>
         ensures some { IfSome result (λ t. self.old ≡ self.new ++ t ∷ []) }
+        ensures long { IfSome result (λ t. 74 ≤ rest t) }
         ensures none { IfNone result (self.old ≡ [] × self.new ≡ []) }
     {
         if self.count == 0 {
@@ -54,7 +64,7 @@ impl Tails {
     }
 
     /// Keeps the rest of a chunk, where it is long enough and fewer than 64 are kept.
-    fn keep(&mut self, at: u64)
+    pub fn keep(&mut self, at: u64)
         ensures { self.new ≡ finished self.old at }
     {
         if rest_of_chunk(at) >= TAIL && self.count < TAILS {
@@ -70,15 +80,14 @@ impl Tails {
 ///
 /// `Full` exactly where no tail is kept and no chunk is left. Nothing was put then.
 pub fn begin<M: Mem>(mem: &mut M, tails: &mut Tails) -> Result<Cursor, Full>
-    requires { AreOwned (M.view mem.old).cells tails.old }
     ensures begins { IfOk result (λ c. Begins (M.view mem.old) tails.old (M.view mem.new) tails.new c.at) }
     ensures full { OnErr result (IsFull (M.view mem.old) (M.view mem.new)) }
     ensures none { OnErr result (tails.old ≡ [] × tails.new ≡ []) }
 {
-    match tails.pop() {
+    match tails.take() {
         Some(at) => Ok(Cursor::at_place(at)),
         None => match mem.draw() {
-            Some(chunk) => Ok(Cursor::at_place(4096 * chunk as u64)),
+            Some(chunk) => Ok(Cursor::at_place(CHUNK * chunk as u64)),
             None => Err(Full),
         },
     }

@@ -7,7 +7,7 @@ use Rattle.gib_syntax.specs.declared.exprs.Node.{Node}
 use Rattle.gib_syntax.specs.declared.exprs.Node.TheVariants as n
 use Rattle.gib_syntax.specs.Tree.{Expression, Arguments, Arms, Var, Num, Bit, Paren, Op, Call, Make, Let, Par, If, Case, NoArgument, Argument, LastArm, NextArm}
 
--- The parts of an arm, and of a node, have smaller numbers.
+-- The expression of an arm has a smaller number.
 abbrev pub IsArmBelow : ℕ → Arm → Type 0
 IsArmBelow id arm = arm.body.0 < id
 
@@ -16,7 +16,7 @@ abbrev pub ArmsBelow : List Arm → ℕ → Type 0
 ArmsBelow [] id = ⊥
 ArmsBelow (arm ∷ arms) id = IsArmBelow id arm × AllByRecursion (IsArmBelow id) arms
 
--- A literal is at most 2^63 - 1.
+-- The parts of a node have smaller numbers; a literal is at most 2^63 - 1.
 abbrev pub PartsBelow : Node → ℕ → Type 0
 PartsBelow (n.Variable x) id = Unit {0}
 PartsBelow (n.Whole p v) id = v < 2 ^ 63

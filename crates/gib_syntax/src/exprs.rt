@@ -100,7 +100,7 @@ impl Exprs {
         self.nodes.len()
     }
 
-    /// The expression of a number.
+    /// A node whose tree is the one of the number.
     pub fn node(&self, id: ExprId) -> &Node
         requires { id.0 < length self.now }
         ensures { Opens self.now id.0 result.now }

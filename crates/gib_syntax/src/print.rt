@@ -2,10 +2,10 @@
 //!
 //! Tokens are put from the last one to the first: each part goes before what follows it.
 
-ghost use Rattle.std.specs.Prelude.{◌≡◌, ◌<◌, [], ◌∷◌, ℕ, length, map, IfOk, OnOk};
+ghost use Rattle.std.specs.Prelude.{◌≡◌, ◌<◌, ◌≤◌, [], ◌∷◌, ℕ, length, map, IfOk, OnOk};
 ghost use Rattle.std.specs.List.{AllByRecursion};
 ghost use Rattle.gib_base.specs.Spelling.{tokens_text};
-ghost use Rattle.gib_syntax.specs.Spelling.{spell, spell_operator, spell_bit, spell_variables, spell_arguments, spell_type, spell_types, spell_constructor, spell_constructors, spell_more, spell_data, spell_datas, spell_parameter, spell_parameters, spell_body, spell_function, spell_functions, spell_main, spell_program};
+ghost use Rattle.gib_syntax.specs.Spelling.{spell, spell_operator, spell_bit, spell_variables, spell_arguments, spell_type, spell_types, spell_constructor, spell_constructors, spell_more, spell_data, spell_datas, spell_parameter, spell_parameters, spell_body, spell_function, spell_functions, spell_main, spell_program, levels_program};
 ghost use Rattle.gib_syntax.specs.Printing.{spell_arm, spell_further, spell_all_arms};
 ghost use Rattle.gib_syntax.specs.Arena.{IsArmBelow, ArmsBelow, tree_of, arguments_from};
 ghost use Rattle.gib_syntax.specs.Parts.{IsFunctionInside, constructor_tree, data_tree, function_tree, main_tree, program_of};
@@ -103,7 +103,7 @@ fn put_constructor(constructor: &ConstructorDecl, out: &mut Spelled) -> Result<(
     out.put(Token::Constructor(constructor.name.name))
 }
 
-/// An expression. This recurses as deep as expressions are nested, and no deeper.
+/// An expression. This recurses as deep as expressions are nested, which the public call bounds.
 #[cycle(expressions)]
 fn put_expression(exprs: &Exprs, id: ExprId, out: &mut Spelled) -> Result<(), Memory>
     requires { id.0 < length exprs.now }
@@ -354,6 +354,8 @@ fn tokens_of(alloc: Global, program: &Program) -> Result<Vec<Token>, Memory>
 ///
 /// Want of memory.
 pub fn print_program(alloc: Global, program: &Program, names: &Names) -> Result<Vec<u8>, Memory>
+    // Printing recurses on expressions, and so its stack is bounded.
+    requires { levels_program (program_of program.now) ≤ 200 }
     ensures { IfOk result (λ out. out.items ≡ tokens_text names.now (spell_program (program_of program.now) [])) }
 {
     let tokens = tokens_of(alloc, program)?;

@@ -1,4 +1,8 @@
 pub mod Owners
 pub mod Indexes
 pub mod LayoutLemmas
-pub mod Sample
+pub mod WideSample
+pub mod SampleLemmas
+pub mod Copied
+pub mod Naming
+pub mod FieldLemmas

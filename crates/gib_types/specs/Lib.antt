@@ -5,3 +5,5 @@ pub mod Layout
 pub mod Loaded
 pub mod Tree
 pub mod TreeCode
+pub mod Bytes
+pub mod Samples

@@ -1,8 +1,8 @@
 //! How the heads of constructors lie in memory.
 
-ghost use Rattle.std.specs.Prelude.{◌≡◌, ◌≤◌, ◌<◌, ◌+◌, ℕ, length, IfOk};
+ghost use Rattle.std.specs.Prelude.{◌≡◌, ◌≤◌, ℕ, length, IfOk};
 ghost use Rattle.gib_types.specs.Table.{IsTable};
-ghost use Rattle.gib_types.specs.Layout.{LaidOut, layout_of, layout_at, is_among, numbers_of, AreLayouts};
+ghost use Rattle.gib_types.specs.Layout.{layout_of, layout_at, is_among, numbers_of, field_types, has_offsets, head_size, packed_at};
 
 use crate::{ConId, Ty, TypeTable};
 use gib_base::Memory;
@@ -19,23 +19,25 @@ pub struct Layout {
     pub packed: u8,
 }
 
-/// The layouts of all constructors of a table.
-#[derive(Drop)]
-pub struct Layouts<'t> {
-    types: &'t TypeTable,
+/// A table of types, and the layouts of all its constructors, where the listed ones have offsets.
+#[derive(Debug, Drop)]
+pub struct Layouts {
+    types: TypeTable,
     with_offsets: Vec<ConId>,
     /// The layout of each constructor, at its number.
     all: Vec<Layout>,
+    /// Whether each constructor has offsets, at its number.
+    listed: Vec<bool>,
 }
 
-impl<'t> Model for Layouts<'t> {
+impl Model for Layouts {
     ghost use Rattle.gib_types.specs.Layout.{LaidOut, AreLayouts, numbers_of};
 
     ghost Value = { LaidOut };
 
-    ghost view = { λ l. record { table = l.types.now; with_offsets = numbers_of l.with_offsets.items } };
+    ghost view = { λ l. record { table = l.types; with_offsets = numbers_of l.with_offsets.items } };
 
-    ghost invariant = { λ l. AreLayouts (record { table = l.types.now; with_offsets = numbers_of l.with_offsets.items }) l.all.items };
+    ghost invariant = { λ l. AreLayouts (record { table = l.types; with_offsets = numbers_of l.with_offsets.items }) l.all.items l.listed.items };
 }
 
 /// Whether the constructor is one of these.
@@ -81,48 +83,88 @@ fn lay_out(fields: &[Ty], has_offsets: bool) -> Layout
     }
 }
 
-impl<'t> Layouts<'t> {
-    /// The layouts of the table's constructors, where the listed ones have offsets.
+impl Layouts {
+    /// The layouts of the table's constructors, where the listed ones have offsets. They keep a copy of the table.
     ///
     /// # Errors
     ///
     /// Want of memory.
-    pub fn make(
-        alloc: Global,
-        types: &'t TypeTable,
-        with_offsets: &[ConId],
-    ) -> Result<Layouts<'t>, Memory>
+    pub fn make(alloc: Global, types: &TypeTable, with_offsets: &[ConId]) -> Result<Layouts, Memory>
         ensures table { IfOk result (λ layouts. layouts.table ≡ types.now) }
         ensures listed { IfOk result (λ layouts. layouts.with_offsets ≡ numbers_of with_offsets.now) }
     {
         types.rules();
         let mut all = Vec::new(alloc);
+        let mut listed = Vec::new(alloc);
         let mut con = 0;
         'constructors: while con < types.len() {
             let has_offsets = is_listed(with_offsets, con);
             all.push(lay_out(types.fields(ConId(con)), has_offsets))?;
+            listed.push(has_offsets)?;
             con += 1;
         }
         Ok(Layouts {
-            types,
+            types: types.copy(alloc)?,
             with_offsets: Vec::from_slice(alloc, with_offsets)?,
             all,
+            listed,
         })
     }
 
     /// The table of the types.
-    pub fn types(&self) -> &'t TypeTable
+    pub fn types(&self) -> &TypeTable
         ensures { result.now ≡ self.now.table }
     {
-        self.types
+        &self.types
     }
 
-    /// The layout of a constructor.
+    /// The types of a constructor's fields, in declared order; of no constructor, none.
+    pub fn fields(&self, con: ConId) -> &[Ty]
+        ensures { result.now ≡ field_types self.now con.0 }
+    {
+        if con.0 < self.types.len() {
+            self.types.fields(con)
+        } else {
+            &[]
+        }
+    }
+
+    /// The layout of a constructor; of no constructor, that of one without fields.
     pub fn layout(&self, con: ConId) -> Layout
-        requires { con.0 < length self.now.table.rows }
         ensures { result ≡ layout_at self.now.table self.now.with_offsets con.0 }
     {
-        self.all[con.0 as usize]
+        let place = con.0 as usize;
+        if place < self.all.len() {
+            self.all[place]
+        } else {
+            Layout {
+                head: 1,
+                offsets: 0,
+                scalars: 0,
+                packed: 0,
+            }
+        }
+    }
+
+    /// Whether a constructor has offsets. Where it is one of the table this takes no search.
+    pub fn stores(&self, con: ConId) -> bool
+        ensures { result ≡ has_offsets self.now con.0 }
+    {
+        let place = con.0 as usize;
+        if place < self.listed.len() {
+            self.listed[place]
+        } else {
+            is_listed(&self.with_offsets, con.0)
+        }
+    }
+
+    /// What each table keeps; a head has at most 65 bytes, and at most eight packed fields follow it.
+    pub fn rules(&self)
+        ensures table { IsTable self.now.table }
+        ensures long { (con : ℕ) → head_size self.now con ≤ 65 }
+        ensures packed { (con : ℕ) → packed_at self.now con ≤ 8 }
+    {
+        self.types.rules();
     }
 
     /// A head has at most 65 bytes, and at most eight packed fields follow it.
@@ -130,6 +172,6 @@ impl<'t> Layouts<'t> {
         ensures long { (con : ℕ) → (layout_at self.now.table self.now.with_offsets con).head ≤ 65 }
         ensures packed { (con : ℕ) → (layout_at self.now.table self.now.with_offsets con).packed ≤ 8 }
     {
-        self.types.rules();
+        self.rules();
     }
 }

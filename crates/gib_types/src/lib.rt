@@ -1,9 +1,14 @@
 //! The declared types of a program, and the values of these types.
 #![tactic(auto)]
 
+mod copy;
+mod fields;
+pub mod law;
 pub mod layouts;
+pub mod sample;
 pub mod table;
 
+pub use fields::{first_type, further_types, items_at};
 pub use layouts::{Layout, Layouts};
 pub use table::{ConId, Constructor, Ty, TyId, TypeTable};
 

@@ -1,7 +1,7 @@
 //! The table of the declared types and their constructors.
 
 ghost use Rattle.std.specs.Prelude.{◌≡◌, ◌↔◌, IsTrue, ◌≤◌, ◌<◌, ◌+◌, ℕ, length, map, count_by, nat_lt, slice_get, slice_index, Some, None, IfOk, OnOk, MatchOption};
-ghost use Rattle.gib_types.specs.Table.{row_of, table_of, con_at, fields_at, owner_at, name_at, first_at, count_at, IsTable, IsNamed};
+ghost use Rattle.gib_types.specs.Table.{row_of, table_of, con_at, fields_at, owner_at, name_at, first_at, count_at, numbers_from, constructors_of, type_made, is_scalar as scalar, same_type, IsTable, IsNamed};
 ghost use Rattle.gib_types.specs.Index.{NamesDiffer, ArePlacesOf, IsPut, HasName};
 
 use gib_base::{Memory, Name};
@@ -22,6 +22,43 @@ pub enum Ty {
     Whole,
     Truth,
     Tree(TyId),
+}
+
+impl Ty {
+    /// Whether values of the type are scalars.
+    pub fn is_scalar(self) -> bool
+        ensures { result ≡ scalar self }
+    {
+        match self {
+            Ty::Whole => true,
+            Ty::Truth => true,
+            Ty::Tree(_) => false,
+        }
+    }
+
+    /// Whether it is the same type.
+    pub fn is(self, other: Ty) -> bool
+        ensures same { result ≡ same_type self other }
+        ensures means { IsTrue result ↔ (self ≡ other) }
+    {
+        match self {
+            Ty::Whole => match other {
+                Ty::Whole => true,
+                Ty::Truth => false,
+                Ty::Tree(_) => false,
+            },
+            Ty::Truth => match other {
+                Ty::Whole => false,
+                Ty::Truth => true,
+                Ty::Tree(_) => false,
+            },
+            Ty::Tree(ty) => match other {
+                Ty::Whole => false,
+                Ty::Truth => false,
+                Ty::Tree(of) => ty.0 == of.0,
+            },
+        }
+    }
 }
 
 /// A constructor: its name, the type that it belongs to, and the types of its fields in declared order.
@@ -172,28 +209,54 @@ impl TypeTable {
         }
     }
 
-    /// The types of a constructor's fields, in declared order.
+    /// The types of a constructor's fields, in declared order; of no constructor, none.
     pub fn fields(&self, con: ConId) -> &[Ty]
-        requires { con.0 < length self.now.rows }
         ensures { result.now ≡ fields_at self.now con.0 }
     {
-        &self.constructors[con.0 as usize].fields
+        let place = con.0 as usize;
+        if place < self.constructors.len() {
+            &self.constructors[place].fields
+        } else {
+            &[]
+        }
     }
 
-    /// The type that a constructor belongs to.
-    pub fn type_of(&self, con: ConId) -> TyId
-        requires { con.0 < length self.now.rows }
+    /// The type that a constructor belongs to; of no constructor, the first one.
+    pub fn owner(&self, con: ConId) -> TyId
         ensures { result.0 ≡ owner_at self.now con.0 }
     {
-        self.constructors[con.0 as usize].owner
+        let place = con.0 as usize;
+        if place < self.constructors.len() {
+            self.constructors[place].owner
+        } else {
+            TyId(0)
+        }
     }
 
-    /// The name of a constructor.
+    /// The type that a constructor belongs to, as `owner` tells.
+    pub fn type_of(&self, con: ConId) -> TyId
+        ensures { result.0 ≡ owner_at self.now con.0 }
+    {
+        self.owner(con)
+    }
+
+    /// The type of a value of a constructor.
+    pub fn type_made(&self, con: ConId) -> Ty
+        ensures { result ≡ type_made self.now con }
+    {
+        Ty::Tree(self.owner(con))
+    }
+
+    /// The name of a constructor; of no constructor, the first name.
     pub fn name_of(&self, con: ConId) -> Name
-        requires { con.0 < length self.now.rows }
         ensures { result.0 ≡ name_at self.now con.0 }
     {
-        self.constructors[con.0 as usize].name
+        let place = con.0 as usize;
+        if place < self.constructors.len() {
+            self.constructors[place].name
+        } else {
+            Name(0)
+        }
     }
 
     /// The name of a declared type.
@@ -218,6 +281,19 @@ impl TypeTable {
         ensures { result ≡ count_at self.now ty.0 }
     {
         self.firsts[ty.0 as usize + 1] - self.firsts[ty.0 as usize]
+    }
+
+    /// The first constructor of a type, and how many it has; of no type, none.
+    pub fn constructors_of(&self, ty: TyId) -> (u32, u32)
+        ensures all { numbers_from result.0 result.1 ≡ constructors_of self.now ty.0 }
+        ensures few { result.0 + result.1 ≤ 200 }
+    {
+        self.rules();
+        if ty.0 < self.type_count() {
+            (self.first_of(ty).0, self.count_of(ty))
+        } else {
+            (0, 0)
+        }
     }
 
     /// The constructor of a name; None exactly where no constructor has it.

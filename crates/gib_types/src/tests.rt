@@ -74,5 +74,6 @@ fn layouts_give_the_parts_of_heads(rt: HostRuntime) -> Result<(), Fail> {
     assert_eq!(rt; parts(offsets.layout(ConId(2))), [57, 56, 0, 8]);
     assert_eq!(rt; parts(offsets.layout(ConId(3))), [65, 0, 64, 0]);
     assert_eq!(rt; offsets.types().len(), 4);
+    assert!(rt; offsets.stores(ConId(0)) && !plain.stores(ConId(0)) && !offsets.stores(ConId(4)));
     Ok(())
 }

@@ -8,14 +8,13 @@ use Rattle.gib_types.specs.declared.table.Ty.TheVariants as ty
 use Rattle.gib_types.specs.Table.{Table, con_at, fields_at}
 use Rattle.gib_types.specs.Tree.{Datum, whole, truth, con, Data, none, more, HasType, HaveTypes}
 use Rattle.gib_types.proofs.Owners.{con_at-owned, owned_within}
-use Rattle.gib_value.specs.declared.read.Wanted.{Wanted}
-use Rattle.gib_value.specs.declared.read.Wanted.TheVariants.{Value, Name, Space, Close}
+use Rattle.gib_value.specs.Due.{Due, Value, Name, Space, Close}
 use Rattle.gib_value.specs.Text.{truth_text, con_text, spell, spell_fields, text}
 use Rattle.gib_value.specs.Reading.{AreWords, token_len, Cut, fields_wanted, CanStand, Stand}
 use Rattle.gib_value.proofs.Tokens.{Ends, IsToken, word_token, number_token, truth_word, front_take}
 
 -- the tokens of the bytes up to the rest can stand, and leave so much wanted
-pub record Takes (table : Table) (names : List (List ℕ)) (bytes : List ℕ) (from : List Wanted) (rest : List ℕ) (to : List Wanted) : Type 0 where
+pub record Takes (table : Table) (names : List (List ℕ)) (bytes : List ℕ) (from : List Due) (rest : List ℕ) (to : List Due) : Type 0 where
   pub tokens : List (List ℕ)
   pub cut : Cut bytes tokens rest
   pub stand : Stand table names from tokens to
@@ -24,12 +23,12 @@ Cut-append : (bytes : List ℕ) (a b : List (List ℕ)) (rest last : List ℕ) �
 Cut-append bytes [] b rest last e h = subst (λ (l : List ℕ). Cut l b last) (sym e) h
 Cut-append bytes (t ∷ a) b rest last g h = (g.0, g.1, Cut-append (drop (token_len bytes) bytes) a b rest last g.2 h)
 
-Stand-append : (table : Table) (names : List (List ℕ)) (from : List Wanted) (a b : List (List ℕ)) (mid to : List Wanted) → Stand table names from a mid → Stand table names mid b to → Stand table names from (a ++ b) to
-Stand-append table names from [] b mid to e h = subst (λ (l : List Wanted). Stand table names l b to) (sym e) h
+Stand-append : (table : Table) (names : List (List ℕ)) (from : List Due) (a b : List (List ℕ)) (mid to : List Due) → Stand table names from a mid → Stand table names mid b to → Stand table names from (a ++ b) to
+Stand-append table names from [] b mid to e h = subst (λ (l : List Due). Stand table names l b to) (sym e) h
 Stand-append table names [] (t ∷ a) b mid to g h = absurd g
 Stand-append table names (w ∷ from) (t ∷ a) b mid to (m, c, s) h = (m, c, Stand-append table names (m ++ from) a b mid to s h)
 
-then_takes : (table : Table) (names : List (List ℕ)) (bytes mid rest : List ℕ) (from between to : List Wanted) → Takes table names bytes from mid between → Takes table names mid between rest to → Takes table names bytes from rest to
+then_takes : (table : Table) (names : List (List ℕ)) (bytes mid rest : List ℕ) (from between to : List Due) → Takes table names bytes from mid between → Takes table names mid between rest to → Takes table names bytes from rest to
 then_takes table names bytes mid rest from between to a b = record {
   tokens = a.tokens ++ b.tokens;
   cut = Cut-append bytes a.tokens b.tokens mid rest a.cut b.cut;
@@ -37,7 +36,7 @@ then_takes table names bytes mid rest from between to a b = record {
 }
 
 -- one token
-takes_one : (table : Table) (names : List (List ℕ)) (token rest : List ℕ) (w : Wanted) (wanted extra : List Wanted) → 0 < length token → token_len (token ++ rest) ≡ length token
+takes_one : (table : Table) (names : List (List ℕ)) (token rest : List ℕ) (w : Due) (wanted extra : List Due) → 0 < length token → token_len (token ++ rest) ≡ length token
     → CanStand table names w token extra → Takes table names (token ++ rest) (w ∷ wanted) rest (extra ++ wanted)
 takes_one table names token rest w wanted extra lt long can = record {
   tokens = token ∷ [];
@@ -45,7 +44,7 @@ takes_one table names token rest w wanted extra lt long can = record {
   stand = (extra, can, refl);
 }
 
-takes_token : (table : Table) (names : List (List ℕ)) (token rest : List ℕ) (w : Wanted) (wanted extra : List Wanted) → IsToken token → Ends rest
+takes_token : (table : Table) (names : List (List ℕ)) (token rest : List ℕ) (w : Due) (wanted extra : List Due) → IsToken token → Ends rest
     → CanStand table names w token extra → Takes table names (token ++ rest) (w ∷ wanted) rest (extra ++ wanted)
 takes_token table names token rest w wanted extra t ends can = takes_one table names token rest w wanted extra t.some (t.first rest ends) can
 
@@ -65,7 +64,7 @@ some_types table v vs [] h = absurd h
 some_types table v vs (t ∷ ts) h = omega arith
 
 mutual
-  pub takes_value : (table : Table) (names : List (List ℕ)) → AreWords table names → (v : Datum) (t : Ty) (rest : List ℕ) (wanted : List Wanted) → HasType table v t → Ends rest
+  pub takes_value : (table : Table) (names : List (List ℕ)) → AreWords table names → (v : Datum) (t : Ty) (rest : List ℕ) (wanted : List Due) → HasType table v t → Ends rest
       → Takes table names (spell table names v rest) (Value t ∷ wanted) rest wanted
   takes_value table names words (whole z) ty.Whole rest wanted h ends = takes_token table names (signed_decimal z) rest (Value ty.Whole) wanted [] (number_token z h) ends (record { z = z; fits = h; is = refl; after = refl })
   takes_value table names words (whole z) ty.Truth rest wanted h ends = absurd h
@@ -90,7 +89,7 @@ mutual
       (record { con = id; own = h.0; some = some; is = refl; after = refl }))
       (takes_fields table names words (more v vs) (fields_at table k) id rest wanted h.1))
 
-  takes_fields : (table : Table) (names : List (List ℕ)) → AreWords table names → (vs : Data) (ts : List Ty) (k : ConId) (rest : List ℕ) (wanted : List Wanted) → HaveTypes table vs ts
+  takes_fields : (table : Table) (names : List (List ℕ)) → AreWords table names → (vs : Data) (ts : List Ty) (k : ConId) (rest : List ℕ) (wanted : List Due) → HaveTypes table vs ts
       → Takes table names (spell_fields table names vs rest) (fields_wanted k ts ++ wanted) rest wanted
   takes_fields table names words none [] k rest wanted h = takes_one table names (41 ∷ []) rest (Close k) wanted [] (omega arith) refl (refl, refl)
   takes_fields table names words none (t ∷ ts) k rest wanted h = absurd h

@@ -9,10 +9,9 @@ use Rattle.gib_types.specs.Table.{Table}
 use Rattle.gib_types.specs.Tree.{Datum, whole, truth, con, none}
 use Rattle.gib_value.specs.declared.node.Node.{Node}
 use Rattle.gib_value.specs.declared.node.Node.TheVariants as node
-use Rattle.gib_value.specs.declared.read.Wanted.{Wanted}
-use Rattle.gib_value.specs.declared.read.Wanted.TheVariants.{Value}
+use Rattle.gib_value.specs.Due.{Due, Value, Name, Space}
 use Rattle.gib_value.specs.Heap.{value_of, IsWithin}
-use Rattle.gib_value.specs.Reading.{IsLeaf, Opens, Steps, Refuses}
+use Rattle.gib_value.specs.Reading.{IsLeaf, Opens, HasFull, Steps, Refuses}
 use Rattle.gib_value.proofs.HeapLemmas.{All-append}
 
 pushed_values : (heap : List Datum) (done next : List Node) (n : Node) (v : Datum) → next ≡ done ++ n ∷ [] → value_of heap n ≡ v
@@ -24,7 +23,7 @@ pushed_held : (heap : List Datum) (done next : List Node) (n : Node) → next �
     → AllByRecursion (IsWithin (length heap)) next
 pushed_held heap done next n e h k = subst (λ (l : List Node). AllByRecursion (IsWithin (length heap)) l) (sym e) (All-append (IsWithin (length heap)) done (n ∷ []) h (k, tt))
 
-pub leaf_steps : (table : Table) (names : List (List ℕ)) (t : Ty) (token : List ℕ) (heap : List Datum) (done next : List Node) (n : Node) (wanted : List Wanted)
+pub leaf_steps : (table : Table) (names : List (List ℕ)) (t : Ty) (token : List ℕ) (heap : List Datum) (done next : List Node) (n : Node) (wanted : List Due)
     → IsLeaf table names t token n → next ≡ done ++ n ∷ [] → AllByRecursion (IsWithin (length heap)) done → Steps table names (Value t) token heap heap done next wanted wanted
 leaf_steps table names ty.Whole token heap done next n wanted (z, fits, is, e) grown held =
     let node_is : value_of heap n ≡ whole z = ap (value_of heap) e in
@@ -53,6 +52,24 @@ leaf_steps table names (ty.Tree t) token heap done next n wanted (k, own, bare, 
       values = pushed_values heap done next n (con k.0 none) grown node_is;
       held = pushed_held heap done next n grown held (subst (IsWithin (length heap)) (sym e) (let le : 0 + 0 ≤ length heap = omega arith in le));
     }
+
+pub opening_steps : (table : Table) (names : List (List ℕ)) (t : Ty) (token : List ℕ) (of : TyId) (heap : List Datum) (done : List Node) (wanted left : List Due)
+    → Opens table t token of → left ≡ Name of ∷ wanted → AllByRecursion (IsWithin (length heap)) done → Steps table names (Value t) token heap heap done done wanted left
+opening_steps table names ty.Whole token of heap done wanted left opens on held = absurd opens
+opening_steps table names ty.Truth token of heap done wanted left opens on held = absurd opens
+opening_steps table names (ty.Tree t) token of heap done wanted left (same, is, full) on held =
+    let own : HasFull table t = subst (λ (u : TyId). HasFull table u) (sym same) full in
+    record {
+      more = Name of ∷ [];
+      can = inr (record { con = own.con; own = own.own; some = own.some; is = is; after = ap (λ (u : TyId). Name u ∷ []) (sym same) });
+      goes_on = on;
+      values = refl;
+      held = held;
+    }
+
+pub space_steps : (table : Table) (names : List (List ℕ)) (token : List ℕ) (heap : List Datum) (done : List Node) (wanted : List Due)
+    → token ≡ 32 ∷ [] → AllByRecursion (IsWithin (length heap)) done → Steps table names Space token heap heap done done wanted wanted
+space_steps table names token heap done wanted is held = record { more = []; can = (is, refl); goes_on = refl; values = refl; held = held }
 
 pub value_refused : (table : Table) (names : List (List ℕ)) (t : Ty) (token : List ℕ) → ((n : Node) → IsLeaf table names t token n → ⊥) → ((of : TyId) → Opens table t token of → ⊥)
     → Refuses table names (Value t) token

@@ -12,8 +12,7 @@ use Rattle.gib_types.specs.declared.table.Ty.{Ty}
 use Rattle.gib_types.specs.declared.table.Ty.TheVariants.{Whole, Truth, Tree}
 use Rattle.gib_types.specs.Table.{Table, con_at, fields_at}
 use Rattle.gib_types.specs.Tree.{Datum, whole, truth, con, none, data_of, HasType}
-use Rattle.gib_value.specs.declared.read.Wanted.{Wanted}
-use Rattle.gib_value.specs.declared.read.Wanted.TheVariants.{Value, Name, Space, Close}
+use Rattle.gib_value.specs.Due.{Due, Value, Name, Space, Close}
 use Rattle.gib_value.specs.declared.fault.TextFault.{TextFault}
 use Rattle.gib_value.specs.declared.fault.TextFault.TheVariants as fault
 use Rattle.gib_value.specs.declared.node.Node.{Node}
@@ -50,12 +49,12 @@ Cut bytes [] rest = bytes ≡ rest
 Cut bytes (token ∷ tokens) rest = (0 < token_len bytes) × (token ≡ first_token bytes) × Cut (drop (token_len bytes) bytes) tokens rest
 
 -- What is wanted after a constructor's name: each field after a space, and the closing parenthesis.
-abbrev pub fields_wanted : ConId → List Ty → List Wanted
+abbrev pub fields_wanted : ConId → List Ty → List Due
 fields_wanted k [] = Close k ∷ []
 fields_wanted k (t ∷ ts) = Space ∷ Value t ∷ fields_wanted k ts
 
 -- The token is the name of a constructor of the type without fields, and nothing more is wanted.
-pub record IsBare (table : Table) (names : List (List ℕ)) (t : TyId) (token : List ℕ) (more : List Wanted) : Type 0 where
+pub record IsBare (table : Table) (names : List (List ℕ)) (t : TyId) (token : List ℕ) (more : List Due) : Type 0 where
   pub con : ConId
   pub own : con_at table t.0 con.0 ≡ Some con.0
   pub bare : length (fields_at table con.0) ≡ 0
@@ -63,7 +62,7 @@ pub record IsBare (table : Table) (names : List (List ℕ)) (t : TyId) (token : 
   pub after : more ≡ []
 
 -- The token opens a constructor of the type, which has one with fields; then its name is wanted.
-pub record IsOpening (table : Table) (t : TyId) (token : List ℕ) (more : List Wanted) : Type 0 where
+pub record IsOpening (table : Table) (t : TyId) (token : List ℕ) (more : List Due) : Type 0 where
   pub con : ConId
   pub own : con_at table t.0 con.0 ≡ Some con.0
   pub some : 0 < length (fields_at table con.0)
@@ -71,7 +70,7 @@ pub record IsOpening (table : Table) (t : TyId) (token : List ℕ) (more : List 
   pub after : more ≡ Name t ∷ []
 
 -- The token is the name of a constructor of the type with fields, which are wanted then.
-pub record IsFull (table : Table) (names : List (List ℕ)) (t : TyId) (token : List ℕ) (more : List Wanted) : Type 0 where
+pub record IsFull (table : Table) (names : List (List ℕ)) (t : TyId) (token : List ℕ) (more : List Due) : Type 0 where
   pub con : ConId
   pub own : con_at table t.0 con.0 ≡ Some con.0
   pub some : 0 < length (fields_at table con.0)
@@ -79,20 +78,20 @@ pub record IsFull (table : Table) (names : List (List ℕ)) (t : TyId) (token : 
   pub after : more ≡ fields_wanted con (fields_at table con.0)
 
 -- The token is the text of a number, and nothing more is wanted.
-pub record IsNumber (token : List ℕ) (more : List Wanted) : Type 0 where
+pub record IsNumber (token : List ℕ) (more : List Due) : Type 0 where
   pub z : ℤ
   pub fits : FitsSigned w64 z
   pub is : token ≡ signed_decimal z
   pub after : more ≡ []
 
 -- The token is a truth value, and nothing more is wanted.
-pub record IsTruth (token : List ℕ) (more : List Wanted) : Type 0 where
+pub record IsTruth (token : List ℕ) (more : List Due) : Type 0 where
   pub b : Bool
   pub is : token ≡ truth_text b
   pub after : more ≡ []
 
 -- The token can stand where this is wanted, and then more is wanted in its place.
-abbrev pub CanStand : Table → List (List ℕ) → Wanted → List ℕ → List Wanted → Type 0
+abbrev pub CanStand : Table → List (List ℕ) → Due → List ℕ → List Due → Type 0
 CanStand table names Space token more = (token ≡ 32 ∷ []) × (more ≡ [])
 CanStand table names (Close k) token more = (token ≡ 41 ∷ []) × (more ≡ [])
 CanStand table names (Value Whole) token more = IsNumber token more
@@ -101,21 +100,21 @@ CanStand table names (Value (Tree t)) token more = IsBare table names t token mo
 CanStand table names (Name t) token more = IsFull table names t token more
 
 -- All these tokens can stand where these are wanted, and then those are wanted.
-abbrev pub Stand : Table → List (List ℕ) → List Wanted → List (List ℕ) → List Wanted → Type 0
+abbrev pub Stand : Table → List (List ℕ) → List Due → List (List ℕ) → List Due → Type 0
 Stand table names wanted [] after = wanted ≡ after
 Stand table names [] (token ∷ tokens) after = ⊥
-Stand table names (w ∷ wanted) (token ∷ tokens) after = (more : List Wanted) × CanStand table names w token more × Stand table names (more ++ wanted) tokens after
+Stand table names (w ∷ wanted) (token ∷ tokens) after = (more : List Due) × CanStand table names w token more × Stand table names (more ++ wanted) tokens after
 
 -- What stands here can't: nothing is wanted and the text goes on, or no token stands here that can.
-abbrev pub IsStuck : Table → List (List ℕ) → List Wanted → List ℕ → Type 0
+abbrev pub IsStuck : Table → List (List ℕ) → List Due → List ℕ → Type 0
 IsStuck table names [] rest = rest ≡ [] → ⊥
-IsStuck table names (w ∷ wanted) rest = 0 < token_len rest → (more : List Wanted) → CanStand table names w (first_token rest) more → ⊥
+IsStuck table names (w ∷ wanted) rest = 0 < token_len rest → (more : List Due) → CanStand table names w (first_token rest) more → ⊥
 
 -- All tokens before the place can stand in a text of the type, and what stands at the place can't.
 pub record IsRefusedAt (table : Table) (names : List (List ℕ)) (ty : Ty) (bytes : List ℕ) (place : ℕ) : Type 0 where
   pub within : place ≤ length bytes
   pub tokens : List (List ℕ)
-  pub wanted : List Wanted
+  pub wanted : List Due
   pub cut : Cut bytes tokens (drop place bytes)
   pub stand : Stand table names (Value ty ∷ []) tokens wanted
   pub stuck : IsStuck table names wanted (drop place bytes)
@@ -142,7 +141,7 @@ abbrev pub closed : ℕ → ℕ → List Datum → List Datum
 closed k count vs = take (length vs - count) vs ++ con k (data_of (drop (length vs - count) vs)) ∷ []
 
 -- The values with those that a token adds.
-abbrev pub values_after : (table : Table) (names : List (List ℕ)) (w : Wanted) (token : List ℕ) (more : List Wanted) → CanStand table names w token more → List Datum → List Datum
+abbrev pub values_after : (table : Table) (names : List (List ℕ)) (w : Due) (token : List ℕ) (more : List Due) → CanStand table names w token more → List Datum → List Datum
 values_after table names Space token more can vs = vs
 values_after table names (Close k) token more can vs = closed k.0 (length (fields_at table k.0)) vs
 values_after table names (Value Whole) token more can vs = vs ++ whole can.z ∷ []
@@ -153,16 +152,16 @@ values_after table names (Name t) token more can vs = vs
 
 -- The token can stand; what it leaves wanted is put before what was wanted after it, and the values that it
 -- adds after those before it. All values stand in the heap.
-pub record Steps (table : Table) (names : List (List ℕ)) (w : Wanted) (token : List ℕ) (heap later : List Datum) (done next : List Node) (wanted left : List Wanted) : Type 0 where
-  pub more : List Wanted
+pub record Steps (table : Table) (names : List (List ℕ)) (w : Due) (token : List ℕ) (heap later : List Datum) (done next : List Node) (wanted left : List Due) : Type 0 where
+  pub more : List Due
   pub can : CanStand table names w token more
   pub goes_on : left ≡ more ++ wanted
   pub values : map (value_of later) next ≡ values_after table names w token more can (map (value_of heap) done)
   pub held : AllByRecursion (IsWithin (length later)) next
 
 -- The token can't stand where this is wanted.
-abbrev pub Refuses : Table → List (List ℕ) → Wanted → List ℕ → Type 0
-Refuses table names w token = (more : List Wanted) → CanStand table names w token more → ⊥
+abbrev pub Refuses : Table → List (List ℕ) → Due → List ℕ → Type 0
+Refuses table names w token = (more : List Due) → CanStand table names w token more → ⊥
 
 -- The token is the whole text of a value of the type, and the node is this value.
 abbrev pub IsLeaf : Table → List (List ℕ) → Ty → List ℕ → Node → Type 0
@@ -177,7 +176,7 @@ Opens table Truth token t = ⊥
 Opens table (Tree own) token t = (own ≡ t) × (token ≡ 40 ∷ []) × HasFull table t
 
 -- There are values for the fields of a constructor that ends here.
-abbrev pub IsReady : Table → Wanted → ℕ → Type 0
+abbrev pub IsReady : Table → Due → ℕ → Type 0
 IsReady table (Value ty) count = Unit {0}
 IsReady table (Name t) count = Unit {0}
 IsReady table Space count = Unit {0}

@@ -6,6 +6,7 @@ pub mod heap;
 pub mod law;
 pub mod node;
 pub mod read;
+mod todo;
 pub mod value;
 pub mod worked_examples;
 pub mod write;

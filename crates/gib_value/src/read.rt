@@ -1,6 +1,6 @@
 //! The value that a text spells.
 
-ghost use Rattle.std.specs.Prelude.{◌≡◌, ◌<◌, ◌≤◌, ◌+◌, ◌-◌, ◌++◌, ◌∷◌, ◌↔◌, [], ℕ, ℤ, List, Bool, true, false, IsTrue, reverse, length, map, take, drop, Some, FitsSigned, OnOk, IfOk, MatchOption, MatchResult};
+ghost use Rattle.std.specs.Prelude.{◌≡◌, ◌<◌, ◌≤◌, ◌+◌, ◌-◌, ◌++◌, ◌∷◌, ◌↔◌, [], ℕ, ℤ, List, Bool, true, false, IsTrue, length, map, take, drop, Some, FitsSigned, OnOk, IfOk, MatchOption, MatchResult};
 ghost use Rattle.std.specs.Int.{w64};
 ghost use Rattle.std.specs.List.{AllByRecursion, prefix_len};
 ghost use Rattle.std.specs.Char.{is_ascii_digit};
@@ -9,29 +9,19 @@ ghost use Rattle.gib_base.specs.Piece.{is_name_byte};
 ghost use Rattle.gib_types.specs.Tree.{Datum};
 ghost use Rattle.gib_types.specs.Table.{con_at, fields_at, name_at};
 ghost use Rattle.gib_value.specs.Heap.{value_of, IsWithin};
+ghost use Rattle.gib_value.specs.Due.{Due, due_of};
+ghost use Rattle.gib_value.specs.Due as item;
 ghost use Rattle.gib_value.specs.Text.{truth_text, con_text, AreHeld};
 ghost use Rattle.gib_value.specs.Reading.{token_len as token_len_of, fields_wanted, closed, HasFull, AreWords, IsLeaf, Opens, IsReady, Steps, Refuses, IsTextOf, ReadsTo};
 
 use crate::fault::TextFault;
 use crate::heap::Heap;
 use crate::node::Node;
+use crate::todo::{Todo, Wanted};
 use crate::value::Value;
 use gib_base::{Memory, Names};
 use gib_types::{ConId, Ty, TyId, TypeTable};
 use std::alloc::Global;
-
-/// What may stand next in a value text.
-#[derive(Clone, Copy)]
-enum Wanted {
-    /// A value of the type.
-    Value(Ty),
-    /// The name of a constructor of the type, one with fields.
-    Name(TyId),
-    /// The space before a field.
-    Space,
-    /// The parenthesis that ends a constructor.
-    Close(ConId),
-}
 
 /// Whether a name goes on with the byte.
 fn name_byte(b: u8) -> bool
@@ -196,15 +186,15 @@ fn has_full(types: &TypeTable, ty: TyId) -> bool
 }
 
 /// Puts what is wanted after a constructor's name on the stack, the first one on top.
-fn push_wanted(wanted: &mut Vec<Wanted>, con: ConId, fields: &[Ty]) -> Result<(), Memory>
-    ensures { OnOk result (reverse wanted.new.items ≡ fields_wanted con fields.now ++ reverse wanted.old.items) }
+fn push_wanted(wanted: &mut Todo, con: ConId, fields: &[Ty]) -> Result<(), Memory>
+    ensures { OnOk result (wanted.new ≡ fields_wanted con fields.now ++ wanted.old) }
 {
-    wanted.push(Wanted::Close(con))?;
+    wanted.put(Wanted::Close(con))?;
     let mut i = fields.len();
     'fields: while i > 0 {
         i -= 1;
-        wanted.push(Wanted::Value(fields[i]))?;
-        wanted.push(Wanted::Space)?;
+        wanted.put(Wanted::Value(fields[i]))?;
+        wanted.put(Wanted::Space)?;
     }
     Ok(())
 }
@@ -294,14 +284,14 @@ fn take_value(
     names: &Names,
     heap: &Heap,
     done: &mut Vec<Node>,
-    wanted: &mut Vec<Wanted>,
+    wanted: &mut Todo,
     ty: Ty,
     token: &[u8],
 ) -> Result<bool, Memory>
     requires names { AreHeld types.now names.now }
     requires held { AllByRecursion (IsWithin (length heap.now)) done.old.items }
-    ensures yes { IfOk result (λ took. took ≡ true → Steps types.now names.now (Wanted.Value ty) token.now heap.now heap.now done.old.items done.new.items (reverse wanted.old.items) (reverse wanted.new.items)) }
-    ensures no { IfOk result (λ took. took ≡ false → Refuses types.now names.now (Wanted.Value ty) token.now) }
+    ensures yes { IfOk result (λ took. took ≡ true → Steps types.now names.now (item.Value ty) token.now heap.now heap.now done.old.items done.new.items wanted.old wanted.new) }
+    ensures no { IfOk result (λ took. took ≡ false → Refuses types.now names.now (item.Value ty) token.now) }
 {
     if let Some(node) = find_leaf(alloc, types, names, ty, token)? {
         done.push(node)?;
@@ -310,7 +300,7 @@ fn take_value(
     let Some(opened) = find_opened(types, ty, token) else {
         return Ok(false);
     };
-    wanted.push(Wanted::Name(opened))?;
+    wanted.put(Wanted::Name(opened))?;
     Ok(true)
 }
 
@@ -320,14 +310,14 @@ fn take_name(
     names: &Names,
     heap: &Heap,
     done: &[Node],
-    wanted: &mut Vec<Wanted>,
+    wanted: &mut Todo,
     ty: TyId,
     token: &[u8],
 ) -> Result<bool, Memory>
     requires names { AreHeld types.now names.now }
     requires held { AllByRecursion (IsWithin (length heap.now)) done.now }
-    ensures yes { IfOk result (λ took. took ≡ true → Steps types.now names.now (Wanted.Name ty) token.now heap.now heap.now done.now done.now (reverse wanted.old.items) (reverse wanted.new.items)) }
-    ensures no { IfOk result (λ took. took ≡ false → Refuses types.now names.now (Wanted.Name ty) token.now) }
+    ensures yes { IfOk result (λ took. took ≡ true → Steps types.now names.now (item.Name ty) token.now heap.now heap.now done.now done.now wanted.old wanted.new) }
+    ensures no { IfOk result (λ took. took ≡ false → Refuses types.now names.now (item.Name ty) token.now) }
 {
     let Some(con) = find_of(types, names, ty, token) else {
         return Ok(false);
@@ -346,14 +336,13 @@ fn take_close(
     names: &Names,
     heap: &mut Heap,
     done: &mut Vec<Node>,
-    wanted: &[Wanted],
     con: ConId,
     token: &[u8],
 ) -> Result<bool, Memory>
-    requires ready { IsReady types.now (Wanted.Close con) (length done.old.items) }
+    requires ready { IsReady types.now (item.Close con) (length done.old.items) }
     requires held { AllByRecursion (IsWithin (length heap.old)) done.old.items }
-    ensures yes { IfOk result (λ took. took ≡ true → Steps types.now names.now (Wanted.Close con) token.now heap.old heap.new done.old.items done.new.items (reverse wanted.now) (reverse wanted.now)) }
-    ensures no { IfOk result (λ took. took ≡ false → Refuses types.now names.now (Wanted.Close con) token.now) }
+    ensures yes { IfOk result (λ took. took ≡ true → (wanted : List Due) → Steps types.now names.now (item.Close con) token.now heap.old heap.new done.old.items done.new.items wanted wanted) }
+    ensures no { IfOk result (λ took. took ≡ false → Refuses types.now names.now (item.Close con) token.now) }
 {
     if !is_byte(token, 41) {
         return Ok(false);
@@ -370,15 +359,15 @@ fn take(
     names: &Names,
     heap: &mut Heap,
     done: &mut Vec<Node>,
-    wanted: &mut Vec<Wanted>,
+    wanted: &mut Todo,
     next: Wanted,
     token: &[u8],
 ) -> Result<bool, Memory>
     requires names { AreHeld types.now names.now }
-    requires ready { IsReady types.now next (length done.old.items) }
+    requires ready { IsReady types.now (due_of next) (length done.old.items) }
     requires held { AllByRecursion (IsWithin (length heap.old)) done.old.items }
-    ensures yes { IfOk result (λ took. took ≡ true → Steps types.now names.now next token.now heap.old heap.new done.old.items done.new.items (reverse wanted.old.items) (reverse wanted.new.items)) }
-    ensures no { IfOk result (λ took. took ≡ false → Refuses types.now names.now next token.now) }
+    ensures yes { IfOk result (λ took. took ≡ true → Steps types.now names.now (due_of next) token.now heap.old heap.new done.old.items done.new.items wanted.old wanted.new) }
+    ensures no { IfOk result (λ took. took ≡ false → Refuses types.now names.now (due_of next) token.now) }
 {
     match next {
         Wanted::Value(ty) => {
@@ -391,7 +380,7 @@ fn take(
         }
         Wanted::Space => Ok(is_byte(token, 32)),
         Wanted::Close(con) => {
-            let took = take_close(types, names, heap, done, wanted, con, token)?;
+            let took = take_close(types, names, heap, done, con, token)?;
             Ok(took)
         }
     }
@@ -410,8 +399,8 @@ fn read_tokens(
 {
     let mut heap = Heap::new(alloc);
     let mut done = Vec::new(alloc);
-    let mut wanted = Vec::new(alloc);
-    wanted.push(Wanted::Value(ty))?;
+    let mut wanted = Todo::new(alloc);
+    wanted.put(Wanted::Value(ty))?;
     let mut at = 0;
     'wanted: while let Some(next) = wanted.pop() {
         let place = at as u64;
@@ -457,12 +446,11 @@ pub fn read_text(
     text: &[u8],
 ) -> Result<Value, TextFault>
     requires names { AreHeld types.now names.now }
-    requires words { AreWords types.now names.now }
     // What is read is the value whose text this is; else the place is that of the first token that can't
     // stand, and all before it can.
     ensures exact { ReadsTo types.now names.now ty text.now result }
-    // The text of a value is read, unless memory runs out.
-    ensures complete { (v : Datum) → IsTextOf types.now names.now ty v text.now → MatchResult result (λ found. found ≡ v) (λ e. e ≡ TextFault.Memory) }
+    // The text of a value is read, unless memory runs out, where each constructor's name is a word.
+    ensures complete { AreWords types.now names.now → (v : Datum) → IsTextOf types.now names.now ty v text.now → MatchResult result (λ found. found ≡ v) (λ e. e ≡ TextFault.Memory) }
 {
     // Different numbers are different texts, and no two constructors have one name.
     let _count = names.len();

@@ -47,11 +47,6 @@ pub bounds-payload-at-in-Tree : goal.bounds-payload-at-in-Tree
 bounds-payload-at-in-Tree c =
     tree_in _ _ _ _ _ _ _ _ c.in-Tree.field-0 (popped _ _ _ _ _ _ _ (Due (ty.Tree c.in-Tree.field-0)) _ _ _ c.in-Some.ensures.items (c.in-Due.is ∙ ap Due c.in-Tree.is) c.loop-next.invariant)
 
-pub fields-requires : goal.fields-requires
-fields-requires c =
-    con_at_within c.survey.inside.types.now _ _ _ (tree_con _ _ _ _ _ _ _ _ c.in-Tree.field-0
-    (popped _ _ _ _ _ _ _ (Due (ty.Tree c.in-Tree.field-0)) _ _ _ c.in-Some.ensures.items (c.in-Due.is ∙ ap Due c.in-Tree.is) c.loop-next.invariant))
-
 pub loop-next-smaller-in-Tree : goal.loop-next-smaller-in-Tree
 loop-next-smaller-in-Tree c =
     omega (

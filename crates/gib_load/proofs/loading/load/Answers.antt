@@ -1,24 +1,21 @@
 use Rattle.std.proofs.Common.{◌≤◌, ℕ, List, sym, subst, subst₂}
-use Rattle.gib_types.specs.Row.{Table}
 use Rattle.gib_types.specs.declared.table.Ty.{Ty}
-use Rattle.gib_types.specs.Table.{IsTable}
 use Rattle.gib_file.specs.Packed.{Packed}
 use Rattle.gib_load.specs.Placement.{Placement}
 use Rattle.gib_load.specs.Holding.{Holding}
 use Rattle.gib_load.proofs.Spots.{Sizes, refused_spent}
 use Rattle.gib_load.proofs.Sound.{placement_holds}
-use Rattle.gib_load.proofs.Steps.{bounded_of}
 use Rattle.gib_load.proofs.loading.load.Goals as goal
 
 pub returns-in-Ok-clause-holds : goal.returns-in-Ok-clause-holds
 returns-in-Ok-clause-holds g c = λ v p.
-    let sizes : Sizes c.args.layouts.now = record { rules = subst (λ (t : Table). IsTable t) c.types.ensures c.rules.ensures; heads = c.heads.ensures.long } in
-    let bounded = bounded_of (g.M.Mem.view c.args.mem.now) (g.met.M.Mem.bounded c.args.mem.now) (g.met.M.Mem.small c.args.mem.now) in
+    let sizes : Sizes c.args.layouts.now = record { rules = c.rules.ensures.table; heads = c.rules.ensures.long } in
+    let bounded = g.met.M.Mem.bounded c.args.mem.now in
     let placed = c.in-Ok.ensures.placed v (subst₂ (λ (t : Ty) (b : List ℕ). Packed c.args.layouts.now.table t v b) (sym c.ty.ensures) (sym c.payload.ensures.bytes) p) in
-    let small = subst (λ (q : Placement). q.memory.drawn ≤ q.memory.limit) placed (g.met.M.Mem.small c.place_value.new.mem).0 in
+    let small = subst (λ (q : Placement). q.memory.drawn ≤ q.memory.limit) placed (g.met.M.Mem.bounded c.place_value.new.mem).order in
     subst (λ (q : Placement). Holding c.args.layouts.now c.args.survey.ty v q) (sym placed) (placement_holds c.args.layouts.now sizes (g.M.Mem.view c.args.mem.now) c.args.survey.ty v bounded c.requires.undrawn p.0 small)
 
 pub returns-in-Err-clause-spent : goal.returns-in-Err-clause-spent
 returns-in-Err-clause-spent g c = λ full v p.
-    let sizes : Sizes c.args.layouts.now = record { rules = subst (λ (t : Table). IsTable t) c.types.ensures c.rules.ensures; heads = c.heads.ensures.long } in
+    let sizes : Sizes c.args.layouts.now = record { rules = c.rules.ensures.table; heads = c.rules.ensures.long } in
     refused_spent c.args.layouts.now sizes (g.M.Mem.view c.args.mem.now) v (g.M.Mem.view c.place_value.new.mem) c.requires.undrawn (c.in-Err.ensures.full v (subst₂ (λ (t : Ty) (b : List ℕ). Packed c.args.layouts.now.table t v b) (sym c.ty.ensures) (sym c.payload.ensures.bytes) p))

@@ -5,7 +5,7 @@ use Rattle.gib_mem.proofs.Puts.{puts_alone}
 use Rattle.gib_region.specs.Region.{Behind, rest}
 use Rattle.gib_region.proofs.Placing.{leaves}
 use Rattle.gib_load.proofs.Going.{Going}
-use Rattle.gib_load.proofs.Steps.{first_going, last_going, known, fits, slice_long, goes_on, stuck, full_same, full_all, behind_item, bounded_of, alone_kept}
+use Rattle.gib_load.proofs.Steps.{first_going, last_going, known, fits, slice_long, goes_on, stuck, full_same, full_all, behind_item, alone_kept}
 use Rattle.gib_load.proofs.loading.place_heads.Goals as goal
 
 pub heads-init : goal.heads-init
@@ -13,12 +13,9 @@ heads-init g c = record {
   within = omega arith;
   alone = c.requires.alone;
   behind = c.requires.owned;
-  nine = c.requires.redirect;
+  nine = c.args.cursor.now.roomy;
   going = λ t v p. first_going c.args.layouts.now (record { memory = g.M.Mem.view c.args.mem.now; at = c.args.cursor.now.at }) t v c.args.payload.now p;
 }
-
-pub layout-head-requires : goal.layout-head-requires
-layout-head-requires g c = known _ c.requires.plain _ c.heads.at c.heads-test.true _ _ _ (c.heads.invariant.going _ _ c.requires.packed.2)
 
 pub returns-in-Err-clause-full : goal.returns-in-Err-clause-full
 returns-in-Err-clause-full g c = λ t v p.
@@ -29,12 +26,12 @@ slice_bounds-fill-end g c =
     let w = fits _ c.requires.plain _ c.heads.at c.heads-test.true _ _ _ (c.heads.invariant.going _ _ c.requires.packed.2) c.layout-head.result.head (ap (λ l. l.head) c.layout-head.ensures) in
     omega arith
 
-pub fill-requires-clause-owned : goal.fill-requires-clause-owned
-fill-requires-clause-owned g c =
+pub fill-requires : goal.fill-requires
+fill-requires g c =
     let going = c.heads.invariant.going _ _ c.requires.packed.2 in
     let n = slice_long _ c.requires.plain _ c.heads.at c.heads-test.true _ _ _ going c.layout-head.result.head (ap (λ l. l.head) c.layout-head.ensures) in
-    let small : c.layout-head.result.head ≤ 65 = subst (λ (k : ℕ). k ≤ 65) (sym (ap (λ l. l.head) c.layout-head.ensures)) (c.heads-2.ensures.long _) in
-    let left = leaves _ _ _ _ _ (bounded_of (g.M.Mem.view c.heads.mem) (g.met.M.Mem.bounded c.heads.mem) (g.met.M.Mem.small c.heads.mem)) c.heads.invariant.behind c.heads.invariant.nine small c.in-Ok.ensures.placed in
+    let small : c.layout-head.result.head ≤ 65 = subst (λ (k : ℕ). k ≤ 65) (sym (ap (λ l. l.head) c.layout-head.ensures)) (c.rules.ensures.long _) in
+    let left = leaves _ _ _ _ _ (g.met.M.Mem.bounded c.heads.mem) c.heads.invariant.behind c.heads.invariant.nine small c.in-Ok.ensures.placed in
     subst (λ (i : ℕ). Owned (g.M.Mem.view c.reserve.new.mem).cells c.in-Ok.place i) (sym n) left.owned
 
 pub heads-preserved : goal.heads-preserved
@@ -43,8 +40,8 @@ heads-preserved g c =
     let size = ap (λ l. l.head) c.layout-head.ensures in
     let n = slice_long _ c.requires.plain _ c.heads.at c.heads-test.true _ _ _ going c.layout-head.result.head size in
     let w = fits _ c.requires.plain _ c.heads.at c.heads-test.true _ _ _ going c.layout-head.result.head size in
-    let small : c.layout-head.result.head ≤ 65 = subst (λ (k : ℕ). k ≤ 65) (sym size) (c.heads-2.ensures.long _) in
-    let left = leaves _ _ _ _ _ (bounded_of (g.M.Mem.view c.heads.mem) (g.met.M.Mem.bounded c.heads.mem) (g.met.M.Mem.small c.heads.mem)) c.heads.invariant.behind c.heads.invariant.nine small c.in-Ok.ensures.placed in
+    let small : c.layout-head.result.head ≤ 65 = subst (λ (k : ℕ). k ≤ 65) (sym size) (c.rules.ensures.long _) in
+    let left = leaves _ _ _ _ _ (g.met.M.Mem.bounded c.heads.mem) c.heads.invariant.behind c.heads.invariant.nine small c.in-Ok.ensures.placed in
     let bytes = take (c.heads.at + c.layout-head.result.head - c.heads.at) (drop c.heads.at c.args.payload.now) in
     let behind = behind_item _ _ _ _ _ bytes left n in
     let alone = alone_kept _ _ _ _ _ c.in-Ok.ensures.placed ∙ c.heads.invariant.alone in

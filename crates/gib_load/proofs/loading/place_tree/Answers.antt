@@ -1,21 +1,14 @@
 use Rattle.std.proofs.Common.{ℕ, List, sym, ap, subst, ◌∙◌}
-use Rattle.gib_region.specs.Region.{AreOwned, no_tails}
 use Rattle.gib_load.specs.Preorder.{heads}
 use Rattle.gib_load.specs.Placement.{Open, place_heads}
 use Rattle.gib_load.proofs.Ends.{begun_by, tree_placement, finished_placement, refused_start, refused_head}
 use Rattle.gib_load.proofs.loading.place_tree.Goals as goal
-
-pub begin-requires : goal.begin-requires
-begin-requires g c = subst (λ (l : List ℕ). AreOwned (g.M.Mem.view c.args.mem.now).cells l) (sym c.requires.tails) no_tails
 
 pub place_heads-requires-clause-alone : goal.place_heads-requires-clause-alone
 place_heads-requires-clause-alone g c = (begun_by _ _ _ _ _ c.requires.tails c.requires.alone c.in-Ok.ensures.begins).alone
 
 pub place_heads-requires-clause-owned : goal.place_heads-requires-clause-owned
 place_heads-requires-clause-owned g c = (begun_by _ _ _ _ _ c.requires.tails c.requires.alone c.in-Ok.ensures.begins).behind
-
-pub place_heads-requires-clause-redirect : goal.place_heads-requires-clause-redirect
-place_heads-requires-clause-redirect g c = (begun_by _ _ _ _ _ c.requires.tails c.requires.alone c.in-Ok.ensures.begins).nine
 
 pub returns-in-Err-clause-full : goal.returns-in-Err-clause-full
 returns-in-Err-clause-full g c = λ t v p. refused_start c.args.layouts.now (g.M.Mem.view c.args.mem.now) t v (g.M.Mem.view c.begin.new.mem) p.0 c.requires.alone c.in-Err.ensures.full

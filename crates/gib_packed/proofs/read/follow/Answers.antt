@@ -11,13 +11,13 @@ use Rattle.gib_packed.proofs.read.follow.Goals as goal
 
 pub get-tag-requires : goal.get-tag-requires
 get-tag-requires g c =
-    Reaches-known (Dec-reaches (known_below (g.M.Mem.view c.args.mem.now) (g.met.M.Mem.bounded c.args.mem.now) (g.met.M.Mem.small c.args.mem.now)) c.requires.1.3)
+    Reaches-known (Dec-reaches (known_below (g.M.Mem.view c.args.mem.now) (g.met.M.Mem.bounded c.args.mem.now)) c.requires.1.3)
 
 pub hops-init : goal.hops-init
 hops-init g c = record {
   same = c.get-tag.ensures.same;
   tagged = c.get-tag.ensures.value;
-  reaches = Dec-reaches (known_below (g.M.Mem.view c.args.mem.now) (g.met.M.Mem.bounded c.args.mem.now) (g.met.M.Mem.small c.args.mem.now)) c.requires.1.3;
+  reaches = Dec-reaches (known_below (g.M.Mem.view c.args.mem.now) (g.met.M.Mem.bounded c.args.mem.now)) c.requires.1.3;
   leads = λ h l. l;
   stands = λ laid t v z d. (z, d);
 }

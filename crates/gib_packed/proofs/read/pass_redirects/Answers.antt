@@ -2,7 +2,7 @@ use Rattle.std.proofs.Common.{◌≡◌, ◌+◌, ◌<◌, ◌^◌, ℕ, ap, sym
 use Rattle.gib_mem.specs.Memory.{Memory, Store, Holds}
 use Rattle.gib_packed.specs.Head.{address}
 use Rattle.gib_packed.specs.Decoding.{Dec, Points}
-use Rattle.gib_packed.specs.Reaching.{Redirects, stay, pass}
+use Rattle.gib_packed.specs.Reaching.{Turns, there, turn}
 use Rattle.gib_packed.proofs.Steps.{hops}
 use Rattle.gib_packed.proofs.HoldsLemmas.{Holds-rest, same_byte}
 use Rattle.gib_packed.proofs.WalkLemmas.{known_below}
@@ -14,13 +14,13 @@ points {s = s} {a = a} {b = b} e p = subst (λ (x : ℕ). Points s a x b) e p
 
 pub get-tag-requires : goal.get-tag-requires
 get-tag-requires g c =
-    Reaches-known (Dec-reaches (known_below (g.M.Mem.view c.args.mem.now) (g.met.M.Mem.bounded c.args.mem.now) (g.met.M.Mem.small c.args.mem.now)) c.requires.1.3)
+    Reaches-known (Dec-reaches (known_below (g.M.Mem.view c.args.mem.now) (g.met.M.Mem.bounded c.args.mem.now)) c.requires.1.3)
 
 pub redirects-init : goal.redirects-init
 redirects-init g c = record {
   same = c.get-tag.ensures.same;
   tagged = c.get-tag.ensures.value;
-  reaches = Dec-reaches (known_below (g.M.Mem.view c.args.mem.now) (g.met.M.Mem.bounded c.args.mem.now) (g.met.M.Mem.small c.args.mem.now)) c.requires.1.3;
+  reaches = Dec-reaches (known_below (g.M.Mem.view c.args.mem.now) (g.met.M.Mem.bounded c.args.mem.now)) c.requires.1.3;
   leads = λ h l. l;
   stands = λ laid t v z d. d;
 }
@@ -48,7 +48,7 @@ redirects-preserved g c =
       same = c.get-tag-in-redirects.ensures.same ∙ c.word_at-place.ensures.same ∙ c.redirects.invariant.same;
       tagged = sym (ap (λ (m : Memory). m.cells c.word_at-place.result) (c.word_at-place.ensures.same ∙ c.redirects.invariant.same)) ∙ c.get-tag-in-redirects.ensures.value;
       reaches = subst (λ (x : ℕ). ReachesWithin s (2 ^ 44) x) (sym is) r.reaches;
-      leads = λ h l. c.redirects.invariant.leads h (pass (points c.redirects-test.true r.points) (subst (λ (x : ℕ). Redirects s x h) is l));
+      leads = λ h l. c.redirects.invariant.leads h (turn (points c.redirects-test.true r.points) (subst (λ (x : ℕ). Turns s x h) is l));
       stands = λ laid t v z d. subst (λ (x : ℕ). Dec laid s x t v z) (sym is) (Dec-redirect (c.redirects.invariant.stands laid t v z d) (points c.redirects-test.true r.points));
     }
 
@@ -59,8 +59,11 @@ redirects-smaller g c =
     let s = (g.M.Mem.view c.args.mem.now).cells in
     subst (λ (x : ℕ). hops (2 ^ 44) s x < hops (2 ^ 44) s c.redirects.place) (sym is) r.fewer
 
-pub returns-clause-leads : goal.returns-clause-leads
-returns-clause-leads g c = c.redirects.invariant.leads _ (stay (λ e. c.redirects-test.false (same_byte (g.M.Mem.view c.args.mem.now).cells c.redirects.place _ _ c.redirects.invariant.tagged e)))
+pub returns-clause-turns : goal.returns-clause-turns
+returns-clause-turns g c = c.redirects.invariant.leads _ there
+
+pub returns-clause-past : goal.returns-clause-past
+returns-clause-past g c = λ e. c.redirects-test.false (same_byte (g.M.Mem.view c.args.mem.now).cells c.redirects.place _ _ c.redirects.invariant.tagged e)
 
 pub returns-clause-value : goal.returns-clause-value
 returns-clause-value g c = λ laid t v z d. c.redirects.invariant.stands laid t v z d

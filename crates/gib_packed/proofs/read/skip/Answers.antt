@@ -2,7 +2,8 @@ use Rattle.std.proofs.Common.{◌≡◌, ◌+◌, ◌-◌, ◌^◌, ℕ, ap, ref
 use Rattle.gib_mem.specs.Memory.{byte, Memory, Holds}
 use Rattle.gib_packed.specs.Head.{address}
 use Rattle.gib_types.specs.declared.layouts.Layout.{Layout}
-use Rattle.gib_packed.proofs.Spans.{Goes, size_of, count_of}
+use Rattle.gib_types.specs.Layout.{head_size, packed_at}
+use Rattle.gib_packed.proofs.Spans.{Goes}
 use Rattle.gib_packed.proofs.Steps.{steps, most}
 use Rattle.gib_packed.proofs.HoldsLemmas.{Holds-rest}
 use Rattle.gib_packed.proofs.WalkLemmas.{Dec-goes, known_below, stands, turned, passed, entered, ended}
@@ -11,7 +12,7 @@ use Rattle.gib_packed.proofs.read.skip.Goals as goal
 pub walk-init : goal.walk-init
 walk-init g c = record {
   same = refl;
-  goes = λ t v z d. Dec-goes c.heads.ensures.packed (known_below (g.M.Mem.view c.args.mem.now) (g.met.M.Mem.bounded c.args.mem.now) (g.met.M.Mem.small c.args.mem.now)) d;
+  goes = λ t v z d. Dec-goes c.rules.ensures.packed (known_below (g.M.Mem.view c.args.mem.now) (g.met.M.Mem.bounded c.args.mem.now)) d;
 }
 
 pub get-tag-requires : goal.get-tag-requires
@@ -64,20 +65,14 @@ walk-preserved-then-tag-2 g c = record {
       (passed _ _ _ _ _ _ w c.walk-test.true tag).goes;
 }
 
-pub layout-layout-requires : goal.layout-layout-requires
-layout-layout-requires g c =
-    let w = c.walk.invariant.goes _ _ _ c.requires.3 in
-    let tag = sym (ap (λ (m : Memory). m.cells c.walk.place) c.walk.invariant.same) ∙ c.get-tag.ensures.value in
-    (entered _ _ _ _ _ _ w c.walk-test.true _ tag c.if-tag.false c.if-tag-2.false).0
-
 pub walk-smaller : goal.walk-smaller
 walk-smaller g c =
     let w = c.walk.invariant.goes _ _ _ c.requires.3 in
     let tag = sym (ap (λ (m : Memory). m.cells c.walk.place) c.walk.invariant.same) ∙ c.get-tag.ensures.value in
     let r = entered _ _ _ _ _ _ w c.walk-test.true _ tag c.if-tag.false c.if-tag-2.false in
     let s = (g.M.Mem.view c.args.mem.now).cells in
-    let x : c.walk.place + size_of c.args.layouts.now c.get-tag.result ≡ c.walk.place + c.layout-layout.result.head = ap (λ (l : Layout). c.walk.place + l.head) (sym c.layout-layout.ensures) in
-    let y : count_of c.args.layouts.now c.get-tag.result + (c.walk.due - 1) ≡ c.walk.due - 1 + c.layout-layout.result.packed = omega (arith, ap (λ (l : Layout). l.packed) c.layout-layout.ensures) in
+    let x : c.walk.place + head_size c.args.layouts.now c.get-tag.result ≡ c.walk.place + c.layout-layout.result.head = ap (λ (l : Layout). c.walk.place + l.head) (sym c.layout-layout.ensures) in
+    let y : packed_at c.args.layouts.now c.get-tag.result + (c.walk.due - 1) ≡ c.walk.due - 1 + c.layout-layout.result.packed = omega (arith, ap (λ (l : Layout). l.packed) c.layout-layout.ensures) in
     subst₂ (λ (x y : ℕ). steps (most (2 ^ 44)) c.args.layouts.now s x y < steps (most (2 ^ 44)) c.args.layouts.now s c.walk.place c.walk.due) x y r.1.fewer
 
 pub walk-preserved : goal.walk-preserved
@@ -88,8 +83,8 @@ walk-preserved g c = record {
       let tag = sym (ap (λ (m : Memory). m.cells c.walk.place) c.walk.invariant.same) ∙ c.get-tag.ensures.value in
       let r = entered _ _ _ _ _ _ w c.walk-test.true _ tag c.if-tag.false c.if-tag-2.false in
       let s = (g.M.Mem.view c.args.mem.now).cells in
-      let x : c.walk.place + size_of c.args.layouts.now c.get-tag.result ≡ c.walk.place + c.layout-layout.result.head = ap (λ (l : Layout). c.walk.place + l.head) (sym c.layout-layout.ensures) in
-      let y : count_of c.args.layouts.now c.get-tag.result + (c.walk.due - 1) ≡ c.walk.due - 1 + c.layout-layout.result.packed = omega (arith, ap (λ (l : Layout). l.packed) c.layout-layout.ensures) in
+      let x : c.walk.place + head_size c.args.layouts.now c.get-tag.result ≡ c.walk.place + c.layout-layout.result.head = ap (λ (l : Layout). c.walk.place + l.head) (sym c.layout-layout.ensures) in
+      let y : packed_at c.args.layouts.now c.get-tag.result + (c.walk.due - 1) ≡ c.walk.due - 1 + c.layout-layout.result.packed = omega (arith, ap (λ (l : Layout). l.packed) c.layout-layout.ensures) in
       subst₂ (λ (x y : ℕ). Goes c.args.layouts.now s (2 ^ 44) x y z) x y r.1.goes;
 }
 

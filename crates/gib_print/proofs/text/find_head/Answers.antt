@@ -18,7 +18,7 @@ pub overflow_add-place : goal.overflow_add-place
 overflow_add-place g c =
     let d = c.pass_redirects-place.ensures.value _ _ _ _ c.requires.3 in
     let known = Dec-known d in
-    let below = (known_below (g.M.Mem.view c.args.mem.now) (g.met.M.Mem.bounded c.args.mem.now) (g.met.M.Mem.small c.args.mem.now)).below c.pass_redirects-place.result known.0 known.1 in
+    let below = (known_below (g.M.Mem.view c.args.mem.now) (g.met.M.Mem.bounded c.args.mem.now)).below c.pass_redirects-place.result known.0 known.1 in
     omega (arith, below)
 
 pub returns-clause-found : goal.returns-clause-found
@@ -28,4 +28,4 @@ returns-clause-found g c = λ t v z d.
     let there = c.follow-head.ensures.value c.args.layouts.now t v z (subst (λ (m : Memory). Dec c.args.layouts.now m.cells c.pass_redirects-place.result t v z) (sym c.pass_redirects-place.ensures.same) place) in
     let head = subst (λ (m : Memory). Dec c.args.layouts.now m.cells c.follow-head.result t v there.0) c.pass_redirects-place.ensures.same there.1 in
     found_there c.args.layouts.now (g.M.Mem.view c.args.mem.now).cells t v z there.0 c.args.at c.pass_redirects-place.result c.follow-head.result (reverse c.args.work.now.items) (reverse c.push.new.self.items)
-    c.pass_redirects-place.ensures.leads place leads c.if-head-place.false head (pushed c.args.work.now.items c.push.new.self.items (w.From (c.pass_redirects-place.result + 9)) c.in_ok-push.ensures.items)
+    c.pass_redirects-place.ensures.past place leads c.if-head-place.false head (pushed c.args.work.now.items c.push.new.self.items (w.From (c.pass_redirects-place.result + 9)) c.in_ok-push.ensures.items)

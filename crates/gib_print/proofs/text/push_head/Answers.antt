@@ -9,14 +9,6 @@ use Rattle.gib_print.specs.Working.{front, with_fields}
 use Rattle.gib_print.proofs.TextLemmas.{head_within, opens}
 use Rattle.gib_print.proofs.text.push_head.Goals as goal
 
-pub layout-requires : goal.layout-requires
-layout-requires g c =
-    let found = c.in_ok-head.ensures.found _ _ _ c.requires.value.3 in
-    let tag = sym (ap (λ (m : Memory). m.cells c.in_ok-head.head) c.in_ok-head.ensures.same) ∙ c.tag_at.ensures.value in
-    let same = same_byte (g.M.Mem.view c.args.mem.now).cells c.in_ok-head.head _ _ found.is tag in
-    let con = head_within c.tag_at.result found.value tag (omega (arith, found.small, same)) in
-    con_within c.args.layouts.now.table con.0 c.tag_at.result con.1
-
 pub push_con-requires-clause-con : goal.push_con-requires-clause-con
 push_con-requires-clause-con g c =
     let found = c.in_ok-head.ensures.found _ _ _ c.requires.value.3 in

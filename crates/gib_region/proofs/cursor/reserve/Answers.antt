@@ -12,9 +12,9 @@ returns-clause-placed g c = elim c.if-not-room.branch [
       let mem = ap (λ x. g.M.Mem.view x) w.mem-is ∙ w.put_pointer.ensures ∙ ap (λ (m : Memory). after_puts m c.args.cursor.now.at (pointer 255 (4096 * w.in-Some.chunk))) drew.some in
       let at = ap (λ x. x.at) w.cursor-is ∙ w.turn.ensures in
       subst₂ (λ (m : Memory) (a : ℕ). Placed (g.M.Mem.view c.args.mem.now) c.args.cursor.now.at c.args.k m a) (sym mem) (sym at)
-      (turned (λ h. let no_room = w.if-not-room.ensures.1 h in cc) draws))
+      (turned (λ h. let no_room = w.if-not-room.ensures.means.1 h in cc) draws))
   | else-not-room w ↦
-      (let room : HasRoom c.args.cursor.now.at c.args.k = w.if-not-room.ensures.0 refl in
+      (let room : HasRoom c.args.cursor.now.at c.args.k = w.if-not-room.ensures.means.0 refl in
       let mem = ap (λ x. g.M.Mem.view x) w.mem-is in
       let at = ap (λ x. x.at) w.cursor-is in
       subst₂ (λ (m : Memory) (a : ℕ). Placed (g.M.Mem.view c.args.mem.now) c.args.cursor.now.at c.args.k m a) (sym mem) (sym at) (here room))

@@ -1,19 +1,12 @@
 use Rattle.std.proofs.Common.{◌*◌, [], List, ℕ, sym, subst}
 use Rattle.gib_mem.specs.Memory.{Memory, after_draw}
 use Rattle.gib_region.specs.Region.{Begins, at_tail, at_chunk, Draws}
-use Rattle.gib_region.specs.Leaving.{IsBounded}
-use Rattle.gib_region.proofs.Keeping.{latest_small}
 use Rattle.gib_region.proofs.tails.begin.Goals as goal
-
-pub at_place-requires : goal.at_place-requires
-at_place-requires g c =
-    let bounded : IsBounded (g.M.Mem.view c.args.mem.now) = record { above = g.met.M.Mem.bounded c.args.mem.now; order = (g.met.M.Mem.small c.args.mem.now).0; small = (g.met.M.Mem.small c.args.mem.now).1 } in
-    latest_small _ _ _ _ bounded c.requires c.in-Some.ensures.some
 
 pub returns-in-Some-clause-begins : goal.returns-in-Some-clause-begins
 returns-in-Some-clause-begins g c =
     let m = g.M.Mem.view c.args.mem.now in
-    subst (λ (a : ℕ). Begins m c.args.tails.now m c.pop.new.self a) (sym c.at_place.ensures) (at_tail c.in-Some.ensures.some)
+    subst (λ (a : ℕ). Begins m c.args.tails.now m c.take.new.self a) (sym c.at_place.ensures) (at_tail c.in-Some.ensures.some)
 
 pub returns-in-Some-draw-clause-begins : goal.returns-in-Some-draw-clause-begins
 returns-in-Some-draw-clause-begins g c =
@@ -23,4 +16,4 @@ returns-in-Some-draw-clause-begins g c =
     let b : Begins m c.args.tails.now (after_draw m c.in-Some-draw.chunk) [] (4096 * c.in-Some-draw.chunk) = at_chunk c.in-None.ensures.none.0 draws in
     let b1 = subst (λ (x : Memory). Begins m c.args.tails.now x [] (4096 * c.in-Some-draw.chunk)) (sym drew.some) b in
     let b2 = subst (λ (x : List ℕ). Begins m c.args.tails.now (g.M.Mem.view c.draw.new.self) x (4096 * c.in-Some-draw.chunk)) (sym c.in-None.ensures.none.1) b1 in
-    subst (λ (a : ℕ). Begins m c.args.tails.now (g.M.Mem.view c.draw.new.self) c.pop.new.self a) (sym c.at_place-in-Some-draw.ensures) b2
+    subst (λ (a : ℕ). Begins m c.args.tails.now (g.M.Mem.view c.draw.new.self) c.take.new.self a) (sym c.at_place-in-Some-draw.ensures) b2

@@ -7,23 +7,20 @@ use Rattle.gib_region.proofs.Placing.{leaves}
 use Rattle.gib_region.proofs.Keeping.{begins_owned}
 use Rattle.gib_region.proofs.tests.place_two.Goals as goal
 
-pub begin-requires : goal.begin-requires
-begin-requires g c = subst (λ (l : List ℕ). AreOwned (g.M.Mem.view c.args.mem.now).cells l) (sym c.new-tails.ensures) no_tails
-
-pub fill-requires-clause-owned : goal.fill-requires-clause-owned
-fill-requires-clause-owned g c =
-    let first : IsBounded (g.M.Mem.view c.args.mem.now) = record { above = g.met.M.Mem.bounded c.args.mem.now; order = (g.met.M.Mem.small c.args.mem.now).0; small = (g.met.M.Mem.small c.args.mem.now).1 } in
-    let second : IsBounded (g.M.Mem.view c.begin.new.mem) = record { above = g.met.M.Mem.bounded c.begin.new.mem; order = (g.met.M.Mem.small c.begin.new.mem).0; small = (g.met.M.Mem.small c.begin.new.mem).1 } in
+pub fill-requires : goal.fill-requires
+fill-requires g c =
+    let first : IsBounded (g.M.Mem.view c.args.mem.now) = g.met.M.Mem.bounded c.args.mem.now in
+    let second : IsBounded (g.M.Mem.view c.begin.new.mem) = g.met.M.Mem.bounded c.begin.new.mem in
     let owned = subst (λ (l : List ℕ). AreOwned (g.M.Mem.view c.args.mem.now).cells l) (sym c.new-tails.ensures) no_tails in
     let begun = begins_owned _ _ _ _ _ first owned c.in-Ok.ensures.begins in
     let long = begun.long in
     let left = leaves _ _ _ _ _ second begun.behind (omega (arith, long)) (omega arith) c.in-Ok-reserve.ensures.placed in
     subst (λ (n : ℕ). Owned (g.M.Mem.view c.reserve.new.mem).cells c.in-Ok-reserve.at n) (sym c.requires) left.owned
 
-pub point-requires-clause-owned : goal.point-requires-clause-owned
-point-requires-clause-owned g c =
-    let first : IsBounded (g.M.Mem.view c.args.mem.now) = record { above = g.met.M.Mem.bounded c.args.mem.now; order = (g.met.M.Mem.small c.args.mem.now).0; small = (g.met.M.Mem.small c.args.mem.now).1 } in
-    let second : IsBounded (g.M.Mem.view c.begin.new.mem) = record { above = g.met.M.Mem.bounded c.begin.new.mem; order = (g.met.M.Mem.small c.begin.new.mem).0; small = (g.met.M.Mem.small c.begin.new.mem).1 } in
+pub point-requires : goal.point-requires
+point-requires g c =
+    let first : IsBounded (g.M.Mem.view c.args.mem.now) = g.met.M.Mem.bounded c.args.mem.now in
+    let second : IsBounded (g.M.Mem.view c.begin.new.mem) = g.met.M.Mem.bounded c.begin.new.mem in
     let owned = subst (λ (l : List ℕ). AreOwned (g.M.Mem.view c.args.mem.now).cells l) (sym c.new-tails.ensures) no_tails in
     let begun = begins_owned _ _ _ _ _ first owned c.in-Ok.ensures.begins in
     let long = begun.long in

@@ -1,0 +1,37 @@
+//! What a run answers, and where the right side of a `par` begins.
+
+use crate::instruction::Kind;
+use gib_types::Ty;
+use std::alloc::Global;
+
+/// What a run ends with.
+#[derive(Clone, Copy, Debug, PartialEq, Eq)]
+pub enum Answer {
+    /// A number.
+    Whole(i64),
+    /// A truth value.
+    Truth(bool),
+    /// The address at which a packed value begins.
+    At(u64),
+    /// A call had no depth left.
+    Deep,
+}
+
+/// A right side that waits for a machine.
+#[derive(Debug, Drop)]
+pub struct Side {
+    /// The label of its first instruction.
+    pub start: u32,
+    /// The slots of the frame that it begins with.
+    pub words: Vec<u64>,
+    /// How many calls it may still nest.
+    pub depth: u32,
+    /// How many forks it may still nest.
+    pub level: u32,
+    /// Where its value is put.
+    pub kind: Kind,
+    /// The slot that its value sets.
+    pub variable: u32,
+    /// The type of its value.
+    pub result: Ty,
+}

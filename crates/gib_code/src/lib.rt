@@ -1,0 +1,12 @@
+//! The instructions of the machine, the code of a program, and its listing.
+#![tactic(auto)]
+
+mod answer;
+mod code;
+mod instruction;
+mod text;
+
+pub use answer::{Answer, Side};
+pub use code::Code;
+pub use instruction::{Arm, Entry, Instr, Kind, Operand, Operation};
+pub use text::listing;

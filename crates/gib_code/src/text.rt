@@ -1,0 +1,409 @@
+//! Code as text.
+
+ghost use Rattle.std.specs.Prelude.{◌≡◌, ◌++◌, [], ◌∷◌, ◌==◌, ◌<◌, ◌≤◌, length, drop, slice_get, unwrap_or, codes, true, false, Some, None, IsTrue, ◌↔◌, IfOk, OnOk};
+ghost use Rattle.std.specs.List.{flat_map};
+ghost use Rattle.std.specs.Fmt.{decimal, signed_decimal};
+ghost use Rattle.std.specs.Int.{w64, cast_signed};
+ghost use Rattle.gib_types.specs.Table.{name_at};
+ghost use Rattle.gib_code.specs.Instruction.{instruction_of};
+ghost use Rattle.gib_code.specs.ListingText.{name_text, number_text, slot_text, operand_text, operation_text, kind_text, constructor_text, called, function_text, label_text, instruction_text, line_text, title, head_text, head_at, later_than, lines_text, listing_text};
+
+use crate::code::Code;
+use crate::instruction::{Arm, Entry, Instr, Kind, Operand, Operation};
+use gib_base::{Memory, Name, Names};
+use gib_types::{ConId, TypeTable};
+use std::alloc::Global;
+
+/// The text of a name; a number that no name has stands for no text.
+fn name_text(names: &Names, name: Name) -> &[u8]
+    ensures { result.now ≡ name_text names.now name.0 }
+{
+    if name.0 < names.len() {
+        names.text(name)
+    } else {
+        &[]
+    }
+}
+
+/// The name of a constructor; of a number that no constructor has, the first name.
+fn con_name(types: &TypeTable, con: u32) -> Name
+    ensures { result.0 ≡ name_at types.now con }
+{
+    if con < types.len() {
+        types.name_of(ConId(con))
+    } else {
+        Name(0)
+    }
+}
+
+/// The name of a function; of a number that no function has, main.
+fn called(functions: &[Entry], function: u32) -> Option<Name>
+    ensures { result ≡ called (slice_get functions.now function) }
+{
+    let place = function as usize;
+    if place < functions.len() {
+        functions[place].name
+    } else {
+        None
+    }
+}
+
+/// What a function is called.
+fn title(names: &Names, name: Option<Name>) -> &[u8]
+    ensures { result.now ≡ title names.now name }
+{
+    match name {
+        None => b"main",
+        Some(name) => name_text(names, name),
+    }
+}
+
+fn push_bytes(out: &mut Vec<u8>, bytes: &[u8]) -> Result<(), Memory>
+    ensures { OnOk result (out.new.items ≡ out.old.items ++ bytes.now) }
+{
+    out.extend_from_slice(bytes)?;
+    Ok(())
+}
+
+fn push_name(out: &mut Vec<u8>, bytes: &[u8]) -> Result<(), Memory>
+    ensures { OnOk result (out.new.items ≡ out.old.items ++ 32 ∷ bytes.now) }
+{
+    out.push(b' ')?;
+    out.extend_from_slice(bytes)?;
+    Ok(())
+}
+
+fn push_number(alloc: Global, out: &mut Vec<u8>, number: u32) -> Result<(), Memory>
+    ensures { OnOk result (out.new.items ≡ out.old.items ++ number_text number) }
+{
+    let digits = format!(in alloc; "{number}")?;
+    out.push(b' ')?;
+    out.extend_from_slice(digits.as_bytes())?;
+    Ok(())
+}
+
+fn push_slot(alloc: Global, out: &mut Vec<u8>, slot: u32) -> Result<(), Memory>
+    ensures { OnOk result (out.new.items ≡ out.old.items ++ slot_text slot) }
+{
+    let digits = format!(in alloc; "{slot}")?;
+    out.push(b' ')?;
+    out.push(b'%')?;
+    out.extend_from_slice(digits.as_bytes())?;
+    Ok(())
+}
+
+fn push_whole(alloc: Global, out: &mut Vec<u8>, value: i64) -> Result<(), Memory>
+    ensures { OnOk result (out.new.items ≡ out.old.items ++ 32 ∷ signed_decimal value) }
+{
+    let digits = format!(in alloc; "{value}")?;
+    out.push(b' ')?;
+    out.extend_from_slice(digits.as_bytes())?;
+    Ok(())
+}
+
+fn push_operand(alloc: Global, out: &mut Vec<u8>, operand: Operand) -> Result<(), Memory>
+    ensures { OnOk result (out.new.items ≡ out.old.items ++ operand_text operand) }
+{
+    match operand {
+        Operand::Slot(slot) => push_slot(alloc, out, slot),
+        Operand::Number(word) => push_whole(alloc, out, word.cast_signed()),
+    }
+}
+
+fn push_operands(alloc: Global, out: &mut Vec<u8>, operands: &[Operand]) -> Result<(), Memory>
+    ensures { OnOk result (out.new.items ≡ out.old.items ++ flat_map operand_text operands.now) }
+{
+    let mut rest = operands;
+    'operands: while let [operand, after @ ..] = rest {
+        push_operand(alloc, out, *operand)?;
+        rest = after;
+    }
+    Ok(())
+}
+
+fn push_slots(alloc: Global, out: &mut Vec<u8>, slots: &[u32]) -> Result<(), Memory>
+    ensures { OnOk result (out.new.items ≡ out.old.items ++ flat_map slot_text slots.now) }
+{
+    let mut rest = slots;
+    'slots: while let [slot, after @ ..] = rest {
+        push_slot(alloc, out, *slot)?;
+        rest = after;
+    }
+    Ok(())
+}
+
+fn push_labels(alloc: Global, out: &mut Vec<u8>, arms: &[Arm]) -> Result<(), Memory>
+    ensures { OnOk result (out.new.items ≡ out.old.items ++ flat_map label_text arms.now) }
+{
+    let mut rest = arms;
+    'arms: while let [arm, after @ ..] = rest {
+        push_number(alloc, out, arm.label)?;
+        rest = after;
+    }
+    Ok(())
+}
+
+fn operation_text(operation: Operation) -> &'static [u8]
+    ensures { result.now ≡ operation_text operation }
+{
+    match operation {
+        Operation::Add => b" add",
+        Operation::Sub => b" sub",
+        Operation::Mul => b" mul",
+        Operation::Eq => b" eq",
+        Operation::Lt => b" lt",
+    }
+}
+
+fn kind_text(kind: Kind) -> &'static [u8]
+    ensures { result.now ≡ kind_text kind }
+{
+    match kind {
+        Kind::Here => b" here",
+        Kind::Region => b" region",
+        Kind::Scalar => b" scalar",
+    }
+}
+
+fn push_constructor(
+    out: &mut Vec<u8>,
+    names: &Names,
+    types: &TypeTable,
+    con: u32,
+) -> Result<(), Memory>
+    ensures { OnOk result (out.new.items ≡ out.old.items ++ constructor_text names.now types.now con) }
+{
+    push_name(out, name_text(names, con_name(types, con)))
+}
+
+fn push_function(
+    out: &mut Vec<u8>,
+    names: &Names,
+    functions: &[Entry],
+    function: u32,
+) -> Result<(), Memory>
+    ensures { OnOk result (out.new.items ≡ out.old.items ++ function_text names.now functions.now function) }
+{
+    push_name(out, title(names, called(functions, function)))
+}
+
+/// A word, a slot that is set, a slot that is read, and a number.
+fn push_read(
+    alloc: Global,
+    out: &mut Vec<u8>,
+    word: &[u8],
+    to: u32,
+    from: u32,
+    place: u8,
+) -> Result<(), Memory>
+    ensures { OnOk result (out.new.items ≡ out.old.items ++ (word.now ++ (slot_text to ++ (slot_text from ++ number_text place)))) }
+{
+    push_bytes(out, word)?;
+    push_slot(alloc, out, to)?;
+    push_slot(alloc, out, from)?;
+    push_number(alloc, out, u32::from(place))
+}
+
+/// A word, and a slot.
+fn push_one(alloc: Global, out: &mut Vec<u8>, word: &[u8], slot: u32) -> Result<(), Memory>
+    ensures { OnOk result (out.new.items ≡ out.old.items ++ (word.now ++ slot_text slot)) }
+{
+    push_bytes(out, word)?;
+    push_slot(alloc, out, slot)
+}
+
+/// Writes an instruction.
+fn push_instruction(
+    alloc: Global,
+    out: &mut Vec<u8>,
+    names: &Names,
+    code: &Code,
+    instr: &Instr,
+) -> Result<(), Memory>
+    ensures { OnOk result (out.new.items ≡ out.old.items ++ instruction_text names.now code.now (instruction_of instr.now)) }
+{
+    match instr {
+        Instr::Move { to, from } => {
+            push_one(alloc, out, b" move", *to)?;
+            push_operand(alloc, out, *from)
+        }
+        Instr::Operate {
+            to,
+            operation,
+            left,
+            right,
+        } => {
+            push_one(alloc, out, operation_text(*operation), *to)?;
+            push_operand(alloc, out, *left)?;
+            push_operand(alloc, out, *right)
+        }
+        Instr::Jump(label) => {
+            push_bytes(out, b" jump")?;
+            push_number(alloc, out, *label)
+        }
+        Instr::Unless { test, label } => {
+            push_bytes(out, b" unless")?;
+            push_operand(alloc, out, *test)?;
+            push_number(alloc, out, *label)
+        }
+        Instr::Switch { tree, arms } => {
+            push_one(alloc, out, b" switch", *tree)?;
+            push_labels(alloc, out, arms)
+        }
+        Instr::Whole { to, tree, place } => push_read(alloc, out, b" whole", *to, *tree, *place),
+        Instr::Truth { to, tree, place } => push_read(alloc, out, b" truth", *to, *tree, *place),
+        Instr::First { to, tree, place } => push_read(alloc, out, b" first", *to, *tree, *place),
+        Instr::Offset { to, tree, place } => push_read(alloc, out, b" offset", *to, *tree, *place),
+        Instr::Skip { to, from } => {
+            push_one(alloc, out, b" skip", *to)?;
+            push_slot(alloc, out, *from)
+        }
+        Instr::Begin(slot) => push_one(alloc, out, b" begin", *slot),
+        Instr::Done => push_bytes(out, b" done"),
+        Instr::Here(slot) => push_one(alloc, out, b" here", *slot),
+        Instr::Past { head, constructor } => {
+            push_one(alloc, out, b" past", *head)?;
+            push_constructor(out, names, code.layouts().types(), *constructor)
+        }
+        Instr::Fill {
+            head,
+            constructor,
+            scalars,
+            packed,
+        } => {
+            push_one(alloc, out, b" fill", *head)?;
+            push_constructor(out, names, code.layouts().types(), *constructor)?;
+            push_operands(alloc, out, scalars)?;
+            push_slots(alloc, out, packed)
+        }
+        Instr::Point(slot) => push_one(alloc, out, b" point", *slot),
+        Instr::Call {
+            function,
+            arguments,
+        } => {
+            push_bytes(out, b" call")?;
+            push_function(out, names, code.functions(), *function)?;
+            push_operands(alloc, out, arguments)
+        }
+        Instr::CallScalar {
+            to,
+            function,
+            arguments,
+        } => {
+            push_one(alloc, out, b" callv", *to)?;
+            push_function(out, names, code.functions(), *function)?;
+            push_operands(alloc, out, arguments)
+        }
+        Instr::Return => push_bytes(out, b" ret"),
+        Instr::Give(operand) => {
+            push_bytes(out, b" give")?;
+            push_operand(alloc, out, *operand)
+        }
+        Instr::Fork {
+            right,
+            joint,
+            kind,
+            variable,
+            ..
+        } => {
+            push_bytes(out, b" fork")?;
+            push_number(alloc, out, *right)?;
+            push_number(alloc, out, *joint)?;
+            push_one(alloc, out, kind_text(*kind), *variable)
+        }
+        Instr::Join => push_bytes(out, b" join"),
+        Instr::Back => push_bytes(out, b" back"),
+    }
+}
+
+/// Writes the line of an instruction.
+fn push_line(
+    alloc: Global,
+    out: &mut Vec<u8>,
+    names: &Names,
+    code: &Code,
+    number: usize,
+    instr: &Instr,
+) -> Result<(), Memory>
+    ensures { OnOk result (out.new.items ≡ out.old.items ++ line_text names.now code.now number (instruction_of instr.now)) }
+{
+    let digits = format!(in alloc; "{number}")?;
+    out.extend_from_slice(digits.as_bytes())?;
+    push_instruction(alloc, out, names, code, instr)?;
+    out.push(b'\n')?;
+    Ok(())
+}
+
+/// Writes the line of a function.
+fn push_head(
+    alloc: Global,
+    out: &mut Vec<u8>,
+    names: &Names,
+    function: &Entry,
+) -> Result<(), Memory>
+    ensures { OnOk result (out.new.items ≡ out.old.items ++ head_text names.now function.now) }
+{
+    push_bytes(out, title(names, function.name))?;
+    push_number(alloc, out, function.slots)?;
+    out.push(b'\n')?;
+    Ok(())
+}
+
+/// Writes the line of the next function, where it begins at an instruction.
+fn push_head_at(
+    alloc: Global,
+    out: &mut Vec<u8>,
+    names: &Names,
+    functions: &[Entry],
+    number: usize,
+) -> Result<(), Memory>
+    ensures { OnOk result (out.new.items ≡ out.old.items ++ head_at names.now number functions.now) }
+{
+    match functions {
+        [] => Ok(()),
+        [function, ..] => {
+            if function.start as usize == number {
+                push_head(alloc, out, names, function)
+            } else {
+                Ok(())
+            }
+        }
+    }
+}
+
+/// The functions that begin later.
+fn later_than(functions: &[Entry], number: usize) -> &[Entry]
+    ensures { result.now ≡ later_than number functions.now }
+{
+    match functions {
+        [] => functions,
+        [function, further @ ..] => {
+            if function.start as usize == number {
+                further
+            } else {
+                functions
+            }
+        }
+    }
+}
+
+/// The listing of code, with the names of its program.
+///
+/// # Errors
+///
+/// Want of memory.
+pub fn listing(alloc: Global, code: &Code, names: &Names) -> Result<Vec<u8>, Memory>
+    ensures { IfOk result (λ out. out.items ≡ listing_text names.now code.now) }
+{
+    let mut out = Vec::new(alloc);
+    let instructions = code.instructions();
+    let mut functions = code.functions();
+    let mut number = 0;
+    'instructions: while number < instructions.len() {
+        push_head_at(alloc, &mut out, names, functions, number)?;
+        push_line(alloc, &mut out, names, code, number, &instructions[number])?;
+        functions = later_than(functions, number);
+        number += 1;
+    }
+    Ok(out)
+}

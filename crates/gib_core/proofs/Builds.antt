@@ -1,0 +1,567 @@
+-- Each term that meets the build rules fits.
+use Rattle.std.proofs.Common.{◌≡◌, ℕ, ◌<◌, ◌==◌, Bool, true, false, ◌||◌, ◌&&◌, not, if◌then◌else◌, List, [], ◌∷◌, ◌++◌, map, length, Option, Some, None, refl, sym, ap, ◌∙◌, subst}
+use Rattle.std.proofs.lemmas.Bool.{eqb-true, ltb-true}
+use Rattle.std.proofs.lemmas.Option.{same_Some}
+use Rattle.gib_types.specs.declared.table.Ty.{Ty}
+use Rattle.gib_types.specs.declared.table.Ty.TheVariants.{Whole, Truth, Tree}
+use Rattle.gib_types.specs.declared.table.TyId.{TyId}
+use Rattle.gib_types.specs.declared.table.ConId.{ConId}
+use Rattle.gib_types.specs.Table.{fields_at, con_at, IsTable}
+use Rattle.gib_types.specs.Layout.{is_among as is_number_among, numbers_of}
+use Rattle.gib_syntax.specs.declared.tree.Operator.{Operator}
+use Rattle.gib_syntax.specs.declared.tree.Operator.TheVariants as o
+use Rattle.gib_syntax.specs.Meaning.{is_scalar}
+use Rattle.gib_syntax.specs.Typing.{operator_type}
+use Rattle.gib_core.specs.declared.atom.Variable.{Variable}
+use Rattle.gib_core.specs.declared.atom.Atom.{Atom}
+use Rattle.gib_core.specs.declared.atom.Atom.TheVariants as a
+use Rattle.gib_core.specs.declared.atom.Kind.TheVariants.{Here, Region, Scalar}
+use Rattle.gib_core.specs.declared.atom.Access.{Access}
+use Rattle.gib_core.specs.declared.atom.Access.TheVariants.{Offset, Skip}
+use Rattle.gib_core.specs.declared.scope.Bound.{Bound as BoundVariable}
+use Rattle.gib_core.specs.declared.scope.Behind.{Behind}
+use Rattle.gib_core.specs.declared.scope.Known.{Known}
+use Rattle.gib_core.specs.Tree.{Term, Then, Write, Point, CallTerm, Give, CaseTerm, IfTerm, Bind, Past, One, Both, Prim, Reach, Side, On, Branches, NoBranch, BranchThen, variable_of, CoreTree}
+use Rattle.gib_core.specs.Meaning.{function_at}
+use Rattle.gib_core.specs.Numbering.{binders, bind_binders, side_binders, branch_binders}
+use Rattle.gib_core.specs.Met.{Destination, Nowhere, Empty, Open, Setting, PastLine, SideLine, ParLine, PrimLine, ReachLine, CaseLine, known, reached, field_due, packed_types, with_field, stands_too, in_side, behind, left_of, right_of, in_arm, in_branch, arms_of, met, met_bind, met_side, met_branches, reached_too}
+use Rattle.gib_core.specs.Rules.{Before, is_among, is_bound, type_bound, rules, least, next, next_all, LinesAreBuilt, has_room, same_type, is_empty, is_nowhere, is_of_type, is_usable, all_usable, is_other, any_other, has_type, may_write, are_scalars, may_reach, by_access, is_one_of, is_reached, type_of, arm_variables}
+use Rattle.gib_core.specs.Fits as f
+use Rattle.gib_core.specs.Fits.{Sort, Absent, Held, Placed, AtHead, Field, Scope, put, tree_type, loosen, cased, side_cased, Dest, packed_due, more, IsDue, AtomsFit, FurtherPlaced, IsTree, CallFits, by_call, arm_scope, Fits, BindFits, SideFits, AloneFits, BranchesFit}
+use Rattle.gib_core.specs.Literals.{LiteralsFit, BindLiterals, SideLiterals, BranchLiterals}
+use Rattle.gib_core.proofs.Facts.{and_true, not_false, clash, least2, least3, least4, same_type_is, is_type_is, same_variable, itself, Test, holds, fails, test}
+use Rattle.gib_core.proofs.Later.{later_on, bound_arms, fresh_arms, line_later, lines_later, built_apart, next_apart, its_type, prim_facts, case_facts, ArmsHaveTypes, arms_have_on, typed_bound}
+use Rattle.gib_core.proofs.Unused.{side_unused, cased_before}
+use Rattle.gib_core.proofs.Vars.{named, Tracked, Behinds, IsKnown, Vars, vars_on, vars_hold, vars_scope, put_there, put_elsewhere, known_bound, IsUsable, vars_over, vars_at, tracked_cased}
+use Rattle.gib_core.proofs.Dests.{IsDest, Keeps, dest_kept, here_due, next_of, stand_too, tracked_as, atom_fits, usable_first, tree_fits, con_there, stand_kept}
+use Rattle.gib_core.proofs.Entering.{AllBelow, below_apart, ArmsAreNew, arms_new, enter}
+use Rattle.gib_core.proofs.Covering.{covers, arms_below}
+use Rattle.gib_core.proofs.Fitted.{IsPart, is_part, behind_part, keep_later, SideDone, bind_sort, placed_own, scalar_own, packed_type, call_facts, scalar_call_fits, packed_place, empty_place, no_place, write_fits}
+
+one_by : (same q r : Bool) → (q ≡ true → r ≡ true) → same || q ≡ true → (if same then true else r) ≡ true
+one_by true q r f e = refl
+one_by false q r f e = f e
+
+not_true : (p : Bool) → not p ≡ true → p ≡ false
+not_true true e = absurd cc
+not_true false e = refl
+
+-- Reaching a field.
+
+-- What reaching needs of a field that stands behind another.
+record ReachFacts (core : CoreTree) (b : Before) (s : Setting) (y : Variable) (by : Access) : Type 0 where
+  unreached : Known
+  found : known s.scope y ≡ Some unreached
+  not_yet : unreached.reached ≡ false
+  access : by_access core b s unreached.behind by ≡ true
+
+reach_if : (core : CoreTree) (b : Before) (s : Setting) (y : Variable) (by : Access) (o : Option Known) → known s.scope y ≡ o → may_reach core b s o by ≡ true → ReachFacts core b s y by
+reach_if core b s y by None e h = absurd cc
+reach_if core b s y by (Some k) e h =
+    let p = and_true (not k.reached) (by_access core b s k.behind by) h in
+    record { unreached = k; found = e; not_yet = not_true k.reached p.0; access = p.1 }
+
+reach_facts : (core : CoreTree) (b : Before) (s : Setting) (y : Variable) (by : Access) → least (rules core b s (ReachLine y by)) ≡ None → ReachFacts core b s y by
+reach_facts core b s y by e =
+    let h = least2 4 8 (is_among s.others y) (not (may_reach core b s (known s.scope y) by)) e in
+    reach_if core b s y by (known s.scope y) refl (not_false (may_reach core b s (known s.scope y) by) h.1)
+
+behind_of : (b : Before) (sc : Scope) (y : ℕ) (r : Bool) (o : Option Behind) → r ≡ false → IsKnown b sc y r o → (f : Behind) × (o ≡ Some f) × Behinds b sc y f
+behind_of b sc y true o e k = absurd cc
+behind_of b sc y false None e k = absurd k
+behind_of b sc y false (Some f) e k = (f, refl, k)
+
+one_of : (core : CoreTree) (k : ConId) (ks : List ConId) → is_one_of ks k ≡ true → is_number_among (numbers_of ks) k.0 ≡ true
+one_of core k [] e = absurd cc
+one_of core k (j ∷ ks) e = one_by (j.0 == k.0) (is_one_of ks k) (is_number_among (numbers_of ks) k.0) (one_of core k ks) e
+
+known_by : (ks : List Known) (y : Variable) (k j : Known) → (known ks y ≡ Some k → k.variable.0 ≡ y.0) → Test (j.variable.0 == y.0) → known (j ∷ ks) y ≡ Some k → k.variable.0 ≡ y.0
+known_by ks y k j was (fails ne) e = was (ap (λ t. if t then Some j else known ks y) (sym ne) ∙ e)
+known_by ks y k j was (holds eq) e =
+    let same : j ≡ k = same_Some j k (ap (λ t. if t then Some j else known ks y) (sym eq) ∙ e) in
+    ap (λ (i : Known). i.variable.0) (sym same) ∙ eqb-true j.variable.0 y.0 eq
+
+known_name : (ks : List Known) (y : Variable) (k : Known) → known ks y ≡ Some k → k.variable.0 ≡ y.0
+known_name [] y k e = absurd cc
+known_name (j ∷ ks) y k e = known_by ks y k j (known_name ks y k) (test (j.variable.0 == y.0)) e
+
+reached_by : (c : Before) (tc : Scope) (y : ℕ) (r : Bool) (o : Option Behind) → r ≡ true → (ty : Ty) × Tracked c tc y ty → IsKnown c tc y r o
+reached_by c tc y true o e own = own
+reached_by c tc y false o e own = absurd cc
+
+field_unusable : (cs : List Variable) (y : ℕ) (i : Sort) (ty : Ty) (t z tree k p : ℕ) → i ≡ Field t z tree k p → IsUsable cs y i ty → ⊥
+field_unusable cs y i Whole t z tree k p e u = (let h : Field t z tree k p ≡ f.Scalar Whole = sym e ∙ u in absurd cc)
+field_unusable cs y i Truth t z tree k p e u = (let h : Field t z tree k p ≡ f.Scalar Truth = sym e ∙ u in absurd cc)
+field_unusable cs y i (Tree ty) t z tree k p e u = (let h : None ≡ Some ty.0 = ap tree_type (sym e) ∙ u.0 in absurd cc)
+
+tracked_elsewhere : (b : Before) (sc : Scope) (x y : ℕ) (i : Sort) (ty : Ty) → y == x ≡ false → Tracked b sc y ty → Tracked b (put sc x i) y ty
+tracked_elsewhere b sc x y i ty ne k = record { typed = k.typed; usable = subst (λ j. IsUsable b.cased y j ty) (sym (put_elsewhere sc x y i ne)) k.usable }
+
+-- The field is at its place from here on.
+field_reached : (n : ℕ) (b : Before) (ks : List Known) (sc : Scope) (k : Known) (y : Variable) (t : TyId) → known ks y ≡ Some k → type_bound b.bound y ≡ Some (Tree t) → Vars n b ks sc
+    → Vars n b (record k { reached = true } ∷ ks) (put sc y.0 (Placed t.0))
+field_reached n b ks sc k y t e typed v =
+    let name = known_name ks y k e in
+    let there = put_there sc y.0 (Placed t.0) in
+    let own : Tracked b (put sc y.0 (Placed t.0)) y.0 (Tree t) = record { typed = typed; usable = (ap tree_type there, λ ne. there) } in
+    let P : ℕ → Type 0 = λ m. Vars n b (record k { reached = true } ∷ ks) (put sc m (Placed t.0)) in
+    let Q : ℕ → Type 0 = λ m. Tracked b (put sc m (Placed t.0)) m (Tree t) in
+    subst P name (vars_over n b ks sc (record k { reached = true }) (Placed t.0) (Tree t, subst Q (sym name) own) v)
+
+-- What is tracked is no field that is to be reached.
+tracked_field : (b : Before) (sc : Scope) (x y : ℕ) (t z tree k p : ℕ) (ty : Ty) → sc x ≡ Field t z tree k p → Tracked b sc y ty → Test (y == x) → y == x ≡ false
+tracked_field b sc x y t z tree k p ty e h (fails ne) = ne
+tracked_field b sc x y t z tree k p ty e h (holds eq) = absurd (field_unusable b.cased y (sc y) ty t z tree k p (ap sc (eqb-true y x eq) ∙ e) h.usable)
+
+keep_reached : (b : Before) (sc : Scope) (x : ℕ) (t z tree k p : ℕ) (i : Sort) → sc x ≡ Field t z tree k p → Keeps b sc b (put sc x i)
+keep_reached b sc x t z tree k p i e = λ y ty h. tracked_elsewhere b sc x y i ty (tracked_field b sc x y t z tree k p ty e h (test (y == x))) h
+
+-- The operators' types are scalars.
+operator_scalar : (g : Operator) → is_scalar (operator_type g) ≡ true
+operator_scalar o.Add = refl
+operator_scalar o.Subtract = refl
+operator_scalar o.Multiply = refl
+operator_scalar o.Equal = refl
+operator_scalar o.Less = refl
+
+-- What a here at an open head needs.
+record HereFacts (core : CoreTree) (b : Before) (s : Setting) (sc : Scope) (x : Variable) (ty : Ty) (d : Dest) : Type 0 where
+  tree : TyId
+  typed : ty ≡ Tree tree
+  due : field_due core.table s.destination ≡ Tree tree
+  is : IsDue d tree.0
+  after : (c : Before) (tc : Scope) → Keeps b sc c tc → Tracked c tc x.0 (Tree tree) → IsDest core.table c tc (with_field x s.destination) s.due (more d x.0)
+
+here_facts : (core : CoreTree) (b : Before) (s : Setting) (sc : Scope) (x : Variable) (ty : Ty) (d : Dest) (e : Destination) → e ≡ s.destination → has_room core.table e ≡ true → same_type ty (field_due core.table e) ≡ true
+    → IsDest core.table b sc e s.due d → HereFacts core b s sc x ty d
+here_facts core b s sc x ty d Nowhere e r t i = absurd cc
+here_facts core b s sc x ty d Empty e r t i = absurd cc
+here_facts core b s sc x ty d (Open h k standing) e r t i =
+    let next = here_due core.table b sc h k standing i.0.0 d x i.2 (ltb-true (length standing) (length (packed_types core.table k)) r) in
+    let typed = same_type_is ty (field_due core.table (Open h k standing)) t in
+    let P : Destination → Type 0 = λ e'. HereFacts core b (record s { destination = e' }) sc x ty d in
+    subst P e (record {
+      tree = next.ty;
+      typed = typed ∙ next.due;
+      due = next.due;
+      is = next.is;
+      after = λ c tc keep own. (i.0, i.1, record { dest = next.after; stand = stand_too c tc standing x next.ty (stand_kept b c sc tc standing keep i.2.stand) own });
+    })
+
+-- Terms.
+
+first_true : (p q : Bool) → p ≡ true → p || q ≡ true
+first_true true q e = refl
+first_true false q e = absurd cc
+
+-- What comes after a binding: the rest of its line; after a left side, the right one comes before that.
+pub data After : Type 0 where
+  AfterBind : Term → After
+  AfterLeft : Side → After → After
+
+abbrev pub goes : CoreTree → After → Scope → Dest → Type 0
+goes core (AfterBind t) sc d = Fits core t sc d
+goes core (AfterLeft r go) sc d = SideFits core r sc d (goes core go)
+
+-- What a side leaves.
+abbrev pub SideLeft : CoreTree → ℕ → Before → Setting → Side → Scope → Before → Scope → Dest → Type 0
+SideLeft core n b s (On kind x ty t) sc c tc d = SideDone core n b s kind x ty sc c tc d
+
+one_left : (core : CoreTree) (n : ℕ) (b : Before) (s : Setting) (side : Side) (sc : Scope) (c : Before) (tc : Scope) (d : Dest) → SideLeft core n b s side sc c tc d
+    → Vars n c (behind s (One side)).scope tc × IsDest core.table c tc (behind s (One side)).destination (behind s (One side)).due d
+one_left core n b s (On kind x ty t) sc c tc d dn = (vars_scope n c s.scope tc (reached x) (ty, dn.own) dn.vars, dn.dest)
+
+right_among : (s : Setting) (l : Side) → is_among (right_of s l).others (variable_of l) ≡ true
+right_among s (On kind x ty t) = first_true (x.0 == x.0) (is_among s.others x) (itself x.0)
+
+right_start : (core : CoreTree) (n : ℕ) (b : Before) (s : Setting) (l r : Side) (sc : Scope) (c : Before) (tc : Scope) (d : Dest) → SideLeft core n b (left_of s r) l sc c tc d
+    → Vars n c (right_of s l).scope tc × IsDest core.table c tc (right_of s l).destination (right_of s l).due d
+right_start core n b s (On kind x ty t) r sc c tc d dl = (dl.vars, dl.dest)
+
+both_left : (core : CoreTree) (n : ℕ) (b : Before) (s : Setting) (marked : Bool) (l r : Side) (sc : Scope) (m : Before) (tc : Scope) (d : Dest) (z : Before) (uc : Scope) (e : Dest)
+    → SideLeft core n b (left_of s r) l sc m tc d → SideLeft core n m (right_of s l) r tc z uc e
+    → Vars n z (behind s (Both marked l r)).scope uc × IsDest core.table z uc (behind s (Both marked l r)).destination (behind s (Both marked l r)).due e
+both_left core n b s marked (On kl x ty t) (On kr y uy u) sc m tc d z uc e dl dr =
+    (vars_scope n z (reached x ∷ s.scope) uc (reached y) (uy, dr.own) (vars_scope n z s.scope uc (reached x) (ty, dr.keep x.0 ty dl.own) dr.vars), dr.dest)
+
+unbound_apart : (bs : List BoundVariable) (x : Variable) (z : ℕ) → is_bound bs x ≡ true → is_bound bs (named z) ≡ false → Test (z == x.0) → z == x.0 ≡ false
+unbound_apart bs x z bx bz (fails ne) = ne
+unbound_apart bs x z bx bz (holds eq) = absurd (clash (is_bound bs x) bx (ap (λ m. is_bound bs (named m)) (sym (eqb-true z x.0 eq)) ∙ bz))
+
+-- What is in scope and reached is known as reached.
+reached_known : (c : Before) (tc : Scope) (y : ℕ) (k : Known) (ks : List Known) (x : Variable) → is_reached (known ks x) ≡ true → known ks x ≡ Some k → (ty : Ty) × Tracked c tc y ty → IsKnown c tc y k.reached k.behind
+reached_known c tc y k ks x r e own = reached_by c tc y k.reached k.behind (ap is_reached (sym e) ∙ r) own
+
+truth_fits : (n : ℕ) (b : Before) (s : Setting) (sc : Scope) (x : Atom) → is_usable s x ≡ true → has_type b x Truth ≡ true → Vars n b s.scope sc → f.AtomFits sc x Truth
+truth_fits n b s sc (a.Variable x) u t v = (tracked_as n b s.scope sc x Truth u (is_type_is (type_bound b.bound x) Truth t) v).usable
+truth_fits n b s sc (a.Whole z) u t v = absurd cc
+truth_fits n b s sc (a.Truth z) u t v = tt
+
+-- The scope behind a reach.
+reach_vars : (n : ℕ) (b : Before) (s : Setting) (sc : Scope) (y : Variable) (k : Known) (t : TyId) (tc : Scope) → known s.scope y ≡ Some k → Vars n b (record k { reached = true } ∷ s.scope) tc → Vars n b (reached_too (known s.scope y) s.scope) tc
+reach_vars n b s sc y k t tc e v = subst (λ w. Vars n b (reached_too w s.scope) tc) (sym e) v
+
+-- A scalar's right side.
+
+scalar_due : (core : CoreTree) (b : Before) (s : Setting) (x : Variable) (ty : Ty) (t : Term) → LinesAreBuilt core b (met_side core.table s (On Scalar x ty t)) → is_scalar ty ≡ true
+scalar_due core b s x ty t h = not_false (is_scalar ty) (least2 8 9 (is_bound b.bound x) (not (is_scalar ty)) h.0).1
+
+scalar_vars : (core : CoreTree) (n : ℕ) (b : Before) (s : Setting) (sc : Scope) (x : Variable) (ty : Ty) (t : Term) → LinesAreBuilt core b (met_side core.table s (On Scalar x ty t)) → Vars n b s.scope sc → Vars n (next core.table b (SideLine Scalar x ty)) s.scope sc
+scalar_vars core n b s sc x ty t h v = vars_on n b (next core.table b (SideLine Scalar x ty)) s.scope sc (line_later core b s (SideLine Scalar x ty) h.0) v
+
+scalar_side : (core : CoreTree) (n : ℕ) (x : Variable) (ty : Ty) (t : Term) (b : Before) (s : Setting) (sc : Scope) (d : Dest) (go : After) → AllBelow n (side_binders (On Scalar x ty t))
+    → Vars n b s.scope sc → IsDest core.table b sc s.destination s.due d → LinesAreBuilt core b (met_side core.table s (On Scalar x ty t))
+    → ((tc : Scope) (d' : Dest) → SideLeft core n b s (On Scalar x ty t) sc (next_all core.table b (met_side core.table s (On Scalar x ty t))) tc d' → goes core go tc d')
+    → by_call t (Fits core t sc (f.Nowhere ty)) (λ g xs. CallFits core sc g xs ty) → SideFits core (On Scalar x ty t) sc d (goes core go)
+scalar_side core n x ty t b s sc d go below v e h on inside =
+    let r = least2 8 9 (is_bound b.bound x) (not (is_scalar ty)) h.0 in
+    let scalar = not_false (is_scalar ty) r.1 in
+    let line = SideLine Scalar x ty in
+    let m = next core.table b line in
+    let inner = in_side core.table s Scalar ty in
+    let lines = met core.table inner t in
+    let c = next_all core.table m lines in
+    let l1 = line_later core b s line h.0 in
+    let l2 = lines_later core m lines h.1 in
+    let typed : type_bound c.bound x ≡ Some ty = l2.bound.types x ty (its_type b.bound x ty) in
+    let z = bind_sort n b c s.scope sc (cased t) x (f.Scalar ty) (later_on b m c l1 l2) (λ q w. cased_before core.table t m inner (named q) w) r.0 below.0 (typed_bound c.bound x ty typed) v in
+    let tc = put (loosen (cased t) sc) x.0 (f.Scalar ty) in (
+      scalar,
+      v.new x.0 r.0 below.0,
+      inside,
+      on tc d (record { vars = z.vars; keep = z.keep; own = scalar_own c (loosen (cased t) sc) x ty scalar typed; dest = dest_kept core.table b c sc tc s.destination s.due d z.keep e }),
+    )
+
+-- Where an open head has room, a packed field is due.
+due_there : (core : CoreTree) (e : Destination) → has_room core.table e ≡ true → (t : TyId) × (field_due core.table e ≡ Tree t)
+due_there core Nowhere r = absurd cc
+due_there core Empty r = absurd cc
+due_there core (Open h k standing) r = (let n = next_of (fields_at core.table k.0) (length standing) (ltb-true (length standing) (length (packed_types core.table k)) r) in (n.ty, n.due))
+
+-- A scalar by itself.
+alone_scalar : (core : CoreTree) (n : ℕ) (x : Variable) (ty : Ty) (t : Term) (b : Before) (s : Setting) (sc : Scope) → AllBelow n (side_binders (On Scalar x ty t))
+    → Vars n b s.scope sc → LinesAreBuilt core b (met_side core.table s (On Scalar x ty t)) → by_call t (Fits core t sc (f.Nowhere ty)) (λ g xs. CallFits core sc g xs ty) → AloneFits core (On Scalar x ty t) sc
+alone_scalar core n x ty t b s sc below v h inside =
+    let r = least2 8 9 (is_bound b.bound x) (not (is_scalar ty)) h.0 in (not_false (is_scalar ty) r.1, v.new x.0 r.0 below.0, inside)
+
+mutual
+  pub term_fits : (core : CoreTree) (n : ℕ) → IsTable core.table → (t : Term) (b : Before) (s : Setting) (sc : Scope) (d : Dest) → IsPart s t → AllBelow n (binders t) → LiteralsFit t
+      → Vars n b s.scope sc → IsDest core.table b sc s.destination s.due d → LinesAreBuilt core b (met core.table s t) → Fits core t sc d
+  term_fits core n is (Then k rest) b s sc d part below lits v e h =
+      let parts = built_apart core b (met_bind core.table s k) (met core.table (behind s k) rest) h in
+      let low = below_apart n (bind_binders k) (binders rest) below in
+      bind_fits core n is k b s sc d (AfterBind rest) low.0 lits.0 v e parts.0
+      (λ tc d' v' e'. term_fits core n is rest (next_all core.table b (met_bind core.table s k)) (behind s k) tc d' (is_part (behind s k) rest (behind_part s k)) low.1 lits.1 v' e' parts.1)
+  term_fits core n is (Write q k ss ps) b s sc d part below lits v e h =
+      let r = least4 4 5 8 9 (any_other s (ss ++ ps)) (not (may_write core.table b s.destination q k ps)) (not (all_usable s (ss ++ ps))) (not (are_scalars core.table b s.destination ss)) h.0 in
+      write_fits core n b s sc d s.destination q k ss ps (not_false (may_write core.table b s.destination q k ps) r.1) (not_false (are_scalars core.table b s.destination ss) r.3)
+      (usable_first s ss ps (not_false (all_usable s (ss ++ ps)) r.2)) lits v e
+  term_fits core n is (Point x) b s sc d part below lits v e h =
+      let r = least4 4 6 8 9 (is_other s x) (not (is_empty s.destination)) (not (is_usable s x)) (not (has_type b x s.due)) h.0 in
+      let place = empty_place core.table b sc s.destination s.due d (not_false (is_empty s.destination) r.1) e in
+      let typed : type_of b x ≡ Some (Tree place.0) = is_type_is (type_of b x) s.due (not_false (has_type b x s.due) r.3) ∙ ap Some place.1 in
+      (place.0.0, place.2, tree_fits n b s sc x place.0 (not_false (is_usable s x) r.2) typed v)
+  term_fits core n is (CallTerm g xs) b s sc d part below lits v e h =
+      let c = call_facts core b s g xs h.0 in
+      let place = empty_place core.table b sc s.destination s.due d (packed_place core b s xs (function_at core.functions g.0) part c.place c.fits) e in
+      let fit = scalar_call_fits core n b s sc g xs h lits v in
+      (place.0.0, place.2, subst (λ ty. CallFits core sc g xs ty) place.1 fit)
+  term_fits core n is (Give x) b s sc d part below lits v e h =
+      let r = least3 4 8 9 (is_other s x) (not (is_usable s x)) (not (is_nowhere s.destination && has_type b x s.due)) h.0 in
+      let both = and_true (is_nowhere s.destination) (has_type b x s.due) (not_false (is_nowhere s.destination && has_type b x s.due) r.2) in
+      let place = no_place core.table b sc s.destination s.due d both.0 e in
+      (s.due, place.1, place.0, atom_fits n b s sc x s.due (not_false (is_usable s x) r.1) both.1 lits v)
+  term_fits core n is (CaseTerm (a.Variable x) bs) b s sc d part below lits v e h =
+      let facts = case_facts core b s (a.Variable x) (arms_of bs) h.0 in
+      let cover = covers core.table (type_bound b.bound x) bs is facts.covers in
+      let own = tracked_as n b s.scope sc x (Tree cover.ty) facts.usable cover.typed v in
+      let c = next core.table b (CaseLine (a.Variable x) (arms_of bs)) in
+      let later = line_later core b s (CaseLine (a.Variable x) (arms_of bs)) h.0 in
+      let fresh = fresh_arms (arm_variables (arms_of bs)) b.bound facts.new in
+      let types = (bound_arms core.table (arms_of bs) b.bound fresh).1 in
+      let own' = keep_later b c sc later x.0 (Tree cover.ty) own in
+      let among : is_among c.cased x ≡ true = first_true (x.0 == x.0) (is_among b.cased x) (itself x.0) in
+      let tc = put sc x.0 (AtHead cover.ty.0) in
+      let keep : Keeps c sc c tc = λ y ty k. tracked_cased c sc x.0 cover.ty y ty own' among k in
+      let v' = vars_at n c s.scope sc x.0 (AtHead cover.ty.0) (known_bound c sc x.0 true None (Tree cover.ty, own'))
+      (λ k f. reached_known c tc x.0 k s.scope x facts.usable f (Tree cover.ty, keep x.0 (Tree cover.ty) own')) (vars_on n b c s.scope sc later v) in
+      let e' = dest_kept core.table c c sc tc s.destination s.due d keep (dest_kept core.table b c sc sc s.destination s.due d (keep_later b c sc later) e) in
+      let absent : (z : ℕ) → is_bound b.bound (named z) ≡ false → z < n → tc z ≡ Absent =
+      λ z no lt. put_elsewhere sc x.0 z (AtHead cover.ty.0) (unbound_apart b.bound x z (typed_bound b.bound x (Tree cover.ty) cover.typed) no (test (z == x.0))) ∙ v.new z no lt in
+      let new = arms_new n core.table (arms_of bs) tc (is_bound b.bound) fresh absent (arms_below n bs below) cover.long in
+      (cover.ty.0, record { variable = x; atom = refl; sort = own.usable.0 }, cover.each, branches_fit core n is bs c s tc d x.0 below lits v' e' types new h.1)
+  term_fits core n is (CaseTerm (a.Whole z) bs) b s sc d part below lits v e h = (let c = (case_facts core b s (a.Whole z) (arms_of bs) h.0).covers in absurd cc)
+  term_fits core n is (CaseTerm (a.Truth z) bs) b s sc d part below lits v e h = (let c = (case_facts core b s (a.Truth z) (arms_of bs) h.0).covers in absurd cc)
+  term_fits core n is (IfTerm x t u) b s sc d part below lits v e h =
+      let r = least3 4 8 9 (is_other s x) (not (is_usable s x)) (not (has_type b x Truth)) h.0 in
+      let typed = not_false (has_type b x Truth) r.2 in
+      let lines = met core.table (in_branch s) t in
+      let parts = built_apart core b lines (met core.table (in_branch s) u) h.1 in
+      let low = below_apart n (binders t) (binders u) below in
+      let c = next_all core.table b lines in
+      let later = lines_later core b lines parts.0 in (
+        truth_fits n b s sc x (not_false (is_usable s x) r.1) typed v,
+        term_fits core n is t b (in_branch s) sc d (is_part (in_branch s) t refl) low.0 lits.0 v e parts.0,
+        term_fits core n is u c (in_branch s) sc d (is_part (in_branch s) u refl) low.1 lits.1 (vars_on n b c s.scope sc later v) (dest_kept core.table b c sc sc s.destination s.due d (keep_later b c sc later) e) parts.1,
+      )
+
+  bind_fits : (core : CoreTree) (n : ℕ) → IsTable core.table → (k : Bind) (b : Before) (s : Setting) (sc : Scope) (d : Dest) (go : After) → AllBelow n (bind_binders k) → BindLiterals k
+      → Vars n b s.scope sc → IsDest core.table b sc s.destination s.due d → LinesAreBuilt core b (met_bind core.table s k)
+      → ((tc : Scope) (d' : Dest) → Vars n (next_all core.table b (met_bind core.table s k)) (behind s k).scope tc → IsDest core.table (next_all core.table b (met_bind core.table s k)) tc (behind s k).destination (behind s k).due d' → goes core go tc d')
+      → BindFits core k sc d (goes core go)
+  bind_fits core n is (Past q k) b s sc d go below lits v e h on =
+      let r = least2 1 8 (not (is_empty s.destination && is_of_type core.table k s.due)) (is_bound b.bound q) h.0 in
+      let both = and_true (is_empty s.destination) (is_of_type core.table k s.due) (not_false (is_empty s.destination && is_of_type core.table k s.due) r.0) in
+      let place = empty_place core.table b sc s.destination s.due d both.0 e in
+      let con : con_at core.table place.0.0 k.0 ≡ Some k.0 = con_there core.table place.0.0 k.0 (subst (λ ty. is_of_type core.table k ty ≡ true) place.1 both.1) in
+      let absent = v.new q.0 r.1 below.0 in
+      let line = PastLine q k in
+      let c = next core.table b line in
+      let later = line_later core b s line h.0 in
+      let bound : is_bound c.bound q ≡ true = first_true (q.0 == q.0) (is_bound b.bound q) (itself q.0) in (
+        place.0.0,
+        place.2,
+        con,
+        absent,
+        on (put sc q.0 Held) (f.Open place.0.0 q.0 k.0 [] (packed_due (fields_at core.table k.0))) (vars_hold n c s.scope sc q.0 Held absent bound (vars_on n b c s.scope sc later v))
+            (place.0, place.1, record { dest = refl; stand = tt }),
+      )
+  bind_fits core n is (One side) b s sc d go below lits v e h on =
+      side_fits core n is side b s sc d go below lits v e h
+      (λ tc d' dn. let there = one_left core n b s side sc (next_all core.table b (met_side core.table s side)) tc d' dn in on tc d' there.0 there.1)
+  bind_fits core n is (Both false l r) b s sc d go below lits v e h on =
+      let c = next core.table b ParLine in
+      let ls = left_of s r in
+      let rs = right_of s l in
+      let lines = met_side core.table ls l in
+      let parts = built_apart core c lines (met_side core.table rs r) h.1 in
+      let low = below_apart n (side_binders l) (side_binders r) below in
+      let m = next_all core.table c lines in
+      let z = next_all core.table m (met_side core.table rs r) in
+      let all : z ≡ next_all core.table c (lines ++ met_side core.table rs r) = sym (next_apart core.table c lines (met_side core.table rs r)) in (
+        side_unused core r m rs (variable_of l) (right_among s l) parts.1,
+        side_fits core n is l c ls sc d (AfterLeft r go) low.0 lits.0 v e parts.0
+            (λ tc d' dl. let start = right_start core n c s l r sc m tc d' dl in side_fits core n is r m rs tc d' go low.1 lits.1 start.0 start.1 parts.1
+            (λ uc d'' dr.
+            let P : Before → Type 0 = λ y. Vars n y (behind s (Both false l r)).scope uc × IsDest core.table y uc (behind s (Both false l r)).destination (behind s (Both false l r)).due d'' in
+            let there = subst P all (both_left core n c s false l r sc m tc d' z uc d'' dl dr) in
+            on uc d'' there.0 there.1)),
+      )
+  bind_fits core n is (Both true l r) b s sc d go below lits v e h on =
+      let c = next core.table b ParLine in
+      let ls = left_of s r in
+      let rs = right_of s l in
+      let lines = met_side core.table ls l in
+      let parts = built_apart core c lines (met_side core.table rs r) h.1 in
+      let low = below_apart n (side_binders l) (side_binders r) below in
+      let m = next_all core.table c lines in
+      let z = next_all core.table m (met_side core.table rs r) in
+      let all : z ≡ next_all core.table c (lines ++ met_side core.table rs r) = sym (next_apart core.table c lines (met_side core.table rs r)) in (
+        side_unused core r m rs (variable_of l) (right_among s l) parts.1,
+        alone_fits core n is r m s l sc low.1 lits.1 (vars_on n b m s.scope sc (later_on b c m (line_later core b s ParLine h.0) (lines_later core c lines parts.0)) v) parts.1,
+        side_fits core n is l c ls sc d (AfterLeft r go) low.0 lits.0 v e parts.0
+            (λ tc d' dl. let start = right_start core n c s l r sc m tc d' dl in side_fits core n is r m rs tc d' go low.1 lits.1 start.0 start.1 parts.1
+            (λ uc d'' dr.
+            let P : Before → Type 0 = λ y. Vars n y (behind s (Both true l r)).scope uc × IsDest core.table y uc (behind s (Both true l r)).destination (behind s (Both true l r)).due d'' in
+            let there = subst P all (both_left core n c s true l r sc m tc d' z uc d'' dl dr) in
+            on uc d'' there.0 there.1)),
+      )
+  bind_fits core n is (Prim x g y z) b s sc d go below lits v e h on =
+      let facts = prim_facts core b s x g y z h.0 in
+      let us = and_true (is_usable s y) (is_usable s z && true) facts.usable in
+      let uz = and_true (is_usable s z) true us.1 in
+      let tys = and_true (has_type b y Whole) (has_type b z Whole && true) facts.typed in
+      let tz = and_true (has_type b z Whole) true tys.1 in
+      let c = next core.table b (PrimLine x g y z) in
+      let later = line_later core b s (PrimLine x g y z) h.0 in
+      let bound : is_bound c.bound x ≡ true = first_true (x.0 == x.0) (is_bound b.bound x) (itself x.0) in
+      let m = bind_sort n b c s.scope sc (λ q. false) x (f.Scalar (operator_type g)) later (λ q w. absurd cc) facts.new below.0 bound v in
+      let own = scalar_own c sc x (operator_type g) (operator_scalar g) (its_type b.bound x (operator_type g)) in
+      let tc = put sc x.0 (f.Scalar (operator_type g)) in (
+        v.new x.0 facts.new below.0,
+        atom_fits n b s sc y Whole us.0 tys.0 lits.0 v,
+        atom_fits n b s sc z Whole uz.0 tz.0 lits.1 v,
+        on tc d (vars_scope n c s.scope tc (reached x) (operator_type g, own) m.vars) (dest_kept core.table b c sc tc s.destination s.due d m.keep e),
+      )
+  bind_fits core n is (Reach y Offset) b s sc d go below lits v e h on =
+      let facts = reach_facts core b s y Offset h.0 in
+      let k = facts.unreached in
+      let back = behind_of b sc y.0 k.reached k.behind facts.not_yet (v.knows y.0 k facts.found) in
+      let fd = back.2 in
+      let listed = one_of core back.0.constructor core.offsets (subst (λ w. by_access core b s w Offset ≡ true) back.1 facts.access) in
+      let tc = put sc y.0 (Placed fd.ty.0) in (
+        fd.ty.0,
+        back.0.before.0,
+        fd.tree,
+        back.0.constructor.0,
+        fd.place,
+        fd.sort,
+        listed,
+        on tc d (reach_vars n b s sc y k fd.ty tc facts.found (field_reached n b s.scope sc k y fd.ty facts.found fd.typed v))
+            (dest_kept core.table b b sc tc s.destination s.due d (keep_reached b sc y.0 fd.ty.0 back.0.before.0 fd.tree back.0.constructor.0 fd.place (Placed fd.ty.0) fd.sort) e),
+      )
+  bind_fits core n is (Reach y (Skip z)) b s sc d go below lits v e h on =
+      let facts = reach_facts core b s y (Skip z) h.0 in
+      let k = facts.unreached in
+      let back = behind_of b sc y.0 k.reached k.behind facts.not_yet (v.knows y.0 k facts.found) in
+      let fd = back.2 in
+      let by = subst (λ w. by_access core b s w (Skip z) ≡ true) back.1 facts.access in
+      let p = and_true (back.0.before.0 == z.0) (is_reached (known s.scope z) && not (is_among b.cased z)) by in
+      let q = and_true (is_reached (known s.scope z)) (not (is_among b.cased z)) p.1 in
+      let same = same_variable back.0.before z p.0 in
+      let ztyped : type_bound b.bound z ≡ Some (Tree fd.before) = subst (λ w. type_bound b.bound w ≡ Some (Tree fd.before)) same fd.before_typed in
+      let ztracked = tracked_as n b s.scope sc z (Tree fd.before) q.0 ztyped v in
+      let placed = ztracked.usable.1 (not_true (is_among b.cased z) q.1) in
+      let sort = subst (λ (w : Variable). sc y.0 ≡ Field fd.ty.0 w.0 fd.tree back.0.constructor.0 fd.place) same fd.sort in
+      let tc = put sc y.0 (Placed fd.ty.0) in (
+        fd.ty.0,
+        fd.tree,
+        back.0.constructor.0,
+        fd.place,
+        fd.before.0,
+        sort,
+        placed,
+        on tc d (reach_vars n b s sc y k fd.ty tc facts.found (field_reached n b s.scope sc k y fd.ty facts.found fd.typed v))
+            (dest_kept core.table b b sc tc s.destination s.due d (keep_reached b sc y.0 fd.ty.0 back.0.before.0 fd.tree back.0.constructor.0 fd.place (Placed fd.ty.0) fd.sort) e),
+      )
+
+  side_fits : (core : CoreTree) (n : ℕ) → IsTable core.table → (side : Side) (b : Before) (s : Setting) (sc : Scope) (d : Dest) (go : After) → AllBelow n (side_binders side) → SideLiterals side
+      → Vars n b s.scope sc → IsDest core.table b sc s.destination s.due d → LinesAreBuilt core b (met_side core.table s side)
+      → ((tc : Scope) (d' : Dest) → SideLeft core n b s side sc (next_all core.table b (met_side core.table s side)) tc d' → goes core go tc d')
+      → SideFits core side sc d (goes core go)
+  side_fits core n is (On Here x ty t) b s sc d go below lits v e h on =
+      let r = least3 2 8 9 (not (has_room core.table s.destination)) (is_bound b.bound x) (not (same_type ty (field_due core.table s.destination))) h.0 in
+      let facts = here_facts core b s sc x ty d s.destination refl (not_false (has_room core.table s.destination) r.0) (not_false (same_type ty (field_due core.table s.destination)) r.2) e in
+      let line = SideLine Here x ty in
+      let m = next core.table b line in
+      let inner = in_side core.table s Here ty in
+      let lines = met core.table inner t in
+      let c = next_all core.table m lines in
+      let l1 = line_later core b s line h.0 in
+      let l2 = lines_later core m lines h.1 in
+      let absent = v.new x.0 r.1 below.0 in
+      let bound : is_bound m.bound x ≡ true = first_true (x.0 == x.0) (is_bound b.bound x) (itself x.0) in
+      let typed : type_bound c.bound x ≡ Some (Tree facts.tree) = l2.bound.types x (Tree facts.tree) (its_type b.bound x ty ∙ ap Some facts.typed) in
+      let z = bind_sort n b c s.scope sc (cased t) x (Placed facts.tree.0) (later_on b m c l1 l2) (λ q w. cased_before core.table t m inner (named q) w) r.1 below.0 (typed_bound c.bound x (Tree facts.tree) typed) v in
+      let tc = put (loosen (cased t) sc) x.0 (Placed facts.tree.0) in
+      let own = placed_own c (loosen (cased t) sc) x facts.tree typed in (
+        facts.tree.0,
+        facts.typed,
+        facts.is,
+        absent,
+        term_fits core n is t m inner (put sc x.0 Held) (f.Empty facts.tree.0) (is_part inner t refl) below.1 lits (vars_hold n m s.scope sc x.0 Held absent bound (vars_on n b m s.scope sc l1 v)) (facts.tree, facts.due, refl) h.1,
+        on tc (more d x.0) (record { vars = z.vars; keep = z.keep; own = subst (λ u. Tracked c tc x.0 u) (sym facts.typed) own; dest = facts.after c tc z.keep own }),
+      )
+  side_fits core n is (On Region x ty t) b s sc d go below lits v e h on =
+      let r = least2 3 8 (is_scalar ty) (is_bound b.bound x) h.0 in
+      let packed = packed_type ty r.0 in
+      let line = SideLine Region x ty in
+      let m = next core.table b line in
+      let inner = in_side core.table s Region ty in
+      let lines = met core.table inner t in
+      let c = next_all core.table m lines in
+      let l1 = line_later core b s line h.0 in
+      let l2 = lines_later core m lines h.1 in
+      let absent = v.new x.0 r.1 below.0 in
+      let bound : is_bound m.bound x ≡ true = first_true (x.0 == x.0) (is_bound b.bound x) (itself x.0) in
+      let typed : type_bound c.bound x ≡ Some (Tree packed.0) = l2.bound.types x (Tree packed.0) (its_type b.bound x ty ∙ ap Some packed.1) in
+      let z = bind_sort n b c s.scope sc (cased t) x (Placed packed.0.0) (later_on b m c l1 l2) (λ q w. cased_before core.table t m inner (named q) w) r.1 below.0 (typed_bound c.bound x (Tree packed.0) typed) v in
+      let tc = put (loosen (cased t) sc) x.0 (Placed packed.0.0) in
+      let own = placed_own c (loosen (cased t) sc) x packed.0 typed in (
+        packed.0.0,
+        packed.1,
+        absent,
+        term_fits core n is t m inner (put sc x.0 Held) (f.Empty packed.0.0) (is_part inner t refl) below.1 lits (vars_hold n m s.scope sc x.0 Held absent bound (vars_on n b m s.scope sc l1 v)) (packed.0, packed.1, refl) h.1,
+        on tc d (record { vars = z.vars; keep = z.keep; own = subst (λ u. Tracked c tc x.0 u) (sym packed.1) own; dest = dest_kept core.table b c sc tc s.destination s.due d z.keep e }),
+      )
+  side_fits core n is (On Scalar x ty (CallTerm g xs)) b s sc d go below lits v e h on =
+      let line = SideLine Scalar x ty in
+      let l1 = line_later core b s line h.0 in
+      let m = next core.table b line in
+      scalar_side core n x ty (CallTerm g xs) b s sc d go below v e h on (scalar_call_fits core n m (in_side core.table s Scalar ty) sc g xs h.1 lits (vars_on n b m s.scope sc l1 v))
+  side_fits core n is (On Scalar x ty (Then k t)) b s sc d go below lits v e h on =
+      scalar_side core n x ty (Then k t) b s sc d go below v e h on (term_fits core n is (Then k t) (next core.table b (SideLine Scalar x ty)) (in_side core.table s Scalar ty) sc (f.Nowhere ty) tt below.1 lits (scalar_vars core n b s sc x ty (Then k t) h v) (scalar_due core b s x ty (Then k t) h, refl) h.1)
+  side_fits core n is (On Scalar x ty (Write q k ss ps)) b s sc d go below lits v e h on =
+      scalar_side core n x ty (Write q k ss ps) b s sc d go below v e h on (term_fits core n is (Write q k ss ps) (next core.table b (SideLine Scalar x ty)) (in_side core.table s Scalar ty) sc (f.Nowhere ty) tt below.1 lits (scalar_vars core n b s sc x ty (Write q k ss ps) h v) (scalar_due core b s x ty (Write q k ss ps) h, refl) h.1)
+  side_fits core n is (On Scalar x ty (Point y)) b s sc d go below lits v e h on =
+      scalar_side core n x ty (Point y) b s sc d go below v e h on (term_fits core n is (Point y) (next core.table b (SideLine Scalar x ty)) (in_side core.table s Scalar ty) sc (f.Nowhere ty) tt below.1 lits (scalar_vars core n b s sc x ty (Point y) h v) (scalar_due core b s x ty (Point y) h, refl) h.1)
+  side_fits core n is (On Scalar x ty (Give y)) b s sc d go below lits v e h on =
+      scalar_side core n x ty (Give y) b s sc d go below v e h on (term_fits core n is (Give y) (next core.table b (SideLine Scalar x ty)) (in_side core.table s Scalar ty) sc (f.Nowhere ty) tt below.1 lits (scalar_vars core n b s sc x ty (Give y) h v) (scalar_due core b s x ty (Give y) h, refl) h.1)
+  side_fits core n is (On Scalar x ty (CaseTerm y bs)) b s sc d go below lits v e h on =
+      scalar_side core n x ty (CaseTerm y bs) b s sc d go below v e h on (term_fits core n is (CaseTerm y bs) (next core.table b (SideLine Scalar x ty)) (in_side core.table s Scalar ty) sc (f.Nowhere ty) tt below.1 lits (scalar_vars core n b s sc x ty (CaseTerm y bs) h v) (scalar_due core b s x ty (CaseTerm y bs) h, refl) h.1)
+  side_fits core n is (On Scalar x ty (IfTerm y t u)) b s sc d go below lits v e h on =
+      scalar_side core n x ty (IfTerm y t u) b s sc d go below v e h on (term_fits core n is (IfTerm y t u) (next core.table b (SideLine Scalar x ty)) (in_side core.table s Scalar ty) sc (f.Nowhere ty) tt below.1 lits (scalar_vars core n b s sc x ty (IfTerm y t u) h v) (scalar_due core b s x ty (IfTerm y t u) h, refl) h.1)
+
+  -- The right side of a par by itself, in the scope before the par: what the left side bound stands before it, and its
+  -- variable is not in scope.
+  alone_fits : (core : CoreTree) (n : ℕ) → IsTable core.table → (r : Side) (b : Before) (s : Setting) (l : Side) (sc : Scope) → AllBelow n (side_binders r) → SideLiterals r
+      → Vars n b s.scope sc → LinesAreBuilt core b (met_side core.table (right_of s l) r) → AloneFits core r sc
+  alone_fits core n is (On Here x ty t) b s (On kl xl tl l) sc below lits v h =
+      let d = stands_too kl xl s.destination in
+      let rs = right_of s (On kl xl tl l) in
+      let r = least3 2 8 9 (not (has_room core.table d)) (is_bound b.bound x) (not (same_type ty (field_due core.table d))) h.0 in
+      let typed = same_type_is ty (field_due core.table d) (not_false (same_type ty (field_due core.table d)) r.2) in
+      let due = due_there core d (not_false (has_room core.table d) r.0) in
+      let m = next core.table b (SideLine Here x ty) in
+      let absent = v.new x.0 r.1 below.0 in
+      let bound : is_bound m.bound x ≡ true = first_true (x.0 == x.0) (is_bound b.bound x) (itself x.0) in
+      let inner = in_side core.table rs Here ty in (
+        due.0.0,
+        typed ∙ due.1,
+        absent,
+        term_fits core n is t m inner (put sc x.0 Held) (f.Empty due.0.0) (is_part inner t refl) below.1 lits (vars_hold n m s.scope sc x.0 Held absent bound (vars_on n b m s.scope sc (line_later core b rs (SideLine Here x ty) h.0) v)) (due.0, due.1, refl) h.1,
+      )
+  alone_fits core n is (On Region x ty t) b s (On kl xl tl l) sc below lits v h =
+      let rs = right_of s (On kl xl tl l) in
+      let r = least2 3 8 (is_scalar ty) (is_bound b.bound x) h.0 in
+      let packed = packed_type ty r.0 in
+      let m = next core.table b (SideLine Region x ty) in
+      let absent = v.new x.0 r.1 below.0 in
+      let bound : is_bound m.bound x ≡ true = first_true (x.0 == x.0) (is_bound b.bound x) (itself x.0) in
+      let inner = in_side core.table rs Region ty in (
+        packed.0.0,
+        packed.1,
+        absent,
+        term_fits core n is t m inner (put sc x.0 Held) (f.Empty packed.0.0) (is_part inner t refl) below.1 lits (vars_hold n m s.scope sc x.0 Held absent bound (vars_on n b m s.scope sc (line_later core b rs (SideLine Region x ty) h.0) v)) (packed.0, packed.1, refl) h.1,
+      )
+  alone_fits core n is (On Scalar x ty (CallTerm g xs)) b s (On kl xl tl l) sc below lits v h =
+      let rs = right_of s (On kl xl tl l) in
+      let m = next core.table b (SideLine Scalar x ty) in
+      alone_scalar core n x ty (CallTerm g xs) b rs sc below v h (scalar_call_fits core n m (in_side core.table rs Scalar ty) sc g xs h.1 lits (vars_on n b m s.scope sc (line_later core b rs (SideLine Scalar x ty) h.0) v))
+  alone_fits core n is (On Scalar x ty (Then k t)) b s (On kl xl tl l) sc below lits v h =
+      let rs = right_of s (On kl xl tl l) in
+      alone_scalar core n x ty (Then k t) b rs sc below v h (term_fits core n is (Then k t) (next core.table b (SideLine Scalar x ty)) (in_side core.table rs Scalar ty) sc (f.Nowhere ty) tt below.1 lits (scalar_vars core n b rs sc x ty (Then k t) h v) (scalar_due core b rs x ty (Then k t) h, refl) h.1)
+  alone_fits core n is (On Scalar x ty (Write q k ss ps)) b s (On kl xl tl l) sc below lits v h =
+      let rs = right_of s (On kl xl tl l) in
+      alone_scalar core n x ty (Write q k ss ps) b rs sc below v h (term_fits core n is (Write q k ss ps) (next core.table b (SideLine Scalar x ty)) (in_side core.table rs Scalar ty) sc (f.Nowhere ty) tt below.1 lits (scalar_vars core n b rs sc x ty (Write q k ss ps) h v) (scalar_due core b rs x ty (Write q k ss ps) h, refl) h.1)
+  alone_fits core n is (On Scalar x ty (Point y)) b s (On kl xl tl l) sc below lits v h =
+      let rs = right_of s (On kl xl tl l) in
+      alone_scalar core n x ty (Point y) b rs sc below v h (term_fits core n is (Point y) (next core.table b (SideLine Scalar x ty)) (in_side core.table rs Scalar ty) sc (f.Nowhere ty) tt below.1 lits (scalar_vars core n b rs sc x ty (Point y) h v) (scalar_due core b rs x ty (Point y) h, refl) h.1)
+  alone_fits core n is (On Scalar x ty (Give y)) b s (On kl xl tl l) sc below lits v h =
+      let rs = right_of s (On kl xl tl l) in
+      alone_scalar core n x ty (Give y) b rs sc below v h (term_fits core n is (Give y) (next core.table b (SideLine Scalar x ty)) (in_side core.table rs Scalar ty) sc (f.Nowhere ty) tt below.1 lits (scalar_vars core n b rs sc x ty (Give y) h v) (scalar_due core b rs x ty (Give y) h, refl) h.1)
+  alone_fits core n is (On Scalar x ty (CaseTerm y bs)) b s (On kl xl tl l) sc below lits v h =
+      let rs = right_of s (On kl xl tl l) in
+      alone_scalar core n x ty (CaseTerm y bs) b rs sc below v h (term_fits core n is (CaseTerm y bs) (next core.table b (SideLine Scalar x ty)) (in_side core.table rs Scalar ty) sc (f.Nowhere ty) tt below.1 lits (scalar_vars core n b rs sc x ty (CaseTerm y bs) h v) (scalar_due core b rs x ty (CaseTerm y bs) h, refl) h.1)
+  alone_fits core n is (On Scalar x ty (IfTerm y t u)) b s (On kl xl tl l) sc below lits v h =
+      let rs = right_of s (On kl xl tl l) in
+      alone_scalar core n x ty (IfTerm y t u) b rs sc below v h (term_fits core n is (IfTerm y t u) (next core.table b (SideLine Scalar x ty)) (in_side core.table rs Scalar ty) sc (f.Nowhere ty) tt below.1 lits (scalar_vars core n b rs sc x ty (IfTerm y t u) h v) (scalar_due core b rs x ty (IfTerm y t u) h, refl) h.1)
+
+  branches_fit : (core : CoreTree) (n : ℕ) → IsTable core.table → (bs : Branches) (b : Before) (s : Setting) (sc : Scope) (d : Dest) (x : ℕ) → AllBelow n (branch_binders bs) → BranchLiterals bs
+      → Vars n b s.scope sc → IsDest core.table b sc s.destination s.due d → ArmsHaveTypes core.table (arms_of bs) b.bound → ArmsAreNew core.table sc (arms_of bs) → LinesAreBuilt core b (met_branches core.table s bs)
+      → BranchesFit core bs x sc d
+  branches_fit core n is NoBranch b s sc d x below lits v e types new h = tt
+  branches_fit core n is (BranchThen k ys t bs) b s sc d x below lits v e types new h =
+      let inner = in_arm core.table s k ys in
+      let lines = met core.table inner t in
+      let parts = built_apart core b lines (met_branches core.table s bs) h in
+      let low = below_apart n (map (λ (y : Variable). y.0) ys) (binders t ++ branch_binders bs) below in
+      let lower = below_apart n (binders t) (branch_binders bs) low.1 in
+      let arm = enter n b s.scope sc x 1 k None (fields_at core.table k.0) ys new.0 types.0 tt v in
+      let tc = arm_scope x k.0 1 None (fields_at core.table k.0) ys sc in
+      let c = next_all core.table b lines in
+      let later = lines_later core b lines parts.0 in (
+        new.0,
+        term_fits core n is t b inner tc d (is_part inner t refl) lower.0 lits.0 arm.vars (dest_kept core.table b b sc tc s.destination s.due d arm.keep e) parts.0,
+        branches_fit core n is bs c s sc d x lower.1 lits.1 (vars_on n b c s.scope sc later v) (dest_kept core.table b c sc sc s.destination s.due d (keep_later b c sc later) e) (arms_have_on core.table (arms_of bs) b.bound c.bound later.bound types.1) new.1 parts.1,
+      )

@@ -1,0 +1,310 @@
+-- The build rules as a type, by recursion on terms: what is known of each variable, and where a value is put.
+use Rattle.std.specs.Prelude.{◌≡◌, ◌≤◌, ℕ, zero, suc, ◌+◌, ◌==◌, Bool, true, false, List, [], ◌∷◌, ◌++◌, map, length, Option, Some, None, if◌then◌else◌, ◌||◌, FitsSigned}
+use Rattle.std.specs.Int.{w64}
+use Rattle.gib_base.specs.declared.name.Name.{Name}
+use Rattle.gib_types.specs.declared.table.Ty.{Ty}
+use Rattle.gib_types.specs.declared.table.Ty.TheVariants.{Whole, Truth, Tree}
+use Rattle.gib_types.specs.Table.{fields_at, con_at, scalar_types, IsTable}
+use Rattle.gib_types.specs.Layout.{is_among}
+use Rattle.gib_syntax.specs.Meaning.{is_scalar}
+use Rattle.gib_syntax.specs.Typing.{operator_type}
+use Rattle.gib_core.specs.declared.atom.Variable.{Variable}
+use Rattle.gib_core.specs.declared.atom.Atom.{Atom}
+use Rattle.gib_core.specs.declared.atom.Atom.TheVariants as a
+use Rattle.gib_core.specs.declared.atom.Kind.TheVariants as kind
+use Rattle.gib_core.specs.declared.atom.Access.TheVariants as by
+use Rattle.gib_core.specs.Tree as t
+use Rattle.gib_core.specs.Tree.{Term, Bind, Side, Branches, FunctionTerm, CoreTree, var, variable_of}
+use Rattle.gib_core.specs.Meaning.{function_at}
+use Rattle.gib_core.specs.Reaching.{side_uses}
+use Rattle.gib_core.specs.Numbering.{binders}
+use Rattle.gib_core.specs.Low.{laid_of}
+
+-- The same with another value at a place.
+abbrev pub put : {A : Type 0} → (ℕ → A) → ℕ → A → ℕ → A
+put f x v y = if y == x then v else f y
+
+-- Location types.
+
+-- What is known of a variable: it has no slot; it is not bound; a scalar; an open head, or a variable whose value is being
+-- made; a tree at the place that it was bound to; a tree at some place; a tree whose slot is its head's place; a packed
+-- field that is not reached, which stands behind the value of z, and whose address is stored at p of the head of the
+-- constructor k, the tree x, where k has offsets.
+pub data Sort : Type 0 where
+  Outside : Sort
+  Absent : Sort
+  Scalar : (ty : Ty) → Sort
+  Held : Sort
+  Placed : (t : ℕ) → Sort
+  Loose : (t : ℕ) → Sort
+  AtHead : (t : ℕ) → Sort
+  Field : (t z x k p : ℕ) → Sort
+
+abbrev pub Scope : Type 0
+Scope = ℕ → Sort
+
+abbrev pub is_there : Sort → Bool
+is_there Outside = false
+is_there Absent = false
+is_there (Scalar ty) = true
+is_there Held = true
+is_there (Placed t) = true
+is_there (Loose t) = true
+is_there (AtHead t) = true
+is_there (Field t z x k p) = true
+
+abbrev pub has_slot : Sort → Bool
+has_slot Outside = false
+has_slot Absent = true
+has_slot (Scalar ty) = true
+has_slot Held = true
+has_slot (Placed t) = true
+has_slot (Loose t) = true
+has_slot (AtHead t) = true
+has_slot (Field t z x k p) = true
+
+-- The type of a tree that can be used.
+abbrev pub tree_type : Sort → Option ℕ
+tree_type Outside = None
+tree_type Absent = None
+tree_type (Scalar ty) = None
+tree_type Held = None
+tree_type (Placed t) = Some t
+tree_type (Loose t) = Some t
+tree_type (AtHead t) = Some t
+tree_type (Field t z x k p) = None
+
+-- A scalar of the type is due; a tree of the type at an empty place; a tree of the type t whose head h of the constructor
+-- k is open, where the fields xs stand and fields of these types are due.
+pub data Dest : Type 0 where
+  Nowhere : (ty : Ty) → Dest
+  Empty : (t : ℕ) → Dest
+  Open : (t h k : ℕ) (xs dues : List ℕ) → Dest
+
+abbrev pub dest_type : Dest → Ty
+dest_type (Nowhere ty) = ty
+dest_type (Empty t) = Tree (record { 0 = t })
+dest_type (Open t h k xs dues) = Tree (record { 0 = t })
+
+abbrev pub dest_of : Ty → Dest
+dest_of Whole = Nowhere Whole
+dest_of Truth = Nowhere Truth
+dest_of (Tree t) = Empty t.0
+
+-- After a case on it a tree may be at another place.
+abbrev pub loosen_one : Bool → Sort → Sort
+loosen_one false s = s
+loosen_one true Outside = Outside
+loosen_one true Absent = Absent
+loosen_one true (Scalar ty) = Scalar ty
+loosen_one true Held = Held
+loosen_one true (Placed t) = Loose t
+loosen_one true (Loose t) = Loose t
+loosen_one true (AtHead t) = AtHead t
+loosen_one true (Field t z x k p) = Field t z x k p
+
+abbrev pub loosen : (ℕ → Bool) → Scope → Scope
+loosen m sc y = loosen_one (m y) (sc y)
+
+-- Whether a variable is the subject of a case in a term.
+abbrev pub is_of : Atom → ℕ → Bool
+is_of (a.Variable x) q = q == x.0
+is_of (a.Whole z) q = false
+is_of (a.Truth b) q = false
+
+abbrev mutual
+  pub cased : Term → ℕ → Bool
+  cased (t.Then b u) q = bind_cased b q || cased u q
+  cased (t.Write h k ss ps) q = false
+  cased (t.Point x) q = false
+  cased (t.CallTerm f xs) q = false
+  cased (t.Give x) q = false
+  cased (t.CaseTerm x bs) q = is_of x q || branches_cased bs q
+  cased (t.IfTerm x u v) q = cased u q || cased v q
+
+  pub bind_cased : Bind → ℕ → Bool
+  bind_cased (t.Past h k) q = false
+  bind_cased (t.One s) q = side_cased s q
+  bind_cased (t.Both fork l r) q = side_cased l q || side_cased r q
+  bind_cased (t.Prim x f y z) q = false
+  bind_cased (t.Reach y access) q = false
+
+  pub side_cased : Side → ℕ → Bool
+  side_cased (t.On kind x ty u) q = cased u q
+
+  pub branches_cased : Branches → ℕ → Bool
+  branches_cased t.NoBranch q = false
+  branches_cased (t.BranchThen k xs u bs) q = cased u q || branches_cased bs q
+
+-- The atom is usable at the type.
+abbrev pub AtomFits : Scope → Atom → Ty → Type 0
+AtomFits sc (a.Variable x) Whole = sc x.0 ≡ Scalar Whole
+AtomFits sc (a.Variable x) Truth = sc x.0 ≡ Scalar Truth
+AtomFits sc (a.Variable x) (Tree t) = tree_type (sc x.0) ≡ Some t.0
+AtomFits sc (a.Whole z) Whole = FitsSigned w64 z
+AtomFits sc (a.Whole z) Truth = ⊥
+AtomFits sc (a.Whole z) (Tree t) = ⊥
+AtomFits sc (a.Truth b) Whole = ⊥
+AtomFits sc (a.Truth b) Truth = Unit {0}
+AtomFits sc (a.Truth b) (Tree t) = ⊥
+
+abbrev pub AtomsFit : Scope → List Atom → List Ty → Type 0
+AtomsFit sc [] [] = Unit {0}
+AtomsFit sc [] (ty ∷ tys) = ⊥
+AtomsFit sc (x ∷ xs) [] = ⊥
+AtomsFit sc (x ∷ xs) (ty ∷ tys) = AtomFits sc x ty × AtomsFit sc xs tys
+
+-- The numbers of the types of packed fields.
+abbrev pub packed_due : List Ty → List ℕ
+packed_due [] = []
+packed_due (Whole ∷ ts) = packed_due ts
+packed_due (Truth ∷ ts) = packed_due ts
+packed_due (Tree t ∷ ts) = t.0 ∷ packed_due ts
+
+-- The destination with one more field.
+abbrev pub more : Dest → ℕ → Dest
+more (Nowhere ty) x = Nowhere ty
+more (Empty t) x = Empty t
+more (Open t h k xs []) x = Open t h k xs []
+more (Open t h k xs (s ∷ dues)) x = Open t h k (xs ++ x ∷ []) dues
+
+-- A field of the type is due.
+abbrev pub IsDue : Dest → ℕ → Type 0
+IsDue (Nowhere ty) s = ⊥
+IsDue (Empty t) s = ⊥
+IsDue (Open t h k xs []) s = ⊥
+IsDue (Open t h k xs (u ∷ dues)) s = u ≡ s
+
+-- All but the first stand where they were bound.
+abbrev pub ArePlaced : Scope → List ℕ → Type 0
+ArePlaced sc [] = Unit {0}
+ArePlaced sc (x ∷ xs) = ((t : ℕ) × (sc x ≡ Placed t)) × ArePlaced sc xs
+
+abbrev pub FurtherPlaced : Scope → List ℕ → Type 0
+FurtherPlaced sc [] = Unit {0}
+FurtherPlaced sc (x ∷ xs) = ArePlaced sc xs
+
+-- Where the terms is a call, this of it; else that.
+abbrev pub by_call : Term → Type 0 → (Name → List Atom → Type 0) → Type 0
+by_call (t.Then b u) A B = A
+by_call (t.Write h k ss ps) A B = A
+by_call (t.Point x) A B = A
+by_call (t.CallTerm f xs) A B = B f xs
+by_call (t.Give x) A B = A
+by_call (t.CaseTerm x bs) A B = A
+by_call (t.IfTerm x u v) A B = A
+
+-- A call of a function with the result.
+pub record CallFits (core : CoreTree) (sc : Scope) (f : Name) (xs : List Atom) (ty : Ty) : Type 0 where
+  pub function : FunctionTerm
+  pub named : function_at core.functions f.0 ≡ Some function
+  pub result : function.result ≡ ty
+  pub arguments : AtomsFit sc xs function.parameters
+
+-- The variables of fields are new, as many as there are fields, and the scope with them. The next packed field's address
+-- is stored at p; z is the packed field before it.
+abbrev pub field_sort : ℕ → ℕ → ℕ → Option ℕ → ℕ → Sort
+field_sort x k p None t = Placed t
+field_sort x k p (Some z) t = Field t z x k p
+
+abbrev pub next_place : ℕ → Option ℕ → ℕ
+next_place p None = p
+next_place p (Some z) = p + 8
+
+abbrev pub arm_scope : ℕ → ℕ → ℕ → Option ℕ → List Ty → List Variable → Scope → Scope
+arm_scope x k p z [] ys sc = sc
+arm_scope x k p z (ty ∷ ts) [] sc = sc
+arm_scope x k p z (Whole ∷ ts) (y ∷ ys) sc = arm_scope x k p z ts ys (put sc y.0 (Scalar Whole))
+arm_scope x k p z (Truth ∷ ts) (y ∷ ys) sc = arm_scope x k p z ts ys (put sc y.0 (Scalar Truth))
+arm_scope x k p z (Tree t ∷ ts) (y ∷ ys) sc = arm_scope x k (next_place p z) (Some y.0) ts ys (put sc y.0 (field_sort x k p z t.0))
+
+-- Each is not bound in the scope, and not named twice.
+abbrev pub AreNew : Scope → List Ty → List Variable → Type 0
+AreNew sc [] [] = Unit {0}
+AreNew sc [] (y ∷ ys) = ⊥
+AreNew sc (ty ∷ ts) [] = ⊥
+AreNew sc (ty ∷ ts) (y ∷ ys) = (sc y.0 ≡ Absent) × AreNew (put sc y.0 Held) ts ys
+
+-- There is a branch for the constructor.
+abbrev pub has_branch : Branches → ℕ → Bool
+has_branch t.NoBranch k = false
+has_branch (t.BranchThen c ys u bs) k = c.0 == k || has_branch bs k
+
+-- A packed variable.
+pub record IsTree (sc : Scope) (x : Atom) (s : ℕ) : Type 0 where
+  pub variable : Variable
+  pub atom : x ≡ a.Variable variable
+  pub sort : tree_type (sc variable.0) ≡ Some s
+
+-- The build rules.
+abbrev mutual
+  pub Fits : CoreTree → Term → Scope → Dest → Type 0
+  Fits core (t.Then b u) sc d = BindFits core b sc d (λ sc' d'. Fits core u sc' d')
+  Fits core (t.Write h k ss ps) sc d =
+      (s : ℕ) × (xs : List ℕ) × (d ≡ Open s h.0 k.0 xs []) × (ps ≡ map var xs) × AtomsFit sc ss (scalar_types (fields_at core.table k.0)) × FurtherPlaced sc xs
+  Fits core (t.Point x) sc d = (s : ℕ) × (d ≡ Empty s) × IsTree sc x s
+  Fits core (t.CallTerm f xs) sc d = (s : ℕ) × (d ≡ Empty s) × CallFits core sc f xs (Tree (record { 0 = s }))
+  Fits core (t.Give x) sc d = (ty : Ty) × (d ≡ Nowhere ty) × (is_scalar ty ≡ true) × AtomFits sc x ty
+  Fits core (t.CaseTerm x bs) sc d =
+      (s : ℕ) × (tree : IsTree sc x s) × ((k : ℕ) → con_at core.table s k ≡ Some k → has_branch bs k ≡ true) × BranchesFit core bs tree.variable.0 (put sc tree.variable.0 (AtHead s)) d
+  Fits core (t.IfTerm x u v) sc d = AtomFits sc x Truth × Fits core u sc d × Fits core v sc d
+
+  -- go says that the rest of the line fits the scope and the destination behind the binding.
+  pub BindFits : CoreTree → Bind → Scope → Dest → (Scope → Dest → Type 0) → Type 0
+  BindFits core (t.Past h k) sc d go =
+      (s : ℕ) × (d ≡ Empty s) × (con_at core.table s k.0 ≡ Some k.0) × (sc h.0 ≡ Absent) × go (put sc h.0 Held) (Open s h.0 k.0 [] (packed_due (fields_at core.table k.0)))
+  BindFits core (t.One side) sc d go = SideFits core side sc d go
+  BindFits core (t.Both false l r) sc d go = (side_uses r (variable_of l) ≡ false) × SideFits core l sc d (λ sc' d'. SideFits core r sc' d' go)
+  BindFits core (t.Both true l r) sc d go = (side_uses r (variable_of l) ≡ false) × AloneFits core r sc × SideFits core l sc d (λ sc' d'. SideFits core r sc' d' go)
+  BindFits core (t.Prim x f y z) sc d go = (sc x.0 ≡ Absent) × AtomFits sc y Whole × AtomFits sc z Whole × go (put sc x.0 (Scalar (operator_type f))) d
+  BindFits core (t.Reach y by.Offset) sc d go =
+      (s : ℕ) × (z x k p : ℕ) × (sc y.0 ≡ Field s z x k p) × (is_among (laid_of core).with_offsets k ≡ true) × go (put sc y.0 (Placed s)) d
+  BindFits core (t.Reach y (by.Skip z)) sc d go =
+      (s : ℕ) × (x k p o : ℕ) × (sc y.0 ≡ Field s z.0 x k p) × (sc z.0 ≡ Placed o) × go (put sc y.0 (Placed s)) d
+
+  pub SideFits : CoreTree → Side → Scope → Dest → (Scope → Dest → Type 0) → Type 0
+  SideFits core (t.On kind.Here x ty u) sc d go =
+      (s : ℕ) × (ty ≡ Tree (record { 0 = s })) × IsDue d s × (sc x.0 ≡ Absent) × Fits core u (put sc x.0 Held) (Empty s) × go (put (loosen (cased u) sc) x.0 (Placed s)) (more d x.0)
+  SideFits core (t.On kind.Region x ty u) sc d go =
+      (s : ℕ) × (ty ≡ Tree (record { 0 = s })) × (sc x.0 ≡ Absent) × Fits core u (put sc x.0 Held) (Empty s) × go (put (loosen (cased u) sc) x.0 (Placed s)) d
+  SideFits core (t.On kind.Scalar x ty u) sc d go =
+      (is_scalar ty ≡ true) × (sc x.0 ≡ Absent) × by_call u (Fits core u sc (Nowhere ty)) (λ f xs. CallFits core sc f xs ty) × go (put (loosen (cased u) sc) x.0 (Scalar ty)) d
+
+  -- The right side of a fork fits where the left one has bound nothing.
+  pub AloneFits : CoreTree → Side → Scope → Type 0
+  AloneFits core (t.On kind.Here y ty u) sc = (s : ℕ) × (ty ≡ Tree (record { 0 = s })) × (sc y.0 ≡ Absent) × Fits core u (put sc y.0 Held) (Empty s)
+  AloneFits core (t.On kind.Region y ty u) sc = (s : ℕ) × (ty ≡ Tree (record { 0 = s })) × (sc y.0 ≡ Absent) × Fits core u (put sc y.0 Held) (Empty s)
+  AloneFits core (t.On kind.Scalar y ty u) sc = (is_scalar ty ≡ true) × (sc y.0 ≡ Absent) × by_call u (Fits core u sc (Nowhere ty)) (λ f xs. CallFits core sc f xs ty)
+
+  pub BranchesFit : CoreTree → Branches → ℕ → Scope → Dest → Type 0
+  BranchesFit core t.NoBranch x sc d = Unit {0}
+  BranchesFit core (t.BranchThen k ys u bs) x sc d =
+      AreNew sc (fields_at core.table k.0) ys × Fits core u (arm_scope x k.0 1 None (fields_at core.table k.0) ys sc) d × BranchesFit core bs x sc d
+
+-- Parameters are the first variables; a frame has so many slots.
+abbrev pub param_sort : Ty → Sort
+param_sort Whole = Scalar Whole
+param_sort Truth = Scalar Truth
+param_sort (Tree t) = Placed t.0
+
+abbrev pub body_scope : ℕ → List Ty → Scope
+body_scope zero ts y = Outside
+body_scope (suc n) [] zero = Absent
+body_scope (suc n) [] (suc y) = body_scope n [] y
+body_scope (suc n) (ty ∷ ts) zero = param_sort ty
+body_scope (suc n) (ty ∷ ts) (suc y) = body_scope n ts y
+
+-- A body fits its function, whatever its code.
+pub record FunctionFits (core : CoreTree) (g : FunctionTerm) (slots : ℕ) : Type 0 where
+  pub fits : Fits core g.body (body_scope slots g.parameters) (dest_of g.result)
+  pub enough : length g.parameters ≤ slots
+
+-- Main's body fits.
+pub record MainFits (core : CoreTree) (slots : ℕ) : Type 0 where
+  pub fits : Fits core core.main.body (body_scope slots (core.main.parameter ∷ [])) (dest_of core.main.result)
+
+-- All bodies of a core fit, with a slot for each variable.
+pub record AllFit (core : CoreTree) : Type 0 where
+  pub table : IsTable core.table
+  pub functions : (g : FunctionTerm) (f : ℕ) → function_at core.functions f ≡ Some g → FunctionFits core g (length g.parameters + length (binders g.body))
+  pub main : MainFits core (1 + length (binders core.main.body))

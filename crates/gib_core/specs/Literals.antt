@@ -1,0 +1,42 @@
+-- The literals of a core are numbers of 64 bits.
+use Rattle.std.specs.Prelude.{FitsSigned}
+use Rattle.std.specs.Int.{w64}
+use Rattle.std.specs.List.{AllByRecursion}
+use Rattle.gib_core.specs.declared.atom.Atom.{Atom}
+use Rattle.gib_core.specs.declared.atom.Atom.TheVariants as a
+use Rattle.gib_core.specs.Tree as t
+use Rattle.gib_core.specs.Tree.{Term, Bind, Side, Branches, CoreTree}
+use Rattle.gib_core.specs.Met.{Body, bodies}
+
+abbrev pub LiteralFits : Atom → Type 0
+LiteralFits (a.Variable x) = Unit {0}
+LiteralFits (a.Whole z) = FitsSigned w64 z
+LiteralFits (a.Truth b) = Unit {0}
+
+abbrev mutual
+  pub LiteralsFit : Term → Type 0
+  LiteralsFit (t.Then b u) = BindLiterals b × LiteralsFit u
+  LiteralsFit (t.Write h k ss ps) = AllByRecursion LiteralFits ss
+  LiteralsFit (t.Point x) = Unit {0}
+  LiteralsFit (t.CallTerm f xs) = AllByRecursion LiteralFits xs
+  LiteralsFit (t.Give x) = LiteralFits x
+  LiteralsFit (t.CaseTerm x bs) = BranchLiterals bs
+  LiteralsFit (t.IfTerm x u v) = LiteralsFit u × LiteralsFit v
+
+  pub BindLiterals : Bind → Type 0
+  BindLiterals (t.Past h k) = Unit {0}
+  BindLiterals (t.One s) = SideLiterals s
+  BindLiterals (t.Both fork l r) = SideLiterals l × SideLiterals r
+  BindLiterals (t.Prim x f y z) = LiteralFits y × LiteralFits z
+  BindLiterals (t.Reach y access) = Unit {0}
+
+  pub SideLiterals : Side → Type 0
+  SideLiterals (t.On kind x ty u) = LiteralsFit u
+
+  pub BranchLiterals : Branches → Type 0
+  BranchLiterals t.NoBranch = Unit {0}
+  BranchLiterals (t.BranchThen k ys u bs) = LiteralsFit u × BranchLiterals bs
+
+-- The literals of each body fit.
+abbrev pub AllLiteralsFit : CoreTree → Type 0
+AllLiteralsFit core = AllByRecursion (λ (b : Body). LiteralsFit b.term) (bodies core)

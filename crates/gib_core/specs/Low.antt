@@ -1,0 +1,236 @@
+-- The code of a core.
+use Rattle.std.specs.Prelude.{◌≡◌, ℕ, suc, ◌+◌, ◌==◌, Bool, true, false, if◌then◌else◌, List, [], ◌∷◌, ◌++◌, length, map, Some, None, slice_get}
+use Rattle.std.specs.Int.{w64, cast_unsigned}
+use Rattle.gib_types.specs.declared.table.Ty.{Ty}
+use Rattle.gib_types.specs.declared.table.Ty.TheVariants as ty
+use Rattle.gib_types.specs.declared.table.ConId.{ConId}
+use Rattle.gib_types.specs.Table.{fields_at}
+use Rattle.gib_types.specs.Layout.{LaidOut, layout_at, numbers_of}
+use Rattle.gib_syntax.specs.declared.tree.Operator.{Operator}
+use Rattle.gib_syntax.specs.declared.tree.Operator.TheVariants as o
+use Rattle.gib_core.specs.declared.atom.Variable.{Variable}
+use Rattle.gib_core.specs.declared.atom.Atom.{Atom}
+use Rattle.gib_core.specs.declared.atom.Atom.TheVariants as a
+use Rattle.gib_core.specs.declared.atom.Kind.{Kind}
+use Rattle.gib_core.specs.declared.atom.Kind.TheVariants as kind
+use Rattle.gib_core.specs.declared.atom.Access.TheVariants as by
+use Rattle.gib_core.specs.Tree as t
+use Rattle.gib_core.specs.Tree.{Term, Bind, Side, Branches, FunctionTerm, CoreTree}
+use Rattle.gib_core.specs.Numbering.{binders}
+use Rattle.gib_code.specs.declared.instruction.Operand.{Operand}
+use Rattle.gib_code.specs.declared.instruction.Operand.TheVariants.{Slot, Number}
+use Rattle.gib_code.specs.declared.instruction.Operation.{Operation}
+use Rattle.gib_code.specs.declared.instruction.Operation.TheVariants.{Add, Sub, Mul, Eq, Lt}
+use Rattle.gib_code.specs.declared.instruction.Kind.TheVariants as k
+use Rattle.gib_code.specs.declared.instruction.Kind.{Kind as CodeKind}
+use Rattle.gib_code.specs.declared.instruction.Arm.{Arm}
+use Rattle.gib_code.specs.declared.instruction.Entry.{Entry}
+use Rattle.gib_code.specs.Instruction.{Instruction, Move, Operate, Jump, Unless, Switch, Whole, Truth, First, Offset, Skip, Begin, Done, Here, Past, Fill, Point, Call, CallScalar, Return, Give, Fork, Join, Back}
+use Rattle.gib_code.specs.Program.{CodeTree, IsAt, AreAt}
+
+-- Each function here is total: what a build rule excludes has an answer too, so that the code needs no build rule.
+
+-- The core's constructors with their layouts.
+abbrev pub laid_of : CoreTree → LaidOut
+laid_of core = record { table = core.table; with_offsets = numbers_of core.offsets }
+
+-- A truth value as a word.
+abbrev pub truth_word : Bool → ℕ
+truth_word false = 0
+truth_word true = 1
+
+-- An atom as an operand.
+abbrev pub operand : Atom → Operand
+operand (a.Variable x) = Slot x.0
+operand (a.Whole z) = Number (cast_unsigned w64 z)
+operand (a.Truth b) = Number (truth_word b)
+
+abbrev pub operands : List Atom → List Operand
+operands xs = map operand xs
+
+-- The slot of a packed value. A literal is none.
+abbrev pub slot_of : Atom → ℕ
+slot_of (a.Variable x) = x.0
+slot_of (a.Whole z) = 0
+slot_of (a.Truth b) = 0
+
+abbrev pub slots_of : List Atom → List ℕ
+slots_of xs = map slot_of xs
+
+abbrev pub operation : Operator → Operation
+operation o.Add = Add
+operation o.Subtract = Sub
+operation o.Multiply = Mul
+operation o.Equal = Eq
+operation o.Less = Lt
+
+abbrev pub kind_of : Kind → CodeKind
+kind_of kind.Here = k.Here
+kind_of kind.Region = k.Region
+kind_of kind.Scalar = k.Scalar
+
+-- The number of a function of a name in the text; of none, the number of main.
+abbrev pub function_number : List FunctionTerm → ℕ → ℕ
+function_number [] f = 0
+function_number (g ∷ gs) f = if g.name.0 == f then 0 else suc (function_number gs f)
+
+-- A packed field of an arm around: its variable, the slot of the case, and where in the head its address is stored.
+pub record Field : Type 0 where
+  pub variable : ℕ
+  pub tree : ℕ
+  pub place : ℕ
+
+-- The newest field of a variable; of no field, the place 0 of the slot 0.
+abbrev pub field_of : List Field → ℕ → Field
+field_of [] y = record { variable = y; tree = 0; place = 0 }
+field_of (f ∷ fs) y = if f.variable == y then f else field_of fs y
+
+-- The packed fields behind the first one; the address of the next one is stored at p.
+abbrev pub further_fields : ℕ → ℕ → List Ty → List Variable → List Field → List Field
+further_fields x p [] ys fs = fs
+further_fields x p (t ∷ ts) [] fs = fs
+further_fields x p (ty.Whole ∷ ts) (y ∷ ys) fs = further_fields x p ts ys fs
+further_fields x p (ty.Truth ∷ ts) (y ∷ ys) fs = further_fields x p ts ys fs
+further_fields x p (ty.Tree t ∷ ts) (y ∷ ys) fs = further_fields x (p + 8) ts ys (record { variable = y.0; tree = x; place = p } ∷ fs)
+
+-- The packed fields of an arm come into scope.
+abbrev pub with_fields : ℕ → List Ty → List Variable → List Field → List Field
+with_fields x [] ys fs = fs
+with_fields x (t ∷ ts) [] fs = fs
+with_fields x (ty.Whole ∷ ts) (y ∷ ys) fs = with_fields x ts ys fs
+with_fields x (ty.Truth ∷ ts) (y ∷ ys) fs = with_fields x ts ys fs
+with_fields x (ty.Tree t ∷ ts) (y ∷ ys) fs = further_fields x 1 ts ys fs
+
+-- The scalar fields of an arm are read, from the place p of the head on.
+abbrev pub scalar_reads : ℕ → ℕ → List Ty → List Variable → List Instruction
+scalar_reads x p [] ys = []
+scalar_reads x p (t ∷ ts) [] = []
+scalar_reads x p (ty.Whole ∷ ts) (y ∷ ys) = Whole y.0 x p ∷ scalar_reads x (p + 8) ts ys
+scalar_reads x p (ty.Truth ∷ ts) (y ∷ ys) = Truth y.0 x p ∷ scalar_reads x (p + 1) ts ys
+scalar_reads x p (ty.Tree t ∷ ts) (y ∷ ys) = scalar_reads x p ts ys
+
+-- The first packed field of an arm is reached, behind a head of so many bytes.
+abbrev pub first_reach : ℕ → ℕ → List Ty → List Variable → List Instruction
+first_reach x size [] ys = []
+first_reach x size (t ∷ ts) [] = []
+first_reach x size (ty.Whole ∷ ts) (y ∷ ys) = first_reach x size ts ys
+first_reach x size (ty.Truth ∷ ts) (y ∷ ys) = first_reach x size ts ys
+first_reach x size (ty.Tree t ∷ ts) (y ∷ ys) = First y.0 x size ∷ []
+
+-- What an arm of the constructor k begins with.
+abbrev pub arm_opening : LaidOut → ℕ → ℕ → List Variable → List Instruction
+arm_opening laid x k ys =
+    scalar_reads x (1 + (layout_at laid.table laid.with_offsets k).offsets) (fields_at laid.table k) ys
+    ++ first_reach x (layout_at laid.table laid.with_offsets k).head (fields_at laid.table k) ys
+
+-- What follows a term: a return, or the code at a label; a scalar goes to a slot.
+pub data End : Type 0 where
+  Returns : End
+  To : (label slot : ℕ) → End
+
+-- What stands behind a packed term.
+abbrev pub ending : End → Instruction
+ending Returns = Return
+ending (To l d) = Jump l
+
+-- What gives a scalar.
+abbrev pub giving : Operand → End → List Instruction
+giving s Returns = Give s ∷ []
+giving s (To l d) = Move d s ∷ Jump l ∷ []
+
+-- How a field is reached.
+abbrev pub reaching : List Field → Variable → Rattle.gib_core.specs.declared.atom.Access.Access → Instruction
+reaching fs y by.Offset = Offset y.0 (field_of fs y.0).tree (field_of fs y.0).place
+reaching fs y (by.Skip z) = Skip y.0 z.0
+
+-- The term is no call.
+abbrev pub IsNoCall : Term → Type 0
+IsNoCall (t.Then b rest) = Unit {0}
+IsNoCall (t.Write h c ss ps) = Unit {0}
+IsNoCall (t.Point x) = Unit {0}
+IsNoCall (t.CallTerm f xs) = ⊥
+IsNoCall (t.Give x) = Unit {0}
+IsNoCall (t.CaseTerm x bs) = Unit {0}
+IsNoCall (t.IfTerm x u v) = Unit {0}
+
+-- Low core code fs a t e z: the instructions from a up to z are the code of the term t with the end e, where fs are the
+-- packed fields of the arms around.
+mutual
+  pub data Low (core : CoreTree) (code : CodeTree) : List Field → ℕ → Term → End → ℕ → Type 0 where
+    write : {fs : List Field} {a z : ℕ} {h : Variable} {c : ConId} {ss ps : List Atom} {e : End}
+        → AreAt code a (Fill h.0 c.0 (operands ss) (slots_of ps) ∷ ending e ∷ []) z → Low core code fs a (t.Write h c ss ps) e z
+    point : {fs : List Field} {a z : ℕ} {x : Atom} {e : End} → AreAt code a (Point (slot_of x) ∷ ending e ∷ []) z → Low core code fs a (t.Point x) e z
+    call : {fs : List Field} {a z : ℕ} {f : Rattle.gib_base.specs.declared.name.Name.Name} {xs : List Atom} {e : End}
+        → AreAt code a (Call (function_number core.functions f.0) (operands xs) ∷ ending e ∷ []) z → Low core code fs a (t.CallTerm f xs) e z
+    give : {fs : List Field} {a z : ℕ} {x : Atom} {e : End} → AreAt code a (giving (operand x) e) z → Low core code fs a (t.Give x) e z
+    branch : {fs : List Field} {a l z : ℕ} {x : Atom} {u v : Term} {e : End}
+        → IsAt code a (Unless (operand x) l) → Low core code fs (a + 1) u e l → Low core code fs l v e z → Low core code fs a (t.IfTerm x u v) e z
+    case : {fs : List Field} {a z : ℕ} {x : Atom} {bs : Branches} {arms : List Arm} {e : End}
+        → IsAt code a (Switch (slot_of x) arms) → LowArms core code fs (slot_of x) (a + 1) arms bs e z → Low core code fs a (t.CaseTerm x bs) e z
+    binding : {fs : List Field} {a m z : ℕ} {b : Bind} {u : Term} {e : End} → LowBind core code fs a b m → Low core code fs m u e z → Low core code fs a (t.Then b u) e z
+
+  -- The code of the branches of a case on the slot x; each branch's code begins with its fields.
+  pub data LowArms (core : CoreTree) (code : CodeTree) : List Field → ℕ → ℕ → List Arm → Branches → End → ℕ → Type 0 where
+    no_arm : {fs : List Field} {x a : ℕ} {e : End} → LowArms core code fs x a [] t.NoBranch e a
+    arm : {fs : List Field} {x a m l z : ℕ} {c : ConId} {ys : List Variable} {u : Term} {bs : Branches} {arms : List Arm} {e : End}
+        → AreAt code a (arm_opening (laid_of core) x c.0 ys) m
+        → Low core code (with_fields x (fields_at core.table c.0) ys fs) m u e l
+        → LowArms core code fs x l arms bs e z
+        → LowArms core code fs x a (record { constructor = c.0; label = a } ∷ arms) (t.BranchThen c ys u bs) e z
+
+  -- The code of a binding.
+  pub data LowBind (core : CoreTree) (code : CodeTree) : List Field → ℕ → Bind → ℕ → Type 0 where
+    past : {fs : List Field} {a : ℕ} {h : Variable} {c : ConId} → IsAt code a (Past h.0 c.0) → LowBind core code fs a (t.Past h c) (a + 1)
+    one : {fs : List Field} {a z : ℕ} {s : Side} → LowSide core code fs a s z → LowBind core code fs a (t.One s) z
+    in_turn : {fs : List Field} {a m z : ℕ} {l r : Side} → LowSide core code fs a l m → LowSide core code fs m r z → LowBind core code fs a (t.Both false l r) z
+    forked : {fs : List Field} {a m z : ℕ} {l : Side} {c : Kind} {x : Variable} {ty : Ty} {u : Term}
+        → IsAt code a (Fork (m + 1) (z + 1) (kind_of c) x.0 ty)
+        → LowSide core code fs (a + 1) l m → IsAt code m Join
+        → LowSide core code fs (m + 1) (t.On c x ty u) z → IsAt code z Back
+        → LowBind core code fs a (t.Both true l (t.On c x ty u)) (z + 1)
+    prim : {fs : List Field} {a : ℕ} {x : Variable} {f : Operator} {y w : Atom}
+        → IsAt code a (Operate x.0 (operation f) (operand y) (operand w)) → LowBind core code fs a (t.Prim x f y w) (a + 1)
+    reach : {fs : List Field} {a : ℕ} {y : Variable} {access : Rattle.gib_core.specs.declared.atom.Access.Access}
+        → IsAt code a (reaching fs y access) → LowBind core code fs a (t.Reach y access) (a + 1)
+
+  -- The code of a variable that is bound to a term.
+  pub data LowSide (core : CoreTree) (code : CodeTree) : List Field → ℕ → Side → ℕ → Type 0 where
+    here : {fs : List Field} {a z : ℕ} {x : Variable} {ty : Ty} {u : Term}
+        → IsAt code a (Here x.0) → Low core code fs (a + 1) u (To z 0) z → LowSide core code fs a (t.On kind.Here x ty u) z
+    region : {fs : List Field} {a z : ℕ} {x : Variable} {ty : Ty} {u : Term}
+        → IsAt code a (Begin x.0) → Low core code fs (a + 1) u (To z 0) z → IsAt code z Done → LowSide core code fs a (t.On kind.Region x ty u) (z + 1)
+    scalar_call : {fs : List Field} {a : ℕ} {x : Variable} {ty : Ty} {f : Rattle.gib_base.specs.declared.name.Name.Name} {xs : List Atom}
+        → IsAt code a (CallScalar x.0 (function_number core.functions f.0) (operands xs)) → LowSide core code fs a (t.On kind.Scalar x ty (t.CallTerm f xs)) (a + 1)
+    scalar : {fs : List Field} {a z : ℕ} {x : Variable} {ty : Ty} {u : Term}
+        → IsNoCall u → Low core code fs a u (To z x.0) z → LowSide core code fs a (t.On kind.Scalar x ty u) z
+
+-- The functions of the text have their code one after another, main last; a frame has a slot for each variable.
+pub data LowFunctions (core : CoreTree) (code : CodeTree) : ℕ → List FunctionTerm → List Entry → Type 0 where
+  main : {a : ℕ} {e : Entry} → e.name ≡ None → e.result ≡ core.main.result → e.start ≡ a → e.slots ≡ 1 + length (binders core.main.body) → Low core code [] a core.main.body Returns (length code.instructions)
+      → LowFunctions core code a [] (e ∷ [])
+  function : {a z : ℕ} {g : FunctionTerm} {gs : List FunctionTerm} {e : Entry} {es : List Entry}
+      → e.name ≡ Some g.name → e.result ≡ g.result → e.start ≡ a → e.slots ≡ length g.parameters + length (binders g.body) → Low core code [] a g.body Returns z
+      → LowFunctions core code z gs es → LowFunctions core code a (g ∷ gs) (e ∷ es)
+
+-- The code is that of the core.
+pub record IsLowered (core : CoreTree) (code : CodeTree) : Type 0 where
+  pub laid : code.laid ≡ laid_of core
+  pub functions : LowFunctions core code 0 core.functions code.functions
+
+-- The entry of a number is that of the function: it tells where the function's code begins, how many slots it has, and the
+-- type of its result.
+pub record HasCode (core : CoreTree) (code : CodeTree) (entries : List Entry) (number : ℕ) (g : FunctionTerm) : Type 0 where
+  pub entry : Entry
+  pub at : slice_get entries number ≡ Some entry
+  pub slots : entry.slots ≡ length g.parameters + length (binders g.body)
+  pub result : entry.result ≡ g.result
+  pub until : ℕ
+  pub low : Low core code [] entry.start g.body Returns until
+
+-- Main's entry stands at the number behind those of the functions, and its code is the last.
+pub record HasMain (core : CoreTree) (code : CodeTree) (entries : List Entry) (number : ℕ) : Type 0 where
+  pub entry : Entry
+  pub at : slice_get entries number ≡ Some entry
+  pub slots : entry.slots ≡ 1 + length (binders core.main.body)
+  pub result : entry.result ≡ core.main.result
+  pub low : Low core code [] entry.start core.main.body Returns (length code.instructions)

@@ -1,0 +1,273 @@
+-- The code that is made of a core is its code.
+use Rattle.std.proofs.Common.{◌≡◌, ℕ, ◌+◌, true, false, List, [], ◌∷◌, ◌++◌, length, map, refl, sym, ap, subst, arith}
+use Rattle.std.proofs.lemmas.List.{length-map}
+use Rattle.gib_types.specs.declared.table.Ty.{Ty}
+use Rattle.gib_types.specs.declared.table.Ty.TheVariants as ty
+use Rattle.gib_types.specs.Table.{fields_at}
+use Rattle.gib_types.specs.Layout.{layout_at}
+use Rattle.gib_code.specs.declared.instruction.Operand.{Operand}
+use Rattle.gib_code.specs.declared.instruction.Arm.{Arm}
+use Rattle.gib_code.specs.Instruction as i
+use Rattle.gib_code.specs.Instruction.{Instruction}
+use Rattle.gib_code.specs.Program.{CodeTree, IsAt, AreAt}
+use Rattle.gib_core.specs.declared.atom.Variable.{Variable}
+use Rattle.gib_core.specs.declared.atom.Access.{Access}
+use Rattle.gib_core.specs.declared.atom.Access.TheVariants.{Offset, Skip}
+use Rattle.gib_core.specs.declared.atom.Kind.TheVariants.{Here, Region, Scalar}
+use Rattle.gib_core.specs.Tree.{Term, Then, Write, Point, CallTerm, Give, CaseTerm, IfTerm, Bind, Past, One, Both, Prim, Reach, Side, On, Branches, NoBranch, BranchThen, FunctionTerm, CoreTree}
+use Rattle.gib_core.specs.Low as low
+use Rattle.gib_core.specs.Low.{laid_of, operand, operands, slot_of, slots_of, operation, kind_of, function_number, Field, with_fields, scalar_reads, first_reach, arm_opening, End, Returns, To, ending, giving, reaching, IsNoCall, Low, LowArms, LowBind, LowSide, LowFunctions, IsLowered}
+use Rattle.gib_lower.specs.Lowering.{lowered, lowered_bind, lowered_side, lowered_branches, lowered_functions, label_in, arm_in, numbered, begun, entry_in, lower_program}
+use Rattle.gib_lower.proofs.Standing.{Stands, at_first, behind, next, counted, label_at, IsNumbered, is_at, are_at}
+
+-- An end, with its label as the number of an instruction.
+abbrev pub end_in : ℕ → End → End
+end_in n Returns = Returns
+end_in n (To l d) = To (label_in n l) d
+
+-- Instructions without labels stay.
+
+ending_stays : (n : ℕ) (e : End) → numbered n (ending e) ≡ ending (end_in n e)
+ending_stays n Returns = refl
+ending_stays n (To l d) = refl
+
+giving_stays : (n : ℕ) (v : Operand) (e : End) → map (numbered n) (giving v e) ≡ giving v (end_in n e)
+giving_stays n v Returns = refl
+giving_stays n v (To l d) = refl
+
+reaching_stays : (n : ℕ) (fs : List Field) (y : Variable) (by : Access) → numbered n (reaching fs y by) ≡ reaching fs y by
+reaching_stays n fs y Offset = refl
+reaching_stays n fs y (Skip z) = refl
+
+reads_stay : (n x p : ℕ) (ts : List Ty) (ys : List Variable) (rest new : List Instruction) → map (numbered n) rest ≡ new → map (numbered n) (scalar_reads x p ts ys ++ rest) ≡ scalar_reads x p ts ys ++ new
+reads_stay n x p [] ys rest new e = e
+reads_stay n x p (ty.Whole ∷ ts) [] rest new e = e
+reads_stay n x p (ty.Truth ∷ ts) [] rest new e = e
+reads_stay n x p (ty.Tree t ∷ ts) [] rest new e = e
+reads_stay n x p (ty.Whole ∷ ts) (y ∷ ys) rest new e = ap (λ l. i.Whole y.0 x p ∷ l) (reads_stay n x (p + 8) ts ys rest new e)
+reads_stay n x p (ty.Truth ∷ ts) (y ∷ ys) rest new e = ap (λ l. i.Truth y.0 x p ∷ l) (reads_stay n x (p + 1) ts ys rest new e)
+reads_stay n x p (ty.Tree t ∷ ts) (y ∷ ys) rest new e = reads_stay n x p ts ys rest new e
+
+first_stays : (n x size : ℕ) (ts : List Ty) (ys : List Variable) → map (numbered n) (first_reach x size ts ys) ≡ first_reach x size ts ys
+first_stays n x size [] ys = refl
+first_stays n x size (ty.Whole ∷ ts) [] = refl
+first_stays n x size (ty.Truth ∷ ts) [] = refl
+first_stays n x size (ty.Tree t ∷ ts) [] = refl
+first_stays n x size (ty.Whole ∷ ts) (y ∷ ys) = first_stays n x size ts ys
+first_stays n x size (ty.Truth ∷ ts) (y ∷ ys) = first_stays n x size ts ys
+first_stays n x size (ty.Tree t ∷ ts) (y ∷ ys) = refl
+
+opening_stays : (core : CoreTree) (n x k : ℕ) (ys : List Variable) → map (numbered n) (arm_opening (laid_of core) x k ys) ≡ arm_opening (laid_of core) x k ys
+opening_stays core n x k ys =
+    let laid = layout_at (laid_of core).table (laid_of core).with_offsets k in
+    let first = first_reach x laid.head (fields_at core.table k) ys in
+    reads_stay n x (1 + laid.offsets) (fields_at core.table k) ys first first (first_stays n x laid.head (fields_at core.table k) ys)
+
+-- What was found of code that stands somewhere: its relation, up to where the rest stands.
+
+pub record Lowers (core : CoreTree) (code : CodeTree) (whole : List Instruction) (fs : List Field) (a : ℕ) (t : Term) (e : End) (rest : List Instruction) : Type 0 where
+  pub up_to : ℕ
+  pub is : Low core code fs a t (end_in (length whole) e) up_to
+  pub after : Stands whole up_to rest
+
+pub record LowersBind (core : CoreTree) (code : CodeTree) (whole : List Instruction) (fs : List Field) (a : ℕ) (b : Bind) (rest : List Instruction) : Type 0 where
+  pub up_to : ℕ
+  pub is : LowBind core code fs a b up_to
+  pub after : Stands whole up_to rest
+
+pub record LowersSide (core : CoreTree) (code : CodeTree) (whole : List Instruction) (fs : List Field) (a : ℕ) (s : Side) (rest : List Instruction) : Type 0 where
+  pub up_to : ℕ
+  pub is : LowSide core code fs a s up_to
+  pub after : Stands whole up_to rest
+
+pub record LowersArms (core : CoreTree) (code : CodeTree) (whole : List Instruction) (fs : List Field) (x a : ℕ) (arms : List Arm) (bs : Branches) (e : End) (rest : List Instruction) : Type 0 where
+  pub up_to : ℕ
+  pub is : LowArms core code fs x a (map (arm_in (length whole)) arms) bs (end_in (length whole) e) up_to
+  pub after : Stands whole up_to rest
+
+-- Two instructions and the rest: the second is an end.
+ended : (core : CoreTree) (code : CodeTree) (whole rest : List Instruction) (a : ℕ) (x : Instruction) (e : End) → IsNumbered code whole
+    → Stands whole a (x ∷ ending e ∷ rest) → numbered (length whole) x ≡ x → AreAt code a (x ∷ ending (end_in (length whole) e) ∷ []) (a + 2)
+ended core code whole rest a x e num s same =
+    let h = are_at code whole (x ∷ ending e ∷ []) rest a num s in
+    subst (λ y. AreAt code a (y ∷ ending (end_in (length whole) e) ∷ []) (a + 2)) same (subst (λ y. AreAt code a (numbered (length whole) x ∷ y ∷ []) (a + 2)) (ending_stays (length whole) e) h)
+
+end_behind : (whole rest : List Instruction) (a : ℕ) (x y : Instruction) → Stands whole a (x ∷ y ∷ rest) → Stands whole (a + 2) rest
+end_behind whole rest a x y s = behind whole (x ∷ y ∷ []) rest a s
+
+-- The right side of a `scalar` that is no call.
+scalar_side : (core : CoreTree) (code : CodeTree) (whole : List Instruction) (fs : List Field) (a : ℕ) (x : Variable) (ty : Ty) (t : Term) (rest : List Instruction) → IsNoCall t
+    → Lowers core code whole fs a t (To (length rest) x.0) rest → LowersSide core code whole fs a (On Scalar x ty t) rest
+scalar_side core code whole fs a x ty t rest single h =
+    record { up_to = h.up_to; is = low.scalar single (subst (λ l. Low core code fs a t (To l x.0) h.up_to) (label_at whole rest h.up_to h.after) h.is); after = h.after }
+
+-- A fork, where both sides are known.
+fork_bind : (core : CoreTree) (code : CodeTree) (whole : List Instruction) (fs : List Field) (a : ℕ) (l r : Side) (rest : List Instruction) → IsNumbered code whole
+    → Stands whole a (lowered_bind core fs (Both true l r) rest)
+    → (hl : LowersSide core code whole fs (a + 1) l (i.Join ∷ lowered_side core fs r (i.Back ∷ rest)))
+    → LowersSide core code whole fs (hl.up_to + 1) r (i.Back ∷ rest)
+    → LowersBind core code whole fs a (Both true l r) rest
+fork_bind core code whole fs a l (On c x ty t) rest num s hl hr =
+    let n = length whole in
+    let right = lowered_side core fs (On c x ty t) (i.Back ∷ rest) in
+    let left = lowered_side core fs l (i.Join ∷ right) in
+    let at = is_at code whole left a (i.Fork (length right) (length rest) (kind_of c) x.0 ty) num s in
+    let after = next whole rest hr.up_to i.Back hr.after in
+    let r_at = label_at whole right (hl.up_to + 1) (next whole right hl.up_to i.Join hl.after) in
+    let j_at = label_at whole rest (hr.up_to + 1) after in
+    let at_r = subst (λ m. IsAt code a (i.Fork m (label_in n (length rest)) (kind_of c) x.0 ty)) r_at at in
+    record {
+      up_to = hr.up_to + 1;
+      is = low.forked (subst (λ m. IsAt code a (i.Fork (hl.up_to + 1) m (kind_of c) x.0 ty)) j_at at_r) hl.is (is_at code whole right hl.up_to i.Join num hl.after) hr.is (is_at code whole rest hr.up_to i.Back num hr.after);
+      after = after;
+    }
+
+-- The left side begins behind the fork.
+fork_left : (core : CoreTree) (whole : List Instruction) (fs : List Field) (a : ℕ) (l r : Side) (rest : List Instruction) → Stands whole a (lowered_bind core fs (Both true l r) rest)
+    → Stands whole (a + 1) (lowered_side core fs l (i.Join ∷ lowered_side core fs r (i.Back ∷ rest)))
+fork_left core whole fs a l (On c x ty t) rest s =
+    let right = lowered_side core fs (On c x ty t) (i.Back ∷ rest) in
+    next whole (lowered_side core fs l (i.Join ∷ right)) a (i.Fork (length right) (length rest) (kind_of c) x.0 ty) s
+
+mutual
+  pub low_term : (core : CoreTree) (code : CodeTree) (whole : List Instruction) → IsNumbered code whole → (t : Term) (fs : List Field) (a : ℕ) (e : End) (rest : List Instruction)
+      → Stands whole a (lowered core fs t e rest) → Lowers core code whole fs a t e rest
+  low_term core code whole num (Then b t) fs a e rest s =
+      let hb = low_bind core code whole num b fs a (lowered core fs t e rest) s in
+      let ht = low_term core code whole num t fs hb.up_to e rest hb.after in
+      record { up_to = ht.up_to; is = low.binding hb.is ht.is; after = ht.after }
+  low_term core code whole num (Write h k ss ps) fs a e rest s =
+      let x = i.Fill h.0 k.0 (operands ss) (slots_of ps) in
+      record { up_to = a + 2; is = low.write (ended core code whole rest a x e num s refl); after = end_behind whole rest a x (ending e) s }
+  low_term core code whole num (Point y) fs a e rest s =
+      let x = i.Point (slot_of y) in
+      record { up_to = a + 2; is = low.point (ended core code whole rest a x e num s refl); after = end_behind whole rest a x (ending e) s }
+  low_term core code whole num (CallTerm g xs) fs a e rest s =
+      let x = i.Call (function_number core.functions g.0) (operands xs) in
+      record { up_to = a + 2; is = low.call (ended core code whole rest a x e num s refl); after = end_behind whole rest a x (ending e) s }
+  low_term core code whole num (Give y) fs a e rest s =
+      let xs = giving (operand y) e in
+      let h = are_at code whole xs rest a num s in
+      record {
+        up_to = a + length xs;
+        is = low.give (subst (λ l. AreAt code a l (a + length xs)) (giving_stays (length whole) (operand y) e) h);
+        after = behind whole xs rest a s;
+      }
+  low_term core code whole num (CaseTerm y bs) fs a e rest s =
+      let arms = lowered_branches core fs (slot_of y) bs e rest in
+      let x = i.Switch (slot_of y) arms.arms in
+      let h = low_arms core code whole num bs fs (slot_of y) (a + 1) e rest (next whole arms.code a x s) in
+      record { up_to = h.up_to; is = low.case (is_at code whole arms.code a x num s) h.is; after = h.after }
+  low_term core code whole num (IfTerm y t u) fs a e rest s =
+      let other = lowered core fs u e rest in
+      let x = i.Unless (operand y) (length other) in
+      let ht = low_term core code whole num t fs (a + 1) e other (next whole (lowered core fs t e other) a x s) in
+      let hu = low_term core code whole num u fs ht.up_to e rest ht.after in
+      let at = is_at code whole (lowered core fs t e other) a x num s in
+      record {
+        up_to = hu.up_to;
+        is = low.branch (subst (λ l. IsAt code a (i.Unless (operand y) l)) (label_at whole other ht.up_to ht.after) at) ht.is hu.is;
+        after = hu.after;
+      }
+
+  low_bind : (core : CoreTree) (code : CodeTree) (whole : List Instruction) → IsNumbered code whole → (b : Bind) (fs : List Field) (a : ℕ) (rest : List Instruction)
+      → Stands whole a (lowered_bind core fs b rest) → LowersBind core code whole fs a b rest
+  low_bind core code whole num (Past h k) fs a rest s =
+      let x = i.Past h.0 k.0 in
+      record { up_to = a + 1; is = low.past (is_at code whole rest a x num s); after = next whole rest a x s }
+  low_bind core code whole num (One side) fs a rest s =
+      let h = low_side core code whole num side fs a rest s in
+      record { up_to = h.up_to; is = low.one h.is; after = h.after }
+  low_bind core code whole num (Both false l r) fs a rest s =
+      let hl = low_side core code whole num l fs a (lowered_side core fs r rest) s in
+      let hr = low_side core code whole num r fs hl.up_to rest hl.after in
+      record { up_to = hr.up_to; is = low.in_turn hl.is hr.is; after = hr.after }
+  low_bind core code whole num (Both true l r) fs a rest s =
+      let right = lowered_side core fs r (i.Back ∷ rest) in
+      let hl = low_side core code whole num l fs (a + 1) (i.Join ∷ right) (fork_left core whole fs a l r rest s) in
+      let hr = low_side core code whole num r fs (hl.up_to + 1) (i.Back ∷ rest) (next whole right hl.up_to i.Join hl.after) in
+      fork_bind core code whole fs a l r rest num s hl hr
+  low_bind core code whole num (Prim y g v w) fs a rest s =
+      let x = i.Operate y.0 (operation g) (operand v) (operand w) in
+      record { up_to = a + 1; is = low.prim (is_at code whole rest a x num s); after = next whole rest a x s }
+  low_bind core code whole num (Reach y by) fs a rest s =
+      let x = reaching fs y by in
+      record {
+        up_to = a + 1;
+        is = low.reach (subst (λ z. IsAt code a z) (reaching_stays (length whole) fs y by) (is_at code whole rest a x num s));
+        after = next whole rest a x s;
+      }
+
+  low_side : (core : CoreTree) (code : CodeTree) (whole : List Instruction) → IsNumbered code whole → (side : Side) (fs : List Field) (a : ℕ) (rest : List Instruction)
+      → Stands whole a (lowered_side core fs side rest) → LowersSide core code whole fs a side rest
+  low_side core code whole num (On Here x ty t) fs a rest s =
+      let e = To (length rest) 0 in
+      let body = lowered core fs t e rest in
+      let h = low_term core code whole num t fs (a + 1) e rest (next whole body a (i.Here x.0) s) in
+      record {
+        up_to = h.up_to;
+        is = low.here (is_at code whole body a (i.Here x.0) num s) (subst (λ l. Low core code fs (a + 1) t (To l 0) h.up_to) (label_at whole rest h.up_to h.after) h.is);
+        after = h.after;
+      }
+  low_side core code whole num (On Region x ty t) fs a rest s =
+      let finish = i.Done ∷ rest in
+      let e = To (length finish) 0 in
+      let body = lowered core fs t e finish in
+      let h = low_term core code whole num t fs (a + 1) e finish (next whole body a (i.Begin x.0) s) in
+      record {
+        up_to = h.up_to + 1;
+        is = low.region (is_at code whole body a (i.Begin x.0) num s) (subst (λ l. Low core code fs (a + 1) t (To l 0) h.up_to) (label_at whole finish h.up_to h.after) h.is) (is_at code whole rest h.up_to i.Done num h.after);
+        after = next whole rest h.up_to i.Done h.after;
+      }
+  low_side core code whole num (On Scalar x ty (CallTerm g xs)) fs a rest s =
+      let y = i.CallScalar x.0 (function_number core.functions g.0) (operands xs) in
+      record { up_to = a + 1; is = low.scalar_call (is_at code whole rest a y num s); after = next whole rest a y s }
+  low_side core code whole num (On Scalar x ty (Then b t)) fs a rest s =
+      scalar_side core code whole fs a x ty (Then b t) rest tt (low_term core code whole num (Then b t) fs a (To (length rest) x.0) rest s)
+  low_side core code whole num (On Scalar x ty (Write h k ss ps)) fs a rest s =
+      scalar_side core code whole fs a x ty (Write h k ss ps) rest tt (low_term core code whole num (Write h k ss ps) fs a (To (length rest) x.0) rest s)
+  low_side core code whole num (On Scalar x ty (Point y)) fs a rest s =
+      scalar_side core code whole fs a x ty (Point y) rest tt (low_term core code whole num (Point y) fs a (To (length rest) x.0) rest s)
+  low_side core code whole num (On Scalar x ty (Give y)) fs a rest s =
+      scalar_side core code whole fs a x ty (Give y) rest tt (low_term core code whole num (Give y) fs a (To (length rest) x.0) rest s)
+  low_side core code whole num (On Scalar x ty (CaseTerm y bs)) fs a rest s =
+      scalar_side core code whole fs a x ty (CaseTerm y bs) rest tt (low_term core code whole num (CaseTerm y bs) fs a (To (length rest) x.0) rest s)
+  low_side core code whole num (On Scalar x ty (IfTerm y t u)) fs a rest s =
+      scalar_side core code whole fs a x ty (IfTerm y t u) rest tt (low_term core code whole num (IfTerm y t u) fs a (To (length rest) x.0) rest s)
+
+  low_arms : (core : CoreTree) (code : CodeTree) (whole : List Instruction) → IsNumbered code whole → (bs : Branches) (fs : List Field) (x a : ℕ) (e : End) (rest : List Instruction)
+      → Stands whole a (lowered_branches core fs x bs e rest).code → LowersArms core code whole fs x a (lowered_branches core fs x bs e rest).arms bs e rest
+  low_arms core code whole num NoBranch fs x a e rest s = record { up_to = a; is = low.no_arm; after = s }
+  low_arms core code whole num (BranchThen k ys t bs) fs x a e rest s =
+      let others = lowered_branches core fs x bs e rest in
+      let opening = arm_opening (laid_of core) x k.0 ys in
+      let inner = with_fields x (fields_at core.table k.0) ys fs in
+      let body = lowered core inner t e others.code in
+      let m = a + length opening in
+      let ht = low_term core code whole num t inner m e others.code (behind whole opening body a s) in
+      let hs = low_arms core code whole num bs fs x ht.up_to e rest ht.after in
+      let opened = subst (λ l. AreAt code a l m) (opening_stays core (length whole) x k.0 ys) (are_at code whole opening body a num s) in
+      let n = length whole in
+      let P : ℕ → Type 0 = λ l. LowArms core code fs x a (record { constructor = k.0; label = l } ∷ map (arm_in n) others.arms) (BranchThen k ys t bs) (end_in n e) hs.up_to in
+      record {
+        up_to = hs.up_to;
+        is = subst P (sym (label_at whole (opening ++ body) a s)) (low.arm opened ht.is hs.is);
+        after = hs.after;
+      }
+
+-- Functions.
+
+low_functions : (core : CoreTree) (code : CodeTree) (whole : List Instruction) → IsNumbered code whole → (gs : List FunctionTerm) (a : ℕ)
+    → Stands whole a (lowered_functions core gs) → LowFunctions core code a gs (map (entry_in (length whole)) (begun core gs))
+low_functions core code whole num [] a s =
+    let h = low_term core code whole num core.main.body [] a Returns [] s in
+    let all : h.up_to ≡ length code.instructions = let c = counted whole [] h.up_to h.after in omega (arith, c, ap length num.is, length-map whole (numbered (length whole))) in
+    low.main refl refl (label_at whole (lowered_functions core []) a s) refl (subst (λ z. Low core code [] a core.main.body Returns z) all h.is)
+low_functions core code whole num (g ∷ gs) a s =
+    let h = low_term core code whole num g.body [] a Returns (lowered_functions core gs) s in
+    low.function refl refl (label_at whole (lowered_functions core (g ∷ gs)) a s) refl h.is (low_functions core code whole num gs h.up_to h.after)
+
+pub is_lowered : (core : CoreTree) → IsLowered core (lower_program core)
+is_lowered core =
+    let whole = lowered_functions core core.functions in
+    record { laid = refl; functions = low_functions core (lower_program core) whole (record { is = refl }) core.functions 0 (at_first whole) }

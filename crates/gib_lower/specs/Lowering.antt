@@ -1,0 +1,160 @@
+-- From a core to its code.
+--
+-- The code of a term is put in front of the code that follows it, so a label is known before it is used: while code is made,
+-- a label is how many instructions there are from its place to the end of the program. Once all code is there, labels
+-- become numbers of instructions.
+use Rattle.std.specs.Prelude.{ℕ, ◌+◌, ◌-◌, Bool, true, false, List, [], ◌∷◌, ◌++◌, map, length, Option, Some, None}
+use Rattle.gib_base.specs.declared.name.Name.{Name}
+use Rattle.gib_types.specs.declared.table.ConId.{ConId}
+use Rattle.gib_types.specs.declared.table.Ty.{Ty}
+use Rattle.gib_types.specs.Table.{fields_at}
+use Rattle.gib_code.specs.declared.instruction.Arm.{Arm}
+use Rattle.gib_code.specs.declared.instruction.Entry.{Entry}
+use Rattle.gib_code.specs.Instruction as i
+use Rattle.gib_code.specs.Instruction.{Instruction}
+use Rattle.gib_code.specs.Program.{CodeTree}
+use Rattle.gib_core.specs.declared.atom.Variable.{Variable}
+use Rattle.gib_core.specs.declared.atom.Atom.{Atom}
+use Rattle.gib_core.specs.declared.atom.Kind.TheVariants.{Here, Region, Scalar}
+use Rattle.gib_core.specs.Tree.{Term, Then, Write, Point, CallTerm, Give, CaseTerm, IfTerm, Bind, Past, One, Both, Prim, Reach, Side, On, Branches, NoBranch, BranchThen, FunctionTerm, CoreTree}
+use Rattle.gib_core.specs.Numbering.{binders}
+use Rattle.gib_core.specs.Low.{laid_of, operand, operands, slot_of, slots_of, operation, kind_of, function_number, Field, with_fields, arm_opening, End, Returns, To, ending, giving, reaching}
+
+-- The code of branches, with each constructor's label.
+pub record Switched : Type 0 where
+  pub arms : List Arm
+  pub code : List Instruction
+
+-- One more branch, before the others.
+abbrev pub one_more : ConId → List Instruction → Switched → Switched
+one_more k code others = record { arms = record { constructor = k.0; label = length code } ∷ others.arms; code = code }
+
+-- A switch to branches.
+abbrev pub switch : ℕ → Switched → List Instruction
+switch x branches = i.Switch x branches.arms ∷ branches.code
+
+-- Where the right side of a `scalar` is a call alone, it is a scalar call; otherwise it has its own code.
+abbrev pub call_or : Term → (Name → List Atom → List Instruction) → List Instruction → List Instruction
+call_or (CallTerm g xs) call other = call g xs
+call_or (Then b t) call other = other
+call_or (Write h k ss ps) call other = other
+call_or (Point x) call other = other
+call_or (Give x) call other = other
+call_or (CaseTerm x branches) call other = other
+call_or (IfTerm x t u) call other = other
+
+-- A fork, before the left side's code: it tells where the right side's code begins, and what follows both.
+abbrev pub fork : Side → List Instruction → List Instruction → List Instruction → List Instruction
+fork (On kind x ty t) left right rest = i.Fork (length right) (length rest) (kind_of kind) x.0 ty ∷ left
+
+-- Two sides, and then the rest, by whether they are marked. The right side comes as what it is before any code.
+abbrev pub both : Bool → Side → (List Instruction → List Instruction) → (List Instruction → List Instruction) → List Instruction → List Instruction
+both false r left right rest = left (right rest)
+both true r left right rest = fork r (left (i.Join ∷ right (i.Back ∷ rest))) (right (i.Back ∷ rest)) rest
+
+abbrev mutual
+  -- A term with an end, and then the rest.
+  pub lowered : CoreTree → List Field → Term → End → List Instruction → List Instruction
+  lowered core fs (Then b t) e rest = lowered_bind core fs b (lowered core fs t e rest)
+  lowered core fs (Write h k ss ps) e rest = i.Fill h.0 k.0 (operands ss) (slots_of ps) ∷ ending e ∷ rest
+  lowered core fs (Point x) e rest = i.Point (slot_of x) ∷ ending e ∷ rest
+  lowered core fs (CallTerm g xs) e rest = i.Call (function_number core.functions g.0) (operands xs) ∷ ending e ∷ rest
+  lowered core fs (Give x) e rest = giving (operand x) e ++ rest
+  lowered core fs (CaseTerm x branches) e rest = switch (slot_of x) (lowered_branches core fs (slot_of x) branches e rest)
+  lowered core fs (IfTerm x t u) e rest =
+      let other = lowered core fs u e rest in
+      i.Unless (operand x) (length other) ∷ lowered core fs t e other
+
+  -- A binding, and then the rest.
+  pub lowered_bind : CoreTree → List Field → Bind → List Instruction → List Instruction
+  lowered_bind core fs (Past h k) rest = i.Past h.0 k.0 ∷ rest
+  lowered_bind core fs (One side) rest = lowered_side core fs side rest
+  lowered_bind core fs (Both marked l r) rest = both marked r (lowered_side core fs l) (lowered_side core fs r) rest
+  lowered_bind core fs (Prim x g y z) rest = i.Operate x.0 (operation g) (operand y) (operand z) ∷ rest
+  lowered_bind core fs (Reach y by) rest = reaching fs y by ∷ rest
+
+  -- A variable that is bound to a term, and then the rest.
+  pub lowered_side : CoreTree → List Field → Side → List Instruction → List Instruction
+  lowered_side core fs (On Here x ty t) rest = i.Here x.0 ∷ lowered core fs t (To (length rest) 0) rest
+  lowered_side core fs (On Region x ty t) rest =
+      let finish = i.Done ∷ rest in
+      i.Begin x.0 ∷ lowered core fs t (To (length finish) 0) finish
+  lowered_side core fs (On Scalar x ty t) rest =
+      call_or t (λ g xs. i.CallScalar x.0 (function_number core.functions g.0) (operands xs) ∷ rest) (lowered core fs t (To (length rest) x.0) rest)
+
+  -- The branches of a case on the slot x, one after another, and then the rest.
+  pub lowered_branches : CoreTree → List Field → ℕ → Branches → End → List Instruction → Switched
+  lowered_branches core fs x NoBranch e rest = record { arms = []; code = rest }
+  lowered_branches core fs x (BranchThen k ys t branches) e rest =
+      let others = lowered_branches core fs x branches e rest in
+      one_more k (arm_opening (laid_of core) x k.0 ys ++ lowered core (with_fields x (fields_at core.table k.0) ys fs) t e others.code) others
+
+-- A scalar that is bound to a term, and then the rest.
+abbrev pub scalar_lowered : CoreTree → List Field → Variable → Term → List Instruction → List Instruction
+scalar_lowered core fs x t rest =
+    call_or t (λ g xs. i.CallScalar x.0 (function_number core.functions g.0) (operands xs) ∷ rest) (lowered core fs t (To (length rest) x.0) rest)
+
+-- A branch, and then the rest.
+abbrev pub branch_lowered : CoreTree → List Field → ℕ → ConId → List Variable → Term → End → List Instruction → List Instruction
+branch_lowered core fs x k ys t e rest =
+    arm_opening (laid_of core) x k.0 ys ++ lowered core (with_fields x (fields_at core.table k.0) ys fs) t e rest
+
+-- The code of functions in the order of the text, and then main's.
+abbrev pub lowered_functions : CoreTree → List FunctionTerm → List Instruction
+lowered_functions core [] = lowered core [] core.main.body Returns []
+lowered_functions core (g ∷ gs) = lowered core [] g.body Returns (lowered_functions core gs)
+
+-- A label as the number of an instruction, in a program of n instructions.
+abbrev pub label_in : ℕ → ℕ → ℕ
+label_in n l = n - l
+
+abbrev pub arm_in : ℕ → Arm → Arm
+arm_in n arm = record { constructor = arm.constructor; label = label_in n arm.label }
+
+-- An instruction with its labels as numbers of instructions.
+abbrev pub numbered : ℕ → Instruction → Instruction
+numbered n (i.Move d v) = i.Move d v
+numbered n (i.Operate d g v w) = i.Operate d g v w
+numbered n (i.Jump l) = i.Jump (label_in n l)
+numbered n (i.Unless v l) = i.Unless v (label_in n l)
+numbered n (i.Switch x arms) = i.Switch x (map (arm_in n) arms)
+numbered n (i.Whole d x p) = i.Whole d x p
+numbered n (i.Truth d x p) = i.Truth d x p
+numbered n (i.First d x p) = i.First d x p
+numbered n (i.Offset d x p) = i.Offset d x p
+numbered n (i.Skip d y) = i.Skip d y
+numbered n (i.Begin d) = i.Begin d
+numbered n i.Done = i.Done
+numbered n (i.Here d) = i.Here d
+numbered n (i.Past h k) = i.Past h k
+numbered n (i.Fill h k ss ps) = i.Fill h k ss ps
+numbered n (i.Point x) = i.Point x
+numbered n (i.Call g ss) = i.Call g ss
+numbered n (i.CallScalar d g ss) = i.CallScalar d g ss
+numbered n i.Return = i.Return
+numbered n (i.Give v) = i.Give v
+numbered n (i.Fork r j kind b ty) = i.Fork (label_in n r) (label_in n j) kind b ty
+numbered n i.Join = i.Join
+numbered n i.Back = i.Back
+
+-- A function in the code: its name, where it begins, a slot for each variable, and the type of its value.
+abbrev pub entry_of : Option Name → Ty → ℕ → ℕ → Term → Entry
+entry_of name result start parameters body = record { name = name; start = start; slots = parameters + length (binders body); result = result }
+
+-- The functions in the code, main last; each begins where so many instructions are left.
+abbrev pub begun : CoreTree → List FunctionTerm → List Entry
+begun core [] = entry_of None core.main.result (length (lowered_functions core [])) 1 core.main.body ∷ []
+begun core (g ∷ gs) = entry_of (Some g.name) g.result (length (lowered_functions core (g ∷ gs))) (length g.parameters) g.body ∷ begun core gs
+
+abbrev pub entry_in : ℕ → Entry → Entry
+entry_in n e = record { name = e.name; start = label_in n e.start; slots = e.slots; result = e.result }
+
+-- The code of a core.
+abbrev pub lower_program : CoreTree → CodeTree
+lower_program core =
+    let code = lowered_functions core core.functions in
+    record {
+      laid = laid_of core;
+      instructions = map (numbered (length code)) code;
+      functions = map (entry_in (length code)) (begun core core.functions);
+    }

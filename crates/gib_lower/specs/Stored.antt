@@ -1,0 +1,6 @@
+-- Packed fields as the code keeps them.
+use Rattle.gib_core.specs.Low.{Field}
+use Rattle.gib_lower.specs.declared.fields.StoredField.{StoredField}
+
+abbrev pub stored : StoredField → Field
+stored f = record { variable = f.variable; tree = f.tree; place = f.place }

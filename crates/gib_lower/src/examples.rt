@@ -1,0 +1,71 @@
+//! An example of what a core becomes.
+
+ghost use Rattle.std.specs.Prelude.{◌≡◌, ◌∷◌, [], ℕ, pos, true, Some, None};
+ghost use Rattle.gib_types.specs.declared.table.Ty.{Ty as FieldType};
+ghost use Rattle.gib_types.specs.declared.table.Ty.TheVariants as ty;
+ghost use Rattle.gib_types.specs.declared.table.ConId.{ConId as Con};
+ghost use Rattle.gib_types.specs.Row.{Table};
+ghost use Rattle.gib_base.specs.declared.name.Name.{Name as FunctionName};
+ghost use Rattle.gib_syntax.specs.declared.tree.Operator.TheVariants as o;
+ghost use Rattle.gib_core.specs.declared.atom.Atom.TheVariants as a;
+ghost use Rattle.gib_core.specs.declared.atom.Access.TheVariants as by;
+ghost use Rattle.gib_core.specs.declared.atom.Kind.TheVariants as kind;
+ghost use Rattle.gib_core.specs.declared.atom.Variable.{Variable as X};
+ghost use Rattle.gib_core.specs.Tree.{Term, Then, Write, CallTerm, CaseTerm, Past, One, Both, Prim, Reach, On, NoBranch, BranchThen, var, CoreTree};
+ghost use Rattle.gib_code.specs.declared.instruction.Operand.TheVariants.{Slot, Number};
+ghost use Rattle.gib_code.specs.declared.instruction.Operation.TheVariants as f;
+ghost use Rattle.gib_code.specs.declared.instruction.Kind.TheVariants as side;
+ghost use Rattle.gib_code.specs.Instruction as i;
+ghost use Rattle.gib_lower.specs.Lowering.{lower_program};
+
+/// The code of
+///
+///     fun add1 (t : Tree) : Tree =
+///       case t of { Leaf n -> Leaf (n + 1) ; Node l r -> let par a = add1 l and b = add1 r in Node a b } ;
+///     main (t : Tree) : Tree = add1 t ;
+///
+/// over `data Tree = Leaf Int | Node Tree Tree`, with its sides at their places and marked.
+pub fn examples()
+    ensures { let leaf : Con = record { 0 = 0 } in
+        let node : Con = record { 0 = 1 } in
+        let add1 : FunctionName = record { 0 = 3 } in
+        let tree : FieldType = ty.Tree (record { 0 = 0 }) in
+        let x : ℕ → X = λ n. record { 0 = n } in
+        let table : Table = record { types = 0 ∷ []; rows = record { name = 1; owner = 0; fields = ty.Whole ∷ [] } ∷ record { name = 2; owner = 0; fields = tree ∷ tree ∷ [] } ∷ [] } in
+        let first : Term = Then (Prim (x 2) o.Add (var 1) (a.Whole (pos 1))) (Then (Past (x 3) leaf) (Write (x 3) leaf (var 2 ∷ []) [])) in
+        let second : Term = Then (Reach (x 5) by.Offset) (Then (Past (x 6) node) (Then (Both true (On kind.Here (x 7) tree (CallTerm add1 (var 4 ∷ []))) (On kind.Here (x 8) tree (CallTerm add1 (var 5 ∷ [])))) (Write (x 6) node [] (var 7 ∷ var 8 ∷ [])))) in
+        let core : CoreTree = record {
+          table = table;
+          functions = record { name = add1; parameters = tree ∷ []; result = tree; body = CaseTerm (var 0) (BranchThen leaf (x 1 ∷ []) first (BranchThen node (x 4 ∷ x 5 ∷ []) second NoBranch)) } ∷ [];
+          main = record { parameter = tree; result = tree; body = CallTerm add1 (var 0 ∷ []) };
+          offsets = node ∷ [];
+        } in
+        lower_program core ≡ record {
+          laid = record { table = table; with_offsets = 1 ∷ [] };
+          instructions =
+              i.Switch 0 (record { constructor = 0; label = 1 } ∷ record { constructor = 1; label = 6 } ∷ [])
+              ∷ i.Whole 1 0 1
+              ∷ i.Operate 2 f.Add (Slot 1) (Number 1)
+              ∷ i.Past 3 0
+              ∷ i.Fill 3 0 (Slot 2 ∷ []) []
+              ∷ i.Return
+              ∷ i.First 4 0 9
+              ∷ i.Offset 5 0 1
+              ∷ i.Past 6 1
+              ∷ i.Fork 14 18 side.Here 8 tree
+              ∷ i.Here 7
+              ∷ i.Call 0 (Slot 4 ∷ [])
+              ∷ i.Jump 13
+              ∷ i.Join
+              ∷ i.Here 8
+              ∷ i.Call 0 (Slot 5 ∷ [])
+              ∷ i.Jump 17
+              ∷ i.Back
+              ∷ i.Fill 6 1 [] (7 ∷ 8 ∷ [])
+              ∷ i.Return
+              ∷ i.Call 0 (Slot 0 ∷ [])
+              ∷ i.Return
+              ∷ [];
+          functions = record { name = Some add1; start = 0; slots = 9; result = tree } ∷ record { name = None; start = 20; slots = 1; result = tree } ∷ [];
+        } }
+{}

@@ -1,0 +1,19 @@
+//! From cores to code.
+#![tactic(auto)]
+
+mod atoms;
+mod counts;
+mod emitted;
+mod ending;
+pub mod examples;
+mod fields;
+mod functions;
+pub mod law;
+mod literals;
+mod numbering;
+mod opening;
+mod program;
+mod source;
+mod walk;
+
+pub use program::lower;

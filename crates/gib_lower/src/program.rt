@@ -1,0 +1,188 @@
+//! The code of whole cores.
+
+ghost use Rattle.std.specs.Prelude.{◌≡◌, ◌<◌, ◌∷◌, [], Some, length, map, reverse, IfOk, OnOk};
+ghost use Rattle.std.specs.List.{AllByRecursion};
+ghost use Rattle.gib_core.specs.Arena.{term_of};
+ghost use Rattle.gib_core.specs.Parts.{IsFunctionInside, core_of, function_term};
+ghost use Rattle.gib_code.specs.Instruction.{instruction_of};
+ghost use Rattle.gib_core.specs.Low.{laid_of, Returns};
+ghost use Rattle.gib_core.specs.Numbering.{AreNumbered};
+ghost use Rattle.gib_core.specs.Fits.{AllFit};
+ghost use Rattle.gib_lower.specs.Counting.{variables_of};
+ghost use Rattle.gib_lower.specs.Lowering.{label_in, entry_in, entry_of, numbered, lowered, lowered_functions, begun, lower_program};
+
+use crate::counts::{Counts, number_of, plus};
+use crate::emitted::Emitted;
+use crate::ending::Ending;
+use crate::fields::Fields;
+use crate::law::lowering_gives_its_code;
+use crate::literals::literals_fit;
+use crate::numbering::{label_in, number_all};
+use crate::source::Source;
+use crate::walk::{Lowering, lower_term};
+use gib_base::Memory;
+use gib_code::{Code, Entry, Instr};
+use gib_core::law::built_fits;
+use gib_core::{Checked, CoreFunction, Lowered, TermId};
+use std::alloc::Global;
+
+/// The code of a body, before the code that is there; its label.
+fn lower_body(source: &Source, body: TermId, out: &mut Lowering) -> Result<u32, Memory>
+    requires inside { body.0 < length source.now.terms }
+    requires outside { out.old.fields ≡ [] }
+    ensures code { IfOk result (λ _. out.new.code ≡ lowered (core_of source.now) [] (term_of source.now.terms body.0) Returns out.old.code) }
+    ensures outside { IfOk result (λ _. out.new.fields ≡ []) }
+    ensures label { IfOk result (λ label. label ≡ length out.new.code) }
+{
+    lower_term(source, body, Ending::Returns, out)?;
+    Ok(out.code.label())
+}
+
+/// The code of a function, before the code that is there; the function as it stands there.
+fn lower_function(
+    source: &Source,
+    counts: &Counts,
+    function: &CoreFunction,
+    out: &mut Lowering,
+) -> Result<Entry, Memory>
+    requires inside { function.now.body.0 < length source.now.terms }
+    requires counts { counts.now ≡ record { terms = source.now.terms; upto = length source.now.terms } }
+    requires outside { out.old.fields ≡ [] }
+    ensures code { IfOk result (λ _. out.new.code ≡ lowered (core_of source.now) [] (term_of source.now.terms function.now.body.0) Returns out.old.code) }
+    ensures outside { IfOk result (λ _. out.new.fields ≡ []) }
+    ensures entry { IfOk result (λ entry. entry ≡ entry_of (Some function.now.name) function.now.result (length out.new.code) (length function.now.parameters.items) (term_of source.now.terms function.now.body.0)) }
+{
+    let start = lower_body(source, function.body, out)?;
+    let parameters = number_of(&function.parameters)?;
+    let slots = plus(parameters, counts.of(function.body))?;
+    Ok(Entry {
+        name: Some(function.name),
+        start,
+        slots,
+        result: function.result,
+    })
+}
+
+/// The code of main, which stands behind all others; main as it stands there.
+fn lower_main(source: &Source, counts: &Counts, out: &mut Lowering) -> Result<Entry, Memory>
+    requires counts { counts.now ≡ record { terms = source.now.terms; upto = length source.now.terms } }
+    requires outside { out.old.fields ≡ [] }
+    requires last { out.old.code ≡ [] }
+    ensures code { IfOk result (λ _. out.new.code ≡ lowered_functions (core_of source.now) []) }
+    ensures outside { IfOk result (λ _. out.new.fields ≡ []) }
+    ensures entry { IfOk result (λ entry. entry ∷ [] ≡ begun (core_of source.now) []) }
+{
+    let main = source.main();
+    let start = lower_body(source, main.body, out)?;
+    let slots = plus(1, counts.of(main.body))?;
+    Ok(Entry {
+        name: None,
+        start,
+        slots,
+        result: main.result,
+    })
+}
+
+/// The code of functions, before main's, and the functions as they stand there, the last one first.
+fn lower_functions(
+    source: &Source,
+    counts: &Counts,
+    entries: &mut Vec<Entry>,
+    out: &mut Lowering,
+) -> Result<(), Memory>
+    requires counts { counts.now ≡ record { terms = source.now.terms; upto = length source.now.terms } }
+    requires outside { out.old.fields ≡ [] }
+    requires code { out.old.code ≡ lowered_functions (core_of source.now) [] }
+    requires entries { reverse entries.old.items ≡ begun (core_of source.now) [] }
+    ensures code { OnOk result (out.new.code ≡ lowered_functions (core_of source.now) (core_of source.now).functions) }
+    ensures entries { OnOk result (reverse entries.new.items ≡ begun (core_of source.now) (core_of source.now).functions) }
+{
+    let functions = source.functions();
+    let mut i = functions.len();
+    'functions: while i > 0 {
+        i -= 1;
+        let entry = lower_function(source, counts, &functions[i], out)?;
+        entries.push(entry)?;
+    }
+    Ok(())
+}
+
+/// The code of main and of the functions, and these as they stand there, main first.
+fn lower_bodies(source: &Source, out: &mut Lowering) -> Result<Vec<Entry>, Memory>
+    requires outside { out.old.fields ≡ [] }
+    requires empty { out.old.code ≡ [] }
+    ensures code { IfOk result (λ _. out.new.code ≡ lowered_functions (core_of source.now) (core_of source.now).functions) }
+    ensures entries { IfOk result (λ entries. reverse entries.items ≡ begun (core_of source.now) (core_of source.now).functions) }
+{
+    let counts = Counts::make(out.alloc, source.terms())?;
+    let mut entries = Vec::new(out.alloc);
+    let main = lower_main(source, &counts, out)?;
+    entries.push(main)?;
+    lower_functions(source, &counts, &mut entries, out)?;
+    Ok(entries)
+}
+
+/// Entries in their order, with their labels as numbers of instructions.
+fn number_entries(alloc: Global, count: u32, reversed: Vec<Entry>) -> Result<Vec<Entry>, Memory>
+    ensures { IfOk result (λ entries. entries.items ≡ map (entry_in count) (reverse reversed.items)) }
+{
+    let mut left = reversed;
+    let mut entries = Vec::new(alloc);
+    'entries: while let Some(entry) = left.pop() {
+        entries.push(Entry {
+            name: entry.name,
+            start: label_in(count, entry.start),
+            slots: entry.slots,
+            result: entry.result,
+        })?;
+    }
+    Ok(entries)
+}
+
+/// The instructions and the functions of a core's code.
+fn lower_core(alloc: Global, source: &Source) -> Result<(Vec<Instr>, Vec<Entry>), Memory>
+    ensures instructions { IfOk result (λ made. map instruction_of made.0.items ≡ (lower_program (core_of source.now)).instructions) }
+    ensures functions { IfOk result (λ made. made.1.items ≡ (lower_program (core_of source.now)).functions) }
+{
+    let mut out = Lowering {
+        alloc,
+        fields: Fields::new(alloc),
+        code: Emitted::new(alloc),
+    };
+    let reversed = lower_bodies(source, &mut out)?;
+    let count = out.code.label();
+    let instructions = number_all(alloc, out.code)?;
+    let functions = number_entries(alloc, count, reversed)?;
+    Ok((instructions, functions))
+}
+
+/// Each body of the core fits.
+fn all_fits(checked: &Checked) -> Result<(), Memory>
+    requires { AreNumbered (core_of checked.now) }
+    ensures { IfOk result (λ _. AllFit (core_of checked.now)) }
+{
+    built_fits();
+    let core = checked.core();
+    core.types().rules();
+    literals_fit(core)?;
+    Ok(())
+}
+
+/// A core with its code.
+///
+/// # Errors
+///
+/// Want of memory.
+pub fn lower(alloc: Global, checked: Checked) -> Result<Lowered, Memory>
+    requires { AreNumbered (core_of checked) }
+    ensures core { IfOk result (λ lowered. lowered.core ≡ checked) }
+    ensures code { IfOk result (λ lowered. lowered.code ≡ lower_program (core_of checked)) }
+{
+    lowering_gives_its_code();
+    all_fits(&checked)?;
+    let source = Source::make(alloc, checked.into_core())?;
+    let (instructions, functions) = lower_core(alloc, &source)?;
+    let (core, layouts) = source.into_parts();
+    let code = Code::new(layouts, instructions, functions);
+    Ok(Lowered::make(Checked::make(core), code))
+}

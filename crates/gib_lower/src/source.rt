@@ -1,0 +1,95 @@
+//! A core with what lowering asks of it.
+
+use crate::functions::{count_of, entry, list_numbers};
+use gib_base::{Memory, Name};
+use gib_core::{Core, CoreFunction, CoreMain, Terms};
+use gib_types::Layouts;
+use std::alloc::Global;
+use std::marker::Model;
+
+/// A core, how its heads lie in memory, and the numbers of its functions by their names.
+#[derive(Drop)]
+pub(crate) struct Source {
+    core: Core,
+    layouts: Layouts,
+    numbers: Vec<u32>,
+    count: u32,
+}
+
+impl Model for Source {
+    ghost use Rattle.gib_core.specs.Parts.{Parts};
+    ghost use Rattle.gib_lower.specs.Sources.{IsSource};
+
+    ghost Value = { Parts };
+
+    ghost view = { λ s. s.core };
+
+    ghost invariant = { λ s. IsSource s.core s.layouts s.numbers.items s.count };
+}
+
+impl Source {
+    ghost use Rattle.std.specs.Prelude.{◌≡◌, IfOk};
+    ghost use Rattle.gib_core.specs.Parts.{AreInside, core_of};
+    ghost use Rattle.gib_core.specs.Low.{laid_of, function_number};
+
+    /// A core with what lowering asks of it.
+    pub(crate) fn make(alloc: Global, core: Core) -> Result<Source, Memory>
+        ensures { IfOk result (λ source. source ≡ core) }
+    {
+        let layouts = Layouts::make(alloc, core.types(), core.offsets())?;
+        let count = count_of(core.functions())?;
+        let numbers = list_numbers(alloc, core.functions(), count)?;
+        Ok(Source {
+            core,
+            layouts,
+            numbers,
+            count,
+        })
+    }
+
+    /// How the heads of its constructors lie in memory.
+    pub(crate) fn layouts(&self) -> &Layouts
+        ensures { result.now ≡ laid_of (core_of self.now) }
+    {
+        &self.layouts
+    }
+
+    /// The terms of all bodies.
+    pub(crate) fn terms(&self) -> &Terms
+        ensures value { result.now ≡ self.now.terms }
+        ensures inside { AreInside self.now }
+    {
+        self.core.terms()
+    }
+
+    /// The functions but main, in the order of the text.
+    pub(crate) fn functions(&self) -> &[CoreFunction]
+        ensures value { result.now ≡ self.now.functions }
+        ensures inside { AreInside self.now }
+    {
+        self.core.functions()
+    }
+
+    /// Main.
+    pub(crate) fn main(&self) -> CoreMain
+        ensures value { result ≡ self.now.main }
+        ensures inside { AreInside self.now }
+    {
+        self.core.main()
+    }
+
+    /// The number of the first function of a name.
+    pub(crate) fn number(&self, name: Name) -> u32
+        ensures { result ≡ function_number (core_of self.now).functions name.0 }
+    {
+        entry(&self.numbers, name.0, self.count)
+    }
+
+    /// The core, and how its heads lie in memory.
+    pub(crate) fn into_parts(self) -> (Core, Layouts)
+        ensures core { result.0 ≡ self }
+        ensures layouts { result.1 ≡ laid_of (core_of self) }
+    {
+        (self.core, self.layouts)
+    }
+}

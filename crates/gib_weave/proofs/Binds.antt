@@ -1,0 +1,400 @@
+-- Scalars are bound, and functions called.
+use Rattle.std.proofs.Common.{◌≡◌, ℕ, zero, suc, ℤ, pos, ◌+◌, ◌<◌, ◌≤◌, ◌==◌, FitsSigned, Bool, true, false, not, List, [], ◌∷◌, map, Option, Some, None, length, refl, sym, ap, subst, ◌∙◌, arith}
+use Rattle.std.specs.Int.{w64, cast_signed}
+use Rattle.std.proofs.lemmas.Int.{to_z-of_z}
+use Rattle.gib_types.specs.declared.table.Ty.{Ty}
+use Rattle.gib_types.specs.declared.table.Ty.TheVariants.{Whole, Truth, Tree}
+use Rattle.gib_types.specs.Layout.{LaidOut}
+use Rattle.gib_types.specs.Tree.{Datum, whole, truth}
+use Rattle.gib_syntax.specs.declared.tree.Operator.{Operator}
+use Rattle.gib_syntax.specs.Meaning.{is_scalar, value_in, number_in, operate, Environment, Outcome, Gives, Stops, Deep}
+use Rattle.gib_syntax.specs.Typing.{operator_type}
+use Rattle.gib_mem.specs.Memory.{Store}
+use Rattle.gib_packed.specs.Scalars.{bit}
+use Rattle.gib_base.specs.declared.name.Name.{Name}
+use Rattle.gib_core.specs.declared.atom.Variable.{Variable}
+use Rattle.gib_core.specs.declared.atom.Atom.{Atom}
+use Rattle.gib_core.specs.declared.atom.Atom.TheVariants as a
+use Rattle.gib_core.specs.declared.atom.Kind.TheVariants as kind
+use Rattle.gib_core.specs.Tree.{Term, Then, One, On, Prim, CallTerm, Give, CoreTree, FunctionTerm, variables_from}
+use Rattle.gib_core.specs.Meaning.{value, bind, function_at, of_function, core_calls, mean}
+use Rattle.gib_code.specs.Instruction.{Instruction, Operate, Move, Jump, Call, CallScalar}
+use Rattle.gib_code.specs.Instruction as i
+use Rattle.gib_code.specs.Program.{CodeTree, IsAt, AreAt, one_more}
+use Rattle.gib_core.specs.Low.{To, ending, giving, operand, operands, operation, function_number, IsNoCall}
+use Rattle.gib_machine.specs.Machine.{times, widest, Slots, slot, set, word, words, Frame, Open as OpenRegion, Silent, cursor, set_answer, answer_of, operated, frame_words, slots_at}
+use Rattle.gib_weave.specs.Cost.{Cost, plus}
+use Rattle.gib_weave.proofs.Costs.{call_costs_same}
+use Rattle.gib_weave.proofs.Counts.{goes_on_counted, same_most, most_then}
+use Rattle.gib_core.specs.Fits.{put, Sort, Outside, Absent, Scalar, Held, Placed, Loose, AtHead, Field, has_slot, tree_type, AtomFits, AtomsFit, by_call, CallFits, Dest, Nowhere, dest_type, dest_of, Fits, cased, param_sort, body_scope}
+use Rattle.gib_weave.specs.Sound.{Share, Counted, AtMost, level_after, costs, cost_after, left_costs, later_costs, Owed, Rest, Plain, Part, KSide, KLast, AtRest, rest_pars, rest_sides, pars_of, sides_of, side_of, RestCode, rest_cased, rest_means, Debt, lefts, Owned, Ctx, IsScalar, StandsAt, Has, HasAll, IsDest, Kont, KEnd, KHere, KRegion, KScalar, KCall, KCallScalar, Stack, Waits, end_of, due, root, resume, means, head_covers, kont_covers, rest_covers, tail_covers, HaveRoom, TailsHaveRoom, IsSmall, Apart, AtTerm, nest, AllRoom, IsAnswer, at_term, over, rests, Moves, silent, IsCode, AreBodies, HasRoom, freed}
+use Rattle.gib_weave.proofs.Move.{with_var, HasAll-bind, HasAll-dest, IsDest-bind, IsDest-moved, moved_set, all_moved_set, Stack-moved, covers_head, all_under_bind, not_there, code_put, rest_code_put, is_field, bound-same, bound-other}
+use Rattle.gib_weave.proofs.Places.{Apart-less}
+use Rattle.gib_weave.proofs.Lines.{follows, loosened, under_scalar, all_calm_less, or_left, or_right, calm_loosened, resume-with, resume-stop, waiting}
+use Rattle.gib_weave.proofs.Scalars.{scalar_word, operated_is}
+use Rattle.gib_weave.proofs.Uses.{sides_bound}
+use Rattle.gib_weave.proofs.Ends.{unwound_safe, lefts_sides, lefts_rest, Levels, at_rest, step_is, silently}
+
+clash : true ≡ false → ⊥
+clash h = absurd cc
+
+none_some : {t : ℕ} → ◌≡◌ {A = Option ℕ} None (Some t) → ⊥
+none_some e = absurd cc
+
+some_is : {t u : ℕ} → ◌≡◌ {A = Option ℕ} (Some u) (Some t) → u ≡ t
+some_is e = cc
+
+-- a tree's slot
+has_tree : (laid : LaidOut) (s : Store) (c : Ctx) (so : Sort) (t w : ℕ) (v : Datum) (at hd : ℕ) → tree_type so ≡ Some t → Has laid s c so w v at hd → StandsAt laid s t w v
+has_tree laid s c Outside t w v at hd e h = absurd (none_some e)
+has_tree laid s c Absent t w v at hd e h = absurd (none_some e)
+has_tree laid s c (Scalar ty) t w v at hd e h = absurd (none_some e)
+has_tree laid s c Held t w v at hd e h = absurd (none_some e)
+has_tree laid s c (Placed u) t w v at hd e h = subst (λ (q : ℕ). StandsAt laid s q w v) (some_is e) (subst (λ (z : ℕ). StandsAt laid s u z v) (sym h.same) h.stands)
+has_tree laid s c (Loose u) t w v at hd e h = subst (λ (q : ℕ). StandsAt laid s q w v) (some_is e) h
+has_tree laid s c (AtHead u) t w v at hd e h = subst (λ (q : ℕ). StandsAt laid s q w v) (some_is e) (subst (λ (z : ℕ). StandsAt laid s u z v) (sym h.same) h.stands)
+has_tree laid s c (Field u z x k p) t w v at hd e h = absurd (none_some e)
+
+pub tree_of : (laid : LaidOut) (s : Store) (sl : Slots) (c : Ctx) (x t : ℕ) → HasAll laid s sl c → tree_type (c.scope x) ≡ Some t → StandsAt laid s t (slot sl x) (value_in c.env x)
+tree_of laid s sl c x t h e = has_tree laid s c (c.scope x) t (slot sl x) (value_in c.env x) (c.pl x) (c.hd x) e (h.has x)
+
+-- Code that stands one instruction after another.
+
+pub first_at : {code : CodeTree} {l z : ℕ} {i : Instruction} {is : List Instruction} → AreAt code l (i ∷ is) z → IsAt code l i
+first_at (one_more e r) = e
+
+pub rest_at : {code : CodeTree} {l z : ℕ} {i : Instruction} {is : List Instruction} → AreAt code l (i ∷ is) z → AreAt code (l + 1) is z
+rest_at (one_more e r) = r
+
+-- Answers.
+
+pub scalar_answer : (laid : LaidOut) (s : Store) (ty : Ty) (w : ℕ) (v : Datum) (owed : Outcome) → IsScalar ty w v → Gives v ≡ owed → IsAnswer laid s ty owed (answer_of ty w)
+scalar_answer laid s Whole w v owed h e = (refl, subst (λ (z : ℤ). FitsSigned w64 z) (sym (ap (cast_signed w64) h.3 ∙ to_z-of_z w64 h.0 h.2)) h.2, sym e ∙ ap Gives h.1 ∙ ap (λ (z : ℤ). Gives (whole z)) (sym (ap (cast_signed w64) h.3 ∙ to_z-of_z w64 h.0 h.2)))
+scalar_answer laid s Truth w v owed h e = (refl, sym e ∙ ap Gives h.1 ∙ ap (λ (b : Bool). Gives (truth b)) (sym (ap (λ (q : ℕ). not (q == 0)) h.2 ∙ back h.0)))
+  where
+    back : (b : Bool) → not (bit b == 0) ≡ b
+    back false = refl
+    back true = refl
+scalar_answer laid s (Tree t) w v owed h e = absurd h
+
+packed_scalar : (t : ℕ) (ty : Ty) → is_scalar ty ≡ true → Tree (record { 0 = t }) ≡ ty → ⊥
+packed_scalar t ty h e = clash (sym h ∙ sym (ap is_scalar e))
+
+pub no_call : (A : Type 0) (B : Name → List Atom → Type 0) (t : Term) → IsNoCall t → by_call t A B → A
+no_call A B (Then b u) n h = h
+no_call A B (Rattle.gib_core.specs.Tree.Write x k ss ps) n h = h
+no_call A B (Rattle.gib_core.specs.Tree.Point x) n h = h
+no_call A B (CallTerm f xs) n h = absurd n
+no_call A B (Give x) n h = h
+no_call A B (Rattle.gib_core.specs.Tree.CaseTerm x bs) n h = h
+no_call A B (Rattle.gib_core.specs.Tree.IfTerm x u v) n h = h
+
+-- The frame of a call.
+
+pub frame-length : (n : ℕ) (ws : List ℕ) → length (frame_words n ws) ≡ n
+frame-length zero ws = refl
+frame-length (suc n) [] = ap suc (frame-length n [])
+frame-length (suc n) (w ∷ ws) = ap suc (frame-length n ws)
+
+pub no_slot : (n : ℕ) (ps : List Ty) (y : ℕ) → has_slot (body_scope n ps y) ≡ true → y < n
+no_slot zero ps y h = absurd (clash (sym h))
+no_slot (suc n) [] zero h = omega arith
+no_slot (suc n) [] (suc y) h = let i = no_slot n [] y h in omega (arith, i)
+no_slot (suc n) (p ∷ ps) zero h = omega arith
+no_slot (suc n) (p ∷ ps) (suc y) h = let i = no_slot n ps y h in omega (arith, i)
+
+pub nothing_bound : (laid : LaidOut) (s : Store) (c : Ctx) (n y w at hd : ℕ) (v : Datum) → Has laid s c (body_scope n [] y) w v at hd
+nothing_bound laid s c zero y w at hd v = tt
+nothing_bound laid s c (suc n) zero w at hd v = tt
+nothing_bound laid s c (suc n) (suc y) w at hd v = nothing_bound laid s c n y w at hd v
+
+-- later parameters leave earlier variables
+bind_before : (ps : List Ty) (vs : List Datum) (m : ℕ) (env : Environment) (y : ℕ) → y < m → value_in (bind (variables_from m ps) vs env) y ≡ value_in env y
+bind_before [] vs m env y h = refl
+bind_before (p ∷ ps) [] m env y h = bind_before ps [] (m + 1) ((m, whole (pos 0)) ∷ env) y (omega arith) ∙ bound-other env m (whole (pos 0)) y (λ e. absurd (omega arith))
+bind_before (p ∷ ps) (v ∷ vs) m env y h = bind_before ps vs (m + 1) ((m, v) ∷ env) y (omega arith) ∙ bound-other env m v y (λ e. absurd (omega arith))
+
+param_has : (laid : LaidOut) (s : Store) (sl : Slots) (c c' : Ctx) (x : Atom) (p : Ty) → HasAll laid s sl c → AtomFits c.scope x p → Has laid s c' (param_sort p) (word sl (operand x)) (value c.env x) (word sl (operand x)) 0
+param_has laid s sl c c' x Whole h e = scalar_word laid s sl c x Whole refl h e
+param_has laid s sl c c' x Truth h e = scalar_word laid s sl c x Truth refl h e
+param_has laid s sl c c' (a.Variable x) (Tree t) h e = record { same = refl; stands = tree_of laid s sl c x.0 t.0 h e }
+param_has laid s sl c c' (a.Whole z) (Tree t) h e = absurd e
+param_has laid s sl c c' (a.Truth b) (Tree t) h e = absurd e
+
+arguments_have : (laid : LaidOut) (s : Store) (sl : Slots) (c c' : Ctx) → HasAll laid s sl c → (n : ℕ) (ps : List Ty) (xs : List Atom) (m : ℕ) (env : Environment) (y : ℕ) → AtomsFit c.scope xs ps
+    → Has laid s c' (body_scope n ps y) (slot (frame_words n (words sl (operands xs))) y) (value_in (bind (variables_from m ps) (map (value c.env) xs) env) (m + y)) (slot (frame_words n (words sl (operands xs))) y) 0
+arguments_have laid s sl c c' h zero ps xs m env y e = tt
+arguments_have laid s sl c c' h (suc n) [] xs m env y e = nothing_bound laid s c' (suc n) y _ _ 0 _
+arguments_have laid s sl c c' h (suc n) (p ∷ ps) [] m env y e = absurd e
+arguments_have laid s sl c c' h (suc n) (p ∷ ps) (x ∷ xs) m env zero e =
+    let z : m + 0 ≡ m = omega arith in
+    let v : value_in (bind (variables_from (m + 1) ps) (map (value c.env) xs) ((m, value c.env x) ∷ env)) (m + 0) ≡ value c.env x =
+    ap (value_in (bind (variables_from (m + 1) ps) (map (value c.env) xs) ((m, value c.env x) ∷ env))) z
+    ∙ bind_before ps (map (value c.env) xs) (m + 1) ((m, value c.env x) ∷ env) m (omega arith) ∙ bound-same env m (value c.env x) in
+    subst (λ (q : Datum). Has laid s c' (param_sort p) (word sl (operand x)) q (word sl (operand x)) 0) (sym v) (param_has laid s sl c c' x p h e.0)
+arguments_have laid s sl c c' h (suc n) (p ∷ ps) (x ∷ xs) m env (suc y) e =
+    let z : (m + 1) + y ≡ m + suc y = omega arith in
+    subst (λ (q : ℕ). Has laid s c' (body_scope n ps y) (slot (frame_words n (words sl (operands xs))) y) (value_in (bind (variables_from (m + 1) ps) (map (value c.env) xs) ((m, value c.env x) ∷ env)) q) (slot (frame_words n (words sl (operands xs))) y) 0) z
+    (arguments_have laid s sl c c' h n ps xs (m + 1) ((m, value c.env x) ∷ env) y e.1)
+
+-- the line of a body
+abbrev pub body_line : ℕ → List Ty → List Datum → Slots → Dest → ℕ → Ctx
+body_line n ps vs ws d a = record { scope = body_scope n ps; env = bind (variables_from 0 ps) vs []; pl = λ y. slot ws y; hd = λ y. 0; dest = d; front = a; head = 0 }
+
+body_vars : (laid : LaidOut) (s : Store) (sl : Slots) (c : Ctx) (n : ℕ) (ps : List Ty) (xs : List Atom) (d : Dest) (a : ℕ) → HasAll laid s sl c → AtomsFit c.scope xs ps
+    → HasAll laid s (frame_words n (words sl (operands xs))) (body_line n ps (map (value c.env) xs) (frame_words n (words sl (operands xs))) d a)
+body_vars laid s sl c n ps xs d a h e = record {
+  has = λ y. let z : 0 + y ≡ y = omega arith in
+      subst (λ (q : ℕ). Has laid s (body_line n ps (map (value c.env) xs) (frame_words n (words sl (operands xs))) d a) (body_scope n ps y) (slot (frame_words n (words sl (operands xs))) y) (value_in (bind (variables_from 0 ps) (map (value c.env) xs) []) q) (slot (frame_words n (words sl (operands xs))) y) 0) z
+      (arguments_have laid s sl c (body_line n ps (map (value c.env) xs) (frame_words n (words sl (operands xs))) d a) h n ps xs 0 [] y e);
+  wide = λ y g. subst (λ (q : ℕ). y < q) (sym (frame-length n (words sl (operands xs)))) (no_slot n ps y g);
+}
+
+pub result_dest : (laid : LaidOut) (s : Store) (sl : Slots) (c : Ctx) (ty : Ty) (cur : ℕ) → c.front ≡ cur → IsDest laid s sl c (dest_of ty) cur
+result_dest laid s sl c Whole cur e = tt
+result_dest laid s sl c Truth cur e = tt
+result_dest laid s sl c (Tree t) cur e = e
+
+pub result_type : (ty : Ty) → dest_type (dest_of ty) ≡ ty
+result_type Whole = refl
+result_type Truth = refl
+result_type (Tree t) = refl
+
+pub no_result_cover : (laid : LaidOut) (c : Ctx) (ty : Ty) (q : ℕ) → head_covers laid c (dest_of ty) q ≡ 0
+no_result_cover laid c Whole q = refl
+no_result_cover laid c Truth q = refl
+no_result_cover laid c (Tree t) q = refl
+
+module _ (core : CoreTree) (code : CodeTree) (owed : Owed) (own : Owned) (sh : Share) (lv : Levels) (ty : Ty) (rm : ℕ) where
+  -- the line goes on with one more variable
+  pub bound_at : (s : Store) (ip : ℕ) (sl : Slots) (fs : List Frame) (n : ℕ) (rs : List OpenRegion) (ts : List ℕ) (t : Term) (c : Ctx) (k : Kont) → AtTerm core code owed own sh s (at_rest lv ty rm ip sl fs n rs ts) t c k
+      → (x : ℕ) (so : Sort) (w : ℕ) (v : Datum) (pl ip' : ℕ) (u : Term) → c.scope x ≡ Absent → is_field so ≡ false → Has code.laid s (with_var c x so v pl) so w v pl (c.hd x) → IsCode core code c.scope ip' u (end_of k) → Fits core u (put c.scope x so) c.dest
+      → ((y : ℕ) → cased u y ≡ true → cased t y ≡ true) → nest u ≤ nest t → means core n u ((x, v) ∷ c.env) ≡ means core n t c.env
+      → AtMost (left_costs core n lv.level (Plain u) ((x, v) ∷ c.env) k) (left_costs core n lv.level (Plain t) c.env k)
+      → AtTerm core code owed own sh s (at_rest lv ty rm ip' (set sl x w) fs n rs ts) u (with_var c x so v pl) k
+  bound_at s ip sl fs n rs ts t c k at x so w v pl ip' u new nf has low fits less le mn cheap = record {
+    ready = refl;
+    low = code_put x so nf low;
+    fits = fits;
+    kind = at.kind;
+    matches = record { vars = HasAll-bind code.laid s sl c x so v w pl new has at.matches.vars; dest = IsDest-bind code.laid s (set sl x w) c (cursor rs) x so v pl c.dest new (IsDest-moved code.laid s sl (set sl x w) c (cursor rs) c.dest (moved_set x w (not_there c.scope x new)) at.matches.dest) };
+    stack = Stack-moved core code s k sl (set sl x w) fs c.front rs (all_moved_set code.laid s sl c.scope c.env k x w at.under (not_there c.scope x new)) at.stack;
+    under = all_under_bind c.scope c.env k x so v new at.under;
+    calm = all_calm_less (cased t) (cased u) k less at.calm;
+    places = Apart-less at.places (λ q. let h = covers_head code.laid c (with_var c x so v pl) c.dest q refl in omega arith);
+    rooms = at.rooms;
+    tail_rooms = at.tail_rooms;
+    small = at.small;
+    owes = ap (resume core n k) mn ∙ at.owes;
+    sides = at.sides;
+    pars = at.pars;
+    side = at.side;
+    free = at.free;
+    result = at.result;
+    type = at.type;
+    counted = goes_on_counted cheap at.counted;
+    narrow = let h = at.narrow in omega (arith, h, le);
+    nests = let h = at.nests in omega (arith, h, le);
+    all_room = at.all_room;
+  }
+
+  pub does_prim : (s : Store) (ip : ℕ) (sl : Slots) (fs : List Frame) (n : ℕ) (rs : List OpenRegion) (ts : List ℕ) (x : Variable) (f : Operator) (y z : Atom) (u : Term) (c : Ctx) (k : Kont) → IsAt code ip (Operate x.0 (operation f) (operand y) (operand z)) → IsCode core code c.scope (ip + 1) u (end_of k)
+      → AtTerm core code owed own sh s (at_rest lv ty rm ip sl fs n rs ts) (Then (Prim x f y z) u) c k → Moves core code owed own sh s (at_rest lv ty rm ip sl fs n rs ts)
+  does_prim s ip sl fs n rs ts x f y z u c k e lu at =
+      let ny = scalar_word code.laid s sl c y Whole refl at.matches.vars at.fits.1 in
+      let nz = scalar_word code.laid s sl c z Whole refl at.matches.vars at.fits.2 in
+      let w = operated (operation f) (word sl (operand y)) (word sl (operand z)) in
+      silent (step_is core code owed own sh lv ty rm (at_rest lv ty rm ip sl fs n rs ts) (Operate x.0 (operation f) (operand y) (operand z)) refl e)
+      (rests (at_term (bound_at s ip sl fs n rs ts (Then (Prim x f y z) u) c k at x.0 (Scalar (operator_type f)) w (operate f ny.0 nz.0) 0 (ip + 1) u at.fits.0 refl
+      (operated_is f ny.0 nz.0 (word sl (operand y)) (word sl (operand z)) ny.2 nz.2 ny.3 nz.3) lu at.fits.3 (λ q h. h) (omega arith)
+      (ap (λ (q : Datum). means core n u ((x.0, operate f (number_in q) nz.0) ∷ c.env)) (sym ny.1) ∙ ap (λ (q : Datum). means core n u ((x.0, operate f (number_in (value c.env y)) (number_in q)) ∷ c.env)) (sym nz.1))
+      (most_then (same_most _ _ (ap (λ (q : Datum). left_costs core n lv.level (Plain u) ((x.0, operate f (number_in q) nz.0) ∷ c.env) k) (sym ny.1) ∙ ap (λ (q : Datum). left_costs core n lv.level (Plain u) ((x.0, operate f (number_in (value c.env y)) (number_in q)) ∷ c.env) k) (sym nz.1)))
+      (record { regions = omega arith; items = omega arith })))))
+
+  -- the scalar of a line that waits has come
+  scalar_comes : (s : Store) (ip : ℕ) (sl : Slots) (fs : List Frame) (n : ℕ) (rs : List OpenRegion) (ts : List ℕ) (x : ℕ) (xt : Ty) (u : Rest) (c : Ctx) (k : Kont) (w : ℕ) (v : Datum) → Waits core code s sl ip x (Scalar xt) u c c.dest (cursor rs) k → Stack core code s k sl fs c.front rs
+      → IsScalar xt w v → Apart own s (λ q. (head_covers code.laid c c.dest q + kont_covers code.laid k q) + (rest_covers rs q + tail_covers ts q)) → HaveRoom rs → TailsHaveRoom ts → IsSmall s
+      → resume core n k (rest_means core n u ((x, v) ∷ c.env)) ≡ owed.all → rest_sides core n lv.level u c.env (sides_of core n (level_after lv.level u) k) ≡ owed.sides → lv.pars ≡ rest_pars u (pars_of k) → lv.side ≡ side_of k → ty ≡ root k → owed.ty ≡ root k → HasRoom (times n (widest code.functions)) u rm → AllRoom (widest code.functions) n (freed u rm) k → Counted rs (left_costs core n lv.level u ((x, v) ∷ c.env) k) sh → AtRest core code owed own sh s (at_rest lv ty rm ip (set sl x w) fs n rs ts) u (with_var c x (Scalar xt) v 0) k
+  scalar_comes s ip sl fs n rs ts x xt u c k w v wt st sc places rooms tails small ow sd pa si res oty ne ar counted = record {
+    ready = refl;
+    low = rest_code_put core code c.scope ip u (end_of k) x (Scalar xt) refl wt.low;
+    fits = wt.fits;
+    kind = wt.kind;
+    matches = record { vars = HasAll-bind code.laid s sl c x (Scalar xt) v w 0 wt.new sc wt.matches.vars; dest = IsDest-bind code.laid s (set sl x w) c (cursor rs) x (Scalar xt) v 0 c.dest wt.new (IsDest-moved code.laid s sl (set sl x w) c (cursor rs) c.dest (moved_set x w (not_there c.scope x wt.new)) wt.matches.dest) };
+    stack = Stack-moved core code s k sl (set sl x w) fs c.front rs (all_moved_set code.laid s sl c.scope c.env k x w wt.under (not_there c.scope x wt.new)) st;
+    under = all_under_bind c.scope c.env k x (Scalar xt) v wt.new wt.under;
+    calm = wt.calm;
+    places = Apart-less places (λ q. let h = covers_head code.laid c (with_var c x (Scalar xt) v 0) c.dest q refl in omega arith);
+    rooms = rooms;
+    tail_rooms = tails;
+    small = small;
+    owes = ow;
+    sides = sides_bound core n lv.level x v u c.env k (sides_of core n (level_after lv.level u) k) wt.free ∙ sd;
+    pars = pa;
+    side = si;
+    free = follows x u k wt.free;
+    result = res;
+    type = oty;
+    counted = counted;
+    narrow = wt.narrow;
+    nests = ne;
+    all_room = ar;
+  }
+
+  given : (c : Ctx) (xt : Ty) (k : Kont) → c.dest ≡ Nowhere xt → dest_type c.dest ≡ due k → xt ≡ due k
+  given c xt k e h = sym (ap dest_type e) ∙ h
+
+  pub does_give : (s : Store) (ip z : ℕ) (sl : Slots) (fs : List Frame) (n : ℕ) (rs : List OpenRegion) (ts : List ℕ) (x : Atom) (c : Ctx) (k : Kont) → AreAt code ip (giving (operand x) (end_of k)) z
+      → AtTerm core code owed own sh s (at_rest lv ty rm ip sl fs n rs ts) (Give x) c k → Moves core code owed own sh s (at_rest lv ty rm ip sl fs n rs ts)
+  does_give s ip z sl [] n rs ts x c (KEnd u) e at =
+      let sc = scalar_word code.laid s sl c x at.fits.0 at.fits.2 at.matches.vars at.fits.3 in
+      let same : at.fits.0 ≡ ty = given c at.fits.0 (KEnd u) at.fits.1 at.kind ∙ sym at.result in
+      silent (step_is core code owed own sh lv ty rm (at_rest lv ty rm ip sl [] n rs ts) (i.Give (operand x)) refl (first_at e))
+      (rests (over refl (sym at.sides) (subst (λ (q : Ty). IsAnswer code.laid s q owed.all (answer_of ty (word sl (operand x)))) (at.result ∙ sym at.type) (scalar_answer code.laid s ty (word sl (operand x)) (value c.env x) owed.all (subst (λ (q : Ty). IsScalar q (word sl (operand x)) (value c.env x)) same sc) at.owes))))
+  does_give s ip z sl (f ∷ fs) n rs ts x c (KEnd u) e at = absurd at.stack
+  does_give s ip z sl fs n rs ts x c (KSide y u) e at = absurd at.free
+  does_give s ip z sl fs n rs ts x c (KLast l y t) e at = absurd (packed_scalar t at.fits.0 at.fits.2 (sym (given c at.fits.0 (KLast l y t) at.fits.1 at.kind)))
+  does_give s ip z sl fs n rs ts x c (KHere l y t u o k) e at = absurd (packed_scalar t at.fits.0 at.fits.2 (sym (given c at.fits.0 (KHere l y t u o k) at.fits.1 at.kind)))
+  does_give s ip z sl fs n rs ts x c (KRegion l y t u o k) e at = absurd (packed_scalar t at.fits.0 at.fits.2 (sym (given c at.fits.0 (KRegion l y t u o k) at.fits.1 at.kind)))
+  does_give s ip z sl fs n rs ts x c (KScalar l y yt u o k) e at =
+      let sc = scalar_word code.laid s sl c x at.fits.0 at.fits.2 at.matches.vars at.fits.3 in
+      let w = word sl (operand x) in
+      let same : at.fits.0 ≡ yt = given c at.fits.0 (KScalar l y yt u o k) at.fits.1 at.kind in
+      silent (step_is core code owed own sh lv ty rm (at_rest lv ty rm ip sl fs n rs ts) (Move y (operand x)) refl (first_at e))
+      (silently core code owed own sh lv ty rm {m = at_rest lv ty rm (ip + 1) (set sl y w) fs n rs ts} refl (first_at (rest_at e)) refl
+      (rests (at_term (scalar_comes s l sl fs n rs ts y yt u o k w (value c.env x) at.stack.1 at.stack.2 (subst (λ (q : Ty). IsScalar q w (value c.env x)) same sc)
+      (Apart-less at.places (λ q. omega arith)) at.rooms at.tail_rooms at.small at.owes at.sides at.pars at.side at.result at.type at.all_room.0 at.all_room.1 (goes_on_counted (record { regions = omega arith; items = omega arith }) at.counted)))))
+  does_give s ip z sl [] n rs ts x c (KCall k) e at = absurd at.stack
+  does_give s ip z sl (f ∷ fs) n rs ts x c (KCall k) e at = absurd (clash (sym at.fits.2 ∙ ap is_scalar (given c at.fits.0 (KCall k) at.fits.1 at.kind) ∙ at.stack.2))
+  does_give s ip z sl [] n rs ts x c (KCallScalar y yt u o k) e at = absurd at.stack
+  does_give s ip z sl (f ∷ fs) n rs ts x c (KCallScalar y yt u o k) e at =
+      let sc = scalar_word code.laid s sl c x at.fits.0 at.fits.2 at.matches.vars at.fits.3 in
+      let w = word sl (operand x) in
+      let same : at.fits.0 ≡ yt = given c at.fits.0 (KCallScalar y yt u o k) at.fits.1 at.kind in
+      silent (step_is core code owed own sh lv ty rm (at_rest lv ty rm ip sl (f ∷ fs) n rs ts) (i.Give (operand x)) refl (first_at e) ∙ ap (λ (q : Option ℕ). Silent (at_rest lv ty rm f.back (set_answer f.words q w) fs (suc n) rs ts)) at.stack.1)
+      (rests (at_term (scalar_comes s f.back f.words fs (suc n) rs ts y yt u o k w (value c.env x) at.stack.2 at.stack.3 (subst (λ (q : Ty). IsScalar q w (value c.env x)) same sc)
+      (Apart-less at.places (λ q. omega arith)) at.rooms at.tail_rooms at.small at.owes at.sides at.pars at.side at.result at.type at.all_room.0 at.all_room.1 (goes_on_counted (record { regions = omega arith; items = omega arith }) at.counted))))
+
+  -- a scalar is made in the same place of the code
+  pub into_scalar : (s : Store) (ip : ℕ) (sl : Slots) (fs : List Frame) (n : ℕ) (rs : List OpenRegion) (ts : List ℕ) (x : Variable) (xt : Ty) (l : ℕ) (t : Term) (u : Rest) (c : Ctx) (k : Kont) → IsNoCall t → IsCode core code c.scope ip t (To l x.0) → RestCode core code c.scope l u (end_of k)
+      → AtRest core code owed own sh s (at_rest lv ty rm ip sl fs n rs ts) (Part (On kind.Scalar x xt t) u) c k
+      → AtTerm core code owed own sh s (at_rest lv ty rm ip sl fs n rs ts) t (record { scope = c.scope; env = c.env; pl = c.pl; hd = c.hd; dest = Nowhere xt; front = 0; head = 0 }) (KScalar l x.0 xt u (loosened (cased t) c) k)
+  into_scalar s ip sl fs n rs ts x xt l t u c k nc lt lu at =
+      let whole = Part (On kind.Scalar x xt t) u in
+      record {
+        ready = refl;
+        low = lt;
+        fits = no_call (Fits core t c.scope (Nowhere xt)) (λ f xs. CallFits core c.scope f xs xt) t nc at.fits.2;
+        kind = refl;
+        matches = record { vars = HasAll-dest {c = c} {c' = record { scope = c.scope; env = c.env; pl = c.pl; hd = c.hd; dest = Nowhere xt; front = 0; head = 0 }} refl (record { there = λ y h. h; places = λ y h. refl; values = λ y h. refl; at_head = λ y o e. e; heads = λ y o e. refl }) at.matches.vars (λ y. refl) (λ y. refl) (λ y. refl); dest = tt };
+        stack = (at.fits.0, waiting core code s sl l x.0 (Scalar xt) t u c c.dest (cursor rs) k lu at.fits.3 at.fits.1 at.matches at.under (all_calm_less (rest_cased whole) (rest_cased u) k (λ y h. or_right (cased t y) (rest_cased u y) h) at.calm) at.kind at.free (let h = at.narrow in omega (arith, h)), at.stack);
+        under = (under_scalar (cased t) c, at.under);
+        calm = (calm_loosened (cased t) c, all_calm_less (rest_cased whole) (cased t) k (λ y h. or_left (cased t y) (rest_cased u y) h) at.calm);
+        places = Apart-less at.places (λ q. let h = covers_head code.laid c (loosened (cased t) c) c.dest q refl in omega arith);
+        rooms = at.rooms;
+        tail_rooms = at.tail_rooms;
+        small = at.small;
+        owes = sym (resume-with core n k (means core n t c.env) (λ v. rest_means core n u ((x.0, v) ∷ c.env))) ∙ at.owes;
+        sides = at.sides;
+        pars = at.pars;
+        side = at.side;
+        free = tt;
+        result = at.result;
+        type = at.type;
+        counted = goes_on_counted (record { regions = omega arith; items = omega arith }) at.counted;
+        narrow = let h = at.narrow in omega (arith, h);
+        nests = let h = at.nests.0 in omega (arith, h);
+        all_room = (at.nests.1, at.all_room);
+      }
+
+-- what a call means
+call_means : (core : CoreTree) (n : ℕ) (f : ℕ) (g : FunctionTerm) (vs : List Datum) → function_at core.functions f ≡ Some g → core_calls core (suc n) f vs ≡ means core n g.body (bind (variables_from 0 g.parameters) vs [])
+call_means core n f g vs e = ap (λ (o : Option FunctionTerm). of_function o (λ g. mean core.table (core_calls core n) g.body (bind (variables_from 0 g.parameters) vs []))) e
+
+module _ (core : CoreTree) (code : CodeTree) (ok : AreBodies core code) (owed : Owed) (own : Owned) (sh : Share) (lv : Levels) (ty : Ty) (rm : ℕ) where
+  pub does_call : (s : Store) (ip : ℕ) (sl : Slots) (fs : List Frame) (n : ℕ) (rs : List OpenRegion) (ts : List ℕ) (f : Name) (xs : List Atom) (c : Ctx) (k : Kont) → IsAt code ip (Call (function_number core.functions f.0) (operands xs)) → IsAt code (ip + 1) (ending (end_of k))
+      → AtTerm core code owed own sh s (at_rest lv ty rm ip sl fs n rs ts) (CallTerm f xs) c k → Moves core code owed own sh s (at_rest lv ty rm ip sl fs n rs ts)
+  does_call s ip sl fs zero rs ts f xs c k e en at =
+      silent (step_is core code owed own sh lv ty rm (at_rest lv ty rm ip sl fs zero rs ts) (Call (function_number core.functions f.0) (operands xs)) refl e) (unwound_safe core code owed own sh s (at_rest lv ty rm ip sl fs zero rs ts) lv.pars (sym at.owes ∙ resume-stop core zero k Deep) (ap lefts at.pars ∙ lefts_sides core zero lv.level k ∙ ap (λ (q : List Debt). length q) at.sides))
+  does_call s ip sl fs (suc n) rs ts f xs c k e en at =
+      let fit = at.fits.2 in
+      let g = fit.function in
+      let j = function_number core.functions f.0 in
+      let body = ok.bodies f.0 g fit.named in
+      let size = slots_at code.functions j in
+      let ws = frame_words size (words sl (operands xs)) in
+      let vs = map (value c.env) xs in
+      let front : c.front ≡ cursor rs = subst (λ (d : Dest). IsDest code.laid s sl c d (cursor rs)) at.fits.1 at.matches.dest in
+      let packed : is_scalar (due k) ≡ false = sym (ap is_scalar at.kind) ∙ ap (λ (z : Dest). is_scalar (dest_type z)) at.fits.1 in
+      let line = body_line size g.parameters vs ws (dest_of g.result) (cursor rs) in
+      silent (step_is core code owed own sh lv ty rm (at_rest lv ty rm ip sl fs (suc n) rs ts) (Call j (operands xs)) refl e) (rests (at_term {u = Plain g.body} {c = line} {k = KCall k} record {
+        ready = refl;
+        low = body.low;
+        fits = body.fits;
+        kind = result_type g.result ∙ fit.result ∙ sym (ap dest_type at.fits.1) ∙ at.kind;
+        matches = record { vars = body_vars code.laid s sl c size g.parameters xs (dest_of g.result) (cursor rs) at.matches.vars fit.arguments; dest = result_dest code.laid s ws line g.result (cursor rs) refl };
+        stack = (refl, en, packed, subst (λ (a : ℕ). Stack core code s k sl fs a rs) front at.stack);
+        under = tt;
+        calm = tt;
+        places = Apart-less at.places (λ q. let i = no_result_cover code.laid line g.result q in omega (arith, i));
+        rooms = at.rooms;
+        tail_rooms = at.tail_rooms;
+        small = at.small;
+        owes = sym (ap (resume core (suc n) k) (call_means core n f.0 g vs fit.named)) ∙ at.owes;
+        sides = at.sides;
+        pars = at.pars;
+        side = at.side;
+        free = tt;
+        result = at.result;
+        type = at.type;
+        counted = subst (λ (o : Outcome). Counted rs (plus (costs core n lv.level g.body (bind (variables_from 0 g.parameters) vs [])) (later_costs core (suc n) lv.level k o)) sh) (call_means core n f.0 g vs fit.named)
+            (subst (λ (b : Cost). Counted rs (plus b (later_costs core (suc n) lv.level k (core_calls core (suc n) f.0 vs))) sh) (call_costs_same core n lv.level f xs g c.env fit.named) at.counted);
+        narrow = body.nests;
+        nests = let h = at.nests in let b = body.nests in omega (arith, h, b);
+        all_room = at.all_room;
+      }))
+
+  pub does_scalar_call : (s : Store) (ip : ℕ) (sl : Slots) (fs : List Frame) (n : ℕ) (rs : List OpenRegion) (ts : List ℕ) (x : Variable) (xt : Ty) (f : Name) (xs : List Atom) (u : Rest) (c : Ctx) (k : Kont) → IsAt code ip (CallScalar x.0 (function_number core.functions f.0) (operands xs)) → RestCode core code c.scope (ip + 1) u (end_of k)
+      → AtRest core code owed own sh s (at_rest lv ty rm ip sl fs n rs ts) (Part (On kind.Scalar x xt (CallTerm f xs)) u) c k → Moves core code owed own sh s (at_rest lv ty rm ip sl fs n rs ts)
+  does_scalar_call s ip sl fs zero rs ts x xt f xs u c k e lu at =
+      silent (step_is core code owed own sh lv ty rm (at_rest lv ty rm ip sl fs zero rs ts) (CallScalar x.0 (function_number core.functions f.0) (operands xs)) refl e) (unwound_safe core code owed own sh s (at_rest lv ty rm ip sl fs zero rs ts) lv.pars (sym at.owes ∙ resume-stop core zero k Deep) (ap lefts at.pars ∙ lefts_rest core zero lv.level u c.env (pars_of k) (sides_of core zero (level_after lv.level u) k) (lefts_sides core zero (level_after lv.level u) k) ∙ ap (λ (q : List Debt). length q) at.sides))
+  does_scalar_call s ip sl fs (suc n) rs ts x xt f xs u c k e lu at =
+      let fit = at.fits.2 in
+      let g = fit.function in
+      let j = function_number core.functions f.0 in
+      let body = ok.bodies f.0 g fit.named in
+      let size = slots_at code.functions j in
+      let ws = frame_words size (words sl (operands xs)) in
+      let vs = map (value c.env) xs in
+      let t = CallTerm f xs in
+      let whole = Part (On kind.Scalar x xt t) u in
+      let line = body_line size g.parameters vs ws (dest_of g.result) (cursor rs) in
+      silent (step_is core code owed own sh lv ty rm (at_rest lv ty rm ip sl fs (suc n) rs ts) (CallScalar x.0 j (operands xs)) refl e) (rests (at_term {u = Plain g.body} {c = line} {k = KCallScalar x.0 xt u (loosened (cased t) c) k} record {
+        ready = refl;
+        low = body.low;
+        fits = body.fits;
+        kind = result_type g.result ∙ fit.result;
+        matches = record { vars = body_vars code.laid s sl c size g.parameters xs (dest_of g.result) (cursor rs) at.matches.vars fit.arguments; dest = result_dest code.laid s ws line g.result (cursor rs) refl };
+        stack = (at.fits.0, refl, waiting core code s sl (ip + 1) x.0 (Scalar xt) t u c c.dest (cursor rs) k lu at.fits.3 at.fits.1 at.matches at.under (all_calm_less (rest_cased whole) (rest_cased u) k (λ y h. or_right (cased t y) (rest_cased u y) h) at.calm) at.kind at.free (let h = at.narrow in omega (arith, h)), at.stack);
+        under = tt;
+        calm = tt;
+        places = Apart-less at.places (λ q. let i = no_result_cover code.laid line g.result q in let h = covers_head code.laid c (loosened (cased t) c) c.dest q refl in omega (arith, i, h));
+        rooms = at.rooms;
+        tail_rooms = at.tail_rooms;
+        small = at.small;
+        owes = sym (resume-with core (suc n) k (means core n g.body (bind (variables_from 0 g.parameters) vs [])) (λ v. rest_means core (suc n) u ((x.0, v) ∷ c.env)))
+            ∙ sym (ap (λ (o : Outcome). resume core (suc n) k (Rattle.gib_syntax.specs.Meaning.with_value o (λ v. rest_means core (suc n) u ((x.0, v) ∷ c.env)))) (call_means core n f.0 g vs fit.named)) ∙ at.owes;
+        sides = at.sides;
+        pars = at.pars;
+        side = at.side;
+        free = tt;
+        result = at.result;
+        type = at.type;
+        counted = goes_on_counted (record { regions = omega arith; items = omega arith })
+            (subst (λ (o : Outcome). Counted rs (plus (costs core n lv.level g.body (bind (variables_from 0 g.parameters) vs [])) (cost_after o (λ v. left_costs core (suc n) lv.level u ((x.0, v) ∷ c.env) k))) sh) (call_means core n f.0 g vs fit.named)
+            (subst (λ (b : Cost). Counted rs (plus b (cost_after (core_calls core (suc n) f.0 vs) (λ v. left_costs core (suc n) lv.level u ((x.0, v) ∷ c.env) k))) sh) (call_costs_same core n lv.level f xs g c.env fit.named)
+            (goes_on_counted (record { regions = omega arith; items = omega arith }) at.counted)));
+        narrow = body.nests;
+        nests = let h = at.nests.0 in let b = body.nests in omega (arith, h, b);
+        all_room = (at.nests.1, at.all_room);
+      }))

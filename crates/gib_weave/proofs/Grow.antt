@@ -1,0 +1,69 @@
+-- What is said of a store is kept when the store grows.
+use Rattle.std.proofs.Common.{ℕ, List, [], ◌∷◌}
+use Rattle.gib_types.specs.Layout.{LaidOut}
+use Rattle.gib_types.specs.Tree.{Datum}
+use Rattle.gib_syntax.specs.Meaning.{value_in}
+use Rattle.gib_core.specs.Tree.{CoreTree}
+use Rattle.gib_mem.specs.Memory.{Store, Grows}
+use Rattle.gib_packed.specs.Decoding.{Dec}
+use Rattle.gib_packed.proofs.Grow as g
+use Rattle.gib_code.specs.Program.{CodeTree}
+use Rattle.gib_machine.specs.Machine.{Slots, slot, Frame, Open as OpenRegion}
+use Rattle.gib_core.specs.Fits.{Sort, Outside, Absent, Scalar, Held, Placed, Loose, AtHead, Field, Dest, Nowhere, Empty, Open}
+use Rattle.gib_weave.specs.Sound.{Rest, KSide, KLast, Ctx, StandsAt, Turns, there, turn, Has, HasAll, Fields, none, field, IsDest, Matches, Kont, KEnd, KHere, KRegion, KScalar, KCall, KCallScalar, Waits, Stack}
+
+pub Dec-grows : {laid : LaidOut} {s r : Store} {a t z : ℕ} {v : Datum} → Grows s r → Dec laid s a t v z → Dec laid r a t v z
+Dec-grows h d = g.Dec-grows h d
+
+pub StandsAt-grows : {laid : LaidOut} {s r : Store} {t a : ℕ} {v : Datum} → Grows s r → StandsAt laid s t a v → StandsAt laid r t a v
+StandsAt-grows g d = record { end = d.end; dec = Dec-grows g d.dec }
+
+pub Turns-grows : {s r : Store} {a b : ℕ} → Grows s r → Turns s a b → Turns r a b
+Turns-grows h there = there
+Turns-grows h (turn p l) = turn (g.Points-grows h p) (Turns-grows h l)
+
+pub Has-grows : (laid : LaidOut) (s r : Store) (c : Ctx) (so : Sort) (w : ℕ) (v : Datum) (at hd : ℕ) → Grows s r → Has laid s c so w v at hd → Has laid r c so w v at hd
+Has-grows laid s r c Outside w v at hd g h = tt
+Has-grows laid s r c Absent w v at hd g h = tt
+Has-grows laid s r c (Scalar ty) w v at hd g h = h
+Has-grows laid s r c Held w v at hd g h = tt
+Has-grows laid s r c (Placed t) w v at hd g h = record { same = h.same; stands = StandsAt-grows g h.stands }
+Has-grows laid s r c (Loose t) w v at hd g h = StandsAt-grows g h
+Has-grows laid s r c (AtHead t) w v at hd g h = record { same = h.same; tag = h.tag; known = g.kept _ _ h.known; is_head = h.is_head; stands = StandsAt-grows g h.stands }
+Has-grows laid s r c (Field t z x k p) w v at hd g' h = record { there = h.there; owner_type = h.owner_type; owner = h.owner; type_before = h.type_before; before = Dec-grows g' h.before; stored = λ e. g.Holds-grows g' (h.stored e); stands = StandsAt-grows g' h.stands }
+
+pub Fields-grows : {laid : LaidOut} {s r : Store} {c : Ctx} {a z : ℕ} {xs ts : List ℕ} → Grows s r → Fields laid s c a xs ts z → Fields laid r c a xs ts z
+Fields-grows g none = none
+Fields-grows g (field t p d f) = field t p (Dec-grows g d) (Fields-grows g f)
+
+pub IsDest-grows : (laid : LaidOut) (s r : Store) (sl : Slots) (c : Ctx) (cur : ℕ) (d : Dest) → Grows s r → IsDest laid s sl c d cur → IsDest laid r sl c d cur
+IsDest-grows laid s r sl c cur (Nowhere ty) g h = tt
+IsDest-grows laid s r sl c cur (Empty t) g h = h
+IsDest-grows laid s r sl c cur (Open t x k xs dues) g h = record { con = h.con; slot = h.slot; sort = h.sort; leads = Turns-grows g h.leads; types = h.types; all = h.all; fields = Fields-grows g h.fields }
+
+pub HasAll-grows : {laid : LaidOut} {s r : Store} {sl : Slots} {c : Ctx} → Grows s r → HasAll laid s sl c → HasAll laid r sl c
+HasAll-grows {laid = laid} {s = s} {r = r} {sl = sl} {c = c} g h = record { has = λ y. Has-grows laid s r c (c.scope y) (slot sl y) (value_in c.env y) (c.pl y) (c.hd y) g (h.has y); wide = h.wide }
+
+pub Matches-grows : {laid : LaidOut} {s r : Store} {sl : Slots} {c : Ctx} {cur : ℕ} → Grows s r → Matches laid s sl c cur → Matches laid r sl c cur
+Matches-grows {laid = laid} {s = s} {r = r} {sl = sl} {c = c} {cur = cur} g m = record { vars = HasAll-grows g m.vars; dest = IsDest-grows laid s r sl c cur c.dest g m.dest }
+
+pub Waits-grows : {core : CoreTree} {code : CodeTree} {s r : Store} {sl : Slots} {at x : ℕ} {so : Sort} {u : Rest} {c : Ctx} {after : Dest} {cur : ℕ} {k : Kont} → Grows s r → Waits core code s sl at x so u c after cur k → Waits core code r sl at x so u c after cur k
+Waits-grows g w = record { free = w.free; narrow = w.narrow; low = w.low; fits = w.fits; new = w.new; matches = Matches-grows g w.matches; under = w.under; calm = w.calm; kind = w.kind }
+
+pub Stack-grows : (core : CoreTree) (code : CodeTree) {s r : Store} (k : Kont) (sl : Slots) (fs : List Frame) (a : ℕ) (rs : List OpenRegion) → Grows s r → Stack core code s k sl fs a rs → Stack core code r k sl fs a rs
+Stack-grows core code (KEnd ty) sl [] a rs g h = h
+Stack-grows core code (KEnd ty) sl (f ∷ fs) a rs g h = absurd h
+Stack-grows core code (KSide y ty) sl [] a rs g h = tt
+Stack-grows core code (KSide y ty) sl (f ∷ fs) a rs g h = absurd h
+Stack-grows core code (KLast l y t) sl [] a [] g h = absurd h
+Stack-grows core code (KLast l y t) sl [] a (r ∷ []) g h = h
+Stack-grows core code (KLast l y t) sl [] a (r ∷ q ∷ rs) g h = absurd h
+Stack-grows core code (KLast l y t) sl (f ∷ fs) a rs g h = absurd h
+Stack-grows core code (KHere l x t u c k) sl fs a rs g h = (h.0, h.1, Waits-grows g h.2, Stack-grows core code k sl fs c.front rs g h.3)
+Stack-grows core code (KRegion l x t u c k) sl fs a [] g h = absurd h
+Stack-grows core code (KRegion l x t u c k) sl fs a (q ∷ rs) g h = (h.0, h.1, h.2, Waits-grows g h.3, Stack-grows core code k sl fs c.front rs g h.4)
+Stack-grows core code (KScalar l x ty u c k) sl fs a rs g h = (h.0, Waits-grows g h.1, Stack-grows core code k sl fs c.front rs g h.2)
+Stack-grows core code (KCall k) sl [] a rs g h = absurd h
+Stack-grows core code (KCall k) sl (f ∷ fs) a rs g h = (h.0, h.1, h.2, Stack-grows core code k f.words fs a rs g h.3)
+Stack-grows core code (KCallScalar x ty u c k) sl [] a rs g h = absurd h
+Stack-grows core code (KCallScalar x ty u c k) sl (f ∷ fs) a rs g h = (h.0, h.1, Waits-grows g h.2, Stack-grows core code k f.words fs c.front rs g h.3)

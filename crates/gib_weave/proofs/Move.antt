@@ -1,0 +1,441 @@
+-- What is said of a frame's slots is kept when slots change that are not relied on, and when a line knows more.
+use Rattle.std.proofs.Common.{◌≡◌, ℕ, ◌+◌, ◌<◌, Bool, true, false, cond, eqb, List, [], ◌∷◌, ◌++◌, length, Some, append_assoc, refl, sym, ap, subst, ◌∙◌}
+use Rattle.gib_types.specs.Layout.{LaidOut}
+use Rattle.gib_types.specs.Tree.{Datum}
+use Rattle.gib_syntax.specs.Meaning.{Environment, value_in}
+use Rattle.gib_mem.specs.Memory.{Store, Holds}
+use Rattle.gib_packed.specs.Head.{address}
+use Rattle.gib_packed.specs.Decoding.{Dec}
+use Rattle.gib_core.specs.Tree.{Term, CoreTree}
+use Rattle.gib_code.specs.Program.{CodeTree}
+use Rattle.gib_core.specs.Low.{End, Field as StoredField, field_of}
+use Rattle.gib_machine.specs.Machine.{Slots, slot, set, Frame, Open as OpenRegion, size}
+use Rattle.gib_core.specs.Fits.{put, Sort, Outside, Absent, Scalar, Held, Placed, Loose, AtHead, Field, Scope, is_there, has_slot, tree_type, loosen_one, loosen, Dest, Nowhere, Empty, Open, IsDue, more, dest_type}
+use Rattle.gib_weave.specs.Sound.{Rest, Plain, Part, Meet, Leave, Last, KSide, KLast, RestCode, within, Ctx, IsScalar, StandsAt, Has, HasAll, Fields, none, field, IsDest, Matches, Kont, KEnd, KHere, KRegion, KScalar, KCall, KCallScalar, Waits, Stack, Goes, Under, AllUnder, head_covers, Agrees, IsCode}
+use Rattle.gib_weave.proofs.Basics.{by_test, put-same, put-other, set-same, set-other, set-length}
+
+clash : true ≡ false → ⊥
+clash h = absurd cc
+
+-- one slot's change, as far as a line relies on it
+abbrev pub MovedOne : LaidOut → Store → Sort → ℕ → ℕ → Datum → Type 0
+MovedOne laid s Outside w w' v = Unit {0}
+MovedOne laid s Absent w w' v = Unit {0}
+MovedOne laid s (Scalar ty) w w' v = w' ≡ w
+MovedOne laid s Held w w' v = w' ≡ w
+MovedOne laid s (Placed t) w w' v = w' ≡ w
+MovedOne laid s (Loose t) w w' v = StandsAt laid s t w v → StandsAt laid s t w' v
+MovedOne laid s (AtHead t) w w' v = w' ≡ w
+MovedOne laid s (Field t z x k p) w w' v = Unit {0}
+
+pub record Moved (laid : LaidOut) (s : Store) (sl sl' : Slots) (c : Ctx) : Type 0 where
+  pub one : (y : ℕ) → MovedOne laid s (c.scope y) (slot sl y) (slot sl' y) (value_in c.env y)
+  pub long : length sl' ≡ length sl
+
+pub moved_absent : (laid : LaidOut) (s : Store) (so : Sort) (w w' : ℕ) (v : Datum) → is_there so ≡ false → MovedOne laid s so w w' v
+moved_absent laid s Outside w w' v h = tt
+moved_absent laid s Absent w w' v h = tt
+moved_absent laid s (Scalar ty) w w' v h = absurd (clash h)
+moved_absent laid s Held w w' v h = absurd (clash h)
+moved_absent laid s (Placed t) w w' v h = absurd (clash h)
+moved_absent laid s (Loose t) w w' v h = absurd (clash h)
+moved_absent laid s (AtHead t) w w' v h = absurd (clash h)
+moved_absent laid s (Field t z x k p) w w' v h = tt
+
+pub moved_same : (laid : LaidOut) (s : Store) (so : Sort) (w w' : ℕ) (v : Datum) → w' ≡ w → MovedOne laid s so w w' v
+moved_same laid s Outside w w' v e = tt
+moved_same laid s Absent w w' v e = tt
+moved_same laid s (Scalar ty) w w' v e = e
+moved_same laid s Held w w' v e = e
+moved_same laid s (Placed t) w w' v e = e
+moved_same laid s (Loose t) w w' v e = λ h. subst (λ (z : ℕ). StandsAt laid s t z v) (sym e) h
+moved_same laid s (AtHead t) w w' v e = e
+moved_same laid s (Field t z x k p) w w' v e = tt
+
+Has-moved : (laid : LaidOut) (s : Store) (c : Ctx) (so : Sort) (w w' : ℕ) (v : Datum) (at hd : ℕ) → MovedOne laid s so w w' v → Has laid s c so w v at hd → Has laid s c so w' v at hd
+Has-moved laid s c Outside w w' v at hd m h = tt
+Has-moved laid s c Absent w w' v at hd m h = tt
+Has-moved laid s c (Scalar ty) w w' v at hd m h = subst (λ (z : ℕ). IsScalar ty z v) (sym m) h
+Has-moved laid s c Held w w' v at hd m h = tt
+Has-moved laid s c (Placed t) w w' v at hd m h = record { same = m ∙ h.same; stands = h.stands }
+Has-moved laid s c (Loose t) w w' v at hd m h = m h
+Has-moved laid s c (AtHead t) w w' v at hd m h = record { same = m ∙ h.same; tag = h.tag; known = h.known; is_head = h.is_head; stands = h.stands }
+Has-moved laid s c (Field t z x k p) w w' v at hd m h = h
+
+pub IsDest-moved : (laid : LaidOut) (s : Store) (sl sl' : Slots) (c : Ctx) (cur : ℕ) (d : Dest) → Moved laid s sl sl' c → IsDest laid s sl c d cur → IsDest laid s sl' c d cur
+IsDest-moved laid s sl sl' c cur (Nowhere ty) m h = tt
+IsDest-moved laid s sl sl' c cur (Empty t) m h = h
+IsDest-moved laid s sl sl' c cur (Open t x k xs dues) m h =
+    let e : slot sl' x ≡ slot sl x = subst (λ (so : Sort). MovedOne laid s so (slot sl x) (slot sl' x) (value_in c.env x)) h.sort (m.one x) in
+    record { con = h.con; slot = e ∙ h.slot; sort = h.sort; leads = h.leads; types = h.types; all = h.all; fields = h.fields }
+
+pub HasAll-moved : {laid : LaidOut} {s : Store} {sl sl' : Slots} {c : Ctx} → Moved laid s sl sl' c → HasAll laid s sl c → HasAll laid s sl' c
+HasAll-moved {laid} {s} {sl} {sl'} {c} m h = record {
+  has = λ y. Has-moved laid s c (c.scope y) (slot sl y) (slot sl' y) (value_in c.env y) (c.pl y) (c.hd y) (m.one y) (h.has y);
+  wide = λ y e. subst (λ (n : ℕ). y < n) (sym m.long) (h.wide y e);
+}
+
+pub Matches-moved : {laid : LaidOut} {s : Store} {sl sl' : Slots} {c : Ctx} {cur : ℕ} → Moved laid s sl sl' c → Matches laid s sl c cur → Matches laid s sl' c cur
+Matches-moved {laid} {s} {sl} {sl'} {c} {cur} m h = record { vars = HasAll-moved m h.vars; dest = IsDest-moved laid s sl sl' c cur c.dest m h.dest }
+
+Waits-moved : {core : CoreTree} {code : CodeTree} {s : Store} {sl sl' : Slots} {at x : ℕ} {so : Sort} {u : Rest} {c : Ctx} {after : Dest} {cur : ℕ} {k : Kont} → Moved code.laid s sl sl' c → Waits core code s sl at x so u c after cur k → Waits core code s sl' at x so u c after cur k
+Waits-moved m w = record { free = w.free; narrow = w.narrow; low = w.low; fits = w.fits; new = w.new; matches = Matches-moved m w.matches; under = w.under; calm = w.calm; kind = w.kind }
+
+-- the lines of this frame that wait rely on none of the changes
+abbrev pub AllMoved : LaidOut → Store → Slots → Slots → Kont → Type 0
+AllMoved laid s sl sl' (KEnd ty) = Unit {0}
+AllMoved laid s sl sl' (KSide y0 ty) = Unit {0}
+AllMoved laid s sl sl' (KLast l0 y0 s0) = slot sl' y0 ≡ slot sl y0
+AllMoved laid s sl sl' (KHere l x t u c k) = (slot sl' x ≡ slot sl x) × Moved laid s sl sl' c × AllMoved laid s sl sl' k
+AllMoved laid s sl sl' (KRegion l x t u c k) = (slot sl' x ≡ slot sl x) × Moved laid s sl sl' c × AllMoved laid s sl sl' k
+AllMoved laid s sl sl' (KScalar l x ty u c k) = Moved laid s sl sl' c × AllMoved laid s sl sl' k
+AllMoved laid s sl sl' (KCall k) = Unit {0}
+AllMoved laid s sl sl' (KCallScalar x ty u c k) = Unit {0}
+
+pub Stack-moved : (core : CoreTree) (code : CodeTree) (s : Store) (k : Kont) (sl sl' : Slots) (fs : List Frame) (a : ℕ) (rs : List OpenRegion) → AllMoved code.laid s sl sl' k → Stack core code s k sl fs a rs → Stack core code s k sl' fs a rs
+Stack-moved core code s (KEnd ty) sl sl' [] a rs m h = h
+Stack-moved core code s (KEnd ty) sl sl' (f ∷ fs) a rs m h = absurd h
+Stack-moved core code s (KSide y ty) sl sl' [] a rs m h = tt
+Stack-moved core code s (KSide y ty) sl sl' (f ∷ fs) a rs m h = absurd h
+Stack-moved core code s (KLast l y t) sl sl' [] a [] m h = absurd h
+Stack-moved core code s (KLast l y t) sl sl' [] a (r ∷ []) m h = (h.0, m ∙ h.1, h.2)
+Stack-moved core code s (KLast l y t) sl sl' [] a (r ∷ q ∷ rs) m h = absurd h
+Stack-moved core code s (KLast l y t) sl sl' (f ∷ fs) a rs m h = absurd h
+Stack-moved core code s (KHere l x t u c k) sl sl' fs a rs m h = (m.0 ∙ h.0, h.1, Waits-moved m.1 h.2, Stack-moved core code s k sl sl' fs c.front rs m.2 h.3)
+Stack-moved core code s (KRegion l x t u c k) sl sl' fs a [] m h = absurd h
+Stack-moved core code s (KRegion l x t u c k) sl sl' fs a (q ∷ rs) m h = (m.0 ∙ h.0, h.1, h.2, Waits-moved m.1 h.3, Stack-moved core code s k sl sl' fs c.front rs m.2 h.4)
+Stack-moved core code s (KScalar l x ty u c k) sl sl' fs a rs m h = (h.0, Waits-moved m.0 h.1, Stack-moved core code s k sl sl' fs c.front rs m.1 h.2)
+Stack-moved core code s (KCall k) sl sl' [] a rs m h = absurd h
+Stack-moved core code s (KCall k) sl sl' (f ∷ fs) a rs m h = h
+Stack-moved core code s (KCallScalar x ty u c k) sl sl' [] a rs m h = absurd h
+Stack-moved core code s (KCallScalar x ty u c k) sl sl' (f ∷ fs) a rs m h = h
+
+-- A line knows more.
+
+pub tree_there : (i : Sort) (t : ℕ) → tree_type i ≡ Some t → is_there i ≡ true
+tree_there Outside t h = absurd cc
+tree_there Absent t h = absurd cc
+tree_there (Scalar ty) t h = refl
+tree_there Held t h = refl
+tree_there (Placed u) t h = refl
+tree_there (Loose u) t h = refl
+tree_there (AtHead u) t h = refl
+tree_there (Field u z x k p) t h = refl
+
+pub goes-there : (o i : Sort) → Goes o i → is_there o ≡ true → is_there i ≡ true
+goes-there Outside i g h = absurd (clash (sym h))
+goes-there Absent i g h = absurd (clash (sym h))
+goes-there (Scalar ty) i g h = ap is_there g
+goes-there Held i g h = ap is_there g
+goes-there (Placed t) i g h = tree_there i t g
+goes-there (Loose t) i g h = tree_there i t g
+goes-there (AtHead t) i g h = ap is_there g
+goes-there (Field t z x k p) i g h = g
+
+pub new_under : {o : Ctx} {sc : Scope} {env : Environment} (x : ℕ) → Under o sc env → is_there (sc x) ≡ false → is_there (o.scope x) ≡ false
+new_under {o} {sc} x u n = go (is_there (o.scope x)) refl
+  where
+    go : (b : Bool) → is_there (o.scope x) ≡ b → b ≡ false
+    go false e = refl
+    go true e = sym (goes-there (o.scope x) (sc x) (u.sorts x) e) ∙ n
+
+-- a slot is set that the line does not rely on
+pub moved_set : {laid : LaidOut} {s : Store} {sl : Slots} {c : Ctx} (x w : ℕ) → is_there (c.scope x) ≡ false → Moved laid s sl (set sl x w) c
+moved_set {laid} {s} {sl} {c} x w n = record { one = λ y. one y; long = set-length sl x w }
+  where
+    one : (y : ℕ) → MovedOne laid s (c.scope y) (slot sl y) (slot (set sl x w) y) (value_in c.env y)
+    one y = by_test y x (λ b. MovedOne laid s (c.scope y) (slot sl y) (slot (set sl x w) y) (value_in c.env y))
+        (λ e. moved_absent laid s (c.scope y) (slot sl y) (slot (set sl x w) y) (value_in c.env y) (ap (λ z. is_there (c.scope z)) e ∙ n))
+        (λ e. moved_same laid s (c.scope y) (slot sl y) (slot (set sl x w) y) (value_in c.env y) (set-other sl x y w e))
+
+pub held : (sc : Scope) (x y : ℕ) → sc y ≡ Held → is_there (sc x) ≡ false → y ≡ x → ⊥
+held sc x y h n e = clash (sym (ap is_there h) ∙ ap (λ z. is_there (sc z)) e ∙ n)
+
+pub all_moved_set : (laid : LaidOut) (s : Store) (sl : Slots) (sc : Scope) (env : Environment) (k : Kont) (x w : ℕ) → AllUnder sc env k → is_there (sc x) ≡ false → AllMoved laid s sl (set sl x w) k
+all_moved_set laid s sl sc env (KEnd ty) x w u n = tt
+all_moved_set laid s sl sc env (KSide y0 ty) x w u n = tt
+all_moved_set laid s sl sc env (KLast l0 y0 s0) x w u n = set-other sl x y0 w (held sc x y0 u n)
+all_moved_set laid s sl sc env (KHere l y s' t c k) x w u n = (set-other sl x y w (held sc x y u.0 n), moved_set x w (new_under x u.1 n), all_moved_set laid s sl sc env k x w u.2 n)
+all_moved_set laid s sl sc env (KRegion l y s' t c k) x w u n = (set-other sl x y w (held sc x y u.0 n), moved_set x w (new_under x u.1 n), all_moved_set laid s sl sc env k x w u.2 n)
+all_moved_set laid s sl sc env (KScalar l y ty t c k) x w u n = (moved_set x w (new_under x u.0 n), all_moved_set laid s sl sc env k x w u.1 n)
+all_moved_set laid s sl sc env (KCall k) x w u n = tt
+all_moved_set laid s sl sc env (KCallScalar y ty t c k) x w u n = tt
+
+-- what is there in one line is so in the other
+pub record Keeps (c c' : Ctx) : Type 0 where
+  pub there : (y : ℕ) → is_there (c.scope y) ≡ true → is_there (c'.scope y) ≡ true
+  pub places : (y : ℕ) → is_there (c.scope y) ≡ true → c'.pl y ≡ c.pl y
+  pub values : (y : ℕ) → is_there (c.scope y) ≡ true → value_in c'.env y ≡ value_in c.env y
+  pub at_head : (y o : ℕ) → c.scope y ≡ AtHead o → c'.scope y ≡ AtHead o
+  pub heads : (y o : ℕ) → c.scope y ≡ AtHead o → c'.hd y ≡ c.hd y
+
+pub Has-keeps : (laid : LaidOut) (s : Store) (c c' : Ctx) (so : Sort) (w : ℕ) (v : Datum) (at hd : ℕ) → Keeps c c' → Has laid s c so w v at hd → Has laid s c' so w v at hd
+Has-keeps laid s c c' Outside w v at hd k h = tt
+Has-keeps laid s c c' Absent w v at hd k h = tt
+Has-keeps laid s c c' (Scalar ty) w v at hd k h = h
+Has-keeps laid s c c' Held w v at hd k h = tt
+Has-keeps laid s c c' (Placed t) w v at hd k h = h
+Has-keeps laid s c c' (Loose t) w v at hd k h = h
+Has-keeps laid s c c' (AtHead t) w v at hd k h = h
+Has-keeps laid s c c' (Field t z x con p) w v at hd k h = record {
+  there = k.there z h.there;
+  owner_type = h.owner_type;
+  owner = k.at_head x h.owner_type h.owner;
+  type_before = h.type_before;
+  before = subst (λ (q : ℕ). Dec laid s q h.type_before (value_in c'.env z) at) (sym (k.places z h.there)) (subst (λ (q : Datum). Dec laid s (c.pl z) h.type_before q at) (sym (k.values z h.there)) h.before);
+  stored = λ e. subst (λ (q : ℕ). Holds s (q + p) (address at)) (sym (k.heads x h.owner_type h.owner)) (h.stored e);
+  stands = h.stands;
+}
+
+pub Fields-keeps : {laid : LaidOut} {s : Store} {c c' : Ctx} {a z : ℕ} {xs ts : List ℕ} → Keeps c c' → Fields laid s c a xs ts z → Fields laid s c' a xs ts z
+Fields-keeps k none = none
+Fields-keeps {laid} {s} {c} {c'} {a = a} k (field {x = x} {y = y} {t = t} h p d f) =
+    field (k.there x h) (k.places x h ∙ p) (subst (λ (q : Datum). Dec laid s a t q y) (sym (k.values x h)) d) (Fields-keeps k f)
+
+pub Fields-more : {laid : LaidOut} {s : Store} {c : Ctx} {a y z t : ℕ} {xs ts : List ℕ} (x : ℕ) → is_there (c.scope x) ≡ true → c.pl x ≡ y → Fields laid s c a xs ts y → Dec laid s y t (value_in c.env x) z → Fields laid s c a (xs ++ x ∷ []) (ts ++ t ∷ []) z
+Fields-more x h p none d = field h p d none
+Fields-more x h p (field t' p' d' f) d = field t' p' d' (Fields-more x h p f d)
+
+-- A variable is bound.
+
+pub bound-other : (env : Environment) (x : ℕ) (v : Datum) (y : ℕ) → (y ≡ x → ⊥) → value_in ((x, v) ∷ env) y ≡ value_in env y
+bound-other env x v y ne = by_test x y (λ b. cond b v (value_in env y) ≡ value_in env y) (λ e. absurd (ne (sym e))) (λ e. refl)
+
+pub bound-same : (env : Environment) (x : ℕ) (v : Datum) → value_in ((x, v) ∷ env) x ≡ v
+bound-same env x v = by_test x x (λ b. cond b v (value_in env x) ≡ v) (λ e. refl) (λ e. absurd (e refl))
+
+pub bound-is : (env : Environment) (x : ℕ) (v : Datum) (y : ℕ) → value_in ((x, v) ∷ env) y ≡ cond (eqb y x) v (value_in env y)
+bound-is env x v y = by_test y x (λ b. value_in ((x, v) ∷ env) y ≡ cond b v (value_in env y)) (λ e. ap (value_in ((x, v) ∷ env)) e ∙ bound-same env x v) (λ e. bound-other env x v y e)
+
+abbrev pub with_var : Ctx → ℕ → Sort → Datum → ℕ → Ctx
+with_var c x so v at = record { scope = put c.scope x so; env = (x, v) ∷ c.env; pl = put c.pl x at; hd = c.hd; dest = c.dest; front = c.front; head = c.head }
+
+-- the same with another destination
+abbrev pub with_dest : Ctx → Dest → Ctx
+with_dest c d = record { scope = c.scope; env = c.env; pl = c.pl; hd = c.hd; dest = d; front = c.front; head = c.head }
+
+pub not_there : (sc : Scope) (x : ℕ) → sc x ≡ Absent → is_there (sc x) ≡ false
+not_there sc x n = ap is_there n
+
+pub other : (sc : Scope) (l x : ℕ) → is_there (sc l) ≡ true → sc x ≡ Absent → l ≡ x → ⊥
+other sc l x t n e = clash (sym t ∙ ap (λ z. is_there (sc z)) e ∙ ap is_there n)
+
+pub keeps_var : (c : Ctx) (x : ℕ) (so : Sort) (v : Datum) (at : ℕ) → c.scope x ≡ Absent → Keeps c (with_var c x so v at)
+keeps_var c x so v at n = record {
+  there = λ y h. ap is_there (put-other c.scope x y so (other c.scope y x h n)) ∙ h;
+  places = λ y h. put-other c.pl x y at (other c.scope y x h n);
+  values = λ y h. bound-other c.env x v y (other c.scope y x h n);
+  at_head = λ y o e. put-other c.scope x y so (other c.scope y x (ap is_there e) n) ∙ e;
+  heads = λ y o e. refl;
+}
+
+pub keeps_dest : (c : Ctx) (d : Dest) → Keeps c (with_dest c d)
+keeps_dest c d = record { there = λ y h. h; places = λ y h. refl; values = λ y h. refl; at_head = λ y o e. e; heads = λ y o e. refl }
+
+pub absent_slot : (sc : Scope) (x : ℕ) → sc x ≡ Absent → has_slot (sc x) ≡ true
+absent_slot sc x n = ap has_slot n
+
+-- a new variable, where its slot is as it should be and the others' are as they were
+pub HasAll-new : (laid : LaidOut) (s : Store) (sl sl' : Slots) (c : Ctx) (x : ℕ) (so : Sort) (v : Datum) (at : ℕ) → c.scope x ≡ Absent → length sl' ≡ length sl → ((y : ℕ) → (y ≡ x → ⊥) → slot sl' y ≡ slot sl y) → Has laid s (with_var c x so v at) so (slot sl' x) v at (c.hd x)
+    → HasAll laid s sl c → HasAll laid s sl' (with_var c x so v at)
+HasAll-new laid s sl sl' c x so v at n len others h hs = record { has = has; wide = wide }
+  where
+    c' : Ctx
+    c' = with_var c x so v at
+
+    has : (y : ℕ) → Has laid s c' (put c.scope x so y) (slot sl' y) (value_in ((x, v) ∷ c.env) y) (put c.pl x at y) (c.hd y)
+    has y = subst (λ (q : Datum). Has laid s c' (put c.scope x so y) (slot sl' y) q (put c.pl x at y) (c.hd y)) (sym (bound-is c.env x v y))
+        (by_test y x (λ b. Has laid s c' (cond b so (c.scope y)) (slot sl' y) (cond b v (value_in c.env y)) (cond b at (c.pl y)) (c.hd y))
+        (λ e. subst (λ (z : ℕ). Has laid s c' so (slot sl' z) v at (c.hd z)) (sym e) h)
+        (λ e. subst (λ (q : ℕ). Has laid s c' (c.scope y) q (value_in c.env y) (c.pl y) (c.hd y)) (sym (others y e))
+        (Has-keeps laid s c c' (c.scope y) (slot sl y) (value_in c.env y) (c.pl y) (c.hd y) (keeps_var c x so v at n) (hs.has y))))
+
+    wide : (y : ℕ) → has_slot (put c.scope x so y) ≡ true → y < length sl'
+    wide y = subst (λ (m : ℕ). has_slot (put c.scope x so y) ≡ true → y < m) (sym len)
+        (by_test y x (λ b. has_slot (cond b so (c.scope y)) ≡ true → y < length sl)
+        (λ e h'. subst (λ (z : ℕ). z < length sl) (sym e) (hs.wide x (absent_slot c.scope x n)))
+        (λ e h'. hs.wide y h'))
+
+pub HasAll-bind : (laid : LaidOut) (s : Store) (sl : Slots) (c : Ctx) (x : ℕ) (so : Sort) (v : Datum) (w at : ℕ) → c.scope x ≡ Absent → Has laid s (with_var c x so v at) so w v at (c.hd x) → HasAll laid s sl c → HasAll laid s (set sl x w) (with_var c x so v at)
+HasAll-bind laid s sl c x so v w at n h hs =
+    HasAll-new laid s sl (set sl x w) c x so v at n (set-length sl x w) (λ y e. set-other sl x y w e)
+    (subst (λ (q : ℕ). Has laid s (with_var c x so v at) so q v at (c.hd x)) (sym (set-same sl x w (hs.wide x (absent_slot c.scope x n)))) h) hs
+
+-- the same where the slot is as it should be
+pub HasAll-set : (laid : LaidOut) (s : Store) (sl : Slots) (c : Ctx) (x : ℕ) (so : Sort) (v : Datum) (at : ℕ) → c.scope x ≡ Absent → Has laid s (with_var c x so v at) so (slot sl x) v at (c.hd x) → HasAll laid s sl c → HasAll laid s sl (with_var c x so v at)
+HasAll-set laid s sl c x so v at n h hs = HasAll-new laid s sl sl c x so v at n refl (λ y e. refl) h hs
+
+pub HasAll-dest : {laid : LaidOut} {s : Store} {sl : Slots} {c c' : Ctx} → c'.scope ≡ c.scope → Keeps c c' → HasAll laid s sl c → ((y : ℕ) → value_in c'.env y ≡ value_in c.env y) → ((y : ℕ) → c'.pl y ≡ c.pl y) → ((y : ℕ) → c'.hd y ≡ c.hd y) → HasAll laid s sl c'
+HasAll-dest {laid} {s} {sl} {c} {c'} e k h ve pe he = record {
+  has = λ y.
+      subst (λ (z : Scope). Has laid s c' (z y) (slot sl y) (value_in c'.env y) (c'.pl y) (c'.hd y)) (sym e)
+      (subst (λ (q : ℕ). Has laid s c' (c.scope y) (slot sl y) (value_in c'.env y) (c'.pl y) q) (sym (he y))
+      (subst (λ (q : ℕ). Has laid s c' (c.scope y) (slot sl y) (value_in c'.env y) q (c.hd y)) (sym (pe y))
+      (subst (λ (q : Datum). Has laid s c' (c.scope y) (slot sl y) q (c.pl y) (c.hd y)) (sym (ve y))
+      (Has-keeps laid s c c' (c.scope y) (slot sl y) (value_in c.env y) (c.pl y) (c.hd y) k (h.has y)))));
+  wide = λ y f. h.wide y (ap (λ (z : Scope). has_slot (z y)) (sym e) ∙ f);
+}
+
+pub IsDest-bind : (laid : LaidOut) (s : Store) (sl : Slots) (c : Ctx) (cur x : ℕ) (so : Sort) (v : Datum) (at : ℕ) (d : Dest) → c.scope x ≡ Absent → IsDest laid s sl c d cur → IsDest laid s sl (with_var c x so v at) d cur
+IsDest-bind laid s sl c cur x so v at (Nowhere ty) n h = tt
+IsDest-bind laid s sl c cur x so v at (Empty t) n h = h
+IsDest-bind laid s sl c cur x so v at (Open t y k xs dues) n h = record {
+  con = h.con;
+  slot = h.slot;
+  sort = put-other c.scope x y so (held c.scope x y h.sort (ap is_there n)) ∙ h.sort;
+  leads = h.leads;
+  types = h.types;
+  all = h.all;
+  fields = Fields-keeps (keeps_var c x so v at n) h.fields;
+}
+
+pub IsDest-more : (laid : LaidOut) (s : Store) (sl : Slots) (c : Ctx) (a z x t : ℕ) (v : Datum) (d : Dest) → c.scope x ≡ Absent → IsDue d t → Dec laid s a t v z → IsDest laid s sl c d a → IsDest laid s sl (with_dest (with_var c x (Placed t) v a) (more d x)) (more d x) z
+IsDest-more laid s sl c a z x t v (Nowhere ty) n o e h = absurd o
+IsDest-more laid s sl c a z x t v (Empty u) n o e h = absurd o
+IsDest-more laid s sl c a z x t v (Open u y k xs []) n o e h = absurd o
+IsDest-more laid s sl c a z x t v (Open u y k xs (q ∷ dues)) n o e h =
+    let c1 = with_var c x (Placed t) v a in
+    let c2 = with_dest c1 (Open u y k (xs ++ x ∷ []) dues) in
+    let f : Fields laid s c2 (c.head + size laid k) xs h.types a = Fields-keeps (keeps_dest c1 (Open u y k (xs ++ x ∷ []) dues)) (Fields-keeps (keeps_var c x (Placed t) v a n) h.fields) in
+    record {
+      con = h.con;
+      slot = h.slot;
+      sort = put-other c.scope x y (Placed t) (held c.scope x y h.sort (ap is_there n)) ∙ h.sort;
+      leads = h.leads;
+      types = h.types ++ q ∷ [];
+      all = append_assoc h.types (q ∷ []) dues ∙ h.all;
+      fields = Fields-more x (ap is_there (put-same c.scope x (Placed t))) (put-same c.pl x a) f
+          (subst (λ (b : ℕ). Dec laid s a b (value_in ((x, v) ∷ c.env) x) z) (sym o) (subst (λ (b : Datum). Dec laid s a t b z) (sym (bound-same c.env x v)) e));
+    }
+
+pub type_more : (d : Dest) (x : ℕ) → dest_type (more d x) ≡ dest_type d
+type_more (Nowhere ty) x = refl
+type_more (Empty t) x = refl
+type_more (Open t h k xs []) x = refl
+type_more (Open t h k xs (q ∷ dues)) x = refl
+
+pub covers_more : (laid : LaidOut) (c c' : Ctx) (d : Dest) (x q : ℕ) → c'.head ≡ c.head → head_covers laid c' (more d x) q ≡ head_covers laid c d q
+covers_more laid c c' (Nowhere ty) x q e = refl
+covers_more laid c c' (Empty t) x q e = refl
+covers_more laid c c' (Open t h k xs []) x q e = ap (λ (a : ℕ). within a (size laid k) q) e
+covers_more laid c c' (Open t h k xs (u ∷ dues)) x q e = ap (λ (a : ℕ). within a (size laid k) q) e
+
+pub covers_head : (laid : LaidOut) (c c' : Ctx) (d : Dest) (q : ℕ) → c'.head ≡ c.head → head_covers laid c' d q ≡ head_covers laid c d q
+covers_head laid c c' (Nowhere ty) q e = refl
+covers_head laid c c' (Empty t) q e = refl
+covers_head laid c c' (Open t h k xs dues) q e = ap (λ (a : ℕ). within a (size laid k) q) e
+
+-- Sorts within a line.
+
+pub goes-refl : (o : Sort) → Goes o o
+goes-refl Outside = tt
+goes-refl Absent = tt
+goes-refl (Scalar ty) = refl
+goes-refl Held = refl
+goes-refl (Placed t) = refl
+goes-refl (Loose t) = refl
+goes-refl (AtHead t) = refl
+goes-refl (Field t z x k p) = refl
+
+goes-tree : (i j : Sort) (t : ℕ) → tree_type i ≡ Some t → Goes i j → tree_type j ≡ Some t
+goes-tree Outside j t h g = absurd cc
+goes-tree Absent j t h g = absurd cc
+goes-tree (Scalar ty) j t h g = absurd cc
+goes-tree Held j t h g = absurd cc
+goes-tree (Placed u) j t h g = g ∙ h
+goes-tree (Loose u) j t h g = g ∙ h
+goes-tree (AtHead u) j t h g = ap tree_type g ∙ h
+goes-tree (Field u z x k p) j t h g = absurd cc
+
+pub goes-goes : (o i j : Sort) → Goes o i → Goes i j → Goes o j
+goes-goes Outside i j g h = tt
+goes-goes Absent i j g h = tt
+goes-goes (Scalar ty) i j g h = subst (λ (z : Sort). Goes z j) g h
+goes-goes Held i j g h = subst (λ (z : Sort). Goes z j) g h
+goes-goes (Placed t) i j g h = goes-tree i j t g h
+goes-goes (Loose t) i j g h = goes-tree i j t g h
+goes-goes (AtHead t) i j g h = subst (λ (z : Sort). Goes z j) g h
+goes-goes (Field t z x k p) i j g h = goes-there i j h g
+
+pub goes-absent : (o i : Sort) → is_there o ≡ false → Goes o i
+goes-absent Outside i h = tt
+goes-absent Absent i h = tt
+goes-absent (Scalar ty) i h = absurd (clash h)
+goes-absent Held i h = absurd (clash h)
+goes-absent (Placed t) i h = absurd (clash h)
+goes-absent (Loose t) i h = absurd (clash h)
+goes-absent (AtHead t) i h = absurd (clash h)
+goes-absent (Field t z x k p) i h = absurd (clash h)
+
+pub under_goes : {o : Ctx} {sc sc' : Scope} {env env' : Environment} → ((y : ℕ) → Goes (sc y) (sc' y)) → ((y : ℕ) → is_there (sc y) ≡ true → value_in env' y ≡ value_in env y) → Under o sc env → Under o sc' env'
+under_goes {o} {sc} {sc'} g e u = record {
+  sorts = λ y. goes-goes (o.scope y) (sc y) (sc' y) (u.sorts y) (g y);
+  same = λ y h. e y (goes-there (o.scope y) (sc y) (u.sorts y) h) ∙ u.same y h;
+}
+
+pub all_under_goes : (sc sc' : Scope) (env env' : Environment) (k : Kont) → ((y : ℕ) → Goes (sc y) (sc' y)) → ((y : ℕ) → is_there (sc y) ≡ true → value_in env' y ≡ value_in env y) → AllUnder sc env k → AllUnder sc' env' k
+all_under_goes sc sc' env env' (KEnd ty) g e u = tt
+all_under_goes sc sc' env env' (KSide y0 ty) g e u = tt
+all_under_goes sc sc' env env' (KLast l0 y0 s0) g e u = subst (λ (z : Sort). Goes z (sc' y0)) u (g y0)
+all_under_goes sc sc' env env' (KHere l x s t c k) g e u = (subst (λ (z : Sort). Goes z (sc' x)) u.0 (g x), under_goes g e u.1, all_under_goes sc sc' env env' k g e u.2)
+all_under_goes sc sc' env env' (KRegion l x s t c k) g e u = (subst (λ (z : Sort). Goes z (sc' x)) u.0 (g x), under_goes g e u.1, all_under_goes sc sc' env env' k g e u.2)
+all_under_goes sc sc' env env' (KScalar l x ty t c k) g e u = (under_goes g e u.0, all_under_goes sc sc' env env' k g e u.1)
+all_under_goes sc sc' env env' (KCall k) g e u = tt
+all_under_goes sc sc' env env' (KCallScalar x ty t c k) g e u = tt
+
+pub goes_new : (sc : Scope) (x : ℕ) (so : Sort) → sc x ≡ Absent → (y : ℕ) → Goes (sc y) (put sc x so y)
+goes_new sc x so n y = by_test y x (λ b. Goes (sc y) (cond b so (sc y))) (λ e. goes-absent (sc y) so (ap (λ z. is_there (sc z)) e ∙ ap is_there n)) (λ e. goes-refl (sc y))
+
+pub all_under_bind : (sc : Scope) (env : Environment) (k : Kont) (x : ℕ) (so : Sort) (v : Datum) → sc x ≡ Absent → AllUnder sc env k → AllUnder (put sc x so) ((x, v) ∷ env) k
+all_under_bind sc env k x so v n u = all_under_goes sc (put sc x so) env ((x, v) ∷ env) k (goes_new sc x so n) (λ y t. bound-other env x v y (other sc y x t n)) u
+
+-- Where fields are stored.
+
+abbrev pub is_field : Sort → Bool
+is_field Outside = false
+is_field Absent = false
+is_field (Scalar ty) = false
+is_field Held = false
+is_field (Placed t) = false
+is_field (Loose t) = false
+is_field (AtHead t) = false
+is_field (Field t z x k p) = true
+
+pub agrees_put : (fs : List StoredField) (sc : Scope) (x : ℕ) (so : Sort) → is_field so ≡ false → Agrees fs sc → Agrees fs (put sc x so)
+agrees_put fs sc x so n h = record { agrees = λ y t z o k p. by_test y x (λ b. cond b so (sc y) ≡ Field t z o k p → ((field_of fs y).tree ≡ o) × ((field_of fs y).place ≡ p)) (λ e f. absurd (clash (sym (ap is_field f) ∙ n))) (λ e f. h.agrees y t z o k p f) }
+
+loosen_field : (b : Bool) (so : Sort) (t z x k p : ℕ) → loosen_one b so ≡ Field t z x k p → so ≡ Field t z x k p
+loosen_field false so t z x k p e = e
+loosen_field true Outside t z x k p e = absurd (clash (sym (ap is_field e)))
+loosen_field true Absent t z x k p e = absurd (clash (sym (ap is_field e)))
+loosen_field true (Scalar ty) t z x k p e = absurd (clash (sym (ap is_field e)))
+loosen_field true Held t z x k p e = absurd (clash (sym (ap is_field e)))
+loosen_field true (Placed u) t z x k p e = absurd (clash (sym (ap is_field e)))
+loosen_field true (Loose u) t z x k p e = absurd (clash (sym (ap is_field e)))
+loosen_field true (AtHead u) t z x k p e = absurd (clash (sym (ap is_field e)))
+loosen_field true (Field u z' x' k' p') t z x k p e = e
+
+pub agrees_loosen : (fs : List StoredField) (sc : Scope) (m : ℕ → Bool) → Agrees fs sc → Agrees fs (loosen m sc)
+agrees_loosen fs sc m h = record { agrees = λ y t z o k p e. h.agrees y t z o k p (loosen_field (m y) (sc y) t z o k p e) }
+
+pub code_put : {core : CoreTree} {code : CodeTree} {sc : Scope} {at : ℕ} {u : Term} {e : End} (x : ℕ) (so : Sort) → is_field so ≡ false → IsCode core code sc at u e → IsCode core code (put sc x so) at u e
+code_put {sc = sc} x so n l = record { fields = l.fields; until = l.until; low = l.low; agree = agrees_put l.fields sc x so n l.agree }
+
+pub code_loosen : {core : CoreTree} {code : CodeTree} {sc : Scope} {at : ℕ} {u : Term} {e : End} (m : ℕ → Bool) → IsCode core code sc at u e → IsCode core code (loosen m sc) at u e
+code_loosen {sc = sc} m l = record { fields = l.fields; until = l.until; low = l.low; agree = agrees_loosen l.fields sc m l.agree }
+
+-- The same of what is next in a line.
+
+pub rest_code_put : (core : CoreTree) (code : CodeTree) (sc : Scope) (at : ℕ) (u : Rest) (e : End) (x : ℕ) (so : Sort) → is_field so ≡ false → RestCode core code sc at u e → RestCode core code (put sc x so) at u e
+rest_code_put core code sc at (Plain u) e x so n l = code_put x so n l
+rest_code_put core code sc at (Part s r) e x so n l = (l.0, l.1, l.2, agrees_put l.0 sc x so n l.3, rest_code_put core code sc l.1 r e x so n l.4)
+rest_code_put core code sc at (Meet p s u) e x so n l = record { fields = l.fields; until = l.until; join = l.join; side = l.side; back = l.back; next = code_put x so n l.next; agree = agrees_put l.fields sc x so n l.agree; label = l.label; kind = l.kind; variable = l.variable }
+rest_code_put core code sc at (Leave p u) e x so n l = (l.0, code_put x so n l.1)
+rest_code_put core code sc at (Last y ty) e x so n l = l
+
+pub rest_code_loosen : (core : CoreTree) (code : CodeTree) (sc : Scope) (at : ℕ) (u : Rest) (e : End) (m : ℕ → Bool) → RestCode core code sc at u e → RestCode core code (loosen m sc) at u e
+rest_code_loosen core code sc at (Plain u) e m l = code_loosen m l
+rest_code_loosen core code sc at (Part s r) e m l = (l.0, l.1, l.2, agrees_loosen l.0 sc m l.3, rest_code_loosen core code sc l.1 r e m l.4)
+rest_code_loosen core code sc at (Meet p s u) e m l = record { fields = l.fields; until = l.until; join = l.join; side = l.side; back = l.back; next = code_loosen m l.next; agree = agrees_loosen l.fields sc m l.agree; label = l.label; kind = l.kind; variable = l.variable }
+rest_code_loosen core code sc at (Leave p u) e m l = (l.0, code_loosen m l.1)
+rest_code_loosen core code sc at (Last y ty) e m l = l

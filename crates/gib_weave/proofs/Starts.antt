@@ -1,0 +1,273 @@
+-- The root starts sound, and lowered bodies are as the law wants them.
+use Rattle.std.proofs.Common.{◌≡◌, ℕ, zero, suc, ◌+◌, ◌*◌, ◌<◌, ◌≤◌, true, false, cond, List, [], ◌∷◌, ◌++◌, map, length, Option, Some, None, refl, sym, ap, subst, ◌∙◌, arith}
+use Rattle.gib_types.specs.declared.table.Ty.{Ty}
+use Rattle.gib_types.specs.declared.table.Ty.TheVariants.{Whole, Truth, Tree}
+use Rattle.gib_types.specs.Table.{IsTable}
+use Rattle.gib_types.specs.Layout.{LaidOut}
+use Rattle.gib_types.specs.Tree.{Datum}
+use Rattle.gib_syntax.specs.Meaning.{is_scalar, value_in}
+use Rattle.gib_mem.specs.Memory.{Store, open_chunk}
+use Rattle.gib_region.specs.Region.{rest}
+use Rattle.gib_core.specs.Tree.{Term, CoreTree, FunctionTerm}
+use Rattle.gib_core.specs.Numbering.{binders, bind_binders, side_binders, branch_binders}
+use Rattle.gib_core.specs.Tree as t
+use Rattle.gib_core.specs.declared.atom.Variable.{Variable}
+use Rattle.gib_core.specs.declared.atom.Kind.TheVariants as kind
+use Rattle.std.proofs.lemmas.List.{length-append}
+use Rattle.gib_core.specs.Meaning.{function_at, core_run}
+use Rattle.gib_code.specs.declared.instruction.Entry.{Entry}
+use Rattle.gib_code.specs.Program.{CodeTree}
+use Rattle.gib_core.specs.Low as low
+use Rattle.gib_core.specs.Low.{Low, LowFunctions, IsLowered, End, Returns, function_number, laid_of, Field as StoredField}
+use Rattle.gib_machine.specs.Machine.{times, widest, Slots, slot, Open as OpenRegion, State, Opening, begins, latest, cursor, frame_words, start_at, slots_at}
+use Rattle.gib_weave.specs.Cost.{Cost, plus, one_region}
+use Rattle.gib_weave.proofs.Counts.{goes_on_counted, same_most, Paid, tail_counted, chunk_counted}
+use Rattle.gib_core.specs.Fits.{Sort, Outside, Absent, Scalar, Placed, Field, Scope, Dest, dest_of, dest_type, param_sort, body_scope, AllFit}
+use Rattle.gib_weave.specs.Sound.{Share, AtMost, Counted, counts, left_costs, region_of, Owed, Rest, Plain, Part, Meet, Leave, Last, KSide, KLast, AtRest, IsInBody, Follows, Next, rest_pars, rest_sides, pars_of, sides_of, side_of, RestCode, RestFits, rest_cased, rest_nest, rest_means, side_gives, Debt, lefts, IsUnwinding, unwinds, within, Owned, with_chunk, Ctx, StandsAt, Has, HasAll, IsDest, Kont, KEnd, Stack, IsRoot, means, Agrees, IsCode, IsBody, AreBodies, IsMain, IsArgument, first_doing, root_start, rest_covers, tail_covers, TailsHaveRoom, IsSmall, IsNew, Apart, nest, bind_nest, side_nest, branches_nest, AtTerm, Rests, at_term, Safe, rests, moves, Moves, silent, draws, HasRoom, freed}
+use Rattle.gib_weave.proofs.Basics.{by_test}
+use Rattle.gib_weave.proofs.Move.{is_field}
+use Rattle.gib_weave.proofs.Places.{Apart-less, Apart-open, open-grows, open-small, SplitsAt, splits}
+use Rattle.gib_weave.proofs.Grow.{StandsAt-grows}
+use Rattle.gib_weave.proofs.Binds.{frame-length, no_slot, nothing_bound, result_dest, result_type, no_result_cover}
+use Rattle.gib_weave.proofs.Ends.{at_rest}
+
+clash : true ≡ false → ⊥
+clash h = absurd cc
+
+-- No field is in scope where a body begins.
+
+param_field : (p : Ty) → is_field (param_sort p) ≡ false
+param_field Whole = refl
+param_field Truth = refl
+param_field (Tree t) = refl
+
+body_field : (n : ℕ) (ps : List Ty) (y : ℕ) → is_field (body_scope n ps y) ≡ false
+body_field zero ps y = refl
+body_field (suc n) [] zero = refl
+body_field (suc n) [] (suc y) = body_field n [] y
+body_field (suc n) (p ∷ ps) zero = param_field p
+body_field (suc n) (p ∷ ps) (suc y) = body_field n ps y
+
+no_fields : (fs : List StoredField) (n : ℕ) (ps : List Ty) → Agrees fs (body_scope n ps)
+no_fields fs n ps = record { agrees = λ y t z x k p e. absurd (clash (sym (ap is_field e) ∙ body_field n ps y)) }
+
+-- A term has no more regions open than it binds variables.
+
+side_binds : (s : t.Side) → 1 ≤ length (side_binders s)
+side_binds (t.On kd x ty u) = omega arith
+
+mutual
+  nest_below : (t : Term) → nest t ≤ length (binders t)
+  nest_below (t.Then b u) = let i = bind_nest_below b in let j = nest_below u in let e = length-append (bind_binders b) (binders u) in omega (arith, i, j, e)
+  nest_below (t.Write h k ss ps) = omega arith
+  nest_below (t.Point x) = omega arith
+  nest_below (t.CallTerm f xs) = omega arith
+  nest_below (t.Give x) = omega arith
+  nest_below (t.CaseTerm x bs) = branches_nest_below bs
+  nest_below (t.IfTerm x u v) = let i = nest_below u in let j = nest_below v in let e = length-append (binders u) (binders v) in omega (arith, i, j, e)
+
+  bind_nest_below : (b : t.Bind) → bind_nest b ≤ length (bind_binders b)
+  bind_nest_below (t.Past h k) = omega arith
+  bind_nest_below (t.One s) = side_nest_below s
+  bind_nest_below (t.Both false l r) = let i = side_nest_below l in let j = side_nest_below r in let e = length-append (side_binders l) (side_binders r) in omega (arith, i, j, e)
+  bind_nest_below (t.Both true l r) = let i = side_nest_below l in let j = side_nest_below r in let e = length-append (side_binders l) (side_binders r) in let a = side_binds l in let b = side_binds r in omega (arith, i, j, e, a, b)
+  bind_nest_below (t.Prim x f y z) = omega arith
+  bind_nest_below (t.Reach y access) = omega arith
+
+  side_nest_below : (s : t.Side) → side_nest s ≤ length (side_binders s)
+  side_nest_below (t.On kind.Here x ty u) = let i = nest_below u in omega (arith, i)
+  side_nest_below (t.On kind.Region x ty u) = let i = nest_below u in omega (arith, i)
+  side_nest_below (t.On kind.Scalar x ty u) = let i = nest_below u in omega (arith, i)
+
+  branches_nest_below : (bs : t.Branches) → branches_nest bs ≤ length (branch_binders bs)
+  branches_nest_below t.NoBranch = omega arith
+  branches_nest_below (t.BranchThen k xs u bs) =
+      let i = nest_below u in
+      let j = branches_nest_below bs in
+      let e = length-append (map (λ (x : Variable). x.0) xs) (binders u ++ branch_binders bs) in
+      let f = length-append (binders u) (branch_binders bs) in
+      omega (arith, i, j, e, f)
+
+slots_below : (es : List Entry) (i : ℕ) → slots_at es i ≤ widest es
+slots_below [] i = omega arith
+slots_below (e ∷ es) zero = omega arith
+slots_below (e ∷ es) (suc i) = let h = slots_below es i in omega (arith, h)
+
+-- The code of a function of a name.
+
+pub record Found (core : CoreTree) (code : CodeTree) (es : List Entry) (i : ℕ) (g : FunctionTerm) : Type 0 where
+  pub until : ℕ
+  pub slots : slots_at es i ≡ length g.parameters + length (binders g.body)
+  pub low : Low core code [] (start_at es i) g.body Returns until
+
+none_some : {g : FunctionTerm} → ◌≡◌ {A = Option FunctionTerm} None (Some g) → ⊥
+none_some e = absurd cc
+
+some_is : {f g : FunctionTerm} → ◌≡◌ {A = Option FunctionTerm} (Some f) (Some g) → f ≡ g
+some_is e = cc
+
+found : (core : CoreTree) (code : CodeTree) (a : ℕ) (gs : List FunctionTerm) (es : List Entry) → LowFunctions core code a gs es → (f : ℕ) (g : FunctionTerm) → function_at gs f ≡ Some g → Found core code es (function_number gs f) g
+found core code a _ _ (low.main nm rs st sl lo) f g e = absurd (none_some e)
+found core code a _ _ (low.function {z = z} {g = h} {gs = gs} {e = e} {es = es} nm rs st sl lo later) f g eq =
+    by_test h.name.0 f (λ b. cond b (Some h) (function_at gs f) ≡ Some g → Found core code (e ∷ es) (cond b 0 (suc (function_number gs f))) g)
+    (λ q r. subst (λ (k : FunctionTerm). Found core code (e ∷ es) 0 k) (some_is r) (record { until = z; slots = sl; low = subst (λ (n : ℕ). Low core code [] n h.body Returns z) (sym st) lo }))
+    (λ q r. let i = found core code z gs es later f g r in record { until = i.until; slots = i.slots; low = i.low })
+    eq
+
+record MainFound (core : CoreTree) (code : CodeTree) (es : List Entry) (i : ℕ) : Type 0 where
+  pub until : ℕ
+  pub slots : slots_at es i ≡ 1 + length (binders core.main.body)
+  pub low : Low core code [] (start_at es i) core.main.body Returns until
+
+main_found : (core : CoreTree) (code : CodeTree) (a : ℕ) (gs : List FunctionTerm) (es : List Entry) → LowFunctions core code a gs es → MainFound core code es (length gs)
+main_found core code a _ _ (low.main nm rs st sl lo) = record { until = length code.instructions; slots = sl; low = subst (λ (n : ℕ). Low core code [] n core.main.body Returns (length code.instructions)) (sym st) lo }
+main_found core code a _ _ (low.function {z = z} {gs = gs} {es = es} nm rs st sl lo later) = let i = main_found core code z gs es later in record { until = i.until; slots = i.slots; low = i.low }
+
+pub lowered_bodies : (core : CoreTree) (code : CodeTree) → IsLowered core code → AllFit core → AreBodies core code
+lowered_bodies core code lo fit = record {
+  laid = lo.laid;
+  table = subst (λ (q : LaidOut). IsTable q.table) (sym lo.laid) fit.table;
+  bodies = λ f g e.
+      let i = found core code 0 core.functions code.functions lo.functions f g e in
+      let ft = fit.functions g f e in
+      let n = slots_at code.functions (function_number core.functions f) in
+      record {
+        low = record { fields = []; until = i.until; low = i.low; agree = no_fields [] n g.parameters };
+        fits = subst (λ (m : ℕ). Rattle.gib_core.specs.Fits.Fits core g.body (body_scope m g.parameters) (dest_of g.result)) (sym i.slots) ft.fits;
+        enough = subst (λ (m : ℕ). length g.parameters ≤ m) (sym i.slots) ft.enough;
+        nests = let a = nest_below g.body in let b = slots_below code.functions (function_number core.functions f) in let e = i.slots in omega (arith, a, b, e);
+      };
+}
+
+pub lowered_main : (core : CoreTree) (code : CodeTree) → IsLowered core code → AllFit core → IsMain core code
+lowered_main core code lo fit =
+    let i = main_found core code 0 core.functions code.functions lo.functions in
+    let n = slots_at code.functions (length core.functions) in
+    record {
+      low = record { fields = []; until = i.until; low = i.low; agree = no_fields [] n (core.main.parameter ∷ []) };
+      fits = subst (λ (m : ℕ). Rattle.gib_core.specs.Fits.Fits core core.main.body (body_scope m (core.main.parameter ∷ [])) (dest_of core.main.result)) (sym i.slots) fit.main.fits;
+      nests = let a = nest_below core.main.body in let b = slots_below code.functions (length core.functions) in let e = i.slots in omega (arith, a, b, e);
+    }
+
+-- The root.
+
+argument_has : (laid : LaidOut) (s : Store) (c : Ctx) (p : Ty) (w : ℕ) (v : Datum) → IsArgument laid s p w v → Has laid s c (param_sort p) w v w 0
+argument_has laid s c Whole w v h = h
+argument_has laid s c Truth w v h = h
+argument_has laid s c (Tree t) w v h = record { same = refl; stands = h }
+
+argument_grows : (laid : LaidOut) (s r : Store) (p : Ty) (w : ℕ) (v : Datum) → Rattle.gib_mem.specs.Memory.Grows s r → IsArgument laid s p w v → IsArgument laid r p w v
+argument_grows laid s r Whole w v g h = h
+argument_grows laid s r Truth w v g h = h
+argument_grows laid s r (Tree t) w v g h = StandsAt-grows g h
+
+abbrev main_line : ℕ → Ty → ℕ → Datum → Dest → ℕ → Ctx
+main_line n p w v d a = record { scope = body_scope n (p ∷ []); env = (0, v) ∷ []; pl = λ y. slot (frame_words n (w ∷ [])) y; hd = λ y. 0; dest = d; front = a; head = 0 }
+
+main_has : (laid : LaidOut) (s : Store) (c : Ctx) (n : ℕ) (p : Ty) (w : ℕ) (v : Datum) (y : ℕ) → IsArgument laid s p w v → Has laid s c (body_scope n (p ∷ []) y) (slot (frame_words n (w ∷ [])) y) (value_in ((0, v) ∷ []) y) (slot (frame_words n (w ∷ [])) y) 0
+main_has laid s c zero p w v y h = tt
+main_has laid s c (suc n) p w v zero h = argument_has laid s c p w v h
+main_has laid s c (suc n) p w v (suc y) h = nothing_bound laid s c n y (slot (frame_words n []) y) (slot (frame_words n []) y) 0 _
+
+main_vars : (laid : LaidOut) (s : Store) (n : ℕ) (p : Ty) (w : ℕ) (v : Datum) (d : Dest) (a : ℕ) → IsArgument laid s p w v → HasAll laid s (frame_words n (w ∷ [])) (main_line n p w v d a)
+main_vars laid s n p w v d a h = record { has = λ y. main_has laid s (main_line n p w v d a) n p w v y h; wide = λ y g. subst (λ (q : ℕ). y < q) (sym (frame-length n (w ∷ []))) (no_slot n (p ∷ []) y g) }
+
+root_of : (ty : Ty) (a : ℕ) → IsRoot ty a (record { start = a; cur = a } ∷ [])
+root_of Whole a = tt
+root_of Truth a = tt
+root_of (Tree t) a = refl
+
+module _ (core : CoreTree) (code : CodeTree) (main : IsMain core code) (own : Owned) (w depth level rm : ℕ) (v : Datum) where
+  -- main's body is next
+  begun : (s : Store) (rs : List OpenRegion) (tails : List ℕ) (a : ℕ) → IsArgument code.laid s core.main.parameter w v → IsRoot core.main.result a rs → IsDest code.laid s (frame_words (slots_at code.functions (length core.functions)) (w ∷ [])) (main_line (slots_at code.functions (length core.functions)) core.main.parameter w v (dest_of core.main.result) a) (dest_of core.main.result) (cursor rs)
+      → Rattle.gib_weave.specs.Sound.HaveRoom rs → TailsHaveRoom tails → Apart own s (λ q. rest_covers rs q + tail_covers tails q) → IsSmall s → times (suc depth) (widest code.functions) ≤ rm → (sh : Share) → Counted rs (left_costs core depth level (Plain core.main.body) ((0, v) ∷ []) (KEnd core.main.result)) sh
+      → Safe core code (record { ty = core.main.result; all = core_run core depth v; sides = [] }) own sh s (at_rest (record { level = level; pars = []; side = None; width = widest code.functions }) core.main.result rm (start_at code.functions (length core.functions)) (frame_words (slots_at code.functions (length core.functions)) (w ∷ [])) [] depth rs tails)
+  begun s rs tails a arg ro de rooms tr ap9 sm le sh counted =
+      let n = slots_at code.functions (length core.functions) in
+      let c = main_line n core.main.parameter w v (dest_of core.main.result) a in
+      rests (at_term {u = Plain core.main.body} {c = c} {k = KEnd core.main.result} record {
+        ready = refl;
+        low = main.low;
+        fits = main.fits;
+        kind = result_type core.main.result;
+        matches = record { vars = main_vars code.laid s n core.main.parameter w v (dest_of core.main.result) a arg; dest = de };
+        stack = ro;
+        under = tt;
+        calm = tt;
+        places = Apart-less ap9 (λ q. let i = no_result_cover code.laid c core.main.result q in omega (arith, i));
+        rooms = rooms;
+        tail_rooms = tr;
+        small = sm;
+        owes = refl;
+        sides = refl;
+        pars = refl;
+        side = refl;
+        free = tt;
+        result = refl;
+        type = refl;
+        counted = counted;
+        narrow = main.nests;
+        nests = let h = main.nests in omega (arith, h, le);
+        all_room = tt;
+      })
+
+-- before main's body: its region is due, where its result is packed
+abbrev pub root_costs : CoreTree → (depth level : ℕ) → Datum → Ty → Cost
+root_costs core depth level v u = plus (region_of u) (left_costs core depth level (Plain core.main.body) ((0, v) ∷ []) (KEnd core.main.result))
+
+due_region : (t : Ty) → first_doing t ≡ Opening → region_of t ≡ one_region
+due_region Whole f = absurd cc
+due_region Truth f = absurd cc
+due_region (Tree t) f = refl
+
+dearer : (core : CoreTree) (depth level : ℕ) (v : Datum) (t : Ty) → core.main.result ≡ t → first_doing t ≡ Opening
+    → AtMost (plus one_region (left_costs core depth level (Plain core.main.body) ((0, v) ∷ []) (KEnd core.main.result))) (root_costs core depth level v core.main.result)
+dearer core depth level v t e f = same_most _ _ (ap (λ (c : Cost). plus c (left_costs core depth level (Plain core.main.body) ((0, v) ∷ []) (KEnd core.main.result))) (sym (ap region_of e ∙ due_region t f)))
+
+pub root_starts : (core : CoreTree) (code : CodeTree) → IsMain core code → (own : Owned) (s : Store) (w depth level : ℕ) (v : Datum) (tails : List ℕ) → IsArgument code.laid s core.main.parameter w v → TailsHaveRoom tails → Apart own s (tail_covers tails) → IsSmall s → (sh : Share) → Counted [] (root_costs core depth level v core.main.result) sh
+    → Safe core code (record { ty = core.main.result; all = core_run core depth v; sides = [] }) own sh s (root_start core code w depth level tails)
+root_starts core code main own s w depth level v tails arg tr ap9 sm sh counted = go core.main.result refl
+  where
+    from_ty : Ty → State
+    from_ty u = record { ip = start_at code.functions (length core.functions); words = frame_words (slots_at code.functions (length core.functions)) (w ∷ []); frames = []; depth = depth; level = level; pars = []; side = None; regions = []; tails = tails; room = suc (times (suc depth) (widest code.functions)); width = widest code.functions; result = core.main.result; doing = first_doing u }
+
+    scalar_root : (u : Ty) (a : ℕ) → is_scalar u ≡ true → IsRoot u a []
+    scalar_root Whole a h = tt
+    scalar_root Truth a h = tt
+    scalar_root (Tree t) a h = absurd cc
+
+    scalar_dest : (laid : LaidOut) (sl : Slots) (c : Ctx) (u : Ty) → is_scalar u ≡ true → IsDest laid s sl c (dest_of u) 0
+    scalar_dest laid sl c Whole h = tt
+    scalar_dest laid sl c Truth h = tt
+    scalar_dest laid sl c (Tree t) h = absurd cc
+
+    scalar : (u : Ty) → core.main.result ≡ u → is_scalar u ≡ true → Safe core code (record { ty = core.main.result; all = core_run core depth v; sides = [] }) own sh s (at_rest (record { level = level; pars = []; side = None; width = widest code.functions }) core.main.result (suc (times (suc depth) (widest code.functions))) (start_at code.functions (length core.functions)) (frame_words (slots_at code.functions (length core.functions)) (w ∷ [])) [] depth [] tails)
+    scalar u e h = begun core code main own w depth level (suc (times (suc depth) (widest code.functions))) v s [] tails 0 arg (scalar_root core.main.result 0 (ap is_scalar e ∙ h)) (scalar_dest code.laid _ _ core.main.result (ap is_scalar e ∙ h)) tt tr (Apart-less ap9 (λ q. omega arith)) sm (omega arith) sh (goes_on_counted (record { regions = omega arith; items = omega arith }) counted)
+
+    left : Cost
+    left = left_costs core depth level (Plain core.main.body) ((0, v) ∷ []) (KEnd core.main.result)
+
+    in_chunk : (t : Ty) → core.main.result ≡ t → first_doing t ≡ Opening → (d : ℕ) → Paid (record { start = 4096 * d; cur = 4096 * d } ∷ []) (left_costs core depth level (Plain core.main.body) ((0, v) ∷ []) (KEnd core.main.result)) sh 1
+    in_chunk t e f d = chunk_counted (record { start = 4096 * d; cur = 4096 * d }) [] (root_costs core depth level v core.main.result) left sh d refl (dearer core depth level v t e f) counted
+
+    in_tail : (t : Ty) → core.main.result ≡ t → first_doing t ≡ Opening → (a : ℕ) → Paid (record { start = a; cur = a } ∷ []) (left_costs core depth level (Plain core.main.body) ((0, v) ∷ []) (KEnd core.main.result)) sh 0
+    in_tail t e f a = tail_counted (record { start = a; cur = a }) [] (root_costs core depth level v core.main.result) left sh (dearer core depth level v t e f) counted
+
+    packed : (o : Option (List ℕ × ℕ)) → latest tails ≡ o → SplitsAt tails o → (t : Ty) → core.main.result ≡ t → first_doing t ≡ Opening → Safe core code (record { ty = core.main.result; all = core_run core depth v; sides = [] }) own sh s (record { ip = start_at code.functions (length core.functions); words = frame_words (slots_at code.functions (length core.functions)) (w ∷ []); frames = []; depth = depth; level = level; pars = []; side = None; regions = []; tails = tails; room = suc (times (suc depth) (widest code.functions)); width = widest code.functions; result = core.main.result; doing = Opening })
+    packed None q h t e f =
+        moves (draws (λ d. (in_chunk t e f d).share) (ap (begins (record { ip = start_at code.functions (length core.functions); words = frame_words (slots_at code.functions (length core.functions)) (w ∷ []); frames = []; depth = depth; level = level; pars = []; side = None; regions = []; tails = tails; room = times (suc depth) (widest code.functions); width = widest code.functions; result = core.main.result; doing = Opening }) (λ t a. t)) q)
+        (λ d new. (in_chunk t e f d).spends)
+        (λ d new. begun core code main (with_chunk own d) w depth level (times (suc depth) (widest code.functions)) v (open_chunk s d) (record { start = 4096 * d; cur = 4096 * d } ∷ []) [] (4096 * d) (argument_grows code.laid s (open_chunk s d) core.main.parameter w v (open-grows s d new) arg)
+        (root_of core.main.result (4096 * d)) (result_dest code.laid (open_chunk s d) _ _ core.main.result (4096 * d) refl) (omega arith, tt) tt
+        (Apart-open d new ap9 (λ q. let i : rest (4096 * d) ≡ 4096 = omega arith in let j = ap (λ (z : ℕ). within (4096 * d) z q) i in omega (arith, j))) (open-small s d new sm) (omega arith) (in_chunk t e f d).share (in_chunk t e f d).counted))
+    packed (Some p) q h t e f =
+        let ro = h.rooms tr in
+        moves (silent (ap (begins (record { ip = start_at code.functions (length core.functions); words = frame_words (slots_at code.functions (length core.functions)) (w ∷ []); frames = []; depth = depth; level = level; pars = []; side = None; regions = []; tails = tails; room = times (suc depth) (widest code.functions); width = widest code.functions; result = core.main.result; doing = Opening }) (λ t a. t)) q)
+        (counts (in_tail t e f p.1).spends (begun core code main own w depth level (times (suc depth) (widest code.functions)) v s (record { start = p.1; cur = p.1 } ∷ []) p.0 p.1 arg
+        (root_of core.main.result p.1) (result_dest code.laid s _ _ core.main.result p.1 refl) (ro.1, tt) ro.0
+        (Apart-less ap9 (λ q. let i = h.covers q in omega (arith, i))) sm (omega arith) (in_tail t e f p.1).share (in_tail t e f p.1).counted)))
+
+    go : (u : Ty) → core.main.result ≡ u → Safe core code (record { ty = core.main.result; all = core_run core depth v; sides = [] }) own sh s (root_start core code w depth level tails)
+    go Whole e = subst (λ (z : Ty). Safe core code (record { ty = core.main.result; all = core_run core depth v; sides = [] }) own sh s (from_ty z)) (sym e) (scalar Whole e refl)
+    go Truth e = subst (λ (z : Ty). Safe core code (record { ty = core.main.result; all = core_run core depth v; sides = [] }) own sh s (from_ty z)) (sym e) (scalar Truth e refl)
+    go (Tree t) e = subst (λ (z : Ty). Safe core code (record { ty = core.main.result; all = core_run core depth v; sides = [] }) own sh s (from_ty z)) (sym e) (packed (latest tails) refl (splits tails) (Tree t) e refl)

@@ -1,0 +1,6 @@
+pub mod Cost
+pub mod Tight
+pub mod Sound
+pub mod Root
+pub mod Example
+pub mod Weave

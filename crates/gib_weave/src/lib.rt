@@ -1,0 +1,6 @@
+//! The law of a task: whatever the memory answers, it gets only what is known, puts only its own fresh bytes, pays for what it
+//! does, and ends with what the source means.
+#![tactic(auto)]
+
+pub mod law;
+pub mod weave_law;
