@@ -3,3 +3,4 @@ pub mod Piece
 pub mod Spelling
 pub mod Lexed
 pub mod Printing
+pub mod Entries

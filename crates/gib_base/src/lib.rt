@@ -1,12 +1,19 @@
 //! Names, places and tokens of a source text, and the limits of the language.
 #![tactic(auto)]
 
+mod by_number;
+pub mod letters;
 pub mod limits;
 pub mod name;
+mod reversed;
+mod text;
 pub mod token;
 
+pub use by_number::ByNumber;
 pub use name::{Name, NameFault, Names};
+pub use reversed::Reversed;
 use std::alloc::AllocError;
+pub use text::{push_decimal, push_signed};
 
 /// Want of memory, the one answer that no contract ties to a cause.
 pub type Memory = AllocError;
@@ -17,3 +24,6 @@ pub struct Span {
     pub start: u32,
     pub end: u32,
 }
+
+#[cfg(test)]
+mod tests;

@@ -9,6 +9,9 @@ pub const FILE_BYTES: u64 = 16_777_216;
 /// How many names a source text may have.
 pub const NAMES: u32 = 65_535;
 
+/// The greatest literal.
+pub const LITERAL: u64 = 9_223_372_036_854_775_807;
+
 /// How deep expressions may be nested; a function's body stands on level 1.
 pub const LEVELS: u32 = 200;
 

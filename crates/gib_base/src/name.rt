@@ -1,6 +1,6 @@
 //! Names of a source text, by number.
 
-ghost use Rattle.std.specs.Prelude.{◌≡◌, ◌==◌, ◌<◌, ◌≤◌, ◌↔◌, [], false, length, slice_get, Some, IfOk, IfSome, IfNone, OnOk, OnErr};
+ghost use Rattle.std.specs.Prelude.{◌≡◌, ◌==◌, ◌<◌, ◌≤◌, ◌↔◌, [], false, length, slice_get, unwrap_or, Some, IfOk, IfSome, IfNone, OnOk, OnErr};
 ghost use Rattle.std.specs.Result.{IsErrOf};
 ghost use Rattle.gib_base.specs.Names.{holds, number_of, with_name, AreNames};
 
@@ -9,16 +9,19 @@ use crate::limits::NAMES;
 use indexmap::IndexSet;
 use std::alloc::{AllocFailed, Global};
 use std::marker::Model;
+use thiserror::Error;
 
 /// The number of a name: its place among the names of a text, in the order of their first use.
 #[derive(Clone, Copy, Debug, PartialEq, Eq)]
 pub struct Name(pub u32);
 
 /// Why a name got no number.
-#[derive(Clone, Copy, Debug, PartialEq, Eq)]
+#[derive(Clone, Copy, Debug, PartialEq, Eq, Error)]
 pub enum NameFault {
+    #[error("out of memory")]
     Memory,
     /// The name is new, and as many names as there may be are held.
+    #[error("too many names")]
     Many,
 }
 
@@ -93,7 +96,7 @@ impl Names {
         ensures names { AreNames self.new }
 
         // Want of memory comes after this: a text that is one too many is refused as such.
-        ensures many { IsErrOf result NameFault.Many ↔ ((length self.old ≡ NAMES) × (holds self.old text.now ≡ false)) }
+        ensures many { IsErrOf result NameFault.Many ↔ ((length self.old ≡ 65535) × (holds self.old text.now ≡ false)) }
         ensures err { OnErr result (self.new ≡ self.old) }
     {
         match self.set.get_index_of(text) {
@@ -118,6 +121,17 @@ impl Names {
         match self.set.get_index_of(text) {
             Some(index) => Some(Name(index as u32)),
             None => None,
+        }
+    }
+
+    /// The text of a name; of a number that no name has, no text.
+    pub fn text_or_none(&self, name: Name) -> &[u8]
+        ensures { result.now ≡ unwrap_or (slice_get self.now name.0) [] }
+    {
+        if name.0 < self.len() {
+            self.text(name)
+        } else {
+            &[]
         }
     }
 

@@ -1,6 +1,9 @@
 //! Tokens of a source text.
 
+ghost use Rattle.std.specs.Prelude.{◌≡◌, ◌≤◌, ◌↔◌, ◌^◌, nat_lt, IsTrue};
+
 use crate::Name;
+use crate::limits::LITERAL;
 
 /// The words and signs of the language.
 #[derive(Clone, Copy, Debug, PartialEq, Eq)]
@@ -74,4 +77,12 @@ pub enum Piece {
     Number(u64),
     /// Digits that stand for more than the greatest literal.
     TooBig,
+}
+
+/// Whether a number is at most the greatest literal.
+pub fn is_literal(number: u64) -> bool
+    ensures value { result ≡ nat_lt number (2 ^ 63) }
+    ensures greatest { IsTrue result ↔ (number ≤ LITERAL) }
+{
+    number <= LITERAL
 }

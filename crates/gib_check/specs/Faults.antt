@@ -5,6 +5,7 @@ use Rattle.gib_base.specs.declared.Span.{Span}
 use Rattle.gib_types.specs.declared.table.Ty.{Ty}
 use Rattle.gib_types.specs.declared.table.Ty.TheVariants.{Whole, Truth, Tree}
 use Rattle.gib_types.specs.Table.{Row, Table, fields_at, owner_at}
+pub use Rattle.gib_types.specs.Table.{same_type}
 use Rattle.gib_syntax.specs.declared.tree.Ident.{Ident}
 use Rattle.gib_syntax.specs.Tree.{Expression, Arguments, Arms, Var, Num, Bit, Paren, Op, Call, Make, Let, Par, If, Case, NoArgument, Argument, LastArm, NextArm, FunctionTree}
 use Rattle.gib_syntax.specs.Declarations.{number_of, place_of, constructor_named, function_named}
@@ -87,18 +88,6 @@ constructor table k = found (constructor_named table (number_of k)) kind.Unknown
 -- `Count`: as many as there are types.
 abbrev pub as_many : ℕ → List Ty → Ident → Checked (Unit {0})
 as_many n types at = allowed (n == length types) kind.Count at.span (tt {0})
-
--- Two types are one.
-abbrev pub same_type : Ty → Ty → Bool
-same_type Whole Whole = true
-same_type Whole Truth = false
-same_type Whole (Tree t) = false
-same_type Truth Whole = false
-same_type Truth Truth = true
-same_type Truth (Tree t) = false
-same_type (Tree s) Whole = false
-same_type (Tree s) Truth = false
-same_type (Tree s) (Tree t) = s.0 == t.0
 
 -- `Shape`: the part has the type that is due.
 abbrev pub wanted : Ty → Part → Checked (Unit {0})

@@ -14,7 +14,6 @@ ghost use Rattle.gib_check.specs.Views.{table_in, tree_in, globals_in};
 use crate::arm_index::{ArmIndex, index_arms};
 use crate::declared::Declared;
 use crate::origin::{TypeOrigin, outside, outside_arm};
-use crate::rules::operator_type;
 use gib_base::Memory;
 use gib_syntax::{Arm, ExprId, Node};
 use gib_types::Ty;
@@ -62,7 +61,7 @@ fn node_origin(declared: &Declared, facts: &[NodeFacts], node: &Node) -> TypeOri
         Node::Whole(_, _) => TypeOrigin::Fixed(Ty::Whole),
         Node::Truth(_, _) => TypeOrigin::Fixed(Ty::Truth),
         Node::Paren(_, inner) => origin_at(facts, *inner),
-        Node::Operation { operator, .. } => TypeOrigin::Fixed(operator_type(*operator)),
+        Node::Operation { operator, .. } => TypeOrigin::Fixed(operator.result()),
         Node::Call(f, _) => TypeOrigin::Fixed(declared.given_type(f.name)),
         Node::Make(k, _) => TypeOrigin::Fixed(declared.made_type(k.name)),
         Node::Let {

@@ -1,7 +1,6 @@
 //! The rules that expressions keep, each by itself.
 
 ghost use Rattle.std.specs.Prelude.{◌≡◌};
-ghost use Rattle.gib_syntax.specs.Typing.{operator_type as type_of_operator};
 ghost use Rattle.gib_check.specs.Answers.{Gives};
 ghost use Rattle.gib_check.specs.Faults as rule;
 
@@ -10,7 +9,7 @@ use crate::fault::{Fault, Kind, TypeFault};
 use crate::variables::Variables;
 use gib_base::Span;
 use gib_base::limits::{EXPRESSIONS, VARIABLES};
-use gib_syntax::{Ident, Operator};
+use gib_syntax::Ident;
 use gib_types::Ty;
 
 /// A part of an expression, after its check: its type, and where it stands.
@@ -62,47 +61,11 @@ pub fn new_variable(scope: &Variables, counts: &mut Counts, x: Ident) -> Result<
     Ok(())
 }
 
-/// What an operator gives.
-pub fn operator_type(operator: Operator) -> Ty
-    ensures { result ≡ type_of_operator operator }
-{
-    match operator {
-        Operator::Add => Ty::Whole,
-        Operator::Subtract => Ty::Whole,
-        Operator::Multiply => Ty::Whole,
-        Operator::Equal => Ty::Truth,
-        Operator::Less => Ty::Truth,
-    }
-}
-
-/// Whether two types are one.
-pub fn same_type(a: Ty, b: Ty) -> bool
-    ensures { result ≡ rule.same_type a b }
-{
-    match a {
-        Ty::Whole => match b {
-            Ty::Whole => true,
-            Ty::Truth => false,
-            Ty::Tree(_) => false,
-        },
-        Ty::Truth => match b {
-            Ty::Whole => false,
-            Ty::Truth => true,
-            Ty::Tree(_) => false,
-        },
-        Ty::Tree(s) => match b {
-            Ty::Whole => false,
-            Ty::Truth => false,
-            Ty::Tree(t) => s.0 == t.0,
-        },
-    }
-}
-
 /// A part has the type that is due.
 pub fn wanted(due: Ty, part: Part) -> Result<(), TypeFault>
     ensures { Gives (λ _. tt {0}) result (rule.wanted due part) }
 {
-    if same_type(part.ty, due) {
+    if part.ty.is(due) {
         Ok(())
     } else {
         Err(broken(Kind::Shape, part.place))

@@ -13,7 +13,7 @@ use crate::declared::Declared;
 use crate::fault::TypeFault;
 use crate::parts::part;
 use crate::rules::{
-    Part, all_of, all_wanted, as_many, declared_type, first_type, one_more, operator_type, type_of,
+    Part, all_of, all_wanted, as_many, declared_type, first_type, one_more, type_of,
     wanted,
 };
 use crate::state::{State, bind, bind_all, literal, variable};
@@ -111,7 +111,7 @@ fn operation(
     let right_ty = infer(alloc, declared, state, right)?;
     wanted(Ty::Whole, part(declared, left, left_ty))?;
     wanted(Ty::Whole, part(declared, right, right_ty))?;
-    Ok(operator_type(operator))
+    Ok(operator.result())
 }
 
 /// The types of arguments, from left to right.

@@ -1,10 +1,11 @@
 -- From the source to the core, one construct after another.
-use Rattle.std.specs.Prelude.{ℕ, zero, suc, pos, ◌+◌, ◌==◌, if◌then◌else◌, true, false, List, [], ◌∷◌, ◌++◌, map, length, Option, Some, None}
+use Rattle.std.specs.Prelude.{ℕ, pos, ◌+◌, ◌==◌, if◌then◌else◌, true, false, List, [], ◌∷◌, ◌++◌, map, length, Option, Some, None}
 use Rattle.gib_base.specs.declared.name.Name.{Name}
 use Rattle.gib_types.specs.declared.table.Ty.{Ty}
 use Rattle.gib_types.specs.declared.table.Ty.TheVariants.{Whole, Truth, Tree}
 use Rattle.gib_types.specs.declared.table.ConId.{ConId}
-use Rattle.gib_types.specs.Table.{Table, fields_at, owner_at, first_at, count_at}
+use Rattle.gib_types.specs.Table.{Table, fields_at, owner_at}
+pub use Rattle.gib_types.specs.Table.{first_type, further_types, numbers_from, constructors_of}
 use Rattle.gib_syntax.specs.declared.tree.Ident.{Ident}
 use Rattle.gib_syntax.specs.declared.tree.Operator.{Operator}
 use Rattle.gib_syntax.specs.Tree.{Expression, Arguments, Arms, Var, Num, Bit, Paren, Op, Call, Make, Let, Par, If, Case, NoArgument, Argument, LastArm, NextArm, FunctionTree, ProgramTree}
@@ -170,16 +171,6 @@ call_code (Tree t) f cs = of_line (λ scope n. call_line (Tree t) f (several cs 
 call_code Whole f cs = scalar_call Whole f cs
 call_code Truth f cs = scalar_call Truth f cs
 
--- The first of these types; of none, `Int`.
-abbrev pub first_type : List Ty → Ty
-first_type [] = Whole
-first_type (t ∷ ts) = t
-
--- The types behind the first one.
-abbrev pub further_types : List Ty → List Ty
-further_types [] = []
-further_types (t ∷ ts) = ts
-
 -- The packed fields of a head, as variables from a number on, each with what it points to.
 abbrev pub pointed_fields : ℕ → List Ty → List Atom → List Bind
 pointed_fields n types [] = []
@@ -267,15 +258,6 @@ branch_of table k (Some arm) scope n further =
 abbrev pub branches_of : Table → List ℕ → List ArmCode → Scope → ℕ → Branched
 branches_of table [] arms scope n = record { fresh = n; branches = NoBranch; ty = Whole }
 branches_of table (k ∷ ks) arms scope n = branch_of table k (arm_for arms k) scope n (λ m. branches_of table ks arms scope m)
-
--- So many numbers, from a number on.
-abbrev pub numbers_from : ℕ → ℕ → List ℕ
-numbers_from n zero = []
-numbers_from n (suc count) = n ∷ numbers_from (suc n) count
-
--- The constructors of a type, in declared order.
-abbrev pub constructors_of : Table → ℕ → List ℕ
-constructors_of table ty = numbers_from (first_at table ty) (count_at table ty)
 
 -- The constructor of the first of these arms.
 abbrev pub first_constructor : List ArmCode → ℕ

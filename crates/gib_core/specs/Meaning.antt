@@ -1,8 +1,8 @@
 -- What a core means: its own meaning, on ordinary trees.
 use Rattle.std.specs.Prelude.{ℕ, zero, suc, pos, ◌==◌, if◌then◌else◌, List, [], ◌∷◌, map, Option, Some, None}
-use Rattle.gib_types.specs.declared.table.Ty.{Ty}
 use Rattle.gib_types.specs.declared.table.Ty.TheVariants.{Whole, Truth, Tree}
 use Rattle.gib_types.specs.Table.{Table, fields_at}
+pub use Rattle.gib_types.specs.Table.{merge}
 use Rattle.gib_types.specs.Tree.{Datum, whole, truth, con, data_of}
 use Rattle.gib_syntax.specs.Meaning.{Reason, Deep, Outcome, Gives, Stops, Environment, value_in, number_in, is_true, operate, choose, parts, is_made_by}
 use Rattle.gib_core.specs.declared.atom.Variable.{Variable}
@@ -25,16 +25,6 @@ abbrev pub bind : List Variable → List Datum → Environment → Environment
 bind [] vs env = env
 bind (x ∷ xs) [] env = bind xs [] ((x.0, whole (pos 0)) ∷ env)
 bind (x ∷ xs) (v ∷ vs) env = bind xs vs ((x.0, v) ∷ env)
-
--- Scalar fields and packed fields together, in the declared order of fields of these types.
-abbrev pub merge : {A : Type 0} → List Ty → List A → List A → List A
-merge [] xs ys = []
-merge (Whole ∷ ts) [] ys = merge ts [] ys
-merge (Whole ∷ ts) (x ∷ xs) ys = x ∷ merge ts xs ys
-merge (Truth ∷ ts) [] ys = merge ts [] ys
-merge (Truth ∷ ts) (x ∷ xs) ys = x ∷ merge ts xs ys
-merge (Tree t ∷ ts) xs [] = merge ts xs []
-merge (Tree t ∷ ts) xs (y ∷ ys) = y ∷ merge ts xs ys
 
 -- The environment that a binding comes to, or why it comes to none.
 pub data Reached : Type 0 where

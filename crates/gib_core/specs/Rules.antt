@@ -5,6 +5,7 @@ use Rattle.gib_types.specs.declared.table.Ty.{Ty}
 use Rattle.gib_types.specs.declared.table.Ty.TheVariants.{Whole, Truth, Tree}
 use Rattle.gib_types.specs.declared.table.ConId.{ConId}
 use Rattle.gib_types.specs.Table.{Table, fields_at, con_at, scalar_types}
+pub use Rattle.gib_types.specs.Table.{same_type, type_made}
 use Rattle.gib_syntax.specs.Typing.{operator_type}
 use Rattle.gib_syntax.specs.Meaning.{is_scalar}
 use Rattle.gib_core.specs.declared.atom.Variable.{Variable}
@@ -26,18 +27,6 @@ pub use Rattle.gib_core.specs.declared.scope.Bound.{Bound}
 pub record Before : Type 0 where
   pub bound : List Bound
   pub cased : List Variable
-
--- Whether types are the same.
-abbrev pub same_type : Ty → Ty → Bool
-same_type Whole Whole = true
-same_type Whole Truth = false
-same_type Whole (Tree u) = false
-same_type Truth Whole = false
-same_type Truth Truth = true
-same_type Truth (Tree u) = false
-same_type (Tree t) Whole = false
-same_type (Tree t) Truth = false
-same_type (Tree t) (Tree u) = t.0 == u.0
 
 -- The value is put nowhere: a scalar is due.
 abbrev pub is_nowhere : Destination → Bool
@@ -291,10 +280,6 @@ least (r ∷ rs) = if r.1 then Some r.0 else least rs
 -- One more variable.
 abbrev pub bound_too : Variable → Ty → List Bound → List Bound
 bound_too x ty bound = record { variable = x; ty = ty } ∷ bound
-
--- The type of a packed value of a constructor.
-abbrev pub type_made : Table → ConId → Ty
-type_made table k = Tree (record { 0 = Rattle.gib_types.specs.Table.owner_at table k.0 })
 
 -- The variables that were bound, behind a line.
 abbrev pub binds_new : Table → Line → List Bound → List Bound

@@ -3,8 +3,8 @@ use Rattle.std.specs.Prelude.{ℕ, zero, suc, ℤ, pos, ◌==◌, Bool, true, fa
 use Rattle.std.specs.Int.{w64, int_wrapping_add, int_wrapping_sub, int_wrapping_mul}
 use Rattle.std.specs.Ordering.{int_eq}
 use Rattle.gib_types.specs.declared.table.Ty.{Ty}
-use Rattle.gib_types.specs.declared.table.Ty.TheVariants.{Whole, Truth, Tree}
 use Rattle.gib_types.specs.Table.{Table, fields_at}
+pub use Rattle.gib_types.specs.Table.{is_scalar, at_fields}
 use Rattle.gib_types.specs.Tree.{Datum, whole, truth, con, data_of, list_of, HasType}
 use Rattle.gib_syntax.specs.declared.tree.Ident.{Ident}
 use Rattle.gib_syntax.specs.declared.tree.Parameter.{Parameter}
@@ -48,19 +48,6 @@ abbrev pub with_values : List Outcome → (List Datum → Outcome) → Outcome
 with_values [] go = go []
 with_values (Stops why ∷ rest) go = Stops why
 with_values (Gives v ∷ rest) go = with_values rest (λ vs. go (v ∷ vs))
-
--- `Int` and `Bool` are scalars, a declared type is none.
-abbrev pub is_scalar : Ty → Bool
-is_scalar Whole = true
-is_scalar Truth = true
-is_scalar (Tree t) = false
-
--- What stands at the scalar fields, or at the packed ones, among fields of these types.
-abbrev pub at_fields : {A : Type 0} → Bool → List Ty → List A → List A
-at_fields scalars [] xs = []
-at_fields scalars (t ∷ ts) [] = []
-at_fields true (t ∷ ts) (x ∷ xs) = if is_scalar t then x ∷ at_fields true ts xs else at_fields true ts xs
-at_fields false (t ∷ ts) (x ∷ xs) = if is_scalar t then at_fields false ts xs else x ∷ at_fields false ts xs
 
 -- Goes on with the values of a constructor's arguments, which are evaluated scalars first, then the packed
 -- ones; the values stand in declared order.

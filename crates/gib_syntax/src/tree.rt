@@ -4,6 +4,7 @@ ghost use Rattle.std.specs.Prelude.{◌≡◌};
 
 use crate::exprs::{ExprId, Exprs};
 use gib_base::{Name, Span};
+use gib_types::Ty;
 use std::marker::Model;
 
 /// A name where it stands in the text.
@@ -29,6 +30,23 @@ pub enum Operator {
     Multiply,
     Equal,
     Less,
+}
+
+impl Operator {
+    ghost use Rattle.gib_syntax.specs.Typing.{operator_type};
+
+    /// The type of what the operator gives.
+    pub fn result(self) -> Ty
+        ensures { result ≡ operator_type self }
+    {
+        match self {
+            Operator::Add => Ty::Whole,
+            Operator::Subtract => Ty::Whole,
+            Operator::Multiply => Ty::Whole,
+            Operator::Equal => Ty::Truth,
+            Operator::Less => Ty::Truth,
+        }
+    }
 }
 
 /// A constructor of a data declaration, with the types of its fields.

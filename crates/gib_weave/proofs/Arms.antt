@@ -22,7 +22,14 @@ use Rattle.gib_machine.specs.Machine.{times, widest, Slots, slot, set, word, Fra
 use Rattle.gib_weave.specs.Cost.{Cost, plus, choose_cost}
 use Rattle.gib_weave.proofs.Counts.{goes_on_counted}
 use Rattle.gib_core.specs.Fits.{put, Sort, Outside, Absent, Scalar, Held, Placed, Loose, AtHead, Field, Scope, is_there, has_slot, Dest, Nowhere, Empty, Open, dest_type, Fits, cased}
-use Rattle.gib_weave.specs.Sound.{Plain, Share, Counted, costs, left_costs, later_costs, Owed, KSide, KLast, IsInBody, pars_of, sides_of, side_of, Owned, Ctx, IsPlaced, IsAtHead, IsField, Has, HasAll, IsDest, Matches, Kont, KEnd, KHere, KRegion, KScalar, KCall, KCallScalar, Stack, end_of, due, root, resume, means, Goes, Under, AllUnder, Calm, AllCalm, covers, HaveRoom, TailsHaveRoom, IsSmall, Apart, AtTerm, nest, AllRoom, at_term, Safe, rests, Moves, silent, get, IsCode, Agrees, AreBodies}
+use Rattle.gib_weave.specs.Environment.{Ctx, IsPlaced, IsAtHead, IsField, Has, HasAll, IsDest, Matches}
+use Rattle.gib_weave.specs.Continuing.{Plain, KSide, KLast, IsInBody, pars_of, side_of, Kont, KEnd, KHere, KRegion, KScalar, KCall, KCallScalar, end_of, due, root, Goes, Under, AllUnder, Calm, AllCalm, nest, IsCode, Agrees}
+use Rattle.gib_weave.specs.Owing.{costs, Owed, sides_of, resume, means}
+use Rattle.gib_weave.specs.Paying.{Share, Counted, left_costs, later_costs}
+use Rattle.gib_weave.specs.Places.{Owned, covers, HaveRoom, TailsHaveRoom, IsSmall, Apart, AllRoom}
+use Rattle.gib_weave.specs.Stacks.{Stack}
+use Rattle.gib_weave.specs.Sound.{AtTerm, at_term, Safe, rests, Moves, silent, get}
+use Rattle.gib_weave.specs.Starting.{AreBodies}
 use Rattle.gib_weave.proofs.Basics.{by_test, put-other, set-same, set-other, set-length}
 use Rattle.gib_weave.proofs.Move.{MovedOne, Moved, moved_same, AllMoved, Stack-moved, Keeps, Has-keeps, Fields-keeps, with_var, HasAll-set, IsDest-bind, all_under_bind, all_under_goes, goes-refl, covers_head, code_put, is_field}
 use Rattle.gib_weave.proofs.Places.{Apart-less}

@@ -6,7 +6,7 @@ use Rattle.std.proofs.lemmas.Bool.Decides.{nat_tests}
 use Rattle.gib_mem.specs.Memory.{Cell, absent, fresh, byte, Store, set_cell, Holds, none, more, Grows}
 use Rattle.gib_machine.specs.Machine.{Slots, slot, set}
 use Rattle.gib_core.specs.Fits.{put}
-use Rattle.gib_weave.specs.Sound.{within, IsSmall, Owned}
+use Rattle.gib_weave.specs.Places.{within, IsSmall, Owned}
 
 -- to prove something of a test, prove it in both cases
 pub by_test : (y x : ℕ) (P : Bool → Type 0) → (y ≡ x → P true) → ((y ≡ x → ⊥) → P false) → P (eqb y x)

@@ -27,7 +27,14 @@ use Rattle.gib_weave.specs.Cost.{Cost, plus}
 use Rattle.gib_weave.proofs.Costs.{call_costs_same}
 use Rattle.gib_weave.proofs.Counts.{goes_on_counted, same_most, most_then}
 use Rattle.gib_core.specs.Fits.{put, Sort, Outside, Absent, Scalar, Held, Placed, Loose, AtHead, Field, has_slot, tree_type, AtomFits, AtomsFit, by_call, CallFits, Dest, Nowhere, dest_type, dest_of, Fits, cased, param_sort, body_scope}
-use Rattle.gib_weave.specs.Sound.{Share, Counted, AtMost, level_after, costs, cost_after, left_costs, later_costs, Owed, Rest, Plain, Part, KSide, KLast, AtRest, rest_pars, rest_sides, pars_of, sides_of, side_of, RestCode, rest_cased, rest_means, Debt, lefts, Owned, Ctx, IsScalar, StandsAt, Has, HasAll, IsDest, Kont, KEnd, KHere, KRegion, KScalar, KCall, KCallScalar, Stack, Waits, end_of, due, root, resume, means, head_covers, kont_covers, rest_covers, tail_covers, HaveRoom, TailsHaveRoom, IsSmall, Apart, AtTerm, nest, AllRoom, IsAnswer, at_term, over, rests, Moves, silent, IsCode, AreBodies, HasRoom, freed}
+use Rattle.gib_weave.specs.Environment.{Ctx, IsScalar, StandsAt, Has, HasAll, IsDest}
+use Rattle.gib_weave.specs.Continuing.{Rest, Plain, Part, KSide, KLast, rest_pars, pars_of, side_of, RestCode, rest_cased, Kont, KEnd, KHere, KRegion, KScalar, KCall, KCallScalar, end_of, due, root, nest, IsCode}
+use Rattle.gib_weave.specs.Owing.{level_after, costs, Owed, rest_sides, sides_of, rest_means, Debt, resume, means}
+use Rattle.gib_weave.specs.Paying.{Share, Counted, AtMost, cost_after, left_costs, later_costs}
+use Rattle.gib_weave.specs.Places.{Owned, head_covers, kont_covers, rest_covers, tail_covers, HaveRoom, TailsHaveRoom, IsSmall, Apart, AllRoom, HasRoom, freed}
+use Rattle.gib_weave.specs.Stacks.{Stack, Waits}
+use Rattle.gib_weave.specs.Sound.{AtRest, lefts, AtTerm, IsAnswer, at_term, over, rests, Moves, silent}
+use Rattle.gib_weave.specs.Starting.{AreBodies}
 use Rattle.gib_weave.proofs.Move.{with_var, HasAll-bind, HasAll-dest, IsDest-bind, IsDest-moved, moved_set, all_moved_set, Stack-moved, covers_head, all_under_bind, not_there, code_put, rest_code_put, is_field, bound-same, bound-other}
 use Rattle.gib_weave.proofs.Places.{Apart-less}
 use Rattle.gib_weave.proofs.Lines.{follows, loosened, under_scalar, all_calm_less, or_left, or_right, calm_loosened, resume-with, resume-stop, waiting}

@@ -27,7 +27,12 @@ use Rattle.gib_core.specs.Low.{Low, LowArms, no_arm, arm, End, laid_of, field_of
 use Rattle.gib_machine.specs.Machine.{Slots, slot, set, Frame, Open as OpenRegion, label_of}
 use Rattle.gib_weave.specs.Cost.{Cost, cost_branches, call_costs, choose_cost}
 use Rattle.gib_core.specs.Fits.{put, Sort, Absent, Scalar, Held, Placed, AtHead, Field, Scope, is_there, Dest, Fits, BranchesFit, cased, branches_cased, has_branch, AreNew, arm_scope}
-use Rattle.gib_weave.specs.Sound.{Share, costs, Owed, Owned, Ctx, Kont, means, nest, branches_nest, Safe, moves, get, Agrees}
+use Rattle.gib_weave.specs.Environment.{Ctx}
+use Rattle.gib_weave.specs.Continuing.{Kont, nest, branches_nest, Agrees}
+use Rattle.gib_weave.specs.Owing.{costs, Owed, means}
+use Rattle.gib_weave.specs.Paying.{Share}
+use Rattle.gib_weave.specs.Places.{Owned}
+use Rattle.gib_weave.specs.Sound.{Safe, moves, get}
 use Rattle.gib_weave.proofs.Basics.{by_test, put-same, put-other, set-same, set-other, set-length}
 use Rattle.gib_weave.proofs.Move.{Keeps, keeps_var, with_var, agrees_put, bound-same}
 use Rattle.gib_weave.proofs.Lines.{or_left, or_right}

@@ -13,7 +13,13 @@ use Rattle.gib_core.specs.Low.{ending}
 use Rattle.gib_machine.specs.Machine.{times, widest, Slots, slot, Frame, Open as OpenRegion, State, Doing, Ready, Ask, Silent, next, begin, goes_on, cursor, Unwinding, unwound, Par, backs_at, ends_side, answer_of}
 use Rattle.gib_weave.proofs.Counts.{Paid, finish_counted}
 use Rattle.gib_core.specs.Fits.{Placed, more}
-use Rattle.gib_weave.specs.Sound.{Share, Counted, counts, debt_of, no_debt, level_after, left_costs, later_costs, Owed, Rest, Plain, Part, Meet, Leave, Last, KSide, KLast, AtRest, rest_pars, rest_sides, pars_of, sides_of, side_of, side_gives, Debt, lefts, unwinds, Owned, Ctx, StandsAt, IsPlaced, Kont, KEnd, KHere, KRegion, KScalar, KCall, KCallScalar, IsRoot, Stack, end_of, due, root, resume, kont_covers, rest_covers, tail_covers, HaveRoom, TailsHaveRoom, IsSmall, Apart, IsAnswer, AllRoom, at_term, over, Safe, rests, moves, silent}
+use Rattle.gib_weave.specs.Environment.{Ctx, StandsAt, IsPlaced}
+use Rattle.gib_weave.specs.Continuing.{Rest, Plain, Part, Meet, Leave, Last, KSide, KLast, rest_pars, pars_of, side_of, Kont, KEnd, KHere, KRegion, KScalar, KCall, KCallScalar, end_of, due, root}
+use Rattle.gib_weave.specs.Owing.{debt_of, no_debt, level_after, Owed, rest_sides, sides_of, Debt, resume}
+use Rattle.gib_weave.specs.Paying.{Share, Counted, left_costs, later_costs}
+use Rattle.gib_weave.specs.Places.{Owned, kont_covers, rest_covers, tail_covers, HaveRoom, TailsHaveRoom, IsSmall, Apart, AllRoom}
+use Rattle.gib_weave.specs.Stacks.{IsRoot, Stack}
+use Rattle.gib_weave.specs.Sound.{counts, AtRest, lefts, unwinds, IsAnswer, at_term, over, Safe, rests, moves, silent}
 use Rattle.gib_weave.proofs.Move.{with_var, with_dest, HasAll-set, HasAll-dest, keeps_dest, IsDest-bind, IsDest-more, all_under_bind, type_more, covers_more, covers_head, rest_code_put}
 use Rattle.gib_weave.proofs.Lines.{follows}
 use Rattle.gib_weave.proofs.Uses.{sides_bound}

@@ -6,7 +6,7 @@ use Rattle.gib_types.specs.declared.table.Ty.{Ty}
 use Rattle.gib_types.specs.declared.table.Ty.TheVariants.{Whole, Truth, Tree}
 use Rattle.gib_types.specs.Layout.{LaidOut}
 use Rattle.gib_types.specs.Tree.{Datum}
-use Rattle.gib_syntax.specs.Meaning.{is_scalar, value_in, Environment, Outcome, Gives, Stops, Deep, with_value}
+use Rattle.gib_syntax.specs.Meaning.{is_scalar, value_in, Environment, Outcome, Gives, Stops, with_value}
 use Rattle.gib_mem.specs.Memory.{Store, open_chunk, Grows}
 use Rattle.gib_region.specs.Region.{HasRoom as Room, rest, pointer}
 use Rattle.gib_packed.specs.Decoding.{Points, Dec}
@@ -24,8 +24,14 @@ use Rattle.gib_core.specs.Low.{Low, LowSide, End, To, kind_of, Field as StoredFi
 use Rattle.gib_machine.specs.Machine.{times, widest, Slots, slot, set, Frame, Open as OpenRegion, State, Par, Silent, AtJoin, next, cursor, room, joins_at, backs_at, ends_side, answer_of, side_start, points, ToTree}
 use Rattle.gib_weave.specs.Cost.{Cost, nothing, plus, one_item, one_region}
 use Rattle.gib_weave.proofs.Counts.{Paid, most_then, item_counted, turn_counted, turned_counted, chunk_counted}
-use Rattle.gib_core.specs.Fits.{AloneFits, SideFits, put, Sort, Absent, Scalar, Held, Placed, Scope, Dest, Nowhere, Empty, more, IsDue, cased, side_cased, loosen, dest_type, by_call, CallFits, Fits}
-use Rattle.gib_weave.specs.Sound.{Share, AtMost, Counted, counts, new_share, debt_of, no_debt, level_after, own_region, link, costs, side_costs, task_costs, cost_after, left_costs, later_costs, Owed, Rest, Plain, Part, Meet, Leave, Last, KSide, KLast, AtRest, IsInBody, Follows, Next, IsMeet, rest_pars, rest_sides, pars_of, sides_of, side_of, RestCode, RestFits, result_sort, rest_cased, rest_nest, rest_means, side_gives, side_type, Debt, lefts, IsUnwinding, unwinds, Forks, Meets, SideSafe, within, Owned, with_chunk, Ctx, IsScalar, IsPlaced, StandsAt, Turns, there, turn as redirected, Has, HasAll, IsDest, Matches, Kont, Stack, Waits, end_of, due, root, means, resume, nest, side_nest, AllRoom, AllCalm, Agrees, IsCode, head_covers, kont_covers, rest_covers, tail_covers, covers, HaveRoom, TailsHaveRoom, IsSmall, IsNew, Apart, AtTerm, IsAnswer, Rests, at_term, over, Safe, rests, moves, Moves, silent, draws, HasRoom, freed}
+use Rattle.gib_core.specs.Fits.{AloneFits, SideFits, Sort, Scalar, Held, Placed, Scope, Dest, Nowhere, Empty, more, IsDue, cased, side_cased, loosen, Fits}
+use Rattle.gib_weave.specs.Environment.{Ctx, IsPlaced, StandsAt, Turns, there, turn as redirected, Has, HasAll}
+use Rattle.gib_weave.specs.Continuing.{Rest, Plain, Part, Meet, Leave, Last, KSide, KLast, IsInBody, Follows, Next, IsMeet, rest_pars, pars_of, side_of, RestCode, RestFits, result_sort, rest_cased, rest_nest, Kont, end_of, due, root, nest, side_nest, AllCalm, Agrees, IsCode}
+use Rattle.gib_weave.specs.Owing.{debt_of, no_debt, level_after, own_region, link, costs, side_costs, task_costs, Owed, rest_sides, sides_of, rest_means, side_gives, Debt, means, resume}
+use Rattle.gib_weave.specs.Paying.{Share, AtMost, Counted, new_share, cost_after, left_costs, later_costs}
+use Rattle.gib_weave.specs.Places.{within, Owned, with_chunk, AllRoom, head_covers, kont_covers, rest_covers, tail_covers, HaveRoom, TailsHaveRoom, IsSmall, Apart, HasRoom, freed}
+use Rattle.gib_weave.specs.Stacks.{Stack, Waits}
+use Rattle.gib_weave.specs.Sound.{counts, AtRest, SideSafe, AtTerm, IsAnswer, at_term, over, Safe, rests, moves, Moves, silent, draws}
 use Rattle.gib_weave.proofs.Basics.{put-same, set-same, put_all, put_all-holds, put_all-grows, put_all-small, AllFresh}
 use Rattle.gib_weave.proofs.Grow.{Stack-grows, Matches-grows, Dec-grows, Turns-grows}
 use Rattle.gib_weave.proofs.Move.{with_var, with_dest, HasAll-bind, HasAll-set, HasAll-dest, keeps_dest, IsDest-bind, IsDest-more, IsDest-moved, moved_set, all_moved_set, Stack-moved, all_under_bind, type_more, covers_more, covers_head, not_there, absent_slot, is_field, bound-same, code_put, rest_code_put}
@@ -60,7 +66,7 @@ module _ (core : CoreTree) (code : CodeTree) (own : Owned) (ty : Ty) (rm : ℕ) 
   -- behind the fork the left side is next, then the join
   pub par_at : (owed owed' : Owed) (sh sh' : Share) (lv lv' : Levels) (s : Store) (ip m z : ℕ) (sl : Slots) (fs : List Frame) (n : ℕ) (rs : List OpenRegion) (ts : List ℕ) (stored : List StoredField) (l r : Side) (u : Term) (c : Ctx) (k : Kont) (p : Par)
       → LowSide core code stored (ip + 1) l m → IsAt code m Join → LowSide core code stored (m + 1) r z → IsAt code z Back → IsCode core code c.scope (z + 1) u (end_of k) → Agrees stored c.scope
-      → p.back ≡ z → p.kind ≡ Rattle.gib_weave.specs.Sound.side_kind r → p.variable ≡ (variable_of r).0
+      → p.back ≡ z → p.kind ≡ Rattle.gib_weave.specs.Continuing.side_kind r → p.variable ≡ (variable_of r).0
       → owed.ty ≡ owed'.ty → owed.all ≡ owed'.all → cond p.left (debt_of core n lv'.level r c.env ∷ owed.sides) owed.sides ≡ owed'.sides → lv'.pars ≡ p ∷ lv.pars → lv'.side ≡ lv.side
       → p.level ≡ lv.level → Counted rs (left_costs core n lv'.level (Part l (Meet p r u)) c.env k) sh'
       → AtTerm core code owed own sh s (at_rest lv ty (suc rm) ip sl fs n rs ts) (Then (Both true l r) u) c k → AtRest core code owed' own sh' s (at_rest lv' ty rm (ip + 1) sl fs n rs ts) (Part l (Meet p r u)) c k

@@ -10,7 +10,9 @@ use Rattle.gib_packed.proofs.Grow as g
 use Rattle.gib_code.specs.Program.{CodeTree}
 use Rattle.gib_machine.specs.Machine.{Slots, slot, Frame, Open as OpenRegion}
 use Rattle.gib_core.specs.Fits.{Sort, Outside, Absent, Scalar, Held, Placed, Loose, AtHead, Field, Dest, Nowhere, Empty, Open}
-use Rattle.gib_weave.specs.Sound.{Rest, KSide, KLast, Ctx, StandsAt, Turns, there, turn, Has, HasAll, Fields, none, field, IsDest, Matches, Kont, KEnd, KHere, KRegion, KScalar, KCall, KCallScalar, Waits, Stack}
+use Rattle.gib_weave.specs.Environment.{Ctx, StandsAt, Turns, there, turn, Has, HasAll, Fields, none, field, IsDest, Matches}
+use Rattle.gib_weave.specs.Continuing.{Rest, KSide, KLast, Kont, KEnd, KHere, KRegion, KScalar, KCall, KCallScalar}
+use Rattle.gib_weave.specs.Stacks.{Waits, Stack}
 
 pub Dec-grows : {laid : LaidOut} {s r : Store} {a t z : ℕ} {v : Datum} → Grows s r → Dec laid s a t v z → Dec laid r a t v z
 Dec-grows h d = g.Dec-grows h d

@@ -19,7 +19,12 @@ use Rattle.gib_machine.specs.Machine.{Slots, slot, Frame, Open as OpenRegion, ne
 use Rattle.gib_weave.specs.Cost.{Cost}
 use Rattle.gib_weave.proofs.Counts.{Paid, item_counted, turn_counted, turned_counted}
 use Rattle.gib_core.specs.Fits.{Dest, Empty, dest_type, IsTree}
-use Rattle.gib_weave.specs.Sound.{Plain, Share, Counted, counts, left_costs, later_costs, Owed, within, Owned, with_chunk, Ctx, HasAll, StandsAt, Turns, there, turn as redirected, IsDest, Kont, end_of, due, kont_covers, rest_covers, tail_covers, covers, IsSmall, Apart, AtTerm, Safe, Moves, draws}
+use Rattle.gib_weave.specs.Environment.{Ctx, HasAll, StandsAt, Turns, there, turn as redirected, IsDest}
+use Rattle.gib_weave.specs.Continuing.{Plain, Kont, end_of, due}
+use Rattle.gib_weave.specs.Owing.{Owed}
+use Rattle.gib_weave.specs.Paying.{Share, Counted, left_costs, later_costs}
+use Rattle.gib_weave.specs.Places.{within, Owned, with_chunk, kont_covers, rest_covers, tail_covers, covers, IsSmall, Apart}
+use Rattle.gib_weave.specs.Sound.{counts, AtTerm, Safe, Moves, draws}
 use Rattle.gib_weave.proofs.Basics.{put_all, put_all-holds, put_all-grows, put_all-small, AllFresh}
 use Rattle.gib_weave.proofs.Grow.{Stack-grows, Dec-grows, Turns-grows}
 use Rattle.gib_weave.proofs.Places.{Apart-put_all, Apart-fresh, Apart-open, open-grows, open-small, within_front, within_redirect, within_chunk, chunk_room, rest_room}

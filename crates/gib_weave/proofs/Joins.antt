@@ -22,7 +22,13 @@ use Rattle.gib_machine.specs.Machine.{times, widest, Slots, slot, set, Frame, Op
 use Rattle.gib_weave.specs.Cost.{Cost, nothing, plus, one_item}
 use Rattle.gib_weave.proofs.Counts.{goes_on_counted, joins_counted}
 use Rattle.gib_core.specs.Fits.{put, Sort, Absent, Scalar, Placed, Dest, more, cased, loosen, Fits}
-use Rattle.gib_weave.specs.Sound.{Share, Counted, with_side, with_count, kind_link, link, own_region, side_costs, task_costs, cost_after, left_costs, Owed, Plain, Part, Meet, Leave, AtRest, pars_of, sides_of, rest_cased, Debt, lefts, IsUnwinding, Meets, Owned, Ctx, IsScalar, StandsAt, Has, Kont, Stack, Waits, end_of, due, means, resume, IsCode, head_covers, kont_covers, IsAnswer, at_term, Safe, rests, moves}
+use Rattle.gib_weave.specs.Environment.{Ctx, IsScalar, StandsAt, Has}
+use Rattle.gib_weave.specs.Continuing.{Plain, Part, Meet, Leave, pars_of, rest_cased, Kont, end_of, due, IsCode}
+use Rattle.gib_weave.specs.Owing.{kind_link, link, own_region, side_costs, task_costs, Owed, sides_of, Debt, means, resume}
+use Rattle.gib_weave.specs.Paying.{Share, Counted, with_side, with_count, cost_after, left_costs}
+use Rattle.gib_weave.specs.Places.{Owned, head_covers, kont_covers}
+use Rattle.gib_weave.specs.Stacks.{Stack, Waits}
+use Rattle.gib_weave.specs.Sound.{AtRest, lefts, IsUnwinding, Meets, IsAnswer, at_term, Safe, rests, moves}
 use Rattle.gib_weave.proofs.Basics.{set-same}
 use Rattle.gib_weave.proofs.Grow.{Stack-grows, Matches-grows, Dec-grows, Turns-grows}
 use Rattle.gib_weave.proofs.Move.{with_var, with_dest, moved_set, all_moved_set, Stack-moved, Matches-moved, covers_head, not_there, absent_slot, is_field}

@@ -31,3 +31,4 @@ pub mod Weaves
 pub mod Events
 pub mod Progress
 pub mod Picks
+pub mod Row

@@ -12,7 +12,10 @@ use Rattle.gib_core.specs.Meaning.{from_there, having, Went}
 use Rattle.gib_code.specs.Program.{CodeTree}
 use Rattle.gib_machine.specs.Machine.{widest, Slots, slot, set}
 use Rattle.gib_core.specs.Fits.{put, Sort, Outside, Absent, Scalar, Held, Placed, Loose, AtHead, Field, Scope, is_there, has_slot, loosen_one, loosen, Dest, Nowhere, Empty, Open, dest_type, cased}
-use Rattle.gib_weave.specs.Sound.{Rest, Plain, Part, Meet, Leave, Last, KSide, KLast, Follows, Next, RestCode, RestFits, rest_cased, rest_nest, Ctx, StandsAt, Has, HasAll, IsDest, Matches, Kont, KEnd, KHere, KRegion, KScalar, KCall, KCallScalar, Waits, Goes, Under, AllUnder, Calm, AllCalm, due, end_of, means, resume}
+use Rattle.gib_weave.specs.Environment.{Ctx, StandsAt, Has, HasAll, IsDest, Matches}
+use Rattle.gib_weave.specs.Continuing.{Rest, Plain, Part, Meet, Leave, Last, KSide, KLast, Follows, Next, RestCode, RestFits, rest_cased, rest_nest, Kont, KEnd, KHere, KRegion, KScalar, KCall, KCallScalar, Goes, Under, AllUnder, Calm, AllCalm, due, end_of}
+use Rattle.gib_weave.specs.Owing.{means, resume}
+use Rattle.gib_weave.specs.Stacks.{Waits}
 use Rattle.gib_weave.proofs.Basics.{by_test, put-other, set-other, set-length}
 use Rattle.gib_weave.proofs.Move.{other, goes-refl, under_goes, all_under_goes, goes_new, Keeps, Has-keeps, Fields-keeps, absent_slot, rest_code_loosen}
 

@@ -11,7 +11,10 @@ use Rattle.gib_code.specs.Program.{CodeTree}
 use Rattle.gib_core.specs.Low.{End, Field as StoredField, field_of}
 use Rattle.gib_machine.specs.Machine.{Slots, slot, set, Frame, Open as OpenRegion, size}
 use Rattle.gib_core.specs.Fits.{put, Sort, Outside, Absent, Scalar, Held, Placed, Loose, AtHead, Field, Scope, is_there, has_slot, tree_type, loosen_one, loosen, Dest, Nowhere, Empty, Open, IsDue, more, dest_type}
-use Rattle.gib_weave.specs.Sound.{Rest, Plain, Part, Meet, Leave, Last, KSide, KLast, RestCode, within, Ctx, IsScalar, StandsAt, Has, HasAll, Fields, none, field, IsDest, Matches, Kont, KEnd, KHere, KRegion, KScalar, KCall, KCallScalar, Waits, Stack, Goes, Under, AllUnder, head_covers, Agrees, IsCode}
+use Rattle.gib_weave.specs.Environment.{Ctx, IsScalar, StandsAt, Has, HasAll, Fields, none, field, IsDest, Matches}
+use Rattle.gib_weave.specs.Continuing.{Rest, Plain, Part, Meet, Leave, Last, KSide, KLast, RestCode, Kont, KEnd, KHere, KRegion, KScalar, KCall, KCallScalar, Goes, Under, AllUnder, Agrees, IsCode}
+use Rattle.gib_weave.specs.Places.{within, head_covers}
+use Rattle.gib_weave.specs.Stacks.{Waits, Stack}
 use Rattle.gib_weave.proofs.Basics.{by_test, put-same, put-other, set-same, set-other, set-length}
 
 clash : true ≡ false → ⊥

@@ -22,7 +22,13 @@ use Rattle.gib_core.specs.Low.{To}
 use Rattle.gib_machine.specs.Machine.{Slots, set, Frame, Open as OpenRegion, State, Turning, next, begins, sets, cursor, size, latest, places, turn_on, placed, Item, HeadOf, ToTree, doing}
 use Rattle.gib_weave.proofs.Counts.{goes_on_counted, Paid, item_counted, turn_counted, turned_counted, tail_counted, chunk_counted}
 use Rattle.gib_core.specs.Fits.{Held, Placed, Dest, Empty, Open, dest_type, more, packed_due, cased}
-use Rattle.gib_weave.specs.Sound.{Share, Counted, counts, left_costs, Owed, Rest, Plain, Part, AtRest, RestCode, rest_cased, rest_means, within, Owned, with_chunk, Ctx, Turns, there, turn as redirected, Fields, none, IsDest, Kont, KHere, KRegion, end_of, due, means, IsCode, head_covers, kont_covers, rest_covers, tail_covers, covers, TailsHaveRoom, IsSmall, Apart, AtTerm, at_term, Safe, rests, moves, Moves, silent, puts, draws, AreBodies}
+use Rattle.gib_weave.specs.Environment.{Ctx, Turns, there, turn as redirected, Fields, none, IsDest}
+use Rattle.gib_weave.specs.Continuing.{Rest, Plain, Part, RestCode, rest_cased, Kont, KHere, KRegion, end_of, due, IsCode}
+use Rattle.gib_weave.specs.Owing.{Owed, rest_means, means}
+use Rattle.gib_weave.specs.Paying.{Share, Counted, left_costs}
+use Rattle.gib_weave.specs.Places.{within, Owned, with_chunk, head_covers, kont_covers, rest_covers, tail_covers, covers, TailsHaveRoom, IsSmall, Apart}
+use Rattle.gib_weave.specs.Sound.{counts, AtRest, AtTerm, at_term, Safe, rests, moves, Moves, silent, puts, draws}
+use Rattle.gib_weave.specs.Starting.{AreBodies}
 use Rattle.gib_weave.proofs.Basics.{put-same, set-same, put_all, put_all-holds, put_all-grows, put_all-small, put_fresh, AllFresh}
 use Rattle.gib_weave.proofs.Grow.{Stack-grows, Matches-grows}
 use Rattle.gib_weave.proofs.Move.{moved_set, all_moved_set, Stack-moved, Matches-moved, covers_head, not_there, absent_slot, code_put}

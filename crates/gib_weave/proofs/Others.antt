@@ -9,7 +9,10 @@ use Rattle.gib_code.specs.declared.answer.Answer.{Answer}
 use Rattle.gib_code.specs.declared.answer.Answer.TheVariants as answer
 use Rattle.gib_code.specs.Program.{CodeTree}
 use Rattle.gib_machine.specs.Machine.{State}
-use Rattle.gib_weave.specs.Sound.{Share, counts, Owed, unwinds, within, Owned, with_chunk, IsNew, IsSmall, IsAnswer, Rests, at_term, over, Safe, rests, moves, Moves, silent, get, puts, draws, ended, Others}
+use Rattle.gib_weave.specs.Owing.{Owed}
+use Rattle.gib_weave.specs.Paying.{Share}
+use Rattle.gib_weave.specs.Places.{within, Owned, with_chunk, IsNew, IsSmall}
+use Rattle.gib_weave.specs.Sound.{counts, unwinds, IsAnswer, Rests, at_term, over, Safe, rests, moves, Moves, silent, get, puts, draws, ended, Others}
 use Rattle.gib_weave.proofs.Basics.{by_test, cell-other}
 use Rattle.gib_weave.proofs.Grow.{Stack-grows, Matches-grows, StandsAt-grows}
 use Rattle.gib_weave.proofs.Places.{IsSided, zero_or_one, open-outside, open-inside, open-small, open-grows}

@@ -1,5 +1,5 @@
 -- A weave goes on until its root has ended.
-use Rattle.std.proofs.Common.{◌≡◌, ◌⊎◌, inl, inr, ℕ, zero, suc, ◌+◌, ◌*◌, ◌<◌, ◌≤◌, Bool, true, false, List, [], ◌∷◌, length, Option, Some, refl, sym, ap, subst, ◌∙◌, arith}
+use Rattle.std.proofs.Common.{◌≡◌, ◌⊎◌, inl, inr, ℕ, zero, suc, ◌<◌, ◌≤◌, Bool, true, false, List, [], ◌∷◌, length, Option, Some, refl, sym, ap, subst, ◌∙◌, arith}
 use Rattle.gib_types.specs.declared.table.Ty.{Ty}
 use Rattle.gib_syntax.specs.Meaning.{Outcome}
 use Rattle.gib_mem.specs.Memory.{Memory, absent, fresh}
@@ -13,7 +13,11 @@ use Rattle.gib_types.specs.Loaded.{Loaded}
 use Rattle.gib_region.specs.Count.{Balanced}
 use Rattle.gib_weave.specs.Cost.{Cost, nothing, run_cost}
 use Rattle.gib_weave.specs.Tight.{Tight}
-use Rattle.gib_weave.specs.Sound.{Share, Bill, new_share, root_share, whole_of, Owned, Debt, IsAnswer, AreBodies}
+use Rattle.gib_weave.specs.Owing.{Debt}
+use Rattle.gib_weave.specs.Paying.{Share, Bill, new_share, root_share, whole_of}
+use Rattle.gib_weave.specs.Places.{Owned}
+use Rattle.gib_weave.specs.Sound.{IsAnswer}
+use Rattle.gib_weave.specs.Starting.{AreBodies}
 use Rattle.gib_weave.proofs.Bills.{loads, root_bill, root_counted}
 use Rattle.gib_weave.proofs.Shares.{total_bound}
 use Rattle.gib_weave.specs.Weave as ev
@@ -23,10 +27,11 @@ use Rattle.gib_weave.proofs.Memories.{bounded_small}
 use Rattle.gib_weave.proofs.Weaves.{in_list, is_running}
 use Rattle.gib_weave.specs.Weave.{IsAction, IsEnd, HasWaiting, NewestWaits, NewestFinished, IsFinished, asks, Enabled, pick_at_stage, pick_at_join, pick_by, pick_running, pick_on, pick_of, IsOf, or_else, pick_below, pick, IsCareful, Applies, leads, full, Legal, none, more, weave_start}
 use Rattle.gib_region.specs.Region.{AreOwned}
-use Rattle.gib_weave.specs.Sound.{IsArgument, tail_covers}
+use Rattle.gib_weave.specs.Places.{tail_covers}
+use Rattle.gib_weave.specs.Starting.{IsArgument}
 use Rattle.gib_types.specs.Tree.{Datum}
 use Rattle.gib_core.specs.Meaning.{core_run}
-use Rattle.gib_weave.specs.Sound.{IsMain}
+use Rattle.gib_weave.specs.Starting.{IsMain}
 use Rattle.gib_weave.proofs.Starts.{root_starts}
 use Rattle.gib_weave.proofs.Memories.{tails_apart, tails_have_room}
 use Rattle.gib_weave.proofs.Events.{event_keeps, owes_next, running_sound}

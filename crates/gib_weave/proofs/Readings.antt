@@ -17,7 +17,10 @@ use Rattle.gib_core.specs.Tree.{CoreTree}
 use Rattle.gib_code.specs.declared.instruction.Arm.{Arm}
 use Rattle.gib_code.specs.Program.{CodeTree}
 use Rattle.gib_machine.specs.Machine.{State, Get, next, Ready, Looking, Following, Reading, SkipTurn, doing, looked, read_on, sets, skip_on, skipped, set, label_of, size, arms_of}
-use Rattle.gib_weave.specs.Sound.{Share, Owed, Owned, IsSmall, Safe, moves, Moves, get}
+use Rattle.gib_weave.specs.Owing.{Owed}
+use Rattle.gib_weave.specs.Paying.{Share}
+use Rattle.gib_weave.specs.Places.{Owned, IsSmall}
+use Rattle.gib_weave.specs.Sound.{Safe, moves, Moves, get}
 
 pub tail : {s : Store} {a b : ℕ} {bs : List ℕ} → Holds s a (b ∷ bs) → Holds s (a + 1) bs
 tail (more e h) = h

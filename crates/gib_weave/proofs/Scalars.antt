@@ -24,8 +24,8 @@ use Rattle.gib_core.specs.Tree.{var}
 use Rattle.gib_core.specs.Meaning.{value, merge}
 use Rattle.gib_core.specs.Low.{operand, operands, slots_of, operation, truth_word}
 use Rattle.gib_machine.specs.Machine.{Slots, slot, word, words, word_bytes, scalar_bytes, operated}
-use Rattle.gib_core.specs.Fits.{Sort, Scalar, Placed, Scope, AtomFits, AtomsFit, packed_due, ArePlaced, FurtherPlaced}
-use Rattle.gib_weave.specs.Sound.{Owed, Rest, Plain, Part, Meet, Leave, Last, KSide, KLast, AtRest, IsInBody, Follows, Next, rest_pars, rest_sides, pars_of, sides_of, side_of, RestCode, RestFits, rest_cased, rest_nest, rest_means, side_gives, Debt, lefts, IsUnwinding, unwinds, Ctx, IsScalar, Has, HasAll, Fields, field, HasRoom, freed}
+use Rattle.gib_core.specs.Fits.{Sort, AtomFits, AtomsFit, packed_due, ArePlaced, FurtherPlaced}
+use Rattle.gib_weave.specs.Environment.{Ctx, IsScalar, Has, HasAll, Fields, field}
 
 same_word : (b : Bool) → truth_word b ≡ bit b
 same_word false = refl
@@ -87,7 +87,7 @@ cons_rest t u ts us e = cc
 -- the scalars and the fields that stand are the fields of a constructor
 pub merged : (laid : LaidOut) (s : Store) (sl : Slots) (c : Ctx) → HasAll laid s sl c → (ts : List Ty) (ss : List Atom) (xs tys : List ℕ) (at z : ℕ) → AtomsFit c.scope ss (scalar_types ts) → tys ≡ packed_due ts → Fields laid s c at xs tys z
     → Decs laid s at ts (data_of (merge ts (map (value c.env) ss) (map (value c.env) (map var xs)))) (map c.pl xs) z
-merged laid s sl c h [] ss _ _ at z e g Rattle.gib_weave.specs.Sound.none = d.done
+merged laid s sl c h [] ss _ _ at z e g Rattle.gib_weave.specs.Environment.none = d.done
 merged laid s sl c h [] ss _ _ at z e g (field t p dec f) = absurd (cons_nil g)
 merged laid s sl c h (Whole ∷ ts) [] xs tys at z e g f = absurd e
 merged laid s sl c h (Whole ∷ ts) (x ∷ ss) xs tys at z e g f =
@@ -99,7 +99,7 @@ merged laid s sl c h (Truth ∷ ts) (x ∷ ss) xs tys at z e g f =
     let w = scalar_word laid s sl c x Truth refl h e.0 in
     let rest = merged laid s sl c h ts ss xs tys at z e.1 g f in
     subst (λ (v : Datum). Decs laid s at (Truth ∷ ts) (more v (data_of (merge ts (map (value c.env) ss) (map (value c.env) (map var xs))))) (map c.pl xs) z) (sym w.1) (d.truth_field rest)
-merged laid s sl c h (Tree t ∷ ts) ss _ _ at z e g Rattle.gib_weave.specs.Sound.none = absurd (nil_cons g)
+merged laid s sl c h (Tree t ∷ ts) ss _ _ at z e g Rattle.gib_weave.specs.Environment.none = absurd (nil_cons g)
 merged laid s sl c h (Tree t ∷ ts) ss _ _ at z e g (field {x = x} {y = y} {t = u} {xs = xs} {ts = us} th p dec f) =
     let rest = merged laid s sl c h ts ss xs us y z e (cons_rest u t.0 us (packed_due ts) g) f in
     let dec' : Dec laid s at t.0 (value_in c.env x) y = subst (λ (q : ℕ). Dec laid s at q (value_in c.env x) y) (cons_first u t.0 us (packed_due ts) g) dec in
@@ -117,7 +117,7 @@ merged_bytes laid s sl c h (Truth ∷ ts) [] xs tys at z e g f = absurd e
 merged_bytes laid s sl c h (Truth ∷ ts) (x ∷ ss) xs tys at z e g f =
     let w = scalar_word laid s sl c x Truth refl h e.0 in
     ap (λ (q : List ℕ). q ++ scalar_bytes (scalar_types ts) (words sl (operands ss))) (word_scalar Truth (word sl (operand x)) (value c.env x) w) ∙ ap (λ (q : List ℕ). scalar (value c.env x) ++ q) (merged_bytes laid s sl c h ts ss xs tys at z e.1 g f)
-merged_bytes laid s sl c h (Tree t ∷ ts) ss _ _ at z e g Rattle.gib_weave.specs.Sound.none = absurd (nil_cons g)
+merged_bytes laid s sl c h (Tree t ∷ ts) ss _ _ at z e g Rattle.gib_weave.specs.Environment.none = absurd (nil_cons g)
 merged_bytes laid s sl c h (Tree t ∷ ts) ss _ _ at z e g (field {x = x} {y = y} {t = u} {xs = xs} {ts = us} th p dec f) =
     merged_bytes laid s sl c h ts ss xs us y z e (cons_rest u t.0 us (packed_due ts) g) f
     ∙ sym (ap (λ (q : List ℕ). q ++ scalars (data_of (merge ts (map (value c.env) ss) (map (value c.env) (map var xs))))) (Dec-no_scalar dec))

@@ -23,7 +23,13 @@ use Rattle.gib_machine.specs.Machine.{times, widest, Slots, slot, Open as OpenRe
 use Rattle.gib_weave.specs.Cost.{Cost, plus, one_region}
 use Rattle.gib_weave.proofs.Counts.{goes_on_counted, same_most, Paid, tail_counted, chunk_counted}
 use Rattle.gib_core.specs.Fits.{Sort, Outside, Absent, Scalar, Placed, Field, Scope, Dest, dest_of, dest_type, param_sort, body_scope, AllFit}
-use Rattle.gib_weave.specs.Sound.{Share, AtMost, Counted, counts, left_costs, region_of, Owed, Rest, Plain, Part, Meet, Leave, Last, KSide, KLast, AtRest, IsInBody, Follows, Next, rest_pars, rest_sides, pars_of, sides_of, side_of, RestCode, RestFits, rest_cased, rest_nest, rest_means, side_gives, Debt, lefts, IsUnwinding, unwinds, within, Owned, with_chunk, Ctx, StandsAt, Has, HasAll, IsDest, Kont, KEnd, Stack, IsRoot, means, Agrees, IsCode, IsBody, AreBodies, IsMain, IsArgument, first_doing, root_start, rest_covers, tail_covers, TailsHaveRoom, IsSmall, IsNew, Apart, nest, bind_nest, side_nest, branches_nest, AtTerm, Rests, at_term, Safe, rests, moves, Moves, silent, draws, HasRoom, freed}
+use Rattle.gib_weave.specs.Environment.{Ctx, Has, HasAll, IsDest}
+use Rattle.gib_weave.specs.Continuing.{Plain, KEnd, Agrees, nest, bind_nest, side_nest, branches_nest}
+use Rattle.gib_weave.specs.Paying.{Share, AtMost, Counted, left_costs, region_of}
+use Rattle.gib_weave.specs.Places.{within, Owned, with_chunk, rest_covers, tail_covers, TailsHaveRoom, IsSmall, IsNew, Apart, HasRoom, freed}
+use Rattle.gib_weave.specs.Stacks.{IsRoot}
+use Rattle.gib_weave.specs.Sound.{counts, at_term, Safe, rests, moves, silent, draws}
+use Rattle.gib_weave.specs.Starting.{AreBodies, IsMain, IsArgument, first_doing, root_start}
 use Rattle.gib_weave.proofs.Basics.{by_test}
 use Rattle.gib_weave.proofs.Move.{is_field}
 use Rattle.gib_weave.proofs.Places.{Apart-less, Apart-open, open-grows, open-small, SplitsAt, splits}
@@ -180,7 +186,7 @@ root_of (Tree t) a = refl
 module _ (core : CoreTree) (code : CodeTree) (main : IsMain core code) (own : Owned) (w depth level rm : ℕ) (v : Datum) where
   -- main's body is next
   begun : (s : Store) (rs : List OpenRegion) (tails : List ℕ) (a : ℕ) → IsArgument code.laid s core.main.parameter w v → IsRoot core.main.result a rs → IsDest code.laid s (frame_words (slots_at code.functions (length core.functions)) (w ∷ [])) (main_line (slots_at code.functions (length core.functions)) core.main.parameter w v (dest_of core.main.result) a) (dest_of core.main.result) (cursor rs)
-      → Rattle.gib_weave.specs.Sound.HaveRoom rs → TailsHaveRoom tails → Apart own s (λ q. rest_covers rs q + tail_covers tails q) → IsSmall s → times (suc depth) (widest code.functions) ≤ rm → (sh : Share) → Counted rs (left_costs core depth level (Plain core.main.body) ((0, v) ∷ []) (KEnd core.main.result)) sh
+      → Rattle.gib_weave.specs.Places.HaveRoom rs → TailsHaveRoom tails → Apart own s (λ q. rest_covers rs q + tail_covers tails q) → IsSmall s → times (suc depth) (widest code.functions) ≤ rm → (sh : Share) → Counted rs (left_costs core depth level (Plain core.main.body) ((0, v) ∷ []) (KEnd core.main.result)) sh
       → Safe core code (record { ty = core.main.result; all = core_run core depth v; sides = [] }) own sh s (at_rest (record { level = level; pars = []; side = None; width = widest code.functions }) core.main.result rm (start_at code.functions (length core.functions)) (frame_words (slots_at code.functions (length core.functions)) (w ∷ [])) [] depth rs tails)
   begun s rs tails a arg ro de rooms tr ap9 sm le sh counted =
       let n = slots_at code.functions (length core.functions) in

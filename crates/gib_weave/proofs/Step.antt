@@ -15,7 +15,13 @@ use Rattle.gib_weave.specs.Cost.{Cost, call_costs}
 use Rattle.gib_weave.proofs.Costs.{line_costs, place_costs, fork_costs}
 use Rattle.gib_weave.proofs.Counts.{goes_on_counted, most_then, no_spending, spends_then}
 use Rattle.gib_core.specs.Fits.{cased, side_cased}
-use Rattle.gib_weave.specs.Sound.{Share, AtMost, Counted, Spends, counts, with_rest, debt_of, costs, left_costs, later_costs, Forks, Meets, IsUnwinding, side_type, Owed, Rest, Plain, Part, Meet, Leave, Last, KSide, KLast, AtRest, IsInBody, Follows, Next, rest_pars, rest_sides, pars_of, sides_of, side_of, RestCode, RestFits, rest_cased, rest_nest, rest_means, side_gives, Debt, lefts, IsUnwinding, unwinds, Owned, Ctx, Kont, end_of, resume, means, Agrees, IsCode, AtTerm, IsAnswer, Rests, at_term, over, Safe, rests, moves, Moves, silent, get, puts, draws, ended, After, AreBodies, HasRoom, freed}
+use Rattle.gib_weave.specs.Environment.{Ctx}
+use Rattle.gib_weave.specs.Continuing.{Rest, Plain, Part, Meet, Leave, Last, RestCode, Kont, end_of, Agrees, IsCode}
+use Rattle.gib_weave.specs.Owing.{debt_of, costs, Owed, Debt, resume, means}
+use Rattle.gib_weave.specs.Paying.{Share, AtMost, Counted, Spends, with_rest, left_costs, later_costs}
+use Rattle.gib_weave.specs.Places.{Owned}
+use Rattle.gib_weave.specs.Sound.{counts, Forks, Meets, IsUnwinding, AtRest, lefts, IsUnwinding, unwinds, AtTerm, IsAnswer, Rests, at_term, over, Safe, rests, moves, Moves, silent, get, puts, draws, ended, After}
+use Rattle.gib_weave.specs.Starting.{AreBodies}
 use Rattle.gib_weave.proofs.Lines.{side_means, all_calm_less}
 use Rattle.gib_weave.proofs.Writes.{does_write}
 use Rattle.gib_weave.proofs.Opens.{does_here, does_region, does_past}

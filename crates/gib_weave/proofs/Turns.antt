@@ -8,7 +8,8 @@ use Rattle.gib_core.specs.Tree.{CoreTree}
 use Rattle.gib_code.specs.Program.{CodeTree}
 use Rattle.gib_machine.specs.Machine.{Slots, Frame, Open as OpenRegion}
 use Rattle.gib_core.specs.Fits.{Dest, Nowhere, Empty, Open, IsDue, dest_type}
-use Rattle.gib_weave.specs.Sound.{KSide, KLast, Kont, KEnd, KHere, KRegion, KScalar, KCall, KCallScalar, IsRoot, Stack, due}
+use Rattle.gib_weave.specs.Continuing.{KSide, KLast, Kont, KEnd, KHere, KRegion, KScalar, KCall, KCallScalar, due}
+use Rattle.gib_weave.specs.Stacks.{IsRoot, Stack}
 
 clash : true ≡ false → ⊥
 clash h = absurd cc

@@ -24,7 +24,13 @@ use Rattle.gib_core.specs.Low.{operands, slots_of, ending}
 use Rattle.gib_machine.specs.Machine.{Slots, slot, words, Frame, Open as OpenRegion, State, Putting, Put, next, cursor, size, went, putting, doing, fill_bytes, scalar_bytes}
 use Rattle.gib_weave.proofs.Counts.{goes_on_counted}
 use Rattle.gib_core.specs.Fits.{Dest, Open, dest_type, packed_due}
-use Rattle.gib_weave.specs.Sound.{Share, Counted, later_costs, Owed, Rest, Plain, Part, Meet, Leave, Last, KSide, KLast, AtRest, IsInBody, Follows, Next, rest_pars, rest_sides, pars_of, sides_of, side_of, RestCode, RestFits, rest_cased, rest_nest, rest_means, side_gives, Debt, lefts, IsUnwinding, unwinds, within, Owned, with_chunk, Ctx, Turns, there, turn, HasAll, Fields, IsHead, IsDest, Kont, Stack, end_of, due, resume, means, head_covers, kont_covers, rest_covers, tail_covers, covers, Apart, AtTerm, Safe, rests, moves, Moves, silent, get, puts, draws, AreBodies, HasRoom, freed}
+use Rattle.gib_weave.specs.Environment.{Ctx, Turns, there, turn, Fields, IsHead, IsDest}
+use Rattle.gib_weave.specs.Continuing.{Kont, end_of}
+use Rattle.gib_weave.specs.Owing.{Owed, resume, means}
+use Rattle.gib_weave.specs.Paying.{Share, Counted, later_costs}
+use Rattle.gib_weave.specs.Places.{within, Owned, head_covers}
+use Rattle.gib_weave.specs.Sound.{AtTerm, Safe, moves, Moves, puts}
+use Rattle.gib_weave.specs.Starting.{AreBodies}
 use Rattle.gib_weave.proofs.Basics.{put_all, put_all-holds, put_all-grows, put_all-small, put_fresh, AllFresh}
 use Rattle.gib_weave.proofs.Grow.{Turns-grows, Stack-grows}
 use Rattle.gib_weave.proofs.Places.{Apart-put_all, Apart-fresh}

@@ -1,6 +1,13 @@
 pub mod Cost
 pub mod Tight
+pub mod Environment
+pub mod Continuing
+pub mod Owing
+pub mod Paying
+pub mod Places
+pub mod Stacks
 pub mod Sound
+pub mod Starting
 pub mod Root
 pub mod Example
 pub mod Weave

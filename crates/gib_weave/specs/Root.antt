@@ -13,7 +13,10 @@ use Rattle.gib_region.specs.Region.{Draws}
 use Rattle.gib_core.specs.Tree.{CoreTree}
 use Rattle.gib_code.specs.Program.{CodeTree}
 use Rattle.gib_machine.specs.Machine.{State, Ask, Silent, Get, Put, Draw, AtFork, AtJoin, Ended}
-use Rattle.gib_weave.specs.Sound.{Owed, Owned, Share, Spends, Leads, with_chunk, IsAnswer, Forks, Meets}
+use Rattle.gib_weave.specs.Owing.{Owed}
+use Rattle.gib_weave.specs.Paying.{Share, Spends}
+use Rattle.gib_weave.specs.Places.{Owned, with_chunk}
+use Rattle.gib_weave.specs.Sound.{Leads, IsAnswer, Forks, Meets}
 use Rattle.gib_mem.specs.Memory as mem
 
 -- What one micro-step owes over a memory: after each answer that the memory may give, the task is safe over what the memory

@@ -12,7 +12,11 @@ use Rattle.gib_code.specs.Program.{CodeTree}
 use Rattle.gib_machine.specs.Machine.{State, Waiting, Ready, Ask, Silent, Get, Put, Draw, AtFork, AtJoin, Ended, next, left_starts, right_of, side_start, takes, joins}
 use Rattle.gib_region.specs.Count.{Balanced}
 use Rattle.gib_weave.specs.Cost.{Cost, nothing, plus}
-use Rattle.gib_weave.specs.Sound.{Share, done_by, Owned, Owed, Debt, Safe, SideSafe, IsAnswer, root_start}
+use Rattle.gib_weave.specs.Owing.{Owed, Debt}
+use Rattle.gib_weave.specs.Paying.{Share, done_by}
+use Rattle.gib_weave.specs.Places.{Owned}
+use Rattle.gib_weave.specs.Sound.{Safe, SideSafe, IsAnswer}
+use Rattle.gib_weave.specs.Starting.{root_start}
 
 -- A right side that its task neither joined nor took: it waits, or it is the task of a number.
 pub data Status : Type 0 where

@@ -18,7 +18,11 @@ ghost use Rattle.gib_weave.specs.Cost.{Cost, plus, run_cost};
 ghost use Rattle.gib_weave.specs.Tight.{Tight};
 ghost use Rattle.gib_machine.specs.Machine.{State, next};
 ghost use Rattle.gib_core.specs.Fits.{AllFit};
-ghost use Rattle.gib_weave.specs.Sound.{IsAnswer, Owed, Debt, Owned, Share, AtMost, Spends, Bill, Safe, After, IsArgument, TailsHaveRoom, tail_covers, Apart, IsSmall, root_start, root_share, whole_of, new_share, with_rest, with_side, with_count, Others};
+ghost use Rattle.gib_weave.specs.Owing.{Owed, Debt};
+ghost use Rattle.gib_weave.specs.Paying.{Share, AtMost, Spends, Bill, root_share, whole_of, new_share, with_rest, with_side, with_count};
+ghost use Rattle.gib_weave.specs.Places.{Owned, TailsHaveRoom, tail_covers, Apart, IsSmall};
+ghost use Rattle.gib_weave.specs.Sound.{IsAnswer, Safe, After, Others};
+ghost use Rattle.gib_weave.specs.Starting.{IsArgument, root_start};
 ghost use Rattle.gib_weave.specs.Root.{AfterOver, AnswerStands};
 ghost use Rattle.gib_weave.specs.Example as example;
 

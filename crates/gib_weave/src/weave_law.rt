@@ -15,7 +15,9 @@ ghost use Rattle.gib_code.specs.declared.answer.Answer.{Answer};
 ghost use Rattle.gib_code.specs.Program.{CodeTree};
 ghost use Rattle.gib_weave.specs.Cost.{Cost, run_cost};
 ghost use Rattle.gib_weave.specs.Tight.{Tight};
-ghost use Rattle.gib_weave.specs.Sound.{IsAnswer, IsArgument, whole_of};
+ghost use Rattle.gib_weave.specs.Paying.{whole_of};
+ghost use Rattle.gib_weave.specs.Sound.{IsAnswer};
+ghost use Rattle.gib_weave.specs.Starting.{IsArgument};
 ghost use Rattle.gib_weave.specs.Weave.{Weave, Event, Sound, Next, Legal, Steal, Enabled, Applies, Finished, Running, task, pick, pick_of, pick_steal, IsOf, asks, IsCareful, weave_start};
 
 /// The weave of the root alone is sound: the root owes what the core means, and the whole is what a run of it costs.

@@ -1,0 +1,151 @@
+-- A worked run: a tree's leaves get 1 more, the right side is stolen.
+use Rattle.std.proofs.Common.{Some, None, ◌≡◌, ℕ, zero, suc, true, [], ◌∷◌, slice_get, refl}
+use Rattle.gib_types.specs.declared.table.Ty.{Ty}
+use Rattle.gib_types.specs.declared.table.Ty.TheVariants.{Whole, Tree}
+use Rattle.gib_types.specs.Table.{Table}
+use Rattle.gib_mem.specs.Memory.{sole, Memory, Cell, absent, fresh, byte, after_put, after_puts, after_draw, open_chunk}
+use Rattle.gib_code.specs.declared.instruction.Kind.TheVariants as at
+use Rattle.gib_code.specs.declared.instruction.Operand.TheVariants.{Slot, Number}
+use Rattle.gib_code.specs.declared.instruction.Operation.TheVariants.{Add}
+use Rattle.gib_code.specs.declared.answer.Answer.TheVariants as answer
+use Rattle.gib_code.specs.Instruction as i
+use Rattle.gib_code.specs.Program.{CodeTree}
+use Rattle.gib_machine.specs.Machine.{Ask, Silent, Get, Put, Draw, AtFork, AtJoin, Ended, left_starts, right_of, side_start, joins, takes}
+use Rattle.gib_weave.specs.Weave.{Waits, Runs, Running, Weave, task, moved, with_sides, asks, weave_start}
+use Rattle.gib_weave.specs.Example as example
+use Rattle.gib_core.specs.Tree.{CoreTree}
+
+abbrev tree : Ty
+tree = Tree (record { 0 = 0 })
+
+abbrev table : Table
+table = record { types = 0 ∷ []; rows = record { name = 1; owner = 0; fields = Whole ∷ [] } ∷ record { name = 2; owner = 0; fields = tree ∷ tree ∷ [] } ∷ [] }
+
+abbrev code : CodeTree
+code = record {
+  laid = record { table = table; with_offsets = 1 ∷ [] };
+  instructions =
+      i.Switch 0 (record { constructor = 0; label = 1 } ∷ record { constructor = 1; label = 6 } ∷ [])
+      ∷ i.Whole 1 0 1 ∷ i.Operate 2 Add (Slot 1) (Number 1) ∷ i.Past 3 0 ∷ i.Fill 3 0 (Slot 2 ∷ []) [] ∷ i.Return
+      ∷ i.First 4 0 9 ∷ i.Offset 5 0 1 ∷ i.Past 6 1 ∷ i.Fork 14 18 at.Here 8 tree ∷ i.Here 7 ∷ i.Call 0 (Slot 4 ∷ []) ∷ i.Jump 13 ∷ i.Join
+      ∷ i.Here 8 ∷ i.Call 0 (Slot 5 ∷ []) ∷ i.Jump 17 ∷ i.Back ∷ i.Fill 6 1 [] (7 ∷ 8 ∷ []) ∷ i.Return
+      ∷ i.Call 0 (Slot 0 ∷ []) ∷ i.Return ∷ [];
+  functions = record { name = Some (record { 0 = 0 }); start = 0; slots = 9; result = tree } ∷ record { name = None; start = 20; slots = 1; result = tree } ∷ [];
+}
+
+-- the input (Node (Leaf 1) (Leaf 2)), and what is behind it in the chunk
+abbrev loaded : Memory
+loaded = after_puts (record { cells = open_chunk (λ q. absent) 0; drawn = 1; share = 1; limit = 1024; alone = true; holder = sole }) 0
+    (1 ∷ 18 ∷ 0 ∷ 0 ∷ 0 ∷ 0 ∷ 0 ∷ 0 ∷ 0 ∷ 0 ∷ 1 ∷ 0 ∷ 0 ∷ 0 ∷ 0 ∷ 0 ∷ 0 ∷ 0 ∷ 0 ∷ 2 ∷ 0 ∷ 0 ∷ 0 ∷ 0 ∷ 0 ∷ 0 ∷ 0 ∷ [])
+
+abbrev core : CoreTree
+core = record example.core { functions = record { name = record { 0 = 0 }; parameters = tree ∷ []; result = tree; body = example.body } ∷ [] }
+
+abbrev byte_of : Cell → ℕ
+byte_of absent = 0
+byte_of fresh = 0
+byte_of (byte b) = b
+
+abbrev act : Weave → ℕ → Ask → Weave
+act w n (Silent m) = moved w w.memory n m
+act w n (Get a k) = moved w w.memory n (k (byte_of (w.memory.cells a)))
+act w n (Put a b m) = moved w (after_put w.memory a b) n m
+act w n (Draw k) = moved w (after_draw w.memory w.memory.drawn) n (k w.memory.drawn)
+act w n AtFork = w
+act w n AtJoin = w
+act w n (Ended a) = w
+
+abbrev steps : ℕ → ℕ → Weave → Weave
+steps n zero w = w
+steps n (suc m) w = steps n m (act w n (asks code w n))
+
+abbrev w0 : Weave
+w0 = weave_start core code loaded 0 10000 4 (27 ∷ [])
+
+pub at_fork : asks code (steps 0 13 w0) 0 ≡ AtFork
+at_fork = refl
+
+abbrev fork : Weave → Weave
+fork w = with_sides w 0 (left_starts (task w.tasks 0).state (slice_get code.instructions (task w.tasks 0).state.ip)) (Waits (right_of (task w.tasks 0).state (slice_get code.instructions (task w.tasks 0).state.ip)) ∷ [])
+
+abbrev w1 : Weave
+w1 = steps 0 13 w0
+
+abbrev steal : Weave → Weave
+steal w = record { memory = w.memory; tasks = record { state = (task w.tasks 0).state; sides = Runs 1 ∷ []; stage = Running } ∷ record { state = side_start code (right_of (task w1.tasks 0).state (slice_get code.instructions 9)); sides = []; stage = Running } ∷ [] }
+
+abbrev w2 : Weave
+w2 = steal (fork w1)
+
+abbrev w3 : Weave
+w3 = steps 1 26 w2
+
+pub side_ends : asks code w3 1 ≡ Ended (answer.At 4096)
+side_ends = refl
+
+abbrev w4 : Weave
+w4 = steps 0 24 w3
+
+pub at_join : asks code w4 0 ≡ AtJoin
+at_join = refl
+
+abbrev w5 : Weave
+w5 = steps 0 20 (with_sides w4 0 (joins (task w4.tasks 0).state (answer.At 4096)) [])
+
+pub root_ends : asks code w5 0 ≡ Ended (answer.At 27)
+root_ends = refl
+
+-- the leaf 3 stands at 4096; an indirection to it at 45; the offset is 45; two chunks
+pub leaf : w5.memory.cells 4097 ≡ byte 3
+leaf = refl
+
+pub pointed : w5.memory.cells 45 ≡ byte 254
+pointed = refl
+
+pub pointed_to : w5.memory.cells 47 ≡ byte 16
+pointed_to = refl
+
+pub offset : w5.memory.cells 28 ≡ byte 45
+offset = refl
+
+pub chunks : w5.memory.drawn ≡ 2
+chunks = refl
+
+-- The same where the right side is taken: all stands in one chunk.
+
+abbrev take : Weave → Weave
+take w = with_sides w 0 (takes (task w.tasks 0).state) []
+
+abbrev w6 : Weave
+w6 = steps 0 36 (take (steps 0 24 (fork w1)))
+
+pub taken_ends : asks code w6 0 ≡ Ended (answer.At 27)
+taken_ends = refl
+
+pub taken_leaf : w6.memory.cells 46 ≡ byte 3
+taken_leaf = refl
+
+pub taken_fresh : w6.memory.cells 54 ≡ fresh
+taken_fresh = refl
+
+pub taken_chunks : w6.memory.drawn ≡ 1
+taken_chunks = refl
+
+-- In place, with no level left: no fork, and the same bytes.
+
+abbrev w7 : Weave
+w7 = steps 0 75 (weave_start core code loaded 0 10000 0 (27 ∷ []))
+
+pub placed_ends : asks code w7 0 ≡ Ended (answer.At 27)
+placed_ends = refl
+
+-- With one call, the left side has none left: the task stands at the join, and ends once its side is dropped.
+
+abbrev w8 : Weave
+w8 = steps 0 2 (fork (steps 0 13 (weave_start core code loaded 0 1 4 (27 ∷ []))))
+
+pub unwinds : asks code w8 0 ≡ AtJoin
+unwinds = refl
+
+pub dropped : asks code (take w8) 0 ≡ Ended answer.Deep
+dropped = refl

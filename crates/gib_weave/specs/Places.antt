@@ -1,0 +1,98 @@
+-- The places that are a task's own: open heads, the rests behind its cursors, its tails; and the room that it has.
+use Rattle.std.specs.Prelude.{◌≡◌, ℕ, suc, ◌+◌, ◌*◌, ◌<◌, ◌≤◌, ◌^◌, List, [], ◌∷◌, if◌then◌else◌, nat_lt, nat_le}
+use Rattle.gib_types.specs.Layout.{LaidOut}
+use Rattle.gib_mem.specs.Memory.{Store, absent, fresh}
+use Rattle.gib_region.specs.Region.{rest}
+use Rattle.gib_core.specs.Fits.{Dest, Empty, Nowhere, Open}
+use Rattle.gib_weave.specs.Cost.{own}
+use Rattle.gib_machine.specs.Machine.{Open as OpenRegion, State, times, size}
+use Rattle.gib_weave.specs.Environment.{Ctx}
+use Rattle.gib_weave.specs.Continuing.{KCall, KCallScalar, KEnd, KHere, KLast, KRegion, KScalar, KSide, Kont, Last, Leave, Meet, Part, Plain, Rest, nest, side_nest}
+use Rattle.gib_weave.specs.Paying.{dues}
+
+-- 1 where q is one of the n addresses from a on.
+abbrev pub within : ℕ → ℕ → ℕ → ℕ
+within a n q = if nat_le a q then (if nat_lt q (a + n) then 1 else 0) else 0
+
+abbrev pub head_covers : LaidOut → Ctx → Dest → ℕ → ℕ
+head_covers laid c (Nowhere ty) q = 0
+head_covers laid c (Empty t) q = 0
+head_covers laid c (Open t h k xs dues) q = within c.head (size laid k) q
+
+abbrev pub kont_covers : LaidOut → Kont → ℕ → ℕ
+kont_covers laid (KEnd ty) q = 0
+kont_covers laid (KSide y ty) q = 0
+kont_covers laid (KLast l y s) q = 0
+kont_covers laid (KHere l x s u c k) q = head_covers laid c c.dest q + kont_covers laid k q
+kont_covers laid (KRegion l x s u c k) q = head_covers laid c c.dest q + kont_covers laid k q
+kont_covers laid (KScalar l x ty u c k) q = head_covers laid c c.dest q + kont_covers laid k q
+kont_covers laid (KCall k) q = kont_covers laid k q
+kont_covers laid (KCallScalar x ty u c k) q = head_covers laid c c.dest q + kont_covers laid k q
+
+abbrev pub rest_covers : List OpenRegion → ℕ → ℕ
+rest_covers [] q = 0
+rest_covers (r ∷ rs) q = within r.cur (rest r.cur) q + rest_covers rs q
+
+abbrev pub tail_covers : List ℕ → ℕ → ℕ
+tail_covers [] q = 0
+tail_covers (t ∷ ts) q = within t (rest t) q + tail_covers ts q
+
+-- How many of the places are round an address.
+abbrev pub covers : LaidOut → Ctx → Kont → State → ℕ → ℕ
+covers laid c k m q = head_covers laid c c.dest q + (kont_covers laid k q + (rest_covers m.regions q + tail_covers m.tails q))
+
+-- Behind each cursor there is room for a redirect.
+abbrev pub HaveRoom : List OpenRegion → Type 0
+HaveRoom [] = Unit {0}
+HaveRoom (r ∷ rs) = (9 ≤ rest r.cur) × HaveRoom rs
+
+abbrev pub TailsHaveRoom : List ℕ → Type 0
+TailsHaveRoom [] = Unit {0}
+TailsHaveRoom (t ∷ ts) = (9 ≤ rest t) × TailsHaveRoom ts
+
+-- The addresses that are a task's own: 1 there, 0 elsewhere.
+abbrev pub Owned : Type 0
+Owned = ℕ → ℕ
+
+-- The places are the task's own, fresh, and apart.
+pub record Apart (own : Owned) (s : Store) (n : ℕ → ℕ) : Type 0 where
+  pub mine : (q : ℕ) → n q ≤ own q
+  pub once : (q : ℕ) → n q ≤ 1
+  pub fresh : (q : ℕ) → 0 < n q → s q ≡ fresh
+
+-- Addresses are those of fewer than 2 ^ 32 chunks.
+pub record IsSmall (s : Store) : Type 0 where
+  pub small : (q : ℕ) → 2 ^ 44 ≤ q → s q ≡ absent
+
+pub record IsNew (s : Store) (c : ℕ) : Type 0 where
+  pub new : (q : ℕ) → 4096 * c ≤ q → q < 4096 * c + 4096 → s q ≡ absent
+  pub small : c < 2 ^ 32
+
+-- There is room for what is next in a line, and w more; the room that it leaves behind.
+abbrev pub HasRoom : ℕ → Rest → ℕ → Type 0
+HasRoom w (Plain u) r = nest u + w ≤ r
+HasRoom w (Part s u) r = (side_nest s + w ≤ r) × HasRoom w u r
+HasRoom w (Meet p s u) r = (side_nest s + w ≤ r) × (nest u + w ≤ suc r)
+HasRoom w (Leave p u) r = nest u + w ≤ suc r
+HasRoom w (Last y ty) r = Unit {0}
+
+abbrev pub freed : Rest → ℕ → ℕ
+freed (Plain u) r = r
+freed (Part s u) r = freed u r
+freed (Meet p s u) r = suc r
+freed (Leave p u) r = suc r
+freed (Last y ty) r = r
+
+-- There is room for the regions of the lines that wait, with so many calls and so much room left.
+abbrev pub AllRoom : ℕ → ℕ → ℕ → Kont → Type 0
+AllRoom w n r (KEnd ty) = Unit {0}
+AllRoom w n r (KSide y ty) = Unit {0}
+AllRoom w n r (KLast l y s) = Unit {0}
+AllRoom w n r (KHere l x s u c k) = HasRoom (times n w) u r × AllRoom w n (freed u r) k
+AllRoom w n r (KRegion l x s u c k) = HasRoom (times n w) u (suc r) × AllRoom w n (freed u (suc r)) k
+AllRoom w n r (KScalar l x ty u c k) = HasRoom (times n w) u r × AllRoom w n (freed u r) k
+AllRoom w n r (KCall k) = AllRoom w (suc n) r k
+AllRoom w n r (KCallScalar x ty u c k) = HasRoom (times (suc n) w) u r × AllRoom w (suc n) (freed u r) k
+
+abbrev pub with_chunk : Owned → ℕ → Owned
+with_chunk own c q = own q + within (4096 * c) 4096 q

@@ -1,0 +1,65 @@
+-- Bodies with their code, and where the root starts.
+use Rattle.std.specs.Prelude.{◌≡◌, ℕ, ◌≤◌, List, [], ◌∷◌, length, Some, None}
+use Rattle.gib_types.specs.declared.table.Ty.{Ty}
+use Rattle.gib_types.specs.declared.table.Ty.TheVariants.{Whole, Truth, Tree}
+use Rattle.gib_types.specs.Table.{IsTable}
+use Rattle.gib_types.specs.Layout.{LaidOut}
+use Rattle.gib_types.specs.Tree.{Datum}
+use Rattle.gib_mem.specs.Memory.{Store}
+use Rattle.gib_core.specs.Tree.{FunctionTerm, CoreTree}
+use Rattle.gib_core.specs.Meaning.{function_at}
+use Rattle.gib_code.specs.Program.{CodeTree}
+use Rattle.gib_core.specs.Fits.{Fits, body_scope, dest_of}
+use Rattle.gib_core.specs.Low.{laid_of, Returns, function_number}
+use Rattle.gib_machine.specs.Machine.{State, Doing, Ready, widest, whole_room, start_at, slots_at, frame_words, Opening}
+use Rattle.gib_weave.specs.Environment.{IsScalar, StandsAt}
+use Rattle.gib_weave.specs.Continuing.{IsCode, nest}
+
+-- The code of a function's body stands, and the body fits.
+pub record IsBody (core : CoreTree) (code : CodeTree) (g : FunctionTerm) (i : ℕ) : Type 0 where
+  pub low : IsCode core code (body_scope (slots_at code.functions i) g.parameters) (start_at code.functions i) g.body Returns
+  pub fits : Fits core g.body (body_scope (slots_at code.functions i) g.parameters) (dest_of g.result)
+  pub enough : length g.parameters ≤ slots_at code.functions i
+  pub nests : nest g.body ≤ widest code.functions
+
+-- The code of each function is that of its body, which fits.
+pub record AreBodies (core : CoreTree) (code : CodeTree) : Type 0 where
+  pub laid : code.laid ≡ laid_of core
+  pub table : IsTable code.laid.table
+  pub bodies : (f : ℕ) (g : FunctionTerm) → function_at core.functions f ≡ Some g → IsBody core code g (function_number core.functions f)
+
+-- Main's code stands, and main fits.
+pub record IsMain (core : CoreTree) (code : CodeTree) : Type 0 where
+  pub low : IsCode core code (body_scope (slots_at code.functions (length core.functions)) (core.main.parameter ∷ [])) (start_at code.functions (length core.functions)) core.main.body Returns
+  pub fits : Fits core core.main.body (body_scope (slots_at code.functions (length core.functions)) (core.main.parameter ∷ [])) (dest_of core.main.result)
+  pub nests : nest core.main.body ≤ widest code.functions
+
+-- A word is the argument.
+abbrev pub IsArgument : LaidOut → Store → Ty → ℕ → Datum → Type 0
+IsArgument laid s Whole w v = IsScalar Whole w v
+IsArgument laid s Truth w v = IsScalar Truth w v
+IsArgument laid s (Tree t) w v = StandsAt laid s t.0 w v
+
+-- Where a packed result is due, the machine begins with its region.
+abbrev pub first_doing : Ty → Doing
+first_doing Whole = Ready
+first_doing Truth = Ready
+first_doing (Tree t) = Opening
+
+-- The machine of the root.
+abbrev pub root_start : CoreTree → CodeTree → (w depth level : ℕ) → List ℕ → State
+root_start core code w depth level tails = record {
+  ip = start_at code.functions (length core.functions);
+  words = frame_words (slots_at code.functions (length core.functions)) (w ∷ []);
+  frames = [];
+  depth = depth;
+  level = level;
+  pars = [];
+  side = None;
+  regions = [];
+  tails = tails;
+  room = whole_room code depth;
+  width = widest code.functions;
+  result = core.main.result;
+  doing = first_doing core.main.result;
+}
