@@ -1,5 +1,4 @@
 mod Held
-mod Places
 mod Inputs
 mod Told
 mod Making

@@ -1,5 +1,4 @@
 pub mod Sample
-pub mod Types
 pub mod Words
 pub mod Requests
 pub mod Running
