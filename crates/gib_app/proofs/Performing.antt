@@ -5,6 +5,7 @@ use Rattle.gib_edge.specs.Causes.{Rose, Appends, AppendsPart, PutsPieces, PutsSo
 use Rattle.gib_edge.specs.Views.{ShelfView, SinkView}
 use Rattle.gib_syntax.specs.Tree.{ProgramTree}
 use Rattle.gib_app.specs.declared.status.Status.{Status}
+use Rattle.gib_app.specs.declared.status.Status.TheVariants as status
 use Rattle.gib_app.specs.declared.stop.Stop.{Stop}
 use Rattle.gib_app.specs.declared.stop.Stop.TheVariants.{Usage, Source, Unread, Input, Depth, Memory, Unwritten, Unput}
 use Rattle.gib_app.specs.Words.{Request, Run, Plain, Check, Core, Pack, Show, Files, asked}
@@ -109,3 +110,26 @@ call_stop tells words before now out r e Unput h = absurd h
 
 pub out_of : (out : SinkView) (status : Status) → OutStays out out status
 out_of out status = record { quiet = λ other. refl; same = λ other unwritten. refl }
+
+-- What may change with a status, does not owe that it stays
+
+pub spared_reads : (before now : Counts) → ReadsStay before now status.ReadFault
+spared_reads before now = λ other. absurd (other refl)
+
+pub spared_writes : (before now : Counts) → WritesStay before now status.WriteFault
+spared_writes before now = λ other. absurd (other refl)
+
+pub spared_files : (before now : Files) (stop : Stop) → status_for stop ≡ status.WriteFault → StopFiles before now stop
+spared_files before now stop e = λ other. absurd (other e)
+
+pub done_files : (words : List (List ℕ)) (before now : Files) → ((name : List ℕ) → IsNoTarget words name → now name ≡ before name) → FilesStay words before now status.Done
+done_files words before now others = record { others = others; same = λ other. absurd (other refl) }
+
+pub unput_files : (words : List (List ℕ)) (r : Request) (before now : Files) → asked words ≡ Some r → OthersStay r before now → FilesStay words before now status.WriteFault
+unput_files words r before now e others = record { others = others_stay words r before now e others; same = λ done' other. absurd (other refl) }
+
+pub done_out : (before now : SinkView) → now.faults ≡ before.faults → OutStays before now status.Done
+done_out before now e = record { quiet = λ other. e; same = λ other. absurd (other refl) }
+
+pub unput_out : (before now : SinkView) → OutStays before now status.WriteFault
+unput_out before now = record { quiet = λ other. absurd (other refl); same = λ done' other. absurd (other refl) }
