@@ -86,7 +86,7 @@ prints tells words before now out_before out_now r output e h put pieces =
     (λ request. OnBoth before.kept request (λ p names second. (made : List ℕ) × Makes request p names second made × IsWritten tells now.kept request made × Appends out_before.taken out_now.taken (printed request made) × PutsPieces out_before out_now (length (printed request made)))) e
     (map_both before.kept r (λ p names second. (made : List ℕ) × Makes r p names second made × IsWritten tells now.kept r made × (output ≡ printed r made))
     (λ p names second. (made : List ℕ) × Makes r p names second made × IsWritten tells now.kept r made × Appends out_before.taken out_now.taken (printed r made) × PutsPieces out_before out_now (length (printed r made)))
-    (λ p names second k. (k.0, k.1, k.2, subst A k.3 (put, pieces))) h)
+    (λ p names second k. let both = subst A k.3 (put, pieces) in (k.0, k.1, k.2, both.0, both.1)) h)
 
 pub prints_part : (tells : Bool) (words : List (List ℕ)) (before now : ShelfView) (out_before out_now : SinkView) (r : Request) (output : List ℕ) → asked words ≡ Some r →
     IsPerformed tells before.kept now.kept r output → AppendsPart out_before.taken out_now.taken output → PutsSomePieces out_before out_now (length output) → PrintsPart tells words before now out_before out_now
@@ -96,7 +96,7 @@ prints_part tells words before now out_before out_now r output e h put pieces =
     (λ request. OnBoth before.kept request (λ p names second. (made : List ℕ) × Makes request p names second made × IsWritten tells now.kept request made × AppendsPart out_before.taken out_now.taken (printed request made) × PutsSomePieces out_before out_now (length (printed request made)))) e
     (map_both before.kept r (λ p names second. (made : List ℕ) × Makes r p names second made × IsWritten tells now.kept r made × (output ≡ printed r made))
     (λ p names second. (made : List ℕ) × Makes r p names second made × IsWritten tells now.kept r made × AppendsPart out_before.taken out_now.taken (printed r made) × PutsSomePieces out_before out_now (length (printed r made)))
-    (λ p names second k. (k.0, k.1, k.2, subst A k.3 (put, pieces))) h)
+    (λ p names second k. let both = subst A k.3 (put, pieces) in (k.0, k.1, k.2, both.0, both.1)) h)
 
 pub call_stop : (tells : Bool) (words : List (List ℕ)) (before now : ShelfView) (out : SinkView) (r : Request) → asked words ≡ Some r → (stop : Stop) → IsStop before now r stop → IsCallStop tells words before now out out stop
 call_stop tells words before now out r e Usage h = absurd h

@@ -11,14 +11,13 @@ use std::thread::Threads;
 const SOURCE: &[u8] = b"main (n : Int) : Int = n ;";
 
 /// A program on lists whose cells have more bytes in a packed file than as text.
-const LISTS: &[u8] =
-    b"data L = N | C Int Int Int Int Int Int Int L ; main (l : L) : Int = 0 ;";
+const LISTS: &[u8] = b"data L = N | C Int Int Int Int Int Int Int L ; main (l : L) : Int = 0 ;";
 
 /// Some bytes, and blanks up to a length.
 fn padded(alloc: Global, front: &[u8], len: usize) -> Result<Vec<u8>, AllocError> {
     let mut bytes = Vec::with_capacity(alloc, len)?;
     bytes.extend_from_slice(front)?;
-    while bytes.len() < len {
+    for _ in front.len()..len {
         bytes.push(b' ')?;
     }
     Ok(bytes)
@@ -82,7 +81,17 @@ fn a_source_is_taken_up_to_its_limits(rt: HostRuntime) -> Result<(), Fail> {
         ),
     ] {
         let source = padded(alloc, SOURCE, len)?;
-        assert!(rt; ends(&rt, alloc, "check", &source, Vec::new(alloc), (status, line))?, "{line}");
+        assert!(rt;
+            ends(
+                &rt,
+                alloc,
+                "check",
+                &source,
+                Vec::new(alloc),
+                (status, line)
+            )?,
+            "{line}"
+        );
     }
     for (count, line) in [
         (65_535, "gib: source: syntax at 0\n"),
@@ -90,7 +99,14 @@ fn a_source_is_taken_up_to_its_limits(rt: HostRuntime) -> Result<(), Fail> {
     ] {
         let source = many_names(alloc, count)?;
         assert!(rt;
-            ends(&rt, alloc, "check", &source, Vec::new(alloc), (Status::Source, line))?,
+            ends(
+                &rt,
+                alloc,
+                "check",
+                &source,
+                Vec::new(alloc),
+                (Status::Source, line)
+            )?,
             "{line}"
         );
     }
@@ -114,7 +130,10 @@ fn a_second_file_is_read_up_to_its_limit(rt: HostRuntime) -> Result<(), Fail> {
         let second = padded(alloc, front.as_bytes(), len)?;
         let said = format!(in alloc; "gib: input: {line}")?;
         let wanted = (Status::Input, said.as_str());
-        assert!(rt; ends(&rt, alloc, command, SOURCE, second, wanted)?, "{command}: {line}");
+        assert!(rt;
+            ends(&rt, alloc, command, SOURCE, second, wanted)?,
+            "{command}: {line}"
+        );
     }
     Ok(())
 }
@@ -131,7 +150,10 @@ fn a_file_is_packed_up_to_its_limit(rt: HostRuntime) -> Result<(), Fail> {
         ),
     ] {
         let text = cells(alloc, count)?;
-        assert!(rt; ends(&rt, alloc, "pack", LISTS, text, (status, line))?, "{line}");
+        assert!(rt;
+            ends(&rt, alloc, "pack", LISTS, text, (status, line))?,
+            "{line}"
+        );
     }
     Ok(())
 }
