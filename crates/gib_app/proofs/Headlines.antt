@@ -4,14 +4,12 @@ use Rattle.gib_types.specs.Tree.{Datum}
 use Rattle.gib_syntax.specs.Tree.{ProgramTree}
 use Rattle.gib_syntax.specs.Declarations.{table_of_program, input_type}
 use Rattle.gib_syntax.specs.Meaning.{Outcome, Gives, Stops, Deep, run}
-use Rattle.gib_edge.specs.Causes.{Rose}
 use Rattle.gib_edge.specs.Views.{ShelfView, SinkView}
 use Rattle.gib_app.specs.declared.status.Status.{Status}
 use Rattle.gib_app.specs.declared.status.Status.TheVariants as status
-use Rattle.gib_app.specs.Words.{Request, Run, Named, asked}
+use Rattle.gib_app.specs.Words.{Request, Run, asked, bytes_in}
 use Rattle.gib_app.specs.Running.{IsOutput, RunsOut, text_line}
 use Rattle.gib_app.specs.Commands.{OnProgram, target_of}
-use Rattle.gib_app.specs.Causes.{IsUnread}
 use Rattle.gib_app.specs.Ending.{IsEnding, DueOfFiles, TakesAll}
 use Rattle.gib_app.specs.Stops.{OnBoth}
 use Rattle.gib_app.specs.Headline.{IsRun, IsResult, IsTooDeep, NoneFailed}
@@ -23,10 +21,10 @@ asked_is o r P e h = let Q : Option Request → Type 0 = λ x. MatchOption x ⊥
 
 -- what holds of the files of a run holds of their bytes
 of_files : (words : List (List ℕ)) (before : ShelfView) (out : SinkView) (source input : List ℕ) (depth : ℕ) (front : List ℕ) (r : IsRun words before out source input depth front)
-    (P : ProgramTree → List (List ℕ) → List ℕ → Type 0) → OnBoth before.kept (Run (Named r.program) (Named r.packed) depth) P → OnProgram source (λ p names. P p names input)
+    (P : ProgramTree → List (List ℕ) → List ℕ → Type 0) → OnBoth before.kept (Run r.program r.packed depth) P → OnProgram source (λ p names. P p names input)
 of_files words before out source input depth front r P h =
-    let es = same_bytes (before.kept r.program) source h.source r.source_is h.source_held in
-    let ei = same_bytes (before.kept r.packed) input h.second r.input_is h.second_held in
+    let es = same_bytes (bytes_in before.kept r.program) source h.source r.source_is h.source_held in
+    let ei = same_bytes (bytes_in before.kept r.packed) input h.second r.input_is h.second_held in
     let S : List ℕ → Type 0 = λ s. OnProgram s (λ p names. P p names h.second) in
     let I : List ℕ → Type 0 = λ i. OnProgram source (λ p names. P p names i) in
     subst I ei (subst S es h.holds)
@@ -80,7 +78,7 @@ runs_out source input depth h = record {
 pub run_done : (tells : Bool) (words : List (List ℕ)) (before now : ShelfView) (out out_now : SinkView) (source input : List ℕ) (depth : ℕ) (front : List ℕ) →
     IsRun words before out source input depth front → IsEnding tells words before now out out_now status.Done → (output : List ℕ) × IsResult source input depth output × (out_now.taken ≡ Some (front ++ output))
 run_done tells words before now out out_now source input depth front r h =
-    let request = Run (Named r.program) (Named r.packed) depth in
+    let request = Run r.program r.packed depth in
     let P : Request → Type 0 = λ q. OnBoth before.kept q (Whole tells now out out_now q) in
     let on = of_files words before out source input depth front r (Whole tells now out out_now request) (asked_is (asked words) request P r.asks h) in
     let T : Option (List ℕ) → Type 0 = λ t. IfSome t (λ first. out_now.taken ≡ Some (first ++ on.holds.0)) in (
@@ -92,24 +90,20 @@ run_done tells words before now out out_now source input depth front r h =
 pub run_deep : (tells : Bool) (words : List (List ℕ)) (before now : ShelfView) (out out_now : SinkView) (source input : List ℕ) (depth : ℕ) (front : List ℕ) →
     IsRun words before out source input depth front → IsEnding tells words before now out out_now status.Depth → IsTooDeep source input depth
 run_deep tells words before now out out_now source input depth front r h =
-    let request = Run (Named r.program) (Named r.packed) depth in
+    let request = Run r.program r.packed depth in
     let P : Request → Type 0 = λ q. OnBoth before.kept q (Exhausted q) in
     deep_of source input depth (of_files words before out source input depth front r (Exhausted request) (asked_is (asked words) request P r.asks h))
 
-unread : (before now : ShelfView) (file name : List ℕ) → (Rose (before.reads file) (now.reads file) → ⊥) → IsUnread before now (Named file) name → ⊥
-unread before now file name quiet k =
-    let R : List ℕ → Type 0 = λ n. Rose (before.reads n) (now.reads n) in quiet (subst R (sym k.0) k.1)
-
 due_of : (words : List (List ℕ)) (before now : ShelfView) (out out_now : SinkView) (source input : List ℕ) (depth : ℕ) (front : List ℕ) (r : IsRun words before out source input depth front) →
     NoneFailed r.program r.packed before now out out_now → (P : ProgramTree → List (List ℕ) → List ℕ → Type 0) → OnProgram source (λ p names. P p names input) →
-    DueOfFiles before now (Run (Named r.program) (Named r.packed) depth) P
+    DueOfFiles before now (Run r.program r.packed depth) P
 due_of words before now out out_now source input depth front r quiet P on = record {
   source = source;
   second = input;
   source_told = r.source_is;
   second_told = r.input_is;
-  source_read = λ name k. unread before now r.program name quiet.program_read k;
-  second_read = λ name k. unread before now r.packed name quiet.packed_read k;
+  source_read = quiet.program_read;
+  second_read = quiet.packed_read;
   holds = on;
 }
 
@@ -117,7 +111,7 @@ pub run_ends_done : Laws → (tells : Bool) (words : List (List ℕ)) (before no
     (r : IsRun words before out source input depth front) → NoneFailed r.program r.packed before now out out_now → IsResult source input depth output →
     IsEnding tells words before now out out_now end' → (end' ≡ status.Done) ⊎ (end' ≡ status.Memory)
 run_ends_done laws tells words before now out out_now source input depth front output end' r quiet h ends =
-    let request = Run (Named r.program) (Named r.packed) depth in
+    let request = Run r.program r.packed depth in
     let on = output_of source input depth output h in
     let takes : TakesAll before now out out_now request = record { target = λ name e rose. cc; out = quiet.put } in
     let due = due_of words before now out out_now source input depth front r quiet (Made request)
@@ -128,7 +122,7 @@ pub run_ends_deep : Laws → (tells : Bool) (words : List (List ℕ)) (before no
     (r : IsRun words before out source input depth front) → NoneFailed r.program r.packed before now out out_now → IsTooDeep source input depth →
     IsEnding tells words before now out out_now end' → (end' ≡ status.Depth) ⊎ (end' ≡ status.Memory)
 run_ends_deep laws tells words before now out out_now source input depth front end' r quiet h ends =
-    let request = Run (Named r.program) (Named r.packed) depth in
+    let request = Run r.program r.packed depth in
     let due = due_of words before now out out_now source input depth front r quiet (Exhausted request) (runs_out source input depth h) in
     due_ends laws tells words before now out out_now end' ends status.Depth (asked_of (asked words) request (DueDepth before now) r.asks due)
 

@@ -11,16 +11,18 @@ use Rattle.gib_syntax.specs.Typing.{IsTypedProgram}
 use Rattle.gib_syntax.specs.Meaning.{Gives, Stops, Deep, run}
 use Rattle.gib_edge.specs.Causes.{Rose}
 use Rattle.gib_edge.specs.Views.{Has, ShelfView, SinkView}
-use Rattle.gib_app.specs.Words.{Run, Named, asked}
+use Rattle.gib_app.specs.Words.{Document, Run, asked, bytes_in}
+use Rattle.gib_app.specs.Causes.{IsUnread}
 
--- The words ask to run the program of one file on the packed value of another, within a depth of calls. These are
--- the bytes of both files, and those that `out` has taken so far.
+-- The words ask to run the program of one document on the packed value of another, within a depth of calls. These are
+-- the bytes of both, and those that `out` has taken so far. A document is a file by its name; where there are no words,
+-- both are built in.
 pub record IsRun (words : List (List ℕ)) (files : ShelfView) (out : SinkView) (source input : List ℕ) (depth : ℕ) (front : List ℕ) : Type 0 where
-  pub program : List ℕ
-  pub packed : List ℕ
-  pub asks : asked words ≡ Some (Run (Named program) (Named packed) depth)
-  pub source_is : files.kept program ≡ Has source
-  pub input_is : files.kept packed ≡ Has input
+  pub program : Document
+  pub packed : Document
+  pub asks : asked words ≡ Some (Run program packed depth)
+  pub source_is : bytes_in files.kept program ≡ Has source
+  pub input_is : bytes_in files.kept packed ≡ Has input
   pub front_is : out.taken ≡ Some front
 
 -- The source spells a typed program, and the input is the packed file of a value of the type of main's parameter.
@@ -45,8 +47,8 @@ pub record IsTooDeep (source input : List ℕ) (depth : ℕ) : Type 0 where
   pub given : Given source input
   pub means : run given.program depth given.value ≡ Stops Deep
 
--- No read of the two files failed in the call, and no put on `out`.
-pub record NoneFailed (program packed : List ℕ) (before now : ShelfView) (out_before out_now : SinkView) : Type 0 where
-  pub program_read : Rose (before.reads program) (now.reads program) → ⊥
-  pub packed_read : Rose (before.reads packed) (now.reads packed) → ⊥
+-- No read of the two documents failed in the call, and no put on `out`.
+pub record NoneFailed (program packed : Document) (before now : ShelfView) (out_before out_now : SinkView) : Type 0 where
+  pub program_read : (name : List ℕ) → IsUnread before now program name → ⊥
+  pub packed_read : (name : List ℕ) → IsUnread before now packed name → ⊥
   pub put : Rose out_before.faults out_now.faults → ⊥
