@@ -4,3 +4,5 @@ pub mod Lining
 pub mod Arms
 pub mod Programs
 pub mod Sample
+pub mod Reaches
+pub mod Numbered

@@ -15,6 +15,7 @@ ghost use Rattle.gib_access.specs.Bodies.{offsets_kept as kept};
 
 mod bodies;
 mod fields;
+pub mod law;
 mod offset_list;
 mod stamps;
 #[cfg(test)]
@@ -24,9 +25,10 @@ mod work;
 
 use bodies::{reach_functions, reach_main};
 use gib_base::Memory;
-use gib_core::law::{reaching_keeps_the_meaning, reaching_makes_built, variables_are_numbered};
+use gib_core::law::reaching_makes_built;
 use gib_core::{AccessMode, Core};
 use gib_types::ConId;
+use law::{reaching_keeps_numbers, reaching_keeps_the_meaning};
 use offset_list::OffsetList;
 use std::alloc::Global;
 use work::Work;
@@ -74,6 +76,6 @@ pub fn reach(alloc: Global, core: Core, mode: AccessMode) -> Result<Core, Memory
 {
     reaching_keeps_the_meaning();
     reaching_makes_built();
-    variables_are_numbered();
+    reaching_keeps_numbers();
     reached(alloc, core, mode)
 }

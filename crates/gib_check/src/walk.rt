@@ -13,8 +13,7 @@ use crate::declared::Declared;
 use crate::fault::TypeFault;
 use crate::parts::part;
 use crate::rules::{
-    Part, all_of, all_wanted, as_many, declared_type, first_type, one_more, type_of,
-    wanted,
+    Part, all_of, all_wanted, as_many, declared_type, first_type, one_more, type_of, wanted,
 };
 use crate::state::{State, bind, bind_all, literal, variable};
 use gib_base::Span;

@@ -1,5 +1,5 @@
 -- What is left of an ordered core means what the core means.
-use Rattle.std.proofs.Common.{◌≡◌, ℕ, ◌+◌, ◌<◌, ◌≤◌, Bool, true, false, ◌==◌, if◌then◌else◌, List, [], ◌∷◌, ◌++◌, map, Option, Some, None, refl, sym, ap, ◌∙◌, subst, arith, ⊎_elim}
+use Rattle.std.proofs.Common.{◌≡◌, ℕ, ◌+◌, ◌<◌, ◌≤◌, Bool, true, false, ◌==◌, if◌then◌else◌, List, [], ◌∷◌, ◌++◌, map, length, Option, Some, None, refl, sym, ap, ◌∙◌, subst, arith, ⊎_elim}
 use Rattle.std.specs.Prelude.{pos}
 use Rattle.std.proofs.str.Laws.{order}
 use Rattle.std.proofs.lemmas.Bool.{eqb-true}
@@ -11,21 +11,33 @@ use Rattle.gib_types.specs.Tree.{Datum, whole, truth, con, data_of}
 use Rattle.gib_syntax.specs.declared.tree.Ident.{Ident}
 use Rattle.gib_syntax.specs.Tree.{Expression, Arms, LastArm, NextArm}
 use Rattle.gib_syntax.specs.Declarations.{number_of, constructor_named}
-use Rattle.gib_syntax.specs.Typing.{Globals}
 use Rattle.gib_syntax.specs.Meaning.{Outcome, Gives, Stops, Environment, value_in, bind, with_value, with_values, with_fields, at_fields, made, choose, is_made_by, is_true, number_in, parts, operate, eval, eval_all, eval_arms}
 use Rattle.gib_core.specs.declared.atom.Variable.{Variable}
 use Rattle.gib_core.specs.declared.atom.Atom.{Atom}
 use Rattle.gib_core.specs.declared.atom.Atom.TheVariants as atomic
 use Rattle.gib_core.specs.declared.atom.Kind.{Kind}
 use Rattle.gib_core.specs.declared.atom.Kind.TheVariants.{Here, Region, Scalar}
-use Rattle.gib_core.specs.Tree.{Term, Then, Write, Point, CallTerm, Give, CaseTerm, IfTerm, Bind, Past, One, Both, Prim, Reach, On, Branches, NoBranch, BranchThen}
+use Rattle.gib_core.specs.Tree.{Term, Then, Write, Point, CallTerm, Give, CaseTerm, IfTerm, Bind, Past, One, Both, Prim, Reach, On, Branches, NoBranch, BranchThen, variables_from}
 use Rattle.gib_core.specs.Meaning as core
 use Rattle.gib_core.specs.Meaning.{Calls, value, merge, Reached, Went, Halted, from_there, having, mean, run, mean_side, mean_branches}
 use Rattle.gib_core.specs.Erasing.{ident, expression_of, arguments_of, Substitution, put_for, put_in, erase_atom, case_of, arm_before, left_out, let_or_put, erase, erase_bind, erase_branches}
 use Rattle.gib_core.proofs.Agreeing.{gather, with_all, All}
 use Rattle.gib_core.proofs.Envs.{value_in-past}
-use Rattle.gib_core.proofs.Fits.{IsFit, AllFit, fit_more}
-use Rattle.gib_core.proofs.Ordered.{next_of, FieldsOrdered, behind_fields, IsOrdered, BindOrdered, BranchesOrdered}
+use Rattle.gib_core.specs.Ordered.{IsFit, AreFit, next_of, FieldsOrdered, behind_fields, IsOrdered, BindOrdered, BranchesOrdered}
+
+pub fit_more : (n m : ℕ) (a : Atom) → n ≤ m → IsFit n a → IsFit m a
+fit_more n m (atomic.Variable x) le h = omega arith
+fit_more n m (atomic.Whole z) le h = h
+fit_more n m (atomic.Truth b) le h = tt
+
+-- Fields whose variables count from a number on.
+pub fields_ordered : {A : Type 0} (n : ℕ) (xs : List A) → FieldsOrdered n (variables_from n xs)
+fields_ordered n [] = tt
+fields_ordered n (x ∷ xs) = (omega arith, fields_ordered (n + 1) xs)
+
+pub fields_behind : {A : Type 0} (n : ℕ) (xs : List A) → behind_fields n (variables_from n xs) ≤ n + length xs
+fields_behind n [] = omega arith
+fields_behind n (x ∷ xs) = let h = fields_behind (n + 1) xs in omega arith
 
 -- A core's environment and that of what is left, where these are put for variables: from the number on nothing is there.
 pub record Relates (n : ℕ) (sub : Substitution) (env other : Environment) : Type 0 where
@@ -132,10 +144,7 @@ relates_fields {n} {sub} {env} {other} (x ∷ xs) [] h r =
     none (y ∷ ys) = refl
 relates_fields {n} {sub} {env} {other} (x ∷ xs) (v ∷ vs) h r = relates_fields {n = x.0 + 1} {sub = sub} {env = (x.0, v) ∷ env} {other = (x.0, v) ∷ other} xs vs h.1 (relates_bind x v h.0 r)
 
-module _ (g : Globals) (call : Calls) where
-  abbrev tb : Table
-  tb = g.table
-
+module _ (tb : Table) (call : Calls) where
   literal_eval : (a : Atom) (other : Environment) (n : ℕ) → IsFit n a → eval tb call (expression_of a) other ≡ Gives (value other a)
   literal_eval (atomic.Variable x) other n h = refl
   literal_eval (atomic.Whole z) other n h = ap (λ y. Gives (whole y)) (sym h)
@@ -153,11 +162,11 @@ module _ (g : Globals) (call : Calls) where
   gather_given [] = refl
   gather_given (v ∷ vs) = ap (Rattle.gib_core.proofs.Agreeing.also (Gives v)) (gather_given vs)
 
-  atoms_eval : {n : ℕ} {sub : Substitution} {env other : Environment} (xs : List Atom) → AllFit n xs → Relates n sub env other → eval_all tb call (arguments_of (map (erase_atom sub) xs)) other ≡ given (map (value env) xs)
+  atoms_eval : {n : ℕ} {sub : Substitution} {env other : Environment} (xs : List Atom) → AreFit n xs → Relates n sub env other → eval_all tb call (arguments_of (map (erase_atom sub) xs)) other ≡ given (map (value env) xs)
   atoms_eval [] h r = refl
   atoms_eval (a ∷ xs) h r = λ i. atom_eval a h.0 r i ∷ atoms_eval xs h.1 r i
 
-  merged_eval : {n : ℕ} {sub : Substitution} {env other : Environment} (types : List Ty) (ss ps : List Atom) → AllFit n ss → AllFit n ps → Relates n sub env other
+  merged_eval : {n : ℕ} {sub : Substitution} {env other : Environment} (types : List Ty) (ss ps : List Atom) → AreFit n ss → AreFit n ps → Relates n sub env other
       → eval_all tb call (arguments_of (merge types (map (erase_atom sub) ss) (map (erase_atom sub) ps))) other ≡ given (merge types (map (value env) ss) (map (value env) ps))
   merged_eval [] ss ps hs hp r = refl
   merged_eval (Whole ∷ types) [] ps hs hp r = merged_eval types [] ps hs hp r
@@ -231,7 +240,7 @@ module _ (g : Globals) (call : Calls) where
 
   -- a side that is bound, or left out
   one_erased : {n : ℕ} {sub : Substitution} {env other : Environment} (o : Option Atom) (kind : Kind) (x : Variable) (t : Term) (k : Substitution → Expression) (go : Environment → Outcome)
-      → left_out kind t ≡ o → n ≤ x.0 → IsOrdered g (x.0 + 1) t → Relates n sub env other
+      → left_out kind t ≡ o → n ≤ x.0 → IsOrdered tb (x.0 + 1) t → Relates n sub env other
       → eval tb call (erase tb sub t) other ≡ mean tb call t env
       → ((sub' : Substitution) (env' other' : Environment) → Relates (x.0 + 1) sub' env' other' → eval tb call (k sub') other' ≡ go env')
       → eval tb call (let_or_put o x (erase tb sub t) sub k) other ≡ from_there (having (mean tb call t env) (λ v. Went ((x.0, v) ∷ env))) go
@@ -240,7 +249,7 @@ module _ (g : Globals) (call : Calls) where
       ∙ one_side (mean tb call t env) x.0 env go (λ v. eval tb call (k sub) ((x.0, v) ∷ other)) (λ v. rest sub ((x.0, v) ∷ env) ((x.0, v) ∷ other) (relates_bind x v le r))
   one_erased {n} {sub} {env} {other} (Some a) kind x t k go is le h r same rest =
       let point = pointed kind t a is in
-      let fit : IsFit (x.0 + 1) a = subst (IsOrdered g (x.0 + 1)) point h in
+      let fit : IsFit (x.0 + 1) a = subst (IsOrdered tb (x.0 + 1)) point h in
       let means : mean tb call t env ≡ Gives (value env a) = ap (λ u. mean tb call u env) point in
       rest ((x.0, put_in sub a) ∷ sub) ((x.0, value env a) ∷ env) other (relates_put x a le fit r)
       ∙ sym (ap (λ p. from_there (having p (λ v. Went ((x.0, v) ∷ env))) go) means)
@@ -273,7 +282,7 @@ module _ (g : Globals) (call : Calls) where
   arm_eval k xs e (Some arms) v other = refl
 
   mutual
-    pub erases : {n : ℕ} {sub : Substitution} {env other : Environment} (t : Term) → IsOrdered g n t → Relates n sub env other → eval tb call (erase tb sub t) other ≡ mean tb call t env
+    pub erases : {n : ℕ} {sub : Substitution} {env other : Environment} (t : Term) → IsOrdered tb n t → Relates n sub env other → eval tb call (erase tb sub t) other ≡ mean tb call t env
     erases {n} {sub} {env} {other} (Then b rest) h r =
         erases_bind {n = n} {sub = sub} {env = env} {other = other} b h.0 r (λ s. erase tb s rest) (λ e. mean tb call rest e) (λ sub' env' other' r'. erases {n = h.1.0} {sub = sub'} {env = env'} {other = other'} rest h.1.2 (relates_more h.1.1 r'))
     erases {n} {sub} {env} {other} (Write h k ss ps) o r =
@@ -290,7 +299,7 @@ module _ (g : Globals) (call : Calls) where
     erases {n} {sub} {env} {other} (IfTerm x t u) h r =
         λ i. with_value (atom_eval x h.0 r i) (λ v. choose (is_true v) (erases {n = h.1.0} {sub = sub} {env = env} {other = other} t h.1.2 (relates_more h.1.1 r) i) (erases {n = h.2.0} {sub = sub} {env = env} {other = other} u h.2.2 (relates_more h.2.1 r) i))
 
-    erases_bind : {n : ℕ} {sub : Substitution} {env other : Environment} (b : Bind) → BindOrdered g n b → Relates n sub env other → (k : Substitution → Expression) (go : Environment → Outcome)
+    erases_bind : {n : ℕ} {sub : Substitution} {env other : Environment} (b : Bind) → BindOrdered tb n b → Relates n sub env other → (k : Substitution → Expression) (go : Environment → Outcome)
         → ((sub' : Substitution) (env' other' : Environment) → Relates (next_of n b) sub' env' other' → eval tb call (k sub') other' ≡ go env')
         → eval tb call (erase_bind tb sub b k) other ≡ from_there (run tb call b env) go
     erases_bind {n} {sub} {env} {other} (Past h c) o r k go rest = rest sub env other r
@@ -305,7 +314,7 @@ module _ (g : Globals) (call : Calls) where
         ∙ rest sub ((x.0, operate f (number_in (value env y)) (number_in (value env z))) ∷ env) ((x.0, operate f (number_in (value env y)) (number_in (value env z))) ∷ other) (relates_bind x (operate f (number_in (value env y)) (number_in (value env z))) o.0 r)
     erases_bind {n} {sub} {env} {other} (Reach y by) o r k go rest = rest sub env other r
 
-    erases_branches : {n : ℕ} {sub : Substitution} {env other : Environment} (bs : Branches) (v : Datum) → BranchesOrdered g n bs → Relates n sub env other
+    erases_branches : {n : ℕ} {sub : Substitution} {env other : Environment} (bs : Branches) (v : Datum) → BranchesOrdered tb n bs → Relates n sub env other
         → eval_option (erase_branches tb sub bs) v other ≡ mean_branches tb call bs v env
     erases_branches NoBranch v h r = refl
     erases_branches {n} {sub} {env} {other} (BranchThen k xs t rest) v h r =

@@ -28,7 +28,7 @@ pub binds_same : (f g : ℕ → Term) (id : ℕ) (bs : List Binding) → AllByRe
 binds_same f g id [] h e = refl
 binds_same f g id (x ∷ bs) h e = (λ k. bind_same f g id x h.0 e k ∷ binds_same f g id bs h.1 e k)
 
-layer_same_if : (f g : ℕ → Term) (id : ℕ) (o : Option Node) → ((node : Node) → o ≡ Some node → PartsBelow node id) → ((a : ℕ) → a < id → f a ≡ g a) → layer f o ≡ layer g o
+pub layer_same_if : (f g : ℕ → Term) (id : ℕ) (o : Option Node) → ((node : Node) → o ≡ Some node → PartsBelow node id) → ((a : ℕ) → a < id → f a ≡ g a) → layer f o ≡ layer g o
 layer_same_if f g id None below e = refl
 layer_same_if f g id (Some (n.Then x rest)) below e = let h = below (n.Then x rest) refl in (λ k. Then (bind_same f g id x h.0 e k) (e rest.0 h.1 k))
 layer_same_if f g id (Some (n.Write h k ss ps)) below e = refl
@@ -95,7 +95,9 @@ put_makes ns node arena below =
     let len = length-append ns (node ∷ []) in
     record {
       grows = record { longer = omega arith; same = λ id lt. front_term ns (node ∷ []) arena id lt };
-      inside = omega arith;
+      place = refl;
+      long = omega (arith, len);
+      inside = omega (arith, len);
       term = term_of-node new (length ns) node new_arena (slice_get_end ns node) ∙ layer_same (term_of new) (term_of ns) (length ns) node below (λ a lt. front_term ns (node ∷ []) arena a lt);
     }
 

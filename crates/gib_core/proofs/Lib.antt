@@ -3,33 +3,18 @@ mod Lining
 mod Spelling
 pub mod Unbroken
 pub mod Indented
-mod Agreeing
-mod Envs
-mod Together
-mod Places
-mod Same
-mod Cases
-mod Whole
-mod Fits
-mod Ordered
-mod Erases
-mod Left
-mod Reaches
-mod Ready
-mod Sides
-mod Makes
-mod Branching
-mod Choosing
-mod Reachability
-mod Along
-mod Cased
+pub mod Agreeing
+pub mod Envs
+pub mod Erases
+pub mod Left
+pub mod Along
+pub mod Cased
 mod Skipped
 mod Offered
 mod Kept
 mod Onward
 mod Suited
 mod Reached
-mod Numbered
 mod Sample
 mod Facts
 mod Later
@@ -42,3 +27,7 @@ mod Fitted
 mod Builds
 mod Bodies
 mod FunctionCode
+pub mod Adding
+pub mod LiteralTerms
+pub mod Marks
+mod Orders

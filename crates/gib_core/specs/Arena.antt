@@ -1,5 +1,5 @@
 -- Nodes that name each other by their numbers, seen as terms.
-use Rattle.std.specs.Prelude.{◌≡◌, ℕ, zero, suc, pos, ◌<◌, ◌≤◌, List, [], ◌∷◌, length, map, Option, Some, None, slice_get}
+use Rattle.std.specs.Prelude.{◌≡◌, ℕ, zero, suc, pos, ◌+◌, ◌<◌, ◌≤◌, List, [], ◌∷◌, length, map, Option, Some, None, slice_get}
 use Rattle.std.specs.List.{AllByRecursion}
 use Rattle.gib_core.specs.declared.atom.Atom.TheVariants as a
 use Rattle.gib_core.specs.declared.node.BoundTerm.{BoundTerm}
@@ -108,8 +108,10 @@ pub record Grows (old new : List Node) : Type 0 where
   pub longer : length old ≤ length new
   pub same : (id : ℕ) → id < length old → term_of new id ≡ term_of old id
 
--- A node was put at a number.
+-- A node was put behind all others, and has the next number.
 pub record Makes (old new : List Node) (id : ℕ) (node : Node) : Type 0 where
   pub grows : Grows old new
+  pub place : id ≡ length old
+  pub long : length new ≡ length old + 1
   pub inside : id < length new
   pub term : term_of new id ≡ layer (term_of old) (Some node)

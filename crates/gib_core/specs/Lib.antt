@@ -9,8 +9,13 @@ pub mod Met
 pub mod Rules
 pub mod Reachable
 pub mod Numbering
+pub mod Ordered
+pub mod Marking
 pub mod Literals
 pub mod Low
 pub mod Fits
 pub mod LoweredParts
+pub mod Cost
+pub mod Tight
 pub mod CoreText
+pub mod SampleCores

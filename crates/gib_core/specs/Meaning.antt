@@ -1,6 +1,5 @@
 -- What a core means: its own meaning, on ordinary trees.
 use Rattle.std.specs.Prelude.{ℕ, zero, suc, pos, ◌==◌, if◌then◌else◌, List, [], ◌∷◌, map, Option, Some, None}
-use Rattle.gib_types.specs.declared.table.Ty.TheVariants.{Whole, Truth, Tree}
 use Rattle.gib_types.specs.Table.{Table, fields_at}
 pub use Rattle.gib_types.specs.Table.{merge}
 use Rattle.gib_types.specs.Tree.{Datum, whole, truth, con, data_of}

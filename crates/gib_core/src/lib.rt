@@ -3,13 +3,17 @@
 
 pub mod atom;
 pub mod checked;
+mod cost_examples;
 pub mod examples;
 pub mod law;
+mod literals;
 mod lowered;
+mod marking;
 pub mod node;
 pub mod piece;
 pub mod print;
 pub mod program;
+mod rule_examples;
 pub mod scope;
 #[cfg(test)]
 mod tests;

@@ -1,5 +1,8 @@
 //! Terms as nodes in a vector, each behind its parts.
 
+ghost use Rattle.std.specs.Prelude.{◌≡◌};
+ghost use Rattle.gib_core.specs.Marking.{with_fork};
+
 use crate::atom::{Access, Atom, Kind, Variable};
 use gib_base::{Memory, Name};
 use gib_syntax::Operator;
@@ -87,6 +90,19 @@ pub enum Node {
     },
 }
 
+/// A par with this mark; another binding stays.
+fn with_fork(binding: Binding, fork: bool) -> Binding
+    ensures { result ≡ with_fork fork binding }
+{
+    match binding {
+        Binding::Past { .. } => binding,
+        Binding::One(_) => binding,
+        Binding::Par { left, right, .. } => Binding::Par { fork, left, right },
+        Binding::Prim { .. } => binding,
+        Binding::Reach { .. } => binding,
+    }
+}
+
 /// Terms, each behind its parts.
 #[derive(Drop)]
 pub struct Terms {
@@ -107,7 +123,8 @@ impl Model for Terms {
 
 impl Terms {
     ghost use Rattle.std.specs.Prelude.{◌≡◌, ◌<◌, [], length, IfOk, OnErr};
-    ghost use Rattle.gib_core.specs.Arena.{PartsBelow, Opens, IsLine, Makes};
+    ghost use Rattle.gib_core.specs.Arena.{IsArena, PartsBelow, Opens, IsLine, Makes};
+    ghost use Rattle.gib_core.specs.Marking.{IsSet};
 
     /// No terms.
     pub fn new(alloc: Global) -> Terms
@@ -130,7 +147,33 @@ impl Terms {
         requires { id.0 < length self.now }
         ensures { Opens self.now id.0 result.now }
     {
-        &self.nodes[id.0 as usize]
+        self.node_at(id.0 as usize)
+    }
+
+    /// The term at a place.
+    pub(crate) fn node_at(&self, place: usize) -> &Node
+        requires { place < length self.now }
+        ensures { Opens self.now place result.now }
+    {
+        &self.nodes[place]
+    }
+
+    /// The rule that terms keep.
+    pub(crate) fn rules(&self)
+        ensures { IsArena self.now }
+    {
+        let _nodes = &self.nodes;
+    }
+
+    /// Sets the mark of the par at a place; any other node stays.
+    pub(crate) fn set_fork(&mut self, number: usize, fork: bool)
+        requires { number < length self.old }
+        ensures { IsSet self.old self.new number fork }
+    {
+        let Node::Then(binding, rest) = &self.nodes[number] else {
+            return;
+        };
+        self.nodes[number] = Node::Then(with_fork(*binding, fork), *rest);
     }
 
     /// The bindings of the line that begins at a number, in their order, and the number of its end.

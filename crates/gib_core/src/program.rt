@@ -2,6 +2,7 @@
 
 ghost use Rattle.std.specs.Prelude.{◌≡◌};
 
+use crate::literals::all_literals;
 use crate::node::{TermId, Terms};
 use gib_base::Name;
 use gib_types::{ConId, Ty, TypeTable};
@@ -46,7 +47,8 @@ impl Model for Core {
 }
 
 impl Core {
-    ghost use Rattle.gib_core.specs.Parts.{Parts, AreInside};
+    ghost use Rattle.gib_core.specs.Parts.{Parts, AreInside, core_of};
+    ghost use Rattle.gib_core.specs.Literals.{AllLiteralsFit};
 
     /// A core of these parts.
     pub fn new(
@@ -104,6 +106,13 @@ impl Core {
         ensures { result.now ≡ self.now.offsets }
     {
         &self.offsets
+    }
+
+    /// The literals of a core are numbers of 64 bits. This looks at each term, and takes no memory.
+    pub fn literals_fit(&self)
+        ensures { AllLiteralsFit (core_of self.now) }
+    {
+        all_literals(self.terms());
     }
 
     /// The parts of a core.

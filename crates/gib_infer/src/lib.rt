@@ -6,6 +6,7 @@ ghost use Rattle.gib_types.specs.Tree.{Datum};
 ghost use Rattle.gib_syntax.specs.Parts.{program_of};
 ghost use Rattle.gib_syntax.specs.Meaning.{calls, run};
 ghost use Rattle.gib_core.specs.Parts.{core_of};
+ghost use Rattle.gib_core.specs.Meaning.{core_calls, core_run};
 ghost use Rattle.gib_core.specs.Erasing.{erase_core};
 ghost use Rattle.gib_core.specs.Inferring.{infer_program};
 ghost use Rattle.gib_core.specs.Numbering.{AreNumbered};
@@ -13,6 +14,7 @@ ghost use Rattle.gib_core.specs.Reachable.{AreReachable};
 
 mod bodies;
 mod fields;
+pub mod law;
 mod names;
 mod steps;
 mod walk;
@@ -21,8 +23,11 @@ mod work;
 use bodies::{make_functions, make_main};
 use gib_base::Memory;
 use gib_check::Typed;
-use gib_core::law::{erasing_keeps_the_meaning, infer_gives_reachable, variables_are_numbered};
 use gib_core::{Core, Terms};
+use law::{
+    infer_gives_reachable, infer_keeps_the_meaning, infer_leaves_the_meaning,
+    infer_numbers_variables,
+};
 use std::alloc::Global;
 use work::Work;
 
@@ -53,6 +58,10 @@ pub fn infer(alloc: Global, typed: &Typed) -> Result<Core, Memory>
     ensures reachable { IfOk result (λ core. AreReachable (core_of core)) }
     // Its variables are numbered in the order of the text.
     ensures numbered { IfOk result (λ core. AreNumbered (core_of core)) }
+    // It means what the program means: each call, with any depth left.
+    ensures meaning { IfOk result (λ core. (n : ℕ) → core_calls (core_of core) n ≡ calls (program_of typed.now) n) }
+    // So does main, on any value.
+    ensures main { IfOk result (λ core. (depth : ℕ) (v : Datum) → core_run (core_of core) depth v ≡ run (program_of typed.now) depth v) }
     // What is left of the core without its places means what the program means: each call, with any depth left.
     ensures calls { IfOk result (λ core. (n : ℕ) → calls (erase_core (program_of typed.now).datas (core_of core)) n ≡ calls (program_of typed.now) n) }
     // So does main, on any value.
@@ -60,8 +69,9 @@ pub fn infer(alloc: Global, typed: &Typed) -> Result<Core, Memory>
 {
     let _typed = typed.program();
     typed.types().rules();
-    erasing_keeps_the_meaning();
+    infer_keeps_the_meaning();
+    infer_leaves_the_meaning();
     infer_gives_reachable();
-    variables_are_numbered();
+    infer_numbers_variables();
     make_core(alloc, typed)
 }

@@ -2,11 +2,13 @@
 
 use gib_base::Memory;
 use std::alloc::AllocFailed;
+use thiserror::Error;
 
 /// Why a core was not checked to its end, or is not built.
-#[derive(Clone, Copy, Debug, PartialEq, Eq, Drop)]
+#[derive(Clone, Copy, Debug, PartialEq, Eq, Error)]
 pub enum LocFault {
     /// Want of memory, or more terms than a number counts.
+    #[error("out of memory")]
     Memory,
     /// The build rule that is broken first, and the number of its term in the order of the text, from 0
     /// through the program. The rules by their numbers:
@@ -21,6 +23,7 @@ pub enum LocFault {
     /// 8. A variable is bound once, and used in scope; a field of an arm is reached first, once, and only where its
     ///    beginning is known.
     /// 9. Values have the types that are due; a scalar call is the whole right side of a `scalar`.
+    #[error("build rule {0} is broken at term {1}")]
     Rule(u8, u64),
 }
 

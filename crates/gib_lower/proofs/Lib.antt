@@ -4,4 +4,3 @@ pub mod Lists
 pub mod Named
 pub mod Along
 pub mod Wholes
-pub mod LiteralTerms

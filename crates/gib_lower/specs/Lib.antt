@@ -4,4 +4,3 @@ pub mod Numbers
 pub mod Counting
 pub mod Ends
 pub mod Sources
-pub mod Literals

@@ -1,11 +1,11 @@
 -- A core with what lowering asks of it.
-use Rattle.std.specs.Prelude.{◌≡◌, ℕ, List, length}
+use Rattle.std.specs.Prelude.{◌≡◌, ℕ, List, Option, length}
 use Rattle.gib_types.specs.Layout.{LaidOut}
 use Rattle.gib_core.specs.Parts.{Parts, core_of}
 use Rattle.gib_core.specs.Low.{laid_of}
 use Rattle.gib_lower.specs.Numbers.{IsIndex}
 
-pub record IsSource (core : Parts) (layouts : LaidOut) (numbers : List ℕ) (count : ℕ) : Type 0 where
+pub record IsSource (core : Parts) (layouts : LaidOut) (numbers : List (Option ℕ)) (count : ℕ) : Type 0 where
   pub layouts_are : layouts ≡ laid_of (core_of core)
   pub index : IsIndex core.functions numbers
   pub all : count ≡ length core.functions

@@ -9,7 +9,6 @@ pub mod examples;
 mod fields;
 mod functions;
 pub mod law;
-mod literals;
 mod numbering;
 mod opening;
 mod program;

@@ -11,12 +11,11 @@ ghost use Rattle.gib_core.specs.Fits.{AllFit};
 ghost use Rattle.gib_lower.specs.Counting.{variables_of};
 ghost use Rattle.gib_lower.specs.Lowering.{label_in, entry_in, entry_of, numbered, lowered, lowered_functions, begun, lower_program};
 
-use crate::counts::{Counts, number_of, plus};
+use crate::counts::{Counts, count_of, plus};
 use crate::emitted::Emitted;
 use crate::ending::Ending;
 use crate::fields::Fields;
 use crate::law::lowering_gives_its_code;
-use crate::literals::literals_fit;
 use crate::numbering::{label_in, number_all};
 use crate::source::Source;
 use crate::walk::{Lowering, lower_term};
@@ -53,7 +52,7 @@ fn lower_function(
     ensures entry { IfOk result (λ entry. entry ≡ entry_of (Some function.now.name) function.now.result (length out.new.code) (length function.now.parameters.items) (term_of source.now.terms function.now.body.0)) }
 {
     let start = lower_body(source, function.body, out)?;
-    let parameters = number_of(&function.parameters)?;
+    let parameters = count_of(&function.parameters)?;
     let slots = plus(parameters, counts.of(function.body))?;
     Ok(Entry {
         name: Some(function.name),
@@ -157,15 +156,14 @@ fn lower_core(alloc: Global, source: &Source) -> Result<(Vec<Instr>, Vec<Entry>)
 }
 
 /// Each body of the core fits.
-fn all_fits(checked: &Checked) -> Result<(), Memory>
+fn all_fits(checked: &Checked)
     requires { AreNumbered (core_of checked.now) }
-    ensures { IfOk result (λ _. AllFit (core_of checked.now)) }
+    ensures { AllFit (core_of checked.now) }
 {
     built_fits();
     let core = checked.core();
     core.types().rules();
-    literals_fit(core)?;
-    Ok(())
+    core.literals_fit();
 }
 
 /// A core with its code.
@@ -179,7 +177,7 @@ pub fn lower(alloc: Global, checked: Checked) -> Result<Lowered, Memory>
     ensures code { IfOk result (λ lowered. lowered.code ≡ lower_program (core_of checked)) }
 {
     lowering_gives_its_code();
-    all_fits(&checked)?;
+    all_fits(&checked);
     let source = Source::make(alloc, checked.into_core())?;
     let (instructions, functions) = lower_core(alloc, &source)?;
     let (core, layouts) = source.into_parts();

@@ -1,7 +1,8 @@
 //! A core with what lowering asks of it.
 
-use crate::functions::{count_of, entry, list_numbers};
-use gib_base::{Memory, Name};
+use crate::counts::count_of;
+use crate::functions::{list_numbers, number_at};
+use gib_base::{ByNumber, Memory, Name};
 use gib_core::{Core, CoreFunction, CoreMain, Terms};
 use gib_types::Layouts;
 use std::alloc::Global;
@@ -12,7 +13,8 @@ use std::marker::Model;
 pub(crate) struct Source {
     core: Core,
     layouts: Layouts,
-    numbers: Vec<u32>,
+    numbers: ByNumber<u32>,
+    /// How many functions there are besides main: main's number.
     count: u32,
 }
 
@@ -24,7 +26,7 @@ impl Model for Source {
 
     ghost view = { λ s. s.core };
 
-    ghost invariant = { λ s. IsSource s.core s.layouts s.numbers.items s.count };
+    ghost invariant = { λ s. IsSource s.core s.layouts s.numbers s.count };
 }
 
 impl Source {
@@ -82,7 +84,7 @@ impl Source {
     pub(crate) fn number(&self, name: Name) -> u32
         ensures { result ≡ function_number (core_of self.now).functions name.0 }
     {
-        entry(&self.numbers, name.0, self.count)
+        number_at(&self.numbers, name, self.count)
     }
 
     /// The core, and how its heads lie in memory.

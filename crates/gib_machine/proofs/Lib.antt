@@ -1,0 +1,10 @@
+pub mod Tops
+pub mod Fronts
+pub mod Windows
+pub mod Puts
+pub mod Latest
+pub mod Unwinds
+pub mod Steps
+pub mod Starts
+pub mod Widths
+pub mod Samples

@@ -1,12 +1,15 @@
 -- What the machine's moves do to what it owes and to the work that is left.
-use Rattle.std.proofs.Common.{◌≡◌, ℕ, ◌+◌, ◌≤◌, cond, ◌⊎◌, inl, inr, Bool, true, false, List, [], ◌∷◌, ◌++◌, Some, length, drop, refl, sym, ap, ◌∙◌, arith, append_assoc, append-nil, length-append}
+use Rattle.std.proofs.Common.{◌≡◌, ℕ, ◌+◌, ◌≤◌, true, false, List, [], ◌∷◌, ◌++◌, Some, map, length, drop, refl, sym, ap, ◌∙◌, arith, append_assoc, append-nil, length-append}
 use Rattle.gib_types.specs.declared.table.Ty.{Ty}
-use Rattle.gib_types.specs.Table.{fields_at}
+use Rattle.gib_types.specs.declared.table.Ty.TheVariants.{Whole, Truth, Tree}
+use Rattle.gib_types.specs.Table.{fields_at, at_fields}
 use Rattle.gib_types.specs.Tree.{Datum, con, data_of}
 use Rattle.gib_syntax.specs.Tree.{Expression, Arguments, Var, Num, Bit, Paren, Op, Call, Make, Let, Par, If, Case, NoArgument, Argument}
-use Rattle.gib_syntax.specs.Declarations.{number_of, constructor_named}
-use Rattle.gib_syntax.specs.Meaning.{Outcome, Reason, Gives, Stops, Deep, Environment, with_value, with_values, with_fields, at_fields, is_scalar, eval_all, made}
-use Rattle.gib_plain.specs.Running.{Waiting, Code, Around, at, gives, means_in, all_mean, expressions_of, first_parts, left_parts, finish, finished, complete, after, with_done, resume, if_values, cost, cost_all, costs, finish_cost, finished_cost, complete_cost, after_cost, stack_cost, made_of}
+use Rattle.gib_syntax.specs.Declarations.{number_of, constructor_named, table_of_program}
+use Rattle.gib_syntax.specs.Meaning.{Outcome, Gives, Stops, Deep, Environment, with_value, with_values, with_fields, eval_all, made}
+use Rattle.gib_plain.specs.Running.{Waiting, Code, Around, at, gives, means_in, all_mean, expressions_of, first_parts, left_parts, finish, finished, complete, after, with_done, resume, if_values, cost, cost_all, costs, finish_cost, finished_cost, complete_cost, after_cost, stack_cost, fields_made, made_of}
+use Rattle.gib_plain.specs.Turns.{in_turn, in_place}
+use Rattle.gib_plain.proofs.InTurn.{map_turn, fields_in_turn}
 
 pub resume-snoc : (c : Code) (fs : List Waiting) (f : Waiting) (o : Outcome) → resume c (fs ++ f ∷ []) o ≡ resume c fs (after c f o)
 resume-snoc c [] f o = refl
@@ -47,30 +50,30 @@ if_values-none [] = refl
 if_values-none (Stops why ∷ os) = refl
 if_values-none (Gives v ∷ os) = if_values-none os
 
-done_parts : (c : Code) (f : Waiting) (v : Datum) → drop (length f.finished + 1) (first_parts (c.tree f.id)) ≡ left_parts c (with_done f v)
-done_parts c f v = ap (λ n. drop n (first_parts (c.tree f.id))) (sym (length-append f.finished (v ∷ [])))
+done_parts : (c : Code) (f : Waiting) (v : Datum) → drop (length f.finished + 1) (first_parts (table_of_program c.program) (c.tree f.id)) ≡ left_parts c (with_done f v)
+done_parts c f v = ap (λ n. drop n (first_parts (table_of_program c.program) (c.tree f.id))) (sym (length-append f.finished (v ∷ [])))
 
-next_then : (c : Code) (f : Waiting) (rest : List Expression) (o : Outcome) → drop (length f.finished + 1) (first_parts (c.tree f.id)) ≡ rest → with_values (o ∷ all_mean (at c f.left) rest f.env) (λ vs. finished c f (f.finished ++ vs)) ≡ after c f o
+next_then : (c : Code) (f : Waiting) (rest : List Expression) (o : Outcome) → drop (length f.finished + 1) (first_parts (table_of_program c.program) (c.tree f.id)) ≡ rest → with_values (o ∷ all_mean (at c f.left) rest f.env) (λ vs. finished c f (f.finished ++ vs)) ≡ after c f o
 next_then c f rest (Stops why) e = refl
 next_then c f rest (Gives v) e =
     with_values-same (all_mean (at c f.left) rest f.env) (λ vs. finished c f (f.finished ++ (v ∷ vs))) (λ vs. finished c f ((f.finished ++ v ∷ []) ++ vs)) (λ vs. ap (finished c f) (sym (append_assoc f.finished (v ∷ []) vs)))
     ∙ ap (λ es. with_values (all_mean (at c f.left) es f.env) (λ vs. finished c f ((f.finished ++ v ∷ []) ++ vs))) (sym e ∙ done_parts c f v)
 
-next_cost : (c : Code) (f : Waiting) (rest : List Expression) (o : Outcome) → drop (length f.finished + 1) (first_parts (c.tree f.id)) ≡ rest → after_cost c f o ≤ 1 + costs (at c f.left) rest f.env + if_values (o ∷ all_mean (at c f.left) rest f.env) (λ vs. finished_cost c f (f.finished ++ vs))
+next_cost : (c : Code) (f : Waiting) (rest : List Expression) (o : Outcome) → drop (length f.finished + 1) (first_parts (table_of_program c.program) (c.tree f.id)) ≡ rest → after_cost c f o ≤ 1 + costs (at c f.left) rest f.env + if_values (o ∷ all_mean (at c f.left) rest f.env) (λ vs. finished_cost c f (f.finished ++ vs))
 next_cost c f rest (Stops why) e = omega arith
 next_cost c f rest (Gives v) e =
     let same = if_values-same (all_mean (at c f.left) rest f.env) (λ vs. finished_cost c f (f.finished ++ (v ∷ vs))) (λ vs. finished_cost c f ((f.finished ++ v ∷ []) ++ vs)) (λ vs. ap (finished_cost c f) (sym (append_assoc f.finished (v ∷ []) vs))) in
     let all = ap (λ es. costs (at c f.left) es f.env + if_values (all_mean (at c f.left) es f.env) (λ vs. finished_cost c f ((f.finished ++ v ∷ []) ++ vs))) (sym e ∙ done_parts c f v) in
     omega (arith, same, all)
 
-pub complete-next : (c : Code) (f : Waiting) (e : Expression) → left_parts c f ≡ e ∷ drop (length f.finished + 1) (first_parts (c.tree f.id)) → complete c f ≡ after c f (gives c f.left e f.env)
+pub complete-next : (c : Code) (f : Waiting) (e : Expression) → left_parts c f ≡ e ∷ drop (length f.finished + 1) (first_parts (table_of_program c.program) (c.tree f.id)) → complete c f ≡ after c f (gives c f.left e f.env)
 complete-next c f e is =
     ap (λ es. with_values (all_mean (at c f.left) es f.env) (λ vs. finished c f (f.finished ++ vs))) is
-    ∙ next_then c f (drop (length f.finished + 1) (first_parts (c.tree f.id))) (gives c f.left e f.env) refl
+    ∙ next_then c f (drop (length f.finished + 1) (first_parts (table_of_program c.program) (c.tree f.id))) (gives c f.left e f.env) refl
 
-pub complete_cost-next : (c : Code) (f : Waiting) (e : Expression) → left_parts c f ≡ e ∷ drop (length f.finished + 1) (first_parts (c.tree f.id)) → after_cost c f (gives c f.left e f.env) + cost (at c f.left) e f.env ≤ complete_cost c f
+pub complete_cost-next : (c : Code) (f : Waiting) (e : Expression) → left_parts c f ≡ e ∷ drop (length f.finished + 1) (first_parts (table_of_program c.program) (c.tree f.id)) → after_cost c f (gives c f.left e f.env) + cost (at c f.left) e f.env ≤ complete_cost c f
 complete_cost-next c f e is =
-    let rest = drop (length f.finished + 1) (first_parts (c.tree f.id)) in
+    let rest = drop (length f.finished + 1) (first_parts (table_of_program c.program) (c.tree f.id)) in
     let whole : complete_cost c f ≡ costs (at c f.left) (e ∷ rest) f.env + if_values (gives c f.left e f.env ∷ all_mean (at c f.left) rest f.env) (λ vs. finished_cost c f (f.finished ++ vs)) =
     ap (λ es. costs (at c f.left) es f.env + if_values (all_mean (at c f.left) es f.env) (λ vs. finished_cost c f (f.finished ++ vs))) is in
     let b = next_cost c f rest (gives c f.left e f.env) refl in
@@ -102,63 +105,30 @@ args_cost : (a : Around) (xs : Arguments) (env : Environment) → cost_all a xs 
 args_cost a NoArgument env = refl
 args_cost a (Argument e xs) env = ap (λ n. 1 + cost a e env + n) (args_cost a xs env)
 
--- One of these has no value.
-abbrev HasStop : List Outcome → Type 0
-HasStop [] = ⊥
-HasStop (Stops why ∷ os) = Unit {0}
-HasStop (Gives v ∷ os) = HasStop os
+-- The meanings of arguments in turn are those of the arguments, in turn.
+mean_map : (a : Around) (es : List Expression) (env : Environment) → all_mean a es env ≡ map (λ e. means_in a e env) es
+mean_map a [] env = refl
+mean_map a (e ∷ es) env = ap (λ os. means_in a e env ∷ os) (mean_map a es env)
 
-is_deep : (why : Reason) → why ≡ Deep
-is_deep Deep = refl
+turn_mean : (a : Around) (ts : List Ty) (es : List Expression) (env : Environment) → all_mean a (in_turn ts es) env ≡ in_turn ts (all_mean a es env)
+turn_mean a ts es env = mean_map a (in_turn ts es) env ∙ map_turn (λ e. means_in a e env) ts es ∙ ap (in_turn ts) (sym (mean_map a es env))
 
-stop_stops : (os : List Outcome) (go : List Datum → Outcome) → HasStop os → with_values os go ≡ Stops Deep
-stop_stops [] go h = absurd h
-stop_stops (Stops why ∷ os) go h = ap Stops (is_deep why)
-stop_stops (Gives v ∷ os) go h = stop_stops os (λ vs. go (v ∷ vs)) h
+-- Arguments in turn take as many steps as in declared order.
+costs_append : (a : Around) (ds es : List Expression) (env : Environment) → costs a (ds ++ es) env ≡ costs a ds env + costs a es env
+costs_append a [] es env = omega arith
+costs_append a (d ∷ ds) es env = omega (arith, costs_append a ds es env)
 
-stop_or : (os : List Outcome) (o : Outcome) → HasStop os ⊎ (with_values os (λ vs. o) ≡ o)
-stop_or [] o = inr refl
-stop_or (Stops why ∷ os) o = inl tt
-stop_or (Gives v ∷ os) o = stop_or os o
+kinds_cost : (a : Around) (ts : List Ty) (es : List Expression) (env : Environment) → costs a (at_fields true ts es) env + (costs a (at_fields false ts es) env + costs a (drop (length ts) es) env) ≡ costs a es env
+kinds_cost a [] es env = omega arith
+kinds_cost a (t ∷ ts) [] env = refl
+kinds_cost a (Whole ∷ ts) (e ∷ es) env = omega (arith, kinds_cost a ts es env)
+kinds_cost a (Truth ∷ ts) (e ∷ es) env = omega (arith, kinds_cost a ts es env)
+kinds_cost a (Tree t ∷ ts) (e ∷ es) env = omega (arith, kinds_cost a ts es env)
 
-stop_append : (xs ys : List Outcome) → HasStop (xs ++ ys) → HasStop xs ⊎ HasStop ys
-stop_append [] ys h = inr h
-stop_append (Stops why ∷ xs) ys h = inl tt
-stop_append (Gives v ∷ xs) ys h = stop_append xs ys h
-
-stop_later : (o : Outcome) (os : List Outcome) → HasStop os → HasStop (o ∷ os)
-stop_later (Stops why) os h = tt
-stop_later (Gives v) os h = h
-
-stop_either : (o : Outcome) (xs os : List Outcome) → (HasStop xs → HasStop os) → HasStop (o ∷ xs) → HasStop (o ∷ os)
-stop_either (Stops why) xs os k h = tt
-stop_either (Gives v) xs os k h = k h
-
-stop_true : (s : Bool) (o : Outcome) (xs os : List Outcome) → (HasStop xs → HasStop os) → HasStop (cond s (o ∷ xs) xs) → HasStop (o ∷ os)
-stop_true true o xs os go h = stop_either o xs os go h
-stop_true false o xs os go h = stop_later o os (go h)
-
-stop_false : (s : Bool) (o : Outcome) (xs os : List Outcome) → (HasStop xs → HasStop os) → HasStop (cond s xs (o ∷ xs)) → HasStop (o ∷ os)
-stop_false true o xs os go h = stop_later o os (go h)
-stop_false false o xs os go h = stop_either o xs os go h
-
-stop_fields : (b : Bool) (ts : List Ty) (os : List Outcome) → HasStop (at_fields b ts os) → HasStop os
-stop_fields b [] os h = absurd h
-stop_fields b (t ∷ ts) [] h = absurd h
-stop_fields true (t ∷ ts) (o ∷ os) h = stop_true (is_scalar t) o (at_fields true ts os) os (stop_fields true ts os) h
-stop_fields false (t ∷ ts) (o ∷ os) h = stop_false (is_scalar t) o (at_fields false ts os) os (stop_fields false ts os) h
-
--- While there is one reason, the order in which parts are evaluated doesn't show.
-pub fields-any_order : (ts : List Ty) (os : List Outcome) (go : List Datum → Outcome) → with_fields ts os go ≡ with_values os go
-fields-any_order ts os go =
-    elim (stop_or (at_fields true ts os ++ at_fields false ts os) (with_values os go)) [
-      | inl h ↦ stop_stops (at_fields true ts os ++ at_fields false ts os) (λ vs. with_values os go) h ∙ sym (stop_stops os go (either (stop_append (at_fields true ts os) (at_fields false ts os) h)))
-      | inr e ↦ e
-    ]
-  where
-    either : HasStop (at_fields true ts os) ⊎ HasStop (at_fields false ts os) → HasStop os
-    either (inl h) = stop_fields true ts os h
-    either (inr h) = stop_fields false ts os h
+turn_cost : (a : Around) (ts : List Ty) (es : List Expression) (env : Environment) → costs a (in_turn ts es) env ≡ costs a es env
+turn_cost a ts es env =
+    let rest = drop (length ts) es in
+    omega (arith, costs_append a (at_fields true ts es) (at_fields false ts es ++ rest) env, costs_append a (at_fields false ts es) rest env, kinds_cost a ts es env)
 
 -- Expressions that the machine begins by their parts.
 abbrev pub IsBegun : Around → Expression → Type 0
@@ -183,7 +153,7 @@ two (Stops why) q go h e = refl
 two (Gives v) (Stops why) go h e = refl
 two (Gives v) (Gives w) go h e = e v w
 
-pub begin-mean : (a : Around) (e : Expression) (env : Environment) → IsBegun a e → means_in a e env ≡ with_values (all_mean a (first_parts e) env) (λ vs. finish a e env vs)
+pub begin-mean : (a : Around) (e : Expression) (env : Environment) → IsBegun a e → means_in a e env ≡ with_values (all_mean a (first_parts a.table e) env) (λ vs. finish a e env vs)
 begin-mean a (Var x) env h = absurd h
 begin-mean a (Num p n) env h = absurd h
 begin-mean a (Bit p b) env h = absurd h
@@ -191,23 +161,28 @@ begin-mean a (Paren p e) env h = absurd h
 begin-mean a (Op p f l r) env h = two (means_in a l env) (means_in a r env) _ (λ vs. finish a (Op p f l r) env vs) (λ v w. refl)
 begin-mean a (Call f xs) env h = ap (λ os. with_values os (a.call (number_of f))) (args_mean a xs env)
 begin-mean a (Make k xs) env h =
+    let ts = fields_at a.table h.0 in
+    let os = all_mean a (expressions_of xs) env in
     ap (λ o. made a.table o (eval_all a.table a.call xs env)) h.1
-    ∙ fields-any_order (fields_at a.table h.0) (eval_all a.table a.call xs env) (λ vs. Gives (con h.0 (data_of vs)))
-    ∙ ap (λ os. with_values os (λ vs. Gives (con h.0 (data_of vs)))) (args_mean a xs env)
-    ∙ ap (λ o. with_values (all_mean a (expressions_of xs) env) (λ vs. made_of o vs)) (sym h.1)
+    ∙ ap (λ os. with_fields ts os (λ vs. Gives (con h.0 (data_of vs)))) (args_mean a xs env)
+    ∙ fields_in_turn ts os (λ vs. Gives (con h.0 (data_of vs)))
+    ∙ ap (λ os. with_values os (λ vs. Gives (con h.0 (data_of (in_place ts vs))))) (sym (turn_mean a ts (expressions_of xs) env))
+    ∙ ap (λ o. with_values (all_mean a (in_turn (fields_made a.table o) (expressions_of xs)) env) (λ vs. made_of a.table o vs)) (sym h.1)
 begin-mean a (Let p x l b) env h = one (means_in a l env) _ (λ vs. finish a (Let p x l b) env vs) (λ v. refl)
 begin-mean a (Par p x l y r b) env h = two (means_in a l env) (means_in a r env) _ (λ vs. finish a (Par p x l y r b) env vs) (λ v w. refl)
 begin-mean a (If p c t e) env h = one (means_in a c env) _ (λ vs. finish a (If p c t e) env vs) (λ v. refl)
 begin-mean a (Case p x arms) env h = absurd h
 
-pub begin-cost : (a : Around) (e : Expression) (env : Environment) → IsBegun a e → costs a (first_parts e) env + if_values (all_mean a (first_parts e) env) (λ vs. finish_cost a e env vs) + 1 ≤ cost a e env
+pub begin-cost : (a : Around) (e : Expression) (env : Environment) → IsBegun a e → costs a (first_parts a.table e) env + if_values (all_mean a (first_parts a.table e) env) (λ vs. finish_cost a e env vs) + 1 ≤ cost a e env
 begin-cost a (Var x) env h = absurd h
 begin-cost a (Num p n) env h = absurd h
 begin-cost a (Bit p b) env h = absurd h
 begin-cost a (Paren p e) env h = absurd h
 begin-cost a (Op p f l r) env h = omega (arith, if_values-none (means_in a l env ∷ means_in a r env ∷ []))
 begin-cost a (Call f xs) env h = omega (arith, args_cost a xs env, ap (λ os. if_values os (a.steps (number_of f))) (args_mean a xs env))
-begin-cost a (Make k xs) env h = omega (arith, args_cost a xs env, if_values-none (all_mean a (expressions_of xs) env))
+begin-cost a (Make k xs) env h =
+    let ts = fields_made a.table (constructor_named a.table (number_of k)) in
+    omega (arith, args_cost a xs env, turn_cost a ts (expressions_of xs) env, if_values-none (all_mean a (in_turn ts (expressions_of xs)) env))
 begin-cost a (Let p x l b) env h = omega arith
 begin-cost a (Par p x l y r b) env h = omega arith
 begin-cost a (If p c t e) env h = omega arith

@@ -31,7 +31,7 @@ came_ended c s frames fs n env k is =
     subst (λ t. Comes c t (resume c fs (Stops Deep)) k) (sym is) (record { same = resume-deep c frames ∙ sym (resume-deep c fs); within = omega (arith, stack_cost-deep c frames) })
 
 -- the next part of a frame
-pub came_next : (c : Code) (s : State) (fs : List Waiting) (f : Waiting) (n : ℕ) (env : Environment) (i : ℕ) → s ≡ record { frames = fs ++ f ∷ []; left = n; env = env; doing = Entering i } → n ≡ f.left → env ≡ f.env → left_parts c f ≡ c.tree i ∷ drop (length f.finished + 1) (first_parts (c.tree f.id)) → Comes c s (resume c fs (complete c f)) (stack_cost c fs (complete c f) + complete_cost c f)
+pub came_next : (c : Code) (s : State) (fs : List Waiting) (f : Waiting) (n : ℕ) (env : Environment) (i : ℕ) → s ≡ record { frames = fs ++ f ∷ []; left = n; env = env; doing = Entering i } → n ≡ f.left → env ≡ f.env → left_parts c f ≡ c.tree i ∷ drop (length f.finished + 1) (first_parts (table_of_program c.program) (c.tree f.id)) → Comes c s (resume c fs (complete c f)) (stack_cost c fs (complete c f) + complete_cost c f)
 came_next c s fs f n env i is el ee ei =
     let e : Expression = c.tree i in
     let o : gives c n e env ≡ gives c f.left e f.env = ap (λ m. gives c m e env) el ∙ ap (gives c f.left e) ee in

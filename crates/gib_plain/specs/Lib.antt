@@ -1,3 +1,4 @@
+pub mod Turns
 pub mod Running
 pub mod Stacks
 pub mod Machines

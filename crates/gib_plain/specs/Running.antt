@@ -1,6 +1,7 @@
 -- The machine's state, what it still owes, and the work that is left.
 use Rattle.std.specs.Prelude.{◌≡◌, ℕ, zero, suc, ◌+◌, ◌<◌, ◌≤◌, if◌then◌else◌, Bool, true, false, pos, List, [], ◌∷◌, ◌++◌, Option, Some, None, get_or, drop, length}
-use Rattle.gib_types.specs.Table.{Table}
+use Rattle.gib_types.specs.declared.table.Ty.{Ty}
+use Rattle.gib_types.specs.Table.{Table, fields_at}
 use Rattle.gib_types.specs.Tree.{Datum, whole, truth, con, data_of}
 use Rattle.gib_syntax.specs.declared.exprs.Arm.{Arm}
 use Rattle.gib_syntax.specs.Tree.{Expression, Arguments, Arms, Var, Num, Bit, Paren, Op, Call, Make, Let, Par, If, Case, NoArgument, Argument, LastArm, NextArm, FunctionTree, ProgramTree}
@@ -8,6 +9,7 @@ use Rattle.gib_syntax.specs.Arena.{tree_of}
 use Rattle.gib_syntax.specs.Parts.{Parts, program_of}
 use Rattle.gib_syntax.specs.Declarations.{number_of, constructor_named, function_named, table_of_program}
 pub use Rattle.gib_check.specs.ArmPlaces.{is_number}
+use Rattle.gib_plain.specs.Turns.{in_turn, in_place}
 use Rattle.gib_syntax.specs.Meaning.{Outcome, Gives, Stops, Deep, Environment, value_in, bind, with_values, number_in, is_true, is_made_by, parts, operate, choose, eval, eval_all, names_of, calls}
 
 -- An expression whose parts are being evaluated: the calls left, the variables in scope, the values of the
@@ -36,28 +38,33 @@ abbrev pub expressions_of : Arguments → List Expression
 expressions_of NoArgument = []
 expressions_of (Argument a xs) = a ∷ expressions_of xs
 
--- The parts of an expression that are evaluated before all else, in their order.
-abbrev pub first_parts : Expression → List Expression
-first_parts (Var x) = []
-first_parts (Num p n) = []
-first_parts (Bit p b) = []
-first_parts (Paren p e) = []
-first_parts (Op p f a b) = a ∷ b ∷ []
-first_parts (Call f xs) = expressions_of xs
-first_parts (Make k xs) = expressions_of xs
-first_parts (Let p x a b) = a ∷ []
-first_parts (Par p x a y b c) = a ∷ b ∷ []
-first_parts (If p a b c) = a ∷ []
-first_parts (Case p x arms) = []
+-- The field types of a constructor, where there is one.
+abbrev pub fields_made : Table → Option ℕ → List Ty
+fields_made table None = []
+fields_made table (Some c) = fields_at table c
+
+-- The parts of an expression that are evaluated before all else, in the order in which they are evaluated.
+abbrev pub first_parts : Table → Expression → List Expression
+first_parts table (Var x) = []
+first_parts table (Num p n) = []
+first_parts table (Bit p b) = []
+first_parts table (Paren p e) = []
+first_parts table (Op p f a b) = a ∷ b ∷ []
+first_parts table (Call f xs) = expressions_of xs
+first_parts table (Make k xs) = in_turn (fields_made table (constructor_named table (number_of k))) (expressions_of xs)
+first_parts table (Let p x a b) = a ∷ []
+first_parts table (Par p x a y b c) = a ∷ b ∷ []
+first_parts table (If p a b c) = a ∷ []
+first_parts table (Case p x arms) = []
 
 -- The value at a place, 0 where there is none.
 abbrev pub value_at : List Datum → ℕ → Datum
 value_at vs i = get_or vs i (whole (pos 0))
 
--- What a constructor gives for its fields, where there is one.
-abbrev pub made_of : Option ℕ → List Datum → Outcome
-made_of None vs = Gives (whole (pos 0))
-made_of (Some c) vs = Gives (con c (data_of vs))
+-- What a constructor gives for the values of its arguments in the order of evaluation, where there is one.
+abbrev pub made_of : Table → Option ℕ → List Datum → Outcome
+made_of table None vs = Gives (whole (pos 0))
+made_of table (Some c) vs = Gives (con c (data_of (in_place (fields_at table c) vs)))
 
 -- What a body may mention: the table, and with so much depth left the meaning of calls, and how many steps
 -- they take.
@@ -83,7 +90,7 @@ finish a (Bit p b) env vs = Gives (whole (pos 0))
 finish a (Paren p e) env vs = Gives (whole (pos 0))
 finish a (Op p f l r) env vs = Gives (operate f (number_in (value_at vs 0)) (number_in (value_at vs 1)))
 finish a (Call f xs) env vs = a.call (number_of f) vs
-finish a (Make k xs) env vs = made_of (constructor_named a.table (number_of k)) vs
+finish a (Make k xs) env vs = made_of a.table (constructor_named a.table (number_of k)) vs
 finish a (Let p x l b) env vs = means_in a b (bind (x ∷ []) vs env)
 finish a (Par p x l y r b) env vs = means_in a b (bind (x ∷ y ∷ []) vs env)
 finish a (If p c t e) env vs = choose (is_true (value_at vs 0)) (means_in a t env) (means_in a e env)
@@ -183,7 +190,7 @@ gives c n e env = means_in (at c n) e env
 
 -- The parts of a frame that are not done.
 abbrev pub left_parts : Code → Waiting → List Expression
-left_parts c f = drop (length f.finished) (first_parts (c.tree f.id))
+left_parts c f = drop (length f.finished) (first_parts (table_of_program c.program) (c.tree f.id))
 
 -- What a frame gives where all its parts have these values.
 abbrev pub finished : Code → Waiting → List Datum → Outcome

@@ -6,6 +6,7 @@ mod machine;
 mod operators;
 mod outcome;
 mod stack;
+mod turns;
 
 pub use machine::plain;
 pub use outcome::Outcome;

@@ -6,13 +6,15 @@ ghost use Rattle.gib_syntax.specs.declared.tree.Ident.{Ident};
 ghost use Rattle.gib_syntax.specs.Tree.{Expression, Case};
 ghost use Rattle.gib_syntax.specs.Arena.{layer, tree_of, arguments_from, case_from};
 ghost use Rattle.gib_syntax.specs.Parts.{program_of, function_tree};
-ghost use Rattle.gib_syntax.specs.Declarations.{table_of_program, function_named};
-ghost use Rattle.gib_plain.specs.Running.{first_parts, expressions_of, arm_of};
+ghost use Rattle.gib_syntax.specs.Declarations.{table_of_program, constructor_named, function_named};
+ghost use Rattle.gib_plain.specs.Running.{first_parts, expressions_of, fields_made, arm_of};
+ghost use Rattle.gib_plain.specs.Turns.{in_turn};
 
+use crate::turns::argument_at;
 use gib_base::Name;
 use gib_check::Typed;
 use gib_syntax::{Arm, ExprId, FunctionDecl, Node};
-use gib_types::ConId;
+use gib_types::{ConId, Ty};
 
 /// The function of a name.
 pub fn function(typed: &Typed, name: Name) -> Option<&FunctionDecl>
@@ -76,11 +78,30 @@ fn part_of_all(parts: &[ExprId], at: usize) -> Option<ExprId>
     }
 }
 
-/// The part at a place among those of an expression that are evaluated first.
-pub fn part(node: &Node, at: usize) -> Option<ExprId>
+/// The types of a constructor's fields; of a name that is no constructor's, none.
+fn field_types(typed: &Typed, name: Name) -> &[Ty]
+    ensures { result.now ≡ fields_made (table_of_program (program_of typed.now)) (constructor_named (table_of_program (program_of typed.now)) name.0) }
+{
+    match typed.constructor(name) {
+        Some(con) => typed.types().fields(con),
+        None => &[],
+    }
+}
+
+/// The part at a place among a constructor's arguments, in the order in which they are evaluated.
+fn part_in_turn(types: &[Ty], parts: &[ExprId], at: usize) -> Option<ExprId>
     ensures { (f : ℕ → Expression) → MatchOption result
-        (drop at (first_parts (layer f (Some node.now))) ≡ [])
-        (λ i. drop at (first_parts (layer f (Some node.now))) ≡ f i.0 ∷ drop (at + 1) (first_parts (layer f (Some node.now)))) }
+        (drop at (in_turn types.now (expressions_of (arguments_from f parts.now))) ≡ [])
+        (λ i. drop at (in_turn types.now (expressions_of (arguments_from f parts.now))) ≡ f i.0 ∷ drop (at + 1) (in_turn types.now (expressions_of (arguments_from f parts.now)))) }
+{
+    argument_at(types, parts, at)
+}
+
+/// The part at a place among those of an expression that are evaluated first.
+fn part(typed: &Typed, node: &Node, at: usize) -> Option<ExprId>
+    ensures { (f : ℕ → Expression) → MatchOption result
+        (drop at (first_parts (table_of_program (program_of typed.now)) (layer f (Some node.now))) ≡ [])
+        (λ i. drop at (first_parts (table_of_program (program_of typed.now)) (layer f (Some node.now))) ≡ f i.0 ∷ drop (at + 1) (first_parts (table_of_program (program_of typed.now)) (layer f (Some node.now)))) }
 {
     match node {
         Node::Variable(_) => None,
@@ -89,7 +110,7 @@ pub fn part(node: &Node, at: usize) -> Option<ExprId>
         Node::Paren(_, _) => None,
         Node::Operation { left, right, .. } => part_of_two(*left, *right, at),
         Node::Call(_, parts) => part_of_all(parts, at),
-        Node::Make(_, parts) => part_of_all(parts, at),
+        Node::Make(name, parts) => part_in_turn(field_types(typed, name.name), parts, at),
         Node::Let { bound, .. } => part_of_one(*bound, at),
         Node::LetPar { left, right, .. } => part_of_two(*left, *right, at),
         Node::If { condition, .. } => part_of_one(*condition, at),
@@ -100,12 +121,12 @@ pub fn part(node: &Node, at: usize) -> Option<ExprId>
 /// The part at a place among those of the expression of a number that are evaluated first.
 pub fn next_part(typed: &Typed, id: ExprId, at: usize) -> Option<ExprId>
     ensures { MatchOption result
-        (drop at (first_parts (tree_of typed.now.exprs id.0)) ≡ [])
-        (λ i. drop at (first_parts (tree_of typed.now.exprs id.0)) ≡ tree_of typed.now.exprs i.0 ∷ drop (at + 1) (first_parts (tree_of typed.now.exprs id.0))) }
+        (drop at (first_parts (table_of_program (program_of typed.now)) (tree_of typed.now.exprs id.0)) ≡ [])
+        (λ i. drop at (first_parts (table_of_program (program_of typed.now)) (tree_of typed.now.exprs id.0)) ≡ tree_of typed.now.exprs i.0 ∷ drop (at + 1) (first_parts (table_of_program (program_of typed.now)) (tree_of typed.now.exprs id.0))) }
 {
     let exprs = typed.program().exprs();
     if id.0 as usize >= exprs.len() {
         return None;
     }
-    part(exprs.node(id), at)
+    part(typed, exprs.node(id), at)
 }

@@ -15,15 +15,17 @@ ghost use Rattle.gib_syntax.specs.Arena.{case_from, ArmsBelow};
 ghost use Rattle.std.specs.List.{AllByRecursion};
 ghost use Rattle.gib_value.specs.Heap.{IsWithin};
 ghost use Rattle.gib_plain.specs.Told.{told};
+ghost use Rattle.gib_plain.specs.Turns.{in_place};
 
 use crate::lookup::{arm, function, next_part};
 use crate::operators::{operated, truth_of};
 use crate::outcome::Outcome;
 use crate::stack::{Binding, between, newest, node_at, push_bindings, push_parameters};
+use crate::turns::put_in_place;
 use gib_base::{Memory, Name};
 use gib_check::Typed;
 use gib_syntax::{Arm, ExprId, Ident, Node as Syntax, Operator, Parameter};
-use gib_types::ConId;
+use gib_types::{ConId, Ty};
 use gib_value::{Heap, Node, Value};
 use std::alloc::{AllocError, Global};
 use std::marker::Model;
@@ -48,12 +50,13 @@ pub enum Now {
     TooDeep,
 }
 
-/// The machine.
+/// The machine. In `placed` a constructor's fields are put in declared order, each time anew.
 #[derive(Drop)]
 pub struct Machine {
     heap: Heap,
     vars: Vec<Binding>,
     temps: Vec<Node>,
+    placed: Vec<Node>,
     frames: Vec<Frame>,
     base: usize,
     left: u32,
@@ -246,20 +249,24 @@ impl Machine {
         Ok(())
     }
 
-    // Makes a constructor of the parts of the newest frame.
-    fn build(&mut self, con: ConId) -> Result<(), Memory>
+    // Makes a constructor of the parts of the newest frame, where its fields have these types.
+    fn build(&mut self, con: ConId, types: &[Ty]) -> Result<(), Memory>
         ensures { OnOk result ((fs : List Waiting) (f : Waiting) → self.old.frames ≡ fs ++ f ∷ [] →
-            self.new ≡ record self.old { frames = fs; doing = Leaving (con_of con.0 (data_of f.finished)) }) }
+            self.new ≡ record self.old { frames = fs; doing = Leaving (con_of con.0 (data_of (in_place types.now f.finished))) }) }
     {
         let Some(frame) = self.frames.pop() else {
             return Ok(());
         };
-        let fields = between(&self.temps, frame.start, frame.temps_len);
+        put_in_place(
+            &mut self.placed,
+            types,
+            between(&self.temps, frame.start, frame.temps_len),
+        )?;
         // A node counts its fields by 32 bits; so many are more than memory holds.
-        if fields.len() > u32::MAX as usize {
+        if self.placed.len() > u32::MAX as usize {
             return Err(AllocError);
         }
-        let value = self.heap.make(con, fields)?;
+        let value = self.heap.make(con, &self.placed)?;
         self.temps.truncate(frame.start);
         self.next = Now::Leave(value);
         Ok(())
@@ -325,7 +332,7 @@ impl Machine {
             ComesTo (code_of typed.now) self.new fs (finished (code_of typed.now) f f.finished) (finished_cost (code_of typed.now) f f.finished)) }
     {
         match typed.constructor(name) {
-            Some(con) => self.build(con),
+            Some(con) => self.build(con, typed.types().fields(con)),
             None => {
                 self.give_up();
                 Ok(())
@@ -532,6 +539,7 @@ impl Machine {
             heap,
             vars,
             temps: Vec::new(alloc),
+            placed: Vec::new(alloc),
             frames: Vec::new(alloc),
             base: 0,
             left: depth,

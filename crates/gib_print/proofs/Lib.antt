@@ -1,5 +1,7 @@
 pub mod FieldLemmas
 pub mod TextLemmas
-pub mod WorkLemmas
+pub mod StepLemmas
+pub mod WaitingLemmas
 pub mod RootLemmas
 pub mod Examples
+pub mod CountLemmas

@@ -1,9 +1,8 @@
 -- What is printed when a head is met.
-use Rattle.std.proofs.Common.{◌≡◌, ◌≢◌, ℕ, ◌+◌, ◌-◌, ◌<◌, List, [], ◌∷◌, ◌++◌, length, reverse, refl, sym, ap, subst, ◌∙◌, arith, append_assoc, Some}
-use Rattle.std.proofs.lemmas.List.{reverse-append}
+use Rattle.std.proofs.Common.{◌≡◌, ◌≢◌, ℕ, ◌+◌, ◌-◌, ◌<◌, List, [], ◌∷◌, ◌++◌, length, refl, sym, ap, subst, ◌∙◌, arith, Some, inl, inr}
 use Rattle.gib_types.specs.declared.table.Ty.{Ty}
 use Rattle.gib_types.specs.Table.{con_at, fields_at}
-use Rattle.gib_types.specs.Layout.{LaidOut, layout_at, is_among, scalar_size}
+use Rattle.gib_types.specs.Layout.{LaidOut, layout_at, is_among, scalar_size, head_size}
 use Rattle.gib_types.specs.Tree.{Datum, con, Data}
 use Rattle.gib_mem.specs.Memory.{Store, Holds, byte}
 use Rattle.gib_mem.specs.Memory as mem
@@ -11,11 +10,14 @@ use Rattle.gib_value.specs.Text.{con_text, spell, spell_fields}
 use Rattle.gib_packed.specs.Scalars.{number, bit, scalars}
 use Rattle.gib_packed.specs.Head.{head_bytes, offset_bytes}
 use Rattle.gib_packed.specs.Decoding.{Dec, redirect, indirect, head, Decs, done, whole_field, truth_field, tree_field}
-use Rattle.gib_packed.specs.Reaching.{Leads, here, on}
+use Rattle.gib_packed.specs.Reaching.{Leads, here, on, Turns, there, turn}
 use Rattle.gib_packed.proofs.HoldsLemmas.{Holds-first, Holds-rest, same_byte}
 use Rattle.gib_packed.proofs.HeadLemmas.{Dec-no_scalar, offsets-length}
+use Rattle.gib_packed.proofs.FollowLemmas.{Dec-hop, Dec-redirect}
 use Rattle.gib_packed.proofs.Typed.{Leads-same}
-use Rattle.gib_print.specs.Working.{fields_from, front, with_fields, Left, close, go_on, a_whole, a_truth, a_tree, Prints, Found}
+use Rattle.gib_print.specs.Piece.{opening}
+use Rattle.gib_print.specs.Working.{fields_from, with_fields, Left, close, go_on, a_whole, a_truth, a_tree}
+use Rattle.gib_print.specs.Stepping.{Meets, Opens}
 use Rattle.gib_print.specs.declared.work.Work.{Work}
 use Rattle.gib_print.specs.declared.work.Work.TheVariants as w
 
@@ -47,7 +49,7 @@ fields_left laid names {s = s} p ws rest (tree_field {vs = vs} d ds) h l =
 record Opened (laid : LaidOut) (names : List (List ℕ)) (s : Store) (k : ℕ) (ts : List Ty) (vs : Data) (a : ℕ) (ws : List Work) (rest : List ℕ) : Type 0 where
   later : List ℕ
   left : Left laid names s (with_fields ts a ws) a later
-  whole : front ts (con_text laid.table names k) ++ later ≡ spell laid.table names (con k vs) rest
+  whole : (opening ts ++ con_text laid.table names k) ++ later ≡ spell laid.table names (con k vs) rest
 
 opened : (laid : LaidOut) (names : List (List ℕ)) {s : Store} (k : ℕ) {a z : ℕ} {ts : List Ty} {vs : Data} {places : List ℕ} (ws : List Work) (rest : List ℕ) → Decs laid s a ts vs places z → Holds s (a - scalar_size ts) (scalars vs) → Left laid names s ws z rest
     → Opened laid names s k ts vs a ws rest
@@ -65,16 +67,16 @@ scalars_at laid {a = a} {vs = vs} {places = places} k h ds =
     (halves (a + 1) _ (offset_bytes (is_among laid.with_offsets k) places) (scalars vs) start (Holds-rest h)).second
 
 -- the head of a value opens its text
-head_opens : (laid : LaidOut) (names : List (List ℕ)) {s : Store} {a t z : ℕ} {v : Datum} (k : ℕ) (ws : List Work) (rest : List ℕ) → Dec laid s a t v z → s a ≡ byte k → k < 254 → Left laid names s ws z rest
+pub head_opens : (laid : LaidOut) (names : List (List ℕ)) {s : Store} {a t z : ℕ} {v : Datum} (k : ℕ) (ws : List Work) (rest : List ℕ) → Dec laid s a t v z → s a ≡ byte k → k < 254 → Left laid names s ws z rest
     → (later : List ℕ) × Left laid names s (with_fields (fields_at laid.table k) (a + (layout_at laid.table laid.with_offsets k).head) ws) (a + (layout_at laid.table laid.with_offsets k).head) later
-    × (front (fields_at laid.table k) (con_text laid.table names k) ++ later ≡ spell laid.table names v rest)
+    × ((opening (fields_at laid.table k) ++ con_text laid.table names k) ++ later ≡ spell laid.table names v rest)
 head_opens laid names {s = s} {a = a} k ws rest (redirect p d) e lt l = let same = same_byte s a _ _ e (Holds-first p.bytes) in absurd (omega arith)
 head_opens laid names {s = s} {a = a} k ws rest (indirect p d f) e lt l = let same = same_byte s a _ _ e (Holds-first p.bytes) in absurd (omega arith)
 head_opens laid names {s = s} {a = a} k ws rest (head {k = j} {vs = vs} b i h ds) e lt l =
     let same : j ≡ k = same_byte s a j k (Holds-first h) e in
     let r = opened laid names j ws rest ds (scalars_at laid j h ds) l in
     subst (λ (x : ℕ). (later : List ℕ) × Left laid names s (with_fields (fields_at laid.table x) (a + (layout_at laid.table laid.with_offsets x).head) ws) (a + (layout_at laid.table laid.with_offsets x).head) later
-    × (front (fields_at laid.table x) (con_text laid.table names x) ++ later ≡ spell laid.table names (con j vs) rest)) same (r.later, r.left, r.whole)
+    × ((opening (fields_at laid.table x) ++ con_text laid.table names x) ++ later ≡ spell laid.table names (con j vs) rest)) same (r.later, r.left, r.whole)
 
 -- where a head stands its constructor is in the table
 pub head_within : {laid : LaidOut} {s : Store} {a t z : ℕ} {v : Datum} (k : ℕ) → Dec laid s a t v z → s a ≡ byte k → k < 254 → (ty : ℕ) × con_at laid.table ty k ≡ Some k
@@ -84,53 +86,58 @@ head_within {laid = laid} {s = s} {a = a} {t = t} k (head {k = j} b i h ds) e lt
 
 -- ---- from a place to a head
 
-record Tagged (s : Store) (a : ℕ) : Type 0 where
-  tag : ℕ
-  is : s a ≡ byte tag
-  small : tag < 254
+pub Turns-dec : {laid : LaidOut} {s : Store} {a b t z : ℕ} {v : Datum} → Turns s a b → Dec laid s a t v z → Dec laid s b t v z
+Turns-dec there d = d
+Turns-dec (turn p r) d = Turns-dec r (Dec-redirect d p)
 
-Leads-tag : {s : Store} {a h : ℕ} → Leads s a h → Tagged s h
-Leads-tag (here e lt) = record { tag = _; is = e; small = lt }
-Leads-tag (on p le l) = Leads-tag l
+Leads-dec : {laid : LaidOut} {s : Store} {a h t z : ℕ} {v : Datum} → Leads s a h → Dec laid s a t v z → (y : ℕ) × Dec laid s h t v y
+Leads-dec {z = z} (here e lt) d = (z, d)
+Leads-dec (on {tag = tag} p le l) d = let r = Dec-hop tag d p le in Leads-dec l r.1
 
--- a head stands at the place itself
-pub found_here : (laid : LaidOut) (s : Store) (t : ℕ) (v : Datum) (z place h : ℕ) (work : List Work) → Dec laid s place t v z → Leads s place h → h ≡ place → Found laid s t v z work work h
-found_here laid s t v z place h work d l same =
-    let k = Leads-tag l in
-    record { tag = k.tag; is = k.is; small = k.small; end = z; value = subst (λ (x : ℕ). Dec laid s x t v z) (sym same) d; left = λ names rest left. left }
+-- a head of the value stands here, and the new work goes on where the value ends
+pub record Found (laid : LaidOut) (s : Store) (t : ℕ) (v : Datum) (z : ℕ) (old new : List Work) (h : ℕ) : Type 0 where
+  pub end : ℕ
+  pub value : Dec laid s h t v end
+  pub left : (names : List (List ℕ)) (rest : List ℕ) → Left laid names s old z rest → Left laid names s new end rest
 
--- an indirection stands at the place
-pub found_there : (laid : LaidOut) (s : Store) (t : ℕ) (v : Datum) (z y at place h : ℕ) (work new : List Work) → (s place ≡ byte 255 → ⊥) → Dec laid s place t v z → Leads s place h → h ≢ place → Dec laid s h t v y → new ≡ w.From (place + 9) ∷ work → Found laid s t v z work new h
-found_there laid s t v z y at place h work new r d l apart e pushed =
-    let k = Leads-tag l in
-    record {
-      tag = k.tag;
-      is = k.is;
-      small = k.small;
-      end = y;
-      value = e;
-      left = λ names rest left. subst (λ (ws : List Work). Left laid names s ws y rest) (sym pushed) (go_on (subst (λ (x : ℕ). Left laid names s work x rest) (ends d) left));
-    }
+pub meets_found : {laid : LaidOut} {s : Store} {at t z h : ℕ} {v : Datum} {old new : List Work} → Meets s at old h new → Dec laid s at t v z → Found laid s t v z old new h
+meets_found {laid = laid} {s = s} {at = at} {t = t} {z = z} {h = h} {v = v} {old = old} {new = new} m d =
+    let stands = Turns-dec m.turns d in
+    elim m.left [
+      | inl same ↦ record {
+        end = z;
+        value = subst (λ (x : ℕ). Dec laid s x t v z) (sym same.0) stands;
+        left = λ names rest l. subst (λ (ws : List Work). Left laid names s ws z rest) (sym same.1) l;
+      }
+      | inr other ↦
+          (let r = Leads-dec m.leads stands in
+          record {
+            end = r.0;
+            value = r.1;
+            left = λ names rest l. subst (λ (ws : List Work). Left laid names s ws r.0 rest) (sym other.1) (go_on (subst (λ (x : ℕ). Left laid names s old x rest) (ends other.0 stands) l));
+          })
+    ]
   where
-    ends : {u : Datum} {x : ℕ} → Dec laid s place t u x → x ≡ place + 9
-    ends (redirect p b) = absurd (r (Holds-first p.bytes))
-    ends (indirect p b f) = f
-    ends (head {k = k} lt i m ds) = absurd (apart (Leads-same l (here (Holds-first m) lt)))
+    ends : {u : Datum} {x : ℕ} → (h ≢ m.place) → Dec laid s m.place t u x → x ≡ m.place + 9
+    ends apart (redirect p b) = absurd (m.past (Holds-first p.bytes))
+    ends apart (indirect p b f) = f
+    ends apart (head {k = k} lt i o ds) = absurd (apart (Leads-same m.leads (here (Holds-first o) lt)))
 
--- the front of a head's text is printed, and its fields are on the stack
-pub opens : (laid : LaidOut) (names : List (List ℕ)) (s : Store) (h k t z : ℕ) (v : Datum) (rest out new_out : List ℕ) (work mid new : List Work) (end : ℕ) → Found laid s t v z work mid h → s h ≡ byte k → Left laid names s work z rest
-    → end ≡ h + (layout_at laid.table laid.with_offsets k).head
-    → new_out ≡ out ++ front (fields_at laid.table k) (con_text laid.table names k) → new ≡ with_fields (fields_at laid.table k) end mid
-    → Prints laid names s new_out new end (out ++ spell laid.table names v rest)
-opens laid names s h k t z v rest out new_out work mid new end f e l ends text_is work_is =
-    let same : f.tag ≡ k = same_byte s h f.tag k f.is e in
-    let r = head_opens laid names k mid rest f.value e (omega (arith, f.small, same)) (f.left names rest l) in
-    let stack : with_fields (fields_at laid.table k) (h + (layout_at laid.table laid.with_offsets k).head) mid ≡ new = ap (λ (x : ℕ). with_fields (fields_at laid.table k) x mid) (sym ends) ∙ sym work_is in
+-- ---- a value that is opened
+
+-- the piece was printed, and what is left is printed behind it
+pub record Onward (laid : LaidOut) (names : List (List ℕ)) (s : Store) (new : List Work) (b : ℕ) (piece rest : List ℕ) : Type 0 where
+  pub later : List ℕ
+  pub left : Left laid names s new b later
+  pub whole : piece ++ later ≡ rest
+
+pub opens_left : {laid : LaidOut} {s : Store} {at t z k b : ℕ} {v : Datum} {old new : List Work} {rest : List ℕ} (names : List (List ℕ)) → Opens laid s at old k b new → Dec laid s at t v z → Left laid names s old z rest
+    → Onward laid names s new b (opening (fields_at laid.table k) ++ con_text laid.table names k) (spell laid.table names v rest)
+opens_left {laid = laid} {s = s} {k = k} {b = b} {new = new} {rest = rest} names o d l =
+    let f = meets_found o.meets d in
+    let r = head_opens laid names k o.mid rest f.value o.tag o.small (f.left names rest l) in
     record {
-      rest = r.0;
-      left = subst (λ (x : ℕ). Left laid names s new x r.0) (sym ends) (subst (λ (ws : List Work). Left laid names s ws (h + (layout_at laid.table laid.with_offsets k).head) r.0) stack r.1);
-      whole = ap (λ (x : List ℕ). x ++ r.0) text_is ∙ append_assoc out (front (fields_at laid.table k) (con_text laid.table names k)) r.0 ∙ ap (λ (x : List ℕ). out ++ x) r.2;
+      later = r.0;
+      left = subst (λ (ws : List Work). Left laid names s ws b r.0) (sym o.left) (subst (λ (x : ℕ). Left laid names s (with_fields (fields_at laid.table k) x o.mid) x r.0) (sym o.ends) r.1);
+      whole = r.2;
     }
-
-pub pushed : (items new : List Work) (x : Work) → new ≡ items ++ x ∷ [] → reverse new ≡ x ∷ reverse items
-pushed items new x is = ap reverse is ∙ reverse-append items (x ∷ [])

@@ -2,8 +2,11 @@
 #![tactic(auto)]
 
 mod fault;
+mod piece;
 mod print;
-mod text;
+mod step;
+mod waiting;
+mod walk;
 mod work;
 
 pub use fault::PrintFault;

@@ -19,7 +19,7 @@ use Rattle.gib_code.specs.Instruction as i
 use Rattle.gib_code.specs.Program.{CodeTree, IsAt}
 use Rattle.gib_core.specs.Low.{operand, field_of, Field as StoredField, reaching}
 use Rattle.gib_machine.specs.Machine.{times, widest, Slots, slot, set, word, Frame, Open as OpenRegion, Silent, next, cursor, went, went_to}
-use Rattle.gib_weave.specs.Cost.{Cost, plus, choose_cost}
+use Rattle.gib_core.specs.Cost.{Cost, plus, choose_cost}
 use Rattle.gib_weave.proofs.Counts.{goes_on_counted}
 use Rattle.gib_core.specs.Fits.{put, Sort, Outside, Absent, Scalar, Held, Placed, Loose, AtHead, Field, Scope, is_there, has_slot, Dest, Nowhere, Empty, Open, dest_type, Fits, cased}
 use Rattle.gib_weave.specs.Environment.{Ctx, IsPlaced, IsAtHead, IsField, Has, HasAll, IsDest, Matches}

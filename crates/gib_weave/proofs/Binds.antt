@@ -23,7 +23,7 @@ use Rattle.gib_code.specs.Instruction as i
 use Rattle.gib_code.specs.Program.{CodeTree, IsAt, AreAt, one_more}
 use Rattle.gib_core.specs.Low.{To, ending, giving, operand, operands, operation, function_number, IsNoCall}
 use Rattle.gib_machine.specs.Machine.{times, widest, Slots, slot, set, word, words, Frame, Open as OpenRegion, Silent, cursor, set_answer, answer_of, operated, frame_words, slots_at}
-use Rattle.gib_weave.specs.Cost.{Cost, plus}
+use Rattle.gib_core.specs.Cost.{Cost, plus}
 use Rattle.gib_weave.proofs.Costs.{call_costs_same}
 use Rattle.gib_weave.proofs.Counts.{goes_on_counted, same_most, most_then}
 use Rattle.gib_core.specs.Fits.{put, Sort, Outside, Absent, Scalar, Held, Placed, Loose, AtHead, Field, has_slot, tree_type, AtomFits, AtomsFit, by_call, CallFits, Dest, Nowhere, dest_type, dest_of, Fits, cased, param_sort, body_scope}

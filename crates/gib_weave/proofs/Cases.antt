@@ -25,7 +25,7 @@ use Rattle.gib_code.specs.Instruction as i
 use Rattle.gib_code.specs.Program.{CodeTree, AreAt, none, one_more}
 use Rattle.gib_core.specs.Low.{Low, LowArms, no_arm, arm, End, laid_of, field_of, Field as StoredField, further_fields, with_fields, scalar_reads, first_reach, arm_opening}
 use Rattle.gib_machine.specs.Machine.{Slots, slot, set, Frame, Open as OpenRegion, label_of}
-use Rattle.gib_weave.specs.Cost.{Cost, cost_branches, call_costs, choose_cost}
+use Rattle.gib_core.specs.Cost.{Cost, cost_branches, call_costs, choose_cost}
 use Rattle.gib_core.specs.Fits.{put, Sort, Absent, Scalar, Held, Placed, AtHead, Field, Scope, is_there, Dest, Fits, BranchesFit, cased, branches_cased, has_branch, AreNew, arm_scope}
 use Rattle.gib_weave.specs.Environment.{Ctx}
 use Rattle.gib_weave.specs.Continuing.{Kont, nest, branches_nest, Agrees}

@@ -22,7 +22,7 @@ use Rattle.gib_code.specs.Program.{CodeTree, IsAt}
 use Rattle.gib_core.specs.Low as low
 use Rattle.gib_core.specs.Low.{Low, LowSide, End, To, kind_of, Field as StoredField}
 use Rattle.gib_machine.specs.Machine.{times, widest, Slots, slot, set, Frame, Open as OpenRegion, State, Par, Silent, AtJoin, next, cursor, room, joins_at, backs_at, ends_side, answer_of, side_start, points, ToTree}
-use Rattle.gib_weave.specs.Cost.{Cost, nothing, plus, one_item, one_region}
+use Rattle.gib_core.specs.Cost.{Cost, nothing, plus, one_item, one_region}
 use Rattle.gib_weave.proofs.Counts.{Paid, most_then, item_counted, turn_counted, turned_counted, chunk_counted}
 use Rattle.gib_core.specs.Fits.{AloneFits, SideFits, Sort, Scalar, Held, Placed, Scope, Dest, Nowhere, Empty, more, IsDue, cased, side_cased, loosen, Fits}
 use Rattle.gib_weave.specs.Environment.{Ctx, IsPlaced, StandsAt, Turns, there, turn as redirected, Has, HasAll}

@@ -16,7 +16,7 @@ use Rattle.gib_code.specs.Instruction as i
 use Rattle.gib_code.specs.Program.{CodeTree, IsAt}
 use Rattle.gib_core.specs.Low.{ending, slot_of}
 use Rattle.gib_machine.specs.Machine.{Slots, slot, Frame, Open as OpenRegion, next, points, ToTree}
-use Rattle.gib_weave.specs.Cost.{Cost}
+use Rattle.gib_core.specs.Cost.{Cost}
 use Rattle.gib_weave.proofs.Counts.{Paid, item_counted, turn_counted, turned_counted}
 use Rattle.gib_core.specs.Fits.{Dest, Empty, dest_type, IsTree}
 use Rattle.gib_weave.specs.Environment.{Ctx, HasAll, StandsAt, Turns, there, turn as redirected, IsDest}

@@ -9,7 +9,7 @@ use Rattle.gib_types.specs.Layout.{LaidOut, is_among, layout_of, packed_count, s
 use Rattle.gib_syntax.specs.Meaning.{is_scalar}
 use Rattle.gib_mem.specs.Memory.{Store, byte, set_cell, open_chunk, Grows}
 use Rattle.gib_types.proofs.LayoutLemmas.{head_long}
-use Rattle.gib_weave.specs.Cost.{Cost}
+use Rattle.gib_core.specs.Cost.{Cost}
 use Rattle.gib_region.specs.Region.{rest, pointer, HasRoom}
 use Rattle.gib_packed.specs.Decoding.{Points}
 use Rattle.gib_core.specs.declared.atom.Variable.{Variable}

@@ -11,8 +11,8 @@ use Rattle.gib_code.specs.Program.{CodeTree}
 use Rattle.gib_machine.specs.Machine.{Waiting, Ask, Silent, Get, Put, Draw, AtFork, AtJoin, Ended}
 use Rattle.gib_types.specs.Loaded.{Loaded}
 use Rattle.gib_region.specs.Count.{Balanced}
-use Rattle.gib_weave.specs.Cost.{Cost, nothing, run_cost}
-use Rattle.gib_weave.specs.Tight.{Tight}
+use Rattle.gib_core.specs.Cost.{Cost, nothing, run_cost}
+use Rattle.gib_core.specs.Tight.{Tight}
 use Rattle.gib_weave.specs.Owing.{Debt}
 use Rattle.gib_weave.specs.Paying.{Share, Bill, new_share, root_share, whole_of}
 use Rattle.gib_weave.specs.Places.{Owned}

@@ -20,7 +20,7 @@ use Rattle.gib_code.specs.Program.{CodeTree}
 use Rattle.gib_core.specs.Low as low
 use Rattle.gib_core.specs.Low.{Low, LowFunctions, IsLowered, End, Returns, function_number, laid_of, Field as StoredField}
 use Rattle.gib_machine.specs.Machine.{times, widest, Slots, slot, Open as OpenRegion, State, Opening, begins, latest, cursor, frame_words, start_at, slots_at}
-use Rattle.gib_weave.specs.Cost.{Cost, plus, one_region}
+use Rattle.gib_core.specs.Cost.{Cost, plus, one_region}
 use Rattle.gib_weave.proofs.Counts.{goes_on_counted, same_most, Paid, tail_counted, chunk_counted}
 use Rattle.gib_core.specs.Fits.{Sort, Outside, Absent, Scalar, Placed, Field, Scope, Dest, dest_of, dest_type, param_sort, body_scope, AllFit}
 use Rattle.gib_weave.specs.Environment.{Ctx, Has, HasAll, IsDest}

@@ -11,7 +11,7 @@ use Rattle.gib_core.specs.Low as low
 use Rattle.gib_core.specs.Low.{Low, LowBind, LowSide, End, Returns, To, ending, giving, operand, Field as StoredField}
 use Rattle.gib_machine.specs.Machine.{Slots, Frame, Open as OpenRegion, State, Ready, Ask, Silent, Get, Put, Draw, AtFork, AtJoin, Ended, next, goes_on, Par, left_starts, right_of, joins_at, forks_at}
 use Rattle.gib_syntax.specs.Meaning.{Outcome}
-use Rattle.gib_weave.specs.Cost.{Cost, call_costs}
+use Rattle.gib_core.specs.Cost.{Cost, call_costs}
 use Rattle.gib_weave.proofs.Costs.{line_costs, place_costs, fork_costs}
 use Rattle.gib_weave.proofs.Counts.{goes_on_counted, most_then, no_spending, spends_then}
 use Rattle.gib_core.specs.Fits.{cased, side_cased}

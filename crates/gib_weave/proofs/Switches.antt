@@ -22,7 +22,7 @@ use Rattle.gib_code.specs.Instruction as i
 use Rattle.gib_code.specs.Program.{CodeTree, IsAt, AreAt}
 use Rattle.gib_core.specs.Low.{LowArms, End, laid_of, slot_of, Field as StoredField, scalar_reads, first_reach, arm_opening}
 use Rattle.gib_machine.specs.Machine.{Slots, slot, set, Frame, Open as OpenRegion, label_of, size, arms_of}
-use Rattle.gib_weave.specs.Cost.{Cost, plus, cost_branches, call_costs}
+use Rattle.gib_core.specs.Cost.{Cost, plus, cost_branches, call_costs}
 use Rattle.gib_core.specs.Fits.{put, Sort, Outside, Absent, Scalar, Held, Placed, Loose, AtHead, Field, Scope, is_there, has_slot, tree_type, Dest, Fits, BranchesFit, cased, branches_cased, is_of, AreNew, arm_scope}
 use Rattle.gib_weave.specs.Environment.{Ctx, StandsAt, IsAtHead, Has}
 use Rattle.gib_weave.specs.Continuing.{Plain, KSide, KLast, Kont, KEnd, KHere, KRegion, KScalar, KCall, KCallScalar, end_of, Goes, Under, AllUnder, branches_nest, IsCode, Agrees}
@@ -216,12 +216,11 @@ module _ (core : CoreTree) (code : CodeTree) (ok : AreBodies core code) (owed : 
           ap (λ (q : Environment). resume core n k (means core n found.term q)) al.values
           ∙ ap (resume core n k) (sym found.meaning)
           ∙ ap (λ (q : Datum). resume core n k (mean_branches core.table (core_calls core n) bs q c.env)) (sym ev) ∙ at.owes in
-          let cheap : left_costs core n lv.level (Plain found.term) al.ctx.env k ≡ left_costs core n lv.level (Plain (CaseTerm (atom.Variable x) bs)) c.env k =
-          ap (λ (q : Environment). plus (costs core n lv.level found.term q) (later_costs core n lv.level k (means core n found.term q))) al.values
-          ∙ ap (λ (q : Cost). plus q (later_costs core n lv.level k (means core n found.term (bind found.variables (list_of vs) c.env)))) (sym found.cost)
-          ∙ ap (λ (q : Outcome). plus (cost_branches core.table (core_calls core n) (call_costs core n) lv.level bs (con kk vs) c.env) (later_costs core n lv.level k q)) (sym found.meaning)
-          ∙ ap (λ (q : Datum). plus (cost_branches core.table (core_calls core n) (call_costs core n) lv.level bs q c.env) (later_costs core n lv.level k (mean_branches core.table (core_calls core n) bs q c.env))) (sym ev) in
-          let counted : Counted rs (left_costs core n lv.level (Plain found.term) al.ctx.env k) sh = subst (λ (c : Cost). Counted rs c sh) (sym cheap) at.counted in
+          let counted : Counted rs (left_costs core n lv.level (Plain found.term) al.ctx.env k) sh =
+          subst (λ (q : Environment). Counted rs (plus (costs core n lv.level found.term q) (later_costs core n lv.level k (means core n found.term q))) sh) (sym al.values)
+          (subst (λ (q : Cost). Counted rs (plus q (later_costs core n lv.level k (means core n found.term (bind found.variables (list_of vs) c.env)))) sh) found.cost
+          (subst (λ (q : Outcome). Counted rs (plus (cost_branches core.table (core_calls core n) (call_costs core n) lv.level bs (con kk vs) c.env) (later_costs core n lv.level k q)) sh) found.meaning
+          (subst (λ (q : Datum). Counted rs (plus (cost_branches core.table (core_calls core n) (call_costs core n) lv.level bs q c.env) (later_costs core n lv.level k (mean_branches core.table (core_calls core n) bs q c.env))) sh) ev at.counted))) in
           let done : Safe core code owed own sh s (at_rest lv ty rm found.start F fs n rs tls) = rests (at_term (term_at core code owed own sh lv ty rm s found.start F fs n rs tls found.term al.ctx k (cased whole) al.line is_code fit found.calm owes at.sides (let h = at.nests in let g = found.nests in omega (arith, h, g)) (let h = at.narrow in let g = found.nests in omega (arith, h, g)) at.all_room counted)) in
           let split = parts (label_of arms kk) (scalar_reads x.0 p0 ts ys) (first_reach x.0 (size code.laid kk) ts ys) found.start op in
           let q0 : a + 1 + length (offset_bytes (is_among code.laid.with_offsets kk) places) ≡ a + p0 = let g = offsets-length {laid = code.laid} {s = s} kk ds in omega (arith, g) in

@@ -8,7 +8,7 @@ use Rattle.gib_core.specs.declared.atom.Atom.{Atom}
 use Rattle.gib_core.specs.declared.atom.Atom.TheVariants as a
 use Rattle.gib_core.specs.Tree.{Term, Then, Write, Point, CallTerm, Give, CaseTerm, IfTerm, Bind, Past, One, Both, Prim, Reach, Side, On, Branches, NoBranch, BranchThen, variable_of}
 use Rattle.gib_types.specs.declared.table.Ty.{Ty}
-use Rattle.gib_weave.specs.Cost.{Cost, Costs, plus, own, own_of_right, kind_of, inside, call_costs, cost, cost_bind, cost_side, cost_branches, cost_from, choose_cost}
+use Rattle.gib_core.specs.Cost.{Cost, Costs, plus, own, own_of_right, kind_of, inside, call_costs, cost, cost_bind, cost_side, cost_branches, cost_from, choose_cost}
 use Rattle.gib_weave.specs.Continuing.{Rest, Plain, Part, Meet, Leave, Last, Kont, Follows}
 use Rattle.gib_weave.specs.Owing.{Debt, debt_of, rest_sides, side_type, side_gives, side_costs, task_region}
 use Rattle.gib_weave.specs.Paying.{AtMost}

@@ -1,5 +1,3 @@
-pub mod Cost
-pub mod Tight
 pub mod Environment
 pub mod Continuing
 pub mod Owing
@@ -11,3 +9,4 @@ pub mod Starting
 pub mod Root
 pub mod Example
 pub mod Weave
+pub mod Calling

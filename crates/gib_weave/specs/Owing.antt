@@ -8,16 +8,18 @@ use Rattle.gib_core.specs.declared.atom.Kind.TheVariants as kind
 use Rattle.gib_core.specs.Tree as t
 use Rattle.gib_core.specs.Tree.{Term, Side, CoreTree, variable_of}
 use Rattle.gib_core.specs.Meaning.{mean, mean_side, core_calls}
-use Rattle.gib_weave.specs.Cost.{Cost, nothing, plus, one_region, one_item, own, cost, cost_side, call_costs}
+use Rattle.gib_core.specs.Cost.{Cost, nothing, plus, one_region, one_item, own, cost, cost_side, call_costs}
 use Rattle.gib_weave.specs.Continuing.{KCall, KCallScalar, KEnd, KHere, KLast, KRegion, KScalar, KSide, Kont, Last, Leave, Meet, Part, Plain, Rest}
 
 -- What a term means with so many calls left.
 abbrev pub means : CoreTree → ℕ → Term → Environment → Outcome
 means core n u env = mean core.table (core_calls core n) u env
 
+-- What a binding's side comes to.
 abbrev pub side_gives : CoreTree → ℕ → Side → Environment → Outcome
 side_gives core n s env = mean_side core.table (core_calls core n) s env
 
+-- What is next in a line comes to.
 abbrev pub rest_means : CoreTree → ℕ → Rest → Environment → Outcome
 rest_means core n (Plain u) env = means core n u env
 rest_means core n (Part s r) env = with_value (side_gives core n s env) (λ v. rest_means core n r (((variable_of s).0, v) ∷ env))
@@ -56,7 +58,7 @@ side_costs core d n s env = cost_side core.table (core_calls core d) (call_costs
 abbrev pub own_region : Side → Cost
 own_region (t.On k x ty u) = own k
 
--- The region of a side that is a task of its own, and its task's indirection to the tree.
+-- The region of a side that is a task of its own; and what the other task places once it is joined: an indirection to a field's tree.
 abbrev pub kind_region : Kind → Cost
 kind_region kind.Here = one_region
 kind_region kind.Region = one_region
@@ -85,9 +87,11 @@ level_after n (Meet p s u) = p.level
 level_after n (Leave p u) = p.level
 level_after n (Last y ty) = n
 
+-- What a right side owes that is met with so many calls and levels left.
 abbrev pub debt_of : CoreTree → ℕ → ℕ → Side → Environment → Debt
 debt_of core d n s env = record { ty = side_type s; owed = side_gives core d s env; most = task_costs core d n s env }
 
+-- In place of one, where a `par` is left that has none.
 abbrev pub no_debt : Debt
 no_debt = record { ty = Whole; owed = Stops Deep; most = nothing }
 
@@ -99,6 +103,7 @@ rest_sides core d n (Meet p s u) env ds = if p.left then debt_of core d n s env 
 rest_sides core d n (Leave p u) env ds = if p.left then no_debt ∷ ds else ds
 rest_sides core d n (Last y ty) env ds = ds
 
+-- So do the lines that wait.
 abbrev pub sides_of : CoreTree → (d n : ℕ) → Kont → List Debt
 sides_of core d n (KEnd ty) = []
 sides_of core d n (KSide y ty) = []

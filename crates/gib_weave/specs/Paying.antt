@@ -6,13 +6,13 @@ use Rattle.gib_types.specs.Tree.{Datum, constructors}
 use Rattle.gib_syntax.specs.Meaning.{Environment, Outcome, Gives, Stops}
 use Rattle.gib_core.specs.Tree.{CoreTree, variable_of}
 use Rattle.gib_region.specs.Count.{Open as Cursor, Count, Balanced, nothing_done, joined, loaded_count}
-use Rattle.gib_weave.specs.Cost.{Cost, nothing, plus, one_region, body_cost, run_cost}
+use Rattle.gib_core.specs.Cost.{Cost, nothing, plus, one_region, body_cost, run_cost}
 use Rattle.gib_machine.specs.Machine.{Open as OpenRegion}
 use Rattle.gib_weave.specs.Continuing.{KCall, KCallScalar, KEnd, KHere, KLast, KRegion, KScalar, KSide, Kont, Last, Leave, Meet, Part, Plain, Rest}
 use Rattle.gib_weave.specs.Owing.{Debt, Owed, costs, link, means, own_region, side_costs, side_gives}
 
--- What a task did, with the sides that it joined; and a bound on what it has left to do itself, right sides that are not joined
--- left out.
+-- What a task did, with the right sides that it joined; and a bound on what it has left to do itself. What a right side may cost
+-- that is left to others is no part of it: who forks gives that much away, and who takes the side back gets it again.
 pub record Share : Type 0 where
   pub count : Count
   pub rest : Cost
@@ -54,16 +54,17 @@ later_costs core d n (KScalar l x ty u c k) o = cost_after o (λ v. rest_costs c
 later_costs core d n (KCall k) o = later_costs core (suc d) n k o
 later_costs core d n (KCallScalar x ty u c k) o = cost_after o (λ v. rest_costs core (suc d) n u ((x, v) ∷ c.env) (λ m p. later_costs core (suc d) m k p))
 
+-- What the task itself has left to do costs, lines that wait included.
 abbrev pub left_costs : CoreTree → (d n : ℕ) → Rest → Environment → Kont → Cost
 left_costs core d n u env k = rest_costs core d n u env (λ m p. later_costs core d m k p)
 
--- A share goes with the open regions, and with what is left to do.
+-- A share goes with the machine's open regions, cursor by cursor, and has enough left for what is left to do.
 pub record Counted (regions : List OpenRegion) (rest : Cost) (sh : Share) : Type 0 where
   pub balanced : Balanced sh.count
   pub cursors : map (λ (o : Cursor). o.at) sh.count.open_regions ≡ map (λ (r : OpenRegion). r.cur) regions
   pub left : AtMost rest sh.rest
 
--- What was done with what is left is no more than before; so many chunks were drawn.
+-- What was done and is left together is no more than before; so many chunks were drawn.
 pub record Spends (sh sh' : Share) (drew : ℕ) : Type 0 where
   pub balanced : Balanced sh.count → Balanced sh'.count
   pub costs : AtMost (plus (done_by sh'.count) sh'.rest) (plus (done_by sh.count) sh.rest)
@@ -85,12 +86,13 @@ with_rest sh c = record { count = sh.count; rest = c }
 abbrev pub with_count : Share → Count → Share
 with_count sh c = record { count = joined sh.count c; rest = sh.rest }
 
--- What a task owes for its right sides that are not joined.
+-- What the right sides may cost that are not joined.
 abbrev pub dues : List Debt → Cost
 dues [] = nothing
 dues (d ∷ ds) = plus d.most (dues ds)
 
--- What a task did, has left, and owes its right sides is no more than the whole; it drew so many chunks.
+-- What a task did, has left, and gave away to right sides that are not joined is no more than the whole; with the sides that it joined
+-- it drew so many chunks.
 pub record Bill (whole : Cost) (chunks : ℕ) (owed : Owed) (sh : Share) : Type 0 where
   pub balanced : Balanced sh.count
   pub costs : AtMost (plus (plus (done_by sh.count) sh.rest) (dues owed.sides)) whole

@@ -4,21 +4,21 @@ use Rattle.gib_types.specs.Layout.{LaidOut}
 use Rattle.gib_mem.specs.Memory.{Store, absent, fresh}
 use Rattle.gib_region.specs.Region.{rest}
 use Rattle.gib_core.specs.Fits.{Dest, Empty, Nowhere, Open}
-use Rattle.gib_weave.specs.Cost.{own}
 use Rattle.gib_machine.specs.Machine.{Open as OpenRegion, State, times, size}
 use Rattle.gib_weave.specs.Environment.{Ctx}
 use Rattle.gib_weave.specs.Continuing.{KCall, KCallScalar, KEnd, KHere, KLast, KRegion, KScalar, KSide, Kont, Last, Leave, Meet, Part, Plain, Rest, nest, side_nest}
-use Rattle.gib_weave.specs.Paying.{dues}
 
 -- 1 where q is one of the n addresses from a on.
 abbrev pub within : ℕ → ℕ → ℕ → ℕ
 within a n q = if nat_le a q then (if nat_lt q (a + n) then 1 else 0) else 0
 
+-- An open head.
 abbrev pub head_covers : LaidOut → Ctx → Dest → ℕ → ℕ
 head_covers laid c (Nowhere ty) q = 0
 head_covers laid c (Empty t) q = 0
 head_covers laid c (Open t h k xs dues) q = within c.head (size laid k) q
 
+-- The open heads of the lines that wait.
 abbrev pub kont_covers : LaidOut → Kont → ℕ → ℕ
 kont_covers laid (KEnd ty) q = 0
 kont_covers laid (KSide y ty) q = 0
@@ -29,10 +29,12 @@ kont_covers laid (KScalar l x ty u c k) q = head_covers laid c c.dest q + kont_c
 kont_covers laid (KCall k) q = kont_covers laid k q
 kont_covers laid (KCallScalar x ty u c k) q = head_covers laid c c.dest q + kont_covers laid k q
 
+-- The rests of their chunks behind the cursors.
 abbrev pub rest_covers : List OpenRegion → ℕ → ℕ
 rest_covers [] q = 0
 rest_covers (r ∷ rs) q = within r.cur (rest r.cur) q + rest_covers rs q
 
+-- The tails.
 abbrev pub tail_covers : List ℕ → ℕ → ℕ
 tail_covers [] q = 0
 tail_covers (t ∷ ts) q = within t (rest t) q + tail_covers ts q
@@ -64,6 +66,7 @@ pub record Apart (own : Owned) (s : Store) (n : ℕ → ℕ) : Type 0 where
 pub record IsSmall (s : Store) : Type 0 where
   pub small : (q : ℕ) → 2 ^ 44 ≤ q → s q ≡ absent
 
+-- Nobody had the chunk.
 pub record IsNew (s : Store) (c : ℕ) : Type 0 where
   pub new : (q : ℕ) → 4096 * c ≤ q → q < 4096 * c + 4096 → s q ≡ absent
   pub small : c < 2 ^ 32
@@ -94,5 +97,6 @@ AllRoom w n r (KScalar l x ty u c k) = HasRoom (times n w) u r × AllRoom w n (f
 AllRoom w n r (KCall k) = AllRoom w (suc n) r k
 AllRoom w n r (KCallScalar x ty u c k) = HasRoom (times (suc n) w) u r × AllRoom w (suc n) (freed u r) k
 
+-- With a chunk that was drawn.
 abbrev pub with_chunk : Owned → ℕ → Owned
 with_chunk own c q = own q + within (4096 * c) 4096 q

@@ -13,7 +13,7 @@ use Rattle.gib_code.specs.declared.answer.Answer.TheVariants as answer
 use Rattle.gib_code.specs.Program.{CodeTree}
 use Rattle.gib_core.specs.Fits.{dest_type}
 use Rattle.gib_region.specs.Count.{Count, Balanced}
-use Rattle.gib_weave.specs.Cost.{Cost, plus, own}
+use Rattle.gib_core.specs.Cost.{Cost, plus, own}
 use Rattle.gib_machine.specs.Machine.{State, Ready, Over, Unwinding, Par, Waiting, times, widest, left_starts, right_of, side_start, takes, joins, Ask, Silent, Get, Put, Draw, AtFork, AtJoin, Ended, next, cursor}
 use Rattle.gib_weave.specs.Environment.{Ctx, Matches, StandsAt}
 use Rattle.gib_weave.specs.Continuing.{AllCalm, AllUnder, Kont, Next, Plain, Rest, RestCode, RestFits, due, end_of, pars_of, rest_cased, rest_nest, rest_pars, root, side_of}

@@ -11,7 +11,7 @@ use Rattle.gib_code.specs.declared.answer.Answer.{Answer}
 use Rattle.gib_code.specs.Program.{CodeTree}
 use Rattle.gib_machine.specs.Machine.{State, Waiting, Ready, Ask, Silent, Get, Put, Draw, AtFork, AtJoin, Ended, next, left_starts, right_of, side_start, takes, joins}
 use Rattle.gib_region.specs.Count.{Balanced}
-use Rattle.gib_weave.specs.Cost.{Cost, nothing, plus}
+use Rattle.gib_core.specs.Cost.{Cost, nothing, plus}
 use Rattle.gib_weave.specs.Owing.{Owed, Debt}
 use Rattle.gib_weave.specs.Paying.{Share, done_by}
 use Rattle.gib_weave.specs.Places.{Owned}

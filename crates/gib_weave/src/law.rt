@@ -1,28 +1,33 @@
 //! What holds of a task at each of its steps, whatever the memory answers and whatever others do.
 
-ghost use Rattle.std.specs.Prelude.{◌≡◌, ◌<◌, ◌≤◌, ◌*◌, ◌+◌, ℕ, List, [], ◌∷◌, true};
+ghost use Rattle.std.specs.Prelude.{◌≡◌, ◌<◌, ◌≤◌, ◌*◌, ◌+◌, ℕ, List, [], ◌∷◌, true, length};
+ghost use Rattle.std.specs.List.{AllByRecursion};
 ghost use Rattle.gib_types.specs.declared.table.Ty.{Ty};
 ghost use Rattle.gib_types.specs.Layout.{LaidOut};
 ghost use Rattle.gib_types.specs.Loaded.{Loaded};
+ghost use Rattle.gib_types.specs.Table.{IsTable};
 ghost use Rattle.gib_types.specs.Tree.{Datum, HasType, constructors};
 ghost use Rattle.gib_syntax.specs.Meaning.{Gives};
 ghost use Rattle.gib_mem.specs.Memory.{Memory, Store, IsBounded, after_draw};
 ghost use Rattle.gib_region.specs.Count.{Balanced, loaded_count};
 ghost use Rattle.gib_region.specs.Region.{AreOwned, Draws, IsFull};
 ghost use Rattle.gib_core.specs.Meaning.{core_run};
-ghost use Rattle.gib_core.specs.Tree.{CoreTree};
+ghost use Rattle.gib_core.specs.Numbering.{binders};
+ghost use Rattle.gib_core.specs.Tree.{CoreTree, FunctionTerm};
 ghost use Rattle.gib_code.specs.declared.answer.Answer.{Answer};
-ghost use Rattle.gib_code.specs.Program.{CodeTree};
+ghost use Rattle.gib_code.specs.declared.instruction.Operand.{Operand};
+ghost use Rattle.gib_code.specs.Instruction.{Fill};
+ghost use Rattle.gib_code.specs.Program.{CodeTree, IsAt};
 ghost use Rattle.gib_core.specs.Low.{IsLowered};
-ghost use Rattle.gib_weave.specs.Cost.{Cost, plus, run_cost};
-ghost use Rattle.gib_weave.specs.Tight.{Tight};
+ghost use Rattle.gib_core.specs.Cost.{Cost, plus, run_cost};
+ghost use Rattle.gib_core.specs.Tight.{Tight};
 ghost use Rattle.gib_machine.specs.Machine.{State, next};
-ghost use Rattle.gib_core.specs.Fits.{AllFit};
+ghost use Rattle.gib_core.specs.Fits.{AllFit, FunctionFits, MainFits};
 ghost use Rattle.gib_weave.specs.Owing.{Owed, Debt};
 ghost use Rattle.gib_weave.specs.Paying.{Share, AtMost, Spends, Bill, root_share, whole_of, new_share, with_rest, with_side, with_count};
 ghost use Rattle.gib_weave.specs.Places.{Owned, TailsHaveRoom, tail_covers, Apart, IsSmall};
 ghost use Rattle.gib_weave.specs.Sound.{IsAnswer, Safe, After, Others};
-ghost use Rattle.gib_weave.specs.Starting.{IsArgument, root_start};
+ghost use Rattle.gib_weave.specs.Starting.{IsFew, IsArgument, root_start};
 ghost use Rattle.gib_weave.specs.Root.{AfterOver, AnswerStands};
 ghost use Rattle.gib_weave.specs.Example as example;
 
@@ -97,4 +102,11 @@ pub fn bills_bound_what_is_drawn()
 pub fn the_example_is_lowered_and_fits()
     ensures lowered { IsLowered example.core example.code }
     ensures fits { AllFit example.core }
+{}
+
+/// Each head that the code of a core fills has a constructor's tag, and at most 8 packed fields: every function fits, and main.
+pub fn filled_heads_are_few()
+    ensures { (core : CoreTree) (code : CodeTree) → IsTable core.table → IsLowered core code
+        → AllByRecursion (λ (g : FunctionTerm). FunctionFits core g (length g.parameters + length (binders g.body))) core.functions → MainFits core (1 + length (binders core.main.body))
+        → (a h k : ℕ) (ss : List Operand) (ps : List ℕ) → IsAt code a (Fill h k ss ps) → IsFew k ps }
 {}

@@ -2,5 +2,9 @@
 //! does, and ends with what the source means.
 #![tactic(auto)]
 
+pub mod call_law;
 pub mod law;
+mod run;
 pub mod weave_law;
+
+pub use run::run_for;

@@ -15,4 +15,4 @@ pub returns-clause-built : goal.returns-clause-built
 returns-clause-built c = λ is. kept_built c.args.mode (core_of c.args.core) c.reached.result c.reaching_makes_built.ensures c.reached.ensures is
 
 pub returns-clause-numbered : goal.returns-clause-numbered
-returns-clause-numbered c = λ is. kept_numbered c.args.mode (core_of c.args.core) c.reached.result c.variables_are_numbered.ensures.reach c.reached.ensures is
+returns-clause-numbered c = λ is. kept_numbered c.args.mode (core_of c.args.core) c.reached.result c.reaching_keeps_numbers.ensures c.reached.ensures is

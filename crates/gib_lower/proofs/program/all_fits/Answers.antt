@@ -8,4 +8,4 @@ use Rattle.gib_lower.proofs.program.all_fits.Goals as goal
 pub returns : goal.returns
 returns c =
     let same = c.types.ensures ∙ ap (λ (p : Parts). p.table) c.core-core.ensures.value in
-    c.built_fits.ensures (core_of c.args.checked.now) (subst (λ (t : Table). IsTable t) same c.rules.ensures) c.requires (subst (λ (p : Parts). AllLiteralsFit (core_of p)) c.core-core.ensures.value c.in_ok-literals_fit.ensures) c.core-core.ensures.built
+    c.built_fits.ensures (core_of c.args.checked.now) (subst (λ (t : Table). IsTable t) same c.rules.ensures) c.requires (subst (λ (p : Parts). AllLiteralsFit (core_of p)) c.core-core.ensures.value c.literals_fit.ensures) c.core-core.ensures.built

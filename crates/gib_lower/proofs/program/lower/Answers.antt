@@ -13,7 +13,7 @@ make-requires-3 c =
     let core = c.make-2.ensures ∙ c.into_parts-core.ensures.core ∙ same in
     record {
       lowered = lowered_code c.args.checked c.make-2.result c.new-code.result core code c.lowering_gives_its_code.ensures;
-      fits = same_fits c.args.checked c.make-2.result core c.in_ok-all_fits.ensures;
+      fits = same_fits c.args.checked c.make-2.result core c.all_fits.ensures;
     }
 
 pub returns-clause-code : goal.returns-clause-code

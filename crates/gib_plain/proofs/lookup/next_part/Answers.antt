@@ -1,7 +1,8 @@
 use Rattle.std.proofs.Common.{◌≤◌, ◌∙◌, ap, arith, drop, length, []}
 use Rattle.std.proofs.lemmas.List.{drop_all}
 use Rattle.gib_syntax.specs.Tree.{Expression}
-use Rattle.gib_syntax.specs.Parts.{Parts}
+use Rattle.gib_syntax.specs.Parts.{Parts, program_of}
+use Rattle.gib_syntax.specs.Declarations.{table_of_program}
 use Rattle.gib_plain.specs.Running.{first_parts}
 use Rattle.gib_plain.proofs.Names.{tree-past}
 use Rattle.gib_plain.proofs.lookup.next_part.Goals as goal
@@ -10,4 +11,4 @@ pub returns-then-id-len : goal.returns-then-id-len
 returns-then-id-len c =
     let nodes = c.args.typed.now.exprs in
     let le : length nodes ≤ c.args.id.0 = omega (arith, c.len.ensures, ap length c.exprs-exprs.ensures.value, ap (λ (p : Parts). length p.exprs) c.program.ensures.value) in
-    ap (λ (t : Expression). drop c.args.at (first_parts t)) (tree-past nodes c.args.id.0 le) ∙ drop_all c.args.at [] (omega arith)
+    ap (λ (t : Expression). drop c.args.at (first_parts (table_of_program (program_of c.args.typed.now)) t)) (tree-past nodes c.args.id.0 le) ∙ drop_all c.args.at [] (omega arith)

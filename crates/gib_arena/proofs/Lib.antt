@@ -1,0 +1,12 @@
+pub mod Totals
+pub mod Paths
+pub mod Ones
+pub mod Eight
+pub mod BytesKeep
+pub mod TreeKeep
+pub mod Standing
+pub mod Keeps
+pub mod Reading
+pub mod Showing
+pub mod Saying
+pub mod Naming

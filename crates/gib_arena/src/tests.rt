@@ -1,0 +1,149 @@
+//! Two threads over one arena.
+ghost use Rattle.std.specs.Prelude.{◌≡◌, ◌+◌, IfOk, IfSome};
+ghost use Rattle.gib_mem.specs.Memory.{fresh, byte, after_put};
+ghost use Rattle.gib_arena.specs.Rule.{first_view};
+ghost use Rattle.gib_arena.specs.Passes.{view, cells, IsOf};
+
+use super::*;
+use gib_mem::Mem;
+use std::alloc::{AllocError, Global};
+use std::test::*;
+use std::thread::{Threads, join};
+
+// Draws until no chunk is left, and lists what it drew.
+fn draw_all(alloc: Global, arena: &Arena, pass: Pass) -> Result<(Pass, Vec<u32>), AllocError>
+    requires { IsOf arena.now pass }
+    ensures { IfOk result (λ r. IsOf arena.now r.0 × ((view r.0).branch ≡ (view pass).branch)) }
+{
+    let mut mine = pass;
+    let mut drawn = Vec::new(alloc);
+    'draws: while let Some(chunk) = mine.draw(arena) {
+        drawn.push(chunk)?;
+    }
+    Ok((mine, drawn))
+}
+
+// The chunks that two threads draw, and how many there are in the end.
+fn draw_by_two<R: Threads + Sync>(
+    rt: &R,
+    alloc: Global,
+    chunks: u32,
+) -> Result<(Vec<u32>, Vec<u32>, u32), AllocError> {
+    let (shared, mut pass) = arena(alloc, chunks)?;
+    let other = pass.split(&shared);
+    let memory = &shared;
+    let (a, b) = join(
+        rt,
+        || -> Result<(Pass, Vec<u32>), AllocError>
+            requires { IsOf memory.now pass }
+            ensures { IfOk result (λ r. IsOf memory.entry.now r.0 × ((view r.0).branch ≡ (view pass).branch)) }
+        { draw_all(alloc, memory, pass) },
+        || -> Result<(Pass, Vec<u32>), AllocError>
+            requires { IsOf memory.now other }
+            ensures { IfOk result (λ r. IsOf memory.entry.now r.0 × ((view r.0).branch ≡ (view other).branch)) }
+        { draw_all(alloc, memory, other) },
+    );
+    let (mut whole, left) = a?;
+    let (rest, right) = b?;
+    whole.join(&shared, rest);
+    Ok((left, right, close(shared, whole)))
+}
+
+#[test]
+fn two_threads_draw_each_chunk_once(rt: HostRuntime) -> Result<(), Fail> {
+    let (left, right, drawn) = draw_by_two(&rt, rt.alloc(), 16)?;
+    assert_eq!(rt; drawn, 16);
+    assert_eq!(rt; left.len() + right.len(), 16);
+    for chunk in 0..16u32 {
+        assert!(rt; left.contains(&chunk) != right.contains(&chunk));
+    }
+    Ok(())
+}
+
+// Draws a chunk and puts a byte in it: where. The next address is fresh still.
+fn write<M: Mem>(mem: &mut M, value: u8) -> Option<u64>
+    ensures known { IfSome result (λ at. (M.view mem.new).cells at ≡ byte value) }
+    ensures free { IfSome result (λ at. (M.view mem.new).cells (at + 1) ≡ fresh) }
+    ensures holder { (M.view mem.new).holder ≡ (M.view mem.old).holder }
+{
+    match mem.draw() {
+        None => None,
+        Some(chunk) => {
+            let at = 4096 * chunk as u64 + 2;
+            mem.put(at, value);
+            Some(at)
+        }
+    }
+}
+
+// The same with a pass.
+fn write_once(arena: &Arena, pass: Pass, value: u8) -> Option<(Pass, u64)>
+    requires { IsOf arena.now pass }
+    ensures same { IfSome result (λ r. IsOf arena.now r.0 × ((view r.0).branch ≡ (view pass).branch)) }
+    ensures known { IfSome result (λ r. cells r.0 r.1 ≡ byte value) }
+    ensures free { IfSome result (λ r. cells r.0 (r.1 + 1) ≡ fresh) }
+{
+    let mut mem = ArenaMem::make(arena, pass);
+    let at = write(&mut mem, value)?;
+    let (_, pass) = mem.into_pass();
+    Some((pass, at))
+}
+
+// Puts a byte at a fresh address and reads it.
+fn put_and_get<M: Mem>(mem: &mut M, at: u64, value: u8) -> u8
+    requires { (M.view mem.old).cells at ≡ fresh }
+    ensures { M.view mem.new ≡ after_put (M.view mem.old) at value }
+{
+    mem.put(at, value);
+    mem.get(at)
+}
+
+// Each of two threads puts a byte. After the join: what the one pass reads of both, a third byte that it puts behind that of
+// the other thread, and the number of chunks.
+fn exchange<R: Threads + Sync>(
+    rt: &R,
+    shared: Arena,
+    pass: Pass,
+    one: u8,
+    two: u8,
+) -> Option<(u8, u8, u8, u32)>
+    requires { IsOf shared pass × (view pass ≡ first_view 2) }
+{
+    let mut pass = pass;
+    let other = pass.split(&shared);
+    let memory = &shared;
+    let (a, b) = join(
+        rt,
+        || -> Option<(Pass, u64)>
+            requires { IsOf memory.now pass }
+            ensures { IfSome result (λ r. IsOf memory.entry.now r.0 × ((view r.0).branch ≡ (view pass).branch) × (cells r.0 r.1 ≡ byte one)) }
+        { write_once(memory, pass, one) },
+        || -> Option<(Pass, u64)>
+            requires { IsOf memory.now other }
+            ensures { IfSome result (λ r. IsOf memory.entry.now r.0 × ((view r.0).branch ≡ (view other).branch) × (cells r.0 r.1 ≡ byte two) × (cells r.0 (r.1 + 1) ≡ fresh)) }
+        { write_once(memory, other, two) },
+    );
+    let (mut whole, left) = a?;
+    let (rest, right) = b?;
+    whole.join(&shared, rest);
+    let first = whole.get(&shared, left);
+    let second = whole.get(&shared, right);
+    let mut mem = ArenaMem::make(&shared, whole);
+    let third = put_and_get(&mut mem, right + 1, 7);
+    let (_, whole) = mem.into_pass();
+    Some((first, second, third, close(shared, whole)))
+}
+
+// A value that may go to another thread.
+fn sends<T: Send>(_: &T) {}
+
+#[test]
+fn two_threads_read_each_others_bytes(rt: HostRuntime) -> Result<(), Fail> {
+    for byte in 0..40u8 {
+        let (shared, pass) = arena(rt.alloc(), 2)?;
+        sends(&pass);
+        let read = exchange(&rt, shared, pass, byte, 255 - byte);
+        assert!(rt; read == Some((byte, 255 - byte, 7, 2)));
+    }
+    Ok(())
+}

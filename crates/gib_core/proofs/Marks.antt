@@ -1,0 +1,197 @@
+-- Marking the pars of terms, one after another.
+use Rattle.std.proofs.Common.{◌≡◌, ℕ, zero, suc, ◌+◌, ◌<◌, ◌≤◌, Bool, true, false, ◌||◌, ◌&&◌, List, [], ◌∷◌, length, get_or, Some, refl, sym, ap, ◌∙◌, subst, arith, ⊎_elim}
+use Rattle.std.specs.Prelude.{slice_get, slice_set, ◌==◌}
+use Rattle.std.specs.List.{AllByRecursion}
+use Rattle.std.proofs.str.Laws.{order}
+use Rattle.std.proofs.lemmas.Bool.{eqb-true, eqb-false}
+use Rattle.std.proofs.lemmas.Option.{same_Some, slice_get-get_or}
+use Rattle.gib_core.specs.declared.node.Binding.{Binding}
+use Rattle.gib_core.specs.declared.node.Binding.TheVariants as b
+use Rattle.gib_core.specs.declared.node.Branch.{Branch}
+use Rattle.gib_core.specs.declared.node.Node.{Node}
+use Rattle.gib_core.specs.declared.node.Node.TheVariants as n
+use Rattle.gib_core.specs.Tree.{Term, Then, Write, Point, CallTerm, Give, CaseTerm, IfTerm, Bind, Past, One, Both, Prim, Reach, On, Branches, NoBranch, BranchThen}
+use Rattle.gib_core.specs.Arena.{IsBindingBelow, IsBranchBelow, PartsBelow, IsArena, Opens, bind_from, branches_from, layer, term_at, term_of}
+use Rattle.gib_core.specs.Marking.{has_call, bind_has_call, branches_have_call, may_fork, mark, mark_bind, mark_branches, with_fork, node_with_fork, IsSet}
+use Rattle.gib_core.specs.declared.node.TermId.{TermId}
+use Rattle.gib_core.proofs.Facts.{Test, holds, fails, test}
+use Rattle.gib_core.proofs.Layers.{layer_same_if, term_of-node}
+
+-- A line, up to a binding: so far none contains a call.
+pub record CallSoFar (terms : List Node) (id last : ℕ) (node : Node) : Type 0 where
+  pub within : last ≤ id
+  pub inside : last < length terms
+  pub opens : Opens terms last node
+  pub same : has_call (term_of terms id) ≡ has_call (term_of terms last)
+
+or_no : (a c : Bool) → a ≡ false → a || c ≡ c
+or_no true c e = absurd cc
+or_no false c e = refl
+
+pub call_here : (terms : List Node) (id last : ℕ) (binding : Binding) (rest : ℕ) (node : Node) → CallSoFar terms id last node → ((f : ℕ → Term) → layer f (Some node) ≡ Then (bind_from f binding) (f rest))
+    → bind_has_call (bind_from (term_of terms) binding) ≡ true → true ≡ has_call (term_of terms id)
+call_here terms id last binding rest node h is yes' =
+    sym (h.same ∙ ap has_call (h.opens.0 ∙ is (term_of terms)) ∙ ap (λ a. a || has_call (term_of terms rest)) yes')
+
+-- Marked terms contain a call where they did.
+mutual
+  pub marked_call : (t : Term) → has_call (mark t) ≡ has_call t
+  marked_call (Then b rest) = λ i. bind_marked_call b i || marked_call rest i
+  marked_call (Write h k ss ps) = refl
+  marked_call (Point x) = refl
+  marked_call (CallTerm f xs) = refl
+  marked_call (Give x) = refl
+  marked_call (CaseTerm x bs) = branches_marked_call bs
+  marked_call (IfTerm x t u) = λ i. marked_call t i || marked_call u i
+
+  bind_marked_call : (b : Bind) → bind_has_call (mark_bind b) ≡ bind_has_call b
+  bind_marked_call (Past h k) = refl
+  bind_marked_call (One (On kind x ty t)) = marked_call t
+  bind_marked_call (Both fork (On kind x ty t) (On other y uy u)) = λ i. marked_call t i || marked_call u i
+  bind_marked_call (Prim x f y z) = refl
+  bind_marked_call (Reach y by) = refl
+
+  branches_marked_call : (bs : Branches) → branches_have_call (mark_branches bs) ≡ branches_have_call bs
+  branches_marked_call NoBranch = refl
+  branches_marked_call (BranchThen k xs t rest) = λ i. marked_call t i || branches_marked_call rest i
+
+-- Nodes that are the same below a number have the same terms there.
+same_below : (ns ms : List Node) (k : ℕ) → IsArena ns → ((id : ℕ) → id < k → slice_get ms id ≡ slice_get ns id) → (l id : ℕ) → id < k → term_at l ms id ≡ term_at l ns id
+unfolding term_at
+same_below ns ms k arena e zero id lt = refl
+same_below ns ms k arena e (suc l) id lt =
+    ap (layer (term_at l ms)) (e id lt) ∙ layer_same_if (term_at l ms) (term_at l ns) id (slice_get ns id) (arena.below id) (λ a less. same_below ns ms k arena e l a (omega arith))
+
+same_terms : (ns ms : List Node) (k : ℕ) → IsArena ns → ((id : ℕ) → id < k → slice_get ms id ≡ slice_get ns id) → (id : ℕ) → id < k → term_of ms id ≡ term_of ns id
+unfolding term_of
+same_terms ns ms k arena e id lt = same_below ns ms k arena e (suc id) id lt
+
+-- A node's layer over marked parts, with its mark set.
+
+branches_marked : (f g : ℕ → Term) (id : ℕ) (bs : List Branch) → AllByRecursion (IsBranchBelow id) bs → ((a : ℕ) → a < id → g a ≡ mark (f a)) → branches_from g bs ≡ mark_branches (branches_from f bs)
+branches_marked f g id [] h e = refl
+branches_marked f g id (x ∷ bs) h e = (λ k. BranchThen x.constructor x.variables.items (e x.term.0 h.0 k) (branches_marked f g id bs h.1 e k))
+
+bind_marked : (f g : ℕ → Term) (id : ℕ) (x : Binding) (fork : Bool) → IsBindingBelow id x → ((a : ℕ) → a < id → g a ≡ mark (f a)) → fork ≡ Rattle.gib_core.specs.Marking.bind_may_fork (bind_from g x)
+    → bind_from g (with_fork fork x) ≡ mark_bind (bind_from f x)
+bind_marked f g id (b.Past h k) fork below e m = refl
+bind_marked f g id (b.One s) fork below e m = (λ k. One (On s.kind s.variable s.ty (e s.term.0 below k)))
+bind_marked f g id (b.Par old s r) fork below e m =
+    let l : has_call (g s.term.0) ≡ has_call (f s.term.0) = ap has_call (e s.term.0 below.0) ∙ marked_call (f s.term.0) in
+    let q : has_call (g r.term.0) ≡ has_call (f r.term.0) = ap has_call (e r.term.0 below.1) ∙ marked_call (f r.term.0) in
+    let mm : fork ≡ has_call (f s.term.0) && has_call (f r.term.0) = m ∙ (λ i. l i && q i) in
+    (λ k. Both (mm k) (On s.kind s.variable s.ty (e s.term.0 below.0 k)) (On r.kind r.variable r.ty (e r.term.0 below.1 k)))
+bind_marked f g id (b.Prim x op y z) fork below e m = refl
+bind_marked f g id (b.Reach y by) fork below e m = refl
+
+layer_marked : (f g : ℕ → Term) (id : ℕ) (x : Node) (fork : Bool) → PartsBelow x id → ((a : ℕ) → a < id → g a ≡ mark (f a)) → fork ≡ may_fork (layer g (Some x))
+    → layer g (Some (node_with_fork fork x)) ≡ mark (layer f (Some x))
+layer_marked f g id (n.Then x rest) fork below e m = (λ k. Then (bind_marked f g id x fork below.0 e m k) (e rest.0 below.1 k))
+layer_marked f g id (n.Write h k ss ps) fork below e m = refl
+layer_marked f g id (n.Point x) fork below e m = refl
+layer_marked f g id (n.Call x v) fork below e m = refl
+layer_marked f g id (n.Give x) fork below e m = refl
+layer_marked f g id (n.Case x v) fork below e m = ap (CaseTerm x) (branches_marked f g id v.items below e)
+layer_marked f g id (n.If x t u) fork below e m = (λ k. IfTerm x (e t.0 below.0 k) (e u.0 below.1 k))
+
+-- Terms below a place are marked, and nodes from there on are as they were.
+pub record MarkedBelow (old now : List Node) (place : ℕ) : Type 0 where
+  pub first : IsArena old
+  pub arena : IsArena now
+  pub long : length now ≡ length old
+  pub within : place ≤ length old
+  pub done' : (id : ℕ) → id < place → term_of now id ≡ mark (term_of old id)
+  pub later : (id : ℕ) → place ≤ id → slice_get now id ≡ slice_get old id
+
+pub marked_first : (old : List Node) → IsArena old → MarkedBelow old old 0
+marked_first old arena = record { first = arena; arena = arena; long = refl; within = omega arith; done' = λ id lt. absurd (omega arith); later = λ id le. refl }
+
+at_place : (old now new : List Node) (place : ℕ) (x : Node) (fork : Bool) → MarkedBelow old now place → slice_get old place ≡ Some x → IsSet now new place fork → fork ≡ may_fork (term_of now place)
+    → ((id : ℕ) → id < place → term_of new id ≡ mark (term_of old id)) → term_of new place ≡ mark (term_of old place)
+at_place old now new place x fork h is set m below =
+    let here = h.later place (omega arith) ∙ is in
+    let was = term_of-node old place x h.first is in
+    let parts = h.first.below place x is in
+    let told : fork ≡ may_fork (layer (term_of now) (Some x)) = m ∙ ap may_fork (term_of-node now place x h.arena here) in
+    let Q : (ℕ → Term) → Type 0 = λ f. fork ≡ may_fork (layer f (Some x)) in
+    let same : layer (term_of now) (Some x) ≡ layer (term_of new) (Some x) =
+    layer_same_if (term_of now) (term_of new) place (Some x) (λ y e. subst (λ z. PartsBelow z place) (same_Some x y e) parts) (λ a lt. h.done' a lt ∙ sym (below a lt)) in
+    term_of-node new place (node_with_fork fork x) set.arena (set.node x here)
+    ∙ layer_marked (term_of old) (term_of new) place x fork parts below (told ∙ ap may_fork same)
+    ∙ ap mark (sym was)
+
+pub marked_next : (old now new : List Node) (place next : ℕ) (fork : Bool) → MarkedBelow old now place → place < length now → IsSet now new place fork → fork ≡ may_fork (term_of now place) → next ≡ place + 1 → MarkedBelow old new next
+marked_next old now new place next fork h lt set m e =
+    let inside : place < length old = omega (arith, lt, h.long) in
+    let x = get_or old place (n.Give (Rattle.gib_core.specs.declared.atom.Atom.TheVariants.Truth false)) in
+    let is = slice_get-get_or old place x inside in
+    let below : (id : ℕ) → id < place → term_of new id ≡ mark (term_of old id) =
+    λ id less. same_terms now new place h.arena (λ a lt'. set.others a (λ eq. absurd (omega (arith, lt', eq)))) id less ∙ h.done' id less in
+    record {
+      first = h.first;
+      arena = set.arena;
+      long = set.long ∙ h.long;
+      within = omega (arith, inside, e);
+      done' = λ id less.
+          ⊎_elim
+          (λ l. below id l)
+          (λ le.
+          let same : place ≡ id = omega (arith, less, le, e) in
+          subst (λ k. term_of new k ≡ mark (term_of old k)) same (at_place old now new place (get_or old place x) fork h is set m below))
+          (order id place);
+      later = λ id le. set.others id (λ eq. absurd (omega (arith, le, eq, e))) ∙ h.later id (omega (arith, le, e));
+    }
+
+-- The mark of a node is set.
+
+get_there : (ns : List Node) (place : ℕ) (x : Node) → place < length ns → slice_get (slice_set ns place x) place ≡ Some x
+get_there [] place x lt = absurd (omega arith)
+get_there (y ∷ ns) zero x lt = refl
+get_there (y ∷ ns) (suc place) x lt = get_there ns place x (omega arith)
+
+get_elsewhere : (ns : List Node) (place id : ℕ) (x : Node) → (id ≡ place → ⊥) → slice_get (slice_set ns place x) id ≡ slice_get ns id
+get_elsewhere [] place id x ne = refl
+get_elsewhere (y ∷ ns) zero zero x ne = absurd (ne refl)
+get_elsewhere (y ∷ ns) zero (suc id) x ne = refl
+get_elsewhere (y ∷ ns) (suc place) zero x ne = refl
+get_elsewhere (y ∷ ns) (suc place) (suc id) x ne = get_elsewhere ns place id x (λ e. ne (ap suc e))
+
+same_long : (ns : List Node) (place : ℕ) (x : Node) → length (slice_set ns place x) ≡ length ns
+same_long [] place x = refl
+same_long (y ∷ ns) zero x = refl
+same_long (y ∷ ns) (suc place) x = ap suc (same_long ns place x)
+
+fork_below : (x : Binding) (id : ℕ) (fork : Bool) → IsBindingBelow id x → IsBindingBelow id (with_fork fork x)
+fork_below (b.Past h k) id fork h' = h'
+fork_below (b.One s) id fork h' = h'
+fork_below (b.Par old l r) id fork h' = h'
+fork_below (b.Prim x f y z) id fork h' = h'
+fork_below (b.Reach y by) id fork h' = h'
+
+set_part : (ns : List Node) (place : ℕ) (x : Node) → IsArena ns → place < length ns → PartsBelow x place → (id : ℕ) (y : Node) → slice_get (slice_set ns place x) id ≡ Some y → Test (id == place) → PartsBelow y id
+set_part ns place x arena lt below id y e (fails ne) = arena.below id y (sym (get_elsewhere ns place id x (eqb-false id place ne)) ∙ e)
+set_part ns place x arena lt below id y e (holds eq) =
+    let same = eqb-true id place eq in
+    let which : x ≡ y = same_Some x y (sym (get_there ns place x lt) ∙ ap (slice_get (slice_set ns place x)) (sym same) ∙ e) in
+    subst (λ (z : Node). PartsBelow z id) which (subst (PartsBelow x) (sym same) below)
+
+pub set_arena : (ns : List Node) (place : ℕ) (binding made : Binding) (rest : TermId) (fork : Bool) (d : Node) → IsArena ns → place < length ns → get_or ns place d ≡ n.Then binding rest → made ≡ with_fork fork binding
+    → IsArena (slice_set ns place (n.Then made rest))
+set_arena ns place binding made rest fork d arena lt is e =
+    let below = arena.below place (n.Then binding rest) (slice_get-get_or ns place d lt ∙ ap Some is) in
+    let parts : PartsBelow (n.Then made rest) place = (subst (IsBindingBelow place) (sym e) (fork_below binding place fork below.0), below.1) in
+    record { below = λ id y f. set_part ns place (n.Then made rest) arena lt parts id y f (test (id == place)) }
+
+pub set_view : (ns vs : List Node) (place : ℕ) (binding made : Binding) (rest : TermId) (fork : Bool) (d : Node) → ns ≡ vs → IsArena ns → place < length vs → get_or ns place d ≡ n.Then binding rest → made ≡ with_fork fork binding
+    → IsSet vs (slice_set ns place (n.Then made rest)) place fork
+set_view ns vs place binding made rest fork d e arena lt is m =
+    let inside : place < length ns = subst (λ (l : List Node). place < length l) (sym e) lt in
+    let new = slice_set ns place (n.Then made rest) in
+    let found = slice_get-get_or ns place d inside ∙ ap Some is in
+    let P : List Node → Type 0 = λ l. IsSet l new place fork in
+    subst P e (record {
+      node = λ x f. get_there ns place (n.Then made rest) inside ∙ ap (λ (w : Binding). Some (n.Then w rest)) m ∙ ap (λ (z : Node). Some (node_with_fork fork z)) (same_Some (n.Then binding rest) x (sym found ∙ f));
+      others = λ id ne. get_elsewhere ns place id (n.Then made rest) ne;
+      long = same_long ns place (n.Then made rest);
+      arena = set_arena ns place binding made rest fork d arena inside is m;
+    })

@@ -1,0 +1,69 @@
+-- Small cores, for examples of build rules.
+use Rattle.std.specs.Prelude.{ℕ, pos, List, [], ◌∷◌}
+use Rattle.gib_base.specs.declared.name.Name.{Name}
+use Rattle.gib_types.specs.declared.table.Ty.{Ty}
+use Rattle.gib_types.specs.declared.table.Ty.TheVariants.{Whole, Tree}
+use Rattle.gib_types.specs.declared.table.ConId.{ConId}
+use Rattle.gib_types.specs.Row.{Table}
+use Rattle.gib_core.specs.declared.atom.Variable.{Variable}
+use Rattle.gib_core.specs.declared.atom.Atom.TheVariants as a
+use Rattle.gib_core.specs.declared.atom.Kind.{Kind}
+use Rattle.gib_core.specs.Tree.{Term, Bind, Point, Give, One, On, Branches, NoBranch, BranchThen, var, CoreTree}
+
+-- data Tree = Leaf Int | Node Tree Tree, data Empty = Nil, data Triple = Three Tree Tree Tree
+abbrev pub tree : Ty
+tree = Tree (record { 0 = 0 })
+
+abbrev pub empty : Ty
+empty = Tree (record { 0 = 1 })
+
+abbrev pub triple : Ty
+triple = Tree (record { 0 = 2 })
+
+abbrev pub leaf : ConId
+leaf = record { 0 = 0 }
+
+abbrev pub node : ConId
+node = record { 0 = 1 }
+
+abbrev pub nil : ConId
+nil = record { 0 = 2 }
+
+abbrev pub three : ConId
+three = record { 0 = 3 }
+
+abbrev pub sample_table : Table
+sample_table = record {
+  types = 0 ∷ 1 ∷ 2 ∷ [];
+  rows = record { name = 3; owner = 0; fields = Whole ∷ [] }
+      ∷ record { name = 4; owner = 0; fields = tree ∷ tree ∷ [] }
+      ∷ record { name = 5; owner = 1; fields = [] }
+      ∷ record { name = 6; owner = 2; fields = tree ∷ tree ∷ tree ∷ [] } ∷ [];
+}
+
+-- The variable of a number.
+abbrev pub v : ℕ → Variable
+v n = record { 0 = n }
+
+-- The function `same (t : Tree) : Tree = t`.
+abbrev pub same : Name
+same = record { 0 = 7 }
+
+-- A core of this main, behind that function, whose one term is the first; so main's terms count from 1.
+abbrev pub sample : Ty → Ty → Term → CoreTree
+sample parameter result body = record {
+  table = sample_table;
+  functions = record { name = same; parameters = tree ∷ []; result = tree; body = Point (var 0) } ∷ [];
+  main = record { parameter = parameter; result = result; body = body };
+  offsets = node ∷ [];
+}
+
+-- Pieces of terms.
+abbrev pub zero_term : Term
+zero_term = Give (a.Whole (pos 0))
+
+abbrev pub points : Kind → ℕ → ℕ → Bind
+points kind x y = One (On kind (v x) tree (Point (var y)))
+
+abbrev pub arms : List Variable → Term → List Variable → Term → Branches
+arms xs t ys u = BranchThen leaf xs t (BranchThen node ys u NoBranch)

@@ -1,0 +1,65 @@
+//! Examples of what runs cost.
+
+ghost use Rattle.std.specs.Prelude.{◌≡◌, ◌∷◌, [], ℕ, pos, true, false, Bool, List};
+ghost use Rattle.gib_base.specs.declared.name.Name.{Name};
+ghost use Rattle.gib_types.specs.declared.table.Ty.{Ty as FieldType};
+ghost use Rattle.gib_types.specs.declared.table.Ty.TheVariants as ty;
+ghost use Rattle.gib_types.specs.declared.table.ConId.{ConId as Con};
+ghost use Rattle.gib_types.specs.Row.{Table};
+ghost use Rattle.gib_types.specs.Tree.{Datum, whole, con, Data, none as no_fields, more as field};
+ghost use Rattle.gib_syntax.specs.declared.tree.Operator.TheVariants as o;
+ghost use Rattle.gib_core.specs.declared.atom.Atom.TheVariants as a;
+ghost use Rattle.gib_core.specs.declared.atom.Access.TheVariants as by;
+ghost use Rattle.gib_core.specs.declared.atom.Kind.{Kind as HowBound};
+ghost use Rattle.gib_core.specs.declared.atom.Kind.TheVariants as kind;
+ghost use Rattle.gib_core.specs.declared.atom.Variable.{Variable as X};
+ghost use Rattle.gib_core.specs.Tree.{Term, Then, Write, Point, CallTerm, CaseTerm, IfTerm, Past, One, Both, Prim, Reach, On, NoBranch, BranchThen, var, CoreTree};
+ghost use Rattle.gib_core.specs.Cost.{Cost, run_cost};
+ghost use Rattle.gib_core.specs.Tight.{Tight};
+
+/// What it costs to add 1 to each leaf of `(Node (Leaf 1) (Leaf 2))`, both sides of each node in a marked `par`: with the
+/// sides in regions of their own; in their fields' places; in their places with no level of forks left;
+/// and where the depth ends at both sides, which still count.
+pub fn adding_one()
+    ensures { let leaf : Con = record { 0 = 0 } in
+        let node : Con = record { 0 = 1 } in
+        let tree : FieldType = ty.Tree (record { 0 = 0 }) in
+        let x : ℕ → X = λ n. record { 0 = n } in
+        let f : Name = record { 0 = 5 } in
+        let table : Table = record { types = 0 ∷ []; rows = record { name = 1; owner = 0; fields = ty.Whole ∷ [] } ∷ record { name = 2; owner = 0; fields = tree ∷ tree ∷ [] } ∷ [] } in
+        let at_leaf : Term = Then (Prim (x 4) o.Add (var 1) (a.Whole (pos 1))) (Then (Past (x 5) leaf) (Write (x 5) leaf (var 4 ∷ []) [])) in
+        let both : HowBound → Term → Term = λ k t. Then (Both true (On k (x 6) tree (CallTerm f (var 2 ∷ []))) (On k (x 7) tree (CallTerm f (var 3 ∷ [])))) t in
+        let apart : Term = both kind.Region (Then (Past (x 8) node) (Then (One (On kind.Here (x 9) tree (Point (var 6)))) (Then (One (On kind.Here (x 10) tree (Point (var 7)))) (Write (x 8) node [] (var 9 ∷ var 10 ∷ []))))) in
+        let placed : Term = Then (Past (x 8) node) (both kind.Here (Write (x 8) node [] (var 6 ∷ var 7 ∷ []))) in
+        let core : Term → CoreTree = λ t. record {
+          table = table;
+          functions = record { name = f; parameters = tree ∷ []; result = tree; body = CaseTerm (var 0) (BranchThen leaf (x 1 ∷ []) at_leaf (BranchThen node (x 2 ∷ x 3 ∷ []) (Then (Reach (x 3) (by.Skip (x 2))) t) NoBranch)) } ∷ [];
+          main = record { parameter = tree; result = tree; body = CallTerm f (var 0 ∷ []) };
+          offsets = [];
+        } in
+        let leaf_of : ℕ → Datum = λ n. con 0 (field (whole (pos n)) no_fields) in
+        let input : Datum = con 1 (field (leaf_of 1) (field (leaf_of 2) no_fields)) in
+        (run_cost (core apart) 100 4 input ≡ record { regions = 2; items = 8 })
+        × (run_cost (core placed) 100 4 input ≡ record { regions = 1; items = 7 })
+        × (run_cost (core placed) 100 0 input ≡ record { regions = 0; items = 6 })
+        × (run_cost (core placed) 1 4 input ≡ record { regions = 1; items = 5 }) }
+{}
+
+/// What it costs to build a list of 3 cells in place, each after the one before.
+pub fn building()
+    ensures { let nil : Con = record { 0 = 0 } in
+        let cons : Con = record { 0 = 1 } in
+        let list : FieldType = ty.Tree (record { 0 = 0 }) in
+        let x : ℕ → X = λ n. record { 0 = n } in
+        let f : Name = record { 0 = 5 } in
+        let table : Table = record { types = 0 ∷ []; rows = record { name = 1; owner = 0; fields = [] } ∷ record { name = 2; owner = 0; fields = ty.Whole ∷ list ∷ [] } ∷ [] } in
+        let empty : Term = Then (Past (x 2) nil) (Write (x 2) nil [] []) in
+        let cell : Term = Then (Past (x 3) cons) (Then (Prim (x 4) o.Subtract (var 0) (a.Whole (pos 1))) (Then (One (On kind.Here (x 5) list (CallTerm f (var 4 ∷ [])))) (Write (x 3) cons (var 0 ∷ []) (var 5 ∷ [])))) in
+        let core : CoreTree = record {
+          table = table;
+          functions = record { name = f; parameters = ty.Whole ∷ []; result = list; body = Then (Prim (x 1) o.Less (var 0) (a.Whole (pos 1))) (IfTerm (var 1) empty cell) } ∷ [];
+          main = record { parameter = ty.Whole; result = list; body = CallTerm f (var 0 ∷ []) };
+          offsets = [];
+        } in
+        run_cost core 100 4 (whole (pos 3)) ≡ record { regions = 0; items = 4 } }
+{}

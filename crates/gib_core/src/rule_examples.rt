@@ -1,0 +1,94 @@
+//! Examples of build rules: cores that break one alone, each beside the core that breaks none.
+
+ghost use Rattle.std.specs.Prelude.{◌≡◌, ◌∷◌, [], pos, true, false, None, Some};
+ghost use Rattle.gib_types.specs.declared.table.Ty.TheVariants as ty;
+ghost use Rattle.gib_syntax.specs.declared.tree.Operator.TheVariants as o;
+ghost use Rattle.gib_core.specs.declared.atom.Atom.TheVariants as a;
+ghost use Rattle.gib_core.specs.declared.atom.Access.TheVariants as by;
+ghost use Rattle.gib_core.specs.declared.atom.Kind.TheVariants as kind;
+ghost use Rattle.gib_core.specs.Tree.{Term, Then, Write, Point, CallTerm, Give, CaseTerm, IfTerm, Past, One, Both, Prim, Reach, On, NoBranch, BranchThen, var};
+ghost use Rattle.gib_core.specs.Rules.{first_broken};
+ghost use Rattle.gib_core.specs.SampleCores.{tree, empty, triple, leaf, node, nil, three, v, same, sample, zero_term, points, arms};
+
+/// Rules 1, 2, 3, 5 and 6: where values are put. Main's terms count from 1.
+pub fn places()
+    // A head is of a constructor of the type that is due, at an empty place.
+    ensures head { let t : Term = Then (Past (v 1) nil) (Write (v 1) nil [] []) in
+        (first_broken (sample tree empty t) ≡ None)
+        × (first_broken (sample tree tree t) ≡ Some (1, 1))
+        × (first_broken (sample tree empty (Then (Past (v 1) nil) (Then (Past (v 2) nil) (Write (v 2) nil [] [])))) ≡ Some (1, 2)) }
+    // A `here` has an open head with room; a `region` is of a packed type.
+    ensures room { (first_broken (sample tree tree (Then (points kind.Here 1 0) (Point (var 1)))) ≡ Some (2, 1))
+        × (first_broken (sample tree tree (Then (Past (v 1) node) (Then (points kind.Here 2 0) (Then (points kind.Here 3 0) (Then (points kind.Here 4 0) (Write (v 1) node [] (var 2 ∷ var 3 ∷ []))))))) ≡ Some (2, 6))
+        × (first_broken (sample tree tree (Then (points kind.Region 1 0) (Point (var 1)))) ≡ None)
+        × (first_broken (sample tree tree (Then (One (On kind.Region (v 1) ty.Whole zero_term)) (Point (var 0)))) ≡ Some (3, 1)) }
+    // A head is filled once all fields stand, by its own constructor and name; but for the first, no `case` stands
+    // before on a field.
+    ensures filled { let fields : Term → Term = λ t. Then (Past (v 1) node) (Then (points kind.Here 2 0) (Then (points kind.Here 3 0) t)) in
+        let all : Term = Write (v 1) node [] (var 2 ∷ var 3 ∷ []) in
+        (first_broken (sample tree tree (fields all)) ≡ None)
+        × (first_broken (sample tree tree (Then (Past (v 1) node) (Then (points kind.Here 2 0) (Write (v 1) node [] (var 2 ∷ []))))) ≡ Some (5, 4))
+        × (first_broken (sample tree tree (fields (Write (v 1) node [] (var 2 ∷ [])))) ≡ Some (5, 6))
+        × (first_broken (sample tree tree (Then (points kind.Region 4 0) (fields (Write (v 4) node [] (var 2 ∷ var 3 ∷ []))))) ≡ Some (5, 8))
+        × (first_broken (sample tree tree (fields (Then (One (On kind.Scalar (v 4) ty.Whole (CaseTerm (var 2) (arms (v 5 ∷ []) zero_term (v 6 ∷ v 7 ∷ []) zero_term)))) all))) ≡ None)
+        × (first_broken (sample tree tree (fields (Then (One (On kind.Scalar (v 4) ty.Whole (CaseTerm (var 3) (arms (v 5 ∷ []) zero_term (v 6 ∷ v 7 ∷ []) zero_term)))) all))) ≡ Some (5, 10)) }
+    // To point, and to call for a packed value, is at an empty place.
+    ensures ends { (first_broken (sample tree tree (CallTerm same (var 0 ∷ []))) ≡ None)
+        × (first_broken (sample tree tree (Then (Past (v 1) node) (CallTerm same (var 0 ∷ [])))) ≡ Some (6, 2))
+        × (first_broken (sample tree tree (Then (Past (v 1) node) (Point (var 0)))) ≡ Some (6, 2)) }
+{}
+
+/// Rules 4, 7 and 8: which variables may be used, and where they are bound.
+pub fn scopes()
+    // No side of a par uses the other one's variable.
+    ensures sides { (first_broken (sample tree tree (Then (Both false (On kind.Region (v 1) tree (Point (var 0))) (On kind.Region (v 2) tree (Point (var 0)))) (Point (var 2)))) ≡ None)
+        × (first_broken (sample tree tree (Then (Both false (On kind.Region (v 1) tree (Point (var 2))) (On kind.Region (v 2) tree (Point (var 0)))) (Point (var 2)))) ≡ Some (4, 3))
+        × (first_broken (sample tree tree (Then (Both true (On kind.Region (v 1) tree (Point (var 0))) (On kind.Region (v 2) tree (Point (var 1)))) (Point (var 2)))) ≡ Some (4, 5)) }
+    // A `case` has one arm for each constructor, in their order, with a variable for each field.
+    ensures arms { (first_broken (sample tree ty.Whole (CaseTerm (var 0) (arms (v 1 ∷ []) zero_term (v 2 ∷ v 3 ∷ []) zero_term))) ≡ None)
+        × (first_broken (sample tree ty.Whole (CaseTerm (var 0) (arms (v 1 ∷ []) zero_term (v 2 ∷ []) zero_term))) ≡ Some (7, 1))
+        × (first_broken (sample tree ty.Whole (CaseTerm (var 0) (arms (v 1 ∷ v 4 ∷ []) zero_term (v 2 ∷ v 3 ∷ []) zero_term))) ≡ Some (7, 1))
+        × (first_broken (sample tree ty.Whole (CaseTerm (var 0) (BranchThen leaf (v 1 ∷ []) zero_term NoBranch))) ≡ Some (7, 1))
+        × (first_broken (sample tree ty.Whole (CaseTerm (var 0) (BranchThen node (v 2 ∷ v 3 ∷ []) zero_term (BranchThen leaf (v 1 ∷ []) zero_term NoBranch)))) ≡ Some (7, 1))
+        × (first_broken (sample ty.Whole ty.Whole (CaseTerm (var 0) NoBranch)) ≡ Some (7, 1)) }
+    // A field is reached once, from the field directly before it.
+    ensures fields { let of_three : Term → Term = λ t. CaseTerm (var 0) (BranchThen three (v 1 ∷ v 2 ∷ v 3 ∷ []) t NoBranch) in
+        let second : Term → Term = λ t. Then (Reach (v 2) (by.Skip (v 1))) t in
+        (first_broken (sample triple ty.Whole (of_three (second (Then (Reach (v 3) (by.Skip (v 2))) zero_term)))) ≡ None)
+        × (first_broken (sample triple ty.Whole (of_three (second (Then (Reach (v 3) (by.Skip (v 1))) zero_term)))) ≡ Some (8, 3))
+        × (first_broken (sample triple ty.Whole (of_three (second (second zero_term)))) ≡ Some (8, 3))
+        × (first_broken (sample triple ty.Whole (of_three (Then (Reach (v 3) (by.Skip (v 2))) zero_term))) ≡ Some (8, 2))
+        × (first_broken (sample triple ty.Whole (of_three (Then (Reach (v 2) by.Offset) zero_term))) ≡ Some (8, 2))
+        × (first_broken (sample triple tree (of_three (second (Point (var 2))))) ≡ None)
+        × (first_broken (sample triple tree (of_three (Point (var 2)))) ≡ Some (8, 2)) }
+    // Each variable is bound once, and used behind where it is bound.
+    ensures bound { (first_broken (sample tree ty.Whole (CaseTerm (var 0) (arms (v 1 ∷ []) zero_term (v 1 ∷ v 2 ∷ []) zero_term))) ≡ Some (8, 1))
+        × (first_broken (sample tree ty.Whole (CaseTerm (var 0) (arms (v 0 ∷ []) zero_term (v 1 ∷ v 2 ∷ []) zero_term))) ≡ Some (8, 1))
+        × (first_broken (sample tree tree (Then (points kind.Region 1 1) (Point (var 1)))) ≡ Some (8, 2))
+        × (first_broken (sample tree tree (Then (points kind.Region 0 0) (Point (var 0)))) ≡ Some (8, 1))
+        × (first_broken (sample tree tree (Point (var 1))) ≡ Some (8, 1)) }
+{}
+
+/// Rule 9: types.
+pub fn types()
+    // A call has its function's arguments, in number and type; its result is of the type that is due.
+    ensures calls { (first_broken (sample tree tree (CallTerm same [])) ≡ Some (9, 1))
+        × (first_broken (sample tree tree (CallTerm same (var 0 ∷ var 0 ∷ []))) ≡ Some (9, 1))
+        × (first_broken (sample empty tree (CallTerm same (var 0 ∷ []))) ≡ Some (9, 1))
+        × (first_broken (sample tree empty (CallTerm same (var 0 ∷ []))) ≡ Some (9, 1)) }
+    // An `if` is on a truth value, an operation on numbers.
+    ensures scalars { (first_broken (sample ty.Truth ty.Whole (IfTerm (var 0) zero_term zero_term)) ≡ None)
+        × (first_broken (sample ty.Whole ty.Whole (IfTerm (var 0) zero_term zero_term)) ≡ Some (9, 1))
+        × (first_broken (sample ty.Whole ty.Whole (Then (Prim (v 1) o.Add (var 0) (a.Whole (pos 1))) (Give (var 1)))) ≡ None)
+        × (first_broken (sample ty.Truth ty.Whole (Then (Prim (v 1) o.Add (var 0) (a.Whole (pos 1))) (Give (var 1)))) ≡ Some (9, 1)) }
+    // What is given is due, and at no place; what is pointed to is of the type that is due.
+    ensures ends { (first_broken (sample tree tree zero_term) ≡ Some (9, 1))
+        × (first_broken (sample tree ty.Truth zero_term) ≡ Some (9, 1))
+        × (first_broken (sample tree empty (Point (var 0))) ≡ Some (9, 1)) }
+    // A head is filled with its constructor's scalars; a `here` is of the field's type, a `scalar` of a scalar type.
+    ensures fields { (first_broken (sample tree tree (Then (Past (v 1) leaf) (Write (v 1) leaf (a.Whole (pos 1) ∷ []) []))) ≡ None)
+        × (first_broken (sample tree tree (Then (Past (v 1) leaf) (Write (v 1) leaf [] []))) ≡ Some (9, 2))
+        × (first_broken (sample tree tree (Then (Past (v 1) leaf) (Write (v 1) leaf (a.Truth true ∷ []) []))) ≡ Some (9, 2))
+        × (first_broken (sample empty tree (Then (Past (v 1) node) (Then (One (On kind.Here (v 2) empty (Point (var 0)))) (Write (v 1) node [] (var 2 ∷ []))))) ≡ Some (9, 2))
+        × (first_broken (sample tree ty.Whole (Then (One (On kind.Scalar (v 1) tree (Point (var 0)))) zero_term)) ≡ Some (9, 1)) }
+{}

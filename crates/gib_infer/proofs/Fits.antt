@@ -1,0 +1,58 @@
+-- Scopes whose atoms may be used below a number, and constructors that are found by their names.
+use Rattle.std.proofs.Common.{◌≡◌, ℕ, suc, ◌+◌, ◌<◌, ◌≤◌, Bool, true, false, ◌==◌, if◌then◌else◌, List, [], ◌∷◌, length, Option, Some, None, refl, sym, ap, ◌∙◌, subst, arith}
+use Rattle.std.specs.Prelude.{pos, slice_get}
+use Rattle.std.specs.Option.{option_map}
+use Rattle.std.proofs.lemmas.Option.{same_Some, slice_get-map}
+use Rattle.std.proofs.lemmas.Bool.{eqb-true}
+use Rattle.gib_types.specs.declared.table.Ty.{Ty}
+use Rattle.gib_types.specs.Table.{Row, Table, name_of, name_at}
+use Rattle.gib_syntax.specs.declared.tree.Ident.{Ident}
+use Rattle.gib_syntax.specs.Declarations.{place_of, next_place, constructor_names, constructor_named}
+use Rattle.gib_core.specs.declared.atom.Atom.{Atom}
+use Rattle.gib_core.specs.declared.atom.Atom.TheVariants as atomic
+use Rattle.gib_core.specs.Tree.{Prim, var}
+use Rattle.gib_core.specs.Ordered.{IsFit, AreFit}
+use Rattle.gib_core.proofs.Erases.{fit_more}
+use Rattle.gib_core.specs.Inferring.{Scope, slot, first_type, further_types, with_fields, atom_at}
+
+abbrev pub ScopeFits : ℕ → Scope → Type 0
+ScopeFits n [] = Unit {0}
+ScopeFits n (s ∷ sc) = IsFit n s.atom × ScopeFits n sc
+
+pub all_fit_more : (n m : ℕ) (xs : List Atom) → n ≤ m → AreFit n xs → AreFit m xs
+all_fit_more n m [] le h = tt
+all_fit_more n m (a ∷ xs) le h = (fit_more n m a le h.0, all_fit_more n m xs le h.1)
+
+pub scope_more : (n m : ℕ) (sc : Scope) → n ≤ m → ScopeFits n sc → ScopeFits m sc
+scope_more n m [] le h = tt
+scope_more n m (s ∷ sc) le h = (fit_more n m s.atom le h.0, scope_more n m sc le h.1)
+
+pub at_fit : (n : ℕ) (sc : Scope) (x : ℕ) → ScopeFits n sc → IsFit n (atom_at sc x)
+at_fit n [] x h = refl
+at_fit n (s ∷ sc) x h = here (s.name.0 == x) (at_fit n sc x h.1)
+  where
+    here : (b : Bool) → IsFit n (atom_at sc x) → IsFit n (if b then s.atom else atom_at sc x)
+    here true e = h.0
+    here false e = e
+
+pub fields_fit : (n m : ℕ) (xs : List Ident) (types : List Ty) (sc : Scope) → m ≡ n + length xs → ScopeFits n sc → ScopeFits m (with_fields xs types n sc)
+fields_fit n m [] types sc e h = scope_more n m sc (omega arith) h
+fields_fit n m (x ∷ xs) types sc e h =
+    fields_fit (n + 1) m xs (further_types types) (slot x (var n) (first_type types) ∷ sc) (omega arith) (omega arith, scope_more n (n + 1) sc (omega arith) h)
+
+-- The name of a constructor that was found by it.
+found_at : (xs : List ℕ) (x c : ℕ) → place_of xs x ≡ Some c → slice_get xs c ≡ Some x
+found_at [] x c e = absurd cc
+found_at (y ∷ ys) x c e = go (y == x) (place_of ys x) (eqb-true y x) (λ j f. found_at ys x j f) e
+  where
+    go : (b : Bool) (p : Option ℕ) → (b ≡ true → y ≡ x) → ((j : ℕ) → p ≡ Some j → slice_get ys j ≡ Some x) → (if b then Some 0 else next_place p) ≡ Some c → slice_get (y ∷ ys) c ≡ Some x
+    go true p is h f = subst (λ (n : ℕ). slice_get (y ∷ ys) n ≡ Some x) (same_Some 0 c f) (ap Some (is refl))
+    go false None is h f = absurd cc
+    go false (Some j) is h f = subst (λ (n : ℕ). slice_get (y ∷ ys) n ≡ Some x) (same_Some (suc j) c f) (h j refl)
+
+name_in : (r : Option Row) (x : ℕ) → option_map (λ (row : Row). row.name) r ≡ Some x → name_of r ≡ x
+name_in None x e = absurd cc
+name_in (Some row) x e = same_Some row.name x e
+
+pub named_at : (table : Table) (x c : ℕ) → constructor_named table x ≡ Some c → name_at table c ≡ x
+named_at table x c e = name_in (slice_get table.rows c) x (sym (slice_get-map (λ (row : Row). row.name) table.rows c) ∙ found_at (constructor_names table) x c e)

@@ -1,0 +1,324 @@
+-- What a typed program becomes breaks no rule, where each field in scope counts as reached.
+use Rattle.std.proofs.Common.{◌≡◌, ℕ, zero, suc, ◌+◌, ◌<◌, ◌≤◌, Bool, true, false, ◌==◌, if◌then◌else◌, List, [], ◌∷◌, ◌++◌, map, length, Option, Some, None, refl, sym, ap, ◌∙◌, subst, arith, inl, inr}
+use Rattle.std.specs.Prelude.{pos, slice_get}
+use Rattle.std.specs.List.{AllByRecursion}
+use Rattle.std.proofs.lemmas.Bool.{cases_lt, eqb-true, eq-eqb}
+use Rattle.std.proofs.lemmas.Option.{same_Some, slice_get-get_or}
+use Rattle.std.proofs.lemmas.List.{length-map}
+use Rattle.gib_types.specs.declared.table.Ty.{Ty}
+use Rattle.gib_types.specs.declared.table.Ty.TheVariants.{Whole, Truth, Tree}
+use Rattle.gib_types.specs.declared.table.ConId.{ConId}
+use Rattle.gib_types.specs.Table.{Row, Table, IsTable, name_at, name_of, owner_at, fields_at, first_at, count_at}
+use Rattle.gib_types.proofs.Owners.{together, tag_there, tag_back}
+use Rattle.gib_syntax.specs.declared.tree.Ident.{Ident}
+use Rattle.gib_syntax.specs.declared.tree.Operator.{Operator}
+use Rattle.gib_syntax.specs.declared.tree.Operator.TheVariants as o
+use Rattle.gib_syntax.specs.Tree.{Expression, Arguments, Arms, Var, Num, Bit, Paren, Op, Call, Make, Let, Par, If, Case, NoArgument, Argument, LastArm, NextArm, FunctionTree, ProgramTree}
+use Rattle.gib_syntax.specs.Declarations.{number_of, place_of, next_place, constructor_names, constructor_named, function_named, table_of_program, type_of_name}
+use Rattle.gib_syntax.specs.Typing as typing
+use Rattle.gib_syntax.specs.Typing.{Globals, globals_of, Has, HaveAll, HaveArms, Covers, arm_names, BindsAll, operator_type, parameter_types, result_type, IsTypedHere, IsTypedProgram}
+use Rattle.gib_syntax.specs.Meaning.{is_scalar, names_of}
+use Rattle.gib_core.specs.declared.atom.Variable.{Variable}
+use Rattle.gib_core.specs.declared.atom.Atom.{Atom}
+use Rattle.gib_core.specs.declared.atom.Atom.TheVariants as atomic
+use Rattle.gib_core.specs.declared.scope.Bound.{Bound}
+use Rattle.gib_core.specs.Tree.{variables_from, FunctionTerm, CoreTree}
+use Rattle.gib_core.specs.Meaning.{function_at}
+use Rattle.gib_core.specs.Inferring.{Scope, slot, Code, atom_at, type_at, of_line, of_atom, call_code, operation_atom, make_line, let_line, par_line, if_line, case_line, ArmCode, with_fields, branches_of, arm_for, numbers_from, constructors_of, first_constructor, con_or, con_named, gives_type, infer, infer_all, infer_arms, infer_body, infer_function, infer_program}
+use Rattle.gib_core.specs.declared.scope.Known.{Known}
+use Rattle.gib_core.specs.Met.{known, reached, Body, opening, with_parameters}
+use Rattle.gib_core.specs.Rules.{type_bound, bound_too, is_reached, bind_fields, bind_parameters, before_body}
+use Rattle.gib_core.specs.Reachable.{as_reached, IsReachable, AreReachable}
+use Rattle.gib_infer.proofs.Fits.{named_at, fields_fit}
+use Rattle.gib_infer.proofs.Ordered.{CodeOrdered, ordered}
+use Rattle.gib_infer.proofs.Whole.{place_below, named_listed}
+use Rattle.gib_infer.proofs.Meanings.{listed}
+use Rattle.gib_infer.proofs.Ready.{Ready, NamesTyped, CodeBuilt, AllBuilt}
+use Rattle.gib_infer.proofs.Makes.{line_built, atom_built, plain_built, operation_ok, call_built, make_built}
+use Rattle.gib_infer.proofs.Branching.{names_typed_bound, names_typed_fields, names_fields, let_ok, let_type, if_ok, par_ok, par_type}
+use Rattle.gib_infer.proofs.Choosing.{rising_variables, fields_outside, more_reached, reached_here, fields_can, binds_length, ArmBuilt, Taken, AllTaken, branches_type, case_ok}
+
+-- Constructors and arms.
+
+same_name : (table : Table) (c k : ℕ) → IsTable table → c < length table.rows → k < length table.rows → name_at table c ≡ name_at table k → c ≡ k
+same_name table c k is lt lt' e = go (slice_get table.rows c) (slice_get table.rows k) refl refl e
+  where
+    none : Row
+    none = record { name = 0; owner = 0; fields = [] }
+
+    go : (o p : Option Row) → slice_get table.rows c ≡ o → slice_get table.rows k ≡ p → name_of o ≡ name_of p → c ≡ k
+    go None p eo ep f = absurd (let at = slice_get-get_or table.rows c none lt in cc)
+    go (Some row) None eo ep f = absurd (let at = slice_get-get_or table.rows k none lt' in cc)
+    go (Some row) (Some other) eo ep f = is.names_differ c k row other eo ep f
+
+-- One of the arms is that of the constructor.
+abbrev has_arm : List ArmCode → ℕ → Bool
+has_arm [] k = false
+has_arm (arm ∷ arms) k = if arm.con == k then true else has_arm arms k
+
+-- Parameters.
+
+parameters_same : (n : ℕ) (xs : List Ident) (types : List Ty) (bound : List Bound) → length types ≡ length xs → bind_parameters n types bound ≡ bind_fields (variables_from n xs) types bound
+parameters_same n [] [] bound e = refl
+parameters_same n [] (t ∷ types) bound e = absurd cc
+parameters_same n (x ∷ xs) [] bound e = absurd cc
+parameters_same n (x ∷ xs) (t ∷ types) bound e =
+    let next : suc n ≡ n + 1 = omega arith in
+    parameters_same (suc n) xs types (bound_too (record { 0 = n }) t bound) (omega (arith, e))
+    ∙ ap (λ m. bind_fields (variables_from m xs) types (bound_too (record { 0 = n }) t bound)) next
+
+parameters_keep : (n : ℕ) (types : List Ty) (ks : List Known) (y : Variable) → is_reached (known (map as_reached ks) y) ≡ true → is_reached (known (map as_reached (with_parameters n types ks)) y) ≡ true
+parameters_keep n [] ks y h = h
+parameters_keep n (t ∷ types) ks y h = parameters_keep (suc n) types (reached (record { 0 = n }) ∷ ks) y (more_reached (reached (record { 0 = n })) ks y h)
+
+parameters_reach : (types : List Ty) (n : ℕ) (ks : List Known) (y : Variable) → n ≤ y.0 → y.0 < n + length types → is_reached (known (map as_reached (with_parameters n types ks)) y) ≡ true
+parameters_reach [] n ks y lo hi = absurd (omega arith)
+parameters_reach (t ∷ types) n ks y lo hi =
+    let ks' : List Known = reached (record { 0 = n }) ∷ ks in
+    elim (cases_lt n y.0) [
+      | inl lt ↦ parameters_reach types (suc n) ks' y (omega arith) (omega arith)
+      | inr ge ↦ parameters_keep (suc n) types ks' y (reached_here (reached (record { 0 = n })) ks y (let same : n ≡ y.0 = omega arith in same))
+    ]
+
+module _ (core : CoreTree) (functions : List FunctionTree) (is : IsTable core.table) where
+  abbrev g : Globals
+  g = record { table = core.table; functions = functions }
+
+  abbrev Built : Code → Ty → typing.Scope → Scope → Type 0
+  Built c ty outer sc = CodeBuilt core functions c ty outer sc
+
+  abbrev EachBuilt : List ArmCode → Ty → typing.Scope → Scope → Type 0
+  EachBuilt [] ty outer sc = Unit {0}
+  EachBuilt (arm ∷ arms) ty outer sc = ArmBuilt core functions arm.con arm ty outer sc × EachBuilt arms ty outer sc
+
+  taken : (arms : List ArmCode) (k : ℕ) (ty : Ty) (outer : typing.Scope) (sc : Scope) → has_arm arms k ≡ true → EachBuilt arms ty outer sc → Taken core functions k (arm_for arms k) ty outer sc
+  taken [] k ty outer sc has h = absurd cc
+  taken (arm ∷ arms) k ty outer sc has h = go (arm.con == k) (eqb-true arm.con k) has (λ e. taken arms k ty outer sc e h.1)
+    where
+      go : (c : Bool) → (c ≡ true → arm.con ≡ k) → (if c then true else has_arm arms k) ≡ true → (has_arm arms k ≡ true → Taken core functions k (arm_for arms k) ty outer sc)
+          → Taken core functions k (if c then Some arm else arm_for arms k) ty outer sc
+      go true same e more = subst (λ (j : ℕ). ArmBuilt core functions j arm ty outer sc) (same refl) h.0
+      go false same e more = more e
+
+  taken_from : (n count : ℕ) (arms : List ArmCode) (ty : Ty) (outer : typing.Scope) (sc : Scope) → ((k : ℕ) → n ≤ k → k < n + count → has_arm arms k ≡ true) → EachBuilt arms ty outer sc
+      → AllTaken core functions (numbers_from n count) arms ty outer sc
+  taken_from n zero arms ty outer sc has h = tt
+  taken_from n (suc count) arms ty outer sc has h = (taken arms n ty outer sc (has n (omega arith) (omega arith)) h, taken_from (suc n) count arms ty outer sc (λ k lo hi. has k (omega arith) (omega arith)) h)
+
+  -- The name is that of a constructor of the type.
+  abbrev NamedHere : ℕ → ℕ → Type 0
+  NamedHere ty x = (c : ℕ) × (constructor_named core.table x ≡ Some c) × (owner_at core.table c ≡ ty)
+
+  -- Each arm's constructor is one of the type.
+  abbrev Own : ℕ → Arms → Type 0
+  Own ty arms = AllByRecursion (NamedHere ty) (arm_names arms)
+
+  named_within : (x c : ℕ) → constructor_named core.table x ≡ Some c → c < length core.table.rows
+  named_within x c e = let at = place_below (constructor_names core.table) x c e in let l = length-map core.table.rows (λ (r : Row). r.name) in omega arith
+
+  -- The constructor that is named is k, where their names are the same.
+  con_is : (j : Ident) (k ty : ℕ) → NamedHere ty (number_of j) → k < length core.table.rows → number_of j ≡ name_at core.table k → con_named g j ≡ k
+  con_is j k ty own lt e =
+      let named : con_named g j ≡ own.0 = ap con_or own.1 in
+      named ∙ same_name core.table own.0 k is (named_within (number_of j) own.0 own.1) lt (named_at core.table (number_of j) own.0 own.1 ∙ e)
+
+  arm_there : (arms : Arms) (ty k i : ℕ) → Own ty arms → k < length core.table.rows → place_of (arm_names arms) (name_at core.table k) ≡ Some i → has_arm (infer_arms g arms) k ≡ true
+  arm_there (LastArm j xs e) ty k i own lt is_at = go (number_of j == name_at core.table k) (eqb-true (number_of j) (name_at core.table k)) is_at
+    where
+      go : (c : Bool) → (c ≡ true → number_of j ≡ name_at core.table k) → (if c then Some 0 else next_place (place_of [] (name_at core.table k))) ≡ Some i → has_arm (infer_arms g (LastArm j xs e)) k ≡ true
+      go true same f = ap (λ (c : Bool). if c then true else false) (eq-eqb (con_named g j) k (con_is j k ty own.0 lt (same refl)))
+      go false same f = absurd cc
+  arm_there (NextArm j xs e arms) ty k i own lt is_at =
+      go (number_of j == name_at core.table k) (place_of (arm_names arms) (name_at core.table k)) (eqb-true (number_of j) (name_at core.table k)) (λ l f. arm_there arms ty k l own.1 lt f) is_at
+    where
+      more : (c : Bool) → has_arm (infer_arms g arms) k ≡ true → (if c then true else has_arm (infer_arms g arms) k) ≡ true
+      more true f = refl
+      more false f = f
+
+      go : (c : Bool) (o : Option ℕ) → (c ≡ true → number_of j ≡ name_at core.table k) → ((l : ℕ) → o ≡ Some l → has_arm (infer_arms g arms) k ≡ true) → (if c then Some 0 else next_place o) ≡ Some i
+          → has_arm (infer_arms g (NextArm j xs e arms)) k ≡ true
+      go true o same rest f = ap (λ (c : Bool). if c then true else has_arm (infer_arms g arms) k) (eq-eqb (con_named g j) k (con_is j k ty own.0 lt (same refl)))
+      go false None same rest f = absurd cc
+      go false (Some l) same rest f = more (con_named g j == k) (rest l refl)
+
+  first_own : (arms : Arms) (ty : ℕ) → Own ty arms → owner_at core.table (first_constructor (infer_arms g arms)) ≡ ty
+  first_own (LastArm k xs e) ty own = ap (owner_at core.table) (ap con_or own.0.1) ∙ own.0.2
+  first_own (NextArm k xs e arms) ty own = ap (owner_at core.table) (ap con_or own.0.1) ∙ own.0.2
+
+  first_listed : (arms : Arms) (ty : ℕ) → Own ty arms → listed (constructors_of core.table (owner_at core.table (first_constructor (infer_arms g arms)))) (first_constructor (infer_arms g arms)) ≡ true
+  first_listed (LastArm k xs e) ty own = named_listed core.table (number_of k) (con_named g k) is (own.0.1 ∙ ap Some (sym (ap con_or own.0.1)))
+  first_listed (NextArm k xs e arms) ty own = named_listed core.table (number_of k) (con_named g k) is (own.0.1 ∙ ap Some (sym (ap con_or own.0.1)))
+
+  all_taken : (arms : Arms) (t : ℕ) (ty : Ty) (outer : typing.Scope) (sc : Scope) → Covers core.table t (arm_names arms) → EachBuilt (infer_arms g arms) ty outer sc
+      → AllTaken core functions (constructors_of core.table t) (infer_arms g arms) ty outer sc
+  all_taken arms t ty outer sc covers h = taken_from (first_at core.table t) (count_at core.table t) (infer_arms g arms) ty outer sc (λ k lo hi. has k lo hi) h
+    where
+      has : (k : ℕ) → first_at core.table t ≤ k → k < first_at core.table t + count_at core.table t → has_arm (infer_arms g arms) k ≡ true
+      has k lo hi =
+          let at = (together core.table t k is).1 (lo, hi) in
+          let found = covers.each k at in
+          arm_there arms t k found.0 covers.own (tag_back core.table t k k at).1 found.1
+
+  -- Branches of constructors, where there is one.
+  some_type : (ks : List ℕ) (c : ℕ) (arms : List ArmCode) (ty : Ty) (outer : typing.Scope) (sc : Scope) → listed ks c ≡ true → AllTaken core functions ks arms ty outer sc → (n : ℕ) → (branches_of core.table ks arms sc n).ty ≡ ty
+  some_type [] c arms ty outer sc e h n = absurd cc
+  some_type (k ∷ ks) c arms ty outer sc e h n = branches_type core functions k ks arms ty outer sc h n
+
+  case_type : (x : Ident) (arms : Arms) (t : ℕ) (ty : Ty) (outer : typing.Scope) (sc : Scope) → Covers core.table t (arm_names arms) → EachBuilt (infer_arms g arms) ty outer sc
+      → (n : ℕ) → (case_line core.table x (infer_arms g arms) sc n).ty ≡ ty
+  case_type x arms t ty outer sc covers h n =
+      let all = all_taken arms t ty outer sc covers h in
+      let own = first_own arms t covers.own in
+      some_type (constructors_of core.table (owner_at core.table (first_constructor (infer_arms g arms)))) (first_constructor (infer_arms g arms)) (infer_arms g arms) ty outer sc (first_listed arms t covers.own)
+      (subst (λ (z : ℕ). AllTaken core functions (constructors_of core.table z) (infer_arms g arms) ty outer sc) (sym own) all) n
+
+  -- Parts of expressions.
+
+  fields_named : (k : Ident) (xs : List Ident) (outer : typing.Scope) (c : ℕ) (inner : typing.Scope) → constructor_named core.table (number_of k) ≡ Some c → BindsAll outer xs (fields_at core.table c) inner
+      → BindsAll outer xs (fields_at core.table (con_named g k)) inner
+  fields_named k xs outer c inner e h = subst (λ (z : ℕ). BindsAll outer xs (fields_at core.table z) inner) (sym (ap con_or e)) h
+
+  abbrev call_of : Ident → List Code → Code
+  call_of f xs = call_code (gives_type core.table (function_named functions (number_of f))) f.name xs
+
+  operator_scalar : (f : Operator) → is_scalar (operator_type f) ≡ true
+  operator_scalar o.Add = refl
+  operator_scalar o.Subtract = refl
+  operator_scalar o.Multiply = refl
+  operator_scalar o.Equal = refl
+  operator_scalar o.Less = refl
+
+  operation_built : (f : Operator) (c d : Code) (ty : Ty) (outer : typing.Scope) (sc : Scope) → ty ≡ operator_type f → CodeOrdered g (of_atom (operation_atom f c.atom d.atom)) sc → Built c Whole outer sc → Built d Whole outer sc
+      → Built (of_atom (operation_atom f c.atom d.atom)) ty outer sc
+  operation_built f c d ty outer sc same order hc hd =
+      subst (λ (z : Ty). Built (of_atom (operation_atom f c.atom d.atom)) z outer sc) (sym same)
+      (atom_built core functions (operation_atom f c.atom d.atom) (operator_type f) outer sc order (operator_scalar f) (λ n. refl)
+      (operation_ok core functions f c.atom d.atom outer sc hc.order.atom hd.order.atom hc.atom hd.atom))
+
+  make_here : (k : Ident) (cs : List Code) (c : ℕ) (ty : Ty) (outer : typing.Scope) (sc : Scope) → CodeOrdered g (of_line (make_line core.table (record { 0 = con_named g k }) cs)) sc
+      → constructor_named core.table (number_of k) ≡ Some c → ty ≡ Tree (record { 0 = owner_at core.table c }) → AllBuilt core functions cs (fields_at core.table (con_named g k)) outer sc
+      → Built (of_line (make_line core.table (record { 0 = con_named g k }) cs)) ty outer sc
+  make_here k cs c ty outer sc order e same all =
+      let named : con_named g k ≡ c = ap con_or e in
+      let at : ConId = record { 0 = con_named g k } in
+      let within : con_named g k < length core.table.rows = named_within (number_of k) (con_named g k) (e ∙ ap Some (sym named)) in
+      subst (λ (z : Ty). Built (of_line (make_line core.table at cs)) z outer sc) (ap (λ z. Tree (record { 0 = owner_at core.table z })) named ∙ sym same)
+      (make_built core functions at cs outer sc order (tag_there core.table (con_named g k) within) all)
+
+  -- Each function is there.
+  module _ (there : (f : ℕ) (h : FunctionTree) → function_named functions f ≡ Some h → function_at core.functions f ≡ Some (infer_function g h)) where
+    call_here : (f : Ident) (xs : List Code) (h : FunctionTree) (ty : Ty) (outer : typing.Scope) (sc : Scope) → CodeOrdered g (call_of f xs) sc → function_named functions (number_of f) ≡ Some h → ty ≡ result_type core.table h
+        → AllBuilt core functions xs (parameter_types core.table h) outer sc → Built (call_of f xs) ty outer sc
+    call_here f xs h ty outer sc order named same all =
+        let given : gives_type core.table (function_named functions (number_of f)) ≡ result_type core.table h = ap (gives_type core.table) named in
+        subst (λ (z : Ty). Built (call_of f xs) z outer sc) (given ∙ sym same)
+        (call_built core functions (gives_type core.table (function_named functions (number_of f))) f.name (infer_function g h) xs outer sc order (there (number_of f) h named) (sym given) all)
+
+    mutual
+      -- What an expression becomes breaks no rule.
+      pub built : (e : Expression) (outer : typing.Scope) (ty : Ty) (sc : Scope) → Has g outer e ty → NamesTyped outer sc → Built (infer g e) ty outer sc
+      built (Var x) outer ty sc h names =
+          plain_built core functions (λ sc. type_at sc (number_of x)) (λ sc. atom_at sc (number_of x)) ty outer sc (ordered g (Var x) outer ty sc h) (names.types (number_of x) ty h) (λ n m s b ready. ready.names (number_of x) ty h)
+      built (Num p n) outer ty sc h names =
+          plain_built core functions (λ sc. Whole) (λ sc. atomic.Whole (pos n)) ty outer sc (ordered g (Num p n) outer ty sc h) (sym h) (λ n m s b ready. record { usable = refl; of_type = ap Some (sym h); other = refl })
+      built (Bit p t) outer ty sc h names =
+          plain_built core functions (λ sc. Truth) (λ sc. atomic.Truth t) ty outer sc (ordered g (Bit p t) outer ty sc h) (sym h) (λ n m s b ready. record { usable = refl; of_type = ap Some (sym h); other = refl })
+      built (Paren p e) outer ty sc h names = built e outer ty sc h names
+      built (Op p f d e) outer ty sc h names = operation_built f (infer g d) (infer g e) ty outer sc h.0 (ordered g (Op p f d e) outer ty sc h) (built d outer Whole sc h.1 names) (built e outer Whole sc h.2 names)
+      built (Call f xs) outer ty sc h names = call_here f (infer_all g xs) h.0 ty outer sc (ordered g (Call f xs) outer ty sc h) h.1 h.2 (all_built xs outer (parameter_types core.table h.0) sc h.3 names)
+      built (Make k xs) outer ty sc h names =
+          let types : HaveAll g outer xs (fields_at core.table (con_named g k)) = subst (λ (z : ℕ). HaveAll g outer xs (fields_at core.table z)) (sym (ap con_or h.1)) h.3 in
+          make_here k (infer_all g xs) h.0 ty outer sc (ordered g (Make k xs) outer ty sc h) h.1 h.2 (all_built xs outer (fields_at core.table (con_named g k)) sc types names)
+      built (Let p x d e) outer ty sc h names =
+          let first = built d outer h.0 sc h.1 names in
+          let rest = λ (at : Atom) (t' : Ty) (same : t' ≡ h.0). built e (typing.bound x h.0 outer) ty (slot x at t' ∷ sc) h.3 (names_typed_bound x h.0 t' at outer sc same names) in
+          line_built core functions (let_line x (infer g d).bound (infer g e).line) ty outer sc (ordered g (Let p x d e) outer ty sc h)
+          (let_type core functions x (infer g d) (infer g e) h.0 ty outer sc first rest) (let_ok core functions x (infer g d) (infer g e) h.0 ty outer sc first rest)
+      built (Par p x d y e f) outer ty sc h names =
+          let left = built d outer h.0 sc h.2 names in
+          let right = built e outer h.1 sc h.3 names in
+          let rest = λ (at other : Atom) (t' u' : Ty) (same : t' ≡ h.0) (same' : u' ≡ h.1).
+          built f (typing.bound y h.1 (typing.bound x h.0 outer)) ty (slot y other u' ∷ slot x at t' ∷ sc) h.6
+          (names_typed_bound y h.1 u' other (typing.bound x h.0 outer) (slot x at t' ∷ sc) same' (names_typed_bound x h.0 t' at outer sc same names)) in
+          line_built core functions (par_line x (infer g d).side y (infer g e).side (infer g f).line) ty outer sc (ordered g (Par p x d y e f) outer ty sc h)
+          (par_type core functions x y (infer g d) (infer g e) (infer g f) h.0 h.1 ty outer sc left right rest) (par_ok core functions x y (infer g d) (infer g e) (infer g f) h.0 h.1 ty outer sc left right rest)
+      built (If p c d e) outer ty sc h names =
+          let left = built d outer ty sc h.1 names in
+          line_built core functions (if_line (infer g c).atom (infer g d).line (infer g e).line) ty outer sc (ordered g (If p c d e) outer ty sc h)
+          (λ n. left.line_type ((infer g c).atom sc n).fresh) (if_ok core functions (infer g c) (infer g d) (infer g e) ty outer sc (built c outer Truth sc h.0 names) left (built e outer ty sc h.2 names))
+      built (Case p x arms) outer ty sc h names =
+          let each = arms_built arms outer ty sc h.3 names in
+          line_built core functions (case_line core.table x (infer_arms g arms)) ty outer sc (ordered g (Case p x arms) outer ty sc h) (case_type x arms h.0.0 ty outer sc h.2 each)
+          (case_ok core functions x (infer_arms g arms) h.0 ty outer sc h.1 (first_own arms h.0.0 h.2.own) (all_taken arms h.0.0 ty outer sc h.2 each))
+
+      pub all_built : (xs : Arguments) (outer : typing.Scope) (types : List Ty) (sc : Scope) → HaveAll g outer xs types → NamesTyped outer sc → AllBuilt core functions (infer_all g xs) types outer sc
+      all_built NoArgument outer [] sc h names = tt
+      all_built NoArgument outer (t ∷ types) sc h names = absurd h
+      all_built (Argument e xs) outer [] sc h names = absurd h
+      all_built (Argument e xs) outer (t ∷ types) sc h names = (built e outer t sc h.0 names, all_built xs outer types sc h.1 names)
+
+      pub arms_built : (arms : Arms) (outer : typing.Scope) (ty : Ty) (sc : Scope) → HaveArms g outer arms ty → NamesTyped outer sc → EachBuilt (infer_arms g arms) ty outer sc
+      arms_built (LastArm k xs e) outer ty sc h names =
+          let binds = fields_named k xs outer h.0 h.1 h.2 h.3 in
+          (record { inner = h.1; binds = binds; code = λ n. built e h.1 ty (with_fields xs (fields_at core.table (con_named g k)) n sc) h.4 (names_typed_fields xs (fields_at core.table (con_named g k)) outer h.1 sc n binds names) }, tt)
+      arms_built (NextArm k xs e arms) outer ty sc h names =
+          let binds = fields_named k xs outer h.0.0 h.0.1 h.0.2 h.0.3 in (
+            record { inner = h.0.1; binds = binds; code = λ n. built e h.0.1 ty (with_fields xs (fields_at core.table (con_named g k)) n sc) h.0.4 (names_typed_fields xs (fields_at core.table (con_named g k)) outer h.0.1 sc n binds names) },
+            arms_built arms outer ty sc h.1 names,
+          )
+
+    -- A body whose parameters have these names and types.
+    pub body_reachable : (names : List Ident) (types : List Ty) (inner : typing.Scope) (e : Expression) (ty : Ty) → BindsAll [] names types inner → Has g inner e ty
+        → IsReachable core (record { parameters = types; result = ty; term = infer_body g names types e })
+    body_reachable names types inner e ty binds h =
+        let body : Body = record { parameters = types; result = ty; term = infer_body g names types e } in
+        let s = opening body in
+        let b = before_body body in
+        let n = length names in
+        let sc = with_fields names types 0 [] in
+        let long = binds_length names types [] inner binds in
+        let code = built e inner ty sc h (names_typed_fields names types [] inner [] 0 binds (record { types = λ x t f. absurd cc })) in
+        let same = parameters_same 0 names types [] long in
+        let of : (y : Variable) → type_bound b.bound y ≡ type_bound (bind_fields (variables_from 0 names) types []) y = λ y. ap (λ z. type_bound z y) same in
+        let can = fields_can names types 0 s b [] long (λ y lo hi. parameters_reach types 0 [] y lo (omega (arith, long, hi))) (λ y lo hi. of y) (λ y lo hi. refl) in
+        let l = (infer g e).line sc n in
+        let ready : Ready n l.fresh inner sc s b = record {
+          names = names_fields names types [] inner [] 0 s b binds can (λ y t f. absurd cc);
+          fits = fields_fit 0 n names types [] (omega arith) tt;
+          new = λ y lo hi. of y ∙ fields_outside 0 n (variables_from 0 names) types [] y (rising_variables 0 n names (omega arith)) (λ z l u f. omega arith);
+          uncased = λ y lo. refl;
+          apart = λ y lo hi. refl;
+        } in
+        (code.line n l.fresh s b ready (omega arith) (record { destination = refl; due = refl })).clean.reachable
+
+-- Each body of a program.
+
+abbrev body_of : FunctionTerm → Body
+body_of f = record { parameters = f.parameters; result = f.result; term = f.body }
+
+function_there : (g : Globals) (fs : List FunctionTree) (f : ℕ) (h : FunctionTree) → function_named fs f ≡ Some h → function_at (map (infer_function g) fs) f ≡ Some (infer_function g h)
+function_there g [] f h e = absurd cc
+function_there g (k ∷ fs) f h e = go (number_of k.name == f) e (function_there g fs f h)
+  where
+    go : (c : Bool) → (if c then Some k else function_named fs f) ≡ Some h → (function_named fs f ≡ Some h → function_at (map (infer_function g) fs) f ≡ Some (infer_function g h))
+        → (if c then Some (infer_function g k) else function_at (map (infer_function g) fs) f) ≡ Some (infer_function g h)
+    go true e more = ap (λ z. Some (infer_function g z)) (same_Some k h e)
+    go false e more = more e
+
+all_bodies : (core : CoreTree) (g : Globals) (fs : List FunctionTree) (last : Body) → ((h : FunctionTree) → IsTypedHere g h → IsReachable core (body_of (infer_function g h))) → AllByRecursion (IsTypedHere g) fs → IsReachable core last
+    → AllByRecursion (IsReachable core) (map body_of (map (infer_function g) fs) ++ last ∷ [])
+all_bodies core g [] last each typed h = (h, tt)
+all_bodies core g (f ∷ fs) last each typed h = (each f typed.0, all_bodies core g fs last each typed.1 h)
+
+-- What a typed program becomes breaks no rule.
+pub infer_reachable : (p : ProgramTree) → IsTable (table_of_program p) → IsTypedProgram p → AreReachable (infer_program p)
+infer_reachable p is typed =
+    let core = infer_program p in
+    let g = globals_of p in
+    let parameter = type_of_name g.table.types p.main.parameter.ty in
+    let result = type_of_name g.table.types p.main.result in
+    let there = function_there g p.functions in
+    let last = body_reachable core p.functions is there (p.main.parameter.name ∷ []) (parameter ∷ []) typed.main.scope p.main.body result typed.main.bound typed.main.typed in
+    all_bodies core g p.functions (record { parameters = parameter ∷ []; result = result; term = core.main.body })
+    (λ h t. body_reachable core p.functions is there (names_of h.parameters) (parameter_types g.table h) t.scope h.body (result_type g.table h) t.bound t.typed)
+    typed.functions last

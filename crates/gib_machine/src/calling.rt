@@ -1,0 +1,121 @@
+//! Calls and their ends: they have no memory action.
+
+ghost use Rattle.std.specs.Prelude.{◌≡◌, ◌<◌, ◌+◌, ◌^◌, ℕ, List};
+ghost use Rattle.gib_machine.specs.Machine.{word, words, called, returned, gave, unwound, slots_at, widest};
+ghost use Rattle.gib_machine.specs.Machine as m;
+ghost use Rattle.gib_machine.specs.Stepping.{with_tails};
+ghost use Rattle.gib_machine.specs.declared.turn.Turn.TheVariants as turns;
+
+use crate::state::{Doing, Machine};
+use crate::turn::Turn;
+use gib_code::{Answer, Code, Operand};
+use gib_types::Ty;
+
+/// A word as an answer of the type.
+pub(crate) fn answer_of(ty: Ty, word: u64) -> Answer
+    ensures { result ≡ m.answer_of ty word }
+{
+    match ty {
+        Ty::Whole => Answer::Whole(word.cast_signed()),
+        Ty::Truth => Answer::Truth(word != 0),
+        Ty::Tree(_) => Answer::At(word),
+    }
+}
+
+/// Where a function starts; 0 for no function.
+#[tactic(auto, using(crate::proofs::Steps::start_here, crate::proofs::Steps::start_past))]
+fn start_of(code: &Code, function: u32) -> u32
+    ensures { result ≡ m.start_at code.now.functions function }
+{
+    let functions = code.functions();
+    let place = function as usize;
+    if place < functions.len() {
+        functions[place].start
+    } else {
+        0
+    }
+}
+
+/// How many slots a frame of a function has; 0 for no function.
+#[tactic(auto, using(crate::proofs::Steps::slots_here, crate::proofs::Steps::slots_past))]
+fn slots_of(code: &Code, function: u32) -> u32
+    ensures { result ≡ slots_at code.now.functions function }
+{
+    let functions = code.functions();
+    let place = function as usize;
+    if place < functions.len() {
+        functions[place].slots
+    } else {
+        0
+    }
+}
+
+impl Machine {
+    /// Goes on at the join of the newest `par` whose left side runs, or ends: no call is left.
+    #[tactic(auto, using(crate::proofs::Unwinds::unwound_none, crate::proofs::Unwinds::unwound_some))]
+    fn unwinds(&mut self)
+        ensures { (ts : List ℕ) → with_tails self.new ts ≡ unwound (with_tails self.old ts) self.old.pars }
+    {
+        match self.openings.unwind() {
+            None => self.doing = Doing::Over(Answer::Deep),
+            Some(join) => {
+                self.ip = join;
+                self.doing = Doing::Unwinding;
+            }
+        }
+    }
+
+    #[tactic(auto, using(crate::proofs::Steps::slots_widest))]
+    pub(crate) fn calls(
+        &mut self,
+        code: &Code,
+        function: u32,
+        arguments: &[Operand],
+        answer: Option<u32>,
+    ) -> Turn
+        requires next { self.old.ip + 1 < 2 ^ 32 }
+        requires made { self.old.width ≡ widest code.now.functions }
+        ensures state { (ts : List ℕ) → with_tails self.new ts ≡ called code.now (with_tails self.old ts) function (words self.old.words arguments.now) answer self.old.depth }
+        ensures turn { result ≡ turns.Went }
+    {
+        if self.frames.is_full() {
+            self.unwinds();
+        } else {
+            let start = start_of(code, function);
+            let slots = slots_of(code, function);
+            self.frames.enter(slots, arguments, self.ip + 1, answer);
+            self.went_to(start);
+        }
+        Turn::Went
+    }
+
+    pub(crate) fn returns(&mut self) -> Turn
+        ensures state { self.new ≡ returned self.old self.old.frames }
+        ensures turn { result ≡ turns.Went }
+    {
+        if self.frames.is_first() {
+            self.doing = Doing::Over(Answer::At(self.openings.start()));
+        } else {
+            let (back, _) = self.frames.leave();
+            self.went_to(back);
+        }
+        Turn::Went
+    }
+
+    pub(crate) fn gives(&mut self, from: Operand) -> Turn
+        ensures state { self.new ≡ gave self.old self.old.frames (word self.old.words from) }
+        ensures turn { result ≡ turns.Went }
+    {
+        let word = self.frames.word(from);
+        if self.frames.is_first() {
+            self.doing = Doing::Over(answer_of(self.result, word));
+        } else {
+            let (back, answer) = self.frames.leave();
+            if let Some(to) = answer {
+                self.frames.set(to, word);
+            }
+            self.went_to(back);
+        }
+        Turn::Went
+    }
+}

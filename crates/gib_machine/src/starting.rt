@@ -1,0 +1,233 @@
+//! A machine at its first instruction.
+
+ghost use Rattle.std.specs.Prelude.{◌≡◌, ◌≤◌, ◌<◌, ℕ, length, Option, Some, None, IfOk, IfSome, IfNone, if◌then◌else◌};
+ghost use Rattle.gib_code.specs.Instruction.{instruction_of};
+ghost use Rattle.gib_machine.specs.Machine.{Ready, Opening, fork_of, side_doing, side_start};
+ghost use Rattle.gib_machine.specs.Machine as m;
+ghost use Rattle.gib_machine.specs.Starting.{begun, is_packed, main_entry, started, forking_of, waiting_of};
+ghost use Rattle.gib_machine.specs.Starting as s;
+
+use crate::frames::Frames;
+use crate::item::Item;
+use crate::regions::Openings;
+use crate::state::{Doing, Machine};
+use gib_base::Memory;
+use gib_code::{Code, Entry, Instr, Kind, Side};
+use gib_types::Ty;
+use std::alloc::Global;
+
+/// How a machine begins: where, with how many slots, with which variable where it is a right side, with what type of answer,
+/// and whether it opens a region first.
+#[derive(Clone, Copy, Debug)]
+pub struct Start {
+    pub label: u32,
+    pub slots: u32,
+    pub side: Option<u32>,
+    pub result: Ty,
+    pub opens: bool,
+}
+
+/// What a fork says of its right side.
+#[derive(Clone, Copy, Debug)]
+pub struct ForkParts {
+    pub right: u32,
+    pub joint: u32,
+    pub kind: Kind,
+    pub variable: u32,
+    pub result: Ty,
+}
+
+/// The slots of the widest frame.
+fn widest(functions: &[Entry]) -> u32
+    ensures { result ≡ m.widest functions.now }
+{
+    let mut rest = functions;
+    let mut most = 0;
+    'functions: while let [entry, after @ ..] = rest {
+        most = most.max(entry.slots);
+        rest = after;
+    }
+    most
+}
+
+/// Whether a value of the type is packed.
+fn is_packed(ty: Ty) -> bool
+    ensures { result ≡ is_packed ty }
+{
+    match ty {
+        Ty::Whole => false,
+        Ty::Truth => false,
+        Ty::Tree(_) => true,
+    }
+}
+
+/// Whether a right side that is a task of its own begins with a region.
+fn opens_region(kind: Kind) -> bool
+    ensures { side_doing kind ≡ (if result then Opening else Ready) }
+{
+    match kind {
+        Kind::Here => true,
+        Kind::Region => false,
+        Kind::Scalar => false,
+    }
+}
+
+/// Main, the last of the functions; None where there is none.
+#[tactic(auto, using(crate::proofs::Starts::main_is_last, crate::proofs::Starts::last_fits, crate::proofs::Starts::main_none))]
+fn main_of(functions: &[Entry]) -> Option<Entry>
+    ensures some { IfSome result (λ e. main_entry functions.now ≡ Some e) }
+    ensures fits { IfSome result (λ e. e.slots ≤ m.widest functions.now) }
+    ensures none { IfNone result (main_entry functions.now ≡ None) }
+{
+    if functions.len() == 0 {
+        return None;
+    }
+    Some(functions[functions.len() - 1])
+}
+
+/// What a fork says; None where the instruction is no fork.
+fn fork_parts(instr: &Instr) -> Option<ForkParts>
+    ensures some { IfSome result (λ f. fork_of (Some (instruction_of instr.now)) ≡ Some (forking_of f)) }
+    ensures none { IfNone result (fork_of (Some (instruction_of instr.now)) ≡ None) }
+{
+    match instr {
+        Instr::Fork {
+            right,
+            joint,
+            kind,
+            variable,
+            result,
+        } => Some(ForkParts {
+            right: *right,
+            joint: *joint,
+            kind: *kind,
+            variable: *variable,
+            result: *result,
+        }),
+        _ => None,
+    }
+}
+
+/// The first fork whose right side begins at the label.
+#[tactic(auto, using(crate::proofs::Starts::fork_here, crate::proofs::Starts::fork_other, crate::proofs::Starts::fork_later))]
+fn fork_to(code: &Code, label: u32) -> Option<ForkParts>
+    ensures some { IfSome result (λ f. s.fork_to code.now.instructions label ≡ Some (forking_of f)) }
+    ensures none { IfNone result (s.fork_to code.now.instructions label ≡ None) }
+{
+    let mut rest = code.instructions();
+    'instructions: while let [instr, after @ ..] = rest {
+        if let Some(found) = fork_parts(instr) {
+            if found.right == label {
+                return Some(found);
+            }
+        }
+        rest = after;
+    }
+    None
+}
+
+/// A machine that begins so, with frames of this width and these first words; the other slots are 0.
+#[tactic(auto, using(crate::proofs::Starts::room_is))]
+fn begin(
+    alloc: Global,
+    width: u32,
+    start: Start,
+    words: &[u64],
+    depth: u32,
+    level: u32,
+) -> Result<Machine, Memory>
+    requires { start.slots ≤ width }
+    ensures { IfOk result (λ machine. machine ≡ begun width start words.now depth level) }
+{
+    let frames = Frames::make(alloc, words, start.slots, depth, width)?;
+    let openings = Openings::make(alloc, (depth as usize + 1) * width as usize + 1)?;
+    let doing = if start.opens {
+        Doing::Opening
+    } else {
+        Doing::Ready
+    };
+    Ok(Machine {
+        ip: start.label,
+        frames,
+        level,
+        side: start.side,
+        openings,
+        result: start.result,
+        item: Item::new(),
+        doing,
+    })
+}
+
+impl Machine {
+    /// A machine that starts at a label with these words, and may nest `depth` calls and `level` forks: at main's start with
+    /// its argument, or at the start of a fork's right side with the words of a frame. It takes all its memory here.
+    ///
+    /// # Errors
+    ///
+    /// Want of memory.
+    #[tactic(auto, using(crate::proofs::Starts::whole_frame))]
+    pub fn make(
+        alloc: Global,
+        code: &Code,
+        start: u32,
+        words: &[u64],
+        depth: u32,
+        level: u32,
+    ) -> Result<Machine, Memory>
+        requires { length words.now ≤ m.widest code.now.functions }
+        ensures { IfOk result (λ machine. machine ≡ started code.now start words.now depth level) }
+    {
+        let width = widest(code.functions());
+        if let Some(main) = main_of(code.functions()) {
+            if main.start == start {
+                let start = Start {
+                    label: start,
+                    slots: main.slots,
+                    side: None,
+                    result: main.result,
+                    opens: is_packed(main.result),
+                };
+                return begin(alloc, width, start, words, depth, level);
+            }
+        }
+        let slots = words.len() as u32;
+        let start = match fork_to(code, start) {
+            Some(fork) => Start {
+                label: fork.right,
+                slots,
+                side: Some(fork.variable),
+                result: fork.result,
+                opens: opens_region(fork.kind),
+            },
+            None => Start {
+                label: start,
+                slots,
+                side: None,
+                result: Ty::Whole,
+                opens: false,
+            },
+        };
+        begin(alloc, width, start, words, depth, level)
+    }
+
+    /// The machine of a right side that waits. It takes all its memory here.
+    ///
+    /// # Errors
+    ///
+    /// Want of memory.
+    #[tactic(auto, using(crate::proofs::Starts::whole_frame))]
+    pub fn of_side(alloc: Global, code: &Code, side: &Side) -> Result<Machine, Memory>
+        requires { length side.now.words.items ≤ m.widest code.now.functions }
+        ensures { IfOk result (λ machine. machine ≡ side_start code.now (waiting_of side.now)) }
+    {
+        let width = widest(code.functions());
+        let start = Start {
+            label: side.start,
+            slots: side.words.len() as u32,
+            side: Some(side.variable),
+            result: side.result,
+            opens: opens_region(side.kind),
+        };
+        begin(alloc, width, start, &side.words, side.depth, side.level)
+    }
+}

@@ -1,0 +1,164 @@
+//! One micro-step, by the running instruction and how far it is.
+
+ghost use Rattle.std.specs.Prelude.{◌≡◌, ◌<◌, ◌+◌, ◌^◌, ℕ, Some, slice_get};
+ghost use Rattle.gib_code.specs.Instruction.{instruction_of};
+ghost use Rattle.gib_machine.specs.Machine.{begin, next, widest};
+ghost use Rattle.gib_machine.specs.Stepping.{with_tails, Made, Can, CanStep, Runs, IsFine, IsSmallAsk};
+
+use crate::state::{Doing, Machine};
+use crate::turn::Turn;
+use gib_code::{Answer, Code, Instr};
+use gib_mem::Mem;
+use gib_region::Tails;
+
+impl Machine {
+    /// One micro-step: at most one action of the memory. `tails` are those of the machine's task.
+    ///
+    /// `Full` is answered where the step draws and all chunks are drawn; the machine is then as before, so it may be tried
+    /// again. At a fork, at a join and at its end a step changes nothing.
+    pub fn step<M: Mem>(&mut self, code: &Code, mem: &mut M, tails: &mut Tails) -> Turn
+        requires { CanStep code.now (with_tails self.old tails.old) (M.view mem.old) }
+        ensures { Made (next code.now (with_tails self.old tails.old)) (with_tails self.old tails.old) (with_tails self.new tails.new) (M.view mem.old) (M.view mem.new) result }
+    {
+        self.goes_on(code, mem, tails)
+    }
+
+    /// A micro-step, by how far the instruction is.
+    fn goes_on<M: Mem>(&mut self, code: &Code, mem: &mut M, tails: &mut Tails) -> Turn
+        requires runs { Runs code.now }
+        requires made { self.old.width ≡ widest code.now.functions }
+        requires small { IsSmallAsk (next code.now (with_tails self.old tails.old)) }
+        requires can { Can (next code.now (with_tails self.old tails.old)) (M.view mem.old) }
+        ensures { Made (next code.now (with_tails self.old tails.old)) (with_tails self.old tails.old) (with_tails self.new tails.new) (M.view mem.old) (M.view mem.new) result }
+    {
+        match self.doing {
+            Doing::Ready => self.begins_here(code, mem, tails),
+            Doing::Opening => self.begins_whole(mem, tails),
+            Doing::Over(answer) => Turn::Ended(answer),
+            Doing::Unwinding => Turn::AtJoin,
+            Doing::Joining { to, target } => self.points_joined(to, target, mem),
+            Doing::Putting(at) => {
+                let byte = self.item.first();
+                mem.put(at, byte);
+                self.item.pop();
+                if self.item.is_empty() {
+                    self.ip += 1;
+                    self.doing = Doing::Ready;
+                } else {
+                    self.doing = Doing::Putting(at + 1);
+                }
+                Turn::Went
+            }
+            Doing::Looking { tree, at } => self.switches_on(code, tree, at, mem),
+            Doing::Following { tree, gathered } => self.follows(tree, gathered, mem),
+            Doing::Reading { to, gathered } => self.reads_on(to, gathered, mem),
+            Doing::Skipping { to, at, due } => self.skips_on(code, to, at, due, mem),
+            Doing::SkipTurn { to, due, gathered } => self.skip_turns(to, due, gathered, mem),
+            Doing::Turning { placed, chunk, at } => {
+                let byte = self.item.first();
+                mem.put(at, byte);
+                self.item.pop();
+                if self.item.is_empty() {
+                    self.doing = Doing::Ready;
+                    self.places(code, placed, chunk);
+                } else {
+                    self.doing = Doing::Turning {
+                        placed,
+                        chunk,
+                        at: at + 1,
+                    };
+                }
+                Turn::Went
+            }
+        }
+    }
+
+    /// The instruction at hand begins. Behind the code there is none.
+    fn begins_here<M: Mem>(&mut self, code: &Code, mem: &mut M, tails: &mut Tails) -> Turn
+        requires runs { Runs code.now }
+        requires made { self.old.width ≡ widest code.now.functions }
+        requires small { IsSmallAsk (begin code.now (with_tails self.old tails.old) (slice_get code.now.instructions self.old.ip)) }
+        requires can { Can (begin code.now (with_tails self.old tails.old) (slice_get code.now.instructions self.old.ip)) (M.view mem.old) }
+        ensures { Made (begin code.now (with_tails self.old tails.old) (slice_get code.now.instructions self.old.ip)) (with_tails self.old tails.old) (with_tails self.new tails.new) (M.view mem.old) (M.view mem.new) result }
+    {
+        let instructions = code.instructions();
+        let place = self.ip as usize;
+        if place >= instructions.len() {
+            return Turn::Ended(Answer::Deep);
+        }
+        self.begins_with(code, &instructions[place], mem, tails)
+    }
+
+    /// An instruction begins.
+    fn begins_with<M: Mem>(
+        &mut self,
+        code: &Code,
+        instr: &Instr,
+        mem: &mut M,
+        tails: &mut Tails,
+    ) -> Turn
+        requires next { self.old.ip + 1 < 2 ^ 32 }
+        requires fine { IsFine (instruction_of instr.now) }
+        requires made { self.old.width ≡ widest code.now.functions }
+        requires small { IsSmallAsk (begin code.now (with_tails self.old tails.old) (Some (instruction_of instr.now))) }
+        requires can { Can (begin code.now (with_tails self.old tails.old) (Some (instruction_of instr.now))) (M.view mem.old) }
+        ensures { Made (begin code.now (with_tails self.old tails.old) (Some (instruction_of instr.now))) (with_tails self.old tails.old) (with_tails self.new tails.new) (M.view mem.old) (M.view mem.new) result }
+    {
+        match instr {
+            Instr::Move { to, from } => self.moves(*to, *from),
+            Instr::Operate {
+                to,
+                operation,
+                left,
+                right,
+            } => { self.operates(*to, *operation, *left, *right) }
+            Instr::Jump(label) => self.jumps(*label),
+            Instr::Unless { test, label } => self.jumps_unless(*test, *label),
+            Instr::Switch { tree, arms } => self.switches(*tree, arms, mem),
+            Instr::Whole { to, tree, place } => self.reads(*to, *tree, *place, mem),
+            Instr::Truth { to, tree, place } => self.reads_truth(*to, *tree, *place, mem),
+            Instr::First { to, tree, place } => self.reaches_first(*to, *tree, *place),
+            Instr::Offset { to, tree, place } => self.reads(*to, *tree, *place, mem),
+            Instr::Skip { to, from } => self.skips(code, *to, *from, mem),
+            Instr::Begin(to) => self.begins(*to, mem, tails),
+            Instr::Done => self.finishes(tails),
+            Instr::Here(to) => self.stands_here(*to),
+            Instr::Past { head, constructor } => self.passes(code, *head, *constructor, mem),
+            Instr::Fill {
+                head,
+                constructor,
+                scalars,
+                packed,
+            } => {
+                let at = self.frames.slot(*head);
+                mem.put(at, *constructor as u8);
+                self.fills(code, *head, *constructor, scalars, packed);
+                Turn::Went
+            }
+            Instr::Point(from) => {
+                let target = self.frames.slot(*from);
+                self.points(target, mem)
+            }
+            Instr::Call {
+                function,
+                arguments,
+            } => self.calls(code, *function, arguments, None),
+            Instr::CallScalar {
+                to,
+                function,
+                arguments,
+            } => { self.calls(code, *function, arguments, Some(*to)) }
+            Instr::Return => self.returns(),
+            Instr::Give(from) => self.gives(*from),
+            Instr::Fork {
+                right,
+                joint,
+                kind,
+                variable,
+                result: _,
+            } => { self.forks(*right, *joint, *kind, *variable) }
+            Instr::Join => self.joins(),
+            Instr::Back => self.goes_back(),
+        }
+    }
+}

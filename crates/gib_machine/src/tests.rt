@@ -1,0 +1,28 @@
+//! Machines are made, where there is memory for them.
+
+ghost use Rattle.std.specs.Prelude.{◌≡◌, []};
+
+use super::*;
+use gib_code::{Code, Kind, Side};
+use gib_types::{Layouts, Ty, TypeTable};
+use std::test::*;
+
+#[test]
+#[tactic(auto, using(crate::proofs::Samples::no_types))]
+fn machines_are_made(rt: HostRuntime) -> Result<(), Fail> {
+    let types = TypeTable::make(rt.alloc(), Vec::new(rt.alloc()), Vec::new(rt.alloc()))?;
+    let layouts = Layouts::make(rt.alloc(), &types, &[])?;
+    let code = Code::new(layouts, Vec::new(rt.alloc()), Vec::new(rt.alloc()));
+    assert!(rt; Machine::make(rt.alloc(), &code, 0, &[], 100, 4).is_ok());
+    let side = Side {
+        start: 1,
+        words: Vec::new(rt.alloc()),
+        depth: 100,
+        level: 3,
+        kind: Kind::Here,
+        variable: 2,
+        result: Ty::Whole,
+    };
+    assert!(rt; Machine::of_side(rt.alloc(), &code, &side).is_ok());
+    Ok(())
+}

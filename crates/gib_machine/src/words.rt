@@ -1,0 +1,94 @@
+//! Instructions on the words of the frame: they have no memory action.
+
+ghost use Rattle.std.specs.Prelude.{◌≡◌, ◌<◌, ◌+◌, ◌%◌, ◌==◌, ◌^◌, ℕ, if◌then◌else◌};
+ghost use Rattle.gib_machine.specs.Machine.{slot, word, sets, went, went_to};
+ghost use Rattle.gib_machine.specs.Machine as m;
+ghost use Rattle.gib_machine.specs.declared.turn.Turn.TheVariants as turns;
+
+use crate::state::Machine;
+use crate::turn::Turn;
+use gib_code::{Operand, Operation};
+
+/// What is done with two words, as numbers in two's complement.
+fn operated(operation: Operation, left: u64, right: u64) -> u64
+    ensures { result ≡ m.operated operation left right }
+{
+    let left = left.cast_signed();
+    let right = right.cast_signed();
+    match operation {
+        Operation::Add => left.wrapping_add(right).cast_unsigned(),
+        Operation::Sub => left.wrapping_sub(right).cast_unsigned(),
+        Operation::Mul => left.wrapping_mul(right).cast_unsigned(),
+        Operation::Eq => (left == right) as u64,
+        Operation::Lt => (left < right) as u64,
+    }
+}
+
+impl Machine {
+    pub(crate) fn moves(&mut self, to: u32, from: Operand) -> Turn
+        requires next { self.old.ip + 1 < 2 ^ 32 }
+        ensures state { self.new ≡ sets self.old to (word self.old.words from) }
+        ensures turn { result ≡ turns.Went }
+    {
+        let number = self.frames.word(from);
+        self.sets(to, number);
+        Turn::Went
+    }
+
+    pub(crate) fn operates(
+        &mut self,
+        to: u32,
+        operation: Operation,
+        left: Operand,
+        right: Operand,
+    ) -> Turn
+        requires next { self.old.ip + 1 < 2 ^ 32 }
+        ensures state { self.new ≡ sets self.old to (m.operated operation (word self.old.words left) (word self.old.words right)) }
+        ensures turn { result ≡ turns.Went }
+    {
+        let number = operated(operation, self.frames.word(left), self.frames.word(right));
+        self.sets(to, number);
+        Turn::Went
+    }
+
+    pub(crate) fn jumps(&mut self, label: u32) -> Turn
+        ensures state { self.new ≡ went_to self.old label }
+        ensures turn { result ≡ turns.Went }
+    {
+        self.went_to(label);
+        Turn::Went
+    }
+
+    pub(crate) fn jumps_unless(&mut self, test: Operand, label: u32) -> Turn
+        requires next { self.old.ip + 1 < 2 ^ 32 }
+        ensures state { self.new ≡ (if word self.old.words test == 0 then went_to self.old label else went self.old) }
+        ensures turn { result ≡ turns.Went }
+    {
+        if self.frames.word(test) == 0 {
+            self.went_to(label);
+        } else {
+            self.went();
+        }
+        Turn::Went
+    }
+
+    pub(crate) fn reaches_first(&mut self, to: u32, tree: u32, place: u8) -> Turn
+        requires next { self.old.ip + 1 < 2 ^ 32 }
+        ensures state { self.new ≡ sets self.old to ((slot self.old.words tree + place) % 2 ^ 64) }
+        ensures turn { result ≡ turns.Went }
+    {
+        let number = self.frames.slot(tree).wrapping_add(place as u64);
+        self.sets(to, number);
+        Turn::Went
+    }
+
+    pub(crate) fn stands_here(&mut self, to: u32) -> Turn
+        requires next { self.old.ip + 1 < 2 ^ 32 }
+        ensures state { self.new ≡ sets self.old to (m.cursor self.old.regions) }
+        ensures turn { result ≡ turns.Went }
+    {
+        let at = self.openings.cursor();
+        self.sets(to, at);
+        Turn::Went
+    }
+}
