@@ -115,7 +115,7 @@ run_ends_done laws tells words before now out out_now source input depth front o
     let on = output_of source input depth output h in
     let takes : TakesAll before now out out_now request = record { target = λ name e rose. cc; out = quiet.put } in
     let due = due_of words before now out out_now source input depth front r quiet (Made request)
-        (record { lexed = on.lexed; program = on.program; is_program = on.is_program; holds = (output, on.holds) }) in
+    (record { lexed = on.lexed; program = on.program; is_program = on.is_program; holds = (output, on.holds) }) in
     due_ends laws tells words before now out out_now end' ends status.Done (asked_of (asked words) request (DueAll before now out out_now) r.asks (due, takes))
 
 pub run_ends_deep : Laws → (tells : Bool) (words : List (List ℕ)) (before now : ShelfView) (out out_now : SinkView) (source input : List ℕ) (depth : ℕ) (front : List ℕ) (end' : Status) →
@@ -132,7 +132,7 @@ one_value r u v e f = let both = sym e ∙ f in cc
 pub one_result : Laws → (source input : List ℕ) (depth : ℕ) (output other : List ℕ) → IsResult source input depth output → IsResult source input depth other → output ≡ other
 one_result laws source input depth output other h k =
     let both = together laws source (λ p names. IsOutput p names depth input output) (λ p names. IsOutput p names depth input other)
-        (output_of source input depth output h) (output_of source input depth other k) in
+    (output_of source input depth output h) (output_of source input depth other k) in
     let p = both.0 in
     let a = both.2 in
     let b = both.3 in
@@ -144,5 +144,5 @@ one_result laws source input depth output other h k =
 pub no_result : Laws → (source input : List ℕ) (depth : ℕ) (output : List ℕ) → IsResult source input depth output → IsTooDeep source input depth → ⊥
 no_result laws source input depth output h k =
     let both = together laws source (λ p names. IsOutput p names depth input output) (λ p names. RunsOut p depth input)
-        (output_of source input depth output h) (runs_out source input depth k) in
+    (output_of source input depth output h) (runs_out source input depth k) in
     runs_well laws both.0 both.1 depth input output both.2 both.3

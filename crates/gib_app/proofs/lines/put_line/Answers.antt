@@ -20,7 +20,7 @@ returns-in_err-put_stop-clause-part g c =
 pub returns-in_err-put_all-2-clause-part : goal.returns-in_err-put_all-2-clause-part
 returns-in_err-put_all-2-clause-part g c =
     let rest = added_part (g.E.Sink.view c.put_all.new.out).taken (g.E.Sink.view c.put_stop.new.err).taken (g.E.Sink.view c.put_all-2.new.out).taken (stop_text c.args.stop) (10 ∷ [])
-            c.in_ok-put_stop.ensures.ok c.in_err-put_all-2.ensures.part in
+    c.in_ok-put_stop.ensures.ok c.in_err-put_all-2.ensures.part in
     on_err c.from_residual-in_err-put_all-2.result
     (added_part (g.E.Sink.view c.args.err.now).taken (g.E.Sink.view c.put_all.new.out).taken (g.E.Sink.view c.put_all-2.new.out).taken (codes "gib: ") (stop_text c.args.stop ++ 10 ∷ [])
     c.in_ok-put_all.ensures.ok rest)

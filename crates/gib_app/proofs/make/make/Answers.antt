@@ -67,5 +67,5 @@ pub returns-clause-once : goal.returns-clause-once
 returns-clause-once g c =
     let r = request_of c.args.request in
     let whole = calls_both (g.S.Shelf.view c.args.shelf.now).calls (g.S.Shelf.view c.load_program.new.shelf).calls (g.S.Shelf.view c.read_second.new.shelf).calls (document_of c.source_of.result) (source_of r) 1048576
-            (second_calls (second_of r) (most_of r)) c.source_of.ensures c.in-Ok.ensures.called c.in-Ok-read_second.ensures.called in
+    (second_calls (second_of r) (most_of r)) c.source_of.ensures c.in-Ok.ensures.called c.in-Ok-read_second.ensures.called in
     added_whole (g.S.Shelf.view c.args.shelf.now).calls (g.S.Shelf.view c.read_second.new.shelf).calls (reads_of r) whole
