@@ -1,6 +1,6 @@
 -- From the stop of a call to its status, and from the status that is due to the one that is answered.
 use Rattle.std.specs.Prelude.{codes}
-use Rattle.std.proofs.Common.{◌≡◌, ◌∙◌, refl, ℕ, List, ◌++◌, Option, Some, None, IfSome, MatchOption, ◌⊎◌, inl, inr, subst, sym, Bool}
+use Rattle.std.proofs.Common.{◌≡◌, ◌∙◌, refl, ℕ, List, ◌++◌, length, Option, Some, None, IfSome, MatchOption, ◌⊎◌, inl, inr, subst, sym, Bool}
 use Rattle.gib_base.specs.Lexed.{Lexed, IsLexed}
 use Rattle.gib_base.specs.declared.token.Token.{Token}
 use Rattle.gib_types.specs.declared.table.Ty.{Ty}
@@ -11,7 +11,8 @@ use Rattle.gib_syntax.specs.Tree.{ProgramTree}
 use Rattle.gib_syntax.specs.Spelling.{Places, Derives, IsPlacedProgram, places_of}
 use Rattle.gib_syntax.specs.Declarations.{table_of_program, input_type}
 use Rattle.gib_syntax.specs.Meaning.{Outcome, Gives, Stops, Deep, run}
-use Rattle.gib_edge.specs.Causes.{Appends, AppendsPart}
+use Rattle.gib_edge.specs.Causes.{IsAllOf, Appends, AppendsPart, PutsPieces, PutsSomePieces}
+use Rattle.gib_edge.specs.Views.{Held, Has, Missing, ShelfView, SinkView}
 use Rattle.gib_app.specs.declared.input_fault.InputFault.{InputFault}
 use Rattle.gib_app.specs.declared.status.Status.{Status}
 use Rattle.gib_app.specs.declared.status.Status.TheVariants as status
@@ -21,9 +22,9 @@ use Rattle.gib_app.specs.Words.{Document, Request, Run, Plain, Check, Core, Pack
 use Rattle.gib_app.specs.Running.{IsProgram, IsSource, IsNoProgram, IsOutput, RunsOut}
 use Rattle.gib_app.specs.SourceFaults.{IsSourceFault}
 use Rattle.gib_app.specs.Commands.{source_of, second_of, target_of, Makes, Accepts, Refuses, Exhausts, printed, IsWritten, OnProgram}
-use Rattle.gib_app.specs.Causes.{ShelfView, SinkView, HoldsSecond, OnSource, IsUnwritten, FailsToRead}
+use Rattle.gib_app.specs.Causes.{HoldsSecond, OnSource, IsUnwritten, FailsToRead}
 use Rattle.gib_app.specs.Lines.{IsLine, line}
-use Rattle.gib_app.specs.Ending.{IsEnding, IsTold, DueOfSource, DueOfFiles, TakesAll, IsDue}
+use Rattle.gib_app.specs.Ending.{IsEnding, IsTold, IsMissing, DueOfSource, DueOfFiles, DueMissing, TakesAll, IsDue}
 use Rattle.gib_app.specs.Stops.{IsStop, OnBoth}
 use Rattle.gib_app.specs.Stopping.{status_for, line_for}
 use Rattle.gib_app.specs.Performing.{IsCallStop}
@@ -99,7 +100,7 @@ same_program laws source l m p q h k =
     laws.parsed (places_of l.spans) l.tokens p q h.spelled.derived (subst D e k.spelled.derived) h.spelled.placed (subst A e k.spelled.placed)
 
 -- what holds of the program of a source, and what else holds of it, hold of one
-together : Laws → (source : List ℕ) (P Q : ProgramTree → List (List ℕ) → Type 0) → OnProgram source P → OnProgram source Q → (p : ProgramTree) × (names : List (List ℕ)) × P p names × Q p names
+pub together : Laws → (source : List ℕ) (P Q : ProgramTree → List (List ℕ) → Type 0) → OnProgram source P → OnProgram source Q → (p : ProgramTree) × (names : List (List ℕ)) × P p names × Q p names
 together laws source P Q a b =
     let el = same_lexed laws source b.lexed a.lexed b.program a.program b.is_program a.is_program in
     let ep = same_program laws source b.lexed a.lexed b.program a.program b.is_program a.is_program in
@@ -107,8 +108,8 @@ together laws source P Q a b =
     let R : ProgramTree → Type 0 = λ x. Q x a.lexed.names in
     (a.program, a.lexed.names, a.holds, subst R ep (subst L el b.holds))
 
-same_bytes : (o : Option (List ℕ)) (a b : List ℕ) → o ≡ Some a → IfSome o (λ all. b ≡ all) → b ≡ a
-same_bytes o a b e h = let P : Option (List ℕ) → Type 0 = λ x. IfSome x (λ all. b ≡ all) in subst P e h
+pub same_bytes : (o : Held) (a b : List ℕ) → o ≡ Has a → IsAllOf o b → b ≡ a
+same_bytes o a b e h = let P : Held → Type 0 = λ x. IsAllOf x b in subst P e h
 
 same_second : (kept : Files) (o : Option Document) (a b : List ℕ) → IsTold kept o a → HoldsSecond kept o b → b ≡ a
 same_second kept None a b e h = h ∙ sym e
@@ -152,7 +153,7 @@ not_both : (r : Outcome) (v : Datum) → r ≡ Gives v → r ≡ Stops Deep → 
 not_both (Gives u) v e f = cc
 not_both (Stops why) v e f = cc
 
-runs_well : Laws → (p : ProgramTree) (names : List (List ℕ)) (depth : ℕ) (input output : List ℕ) → IsOutput p names depth input output → RunsOut p depth input → ⊥
+pub runs_well : Laws → (p : ProgramTree) (names : List (List ℕ)) (depth : ℕ) (input output : List ℕ) → IsOutput p names depth input output → RunsOut p depth input → ⊥
 runs_well laws p names depth input output o d =
     let v = laws.filed (table_of_program p) (input_type p) d.value o.value input d.is_input.file o.is_input.file in
     let S : Datum → Type 0 = λ x. run p depth x ≡ Stops Deep in
@@ -193,22 +194,22 @@ none_asked None P e h = h
 none_asked (Some r) P e h = cc
 
 -- bytes were made and written, and the sink took them
-abbrev Whole : Bool → ShelfView → SinkView → SinkView → Request → ProgramTree → List (List ℕ) → List ℕ → Type 0
+abbrev pub Whole : Bool → ShelfView → SinkView → SinkView → Request → ProgramTree → List (List ℕ) → List ℕ → Type 0
 Whole tells now a b r p names second =
-    (made : List ℕ) × Makes r p names second made × IsWritten tells now.kept r made × Appends a.taken b.taken (printed r made)
+    (made : List ℕ) × Makes r p names second made × IsWritten tells now.kept r made × Appends a.taken b.taken (printed r made) × PutsPieces a b (length (printed r made))
 
 -- bytes were made and written, and the sink took a front of them
 abbrev Front : Bool → ShelfView → SinkView → SinkView → Request → ProgramTree → List (List ℕ) → List ℕ → Type 0
 Front tells now a b r p names second =
-    (made : List ℕ) × Makes r p names second made × IsWritten tells now.kept r made × AppendsPart a.taken b.taken (printed r made)
+    (made : List ℕ) × Makes r p names second made × IsWritten tells now.kept r made × AppendsPart a.taken b.taken (printed r made) × PutsSomePieces a b (length (printed r made))
 
 abbrev Somewhere : ShelfView → ShelfView → Request → ProgramTree → List (List ℕ) → List ℕ → Type 0
 Somewhere before now r p names second = (name : List ℕ) × IsUnwritten before now r p names second name
 
-abbrev Made : Request → ProgramTree → List (List ℕ) → List ℕ → Type 0
+abbrev pub Made : Request → ProgramTree → List (List ℕ) → List ℕ → Type 0
 Made r p names second = (made : List ℕ) × Makes r p names second made
 
-abbrev Exhausted : Request → ProgramTree → List (List ℕ) → List ℕ → Type 0
+abbrev pub Exhausted : Request → ProgramTree → List (List ℕ) → List ℕ → Type 0
 Exhausted r p names second = Exhausts r p second
 
 abbrev Unfit : Request → ProgramTree → List (List ℕ) → List ℕ → Type 0
@@ -217,7 +218,7 @@ Unfit r p names second = Accepts r p names second → ⊥
 abbrev Fails : ShelfView → ShelfView → Request → Type 0
 Fails before now r = (name : List ℕ) × FailsToRead before now r name
 
-abbrev DueAll : ShelfView → ShelfView → SinkView → SinkView → Request → Type 0
+abbrev pub DueAll : ShelfView → ShelfView → SinkView → SinkView → Request → Type 0
 DueAll before now a b r = DueOfFiles before now r (Made r) × TakesAll before now a b r
 
 -- the output is due
@@ -280,7 +281,7 @@ source_due tells words before now a b due status.Input h =
 
 -- want of depth is due
 
-abbrev DueDepth : ShelfView → ShelfView → Request → Type 0
+abbrev pub DueDepth : ShelfView → ShelfView → Request → Type 0
 DueDepth before now r = DueOfFiles before now r (Exhausted r)
 
 depth_due : Laws → (tells : Bool) (words : List (List ℕ)) (before now : ShelfView) (a b : SinkView) → MatchOption (asked words) ⊥ (DueDepth before now) → (end' : Status) → IsEnding tells words before now a b end' → (end' ≡ status.Depth) ⊎ (end' ≡ status.Memory)
@@ -344,6 +345,50 @@ input_due laws tells words before now a b due status.WriteFault (inr h) =
     absurd (both.3 (makes_accepts k.0 both.0 both.1 both.2 both.4.0 both.4.1))
 input_due laws tells words before now a b due status.Input h = inl refl
 
+-- a file is not there
+
+not_missing : (o : Held) (bytes : List ℕ) → o ≡ Missing → IsAllOf o bytes → ⊥
+not_missing o bytes e h = let P : Held → Type 0 = λ x. IsAllOf x bytes in subst P e h
+
+second_missing : (kept : Files) (o : Option Document) (bytes : List ℕ) → IsMissing kept o → HoldsSecond kept o bytes → ⊥
+second_missing kept None bytes e h = e
+second_missing kept (Some d) bytes e h = not_missing (bytes_in kept d) bytes e h
+
+missing_both : (before now : ShelfView) (r : Request) (Q : ProgramTree → List (List ℕ) → List ℕ → Type 0) → DueMissing before now r → OnBoth before.kept r Q → ⊥
+missing_both before now r Q (inl e) h = not_missing (bytes_in before.kept (source_of r)) h.source e h.source_held
+missing_both before now r Q (inr d) h = second_missing before.kept (second_of r) h.second d.1 h.second_held
+
+missing_program : (before now : ShelfView) (r : Request) → DueMissing before now r → OnSource before.kept (source_of r) IsNoProgram → ⊥
+missing_program before now r (inl e) h = not_missing (bytes_in before.kept (source_of r)) h.source e h.source_held
+missing_program before now r (inr d) h =
+    let es = same_bytes (bytes_in before.kept (source_of r)) d.0.source h.source d.0.source_told h.source_held in
+    let program : IsSource d.0.source = d.0.holds in
+    subst IsNoProgram es h.holds program.0 program.1 program.2
+
+read_due : (tells : Bool) (words : List (List ℕ)) (before now : ShelfView) (a b : SinkView) → MatchOption (asked words) ⊥ (DueMissing before now) → (end' : Status) → IsEnding tells words before now a b end' → (end' ≡ status.ReadFault) ⊎ (end' ≡ status.Memory)
+read_due tells words before now a b due status.Done h =
+    let k = both_asked (asked words) (DueMissing before now) (λ r. OnBoth before.kept r (Whole tells now a b r)) due h in
+    absurd (missing_both before now k.0 (Whole tells now a b k.0) k.1 k.2)
+read_due tells words before now a b due status.Source h =
+    let k = both_asked (asked words) (DueMissing before now) (λ r. OnSource before.kept (source_of r) IsNoProgram) due h in
+    absurd (missing_program before now k.0 k.1 k.2)
+read_due tells words before now a b due status.Usage h = absurd (none_asked (asked words) (DueMissing before now) h due)
+read_due tells words before now a b due status.Depth h =
+    let k = both_asked (asked words) (DueMissing before now) (λ r. OnBoth before.kept r (Exhausted r)) due h in
+    absurd (missing_both before now k.0 (Exhausted k.0) k.1 k.2)
+read_due tells words before now a b due status.Full h = absurd h
+read_due tells words before now a b due status.Memory h = inr refl
+read_due tells words before now a b due status.ReadFault h = inl refl
+read_due tells words before now a b due status.WriteFault (inl h) =
+    let k = both_asked (asked words) (DueMissing before now) (λ r. OnBoth before.kept r (Somewhere before now r)) due h.0 in
+    absurd (missing_both before now k.0 (Somewhere before now k.0) k.1 k.2)
+read_due tells words before now a b due status.WriteFault (inr h) =
+    let k = both_asked (asked words) (DueMissing before now) (λ r. OnBoth before.kept r (Front tells now a b r)) due h.0 in
+    absurd (missing_both before now k.0 (Front tells now a b k.0) k.1 k.2)
+read_due tells words before now a b due status.Input h =
+    let k = both_asked (asked words) (DueMissing before now) (λ r. OnBoth before.kept r (Unfit r)) due h in
+    absurd (missing_both before now k.0 (Unfit k.0) k.1 k.2)
+
 -- the words are not taken
 
 usage_due : (tells : Bool) (words : List (List ℕ)) (before now : ShelfView) (a b : SinkView) → asked words ≡ None → (end' : Status) → IsEnding tells words before now a b end' → (end' ≡ status.Usage) ⊎ (end' ≡ status.Memory)
@@ -365,6 +410,6 @@ due_ends laws tells words before now a b end' h status.Usage due = usage_due tel
 due_ends laws tells words before now a b end' h status.Depth due = depth_due laws tells words before now a b due end' h
 due_ends laws tells words before now a b end' h status.Full due = absurd due
 due_ends laws tells words before now a b end' h status.Memory due = absurd due
-due_ends laws tells words before now a b end' h status.ReadFault due = absurd due
+due_ends laws tells words before now a b end' h status.ReadFault due = read_due tells words before now a b due end' h
 due_ends laws tells words before now a b end' h status.WriteFault due = absurd due
 due_ends laws tells words before now a b end' h status.Input due = input_due laws tells words before now a b due end' h

@@ -1,5 +1,4 @@
 mod Held
-mod Places
 mod Inputs
 mod Told
 mod Making
@@ -14,3 +13,5 @@ mod Taking
 mod Filling
 mod Asking
 mod Entering
+mod Calling
+mod Headlines

@@ -1,6 +1,7 @@
 -- From the parts of making to the whole.
 use Rattle.std.proofs.Common.{◌≡◌, ◌∙◌, refl, ℕ, ◌<◌, List, length, Option, Some, None, subst, sym, ap, inl, inr, arith}
 use Rattle.gib_edge.specs.Causes.{Rose}
+use Rattle.gib_edge.specs.Views.{ShelfView}
 use Rattle.gib_syntax.specs.Tree.{ProgramTree}
 use Rattle.gib_app.specs.declared.input_fault.InputFault.{InputFault}
 use Rattle.gib_app.specs.declared.input_fault.InputFault.TheVariants as input
@@ -9,9 +10,9 @@ use Rattle.gib_app.specs.declared.stop.Stop.TheVariants.{Usage, Source, Unread, 
 use Rattle.gib_app.specs.Words.{Document, Brought, Named, Request, Run, Plain, Check, Core, Pack, Show, Files}
 use Rattle.gib_app.specs.Running.{IsSource, IsNoProgram}
 use Rattle.gib_app.specs.SourceFaults.{IsSourceFault}
-use Rattle.gib_app.specs.Commands.{source_of, second_of, Accepts, Refuses, Exhausts}
-use Rattle.gib_app.specs.Causes.{Counts, ShelfView, Holds, HoldsSecond, OnSource, IsUnread, IsSecondUnread}
-use Rattle.gib_app.specs.Stops.{IsCompiled, IsSourceStop, IsSecondStop, IsMakeStop, IsStop, StopReads, OnBoth, most_of}
+use Rattle.gib_app.specs.Commands.{source_of, second_of, most_of, Accepts, Refuses, Exhausts}
+use Rattle.gib_app.specs.Causes.{Holds, HoldsSecond, OnSource, IsUnread, IsSecondUnread}
+use Rattle.gib_app.specs.Stops.{IsCompiled, IsSourceStop, IsSecondStop, IsMakeStop, IsStop, OnBoth}
 use Rattle.gib_app.proofs.Told.{held_before}
 
 -- what holds of the compiled program and the second file holds of the request's files
@@ -97,23 +98,3 @@ make_stop before now r d p names second e on held Depth h =
 make_stop before now r d p names second e on held Memory h = h
 make_stop before now r d p names second e on held (Unwritten name) h = absurd h
 make_stop before now r d p names second e on held Unput h = h
-
-pub reads_kept : (before mid now : Counts) → ((name : List ℕ) → mid name ≡ before name) → (stop : Stop) → StopReads mid now stop → StopReads before now stop
-reads_kept before mid now e Usage h = λ name. h name ∙ e name
-reads_kept before mid now e (Source fault) h = λ name. h name ∙ e name
-reads_kept before mid now e (Unread file) h = h
-reads_kept before mid now e (Input fault) h = λ name. h name ∙ e name
-reads_kept before mid now e Depth h = λ name. h name ∙ e name
-reads_kept before mid now e Memory h = λ name. h name ∙ e name
-reads_kept before mid now e (Unwritten file) h = λ name. h name ∙ e name
-reads_kept before mid now e Unput h = λ name. h name ∙ e name
-
-pub reads_stay : (before now : Counts) → ((name : List ℕ) → now name ≡ before name) → (stop : Stop) → StopReads before now stop
-reads_stay before now e Usage = e
-reads_stay before now e (Source fault) = e
-reads_stay before now e (Unread file) = tt {0}
-reads_stay before now e (Input fault) = e
-reads_stay before now e Depth = e
-reads_stay before now e Memory = e
-reads_stay before now e (Unwritten file) = e
-reads_stay before now e Unput = e

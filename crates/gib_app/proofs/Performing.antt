@@ -1,15 +1,18 @@
 -- From the parts of a call to the whole.
-use Rattle.std.proofs.Common.{◌≡◌, ◌∙◌, refl, ℕ, List, Option, Some, MatchOption, subst, sym, Bool}
+use Rattle.std.proofs.Common.{◌≡◌, ◌∙◌, refl, ℕ, List, length, Option, Some, MatchOption, subst, sym, Bool}
 use Rattle.std.specs.Prelude.{⊤}
-use Rattle.gib_edge.specs.Causes.{Rose, Appends, AppendsPart}
+use Rattle.gib_edge.specs.Causes.{Rose, Appends, AppendsPart, PutsPieces, PutsSomePieces}
+use Rattle.gib_edge.specs.Views.{ShelfView, SinkView}
 use Rattle.gib_syntax.specs.Tree.{ProgramTree}
+use Rattle.gib_app.specs.declared.status.Status.{Status}
+use Rattle.gib_app.specs.declared.status.Status.TheVariants as status
 use Rattle.gib_app.specs.declared.stop.Stop.{Stop}
 use Rattle.gib_app.specs.declared.stop.Stop.TheVariants.{Usage, Source, Unread, Input, Depth, Memory, Unwritten, Unput}
 use Rattle.gib_app.specs.Words.{Request, Run, Plain, Check, Core, Pack, Show, Files, asked}
 use Rattle.gib_app.specs.Commands.{target_of, Makes, Accepts, printed, IsWritten}
-use Rattle.gib_app.specs.Causes.{Counts, ShelfView, SinkView, Prints, PrintsPart, IsUnwritten}
+use Rattle.gib_app.specs.Causes.{Counts, Prints, PrintsPart, IsUnwritten}
 use Rattle.gib_app.specs.Ending.{IsNoTarget, FilesStay, ReadsStay, WritesStay, OutStays}
-use Rattle.gib_app.specs.Stops.{IsStop, StopReads, OnBoth}
+use Rattle.gib_app.specs.Stops.{IsStop, OnBoth}
 use Rattle.gib_app.specs.Stopping.{status_for}
 use Rattle.gib_app.specs.Performing.{IsWriteStop, IsPerformed, OthersStay, StopFiles, IsCallStop}
 
@@ -52,65 +55,14 @@ write_stop before mid now r made e on (Unwritten name) h =
     (λ p names second k. (h.0, makes_accepts r p names second made k, h.1, subst R (e name.now) h.2)) on
 write_stop before mid now r made e on Unput h = h
 
-pub files_stay : (r : Request) (before now : Files) → ((name : List ℕ) → now name ≡ before name) → (stop : Stop) → StopFiles r before now stop
-files_stay r before now e Usage = e
-files_stay r before now e (Source fault) = e
-files_stay r before now e (Unread file) = e
-files_stay r before now e (Input fault) = e
-files_stay r before now e Depth = e
-files_stay r before now e Memory = e
-files_stay r before now e (Unwritten file) = λ name no'. e name
-files_stay r before now e Unput = λ name no'. e name
+pub reads_kept : (before mid now : Counts) (status : Status) → ((name : List ℕ) → mid name ≡ before name) → ReadsStay mid now status → ReadsStay before now status
+reads_kept before mid now status e h = λ other name. h other name ∙ e name
 
-pub files_kept : (r : Request) (before mid now : Files) → ((name : List ℕ) → mid name ≡ before name) → (stop : Stop) → StopFiles r mid now stop → StopFiles r before now stop
-files_kept r before mid now e Usage h = λ name. h name ∙ e name
-files_kept r before mid now e (Source fault) h = λ name. h name ∙ e name
-files_kept r before mid now e (Unread file) h = λ name. h name ∙ e name
-files_kept r before mid now e (Input fault) h = λ name. h name ∙ e name
-files_kept r before mid now e Depth h = λ name. h name ∙ e name
-files_kept r before mid now e Memory h = λ name. h name ∙ e name
-files_kept r before mid now e (Unwritten file) h = λ name other. h name other ∙ e name
-files_kept r before mid now e Unput h = λ name other. h name other ∙ e name
+pub writes_kept : (before mid now : Counts) (status : Status) → ((name : List ℕ) → mid name ≡ before name) → WritesStay mid now status → WritesStay before now status
+writes_kept before mid now status e h = λ other name. h other name ∙ e name
 
-pub reads_of : (before now : Counts) (stop : Stop) → StopReads before now stop → ReadsStay before now (status_for stop)
-reads_of before now Usage h = h
-reads_of before now (Source fault) h = h
-reads_of before now (Unread file) h = h
-reads_of before now (Input fault) h = h
-reads_of before now Depth h = h
-reads_of before now Memory h = h
-reads_of before now (Unwritten file) h = h
-reads_of before now Unput h = h
-
-pub reads_all : (before now : Counts) → ((name : List ℕ) → now name ≡ before name) → (stop : Stop) → ReadsStay before now (status_for stop)
-reads_all before now e Usage = e
-reads_all before now e (Source fault) = e
-reads_all before now e (Unread file) = tt {0}
-reads_all before now e (Input fault) = e
-reads_all before now e Depth = e
-reads_all before now e Memory = e
-reads_all before now e (Unwritten file) = e
-reads_all before now e Unput = e
-
-pub writes_all : (before now : Counts) → ((name : List ℕ) → now name ≡ before name) → (stop : Stop) → WritesStay before now (status_for stop)
-writes_all before now e Usage = e
-writes_all before now e (Source fault) = e
-writes_all before now e (Unread file) = e
-writes_all before now e (Input fault) = e
-writes_all before now e Depth = e
-writes_all before now e Memory = e
-writes_all before now e (Unwritten file) = tt {0}
-writes_all before now e Unput = tt {0}
-
-pub writes_kept : (before mid now : Counts) → ((name : List ℕ) → mid name ≡ before name) → (stop : Stop) → WritesStay mid now (status_for stop) → WritesStay before now (status_for stop)
-writes_kept before mid now e Usage h = λ name. h name ∙ e name
-writes_kept before mid now e (Source fault) h = λ name. h name ∙ e name
-writes_kept before mid now e (Unread file) h = λ name. h name ∙ e name
-writes_kept before mid now e (Input fault) h = λ name. h name ∙ e name
-writes_kept before mid now e Depth h = λ name. h name ∙ e name
-writes_kept before mid now e Memory h = λ name. h name ∙ e name
-writes_kept before mid now e (Unwritten file) h = h
-writes_kept before mid now e Unput h = h
+pub files_kept : (before mid now : Files) (stop : Stop) → ((name : List ℕ) → mid name ≡ before name) → StopFiles mid now stop → StopFiles before now stop
+files_kept before mid now stop e h = λ other name. h other name ∙ e name
 
 -- The call, by what the words ask for
 
@@ -123,35 +75,28 @@ no_target o r P e h = let Q : Option Request → Type 0 = λ x. MatchOption x �
 pub others_stay : (words : List (List ℕ)) (r : Request) (before now : Files) → asked words ≡ Some r → OthersStay r before now → (name : List ℕ) → IsNoTarget words name → now name ≡ before name
 others_stay words r before now e h name no' = h name (no_target (asked words) r (λ request. target_of request ≡ Some name → ⊥) e no')
 
-pub files_of : (words : List (List ℕ)) (r : Request) (before now : Files) → asked words ≡ Some r → (stop : Stop) → StopFiles r before now stop → FilesStay words before now (status_for stop)
-files_of words r before now e Usage h = h
-files_of words r before now e (Source fault) h = h
-files_of words r before now e (Unread file) h = h
-files_of words r before now e (Input fault) h = h
-files_of words r before now e Depth h = h
-files_of words r before now e Memory h = h
-files_of words r before now e (Unwritten file) h = others_stay words r before now e h
-files_of words r before now e Unput h = others_stay words r before now e h
+pub files_of : (words : List (List ℕ)) (r : Request) (before now : Files) (stop : Stop) → asked words ≡ Some r → OthersStay r before now → StopFiles before now stop → FilesStay words before now (status_for stop)
+files_of words r before now stop e others h = record { others = others_stay words r before now e others; same = λ done' unwritten. h unwritten }
 
 pub prints : (tells : Bool) (words : List (List ℕ)) (before now : ShelfView) (out_before out_now : SinkView) (r : Request) (output : List ℕ) → asked words ≡ Some r →
-    IsPerformed tells before.kept now.kept r output → Appends out_before.taken out_now.taken output → Prints tells words before now out_before out_now
-prints tells words before now out_before out_now r output e h put =
-    let A : List ℕ → Type 0 = Appends out_before.taken out_now.taken in
+    IsPerformed tells before.kept now.kept r output → Appends out_before.taken out_now.taken output → PutsPieces out_before out_now (length output) → Prints tells words before now out_before out_now
+prints tells words before now out_before out_now r output e h put pieces =
+    let A : List ℕ → Type 0 = λ bytes. Appends out_before.taken out_now.taken bytes × PutsPieces out_before out_now (length bytes) in
     asked_of (asked words) r
-    (λ request. OnBoth before.kept request (λ p names second. (made : List ℕ) × Makes request p names second made × IsWritten tells now.kept request made × Appends out_before.taken out_now.taken (printed request made))) e
+    (λ request. OnBoth before.kept request (λ p names second. (made : List ℕ) × Makes request p names second made × IsWritten tells now.kept request made × Appends out_before.taken out_now.taken (printed request made) × PutsPieces out_before out_now (length (printed request made)))) e
     (map_both before.kept r (λ p names second. (made : List ℕ) × Makes r p names second made × IsWritten tells now.kept r made × (output ≡ printed r made))
-    (λ p names second. (made : List ℕ) × Makes r p names second made × IsWritten tells now.kept r made × Appends out_before.taken out_now.taken (printed r made))
-    (λ p names second k. (k.0, k.1, k.2, subst A k.3 put)) h)
+    (λ p names second. (made : List ℕ) × Makes r p names second made × IsWritten tells now.kept r made × Appends out_before.taken out_now.taken (printed r made) × PutsPieces out_before out_now (length (printed r made)))
+    (λ p names second k. let both = subst A k.3 (put, pieces) in (k.0, k.1, k.2, both.0, both.1)) h)
 
 pub prints_part : (tells : Bool) (words : List (List ℕ)) (before now : ShelfView) (out_before out_now : SinkView) (r : Request) (output : List ℕ) → asked words ≡ Some r →
-    IsPerformed tells before.kept now.kept r output → AppendsPart out_before.taken out_now.taken output → PrintsPart tells words before now out_before out_now
-prints_part tells words before now out_before out_now r output e h put =
-    let A : List ℕ → Type 0 = AppendsPart out_before.taken out_now.taken in
+    IsPerformed tells before.kept now.kept r output → AppendsPart out_before.taken out_now.taken output → PutsSomePieces out_before out_now (length output) → PrintsPart tells words before now out_before out_now
+prints_part tells words before now out_before out_now r output e h put pieces =
+    let A : List ℕ → Type 0 = λ bytes. AppendsPart out_before.taken out_now.taken bytes × PutsSomePieces out_before out_now (length bytes) in
     asked_of (asked words) r
-    (λ request. OnBoth before.kept request (λ p names second. (made : List ℕ) × Makes request p names second made × IsWritten tells now.kept request made × AppendsPart out_before.taken out_now.taken (printed request made))) e
+    (λ request. OnBoth before.kept request (λ p names second. (made : List ℕ) × Makes request p names second made × IsWritten tells now.kept request made × AppendsPart out_before.taken out_now.taken (printed request made) × PutsSomePieces out_before out_now (length (printed request made)))) e
     (map_both before.kept r (λ p names second. (made : List ℕ) × Makes r p names second made × IsWritten tells now.kept r made × (output ≡ printed r made))
-    (λ p names second. (made : List ℕ) × Makes r p names second made × IsWritten tells now.kept r made × AppendsPart out_before.taken out_now.taken (printed r made))
-    (λ p names second k. (k.0, k.1, k.2, subst A k.3 put)) h)
+    (λ p names second. (made : List ℕ) × Makes r p names second made × IsWritten tells now.kept r made × AppendsPart out_before.taken out_now.taken (printed r made) × PutsSomePieces out_before out_now (length (printed r made)))
+    (λ p names second k. let both = subst A k.3 (put, pieces) in (k.0, k.1, k.2, both.0, both.1)) h)
 
 pub call_stop : (tells : Bool) (words : List (List ℕ)) (before now : ShelfView) (out : SinkView) (r : Request) → asked words ≡ Some r → (stop : Stop) → IsStop before now r stop → IsCallStop tells words before now out out stop
 call_stop tells words before now out r e Usage h = absurd h
@@ -163,12 +108,28 @@ call_stop tells words before now out r e Memory h = tt {0}
 call_stop tells words before now out r e (Unwritten name) h = (asked_of (asked words) r (λ request. IsStop before now request (Unwritten name)) e h, refl)
 call_stop tells words before now out r e Unput h = absurd h
 
-pub out_of : (out : SinkView) (stop : Stop) → OutStays out out (status_for stop)
-out_of out Usage = refl
-out_of out (Source fault) = refl
-out_of out (Unread file) = refl
-out_of out (Input fault) = refl
-out_of out Depth = refl
-out_of out Memory = refl
-out_of out (Unwritten file) = tt {0}
-out_of out Unput = tt {0}
+pub out_of : (out : SinkView) (status : Status) → OutStays out out status
+out_of out status = record { quiet = λ other. refl; same = λ other unwritten. refl }
+
+-- What may change with a status, does not owe that it stays
+
+pub spared_reads : (before now : Counts) → ReadsStay before now status.ReadFault
+spared_reads before now = λ other. absurd (other refl)
+
+pub spared_writes : (before now : Counts) → WritesStay before now status.WriteFault
+spared_writes before now = λ other. absurd (other refl)
+
+pub spared_files : (before now : Files) (stop : Stop) → status_for stop ≡ status.WriteFault → StopFiles before now stop
+spared_files before now stop e = λ other. absurd (other e)
+
+pub done_files : (words : List (List ℕ)) (before now : Files) → ((name : List ℕ) → IsNoTarget words name → now name ≡ before name) → FilesStay words before now status.Done
+done_files words before now others = record { others = others; same = λ other. absurd (other refl) }
+
+pub unput_files : (words : List (List ℕ)) (r : Request) (before now : Files) → asked words ≡ Some r → OthersStay r before now → FilesStay words before now status.WriteFault
+unput_files words r before now e others = record { others = others_stay words r before now e others; same = λ done' other. absurd (other refl) }
+
+pub done_out : (before now : SinkView) → now.faults ≡ before.faults → OutStays before now status.Done
+done_out before now e = record { quiet = λ other. e; same = λ other. absurd (other refl) }
+
+pub unput_out : (before now : SinkView) → OutStays before now status.WriteFault
+unput_out before now = record { quiet = λ other. absurd (other refl); same = λ done' other. absurd (other refl) }

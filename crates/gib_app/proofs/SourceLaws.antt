@@ -5,7 +5,11 @@ use Rattle.gib_base.specs.declared.token.Token.{Token}
 use Rattle.gib_lex.specs.declared.fault.LexFault.{LexFault}
 use Rattle.gib_lex.specs.declared.fault.LexFault.TheVariants as lexing
 use Rattle.gib_lex.specs.Refused.{IsRefused}
-use Rattle.gib_parse.specs.Answers.{place_of, read_of}
+use Rattle.gib_parse.specs.Answers.{place_of, read_of, AnswersRead, IsBlamedAt, IsTooDeepAt}
+use Rattle.gib_parse.specs.declared.fault.ParseFault.{ParseFault}
+use Rattle.gib_parse.specs.declared.fault.ParseFault.TheVariants as parsing
+use Rattle.gib_app.specs.PassFaults.{parse_fault}
+use Rattle.gib_app.specs.Stops.{IsCompileFault}
 use Rattle.gib_parse.specs.Reading.{Fault as ReadFault, At, Nested as TooDeep, whole}
 use Rattle.gib_check.specs.declared.fault.Fault.{Fault}
 use Rattle.gib_check.specs.FirstFault.{first_fault}
@@ -59,12 +63,37 @@ stage source (Broken kind place) h =
 
 -- a text that is refused by its tokens is no program's
 
-not_read : Laws → (source : List ℕ) (l m : Lexed) (fault : ReadFault) (p : ProgramTree) → HasTokens source l → read_of l ≡ Err fault → Spells source m p → ⊥
-not_read laws source l m fault p tokens e spells =
-    let same = laws.lexed source m l spells.is_lexed tokens.is_lexed in
+-- what lexing makes of a text is one
+abbrev pub OneLexed : Type 0
+OneLexed = (bytes : List ℕ) (l m : Lexed) → IsLexed bytes l → IsLexed bytes m → l ≡ m
+
+-- a program's tokens are read as that program
+abbrev pub IsRead : Type 0
+IsRead = (at : Places) (tokens : List Token) (p : ProgramTree) → Derives tokens p → IsPlacedProgram at p → levels_program p ≤ 200 → whole at tokens ≡ Ok (p, [])
+
+read_nowhere : OneLexed → IsRead → (source : List ℕ) (l m : Lexed) (fault : ReadFault) (p : ProgramTree) → HasTokens source l → read_of l ≡ Err fault → Spells source m p → ⊥
+read_nowhere one_lexed is_read source l m fault p tokens e spells =
+    let same = one_lexed source m l spells.is_lexed tokens.is_lexed in
     let R : Lexed → Type 0 = λ x. read_of x ≡ Ok (p, []) in
-    let ok = subst R same (laws.read (places_of m.spans) m.tokens p spells.derived spells.placed spells.shallow) in
+    let ok = subst R same (is_read (places_of m.spans) m.tokens p spells.derived spells.placed spells.shallow) in
     let both = sym e ∙ ok in cc
+
+not_read : Laws → (source : List ℕ) (l m : Lexed) (fault : ReadFault) (p : ProgramTree) → HasTokens source l → read_of l ≡ Err fault → Spells source m p → ⊥
+not_read laws source l m fault p tokens e spells = read_nowhere laws.lexed laws.read source l m fault p tokens e spells
+
+-- a fault of the tokens is one of the source, which is no program
+pub parse_refused : OneLexed → IsRead → (source : List ℕ) (l : Lexed) (fault : ParseFault) → HasTokens source l
+    → ((place : ℕ) → fault ≡ parsing.At place → IsBlamedAt l place) → ((place : ℕ) → fault ≡ parsing.Nested place → IsTooDeepAt l place)
+    → AnswersRead l (Err fault) → IsCompileFault source (parse_fault fault)
+parse_refused one_lexed is_read source l parsing.Memory tokens blamed deep read = tt {0}
+parse_refused one_lexed is_read source l (parsing.At place) tokens blamed deep read = (
+  record { lexed = l; tokens = tokens; blamed = blamed place refl; refused = read },
+  λ m p prog. read_nowhere one_lexed is_read source l m (At read.left) p tokens read.read prog.spelled,
+)
+parse_refused one_lexed is_read source l (parsing.Nested place) tokens blamed deep read = (
+  record { lexed = l; tokens = tokens; deep = deep place refl; nested = read },
+  λ m p prog. read_nowhere one_lexed is_read source l m (TooDeep read.left) p tokens read.read prog.spelled,
+)
 
 not_lexed : Laws → (source : List ℕ) (fault : LexFault) (m : Lexed) (p : ProgramTree) → IsRefused source fault → Spells source m p → ⊥
 not_lexed laws source fault m p h spells = laws.nothing source fault m h spells.is_lexed spells.short spells.few_names

@@ -1,6 +1,7 @@
 -- What the words of a call ask for, the bytes of its files, and the counts of faults.
-use Rattle.std.specs.Prelude.{◌≡◌, ℕ, ◌⊎◌, List, [], Option, None, Some, IfSome, MatchOption, Bool}
-use Rattle.gib_edge.specs.Causes.{Rose, Appends, AppendsPart}
+use Rattle.std.specs.Prelude.{◌≡◌, ℕ, ◌⊎◌, List, [], length, Option, None, Some, MatchOption, Bool}
+use Rattle.gib_edge.specs.Causes.{Rose, IsAllOf, IsUntold, Appends, AppendsPart, PutsPieces, PutsSomePieces}
+use Rattle.gib_edge.specs.Views.{ShelfView, SinkView}
 use Rattle.gib_syntax.specs.Tree.{ProgramTree}
 use Rattle.gib_app.specs.Words.{Document, Brought, Named, Request, asked, Files, bytes_in}
 use Rattle.gib_app.specs.Running.{IsSource}
@@ -10,20 +11,9 @@ use Rattle.gib_app.specs.Commands.{source_of, second_of, target_of, Makes, Accep
 abbrev pub Counts : Type 0
 Counts = List ℕ → ℕ
 
--- What is seen of a shelf: what names hold, and the counts of faults of reads and of writes.
-pub record ShelfView : Type 0 where
-  pub kept : Files
-  pub reads : Counts
-  pub writes : Counts
-
--- What is seen of a sink: the bytes that it took, where they are told, and the count of its faults.
-pub record SinkView : Type 0 where
-  pub taken : Option (List ℕ)
-  pub faults : ℕ
-
--- These are the bytes of the document, where those are told.
+-- These are the bytes of the document, where those are told; a file that is not there has none.
 abbrev pub Holds : Files → Document → List ℕ → Type 0
-Holds kept document bytes = IfSome (bytes_in kept document) (λ all. bytes ≡ all)
+Holds kept document bytes = IsAllOf (bytes_in kept document) bytes
 
 -- The same of a second file; where none is read there are no bytes.
 abbrev pub HoldsSecond : Files → Option Document → List ℕ → Type 0
@@ -56,25 +46,25 @@ AsksFiles words kept P = MatchOption (asked words) ⊥ (λ request. OnFiles kept
 abbrev pub AsksProgram : List (List ℕ) → Files → (Request → ProgramTree → List (List ℕ) → List ℕ → Type 0) → Type 0
 AsksProgram words kept P = AsksFiles words kept (λ request source second. OnProgram source (λ p names. P request p names second))
 
--- What the words ask for was made, and `out` took it, whole and nothing else; what is to be written is written.
+-- What the words ask for was made, and `out` took it, whole and nothing else, in pieces; what is to be written is written.
 abbrev pub Prints : Bool → List (List ℕ) → ShelfView → ShelfView → SinkView → SinkView → Type 0
 Prints tells words before now out_before out_now =
     AsksProgram words before.kept
     (λ request p names second. (made : List ℕ) × Makes request p names second made × IsWritten tells now.kept request made
-    × Appends out_before.taken out_now.taken (printed request made))
+    × Appends out_before.taken out_now.taken (printed request made) × PutsPieces out_before out_now (length (printed request made)))
 
 -- The same, but `out` took a front alone, and its count rose.
 abbrev pub PrintsPart : Bool → List (List ℕ) → ShelfView → ShelfView → SinkView → SinkView → Type 0
 PrintsPart tells words before now out_before out_now =
     AsksProgram words before.kept
     (λ request p names second. (made : List ℕ) × Makes request p names second made × IsWritten tells now.kept request made
-    × AppendsPart out_before.taken out_now.taken (printed request made))
+    × AppendsPart out_before.taken out_now.taken (printed request made) × PutsSomePieces out_before out_now (length (printed request made)))
 
 -- The second file is accepted, and the count of the file that is to be written rose; it is not told what that
 -- holds now.
 abbrev pub IsUnwritten : ShelfView → ShelfView → Request → ProgramTree → List (List ℕ) → List ℕ → List ℕ → Type 0
 IsUnwritten before now request p names second name =
-    (target_of request ≡ Some name) × Accepts request p names second × (now.kept name ≡ None) × Rose (before.writes name) (now.writes name)
+    (target_of request ≡ Some name) × Accepts request p names second × IsUntold (now.kept name) × Rose (before.writes name) (now.writes name)
 
 -- The count of the document's file rose, which has this name.
 abbrev pub IsUnread : ShelfView → ShelfView → Document → List ℕ → Type 0

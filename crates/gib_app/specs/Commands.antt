@@ -30,6 +30,15 @@ second_of (Core source pass) = None
 second_of (Pack source text target) = Some text
 second_of (Show source file) = Some file
 
+-- How many bytes of its second file a request reads at most.
+abbrev pub most_of : Request → ℕ
+most_of (Run source input depth) = 16777216
+most_of (Plain source input depth) = 16777216
+most_of (Check source) = 0
+most_of (Core source pass) = 0
+most_of (Pack source text target) = 16777216
+most_of (Show source file) = 268435480
+
 -- The name of the file that is written.
 abbrev pub target_of : Request → Option (List ℕ)
 target_of (Run source input depth) = None

@@ -1,13 +1,14 @@
 -- Each status by its cause, and what stays with it.
-use Rattle.std.specs.Prelude.{◌≡◌, ◌⊎◌, ℕ, List, [], Option, None, Some, MatchOption, Bool, ⊤}
+use Rattle.std.specs.Prelude.{◌≡◌, ◌≢◌, ◌⊎◌, ℕ, List, [], Option, None, Some, MatchOption, Bool, ⊤}
 use Rattle.gib_edge.specs.Causes.{Rose}
+use Rattle.gib_edge.specs.Views.{Has, Missing, ShelfView, SinkView}
 use Rattle.gib_syntax.specs.Tree.{ProgramTree}
 use Rattle.gib_app.specs.declared.status.Status.{Status}
 use Rattle.gib_app.specs.declared.status.Status.TheVariants.{Done, Source, Usage, Depth, Full, Memory, ReadFault, WriteFault, Input}
 use Rattle.gib_app.specs.Words.{Document, Request, asked, Files, bytes_in}
-use Rattle.gib_app.specs.Running.{IsNoProgram}
+use Rattle.gib_app.specs.Running.{IsSource, IsNoProgram}
 use Rattle.gib_app.specs.Commands.{source_of, second_of, target_of, Makes, Accepts, Exhausts, OnProgram}
-use Rattle.gib_app.specs.Causes.{Counts, ShelfView, SinkView, AsksSource, AsksProgram, Prints, PrintsPart, IsUnwritten, IsUnread, IsSecondUnread, FailsToRead}
+use Rattle.gib_app.specs.Causes.{Counts, AsksSource, AsksProgram, Prints, PrintsPart, IsUnwritten, IsUnread, IsSecondUnread, FailsToRead}
 
 -- The file that is to be written could not be, and `out` was not asked; or `out` took a front of what is
 -- printed, and its count rose.
@@ -35,62 +36,32 @@ abbrev pub IsNoTarget : List (List ℕ) → List ℕ → Type 0
 IsNoTarget words name = MatchOption (asked words) ⊤ (λ request. target_of request ≡ Some name → ⊥)
 
 -- What names hold stays, but for the file that is to be written at `Done` and at `WriteFault`.
-abbrev pub FilesStay : List (List ℕ) → Files → Files → Status → Type 0
-FilesStay words before now Done = (name : List ℕ) → IsNoTarget words name → now name ≡ before name
-FilesStay words before now Source = (name : List ℕ) → now name ≡ before name
-FilesStay words before now Usage = (name : List ℕ) → now name ≡ before name
-FilesStay words before now Depth = (name : List ℕ) → now name ≡ before name
-FilesStay words before now Full = (name : List ℕ) → now name ≡ before name
-FilesStay words before now Memory = (name : List ℕ) → now name ≡ before name
-FilesStay words before now ReadFault = (name : List ℕ) → now name ≡ before name
-FilesStay words before now WriteFault = (name : List ℕ) → IsNoTarget words name → now name ≡ before name
-FilesStay words before now Input = (name : List ℕ) → now name ≡ before name
+pub record FilesStay (words : List (List ℕ)) (before now : Files) (status : Status) : Type 0 where
+  pub others : (name : List ℕ) → IsNoTarget words name → now name ≡ before name
+  pub same : status ≢ Done → status ≢ WriteFault → (name : List ℕ) → now name ≡ before name
 
 -- Counts of reads stay, but where a file could not be read.
 abbrev pub ReadsStay : Counts → Counts → Status → Type 0
-ReadsStay before now Done = (name : List ℕ) → now name ≡ before name
-ReadsStay before now Source = (name : List ℕ) → now name ≡ before name
-ReadsStay before now Usage = (name : List ℕ) → now name ≡ before name
-ReadsStay before now Depth = (name : List ℕ) → now name ≡ before name
-ReadsStay before now Full = (name : List ℕ) → now name ≡ before name
-ReadsStay before now Memory = (name : List ℕ) → now name ≡ before name
-ReadsStay before now ReadFault = Unit {0}
-ReadsStay before now WriteFault = (name : List ℕ) → now name ≡ before name
-ReadsStay before now Input = (name : List ℕ) → now name ≡ before name
+ReadsStay before now status = status ≢ ReadFault → (name : List ℕ) → now name ≡ before name
 
 -- Counts of writes stay, but where a file could not be written.
 abbrev pub WritesStay : Counts → Counts → Status → Type 0
-WritesStay before now Done = (name : List ℕ) → now name ≡ before name
-WritesStay before now Source = (name : List ℕ) → now name ≡ before name
-WritesStay before now Usage = (name : List ℕ) → now name ≡ before name
-WritesStay before now Depth = (name : List ℕ) → now name ≡ before name
-WritesStay before now Full = (name : List ℕ) → now name ≡ before name
-WritesStay before now Memory = (name : List ℕ) → now name ≡ before name
-WritesStay before now ReadFault = (name : List ℕ) → now name ≡ before name
-WritesStay before now WriteFault = Unit {0}
-WritesStay before now Input = (name : List ℕ) → now name ≡ before name
+WritesStay before now status = status ≢ WriteFault → (name : List ℕ) → now name ≡ before name
 
 -- With every status but two `out` is as before; at `Done` its count of faults is.
-abbrev pub OutStays : SinkView → SinkView → Status → Type 0
-OutStays before now Done = now.faults ≡ before.faults
-OutStays before now Source = now ≡ before
-OutStays before now Usage = now ≡ before
-OutStays before now Depth = now ≡ before
-OutStays before now Full = now ≡ before
-OutStays before now Memory = now ≡ before
-OutStays before now ReadFault = now ≡ before
-OutStays before now WriteFault = Unit {0}
-OutStays before now Input = now ≡ before
+pub record OutStays (before now : SinkView) (status : Status) : Type 0 where
+  pub quiet : status ≢ WriteFault → now.faults ≡ before.faults
+  pub same : status ≢ Done → status ≢ WriteFault → now ≡ before
 
 -- The bytes of a second file, which are told; where none is read there are no bytes.
 abbrev pub IsTold : Files → Option Document → List ℕ → Type 0
 IsTold kept None bytes = bytes ≡ []
-IsTold kept (Some document) bytes = bytes_in kept document ≡ Some bytes
+IsTold kept (Some document) bytes = bytes_in kept document ≡ Has bytes
 
 -- The bytes of the source are told, this holds of them, and the count of its file did not rise.
 pub record DueOfSource (before now : ShelfView) (request : Request) (P : List ℕ → Type 0) : Type 0 where
   pub source : List ℕ
-  pub source_told : bytes_in before.kept (source_of request) ≡ Some source
+  pub source_told : bytes_in before.kept (source_of request) ≡ Has source
   pub source_read : (name : List ℕ) → IsUnread before now (source_of request) name → ⊥
   pub holds : P source
 
@@ -99,11 +70,22 @@ pub record DueOfSource (before now : ShelfView) (request : Request) (P : List �
 pub record DueOfFiles (before now : ShelfView) (request : Request) (P : ProgramTree → List (List ℕ) → List ℕ → Type 0) : Type 0 where
   pub source : List ℕ
   pub second : List ℕ
-  pub source_told : bytes_in before.kept (source_of request) ≡ Some source
+  pub source_told : bytes_in before.kept (source_of request) ≡ Has source
   pub second_told : IsTold before.kept (second_of request) second
   pub source_read : (name : List ℕ) → IsUnread before now (source_of request) name → ⊥
   pub second_read : (name : List ℕ) → IsSecondUnread before now (second_of request) name → ⊥
   pub holds : OnProgram source (λ p names. P p names second)
+
+-- The second file is not there.
+abbrev pub IsMissing : Files → Option Document → Type 0
+IsMissing kept None = ⊥
+IsMissing kept (Some document) = bytes_in kept document ≡ Missing
+
+-- A file that is to be read is not there: the source, or else the second file, and the source is a program.
+abbrev pub DueMissing : ShelfView → ShelfView → Request → Type 0
+DueMissing before now request =
+    (bytes_in before.kept (source_of request) ≡ Missing)
+    ⊎ (DueOfSource before now request IsSource × IsMissing before.kept (second_of request))
 
 -- The counts of `out` and of the file that is to be written did not rise.
 pub record TakesAll (before now : ShelfView) (out_before out_now : SinkView) (request : Request) : Type 0 where
@@ -111,7 +93,7 @@ pub record TakesAll (before now : ShelfView) (out_before out_now : SinkView) (re
   pub out : Rose out_before.faults out_now.faults → ⊥
 
 -- The status that is due by the words and by the bytes of the files that they name, where these are told and no
--- count on the way rose.
+-- count on the way rose; a file that is not there is told too.
 abbrev pub IsDue : List (List ℕ) → ShelfView → ShelfView → SinkView → SinkView → Status → Type 0
 IsDue words before now out_before out_now Done =
     MatchOption (asked words) ⊥
@@ -121,6 +103,6 @@ IsDue words before now out_before out_now Usage = asked words ≡ None
 IsDue words before now out_before out_now Depth = MatchOption (asked words) ⊥ (λ request. DueOfFiles before now request (λ p names second. Exhausts request p second))
 IsDue words before now out_before out_now Full = ⊥
 IsDue words before now out_before out_now Memory = ⊥
-IsDue words before now out_before out_now ReadFault = ⊥
+IsDue words before now out_before out_now ReadFault = MatchOption (asked words) ⊥ (DueMissing before now)
 IsDue words before now out_before out_now WriteFault = ⊥
 IsDue words before now out_before out_now Input = MatchOption (asked words) ⊥ (λ request. DueOfFiles before now request (λ p names second. Accepts request p names second → ⊥))

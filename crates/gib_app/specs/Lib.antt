@@ -1,5 +1,4 @@
 pub mod Sample
-pub mod Types
 pub mod Words
 pub mod Requests
 pub mod Running
@@ -9,6 +8,7 @@ pub mod SourceFaults
 pub mod InputFaults
 pub mod Commands
 pub mod Causes
+pub mod Calls
 pub mod Lines
 pub mod Ending
 pub mod Codes
@@ -16,3 +16,4 @@ pub mod Stops
 pub mod PassFaults
 pub mod Stopping
 pub mod Performing
+pub mod Headline

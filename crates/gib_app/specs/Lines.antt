@@ -1,7 +1,8 @@
 -- The line that a call puts for each status but `Done`.
-use Rattle.std.specs.Prelude.{◌≡◌, ℕ, ◌⊎◌, List, [], ◌∷◌, ◌++◌, codes, MatchOption}
+use Rattle.std.specs.Prelude.{◌≡◌, ◌≤◌, ℕ, ◌⊎◌, List, [], ◌∷◌, ◌++◌, codes, MatchOption}
 use Rattle.std.specs.Fmt.{decimal}
-use Rattle.gib_edge.specs.Causes.{Rose}
+use Rattle.gib_edge.specs.Causes.{Rose, Appends, AppendsPart}
+use Rattle.gib_edge.specs.Views.{ShelfView, SinkView}
 use Rattle.gib_check.specs.declared.fault.Kind.{Kind}
 use Rattle.gib_check.specs.declared.fault.Kind.TheVariants as rule
 use Rattle.gib_app.specs.declared.source_fault.SourceFault.{SourceFault}
@@ -12,12 +13,18 @@ use Rattle.gib_app.specs.declared.status.Status.{Status}
 use Rattle.gib_app.specs.declared.status.Status.TheVariants.{Done, Source, Usage, Depth, Full, Memory, ReadFault, WriteFault, Input}
 use Rattle.gib_app.specs.Words.{asked}
 use Rattle.gib_app.specs.Commands.{Refuses}
-use Rattle.gib_app.specs.Causes.{ShelfView, SinkView, AsksSource, AsksProgram, FailsToRead, IsUnwritten}
+use Rattle.gib_app.specs.Causes.{AsksSource, AsksProgram, FailsToRead, IsUnwritten}
 use Rattle.gib_app.specs.SourceFaults.{IsSourceFault}
 
 -- A line: `gib: `, what is said, and a line feed.
 abbrev pub line : List ℕ → List ℕ
 line said = codes "gib: " ++ said ++ 10 ∷ []
+
+-- These bytes were put on a sink, or a front of them where its count rose. The count never falls.
+pub record IsPut (before now : SinkView) (said : List ℕ) : Type 0 where
+  pub later : before.faults ≤ now.faults
+  pub whole : (Rose before.faults now.faults → ⊥) → Appends before.taken now.taken said
+  pub part : AppendsPart before.taken now.taken said
 
 -- What is said of a broken rule of typing, before its place.
 abbrev pub rule_text : Kind → List ℕ

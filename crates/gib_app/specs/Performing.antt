@@ -1,12 +1,15 @@
 -- What is written and put, why that stops, and what stays.
-use Rattle.std.specs.Prelude.{◌≡◌, ℕ, List, None, Some, MatchOption, Bool}
-use Rattle.gib_edge.specs.Causes.{Rose}
+use Rattle.std.specs.Prelude.{◌≡◌, ◌≢◌, ℕ, List, None, Some, MatchOption, Bool}
+use Rattle.gib_edge.specs.Causes.{Rose, IsUntold}
+use Rattle.gib_edge.specs.Views.{ShelfView, SinkView}
 use Rattle.gib_app.specs.declared.stop.Stop.{Stop}
 use Rattle.gib_app.specs.declared.stop.Stop.TheVariants.{Usage, Source, Unread, Input, Depth, Memory, Unwritten, Unput}
 use Rattle.gib_app.specs.Words.{Request, Files, asked}
 use Rattle.gib_app.specs.Commands.{target_of, Makes, printed, IsWritten}
-use Rattle.gib_app.specs.Causes.{ShelfView, SinkView, PrintsPart}
+use Rattle.gib_app.specs.Causes.{PrintsPart}
 use Rattle.gib_app.specs.Stops.{OnBoth, IsStop}
+use Rattle.gib_app.specs.declared.status.Status.TheVariants.{WriteFault}
+use Rattle.gib_app.specs.Stopping.{status_for}
 
 -- Why a file is not written.
 abbrev pub IsWriteStop : ShelfView → ShelfView → Request → Stop → Type 0
@@ -16,7 +19,7 @@ IsWriteStop before now request (Unread name) = ⊥
 IsWriteStop before now request (Input fault) = ⊥
 IsWriteStop before now request Depth = ⊥
 IsWriteStop before now request Memory = Unit {0}
-IsWriteStop before now request (Unwritten name) = (target_of request ≡ Some name.now) × (now.kept name.now ≡ None) × Rose (before.writes name.now) (now.writes name.now)
+IsWriteStop before now request (Unwritten name) = (target_of request ≡ Some name.now) × IsUntold (now.kept name.now) × Rose (before.writes name.now) (now.writes name.now)
 IsWriteStop before now request Unput = ⊥
 
 -- What is asked for was made, and written where that is to be; these bytes are printed.
@@ -29,15 +32,8 @@ abbrev pub OthersStay : Request → Files → Files → Type 0
 OthersStay request before now = (name : List ℕ) → (target_of request ≡ Some name → ⊥) → now name ≡ before name
 
 -- What names hold stays, but where a file could not be written, or was written before.
-abbrev pub StopFiles : Request → Files → Files → Stop → Type 0
-StopFiles request before now Usage = (name : List ℕ) → now name ≡ before name
-StopFiles request before now (Source fault) = (name : List ℕ) → now name ≡ before name
-StopFiles request before now (Unread file) = (name : List ℕ) → now name ≡ before name
-StopFiles request before now (Input fault) = (name : List ℕ) → now name ≡ before name
-StopFiles request before now Depth = (name : List ℕ) → now name ≡ before name
-StopFiles request before now Memory = (name : List ℕ) → now name ≡ before name
-StopFiles request before now (Unwritten file) = OthersStay request before now
-StopFiles request before now Unput = OthersStay request before now
+abbrev pub StopFiles : Files → Files → Stop → Type 0
+StopFiles before now stop = status_for stop ≢ WriteFault → (name : List ℕ) → now name ≡ before name
 
 -- Why a call stops.
 abbrev pub IsCallStop : Bool → List (List ℕ) → ShelfView → ShelfView → SinkView → SinkView → Stop → Type 0

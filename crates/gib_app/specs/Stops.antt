@@ -9,6 +9,7 @@ use Rattle.gib_value.specs.Reading.{AreWords}
 use Rattle.gib_syntax.specs.Tree.{ProgramTree}
 use Rattle.gib_syntax.specs.Spelling.{IsFineProgram}
 use Rattle.gib_syntax.specs.Declarations.{table_of_program}
+use Rattle.gib_edge.specs.Views.{ShelfView}
 use Rattle.gib_app.specs.declared.compile.CompileFault.{CompileFault}
 use Rattle.gib_app.specs.declared.compile.CompileFault.TheVariants as compile
 use Rattle.gib_app.specs.declared.documents.DocumentFault.{DocumentFault}
@@ -19,13 +20,13 @@ use Rattle.gib_app.specs.declared.packed.PackedFault.{PackedFault}
 use Rattle.gib_app.specs.declared.packed.PackedFault.TheVariants as packed
 use Rattle.gib_app.specs.declared.stop.Stop.{Stop}
 use Rattle.gib_app.specs.declared.stop.Stop.TheVariants.{Usage, Source, Unread, Input, Depth, Memory, Unwritten, Unput}
-use Rattle.gib_app.specs.Words.{Document, Request, Run, Plain, Check, Core, Pack, Show, Files}
+use Rattle.gib_app.specs.Words.{Document, Request, Files}
 use Rattle.gib_app.specs.Running.{IsProgram, IsNoProgram, IsInput, RunsOut}
 use Rattle.gib_app.specs.Packing.{IsPackedText}
 use Rattle.gib_app.specs.SourceFaults.{IsSourceFault}
 use Rattle.gib_app.specs.InputFaults.{IsFileFault, IsInputFault, IsShowFault, IsTextFault}
-use Rattle.gib_app.specs.Commands.{source_of, second_of, Accepts, Refuses, Exhausts, OnProgram}
-use Rattle.gib_app.specs.Causes.{Counts, ShelfView, HoldsSecond, OnSource, OnFiles, IsUnread, IsSecondUnread, FailsToRead, IsUnwritten}
+use Rattle.gib_app.specs.Commands.{source_of, second_of, most_of, Accepts, Refuses, Exhausts, OnProgram}
+use Rattle.gib_app.specs.Causes.{Counts, HoldsSecond, OnSource, OnFiles, IsUnread, IsSecondUnread, FailsToRead, IsUnwritten}
 
 -- The source spells this program with these names, and it is typed.
 pub record IsCompiled (source : List ℕ) (p : ProgramTree) (names : List (List ℕ)) : Type 0 where
@@ -61,15 +62,6 @@ abbrev pub DocumentReads : Counts → Counts → DocumentFault → Type 0
 DocumentReads before now document.Memory = (name : List ℕ) → now name ≡ before name
 DocumentReads before now document.Long = (name : List ℕ) → now name ≡ before name
 DocumentReads before now (document.Unread file) = Unit {0}
-
--- How many bytes of its second file a request reads at most.
-abbrev pub most_of : Request → ℕ
-most_of (Run source input depth) = 16777216
-most_of (Plain source input depth) = 16777216
-most_of (Check source) = 0
-most_of (Core source pass) = 0
-most_of (Pack source text target) = 16777216
-most_of (Show source file) = 268435480
 
 -- Why no program comes of a source.
 abbrev pub IsSourceStop : ShelfView → ShelfView → Document → Stop → Type 0
@@ -141,14 +133,3 @@ IsStop before now request Depth = OnBoth before.kept request (λ p names second.
 IsStop before now request Memory = Unit {0}
 IsStop before now request (Unwritten name) = OnBoth before.kept request (λ p names second. IsUnwritten before now request p names second name.now)
 IsStop before now request Unput = ⊥
-
--- Counts of reads stay, but where a file could not be read.
-abbrev pub StopReads : Counts → Counts → Stop → Type 0
-StopReads before now Usage = (name : List ℕ) → now name ≡ before name
-StopReads before now (Source fault) = (name : List ℕ) → now name ≡ before name
-StopReads before now (Unread file) = Unit {0}
-StopReads before now (Input fault) = (name : List ℕ) → now name ≡ before name
-StopReads before now Depth = (name : List ℕ) → now name ≡ before name
-StopReads before now Memory = (name : List ℕ) → now name ≡ before name
-StopReads before now (Unwritten file) = (name : List ℕ) → now name ≡ before name
-StopReads before now Unput = (name : List ℕ) → now name ≡ before name

@@ -11,6 +11,7 @@ use Rattle.clap.specs.Walk.{Row, Rule, Text, first_of, one_of}
 use Rattle.clap.specs.Simple.{App, new_app, new_rule, on_top, subcommand_of, with_rule, with_subcommand}
 use Rattle.clap.specs.Takes.{takes}
 use Rattle.clap.specs.declared.builder.value_parser.ValueParser.TheVariants.{Unsigned}
+use Rattle.gib_edge.specs.Views.{Held, Has}
 use Rattle.gib_app.specs.Sample.{sample_source, sample_input}
 
 -- The bytes of the words.
@@ -184,11 +185,11 @@ asked (program ∷ word ∷ further) = asked_by_command (program ∷ word ∷ fu
 
 -- ---- Files
 
--- What names hold, where that is told.
+-- What names hold.
 abbrev pub Files : Type 0
-Files = List ℕ → Option (List ℕ)
+Files = List ℕ → Held
 
--- The bytes of a document, where they are told.
-abbrev pub bytes_in : Files → Document → Option (List ℕ)
-bytes_in kept (Brought bytes) = Some bytes
+-- What a document holds.
+abbrev pub bytes_in : Files → Document → Held
+bytes_in kept (Brought bytes) = Has bytes
 bytes_in kept (Named name) = kept name

@@ -1,6 +1,8 @@
 //! The bytes of a document, whole.
 
-ghost use Rattle.std.specs.Prelude.{◌≡◌, ◌<◌, ◌≤◌, ◌^◌, ℕ, List, length, IfOk, IfErr};
+ghost use Rattle.std.specs.Prelude.{◌≡◌, ◌<◌, ◌≤◌, ◌^◌, ℕ, List, length, IfOk, IfErr, OnOk, OnErr};
+ghost use Rattle.gib_edge.specs.Causes.{Appends, AppendsPart};
+ghost use Rattle.gib_app.specs.Calls.{read_calls};
 ghost use Rattle.gib_app.specs.Requests.{document_of};
 ghost use Rattle.gib_app.specs.Causes.{Holds};
 ghost use Rattle.gib_app.specs.Stops.{IsDocumentFault, DocumentReads};
@@ -27,14 +29,16 @@ pub fn read_document<'a, S: Shelf>(
     most: u64,
 ) -> Result<Vec<u8>, DocumentFault<'a>>
     requires { most < 2 ^ 40 }
-    ensures bytes { IfOk result (λ bytes. Holds (S.kept shelf.old) (document_of document.entry) bytes.items) }
+    ensures bytes { IfOk result (λ bytes. Holds (S.view shelf.old).kept (document_of document.entry) bytes.items) }
     ensures most { IfOk result (λ bytes. length bytes.items ≤ most) }
-    ensures faults { IfErr result (IsDocumentFault (record { kept = S.kept shelf.old; reads = S.read_faults shelf.old; writes = S.write_faults shelf.old }) (record { kept = S.kept shelf.new; reads = S.read_faults shelf.new; writes = S.write_faults shelf.new }) (document_of document.entry) most) }
-    ensures same { (name : List ℕ) → S.kept shelf.new name ≡ S.kept shelf.old name }
-    ensures later { (name : List ℕ) → S.read_faults shelf.old name ≤ S.read_faults shelf.new name }
-    ensures writes { (name : List ℕ) → S.write_faults shelf.new name ≡ S.write_faults shelf.old name }
-    ensures quiet { IfOk result (λ _. (name : List ℕ) → S.read_faults shelf.new name ≡ S.read_faults shelf.old name) }
-    ensures reads { IfErr result (DocumentReads (S.read_faults shelf.old) (S.read_faults shelf.new)) }
+    ensures faults { IfErr result (IsDocumentFault (S.view shelf.old) (S.view shelf.new) (document_of document.entry) most) }
+    ensures same { (name : List ℕ) → (S.view shelf.new).kept name ≡ (S.view shelf.old).kept name }
+    ensures later { (name : List ℕ) → (S.view shelf.old).reads name ≤ (S.view shelf.new).reads name }
+    ensures writes { (name : List ℕ) → (S.view shelf.new).writes name ≡ (S.view shelf.old).writes name }
+    ensures quiet { IfOk result (λ _. (name : List ℕ) → (S.view shelf.new).reads name ≡ (S.view shelf.old).reads name) }
+    ensures reads { IfErr result (DocumentReads (S.view shelf.old).reads (S.view shelf.new).reads) }
+    ensures called { OnOk result (Appends (S.view shelf.old).calls (S.view shelf.new).calls (read_calls (document_of document.entry) most)) }
+    ensures once { OnErr result (AppendsPart (S.view shelf.old).calls (S.view shelf.new).calls (read_calls (document_of document.entry) most)) }
 {
     match document {
         Document::Brought(bytes) => {

@@ -5,6 +5,7 @@ mod commands;
 mod compile;
 mod core_text;
 mod documents;
+pub mod headline;
 pub mod input_fault;
 pub mod law;
 mod lines;

@@ -1,8 +1,8 @@
 //! The line about a stop, in pieces that take no memory.
 
-ghost use Rattle.std.specs.Prelude.{◌≡◌, ◌<◌, ◌≤◌, ◌+◌, ◌++◌, ◌∷◌, length, drop, codes, OnOk};
+ghost use Rattle.std.specs.Prelude.{◌≡◌, ◌<◌, ◌≤◌, ◌+◌, ◌++◌, ◌∷◌, length, drop, codes, OnOk, OnErr};
 ghost use Rattle.std.specs.Fmt.{decimal};
-ghost use Rattle.gib_edge.specs.Causes.{HasCause, Appends};
+ghost use Rattle.gib_edge.specs.Causes.{HasCause, Appends, AppendsPart};
 ghost use Rattle.gib_app.specs.Lines.{rule_text, source_text, input_text};
 ghost use Rattle.gib_app.specs.Stopping.{stop_text, line_for};
 
@@ -45,8 +45,9 @@ fn write_decimal(buffer: &mut [u8], number: u64) -> usize
 
 /// Puts a number in decimal.
 fn put_number<E: Sink>(err: &mut E, number: u64) -> Result<(), Failed>
-    ensures ok { OnOk result (Appends (E.taken err.old) (E.taken err.new) (decimal number)) }
-    ensures cause { HasCause (E.faults err.old) (E.faults err.new) result }
+    ensures ok { OnOk result (Appends (E.view err.old).taken (E.view err.new).taken (decimal number)) }
+    ensures part { OnErr result (AppendsPart (E.view err.old).taken (E.view err.new).taken (decimal number)) }
+    ensures cause { HasCause (E.view err.old).faults (E.view err.new).faults result }
 {
     let mut buffer = [0; DIGITS];
     let start = write_decimal(&mut buffer, number);
@@ -59,8 +60,9 @@ fn put_number<E: Sink>(err: &mut E, number: u64) -> Result<(), Failed>
 
 /// Puts what is said, and then a name.
 fn put_named<E: Sink>(err: &mut E, said: &[u8], name: &str) -> Result<(), Failed>
-    ensures ok { OnOk result (Appends (E.taken err.old) (E.taken err.new) (said.now ++ name.now)) }
-    ensures cause { HasCause (E.faults err.old) (E.faults err.new) result }
+    ensures ok { OnOk result (Appends (E.view err.old).taken (E.view err.new).taken (said.now ++ name.now)) }
+    ensures part { OnErr result (AppendsPart (E.view err.old).taken (E.view err.new).taken (said.now ++ name.now)) }
+    ensures cause { HasCause (E.view err.old).faults (E.view err.new).faults result }
 {
     put_all(err, said)?;
     put_all(err, name.as_bytes())?;
@@ -69,8 +71,9 @@ fn put_named<E: Sink>(err: &mut E, said: &[u8], name: &str) -> Result<(), Failed
 
 /// Puts what is said, and then a number.
 fn put_numbered<E: Sink>(err: &mut E, said: &[u8], number: u64) -> Result<(), Failed>
-    ensures ok { OnOk result (Appends (E.taken err.old) (E.taken err.new) (said.now ++ decimal number)) }
-    ensures cause { HasCause (E.faults err.old) (E.faults err.new) result }
+    ensures ok { OnOk result (Appends (E.view err.old).taken (E.view err.new).taken (said.now ++ decimal number)) }
+    ensures part { OnErr result (AppendsPart (E.view err.old).taken (E.view err.new).taken (said.now ++ decimal number)) }
+    ensures cause { HasCause (E.view err.old).faults (E.view err.new).faults result }
 {
     put_all(err, said)?;
     put_number(err, number)?;
@@ -93,8 +96,9 @@ fn rule_words(kind: Kind) -> &'static [u8]
 
 /// Puts what is said of a source that is no program.
 fn put_source<E: Sink>(err: &mut E, fault: SourceFault) -> Result<(), Failed>
-    ensures ok { OnOk result (Appends (E.taken err.old) (E.taken err.new) (source_text fault)) }
-    ensures cause { HasCause (E.faults err.old) (E.faults err.new) result }
+    ensures ok { OnOk result (Appends (E.view err.old).taken (E.view err.new).taken (source_text fault)) }
+    ensures part { OnErr result (AppendsPart (E.view err.old).taken (E.view err.new).taken (source_text fault)) }
+    ensures cause { HasCause (E.view err.old).faults (E.view err.new).faults result }
 {
     match fault {
         SourceFault::Long => put_all(err, b"source: longer than 1048576 bytes"),
@@ -115,8 +119,9 @@ fn put_source<E: Sink>(err: &mut E, fault: SourceFault) -> Result<(), Failed>
 
 /// Puts how many bytes.
 fn put_count<E: Sink>(err: &mut E, count: u64) -> Result<(), Failed>
-    ensures ok { OnOk result (Appends (E.taken err.old) (E.taken err.new) (decimal count ++ codes " bytes")) }
-    ensures cause { HasCause (E.faults err.old) (E.faults err.new) result }
+    ensures ok { OnOk result (Appends (E.view err.old).taken (E.view err.new).taken (decimal count ++ codes " bytes")) }
+    ensures part { OnErr result (AppendsPart (E.view err.old).taken (E.view err.new).taken (decimal count ++ codes " bytes")) }
+    ensures cause { HasCause (E.view err.old).faults (E.view err.new).faults result }
 {
     put_number(err, count)?;
     put_all(err, b" bytes")?;
@@ -125,8 +130,9 @@ fn put_count<E: Sink>(err: &mut E, count: u64) -> Result<(), Failed>
 
 /// Puts that a file is longer than a limit.
 fn put_long<E: Sink>(err: &mut E, most: u64) -> Result<(), Failed>
-    ensures ok { OnOk result (Appends (E.taken err.old) (E.taken err.new) (input_text (InputFault.Long most))) }
-    ensures cause { HasCause (E.faults err.old) (E.faults err.new) result }
+    ensures ok { OnOk result (Appends (E.view err.old).taken (E.view err.new).taken (input_text (InputFault.Long most))) }
+    ensures part { OnErr result (AppendsPart (E.view err.old).taken (E.view err.new).taken (input_text (InputFault.Long most))) }
+    ensures cause { HasCause (E.view err.old).faults (E.view err.new).faults result }
 {
     put_all(err, b"input: longer than ")?;
     put_count(err, most)?;
@@ -135,8 +141,9 @@ fn put_long<E: Sink>(err: &mut E, most: u64) -> Result<(), Failed>
 
 /// Puts what is said of a second file that is refused.
 fn put_input<E: Sink>(err: &mut E, fault: InputFault) -> Result<(), Failed>
-    ensures ok { OnOk result (Appends (E.taken err.old) (E.taken err.new) (input_text fault)) }
-    ensures cause { HasCause (E.faults err.old) (E.faults err.new) result }
+    ensures ok { OnOk result (Appends (E.view err.old).taken (E.view err.new).taken (input_text fault)) }
+    ensures part { OnErr result (AppendsPart (E.view err.old).taken (E.view err.new).taken (input_text fault)) }
+    ensures cause { HasCause (E.view err.old).faults (E.view err.new).faults result }
 {
     match fault {
         InputFault::Long(most) => put_long(err, most),
@@ -154,8 +161,9 @@ fn put_input<E: Sink>(err: &mut E, fault: InputFault) -> Result<(), Failed>
 
 /// Puts what is said of a stop.
 fn put_stop<E: Sink>(err: &mut E, stop: Stop<'_>) -> Result<(), Failed>
-    ensures ok { OnOk result (Appends (E.taken err.old) (E.taken err.new) (stop_text stop.entry)) }
-    ensures cause { HasCause (E.faults err.old) (E.faults err.new) result }
+    ensures ok { OnOk result (Appends (E.view err.old).taken (E.view err.new).taken (stop_text stop.entry)) }
+    ensures part { OnErr result (AppendsPart (E.view err.old).taken (E.view err.new).taken (stop_text stop.entry)) }
+    ensures cause { HasCause (E.view err.old).faults (E.view err.new).faults result }
 {
     match stop {
         Stop::Usage => put_all(err, b"usage"),
@@ -171,8 +179,9 @@ fn put_stop<E: Sink>(err: &mut E, stop: Stop<'_>) -> Result<(), Failed>
 
 /// Puts the line of a stop.
 pub fn put_line<E: Sink>(err: &mut E, stop: Stop<'_>) -> Result<(), Failed>
-    ensures ok { OnOk result (Appends (E.taken err.old) (E.taken err.new) (line_for stop.entry)) }
-    ensures cause { HasCause (E.faults err.old) (E.faults err.new) result }
+    ensures ok { OnOk result (Appends (E.view err.old).taken (E.view err.new).taken (line_for stop.entry)) }
+    ensures part { OnErr result (AppendsPart (E.view err.old).taken (E.view err.new).taken (line_for stop.entry)) }
+    ensures cause { HasCause (E.view err.old).faults (E.view err.new).faults result }
 {
     put_all(err, b"gib: ")?;
     put_stop(err, stop)?;

@@ -1,11 +1,15 @@
 //! What a request asks for, from its files.
 
-ghost use Rattle.std.specs.Prelude.{◌≡◌, ◌≤◌, ℕ, List, length, IfOk, IfErr};
+ghost use Rattle.std.specs.Prelude.{◌≡◌, ◌≤◌, ℕ, List, length, IfOk, IfErr, OnOk, OnErr};
 ghost use Rattle.gib_syntax.specs.Parts.{program_of};
-ghost use Rattle.gib_app.specs.Commands.{second_of as second_asked, Makes};
+ghost use Rattle.gib_app.specs.Commands.{source_of as source_asked, second_of as second_asked, most_of as most_asked, Makes};
 ghost use Rattle.gib_app.specs.Causes.{HoldsSecond, OnSource};
+ghost use Rattle.gib_edge.specs.Causes.{Appends, AppendsPart};
+ghost use Rattle.gib_app.specs.Calls.{read_calls, second_calls, reads_of};
+ghost use Rattle.gib_app.specs.Ending.{ReadsStay};
+ghost use Rattle.gib_app.specs.Stopping.{status_for};
 ghost use Rattle.gib_app.specs.Requests.{document_of, request_of};
-ghost use Rattle.gib_app.specs.Stops.{most_of as most_asked, IsCompiled, IsReady, IsSourceStop, IsSecondStop, IsMakeStop, IsStop, StopReads, OnBoth};
+ghost use Rattle.gib_app.specs.Stops.{IsCompiled, IsReady, IsSourceStop, IsSecondStop, IsMakeStop, IsStop, OnBoth};
 
 use crate::compile::{CompileFault, Compiled, compile};
 use crate::core_text::print_after;
@@ -29,14 +33,16 @@ fn load_program<'a, S: Shelf>(
     shelf: &mut S,
     document: Document<'a>,
 ) -> Result<Compiled, Stop<'a>>
-    ensures compiled { IfOk result (λ c. OnSource (S.kept shelf.old) (document_of document.entry) (λ source. IsCompiled source (program_of c.typed) c.names)) }
+    ensures compiled { IfOk result (λ c. OnSource (S.view shelf.old).kept (document_of document.entry) (λ source. IsCompiled source (program_of c.typed) c.names)) }
     ensures ready { IfOk result (λ c. IsReady (program_of c.typed) c.names) }
-    ensures stop { IfErr result (IsSourceStop (record { kept = S.kept shelf.old; reads = S.read_faults shelf.old; writes = S.write_faults shelf.old }) (record { kept = S.kept shelf.new; reads = S.read_faults shelf.new; writes = S.write_faults shelf.new }) (document_of document.entry)) }
-    ensures same { (name : List ℕ) → S.kept shelf.new name ≡ S.kept shelf.old name }
-    ensures later { (name : List ℕ) → S.read_faults shelf.old name ≤ S.read_faults shelf.new name }
-    ensures writes { (name : List ℕ) → S.write_faults shelf.new name ≡ S.write_faults shelf.old name }
-    ensures quiet { IfOk result (λ _. (name : List ℕ) → S.read_faults shelf.new name ≡ S.read_faults shelf.old name) }
-    ensures reads { IfErr result (StopReads (S.read_faults shelf.old) (S.read_faults shelf.new)) }
+    ensures stop { IfErr result (IsSourceStop (S.view shelf.old) (S.view shelf.new) (document_of document.entry)) }
+    ensures same { (name : List ℕ) → (S.view shelf.new).kept name ≡ (S.view shelf.old).kept name }
+    ensures later { (name : List ℕ) → (S.view shelf.old).reads name ≤ (S.view shelf.new).reads name }
+    ensures writes { (name : List ℕ) → (S.view shelf.new).writes name ≡ (S.view shelf.old).writes name }
+    ensures quiet { IfOk result (λ _. (name : List ℕ) → (S.view shelf.new).reads name ≡ (S.view shelf.old).reads name) }
+    ensures reads { IfErr result (λ stop. ReadsStay (S.view shelf.old).reads (S.view shelf.new).reads (status_for stop)) }
+    ensures called { OnOk result (Appends (S.view shelf.old).calls (S.view shelf.new).calls (read_calls (document_of document.entry) 1048576)) }
+    ensures once { OnErr result (AppendsPart (S.view shelf.old).calls (S.view shelf.new).calls (read_calls (document_of document.entry) 1048576)) }
 {
     let source = match read_document(shelf, alloc, document, SOURCE_BYTES) {
         Ok(source) => source,
@@ -57,14 +63,16 @@ fn read_second<'a, S: Shelf>(
     shelf: &mut S,
     request: Request<'a>,
 ) -> Result<Vec<u8>, Stop<'a>>
-    ensures bytes { IfOk result (λ bytes. HoldsSecond (S.kept shelf.old) (second_asked (request_of request.entry)) bytes.items) }
+    ensures bytes { IfOk result (λ bytes. HoldsSecond (S.view shelf.old).kept (second_asked (request_of request.entry)) bytes.items) }
     ensures most { IfOk result (λ bytes. length bytes.items ≤ most_asked (request_of request.entry)) }
-    ensures stop { IfErr result (IsSecondStop (record { kept = S.kept shelf.old; reads = S.read_faults shelf.old; writes = S.write_faults shelf.old }) (record { kept = S.kept shelf.new; reads = S.read_faults shelf.new; writes = S.write_faults shelf.new }) (request_of request.entry)) }
-    ensures same { (name : List ℕ) → S.kept shelf.new name ≡ S.kept shelf.old name }
-    ensures later { (name : List ℕ) → S.read_faults shelf.old name ≤ S.read_faults shelf.new name }
-    ensures writes { (name : List ℕ) → S.write_faults shelf.new name ≡ S.write_faults shelf.old name }
-    ensures quiet { IfOk result (λ _. (name : List ℕ) → S.read_faults shelf.new name ≡ S.read_faults shelf.old name) }
-    ensures reads { IfErr result (StopReads (S.read_faults shelf.old) (S.read_faults shelf.new)) }
+    ensures stop { IfErr result (IsSecondStop (S.view shelf.old) (S.view shelf.new) (request_of request.entry)) }
+    ensures same { (name : List ℕ) → (S.view shelf.new).kept name ≡ (S.view shelf.old).kept name }
+    ensures later { (name : List ℕ) → (S.view shelf.old).reads name ≤ (S.view shelf.new).reads name }
+    ensures writes { (name : List ℕ) → (S.view shelf.new).writes name ≡ (S.view shelf.old).writes name }
+    ensures quiet { IfOk result (λ _. (name : List ℕ) → (S.view shelf.new).reads name ≡ (S.view shelf.old).reads name) }
+    ensures reads { IfErr result (λ stop. ReadsStay (S.view shelf.old).reads (S.view shelf.new).reads (status_for stop)) }
+    ensures called { OnOk result (Appends (S.view shelf.old).calls (S.view shelf.new).calls (second_calls (second_asked (request_of request.entry)) (most_asked (request_of request.entry)))) }
+    ensures once { OnErr result (AppendsPart (S.view shelf.old).calls (S.view shelf.new).calls (second_calls (second_asked (request_of request.entry)) (most_asked (request_of request.entry)))) }
 {
     let Some(document) = second_of(request) else {
         return Ok(Vec::new(alloc));
@@ -117,13 +125,15 @@ pub fn make<'a, S: Shelf>(
     shelf: &mut S,
     request: Request<'a>,
 ) -> Result<Vec<u8>, Stop<'a>>
-    ensures made { IfOk result (λ made. OnBoth (S.kept shelf.old) (request_of request.entry) (λ p names second. Makes (request_of request.entry) p names second made.items)) }
-    ensures stop { IfErr result (IsStop (record { kept = S.kept shelf.old; reads = S.read_faults shelf.old; writes = S.write_faults shelf.old }) (record { kept = S.kept shelf.new; reads = S.read_faults shelf.new; writes = S.write_faults shelf.new }) (request_of request.entry)) }
-    ensures same { (name : List ℕ) → S.kept shelf.new name ≡ S.kept shelf.old name }
-    ensures later { (name : List ℕ) → S.read_faults shelf.old name ≤ S.read_faults shelf.new name }
-    ensures writes { (name : List ℕ) → S.write_faults shelf.new name ≡ S.write_faults shelf.old name }
-    ensures quiet { IfOk result (λ _. (name : List ℕ) → S.read_faults shelf.new name ≡ S.read_faults shelf.old name) }
-    ensures reads { IfErr result (StopReads (S.read_faults shelf.old) (S.read_faults shelf.new)) }
+    ensures made { IfOk result (λ made. OnBoth (S.view shelf.old).kept (request_of request.entry) (λ p names second. Makes (request_of request.entry) p names second made.items)) }
+    ensures stop { IfErr result (IsStop (S.view shelf.old) (S.view shelf.new) (request_of request.entry)) }
+    ensures same { (name : List ℕ) → (S.view shelf.new).kept name ≡ (S.view shelf.old).kept name }
+    ensures later { (name : List ℕ) → (S.view shelf.old).reads name ≤ (S.view shelf.new).reads name }
+    ensures writes { (name : List ℕ) → (S.view shelf.new).writes name ≡ (S.view shelf.old).writes name }
+    ensures quiet { IfOk result (λ _. (name : List ℕ) → (S.view shelf.new).reads name ≡ (S.view shelf.old).reads name) }
+    ensures reads { IfErr result (λ stop. ReadsStay (S.view shelf.old).reads (S.view shelf.new).reads (status_for stop)) }
+    ensures called { OnOk result (Appends (S.view shelf.old).calls (S.view shelf.new).calls (reads_of (request_of request.entry))) }
+    ensures once { OnErr result (AppendsPart (S.view shelf.old).calls (S.view shelf.new).calls (reads_of (request_of request.entry))) }
 {
     let compiled = match load_program(alloc, shelf, source_of(request)) {
         Ok(compiled) => compiled,

@@ -7,7 +7,6 @@ ghost use Rattle.gib_app.specs.Stops.{IsReady, IsPackStop};
 
 use crate::compile::Compiled;
 use crate::input_fault::InputFault;
-use crate::packed::parameter_type;
 use crate::stop::Stop;
 use gib_base::limits::FILE_BYTES;
 use gib_file::pack;
@@ -40,7 +39,7 @@ pub fn pack_text(alloc: Global, compiled: &Compiled, text: &[u8]) -> Result<Vec<
     ensures stop { IfErr result (IsPackStop (program_of compiled.now.typed) compiled.now.names text.now) }
 {
     let types = compiled.typed.types();
-    let ty = parameter_type(&compiled.typed);
+    let ty = compiled.typed.input_type();
     let value = match read_text(alloc, types, &compiled.names, ty, without_feed(text)) {
         Ok(value) => value,
         Err(TextFault::At(place)) => return Err(Stop::Input(InputFault::Text(place))),

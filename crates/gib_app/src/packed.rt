@@ -5,16 +5,12 @@ ghost use Rattle.gib_types.specs.Tree.{Datum};
 ghost use Rattle.gib_file.specs.Framed.{File};
 ghost use Rattle.gib_syntax.specs.Parts.{program_of};
 ghost use Rattle.gib_syntax.specs.Declarations.{table_of_program, input_type};
-ghost use Rattle.gib_app.specs.Types.{type_at};
 ghost use Rattle.gib_app.specs.Stops.{IsPackedStop};
 ghost use Rattle.gib_app.specs.PassFaults.{header_fault, payload_fault};
 
 use crate::input_fault::InputFault;
-use gib_base::Name;
 use gib_check::Typed;
 use gib_file::{HeadFault, PackFault, one_reading, read_header, survey, unpack};
-use gib_syntax::TypeName;
-use gib_types::{Ty, TyId, TypeTable};
 use gib_value::Value;
 use std::alloc::Global;
 
@@ -24,32 +20,6 @@ pub enum PackedFault {
     Memory,
     /// It is no packed file of a value of the type.
     Refused(InputFault),
-}
-
-/// The type of a name, `Int` where none is declared.
-fn type_named(types: &TypeTable, name: Name) -> Ty
-    ensures { result ≡ type_at types.now.types name.0 }
-{
-    let count = types.type_count();
-    let mut number = 0;
-    'types: while number < count {
-        if types.type_name(TyId(number)) == name {
-            return Ty::Tree(TyId(number));
-        }
-        number += 1;
-    }
-    Ty::Whole
-}
-
-/// The type of main's parameter.
-pub fn parameter_type(typed: &Typed) -> Ty
-    ensures { result ≡ input_type (program_of typed.now) }
-{
-    match typed.program().main().parameter.ty {
-        TypeName::Whole(_) => Ty::Whole,
-        TypeName::Truth(_) => Ty::Truth,
-        TypeName::Declared(ident) => type_named(typed.types(), ident.name),
-    }
 }
 
 /// The fault of a header.
@@ -88,7 +58,7 @@ pub fn read_packed(alloc: Global, typed: &Typed, bytes: &[u8]) -> Result<Value, 
     ensures only { (v : Datum) → File (table_of_program (program_of typed.now)) (input_type (program_of typed.now)) v bytes.now
         → MatchResult result (λ w. w ≡ v) (λ fault. fault ≡ PackedFault.Memory) }
 {
-    let ty = parameter_type(typed);
+    let ty = typed.input_type();
     let payload = match read_header(bytes) {
         Ok(payload) => payload,
         Err(fault) => return Err(PackedFault::Refused(of_header(fault))),

@@ -1,9 +1,8 @@
 //! The files of a request.
 
 ghost use Rattle.std.specs.Prelude.{◌≡◌, None, Some, MatchOption};
-ghost use Rattle.gib_app.specs.Commands.{source_of as source_asked, second_of as second_asked, target_of as target_asked};
+ghost use Rattle.gib_app.specs.Commands.{source_of as source_asked, second_of as second_asked, target_of as target_asked, most_of as most_asked};
 ghost use Rattle.gib_app.specs.Requests.{document_of, request_of};
-ghost use Rattle.gib_app.specs.Stops.{most_of as most_asked};
 
 use crate::words::{Document, Request};
 use gib_base::limits::FILE_BYTES;

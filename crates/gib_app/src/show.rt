@@ -1,7 +1,6 @@
 //! The value of a packed file, as the bytes that are printed.
 
-ghost use Rattle.std.specs.Prelude.{◌≡◌, ◌≤◌, ◌↔◌, length, IfOk, IfErr, IsTrue};
-ghost use Rattle.gib_file.specs.Framed.{HasMagic};
+ghost use Rattle.std.specs.Prelude.{◌≡◌, ◌≤◌, length, IfOk, IfErr};
 ghost use Rattle.gib_syntax.specs.Parts.{program_of};
 ghost use Rattle.gib_app.specs.Running.{IsShown};
 ghost use Rattle.gib_app.specs.Stops.{IsReady, IsShowStop};
@@ -13,14 +12,8 @@ use crate::printing::value_line;
 use crate::request_files::IMAGE_BYTES;
 use crate::stop::Stop;
 use gib_base::limits::FILE_BYTES;
+use gib_file::has_magic;
 use std::alloc::Global;
-
-/// Whether the bytes begin as a packed file.
-fn has_magic(bytes: &[u8]) -> bool
-    ensures { IsTrue result ↔ HasMagic bytes.now }
-{
-    matches!(bytes, [b'G', b'I', b'B', b'P', ..])
-}
 
 /// The text of the value of a packed file, with a line feed.
 ///

@@ -1,11 +1,12 @@
 //! The top call.
 
 ghost use Rattle.std.specs.Prelude.{◌≡◌, ◌⊎◌, ◌≤◌, ℕ, List, OnOk, IfErr};
-ghost use Rattle.gib_edge.specs.Causes.{Rose, Appends};
+ghost use Rattle.gib_edge.specs.Causes.{AppendsPart};
 ghost use Rattle.gib_app.specs.declared.status.Status.{Status as Statuses};
 ghost use Rattle.gib_app.specs.Words.{bytes_of};
 ghost use Rattle.gib_app.specs.Causes.{Prints};
-ghost use Rattle.gib_app.specs.Lines.{IsLine};
+ghost use Rattle.gib_app.specs.Calls.{calls_asked};
+ghost use Rattle.gib_app.specs.Lines.{IsLine, IsPut};
 ghost use Rattle.gib_app.specs.Ending.{IsEnding, IsNoTarget, FilesStay, ReadsStay, WritesStay, OutStays, IsDue};
 ghost use Rattle.gib_app.specs.Performing.{IsCallStop};
 ghost use Rattle.gib_app.specs.Stopping.{status_for};
@@ -46,18 +47,19 @@ fn call<'a, S: Shelf, O: Sink>(
     shelf: &mut S,
     out: &mut O,
 ) -> Result<(), Stop<'a>>
-    ensures done { OnOk result (Prints S.tells (bytes_of words.now) (record { kept = S.kept shelf.old; reads = S.read_faults shelf.old; writes = S.write_faults shelf.old }) (record { kept = S.kept shelf.new; reads = S.read_faults shelf.new; writes = S.write_faults shelf.new }) (record { taken = O.taken out.old; faults = O.faults out.old }) (record { taken = O.taken out.new; faults = O.faults out.new })) }
-    ensures stop { IfErr result (IsCallStop S.tells (bytes_of words.now) (record { kept = S.kept shelf.old; reads = S.read_faults shelf.old; writes = S.write_faults shelf.old }) (record { kept = S.kept shelf.new; reads = S.read_faults shelf.new; writes = S.write_faults shelf.new }) (record { taken = O.taken out.old; faults = O.faults out.old }) (record { taken = O.taken out.new; faults = O.faults out.new })) }
-    ensures others { (name : List ℕ) → IsNoTarget (bytes_of words.now) name → S.kept shelf.new name ≡ S.kept shelf.old name }
-    ensures same { IfErr result (λ stop. FilesStay (bytes_of words.now) (S.kept shelf.old) (S.kept shelf.new) (status_for stop)) }
-    ensures reads_later { (name : List ℕ) → S.read_faults shelf.old name ≤ S.read_faults shelf.new name }
-    ensures reads_quiet { OnOk result ((name : List ℕ) → S.read_faults shelf.new name ≡ S.read_faults shelf.old name) }
-    ensures reads { IfErr result (λ stop. ReadsStay (S.read_faults shelf.old) (S.read_faults shelf.new) (status_for stop)) }
-    ensures writes_later { (name : List ℕ) → S.write_faults shelf.old name ≤ S.write_faults shelf.new name }
-    ensures writes_quiet { OnOk result ((name : List ℕ) → S.write_faults shelf.new name ≡ S.write_faults shelf.old name) }
-    ensures writes { IfErr result (λ stop. WritesStay (S.write_faults shelf.old) (S.write_faults shelf.new) (status_for stop)) }
-    ensures out_quiet { OnOk result (O.faults out.new ≡ O.faults out.old) }
-    ensures out { IfErr result (λ stop. OutStays (record { taken = O.taken out.old; faults = O.faults out.old }) (record { taken = O.taken out.new; faults = O.faults out.new }) (status_for stop)) }
+    ensures done { OnOk result (Prints S.tells (bytes_of words.now) (S.view shelf.old) (S.view shelf.new) (O.view out.old) (O.view out.new)) }
+    ensures stop { IfErr result (IsCallStop S.tells (bytes_of words.now) (S.view shelf.old) (S.view shelf.new) (O.view out.old) (O.view out.new)) }
+    ensures others { (name : List ℕ) → IsNoTarget (bytes_of words.now) name → (S.view shelf.new).kept name ≡ (S.view shelf.old).kept name }
+    ensures same { IfErr result (λ stop. FilesStay (bytes_of words.now) (S.view shelf.old).kept (S.view shelf.new).kept (status_for stop)) }
+    ensures reads_later { (name : List ℕ) → (S.view shelf.old).reads name ≤ (S.view shelf.new).reads name }
+    ensures reads_quiet { OnOk result ((name : List ℕ) → (S.view shelf.new).reads name ≡ (S.view shelf.old).reads name) }
+    ensures reads { IfErr result (λ stop. ReadsStay (S.view shelf.old).reads (S.view shelf.new).reads (status_for stop)) }
+    ensures writes_later { (name : List ℕ) → (S.view shelf.old).writes name ≤ (S.view shelf.new).writes name }
+    ensures writes_quiet { OnOk result ((name : List ℕ) → (S.view shelf.new).writes name ≡ (S.view shelf.old).writes name) }
+    ensures writes { IfErr result (λ stop. WritesStay (S.view shelf.old).writes (S.view shelf.new).writes (status_for stop)) }
+    ensures out_quiet { OnOk result ((O.view out.new).faults ≡ (O.view out.old).faults) }
+    ensures out { IfErr result (λ stop. OutStays (O.view out.old) (O.view out.new) (status_for stop)) }
+    ensures calls { AppendsPart (S.view shelf.old).calls (S.view shelf.new).calls (calls_asked (bytes_of words.now)) }
 {
     let request = match read_words(alloc, words) {
         Ok(request) => request,
@@ -91,22 +93,26 @@ pub fn gib<R: Threads + Wait + Sync, S: Shelf, O: Sink, E: Sink, G: Gate + Sync>
 ) -> Status
     // Each status comes only by its cause; `Done` only where what the words ask for was made and put: for `run` the text of
     // the value that the program means on the input within the depth, for `pack` also its file was written.
-    ensures cause { IsEnding S.tells (bytes_of words.now) (record { kept = S.kept shelf.old; reads = S.read_faults shelf.old; writes = S.write_faults shelf.old }) (record { kept = S.kept shelf.new; reads = S.read_faults shelf.new; writes = S.write_faults shelf.new }) (record { taken = O.taken out.old; faults = O.faults out.old }) (record { taken = O.taken out.new; faults = O.faults out.new }) result }
+    ensures cause { IsEnding S.tells (bytes_of words.now) (S.view shelf.old) (S.view shelf.new) (O.view out.old) (O.view out.new) result }
 
     // Where the files are told and no count on the way rises, the status that is due is answered, unless memory runs out.
-    ensures complete { (due : Statuses) → IsDue (bytes_of words.now) (record { kept = S.kept shelf.old; reads = S.read_faults shelf.old; writes = S.write_faults shelf.old }) (record { kept = S.kept shelf.new; reads = S.read_faults shelf.new; writes = S.write_faults shelf.new }) (record { taken = O.taken out.old; faults = O.faults out.old }) (record { taken = O.taken out.new; faults = O.faults out.new }) due → (result ≡ due) ⊎ (result ≡ Status.Memory) }
+    ensures complete { (due : Statuses) → IsDue (bytes_of words.now) (S.view shelf.old) (S.view shelf.new) (O.view out.old) (O.view out.new) due → (result ≡ due) ⊎ (result ≡ Status.Memory) }
 
     // What files hold stays, but for the one that is written; counts of faults never fall, and rise only with
     // the status that tells of them; but at `Done` and `WriteFault` nothing is put.
-    ensures same { FilesStay (bytes_of words.now) (S.kept shelf.old) (S.kept shelf.new) result }
-    ensures reads_later { (name : List ℕ) → S.read_faults shelf.old name ≤ S.read_faults shelf.new name }
-    ensures reads { ReadsStay (S.read_faults shelf.old) (S.read_faults shelf.new) result }
-    ensures writes_later { (name : List ℕ) → S.write_faults shelf.old name ≤ S.write_faults shelf.new name }
-    ensures writes { WritesStay (S.write_faults shelf.old) (S.write_faults shelf.new) result }
-    ensures quiet { OutStays (record { taken = O.taken out.old; faults = O.faults out.old }) (record { taken = O.taken out.new; faults = O.faults out.new }) result }
+    ensures same { FilesStay (bytes_of words.now) (S.view shelf.old).kept (S.view shelf.new).kept result }
+    ensures reads_later { (name : List ℕ) → (S.view shelf.old).reads name ≤ (S.view shelf.new).reads name }
+    ensures reads { ReadsStay (S.view shelf.old).reads (S.view shelf.new).reads result }
+    ensures writes_later { (name : List ℕ) → (S.view shelf.old).writes name ≤ (S.view shelf.new).writes name }
+    ensures writes { WritesStay (S.view shelf.old).writes (S.view shelf.new).writes result }
+    ensures quiet { OutStays (O.view out.old) (O.view out.new) result }
 
-    // One line about the status is appended to `err`, where its count did not rise.
-    ensures line { (Rose (E.faults err.old) (E.faults err.new) → ⊥) → (said : List ℕ) × IsLine (bytes_of words.now) (record { kept = S.kept shelf.old; reads = S.read_faults shelf.old; writes = S.write_faults shelf.old }) (record { kept = S.kept shelf.new; reads = S.read_faults shelf.new; writes = S.write_faults shelf.new }) (record { taken = O.taken out.old; faults = O.faults out.old }) (record { taken = O.taken out.new; faults = O.faults out.new }) result said × Appends (E.taken err.old) (E.taken err.new) said }
+    // Each file is read or written once at most, in this order, with one byte more than its limit asked for, and no
+    // file is touched that the words do not name.
+    ensures calls { AppendsPart (S.view shelf.old).calls (S.view shelf.new).calls (calls_asked (bytes_of words.now)) }
+
+    // One line about the status is put on `err`, or a front of it where its count rose.
+    ensures line { (said : List ℕ) × IsLine (bytes_of words.now) (S.view shelf.old) (S.view shelf.new) (O.view out.old) (O.view out.new) result said × IsPut (E.view err.old) (E.view err.new) said }
 {
     one_reading();
     one_program();

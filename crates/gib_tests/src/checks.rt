@@ -1,8 +1,7 @@
 //! Sources that break a rule: the first broken one, and its place. The values are those of a second implementation.
 
+use crate::programs::parsed;
 use gib_check::{Kind, TypeFault, check};
-use gib_lex::lex;
-use gib_parse::parse;
 use std::alloc::{AllocError, Global};
 use std::test::Fail;
 
@@ -18,13 +17,10 @@ enum Verdict {
 
 /// Reads and checks a source.
 fn judge(alloc: Global, source: &str) -> Verdict {
-    let Ok(tokens) = lex(alloc, source.as_bytes()) else {
+    let Some(parsed) = parsed(alloc, source) else {
         return Verdict::Unread;
     };
-    let Ok(program) = parse(alloc, &tokens) else {
-        return Verdict::Unread;
-    };
-    match check(alloc, program) {
+    match check(alloc, parsed.program) {
         Ok(_typed) => Verdict::Typed,
         Err(TypeFault::Broken(fault)) => Verdict::Broken(fault.kind, fault.span.start),
         Err(TypeFault::Memory) => Verdict::Unread,

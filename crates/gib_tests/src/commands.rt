@@ -1,6 +1,6 @@
 //! Worked examples of the commands beside `run`, and of depth, each with its status, its output and its line.
 
-use crate::bench::{call, call_failing, file, packed};
+use crate::harness::{call, call_failing, file, packed};
 use gib_app::Status;
 use std::alloc::{AllocError, Global};
 use std::test::Fail;

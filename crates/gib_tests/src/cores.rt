@@ -1,6 +1,6 @@
 //! The text of cores after each pass, as `core` prints it.
 
-use crate::bench::{call, file};
+use crate::harness::{call, file};
 use gib_app::Status;
 use std::alloc::{AllocError, Global};
 use std::sync::Wait;

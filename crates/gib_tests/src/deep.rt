@@ -1,6 +1,6 @@
 //! Values and calls a million deep.
 
-use crate::bench::{call, file, packed};
+use crate::harness::{call, file, packed};
 use crate::programs::{compile, read_value};
 use gib_app::Status;
 use gib_plain::{Outcome, plain};

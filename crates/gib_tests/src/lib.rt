@@ -2,8 +2,6 @@
 #![tactic(auto)]
 
 #[cfg(test)]
-mod bench;
-#[cfg(test)]
 mod checks;
 #[cfg(test)]
 mod commands;
@@ -12,9 +10,9 @@ mod cores;
 #[cfg(test)]
 mod deep;
 #[cfg(test)]
-mod example_sources;
+mod harness;
 #[cfg(test)]
-mod examples;
+mod limits;
 #[cfg(test)]
 mod locations;
 #[cfg(test)]

@@ -1,28 +1,20 @@
 //! What the location checker says of the cores of programs.
 
 use crate::cores::{ADD_ONE, EACH, RIGHT};
+use crate::programs::compile;
 use gib_access::reach;
-use gib_check::check;
 use gib_core::{AccessMode, Core};
 use gib_infer::infer;
-use gib_lex::lex;
 use gib_loccheck::{LocFault, loccheck};
-use gib_parse::parse;
 use std::alloc::Global;
 use std::test::Fail;
 
 /// The core of a source, where it is a typed program.
 fn inferred(alloc: Global, source: &str) -> Option<Core> {
-    let Ok(tokens) = lex(alloc, source.as_bytes()) else {
+    let Some(compiled) = compile(alloc, source) else {
         return None;
     };
-    let Ok(program) = parse(alloc, &tokens) else {
-        return None;
-    };
-    let Ok(typed) = check(alloc, program) else {
-        return None;
-    };
-    infer(alloc, &typed).ok()
+    infer(alloc, &compiled.typed).ok()
 }
 
 /// Whether the core of a source is accepted once its fields are reached.

@@ -1,20 +1,16 @@
 //! Programs as their tokens, one space between two.
 
-use gib_lex::lex;
-use gib_parse::parse;
+use crate::programs::parsed;
 use gib_syntax::print_program;
 use std::alloc::Global;
 use std::test::Fail;
 
 /// The tokens of a source, printed, where it is a program.
 fn printed(alloc: Global, source: &str) -> Option<Vec<u8>> {
-    let Ok(tokens) = lex(alloc, source.as_bytes()) else {
+    let Some(parsed) = parsed(alloc, source) else {
         return None;
     };
-    let Ok(program) = parse(alloc, &tokens) else {
-        return None;
-    };
-    print_program(alloc, &program, tokens.names()).ok()
+    print_program(alloc, &parsed.program, &parsed.names).ok()
 }
 
 #[test]

@@ -1,31 +1,54 @@
 //! Programs from their sources, and what they give.
 
-ghost use Rattle.std.specs.Prelude.{◌≡◌, IsTrue, IfSome};
+ghost use Rattle.std.specs.Prelude.{◌≤◌, IsTrue, IfSome};
 ghost use Rattle.gib_types.specs.Tree.{HasType};
 ghost use Rattle.gib_value.specs.Text.{AreHeld};
-ghost use Rattle.gib_syntax.specs.Spelling.{IsFineProgram};
+ghost use Rattle.gib_syntax.specs.Spelling.{IsFineProgram, levels_program};
 ghost use Rattle.gib_syntax.specs.Parts.{program_of};
 ghost use Rattle.gib_syntax.specs.Declarations.{table_of_program, input_type};
-ghost use Rattle.gib_app.specs.Types.{type_at};
 
-use crate::bench::packed;
-use gib_base::{Name, Names};
+use crate::harness::packed;
+use gib_base::Names;
 use gib_check::{Typed, check};
 use gib_file::{read_header, survey, unpack};
 use gib_lex::lex;
 use gib_parse::parse;
 use gib_plain::{Outcome, plain};
-use gib_syntax::TypeName;
+use gib_syntax::Program;
 use gib_syntax::law::results_are_typed;
-use gib_types::{ConId, Ty, TyId, TypeTable};
+use gib_types::{ConId, TypeTable};
 use gib_value::{Value, write_text};
 use std::alloc::{AllocError, Global};
+
+/// A program, and the names of its source.
+#[derive(Drop)]
+pub struct Parsed {
+    pub program: Program,
+    pub names: Names,
+}
 
 /// A typed program, and the names of its source.
 #[derive(Drop)]
 pub struct Compiled {
     pub typed: Typed,
     pub names: Names,
+}
+
+/// The program of a source, where it is one.
+pub fn parsed(alloc: Global, source: &str) -> Option<Parsed>
+    ensures fine { IfSome result (λ p. IsFineProgram (program_of p.program)) }
+    ensures levels { IfSome result (λ p. levels_program (program_of p.program) ≤ 200) }
+{
+    let Ok(tokens) = lex(alloc, source.as_bytes()) else {
+        return None;
+    };
+    let Ok(program) = parse(alloc, &tokens) else {
+        return None;
+    };
+    Some(Parsed {
+        program,
+        names: tokens.into_names(),
+    })
 }
 
 /// Whether the name of each constructor is held.
@@ -48,56 +71,24 @@ pub fn compile(alloc: Global, source: &str) -> Option<Compiled>
     ensures fine { IfSome result (λ c. IsFineProgram (program_of c.typed)) }
     ensures held { IfSome result (λ c. AreHeld (table_of_program (program_of c.typed)) c.names) }
 {
-    let Ok(tokens) = lex(alloc, source.as_bytes()) else {
+    let Some(parsed) = parsed(alloc, source) else {
         return None;
     };
-    let Ok(program) = parse(alloc, &tokens) else {
-        return None;
-    };
+    let Parsed { program, names } = parsed;
     let Ok(typed) = check(alloc, program) else {
         return None;
     };
-    let names = tokens.into_names();
     if !are_held(typed.types(), &names) {
         return None;
     }
     Some(Compiled { typed, names })
 }
 
-/// The type of a name, where it is the first declared type.
-fn type_named(types: &TypeTable, name: Name) -> Option<Ty>
-    ensures { IfSome result (λ ty. ty ≡ type_at types.now.types name.0) }
-{
-    if types.type_count() == 0 {
-        return None;
-    }
-    if types.type_name(TyId(0)) == name {
-        return Some(Ty::Tree(TyId(0)));
-    }
-    None
-}
-
-/// The type of main's parameter, where no declared type but the first will do.
-fn parameter_type(typed: &Typed) -> Option<Ty>
-    ensures { IfSome result (λ ty. ty ≡ input_type (program_of typed.now)) }
-{
-    match typed.program().main().parameter.ty {
-        TypeName::Whole(_) => Some(Ty::Whole),
-        TypeName::Truth(_) => Some(Ty::Truth),
-        TypeName::Declared(ident) => match type_named(typed.types(), ident.name) {
-            Some(ty) => Some(ty),
-            None => None,
-        },
-    }
-}
-
 /// The value of a packed file, where it is one of the type of main's parameter.
 pub fn read_value(alloc: Global, typed: &Typed, file: &[u8]) -> Option<Value>
     ensures { IfSome result (λ v. HasType (table_of_program (program_of typed.now)) v (input_type (program_of typed.now))) }
 {
-    let Some(ty) = parameter_type(typed) else {
-        return None;
-    };
+    let ty = typed.input_type();
     let Ok(payload) = read_header(file) else {
         return None;
     };

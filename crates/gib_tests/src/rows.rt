@@ -1,6 +1,6 @@
 //! Worked examples, each with its status, its output and its line.
 
-use crate::bench::{call, file, packed};
+use crate::harness::{call, file, packed};
 use gib_app::Status;
 use std::alloc::{AllocError, Global};
 use std::sync::Wait;

@@ -9,7 +9,7 @@ ghost use Rattle.gib_value.specs.Reading.{IsWord, AreWords};
 ghost use Rattle.gib_syntax.specs.Parts.{program_of};
 ghost use Rattle.gib_syntax.specs.Declarations.{table_of_program};
 
-use crate::bench::packed;
+use crate::harness::packed;
 use crate::programs::{Compiled, compile};
 use gib_base::Names;
 use gib_file::pack;

@@ -1,0 +1,148 @@
+-- The promise of `run`, from how a call ends.
+use Rattle.std.proofs.Common.{◌≡◌, ◌∙◌, refl, ℕ, List, ◌++◌, Option, Some, None, IfSome, MatchOption, ◌⊎◌, subst, sym, ap, Bool}
+use Rattle.gib_types.specs.Tree.{Datum}
+use Rattle.gib_syntax.specs.Tree.{ProgramTree}
+use Rattle.gib_syntax.specs.Declarations.{table_of_program, input_type}
+use Rattle.gib_syntax.specs.Meaning.{Outcome, Gives, Stops, Deep, run}
+use Rattle.gib_edge.specs.Views.{ShelfView, SinkView}
+use Rattle.gib_app.specs.declared.status.Status.{Status}
+use Rattle.gib_app.specs.declared.status.Status.TheVariants as status
+use Rattle.gib_app.specs.Words.{Request, Run, asked, bytes_in}
+use Rattle.gib_app.specs.Running.{IsOutput, RunsOut, text_line}
+use Rattle.gib_app.specs.Commands.{OnProgram, target_of}
+use Rattle.gib_app.specs.Ending.{IsEnding, DueOfFiles, TakesAll}
+use Rattle.gib_app.specs.Stops.{OnBoth}
+use Rattle.gib_app.specs.Headline.{IsRun, IsResult, IsTooDeep, NoneFailed}
+use Rattle.gib_app.proofs.Performing.{asked_of}
+use Rattle.gib_app.proofs.Endings.{Laws, Whole, Made, Exhausted, DueAll, DueDepth, same_bytes, together, runs_well, due_ends}
+
+asked_is : (o : Option Request) (r : Request) (P : Request → Type 0) → o ≡ Some r → MatchOption o ⊥ P → P r
+asked_is o r P e h = let Q : Option Request → Type 0 = λ x. MatchOption x ⊥ P in subst Q e h
+
+-- what holds of the files of a run holds of their bytes
+of_files : (words : List (List ℕ)) (before : ShelfView) (out : SinkView) (source input : List ℕ) (depth : ℕ) (front : List ℕ) (r : IsRun words before out source input depth front)
+    (P : ProgramTree → List (List ℕ) → List ℕ → Type 0) → OnBoth before.kept (Run r.program r.packed depth) P → OnProgram source (λ p names. P p names input)
+of_files words before out source input depth front r P h =
+    let es = same_bytes (bytes_in before.kept r.program) source h.source r.source_is h.source_held in
+    let ei = same_bytes (bytes_in before.kept r.packed) input h.second r.input_is h.second_held in
+    let S : List ℕ → Type 0 = λ s. OnProgram s (λ p names. P p names h.second) in
+    let I : List ℕ → Type 0 = λ i. OnProgram source (λ p names. P p names i) in
+    subst I ei (subst S es h.holds)
+
+result_of : (source input : List ℕ) (depth : ℕ) (output : List ℕ) (on : OnProgram source (λ p names. IsOutput p names depth input output)) → IsResult source input depth output
+result_of source input depth output on = record {
+  given = record {
+    lexed = on.lexed;
+    program = on.program;
+    value = on.holds.value;
+    spelled = on.is_program.spelled;
+    typed = on.is_program.typed;
+    short = on.holds.is_input.short;
+    file = on.holds.is_input.file;
+  };
+  result = on.holds.result;
+  means = on.holds.means;
+  is_text = on.holds.is_text;
+}
+
+output_of : (source input : List ℕ) (depth : ℕ) (output : List ℕ) → IsResult source input depth output → OnProgram source (λ p names. IsOutput p names depth input output)
+output_of source input depth output h = record {
+  lexed = h.given.lexed;
+  program = h.given.program;
+  is_program = record { spelled = h.given.spelled; typed = h.given.typed };
+  holds = record { value = h.given.value; result = h.result; is_input = record { short = h.given.short; file = h.given.file }; means = h.means; is_text = h.is_text };
+}
+
+deep_of : (source input : List ℕ) (depth : ℕ) → OnProgram source (λ p names. RunsOut p depth input) → IsTooDeep source input depth
+deep_of source input depth on = record {
+  given = record {
+    lexed = on.lexed;
+    program = on.program;
+    value = on.holds.value;
+    spelled = on.is_program.spelled;
+    typed = on.is_program.typed;
+    short = on.holds.is_input.short;
+    file = on.holds.is_input.file;
+  };
+  means = on.holds.means;
+}
+
+runs_out : (source input : List ℕ) (depth : ℕ) → IsTooDeep source input depth → OnProgram source (λ p names. RunsOut p depth input)
+runs_out source input depth h = record {
+  lexed = h.given.lexed;
+  program = h.given.program;
+  is_program = record { spelled = h.given.spelled; typed = h.given.typed };
+  holds = record { value = h.given.value; is_input = record { short = h.given.short; file = h.given.file }; means = h.means };
+}
+
+pub run_done : (tells : Bool) (words : List (List ℕ)) (before now : ShelfView) (out out_now : SinkView) (source input : List ℕ) (depth : ℕ) (front : List ℕ) →
+    IsRun words before out source input depth front → IsEnding tells words before now out out_now status.Done → (output : List ℕ) × IsResult source input depth output × (out_now.taken ≡ Some (front ++ output))
+run_done tells words before now out out_now source input depth front r h =
+    let request = Run r.program r.packed depth in
+    let P : Request → Type 0 = λ q. OnBoth before.kept q (Whole tells now out out_now q) in
+    let on = of_files words before out source input depth front r (Whole tells now out out_now request) (asked_is (asked words) request P r.asks h) in
+    let T : Option (List ℕ) → Type 0 = λ t. IfSome t (λ first. out_now.taken ≡ Some (first ++ on.holds.0)) in (
+      on.holds.0,
+      result_of source input depth on.holds.0 (record { lexed = on.lexed; program = on.program; is_program = on.is_program; holds = on.holds.1 }),
+      subst T r.front_is on.holds.3,
+    )
+
+pub run_deep : (tells : Bool) (words : List (List ℕ)) (before now : ShelfView) (out out_now : SinkView) (source input : List ℕ) (depth : ℕ) (front : List ℕ) →
+    IsRun words before out source input depth front → IsEnding tells words before now out out_now status.Depth → IsTooDeep source input depth
+run_deep tells words before now out out_now source input depth front r h =
+    let request = Run r.program r.packed depth in
+    let P : Request → Type 0 = λ q. OnBoth before.kept q (Exhausted q) in
+    deep_of source input depth (of_files words before out source input depth front r (Exhausted request) (asked_is (asked words) request P r.asks h))
+
+due_of : (words : List (List ℕ)) (before now : ShelfView) (out out_now : SinkView) (source input : List ℕ) (depth : ℕ) (front : List ℕ) (r : IsRun words before out source input depth front) →
+    NoneFailed r.program r.packed before now out out_now → (P : ProgramTree → List (List ℕ) → List ℕ → Type 0) → OnProgram source (λ p names. P p names input) →
+    DueOfFiles before now (Run r.program r.packed depth) P
+due_of words before now out out_now source input depth front r quiet P on = record {
+  source = source;
+  second = input;
+  source_told = r.source_is;
+  second_told = r.input_is;
+  source_read = quiet.program_read;
+  second_read = quiet.packed_read;
+  holds = on;
+}
+
+pub run_ends_done : Laws → (tells : Bool) (words : List (List ℕ)) (before now : ShelfView) (out out_now : SinkView) (source input : List ℕ) (depth : ℕ) (front output : List ℕ) (end' : Status) →
+    (r : IsRun words before out source input depth front) → NoneFailed r.program r.packed before now out out_now → IsResult source input depth output →
+    IsEnding tells words before now out out_now end' → (end' ≡ status.Done) ⊎ (end' ≡ status.Memory)
+run_ends_done laws tells words before now out out_now source input depth front output end' r quiet h ends =
+    let request = Run r.program r.packed depth in
+    let on = output_of source input depth output h in
+    let takes : TakesAll before now out out_now request = record { target = λ name e rose. cc; out = quiet.put } in
+    let due = due_of words before now out out_now source input depth front r quiet (Made request)
+    (record { lexed = on.lexed; program = on.program; is_program = on.is_program; holds = (output, on.holds) }) in
+    due_ends laws tells words before now out out_now end' ends status.Done (asked_of (asked words) request (DueAll before now out out_now) r.asks (due, takes))
+
+pub run_ends_deep : Laws → (tells : Bool) (words : List (List ℕ)) (before now : ShelfView) (out out_now : SinkView) (source input : List ℕ) (depth : ℕ) (front : List ℕ) (end' : Status) →
+    (r : IsRun words before out source input depth front) → NoneFailed r.program r.packed before now out out_now → IsTooDeep source input depth →
+    IsEnding tells words before now out out_now end' → (end' ≡ status.Depth) ⊎ (end' ≡ status.Memory)
+run_ends_deep laws tells words before now out out_now source input depth front end' r quiet h ends =
+    let request = Run r.program r.packed depth in
+    let due = due_of words before now out out_now source input depth front r quiet (Exhausted request) (runs_out source input depth h) in
+    due_ends laws tells words before now out out_now end' ends status.Depth (asked_of (asked words) request (DueDepth before now) r.asks due)
+
+one_value : (r : Outcome) (u v : Datum) → r ≡ Gives u → r ≡ Gives v → u ≡ v
+one_value r u v e f = let both = sym e ∙ f in cc
+
+pub one_result : Laws → (source input : List ℕ) (depth : ℕ) (output other : List ℕ) → IsResult source input depth output → IsResult source input depth other → output ≡ other
+one_result laws source input depth output other h k =
+    let both = together laws source (λ p names. IsOutput p names depth input output) (λ p names. IsOutput p names depth input other)
+    (output_of source input depth output h) (output_of source input depth other k) in
+    let p = both.0 in
+    let a = both.2 in
+    let b = both.3 in
+    let same = laws.filed (table_of_program p) (input_type p) b.value a.value input b.is_input.file a.is_input.file in
+    let M : Datum → Type 0 = λ x. run p depth x ≡ Gives b.result in
+    let u = one_value (run p depth a.value) a.result b.result a.means (subst M same b.means) in
+    a.is_text ∙ ap (text_line p both.1) u ∙ sym b.is_text
+
+pub no_result : Laws → (source input : List ℕ) (depth : ℕ) (output : List ℕ) → IsResult source input depth output → IsTooDeep source input depth → ⊥
+no_result laws source input depth output h k =
+    let both = together laws source (λ p names. IsOutput p names depth input output) (λ p names. RunsOut p depth input)
+    (output_of source input depth output h) (runs_out source input depth k) in
+    runs_well laws both.0 both.1 depth input output both.2 both.3

@@ -1,0 +1,25 @@
+use Rattle.gib_app.proofs.Endings.{Laws}
+use Rattle.gib_app.proofs.Headlines.{run_done, run_deep, run_ends_done, run_ends_deep, one_result, no_result}
+use Rattle.gib_app.proofs.headline.run_prints_what_is_meant.Goals as goal
+
+pub returns-clause-done : goal.returns-clause-done
+returns-clause-done c = run_done
+
+pub returns-clause-deep : goal.returns-clause-deep
+returns-clause-deep c = run_deep
+
+pub returns-clause-ends_done : goal.returns-clause-ends_done
+returns-clause-ends_done c =
+    let laws : Laws = record { lexed = c.one_reading.ensures; parsed = c.one_program.ensures; filed = c.one_file.ensures.value } in run_ends_done laws
+
+pub returns-clause-ends_deep : goal.returns-clause-ends_deep
+returns-clause-ends_deep c =
+    let laws : Laws = record { lexed = c.one_reading.ensures; parsed = c.one_program.ensures; filed = c.one_file.ensures.value } in run_ends_deep laws
+
+pub returns-clause-one : goal.returns-clause-one
+returns-clause-one c =
+    let laws : Laws = record { lexed = c.one_reading.ensures; parsed = c.one_program.ensures; filed = c.one_file.ensures.value } in one_result laws
+
+pub returns-clause-none : goal.returns-clause-none
+returns-clause-none c =
+    let laws : Laws = record { lexed = c.one_reading.ensures; parsed = c.one_program.ensures; filed = c.one_file.ensures.value } in no_result laws

@@ -1,0 +1,54 @@
+-- What a call of `run` promises, in the fewest words: a reader may begin here.
+use Rattle.std.specs.Prelude.{◌≡◌, ◌≤◌, ℕ, List, [], ◌∷◌, ◌++◌, length, Some}
+use Rattle.gib_base.specs.Lexed.{Lexed}
+use Rattle.gib_types.specs.Tree.{Datum}
+use Rattle.gib_value.specs.Text.{text}
+use Rattle.gib_file.specs.Framed.{File}
+use Rattle.gib_syntax.specs.Tree.{ProgramTree}
+use Rattle.gib_syntax.specs.Source.{Spells}
+use Rattle.gib_syntax.specs.Declarations.{table_of_program, input_type}
+use Rattle.gib_syntax.specs.Typing.{IsTypedProgram}
+use Rattle.gib_syntax.specs.Meaning.{Gives, Stops, Deep, run}
+use Rattle.gib_edge.specs.Causes.{Rose}
+use Rattle.gib_edge.specs.Views.{Has, ShelfView, SinkView}
+use Rattle.gib_app.specs.Words.{Document, Run, asked, bytes_in}
+use Rattle.gib_app.specs.Causes.{IsUnread}
+
+-- The words ask to run the program of one document on the packed value of another, within a depth of calls. These are
+-- the bytes of both, and those that `out` has taken so far. A document is a file by its name; where there are no words,
+-- both are built in.
+pub record IsRun (words : List (List ℕ)) (files : ShelfView) (out : SinkView) (source input : List ℕ) (depth : ℕ) (front : List ℕ) : Type 0 where
+  pub program : Document
+  pub packed : Document
+  pub asks : asked words ≡ Some (Run program packed depth)
+  pub source_is : bytes_in files.kept program ≡ Has source
+  pub input_is : bytes_in files.kept packed ≡ Has input
+  pub front_is : out.taken ≡ Some front
+
+-- The source spells a typed program, and the input is the packed file of a value of the type of main's parameter.
+pub record Given (source input : List ℕ) : Type 0 where
+  pub lexed : Lexed
+  pub program : ProgramTree
+  pub value : Datum
+  pub spelled : Spells source lexed program
+  pub typed : IsTypedProgram program
+  pub short : length input ≤ 16777216
+  pub file : File (table_of_program program) (input_type program) value input
+
+-- The program means a value on the input within the depth, and this is its text with a line feed.
+pub record IsResult (source input : List ℕ) (depth : ℕ) (output : List ℕ) : Type 0 where
+  pub given : Given source input
+  pub result : Datum
+  pub means : run given.program depth given.value ≡ Gives result
+  pub is_text : output ≡ text (table_of_program given.program) given.lexed.names result ++ 10 ∷ []
+
+-- The program's meaning on the input runs out of depth.
+pub record IsTooDeep (source input : List ℕ) (depth : ℕ) : Type 0 where
+  pub given : Given source input
+  pub means : run given.program depth given.value ≡ Stops Deep
+
+-- No read of the two documents failed in the call, and no put on `out`.
+pub record NoneFailed (program packed : Document) (before now : ShelfView) (out_before out_now : SinkView) : Type 0 where
+  pub program_read : (name : List ℕ) → IsUnread before now program name → ⊥
+  pub packed_read : (name : List ℕ) → IsUnread before now packed name → ⊥
+  pub put : Rose out_before.faults out_now.faults → ⊥

@@ -1,0 +1,42 @@
+//! What `gib run` promises. Read this first: the function does nothing, and its contract is the promise.
+
+ghost use Rattle.std.specs.Prelude.{◌≡◌, ◌⊎◌, ◌++◌, ℕ, List, Bool, Some};
+ghost use Rattle.gib_edge.specs.Views.{ShelfView, SinkView};
+ghost use Rattle.gib_app.specs.declared.status.Status.{Status as Statuses};
+ghost use Rattle.gib_app.specs.Ending.{IsEnding};
+ghost use Rattle.gib_app.specs.Headline.{IsRun, IsResult, IsTooDeep, NoneFailed};
+
+use crate::status::Status;
+use gib_file::one_file;
+use gib_lex::laws::one_reading;
+use gib_parse::law::one_program;
+
+/// What is promised of a call whose words ask for `run`, by how it ends: `IsEnding` is the clause `cause` of `gib`,
+/// on what the shelf and `out` tell before and after the call.
+pub fn run_prints_what_is_meant()
+    // Status 0: the files are those of a program and of a packed value, and exactly the text of the value that the program
+    // means on it within the depth, with a line feed, was put.
+    ensures done { (tells : Bool) (words : List (List ℕ)) (before now : ShelfView) (out out_now : SinkView) (source input : List ℕ) (depth : ℕ) (front : List ℕ)
+        → IsRun words before out source input depth front → IsEnding tells words before now out out_now Status.Done
+        → (output : List ℕ) × IsResult source input depth output × (out_now.taken ≡ Some (front ++ output)) }
+    // Status 3: the meaning runs out of depth.
+    ensures deep { (tells : Bool) (words : List (List ℕ)) (before now : ShelfView) (out out_now : SinkView) (source input : List ℕ) (depth : ℕ) (front : List ℕ)
+        → IsRun words before out source input depth front → IsEnding tells words before now out out_now Status.Depth → IsTooDeep source input depth }
+
+    // The other way round: where the program means a value, the status is 0 and no other, and where its meaning runs out of
+    // depth it is 3; unless memory runs out, or a file or `out` failed.
+    ensures ends_done { (tells : Bool) (words : List (List ℕ)) (before now : ShelfView) (out out_now : SinkView) (source input : List ℕ) (depth : ℕ) (front output : List ℕ) (status : Statuses)
+        → (r : IsRun words before out source input depth front) → NoneFailed r.program r.packed before now out out_now → IsResult source input depth output
+        → IsEnding tells words before now out out_now status → (status ≡ Status.Done) ⊎ (status ≡ Status.Memory) }
+    ensures ends_deep { (tells : Bool) (words : List (List ℕ)) (before now : ShelfView) (out out_now : SinkView) (source input : List ℕ) (depth : ℕ) (front : List ℕ) (status : Statuses)
+        → (r : IsRun words before out source input depth front) → NoneFailed r.program r.packed before now out out_now → IsTooDeep source input depth
+        → IsEnding tells words before now out out_now status → (status ≡ Status.Depth) ⊎ (status ≡ Status.Memory) }
+
+    // There is one result at most, and none where the meaning runs out of depth.
+    ensures one { (source input : List ℕ) (depth : ℕ) (output other : List ℕ) → IsResult source input depth output → IsResult source input depth other → output ≡ other }
+    ensures none { (source input : List ℕ) (depth : ℕ) (output : List ℕ) → IsResult source input depth output → IsTooDeep source input depth → ⊥ }
+{
+    one_reading();
+    one_program();
+    one_file();
+}
