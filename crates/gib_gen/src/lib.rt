@@ -7,6 +7,8 @@ ghost use Rattle.gib_gen.specs.Made.{source_text, grown, file_of};
 mod input;
 pub mod law;
 mod source;
+#[cfg(test)]
+mod tests;
 
 use gib_base::Memory;
 use input::file;
