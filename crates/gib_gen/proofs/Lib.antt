@@ -1,0 +1,4 @@
+mod Growing
+mod Program
+mod Feed
+mod Laws
