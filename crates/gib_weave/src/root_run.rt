@@ -35,13 +35,7 @@ fn word_of(root: Root) -> u64
 {
     match root {
         Root::Whole(value) => value.cast_unsigned(),
-        Root::Truth(value) => {
-            if value {
-                1
-            } else {
-                0
-            }
-        }
+        Root::Truth(value) => { if value { 1 } else { 0 } }
         Root::At(address) => address,
     }
 }
@@ -106,12 +100,7 @@ fn outcome_of(turn: Option<Turn>) -> Result<Answer, RunFault>
 }
 
 /// The machine of main, with the word of its parameter. Each `par` runs in place.
-fn root_machine(
-    alloc: Global,
-    lowered: &Lowered,
-    root: Root,
-    depth: u32,
-) -> Result<Machine, Memory>
+fn root_machine(alloc: Global, lowered: &Lowered, root: Root, depth: u32) -> Result<Machine, Memory>
     ensures { IfOk result (λ machine. (tails : List ℕ) → with_tails machine tails ≡ root_start (core_of lowered.now.core) lowered.now.code (spec.word_of root) depth 0 tails) }
 {
     let words = [word_of(root)];
