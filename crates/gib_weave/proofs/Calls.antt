@@ -1,6 +1,6 @@
 -- What a call of the machine's step leaves of a task.
-use Rattle.std.proofs.Common.{◌≡◌, inl, inr, ℕ, ◌+◌, refl, sym, ap, subst, ◌∙◌, arith, Some}
-use Rattle.gib_mem.specs.Memory.{Memory, IsBounded, byte, after_put, after_draw}
+use Rattle.std.proofs.Common.{◌≡◌, inl, inr, ℕ, ◌+◌, cond, refl, sym, ap, subst, ◌∙◌, arith, Some}
+use Rattle.gib_mem.specs.Memory.{Memory, Grows, IsBounded, byte, fresh, after_put, after_draw}
 use Rattle.gib_core.specs.Tree.{CoreTree}
 use Rattle.gib_code.specs.Program.{CodeTree}
 use Rattle.gib_machine.specs.declared.turn.Turn.{Turn}
@@ -10,7 +10,9 @@ use Rattle.gib_machine.specs.Machine.{next, widest}
 use Rattle.gib_machine.specs.Stepping.{Can, CanStep, KeepsWidth, Made}
 use Rattle.gib_code.specs.declared.answer.Answer.{Answer}
 use Rattle.gib_weave.proofs.Counts.{no_spending}
-use Rattle.gib_weave.proofs.Memories.{over_memory}
+use Rattle.gib_weave.proofs.Basics.{by_test}
+use Rattle.gib_weave.proofs.Memories.{over_memory, draws_new}
+use Rattle.gib_weave.proofs.Places.{open-grows}
 use Rattle.gib_weave.proofs.Starts.{lowered_bodies}
 use Rattle.gib_weave.proofs.Step.{step_keeps}
 use Rattle.gib_weave.specs.Calling.{GoesOn, IsTask, Ran, Turned}
@@ -34,10 +36,20 @@ can_of core code owed own sh v s (Ended a) h = tt
 same_byte : {x y : ℕ} → byte x ≡ byte y → x ≡ y
 same_byte e = cc
 
+fresh_byte : {b : ℕ} → fresh ≡ byte b → ⊥
+fresh_byte e = absurd cc
+
+-- what was known stays known
+same_grows : (v : Memory) → Grows v.cells v.cells
+same_grows v = record { kept = λ q b e. e }
+
+put_grows : (v : Memory) (a b : ℕ) → v.cells a ≡ fresh → Grows v.cells (after_put v a b).cells
+put_grows v a b f = record { kept = λ q x e. by_test q a (λ t. cond t (byte b) (v.cells q) ≡ byte x) (λ h. absurd (fresh_byte (sym f ∙ ap v.cells (sym h) ∙ e))) (λ h. e) }
+
 module _ (core : CoreTree) (code : CodeTree) (owed : Owed) (own : Owned) (sh : Share) (v : Memory) (s : State) (bd : IsBounded v) where
   -- no chunk was drawn
-  goes : (v' : Memory) → v'.drawn ≡ v.drawn → v'.alone ≡ v.alone → v'.limit ≡ v.limit → IsBounded v' → (m : State) → Leads core code owed own sh 0 v'.cells m → GoesOn core code owed sh v m v'
-  goes v' e al li b m h = record {
+  goes : (v' : Memory) → v'.drawn ≡ v.drawn → v'.alone ≡ v.alone → v'.limit ≡ v.limit → IsBounded v' → Grows v.cells v'.cells → (m : State) → Leads core code owed own sh 0 v'.cells m → GoesOn core code owed sh v m v'
+  goes v' e al li b gr m h = record {
     alone = al;
     limit = li;
     own = own;
@@ -47,6 +59,7 @@ module _ (core : CoreTree) (code : CodeTree) (owed : Owed) (own : Owned) (sh : S
     drawn = λ x. e ∙ omega arith;
     safe = h.2;
     bounded = b;
+    grows = gr;
   }
 
   by_turn : (s' m : State) (v' w : Memory) (r : Turn) → r ≡ turn.Went → s' ≡ m → v' ≡ w → GoesOn core code owed sh v m w → Turned core code owed own sh s v s' v' r
@@ -54,15 +67,15 @@ module _ (core : CoreTree) (code : CodeTree) (owed : Owed) (own : Owned) (sh : S
       subst (Turned core code owed own sh s v s' v') (sym a) (subst (λ (q : State). GoesOn core code owed sh v q v') (sym b) (subst (λ (q : Memory). GoesOn core code owed sh v m q) (sym c) h))
 
   pub made_keeps : (a : Ask) (s' : State) (v' : Memory) (r : Turn) → AfterOver core code owed own sh v s a → Made a s s' v v' r → Turned core code owed own sh s v s' v' r
-  made_keeps (Silent m) s' v' r h p = by_turn s' m v' v r p.0 p.1 p.2 (goes v refl refl refl bd m h)
-  made_keeps (Get a k) s' v' r h p = by_turn s' (k p.0) v' v r p.2 p.3 p.4 (goes v refl refl refl bd (k p.0) (subst (λ (q : ℕ). Leads core code owed own sh 0 v.cells (k q)) (same_byte (sym h.1 ∙ p.1)) h.2))
-  made_keeps (Put a b m) s' v' r h p = by_turn s' m v' (after_put v a b) r p.0 p.1 p.2 (goes (after_put v a b) refl refl refl (bounded_put v a b h.0 bd) m h.1)
+  made_keeps (Silent m) s' v' r h p = by_turn s' m v' v r p.0 p.1 p.2 (goes v refl refl refl bd (same_grows v) m h)
+  made_keeps (Get a k) s' v' r h p = by_turn s' (k p.0) v' v r p.2 p.3 p.4 (goes v refl refl refl bd (same_grows v) (k p.0) (subst (λ (q : ℕ). Leads core code owed own sh 0 v.cells (k q)) (same_byte (sym h.1 ∙ p.1)) h.2))
+  made_keeps (Put a b m) s' v' r h p = by_turn s' m v' (after_put v a b) r p.0 p.1 p.2 (goes (after_put v a b) refl refl refl (bounded_put v a b h.0 bd) (put_grows v a b h.0) m h.1)
   made_keeps (Draw k) s' v' r h (inl p) =
       let c = p.0 in
       let d = p.1 in
       let l = h c d in
       by_turn s' (k c) v' (after_draw v c) r p.2 p.3 p.4
-      (record { alone = refl; limit = refl; own = with_chunk own c; share = l.0; drew = 1; spends = l.1; drawn = λ x. let i = d.alone x in omega (arith, i); safe = l.2; bounded = bounded_draw v c d bd })
+      (record { alone = refl; limit = refl; own = with_chunk own c; share = l.0; drew = 1; spends = l.1; drawn = λ x. let i = d.alone x in omega (arith, i); safe = l.2; bounded = bounded_draw v c d bd; grows = open-grows v.cells c (draws_new v c bd d) })
   made_keeps (Draw k) s' v' r h (inr p) = subst (Turned core code owed own sh s v s' v') (sym p.0) (p.1, p.2)
   made_keeps AtFork s' v' r h p = subst (Turned core code owed own sh s v s' v') (sym p.0) (p.1, p.2, h.0, h.1, h.2)
   made_keeps AtJoin s' v' r h p = subst (Turned core code owed own sh s v s' v') (sym p.0) (p.1, p.2, h.0, h.1, h.2)
@@ -78,7 +91,7 @@ spends_more p q = record {
 }
 
 pub at_first : (code : CodeTree) (s : State) (v : Memory) (t : IsTask code s v) → GoesOn t.core code t.owed t.share v s v
-at_first code s v t = record { own = t.own; share = t.share; drew = 0; spends = no_spending t.share; drawn = λ x. omega arith; safe = t.safe; alone = refl; limit = refl; bounded = t.bounded }
+at_first code s v t = record { own = t.own; share = t.share; drew = 0; spends = no_spending t.share; drawn = λ x. omega arith; safe = t.safe; alone = refl; limit = refl; bounded = t.bounded; grows = same_grows v }
 
 pub further : (core : CoreTree) (code : CodeTree) (owed : Owed) (sh : Share) (v v1 v2 : Memory) (s1 s2 : State) (o : GoesOn core code owed sh v s1 v1) → GoesOn core code owed o.share v1 s2 v2 → GoesOn core code owed sh v s2 v2
 further core code owed sh v v1 v2 s1 s2 o p = record {
@@ -91,6 +104,7 @@ further core code owed sh v v1 v2 s1 s2 o p = record {
   alone = p.alone ∙ o.alone;
   limit = p.limit ∙ o.limit;
   bounded = p.bounded;
+  grows = record { kept = λ q b e. p.grows.kept q b (o.grows.kept q b e) };
 }
 
 module _ (code : CodeTree) (s0 : State) (v0 : Memory) (t : IsTask code s0 v0) (s s' : State) (v v' : Memory) (o : GoesOn t.core code t.owed t.share v0 s v) where

@@ -36,3 +36,4 @@ pub mod Fine
 pub mod Calls
 pub mod Mades
 pub mod RootRuns
+pub mod RootEnds

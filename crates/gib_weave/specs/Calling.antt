@@ -1,6 +1,6 @@
 -- What a call of the machine's step leaves of a task, by the turn that it answers.
 use Rattle.std.specs.Prelude.{◌≡◌, ℕ, suc, ◌<◌, ◌+◌, [], true, Option, Some, None}
-use Rattle.gib_mem.specs.Memory.{Memory, IsBounded}
+use Rattle.gib_mem.specs.Memory.{Memory, Grows, IsBounded}
 use Rattle.gib_region.specs.Region.{IsFull}
 use Rattle.gib_core.specs.Tree.{CoreTree}
 use Rattle.gib_code.specs.Program.{CodeTree}
@@ -20,7 +20,7 @@ use Rattle.gib_weave.specs.Places.{Owned}
 use Rattle.gib_weave.specs.Sound.{Safe, Forks, Meets, IsAnswer}
 
 -- The task goes on: it is sound over what the memory is now, has paid for what it did, and drew what was drawn, if nobody else draws;
--- there are as many chunks as before.
+-- there are as many chunks as before, and what was known stays known.
 pub record GoesOn (core : CoreTree) (code : CodeTree) (owed : Owed) (sh : Share) (v : Memory) (s' : State) (v' : Memory) : Type 0 where
   pub own : Owned
   pub share : Share
@@ -31,6 +31,7 @@ pub record GoesOn (core : CoreTree) (code : CodeTree) (owed : Owed) (sh : Share)
   pub alone : v'.alone ≡ v.alone
   pub limit : v'.limit ≡ v.limit
   pub bounded : IsBounded v'
+  pub grows : Grows v.cells v'.cells
 
 -- By the turn. Where all chunks are drawn the task is as it was.
 abbrev pub Turned : CoreTree → CodeTree → Owed → Owned → Share → State → Memory → State → Memory → Turn → Type 0

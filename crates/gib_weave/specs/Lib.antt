@@ -10,3 +10,4 @@ pub mod Root
 pub mod Example
 pub mod Weave
 pub mod Calling
+pub mod Running

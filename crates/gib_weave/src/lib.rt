@@ -4,7 +4,9 @@
 
 pub mod call_law;
 pub mod law;
-mod run;
+mod root_run;
+mod steps;
 pub mod weave_law;
 
-pub use run::run_for;
+pub use root_run::{RunFault, run};
+pub use steps::run_for;

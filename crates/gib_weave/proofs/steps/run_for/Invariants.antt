@@ -2,7 +2,7 @@ use Rattle.std.proofs.Common.{◌≡◌, ℕ, ◌+◌}
 use Rattle.gib_machine.specs.Machine.{widest}
 use Rattle.gib_machine.specs.Stepping.{with_tails}
 use Rattle.gib_weave.specs.Calling.{IsTask, GoesOn, Walks}
-use Rattle.gib_weave.proofs.run.run_for.Given as goal
+use Rattle.gib_weave.proofs.steps.run_for.Given as goal
 
 abbrev pub invariant-steps : goal.invariant-steps
 invariant-steps g l = record {

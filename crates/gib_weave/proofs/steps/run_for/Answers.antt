@@ -5,7 +5,7 @@ use Rattle.gib_machine.specs.declared.turn.Turn.{Turn}
 use Rattle.gib_machine.specs.Machine.{next}
 use Rattle.gib_machine.specs.Stepping.{Made, with_tails}
 use Rattle.gib_weave.proofs.Calls.{at_first, can_step, one_more_step, stops, width_kept}
-use Rattle.gib_weave.proofs.run.run_for.Goals as goal
+use Rattle.gib_weave.proofs.steps.run_for.Goals as goal
 
 pub steps-init : goal.steps-init
 steps-init g c = record { goes = λ t. at_first _ _ _ t; walked = (0, omega arith, stands); made = c.requires.made }

@@ -1,0 +1,162 @@
+-- How the root's run ends.
+use Rattle.std.proofs.Common.{◌≡◌, ℕ, zero, suc, ◌≤◌, ◌+◌, ◌-◌, ◌<◌, ◌^◌, List, [], ◌∷◌, map, length, get_or, slice_get, true, Option, Some, None, refl, sym, ap, subst, ◌∙◌, arith}
+use Rattle.std.specs.Prelude.{Result, Ok, Err, IfOk}
+use Rattle.gib_types.specs.declared.table.Ty.{Ty}
+use Rattle.gib_types.specs.Layout.{LaidOut}
+use Rattle.gib_types.specs.Tree.{Datum}
+use Rattle.gib_mem.specs.Memory.{Memory, Store, IsBounded, with_drawn}
+use Rattle.gib_region.specs.Region.{IsFull}
+use Rattle.gib_packed.specs.declared.root.Root.{Root}
+use Rattle.gib_packed.specs.Stands.{Stands, a_whole, a_truth, a_tree}
+use Rattle.gib_core.specs.Fits.{AllFit}
+use Rattle.gib_code.specs.declared.instruction.Entry.{Entry}
+use Rattle.gib_code.specs.declared.instruction.Instr.{Instr}
+use Rattle.gib_code.specs.Instruction.{Instruction, instruction_of}
+use Rattle.gib_core.specs.Low as low
+use Rattle.gib_core.specs.Low.{IsLowered, LowFunctions}
+use Rattle.gib_core.specs.LoweredParts.{LoweredParts}
+use Rattle.gib_core.specs.Parts.{core_of}
+use Rattle.gib_core.specs.Tree.{CoreTree, FunctionTerm}
+use Rattle.gib_code.specs.declared.answer.Answer.{Answer}
+use Rattle.gib_code.specs.Program.{CodeTree}
+use Rattle.gib_weave.specs.declared.root_run.RunFault.{RunFault}
+use Rattle.gib_machine.specs.declared.turn.Turn.{Turn}
+use Rattle.gib_machine.specs.declared.turn.Turn.TheVariants as turn
+use Rattle.gib_machine.specs.Machine.{State, start_at, widest}
+use Rattle.gib_machine.specs.Starting.{started}
+use Rattle.gib_machine.specs.Stepping.{IsFine, Runs, with_tails}
+use Rattle.gib_weave.specs.Calling.{GoesOn, IsTask, Ran, RootRan}
+use Rattle.gib_weave.specs.Owing.{Owed}
+use Rattle.gib_weave.specs.Paying.{Share}
+use Rattle.gib_weave.specs.Running.{AllFine, IsStart, Kept, RunEnds, outcome_of, word_of}
+use Rattle.gib_weave.specs.Starting.{IsArgument, root_start}
+use Rattle.gib_weave.proofs.Mades.{made_root}
+use Rattle.gib_weave.proofs.RootRuns.{root_ran, root_task}
+
+-- the word of a root for which a value stands is the argument
+argument : (laid : LaidOut) (s : Store) (place : Root) (ty : Ty) (d : Datum) → Stands laid s place ty d → IsArgument laid s ty (word_of place) d
+argument laid s _ _ _ (a_whole {z = z} f) = (z, refl, f, refl)
+argument laid s _ _ _ (a_truth {b = b}) = (b, refl, refl)
+argument laid s _ _ _ (a_tree {z = z} d) = record { end = z; dec = d }
+
+pub same_kept : (v : Memory) → Kept v v
+same_kept v = record { grows = record { kept = λ q b e. e }; alone = refl; limit = refl }
+
+went_kept : (core : CoreTree) (code : CodeTree) (owed : Owed) (sh : Share) (v v' : Memory) (s' : State) → GoesOn core code owed sh v s' v' → Kept v v'
+went_kept core code owed sh v v' s' o = record { grows = o.grows; alone = o.alone; limit = o.limit }
+
+seen_kept : (v w : Memory) (n : ℕ) → Kept v w → Kept v (with_drawn w n)
+seen_kept v w n k = record { grows = k.grows; alone = k.alone; limit = k.limit }
+
+pub ran_kept : (code : CodeTree) (s : State) (v : Memory) (t : IsTask code s v) (s' : State) (v' : Memory) (r : Option Turn) → Ran code s v t s' v' r → Kept v v'
+ran_kept code s v t s' v' None x = went_kept t.core code t.owed t.share v v' s' x
+ran_kept code s v t s' v' (Some turn.Went) x = absurd x
+ran_kept code s v t s' v' (Some turn.AtFork) x = went_kept t.core code t.owed t.share v v' s' x.0
+ran_kept code s v t s' v' (Some turn.AtJoin) x = went_kept t.core code t.owed t.share v v' s' x.0
+ran_kept code s v t s' v' (Some (turn.Ended a)) x = went_kept t.core code t.owed t.share v v' s' x.0
+ran_kept code s v t s' v' (Some turn.Full) x =
+    let f : IsFull x.0 v' = x.2 in
+    subst (λ (m : Memory). Kept v m) (sym f.same) (seen_kept v x.0 x.0.limit (went_kept t.core code t.owed t.share v x.0 s' x.1))
+
+all_drawn : (w v' : Memory) → IsFull w v' → v'.drawn ≡ v'.limit
+all_drawn w v' f = ap (λ (m : Memory). m.drawn) f.same ∙ sym (ap (λ (m : Memory). m.limit) f.same)
+
+module _ (l : LoweredParts) (v : Memory) (place : Root) (tails : List ℕ) (depth : ℕ) (d : Datum) (low : IsLowered (core_of l.core) l.code) (fit : AllFit (core_of l.core)) (runs : Runs l.code) (bd : IsBounded v)
+    (st : IsStart l place tails v d) where
+  abbrev start : State
+  start = root_start (core_of l.core) l.code (word_of place) depth 0 tails
+
+  pub start_task : IsTask l.code (root_start (core_of l.core) l.code (word_of place) depth 0 tails) v
+  start_task = root_task (core_of l.core) l.code v (word_of place) depth 0 d tails low fit runs (argument l.code.laid v.cells place (core_of l.core).main.parameter d st.stands) st.owned bd st.loaded
+
+  pub root_ends : v.alone ≡ true → (s' : State) (v' : Memory) (r : Option Turn) → ((t : IsTask l.code (root_start (core_of l.core) l.code (word_of place) depth 0 tails) v) → Ran l.code (root_start (core_of l.core) l.code (word_of place) depth 0 tails) v t s' v' r)
+      → RunEnds l depth d v v' (outcome_of r)
+  root_ends al s' v' r h = go r (root_ran (core_of l.core) l.code v (word_of place) depth 0 d tails low fit runs (argument l.code.laid v.cells place (core_of l.core).main.parameter d st.stands) st.owned bd al st.loaded s' v' r h) (h start_task)
+    where
+      go : (q : Option Turn) → RootRan (core_of l.core) l.code depth 0 d v.limit v' q → Ran l.code (root_start (core_of l.core) l.code (word_of place) depth 0 tails) v start_task s' v' q → RunEnds l depth d v v' (outcome_of q)
+      go None x y = tt
+      go (Some turn.Went) x y = absurd x
+      go (Some turn.AtFork) x y = tt
+      go (Some turn.AtJoin) x y = tt
+      go (Some (turn.Ended a)) x y = x
+      go (Some turn.Full) x y = (x, all_drawn y.0 v' y.2)
+
+-- Where main starts.
+
+filled : (core : CoreTree) (code : CodeTree) (a : ℕ) (gs : List FunctionTerm) (es : List Entry) → LowFunctions core code a gs es → 1 ≤ length es
+filled core code a _ _ (low.main nm rs st sl lo) = omega arith
+filled core code a _ _ (low.function nm rs st sl lo later) = omega arith
+
+wide : (core : CoreTree) (code : CodeTree) (a : ℕ) (gs : List FunctionTerm) (es : List Entry) → LowFunctions core code a gs es → 1 ≤ widest es
+wide core code a _ _ (low.main nm rs st sl lo) = omega (arith, sl)
+wide core code a _ _ (low.function {z = z} {gs = gs} {es = es} nm rs st sl lo later) = let i = wide core code z gs es later in omega (arith, i)
+
+label_at : (core : CoreTree) (code : CodeTree) (a : ℕ) (gs : List FunctionTerm) (es : List Entry) → LowFunctions core code a gs es → (n : ℕ) (d : Entry) → length es ≡ suc n → (get_or es n d).start ≡ start_at es (length gs)
+label_at core code a _ _ (low.main nm rs st sl lo) zero d h = refl
+label_at core code a _ _ (low.main nm rs st sl lo) (suc n) d h = absurd (omega (arith, h))
+label_at core code a _ _ (low.function {z = z} {gs = gs} {es = es} nm rs st sl lo later) zero d h = absurd (let i = filled core code z gs es later in omega (arith, h, i))
+label_at core code a _ _ (low.function {z = z} {gs = gs} {es = es} nm rs st sl lo later) (suc n) d h = label_at core code z gs es later n d (omega (arith, h))
+
+label_is : (core : CoreTree) (code : CodeTree) (d : Entry) → IsLowered core code → (get_or code.functions (length code.functions - 1) d).start ≡ start_at code.functions (length core.functions)
+label_is core code d lo = label_at core code 0 core.functions code.functions lo.functions (length code.functions - 1) d (let i = filled core code 0 core.functions code.functions lo.functions in omega (arith, i))
+
+pub main_label : (core : CoreTree) (code code' : CodeTree) (fs : List Entry) (d : Entry) → IsLowered core code → fs ≡ code'.functions → code' ≡ code → (get_or fs (length fs - 1) d).start ≡ start_at code.functions (length core.functions)
+main_label core code code' fs d lo fe ce =
+    subst (λ (es : List Entry). (get_or es (length es - 1) d).start ≡ start_at code.functions (length core.functions)) (sym (fe ∙ ap (λ (q : CodeTree). q.functions) ce)) (label_is core code d lo)
+
+pub is_wide : (core : CoreTree) (code code' : CodeTree) → IsLowered core code → code' ≡ code → 1 ≤ widest code'.functions
+is_wide core code code' lo ce = subst (λ (q : CodeTree). 1 ≤ widest q.functions) (sym ce) (wide core code 0 core.functions code.functions lo.functions)
+
+pub made_is_root : (core : CoreTree) (code code' : CodeTree) (label w w' depth : ℕ) (m : State) → IsLowered core code → code' ≡ code → label ≡ start_at code.functions (length core.functions) → w ≡ w' → m ≡ started code' label (w ∷ []) depth 0
+    → (tails : List ℕ) → with_tails m tails ≡ root_start core code w' depth 0 tails
+made_is_root core code code' label w w' depth m lo ce le we me tails =
+    ap (λ (q : State). with_tails q tails) me
+    ∙ ap (λ (q : CodeTree). with_tails (started q label (w ∷ []) depth 0) tails) ce
+    ∙ ap (λ (q : ℕ). with_tails (started code q (w ∷ []) depth 0) tails) le
+    ∙ ap (λ (q : ℕ). with_tails (started code (start_at code.functions (length core.functions)) (q ∷ []) depth 0) tails) we
+    ∙ made_root core code w' depth 0 tails lo
+
+-- The code can be run.
+
+no_instruction : {i : Instruction} → ◌≡◌ {A = Option Instruction} None (Some i) → ⊥
+no_instruction e = absurd cc
+
+same_instruction : {i j : Instruction} → ◌≡◌ {A = Option Instruction} (Some i) (Some j) → i ≡ j
+same_instruction e = cc
+
+fine_at : (is : List Instruction) → AllFine is → (a : ℕ) (i : Instruction) → slice_get is a ≡ Some i → IsFine i
+fine_at [] h a i e = absurd (no_instruction e)
+fine_at (j ∷ is) h zero i e = subst IsFine (same_instruction e) h.0
+fine_at (j ∷ is) h (suc a) i e = fine_at is h.1 a i e
+
+pub fine_runs : (code : CodeTree) → length code.instructions < 2 ^ 32 → AllFine code.instructions → Runs code
+fine_runs code few h = record { few = few; fine = λ a i e. fine_at code.instructions h a i e }
+
+pub if_ok : {A B : Type 0} {P Q : A → Type 0} (r : Result A B) → ((x : A) → P x → Q x) → IfOk r P → IfOk r Q
+if_ok (Ok x) f h = f x h
+if_ok (Err e) f h = tt {0}
+
+map_length : (xs : List Instr) → length (map instruction_of xs) ≡ length xs
+map_length [] = refl
+map_length (x ∷ xs) = ap (λ (n : ℕ). suc n) (map_length xs)
+
+pub fine_code : (code : CodeTree) (xs : List Instr) → map instruction_of xs ≡ code.instructions → length xs < 2 ^ 32 → AllFine (map instruction_of xs) → Runs code
+fine_code code xs e few h = fine_runs code (let i = map_length xs in subst (λ (is : List Instruction). length is < 2 ^ 32) e (omega (arith, i, few))) (subst AllFine e h)
+
+-- The run.
+module _ (l : LoweredParts) (v : Memory) (place : Root) (tails : List ℕ) (depth : ℕ) (code : CodeTree) (m : State) (ce : code ≡ l.code) (lo : IsLowered (core_of l.core) l.code) (fit : AllFit (core_of l.core)) (runs : Runs code) (bd : IsBounded v)
+    (me : (ts : List ℕ) → with_tails m ts ≡ root_start (core_of l.core) l.code (word_of place) depth 0 ts) where
+  pub run_task : (d : Datum) → IsStart l place tails v d → IsTask code (with_tails m tails) v
+  run_task d st =
+      subst (λ (q : CodeTree). IsTask q (with_tails m tails) v) (sym ce)
+      (subst (λ (q : State). IsTask l.code q v) (sym (me tails)) (start_task l v place tails depth d lo fit (subst Runs ce runs) bd st))
+
+  pub run_ends : (d : Datum) → IsStart l place tails v d → v.alone ≡ true → (s' : State) (v' : Memory) (r : Option Turn) (o : Result Answer RunFault) → o ≡ outcome_of r
+      → ((t : IsTask code (with_tails m tails) v) → Ran code (with_tails m tails) v t s' v' r) → RunEnds l depth d v v' o
+  run_ends d st al s' v' r o oe h =
+      subst (λ (q : Result Answer RunFault). RunEnds l depth d v v' q) (sym oe)
+      (root_ends l v place tails depth d lo fit (subst Runs ce runs) bd st al s' v' r
+      (subst (λ (q : State). (t : IsTask l.code q v) → Ran l.code q v t s' v' r) (me tails) (subst (λ (q : CodeTree). (t : IsTask q (with_tails m tails) v) → Ran q (with_tails m tails) v t s' v' r) ce h)))
+
+  pub run_keeps : (d : Datum) → IsStart l place tails v d → (s' : State) (v' : Memory) (r : Option Turn) → ((t : IsTask code (with_tails m tails) v) → Ran code (with_tails m tails) v t s' v' r) → Kept v v'
+  run_keeps d st s' v' r h = ran_kept code (with_tails m tails) v (run_task d st) s' v' r (h (run_task d st))

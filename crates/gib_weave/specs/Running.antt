@@ -1,0 +1,65 @@
+-- A run of a core on a loaded value, to its end.
+use Rattle.std.specs.Prelude.{◌≡◌, ℕ, List, [], ◌∷◌, Option, Some, None, Result, Ok, Err}
+use Rattle.std.specs.Int.{w64, cast_unsigned}
+use Rattle.gib_types.specs.Loaded.{Loaded}
+use Rattle.gib_types.specs.Tree.{Datum}
+use Rattle.gib_mem.specs.Memory.{Memory, Grows}
+use Rattle.gib_region.specs.Region.{AreOwned}
+use Rattle.gib_packed.specs.declared.root.Root.{Root}
+use Rattle.gib_packed.specs.declared.root.Root.TheVariants as root
+use Rattle.gib_packed.specs.Scalars.{bit}
+use Rattle.gib_packed.specs.Stands.{Stands}
+use Rattle.gib_core.specs.Cost.{run_cost}
+use Rattle.gib_core.specs.LoweredParts.{LoweredParts}
+use Rattle.gib_core.specs.Meaning.{core_run}
+use Rattle.gib_core.specs.Parts.{core_of}
+use Rattle.gib_core.specs.Tight.{Tight}
+use Rattle.gib_code.specs.declared.answer.Answer.{Answer}
+use Rattle.gib_code.specs.Instruction.{Instruction}
+use Rattle.gib_machine.specs.declared.turn.Turn.{Turn}
+use Rattle.gib_machine.specs.declared.turn.Turn.TheVariants as turn
+use Rattle.gib_machine.specs.Stepping.{IsFine}
+use Rattle.gib_weave.specs.declared.root_run.RunFault.{RunFault}
+use Rattle.gib_weave.specs.declared.root_run.RunFault.TheVariants as fault
+use Rattle.gib_weave.specs.Sound.{IsAnswer}
+
+-- Where a run may start: the root stands for a value of main's parameter, the tails are owned, and no more chunks are drawn than the
+-- value needs. So it is where the value was loaded.
+pub record IsStart (lowered : LoweredParts) (place : Root) (tails : List ℕ) (v : Memory) (d : Datum) : Type 0 where
+  pub stands : Stands lowered.code.laid v.cells place (core_of lowered.core).main.parameter d
+  pub owned : AreOwned v.cells tails
+  pub loaded : Loaded v.drawn d
+
+-- What a run leaves of a memory, however it ends: what was known stays known, nobody else draws who did not, and there are as many
+-- chunks.
+pub record Kept (v v' : Memory) : Type 0 where
+  pub grows : Grows v.cells v'.cells
+  pub alone : v'.alone ≡ v.alone
+  pub limit : v'.limit ≡ v.limit
+
+-- How a run ends that started with this value, and may nest so many calls: with what the core means; or all chunks are drawn, and so
+-- many may not be enough for the run; or memory was wanted.
+abbrev pub RunEnds : LoweredParts → (depth : ℕ) → Datum → (v v' : Memory) → Result Answer RunFault → Type 0
+RunEnds l depth d v v' (Ok a) = IsAnswer l.code.laid v'.cells (core_of l.core).main.result (core_run (core_of l.core) depth d) a
+RunEnds l depth d v v' (Err fault.Full) = Tight v.limit (run_cost (core_of l.core) depth 0 d) × (v'.drawn ≡ v'.limit)
+RunEnds l depth d v v' (Err fault.Memory) = Unit {0}
+
+-- The word of main's parameter.
+abbrev pub word_of : Root → ℕ
+word_of (root.Whole z) = cast_unsigned w64 z
+word_of (root.Truth b) = bit b
+word_of (root.At a) = a
+
+-- What the last turn makes of a run.
+abbrev pub outcome_of : Option Turn → Result Answer RunFault
+outcome_of None = Err fault.Memory
+outcome_of (Some turn.Went) = Err fault.Memory
+outcome_of (Some turn.AtFork) = Err fault.Memory
+outcome_of (Some turn.AtJoin) = Err fault.Memory
+outcome_of (Some (turn.Ended a)) = Ok a
+outcome_of (Some turn.Full) = Err fault.Full
+
+-- A machine can run each of these.
+abbrev pub AllFine : List Instruction → Type 0
+AllFine [] = Unit {0}
+AllFine (i ∷ is) = IsFine i × AllFine is
