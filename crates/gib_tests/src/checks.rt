@@ -1,6 +1,6 @@
 //! Sources that break a rule: the first broken one, and its place. The values are those of a second implementation.
 
-use crate::programs::parsed;
+use crate::programs::parse_source;
 use gib_check::{Kind, TypeFault, check};
 use std::alloc::{AllocError, Global};
 use std::test::Fail;
@@ -17,7 +17,7 @@ enum Verdict {
 
 /// Reads and checks a source.
 fn judge(alloc: Global, source: &str) -> Verdict {
-    let Some(parsed) = parsed(alloc, source) else {
+    let Some(parsed) = parse_source(alloc, source) else {
         return Verdict::Unread;
     };
     match check(alloc, parsed.program) {

@@ -46,31 +46,32 @@ fn cells(alloc: Global, count: usize) -> Result<Vec<u8>, AllocError> {
     Ok(text)
 }
 
-/// Runs a command on a source and a second file; whether it ends so, with this line.
+/// The files of a source and of a second file.
+fn two_files(
+    alloc: Global,
+    source: &[u8],
+    second: Vec<u8>,
+) -> Result<Vec<(String, Vec<u8>)>, AllocError> {
+    let second = (String::from_str(alloc, "b")?, second);
+    let files = vec![in alloc; file(alloc, "a", source)?, second]?;
+    Ok(files)
+}
+
+/// Runs the top call on these words and files; whether it ends so, with this line.
 fn ends<R: Threads + Wait + Sync>(
     rt: &R,
     alloc: Global,
-    command: &str,
-    source: &[u8],
-    second: Vec<u8>,
-    wanted: (Status, &str),
+    texts: &[&str],
+    files: Vec<(String, Vec<u8>)>,
+    status: Status,
+    line: &str,
 ) -> Result<bool, AllocError> {
-    let second = (String::from_str(alloc, "b")?, second);
-    let files = vec![in alloc; file(alloc, "a", source)?, second]?;
-    let three = ["gib", command, "a"];
-    let four = ["gib", command, "a", "b"];
-    let five = ["gib", command, "a", "b", "c"];
-    let words = match command {
-        "check" => three.as_slice(),
-        "pack" => five.as_slice(),
-        _ => four.as_slice(),
-    };
-    let ended = call(rt, alloc, words, files, Vec::new(alloc))?;
-    Ok(ended.status == wanted.0 && ended.err.bytes() == wanted.1.as_bytes())
+    let ended = call(rt, alloc, texts, files, Vec::new(alloc))?;
+    Ok(ended.status == status && ended.err.bytes() == line.as_bytes())
 }
 
 #[test]
-fn a_source_is_taken_up_to_its_limits(rt: HostRuntime) -> Result<(), Fail> {
+fn a_source_is_taken_up_to_its_length(rt: HostRuntime) -> Result<(), Fail> {
     let alloc = rt.alloc();
     for (len, status, line) in [
         (1_048_576, Status::Done, ""),
@@ -80,33 +81,24 @@ fn a_source_is_taken_up_to_its_limits(rt: HostRuntime) -> Result<(), Fail> {
             "gib: source: longer than 1048576 bytes\n",
         ),
     ] {
-        let source = padded(alloc, SOURCE, len)?;
-        assert!(rt;
-            ends(
-                &rt,
-                alloc,
-                "check",
-                &source,
-                Vec::new(alloc),
-                (status, line)
-            )?,
-            "{line}"
-        );
+        let files = two_files(alloc, &padded(alloc, SOURCE, len)?, Vec::new(alloc))?;
+        let texts = ["gib", "check", "a"];
+        assert!(rt; ends(&rt, alloc, &texts, files, status, line)?, "{line}");
     }
+    Ok(())
+}
+
+#[test]
+fn a_source_is_taken_up_to_its_names(rt: HostRuntime) -> Result<(), Fail> {
+    let alloc = rt.alloc();
     for (count, line) in [
         (65_535, "gib: source: syntax at 0\n"),
         (65_536, "gib: source: more than 65535 names\n"),
     ] {
-        let source = many_names(alloc, count)?;
+        let files = two_files(alloc, &many_names(alloc, count)?, Vec::new(alloc))?;
+        let texts = ["gib", "check", "a"];
         assert!(rt;
-            ends(
-                &rt,
-                alloc,
-                "check",
-                &source,
-                Vec::new(alloc),
-                (Status::Source, line)
-            )?,
+            ends(&rt, alloc, &texts, files, Status::Source, line)?,
             "{line}"
         );
     }
@@ -114,32 +106,81 @@ fn a_source_is_taken_up_to_its_limits(rt: HostRuntime) -> Result<(), Fail> {
 }
 
 #[test]
-fn a_second_file_is_read_up_to_its_limit(rt: HostRuntime) -> Result<(), Fail> {
+fn a_packed_file_is_read_up_to_its_length(rt: HostRuntime) -> Result<(), Fail> {
     let alloc = rt.alloc();
     for (command, front, len, line) in [
-        ("run", "", 16_777_216, "not a packed file\n"),
-        ("run", "", 16_777_217, "longer than 16777216 bytes\n"),
-        ("plain", "", 16_777_217, "longer than 16777216 bytes\n"),
-        ("pack", "", 16_777_216, "bad text at 0\n"),
-        ("pack", "", 16_777_217, "longer than 16777216 bytes\n"),
-        ("show", "GIBP", 16_777_216, "version 32\n"),
-        ("show", "GIBP", 16_777_217, "longer than 16777216 bytes\n"),
-        ("show", "", 268_435_480, "not a packed file\n"),
-        ("show", "", 268_435_481, "longer than 268435480 bytes\n"),
+        (
+            "run",
+            b"".as_slice(),
+            16_777_216,
+            "gib: input: not a packed file\n",
+        ),
+        (
+            "run",
+            b"".as_slice(),
+            16_777_217,
+            "gib: input: longer than 16777216 bytes\n",
+        ),
+        (
+            "plain",
+            b"".as_slice(),
+            16_777_217,
+            "gib: input: longer than 16777216 bytes\n",
+        ),
+        (
+            "show",
+            b"GIBP".as_slice(),
+            16_777_216,
+            "gib: input: version 32\n",
+        ),
+        (
+            "show",
+            b"GIBP".as_slice(),
+            16_777_217,
+            "gib: input: longer than 16777216 bytes\n",
+        ),
+        (
+            "show",
+            b"".as_slice(),
+            268_435_480,
+            "gib: input: not a packed file\n",
+        ),
+        (
+            "show",
+            b"".as_slice(),
+            268_435_481,
+            "gib: input: longer than 268435480 bytes\n",
+        ),
     ] {
-        let second = padded(alloc, front.as_bytes(), len)?;
-        let said = format!(in alloc; "gib: input: {line}")?;
-        let wanted = (Status::Input, said.as_str());
+        let files = two_files(alloc, SOURCE, padded(alloc, front, len)?)?;
+        let texts = ["gib", command, "a", "b"];
         assert!(rt;
-            ends(&rt, alloc, command, SOURCE, second, wanted)?,
-            "{command}: {line}"
+            ends(&rt, alloc, &texts, files, Status::Input, line)?,
+            "{line}"
         );
     }
     Ok(())
 }
 
 #[test]
-fn a_file_is_packed_up_to_its_limit(rt: HostRuntime) -> Result<(), Fail> {
+fn a_text_is_read_up_to_its_length(rt: HostRuntime) -> Result<(), Fail> {
+    let alloc = rt.alloc();
+    for (len, line) in [
+        (16_777_216, "gib: input: bad text at 0\n"),
+        (16_777_217, "gib: input: longer than 16777216 bytes\n"),
+    ] {
+        let files = two_files(alloc, SOURCE, padded(alloc, b"", len)?)?;
+        let texts = ["gib", "pack", "a", "b", "c"];
+        assert!(rt;
+            ends(&rt, alloc, &texts, files, Status::Input, line)?,
+            "{line}"
+        );
+    }
+    Ok(())
+}
+
+#[test]
+fn a_file_is_packed_up_to_its_length(rt: HostRuntime) -> Result<(), Fail> {
     let alloc = rt.alloc();
     for (count, status, line) in [
         (294_336, Status::Done, ""),
@@ -149,11 +190,9 @@ fn a_file_is_packed_up_to_its_limit(rt: HostRuntime) -> Result<(), Fail> {
             "gib: input: longer than 16777216 bytes\n",
         ),
     ] {
-        let text = cells(alloc, count)?;
-        assert!(rt;
-            ends(&rt, alloc, "pack", LISTS, text, (status, line))?,
-            "{line}"
-        );
+        let files = two_files(alloc, LISTS, cells(alloc, count)?)?;
+        let texts = ["gib", "pack", "a", "b", "c"];
+        assert!(rt; ends(&rt, alloc, &texts, files, status, line)?, "{line}");
     }
     Ok(())
 }

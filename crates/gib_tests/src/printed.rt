@@ -1,13 +1,13 @@
 //! Programs as their tokens, one space between two.
 
-use crate::programs::parsed;
+use crate::programs::parse_source;
 use gib_syntax::print_program;
 use std::alloc::Global;
 use std::test::Fail;
 
 /// The tokens of a source, printed, where it is a program.
 fn printed(alloc: Global, source: &str) -> Option<Vec<u8>> {
-    let Some(parsed) = parsed(alloc, source) else {
+    let Some(parsed) = parse_source(alloc, source) else {
         return None;
     };
     print_program(alloc, &parsed.program, &parsed.names).ok()

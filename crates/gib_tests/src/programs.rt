@@ -35,7 +35,7 @@ pub struct Compiled {
 }
 
 /// The program of a source, where it is one.
-pub fn parsed(alloc: Global, source: &str) -> Option<Parsed>
+pub fn parse_source(alloc: Global, source: &str) -> Option<Parsed>
     ensures fine { IfSome result (λ p. IsFineProgram (program_of p.program)) }
     ensures levels { IfSome result (λ p. levels_program (program_of p.program) ≤ 200) }
 {
@@ -71,7 +71,7 @@ pub fn compile(alloc: Global, source: &str) -> Option<Compiled>
     ensures fine { IfSome result (λ c. IsFineProgram (program_of c.typed)) }
     ensures held { IfSome result (λ c. AreHeld (table_of_program (program_of c.typed)) c.names) }
 {
-    let Some(parsed) = parsed(alloc, source) else {
+    let Some(parsed) = parse_source(alloc, source) else {
         return None;
     };
     let Parsed { program, names } = parsed;

@@ -1,19 +1,14 @@
 //! Texts of values of a program's types, read, packed and written. The values are those of a second
 //! implementation.
 
-ghost use Rattle.std.specs.Prelude.{◌≡◌, IsTrue, IfSome};
-ghost use Rattle.std.specs.List.{list_all};
-ghost use Rattle.gib_base.specs.Piece.{is_name_byte};
 ghost use Rattle.gib_value.specs.Text.{AreHeld};
-ghost use Rattle.gib_value.specs.Reading.{IsWord, AreWords};
 ghost use Rattle.gib_syntax.specs.Parts.{program_of};
 ghost use Rattle.gib_syntax.specs.Declarations.{table_of_program};
 
 use crate::harness::packed;
 use crate::programs::{Compiled, compile};
-use gib_base::Names;
 use gib_file::pack;
-use gib_types::{ConId, Ty, TyId, TypeTable};
+use gib_types::{Ty, TyId};
 use gib_value::{TextFault, read_text, write_text};
 use std::alloc::Global;
 use std::test::Fail;
@@ -25,59 +20,6 @@ const TREE: Ty = Ty::Tree(TyId(0));
 
 const P: Ty = Ty::Tree(TyId(1));
 
-fn name_byte(b: u8) -> bool
-    ensures { result ≡ is_name_byte b }
-{
-    b.is_ascii_alphabetic() || b.is_ascii_digit() || b == b'_'
-}
-
-/// Whether all bytes are letters, digits or `_`.
-fn all_name_bytes(bytes: &[u8]) -> bool
-    ensures { result ≡ list_all is_name_byte bytes.now }
-{
-    bytes.iter().all(|b| name_byte(*b))
-}
-
-/// Whether a text is a letter, and then letters, digits and `_`.
-fn is_word(text: &[u8]) -> bool
-    ensures { IsTrue result → IsWord text.now }
-{
-    let Some((first, rest)) = text.split_first() else {
-        return false;
-    };
-    first.is_ascii_alphabetic() && all_name_bytes(rest)
-}
-
-/// Whether the name of each constructor is a word.
-fn are_words(types: &TypeTable, names: &Names) -> bool
-    requires { AreHeld types.now names.now }
-    ensures { IsTrue result → AreWords types.now names.now }
-{
-    let count = types.len();
-    let mut number = 0;
-    'constructors: while number < count {
-        if !is_word(names.text(types.name_of(ConId(number)))) {
-            return false;
-        }
-        number += 1;
-    }
-    true
-}
-
-/// The typed program of the source, where the names of its constructors are words.
-fn compiled_source(alloc: Global) -> Option<Compiled>
-    ensures held { IfSome result (λ c. AreHeld (table_of_program (program_of c.typed)) c.names) }
-    ensures words { IfSome result (λ c. AreWords (table_of_program (program_of c.typed)) c.names) }
-{
-    let Some(compiled) = compile(alloc, SOURCE) else {
-        return None;
-    };
-    if !are_words(compiled.typed.types(), &compiled.names) {
-        return None;
-    }
-    Some(compiled)
-}
-
 /// The packed file of the value of a text, and the text of a copy of it.
 fn there_and_back(
     alloc: Global,
@@ -85,8 +27,7 @@ fn there_and_back(
     ty: Ty,
     text: &[u8],
 ) -> Result<(Vec<u8>, Vec<u8>), TextFault>
-    requires held { AreHeld (table_of_program (program_of compiled.now.typed)) compiled.now.names }
-    requires words { AreWords (table_of_program (program_of compiled.now.typed)) compiled.now.names }
+    requires { AreHeld (table_of_program (program_of compiled.now.typed)) compiled.now.names }
 {
     let types = compiled.typed.types();
     let value = read_text(alloc, types, &compiled.names, ty, text)?;
@@ -99,7 +40,7 @@ fn there_and_back(
 #[test]
 fn texts_come_back(rt: HostRuntime) -> Result<(), Fail> {
     let alloc = rt.alloc();
-    let compiled = compiled_source(alloc).ok_or("source")?;
+    let compiled = compile(alloc, SOURCE).ok_or("source")?;
     for (ty, text, payload) in [
         (
             TREE,
@@ -133,7 +74,7 @@ fn texts_come_back(rt: HostRuntime) -> Result<(), Fail> {
 #[test]
 fn other_texts_are_refused(rt: HostRuntime) -> Result<(), Fail> {
     let alloc = rt.alloc();
-    let compiled = compiled_source(alloc).ok_or("source")?;
+    let compiled = compile(alloc, SOURCE).ok_or("source")?;
     for (ty, text, place) in [
         (TREE, "(Node (Leaf 1))", 14),
         (TREE, "(Node (Leaf 1) (Leaf 2)", 23),
