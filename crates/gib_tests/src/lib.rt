@@ -16,6 +16,10 @@ mod limits;
 #[cfg(test)]
 mod locations;
 #[cfg(test)]
+mod machine;
+#[cfg(test)]
+mod machine_runs;
+#[cfg(test)]
 mod meanings;
 #[cfg(test)]
 mod printed;
