@@ -20,6 +20,7 @@ abbrev pub Has : List (ℕ × ℕ) → ℕ → ℕ → Type 0
 Has [] a b = ⊥
 Has (e ∷ es) a b = ((e.0 ≡ a) × (e.1 ≡ b)) ⊎ Has es a b
 
+-- The byte that was put, 0 where none was.
 abbrev pub byte_or_zero : Option ℕ → ℕ
 byte_or_zero None = 0
 byte_or_zero (Some b) = b
@@ -32,6 +33,7 @@ eight store k = byte_or_zero (store (8 * k + 0)) ∷ byte_or_zero (store (8 * k 
 abbrev pub byte_in : ℕ → ℕ → ℕ
 byte_in word a = slice_index (to_le_bytes w64 word) (a % 8)
 
+-- The eight bytes of a word in which none was put.
 abbrev pub zero_word : List ℕ
 zero_word = 0 ∷ 0 ∷ 0 ∷ 0 ∷ 0 ∷ 0 ∷ 0 ∷ 0 ∷ []
 
@@ -43,6 +45,7 @@ lone i b = from_le_bytes w64 (slice_set zero_word i b)
 abbrev pub share : Holding → ℕ
 share h = length h.chunks
 
+-- The pass drew the chunk, or joined one that did.
 abbrev pub IsOwned : Holding → ℕ → Type 0
 IsOwned h c = 0 < times c h.chunks
 

@@ -20,9 +20,11 @@ byte_has (x ∷ xs) a b e = dite (ℕ_discrete x.0 a)
     (λ s. let t : eqb x.0 a ≡ true = eq-eqb x.0 a s in let e' : Some x.1 ≡ Some b = rw t at e in inl (s, cc))
     (λ ne. let t : eqb x.0 a ≡ false = ne_eqb x.0 a ne in let e' : byte_at xs a ≡ Some b = rw t at e in inr (byte_has xs a b e'))
 
+-- What stands at an address of an own chunk: the byte that was put there, or a place to put one.
 abbrev pub own_cell : Holding → ℕ → Cell
 own_cell h a = byte_or fresh (byte_at h.own a)
 
+-- What stands at an address of another's chunk: the byte that was learned, or nothing that may be touched.
 abbrev pub learned_cell : Holding → ℕ → Cell
 learned_cell h a = byte_or absent (byte_at h.learned a)
 

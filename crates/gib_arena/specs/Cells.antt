@@ -5,6 +5,7 @@ use Rattle.gib_arena.specs.declared.view.Holding.{Holding}
 use Rattle.gib_arena.specs.Sums.{times}
 use Rattle.gib_arena.specs.Bytes.{chunk_of, byte_at}
 
+-- The byte where there is one, else this cell.
 abbrev pub byte_or : Cell → Option ℕ → Cell
 byte_or c None = c
 byte_or c (Some b) = byte b

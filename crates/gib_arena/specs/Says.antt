@@ -13,6 +13,7 @@ use Rattle.gib_arena.specs.Tree.{IsUnder, IsAlone}
 abbrev pub IsPass : List View → ℕ → View → Type 0
 IsPass views j v = get_elem? views j ≡ some v
 
+-- The rule in the words of cells: what every caller may rest on, whatever threads do in whatever order.
 pub record Says (limit : ℕ) (words : List ℕ) (views : List View) : Type 0 where
   -- a known byte is the byte of its word, and a byte that nobody knows is 0 there
   pub known_is : (j : ℕ) (v : View) → IsPass views j v → (a b : ℕ) → cells_of v.holding a ≡ byte b → byte_in (slice_index words (a / 8 + 1)) a ≡ b

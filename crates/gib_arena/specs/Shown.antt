@@ -7,6 +7,7 @@ use Rattle.gib_arena.specs.declared.view.View.{View}
 use Rattle.gib_arena.specs.Bytes.{share}
 use Rattle.gib_arena.specs.Cells.{cells_of}
 
+-- Whether a list has no item.
 abbrev pub is_empty : {A : Type 0} → List A → Bool
 is_empty [] = true
 is_empty (x ∷ xs) = false
@@ -19,6 +20,7 @@ is_alone b = b.live && (is_empty b.path && is_empty b.out)
 abbrev pub name_of : TableId → List ℕ
 name_of z = z.words ∷ z.slots ∷ z.views_name ∷ z.atom ∷ z.block ∷ z.offset ∷ z.slot_names
 
+-- What a pass of the arena of this table is as a memory: it is alone where it is the first pass and none is out.
 abbrev pub shown : TableId → View → Memory
 shown z v = record {
   cells = cells_of v.holding;

@@ -24,6 +24,7 @@ put_at v a b = record { holding = record { own = (a, b) ∷ v.holding.own; learn
 abbrev Sat : Type 0
 Sat = Me (Unit {0}) View
 
+-- What the rule says of one view alone.
 abbrev pub IsSoundView : View → Type 0
 IsSoundView v = IsSound v.branch.limit v.holding
 

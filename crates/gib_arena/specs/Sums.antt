@@ -6,6 +6,7 @@ abbrev pub total : {A : Type 0} → (A → ℕ) → List A → ℕ
 total f [] = 0
 total f (x ∷ xs) = f x + total f xs
 
+-- 1 where it is true, else 0.
 abbrev pub one_if : Bool → ℕ
 one_if true = 1
 one_if false = 0
@@ -18,6 +19,7 @@ times c xs = total (λ x. one_if (eqb x c)) xs
 abbrev pub once_below : ℕ → ℕ → ℕ
 once_below c n = one_if (ltb c n)
 
+-- Whether two paths are the same.
 abbrev pub same_path : List ℕ → List ℕ → Bool
 same_path [] [] = true
 same_path [] (y ∷ ys) = false
@@ -28,6 +30,7 @@ same_path (x ∷ xs) (y ∷ ys) = eqb x y && same_path xs ys
 abbrev pub times_path : List ℕ → List (List ℕ) → ℕ
 times_path p ps = total (λ q. one_if (same_path q p)) ps
 
+-- The paths with this one in front, unless it is the one to leave out.
 abbrev pub keep_unless : Bool → List ℕ → List (List ℕ) → List (List ℕ)
 keep_unless true q ps = ps
 keep_unless false q ps = q ∷ ps
