@@ -130,7 +130,7 @@ fn find_of(types: &TypeTable, names: &Names, ty: TyId, token: &[u8]) -> Option<C
     let Some(con) = find_named(types, names, token) else {
         return None;
     };
-    if types.type_of(con).0 == ty.0 {
+    if types.owner(con).0 == ty.0 {
         Some(con)
     } else {
         None
@@ -143,7 +143,7 @@ fn is_full(types: &TypeTable, ty: TyId, con: ConId) -> bool
     ensures yes { result ≡ true → HasFull types.now ty }
     ensures no { result ≡ false → con_at types.now ty.0 con.0 ≡ Some con.0 → 0 < length (fields_at types.now con.0) → ⊥ }
 {
-    types.type_of(con).0 == ty.0 && !types.fields(con).is_empty()
+    types.owner(con).0 == ty.0 && !types.fields(con).is_empty()
 }
 
 /// Whether the type has a constructor with fields.
