@@ -2,7 +2,7 @@
 use Rattle.std.proofs.Common.{◌≡◌, ℕ, ◌+◌, ◌*◌, ◌<◌, ◌≤◌, ◌^◌, List, [], ◌∷◌, length, refl, sym, ap, subst, ◌∙◌, arith, length-append, Bool, cond, inl, inr}
 use Rattle.std.specs.Prelude.{◌⊎◌}
 use Rattle.std.proofs.lemmas.Bool.Decides.{leb_tells}
-use Rattle.gib_mem.specs.Memory.{Memory, Store, absent, fresh, after_puts, after_draw, Holds, Owned, Grows}
+use Rattle.gib_mem.specs.Memory.{Store, absent, fresh, after_puts, after_draw, Holds, Owned, Grows}
 use Rattle.gib_mem.proofs.Puts.{puts_past, puts_hold, puts_grow, open_past}
 use Rattle.gib_types.specs.declared.table.Ty.{Ty}
 use Rattle.gib_types.specs.declared.table.Ty.TheVariants as ty
@@ -21,7 +21,7 @@ use Rattle.gib_load.specs.Spot.{Spot, further, past_item, past_value, places}
 use Rattle.gib_load.specs.Placement.{Open, spot_of, with_room, place_head}
 use Rattle.gib_load.proofs.Heads.{IsHead, scalars-length}
 use Rattle.gib_load.proofs.Steps.{behind_item}
-use Rattle.gib_load.proofs.Spots.{room_spot, room_limit, head_spot, head_limit}
+use Rattle.gib_load.proofs.Spots.{room_spot, head_spot, head_limit}
 
 -- a region in which items may be placed
 pub record Ready (r : Open) : Type 0 where

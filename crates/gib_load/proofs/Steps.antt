@@ -1,5 +1,5 @@
 -- One head more.
-use Rattle.std.proofs.Common.{◌≡◌, ℕ, ◌+◌, ◌-◌, ◌*◌, ◌<◌, ◌≤◌, ◌^◌, List, [], ◌∷◌, ◌++◌, length, get_or, drop, take, refl, sym, ap, subst, subst₂, ◌∙◌, arith, add-one, length-append, length-drop, append_assoc, append-nil, Bool, true, false, cond, Option, Some, None, inl, inr}
+use Rattle.std.proofs.Common.{◌≡◌, ℕ, ◌+◌, ◌-◌, ◌*◌, ◌<◌, ◌≤◌, List, [], ◌∷◌, ◌++◌, length, get_or, drop, take, refl, sym, ap, subst, subst₂, ◌∙◌, arith, add-one, length-append, length-drop, append_assoc, append-nil, Bool, true, false, cond, Option, Some, None, inl, inr}
 use Rattle.std.specs.Prelude.{slice_get}
 use Rattle.std.proofs.Math.Seq.{drop-cons, take-append_seam, drop-append_seam, drop-drop}
 use Rattle.std.proofs.lemmas.Bool.Decides.{leb_tells}
@@ -14,7 +14,7 @@ use Rattle.gib_types.specs.Tree.{Datum, whole, truth, con}
 use Rattle.gib_file.specs.Packed.{Packed}
 use Rattle.gib_packed.specs.Scalars.{scalars}
 use Rattle.gib_region.specs.Region.{rest, Behind, pointer, HasRoom, Placed, here, turned, redirected, IsFull, has_room}
-use Rattle.gib_region.specs.Leaving.{IsBounded, Leaves}
+use Rattle.gib_region.specs.Leaving.{Leaves}
 use Rattle.gib_load.specs.Preorder.{Head, heads}
 use Rattle.gib_load.specs.Spot.{further, places}
 use Rattle.gib_load.specs.Placement.{Open, spot_of, with_room, with_bytes, place_head, place_heads}
