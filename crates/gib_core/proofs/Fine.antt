@@ -138,10 +138,10 @@ slots_length (x ∷ xs) = ap suc (slots_length xs)
 abbrev GoesOn : (Scope → Dest → Type 0) → Type 0
 GoesOn P = (sc : Scope) × (d : Dest) × IsOpen d × P sc d
 
-abbrev anywhere : Scope → Dest → Type 0
+abbrev pub anywhere : Scope → Dest → Type 0
 anywhere sc d = Unit {0}
 
-side_alone : (core : CoreTree) (s : Side) (sc : Scope) (d : Dest) (P : Scope → Dest → Type 0) → SideFits core s sc d P → SideFits core s sc d anywhere
+pub side_alone : (core : CoreTree) (s : Side) (sc : Scope) (d : Dest) (P : Scope → Dest → Type 0) → SideFits core s sc d P → SideFits core s sc d anywhere
 side_alone core (t.On kind.Here x ty u) sc d P f = (f.0, f.1, f.2, f.3, f.4, tt)
 side_alone core (t.On kind.Region x ty u) sc d P f = (f.0, f.1, f.2, f.3, tt)
 side_alone core (t.On kind.Scalar x ty u) sc d P f = (f.0, f.1, f.2, tt)
@@ -156,14 +156,14 @@ side_both core (t.On kind.Here x ty u) r sc d P f = (f.0, f.1, f.2, f.3, f.4, si
 side_both core (t.On kind.Region x ty u) r sc d P f = (f.0, f.1, f.2, f.3, side_alone core r _ _ P f.4)
 side_both core (t.On kind.Scalar x ty u) r sc d P f = (f.0, f.1, f.2, side_alone core r _ _ P f.3)
 
-bind_alone : (core : CoreTree) (b : t.Bind) (sc : Scope) (d : Dest) (P : Scope → Dest → Type 0) → IsOpen d → BindFits core b sc d P → BindFits core b sc d anywhere
-bind_alone core (t.Past h k) sc d P o f = (f.0, f.1, f.2, f.3, tt)
-bind_alone core (t.One s) sc d P o f = side_alone core s sc d P f
-bind_alone core (t.Both false l r) sc d P o f = (f.0, side_both core l r sc d P f.1)
-bind_alone core (t.Both true l r) sc d P o f = (f.0, f.1, side_both core l r sc d P f.2)
-bind_alone core (t.Prim x g y z) sc d P o f = (f.0, f.1, f.2, tt)
-bind_alone core (t.Reach y by.Offset) sc d P o f = (f.0, f.1, f.2, f.3, f.4, f.5, f.6, tt)
-bind_alone core (t.Reach y (by.Skip z)) sc d P o f = (f.0, f.1, f.2, f.3, f.4, f.5, f.6, tt)
+pub bind_alone : (core : CoreTree) (b : t.Bind) (sc : Scope) (d : Dest) (P : Scope → Dest → Type 0) → BindFits core b sc d P → BindFits core b sc d anywhere
+bind_alone core (t.Past h k) sc d P f = (f.0, f.1, f.2, f.3, tt)
+bind_alone core (t.One s) sc d P f = side_alone core s sc d P f
+bind_alone core (t.Both false l r) sc d P f = (f.0, side_both core l r sc d P f.1)
+bind_alone core (t.Both true l r) sc d P f = (f.0, f.1, side_both core l r sc d P f.2)
+bind_alone core (t.Prim x g y z) sc d P f = (f.0, f.1, f.2, tt)
+bind_alone core (t.Reach y by.Offset) sc d P f = (f.0, f.1, f.2, f.3, f.4, f.5, f.6, tt)
+bind_alone core (t.Reach y (by.Skip z)) sc d P f = (f.0, f.1, f.2, f.3, f.4, f.5, f.6, tt)
 
 bind_goes : (core : CoreTree) (is : IsTable core.table) (b : t.Bind) (sc : Scope) (d : Dest) (P : Scope → Dest → Type 0) → IsOpen d → BindFits core b sc d P → GoesOn P
 bind_goes core is (t.Past h c) sc d P o f =
@@ -204,7 +204,7 @@ module _ (core : CoreTree) (code : CodeTree) (is : IsTable core.table) where
     term_fine (low.case at la) sc d o f = fine_join (fine_one at tt) (arms_fine la f.1.variable.0 (put sc f.1.variable.0 (AtHead f.0)) d o f.3)
     term_fine (low.binding {b = b} {u = u} lb lu) sc d o f =
         let r = bind_goes core is b sc d (λ sc' d'. Fits core u sc' d') o f in
-        fine_join (bind_fine lb sc d o (bind_alone core b sc d (λ sc' d'. Fits core u sc' d') o f)) (term_fine lu r.0 r.1 r.2 r.3)
+        fine_join (bind_fine lb sc d o (bind_alone core b sc d (λ sc' d'. Fits core u sc' d') f)) (term_fine lu r.0 r.1 r.2 r.3)
 
     arms_fine : {fs : List Field} {x a z : ℕ} {arms : List Arm} {bs : t.Branches} {e : End} → LowArms core code fs x a arms bs e z → (y : ℕ) (sc : Scope) (d : Dest) → IsOpen d → BranchesFit core bs y sc d → Fine code a z
     arms_fine low.no_arm y sc d o f = fine_none

@@ -4,6 +4,7 @@ use Rattle.gib_code.specs.Program.{CodeTree, Runs}
 use Rattle.gib_core.specs.Low.{IsLowered}
 use Rattle.gib_core.specs.Fits.{AllFit}
 
+-- The parts of a core, and the code.
 pub record LoweredParts : Type 0 where
   pub core : Parts
   pub code : CodeTree

@@ -17,6 +17,7 @@ ghost use Rattle.gib_core.specs.Numbering.{AreNumbered};
 ghost use Rattle.gib_core.specs.Ordered.{AreOrdered, AreNatural};
 ghost use Rattle.gib_core.specs.Literals.{AllLiteralsFit};
 ghost use Rattle.gib_core.specs.Fits.{AllFit, EachFits};
+ghost use Rattle.gib_core.specs.TypesNamed.{AllTypesDeclared, SignaturesDeclared};
 ghost use Rattle.gib_core.specs.Cost.{Costs, plus, cost_from, cost, cost_all};
 ghost use Rattle.gib_core.specs.Low.{IsLowered, HasCode, HasMain, function_number};
 ghost use Rattle.gib_code.specs.Program.{CodeTree, Runs};
@@ -50,6 +51,13 @@ pub fn built_is_ordered()
 pub fn built_fits()
     ensures named { (core : CoreTree) → IsTable core.table → AreNumbered core → AllLiteralsFit core → AreBuilt core → AllFit core }
     ensures each { (core : CoreTree) → IsTable core.table → AreNumbered core → AllLiteralsFit core → AreBuilt core → EachFits core }
+{}
+
+/// In a core that meets the build rules, is numbered in the order of the text, and has literals of 64 bits, each type that a
+/// variable is bound with is declared, where the types of functions and of main are.
+#[tactic(auto, using(crate::proofs::TypesKnown::types_known))]
+pub fn types_of_a_built_core_are_declared()
+    ensures { (core : CoreTree) → IsTable core.table → SignaturesDeclared core → AreNumbered core → AllLiteralsFit core → AreBuilt core → AllTypesDeclared core }
 {}
 
 /// A machine can run the code of a core of which each body fits, if it has fewer than 2^32 instructions.

@@ -1,0 +1,43 @@
+//! Names as text.
+
+ghost use Rattle.std.specs.Prelude.{◌≡◌, ◌++◌, ◌∷◌, OnOk};
+ghost use Rattle.gib_types.specs.Table.{name_at};
+ghost use Rattle.gib_code.specs.ListingText.{name_text};
+
+use gib_base::{Memory, Name, Names};
+use gib_types::{ConId, TypeTable};
+
+/// The text of a name; a number that no name has stands for no text.
+pub fn name_text(names: &Names, name: Name) -> &[u8]
+    ensures { result.now ≡ name_text names.now name.0 }
+{
+    if name.0 < names.len() {
+        names.text(name)
+    } else {
+        &[]
+    }
+}
+
+/// The name of a constructor; of a number that no constructor has, the first name.
+pub fn con_name(types: &TypeTable, con: ConId) -> Name
+    ensures { result.0 ≡ name_at types.now con.0 }
+{
+    if con.0 < types.len() {
+        types.name_of(con)
+    } else {
+        Name(0)
+    }
+}
+
+/// Writes bytes behind a space.
+///
+/// # Errors
+///
+/// Want of memory.
+pub fn push_behind_space(out: &mut Vec<u8>, bytes: &[u8]) -> Result<(), Memory>
+    ensures { OnOk result (out.new.items ≡ out.old.items ++ 32 ∷ bytes.now) }
+{
+    out.push(b' ')?;
+    out.extend_from_slice(bytes)?;
+    Ok(())
+}
