@@ -1,11 +1,9 @@
 //! Names as text.
 
 ghost use Rattle.std.specs.Prelude.{◌≡◌, ◌++◌, ◌∷◌, OnOk};
-ghost use Rattle.gib_types.specs.Table.{name_at};
 ghost use Rattle.gib_code.specs.ListingText.{name_text};
 
 use gib_base::{Memory, Name, Names};
-use gib_types::{ConId, TypeTable};
 
 /// The text of a name; a number that no name has stands for no text.
 pub fn name_text(names: &Names, name: Name) -> &[u8]
@@ -15,17 +13,6 @@ pub fn name_text(names: &Names, name: Name) -> &[u8]
         names.text(name)
     } else {
         &[]
-    }
-}
-
-/// The name of a constructor; of a number that no constructor has, the first name.
-pub fn con_name(types: &TypeTable, con: ConId) -> Name
-    ensures { result.0 ≡ name_at types.now con.0 }
-{
-    if con.0 < types.len() {
-        types.name_of(con)
-    } else {
-        Name(0)
     }
 }
 

@@ -9,7 +9,7 @@ ghost use Rattle.gib_code.specs.ListingText.{name_text, number_text, slot_text, 
 
 use crate::code::Code;
 use crate::instruction::{Arm, Entry, Instr, Kind, Operand, Operation};
-use crate::names::{con_name, name_text, push_behind_space};
+use crate::names::{name_text, push_behind_space};
 use gib_base::{Memory, Name, Names, push_decimal, push_signed};
 use gib_types::{ConId, TypeTable};
 use std::alloc::Global;
@@ -137,7 +137,7 @@ fn push_constructor(
 ) -> Result<(), Memory>
     ensures { OnOk result (out.new.items ≡ out.old.items ++ constructor_text names.now types.now con) }
 {
-    push_behind_space(out, name_text(names, con_name(types, ConId(con))))
+    push_behind_space(out, name_text(names, types.name_of(ConId(con))))
 }
 
 fn push_function(

@@ -8,7 +8,7 @@ ghost use Rattle.gib_core.specs.CoreText.{keyword_text, operator_text, indent, v
 use crate::atom::{Atom, Variable};
 use crate::piece::{Keyword, Piece};
 use gib_base::{Memory, Name, Names, push_decimal, push_signed};
-use gib_code::names::{con_name, name_text, push_behind_space};
+use gib_code::names::{name_text, push_behind_space};
 use gib_syntax::Operator;
 use gib_types::{Ty, TyId, TypeTable};
 use std::alloc::Global;
@@ -140,11 +140,11 @@ fn push_piece(
         }
         Piece::Arm(level, con) => {
             push_indent(out, level)?;
-            out.extend_from_slice(name_text(names, con_name(types, con)))?;
+            out.extend_from_slice(name_text(names, types.name_of(con)))?;
             Ok(())
         }
         Piece::Function(name) => push_behind_space(out, name_text(names, name)),
-        Piece::Constructor(con) => push_behind_space(out, name_text(names, con_name(types, con))),
+        Piece::Constructor(con) => push_behind_space(out, name_text(names, types.name_of(con))),
         Piece::Variable(variable) => {
             out.push(b' ')?;
             push_variable(alloc, out, variable)
