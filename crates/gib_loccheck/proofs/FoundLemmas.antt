@@ -1,6 +1,7 @@
 -- What is found by numbers, as more comes and the newest leaves.
-use Rattle.std.proofs.Common.{◌≡◌, ℕ, Bool, true, false, ◌==◌, ◌||◌, if◌then◌else◌, List, [], ◌∷◌, map, reverse, Option, Some, None, refl, sym, ap, ◌∙◌, arith}
+use Rattle.std.proofs.Common.{◌≡◌, ℕ, zero, suc, ◌+◌, ◌-◌, ◌<◌, ◌++◌, Bool, true, false, ◌==◌, ◌||◌, if◌then◌else◌, List, [], ◌∷◌, map, reverse, take, get_or, length, Option, Some, None, refl, sym, ap, subst, ◌∙◌, arith}
 use Rattle.std.proofs.lemmas.Bool.Decides.{nat_tests}
+use Rattle.std.proofs.lemmas.List.{map-append, reverse-append}
 use Rattle.gib_base.specs.Entries.{entry_at}
 use Rattle.gib_types.specs.declared.table.Ty.{Ty}
 use Rattle.gib_core.specs.declared.atom.Variable.{Variable}
@@ -46,3 +47,30 @@ known_left es old new e h set = record { each = λ x. set x.0 ∙ go x (e.known.
         → (if c then e.before else entry_at old x.0) ≡ known (map known_of es) x
     go x true q k = let same : e.known.variable.0 ≡ x.0 = grind (arith, nat_tests) in h.kept.0 ∙ (λ i. known (map known_of es) (record { 0 = same i }))
     go x false q k = k
+
+split_last : (xs : List InScope) (e : InScope) (n : ℕ) → n + 1 ≡ length xs → xs ≡ take n xs ++ get_or xs n e ∷ []
+split_last [] e n h = absurd (omega (arith, h))
+split_last (x ∷ []) e zero h = refl
+split_last (x ∷ y ∷ xs) e zero h = absurd (omega (arith, h))
+split_last (x ∷ xs) e (suc n) h = ap (λ (z : List InScope). x ∷ z) (split_last xs e n (omega (arith, h)))
+
+pub known_popped : (xs zs ys : List InScope) (v : ℕ) (old new : List (Option Known)) (e : InScope) → AreKnown (reverse xs) old → zs ≡ xs → v ≡ length xs → 0 < length zs → e ≡ get_or zs (length zs - 1) e → ys ≡ take (v - 1) xs
+    → ((other : ℕ) → entry_at new other ≡ (if e.known.variable.0 == other then e.before else entry_at old other)) → AreKnown (reverse ys) new
+known_popped xs zs ys v old new e h same long positive at cut set =
+    let n = length xs - 1 in
+    let many : length zs ≡ length xs = ap length same in
+    let last : e ≡ get_or xs n e = at ∙ (λ i. get_or (same i) (many i - 1) e) in
+    let split : xs ≡ take n xs ++ e ∷ [] = split_last xs e n (omega (arith, positive, many)) ∙ ap (λ (z : InScope). take n xs ++ z ∷ []) (sym last) in
+    let turned : reverse xs ≡ e ∷ reverse (take n xs) = ap reverse split ∙ reverse-append (take n xs) (e ∷ []) in
+    let left = known_left (reverse (take n xs)) old new e (subst (λ (z : List InScope). AreKnown z old) turned h) set in
+    subst (λ (z : List InScope). AreKnown (reverse z) new) (sym (cut ∙ ap (λ (k : ℕ). take (k - 1) xs) long)) left
+
+turned_known : (es : List InScope) → map known_of (reverse es) ≡ reverse (map known_of es)
+turned_known [] = refl
+turned_known (e ∷ es) = turned e es (turned_known es)
+  where
+    turned : (e : InScope) (es : List InScope) → map known_of (reverse es) ≡ reverse (map known_of es) → map known_of (reverse (e ∷ es)) ≡ reverse (map known_of (e ∷ es))
+    turned e es h = ap (map known_of) (reverse-append (e ∷ []) es) ∙ map-append known_of (reverse es) (e ∷ []) ∙ ap (λ (z : List Known). z ++ e.known ∷ []) h ∙ sym (reverse-append (e.known ∷ []) (map known_of es))
+
+pub known_found : (es : List InScope) (entries : List (Option Known)) (x : Variable) → AreKnown (reverse es) entries → entry_at entries x.0 ≡ known (reverse (map known_of es)) x
+known_found es entries x h = h.each x ∙ ap (λ (ks : List Known). known ks x) (turned_known es)

@@ -32,7 +32,7 @@ impl Model for Scope {
 }
 
 impl Scope {
-    ghost use Rattle.std.specs.Prelude.{◌≡◌, ◌++◌, ◌∷◌, [], length, reverse, take, OnOk};
+    ghost use Rattle.std.specs.Prelude.{◌≡◌, ◌-◌, ◌++◌, ◌∷◌, [], length, reverse, take, OnOk};
     ghost use Rattle.gib_core.specs.Met.{known as known_in};
 
     /// No variable.
