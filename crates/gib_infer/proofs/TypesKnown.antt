@@ -1,6 +1,7 @@
 -- The types of a program's functions and of its main are declared.
 use Rattle.std.proofs.Common.{◌≡◌, ℕ, ◌<◌, List, [], ◌∷◌, length, map, Option, Some, None, refl, subst, sym}
 use Rattle.std.specs.List.{AllByRecursion}
+use Rattle.gib_types.specs.declared.table.ConId.{ConId}
 use Rattle.gib_types.specs.Row.{Table}
 use Rattle.gib_types.specs.Table.{IsTyBelow}
 use Rattle.gib_syntax.specs.declared.tree.Parameter.{Parameter}
@@ -47,10 +48,10 @@ main_below p n m e h =
     (subst (λ (x : MainTerm). AreDeclared (length types) (x.parameter ∷ []) x.result) (sym h) ((name_below types p.main.parameter.ty, tt), name_below types p.main.result))
 
 -- The parts of the core that is made.
-pub parts_inside : (parts : Parts) (w0 w1 w2 : Work) (table : Table) (fs : List CoreFunction) (main : CoreMain) → table ≡ (infer_program (program_of parts)).table
+pub parts_inside : (parts : Parts) (w0 w1 w2 : Work) (table : Table) (fs : List CoreFunction) (main : CoreMain) (offsets : List ConId) → table ≡ (infer_program (program_of parts)).table
     → MakesFunctions w0 w1 fs (map (infer_function (globals_in parts)) (program_of parts).functions) → MakesMain w1 w2 main (infer_program (program_of parts)).main
-    → AreInside (record { table = table; terms = w2.terms; functions = fs; main = main; offsets = [] })
-parts_inside parts w0 w1 w2 table fs main et hf hm =
+    → AreInside (record { table = table; terms = w2.terms; functions = fs; main = main; offsets = offsets })
+parts_inside parts w0 w1 w2 table fs main offsets et hf hm =
     let n = length table.types in
     let same : length (infer_program (program_of parts)).table.types ≡ n = λ i. length (sym et i).types in
     record {
