@@ -1,4 +1,3 @@
-use Rattle.gib_core.specs.Arena.{term_of}
 use Rattle.gib_access.proofs.Programs.{core_reached, parts_inside}
 use Rattle.gib_access.proofs.reached.Goals as goal
 
