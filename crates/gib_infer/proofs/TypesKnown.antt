@@ -16,7 +16,7 @@ use Rattle.gib_core.specs.declared.program.CoreFunction.{CoreFunction}
 use Rattle.gib_core.specs.declared.program.CoreMain.{CoreMain}
 use Rattle.gib_core.specs.Arena.{term_of}
 use Rattle.gib_core.specs.Inferring.{infer_function, infer_program}
-use Rattle.gib_core.specs.Parts.{AreDeclared, IsDeclared, AreInside, function_term, main_term}
+use Rattle.gib_core.specs.Parts.{AreDeclared, AreInside, function_term, main_term}
 use Rattle.gib_core.specs.Tree.{FunctionTerm, MainTerm}
 use Rattle.gib_core.proofs.Signatures.{declared_functions}
 use Rattle.gib_infer.specs.declared.work.Work.{Work}
