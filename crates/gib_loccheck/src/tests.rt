@@ -1,5 +1,4 @@
 ghost use Rattle.std.specs.Prelude.{◌≡◌, ◌++◌, ◌∷◌, [], ◌<◌, ◌≤◌, length, map, IfOk, OnOk};
-ghost use Rattle.gib_types.specs.Table.{row_of};
 ghost use Rattle.gib_core.specs.Arena.{IsBindingBelow, PartsBelow};
 
 use crate::{LocFault, loccheck};
@@ -9,7 +8,8 @@ use gib_core::{
     Terms, Variable,
 };
 use gib_syntax::Operator;
-use gib_types::{ConId, Constructor, Ty, TyId, TypeTable};
+use gib_types::sample::trees;
+use gib_types::{ConId, Ty, TyId};
 use std::alloc::Global;
 use std::test::*;
 
@@ -24,27 +24,6 @@ const COPY: Name = Name(3);
 const SIZE: Name = Name(4);
 
 const BEHIND: Access = Access::Skip(Variable(2));
-
-fn add(alloc: Global, rows: &mut Vec<Constructor>, name: u32, fields: &[Ty]) -> Result<(), Memory>
-    ensures { OnOk result (map row_of rows.new.items ≡ map row_of rows.old.items ++ record { name = name; owner = 0; fields = fields.now } ∷ []) }
-{
-    let fields = Vec::from_slice(alloc, fields)?;
-    rows.push(Constructor {
-        name: Name(name),
-        owner: TyId(0),
-        fields,
-    })?;
-    Ok(())
-}
-
-// data Tree = Leaf Int | Node Tree Tree ;
-fn table(alloc: Global) -> Result<TypeTable, Memory> {
-    let types = Vec::from_slice(alloc, &[Name(0)])?;
-    let mut rows = Vec::new(alloc);
-    add(alloc, &mut rows, 1, &[Ty::Whole])?;
-    add(alloc, &mut rows, 2, &[TREE, TREE])?;
-    TypeTable::make(alloc, types, rows)
-}
 
 fn var(number: u32) -> Atom {
     Atom::Variable(Variable(number))
@@ -518,7 +497,7 @@ fn program(alloc: Global, copied: Atom, line: Line, offsets: &[ConId]) -> Result
         body,
     };
     let offsets = Vec::from_slice(alloc, offsets)?;
-    Ok(Core::new(table(alloc)?, terms, functions, main, offsets))
+    Ok(Core::new(trees(alloc)?, terms, functions, main, offsets))
 }
 
 #[test]
