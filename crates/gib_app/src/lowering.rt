@@ -8,6 +8,7 @@ ghost use Rattle.gib_syntax.specs.Meaning.{run};
 ghost use Rattle.gib_core.specs.Meaning.{core_run};
 ghost use Rattle.gib_core.specs.Numbering.{AreNumbered};
 ghost use Rattle.gib_core.specs.Parts.{core_of};
+ghost use Rattle.gib_lower.specs.Lowering.{lower_program};
 ghost use Rattle.gib_app.specs.Cores.{core_after};
 
 use gib_access::reach;
@@ -39,6 +40,7 @@ fn checked_core(alloc: Global, typed: &Typed) -> Result<Checked, Memory>
 pub fn lowered(alloc: Global, typed: &Typed) -> Result<Lowered, Memory>
     ensures core { IfOk result (λ made. core_of made.core ≡ core_after 3 (program_of typed.now)) }
     ensures means { IfOk result (λ made. (depth : ℕ) (v : Datum) → core_run (core_of made.core) depth v ≡ run (program_of typed.now) depth v) }
+    ensures code { IfOk result (λ made. made.code ≡ lower_program (core_after 3 (program_of typed.now))) }
     ensures laid { IfOk result (λ made. made.code.laid ≡ record { table = table_of_program (program_of typed.now); with_offsets = [] }) }
 {
     let checked = checked_core(alloc, typed)?;

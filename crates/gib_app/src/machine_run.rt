@@ -21,7 +21,7 @@ use gib_check::Typed;
 use gib_code::Answer;
 use gib_core::Lowered;
 use gib_edge::outside::Sink;
-use gib_file::{Survey, one_file, refused_file, refused_header};
+use gib_file::{Survey, refused_file, refused_header};
 use gib_load::{LoadFault, load};
 use gib_mem::{Mem, PlainMem};
 use gib_packed::Root;
@@ -148,6 +148,8 @@ pub fn run_packed(
     ensures stands { IfOk result (λ ran. StandsMeant (program_of typed.now) depth file.now ran.lowered.code.laid (⟦<PlainMem as Mem>⟧.view ran.memory).cells ran.root) }
     ensures stop { IfErr result (IsMachineStop (program_of typed.now) depth chunks file.now) }
 {
+    refused_header();
+    refused_file();
     let survey = match survey_input(alloc, typed, file) {
         Ok(survey) => survey,
         Err(PackedFault::Refused(fault)) => return Err(RunStop::Refused(fault)),
