@@ -22,7 +22,7 @@ use Rattle.gib_load.proofs.Spots.{heads_limit}
 use Rattle.gib_syntax.specs.Tree.{ProgramTree}
 use Rattle.gib_syntax.specs.Declarations.{table_of_program, input_type}
 use Rattle.gib_syntax.specs.Meaning.{run}
-use Rattle.gib_core.specs.Cost.{Cost, run_cost, body_cost}
+use Rattle.gib_core.specs.Cost.{run_cost, body_cost}
 use Rattle.gib_core.specs.Low.{laid_of}
 use Rattle.gib_core.specs.LoweredParts.{LoweredParts}
 use Rattle.gib_core.specs.Meaning.{core_run}

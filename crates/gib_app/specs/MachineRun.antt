@@ -1,5 +1,5 @@
 -- What a run of the machine on a packed file leaves: a root in region memory, or why there is none.
-use Rattle.std.specs.Prelude.{◌≡◌, ℕ, List, Result, Ok, Err, MatchResult}
+use Rattle.std.specs.Prelude.{◌≡◌, ℕ, List, Result, Ok, Err}
 use Rattle.gib_types.specs.Layout.{LaidOut}
 use Rattle.gib_types.specs.Tree.{Datum}
 use Rattle.gib_mem.specs.Memory.{Store}
@@ -17,7 +17,6 @@ use Rattle.gib_code.specs.declared.answer.Answer.{Answer}
 use Rattle.gib_code.specs.declared.answer.Answer.TheVariants as answer
 use Rattle.gib_weave.specs.declared.root_run.RunFault.{RunFault}
 use Rattle.gib_weave.specs.declared.root_run.RunFault.TheVariants as fault
-use Rattle.gib_app.specs.declared.input_fault.InputFault.{InputFault}
 use Rattle.gib_app.specs.declared.machine_run.RunStop.{RunStop}
 use Rattle.gib_app.specs.declared.machine_run.RunStop.TheVariants as stop
 use Rattle.gib_app.specs.Cores.{core_after}

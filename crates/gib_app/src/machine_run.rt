@@ -88,7 +88,7 @@ fn run_loaded(
     requires undrawn { (⟦<PlainMem as Mem>⟧.view memory.old).drawn ≡ 0 }
     ensures { (v : Datum) → Packed survey.entry.table survey.entry.ty v survey.entry.bytes
         → MatchResult result (IsRootOf (core_of lowered.now.core) depth v lowered.now.code.laid (⟦<PlainMem as Mem>⟧.view memory.new).cells)
-            (Halts (core_of lowered.now.core) depth (⟦<PlainMem as Mem>⟧.view memory.old).limit v) }
+        (Halts (core_of lowered.now.core) depth (⟦<PlainMem as Mem>⟧.view memory.old).limit v) }
 {
     let _packed = survey.payload();
     let mut tails = Tails::new();
@@ -114,7 +114,7 @@ fn run_survey(
     ensures same { IfOk result (λ ran. ran.lowered ≡ lowered) }
     ensures ends { (v : Datum) → Packed survey.entry.table survey.entry.ty v survey.entry.bytes
         → MatchResult result (λ ran. IsRootOf (core_of lowered.core) depth v lowered.code.laid (⟦<PlainMem as Mem>⟧.view ran.memory).cells ran.root)
-            (Halts (core_of lowered.core) depth chunks v) }
+        (Halts (core_of lowered.core) depth chunks v) }
 {
     let mut memory = match PlainMem::make(alloc, chunks) {
         Ok(memory) => memory,
