@@ -22,11 +22,11 @@ returns-in-Err-Refused-clause-stop c =
 pub returns-in-Ok-lowered-clause-stands : goal.returns-in-Ok-lowered-clause-stands
 returns-in-Ok-lowered-clause-stands c =
     let made = c.in-Ok-lowered.ensures in
-    survey_stands (program_of c.args.typed.now) c.args.depth c.args.chunks c.args.file.now c.in-Ok.survey c.in-Ok-lowered.lowered (record { core = made.core; means = made.means; laid = made.laid }) c.requires.short
-    c.payload-packed.ensures.packed c.in-Ok.ensures.file c.run_survey.result c.run_survey.ensures.same c.run_survey.ensures.ends
+    survey_stands (program_of c.args.typed.now) c.args.depth c.args.file.now c.in-Ok.survey c.in-Ok-lowered.lowered (record { core = made.core; means = made.means; laid = made.laid }) c.requires.short
+    c.payload-packed.ensures.packed c.in-Ok.ensures.file c.run_survey.result c.run_survey.ensures.same c.run_survey.ensures.root
 
 pub returns-in-Ok-lowered-clause-stop : goal.returns-in-Ok-lowered-clause-stop
 returns-in-Ok-lowered-clause-stop c =
     let made = c.in-Ok-lowered.ensures in
     survey_stops (program_of c.args.typed.now) c.args.depth c.args.chunks c.args.file.now c.in-Ok.survey c.in-Ok-lowered.lowered (record { core = made.core; means = made.means; laid = made.laid }) c.requires.short
-    c.payload-packed.ensures.packed c.in-Ok.ensures.file c.run_survey.result c.run_survey.ensures.ends
+    c.payload-packed.ensures.packed c.in-Ok.ensures.file c.run_survey.result c.run_survey.ensures.halts
