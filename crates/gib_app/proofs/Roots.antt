@@ -1,5 +1,5 @@
 -- From the end of a run over region memory to what the program means.
-use Rattle.std.proofs.Common.{◌≡◌, ◌∙◌, refl, Bool, ℤ, ℕ, ◌+◌, ◌-◌, ◌*◌, ◌≤◌, List, [], length, Result, Ok, Err, IfOk, IfErr, MatchResult, sym, ap, subst, subst₂, arith}
+use Rattle.std.proofs.Common.{◌≡◌, ◌∙◌, refl, Bool, ℤ, ℕ, ◌+◌, ◌-◌, ◌*◌, ◌≤◌, List, [], length, Result, Ok, Err, IfOk, IfErr, sym, ap, subst, subst₂, arith}
 use Rattle.gib_types.specs.declared.table.Ty.{Ty}
 use Rattle.gib_types.specs.Layout.{LaidOut}
 use Rattle.gib_types.specs.Loaded.{Loaded}
@@ -21,7 +21,7 @@ use Rattle.gib_load.specs.Refusal.{Refused, at_start, at_head, Spent}
 use Rattle.gib_load.proofs.Spots.{heads_limit}
 use Rattle.gib_syntax.specs.Tree.{ProgramTree}
 use Rattle.gib_syntax.specs.Declarations.{table_of_program, input_type}
-use Rattle.gib_syntax.specs.Meaning.{Outcome, Stops, Deep, run}
+use Rattle.gib_syntax.specs.Meaning.{Outcome, run}
 use Rattle.gib_core.specs.Cost.{run_cost, body_cost}
 use Rattle.gib_core.specs.Low.{laid_of}
 use Rattle.gib_core.specs.LoweredParts.{LoweredParts}
@@ -32,7 +32,6 @@ use Rattle.gib_core.specs.Tree.{CoreTree}
 use Rattle.gib_code.specs.declared.answer.Answer.{Answer}
 use Rattle.gib_code.specs.declared.answer.Answer.TheVariants as answer
 use Rattle.gib_weave.specs.declared.root_run.RunFault.{RunFault}
-use Rattle.gib_weave.specs.declared.root_run.RunFault.TheVariants as fault
 use Rattle.gib_weave.specs.Running.{IsStart, RunEnds}
 use Rattle.gib_weave.specs.Sound.{IsAnswer}
 use Rattle.gib_app.specs.declared.machine_run.Ran.{Ran}
@@ -82,12 +81,6 @@ module _ (laid : LaidOut) (s : Store) (ty : Ty) (owed : Outcome) where
 
   pub tree_stands : (a : ℕ) → IsAnswer laid s ty owed (answer.At a) → IsRootOf laid s ty owed (root.At a)
   tree_stands a h = record { result = h.1; means = h.3; stands = subst (λ (t : Ty). Stands laid s (root.At a) t h.1) (sym h.2) (a_tree {t = record { 0 = h.0 }} h.4.dec) }
-
--- So it is the end of a run.
-pub answer_ends : (l : LoweredParts) (depth chunks : ℕ) (v : Datum) (s : Store) (e : Result Root RunStop)
-    → MatchResult e (IsRootOf l.code.laid s (core_of l.core).main.result (core_run (core_of l.core) depth v)) (λ why. (why ≡ stop.Deep) × (core_run (core_of l.core) depth v ≡ Stops Deep)) → EndsWith l depth chunks v s e
-answer_ends l depth chunks v s (Ok place) h = h
-answer_ends l depth chunks v s (Err why) h = subst (Halts (core_of l.core) depth chunks v) (sym h.0) h.1
 
 -- What is packed by the survey's table is so by that of the layouts.
 packed_in : (l : LoweredParts) (laid : LaidOut) (s : Surveyed) (v : Datum) → laid ≡ l.code.laid → s.table ≡ l.code.laid.table → Packed s.table s.ty v s.bytes → Packed laid.table s.ty v s.bytes
