@@ -11,11 +11,13 @@ ghost use Rattle.gib_file.specs.Packed.{Packed};
 ghost use Rattle.gib_syntax.specs.Meaning.{Outcome, Stops, Deep};
 ghost use Rattle.gib_syntax.specs.Parts.{program_of};
 ghost use Rattle.gib_syntax.specs.Tree.{ProgramTree};
+ghost use Rattle.gib_core.specs.Low.{laid_of};
 ghost use Rattle.gib_core.specs.LoweredParts.{LoweredParts};
 ghost use Rattle.gib_core.specs.Meaning.{core_run};
 ghost use Rattle.gib_core.specs.Parts.{core_of};
 ghost use Rattle.gib_weave.specs.Running.{RunEnds};
 ghost use Rattle.gib_weave.specs.Sound.{IsAnswer};
+ghost use Rattle.gib_app.specs.Cores.{core_after};
 ghost use Rattle.gib_app.specs.Running.{text_line};
 ghost use Rattle.gib_app.specs.MachineRun.{StandsMeant, IsMachineStop, IsRootOf, Halts, EndsWith};
 
@@ -154,6 +156,8 @@ pub fn run_packed(
 ) -> Result<Ran, RunStop>
     requires short { length file.now ≤ FILE_BYTES }
     ensures stands { IfOk result (λ ran. StandsMeant (program_of typed.now) depth file.now ran.lowered.code.laid (⟦<PlainMem as Mem>⟧.view ran.memory).cells ran.root) }
+    // The heads lie as those of the program's core.
+    ensures laid { IfOk result (λ ran. ran.lowered.code.laid ≡ laid_of (core_after 3 (program_of typed.now))) }
     ensures stop { IfErr result (IsMachineStop (program_of typed.now) depth chunks file.now) }
 {
     refused_header();
