@@ -1,5 +1,5 @@
 -- From the end of a run over region memory to what the program means.
-use Rattle.std.proofs.Common.{◌≡◌, ◌∙◌, refl, Bool, ℤ, ℕ, ◌+◌, ◌-◌, ◌*◌, ◌≤◌, List, [], length, Result, Ok, Err, IfOk, IfErr, sym, ap, subst, subst₂, arith}
+use Rattle.std.proofs.Common.{◌≡◌, ◌∙◌, refl, Bool, ℤ, ℕ, ◌+◌, ◌-◌, ◌*◌, ◌≤◌, List, [], length, Result, Ok, Err, IfOk, IfErr, MatchResult, sym, ap, subst, subst₂, arith}
 use Rattle.gib_types.specs.declared.table.Ty.{Ty}
 use Rattle.gib_types.specs.Layout.{LaidOut}
 use Rattle.gib_types.specs.Loaded.{Loaded}
@@ -20,9 +20,9 @@ use Rattle.gib_load.specs.Preorder.{heads}
 use Rattle.gib_load.specs.Refusal.{Refused, at_start, at_head, Spent}
 use Rattle.gib_load.proofs.Spots.{heads_limit}
 use Rattle.gib_syntax.specs.Tree.{ProgramTree}
-use Rattle.gib_syntax.specs.Declarations.{table_of_program, input_type}
+use Rattle.gib_syntax.specs.Declarations.{table_of_program, input_type, output_type}
 use Rattle.gib_syntax.specs.Meaning.{Outcome, run}
-use Rattle.gib_core.specs.Cost.{run_cost, body_cost}
+use Rattle.gib_core.specs.Cost.{Cost, run_cost, body_cost}
 use Rattle.gib_core.specs.Low.{laid_of}
 use Rattle.gib_core.specs.LoweredParts.{LoweredParts}
 use Rattle.gib_core.specs.Meaning.{core_run}
@@ -39,7 +39,7 @@ use Rattle.gib_app.specs.declared.machine_run.RunStop.{RunStop}
 use Rattle.gib_app.specs.declared.machine_run.RunStop.TheVariants as stop
 use Rattle.gib_app.specs.Cores.{core_after}
 use Rattle.gib_app.specs.Running.{IsInput}
-use Rattle.gib_app.specs.MachineRun.{StandsMeant, IsMachineStop, IsRootOf, Halts, EndsWith}
+use Rattle.gib_app.specs.MachineRun.{StandsMeant, IsMachineStop, IsRootOf, Halts, EndsWith, program_cost}
 
 -- A value that was loaded is where a run may start.
 pub start_of : (l : LoweredParts) (laid : LaidOut) (ty : Ty) (v : Datum) (m : Memory) (place : Root) (tails : List ℕ) → laid ≡ l.code.laid → ty ≡ (core_of l.core).main.parameter
@@ -134,7 +134,7 @@ root_meant p depth input v l l' s place of is e h =
     subst (λ (x : LoweredParts). StandsMeant p depth input x.code.laid s place) (sym e) there
 
 pub stop_meant : (p : ProgramTree) (depth chunks : ℕ) (input : List ℕ) (v : Datum) (l : LoweredParts) → IsOfProgram p l → IsInput p v input → (why : RunStop)
-    → Halts (core_of l.core) depth chunks v why → IsMachineStop p depth chunks input why
+    → Halts (core_run (core_of l.core) depth v) chunks (run_cost (core_of l.core) depth 0 v) why → IsMachineStop p depth chunks input why
 stop_meant p depth chunks input v l of is stop.Memory h = tt {0}
 stop_meant p depth chunks input v l of is (stop.Refused f) h = absurd h
 stop_meant p depth chunks input v l of is stop.Deep h = record { value = v; is_input = is; means = sym (of.means depth v) ∙ h }
@@ -164,7 +164,29 @@ survey_stands p depth input s l of short packed file (Err why) same ends = tt {0
 
 pub survey_stops : (p : ProgramTree) (depth chunks : ℕ) (input : List ℕ) (s : Surveyed) (l : LoweredParts) → IsOfProgram p l → length input ≤ 16777216 → IsPacked s.table s.ty s.bytes s.count
     → ((v : Datum) → Packed s.table s.ty v s.bytes → File (table_of_program p) (input_type p) v input) → (r : Result Ran RunStop)
-    → IfErr r (λ why. (v : Datum) → Packed s.table s.ty v s.bytes → Halts (core_of l.core) depth chunks v why)
+    → IfErr r (λ why. (v : Datum) → Packed s.table s.ty v s.bytes → Halts (core_run (core_of l.core) depth v) chunks (run_cost (core_of l.core) depth 0 v) why)
     → IfErr r (IsMachineStop p depth chunks input)
 survey_stops p depth chunks input s l of short packed file (Ok ran) ends = tt {0}
 survey_stops p depth chunks input s l of short packed file (Err why) ends = stop_meant p depth chunks input packed.0 l of (input_of p input s short file packed.0 packed.1) why (ends packed.0 packed.1)
+
+-- Any value that is the input is the survey's.
+pub survey_only : (p : ProgramTree) (depth chunks : ℕ) (input : List ℕ) (s : Surveyed) (l : LoweredParts) → IsOfProgram p l → length input ≤ 16777216 → IsPacked s.table s.ty s.bytes s.count
+    → ((v : Datum) → Packed s.table s.ty v s.bytes → File (table_of_program p) (input_type p) v input)
+    → ((table : Table) (ty : Ty) (v w : Datum) (bytes : List ℕ) → File table ty v bytes → File table ty w bytes → v ≡ w) → (r : Result Ran RunStop) → IfOk r (λ ran. ran.lowered ≡ l)
+    → IfOk r (λ ran. (v : Datum) → Packed s.table s.ty v s.bytes → IsRootOf l.code.laid (store_of ran.memory) (core_of l.core).main.result (core_run (core_of l.core) depth v) ran.root)
+    → IfErr r (λ why. (v : Datum) → Packed s.table s.ty v s.bytes → Halts (core_run (core_of l.core) depth v) chunks (run_cost (core_of l.core) depth 0 v) why)
+    → (v : Datum) → IsInput p v input
+    → MatchResult r (λ ran. IsRootOf ran.lowered.code.laid (store_of ran.memory) (output_type p) (run p depth v) ran.root) (Halts (run p depth v) chunks (program_cost p depth v))
+survey_only p depth chunks input s l of short packed file one (Ok ran) same root halts v is =
+    let meant = survey_stands p depth input s l of short packed file (Ok ran) same root in
+    record {
+      result = meant.result;
+      means = ap (run p depth) (one (table_of_program p) (input_type p) v meant.value input is.file meant.is_input.file) ∙ meant.means;
+      stands = meant.stands;
+    }
+survey_only p depth chunks input s l of short packed file one (Err why) same root halts v is =
+    let w = packed.0 in
+    let e : w ≡ v = one (table_of_program p) (input_type p) w v input (file w packed.1) is.file in
+    let owed : core_run (core_of l.core) depth w ≡ run p depth v = of.means depth w ∙ ap (run p depth) e in
+    let most : run_cost (core_of l.core) depth 0 w ≡ program_cost p depth v = ap (λ (c : CoreTree). run_cost c depth 0 w) of.core ∙ ap (program_cost p depth) e in
+    subst₂ (λ (o : Outcome) (k : Cost). Halts o chunks k why) owed most (halts w packed.1)

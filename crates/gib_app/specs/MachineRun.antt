@@ -14,7 +14,6 @@ use Rattle.gib_core.specs.LoweredParts.{LoweredParts}
 use Rattle.gib_core.specs.Meaning.{core_run}
 use Rattle.gib_core.specs.Parts.{core_of}
 use Rattle.gib_core.specs.Tight.{Tight}
-use Rattle.gib_core.specs.Tree.{CoreTree}
 use Rattle.gib_app.specs.declared.machine_run.RunStop.{RunStop}
 use Rattle.gib_app.specs.declared.machine_run.RunStop.TheVariants as stop
 use Rattle.gib_app.specs.Cores.{core_after}
@@ -53,15 +52,16 @@ pub record IsRootOf (laid : LaidOut) (s : Store) (ty : Ty) (owed : Outcome) (pla
   pub means : owed ≡ Gives result
   pub stands : Stands laid s place ty result
 
--- Why a run of a core on a value leaves no root.
-abbrev pub Halts : CoreTree → (depth chunks : ℕ) → Datum → RunStop → Type 0
-Halts core depth chunks v stop.Memory = Unit {0}
-Halts core depth chunks v (stop.Refused fault) = ⊥
-Halts core depth chunks v stop.Deep = core_run core depth v ≡ Stops Deep
-Halts core depth chunks v stop.Full = Tight chunks (run_cost core depth 0 v)
+-- Why a run leaves no root, where this outcome was owed, and the run costs so much at most.
+abbrev pub Halts : Outcome → (chunks : ℕ) → Cost → RunStop → Type 0
+Halts owed chunks most stop.Memory = Unit {0}
+Halts owed chunks most (stop.Refused fault) = ⊥
+Halts owed chunks most stop.Deep = owed ≡ Stops Deep
+Halts owed chunks most stop.Full = Tight chunks most
 
 -- How a run of code on a value ends, where there are so many chunks: with a root in region memory for what its core means, or
 -- with why there is none.
 abbrev pub EndsWith : LoweredParts → (depth chunks : ℕ) → Datum → Store → Result Root RunStop → Type 0
 EndsWith l depth chunks v s end =
-    MatchResult end (IsRootOf l.code.laid s (core_of l.core).main.result (core_run (core_of l.core) depth v)) (Halts (core_of l.core) depth chunks v)
+    MatchResult end (IsRootOf l.code.laid s (core_of l.core).main.result (core_run (core_of l.core) depth v))
+    (Halts (core_run (core_of l.core) depth v) chunks (run_cost (core_of l.core) depth 0 v))

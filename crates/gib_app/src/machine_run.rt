@@ -8,9 +8,11 @@ ghost use Rattle.gib_types.specs.Tree.{Datum};
 ghost use Rattle.gib_mem.specs.Memory.{Memory, Store};
 ghost use Rattle.gib_value.specs.Text.{AreHeld};
 ghost use Rattle.gib_file.specs.Packed.{Packed};
-ghost use Rattle.gib_syntax.specs.Meaning.{Outcome, Stops, Deep};
+ghost use Rattle.gib_syntax.specs.Declarations.{output_type};
+ghost use Rattle.gib_syntax.specs.Meaning.{Outcome, Stops, Deep, run};
 ghost use Rattle.gib_syntax.specs.Parts.{program_of};
 ghost use Rattle.gib_syntax.specs.Tree.{ProgramTree};
+ghost use Rattle.gib_core.specs.Cost.{run_cost};
 ghost use Rattle.gib_core.specs.Low.{laid_of};
 ghost use Rattle.gib_core.specs.LoweredParts.{LoweredParts};
 ghost use Rattle.gib_core.specs.Meaning.{core_run};
@@ -18,8 +20,8 @@ ghost use Rattle.gib_core.specs.Parts.{core_of};
 ghost use Rattle.gib_weave.specs.Running.{RunEnds};
 ghost use Rattle.gib_weave.specs.Sound.{IsAnswer};
 ghost use Rattle.gib_app.specs.Cores.{core_after};
-ghost use Rattle.gib_app.specs.Running.{text_line};
-ghost use Rattle.gib_app.specs.MachineRun.{StandsMeant, IsMachineStop, IsRootOf, Halts, EndsWith};
+ghost use Rattle.gib_app.specs.Running.{IsInput, text_line};
+ghost use Rattle.gib_app.specs.MachineRun.{StandsMeant, IsMachineStop, IsRootOf, Halts, EndsWith, program_cost};
 
 use crate::input_fault::InputFault;
 use crate::lowering::lowered;
@@ -31,7 +33,7 @@ use gib_check::Typed;
 use gib_code::Answer;
 use gib_core::Lowered;
 use gib_edge::outside::Sink;
-use gib_file::{Survey, refused_file, refused_header};
+use gib_file::{Survey, one_file, refused_file, refused_header};
 use gib_load::{LoadFault, load};
 use gib_mem::{Mem, PlainMem};
 use gib_packed::Root;
@@ -124,7 +126,7 @@ fn run_survey(
     ensures same { IfOk result (λ ran. ran.lowered ≡ lowered) }
     ensures root { IfOk result (λ ran. (v : Datum) → Packed survey.entry.table survey.entry.ty v survey.entry.bytes
         → IsRootOf lowered.code.laid (⟦<PlainMem as Mem>⟧.view ran.memory).cells (core_of lowered.core).main.result (core_run (core_of lowered.core) depth v) ran.root) }
-    ensures halts { IfErr result (λ why. (v : Datum) → Packed survey.entry.table survey.entry.ty v survey.entry.bytes → Halts (core_of lowered.core) depth chunks v why) }
+    ensures halts { IfErr result (λ why. (v : Datum) → Packed survey.entry.table survey.entry.ty v survey.entry.bytes → Halts (core_run (core_of lowered.core) depth v) chunks (run_cost (core_of lowered.core) depth 0 v) why) }
 {
     let mut memory = match PlainMem::make(alloc, chunks) {
         Ok(memory) => memory,
@@ -159,7 +161,12 @@ pub fn run_packed(
     // The heads lie as those of the program's core.
     ensures laid { IfOk result (λ ran. ran.lowered.code.laid ≡ laid_of (core_after 3 (program_of typed.now))) }
     ensures stop { IfErr result (IsMachineStop (program_of typed.now) depth chunks file.now) }
+    // The other way round: of which value the file is, and what the program means on it, tells how the run ends.
+    ensures only { (v : Datum) → IsInput (program_of typed.now) v file.now
+        → MatchResult result (λ ran. IsRootOf ran.lowered.code.laid (⟦<PlainMem as Mem>⟧.view ran.memory).cells (output_type (program_of typed.now)) (run (program_of typed.now) depth v) ran.root)
+        (Halts (run (program_of typed.now) depth v) chunks (program_cost (program_of typed.now) depth v)) }
 {
+    one_file();
     refused_header();
     refused_file();
     let survey = match survey_input(alloc, typed, file) {
