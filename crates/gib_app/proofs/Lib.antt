@@ -15,3 +15,5 @@ mod Asking
 mod Entering
 mod Calling
 mod Headlines
+mod Roots
+mod Refusals

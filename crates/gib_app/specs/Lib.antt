@@ -17,3 +17,4 @@ pub mod PassFaults
 pub mod Stopping
 pub mod Performing
 pub mod Headline
+pub mod MachineRun
