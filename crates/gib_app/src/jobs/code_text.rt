@@ -1,0 +1,55 @@
+//! `code`: prints the code of a program.
+
+ghost use Rattle.std.specs.Prelude.{◌≡◌, IfOk, IfErr};
+ghost use Rattle.gib_syntax.specs.Parts.{program_of};
+ghost use Rattle.gib_core.specs.Parts.{core_of};
+ghost use Rattle.gib_code.specs.ListingText.{listing_text};
+ghost use Rattle.gib_lower.specs.Lowering.{lower_program};
+ghost use Rattle.gib_app.specs.Cores.{core_after};
+ghost use Rattle.gib_app.specs.Jobs.{OnlyPrints};
+ghost use Rattle.gib_app.specs.Kept.{end_of, file_of};
+
+use crate::compile::Compiled;
+use crate::made::{JobFault, Made};
+use crate::printing::only_prints;
+use gib_access::reach;
+use gib_base::Memory;
+use gib_check::Typed;
+use gib_code::listing;
+use gib_core::{AccessMode, Checked, Lowered};
+use gib_infer::infer;
+use gib_lower::lower;
+use std::alloc::Global;
+
+/// The code of a program.
+fn lowered(alloc: Global, typed: &Typed) -> Result<Lowered, Memory>
+    ensures core { IfOk result (λ lowered. core_of lowered.core ≡ core_after 4 (program_of typed.now)) }
+    ensures code { IfOk result (λ lowered. lowered.code ≡ lower_program (core_after 4 (program_of typed.now))) }
+{
+    let core = infer(alloc, typed)?;
+    let reached = reach(alloc, core, AccessMode::Skips)?;
+    lower(alloc, Checked::make(reached))
+}
+
+/// The listing of the code of a program.
+fn print_code(alloc: Global, compiled: &Compiled) -> Result<Vec<u8>, Memory>
+    ensures { IfOk result (λ text. text.items ≡ listing_text compiled.now.names (lower_program (core_after 4 (program_of compiled.now.typed)))) }
+{
+    let lowered = lowered(alloc, &compiled.typed)?;
+    listing(alloc, lowered.code(), &compiled.names)
+}
+
+/// What is printed of the code of a program.
+///
+/// # Errors
+///
+/// Want of memory alone.
+pub fn code_text(alloc: Global, compiled: &Compiled) -> Result<Made, JobFault>
+    ensures made { IfOk result (λ made. OnlyPrints (λ text. text ≡ listing_text compiled.now.names (lower_program (core_after 4 (program_of compiled.now.typed)))) (file_of made) (end_of made.end)) }
+    ensures memory { IfErr result (λ e. e ≡ JobFault.Memory) }
+{
+    match print_code(alloc, compiled) {
+        Ok(text) => Ok(only_prints(text)),
+        Err(_) => Err(JobFault::Memory),
+    }
+}
