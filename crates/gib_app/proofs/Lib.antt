@@ -16,3 +16,5 @@ mod Asking
 mod Entering
 mod Calling
 mod Headlines
+mod Roots
+mod Refusals

@@ -19,3 +19,4 @@ pub mod PassFaults
 pub mod Stopping
 pub mod Performing
 pub mod Headline
+pub mod MachineRun

@@ -16,7 +16,7 @@ use gib_value::Value;
 use std::alloc::Global;
 
 /// The fault of a header.
-fn of_header(fault: HeadFault) -> InputFault
+pub fn of_header(fault: HeadFault) -> InputFault
     ensures { result ≡ header_fault fault }
 {
     match fault {
@@ -28,7 +28,7 @@ fn of_header(fault: HeadFault) -> InputFault
 }
 
 /// The fault of a payload.
-fn of_payload(fault: PackFault) -> JobFault
+pub fn of_payload(fault: PackFault) -> JobFault
     ensures { result ≡ payload_fault fault }
 {
     match fault {

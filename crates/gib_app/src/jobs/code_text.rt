@@ -2,7 +2,6 @@
 
 ghost use Rattle.std.specs.Prelude.{◌≡◌, IfOk, IfErr};
 ghost use Rattle.gib_syntax.specs.Parts.{program_of};
-ghost use Rattle.gib_core.specs.Parts.{core_of};
 ghost use Rattle.gib_code.specs.ListingText.{listing_text};
 ghost use Rattle.gib_lower.specs.Lowering.{lower_program};
 ghost use Rattle.gib_app.specs.Cores.{core_after};
@@ -10,26 +9,12 @@ ghost use Rattle.gib_app.specs.Jobs.{OnlyPrints};
 ghost use Rattle.gib_app.specs.Kept.{end_of, file_of};
 
 use crate::compile::Compiled;
+use crate::lowering::lowered;
 use crate::made::{JobFault, Made};
 use crate::printing::only_prints;
-use gib_access::reach;
 use gib_base::Memory;
-use gib_check::Typed;
 use gib_code::listing;
-use gib_core::{AccessMode, Checked, Lowered};
-use gib_infer::infer;
-use gib_lower::lower;
 use std::alloc::Global;
-
-/// The code of a program.
-fn lowered(alloc: Global, typed: &Typed) -> Result<Lowered, Memory>
-    ensures core { IfOk result (λ lowered. core_of lowered.core ≡ core_after 4 (program_of typed.now)) }
-    ensures code { IfOk result (λ lowered. lowered.code ≡ lower_program (core_after 4 (program_of typed.now))) }
-{
-    let core = infer(alloc, typed)?;
-    let reached = reach(alloc, core, AccessMode::Skips)?;
-    lower(alloc, Checked::make(reached))
-}
 
 /// The listing of the code of a program.
 fn print_code(alloc: Global, compiled: &Compiled) -> Result<Vec<u8>, Memory>
