@@ -5,6 +5,7 @@ pub mod Running
 pub mod Packing
 pub mod Cores
 pub mod Jobs
+pub mod MachineRun
 pub mod Kept
 pub mod SourceFaults
 pub mod InputFaults
@@ -19,4 +20,3 @@ pub mod PassFaults
 pub mod Stopping
 pub mod Performing
 pub mod Headline
-pub mod MachineRun

@@ -3,6 +3,8 @@ use Rattle.std.specs.Prelude.{◌≡◌, ℕ, List, Result, Ok, Err}
 use Rattle.gib_types.specs.Layout.{LaidOut}
 use Rattle.gib_types.specs.Tree.{Datum}
 use Rattle.gib_mem.specs.Memory.{Store}
+use Rattle.gib_mem.specs.Plain.{plain_cells}
+use Rattle.gib_mem.specs.declared.plain.PlainMem.{PlainMem}
 use Rattle.gib_packed.specs.Stands.{Stands}
 use Rattle.gib_packed.specs.declared.root.Root.{Root}
 use Rattle.gib_packed.specs.declared.root.Root.TheVariants as root
@@ -21,6 +23,10 @@ use Rattle.gib_app.specs.declared.machine_run.RunStop.{RunStop}
 use Rattle.gib_app.specs.declared.machine_run.RunStop.TheVariants as stop
 use Rattle.gib_app.specs.InputFaults.{IsInputFault}
 use Rattle.gib_app.specs.Running.{IsInput, RunsOut, FillsUp}
+
+-- The bytes of a memory.
+abbrev pub cells_of : PlainMem → Store
+cells_of m = plain_cells m.bytes.items m.drawn
 
 -- The program means a value on the input within the depth, and in region memory that value stands for the root.
 pub record StandsMeant (p : ProgramTree) (depth : ℕ) (input : List ℕ) (laid : LaidOut) (s : Store) (place : Root) : Type 0 where

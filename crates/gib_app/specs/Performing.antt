@@ -7,7 +7,9 @@ use Rattle.gib_app.specs.declared.stop.Stop.{Stop}
 use Rattle.gib_app.specs.declared.stop.Stop.TheVariants.{Usage, Source, Unread, Input, NoValue, Memory, Unwritten, Unput}
 use Rattle.gib_app.specs.Plan.{Plan, Files}
 use Rattle.gib_app.specs.Words.{asked}
-use Rattle.gib_app.specs.Jobs.{End, Does}
+use Rattle.gib_app.specs.declared.made.End.{End as KeptEnd}
+use Rattle.gib_app.specs.Jobs.{Does}
+use Rattle.gib_app.specs.Kept.{EndsBy}
 use Rattle.gib_app.specs.Causes.{IsWritten, IsPrintedInPart}
 use Rattle.gib_app.specs.Stops.{StopsBy, IsStop, OnBoth}
 use Rattle.gib_app.specs.Stopping.{status_for}
@@ -19,11 +21,11 @@ IsWriteStop before now plan file =
     (λ name. (plan.target ≡ Some name) × (file ≡ None → ⊥) × IsUntold (now.kept name) × Rose (before.writes name) (now.writes name))
 
 -- The job was done, made this file or none, and ends so.
-abbrev pub IsDone : Files → Plan → Option (List ℕ) → End → Type 0
-IsDone before plan file end = OnBoth before plan (λ p names second. Does plan.job plan.options p names second file end)
+abbrev pub IsDone : Files → Plan → Option (List ℕ) → KeptEnd → Type 0
+IsDone before plan file end = OnBoth before plan (λ p names second. EndsBy file end (Does plan.job plan.options p names second))
 
 -- The same, and the file is written.
-pub record IsPerformed (tells : Bool) (before now : Files) (plan : Plan) (end : End) : Type 0 where
+pub record IsPerformed (tells : Bool) (before now : Files) (plan : Plan) (end : KeptEnd) : Type 0 where
   pub file : Option (List ℕ)
   pub is_done : IsDone before plan file end
   pub written : IsWritten tells now plan.target file

@@ -1,6 +1,8 @@
 //! What a job makes.
 
 use crate::input_fault::InputFault;
+use crate::machine_run::Ran;
+use gib_base::Names;
 
 /// Why a job ends without a value.
 #[derive(Clone, Copy, Debug, PartialEq, Eq)]
@@ -11,11 +13,20 @@ pub enum Reason {
     Full,
 }
 
+/// A value in region memory, with the names of its program.
+#[derive(Drop)]
+pub struct Valued {
+    pub ran: Ran,
+    pub names: Names,
+}
+
 /// How a job ends.
 #[derive(Drop)]
 pub enum End {
     /// With these bytes, which are printed.
     Prints(Vec<u8>),
+    /// With a value in region memory, whose text is printed.
+    Value(Valued),
     NoValue(Reason),
 }
 

@@ -8,7 +8,7 @@ ghost use Rattle.gib_edge.specs.Causes.{Appends, AppendsPart};
 ghost use Rattle.gib_app.specs.Calls.{read_calls, second_calls, reads_of};
 ghost use Rattle.gib_app.specs.Ending.{ReadsStay};
 ghost use Rattle.gib_app.specs.Stopping.{status_for};
-ghost use Rattle.gib_app.specs.Kept.{document_of, plan_of, end_of, file_of};
+ghost use Rattle.gib_app.specs.Kept.{document_of, plan_of, file_of};
 ghost use Rattle.gib_app.specs.Stops.{IsCompiled, IsReady, IsSourceStop, IsSecondStop, IsStop};
 ghost use Rattle.gib_app.specs.Performing.{IsDone};
 
@@ -100,7 +100,7 @@ fn read_second<'a, S: Shelf>(
 /// The first cause in this order: the source is not read, or is no program; the second file is not read, or is
 /// refused.
 pub fn make<'a, S: Shelf>(alloc: Global, shelf: &mut S, plan: Plan<'a>) -> Result<Made, Stop<'a>>
-    ensures made { IfOk result (λ made. IsDone (S.view shelf.old).kept (plan_of plan.entry) (file_of made) (end_of made.end)) }
+    ensures made { IfOk result (λ made. IsDone (S.view shelf.old).kept (plan_of plan.entry) (file_of made) made.end) }
     ensures stop { IfErr result (IsStop (S.view shelf.old) (S.view shelf.new) (plan_of plan.entry)) }
     ensures same { (name : List ℕ) → (S.view shelf.new).kept name ≡ (S.view shelf.old).kept name }
     ensures later { (name : List ℕ) → (S.view shelf.old).reads name ≤ (S.view shelf.new).reads name }
@@ -118,7 +118,7 @@ pub fn make<'a, S: Shelf>(alloc: Global, shelf: &mut S, plan: Plan<'a>) -> Resul
         Ok(second) => second,
         Err(stop) => return Err(stop),
     };
-    match do_job(alloc, &compiled, plan.job, plan.options, &second) {
+    match do_job(alloc, compiled, plan.job, plan.options, &second) {
         Ok(made) => Ok(made),
         Err(JobFault::Refused(fault)) => Err(Stop::Input(fault)),
         Err(JobFault::Memory) => Err(Stop::Memory),

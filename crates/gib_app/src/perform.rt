@@ -2,13 +2,13 @@
 
 ghost use Rattle.std.specs.Prelude.{◌≡◌, ◌≤◌, ℕ, List, None, IfOk, IfErr, OnOk, OnErr};
 ghost use Rattle.gib_app.specs.Causes.{IsWritten};
-ghost use Rattle.gib_app.specs.Jobs.{NoValue};
 ghost use Rattle.gib_app.specs.Ending.{ReadsStay, WritesStay};
 ghost use Rattle.gib_app.specs.Performing.{IsPerformed, IsWriteStop, OthersStay, StopFiles};
 ghost use Rattle.gib_edge.specs.Causes.{AppendsPart};
 ghost use Rattle.gib_app.specs.Calls.{write_calls, calls_of};
-ghost use Rattle.gib_app.specs.Kept.{plan_of, end_of, file_of};
+ghost use Rattle.gib_app.specs.Kept.{plan_of, file_of};
 ghost use Rattle.gib_app.specs.declared.made.Reason.{Reason as Reasons};
+ghost use Rattle.gib_app.specs.declared.made.Valued.{Valued as Values};
 ghost use Rattle.gib_app.specs.Stopping.{status_for};
 ghost use Rattle.gib_app.specs.Stops.{IsStop};
 
@@ -57,8 +57,9 @@ fn write_file<'a, S: Shelf>(
 /// The first cause in this order: the source is not read, or is no program; the second file is not read, or is
 /// refused; a file is not written.
 pub fn perform<'a, S: Shelf>(alloc: Global, shelf: &mut S, plan: Plan<'a>) -> Result<End, Stop<'a>>
-    ensures done { IfOk result (λ end. IsPerformed S.tells (S.view shelf.old).kept (S.view shelf.new).kept (plan_of plan.entry) (end_of end)) }
-    ensures none { IfOk result (λ end. (reason : Reasons) → end_of end ≡ NoValue reason → (name : List ℕ) → (S.view shelf.new).kept name ≡ (S.view shelf.old).kept name) }
+    ensures done { IfOk result (λ end. IsPerformed S.tells (S.view shelf.old).kept (S.view shelf.new).kept (plan_of plan.entry) end) }
+    ensures none { IfOk result (λ end. (reason : Reasons) → end ≡ End.NoValue reason → (name : List ℕ) → (S.view shelf.new).kept name ≡ (S.view shelf.old).kept name) }
+    ensures value { IfOk result (λ end. (value : Values) → end ≡ End.Value value → (name : List ℕ) → (S.view shelf.new).kept name ≡ (S.view shelf.old).kept name) }
     ensures stop { IfErr result (IsStop (S.view shelf.old) (S.view shelf.new) (plan_of plan.entry)) }
     ensures others { OthersStay (plan_of plan.entry) (S.view shelf.old).kept (S.view shelf.new).kept }
     ensures same { IfErr result (StopFiles (S.view shelf.old).kept (S.view shelf.new).kept) }

@@ -14,6 +14,7 @@ ghost use Rattle.gib_app.specs.Stopping.{status_for};
 use crate::lines::put_line;
 use crate::made::{End, Reason};
 use crate::perform::perform;
+use crate::printing::put_value;
 use crate::status::Status;
 use crate::stop::Stop;
 use crate::words::read_words;
@@ -21,6 +22,7 @@ use gib_edge::outside::{Gate, Shelf, Sink, put_all};
 use gib_file::one_file;
 use gib_lex::laws::one_reading;
 use gib_parse::law::one_program;
+use gib_print::PrintFault;
 use std::alloc::Global;
 use std::sync::Wait;
 use std::thread::Threads;
@@ -70,14 +72,18 @@ fn call<'a, S: Shelf, O: Sink>(
     let Some(plan) = plan else {
         return Err(Stop::Usage);
     };
-    let text = match perform(alloc, shelf, plan) {
-        Ok(End::Prints(text)) => text,
-        Ok(End::NoValue(reason)) => return Err(Stop::NoValue(reason)),
-        Err(stop) => return Err(stop),
-    };
-    match put_all(out, &text) {
-        Ok(()) => Ok(()),
-        Err(_) => Err(Stop::Unput),
+    match perform(alloc, shelf, plan) {
+        Ok(End::Prints(text)) => match put_all(out, &text) {
+            Ok(()) => Ok(()),
+            Err(_) => Err(Stop::Unput),
+        },
+        Ok(End::Value(value)) => match put_value(alloc, value, out) {
+            Ok(()) => Ok(()),
+            Err(PrintFault::Write) => Err(Stop::Unput),
+            Err(PrintFault::Memory) => Err(Stop::Memory),
+        },
+        Ok(End::NoValue(reason)) => Err(Stop::NoValue(reason)),
+        Err(stop) => Err(stop),
     }
 }
 

@@ -2,7 +2,7 @@
 
 ghost use Rattle.std.specs.Prelude.{◌≡◌, IfOk, IfErr};
 ghost use Rattle.gib_app.specs.Jobs.{OnlyPrints, ok_line};
-ghost use Rattle.gib_app.specs.Kept.{end_of, file_of};
+ghost use Rattle.gib_app.specs.Kept.{EndsBy, file_of};
 
 use crate::made::{JobFault, Made};
 use crate::printing::{ok_answer, only_prints};
@@ -14,7 +14,7 @@ use std::alloc::Global;
 ///
 /// Want of memory alone.
 pub fn check(alloc: Global) -> Result<Made, JobFault>
-    ensures made { IfOk result (λ made. OnlyPrints (λ text. text ≡ ok_line) (file_of made) (end_of made.end)) }
+    ensures made { IfOk result (λ made. EndsBy (file_of made) made.end (OnlyPrints (λ text. text ≡ ok_line))) }
     ensures memory { IfErr result (λ e. e ≡ JobFault.Memory) }
 {
     match ok_answer(alloc) {

@@ -6,7 +6,7 @@ ghost use Rattle.gib_code.specs.ListingText.{listing_text};
 ghost use Rattle.gib_lower.specs.Lowering.{lower_program};
 ghost use Rattle.gib_app.specs.Cores.{core_after};
 ghost use Rattle.gib_app.specs.Jobs.{OnlyPrints};
-ghost use Rattle.gib_app.specs.Kept.{end_of, file_of};
+ghost use Rattle.gib_app.specs.Kept.{EndsBy, file_of};
 
 use crate::compile::Compiled;
 use crate::lowering::lowered;
@@ -30,7 +30,7 @@ fn print_code(alloc: Global, compiled: &Compiled) -> Result<Vec<u8>, Memory>
 ///
 /// Want of memory alone.
 pub fn code_text(alloc: Global, compiled: &Compiled) -> Result<Made, JobFault>
-    ensures made { IfOk result (λ made. OnlyPrints (λ text. text ≡ listing_text compiled.now.names (lower_program (core_after 4 (program_of compiled.now.typed)))) (file_of made) (end_of made.end)) }
+    ensures made { IfOk result (λ made. EndsBy (file_of made) made.end (OnlyPrints (λ text. text ≡ listing_text compiled.now.names (lower_program (core_after 4 (program_of compiled.now.typed)))))) }
     ensures memory { IfErr result (λ e. e ≡ JobFault.Memory) }
 {
     match print_code(alloc, compiled) {

@@ -6,7 +6,7 @@ ghost use Rattle.gib_core.specs.Parts.{core_of};
 ghost use Rattle.gib_core.specs.CoreText.{core_text as text_of_core};
 ghost use Rattle.gib_app.specs.Cores.{core_after};
 ghost use Rattle.gib_app.specs.Jobs.{OnlyPrints};
-ghost use Rattle.gib_app.specs.Kept.{end_of, file_of};
+ghost use Rattle.gib_app.specs.Kept.{EndsBy, file_of};
 
 use crate::compile::Compiled;
 use crate::made::{JobFault, Made};
@@ -46,7 +46,7 @@ fn print_after(alloc: Global, compiled: &Compiled, pass: u32) -> Result<Vec<u8>,
 ///
 /// Want of memory alone.
 pub fn core_text(alloc: Global, compiled: &Compiled, pass: u32) -> Result<Made, JobFault>
-    ensures made { IfOk result (λ made. OnlyPrints (λ text. text ≡ text_of_core compiled.now.names (core_after pass (program_of compiled.now.typed))) (file_of made) (end_of made.end)) }
+    ensures made { IfOk result (λ made. EndsBy (file_of made) made.end (OnlyPrints (λ text. text ≡ text_of_core compiled.now.names (core_after pass (program_of compiled.now.typed))))) }
     ensures memory { IfErr result (λ e. e ≡ JobFault.Memory) }
 {
     match print_after(alloc, compiled, pass) {

@@ -3,7 +3,7 @@
 ghost use Rattle.std.specs.Prelude.{◌≡◌, ◌≤◌, length, IfOk, IfErr};
 ghost use Rattle.gib_syntax.specs.Parts.{program_of};
 ghost use Rattle.gib_app.specs.Jobs.{Packs};
-ghost use Rattle.gib_app.specs.Kept.{end_of, file_of};
+ghost use Rattle.gib_app.specs.Kept.{EndsBy, file_of};
 ghost use Rattle.gib_app.specs.Packing.{IsPackedText, without_feed as feed_cut};
 ghost use Rattle.gib_app.specs.Stops.{IsReady, IsPackFault};
 
@@ -66,7 +66,7 @@ fn pack_text(alloc: Global, compiled: &Compiled, text: &[u8]) -> Result<Vec<u8>,
 pub fn pack(alloc: Global, compiled: &Compiled, text: &[u8]) -> Result<Made, JobFault>
     requires ready { IsReady (program_of compiled.now.typed) compiled.now.names }
     requires short { length text.now ≤ FILE_BYTES }
-    ensures made { IfOk result (λ made. Packs (program_of compiled.now.typed) compiled.now.names text.now (file_of made) (end_of made.end)) }
+    ensures made { IfOk result (λ made. EndsBy (file_of made) made.end (Packs (program_of compiled.now.typed) compiled.now.names text.now)) }
     ensures fault { IfErr result (IsPackFault (program_of compiled.now.typed) compiled.now.names text.now) }
 {
     let file = match pack_text(alloc, compiled, text) {

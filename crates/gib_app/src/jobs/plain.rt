@@ -7,7 +7,7 @@ ghost use Rattle.gib_syntax.specs.Declarations.{table_of_program, input_type};
 ghost use Rattle.gib_syntax.specs.Meaning.{run, Gives, Stops, Deep};
 ghost use Rattle.gib_app.specs.Running.{text_line};
 ghost use Rattle.gib_app.specs.Jobs.{Means};
-ghost use Rattle.gib_app.specs.Kept.{end_of, file_of};
+ghost use Rattle.gib_app.specs.Kept.{EndsBy, file_of};
 ghost use Rattle.gib_app.specs.Stops.{IsReady, IsRunFault};
 
 use crate::compile::Compiled;
@@ -62,7 +62,7 @@ fn evaluate(
 pub fn plain(alloc: Global, compiled: &Compiled, depth: u32, input: &[u8]) -> Result<Made, JobFault>
     requires ready { IsReady (program_of compiled.now.typed) compiled.now.names }
     requires short { length input.now ≤ FILE_BYTES }
-    ensures made { IfOk result (λ made. Means (program_of compiled.now.typed) compiled.now.names depth input.now (file_of made) (end_of made.end)) }
+    ensures made { IfOk result (λ made. EndsBy (file_of made) made.end (Means (program_of compiled.now.typed) compiled.now.names depth input.now)) }
     ensures fault { IfErr result (IsRunFault (program_of compiled.now.typed) input.now) }
 {
     let value = match read_packed(alloc, &compiled.typed, input) {

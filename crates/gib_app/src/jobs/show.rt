@@ -3,7 +3,7 @@
 ghost use Rattle.std.specs.Prelude.{◌≡◌, ◌≤◌, length, IfOk, IfErr};
 ghost use Rattle.gib_syntax.specs.Parts.{program_of};
 ghost use Rattle.gib_app.specs.Jobs.{OnlyPrints};
-ghost use Rattle.gib_app.specs.Kept.{end_of, file_of};
+ghost use Rattle.gib_app.specs.Kept.{EndsBy, file_of};
 ghost use Rattle.gib_app.specs.Running.{IsShown};
 ghost use Rattle.gib_app.specs.Stops.{IsReady, IsShownFault};
 
@@ -51,7 +51,7 @@ fn show_file(alloc: Global, compiled: &Compiled, file: &[u8]) -> Result<Vec<u8>,
 pub fn show(alloc: Global, compiled: &Compiled, file: &[u8]) -> Result<Made, JobFault>
     requires ready { IsReady (program_of compiled.now.typed) compiled.now.names }
     requires short { length file.now ≤ 268435480 }
-    ensures made { IfOk result (λ made. OnlyPrints (IsShown (program_of compiled.now.typed) compiled.now.names file.now) (file_of made) (end_of made.end)) }
+    ensures made { IfOk result (λ made. EndsBy (file_of made) made.end (OnlyPrints (IsShown (program_of compiled.now.typed) compiled.now.names file.now))) }
     ensures fault { IfErr result (IsShownFault (program_of compiled.now.typed) file.now) }
 {
     match show_file(alloc, compiled, file) {

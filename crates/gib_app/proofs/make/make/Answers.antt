@@ -7,7 +7,7 @@ use Rattle.gib_app.specs.Stops.{FailsTo}
 use Rattle.gib_app.specs.Formats.{second_of, most_of, Accepts, Refuses}
 use Rattle.gib_app.specs.Jobs.{Does}
 use Rattle.gib_app.specs.Calls.{second_calls, reads_of}
-use Rattle.gib_app.specs.Kept.{document_of, plan_of, end_of, file_of}
+use Rattle.gib_app.specs.Kept.{document_of, plan_of, EndsBy, file_of}
 use Rattle.gib_app.proofs.Told.{held_before}
 use Rattle.gib_app.proofs.Calling.{added_whole, calls_first, calls_then, calls_both}
 use Rattle.gib_app.proofs.Making.{on_both, second_stop}
@@ -28,8 +28,8 @@ returns-in-Ok-do_job-clause-made g c =
     let r = plan_of c.args.plan in
     let p = program_of c.in-Ok.compiled.typed in
     let made : Made = c.in-Ok-do_job.made in
-    let P : List ℕ → Type 0 = λ bytes. Does r.job r.options p c.in-Ok.compiled.names bytes (file_of made) (end_of made.end) in
-    on_both kept r (document_of c.args.plan.source) p c.in-Ok.compiled.names c.in-Ok-read_second.second.items (λ q ns bytes. Does r.job r.options q ns bytes _ _) refl
+    let P : List ℕ → Type 0 = λ bytes. EndsBy (file_of made) made.end (Does r.job r.options p c.in-Ok.compiled.names bytes) in
+    on_both kept r (document_of c.args.plan.source) p c.in-Ok.compiled.names c.in-Ok-read_second.second.items (λ q ns bytes. EndsBy _ _ (Does r.job r.options q ns bytes)) refl
     c.in-Ok.ensures.compiled (held_before kept (g.S.Shelf.view c.load_program.new.shelf).kept _ c.in-Ok-read_second.second.items c.in-Ok.ensures.same c.in-Ok-read_second.ensures.bytes)
     (subst P c.deref.ensures.value c.in-Ok-do_job.ensures.made)
 

@@ -1,4 +1,4 @@
-use Rattle.gib_app.specs.Kept.{plan_of, end_of, file_of}
+use Rattle.gib_app.specs.Kept.{plan_of, file_of}
 use Rattle.gib_app.specs.Calls.{reads_of, write_calls}
 use Rattle.gib_app.proofs.Calling.{added_front, added_part}
 use Rattle.gib_app.proofs.Performing.{write_stop}
@@ -10,7 +10,7 @@ returns-clause-stop g c =
     (g.S.Shelf.view c.args.shelf.now)
     (g.S.Shelf.view c.make.new.shelf)
     (g.S.Shelf.view c.write_file.new.shelf)
-    (plan_of c.args.plan) (file_of c.in-Ok.made) (end_of c.in-Ok.made.end) c.in-Ok.ensures.writes c.in-Ok.ensures.made c.in-Err-write_file.stop c.in-Err-write_file.ensures.stop
+    (plan_of c.args.plan) (file_of c.in-Ok.made) c.in-Ok.made.end c.in-Ok.ensures.writes c.in-Ok.ensures.made c.in-Err-write_file.stop c.in-Err-write_file.ensures.stop
 
 pub returns-in-Err-clause-once : goal.returns-in-Err-clause-once
 returns-in-Err-clause-once g c =
