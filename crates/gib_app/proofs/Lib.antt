@@ -1,6 +1,7 @@
 mod Held
 mod Inputs
 mod Told
+mod Doing
 mod Making
 mod Decimals
 mod Performing

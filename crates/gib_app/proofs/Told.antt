@@ -2,7 +2,7 @@
 use Rattle.std.proofs.Common.{◌≡◌, ◌∙◌, refl, ℕ, List, ◌++◌, Option, Some, None, IfSome, Result, Ok, Err, OnOk, OnErr, subst, ap, append_assoc}
 use Rattle.gib_edge.specs.Causes.{IsAllOf, Appends}
 use Rattle.gib_edge.specs.Views.{Held}
-use Rattle.gib_app.specs.Words.{Document, Brought, Named, Files, bytes_in}
+use Rattle.gib_app.specs.Plan.{Document, Brought, Named, Files, bytes_in}
 use Rattle.gib_app.specs.Causes.{HoldsSecond}
 
 -- shelves that keep the same tell the same of each document

@@ -4,6 +4,8 @@ use Rattle.gib_types.specs.declared.table.Ty.{Ty}
 use Rattle.gib_types.specs.Layout.{LaidOut}
 use Rattle.gib_types.specs.Tree.{Datum}
 use Rattle.gib_mem.specs.Memory.{Store}
+use Rattle.gib_mem.specs.Plain.{plain_cells}
+use Rattle.gib_mem.specs.declared.plain.PlainMem.{PlainMem}
 use Rattle.gib_packed.specs.Stands.{Stands}
 use Rattle.gib_packed.specs.declared.root.Root.{Root}
 use Rattle.gib_syntax.specs.Tree.{ProgramTree}
@@ -16,9 +18,12 @@ use Rattle.gib_core.specs.Parts.{core_of}
 use Rattle.gib_core.specs.Tight.{Tight}
 use Rattle.gib_app.specs.declared.machine_run.RunStop.{RunStop}
 use Rattle.gib_app.specs.declared.machine_run.RunStop.TheVariants as stop
-use Rattle.gib_app.specs.Cores.{core_after}
 use Rattle.gib_app.specs.InputFaults.{IsInputFault}
-use Rattle.gib_app.specs.Running.{IsInput, RunsOut}
+use Rattle.gib_app.specs.Running.{IsInput, RunsOut, FillsUp}
+
+-- The bytes of a memory.
+abbrev pub cells_of : PlainMem → Store
+cells_of m = plain_cells m.bytes.items m.drawn
 
 -- The program means a value on the input within the depth, and in region memory that value stands for the root.
 pub record StandsMeant (p : ProgramTree) (depth : ℕ) (input : List ℕ) (laid : LaidOut) (s : Store) (place : Root) : Type 0 where
@@ -29,22 +34,12 @@ pub record StandsMeant (p : ProgramTree) (depth : ℕ) (input : List ℕ) (laid 
   pub table : laid.table ≡ table_of_program p
   pub stands : Stands laid s place (output_type p) result
 
--- What a run of a program on a value costs at most: that of its core, with each `par` in place.
-abbrev pub program_cost : ProgramTree → (depth : ℕ) → Datum → Cost
-program_cost p depth v = run_cost (core_after 3 p) depth 0 v
-
--- So many chunks may not be enough for the program on the input.
-pub record MayNotFit (p : ProgramTree) (depth chunks : ℕ) (input : List ℕ) : Type 0 where
-  pub value : Datum
-  pub is_input : IsInput p value input
-  pub tight : Tight chunks (program_cost p depth value)
-
 -- Why a run leaves no root.
 abbrev pub IsMachineStop : ProgramTree → (depth chunks : ℕ) → (input : List ℕ) → RunStop → Type 0
 IsMachineStop p depth chunks input stop.Memory = Unit {0}
 IsMachineStop p depth chunks input (stop.Refused fault) = IsInputFault p input fault × (((v : Datum) × IsInput p v input) → ⊥)
 IsMachineStop p depth chunks input stop.Deep = RunsOut p depth input
-IsMachineStop p depth chunks input stop.Full = MayNotFit p depth chunks input
+IsMachineStop p depth chunks input stop.Full = FillsUp p depth chunks input
 
 -- A value was owed, and in region memory it stands for the root.
 pub record IsRootOf (laid : LaidOut) (s : Store) (ty : Ty) (owed : Outcome) (place : Root) : Type 0 where

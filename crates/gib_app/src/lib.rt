@@ -3,24 +3,22 @@
 
 mod commands;
 mod compile;
-mod core_text;
 mod documents;
 pub mod headline;
 pub mod input_fault;
+mod jobs;
 pub mod law;
 mod lines;
 pub mod lowering;
 pub mod machine_run;
+mod made;
 mod make;
 mod matches;
-mod pack;
 mod packed;
 mod perform;
+mod plan;
 mod printing;
-mod request_files;
-mod run;
 mod sample;
-mod show;
 pub mod source_fault;
 pub mod status;
 mod stop;

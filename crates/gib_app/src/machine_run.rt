@@ -25,7 +25,7 @@ ghost use Rattle.gib_app.specs.MachineRun.{StandsMeant, IsMachineStop, IsRootOf,
 
 use crate::input_fault::InputFault;
 use crate::lowering::lowered;
-use crate::packed::PackedFault;
+use crate::made::JobFault;
 use crate::surveying::survey_input;
 use gib_base::Names;
 use gib_base::limits::FILE_BYTES;
@@ -171,8 +171,8 @@ pub fn run_packed(
     refused_file();
     let survey = match survey_input(alloc, typed, file) {
         Ok(survey) => survey,
-        Err(PackedFault::Refused(fault)) => return Err(RunStop::Refused(fault)),
-        Err(PackedFault::Memory) => return Err(RunStop::Memory),
+        Err(JobFault::Refused(fault)) => return Err(RunStop::Refused(fault)),
+        Err(JobFault::Memory) => return Err(RunStop::Memory),
     };
     let _packed = survey.payload();
     match lowered(alloc, typed) {

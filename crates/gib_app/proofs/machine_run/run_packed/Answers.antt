@@ -3,7 +3,7 @@ use Rattle.gib_types.specs.Tree.{Datum}
 use Rattle.gib_syntax.specs.Parts.{program_of}
 use Rattle.gib_syntax.specs.Declarations.{table_of_program, input_type}
 use Rattle.gib_app.specs.declared.input_fault.InputFault.{InputFault}
-use Rattle.gib_app.specs.declared.packed.PackedFault.{PackedFault}
+use Rattle.gib_app.specs.declared.made.JobFault.{JobFault}
 use Rattle.gib_app.specs.InputFaults.{IsInputFault}
 use Rattle.gib_app.specs.Running.{IsInput}
 use Rattle.gib_app.specs.Stops.{IsPackedStop}
@@ -15,7 +15,7 @@ pub returns-in-Err-Refused-clause-stop : goal.returns-in-Err-Refused-clause-stop
 returns-in-Err-Refused-clause-stop c =
     let p = program_of c.args.typed.now in
     let input = c.args.file.now in
-    let P : PackedFault → Type 0 = λ x. IsPackedStop (table_of_program p) (input_type p) input x in
+    let P : JobFault → Type 0 = λ x. IsPackedStop (table_of_program p) (input_type p) input x in
     let Q : InputFault → Type 0 = λ f. IsInputFault p input f × (((v : Datum) × IsInput p v input) → ⊥) in
     subst Q (sym c.in-Err-Refused.fault-is) (file_refused p input c.refused_header.ensures c.refused_file.ensures c.requires.short c.in-Err-Refused.fault (subst P c.in-Err-Refused.field-0-is c.in-Err-Refused.ensures.refused))
 

@@ -4,9 +4,8 @@ use Rattle.gib_plain.specs.Told.{told}
 use Rattle.gib_syntax.specs.Parts.{program_of}
 use Rattle.gib_syntax.specs.Declarations.{table_of_program, output_type}
 use Rattle.gib_syntax.specs.Meaning.{Outcome, OutcomeHas}
-use Rattle.gib_app.proofs.run.evaluate.Goals as goal
+use Rattle.gib_app.proofs.jobs.plain.evaluate.Goals as goal
 
--- src/evaluate.rt:42:26
 pub value_line-requires-clause-typed : goal.value_line-requires-clause-typed
 value_line-requires-clause-typed c =
     let p = program_of c.args.compiled.now.typed in
