@@ -37,3 +37,4 @@ pub mod Calls
 pub mod Mades
 pub mod RootRuns
 pub mod RootEnds
+pub mod Standing

@@ -25,10 +25,10 @@ use Rattle.gib_machine.specs.declared.turn.Turn.TheVariants as turn
 use Rattle.gib_machine.specs.Machine.{State, start_at, widest}
 use Rattle.gib_machine.specs.Starting.{started}
 use Rattle.gib_machine.specs.Stepping.{IsFine, Runs, with_tails}
-use Rattle.gib_weave.specs.Calling.{GoesOn, IsTask, Ran, RootRan}
+use Rattle.gib_weave.specs.Calling.{GoesOn, IsTask, Ran, RootRan, Walked}
 use Rattle.gib_weave.specs.Owing.{Owed}
 use Rattle.gib_weave.specs.Paying.{Share}
-use Rattle.gib_weave.specs.Running.{AllFine, IsStart, Kept, RunEnds, outcome_of, word_of}
+use Rattle.gib_weave.specs.Running.{AllFine, CanEnd, IsOutcome, IsStart, Kept, RunEnds, word_of}
 use Rattle.gib_weave.specs.Starting.{IsArgument, root_start}
 use Rattle.gib_weave.proofs.Mades.{made_root}
 use Rattle.gib_weave.proofs.RootRuns.{root_ran, root_task}
@@ -69,17 +69,36 @@ module _ (l : LoweredParts) (v : Memory) (place : Root) (tails : List ℕ) (dept
   pub start_task : IsTask l.code (root_start (core_of l.core) l.code (word_of place) depth 0 tails) v
   start_task = root_task (core_of l.core) l.code v (word_of place) depth 0 d tails low fit runs (argument l.code.laid v.cells place (core_of l.core).main.parameter d st.stands) st.owned bd st.loaded
 
-  pub root_ends : v.alone ≡ true → (s' : State) (v' : Memory) (r : Option Turn) → ((t : IsTask l.code (root_start (core_of l.core) l.code (word_of place) depth 0 tails) v) → Ran l.code (root_start (core_of l.core) l.code (word_of place) depth 0 tails) v t s' v' r)
-      → RunEnds l depth d v v' (outcome_of r)
-  root_ends al s' v' r h = go r (root_ran (core_of l.core) l.code v (word_of place) depth 0 d tails low fit runs (argument l.code.laid v.cells place (core_of l.core).main.parameter d st.stands) st.owned bd al st.loaded s' v' r h) (h start_task)
-    where
-      go : (q : Option Turn) → RootRan (core_of l.core) l.code depth 0 d v.limit v' q → Ran l.code (root_start (core_of l.core) l.code (word_of place) depth 0 tails) v start_task s' v' q → RunEnds l depth d v v' (outcome_of q)
-      go None x y = tt
-      go (Some turn.Went) x y = absurd x
-      go (Some turn.AtFork) x y = tt
-      go (Some turn.AtJoin) x y = tt
-      go (Some (turn.Ended a)) x y = x
-      go (Some turn.Full) x y = (x, all_drawn y.0 v' y.2)
+  module _ (al : v.alone ≡ true) (s' : State) (v' : Memory) (r : Option Turn) (steps : ℕ) (walk : Walked l.code (root_start (core_of l.core) l.code (word_of place) depth 0 tails) v steps s' v' r)
+      (h : (t : IsTask l.code (root_start (core_of l.core) l.code (word_of place) depth 0 tails) v) → Ran l.code (root_start (core_of l.core) l.code (word_of place) depth 0 tails) v t s' v' r) where
+    ran : RootRan (core_of l.core) l.code depth 0 d v.limit v' r
+    ran = root_ran (core_of l.core) l.code v (word_of place) depth 0 d tails low fit runs (argument l.code.laid v.cells place (core_of l.core).main.parameter d st.stands) st.owned bd al st.loaded s' v' r steps walk h
+
+    -- the root has no level to fork with
+    pub root_can_end : CanEnd r
+    root_can_end = go r ran
+      where
+        go : (q : Option Turn) → RootRan (core_of l.core) l.code depth 0 d v.limit v' q → CanEnd q
+        go None x = tt
+        go (Some turn.Went) x = absurd x
+        go (Some turn.AtFork) x = absurd (omega (arith, x))
+        go (Some turn.AtJoin) x = absurd x
+        go (Some (turn.Ended a)) x = tt
+        go (Some turn.Full) x = tt
+
+    pub root_ends : (o : Result Answer RunFault) → IsOutcome r o → RunEnds l depth d v v' o
+    root_ends o e = go r e ran (h start_task)
+      where
+        is : {p : Result Answer RunFault} → o ≡ p → RunEnds l depth d v v' p → RunEnds l depth d v v' o
+        is q x = subst (λ (p : Result Answer RunFault). RunEnds l depth d v v' p) (sym q) x
+
+        go : (q : Option Turn) → IsOutcome q o → RootRan (core_of l.core) l.code depth 0 d v.limit v' q → Ran l.code (root_start (core_of l.core) l.code (word_of place) depth 0 tails) v start_task s' v' q → RunEnds l depth d v v' o
+        go None q x y = is q tt
+        go (Some turn.Went) q x y = absurd q
+        go (Some turn.AtFork) q x y = absurd q
+        go (Some turn.AtJoin) q x y = absurd q
+        go (Some (turn.Ended a)) q x y = is q x
+        go (Some turn.Full) q x y = is q (x, all_drawn y.0 v' y.2)
 
 -- Where main starts.
 
@@ -151,12 +170,19 @@ module _ (l : LoweredParts) (v : Memory) (place : Root) (tails : List ℕ) (dept
       subst (λ (q : CodeTree). IsTask q (with_tails m tails) v) (sym ce)
       (subst (λ (q : State). IsTask l.code q v) (sym (me tails)) (start_task l v place tails depth d lo fit (subst Runs ce runs) bd st))
 
-  pub run_ends : (d : Datum) → IsStart l place tails v d → v.alone ≡ true → (s' : State) (v' : Memory) (r : Option Turn) (o : Result Answer RunFault) → o ≡ outcome_of r
-      → ((t : IsTask code (with_tails m tails) v) → Ran code (with_tails m tails) v t s' v' r) → RunEnds l depth d v v' o
-  run_ends d st al s' v' r o oe h =
-      subst (λ (q : Result Answer RunFault). RunEnds l depth d v v' q) (sym oe)
-      (root_ends l v place tails depth d lo fit (subst Runs ce runs) bd st al s' v' r
-      (subst (λ (q : State). (t : IsTask l.code q v) → Ran l.code q v t s' v' r) (me tails) (subst (λ (q : CodeTree). (t : IsTask q (with_tails m tails) v) → Ran q (with_tails m tails) v t s' v' r) ce h)))
+  module _ (d : Datum) (st : IsStart l place tails v d) (al : v.alone ≡ true) (s' : State) (v' : Memory) (r : Option Turn) (steps : ℕ) (walk : Walked code (with_tails m tails) v steps s' v' r)
+      (h : (t : IsTask code (with_tails m tails) v) → Ran code (with_tails m tails) v t s' v' r) where
+    root_walk : Walked l.code (root_start (core_of l.core) l.code (word_of place) depth 0 tails) v steps s' v' r
+    root_walk = subst (λ (q : State). Walked l.code q v steps s' v' r) (me tails) (subst (λ (q : CodeTree). Walked q (with_tails m tails) v steps s' v' r) ce walk)
+
+    root_task_ran : (t : IsTask l.code (root_start (core_of l.core) l.code (word_of place) depth 0 tails) v) → Ran l.code (root_start (core_of l.core) l.code (word_of place) depth 0 tails) v t s' v' r
+    root_task_ran = subst (λ (q : State). (t : IsTask l.code q v) → Ran l.code q v t s' v' r) (me tails) (subst (λ (q : CodeTree). (t : IsTask q (with_tails m tails) v) → Ran q (with_tails m tails) v t s' v' r) ce h)
+
+    pub run_can_end : CanEnd r
+    run_can_end = root_can_end l v place tails depth d lo fit (subst Runs ce runs) bd st al s' v' r steps root_walk root_task_ran
+
+    pub run_ends : (o : Result Answer RunFault) → IsOutcome r o → RunEnds l depth d v v' o
+    run_ends o e = root_ends l v place tails depth d lo fit (subst Runs ce runs) bd st al s' v' r steps root_walk root_task_ran o e
 
   pub run_keeps : (d : Datum) → IsStart l place tails v d → (s' : State) (v' : Memory) (r : Option Turn) → ((t : IsTask code (with_tails m tails) v) → Ran code (with_tails m tails) v t s' v' r) → Kept v v'
   run_keeps d st s' v' r h = ran_kept code (with_tails m tails) v (run_task d st) s' v' r (h (run_task d st))

@@ -61,6 +61,14 @@ abbrev pub Walked : CodeTree → State → Memory → (steps : ℕ) → State �
 Walked code s v steps s' v' None = Walks code s v steps s' v'
 Walked code s v steps s' v' (Some r) = Stops code s v steps s' v' r
 
+-- The machine stands at a fork or at a join.
+abbrev pub Stands : Turn → Type 0
+Stands turn.Went = ⊥
+Stands turn.AtFork = Unit {0}
+Stands turn.AtJoin = Unit {0}
+Stands (turn.Ended a) = ⊥
+Stands turn.Full = ⊥
+
 -- A task that is sound over a memory, whose machine runs the code of a core of which each body fits.
 pub record IsTask (code : CodeTree) (s : State) (v : Memory) : Type 0 where
   pub core : CoreTree
@@ -84,11 +92,12 @@ Ran code s v t s' v' (Some (turn.Ended a)) = GoesOn t.core code t.owed t.share v
 Ran code s v t s' v' (Some turn.Full) = (w : Memory) × GoesOn t.core code t.owed t.share v s' w × IsFull w v'
 
 -- What some steps of the root leave, of a core with a value, at a depth and with so many levels of forks, where there are so many
--- chunks: its answer is what the core means; where it draws and all chunks are drawn, the run is tight.
+-- chunks: it stands at no fork without a level, and at no join; its answer is what the core means; where it draws and all chunks
+-- are drawn, the run is tight.
 abbrev pub RootRan : CoreTree → CodeTree → (depth level : ℕ) → Datum → (limit : ℕ) → Memory → Option Turn → Type 0
 RootRan core code depth level d limit v' None = Unit {0}
 RootRan core code depth level d limit v' (Some turn.Went) = ⊥
-RootRan core code depth level d limit v' (Some turn.AtFork) = Unit {0}
-RootRan core code depth level d limit v' (Some turn.AtJoin) = Unit {0}
+RootRan core code depth level d limit v' (Some turn.AtFork) = 0 < level
+RootRan core code depth level d limit v' (Some turn.AtJoin) = ⊥
 RootRan core code depth level d limit v' (Some (turn.Ended a)) = IsAnswer code.laid v'.cells core.main.result (core_run core depth d) a
 RootRan core code depth level d limit v' (Some turn.Full) = Tight limit (run_cost core depth level d)

@@ -1,6 +1,6 @@
 //! What calls of the machine make of a task that is sound.
 
-ghost use Rattle.std.specs.Prelude.{◌≡◌, ◌<◌, ◌+◌, ◌^◌, ℕ, List, [], ◌∷◌, length, true, Option};
+ghost use Rattle.std.specs.Prelude.{◌≡◌, ◌<◌, ◌+◌, ◌^◌, ℕ, List, [], ◌∷◌, length, true, Option, Some};
 ghost use Rattle.std.specs.List.{AllByRecursion};
 ghost use Rattle.gib_types.specs.Table.{IsTable};
 ghost use Rattle.gib_types.specs.Loaded.{Loaded};
@@ -13,10 +13,11 @@ ghost use Rattle.gib_core.specs.Numbering.{binders};
 ghost use Rattle.gib_core.specs.Tree.{CoreTree, FunctionTerm};
 ghost use Rattle.gib_code.specs.Program.{CodeTree};
 ghost use Rattle.gib_machine.specs.declared.turn.Turn.{Turn};
+ghost use Rattle.gib_machine.specs.InPlace.{IsInPlace};
 ghost use Rattle.gib_machine.specs.Machine.{State, next, start_at};
 ghost use Rattle.gib_machine.specs.Starting.{started};
 ghost use Rattle.gib_machine.specs.Stepping.{Can, Made, Runs, with_tails};
-ghost use Rattle.gib_weave.specs.Calling.{IsTask, Ran, RootRan, Turned};
+ghost use Rattle.gib_weave.specs.Calling.{IsTask, Ran, RootRan, Stands, Turned, Walked};
 ghost use Rattle.gib_weave.specs.Owing.{Owed};
 ghost use Rattle.gib_weave.specs.Paying.{Share};
 ghost use Rattle.gib_weave.specs.Places.{Owned};
@@ -54,12 +55,17 @@ pub fn the_root_is_a_task()
         → IsArgument code.laid v.cells core.main.parameter w d → AreOwned v.cells tails → IsBounded v → Loaded v.drawn d → IsTask code (root_start core code w depth level tails) v }
 {}
 
-/// What `run_for` answers for the root, over a memory that nobody else draws from: at its end what the core means; where it
-/// draws and all chunks are drawn, the run is tight.
+/// A machine without levels of forks never stands at a fork or a join, however many steps it makes.
+pub fn without_levels_nothing_stands()
+    ensures { (code : CodeTree) (s s' : State) (v v' : Memory) (steps : ℕ) (r : Turn) → IsInPlace s → Walked code s v steps s' v' (Some r) → Stands r → ⊥ }
+{}
+
+/// What `run_for` answers for the root, over a memory that nobody else draws from: a fork only where a level is left, and no join; at
+/// its end what the core means; where it draws and all chunks are drawn, the run is tight.
 pub fn the_root_runs()
     ensures { (core : CoreTree) (code : CodeTree) (v : Memory) (w depth level : ℕ) (d : Datum) (tails : List ℕ) → IsLowered core code → AllFit core → Runs code
         → IsArgument code.laid v.cells core.main.parameter w d → AreOwned v.cells tails → IsBounded v → v.alone ≡ true → Loaded v.drawn d
-        → (s' : State) (v' : Memory) (r : Option Turn)
+        → (s' : State) (v' : Memory) (r : Option Turn) (steps : ℕ) → Walked code (root_start core code w depth level tails) v steps s' v' r
         → ((t : IsTask code (root_start core code w depth level tails) v) → Ran code (root_start core code w depth level tails) v t s' v' r)
         → RootRan core code depth level d v.limit v' r }
 {}

@@ -7,7 +7,7 @@ ghost use Rattle.gib_code.specs.Instruction.{instruction_of};
 ghost use Rattle.gib_machine.specs.Machine.{start_at};
 ghost use Rattle.gib_machine.specs.Stepping.{IsFine, Runs, with_tails};
 ghost use Rattle.gib_weave.specs.Running as spec;
-ghost use Rattle.gib_weave.specs.Running.{AllFine, IsStart, Kept, RunEnds};
+ghost use Rattle.gib_weave.specs.Running.{AllFine, CanEnd, IsOutcome, IsStart, Kept, RunEnds};
 ghost use Rattle.gib_weave.specs.Starting.{root_start};
 
 use crate::steps::run_for;
@@ -90,12 +90,14 @@ fn main_start(lowered: &Lowered) -> u32
 
 /// What the last turn makes of the run.
 fn outcome_of(turn: Option<Turn>) -> Result<Answer, RunFault>
-    ensures { result ≡ spec.outcome_of turn }
+    requires { CanEnd turn }
+    ensures { IsOutcome turn result }
 {
     match turn {
         Some(Turn::Ended(answer)) => Ok(answer),
         Some(Turn::Full) => Err(RunFault::Full),
-        _ => Err(RunFault::Memory),
+        Some(_) => unreachable!(),
+        None => Err(RunFault::Memory),
     }
 }
 
@@ -112,8 +114,8 @@ fn root_machine(alloc: Global, lowered: &Lowered, root: Root, depth: u32) -> Res
 ///
 /// # Errors
 ///
-/// `Full`: it draws a chunk, and all are drawn. `Memory`: want of memory, which also stands for code that no machine can run (lowered
-/// code always can be), for a fork (there is none where each `par` is in place), and for a run of more than 2^64 - 1 steps.
+/// `Full`: it draws a chunk, and all are drawn. `Memory`: want of memory, which also stands for a run of more than 2^64 - 1 steps, and
+/// for code that no machine can run (lowered code always can be).
 pub fn run<M: Mem>(
     alloc: Global,
     lowered: &Lowered,
