@@ -9,3 +9,4 @@ pub mod Starts
 pub mod Widths
 pub mod Samples
 pub mod InPlaces
+pub mod Stands

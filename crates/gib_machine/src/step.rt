@@ -5,6 +5,7 @@ ghost use Rattle.gib_code.specs.Instruction.{instruction_of};
 ghost use Rattle.gib_machine.specs.Machine.{begin, next, widest};
 ghost use Rattle.gib_machine.specs.Stepping.{with_tails, Made, Can, CanStep, Runs, IsFine, IsSmallAsk};
 
+use crate::starting::ForkParts;
 use crate::state::{Doing, Machine};
 use crate::turn::Turn;
 use gib_code::{Answer, Code, Instr};
@@ -155,8 +156,14 @@ impl Machine {
                 joint,
                 kind,
                 variable,
-                result: _,
-            } => { self.forks(*right, *joint, *kind, *variable) }
+                result,
+            } => self.forks(ForkParts {
+                right: *right,
+                joint: *joint,
+                kind: *kind,
+                variable: *variable,
+                result: *result,
+            }),
             Instr::Join => self.joins(),
             Instr::Back => self.goes_back(),
         }
