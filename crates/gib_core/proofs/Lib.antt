@@ -26,6 +26,7 @@ mod Covering
 mod Fitted
 mod Builds
 mod Bodies
+mod Fine
 mod FunctionCode
 pub mod Adding
 pub mod LiteralTerms

@@ -1,6 +1,7 @@
 -- The build rules as a type, by recursion on terms: what is known of each variable, and where a value is put.
 use Rattle.std.specs.Prelude.{◌≡◌, ◌≤◌, ℕ, zero, suc, ◌+◌, ◌==◌, Bool, true, false, List, [], ◌∷◌, ◌++◌, map, length, Option, Some, None, if◌then◌else◌, ◌||◌, FitsSigned}
 use Rattle.std.specs.Int.{w64}
+use Rattle.std.specs.List.{AllByRecursion}
 use Rattle.gib_base.specs.declared.name.Name.{Name}
 use Rattle.gib_types.specs.declared.table.Ty.{Ty}
 use Rattle.gib_types.specs.declared.table.Ty.TheVariants.{Whole, Truth, Tree}
@@ -303,7 +304,11 @@ pub record FunctionFits (core : CoreTree) (g : FunctionTerm) (slots : ℕ) : Typ
 pub record MainFits (core : CoreTree) (slots : ℕ) : Type 0 where
   pub fits : Fits core core.main.body (body_scope slots (core.main.parameter ∷ [])) (dest_of core.main.result)
 
--- All bodies of a core fit, with a slot for each variable.
+-- The body of each function fits, with a slot for each variable, also where another function has its name.
+abbrev pub EachFits : CoreTree → Type 0
+EachFits core = AllByRecursion (λ (g : FunctionTerm). FunctionFits core g (length g.parameters + length (binders g.body))) core.functions
+
+-- All bodies that a name or main leads to fit, with a slot for each variable.
 pub record AllFit (core : CoreTree) : Type 0 where
   pub table : IsTable core.table
   pub functions : (g : FunctionTerm) (f : ℕ) → function_at core.functions f ≡ Some g → FunctionFits core g (length g.parameters + length (binders g.body))
