@@ -4,7 +4,8 @@ ghost use Rattle.std.specs.Prelude.{◌≡◌, ◌<◌, ◌+◌, ◌-◌, ◌^�
 ghost use Rattle.gib_machine.specs.Machine.{AtFork, AtJoin, next, fork_of, right_of, left_starts, takes, joins, unwound, is_unwinding};
 ghost use Rattle.gib_machine.specs.Machine as m;
 ghost use Rattle.gib_machine.specs.Starting.{forking_of, waiting_of};
-ghost use Rattle.gib_machine.specs.Stepping.{Runs, with_tails};
+ghost use Rattle.gib_code.specs.Program.{Runs};
+ghost use Rattle.gib_machine.specs.Stepping.{with_tails};
 
 use crate::starting::{ForkParts, fork_parts};
 use crate::state::{Doing, Machine};

@@ -1,9 +1,10 @@
 //! One micro-step, by the running instruction and how far it is.
 
 ghost use Rattle.std.specs.Prelude.{◌≡◌, ◌<◌, ◌+◌, ◌^◌, ℕ, Some, slice_get};
-ghost use Rattle.gib_code.specs.Instruction.{instruction_of};
+ghost use Rattle.gib_code.specs.Instruction.{instruction_of, IsFine};
 ghost use Rattle.gib_machine.specs.Machine.{begin, next, widest};
-ghost use Rattle.gib_machine.specs.Stepping.{with_tails, Made, Can, CanStep, Runs, IsFine, IsSmallAsk};
+ghost use Rattle.gib_code.specs.Program.{Runs};
+ghost use Rattle.gib_machine.specs.Stepping.{with_tails, Made, Can, CanStep, IsSmallAsk};
 
 use crate::starting::ForkParts;
 use crate::state::{Doing, Machine};
