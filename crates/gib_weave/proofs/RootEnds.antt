@@ -1,5 +1,5 @@
 -- How the root's run ends.
-use Rattle.std.proofs.Common.{◌≡◌, ℕ, zero, suc, ◌≤◌, ◌+◌, ◌-◌, ◌<◌, ◌^◌, List, [], ◌∷◌, map, length, get_or, slice_get, true, Option, Some, None, refl, sym, ap, subst, ◌∙◌, arith}
+use Rattle.std.proofs.Common.{◌≡◌, ℕ, zero, suc, ◌≤◌, ◌+◌, ◌-◌, ◌<◌, ◌^◌, List, [], ◌∷◌, length, get_or, true, Option, Some, None, refl, sym, ap, subst, ◌∙◌, arith}
 use Rattle.std.specs.Prelude.{Result, Ok, Err, IfOk}
 use Rattle.gib_types.specs.declared.table.Ty.{Ty}
 use Rattle.gib_types.specs.Layout.{LaidOut}
@@ -10,25 +10,23 @@ use Rattle.gib_packed.specs.declared.root.Root.{Root}
 use Rattle.gib_packed.specs.Stands.{Stands, a_whole, a_truth, a_tree}
 use Rattle.gib_core.specs.Fits.{AllFit}
 use Rattle.gib_code.specs.declared.instruction.Entry.{Entry}
-use Rattle.gib_code.specs.declared.instruction.Instr.{Instr}
-use Rattle.gib_code.specs.Instruction.{Instruction, instruction_of}
 use Rattle.gib_core.specs.Low as low
 use Rattle.gib_core.specs.Low.{IsLowered, LowFunctions}
 use Rattle.gib_core.specs.LoweredParts.{LoweredParts}
 use Rattle.gib_core.specs.Parts.{core_of}
 use Rattle.gib_core.specs.Tree.{CoreTree, FunctionTerm}
 use Rattle.gib_code.specs.declared.answer.Answer.{Answer}
-use Rattle.gib_code.specs.Program.{CodeTree}
+use Rattle.gib_code.specs.Program.{CodeTree, Runs}
 use Rattle.gib_weave.specs.declared.root_run.RunFault.{RunFault}
 use Rattle.gib_machine.specs.declared.turn.Turn.{Turn}
 use Rattle.gib_machine.specs.declared.turn.Turn.TheVariants as turn
 use Rattle.gib_machine.specs.Machine.{State, start_at, widest}
 use Rattle.gib_machine.specs.Starting.{started}
-use Rattle.gib_machine.specs.Stepping.{IsFine, Runs, with_tails}
+use Rattle.gib_machine.specs.Stepping.{with_tails}
 use Rattle.gib_weave.specs.Calling.{GoesOn, IsTask, Ran, RootRan, Walked}
 use Rattle.gib_weave.specs.Owing.{Owed}
 use Rattle.gib_weave.specs.Paying.{Share}
-use Rattle.gib_weave.specs.Running.{AllFine, CanEnd, IsOutcome, IsStart, Kept, RunEnds, word_of}
+use Rattle.gib_weave.specs.Running.{CanEnd, IsOutcome, IsStart, Kept, RunEnds, word_of}
 use Rattle.gib_weave.specs.Starting.{IsArgument, root_start}
 use Rattle.gib_weave.proofs.Mades.{made_root}
 use Rattle.gib_weave.proofs.RootRuns.{root_ran, root_task}
@@ -135,40 +133,17 @@ made_is_root core code code' label w w' depth m lo ce le we me tails =
     ∙ ap (λ (q : ℕ). with_tails (started code (start_at code.functions (length core.functions)) (q ∷ []) depth 0) tails) we
     ∙ made_root core code w' depth 0 tails lo
 
--- The code can be run.
-
-no_instruction : {i : Instruction} → ◌≡◌ {A = Option Instruction} None (Some i) → ⊥
-no_instruction e = absurd cc
-
-same_instruction : {i j : Instruction} → ◌≡◌ {A = Option Instruction} (Some i) (Some j) → i ≡ j
-same_instruction e = cc
-
-fine_at : (is : List Instruction) → AllFine is → (a : ℕ) (i : Instruction) → slice_get is a ≡ Some i → IsFine i
-fine_at [] h a i e = absurd (no_instruction e)
-fine_at (j ∷ is) h zero i e = subst IsFine (same_instruction e) h.0
-fine_at (j ∷ is) h (suc a) i e = fine_at is h.1 a i e
-
-pub fine_runs : (code : CodeTree) → length code.instructions < 2 ^ 32 → AllFine code.instructions → Runs code
-fine_runs code few h = record { few = few; fine = λ a i e. fine_at code.instructions h a i e }
-
 pub if_ok : {A B : Type 0} {P Q : A → Type 0} (r : Result A B) → ((x : A) → P x → Q x) → IfOk r P → IfOk r Q
 if_ok (Ok x) f h = f x h
 if_ok (Err e) f h = tt {0}
 
-map_length : (xs : List Instr) → length (map instruction_of xs) ≡ length xs
-map_length [] = refl
-map_length (x ∷ xs) = ap (λ (n : ℕ). suc n) (map_length xs)
-
-pub fine_code : (code : CodeTree) (xs : List Instr) → map instruction_of xs ≡ code.instructions → length xs < 2 ^ 32 → AllFine (map instruction_of xs) → Runs code
-fine_code code xs e few h = fine_runs code (let i = map_length xs in subst (λ (is : List Instruction). length is < 2 ^ 32) e (omega (arith, i, few))) (subst AllFine e h)
-
 -- The run.
-module _ (l : LoweredParts) (v : Memory) (place : Root) (tails : List ℕ) (depth : ℕ) (code : CodeTree) (m : State) (ce : code ≡ l.code) (lo : IsLowered (core_of l.core) l.code) (fit : AllFit (core_of l.core)) (runs : Runs code) (bd : IsBounded v)
+module _ (l : LoweredParts) (v : Memory) (place : Root) (tails : List ℕ) (depth : ℕ) (code : CodeTree) (m : State) (ce : code ≡ l.code) (lo : IsLowered (core_of l.core) l.code) (fit : AllFit (core_of l.core)) (runs : Runs l.code) (bd : IsBounded v)
     (me : (ts : List ℕ) → with_tails m ts ≡ root_start (core_of l.core) l.code (word_of place) depth 0 ts) where
   pub run_task : (d : Datum) → IsStart l place tails v d → IsTask code (with_tails m tails) v
   run_task d st =
       subst (λ (q : CodeTree). IsTask q (with_tails m tails) v) (sym ce)
-      (subst (λ (q : State). IsTask l.code q v) (sym (me tails)) (start_task l v place tails depth d lo fit (subst Runs ce runs) bd st))
+      (subst (λ (q : State). IsTask l.code q v) (sym (me tails)) (start_task l v place tails depth d lo fit runs bd st))
 
   module _ (d : Datum) (st : IsStart l place tails v d) (al : v.alone ≡ true) (s' : State) (v' : Memory) (r : Option Turn) (steps : ℕ) (walk : Walked code (with_tails m tails) v steps s' v' r)
       (h : (t : IsTask code (with_tails m tails) v) → Ran code (with_tails m tails) v t s' v' r) where
@@ -179,10 +154,10 @@ module _ (l : LoweredParts) (v : Memory) (place : Root) (tails : List ℕ) (dept
     root_task_ran = subst (λ (q : State). (t : IsTask l.code q v) → Ran l.code q v t s' v' r) (me tails) (subst (λ (q : CodeTree). (t : IsTask q (with_tails m tails) v) → Ran q (with_tails m tails) v t s' v' r) ce h)
 
     pub run_can_end : CanEnd r
-    run_can_end = root_can_end l v place tails depth d lo fit (subst Runs ce runs) bd st al s' v' r steps root_walk root_task_ran
+    run_can_end = root_can_end l v place tails depth d lo fit runs bd st al s' v' r steps root_walk root_task_ran
 
     pub run_ends : (o : Result Answer RunFault) → IsOutcome r o → RunEnds l depth d v v' o
-    run_ends o e = root_ends l v place tails depth d lo fit (subst Runs ce runs) bd st al s' v' r steps root_walk root_task_ran o e
+    run_ends o e = root_ends l v place tails depth d lo fit runs bd st al s' v' r steps root_walk root_task_ran o e
 
   pub run_keeps : (d : Datum) → IsStart l place tails v d → (s' : State) (v' : Memory) (r : Option Turn) → ((t : IsTask code (with_tails m tails) v) → Ran code (with_tails m tails) v t s' v' r) → Kept v v'
   run_keeps d st s' v' r h = ran_kept code (with_tails m tails) v (run_task d st) s' v' r (h (run_task d st))

@@ -1,5 +1,5 @@
 -- A run of a core on a loaded value, to its end.
-use Rattle.std.specs.Prelude.{◌≡◌, ℕ, List, [], ◌∷◌, Option, Some, None, Result, Ok, Err}
+use Rattle.std.specs.Prelude.{◌≡◌, ℕ, List, ◌∷◌, Option, Some, None, Result, Ok, Err}
 use Rattle.std.specs.Int.{w64, cast_unsigned}
 use Rattle.gib_types.specs.Loaded.{Loaded}
 use Rattle.gib_types.specs.Tree.{Datum}
@@ -15,10 +15,8 @@ use Rattle.gib_core.specs.Meaning.{core_run}
 use Rattle.gib_core.specs.Parts.{core_of}
 use Rattle.gib_core.specs.Tight.{Tight}
 use Rattle.gib_code.specs.declared.answer.Answer.{Answer}
-use Rattle.gib_code.specs.Instruction.{Instruction}
 use Rattle.gib_machine.specs.declared.turn.Turn.{Turn}
 use Rattle.gib_machine.specs.declared.turn.Turn.TheVariants as turn
-use Rattle.gib_machine.specs.Stepping.{IsFine}
 use Rattle.gib_weave.specs.declared.root_run.RunFault.{RunFault}
 use Rattle.gib_weave.specs.declared.root_run.RunFault.TheVariants as fault
 use Rattle.gib_weave.specs.Sound.{IsAnswer}
@@ -67,8 +65,3 @@ CanEnd (Some turn.AtFork) = ⊥
 CanEnd (Some turn.AtJoin) = ⊥
 CanEnd (Some (turn.Ended a)) = Unit {0}
 CanEnd (Some turn.Full) = Unit {0}
-
--- A machine can run each of these.
-abbrev pub AllFine : List Instruction → Type 0
-AllFine [] = Unit {0}
-AllFine (i ∷ is) = IsFine i × AllFine is
