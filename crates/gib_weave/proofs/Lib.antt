@@ -32,8 +32,8 @@ pub mod Events
 pub mod Progress
 pub mod Picks
 pub mod Row
-pub mod Fine
 pub mod Calls
 pub mod Mades
 pub mod RootRuns
 pub mod RootEnds
+pub mod Standing
