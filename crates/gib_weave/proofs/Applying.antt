@@ -2,7 +2,7 @@
 use Rattle.std.proofs.lemmas.Bool.{cases_lt}
 use Rattle.std.proofs.lemmas.List.{get_or_read}
 use Rattle.std.proofs.Common.{◌≡◌, ◌⊎◌, inl, inr, ℕ, zero, suc, ◌<◌, ◌≤◌, List, [], ◌∷◌, length, get_or, drop, slice_set, true, refl, sym, ap, subst, ◌∙◌, arith}
-use Rattle.std.specs.Prelude.{Result, slice_get}
+use Rattle.std.specs.Prelude.{Result, Ok, Err, slice_get}
 use Rattle.gib_code.specs.declared.answer.Answer.{Answer}
 use Rattle.gib_machine.specs.declared.stand.Stand.TheVariants as stand
 use Rattle.gib_mem.specs.Memory.{Memory, with_drawn, after_put, after_draw}
@@ -13,7 +13,8 @@ use Rattle.gib_machine.specs.Stepping.{CanStep, Made, stand_of}
 use Rattle.gib_machine.specs.declared.turn.Turn.{Turn}
 use Rattle.gib_machine.specs.declared.turn.Turn.TheVariants as turn
 use Rattle.gib_weave.specs.declared.task.WeaveFault.{WeaveFault}
-use Rattle.gib_weave.specs.Applied.{Applied, CanGo, IsDraw, forked, stepped}
+use Rattle.gib_weave.specs.declared.task.WeaveFault.TheVariants as fault
+use Rattle.gib_weave.specs.Applied.{Applied, CanGo, IsDraw, IsForked, forked, stepped}
 use Rattle.gib_weave.specs.Weave.{Weave, Task, Stage, Status, Waits, Running, Joined, Step, Fork, Take, Finish, Next, NewestWaits, Enabled, IsAction, IsEnd, IsOn, asks, moved, no_task, task, with_sides}
 use Rattle.gib_weave.specs.Weave as w
 
@@ -152,12 +153,20 @@ module _ (code : CodeTree) (v : Weave) (ts : List Task) (i : ℕ) (t u : Task) (
       ap (λ (us : List Task). record { memory = v.memory; tasks = slice_set us i u }) te
       ∙ ap (λ (x : Task). record { memory = v.memory; tasks = slice_set v.tasks i x }) (h ∙ ap (λ (x : Task). record { state = s; sides = sts; stage = x.stage }) e ∙ ap (λ (g : Stage). record { state = s; sides = sts; stage = g }) on.here)
 
-  pub fork_applied : next code t.state ≡ AtFork → u ≡ forked t (slice_get code.instructions t.state.ip) → Next code v (Fork i) (record { memory = v.memory; tasks = slice_set ts i u })
-  fork_applied a h =
+  goes_left : next code t.state ≡ AtFork → u ≡ forked t (slice_get code.instructions t.state.ip) → Next code v (Fork i) (record { memory = v.memory; tasks = slice_set ts i u })
+  goes_left a h =
       let f = task v.tasks i in
       let k : u ≡ record { state = left_starts f.state (slice_get code.instructions f.state.ip); sides = Waits (right_of f.state (slice_get code.instructions f.state.ip)) ∷ f.sides; stage = t.stage } =
       h ∙ ap (λ (x : Task). record { state = left_starts x.state (slice_get code.instructions x.state.ip); sides = Waits (right_of x.state (slice_get code.instructions x.state.ip)) ∷ x.sides; stage = t.stage }) e in
       subst (Next code v (Fork i)) (sym (running _ _ k)) (w.forks on (sym (ap (λ (x : Task). next code x.state) e) ∙ a))
+
+  pub fork_applied : (r : Result (Unit {0}) WeaveFault) → next code t.state ≡ AtFork → IsForked t (slice_get code.instructions t.state.ip) u r → Applied code v (Fork i) (record { memory = v.memory; tasks = slice_set ts i u }) r
+  fork_applied (Ok x) a h = goes_left a h
+  fork_applied (Err fault.Memory) a h =
+      ap (λ (us : List Task). record { memory = v.memory; tasks = slice_set us i u }) te ∙ ap (λ (x : Task). record { memory = v.memory; tasks = slice_set v.tasks i x }) (h ∙ e)
+      ∙ ap (λ (us : List Task). record { memory = v.memory; tasks = us }) (set_same v.tasks i)
+  fork_applied (Err fault.NotNow) a h = absurd h
+  fork_applied (Err fault.Full) a h = absurd h
 
   pub take_applied : next code t.state ≡ AtJoin → NewestWaits t.sides → u ≡ record { state = takes t.state; sides = drop 1 t.sides; stage = t.stage } → Next code v (Take i) (record { memory = v.memory; tasks = slice_set ts i u })
   take_applied a n h = go t.sides refl n
@@ -177,3 +186,7 @@ module _ (code : CodeTree) (v : Weave) (ts : List Task) (i : ℕ) (t u : Task) (
       subst (Next code v (Finish i))
       (sym (ap (λ (us : List Task). record { memory = v.memory; tasks = slice_set us i u }) te ∙ ap (λ (x : Task). record { memory = v.memory; tasks = slice_set v.tasks i x }) k))
       (w.finishes on (sym (ap (λ (x : Task). next code x.state) e) ∙ p))
+
+-- Two reads of one task are one.
+pub same_task : (ts us : List Task) (i : ℕ) (t x : Task) → t ≡ get_or us i t → us ≡ ts → i < length ts → x ≡ task ts i → t ≡ x
+same_task ts us i t x e f h g = read_task ts us i t e f h ∙ sym g

@@ -36,6 +36,12 @@ abbrev pub newest_of : Status → Newest
 newest_of (Waits x) = newest.Waiting
 newest_of (w.Runs n) = newest.Begun n
 
+-- The newest side is a task.
+abbrev pub IsBegun : List Status → Type 0
+IsBegun [] = ⊥
+IsBegun (Waits x ∷ sts) = ⊥
+IsBegun (w.Runs n ∷ sts) = Unit {0}
+
 -- A stage as the code keeps it.
 abbrev pub stage_of : TaskStage → Stage
 stage_of stage.Running = w.Running
@@ -45,6 +51,13 @@ stage_of stage.Joined = w.Joined
 -- The left side of the task's fork starts, and its right side waits.
 abbrev pub forked : Task → Option Instruction → Task
 forked t i = record { state = left_starts t.state i; sides = Waits (right_of t.state i) ∷ t.sides; stage = t.stage }
+
+-- A fork of a task leaves this, by its answer.
+abbrev pub IsForked : Task → Option Instruction → Task → Result (Unit {0}) WeaveFault → Type 0
+IsForked t i t' (Ok u) = t' ≡ forked t i
+IsForked t i t' (Err fault.Memory) = t' ≡ t
+IsForked t i t' (Err fault.NotNow) = ⊥
+IsForked t i t' (Err fault.Full) = ⊥
 
 -- An event as the code keeps it.
 abbrev pub event_of : TheEvent → Event

@@ -1,9 +1,9 @@
 //! The right sides of a task that it neither joined nor took.
 
-ghost use Rattle.std.specs.Prelude.{◌≡◌, ◌<◌, [], ◌∷◌, length, drop, OnOk, OnErr, IfSome, IfNone};
+ghost use Rattle.std.specs.Prelude.{◌≡◌, ◌<◌, [], ◌∷◌, length, drop, OnOk, OnErr, IfSome, IfNone, IsTrue, ◌↔◌};
 ghost use Rattle.gib_machine.specs.Starting.{waiting_of};
-ghost use Rattle.gib_weave.specs.Applied.{status_of, newest_of};
-ghost use Rattle.gib_weave.specs.Weave.{Status, Waits};
+ghost use Rattle.gib_weave.specs.Applied.{IsBegun, status_of, newest_of};
+ghost use Rattle.gib_weave.specs.Weave.{NewestWaits, Runs, Status, Waits};
 
 use gib_base::Memory;
 use gib_code::Side;
@@ -89,6 +89,29 @@ impl Sides {
             return None;
         }
         Some(newest_of(&self.items[self.items.len() - 1]))
+    }
+
+    /// Whether the newest one waits.
+    pub fn waits(&self) -> bool
+        ensures { IsTrue result ↔ NewestWaits self.now }
+    {
+        match self.newest() {
+            Some(Newest::Waiting) => true,
+            Some(Newest::Begun(_)) => false,
+            None => false,
+        }
+    }
+
+    /// The task of the newest one; None where it waits, or there is none.
+    pub fn begun(&self) -> Option<u32>
+        ensures some { IfSome result (λ n. self.now ≡ Runs n ∷ drop 1 self.now) }
+        ensures none { IfNone result (IsBegun self.now → ⊥) }
+    {
+        match self.newest() {
+            Some(Newest::Begun(task)) => Some(task),
+            Some(Newest::Waiting) => None,
+            None => None,
+        }
     }
 
     /// Drops the newest one.

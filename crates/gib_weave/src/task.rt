@@ -1,14 +1,13 @@
 //! A task of a weave: its machine, its tails, its right sides, and whether it runs.
 
-ghost use Rattle.std.specs.Prelude.{◌≡◌, ◌<◌, [], length, drop, slice_get, IsTrue, ◌↔◌, OnOk, OnErr};
+ghost use Rattle.std.specs.Prelude.{◌≡◌, ◌<◌, [], ◌∷◌, length, drop, slice_get, IsTrue, ◌↔◌, IfSome, IfNone};
 ghost use Rattle.gib_code.specs.Program.{Runs};
-ghost use Rattle.gib_machine.specs.Machine.{AtFork, AtJoin, next, takes, joins};
+ghost use Rattle.gib_machine.specs.Machine.{AtFork, AtJoin, Ended, next, takes, joins};
 ghost use Rattle.gib_machine.specs.Stepping.{CanStep, Made, stand_of};
-ghost use Rattle.gib_weave.specs.Applied.{forked};
-ghost use Rattle.gib_weave.specs.Weave.{Running, Finished, Joined};
+ghost use Rattle.gib_weave.specs.Applied.{IsBegun, IsForked};
+ghost use Rattle.gib_weave.specs.Weave.{Running, Finished, Joined, IsEnd, NewestWaits, Runs as Begun};
 
 use crate::sides::Sides;
-use gib_base::Memory;
 use gib_code::{Answer, Code};
 use gib_machine::{Machine, Stand, Turn};
 use gib_mem::Mem;
@@ -74,6 +73,61 @@ impl Task {
         self.machine.stand(code)
     }
 
+    /// Whether it stands at a fork.
+    #[tactic(auto, using(crate::proofs::Applying::at_fork))]
+    pub fn is_at_fork(&self, code: &Code) -> bool
+        ensures { IsTrue result ↔ (next code.now self.now.state ≡ AtFork) }
+    {
+        match self.stand(code) {
+            Stand::Fork => true,
+            Stand::Goes => false,
+            Stand::Join => false,
+            Stand::End(_) => false,
+        }
+    }
+
+    /// Whether it stands at a join.
+    #[tactic(auto, using(crate::proofs::Applying::at_join))]
+    pub fn is_at_join(&self, code: &Code) -> bool
+        ensures { IsTrue result ↔ (next code.now self.now.state ≡ AtJoin) }
+    {
+        match self.stand(code) {
+            Stand::Join => true,
+            Stand::Goes => false,
+            Stand::Fork => false,
+            Stand::End(_) => false,
+        }
+    }
+
+    /// What it has ended with; None where it has not.
+    #[tactic(auto, using(crate::proofs::Applying::at_end, crate::proofs::Applying::not_end))]
+    pub fn end(&self, code: &Code) -> Option<Answer>
+        ensures some { IfSome result (λ a. next code.now self.now.state ≡ Ended a) }
+        ensures none { IfNone result (IsEnd (next code.now self.now.state) → ⊥) }
+    {
+        match self.stand(code) {
+            Stand::End(answer) => Some(answer),
+            Stand::Goes => None,
+            Stand::Fork => None,
+            Stand::Join => None,
+        }
+    }
+
+    /// Whether its newest right side waits.
+    pub fn side_waits(&self) -> bool
+        ensures { IsTrue result ↔ NewestWaits self.now.sides }
+    {
+        self.sides.waits()
+    }
+
+    /// The task of its newest right side; None where that waits, or there is none.
+    pub fn side_begun(&self) -> Option<u32>
+        ensures some { IfSome result (λ n. self.now.sides ≡ Begun n ∷ drop 1 self.now.sides) }
+        ensures none { IfNone result (IsBegun self.now.sides → ⊥) }
+    {
+        self.sides.begun()
+    }
+
     /// One micro-step of its machine.
     pub fn step<M: Mem>(&mut self, code: &Code, mem: &mut M) -> Turn
         requires { CanStep code.now self.old.state (M.view mem.old) }
@@ -88,16 +142,21 @@ impl Task {
     /// # Errors
     ///
     /// Want of memory; the task stays.
-    pub fn fork(&mut self, alloc: Global, code: &Code) -> Result<(), Memory>
+    pub fn fork(&mut self, alloc: Global, code: &Code) -> Result<(), WeaveFault>
         requires runs { Runs code.now }
         requires fork { next code.now self.old.state ≡ AtFork }
-        ensures forked { OnOk result (self.new ≡ forked self.old (slice_get code.now.instructions self.old.state.ip)) }
-        ensures same { OnErr result (self.new ≡ self.old) }
+        ensures { IsForked self.old (slice_get code.now.instructions self.old.state.ip) self.new result }
     {
-        let side = self.machine.side(alloc, code)?;
-        self.sides.push(side)?;
-        self.machine.left(code);
-        Ok(())
+        match self.machine.side(alloc, code) {
+            Err(_) => Err(WeaveFault::Memory),
+            Ok(side) => {
+                if self.sides.push(side).is_err() {
+                    return Err(WeaveFault::Memory);
+                }
+                self.machine.left(code);
+                Ok(())
+            }
+        }
     }
 
     /// Takes its newest right side back, which waits.

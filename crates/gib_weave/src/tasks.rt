@@ -2,6 +2,7 @@
 
 ghost use Rattle.std.specs.Prelude.{◌≡◌, ◌<◌, length, IsTrue, ◌↔◌};
 ghost use Rattle.gib_mem.specs.Memory.{Memory};
+ghost use Rattle.gib_code.specs.Program.{Runs};
 ghost use Rattle.gib_weave.specs.Applied.{Applied, CanGo, over, stepped};
 ghost use Rattle.gib_weave.specs.Weave.{IsOn, task};
 ghost use Rattle.gib_weave.specs.Weave as w;
@@ -10,6 +11,7 @@ use crate::task::{Task, WeaveFault};
 use gib_code::Code;
 use gib_machine::Turn;
 use gib_mem::Mem;
+use std::alloc::Global;
 use std::marker::Model;
 
 /// What may happen next, each to the task of a number.
@@ -69,7 +71,8 @@ impl Tasks {
     /// Whether neither the task nor the run has ended.
     #[tactic(auto, using(crate::proofs::Applying::is_not_past))]
     fn is_on(&self, number: usize) -> bool
-        ensures { (v : Memory) → IsTrue result ↔ IsOn (over v self.now) number }
+        ensures on { (v : Memory) → IsTrue result ↔ IsOn (over v self.now) number }
+        ensures below { IsTrue result → number < length self.now }
     {
         if number >= self.items.len() {
             return false;
@@ -96,5 +99,68 @@ impl Tasks {
         }
         let turn = self.items[place].step(code, mem);
         stepped(turn)
+    }
+
+    /// A task's left side starts, and its right side waits.
+    ///
+    /// # Errors
+    ///
+    /// `NotNow`: it stands at no fork. `Memory`: want of memory. All is then as it was.
+    fn fork(&mut self, alloc: Global, code: &Code, number: u32) -> Result<(), WeaveFault>
+        requires { Runs code.now }
+        ensures { (v : Memory) → Applied code.now (over v self.old) (w.Fork number) (over v self.new) result }
+    {
+        let place = number as usize;
+        if !self.is_on(place) {
+            return Err(WeaveFault::NotNow);
+        }
+        if !self.at(place).is_at_fork(code) {
+            return Err(WeaveFault::NotNow);
+        }
+        self.items[place].fork(alloc, code)
+    }
+
+    /// A task takes its newest right side back, which waits.
+    ///
+    /// # Errors
+    ///
+    /// `NotNow`: it stands at no join, or the side does not wait. All is then as it was.
+    fn take(&mut self, code: &Code, number: u32) -> Result<(), WeaveFault>
+        requires { Runs code.now }
+        ensures { (v : Memory) → Applied code.now (over v self.old) (w.Take number) (over v self.new) result }
+    {
+        let place = number as usize;
+        if !self.is_on(place) {
+            return Err(WeaveFault::NotNow);
+        }
+        if !self.at(place).is_at_join(code) {
+            return Err(WeaveFault::NotNow);
+        }
+        if !self.at(place).side_waits() {
+            return Err(WeaveFault::NotNow);
+        }
+        self.items[place].take(code);
+        Ok(())
+    }
+
+    /// A task that has ended is finished.
+    ///
+    /// # Errors
+    ///
+    /// `NotNow`: it has not ended. All is then as it was.
+    fn finish(&mut self, code: &Code, number: u32) -> Result<(), WeaveFault>
+        ensures { (v : Memory) → Applied code.now (over v self.old) (w.Finish number) (over v self.new) result }
+    {
+        let place = number as usize;
+        if !self.is_on(place) {
+            return Err(WeaveFault::NotNow);
+        }
+        match self.at(place).end(code) {
+            None => Err(WeaveFault::NotNow),
+            Some(answer) => {
+                self.items[place].finish(answer);
+                Ok(())
+            }
+        }
     }
 }
