@@ -1,22 +1,24 @@
 -- What a call of a weave leaves.
 use Rattle.std.proofs.lemmas.Bool.{cases_lt}
-use Rattle.std.proofs.lemmas.List.{get_or_read}
+use Rattle.std.proofs.lemmas.List.{get_or_read, get_or-set_other, length-set}
 use Rattle.std.proofs.Common.{◌≡◌, ◌⊎◌, inl, inr, ℕ, zero, suc, ◌<◌, ◌≤◌, List, [], ◌∷◌, length, get_or, drop, slice_set, true, refl, sym, ap, subst, ◌∙◌, arith}
 use Rattle.std.specs.Prelude.{Result, Ok, Err, slice_get}
 use Rattle.gib_code.specs.declared.answer.Answer.{Answer}
 use Rattle.gib_machine.specs.declared.stand.Stand.TheVariants as stand
 use Rattle.gib_mem.specs.Memory.{Memory, with_drawn, after_put, after_draw}
 use Rattle.gib_region.specs.Region.{IsFull}
+use Rattle.gib_core.specs.Tree.{CoreTree}
 use Rattle.gib_code.specs.Program.{CodeTree}
-use Rattle.gib_machine.specs.Machine.{State, Ask, Silent, Get, Put, Draw, AtFork, AtJoin, Ended, left_starts, next, right_of, takes}
-use Rattle.gib_machine.specs.Stepping.{CanStep, Made, stand_of}
+use Rattle.gib_machine.specs.Machine.{State, Ask, Silent, Get, Put, Draw, AtFork, AtJoin, Ended, left_starts, joins, next, right_of, takes}
+use Rattle.gib_machine.specs.Stepping.{CanStep, Made, stand_of, with_tails}
 use Rattle.gib_machine.specs.declared.turn.Turn.{Turn}
 use Rattle.gib_machine.specs.declared.turn.Turn.TheVariants as turn
 use Rattle.gib_weave.specs.declared.task.WeaveFault.{WeaveFault}
 use Rattle.gib_weave.specs.declared.task.WeaveFault.TheVariants as fault
-use Rattle.gib_weave.specs.Applied.{Applied, CanGo, IsDraw, IsForked, forked, stepped}
-use Rattle.gib_weave.specs.Weave.{Weave, Task, Stage, Status, Waits, Running, Joined, Step, Fork, Take, Finish, Next, NewestWaits, Enabled, IsAction, IsEnd, IsOn, asks, moved, no_task, task, with_sides}
+use Rattle.gib_weave.specs.Applied.{Applied, CanGo, IsBegun, IsDraw, IsForked, forked, stepped}
+use Rattle.gib_weave.specs.Weave.{Weave, Task, Stage, Status, Waits, Running, Joined, Step, Fork, Take, Finish, Join, Next, NewestWaits, NewestFinished, Enabled, IsAction, IsEnd, IsFinished, IsOn, asks, moved, no_task, task, weave_start, with_sides}
 use Rattle.gib_weave.specs.Weave as w
+use Rattle.gib_weave.specs.Starting.{root_start}
 
 not_joined : Joined ≡ Running → ⊥
 not_joined e = absurd cc
@@ -190,3 +192,52 @@ module _ (code : CodeTree) (v : Weave) (ts : List Task) (i : ℕ) (t u : Task) (
 -- Two reads of one task are one.
 pub same_task : (ts us : List Task) (i : ℕ) (t x : Task) → t ≡ get_or us i t → us ≡ ts → i < length ts → x ≡ task ts i → t ≡ x
 same_task ts us i t x e f h g = read_task ts us i t e f h ∙ sym g
+
+-- A number that no task has is that of none that has ended.
+pub none_finished : (ts : List Task) (i : ℕ) → length ts ≤ i → IsFinished (task ts i).stage → ⊥
+none_finished [] i h f = f
+none_finished (t ∷ ts) zero h f = absurd (omega (arith, h))
+none_finished (t ∷ ts) (suc i) h f = none_finished ts i (omega (arith, h)) f
+
+ended_runs : {a : Answer} {g : Stage} → g ≡ w.Finished a → g ≡ Running → ⊥
+ended_runs e f = clash (sym e ∙ f)
+  where
+    clash : {b : Answer} → w.Finished b ≡ Running → ⊥
+    clash h = absurd cc
+
+-- A join changes two tasks.
+module _ (code : CodeTree) (v : Weave) (ts : List Task) (i j : ℕ) (t u y x : Task) (a : Answer) (on : IsOn v i) (te : ts ≡ v.tasks) (e : t ≡ task v.tasks i) (fin : (task v.tasks j).stage ≡ w.Finished a) where
+  others : (i ≡ j) → ⊥
+  others q = ended_runs (ap (λ (k : ℕ). (task v.tasks k).stage) q ∙ fin) on.here
+
+  pub join_applied : next code t.state ≡ AtJoin → t.sides ≡ w.Runs j ∷ drop 1 t.sides → u ≡ record { state = joins t.state a; sides = drop 1 t.sides; stage = t.stage } → y ≡ get_or (slice_set ts i u) j y → j < length ts
+      → x ≡ record { state = y.state; sides = []; stage = Joined } → Next code v (Join i) (record { memory = v.memory; tasks = slice_set (slice_set ts i u) j x })
+  join_applied p q h r b k =
+      let f = task v.tasks i in
+      let same : record { memory = v.memory; tasks = slice_set ts i u } ≡ with_sides v i (joins f.state a) (drop 1 f.sides) =
+      ap (λ (us : List Task). record { memory = v.memory; tasks = slice_set us i u }) te
+      ∙ ap (λ (z : Task). record { memory = v.memory; tasks = slice_set v.tasks i z }) (h ∙ ap (λ (z : Task). record { state = joins z.state a; sides = drop 1 z.sides; stage = z.stage }) e ∙ ap (λ (g : Stage). record { state = joins f.state a; sides = drop 1 f.sides; stage = g }) on.here) in
+      let read : y ≡ task v.tasks j =
+      get_or_read (slice_set ts i u) j y (let l = length-set ts i u in omega (arith, l, b)) r no_task ∙ get_or-set_other ts i j u no_task (λ z. others (sym z)) ∙ ap (λ (us : List Task). task us j) te in
+      let gone : x ≡ record { state = (task v.tasks j).state; sides = []; stage = Joined } = k ∙ ap (λ (z : Task). record { state = z.state; sides = []; stage = Joined }) read in
+      subst (λ (us : List Task). Next code v (Join i) (record { memory = v.memory; tasks = slice_set us j x })) (sym (ap (λ (z : Weave). z.tasks) same))
+      (subst (λ (z : Task). Next code v (Join i) (record { memory = v.memory; tasks = slice_set (with_sides v i (joins f.state a) (drop 1 f.sides)).tasks j z })) (sym gone)
+      (w.joins_it on (sym (ap (λ (z : Task). next code z.state) e) ∙ p) (sym (ap (λ (z : Task). z.sides) e) ∙ q ∙ ap (λ (z : Task). w.Runs j ∷ drop 1 z.sides) e) fin))
+
+-- A join that is not enabled.
+
+pub no_side : (code : CodeTree) (v : Weave) (i : ℕ) (t : Task) → t ≡ task v.tasks i → (IsBegun t.sides → ⊥) → Enabled code v (Join i) → ⊥
+no_side code v i t e n h = go (task v.tasks i).sides (subst (λ (z : Task). IsBegun z.sides → ⊥) e n) h.2
+  where
+    go : (sts : List Status) → (IsBegun sts → ⊥) → NewestFinished v.tasks sts → ⊥
+    go [] m f = f
+    go (Waits x ∷ sts) m f = f
+    go (w.Runs j ∷ sts) m f = m tt
+
+pub not_ended : (code : CodeTree) (v : Weave) (i j : ℕ) (t : Task) → t ≡ task v.tasks i → t.sides ≡ w.Runs j ∷ drop 1 t.sides → (IsFinished (task v.tasks j).stage → ⊥) → Enabled code v (Join i) → ⊥
+not_ended code v i j t e q n h = n (subst (NewestFinished v.tasks) (sym (ap (λ (z : Task). z.sides) e) ∙ q) h.2)
+
+-- The root alone.
+pub root_alone : (core : CoreTree) (code : CodeTree) (v : Memory) (m : State) (w depth level : ℕ) (tails : List ℕ) → ((ts : List ℕ) → with_tails m ts ≡ root_start core code w depth level ts)
+    → record { memory = v; tasks = record { state = with_tails m tails; sides = []; stage = Running } ∷ [] } ≡ weave_start core code v w depth level tails
+root_alone core code v m w depth level tails h = ap (λ (s : State). record { memory = v; tasks = record { state = s; sides = []; stage = Running } ∷ [] }) (h tails)

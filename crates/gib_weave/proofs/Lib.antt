@@ -39,3 +39,4 @@ pub mod RootEnds
 pub mod Standing
 pub mod Newest
 pub mod Applying
+pub mod Going

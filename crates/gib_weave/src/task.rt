@@ -3,9 +3,9 @@
 ghost use Rattle.std.specs.Prelude.{◌≡◌, ◌<◌, [], ◌∷◌, length, drop, slice_get, IsTrue, ◌↔◌, IfSome, IfNone};
 ghost use Rattle.gib_code.specs.Program.{Runs};
 ghost use Rattle.gib_machine.specs.Machine.{AtFork, AtJoin, Ended, next, takes, joins};
-ghost use Rattle.gib_machine.specs.Stepping.{CanStep, Made, stand_of};
+ghost use Rattle.gib_machine.specs.Stepping.{CanStep, Made, stand_of, with_tails};
 ghost use Rattle.gib_weave.specs.Applied.{IsBegun, IsForked};
-ghost use Rattle.gib_weave.specs.Weave.{Running, Finished, Joined, IsEnd, NewestWaits, Runs as Begun};
+ghost use Rattle.gib_weave.specs.Weave.{Running, Finished, Joined, IsEnd, IsFinished, NewestWaits, Runs as Begun};
 
 use crate::sides::Sides;
 use gib_code::{Answer, Code};
@@ -55,6 +55,18 @@ impl Model for Task {
 }
 
 impl Task {
+    /// A task without right sides.
+    pub fn new(alloc: Global, machine: Machine, tails: Tails) -> Task
+        ensures { result ≡ record { state = with_tails machine tails; sides = []; stage = Running } }
+    {
+        Task {
+            machine,
+            tails,
+            sides: Sides::new(alloc),
+            stage: Stage::Running,
+        }
+    }
+
     /// Whether it runs.
     pub fn is_running(&self) -> bool
         ensures { IsTrue result ↔ (self.now.stage ≡ Running) }
@@ -63,6 +75,18 @@ impl Task {
             Stage::Running => true,
             Stage::Finished(_) => false,
             Stage::Joined => false,
+        }
+    }
+
+    /// The answer of a task that has ended and is not joined.
+    pub fn finished(&self) -> Option<Answer>
+        ensures some { IfSome result (λ a. self.now.stage ≡ Finished a) }
+        ensures none { IfNone result (IsFinished self.now.stage → ⊥) }
+    {
+        match self.stage {
+            Stage::Finished(answer) => Some(answer),
+            Stage::Running => None,
+            Stage::Joined => None,
         }
     }
 
