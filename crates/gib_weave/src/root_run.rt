@@ -73,7 +73,14 @@ pub(crate) fn root_machine(
     ensures { IfOk result (λ machine. (tails : List ℕ) → with_tails machine tails ≡ root_start (core_of lowered.now.core) lowered.now.code (spec.word_of root) depth level tails) }
 {
     let words = [word_of(root)];
-    Machine::make(alloc, lowered.code(), main_start(lowered), &words, depth, level)
+    Machine::make(
+        alloc,
+        lowered.code(),
+        main_start(lowered),
+        &words,
+        depth,
+        level,
+    )
 }
 
 /// Runs a core on the value of the root, with at most `depth` calls nested and each `par` in place, over a memory from which nobody

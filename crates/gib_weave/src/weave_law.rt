@@ -88,3 +88,9 @@ pub fn a_sound_weave_can_go()
     ensures { (core : CoreTree) (code : CodeTree) (ty : Ty) (o : Outcome) (whole : Cost) (w : Weave) → IsLowered core code → AllFit core → Runs code → Sound core code ty o whole w
         → ((i : ℕ) → i < length w.tasks → (task w.tasks i).state.width ≡ widest code.functions) → CanGo code w }
 {}
+
+/// No event changes the width of a frame.
+pub fn events_keep_the_widths()
+    ensures { (code : CodeTree) (w : Weave) → ((i : ℕ) → i < length w.tasks → (task w.tasks i).state.width ≡ widest code.functions) → (e : Event) (v : Weave) → Next code w e v
+        → (i : ℕ) → i < length v.tasks → (task v.tasks i).state.width ≡ widest code.functions }
+{}

@@ -1,4 +1,4 @@
-use Rattle.std.proofs.Common.{◌≡◌, false, true, refl, sym, ap, subst, ◌∙◌, length, arith}
+use Rattle.std.proofs.Common.{◌≡◌, false, true, refl, ap, ◌∙◌, length, arith}
 use Rattle.gib_weave.specs.Applied.{over}
 use Rattle.gib_machine.specs.Machine.{next}
 use Rattle.gib_weave.specs.Weave.{Task}
