@@ -16,8 +16,6 @@ use Rattle.gib_weave.specs.declared.task.WeaveFault.{WeaveFault}
 use Rattle.gib_weave.specs.declared.task.WeaveFault.TheVariants as fault
 use Rattle.gib_machine.specs.declared.turn.Turn.{Turn}
 use Rattle.gib_machine.specs.declared.turn.Turn.TheVariants as turn
-use Rattle.gib_weave.specs.declared.tasks.Event.{Event as TheEvent}
-use Rattle.gib_weave.specs.declared.tasks.Event.TheVariants as event
 use Rattle.gib_weave.specs.Weave.{Weave, Task, Event, Step, Fork, Steal, Take, Finish, Join, Next, Enabled, Status, Waits, Stage, asks, task}
 use Rattle.gib_weave.specs.Weave as w
 
@@ -59,15 +57,6 @@ IsForked t i t' (Err fault.Memory) = t' ≡ t
 IsForked t i t' (Err fault.NotNow) = ⊥
 IsForked t i t' (Err fault.Full) = ⊥
 
--- An event as the code keeps it.
-abbrev pub event_of : TheEvent → Event
-event_of (event.Step i) = Step i
-event_of (event.Fork i) = Fork i
-event_of (event.Steal i) = Steal i
-event_of (event.Take i) = Take i
-event_of (event.Finish i) = Finish i
-event_of (event.Join i) = Join i
-
 -- Tasks over a memory.
 abbrev pub over : Memory → List Task → Weave
 over m ts = record { memory = m; tasks = ts }
@@ -90,6 +79,7 @@ IsDraw AtFork = ⊥
 IsDraw AtJoin = ⊥
 IsDraw (Ended a) = ⊥
 
+-- Of an event.
 abbrev pub DrawsNow : CodeTree → Weave → Event → Type 0
 DrawsNow code v (Step i) = IsDraw (asks code v i)
 DrawsNow code v (Fork i) = ⊥

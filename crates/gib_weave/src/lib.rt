@@ -14,4 +14,4 @@ pub mod weave_law;
 pub use root_run::{RunFault, run};
 pub use steps::run_for;
 pub use task::WeaveFault;
-pub use tasks::{Event, Tasks};
+pub use tasks::Tasks;

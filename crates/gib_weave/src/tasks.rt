@@ -21,23 +21,6 @@ use gib_region::Tails;
 use std::alloc::Global;
 use std::marker::Model;
 
-/// What may happen next, each to the task of a number.
-#[derive(Clone, Copy, Debug, PartialEq, Eq)]
-pub enum Event {
-    /// The task makes a micro-step.
-    Step(u32),
-    /// It stands at a fork: its left side starts, and its right side waits.
-    Fork(u32),
-    /// Its oldest right side that waits becomes a task.
-    Steal(u32),
-    /// It stands at a join, and takes its newest right side back.
-    Take(u32),
-    /// It has ended.
-    Finish(u32),
-    /// It stands at a join, and takes the answer of its newest right side's task.
-    Join(u32),
-}
-
 /// Tasks by their numbers. Task 0 is the root. The memory over which they run is handed to each call.
 #[derive(Drop)]
 pub struct Tasks {
