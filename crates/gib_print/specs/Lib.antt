@@ -4,3 +4,6 @@ pub mod Stepping
 pub mod Counting
 pub mod Waiting
 pub mod Example
+pub mod Image
+pub mod ImageReading
+pub mod ImageWalk
