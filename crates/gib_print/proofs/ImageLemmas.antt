@@ -1,12 +1,11 @@
 -- Images: what is written, and what the answers of reading are.
-use Rattle.std.proofs.Common.{◌≡◌, ℕ, zero, suc, ◌+◌, ◌*◌, ◌<◌, ◌≤◌, ◌^◌, List, [], ◌∷◌, ◌++◌, length, take, drop, Option, Some, None, Ok, Err, refl, sym, ap, subst, ◌∙◌, arith, length-append, append-nil}
+use Rattle.std.proofs.Common.{◌≡◌, ℕ, zero, suc, ◌+◌, ◌*◌, ◌<◌, ◌^◌, List, [], ◌∷◌, ◌++◌, length, drop, Err, refl, sym, ap, subst, ◌∙◌, arith, length-append}
 use Rattle.std.specs.Prelude.{ℤ, FitsSigned, ◌==◌}
 use Rattle.std.specs.Int.{w64, cast_signed}
-use Rattle.gib_types.specs.declared.table.Ty.{Ty}
 use Rattle.gib_types.specs.declared.table.Ty.TheVariants as ty
 use Rattle.gib_types.specs.declared.table.TyId.{TyId}
 use Rattle.gib_types.specs.Layout.{LaidOut}
-use Rattle.gib_types.specs.Tree.{Datum, whole, truth, con}
+use Rattle.gib_types.specs.Tree.{Datum, whole, truth}
 use Rattle.gib_mem.specs.Memory.{Store, Memory, with_drawn}
 use Rattle.gib_file.specs.Packed.{packed, tree}
 use Rattle.gib_file.specs.Framed.{header, File}
@@ -17,7 +16,7 @@ use Rattle.gib_packed.specs.declared.root.Root.TheVariants.{Whole, Truth, At}
 use Rattle.gib_packed.proofs.Typed.{Dec-typed}
 use Rattle.gib_print.specs.Image.{shown, answer_of, image_of, IsFormed, answer_in, chunks_of}
 use Rattle.gib_print.specs.Image as image
-use Rattle.gib_print.specs.ImageReading.{IsRead, IsRefused, ReadsTo}
+use Rattle.gib_print.specs.ImageReading.{IsRead, ReadsTo}
 use Rattle.gib_print.specs.ImageWalk.{StandsAt, Comes, FailsWith}
 use Rattle.gib_print.specs.declared.image_fault.ImageFault.{ImageFault}
 use Rattle.gib_print.specs.declared.image_fault.ImageFault.TheVariants as fault

@@ -9,3 +9,4 @@ pub mod SizeLemmas
 mod ImageStore
 mod ImageWalkLemmas
 mod ImageLemmas
+mod ImageLaws

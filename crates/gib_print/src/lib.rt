@@ -8,6 +8,7 @@ mod image_head;
 mod image_of;
 mod image_value;
 mod image_walk;
+pub mod law;
 mod piece;
 mod print;
 mod step;
@@ -21,5 +22,7 @@ pub use image_of::image;
 pub use image_value::read_image;
 pub use print::print_at;
 
+#[cfg(test)]
+mod image_tests;
 #[cfg(test)]
 mod tests;

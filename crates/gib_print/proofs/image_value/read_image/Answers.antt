@@ -1,4 +1,8 @@
 use Rattle.std.proofs.Common.{◌≡◌, ◌∙◌, ap, subst, sym, refl, List, ℕ, arith}
+use Rattle.std.specs.Prelude.{FitsSigned}
+use Rattle.std.specs.Int.{w64}
+use Rattle.std.proofs.lemmas.Int.{to_z-of_z}
+use Rattle.gib_types.specs.Tree.{whole}
 use Rattle.gib_types.specs.declared.table.Ty.{Ty}
 use Rattle.gib_types.specs.declared.table.Ty.TheVariants.{Whole, Truth, Tree}
 use Rattle.gib_print.specs.Image.{IsFormed, answer_in}
@@ -7,9 +11,9 @@ use Rattle.gib_print.proofs.ImageLemmas.{read_whole, read_truth, read_there, ref
 use Rattle.gib_print.proofs.image_value.read_image.Goals as goal
 
 pub returns-in-Whole : goal.returns-in-Whole
-returns-in-Whole c = record {
+returns-in-Whole c = let fits : FitsSigned w64 c.cast_signed.result = omega (arith, c.cast_signed.type_inv) in record {
   reads = subst (λ (t : Ty). IsRead c.args.layouts.now t c.args.bytes.now c.from_parts.result) (sym c.in-Whole.is)
-      (read_whole c.cast_signed.result (subst (λ (t : Ty). IsFormed t c.args.bytes.now) c.in-Whole.is c.in-Some.ensures.0) c.in-Some.ensures.1 ? ? c.from_parts.ensures);
+      (read_whole c.cast_signed.result (subst (λ (t : Ty). IsFormed t c.args.bytes.now) c.in-Whole.is c.in-Some.ensures.0) c.in-Some.ensures.1 c.cast_signed.ensures fits (c.from_parts.ensures ∙ ap whole (to_z-of_z w64 c.cast_signed.result fits)));
 }
 
 pub returns-in-Truth : goal.returns-in-Truth

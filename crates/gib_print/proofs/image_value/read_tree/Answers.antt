@@ -1,5 +1,4 @@
-use Rattle.std.proofs.Common.{◌≡◌, ◌∙◌, ◌++◌, ap, subst, sym, refl, List, ℕ, arith, length}
-use Rattle.gib_types.specs.Tree.{Datum}
+use Rattle.std.proofs.Common.{◌∙◌, ◌++◌, ap, subst, sym, List, ℕ, arith, length}
 use Rattle.gib_types.specs.declared.table.Ty.TheVariants.{Tree}
 use Rattle.gib_types.specs.Table.{Table}
 use Rattle.gib_file.specs.Framed.{File, header}

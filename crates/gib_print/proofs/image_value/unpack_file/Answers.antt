@@ -1,8 +1,5 @@
-use Rattle.std.proofs.Common.{◌≡◌, ◌∙◌, ap, subst, subst₂, sym, refl, List, ℕ}
-use Rattle.gib_types.specs.Tree.{Datum}
-use Rattle.gib_types.specs.declared.table.Ty.{Ty}
-use Rattle.gib_types.specs.Table.{Table}
-use Rattle.gib_file.specs.Framed.{File, Framed}
+use Rattle.std.proofs.Common.{subst, refl, List, ℕ}
+use Rattle.gib_file.specs.Framed.{Framed}
 use Rattle.gib_file.specs.Packed.{Packed}
 use Rattle.gib_file.specs.Surveyed.{Surveyed}
 use Rattle.gib_print.proofs.image_value.unpack_file.Goals as goal

@@ -1,9 +1,7 @@
-use Rattle.std.proofs.Common.{◌≡◌, ℕ, List, ◌∷◌, ◌<◌, ◌+◌, ◌*◌, ◌-◌, arith, refl, sym, ap, subst, ◌∙◌}
-use Rattle.gib_types.specs.declared.table.TyId.{TyId}
+use Rattle.std.proofs.Common.{ℕ, List, ◌∷◌, ◌<◌, ◌+◌, ◌*◌, ◌-◌, arith, sym, ap, subst, ◌∙◌}
 use Rattle.gib_print.specs.ImageWalk.{Walks}
 use Rattle.gib_print.specs.declared.due.Due.{Due}
-use Rattle.gib_print.specs.declared.due.Due.TheVariants.{Item, From}
-use Rattle.gib_print.proofs.ImageWalkLemmas.{places, enters_places, walks_start, walks_go_on, walks_faulty, walks_too_many, walks_end, walks_enter}
+use Rattle.gib_print.proofs.ImageWalkLemmas.{places, enters_places, walks_go_on, walks_faulty, walks_too_many, walks_end, walks_enter}
 use Rattle.gib_print.proofs.image_walk.read_packed.Goals as goal
 
 pub due-preserved-in-From : goal.due-preserved-in-From

@@ -1,13 +1,12 @@
-use Rattle.std.proofs.Common.{◌-◌, [], ◌∷◌, take, drop, append_assoc, ◌++◌, ◌≡◌, ◌+◌, ◌≤◌, ℕ, List, length, Some, None, arith, refl, sym, ap, subst, ◌∙◌}
-use Rattle.std.specs.Prelude.{slice_get}
+use Rattle.std.proofs.Common.{◌-◌, [], ◌∷◌, take, drop, append_assoc, ◌++◌, ◌≡◌, ◌+◌, ℕ, List, Some, None, arith, sym, ap, subst, ◌∙◌}
 use Rattle.std.proofs.lemmas.Option.{slice_get_within}
-use Rattle.gib_types.specs.Layout.{LaidOut, head_size, scalar_size}
+use Rattle.gib_types.specs.Layout.{scalar_size}
 use Rattle.gib_types.specs.declared.table.Ty.{Ty}
 use Rattle.gib_print.specs.ImageWalk.{items_due}
 use Rattle.gib_types.specs.Table.{Table, con_at, fields_at}
 use Rattle.gib_types.specs.declared.layouts.Layout.{Layout}
 use Rattle.gib_file.proofs.Sound.{con_at_is}
-use Rattle.gib_print.specs.ImageReading.{HasHead, scalars_at, no_tag, cut_head, bad_truth}
+use Rattle.gib_print.specs.ImageReading.{scalars_at, no_tag, bad_truth}
 use Rattle.gib_print.proofs.ImageWalkLemmas.{head_cut, has_head, first_bad_here, packed_here, head_met}
 use Rattle.gib_print.proofs.image_walk.Walk.meet_head.Goals as goal
 

@@ -1,4 +1,4 @@
-use Rattle.std.proofs.Common.{arith, refl, inl, inr, sym, ap, ◌∙◌, ◌∷◌, ◌≡◌, List}
+use Rattle.std.proofs.Common.{arith, inl, inr, ap, ◌∙◌, ◌∷◌, ◌≡◌, List}
 use Rattle.gib_print.specs.ImageReading.{cut_pointer}
 use Rattle.gib_print.specs.declared.image_walk.Walk.{Walk}
 use Rattle.gib_print.specs.declared.due.Due.{Due}
