@@ -10,3 +10,4 @@ mod ImageStore
 mod ImageWalkLemmas
 mod ImageLemmas
 mod ImageLaws
+mod TotalLemmas

@@ -7,3 +7,4 @@ pub mod Example
 pub mod Image
 pub mod ImageReading
 pub mod ImageWalk
+pub mod Numbers

@@ -12,6 +12,7 @@ pub mod law;
 mod piece;
 mod print;
 mod step;
+mod total;
 mod waiting;
 mod walk;
 mod work;
@@ -21,6 +22,7 @@ pub use image_fault::ImageFault;
 pub use image_of::image;
 pub use image_value::read_image;
 pub use print::print_at;
+pub use total::{Total, total_at};
 
 #[cfg(test)]
 mod image_tests;
