@@ -1,5 +1,5 @@
 -- The walk over an image: what each step makes of what is left.
-use Rattle.std.proofs.Common.{◌≡◌, ℕ, zero, suc, ◌+◌, ◌*◌, ◌<◌, ◌≤◌, List, [], ◌∷◌, ◌++◌, length, take, drop, Bool, true, false, Option, Some, None, refl, sym, ap, subst, subst₂, ◌∙◌, arith, append_assoc, append-nil, inl, inr}
+use Rattle.std.proofs.Common.{◌≡◌, ℕ, zero, suc, ◌+◌, ◌<◌, ◌≤◌, List, [], ◌∷◌, ◌++◌, length, take, drop, Bool, true, false, Option, Some, None, refl, sym, ap, subst, subst₂, ◌∙◌, arith, append_assoc, append-nil, inl, inr}
 use Rattle.gib_types.specs.declared.table.Ty.{Ty}
 use Rattle.gib_types.specs.declared.table.Ty.TheVariants as ty
 use Rattle.gib_types.specs.declared.table.TyId.{TyId}
@@ -20,7 +20,7 @@ use Rattle.gib_packed.specs.Head.{head_bytes, offset_bytes}
 use Rattle.gib_mem.specs.Memory.{Holds}
 use Rattle.gib_mem.specs.Memory as m
 use Rattle.gib_file.specs.Packed.{tree, trees, scalars}
-use Rattle.gib_packed.specs.Decoding.{Dec, redirect, indirect, head, Decs, done, whole_field, truth_field, tree_field, Points}
+use Rattle.gib_packed.specs.Decoding.{redirect, indirect, head, Decs, done, whole_field, truth_field, tree_field, Points}
 use Rattle.gib_print.specs.Image.{chunk_store}
 use Rattle.gib_print.specs.ImageReading.{items, all_items, HasHead, first_bad, scalars_at, IsBad, cut_head, Fails, too_many, refused, behind, inside, FailAmong}
 use Rattle.gib_print.specs.ImageReading as among

@@ -25,6 +25,4 @@ pub use print::print_at;
 pub use total::{Total, total_at};
 
 #[cfg(test)]
-mod image_tests;
-#[cfg(test)]
 mod tests;

@@ -30,7 +30,7 @@ fn constructor(alloc: Global, name: u32, fields: &[Ty]) -> Result<Constructor, M
 }
 
 // data T = Nil | Cons Int T | Node Bool T Int T ;
-pub(crate) fn make_types(alloc: Global) -> Result<TypeTable, Memory>
+fn make_types(alloc: Global) -> Result<TypeTable, Memory>
     ensures { IfOk result (λ types. types ≡ example_table) }
 {
     let nil = constructor(alloc, 1, &[])?;
@@ -54,7 +54,7 @@ fn make_names(alloc: Global) -> Result<Names, NameFault>
 }
 
 // Whether both chunks of a memory were drawn.
-pub(crate) fn draw_both<M: Mem>(mem: &mut M) -> bool
+fn draw_both<M: Mem>(mem: &mut M) -> bool
     requires { M.view mem.old ≡ nothing 2 }
     ensures { IsTrue result → Owned (M.view mem.new).cells 0 8192 }
 {
@@ -65,7 +65,7 @@ pub(crate) fn draw_both<M: Mem>(mem: &mut M) -> bool
 }
 
 // Puts these bytes from an address on.
-pub(crate) fn put<M: Mem>(mem: &mut M, at: u64, bytes: &[u8])
+fn put<M: Mem>(mem: &mut M, at: u64, bytes: &[u8])
     requires small { at + length bytes.now ≤ 2 ^ 44 }
     requires owned { Owned (M.view mem.old).cells at (length bytes.now) }
     ensures { M.view mem.new ≡ after_puts (M.view mem.old) at bytes.now }

@@ -1,6 +1,6 @@
-use Rattle.std.proofs.Common.{◌≡◌, ℕ, suc, ◌+◌, ◌*◌, ◌<◌, ◌++◌, ◌∷◌, [], List, arith, refl, sym, ap, subst, ◌∙◌, append-nil, append_assoc, length}
-use Rattle.gib_mem.specs.Memory.{Memory, Store, IsThere, look_of, with_drawn}
-use Rattle.gib_print.specs.Image.{header, shown, image_of}
+use Rattle.std.proofs.Common.{◌≡◌, ℕ, suc, ◌+◌, ◌*◌, ◌++◌, ◌∷◌, [], List, arith, sym, ap, subst, ◌∙◌, append-nil, append_assoc, length}
+use Rattle.gib_mem.specs.Memory.{Memory, IsThere, look_of, with_drawn}
+use Rattle.gib_print.specs.Image.{header, shown}
 use Rattle.gib_print.proofs.ImageLemmas.{image-long}
 use Rattle.gib_print.proofs.image_of.image.Goals as goal
 

@@ -1,9 +1,8 @@
-use Rattle.std.proofs.Common.{◌≡◌, ℕ, ◌+◌, ◌%◌, ◌^◌, List, length, reverse, refl, sym, ap, subst, ◌∙◌, arith}
+use Rattle.std.proofs.Common.{ℕ, ◌+◌, ◌%◌, ◌^◌, List, reverse, refl, sym, ap, subst, ◌∙◌, arith}
 use Rattle.std.proofs.lemmas.Bool.{eqb-true}
 use Rattle.std.proofs.lemmas.Int.{of_z-to_z}
 use Rattle.std.specs.Int.{w64, cast_signed, cast_unsigned}
 use Rattle.gib_mem.specs.Memory.{Memory}
-use Rattle.gib_print.specs.Numbers.{in_piece, sum_of}
 use Rattle.gib_print.specs.Stepping.{Step}
 use Rattle.gib_print.specs.declared.work.Work.{Work}
 use Rattle.gib_print.proofs.CountLemmas.{no_items}
