@@ -1,5 +1,5 @@
 -- From the end of a run over region memory to what the program means.
-use Rattle.std.proofs.Common.{◌≡◌, ◌∙◌, refl, ℕ, ◌+◌, ◌-◌, ◌*◌, ◌≤◌, List, [], length, Result, Ok, Err, IfOk, IfErr, MatchResult, sym, ap, subst, subst₂, arith}
+use Rattle.std.proofs.Common.{◌≡◌, ◌∙◌, refl, Bool, ℤ, ℕ, ◌+◌, ◌-◌, ◌*◌, ◌≤◌, List, [], length, Result, Ok, Err, IfOk, IfErr, MatchResult, sym, ap, subst, subst₂, arith}
 use Rattle.gib_types.specs.declared.table.Ty.{Ty}
 use Rattle.gib_types.specs.Layout.{LaidOut}
 use Rattle.gib_types.specs.Loaded.{Loaded}
@@ -20,9 +20,9 @@ use Rattle.gib_load.specs.Preorder.{heads}
 use Rattle.gib_load.specs.Refusal.{Refused, at_start, at_head, Spent}
 use Rattle.gib_load.proofs.Spots.{heads_limit}
 use Rattle.gib_syntax.specs.Tree.{ProgramTree}
-use Rattle.gib_syntax.specs.Declarations.{table_of_program, input_type}
-use Rattle.gib_syntax.specs.Meaning.{run}
-use Rattle.gib_core.specs.Cost.{run_cost, body_cost}
+use Rattle.gib_syntax.specs.Declarations.{table_of_program, input_type, output_type}
+use Rattle.gib_syntax.specs.Meaning.{Outcome, run}
+use Rattle.gib_core.specs.Cost.{Cost, run_cost, body_cost}
 use Rattle.gib_core.specs.Low.{laid_of}
 use Rattle.gib_core.specs.LoweredParts.{LoweredParts}
 use Rattle.gib_core.specs.Meaning.{core_run}
@@ -32,14 +32,14 @@ use Rattle.gib_core.specs.Tree.{CoreTree}
 use Rattle.gib_code.specs.declared.answer.Answer.{Answer}
 use Rattle.gib_code.specs.declared.answer.Answer.TheVariants as answer
 use Rattle.gib_weave.specs.declared.root_run.RunFault.{RunFault}
-use Rattle.gib_weave.specs.declared.root_run.RunFault.TheVariants as fault
 use Rattle.gib_weave.specs.Running.{IsStart, RunEnds}
+use Rattle.gib_weave.specs.Sound.{IsAnswer}
 use Rattle.gib_app.specs.declared.machine_run.Ran.{Ran}
 use Rattle.gib_app.specs.declared.machine_run.RunStop.{RunStop}
 use Rattle.gib_app.specs.declared.machine_run.RunStop.TheVariants as stop
 use Rattle.gib_app.specs.Cores.{core_after}
 use Rattle.gib_app.specs.Running.{IsInput}
-use Rattle.gib_app.specs.MachineRun.{StandsMeant, IsMachineStop, IsRootOf, Halts, of_end}
+use Rattle.gib_app.specs.MachineRun.{StandsMeant, IsMachineStop, IsRootOf, Halts, EndsWith, program_cost}
 
 -- A value that was loaded is where a run may start.
 pub start_of : (l : LoweredParts) (laid : LaidOut) (ty : Ty) (v : Datum) (m : Memory) (place : Root) (tails : List ℕ) → laid ≡ l.code.laid → ty ≡ (core_of l.core).main.parameter
@@ -71,27 +71,16 @@ pub load_halts : (core : CoreTree) (laid : LaidOut) (depth : ℕ) (v : Datum) (m
 load_halts core laid depth v m m' refused spent =
     subst (λ (n : ℕ). Tight n (run_cost core depth 0 v)) (refused_limit laid m m' v refused) (loading_is_tight core depth m'.limit v spent.loaded)
 
--- The end of the machine's run, as the end of a run.
-pub run_ended : (l : LoweredParts) (depth limit : ℕ) (v : Datum) (m m' : Memory) (r : Result Answer RunFault) → m.limit ≡ limit → RunEnds l depth v m m' r
-    → MatchResult (of_end r) (IsRootOf (core_of l.core) depth v l.code.laid m'.cells) (Halts (core_of l.core) depth limit v)
-run_ended l depth limit v m m' (Ok (answer.Whole z)) e h = record {
-  result = whole z;
-  means = h.2;
-  stands = subst (λ (t : Ty). Stands l.code.laid m'.cells (root.Whole z) t (whole z)) (sym h.0) (a_whole h.1);
-}
-run_ended l depth limit v m m' (Ok (answer.Truth b)) e h = record {
-  result = truth b;
-  means = h.1;
-  stands = subst (λ (t : Ty). Stands l.code.laid m'.cells (root.Truth b) t (truth b)) (sym h.0) a_truth;
-}
-run_ended l depth limit v m m' (Ok (answer.At a)) e h = record {
-  result = h.1;
-  means = h.3;
-  stands = subst (λ (t : Ty). Stands l.code.laid m'.cells (root.At a) t h.1) (sym h.2) (a_tree {t = record { 0 = h.0 }} h.4.dec);
-}
-run_ended l depth limit v m m' (Ok answer.Deep) e h = h
-run_ended l depth limit v m m' (Err fault.Full) e h = subst (λ (n : ℕ). Tight n (run_cost (core_of l.core) depth 0 v)) e h.0
-run_ended l depth limit v m m' (Err fault.Memory) e h = tt {0}
+-- An answer of the machine is a root for what was owed.
+module _ (laid : LaidOut) (s : Store) (ty : Ty) (owed : Outcome) where
+  pub whole_stands : (z : ℤ) → IsAnswer laid s ty owed (answer.Whole z) → IsRootOf laid s ty owed (root.Whole z)
+  whole_stands z h = record { result = whole z; means = h.2; stands = subst (λ (t : Ty). Stands laid s (root.Whole z) t (whole z)) (sym h.0) (a_whole h.1) }
+
+  pub truth_stands : (b : Bool) → IsAnswer laid s ty owed (answer.Truth b) → IsRootOf laid s ty owed (root.Truth b)
+  truth_stands b h = record { result = truth b; means = h.1; stands = subst (λ (t : Ty). Stands laid s (root.Truth b) t (truth b)) (sym h.0) a_truth }
+
+  pub tree_stands : (a : ℕ) → IsAnswer laid s ty owed (answer.At a) → IsRootOf laid s ty owed (root.At a)
+  tree_stands a h = record { result = h.1; means = h.3; stands = subst (λ (t : Ty). Stands laid s (root.At a) t h.1) (sym h.2) (a_tree {t = record { 0 = h.0 }} h.4.dec) }
 
 -- What is packed by the survey's table is so by that of the layouts.
 packed_in : (l : LoweredParts) (laid : LaidOut) (s : Surveyed) (v : Datum) → laid ≡ l.code.laid → s.table ≡ l.code.laid.table → Packed s.table s.ty v s.bytes → Packed laid.table s.ty v s.bytes
@@ -99,17 +88,16 @@ packed_in l laid s v e f p = subst (λ (t : Table). Packed t s.ty v s.bytes) (f 
 
 -- Loading and then running.
 pub loaded_ran : (l : LoweredParts) (laid : LaidOut) (s : Surveyed) (depth : ℕ) (m0 m1 m2 : Memory) (place : Root) (tails : List ℕ) (r : Result Answer RunFault) (e : Result Root RunStop)
-    → laid ≡ l.code.laid → s.table ≡ l.code.laid.table → s.ty ≡ (core_of l.core).main.parameter → e ≡ of_end r
+    → laid ≡ l.code.laid → s.table ≡ l.code.laid.table → s.ty ≡ (core_of l.core).main.parameter
     → ((v : Datum) → Packed laid.table s.ty v s.bytes → record { memory = m1; root = place; tails = tails } ≡ placed_in laid m0 v)
     → ((v : Datum) → Packed laid.table s.ty v s.bytes → Holding laid s.ty v (record { memory = m1; root = place; tails = tails }))
-    → ((v : Datum) → IsStart l place tails m1 v → RunEnds l depth v m1 m2 r)
-    → (v : Datum) → Packed s.table s.ty v s.bytes → MatchResult e (IsRootOf (core_of l.core) depth v l.code.laid m2.cells) (Halts (core_of l.core) depth m0.limit v)
-loaded_ran l laid s depth m0 m1 m2 place tails r e same table ty is placed holds ends v p =
+    → ((v : Datum) → IsStart l place tails m1 v → RunEnds l depth v m1 m2 r) → ((v : Datum) → RunEnds l depth v m1 m2 r → EndsWith l depth m1.limit v m2.cells e)
+    → (v : Datum) → Packed s.table s.ty v s.bytes → EndsWith l depth m0.limit v m2.cells e
+loaded_ran l laid s depth m0 m1 m2 place tails r e same table ty placed holds ran ends v p =
     let q = packed_in l laid s v same table p in
     let limit : m1.limit ≡ m0.limit = ap (λ (x : Placement). x.memory.limit) (placed v q) ∙ placed_limit laid m0 v in
     let start = start_of l laid s.ty v m1 place tails same ty (holds v q) in
-    subst (λ (x : Result Root RunStop). MatchResult x (IsRootOf (core_of l.core) depth v l.code.laid m2.cells) (Halts (core_of l.core) depth m0.limit v)) (sym is)
-    (run_ended l depth m0.limit v m1 m2 r limit (ends v start))
+    subst (λ (n : ℕ). EndsWith l depth n v m2.cells e) limit (ends v (ran v start))
 
 -- Loading that stops.
 pub load_stops : (l : LoweredParts) (laid : LaidOut) (s : Surveyed) (depth : ℕ) (m0 m1 : Memory) → laid ≡ l.code.laid → s.table ≡ l.code.laid.table
@@ -133,7 +121,7 @@ pub parameter_of : (p : ProgramTree) (l : LoweredParts) → core_of l.core ≡ c
 parameter_of p l e = ap (λ (c : CoreTree). c.main.parameter) e
 
 pub root_meant : (p : ProgramTree) (depth : ℕ) (input : List ℕ) (v : Datum) (l l' : LoweredParts) (s : Store) (place : Root) → IsOfProgram p l → IsInput p v input → l' ≡ l
-    → IsRootOf (core_of l.core) depth v l.code.laid s place → StandsMeant p depth input l'.code.laid s place
+    → IsRootOf l.code.laid s (core_of l.core).main.result (core_run (core_of l.core) depth v) place → StandsMeant p depth input l'.code.laid s place
 root_meant p depth input v l l' s place of is e h =
     let there : StandsMeant p depth input l.code.laid s place = record {
       value = v;
@@ -146,7 +134,7 @@ root_meant p depth input v l l' s place of is e h =
     subst (λ (x : LoweredParts). StandsMeant p depth input x.code.laid s place) (sym e) there
 
 pub stop_meant : (p : ProgramTree) (depth chunks : ℕ) (input : List ℕ) (v : Datum) (l : LoweredParts) → IsOfProgram p l → IsInput p v input → (why : RunStop)
-    → Halts (core_of l.core) depth chunks v why → IsMachineStop p depth chunks input why
+    → Halts (core_run (core_of l.core) depth v) chunks (run_cost (core_of l.core) depth 0 v) why → IsMachineStop p depth chunks input why
 stop_meant p depth chunks input v l of is stop.Memory h = tt {0}
 stop_meant p depth chunks input v l of is (stop.Refused f) h = absurd h
 stop_meant p depth chunks input v l of is stop.Deep h = record { value = v; is_input = is; means = sym (of.means depth v) ∙ h }
@@ -166,17 +154,39 @@ input_of : (p : ProgramTree) (input : List ℕ) (s : Surveyed) → length input 
 input_of p input s short file v q = record { short = short; file = file v q }
 
 -- The run of a program on a survey that is of the input.
-pub survey_stands : (p : ProgramTree) (depth chunks : ℕ) (input : List ℕ) (s : Surveyed) (l : LoweredParts) → IsOfProgram p l → length input ≤ 16777216 → IsPacked s.table s.ty s.bytes s.count
+pub survey_stands : (p : ProgramTree) (depth : ℕ) (input : List ℕ) (s : Surveyed) (l : LoweredParts) → IsOfProgram p l → length input ≤ 16777216 → IsPacked s.table s.ty s.bytes s.count
     → ((v : Datum) → Packed s.table s.ty v s.bytes → File (table_of_program p) (input_type p) v input) → (r : Result Ran RunStop) → IfOk r (λ ran. ran.lowered ≡ l)
-    → ((v : Datum) → Packed s.table s.ty v s.bytes → MatchResult r (λ ran. IsRootOf (core_of l.core) depth v l.code.laid (store_of ran.memory) ran.root) (Halts (core_of l.core) depth chunks v))
+    → IfOk r (λ ran. (v : Datum) → Packed s.table s.ty v s.bytes → IsRootOf l.code.laid (store_of ran.memory) (core_of l.core).main.result (core_run (core_of l.core) depth v) ran.root)
     → IfOk r (λ ran. StandsMeant p depth input ran.lowered.code.laid (store_of ran.memory) ran.root)
-survey_stands p depth chunks input s l of short packed file (Ok ran) same ends =
+survey_stands p depth input s l of short packed file (Ok ran) same ends =
     root_meant p depth input packed.0 l ran.lowered (store_of ran.memory) ran.root of (input_of p input s short file packed.0 packed.1) same (ends packed.0 packed.1)
-survey_stands p depth chunks input s l of short packed file (Err why) same ends = tt {0}
+survey_stands p depth input s l of short packed file (Err why) same ends = tt {0}
 
 pub survey_stops : (p : ProgramTree) (depth chunks : ℕ) (input : List ℕ) (s : Surveyed) (l : LoweredParts) → IsOfProgram p l → length input ≤ 16777216 → IsPacked s.table s.ty s.bytes s.count
     → ((v : Datum) → Packed s.table s.ty v s.bytes → File (table_of_program p) (input_type p) v input) → (r : Result Ran RunStop)
-    → ((v : Datum) → Packed s.table s.ty v s.bytes → MatchResult r (λ ran. IsRootOf (core_of l.core) depth v l.code.laid (store_of ran.memory) ran.root) (Halts (core_of l.core) depth chunks v))
+    → IfErr r (λ why. (v : Datum) → Packed s.table s.ty v s.bytes → Halts (core_run (core_of l.core) depth v) chunks (run_cost (core_of l.core) depth 0 v) why)
     → IfErr r (IsMachineStop p depth chunks input)
 survey_stops p depth chunks input s l of short packed file (Ok ran) ends = tt {0}
 survey_stops p depth chunks input s l of short packed file (Err why) ends = stop_meant p depth chunks input packed.0 l of (input_of p input s short file packed.0 packed.1) why (ends packed.0 packed.1)
+
+-- Any value that is the input is the survey's.
+pub survey_only : (p : ProgramTree) (depth chunks : ℕ) (input : List ℕ) (s : Surveyed) (l : LoweredParts) → IsOfProgram p l → length input ≤ 16777216 → IsPacked s.table s.ty s.bytes s.count
+    → ((v : Datum) → Packed s.table s.ty v s.bytes → File (table_of_program p) (input_type p) v input)
+    → ((table : Table) (ty : Ty) (v w : Datum) (bytes : List ℕ) → File table ty v bytes → File table ty w bytes → v ≡ w) → (r : Result Ran RunStop) → IfOk r (λ ran. ran.lowered ≡ l)
+    → IfOk r (λ ran. (v : Datum) → Packed s.table s.ty v s.bytes → IsRootOf l.code.laid (store_of ran.memory) (core_of l.core).main.result (core_run (core_of l.core) depth v) ran.root)
+    → IfErr r (λ why. (v : Datum) → Packed s.table s.ty v s.bytes → Halts (core_run (core_of l.core) depth v) chunks (run_cost (core_of l.core) depth 0 v) why)
+    → (v : Datum) → IsInput p v input
+    → MatchResult r (λ ran. IsRootOf ran.lowered.code.laid (store_of ran.memory) (output_type p) (run p depth v) ran.root) (Halts (run p depth v) chunks (program_cost p depth v))
+survey_only p depth chunks input s l of short packed file one (Ok ran) same root halts v is =
+    let meant = survey_stands p depth input s l of short packed file (Ok ran) same root in
+    record {
+      result = meant.result;
+      means = ap (run p depth) (one (table_of_program p) (input_type p) v meant.value input is.file meant.is_input.file) ∙ meant.means;
+      stands = meant.stands;
+    }
+survey_only p depth chunks input s l of short packed file one (Err why) same root halts v is =
+    let w = packed.0 in
+    let e : w ≡ v = one (table_of_program p) (input_type p) w v input (file w packed.1) is.file in
+    let owed : core_run (core_of l.core) depth w ≡ run p depth v = of.means depth w ∙ ap (run p depth) e in
+    let most : run_cost (core_of l.core) depth 0 w ≡ program_cost p depth v = ap (λ (c : CoreTree). run_cost c depth 0 w) of.core ∙ ap (program_cost p depth) e in
+    subst₂ (λ (o : Outcome) (k : Cost). Halts o chunks k why) owed most (halts w packed.1)

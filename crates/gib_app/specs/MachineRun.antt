@@ -1,5 +1,6 @@
 -- What a run of the machine on a packed file leaves: a root in region memory, or why there is none.
-use Rattle.std.specs.Prelude.{◌≡◌, ℕ, List, Result, Ok, Err}
+use Rattle.std.specs.Prelude.{◌≡◌, ℕ, List, Result, MatchResult}
+use Rattle.gib_types.specs.declared.table.Ty.{Ty}
 use Rattle.gib_types.specs.Layout.{LaidOut}
 use Rattle.gib_types.specs.Tree.{Datum}
 use Rattle.gib_mem.specs.Memory.{Store}
@@ -7,20 +8,17 @@ use Rattle.gib_mem.specs.Plain.{plain_cells}
 use Rattle.gib_mem.specs.declared.plain.PlainMem.{PlainMem}
 use Rattle.gib_packed.specs.Stands.{Stands}
 use Rattle.gib_packed.specs.declared.root.Root.{Root}
-use Rattle.gib_packed.specs.declared.root.Root.TheVariants as root
 use Rattle.gib_syntax.specs.Tree.{ProgramTree}
 use Rattle.gib_syntax.specs.Declarations.{table_of_program, output_type}
-use Rattle.gib_syntax.specs.Meaning.{Gives, Stops, Deep, run}
-use Rattle.gib_core.specs.Cost.{run_cost}
+use Rattle.gib_syntax.specs.Meaning.{Outcome, Gives, Stops, Deep, run}
+use Rattle.gib_core.specs.Cost.{Cost, run_cost}
+use Rattle.gib_core.specs.LoweredParts.{LoweredParts}
 use Rattle.gib_core.specs.Meaning.{core_run}
+use Rattle.gib_core.specs.Parts.{core_of}
 use Rattle.gib_core.specs.Tight.{Tight}
-use Rattle.gib_core.specs.Tree.{CoreTree}
-use Rattle.gib_code.specs.declared.answer.Answer.{Answer}
-use Rattle.gib_code.specs.declared.answer.Answer.TheVariants as answer
-use Rattle.gib_weave.specs.declared.root_run.RunFault.{RunFault}
-use Rattle.gib_weave.specs.declared.root_run.RunFault.TheVariants as fault
 use Rattle.gib_app.specs.declared.machine_run.RunStop.{RunStop}
 use Rattle.gib_app.specs.declared.machine_run.RunStop.TheVariants as stop
+use Rattle.gib_app.specs.Cores.{core_after}
 use Rattle.gib_app.specs.InputFaults.{IsInputFault}
 use Rattle.gib_app.specs.Running.{IsInput, RunsOut, FillsUp}
 
@@ -37,6 +35,10 @@ pub record StandsMeant (p : ProgramTree) (depth : ℕ) (input : List ℕ) (laid 
   pub table : laid.table ≡ table_of_program p
   pub stands : Stands laid s place (output_type p) result
 
+-- What a run of a program on a value costs at most: that of its core, with each `par` in place.
+abbrev pub program_cost : ProgramTree → (depth : ℕ) → Datum → Cost
+program_cost p depth v = run_cost (core_after 3 p) depth 0 v
+
 -- Why a run leaves no root.
 abbrev pub IsMachineStop : ProgramTree → (depth chunks : ℕ) → (input : List ℕ) → RunStop → Type 0
 IsMachineStop p depth chunks input stop.Memory = Unit {0}
@@ -44,28 +46,22 @@ IsMachineStop p depth chunks input (stop.Refused fault) = IsInputFault p input f
 IsMachineStop p depth chunks input stop.Deep = RunsOut p depth input
 IsMachineStop p depth chunks input stop.Full = FillsUp p depth chunks input
 
--- The core means a value on a value, and that stands for the root.
-pub record IsRootOf (core : CoreTree) (depth : ℕ) (v : Datum) (laid : LaidOut) (s : Store) (place : Root) : Type 0 where
+-- A value was owed, and in region memory it stands for the root.
+pub record IsRootOf (laid : LaidOut) (s : Store) (ty : Ty) (owed : Outcome) (place : Root) : Type 0 where
   pub result : Datum
-  pub means : core_run core depth v ≡ Gives result
-  pub stands : Stands laid s place core.main.result result
+  pub means : owed ≡ Gives result
+  pub stands : Stands laid s place ty result
 
--- Why a run of a core on a value leaves no root.
-abbrev pub Halts : CoreTree → (depth chunks : ℕ) → Datum → RunStop → Type 0
-Halts core depth chunks v stop.Memory = Unit {0}
-Halts core depth chunks v (stop.Refused fault) = ⊥
-Halts core depth chunks v stop.Deep = core_run core depth v ≡ Stops Deep
-Halts core depth chunks v stop.Full = Tight chunks (run_cost core depth 0 v)
+-- Why a run leaves no root, where this outcome was owed, and the run costs so much at most.
+abbrev pub Halts : Outcome → (chunks : ℕ) → Cost → RunStop → Type 0
+Halts owed chunks most stop.Memory = Unit {0}
+Halts owed chunks most (stop.Refused fault) = ⊥
+Halts owed chunks most stop.Deep = owed ≡ Stops Deep
+Halts owed chunks most stop.Full = Tight chunks most
 
--- What an answer of the machine is to a run.
-abbrev pub of_answer : Answer → Result Root RunStop
-of_answer (answer.Whole z) = Ok (root.Whole z)
-of_answer (answer.Truth b) = Ok (root.Truth b)
-of_answer (answer.At a) = Ok (root.At a)
-of_answer answer.Deep = Err stop.Deep
-
--- What the end of the machine's run is to a run.
-abbrev pub of_end : Result Answer RunFault → Result Root RunStop
-of_end (Ok a) = of_answer a
-of_end (Err fault.Memory) = Err stop.Memory
-of_end (Err fault.Full) = Err stop.Full
+-- How a run of code on a value ends, where there are so many chunks: with a root in region memory for what its core means, or
+-- with why there is none.
+abbrev pub EndsWith : LoweredParts → (depth chunks : ℕ) → Datum → Store → Result Root RunStop → Type 0
+EndsWith l depth chunks v s end =
+    MatchResult end (IsRootOf l.code.laid s (core_of l.core).main.result (core_run (core_of l.core) depth v))
+    (Halts (core_run (core_of l.core) depth v) chunks (run_cost (core_of l.core) depth 0 v))

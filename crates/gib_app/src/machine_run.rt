@@ -2,14 +2,26 @@
 
 ghost use Rattle.std.specs.Prelude.{◌≡◌, ◌≤◌, ◌+◌, ◌++◌, ◌∷◌, [], ℕ, List, length, IfOk, IfErr, OnOk, OnErr, IsErrOf, MatchResult};
 ghost use Rattle.gib_edge.specs.Causes.{Rose, Appends, AppendsPart, PutsPieces, PutsSomePieces};
+ghost use Rattle.gib_types.specs.declared.table.Ty.{Ty as Type_of};
+ghost use Rattle.gib_types.specs.Layout.{LaidOut};
 ghost use Rattle.gib_types.specs.Tree.{Datum};
+ghost use Rattle.gib_mem.specs.Memory.{Memory, Store};
 ghost use Rattle.gib_value.specs.Text.{AreHeld};
 ghost use Rattle.gib_file.specs.Packed.{Packed};
+ghost use Rattle.gib_syntax.specs.Declarations.{output_type};
+ghost use Rattle.gib_syntax.specs.Meaning.{Outcome, Stops, Deep, run};
 ghost use Rattle.gib_syntax.specs.Parts.{program_of};
 ghost use Rattle.gib_syntax.specs.Tree.{ProgramTree};
+ghost use Rattle.gib_core.specs.Cost.{run_cost};
+ghost use Rattle.gib_core.specs.Low.{laid_of};
+ghost use Rattle.gib_core.specs.LoweredParts.{LoweredParts};
+ghost use Rattle.gib_core.specs.Meaning.{core_run};
 ghost use Rattle.gib_core.specs.Parts.{core_of};
-ghost use Rattle.gib_app.specs.Running.{text_line};
-ghost use Rattle.gib_app.specs.MachineRun.{StandsMeant, IsMachineStop, IsRootOf, Halts, of_answer, of_end};
+ghost use Rattle.gib_weave.specs.Running.{RunEnds};
+ghost use Rattle.gib_weave.specs.Sound.{IsAnswer};
+ghost use Rattle.gib_app.specs.Cores.{core_after};
+ghost use Rattle.gib_app.specs.Running.{IsInput, text_line};
+ghost use Rattle.gib_app.specs.MachineRun.{StandsMeant, IsMachineStop, IsRootOf, Halts, EndsWith, program_cost};
 
 use crate::input_fault::InputFault;
 use crate::lowering::lowered;
@@ -21,7 +33,7 @@ use gib_check::Typed;
 use gib_code::Answer;
 use gib_core::Lowered;
 use gib_edge::outside::Sink;
-use gib_file::{Survey, refused_file, refused_header};
+use gib_file::{Survey, one_file, refused_file, refused_header};
 use gib_load::{LoadFault, load};
 use gib_mem::{Mem, PlainMem};
 use gib_packed::Root;
@@ -51,9 +63,10 @@ pub struct Ran {
     pub root: Root,
 }
 
-/// What an answer of the machine is to a run.
+/// The root that an answer of the machine is; the one that is none says that depth ran out.
 fn root_of(answer: Answer) -> Result<Root, RunStop>
-    ensures { result ≡ of_answer answer }
+    ensures { (laid : LaidOut) (s : Store) (ty : Type_of) (owed : Outcome) → IsAnswer laid s ty owed answer
+        → MatchResult result (IsRootOf laid s ty owed) (λ why. (why ≡ RunStop.Deep) × (owed ≡ Stops Deep)) }
 {
     match answer {
         Answer::Whole(value) => Ok(Root::Whole(value)),
@@ -65,7 +78,7 @@ fn root_of(answer: Answer) -> Result<Root, RunStop>
 
 /// What the end of the machine's run is to a run.
 fn end_of(end: Result<Answer, RunFault>) -> Result<Root, RunStop>
-    ensures { result ≡ of_end end }
+    ensures { (l : LoweredParts) (depth : ℕ) (v : Datum) (m m' : Memory) → RunEnds l depth v m m' end → EndsWith l depth m.limit v m'.cells result }
 {
     match end {
         Ok(answer) => root_of(answer),
@@ -87,8 +100,7 @@ fn run_loaded(
     requires plain { lowered.now.code.laid.with_offsets ≡ [] }
     requires undrawn { (⟦<PlainMem as Mem>⟧.view memory.old).drawn ≡ 0 }
     ensures { (v : Datum) → Packed survey.entry.table survey.entry.ty v survey.entry.bytes
-        → MatchResult result (IsRootOf (core_of lowered.now.core) depth v lowered.now.code.laid (⟦<PlainMem as Mem>⟧.view memory.new).cells)
-        (Halts (core_of lowered.now.core) depth (⟦<PlainMem as Mem>⟧.view memory.old).limit v) }
+        → EndsWith lowered.now depth (⟦<PlainMem as Mem>⟧.view memory.old).limit v (⟦<PlainMem as Mem>⟧.view memory.new).cells result }
 {
     let _packed = survey.payload();
     let mut tails = Tails::new();
@@ -112,9 +124,9 @@ fn run_survey(
     requires ty { survey.ty ≡ (core_of lowered.core).main.parameter }
     requires plain { lowered.code.laid.with_offsets ≡ [] }
     ensures same { IfOk result (λ ran. ran.lowered ≡ lowered) }
-    ensures ends { (v : Datum) → Packed survey.entry.table survey.entry.ty v survey.entry.bytes
-        → MatchResult result (λ ran. IsRootOf (core_of lowered.core) depth v lowered.code.laid (⟦<PlainMem as Mem>⟧.view ran.memory).cells ran.root)
-        (Halts (core_of lowered.core) depth chunks v) }
+    ensures root { IfOk result (λ ran. (v : Datum) → Packed survey.entry.table survey.entry.ty v survey.entry.bytes
+        → IsRootOf lowered.code.laid (⟦<PlainMem as Mem>⟧.view ran.memory).cells (core_of lowered.core).main.result (core_run (core_of lowered.core) depth v) ran.root) }
+    ensures halts { IfErr result (λ why. (v : Datum) → Packed survey.entry.table survey.entry.ty v survey.entry.bytes → Halts (core_run (core_of lowered.core) depth v) chunks (run_cost (core_of lowered.core) depth 0 v) why) }
 {
     let mut memory = match PlainMem::make(alloc, chunks) {
         Ok(memory) => memory,
@@ -146,8 +158,15 @@ pub fn run_packed(
 ) -> Result<Ran, RunStop>
     requires short { length file.now ≤ FILE_BYTES }
     ensures stands { IfOk result (λ ran. StandsMeant (program_of typed.now) depth file.now ran.lowered.code.laid (⟦<PlainMem as Mem>⟧.view ran.memory).cells ran.root) }
+    // The heads lie as those of the program's core.
+    ensures laid { IfOk result (λ ran. ran.lowered.code.laid ≡ laid_of (core_after 3 (program_of typed.now))) }
     ensures stop { IfErr result (IsMachineStop (program_of typed.now) depth chunks file.now) }
+    // The other way round: of which value the file is, and what the program means on it, tells how the run ends.
+    ensures only { (v : Datum) → IsInput (program_of typed.now) v file.now
+        → MatchResult result (λ ran. IsRootOf ran.lowered.code.laid (⟦<PlainMem as Mem>⟧.view ran.memory).cells (output_type (program_of typed.now)) (run (program_of typed.now) depth v) ran.root)
+        (Halts (run (program_of typed.now) depth v) chunks (program_cost (program_of typed.now) depth v)) }
 {
+    one_file();
     refused_header();
     refused_file();
     let survey = match survey_input(alloc, typed, file) {

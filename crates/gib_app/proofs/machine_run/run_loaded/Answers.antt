@@ -14,7 +14,8 @@ pub returns-in-Ok : goal.returns-in-Ok
 returns-in-Ok c =
     let laid = c.layouts-layouts.ensures ∙ ap (λ (x : CodeTree). x.laid) c.code.ensures.value in
     loaded_ran c.args.lowered.now c.layouts-layouts.result.now c.args.survey c.args.depth (view c.args.memory.now) (view c.load.new.mem) (view c.run.new.mem) c.in-Ok.root c.load.new.tails c.run.result c.end_of.result
-    laid c.requires.table c.requires.ty c.end_of.ensures c.in-Ok.ensures.placed c.in-Ok.ensures.holds c.run.ensures.ends
+    laid c.requires.table c.requires.ty c.in-Ok.ensures.placed c.in-Ok.ensures.holds c.run.ensures.ends
+    (λ v h. c.end_of.ensures c.args.lowered.now c.args.depth v (view c.load.new.mem) (view c.run.new.mem) h)
 
 pub returns-in-Err-Full : goal.returns-in-Err-Full
 returns-in-Err-Full c =

@@ -8,7 +8,7 @@ use Rattle.gib_app.specs.InputFaults.{IsInputFault}
 use Rattle.gib_app.specs.Running.{IsInput}
 use Rattle.gib_app.specs.Stops.{IsPackedStop}
 use Rattle.gib_app.proofs.Refusals.{file_refused}
-use Rattle.gib_app.proofs.Roots.{survey_stands, survey_stops}
+use Rattle.gib_app.proofs.Roots.{survey_only, survey_stands, survey_stops}
 use Rattle.gib_app.proofs.machine_run.run_packed.Goals as goal
 
 pub returns-in-Err-Refused-clause-stop : goal.returns-in-Err-Refused-clause-stop
@@ -22,11 +22,20 @@ returns-in-Err-Refused-clause-stop c =
 pub returns-in-Ok-lowered-clause-stands : goal.returns-in-Ok-lowered-clause-stands
 returns-in-Ok-lowered-clause-stands c =
     let made = c.in-Ok-lowered.ensures in
-    survey_stands (program_of c.args.typed.now) c.args.depth c.args.chunks c.args.file.now c.in-Ok.survey c.in-Ok-lowered.lowered (record { core = made.core; means = made.means; laid = made.laid }) c.requires.short
-    c.payload-packed.ensures.packed c.in-Ok.ensures.file c.run_survey.result c.run_survey.ensures.same c.run_survey.ensures.ends
+    survey_stands (program_of c.args.typed.now) c.args.depth c.args.file.now c.in-Ok.survey c.in-Ok-lowered.lowered (record { core = made.core; means = made.means; laid = made.laid }) c.requires.short
+    c.payload-packed.ensures.packed c.in-Ok.ensures.file c.run_survey.result c.run_survey.ensures.same c.run_survey.ensures.root
 
 pub returns-in-Ok-lowered-clause-stop : goal.returns-in-Ok-lowered-clause-stop
 returns-in-Ok-lowered-clause-stop c =
     let made = c.in-Ok-lowered.ensures in
     survey_stops (program_of c.args.typed.now) c.args.depth c.args.chunks c.args.file.now c.in-Ok.survey c.in-Ok-lowered.lowered (record { core = made.core; means = made.means; laid = made.laid }) c.requires.short
-    c.payload-packed.ensures.packed c.in-Ok.ensures.file c.run_survey.result c.run_survey.ensures.ends
+    c.payload-packed.ensures.packed c.in-Ok.ensures.file c.run_survey.result c.run_survey.ensures.halts
+
+pub returns-in-Err-Refused-clause-only : goal.returns-in-Err-Refused-clause-only
+returns-in-Err-Refused-clause-only c = λ v is. (returns-in-Err-Refused-clause-stop c).1 (v, is)
+
+pub returns-in-Ok-lowered-clause-only : goal.returns-in-Ok-lowered-clause-only
+returns-in-Ok-lowered-clause-only c =
+    let made = c.in-Ok-lowered.ensures in
+    survey_only (program_of c.args.typed.now) c.args.depth c.args.chunks c.args.file.now c.in-Ok.survey c.in-Ok-lowered.lowered (record { core = made.core; means = made.means; laid = made.laid }) c.requires.short
+    c.payload-packed.ensures.packed c.in-Ok.ensures.file c.one_file.ensures.value c.run_survey.result c.run_survey.ensures.same c.run_survey.ensures.root c.run_survey.ensures.halts
