@@ -10,4 +10,5 @@ mod ImageStore
 mod ImageWalkLemmas
 mod ImageLemmas
 mod ImageLaws
+mod ImageFaultLaws
 mod TotalLemmas
