@@ -1,22 +1,17 @@
 -- Words that the commands take ask for something: each value of the plan is there.
-use Rattle.std.proofs.Common.{◌≡◌, ◌∙◌, ◌<◌, ◌≤◌, ◌||◌, ℕ, Bool, cond, codes, true, false, not, refl, sym, ap, arith, List, [], ◌∷◌, ◌++◌, length, Option, Some, None, is_some, option_map, true≢false, subst}
-use Rattle.std.specs.Prelude.{⊤, find, fold, option_and_then, slice_get}
+use Rattle.std.proofs.Common.{◌≡◌, ◌∙◌, ◌<◌, ◌||◌, Bool, cond, codes, true, false, not, refl, sym, ap, arith, List, [], ◌∷◌, length, Option, Some, None, is_some, option_map, true≢false, subst}
+use Rattle.std.specs.Prelude.{⊤, find, option_and_then, slice_get}
 use Rattle.std.specs.List.{list_all, list_any}
 use Rattle.std.specs.Option.{option_map_or}
 use Rattle.std.specs.Str.{bytes_eq}
 use Rattle.std.proofs.lemmas.Slice.Eq.{bytes_eq-Decides}
-use Rattle.clap.specs.Values.{Accepts, read_as}
-use Rattle.clap.specs.ValueTests.{is_unsigned_in}
-use Rattle.clap.specs.Facts.{explicit_source, parser_of_value}
-use Rattle.clap.specs.Walk.{Names, Row, Rule, Text, arg_by_id, at_row, default_rows, has_row, more_values, nothing_held, reading_by, rows_after, stop_after, walk, walk_from, with_default, finished, settled}
-use Rattle.clap.specs.Walk.{answers_to, row_text}
+use Rattle.clap.specs.Facts.{explicit_source}
+use Rattle.clap.specs.Walk.{Names, Row, Rule, Text, arg_by_id, nothing_held, rows_after, stop_after, walk, walk_from, finished}
+use Rattle.clap.specs.Walk.{answers_to}
 use Rattle.clap.specs.Simple.{App, rows_at, Shape, argument_words, built, built_leaf, entered, inherited, is_simple, label_of, marked_built, names_of, subcommand_of, with_leaf_noted}
-use Rattle.clap.specs.Takes.{built_takes, default_passes, entered_passes, is_given, level_passes, settle_passes, takes, value_passes, values_pass, walk_passes}
-use Rattle.clap.specs.declared.parser.matches.ValueSource.TheVariants.{DefaultValue}
-use Rattle.clap.specs.declared.builder.value_parser.ValueParser.TheVariants as parser
+use Rattle.clap.specs.Takes.{built_takes, default_passes, entered_passes, is_given, level_passes, settle_passes, takes, walk_passes}
 use Rattle.clap.proofs.OnLiterals.{clap_on_literals}
 use Rattle.clap.proofs.WalkLemmas.{both}
-use Rattle.clap.proofs.ValueTestLemmas.{Accepts-accepts, accepts-Accepts}
 use Rattle.gib_app.specs.declared.plan.Job.{Job}
 use Rattle.gib_app.specs.declared.plan.Job.TheVariants.{Run, Plain, Check, Core, Code, Pack, Show}
 use Rattle.gib_app.specs.Plan.{Named}

@@ -1,8 +1,8 @@
 -- Items that are added at an end, in turn.
-use Rattle.std.proofs.Common.{◌≡◌, ◌∙◌, refl, ℕ, zero, suc, ◌≤◌, List, [], ◌∷◌, ◌++◌, length, take, Option, Some, None, IfSome, Result, Ok, Err, OnOk, OnErr, subst, sym, ap, append_assoc}
-use Rattle.gib_edge.specs.Causes.{Rose, HasCause, Appends, AppendsPart}
+use Rattle.std.proofs.Common.{◌≡◌, ◌∙◌, refl, ℕ, zero, suc, List, [], ◌∷◌, ◌++◌, length, take, Option, Some, None, IfSome, Result, Ok, Err, OnOk, OnErr, subst, sym, ap, append_assoc}
+use Rattle.gib_edge.specs.Causes.{HasCause, Appends, AppendsPart}
 use Rattle.std.specs.Option.{option_map_or}
-use Rattle.gib_edge.specs.Views.{Call, ReadOf, WriteOf, SinkView}
+use Rattle.gib_edge.specs.Views.{Call, WriteOf, SinkView}
 use Rattle.gib_app.specs.Plan.{Document, Plan}
 use Rattle.gib_app.specs.Words.{asked}
 use Rattle.gib_app.specs.Calls.{read_calls, second_calls, write_calls, calls_of, calls_asked}

@@ -1,8 +1,7 @@
 -- Facts of all jobs, by cases.
-use Rattle.std.proofs.Common.{◌≡◌, ◌∙◌, refl, ℕ, ◌<◌, List, [], length, Option, Some, None, ap, inl, inr, arith, sym, subst}
+use Rattle.std.proofs.Common.{◌≡◌, refl, ℕ, ◌<◌, List, length, Option, Some, None, ap, inl, arith}
 use Rattle.std.specs.Prelude.{option_and_then}
 use Rattle.gib_syntax.specs.Tree.{ProgramTree}
-use Rattle.gib_app.specs.declared.input_fault.InputFault.{InputFault}
 use Rattle.gib_app.specs.declared.input_fault.InputFault.TheVariants as input
 use Rattle.gib_app.specs.declared.made.Reason.{Reason}
 use Rattle.gib_app.specs.declared.made.Reason.TheVariants.{Deep, Full}

@@ -1,6 +1,6 @@
 -- From the stop of a call to its status, and from the status that is due to the one that is answered.
 use Rattle.std.specs.Prelude.{codes}
-use Rattle.std.proofs.Common.{◌≡◌, ◌∙◌, refl, ℕ, List, ◌++◌, length, Option, Some, None, IfSome, MatchOption, ◌⊎◌, inl, inr, subst, sym, Bool}
+use Rattle.std.proofs.Common.{◌≡◌, ◌∙◌, refl, ℕ, List, ◌++◌, length, Option, Some, None, MatchOption, ◌⊎◌, inl, inr, subst, sym, Bool}
 use Rattle.gib_base.specs.Lexed.{Lexed, IsLexed}
 use Rattle.gib_base.specs.declared.token.Token.{Token}
 use Rattle.gib_types.specs.declared.table.Ty.{Ty}

@@ -3,11 +3,11 @@ use Rattle.std.proofs.Common.{◌≡◌, ◌∙◌, refl, ℕ, List, ◌++◌, O
 use Rattle.gib_types.specs.Tree.{Datum}
 use Rattle.gib_syntax.specs.Tree.{ProgramTree}
 use Rattle.gib_syntax.specs.Declarations.{table_of_program, input_type}
-use Rattle.gib_syntax.specs.Meaning.{Outcome, Gives, Stops, Deep as TooDeep, run}
+use Rattle.gib_syntax.specs.Meaning.{Outcome, Gives, run}
 use Rattle.gib_edge.specs.Views.{ShelfView, SinkView}
 use Rattle.gib_app.specs.declared.status.Status.{Status}
 use Rattle.gib_app.specs.declared.status.Status.TheVariants as status
-use Rattle.gib_app.specs.declared.made.Reason.TheVariants.{Deep, Full}
+use Rattle.gib_app.specs.declared.made.Reason.TheVariants.{Full}
 use Rattle.gib_app.specs.declared.plan.Options.{Options}
 use Rattle.gib_app.specs.Plan.{Plan, bytes_in}
 use Rattle.gib_app.specs.Words.{asked}

@@ -1,5 +1,7 @@
 ghost use Rattle.std.specs.Prelude.{◌≡◌, ◌++◌, ◌∷◌, [], ◌<◌, ◌≤◌, length, map, IfOk, OnOk};
+ghost use Rattle.gib_types.specs.Table.{IsTyBelow};
 ghost use Rattle.gib_core.specs.Arena.{IsBindingBelow, PartsBelow};
+ghost use Rattle.gib_core.specs.Parts.{IsDeclared};
 
 use crate::{LocFault, loccheck};
 use gib_base::{Memory, Name};
@@ -466,7 +468,8 @@ fn put_line(alloc: Global, terms: &mut Terms, line: Line) -> Result<TermId, Memo
 
 // fun f (t : Tree) : a type = a body
 fn function(alloc: Global, name: Name, ty: Ty, body: TermId) -> Result<CoreFunction, Memory>
-    ensures { IfOk result (λ f. f.body ≡ body) }
+    ensures body { IfOk result (λ f. f.body ≡ body) }
+    ensures types { IsTyBelow 1 ty → IfOk result (IsDeclared 1) }
 {
     let parameters = Vec::from_slice(alloc, &[TREE])?;
     Ok(CoreFunction {

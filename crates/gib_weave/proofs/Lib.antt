@@ -37,3 +37,6 @@ pub mod Mades
 pub mod RootRuns
 pub mod RootEnds
 pub mod Standing
+pub mod Newest
+pub mod Applying
+pub mod Going

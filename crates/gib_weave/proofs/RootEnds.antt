@@ -1,5 +1,5 @@
 -- How the root's run ends.
-use Rattle.std.proofs.Common.{◌≡◌, ℕ, zero, suc, ◌≤◌, ◌+◌, ◌-◌, ◌<◌, ◌^◌, List, [], ◌∷◌, length, get_or, true, Option, Some, None, refl, sym, ap, subst, ◌∙◌, arith}
+use Rattle.std.proofs.Common.{◌≡◌, ℕ, zero, suc, ◌≤◌, ◌-◌, List, [], ◌∷◌, length, get_or, true, Option, Some, None, refl, sym, ap, subst, ◌∙◌, arith}
 use Rattle.std.specs.Prelude.{Result, Ok, Err, IfOk}
 use Rattle.gib_types.specs.declared.table.Ty.{Ty}
 use Rattle.gib_types.specs.Layout.{LaidOut}
@@ -124,14 +124,14 @@ main_label core code code' fs d lo fe ce =
 pub is_wide : (core : CoreTree) (code code' : CodeTree) → IsLowered core code → code' ≡ code → 1 ≤ widest code'.functions
 is_wide core code code' lo ce = subst (λ (q : CodeTree). 1 ≤ widest q.functions) (sym ce) (wide core code 0 core.functions code.functions lo.functions)
 
-pub made_is_root : (core : CoreTree) (code code' : CodeTree) (label w w' depth : ℕ) (m : State) → IsLowered core code → code' ≡ code → label ≡ start_at code.functions (length core.functions) → w ≡ w' → m ≡ started code' label (w ∷ []) depth 0
-    → (tails : List ℕ) → with_tails m tails ≡ root_start core code w' depth 0 tails
-made_is_root core code code' label w w' depth m lo ce le we me tails =
+pub made_is_root : (core : CoreTree) (code code' : CodeTree) (label w w' depth level : ℕ) (m : State) → IsLowered core code → code' ≡ code → label ≡ start_at code.functions (length core.functions) → w ≡ w' → m ≡ started code' label (w ∷ []) depth level
+    → (tails : List ℕ) → with_tails m tails ≡ root_start core code w' depth level tails
+made_is_root core code code' label w w' depth level m lo ce le we me tails =
     ap (λ (q : State). with_tails q tails) me
-    ∙ ap (λ (q : CodeTree). with_tails (started q label (w ∷ []) depth 0) tails) ce
-    ∙ ap (λ (q : ℕ). with_tails (started code q (w ∷ []) depth 0) tails) le
-    ∙ ap (λ (q : ℕ). with_tails (started code (start_at code.functions (length core.functions)) (q ∷ []) depth 0) tails) we
-    ∙ made_root core code w' depth 0 tails lo
+    ∙ ap (λ (q : CodeTree). with_tails (started q label (w ∷ []) depth level) tails) ce
+    ∙ ap (λ (q : ℕ). with_tails (started code q (w ∷ []) depth level) tails) le
+    ∙ ap (λ (q : ℕ). with_tails (started code (start_at code.functions (length core.functions)) (q ∷ []) depth level) tails) we
+    ∙ made_root core code w' depth level tails lo
 
 pub if_ok : {A B : Type 0} {P Q : A → Type 0} (r : Result A B) → ((x : A) → P x → Q x) → IfOk r P → IfOk r Q
 if_ok (Ok x) f h = f x h

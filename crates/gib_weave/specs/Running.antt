@@ -1,5 +1,5 @@
 -- A run of a core on a loaded value, to its end.
-use Rattle.std.specs.Prelude.{◌≡◌, ℕ, List, ◌∷◌, Option, Some, None, Result, Ok, Err}
+use Rattle.std.specs.Prelude.{◌≡◌, ℕ, List, Option, Some, None, Result, Ok, Err}
 use Rattle.std.specs.Int.{w64, cast_unsigned}
 use Rattle.gib_types.specs.Loaded.{Loaded}
 use Rattle.gib_types.specs.Tree.{Datum}

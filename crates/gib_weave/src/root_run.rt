@@ -62,12 +62,25 @@ fn outcome_of(turn: Option<Turn>) -> Result<Answer, RunFault>
     }
 }
 
-/// The machine of main, with the word of its parameter. Each `par` runs in place.
-fn root_machine(alloc: Global, lowered: &Lowered, root: Root, depth: u32) -> Result<Machine, Memory>
-    ensures { IfOk result (λ machine. (tails : List ℕ) → with_tails machine tails ≡ root_start (core_of lowered.now.core) lowered.now.code (spec.word_of root) depth 0 tails) }
+/// The machine of main, with the word of its parameter. It may nest so many calls, and so many forks.
+pub(crate) fn root_machine(
+    alloc: Global,
+    lowered: &Lowered,
+    root: Root,
+    depth: u32,
+    level: u32,
+) -> Result<Machine, Memory>
+    ensures { IfOk result (λ machine. (tails : List ℕ) → with_tails machine tails ≡ root_start (core_of lowered.now.core) lowered.now.code (spec.word_of root) depth level tails) }
 {
     let words = [word_of(root)];
-    Machine::make(alloc, lowered.code(), main_start(lowered), &words, depth, 0)
+    Machine::make(
+        alloc,
+        lowered.code(),
+        main_start(lowered),
+        &words,
+        depth,
+        level,
+    )
 }
 
 /// Runs a core on the value of the root, with at most `depth` calls nested and each `par` in place, over a memory from which nobody
@@ -91,7 +104,7 @@ pub fn run<M: Mem>(
 {
     lowered.core();
     let code = lowered.code();
-    match root_machine(alloc, lowered, root, depth) {
+    match root_machine(alloc, lowered, root, depth, 0) {
         Ok(machine) => {
             let mut machine = machine;
             let mut tails = tails;

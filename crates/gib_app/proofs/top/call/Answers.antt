@@ -4,7 +4,7 @@ use Rattle.gib_edge.specs.Causes.{Appends, AppendsPart, PutsPieces, PutsSomePiec
 use Rattle.gib_app.specs.declared.made.End.{End as KeptEnd}
 use Rattle.gib_app.specs.declared.plan.Plan.{Plan as KeptPlan}
 use Rattle.gib_app.specs.Words.{asked, bytes_of}
-use Rattle.gib_app.specs.Kept.{plan_of, IsTextOf}
+use Rattle.gib_app.specs.Kept.{plan_of}
 use Rattle.gib_app.specs.Performing.{IsPerformed}
 use Rattle.gib_app.proofs.Performing.{others_stay, unput_files, prints, prints_part, prints_value, prints_value_part}
 use Rattle.gib_app.proofs.top.call.Goals as goal

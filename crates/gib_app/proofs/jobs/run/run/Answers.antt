@@ -1,4 +1,4 @@
-use Rattle.std.proofs.Common.{◌≡◌, refl, sym, subst}
+use Rattle.std.proofs.Common.{refl, sym, subst}
 use Rattle.gib_types.specs.Table.{Table}
 use Rattle.gib_value.specs.Text.{AreHeld}
 use Rattle.gib_syntax.specs.Parts.{program_of}
