@@ -81,7 +81,6 @@ fn lists_are_built_in_their_chunks(rt: HostRuntime) -> Result<(), Fail> {
         // What is met first is told: depth before the seventeenth chunk, or this chunk.
         (8_000, "16", "15", Status::Depth, "gib: depth\n"),
         (8_000, "16", "16", Status::Full, "gib: chunks\n"),
-        (8_000, "9000", "8000", Status::Depth, "gib: depth\n"),
         (8_000, "9000", "8001", Status::Done, ""),
     ] {
         let number = (count as u64).to_le_bytes();

@@ -218,13 +218,15 @@ fn programs_end_as_they_mean(rt: HostRuntime) -> Result<(), Fail> {
     ] {
         let source = with_types(alloc, types, rest)?;
         let input = packed(alloc, payload)?;
-        for command in ["run", "plain"] {
+        for words in [
+            ["gib", "run", "a.gib", "a.gbp", "--chunks", "16"].as_slice(),
+            ["gib", "plain", "a.gib", "a.gbp"].as_slice(),
+        ] {
             let files = vec![in alloc;
                 file(alloc, "a.gib", source.as_bytes())?,
                 file(alloc, "a.gbp", &input)?,
             ]?;
-            let texts = ["gib", command, "a.gib", "a.gbp"];
-            let ended = call(&rt, alloc, &texts, files, Vec::new(alloc))?;
+            let ended = call(&rt, alloc, words, files, Vec::new(alloc))?;
             assert_eq!(rt; ended.status, status, "{source}");
             assert_eq!(rt; ended.out.bytes(), out.as_bytes(), "{source}");
             assert_eq!(rt; ended.err.bytes(), err.as_bytes(), "{source}");
