@@ -41,33 +41,48 @@ fn line(alloc: Global, count: u64) -> Result<String, AllocError> {
     Ok(text)
 }
 
-/// Whether `run` of a source on a payload with these options ends with a status and a line; with status 0 it has to
-/// print a list that counts down from `count`, else nothing.
+/// A run with its options, and how it ends: with status 0 it prints a list that counts down from `count`, else nothing.
+#[derive(Drop)]
+struct Case<'a> {
+    source: &'a str,
+    payload: &'a [u8],
+    chunks: &'a str,
+    depth: &'a str,
+    count: u64,
+    status: Status,
+    err: &'a str,
+}
+
+/// Whether a run ends so.
 fn ends<R: Threads + Wait + Sync>(
     rt: &R,
     alloc: Global,
-    (source, payload): (&str, &[u8]),
-    [chunks, depth]: [&str; 2],
-    count: u64,
-    (status, err): (Status, &str),
+    case: &Case<'_>,
 ) -> Result<bool, AllocError> {
     let files = vec![in alloc;
-        file(alloc, "a.gib", source.as_bytes())?,
-        file(alloc, "a.gbp", &packed(alloc, payload)?)?,
+        file(alloc, "a.gib", case.source.as_bytes())?,
+        file(alloc, "a.gbp", &packed(alloc, case.payload)?)?,
     ]?;
     let texts = [
-        "gib", "run", "a.gib", "a.gbp", "--chunks", chunks, "--depth", depth,
+        "gib",
+        "run",
+        "a.gib",
+        "a.gbp",
+        "--chunks",
+        case.chunks,
+        "--depth",
+        case.depth,
     ];
     let ended = call(rt, alloc, &texts, files, Vec::new(alloc))?;
-    let out = if status == Status::Done {
-        line(alloc, count)?
+    let out = if case.status == Status::Done {
+        line(alloc, case.count)?
     } else {
         String::new(alloc)
     };
     Ok(
-        ended.status == status
+        ended.status == case.status
             && ended.out.bytes() == out.as_bytes()
-            && ended.err.bytes() == err.as_bytes(),
+            && ended.err.bytes() == case.err.as_bytes(),
     )
 }
 
@@ -83,12 +98,17 @@ fn lists_are_built_in_their_chunks(rt: HostRuntime) -> Result<(), Fail> {
         (8_000, "16", "16", Status::Full, "gib: chunks\n"),
         (8_000, "9000", "8001", Status::Done, ""),
     ] {
-        let number = (count as u64).to_le_bytes();
-        let program = (BUILD, number.as_slice());
-        assert!(rt;
-            ends(&rt, alloc, program, [chunks, depth], count, (status, err))?,
-            "{count} in {chunks}"
-        );
+        let number = u64::to_le_bytes(count);
+        let case = Case {
+            source: BUILD,
+            payload: &number,
+            chunks,
+            depth,
+            count,
+            status,
+            err,
+        };
+        assert!(rt; ends(&rt, alloc, &case)?, "{count} in {chunks}");
     }
     Ok(())
 }
@@ -127,11 +147,16 @@ fn lists_are_loaded_into_their_chunks(rt: HostRuntime) -> Result<(), Fail> {
         (1, b"\0".as_slice(), "65537", Status::Usage, "gib: usage\n"),
     ] {
         let payload = cells(alloc, count, last)?;
-        let program = (SAME, payload.as_slice());
-        assert!(rt;
-            ends(&rt, alloc, program, [chunks, "10000"], count, (status, err))?,
-            "{count} in {chunks}"
-        );
+        let case = Case {
+            source: SAME,
+            payload: &payload,
+            chunks,
+            depth: "10000",
+            count,
+            status,
+            err,
+        };
+        assert!(rt; ends(&rt, alloc, &case)?, "{count} in {chunks}");
     }
     Ok(())
 }

@@ -24,7 +24,7 @@ struct Run<'a> {
 }
 
 /// Whether these bytes stand from an address on, all in chunks that are drawn.
-fn stand_at(mem: &mut PlainMem, (from, bytes): (u64, &[u8])) -> bool {
+fn stand_at(mem: &mut PlainMem, from: u64, bytes: &[u8]) -> bool {
     let mut at = from;
     for byte in bytes {
         if at >= CHUNK * mem.chunks() as u64 {
@@ -51,12 +51,12 @@ fn leaves(alloc: Global, wanted: &Run<'_>) -> Result<bool, AllocError> {
     let Ok(ran) = run_packed(alloc, &compiled.typed, &file, 10, 16) else {
         return Ok(false);
     };
-    let mut memory = ran.memory;
+    let mut ran = ran;
     Ok(
         ran.root == wanted.root
-            && memory.chunks() == wanted.drawn
-            && stand_at(&mut memory, wanted.low)
-            && stand_at(&mut memory, wanted.high),
+            && ran.memory.chunks() == wanted.drawn
+            && stand_at(&mut ran.memory, wanted.low.0, wanted.low.1)
+            && stand_at(&mut ran.memory, wanted.high.0, wanted.high.1),
     )
 }
 
@@ -73,6 +73,8 @@ fn ones(alloc: Global, count: usize) -> Result<Vec<u8>, AllocError> {
 #[test]
 fn the_machine_runs_programs(rt: HostRuntime) -> Result<(), Fail> {
     let alloc = rt.alloc();
+    let filling = ones(alloc, 454)?;
+    let longer = ones(alloc, 455)?;
     for wanted in [
         Run {
             source: "data Tree = Leaf Int | Node Tree Tree ; main (n : Int) : Tree = let x = Leaf 1 in Node x x ;",
@@ -118,7 +120,7 @@ fn the_machine_runs_programs(rt: HostRuntime) -> Result<(), Fail> {
         // A list that fills a chunk up to its last ten bytes, and one with a cell more, of which these lead to the next chunk.
         Run {
             source: "data List = Nil | Cons Int List ; main (l : List) : Int = 0 ;",
-            payload: &ones(alloc, 454)?,
+            payload: &filling,
             root: Root::Whole(0),
             drawn: 1,
             low: (4077, b"\x01\x01\0\0\0\0\0\0\0"),
@@ -126,7 +128,7 @@ fn the_machine_runs_programs(rt: HostRuntime) -> Result<(), Fail> {
         },
         Run {
             source: "data List = Nil | Cons Int List ; main (l : List) : Int = 0 ;",
-            payload: &ones(alloc, 455)?,
+            payload: &longer,
             root: Root::Whole(0),
             drawn: 2,
             low: (4077, b"\x01\x01\0\0\0\0\0\0\0\xff\0\x10\0\0\0\0\0\0"),
