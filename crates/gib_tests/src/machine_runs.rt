@@ -42,7 +42,7 @@ fn stand_at(mem: &mut PlainMem, from: u64, bytes: &[u8]) -> bool {
 /// Whether the machine runs so, in 16 chunks.
 fn leaves(alloc: Global, wanted: &Run<'_>) -> Result<bool, AllocError> {
     let file = packed(alloc, wanted.payload)?;
-    if file.len() > FILE_BYTES {
+    if file.len() as u64 > FILE_BYTES {
         return Ok(false);
     }
     let Some(compiled) = compile(alloc, wanted.source) else {
