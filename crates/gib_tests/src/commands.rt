@@ -55,10 +55,15 @@ fn depth_is_that_of_the_words(rt: HostRuntime) -> Result<(), Fail> {
         ),
         (DOWN, zero.as_slice(), "6", Status::Done, "0\n", ""),
     ] {
-        for command in ["run", "plain"] {
+        for words in [
+            [
+                "gib", "run", "a.gib", "a.gbp", "--depth", depth, "--chunks", "16",
+            ]
+            .as_slice(),
+            ["gib", "plain", "a.gib", "a.gbp", "--depth", depth].as_slice(),
+        ] {
             let files = two_files(alloc, source, "a.gbp", &packed(alloc, payload)?)?;
-            let texts = ["gib", command, "a.gib", "a.gbp", "--depth", depth];
-            let ended = call(&rt, alloc, &texts, files, Vec::new(alloc))?;
+            let ended = call(&rt, alloc, words, files, Vec::new(alloc))?;
             assert_eq!(rt; ended.status, status, "{depth}");
             assert_eq!(rt; ended.out.bytes(), out.as_bytes(), "{depth}");
             assert_eq!(rt; ended.err.bytes(), err.as_bytes(), "{depth}");
@@ -208,7 +213,7 @@ fn two_hundred_levels_are_taken(rt: HostRuntime) -> Result<(), Fail> {
         ),
     ] {
         let files = two_files(alloc, &nested(alloc, count)?, "a.gbp", &input)?;
-        let texts = ["gib", "run", "a.gib", "a.gbp"];
+        let texts = ["gib", "run", "a.gib", "a.gbp", "--chunks", "16"];
         let ended = call(&rt, alloc, &texts, files, Vec::new(alloc))?;
         assert_eq!(rt; ended.status, status);
         assert_eq!(rt; ended.out.bytes(), out.as_bytes());

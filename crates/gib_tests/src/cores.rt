@@ -1,4 +1,4 @@
-//! The text of cores after each pass, as `core` prints it.
+//! The text of cores after each pass, as `core` prints it, and of code, as `code` does.
 
 use crate::harness::{call, file};
 use gib_app::Status;
@@ -41,6 +41,38 @@ main %0:Tree : Tree
         "",
     ),
 ];
+
+/// Its code.
+const ADD_ONE_CODE: &str = "add1 11
+0 switch %0 1 6
+1 whole %1 %0 1
+2 add %2 %1 1
+3 past %3 Leaf
+4 fill %3 Leaf %2
+5 ret
+6 first %4 %0 1
+7 skip %5 %4
+8 begin %6
+9 call add1 %4
+10 jump 11
+11 done
+12 begin %7
+13 call add1 %5
+14 jump 15
+15 done
+16 past %8 Node
+17 here %9
+18 point %6
+19 jump 20
+20 here %10
+21 point %7
+22 jump 23
+23 fill %8 Node %9 %10
+24 ret
+main 1
+25 call add1 %0
+26 ret
+";
 
 pub const RIGHT: &str =
     "data Tree = Leaf Int | Node Tree Tree ; fun right (t : Tree) : Int = case t of { Leaf n -> n ; Node l r -> right r } ; main (t : Tree) : Int = right t ;";
@@ -258,21 +290,19 @@ fn core_text(alloc: Global, pieces: &[(&str, &str)], reached: bool) -> Result<St
     Ok(text)
 }
 
-/// Whether `core` with these further words prints this core of a source, and nothing else.
+/// Whether these words print this text of a source, and nothing else.
 fn prints<R: Threads + Wait + Sync>(
     rt: &R,
     alloc: Global,
     source: &str,
-    further: &[&str],
-    core: &str,
+    words: &[&str],
+    text: &str,
 ) -> Result<bool, AllocError> {
     let files = vec![in alloc; file(alloc, "a.gib", source.as_bytes())?]?;
-    let mut texts = vec![in alloc; "gib", "core", "a.gib"]?;
-    texts.extend_from_slice(further)?;
-    let ended = call(rt, alloc, &texts, files, Vec::new(alloc))?;
+    let ended = call(rt, alloc, words, files, Vec::new(alloc))?;
     Ok(
         ended.status == Status::Done
-            && ended.out.bytes() == core.as_bytes()
+            && ended.out.bytes() == text.as_bytes()
             && ended.err.bytes().is_empty(),
     )
 }
@@ -286,12 +316,23 @@ fn prints_each_pass<R: Threads + Wait + Sync>(
 ) -> Result<bool, AllocError> {
     let placed = core_text(alloc, pieces, false)?;
     let reached = core_text(alloc, pieces, true)?;
-    Ok(
-        prints(rt, alloc, source, &["--pass", "1"], placed.as_str())?
-            && prints(rt, alloc, source, &["--pass", "2"], placed.as_str())?
-            && prints(rt, alloc, source, &["--pass", "3"], reached.as_str())?
-            && prints(rt, alloc, source, &["--pass", "4"], reached.as_str())?
-            && prints(rt, alloc, source, &[], reached.as_str())?,
+    for (pass, text) in [
+        ("1", &placed),
+        ("2", &placed),
+        ("3", &reached),
+        ("4", &reached),
+    ] {
+        let words = ["gib", "core", "a.gib", "--pass", pass];
+        if !prints(rt, alloc, source, &words, text.as_str())? {
+            return Ok(false);
+        }
+    }
+    prints(
+        rt,
+        alloc,
+        source,
+        &["gib", "core", "a.gib"],
+        reached.as_str(),
     )
 }
 
@@ -305,7 +346,15 @@ fn a_core_is_printed_after_each_pass(rt: HostRuntime) -> Result<(), Fail> {
 }
 
 #[test]
-fn words_of_core_that_are_not_taken_are_usage(rt: HostRuntime) -> Result<(), Fail> {
+fn code_is_printed_with_its_labels(rt: HostRuntime) -> Result<(), Fail> {
+    let alloc = rt.alloc();
+    let words = ["gib", "code", "a.gib"];
+    assert!(rt; prints(&rt, alloc, ADD_ONE, &words, ADD_ONE_CODE)?);
+    Ok(())
+}
+
+#[test]
+fn words_of_core_and_code_that_are_not_taken_are_usage(rt: HostRuntime) -> Result<(), Fail> {
     let alloc = rt.alloc();
     for words in [
         ["gib", "core"].as_slice(),
@@ -316,6 +365,9 @@ fn words_of_core_that_are_not_taken_are_usage(rt: HostRuntime) -> Result<(), Fai
         ["gib", "core", "a.gib", "--pass", "1", "--pass", "1"].as_slice(),
         ["gib", "core", "a.gib", "--depth", "5"].as_slice(),
         ["gib", "check", "a.gib", "--pass", "1"].as_slice(),
+        ["gib", "code"].as_slice(),
+        ["gib", "code", "a.gib", "b.gib"].as_slice(),
+        ["gib", "code", "a.gib", "--pass", "1"].as_slice(),
     ] {
         let files = vec![in alloc; file(alloc, "a.gib", ADD_ONE.as_bytes())?]?;
         let ended = call(&rt, alloc, words, files, Vec::new(alloc))?;
@@ -327,7 +379,7 @@ fn words_of_core_that_are_not_taken_are_usage(rt: HostRuntime) -> Result<(), Fai
 }
 
 #[test]
-fn a_source_that_is_not_typed_has_no_core(rt: HostRuntime) -> Result<(), Fail> {
+fn a_source_that_is_not_typed_has_no_core_and_no_code(rt: HostRuntime) -> Result<(), Fail> {
     let alloc = rt.alloc();
     for (source, err) in [
         ("main @", "gib: source: bad character at 5\n"),
@@ -337,17 +389,14 @@ fn a_source_that_is_not_typed_has_no_core(rt: HostRuntime) -> Result<(), Fail> {
             "gib: source: wrong type at 23\n",
         ),
     ] {
-        let files = vec![in alloc; file(alloc, "a.gib", source.as_bytes())?]?;
-        let ended = call(
-            &rt,
-            alloc,
-            &["gib", "core", "a.gib"],
-            files,
-            Vec::new(alloc),
-        )?;
-        assert_eq!(rt; ended.status, Status::Source, "{source}");
-        assert_eq!(rt; ended.out.bytes(), b"".as_slice(), "{source}");
-        assert_eq!(rt; ended.err.bytes(), err.as_bytes(), "{source}");
+        for command in ["core", "code"] {
+            let files = vec![in alloc; file(alloc, "a.gib", source.as_bytes())?]?;
+            let words = ["gib", command, "a.gib"];
+            let ended = call(&rt, alloc, &words, files, Vec::new(alloc))?;
+            assert_eq!(rt; ended.status, Status::Source, "{source}");
+            assert_eq!(rt; ended.out.bytes(), b"".as_slice(), "{source}");
+            assert_eq!(rt; ended.err.bytes(), err.as_bytes(), "{source}");
+        }
     }
     Ok(())
 }

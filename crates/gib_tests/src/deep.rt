@@ -35,7 +35,8 @@ fn a_long_list_is_run(rt: HostRuntime) -> Result<(), Fail> {
     let ended = call(
         &rt,
         alloc,
-        &["gib", "run", "a.gib", "a.gbp"],
+        // As many chunks as its cells need, 454 a chunk.
+        &["gib", "run", "a.gib", "a.gbp", "--chunks", "2203"],
         files,
         Vec::new(alloc),
     )?;

@@ -4,6 +4,8 @@
 #[cfg(test)]
 mod checks;
 #[cfg(test)]
+mod chunks;
+#[cfg(test)]
 mod commands;
 #[cfg(test)]
 mod cores;
@@ -15,8 +17,6 @@ mod harness;
 mod limits;
 #[cfg(test)]
 mod locations;
-#[cfg(test)]
-mod machine;
 #[cfg(test)]
 mod machine_runs;
 #[cfg(test)]

@@ -56,6 +56,14 @@ fn programs_end_as_they_mean(rt: HostRuntime) -> Result<(), Fail> {
             "",
         ),
         (
+            TREE,
+            "fun work (t : Tree) : Tree = case t of { Leaf n -> Leaf ((n * 3) + 1) ; Node l r -> let par a = work l and b = work r in Node a b } ; main (t : Tree) : Tree = work t ;",
+            b"\x01\x00\xa6~\xc6A\0\0\0\0\x00\xe7\xb0~\x16\0\0\0\0".as_slice(),
+            Status::Done,
+            "(Node (Leaf 3310582771) (Leaf 1132204726))\n",
+            "",
+        ),
+        (
             "",
             "main (n : Int) : Int = (n + 1) ;",
             [255, 255, 255, 255, 255, 255, 255, 127].as_slice(),
@@ -210,13 +218,15 @@ fn programs_end_as_they_mean(rt: HostRuntime) -> Result<(), Fail> {
     ] {
         let source = with_types(alloc, types, rest)?;
         let input = packed(alloc, payload)?;
-        for command in ["run", "plain"] {
+        for words in [
+            ["gib", "run", "a.gib", "a.gbp", "--chunks", "16"].as_slice(),
+            ["gib", "plain", "a.gib", "a.gbp"].as_slice(),
+        ] {
             let files = vec![in alloc;
                 file(alloc, "a.gib", source.as_bytes())?,
                 file(alloc, "a.gbp", &input)?,
             ]?;
-            let texts = ["gib", command, "a.gib", "a.gbp"];
-            let ended = call(&rt, alloc, &texts, files, Vec::new(alloc))?;
+            let ended = call(&rt, alloc, words, files, Vec::new(alloc))?;
             assert_eq!(rt; ended.status, status, "{source}");
             assert_eq!(rt; ended.out.bytes(), out.as_bytes(), "{source}");
             assert_eq!(rt; ended.err.bytes(), err.as_bytes(), "{source}");

@@ -1,0 +1,162 @@
+//! Runs in region memory of so many chunks, on both sides of where these run out. The statuses and the numbers of cells
+//! are those of a second implementation.
+
+use crate::harness::{call, file, packed};
+use gib_app::Status;
+use std::alloc::{AllocError, Global};
+use std::sync::Wait;
+use std::test::Fail;
+use std::thread::Threads;
+
+/// A list of so many cells; each cell's rest is built in a region of its own, which draws a chunk.
+const BUILD: &str =
+    "data List = Nil | Cons Int List ; fun build (n : Int) : List = if (n < 1) then Nil else Cons n (build (n - 1)) ; main (n : Int) : List = build n ;";
+
+/// A list as it is loaded, 454 cells a chunk.
+const SAME: &str = "data List = Nil | Cons Int List ; main (l : List) : List = l ;";
+
+/// The payload of a list that counts down to 1, where its last byte is the tag of an end.
+fn cells(alloc: Global, count: u64, last: &[u8]) -> Result<Vec<u8>, AllocError> {
+    let mut payload = Vec::new(alloc);
+    for number in 0..count {
+        payload.push(1)?;
+        payload.extend_from_slice(&(count - number).to_le_bytes())?;
+    }
+    payload.extend_from_slice(last)?;
+    Ok(payload)
+}
+
+/// The line of a list that counts down to 1.
+fn line(alloc: Global, count: u64) -> Result<String, AllocError> {
+    let mut text = String::new(alloc);
+    for number in 0..count {
+        let front = format!(in alloc; "(Cons {} ", count - number)?;
+        text.push_str(&front)?;
+    }
+    text.push_str("Nil")?;
+    for _ in 0..count {
+        text.push_str(")")?;
+    }
+    text.push_str("\n")?;
+    Ok(text)
+}
+
+/// A run with its options, and how it ends: with status 0 it prints a list that counts down from `count`, else nothing.
+#[derive(Drop)]
+struct Case<'a> {
+    source: &'a str,
+    payload: &'a [u8],
+    chunks: &'a str,
+    depth: &'a str,
+    count: u64,
+    status: Status,
+    err: &'a str,
+}
+
+/// Whether a run ends so.
+fn ends<R: Threads + Wait + Sync>(
+    rt: &R,
+    alloc: Global,
+    case: &Case<'_>,
+) -> Result<bool, AllocError> {
+    let files = vec![in alloc;
+        file(alloc, "a.gib", case.source.as_bytes())?,
+        file(alloc, "a.gbp", &packed(alloc, case.payload)?)?,
+    ]?;
+    let texts = [
+        "gib",
+        "run",
+        "a.gib",
+        "a.gbp",
+        "--chunks",
+        case.chunks,
+        "--depth",
+        case.depth,
+    ];
+    let ended = call(rt, alloc, &texts, files, Vec::new(alloc))?;
+    let out = if case.status == Status::Done {
+        line(alloc, case.count)?
+    } else {
+        String::new(alloc)
+    };
+    Ok(
+        ended.status == case.status
+            && ended.out.bytes() == out.as_bytes()
+            && ended.err.bytes() == case.err.as_bytes(),
+    )
+}
+
+#[test]
+fn lists_are_built_in_their_chunks(rt: HostRuntime) -> Result<(), Fail> {
+    let alloc = rt.alloc();
+    for (count, chunks, depth, status, err) in [
+        (15, "16", "10000", Status::Done, ""),
+        (16, "16", "10000", Status::Full, "gib: chunks\n"),
+        (16, "17", "10000", Status::Done, ""),
+        // What is met first is told: depth before the seventeenth chunk, or this chunk.
+        (8_000, "16", "15", Status::Depth, "gib: depth\n"),
+        (8_000, "16", "16", Status::Full, "gib: chunks\n"),
+        (8_000, "9000", "8001", Status::Done, ""),
+    ] {
+        let number = u64::to_le_bytes(count);
+        let case = Case {
+            source: BUILD,
+            payload: &number,
+            chunks,
+            depth,
+            count,
+            status,
+            err,
+        };
+        assert!(rt; ends(&rt, alloc, &case)?, "{count} in {chunks}");
+    }
+    Ok(())
+}
+
+#[test]
+fn lists_are_loaded_into_their_chunks(rt: HostRuntime) -> Result<(), Fail> {
+    let alloc = rt.alloc();
+    for (count, last, chunks, status, err) in [
+        (455, b"\0".as_slice(), "16", Status::Done, ""),
+        (7_256, b"\0".as_slice(), "16", Status::Done, ""),
+        (7_257, b"\0".as_slice(), "16", Status::Full, "gib: chunks\n"),
+        (7_257, b"\0".as_slice(), "17", Status::Done, ""),
+        // An input that is refused is told, however few the chunks are.
+        (
+            7_257,
+            b"".as_slice(),
+            "16",
+            Status::Input,
+            "gib: input: short at 65313\n",
+        ),
+        (
+            7_257,
+            b"\0\0".as_slice(),
+            "16",
+            Status::Input,
+            "gib: input: trailing bytes at 65314\n",
+        ),
+        (
+            1,
+            b"\x02".as_slice(),
+            "65536",
+            Status::Input,
+            "gib: input: bad tag at 9\n",
+        ),
+        (1, b"\0".as_slice(), "15", Status::Usage, "gib: usage\n"),
+        (1, b"\0".as_slice(), "65537", Status::Usage, "gib: usage\n"),
+    ] {
+        let payload = cells(alloc, count, last)?;
+        let case = Case {
+            source: SAME,
+            payload: &payload,
+            chunks,
+            depth: "10000",
+            count,
+            status,
+            err,
+        };
+        assert!(rt; ends(&rt, alloc, &case)?, "{count} in {chunks}");
+    }
+    Ok(())
+}
