@@ -13,9 +13,9 @@ use Rattle.gib_core.specs.declared.atom.AccessMode.TheVariants.{Skips, Offsets}
 use Rattle.gib_core.specs.declared.node.Node.{Node}
 use Rattle.gib_core.specs.declared.program.CoreFunction.{CoreFunction}
 use Rattle.gib_core.specs.declared.program.CoreMain.{CoreMain}
-use Rattle.gib_core.specs.Tree.{Term, FunctionTerm, CoreTree}
+use Rattle.gib_core.specs.Tree.{Term, FunctionTerm, MainTerm, CoreTree}
 use Rattle.gib_core.specs.Arena.{Grows, term_of}
-use Rattle.gib_core.specs.Parts.{Parts, AreInside, IsFunctionInside, function_term, main_term, core_of}
+use Rattle.gib_core.specs.Parts.{Parts, AreInside, AreDeclared, IsDeclared, IsFunctionInside, function_term, main_term, core_of}
 use Rattle.gib_core.specs.Meaning.{core_calls, core_run}
 use Rattle.gib_core.specs.Erasing.{erase_core}
 use Rattle.gib_core.specs.Numbering.{AreNumbered}
@@ -24,6 +24,7 @@ use Rattle.gib_core.specs.Rules.{AreBuilt}
 use Rattle.gib_core.specs.Reaching.{offsets_in, offsets_by, reach_function, reach_core}
 use Rattle.gib_access.specs.declared.work.Work.{Work}
 use Rattle.gib_access.specs.Bodies.{ReachesFunction, ReachesFunctions, ReachesMain, offsets_of, offsets_kept}
+use Rattle.gib_core.proofs.Signatures.{functions_declared, declared_functions}
 use Rattle.gib_access.proofs.Fronting.{grows_more, grows_none}
 
 -- Some functions were reached; with those that are left they are all.
@@ -92,9 +93,28 @@ functions_end mode table terms old new all left done el h =
     let h' : FunctionsSoFar mode table terms old new all [] done = subst (λ z. FunctionsSoFar mode table terms old new all z done) el h in
     record { grows = h.grows; offsets = h'.offsets; inside = h.inside; are = h'.are }
 
+-- Reaching keeps the types of functions.
+reached_declared : (mode : AccessMode) (table : Table) (n : ℕ) (fs : List FunctionTerm) → AllByRecursion (λ (f : FunctionTerm). AreDeclared n f.parameters f.result) fs → AllByRecursion (λ (f : FunctionTerm). AreDeclared n f.parameters f.result) (map (reach_function mode table) fs)
+reached_declared mode table n [] h = tt
+reached_declared mode table n (f ∷ fs) h = (h.0, reached_declared mode table n fs h.1)
+
 -- The parts of the new core.
-pub parts_inside : (mode : AccessMode) (table : Table) (now new : Work) (functions : List CoreFunction) (main : CoreMain) (fs : List FunctionTerm) (offsets : List ConId) → main.body.0 < length now.terms → ReachesFunctions mode table now new functions fs → AreInside (record { table = table; terms = new.terms; functions = functions; main = main; offsets = offsets })
-parts_inside mode table now new functions main fs offsets lt h = record { functions = h.inside; main = (let l = h.grows.longer in omega arith) }
+pub parts_inside : (mode : AccessMode) (was : Parts) (table : Table) (terms : List Node) (all : List CoreFunction) (main : CoreMain) (old now new : Work) (functions : List CoreFunction) (first : CoreMain) (offsets : List ConId) → AreInside was
+    → table ≡ was.table → all ≡ was.functions → main ≡ was.main → ReachesMain mode table old now first (main_term (term_of terms) main) → ReachesFunctions mode table now new functions (map (function_term (term_of terms)) all)
+    → AreInside (record { table = table; terms = new.terms; functions = functions; main = first; offsets = offsets })
+parts_inside mode was table terms all main old now new functions first offsets h et ef em m f =
+    let n = length table.types in
+    let known = subst (λ (t : Table). AllByRecursion (IsDeclared (length t.types)) was.functions) (sym et) h.types in
+    let types = functions_declared n (term_of terms) all (subst (λ (ds : List CoreFunction). AllByRecursion (IsDeclared n) ds) (sym ef) known) in
+    let main_known = subst (λ (t : Table). AreDeclared (length t.types) (was.main.parameter ∷ []) was.main.result) (sym et) h.main_types in
+    let main_types = subst (λ (x : CoreMain). AreDeclared n (x.parameter ∷ []) x.result) (sym em) main_known in
+    record {
+      functions = f.inside;
+      main = (let l = f.grows.longer in let k = m.inside in omega (arith, l, k));
+      types = declared_functions n (term_of new.terms) functions (subst (λ (gs : List FunctionTerm). AllByRecursion (λ (g : FunctionTerm). AreDeclared n g.parameters g.result) gs) (sym f.are)
+          (reached_declared mode table n (map (function_term (term_of terms)) all) types));
+      main_types = subst (λ (x : MainTerm). AreDeclared n (x.parameter ∷ []) x.result) (sym m.is) main_types;
+    }
 
 listed : (mode : AccessMode) (core : CoreTree) (ks : List ConId) → ks ≡ offsets_of core.table core.functions ++ offsets_in core.table core.main.body → offsets_kept mode ks ≡ offsets_by mode core
 listed Skips core ks e = refl

@@ -1,9 +1,7 @@
 //! The fields of an arm, and how they are reached.
 
-ghost use Rattle.std.specs.Prelude.{◌≡◌, ◌<◌, ◌≤◌, ◌∷◌, ◌++◌, false, length, IfOk, OnOk};
+ghost use Rattle.std.specs.Prelude.{◌≡◌, ◌<◌, ◌≤◌, ◌∷◌, ◌++◌, length, IfOk, OnOk};
 ghost use Rattle.std.specs.List.{list_any};
-ghost use Rattle.gib_types.specs.Table.{fields_at};
-ghost use Rattle.gib_syntax.specs.Meaning.{at_fields, is_scalar as scalar};
 ghost use Rattle.gib_core.specs.Arena.{Makes};
 ghost use Rattle.gib_core.specs.declared.node.Node.TheVariants as n;
 ghost use Rattle.gib_core.specs.declared.node.Binding.TheVariants as b;
@@ -15,56 +13,8 @@ use crate::offset_list::OffsetList;
 use crate::stamps::Stamps;
 use gib_base::Memory;
 use gib_core::{Access, AccessMode, Binding, Node, TermId, Terms, Variable};
-use gib_types::{ConId, Ty, TypeTable};
+use gib_types::{ConId, TypeTable, items_at};
 use std::alloc::Global;
-
-/// The types of a constructor's fields, in declared order; of no constructor, none.
-fn fields_of(types: &TypeTable, constructor: ConId) -> &[Ty]
-    ensures { result.now ≡ fields_at types.now constructor.0 }
-{
-    if constructor.0 < types.len() {
-        types.fields(constructor)
-    } else {
-        &[]
-    }
-}
-
-/// Whether values of a type are scalars.
-fn is_scalar(ty: Ty) -> bool
-    ensures { result ≡ scalar ty }
-{
-    match ty {
-        Ty::Whole => true,
-        Ty::Truth => true,
-        Ty::Tree(_) => false,
-    }
-}
-
-/// The variables at the packed fields, among fields of these types.
-fn variables_at(
-    alloc: Global,
-    types: &[Ty],
-    variables: &[Variable],
-) -> Result<Vec<Variable>, Memory>
-    ensures { IfOk result (λ packed. packed.items ≡ at_fields false types.now variables.now) }
-{
-    let mut packed = Vec::new(alloc);
-    let mut types_left = types;
-    let mut left = variables;
-    'variables: while let [variable, after @ ..] = left {
-        match types_left {
-            [] => return Ok(packed),
-            [ty, types_after @ ..] => {
-                if !is_scalar(*ty) {
-                    packed.push(*variable)?;
-                }
-                types_left = types_after;
-                left = after;
-            }
-        }
-    }
-    Ok(packed)
-}
 
 /// The variables of an arm's packed fields.
 pub fn packed_variables(
@@ -75,7 +25,7 @@ pub fn packed_variables(
 ) -> Result<Vec<Variable>, Memory>
     ensures { IfOk result (λ packed. packed.items ≡ packed_of types.now constructor variables.now) }
 {
-    variables_at(alloc, fields_of(types, constructor), variables)
+    items_at(alloc, false, types.fields(constructor), variables)
 }
 
 /// What stands directly before the field of a number, where a first field stands before them all.

@@ -1,11 +1,11 @@
 ghost use Rattle.std.specs.Prelude.{◌≡◌, ◌++◌, ◌∷◌, [], ◌<◌, ◌≤◌, length, map, IfOk, OnOk};
-ghost use Rattle.gib_types.specs.Table.{row_of};
 ghost use Rattle.gib_core.specs.Arena.{PartsBelow};
 
 use crate::reach;
 use gib_base::{Memory, Name, Names};
 use gib_core::*;
-use gib_types::{ConId, Constructor, Ty, TyId, TypeTable};
+use gib_types::sample::add;
+use gib_types::{ConId, Ty, TyId, TypeTable};
 use std::alloc::Global;
 use std::test::*;
 
@@ -19,25 +19,15 @@ const NODE: ConId = ConId(2);
 
 const LAST: Name = Name(4);
 
-fn add(alloc: Global, rows: &mut Vec<Constructor>, name: u32, fields: &[Ty]) -> Result<(), Memory>
-    ensures { OnOk result (map row_of rows.new.items ≡ map row_of rows.old.items ++ record { name = name; owner = 0; fields = fields.now } ∷ []) }
-{
-    let fields = Vec::from_slice(alloc, fields)?;
-    rows.push(Constructor {
-        name: Name(name),
-        owner: TyId(0),
-        fields,
-    })?;
-    Ok(())
-}
-
 // data Tree = Leaf Int | Pair Tree Tree | Node Tree Tree Tree ;
-fn table(alloc: Global) -> Result<TypeTable, Memory> {
+fn table(alloc: Global) -> Result<TypeTable, Memory>
+    ensures { IfOk result (λ table. length table.types ≡ 1) }
+{
     let types = Vec::from_slice(alloc, &[Name(0)])?;
     let mut rows = Vec::new(alloc);
-    add(alloc, &mut rows, 1, &[Ty::Whole])?;
-    add(alloc, &mut rows, 2, &[TREE, TREE])?;
-    add(alloc, &mut rows, 3, &[TREE, TREE, TREE])?;
+    add(alloc, &mut rows, 1, 0, &[Ty::Whole])?;
+    add(alloc, &mut rows, 2, 0, &[TREE, TREE])?;
+    add(alloc, &mut rows, 3, 0, &[TREE, TREE, TREE])?;
     TypeTable::make(alloc, types, rows)
 }
 

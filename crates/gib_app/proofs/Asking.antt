@@ -1,24 +1,22 @@
--- Words that the commands take ask for something: each value of the request is there.
-use Rattle.std.proofs.Common.{◌≡◌, ◌∙◌, ◌<◌, ◌≤◌, ◌||◌, ℕ, Bool, cond, codes, true, false, not, refl, sym, ap, arith, List, [], ◌∷◌, ◌++◌, length, Option, Some, None, is_some, option_map, true≢false, subst}
-use Rattle.std.specs.Prelude.{find, fold, option_and_then, slice_get}
+-- Words that the commands take ask for something: each value of the plan is there.
+use Rattle.std.proofs.Common.{◌≡◌, ◌∙◌, ◌<◌, ◌||◌, Bool, cond, codes, true, false, not, refl, sym, ap, arith, List, [], ◌∷◌, length, Option, Some, None, is_some, option_map, true≢false, subst}
+use Rattle.std.specs.Prelude.{⊤, find, option_and_then, slice_get}
 use Rattle.std.specs.List.{list_all, list_any}
 use Rattle.std.specs.Option.{option_map_or}
 use Rattle.std.specs.Str.{bytes_eq}
 use Rattle.std.proofs.lemmas.Slice.Eq.{bytes_eq-Decides}
-use Rattle.clap.specs.Values.{Accepts, read_as}
-use Rattle.clap.specs.ValueTests.{is_unsigned_in}
-use Rattle.clap.specs.Facts.{explicit_source, parser_of_value}
-use Rattle.clap.specs.Walk.{Names, Row, Rule, Text, arg_by_id, at_row, default_rows, has_row, more_values, nothing_held, reading_by, rows_after, stop_after, walk, walk_from, with_default, finished, settled}
-use Rattle.clap.specs.Walk.{answers_to, row_text}
+use Rattle.clap.specs.Facts.{explicit_source}
+use Rattle.clap.specs.Walk.{Names, Row, Rule, Text, arg_by_id, nothing_held, rows_after, stop_after, walk, walk_from, finished}
+use Rattle.clap.specs.Walk.{answers_to}
 use Rattle.clap.specs.Simple.{App, rows_at, Shape, argument_words, built, built_leaf, entered, inherited, is_simple, label_of, marked_built, names_of, subcommand_of, with_leaf_noted}
-use Rattle.clap.specs.Takes.{built_takes, default_passes, entered_passes, is_given, level_passes, settle_passes, takes, value_passes, values_pass, walk_passes}
-use Rattle.clap.specs.declared.parser.matches.ValueSource.TheVariants.{DefaultValue}
-use Rattle.clap.specs.declared.builder.value_parser.ValueParser.TheVariants as parser
+use Rattle.clap.specs.Takes.{built_takes, default_passes, entered_passes, is_given, level_passes, settle_passes, takes, walk_passes}
 use Rattle.clap.proofs.OnLiterals.{clap_on_literals}
 use Rattle.clap.proofs.WalkLemmas.{both}
-use Rattle.clap.proofs.ValueTestLemmas.{Accepts-accepts, accepts-Accepts}
-use Rattle.gib_app.specs.Words.{Form, app_for, asked_by_command, command_set, file_of, number_in, number_of, requested, with_value, word_of}
-use Rattle.gib_app.specs.Words.{check_form, core_form, pack_form, plain_form, run_form, show_form}
+use Rattle.gib_app.specs.declared.plan.Job.{Job}
+use Rattle.gib_app.specs.declared.plan.Job.TheVariants.{Run, Plain, Check, Core, Code, Pack, Show}
+use Rattle.gib_app.specs.Plan.{Named}
+use Rattle.gib_app.specs.Words.{Form, app_for, asked_by_command, command_set, file_of, planned, requested, second_in, target_in, with_value, word_of}
+use Rattle.gib_app.specs.Words.{check_form, code_form, core_form, pack_form, plain_form, run_form, show_form}
 use Rattle.gib_app.proofs.Filling.{AllFilled, AllKnown, AllOf, Filled, Known, is_valued, level_filled}
 
 -- ---- Rows
@@ -49,101 +47,7 @@ word_there c rows id a all is valued given = go (find (λ r. bytes_eq r.id id) r
         let same : r.id ≡ id = (bytes_eq-Decides r.id id).0 row.1 in
         first_there r.values (row.0 a (ap (arg_by_id c) same ∙ is) valued).0
 
-number_fits : (low high : ℕ) (text : Text) → is_unsigned_in low high text ≡ true → high ≤ 4294967295 → is_some (number_in text) ≡ true
-number_fits low high text passes below =
-    let is = accepts-Accepts false (parser.Unsigned low high) text passes in
-    let fits : is_unsigned_in 0 4294967295 text ≡ true = Accepts-accepts false (parser.Unsigned 0 4294967295) text (is.0, is.1, (omega arith), (omega arith)) in
-    rw fits refl
-
-number_there : (c : List Rule) (rows : List Row) (id : Text) (a : Rule) (low high : ℕ) → AllFilled c rows → arg_by_id c id ≡ Some a → is_valued a ≡ true
-    → parser_of_value a.parser ≡ parser.Unsigned low high → high ≤ 4294967295 → has_row id rows ≡ true → is_some (number_of id rows) ≡ true
-number_there c rows id a low high all is valued ranged below has = go (find (λ r. bytes_eq r.id id) rows) refl (found rows has)
-  where
-    found : (rs : List Row) → list_any (λ r. bytes_eq r.id id) rs ≡ true → is_some (find (λ (r : Row). bytes_eq r.id id) rs) ≡ true
-    found [] e = absurd (true≢false (sym e))
-    found (r ∷ rs) e = step (bytes_eq r.id id) e (found rs)
-      where
-        step : (b : Bool) → (b || list_any (λ x. bytes_eq x.id id) rs) ≡ true → (list_any (λ x. bytes_eq x.id id) rs ≡ true → is_some (find (λ (x : Row). bytes_eq x.id id) rs) ≡ true)
-            → is_some (cond b (Some r) (find (λ (x : Row). bytes_eq x.id id) rs)) ≡ true
-        step true e rest = refl
-        step false e rest = rest e
-
-    value : (vs : List Text) → 0 < length vs → values_pass a vs ≡ true → is_some (option_and_then number_in (option_map (read_as (reading_by a)) (slice_get vs 0))) ≡ true
-    value [] some passes = absurd (omega arith)
-    value (v ∷ vs) some passes =
-        let first : Accepts a.ignore_case (parser_of_value a.parser) v = accepts-Accepts a.ignore_case (parser_of_value a.parser) v (both (value_passes a v) _ passes).0 in
-        let unsigned : Accepts false (parser.Unsigned low high) v = rw ranged at first in
-        let test = Accepts-accepts false (parser.Unsigned low high) v unsigned in
-        rw ranged (number_fits low high v test below)
-
-    go : (o : Option Row) → find (λ r. bytes_eq r.id id) rows ≡ o → is_some o ≡ true → is_some (option_and_then number_in (option_and_then row_text o)) ≡ true
-    go None e some = absurd (true≢false (sym some))
-    go (Some r) e some =
-        let row = found_in (Filled c) (λ x. bytes_eq x.id id) rows r all e in
-        let same : r.id ≡ id = (bytes_eq-Decides r.id id).0 row.1 in
-        let filled = row.0 a (ap (arg_by_id c) same ∙ is) valued in
-        rw filled.2 (value r.values filled.0 filled.1)
-
-row_is_there : (id : Text) (values : List Text) (made : Row) (rows : List Row) → bytes_eq made.id id ≡ true → has_row id (at_row id (more_values DefaultValue values) (made ∷ []) rows) ≡ true
-row_is_there id values made [] new = rw new refl
-row_is_there id values made (r ∷ rs) new = go (bytes_eq r.id id) refl (row_is_there id values made rs new)
-  where
-    go : (b : Bool) → bytes_eq r.id id ≡ b → has_row id (at_row id (more_values DefaultValue values) (made ∷ []) rs) ≡ true
-        → has_row id (cond b (more_values DefaultValue values r ++ rs) (r ∷ at_row id (more_values DefaultValue values) (made ∷ []) rs)) ≡ true
-    go true e rest = rw e refl
-    go false e rest = rw e rest
-
-default_there : (a : Rule) (v : Text) (rows : List Row) → a.defaults ≡ v ∷ [] → bytes_eq a.id a.id ≡ true → has_row a.id (with_default rows a) ≡ true
-default_there a v rows is itself = go (has_row a.id rows) refl
-  where
-    go : (b : Bool) → has_row a.id rows ≡ b → has_row a.id (cond b rows (default_rows a.id (reading_by a) a.defaults rows)) ≡ true
-    go true e = e
-    go false e = rw is (row_is_there a.id (v ∷ []) _ rows itself)
-
-row_stays : (id other : Text) (values : List Text) (made : Row) (rows : List Row) → has_row id rows ≡ true → has_row id (at_row other (more_values DefaultValue values) (made ∷ []) rows) ≡ true
-row_stays id other values made [] has = absurd (true≢false (sym has))
-row_stays id other values made (r ∷ rs) has = go (bytes_eq r.id other) (bytes_eq r.id id) refl has (row_stays id other values made rs)
-  where
-    go : (b d : Bool) → bytes_eq r.id id ≡ d → (d || has_row id rs) ≡ true
-        → (has_row id rs ≡ true → has_row id (at_row other (more_values DefaultValue values) (made ∷ []) rs) ≡ true)
-        → has_row id (cond b (more_values DefaultValue values r ++ rs) (r ∷ at_row other (more_values DefaultValue values) (made ∷ []) rs)) ≡ true
-    go true d is has rest = ap (λ x. x || has_row id rs) is ∙ has
-    go false true is has rest = ap (λ x. x || has_row id (at_row other (more_values DefaultValue values) (made ∷ []) rs)) is
-    go false false is has rest = ap (λ x. x || has_row id (at_row other (more_values DefaultValue values) (made ∷ []) rs)) is ∙ rest has
-
-default_keeps : (id : Text) (a : Rule) (rows : List Row) → has_row id rows ≡ true → has_row id (with_default rows a) ≡ true
-default_keeps id a rows has = go (has_row a.id rows) a.defaults
-  where
-    go : (b : Bool) (vs : List Text) → has_row id (cond b rows (default_rows a.id (reading_by a) vs rows)) ≡ true
-    go true vs = has
-    go false [] = has
-    go false (v ∷ vs) = row_stays id a.id (v ∷ vs) _ rows has
-
-defaults_keep : (id : Text) (xs : List Rule) (rows : List Row) → has_row id rows ≡ true → has_row id (fold with_default rows xs) ≡ true
-defaults_keep id [] rows has = has
-defaults_keep id (a ∷ xs) rows has = defaults_keep id xs (with_default rows a) (default_keeps id a rows has)
-
--- An argument with a default has a row in the end.
-default_given : (id : Text) (xs : List Rule) (rows : List Row) (a : Rule) (v : Text) → arg_by_id xs id ≡ Some a → a.defaults ≡ v ∷ []
-    → has_row id (fold with_default rows xs) ≡ true
-default_given id [] rows a v e is = absurd (true≢false (sym (ap is_some e)))
-default_given id (x ∷ xs) rows a v e is = go (bytes_eq x.id id) refl e (λ h. default_given id xs (with_default rows x) a v h is)
-  where
-    go : (b : Bool) → bytes_eq x.id id ≡ b → cond b (Some x) (arg_by_id xs id) ≡ Some a → (arg_by_id xs id ≡ Some a → has_row id (fold with_default (with_default rows x) xs) ≡ true)
-        → has_row id (fold with_default (with_default rows x) xs) ≡ true
-    go true same found rest =
-        let one : x ≡ a = cc in
-        let named : x.id ≡ id = (bytes_eq-Decides x.id id).0 same in
-        let itself : bytes_eq x.id x.id ≡ true = ap (bytes_eq x.id) named ∙ same in
-        let there = default_there x v rows (ap (λ (y : Rule). y.defaults) one ∙ is) itself in
-        defaults_keep id xs (with_default rows x) (ap (λ (t : Text). has_row t (with_default rows x)) (sym named) ∙ there)
-    go false same found rest = rest found
-
-default_row : (s : Shape) (words : List Text) (id : Text) (a : Rule) (v : Text) → arg_by_id s.rules id ≡ Some a → a.defaults ≡ v ∷ []
-    → has_row id (rows_after s.rules [] words) ≡ true
-default_row s words id a v = default_given id s.rules (settled s.rules (walk s.rules [] nothing_held words).held).rows a v
-
--- ---- Requests
+-- ---- Plans
 
 mapped : {X Y : Type 0} (f : X → Y) (o : Option X) → is_some o ≡ true → is_some (option_map f o) ≡ true
 mapped f None e = e
@@ -153,11 +57,7 @@ joined : {X Y : Type 0} (f : Option (X → Y)) (o : Option X) → is_some f ≡ 
 joined None o e p = e
 joined (Some f) o e p = mapped f o p
 
-file_there : (c : List Rule) (rows : List Row) (id : Text) (a : Rule) → AllFilled c rows → arg_by_id c id ≡ Some a → is_valued a ≡ true
-    → is_given id rows ≡ true → is_some (file_of id rows) ≡ true
-file_there c rows id a all is valued given = mapped _ (word_of id rows) (word_there c rows id a all is valued given)
-
--- ---- Commands
+-- ---- Levels of words
 
 -- What a command takes asks for something.
 abbrev Asks : Shape → Type 0
@@ -184,94 +84,81 @@ required_given s words strict passes =
 all_known : (c : List Rule) → AllOf (Known c) c → AllKnown c
 all_known c all p a e = (found_in (Known c) p c a all e).0
 
-check_asks : Asks (built_form check_form)
-unfolding clap_on_literals
-check_asks words passes =
-    let s = built_form check_form in
-    let rows = rows_after s.rules [] words in
-    let is : AllOf (Known s.rules) s.rules = ((refl, refl), tt) in
-    let filled = level_filled s (all_known s.rules is) words is passes in
-    let given = required_given s words refl passes in
-    let source = both (is_given (codes "source") rows) _ given in
-    mapped _ (file_of (codes "source") rows) (file_there s.rules rows (codes "source") _ filled refl refl source.0)
+-- The word of a place is there: its argument is one of the level's, has a value, and has to be there.
+abbrev Reads : Shape → Text → Type 0
+Reads s id = (a : Rule) × (arg_by_id s.rules id ≡ Some a) × (is_valued a ≡ true) × (a.required ≡ true)
 
-core_asks : Asks (built_form core_form)
-unfolding clap_on_literals
-core_asks words passes =
-    let s = built_form core_form in
-    let rows = rows_after s.rules [] words in
-    let is : AllOf (Known s.rules) s.rules = ((refl, refl), ((refl, refl), tt)) in
-    let filled = level_filled s (all_known s.rules is) words is passes in
-    let source = both (is_given (codes "source") rows) _ (required_given s words refl passes) in
-    let has : has_row (codes "pass") rows ≡ true = default_row s words (codes "pass") _ (codes "4") refl refl in
-    joined (option_map _ (file_of (codes "source") rows)) (number_of (codes "pass") rows)
-    (mapped _ (file_of (codes "source") rows) (file_there s.rules rows (codes "source") _ filled refl refl source.0))
-    (number_there s.rules rows (codes "pass") _ 1 4 filled refl refl refl (omega arith) has)
+-- The same, where there is such a place.
+abbrev MayRead : Shape → Option Text → Type 0
+MayRead s None = ⊤
+MayRead s (Some id) = Reads s id
 
-show_asks : Asks (built_form show_form)
-unfolding clap_on_literals
-show_asks words passes =
-    let s = built_form show_form in
-    let rows = rows_after s.rules [] words in
-    let is : AllOf (Known s.rules) s.rules = ((refl, refl), ((refl, refl), tt)) in
-    let filled = level_filled s (all_known s.rules is) words is passes in
-    let source = both (is_given (codes "source") rows) _ (required_given s words refl passes) in
-    let file = both (is_given (codes "file") rows) _ source.1 in
-    joined (option_map _ (file_of (codes "source") rows)) (file_of (codes "file") rows)
-    (mapped _ (file_of (codes "source") rows) (file_there s.rules rows (codes "source") _ filled refl refl source.0))
-    (file_there s.rules rows (codes "file") _ filled refl refl file.0)
+all_pass : {X : Type 0} (p : X → Bool) (xs : List X) → list_all p xs ≡ true → AllOf (λ x. p x ≡ true) xs
+all_pass p [] e = tt
+all_pass p (x ∷ xs) e = let steps = both (p x) _ e in (steps.0, all_pass p xs steps.1)
 
-pack_asks : Asks (built_form pack_form)
-unfolding clap_on_literals
-pack_asks words passes =
-    let s = built_form pack_form in
-    let rows = rows_after s.rules [] words in
-    let is : AllOf (Known s.rules) s.rules = ((refl, refl), ((refl, refl), ((refl, refl), tt))) in
-    let filled = level_filled s (all_known s.rules is) words is passes in
-    let source = both (is_given (codes "source") rows) _ (required_given s words refl passes) in
-    let text = both (is_given (codes "text") rows) _ source.1 in
-    let target = both (is_given (codes "target") rows) _ text.1 in
-    joined (with_value (option_map _ (file_of (codes "source") rows)) (file_of (codes "text") rows)) (word_of (codes "target") rows)
-    (joined (option_map _ (file_of (codes "source") rows)) (file_of (codes "text") rows)
-    (mapped _ (file_of (codes "source") rows) (file_there s.rules rows (codes "source") _ filled refl refl source.0))
-    (file_there s.rules rows (codes "text") _ filled refl refl text.0))
-    (word_there s.rules rows (codes "target") _ filled refl refl target.0)
+module _ (s : Shape) (words : List Text) (is : AllOf (Known s.rules) s.rules) (strict : s.subcommand_negates_reqs ≡ false) (passes : level_passes s [] nothing_held words false ≡ true) where
+  abbrev rows : List Row
+  rows = rows_after s.rules [] words
+
+  read_there : (id : Text) → Reads s id → is_some (word_of id rows) ≡ true
+  read_there id r =
+      let a = r.0 in
+      let given = all_pass (λ (x : Rule). not x.required || is_given x.id rows) s.rules (required_given s words strict passes) in
+      let found = found_in (λ (x : Rule). (not x.required || is_given x.id rows) ≡ true) (λ x. bytes_eq x.id id) s.rules a given r.1 in
+      let named : a.id ≡ id = (bytes_eq-Decides a.id id).0 found.1 in
+      let there : is_given id rows ≡ true = ap (λ (t : Text). is_given t rows) (sym named) ∙ (rw r.3 at found.0) in
+      word_there s.rules rows id a (level_filled s (all_known s.rules is) words is passes) r.1 r.2 there
+
+  source_there : (id : Text) → Reads s id → is_some (file_of id rows) ≡ true
+  source_there id reads = mapped Named (word_of id rows) (read_there id reads)
+
+  second_there : (o : Option Text) → MayRead s o → is_some (second_in o rows) ≡ true
+  second_there None reads = refl
+  second_there (Some id) reads = mapped Some (file_of id rows) (source_there id reads)
+
+  target_there : (o : Option Text) → MayRead s o → is_some (target_in o rows) ≡ true
+  target_there None reads = refl
+  target_there (Some id) reads = mapped Some (word_of id rows) (read_there id reads)
+
+  -- One lemma for all forms.
+  plan_there : (job : Job) (second target : Option Text) → Reads s (codes "source") → MayRead s second → MayRead s target → is_some (planned job second target rows) ≡ true
+  plan_there job second target source other written =
+      joined _ (target_in target rows) (joined _ (second_in second rows) (mapped _ (file_of (codes "source") rows) (source_there (codes "source") source)) (second_there second other)) (target_there target written)
+
+-- ---- Commands
 
 run_asks : Asks (built_form run_form)
 unfolding clap_on_literals
-run_asks words passes =
-    let s = built_form run_form in
-    let rows = rows_after s.rules [] words in
-    let is : AllOf (Known s.rules) s.rules = ((refl, refl), ((refl, refl), ((refl, refl), tt))) in
-    let filled = level_filled s (all_known s.rules is) words is passes in
-    let source = both (is_given (codes "source") rows) _ (required_given s words refl passes) in
-    let input = both (is_given (codes "input") rows) _ source.1 in
-    let has : has_row (codes "depth") rows ≡ true = default_row s words (codes "depth") _ (codes "10000") refl refl in
-    joined (with_value (option_map _ (file_of (codes "source") rows)) (file_of (codes "input") rows)) (number_of (codes "depth") rows)
-    (joined (option_map _ (file_of (codes "source") rows)) (file_of (codes "input") rows)
-    (mapped _ (file_of (codes "source") rows) (file_there s.rules rows (codes "source") _ filled refl refl source.0))
-    (file_there s.rules rows (codes "input") _ filled refl refl input.0))
-    (number_there s.rules rows (codes "depth") _ 1 1000000 filled refl refl refl (omega arith) has)
+run_asks words passes = plan_there (built_form run_form) words ((refl, refl), ((refl, refl), ((refl, refl), ((refl, refl), tt)))) refl passes Run (Some (codes "input")) None (_, refl, refl, refl) (_, refl, refl, refl) tt
 
 plain_asks : Asks (built_form plain_form)
 unfolding clap_on_literals
-plain_asks words passes =
-    let s = built_form plain_form in
-    let rows = rows_after s.rules [] words in
-    let is : AllOf (Known s.rules) s.rules = ((refl, refl), ((refl, refl), ((refl, refl), tt))) in
-    let filled = level_filled s (all_known s.rules is) words is passes in
-    let source = both (is_given (codes "source") rows) _ (required_given s words refl passes) in
-    let input = both (is_given (codes "input") rows) _ source.1 in
-    let has : has_row (codes "depth") rows ≡ true = default_row s words (codes "depth") _ (codes "10000") refl refl in
-    joined (with_value (option_map _ (file_of (codes "source") rows)) (file_of (codes "input") rows)) (number_of (codes "depth") rows)
-    (joined (option_map _ (file_of (codes "source") rows)) (file_of (codes "input") rows)
-    (mapped _ (file_of (codes "source") rows) (file_there s.rules rows (codes "source") _ filled refl refl source.0))
-    (file_there s.rules rows (codes "input") _ filled refl refl input.0))
-    (number_there s.rules rows (codes "depth") _ 1 1000000 filled refl refl refl (omega arith) has)
+plain_asks words passes = plan_there (built_form plain_form) words ((refl, refl), ((refl, refl), ((refl, refl), tt))) refl passes Plain (Some (codes "input")) None (_, refl, refl, refl) (_, refl, refl, refl) tt
+
+check_asks : Asks (built_form check_form)
+unfolding clap_on_literals
+check_asks words passes = plan_there (built_form check_form) words ((refl, refl), tt) refl passes Check None None (_, refl, refl, refl) tt tt
+
+core_asks : Asks (built_form core_form)
+unfolding clap_on_literals
+core_asks words passes = plan_there (built_form core_form) words ((refl, refl), ((refl, refl), tt)) refl passes Core None None (_, refl, refl, refl) tt tt
+
+code_asks : Asks (built_form code_form)
+unfolding clap_on_literals
+code_asks words passes = plan_there (built_form code_form) words ((refl, refl), tt) refl passes Code None None (_, refl, refl, refl) tt tt
+
+pack_asks : Asks (built_form pack_form)
+unfolding clap_on_literals
+pack_asks words passes = plan_there (built_form pack_form) words ((refl, refl), ((refl, refl), ((refl, refl), tt))) refl passes Pack (Some (codes "text")) (Some (codes "target")) (_, refl, refl, refl) (_, refl, refl, refl) (_, refl, refl, refl)
+
+show_asks : Asks (built_form show_form)
+unfolding clap_on_literals
+show_asks words passes = plan_there (built_form show_form) words ((refl, refl), ((refl, refl), tt)) refl passes Show (Some (codes "file")) None (_, refl, refl, refl) (_, refl, refl, refl) tt
 
 all_ask : AllOf Asks (built command_set).subs
 unfolding clap_on_literals
-all_ask = (run_asks, (plain_asks, (check_asks, (core_asks, (pack_asks, (show_asks, tt))))))
+all_ask = (run_asks, (plain_asks, (check_asks, (core_asks, (code_asks, (pack_asks, (show_asks, tt)))))))
 
 needs_command : (built command_set).top.subcommand_required ≡ true
 unfolding clap_on_literals

@@ -1,9 +1,10 @@
 -- Items that are added at an end, in turn.
-use Rattle.std.proofs.Common.{◌≡◌, ◌∙◌, refl, ℕ, zero, suc, ◌≤◌, List, [], ◌∷◌, ◌++◌, length, take, Option, Some, None, IfSome, Result, Ok, Err, OnOk, OnErr, subst, sym, ap, append_assoc}
-use Rattle.gib_edge.specs.Causes.{Rose, HasCause, Appends, AppendsPart}
+use Rattle.std.proofs.Common.{◌≡◌, ◌∙◌, refl, ℕ, zero, suc, List, [], ◌∷◌, ◌++◌, length, take, Option, Some, None, IfSome, Result, Ok, Err, OnOk, OnErr, subst, sym, ap, append_assoc}
+use Rattle.gib_edge.specs.Causes.{HasCause, Appends, AppendsPart}
 use Rattle.std.specs.Option.{option_map_or}
-use Rattle.gib_edge.specs.Views.{Call, ReadOf, WriteOf, SinkView}
-use Rattle.gib_app.specs.Words.{Document, Request, asked}
+use Rattle.gib_edge.specs.Views.{Call, WriteOf, SinkView}
+use Rattle.gib_app.specs.Plan.{Document, Plan}
+use Rattle.gib_app.specs.Words.{asked}
 use Rattle.gib_app.specs.Calls.{read_calls, second_calls, write_calls, calls_of, calls_asked}
 use Rattle.gib_app.specs.Lines.{IsPut}
 
@@ -90,17 +91,14 @@ second_part a b o d most asked_most e same h =
     let M : ℕ → Type 0 = λ m. AppendsPart a b (read_calls d m) in
     subst P (sym e) (subst M same h)
 
-pub write_none : (a : Option (List Call)) (o : Option (List ℕ)) → o ≡ None → Appends a a (write_calls o)
-write_none a o e = let P : Option (List ℕ) → Type 0 = λ x. Appends a a (write_calls x) in subst P (sym e) (added_none a)
+pub write_none : (a : Option (List Call)) (o : Option (List ℕ)) → AppendsPart a a (write_calls o)
+write_none a o = added_some a (write_calls o)
 
-pub write_whole : (a b : Option (List Call)) (o : Option (List ℕ)) (name : List ℕ) → o ≡ Some name → Appends a b (WriteOf name ∷ []) → Appends a b (write_calls o)
-write_whole a b o name e h = let P : Option (List ℕ) → Type 0 = λ x. Appends a b (write_calls x) in subst P (sym e) h
+pub write_whole : (a b : Option (List Call)) (o : Option (List ℕ)) (name : List ℕ) → o ≡ Some name → Appends a b (WriteOf name ∷ []) → AppendsPart a b (write_calls o)
+write_whole a b o name e h = let P : Option (List ℕ) → Type 0 = λ x. AppendsPart a b (write_calls x) in subst P (sym e) (added_whole a b (WriteOf name ∷ []) h)
 
 pub write_part : (a b : Option (List Call)) (o : Option (List ℕ)) (name : List ℕ) → o ≡ Some name → AppendsPart a b (WriteOf name ∷ []) → AppendsPart a b (write_calls o)
 write_part a b o name e h = let P : Option (List ℕ) → Type 0 = λ x. AppendsPart a b (write_calls x) in subst P (sym e) h
 
-pub calls_are_asked : (words : List (List ℕ)) (r : Request) (a b : Option (List Call)) → asked words ≡ Some r → AppendsPart a b (calls_of r) → AppendsPart a b (calls_asked words)
-calls_are_asked words r a b e h = let P : Option Request → Type 0 = λ o. AppendsPart a b (option_map_or calls_of o []) in subst P (sym e) h
-
-pub all_are_asked : (words : List (List ℕ)) (r : Request) (a b : Option (List Call)) → asked words ≡ Some r → Appends a b (calls_of r) → AppendsPart a b (calls_asked words)
-all_are_asked words r a b e h = calls_are_asked words r a b e (added_whole a b (calls_of r) h)
+pub calls_are_asked : (words : List (List ℕ)) (r : Plan) (a b : Option (List Call)) → asked words ≡ Some r → AppendsPart a b (calls_of r) → AppendsPart a b (calls_asked words)
+calls_are_asked words r a b e h = let P : Option Plan → Type 0 = λ o. AppendsPart a b (option_map_or calls_of o []) in subst P (sym e) h

@@ -1,6 +1,6 @@
 -- From the stop of a call to its status, and from the status that is due to the one that is answered.
 use Rattle.std.specs.Prelude.{codes}
-use Rattle.std.proofs.Common.{◌≡◌, ◌∙◌, refl, ℕ, List, ◌++◌, length, Option, Some, None, IfSome, MatchOption, ◌⊎◌, inl, inr, subst, sym, Bool}
+use Rattle.std.proofs.Common.{◌≡◌, ◌∙◌, refl, ℕ, List, ◌++◌, length, Option, Some, None, MatchOption, ◌⊎◌, inl, inr, subst, sym, Bool}
 use Rattle.gib_base.specs.Lexed.{Lexed, IsLexed}
 use Rattle.gib_base.specs.declared.token.Token.{Token}
 use Rattle.gib_types.specs.declared.table.Ty.{Ty}
@@ -10,27 +10,35 @@ use Rattle.gib_file.specs.Framed.{File}
 use Rattle.gib_syntax.specs.Tree.{ProgramTree}
 use Rattle.gib_syntax.specs.Spelling.{Places, Derives, IsPlacedProgram, places_of}
 use Rattle.gib_syntax.specs.Declarations.{table_of_program, input_type}
-use Rattle.gib_syntax.specs.Meaning.{Outcome, Gives, Stops, Deep, run}
+use Rattle.gib_syntax.specs.Meaning.{Outcome, Gives, Stops, Deep as TooDeep, run}
 use Rattle.gib_edge.specs.Causes.{IsAllOf, Appends, AppendsPart, PutsPieces, PutsSomePieces}
 use Rattle.gib_edge.specs.Views.{Held, Has, Missing, ShelfView, SinkView}
 use Rattle.gib_app.specs.declared.input_fault.InputFault.{InputFault}
 use Rattle.gib_app.specs.declared.status.Status.{Status}
 use Rattle.gib_app.specs.declared.status.Status.TheVariants as status
 use Rattle.gib_app.specs.declared.stop.Stop.{Stop}
-use Rattle.gib_app.specs.declared.stop.Stop.TheVariants.{Usage, Source, Unread, Input, Depth, Memory, Unwritten, Unput}
-use Rattle.gib_app.specs.Words.{Document, Request, Run, Plain, Check, Core, Pack, Show, asked, Files, bytes_in}
+use Rattle.gib_app.specs.declared.stop.Stop.TheVariants.{Usage, Source, Unread, Input, NoValue, Memory, Unwritten, Unput}
+use Rattle.gib_app.specs.declared.plan.Job.{Job}
+use Rattle.gib_app.specs.declared.plan.Job.TheVariants.{Run, Plain, Check, Core, Code, Pack, Show}
+use Rattle.gib_app.specs.declared.plan.Options.{Options}
+use Rattle.gib_app.specs.declared.made.Reason.TheVariants.{Deep, Full}
+use Rattle.gib_app.specs.Plan.{Document, Plan, Files, bytes_in}
+use Rattle.gib_app.specs.Words.{asked}
 use Rattle.gib_app.specs.Running.{IsProgram, IsSource, IsNoProgram, IsOutput, RunsOut}
 use Rattle.gib_app.specs.SourceFaults.{IsSourceFault}
-use Rattle.gib_app.specs.Commands.{source_of, second_of, target_of, Makes, Accepts, Refuses, Exhausts, printed, IsWritten, OnProgram}
-use Rattle.gib_app.specs.Causes.{HoldsSecond, OnSource, IsUnwritten, FailsToRead}
+use Rattle.gib_app.specs.Formats.{second_of, Accepts, Refuses}
+use Rattle.gib_app.specs.Jobs.{Prints, Does}
+use Rattle.gib_app.specs.Jobs.{NoValue as Without}
+use Rattle.gib_app.specs.Causes.{HoldsSecond, OnProgram, OnSource, IsMade, HasNoValue, IsUnwritten, FailsToRead}
 use Rattle.gib_app.specs.Lines.{IsLine, line}
-use Rattle.gib_app.specs.Ending.{IsEnding, IsTold, IsMissing, DueOfSource, DueOfFiles, DueMissing, TakesAll, IsDue}
+use Rattle.gib_app.specs.Ending.{IsEnding, HasText, IsTold, IsMissing, DueOfSource, DueOfFiles, DueMissing, TakesAll, IsDue}
 use Rattle.gib_app.specs.Stops.{IsStop, OnBoth}
 use Rattle.gib_app.specs.Stopping.{status_for, line_for}
 use Rattle.gib_app.specs.Performing.{IsCallStop}
-use Rattle.gib_app.proofs.Performing.{map_both, makes_accepts}
+use Rattle.gib_app.proofs.Performing.{map_both}
+use Rattle.gib_app.proofs.Doing.{does_accepts, file_or_none}
 
-map_asked : (o : Option Request) (P Q : Request → Type 0) → ((r : Request) → P r → Q r) → MatchOption o ⊥ P → MatchOption o ⊥ Q
+map_asked : (o : Option Plan) (P Q : Plan → Type 0) → ((r : Plan) → P r → Q r) → MatchOption o ⊥ P → MatchOption o ⊥ Q
 map_asked None P Q go h = h
 map_asked (Some r) P Q go h = go r h
 
@@ -38,20 +46,21 @@ on_source : (kept : Files) (d : Document) (P Q : List ℕ → Type 0) → ((sour
 on_source kept d P Q go h = record { source = h.source; source_held = h.source_held; holds = go h.source h.holds }
 
 -- what a stop at a refused second file is
-abbrev Refused : Request → ProgramTree → List (List ℕ) → List ℕ → InputFault → Type 0
-Refused r p names second fault = Refuses r p names second fault × (Accepts r p names second → ⊥)
+abbrev Refused : Plan → ProgramTree → List (List ℕ) → List ℕ → InputFault → Type 0
+Refused r p names second fault = Refuses r.job p names second fault × (Accepts r.job p names second → ⊥)
 
 pub ending_of : (tells : Bool) (words : List (List ℕ)) (before now : ShelfView) (out_before out_now : SinkView) (stop : Stop) → IsCallStop tells words before now out_before out_now stop → IsEnding tells words before now out_before out_now (status_for stop)
 ending_of tells words before now out_before out_now Usage h = h
 ending_of tells words before now out_before out_now (Source fault) h =
-    map_asked (asked words) (λ r. IsStop before now r (Source fault)) (λ r. OnSource before.kept (source_of r) IsNoProgram)
-    (λ r k. on_source before.kept (source_of r) (λ bytes. IsSourceFault bytes fault × IsNoProgram bytes) IsNoProgram (λ bytes both. both.1) k) h
+    map_asked (asked words) (λ r. IsStop before now r (Source fault)) (λ r. OnSource before.kept r.source IsNoProgram)
+    (λ r k. on_source before.kept r.source (λ bytes. IsSourceFault bytes fault × IsNoProgram bytes) IsNoProgram (λ bytes both. both.1) k) h
 ending_of tells words before now out_before out_now (Unread name) h =
     map_asked (asked words) (λ r. IsStop before now r (Unread name)) (λ r. (file : List ℕ) × FailsToRead before now r file) (λ r k. (name.now, k)) h
 ending_of tells words before now out_before out_now (Input fault) h =
-    map_asked (asked words) (λ r. IsStop before now r (Input fault)) (λ r. OnBoth before.kept r (λ p names second. Accepts r p names second → ⊥))
-    (λ r k. map_both before.kept r (λ p names second. Refused r p names second fault) (λ p names second. Accepts r p names second → ⊥) (λ p names second both. both.1) k) h
-ending_of tells words before now out_before out_now Depth h = h
+    map_asked (asked words) (λ r. IsStop before now r (Input fault)) (λ r. OnBoth before.kept r (λ p names second. Accepts r.job p names second → ⊥))
+    (λ r k. map_both before.kept r (λ p names second. Refused r p names second fault) (λ p names second. Accepts r.job p names second → ⊥) (λ p names second both. both.1) k) h
+ending_of tells words before now out_before out_now (NoValue Deep) h = h
+ending_of tells words before now out_before out_now (NoValue Full) h = h
 ending_of tells words before now out_before out_now Memory h = h
 ending_of tells words before now out_before out_now (Unwritten name) h =
     inl (
@@ -65,19 +74,20 @@ pub line_of : (tells : Bool) (words : List (List ℕ)) (before now : ShelfView) 
 line_of tells words before now out_before out_now Usage h = refl
 line_of tells words before now out_before out_now (Source fault) h = (
   fault,
-  map_asked (asked words) (λ r. IsStop before now r (Source fault)) (λ r. OnSource before.kept (source_of r) (λ bytes. IsSourceFault bytes fault))
-      (λ r k. on_source before.kept (source_of r) (λ bytes. IsSourceFault bytes fault × IsNoProgram bytes) (λ bytes. IsSourceFault bytes fault) (λ bytes both. both.0) k) h,
+  map_asked (asked words) (λ r. IsStop before now r (Source fault)) (λ r. OnSource before.kept r.source (λ bytes. IsSourceFault bytes fault))
+      (λ r k. on_source before.kept r.source (λ bytes. IsSourceFault bytes fault × IsNoProgram bytes) (λ bytes. IsSourceFault bytes fault) (λ bytes both. both.0) k) h,
   refl,
 )
 line_of tells words before now out_before out_now (Unread name) h =
     map_asked (asked words) (λ r. IsStop before now r (Unread name)) (λ r. (file : List ℕ) × FailsToRead before now r file × (line_for (Unread name) ≡ line (codes "cannot read " ++ file))) (λ r k. (name.now, k, refl)) h
 line_of tells words before now out_before out_now (Input fault) h = (
   fault,
-  map_asked (asked words) (λ r. IsStop before now r (Input fault)) (λ r. OnBoth before.kept r (λ p names second. Refuses r p names second fault))
-      (λ r k. map_both before.kept r (λ p names second. Refused r p names second fault) (λ p names second. Refuses r p names second fault) (λ p names second both. both.0) k) h,
+  map_asked (asked words) (λ r. IsStop before now r (Input fault)) (λ r. OnBoth before.kept r (λ p names second. Refuses r.job p names second fault))
+      (λ r k. map_both before.kept r (λ p names second. Refused r p names second fault) (λ p names second. Refuses r.job p names second fault) (λ p names second both. both.0) k) h,
   refl,
 )
-line_of tells words before now out_before out_now Depth h = refl
+line_of tells words before now out_before out_now (NoValue Deep) h = refl
+line_of tells words before now out_before out_now (NoValue Full) h = refl
 line_of tells words before now out_before out_now Memory h = refl
 line_of tells words before now out_before out_now (Unwritten name) h = inl (name.now, h.0, refl)
 line_of tells words before now out_before out_now Unput h = inr (h.1, refl)
@@ -116,128 +126,109 @@ same_second kept None a b e h = h ∙ sym e
 same_second kept (Some d) a b e h = same_bytes (bytes_in kept d) a b e h
 
 -- what is due and what is answered hold of the same files
-clash : Laws → (before now : ShelfView) (r : Request) (P Q : ProgramTree → List (List ℕ) → List ℕ → Type 0) → DueOfFiles before now r P → OnBoth before.kept r Q →
+clash : Laws → (before now : ShelfView) (r : Plan) (P Q : ProgramTree → List (List ℕ) → List ℕ → Type 0) → DueOfFiles before now r P → OnBoth before.kept r Q →
     (p : ProgramTree) × (names : List (List ℕ)) × (second : List ℕ) × P p names second × Q p names second
 clash laws before now r P Q due end' =
-    let es = same_bytes (bytes_in before.kept (source_of r)) due.source end'.source due.source_told end'.source_held in
+    let es = same_bytes (bytes_in before.kept r.source) due.source end'.source due.source_told end'.source_held in
     let eb = same_second before.kept (second_of r) due.second end'.second due.second_told end'.second_held in
     let S : List ℕ → Type 0 = λ s. OnProgram s (λ p names. Q p names end'.second) in
     let B : List ℕ → Type 0 = λ b. OnProgram due.source (λ p names. Q p names b) in
     let both = together laws due.source (λ p names. P p names due.second) (λ p names. Q p names due.second) due.holds (subst B eb (subst S es end'.holds)) in
     (both.0, both.1, due.second, both.2, both.3)
 
-no_program : (before now : ShelfView) (r : Request) (P : ProgramTree → List (List ℕ) → List ℕ → Type 0) → DueOfFiles before now r P → OnSource before.kept (source_of r) IsNoProgram → ⊥
+no_program : (before now : ShelfView) (r : Plan) (P : ProgramTree → List (List ℕ) → List ℕ → Type 0) → DueOfFiles before now r P → OnSource before.kept r.source IsNoProgram → ⊥
 no_program before now r P due end' =
-    let es = same_bytes (bytes_in before.kept (source_of r)) due.source end'.source due.source_told end'.source_held in
+    let es = same_bytes (bytes_in before.kept r.source) due.source end'.source due.source_told end'.source_held in
     subst IsNoProgram es end'.holds due.holds.lexed due.holds.program due.holds.is_program
 
-a_program : (before now : ShelfView) (r : Request) (Q : ProgramTree → List (List ℕ) → List ℕ → Type 0) → DueOfSource before now r IsNoProgram → OnBoth before.kept r Q → ⊥
+a_program : (before now : ShelfView) (r : Plan) (Q : ProgramTree → List (List ℕ) → List ℕ → Type 0) → DueOfSource before now r IsNoProgram → OnBoth before.kept r Q → ⊥
 a_program before now r Q due end' =
-    let es = same_bytes (bytes_in before.kept (source_of r)) due.source end'.source due.source_told end'.source_held in
+    let es = same_bytes (bytes_in before.kept r.source) due.source end'.source due.source_told end'.source_held in
     subst IsNoProgram (sym es) due.holds end'.holds.lexed end'.holds.program end'.holds.is_program
 
-a_source : (before now : ShelfView) (r : Request) → DueOfSource before now r IsNoProgram → OnSource before.kept (source_of r) IsSource → ⊥
+a_source : (before now : ShelfView) (r : Plan) → DueOfSource before now r IsNoProgram → OnSource before.kept r.source IsSource → ⊥
 a_source before now r due end' =
-    let es = same_bytes (bytes_in before.kept (source_of r)) due.source end'.source due.source_told end'.source_held in
+    let es = same_bytes (bytes_in before.kept r.source) due.source end'.source due.source_told end'.source_held in
     subst IsNoProgram (sym es) due.holds end'.holds.0 end'.holds.1 end'.holds.2
 
-read_both : (before now : ShelfView) (r : Request) (P : ProgramTree → List (List ℕ) → List ℕ → Type 0) (name : List ℕ) → DueOfFiles before now r P → FailsToRead before now r name → ⊥
+read_both : (before now : ShelfView) (r : Plan) (P : ProgramTree → List (List ℕ) → List ℕ → Type 0) (name : List ℕ) → DueOfFiles before now r P → FailsToRead before now r name → ⊥
 read_both before now r P name due (inl h) = due.source_read name h
 read_both before now r P name due (inr h) = due.second_read name h.0
 
-read_one : (before now : ShelfView) (r : Request) (name : List ℕ) → DueOfSource before now r IsNoProgram → FailsToRead before now r name → ⊥
+read_one : (before now : ShelfView) (r : Plan) (name : List ℕ) → DueOfSource before now r IsNoProgram → FailsToRead before now r name → ⊥
 read_one before now r name due (inl h) = due.source_read name h
 read_one before now r name due (inr h) = a_source before now r due h.1
 
-not_both : (r : Outcome) (v : Datum) → r ≡ Gives v → r ≡ Stops Deep → ⊥
+not_both : (r : Outcome) (v : Datum) → r ≡ Gives v → r ≡ Stops TooDeep → ⊥
 not_both (Gives u) v e f = cc
 not_both (Stops why) v e f = cc
 
 pub runs_well : Laws → (p : ProgramTree) (names : List (List ℕ)) (depth : ℕ) (input output : List ℕ) → IsOutput p names depth input output → RunsOut p depth input → ⊥
 runs_well laws p names depth input output o d =
     let v = laws.filed (table_of_program p) (input_type p) d.value o.value input d.is_input.file o.is_input.file in
-    let S : Datum → Type 0 = λ x. run p depth x ≡ Stops Deep in
+    let S : Datum → Type 0 = λ x. run p depth x ≡ Stops TooDeep in
     not_both (run p depth o.value) o.result o.means (subst S v d.means)
 
-makes_well : Laws → (r : Request) (p : ProgramTree) (names : List (List ℕ)) (second made : List ℕ) → Makes r p names second made → Exhausts r p second → ⊥
-makes_well laws (Run s i depth) p names second made h k = runs_well laws p names depth second made h k
-makes_well laws (Plain s i depth) p names second made h k = runs_well laws p names depth second made h k
-makes_well laws (Check s) p names second made h k = k
-makes_well laws (Core s pass) p names second made h k = k
-makes_well laws (Pack s i target) p names second made h k = k
-makes_well laws (Show s i) p names second made h k = k
-
-exhausts_accepts : (r : Request) (p : ProgramTree) (names : List (List ℕ)) (second : List ℕ) → Exhausts r p second → Accepts r p names second
-exhausts_accepts (Run s i depth) p names second h = (h.value, h.is_input)
-exhausts_accepts (Plain s i depth) p names second h = (h.value, h.is_input)
-exhausts_accepts (Check s) p names second h = absurd h
-exhausts_accepts (Core s pass) p names second h = absurd h
-exhausts_accepts (Pack s i target) p names second h = absurd h
-exhausts_accepts (Show s i) p names second h = absurd h
-
-exhausts_writes : (r : Request) (p : ProgramTree) (second name : List ℕ) → Exhausts r p second → target_of r ≡ Some name → ⊥
-exhausts_writes (Run s i depth) p second name h e = cc
-exhausts_writes (Plain s i depth) p second name h e = cc
-exhausts_writes (Check s) p second name h e = h
-exhausts_writes (Core s pass) p second name h e = h
-exhausts_writes (Pack s i target) p second name h e = h
-exhausts_writes (Show s i) p second name h e = h
+text_or_deep : Laws → (job : Job) (o : Options) (p : ProgramTree) (names : List (List ℕ)) (second text : List ℕ) (file other : Option (List ℕ)) →
+    Does job o p names second file (Prints text) → Does job o p names second other (Without Deep) → ⊥
+text_or_deep laws Run o p names second text file other h k = runs_well laws p names o.depth second text h.1 k.1
+text_or_deep laws Plain o p names second text file other h k = runs_well laws p names o.depth second text h.1 k.1
+text_or_deep laws Check o p names second text file other h k = k
+text_or_deep laws Core o p names second text file other h k = k
+text_or_deep laws Code o p names second text file other h k = k
+text_or_deep laws Pack o p names second text file other h k = k
+text_or_deep laws Show o p names second text file other h k = k
 
 -- The status that is due
 
-both_asked : (o : Option Request) (P Q : Request → Type 0) → MatchOption o ⊥ P → MatchOption o ⊥ Q → (r : Request) × P r × Q r
+both_asked : (o : Option Plan) (P Q : Plan → Type 0) → MatchOption o ⊥ P → MatchOption o ⊥ Q → (r : Plan) × P r × Q r
 both_asked None P Q h k = absurd h
 both_asked (Some r) P Q h k = (r, h, k)
 
-none_asked : (o : Option Request) (P : Request → Type 0) → o ≡ None → MatchOption o ⊥ P → ⊥
+none_asked : (o : Option Plan) (P : Plan → Type 0) → o ≡ None → MatchOption o ⊥ P → ⊥
 none_asked None P e h = h
 none_asked (Some r) P e h = cc
 
--- bytes were made and written, and the sink took them
-abbrev pub Whole : Bool → ShelfView → SinkView → SinkView → Request → ProgramTree → List (List ℕ) → List ℕ → Type 0
-Whole tells now a b r p names second =
-    (made : List ℕ) × Makes r p names second made × IsWritten tells now.kept r made × Appends a.taken b.taken (printed r made) × PutsPieces a b (length (printed r made))
+-- a text was made, and the sink took it
+abbrev pub Whole : Bool → ShelfView → SinkView → SinkView → Plan → ProgramTree → List (List ℕ) → List ℕ → Type 0
+Whole tells now a b r p names second = (text : List ℕ) × IsMade tells now.kept r p names second text × Appends a.taken b.taken text × PutsPieces a b (length text)
 
--- bytes were made and written, and the sink took a front of them
-abbrev Front : Bool → ShelfView → SinkView → SinkView → Request → ProgramTree → List (List ℕ) → List ℕ → Type 0
-Front tells now a b r p names second =
-    (made : List ℕ) × Makes r p names second made × IsWritten tells now.kept r made × AppendsPart a.taken b.taken (printed r made) × PutsSomePieces a b (length (printed r made))
+-- a text was made, and the sink took a front of it
+abbrev Front : Bool → ShelfView → SinkView → SinkView → Plan → ProgramTree → List (List ℕ) → List ℕ → Type 0
+Front tells now a b r p names second = (text : List ℕ) × IsMade tells now.kept r p names second text × AppendsPart a.taken b.taken text × PutsSomePieces a b (length text)
 
-abbrev Somewhere : ShelfView → ShelfView → Request → ProgramTree → List (List ℕ) → List ℕ → Type 0
+abbrev Somewhere : ShelfView → ShelfView → Plan → ProgramTree → List (List ℕ) → List ℕ → Type 0
 Somewhere before now r p names second = (name : List ℕ) × IsUnwritten before now r p names second name
 
-abbrev pub Made : Request → ProgramTree → List (List ℕ) → List ℕ → Type 0
-Made r p names second = (made : List ℕ) × Makes r p names second made
+abbrev pub Exhausted : Plan → ProgramTree → List (List ℕ) → List ℕ → Type 0
+Exhausted r = HasNoValue Deep r
 
-abbrev pub Exhausted : Request → ProgramTree → List (List ℕ) → List ℕ → Type 0
-Exhausted r p names second = Exhausts r p second
+abbrev Unfit : Plan → ProgramTree → List (List ℕ) → List ℕ → Type 0
+Unfit r p names second = Accepts r.job p names second → ⊥
 
-abbrev Unfit : Request → ProgramTree → List (List ℕ) → List ℕ → Type 0
-Unfit r p names second = Accepts r p names second → ⊥
-
-abbrev Fails : ShelfView → ShelfView → Request → Type 0
+abbrev Fails : ShelfView → ShelfView → Plan → Type 0
 Fails before now r = (name : List ℕ) × FailsToRead before now r name
 
-abbrev pub DueAll : ShelfView → ShelfView → SinkView → SinkView → Request → Type 0
-DueAll before now a b r = DueOfFiles before now r (Made r) × TakesAll before now a b r
+abbrev pub DueAll : ShelfView → ShelfView → SinkView → SinkView → Plan → Type 0
+DueAll before now a b r = DueOfFiles before now r (HasText r) × TakesAll before now a b r
 
 -- the output is due
 
-done_due : Laws → (tells : Bool) (words : List (List ℕ)) (before now : ShelfView) (a b : SinkView) → MatchOption (asked words) ⊥ (DueAll before now a b) → (end' : Status) → IsEnding tells words before now a b end' → (end' ≡ status.Done) ⊎ (end' ≡ status.Memory)
+done_due : Laws → (tells : Bool) (words : List (List ℕ)) (before now : ShelfView) (a b : SinkView) → MatchOption (asked words) ⊥ (DueAll before now a b) → (end' : Status) → IsEnding tells words before now a b end' → (end' ≡ status.Done) ⊎ (end' ≡ status.Memory) ⊎ (end' ≡ status.Full)
 done_due laws tells words before now a b due status.Done h = inl refl
 done_due laws tells words before now a b due status.Source h =
-    let k = both_asked (asked words) (DueAll before now a b) (λ r. OnSource before.kept (source_of r) IsNoProgram) due h in
-    absurd (no_program before now k.0 (Made k.0) k.1.0 k.2)
+    let k = both_asked (asked words) (DueAll before now a b) (λ r. OnSource before.kept r.source IsNoProgram) due h in
+    absurd (no_program before now k.0 (HasText k.0) k.1.0 k.2)
 done_due laws tells words before now a b due status.Usage h = absurd (none_asked (asked words) (DueAll before now a b) h due)
 done_due laws tells words before now a b due status.Depth h =
     let k = both_asked (asked words) (DueAll before now a b) (λ r. OnBoth before.kept r (Exhausted r)) due h in
-    let both = clash laws before now k.0 (Made k.0) (Exhausted k.0) k.1.0 k.2 in
-    absurd (makes_well laws k.0 both.0 both.1 both.2 both.3.0 both.3.1 both.4)
-done_due laws tells words before now a b due status.Full h = absurd h
-done_due laws tells words before now a b due status.Memory h = inr refl
+    let both = clash laws before now k.0 (HasText k.0) (Exhausted k.0) k.1.0 k.2 in
+    absurd (text_or_deep laws k.0.job k.0.options both.0 both.1 both.2 both.3.1 both.3.0 both.4.0 both.3.2 both.4.1)
+done_due laws tells words before now a b due status.Full h = inr (inr refl)
+done_due laws tells words before now a b due status.Memory h = inr (inl refl)
 done_due laws tells words before now a b due status.ReadFault h =
     let k = both_asked (asked words) (DueAll before now a b) (Fails before now) due h in
-    absurd (read_both before now k.0 (Made k.0) k.2.0 k.1.0 k.2.1)
+    absurd (read_both before now k.0 (HasText k.0) k.2.0 k.1.0 k.2.1)
 done_due laws tells words before now a b due status.WriteFault (inl h) =
     let k = both_asked (asked words) (DueAll before now a b) (λ r. OnBoth before.kept r (Somewhere before now r)) due h.0 in
     let found = k.2.holds.holds in
@@ -247,15 +238,15 @@ done_due laws tells words before now a b due status.WriteFault (inr h) =
     absurd (k.1.1.out h.1)
 done_due laws tells words before now a b due status.Input h =
     let k = both_asked (asked words) (DueAll before now a b) (λ r. OnBoth before.kept r (Unfit r)) due h in
-    let both = clash laws before now k.0 (Made k.0) (Unfit k.0) k.1.0 k.2 in
-    absurd (both.4 (makes_accepts k.0 both.0 both.1 both.2 both.3.0 both.3.1))
+    let both = clash laws before now k.0 (HasText k.0) (Unfit k.0) k.1.0 k.2 in
+    absurd (both.4 (does_accepts k.0.job k.0.options both.0 both.1 both.2 both.3.0 (Prints both.3.1) both.3.2))
 
 -- a refusal of the source is due
 
-abbrev DueRefusal : ShelfView → ShelfView → Request → Type 0
+abbrev DueRefusal : ShelfView → ShelfView → Plan → Type 0
 DueRefusal before now r = DueOfSource before now r IsNoProgram
 
-source_due : (tells : Bool) (words : List (List ℕ)) (before now : ShelfView) (a b : SinkView) → MatchOption (asked words) ⊥ (DueRefusal before now) → (end' : Status) → IsEnding tells words before now a b end' → (end' ≡ status.Source) ⊎ (end' ≡ status.Memory)
+source_due : (tells : Bool) (words : List (List ℕ)) (before now : ShelfView) (a b : SinkView) → MatchOption (asked words) ⊥ (DueRefusal before now) → (end' : Status) → IsEnding tells words before now a b end' → (end' ≡ status.Source) ⊎ (end' ≡ status.Memory) ⊎ (end' ≡ status.Full)
 source_due tells words before now a b due status.Done h =
     let k = both_asked (asked words) (DueRefusal before now) (λ r. OnBoth before.kept r (Whole tells now a b r)) due h in
     absurd (a_program before now k.0 (Whole tells now a b k.0) k.1 k.2)
@@ -264,8 +255,8 @@ source_due tells words before now a b due status.Usage h = absurd (none_asked (a
 source_due tells words before now a b due status.Depth h =
     let k = both_asked (asked words) (DueRefusal before now) (λ r. OnBoth before.kept r (Exhausted r)) due h in
     absurd (a_program before now k.0 (Exhausted k.0) k.1 k.2)
-source_due tells words before now a b due status.Full h = absurd h
-source_due tells words before now a b due status.Memory h = inr refl
+source_due tells words before now a b due status.Full h = inr (inr refl)
+source_due tells words before now a b due status.Memory h = inr (inl refl)
 source_due tells words before now a b due status.ReadFault h =
     let k = both_asked (asked words) (DueRefusal before now) (Fails before now) due h in
     absurd (read_one before now k.0 k.2.0 k.1 k.2.1)
@@ -281,68 +272,70 @@ source_due tells words before now a b due status.Input h =
 
 -- want of depth is due
 
-abbrev pub DueDepth : ShelfView → ShelfView → Request → Type 0
+abbrev pub DueDepth : ShelfView → ShelfView → Plan → Type 0
 DueDepth before now r = DueOfFiles before now r (Exhausted r)
 
-depth_due : Laws → (tells : Bool) (words : List (List ℕ)) (before now : ShelfView) (a b : SinkView) → MatchOption (asked words) ⊥ (DueDepth before now) → (end' : Status) → IsEnding tells words before now a b end' → (end' ≡ status.Depth) ⊎ (end' ≡ status.Memory)
+depth_due : Laws → (tells : Bool) (words : List (List ℕ)) (before now : ShelfView) (a b : SinkView) → MatchOption (asked words) ⊥ (DueDepth before now) → (end' : Status) → IsEnding tells words before now a b end' → (end' ≡ status.Depth) ⊎ (end' ≡ status.Memory) ⊎ (end' ≡ status.Full)
 depth_due laws tells words before now a b due status.Done h =
     let k = both_asked (asked words) (DueDepth before now) (λ r. OnBoth before.kept r (Whole tells now a b r)) due h in
     let both = clash laws before now k.0 (Exhausted k.0) (Whole tells now a b k.0) k.1 k.2 in
-    absurd (makes_well laws k.0 both.0 both.1 both.2 both.4.0 both.4.1 both.3)
+    absurd (text_or_deep laws k.0.job k.0.options both.0 both.1 both.2 both.4.0 both.4.1.file both.3.0 both.4.1.does both.3.1)
 depth_due laws tells words before now a b due status.Source h =
-    let k = both_asked (asked words) (DueDepth before now) (λ r. OnSource before.kept (source_of r) IsNoProgram) due h in
+    let k = both_asked (asked words) (DueDepth before now) (λ r. OnSource before.kept r.source IsNoProgram) due h in
     absurd (no_program before now k.0 (Exhausted k.0) k.1 k.2)
 depth_due laws tells words before now a b due status.Usage h = absurd (none_asked (asked words) (DueDepth before now) h due)
 depth_due laws tells words before now a b due status.Depth h = inl refl
-depth_due laws tells words before now a b due status.Full h = absurd h
-depth_due laws tells words before now a b due status.Memory h = inr refl
+depth_due laws tells words before now a b due status.Full h = inr (inr refl)
+depth_due laws tells words before now a b due status.Memory h = inr (inl refl)
 depth_due laws tells words before now a b due status.ReadFault h =
     let k = both_asked (asked words) (DueDepth before now) (Fails before now) due h in
     absurd (read_both before now k.0 (Exhausted k.0) k.2.0 k.1 k.2.1)
 depth_due laws tells words before now a b due status.WriteFault (inl h) =
     let k = both_asked (asked words) (DueDepth before now) (λ r. OnBoth before.kept r (Somewhere before now r)) due h.0 in
-    let found = k.2.holds.holds in
-    absurd (exhausts_writes k.0 k.1.holds.program k.1.second found.0 k.1.holds.holds found.1.0)
+    let both = clash laws before now k.0 (Exhausted k.0) (Somewhere before now k.0) k.1 k.2 in
+    let made = both.4.1.1 in
+    absurd (file_or_none k.0.job k.0.options both.0 both.1 both.2 made.0 made.1 both.3.0 Deep made.2 both.3.1)
 depth_due laws tells words before now a b due status.WriteFault (inr h) =
     let k = both_asked (asked words) (DueDepth before now) (λ r. OnBoth before.kept r (Front tells now a b r)) due h.0 in
     let both = clash laws before now k.0 (Exhausted k.0) (Front tells now a b k.0) k.1 k.2 in
-    absurd (makes_well laws k.0 both.0 both.1 both.2 both.4.0 both.4.1 both.3)
+    absurd (text_or_deep laws k.0.job k.0.options both.0 both.1 both.2 both.4.0 both.4.1.file both.3.0 both.4.1.does both.3.1)
 depth_due laws tells words before now a b due status.Input h =
     let k = both_asked (asked words) (DueDepth before now) (λ r. OnBoth before.kept r (Unfit r)) due h in
     let both = clash laws before now k.0 (Exhausted k.0) (Unfit k.0) k.1 k.2 in
-    absurd (both.4 (exhausts_accepts k.0 both.0 both.1 both.2 both.3))
+    absurd (both.4 (does_accepts k.0.job k.0.options both.0 both.1 both.2 both.3.0 (Without Deep) both.3.1))
 
 -- a refusal of the second file is due
 
-abbrev DueUnfit : ShelfView → ShelfView → Request → Type 0
+abbrev DueUnfit : ShelfView → ShelfView → Plan → Type 0
 DueUnfit before now r = DueOfFiles before now r (Unfit r)
 
-input_due : Laws → (tells : Bool) (words : List (List ℕ)) (before now : ShelfView) (a b : SinkView) → MatchOption (asked words) ⊥ (DueUnfit before now) → (end' : Status) → IsEnding tells words before now a b end' → (end' ≡ status.Input) ⊎ (end' ≡ status.Memory)
+input_due : Laws → (tells : Bool) (words : List (List ℕ)) (before now : ShelfView) (a b : SinkView) → MatchOption (asked words) ⊥ (DueUnfit before now) → (end' : Status) → IsEnding tells words before now a b end' → (end' ≡ status.Input) ⊎ (end' ≡ status.Memory) ⊎ (end' ≡ status.Full)
 input_due laws tells words before now a b due status.Done h =
     let k = both_asked (asked words) (DueUnfit before now) (λ r. OnBoth before.kept r (Whole tells now a b r)) due h in
     let both = clash laws before now k.0 (Unfit k.0) (Whole tells now a b k.0) k.1 k.2 in
-    absurd (both.3 (makes_accepts k.0 both.0 both.1 both.2 both.4.0 both.4.1))
+    absurd (both.3 (does_accepts k.0.job k.0.options both.0 both.1 both.2 both.4.1.file (Prints both.4.0) both.4.1.does))
 input_due laws tells words before now a b due status.Source h =
-    let k = both_asked (asked words) (DueUnfit before now) (λ r. OnSource before.kept (source_of r) IsNoProgram) due h in
+    let k = both_asked (asked words) (DueUnfit before now) (λ r. OnSource before.kept r.source IsNoProgram) due h in
     absurd (no_program before now k.0 (Unfit k.0) k.1 k.2)
 input_due laws tells words before now a b due status.Usage h = absurd (none_asked (asked words) (DueUnfit before now) h due)
 input_due laws tells words before now a b due status.Depth h =
     let k = both_asked (asked words) (DueUnfit before now) (λ r. OnBoth before.kept r (Exhausted r)) due h in
     let both = clash laws before now k.0 (Unfit k.0) (Exhausted k.0) k.1 k.2 in
-    absurd (both.3 (exhausts_accepts k.0 both.0 both.1 both.2 both.4))
-input_due laws tells words before now a b due status.Full h = absurd h
-input_due laws tells words before now a b due status.Memory h = inr refl
+    absurd (both.3 (does_accepts k.0.job k.0.options both.0 both.1 both.2 both.4.0 (Without Deep) both.4.1))
+input_due laws tells words before now a b due status.Full h = inr (inr refl)
+input_due laws tells words before now a b due status.Memory h = inr (inl refl)
 input_due laws tells words before now a b due status.ReadFault h =
     let k = both_asked (asked words) (DueUnfit before now) (Fails before now) due h in
     absurd (read_both before now k.0 (Unfit k.0) k.2.0 k.1 k.2.1)
 input_due laws tells words before now a b due status.WriteFault (inl h) =
     let k = both_asked (asked words) (DueUnfit before now) (λ r. OnBoth before.kept r (Somewhere before now r)) due h.0 in
     let both = clash laws before now k.0 (Unfit k.0) (Somewhere before now k.0) k.1 k.2 in
-    absurd (both.3 both.4.1.1)
+    let made = both.4.1.1 in
+    absurd (both.3 (does_accepts k.0.job k.0.options both.0 both.1 both.2 (Some made.0) made.1 made.2))
 input_due laws tells words before now a b due status.WriteFault (inr h) =
     let k = both_asked (asked words) (DueUnfit before now) (λ r. OnBoth before.kept r (Front tells now a b r)) due h.0 in
     let both = clash laws before now k.0 (Unfit k.0) (Front tells now a b k.0) k.1 k.2 in
-    absurd (both.3 (makes_accepts k.0 both.0 both.1 both.2 both.4.0 both.4.1))
+    absurd (both.3 (does_accepts k.0.job k.0.options both.0 both.1 both.2 both.4.1.file (Prints both.4.0) both.4.1.does))
 input_due laws tells words before now a b due status.Input h = inl refl
 
 -- a file is not there
@@ -354,30 +347,30 @@ second_missing : (kept : Files) (o : Option Document) (bytes : List ℕ) → IsM
 second_missing kept None bytes e h = e
 second_missing kept (Some d) bytes e h = not_missing (bytes_in kept d) bytes e h
 
-missing_both : (before now : ShelfView) (r : Request) (Q : ProgramTree → List (List ℕ) → List ℕ → Type 0) → DueMissing before now r → OnBoth before.kept r Q → ⊥
-missing_both before now r Q (inl e) h = not_missing (bytes_in before.kept (source_of r)) h.source e h.source_held
+missing_both : (before now : ShelfView) (r : Plan) (Q : ProgramTree → List (List ℕ) → List ℕ → Type 0) → DueMissing before now r → OnBoth before.kept r Q → ⊥
+missing_both before now r Q (inl e) h = not_missing (bytes_in before.kept r.source) h.source e h.source_held
 missing_both before now r Q (inr d) h = second_missing before.kept (second_of r) h.second d.1 h.second_held
 
-missing_program : (before now : ShelfView) (r : Request) → DueMissing before now r → OnSource before.kept (source_of r) IsNoProgram → ⊥
-missing_program before now r (inl e) h = not_missing (bytes_in before.kept (source_of r)) h.source e h.source_held
+missing_program : (before now : ShelfView) (r : Plan) → DueMissing before now r → OnSource before.kept r.source IsNoProgram → ⊥
+missing_program before now r (inl e) h = not_missing (bytes_in before.kept r.source) h.source e h.source_held
 missing_program before now r (inr d) h =
-    let es = same_bytes (bytes_in before.kept (source_of r)) d.0.source h.source d.0.source_told h.source_held in
+    let es = same_bytes (bytes_in before.kept r.source) d.0.source h.source d.0.source_told h.source_held in
     let program : IsSource d.0.source = d.0.holds in
     subst IsNoProgram es h.holds program.0 program.1 program.2
 
-read_due : (tells : Bool) (words : List (List ℕ)) (before now : ShelfView) (a b : SinkView) → MatchOption (asked words) ⊥ (DueMissing before now) → (end' : Status) → IsEnding tells words before now a b end' → (end' ≡ status.ReadFault) ⊎ (end' ≡ status.Memory)
+read_due : (tells : Bool) (words : List (List ℕ)) (before now : ShelfView) (a b : SinkView) → MatchOption (asked words) ⊥ (DueMissing before now) → (end' : Status) → IsEnding tells words before now a b end' → (end' ≡ status.ReadFault) ⊎ (end' ≡ status.Memory) ⊎ (end' ≡ status.Full)
 read_due tells words before now a b due status.Done h =
     let k = both_asked (asked words) (DueMissing before now) (λ r. OnBoth before.kept r (Whole tells now a b r)) due h in
     absurd (missing_both before now k.0 (Whole tells now a b k.0) k.1 k.2)
 read_due tells words before now a b due status.Source h =
-    let k = both_asked (asked words) (DueMissing before now) (λ r. OnSource before.kept (source_of r) IsNoProgram) due h in
+    let k = both_asked (asked words) (DueMissing before now) (λ r. OnSource before.kept r.source IsNoProgram) due h in
     absurd (missing_program before now k.0 k.1 k.2)
 read_due tells words before now a b due status.Usage h = absurd (none_asked (asked words) (DueMissing before now) h due)
 read_due tells words before now a b due status.Depth h =
     let k = both_asked (asked words) (DueMissing before now) (λ r. OnBoth before.kept r (Exhausted r)) due h in
     absurd (missing_both before now k.0 (Exhausted k.0) k.1 k.2)
-read_due tells words before now a b due status.Full h = absurd h
-read_due tells words before now a b due status.Memory h = inr refl
+read_due tells words before now a b due status.Full h = inr (inr refl)
+read_due tells words before now a b due status.Memory h = inr (inl refl)
 read_due tells words before now a b due status.ReadFault h = inl refl
 read_due tells words before now a b due status.WriteFault (inl h) =
     let k = both_asked (asked words) (DueMissing before now) (λ r. OnBoth before.kept r (Somewhere before now r)) due h.0 in
@@ -391,19 +384,19 @@ read_due tells words before now a b due status.Input h =
 
 -- the words are not taken
 
-usage_due : (tells : Bool) (words : List (List ℕ)) (before now : ShelfView) (a b : SinkView) → asked words ≡ None → (end' : Status) → IsEnding tells words before now a b end' → (end' ≡ status.Usage) ⊎ (end' ≡ status.Memory)
+usage_due : (tells : Bool) (words : List (List ℕ)) (before now : ShelfView) (a b : SinkView) → asked words ≡ None → (end' : Status) → IsEnding tells words before now a b end' → (end' ≡ status.Usage) ⊎ (end' ≡ status.Memory) ⊎ (end' ≡ status.Full)
 usage_due tells words before now a b due status.Done h = absurd (none_asked (asked words) (λ r. OnBoth before.kept r (Whole tells now a b r)) due h)
-usage_due tells words before now a b due status.Source h = absurd (none_asked (asked words) (λ r. OnSource before.kept (source_of r) IsNoProgram) due h)
+usage_due tells words before now a b due status.Source h = absurd (none_asked (asked words) (λ r. OnSource before.kept r.source IsNoProgram) due h)
 usage_due tells words before now a b due status.Usage h = inl refl
 usage_due tells words before now a b due status.Depth h = absurd (none_asked (asked words) (λ r. OnBoth before.kept r (Exhausted r)) due h)
-usage_due tells words before now a b due status.Full h = absurd h
-usage_due tells words before now a b due status.Memory h = inr refl
+usage_due tells words before now a b due status.Full h = inr (inr refl)
+usage_due tells words before now a b due status.Memory h = inr (inl refl)
 usage_due tells words before now a b due status.ReadFault h = absurd (none_asked (asked words) (Fails before now) due h)
 usage_due tells words before now a b due status.WriteFault (inl h) = absurd (none_asked (asked words) (λ r. OnBoth before.kept r (Somewhere before now r)) due h.0)
 usage_due tells words before now a b due status.WriteFault (inr h) = absurd (none_asked (asked words) (λ r. OnBoth before.kept r (Front tells now a b r)) due h.0)
 usage_due tells words before now a b due status.Input h = absurd (none_asked (asked words) (λ r. OnBoth before.kept r (Unfit r)) due h)
 
-pub due_ends : Laws → (tells : Bool) (words : List (List ℕ)) (before now : ShelfView) (a b : SinkView) (end' : Status) → IsEnding tells words before now a b end' → (due : Status) → IsDue words before now a b due → (end' ≡ due) ⊎ (end' ≡ status.Memory)
+pub due_ends : Laws → (tells : Bool) (words : List (List ℕ)) (before now : ShelfView) (a b : SinkView) (end' : Status) → IsEnding tells words before now a b end' → (due : Status) → IsDue words before now a b due → (end' ≡ due) ⊎ (end' ≡ status.Memory) ⊎ (end' ≡ status.Full)
 due_ends laws tells words before now a b end' h status.Done due = done_due laws tells words before now a b due end' h
 due_ends laws tells words before now a b end' h status.Source due = source_due tells words before now a b due end' h
 due_ends laws tells words before now a b end' h status.Usage due = usage_due tells words before now a b due end' h

@@ -2,18 +2,21 @@
 use Rattle.std.specs.Prelude.{Box, option_and_then}
 use Rattle.std.specs.Box.{box_value}
 use Rattle.std.proofs.Common.{◌≡◌, ◌∙◌, List, Option, None, Some, is_some, option_map, ap, ap₂, true≢false}
-use Rattle.clap.specs.Walk.{Row, Text}
+use Rattle.clap.specs.Matches.{found_of}
+use Rattle.clap.specs.Walk.{Row, Text, rows_of}
 use Rattle.clap.specs.Simple.{subcommand_rows}
 use Rattle.clap.specs.declared.parser.matches.ArgMatches.TheViews.{out-SubCommand}
 use Rattle.clap.specs.declared.parser.matches.SubCommand.{SubCommand}
-use Rattle.gib_app.specs.Words.{Request, requested}
+use Rattle.gib_app.specs.Plan.{Plan}
+use Rattle.gib_app.specs.Words.{requested}
 
 module _ {Z : Type 0} where
   -- the command that is met is known by its name and its rows
-  pub entered_asked : (sub : Option (Box SubCommand Z)) (name : Text) (rows : List Row) (request : Option Request)
+  pub entered_asked : (sub : Option (Box SubCommand Z)) (name : Text) (rows : List Row) (plan : Option Plan)
       → Some name ≡ option_map (λ b. (out-SubCommand (box_value b)).name.now) sub → Some rows ≡ option_map (λ p. p.1) (subcommand_rows sub)
-      → request ≡ requested name rows → request ≡ option_and_then (λ e. requested e.0 e.1) (subcommand_rows sub)
-  entered_asked None name rows request named found is = absurd (true≢false (ap is_some named))
-  entered_asked (Some b) name rows request named found is =
+      → plan ≡ requested name rows → plan ≡ option_and_then (λ e. requested e.0 e.1) (subcommand_rows sub)
+  entered_asked None name rows plan named found is = absurd (true≢false (ap is_some named))
+  entered_asked (Some b) name rows plan named found is =
       let same : name ≡ (out-SubCommand (box_value b)).name.now = cc in
-      is ∙ ap₂ requested same cc
+      let there : rows ≡ rows_of (found_of (out-SubCommand (box_value b)).matches) = cc in
+      is ∙ ap₂ requested same there

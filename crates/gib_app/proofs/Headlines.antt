@@ -3,26 +3,29 @@ use Rattle.std.proofs.Common.{◌≡◌, ◌∙◌, refl, ℕ, List, ◌++◌, O
 use Rattle.gib_types.specs.Tree.{Datum}
 use Rattle.gib_syntax.specs.Tree.{ProgramTree}
 use Rattle.gib_syntax.specs.Declarations.{table_of_program, input_type}
-use Rattle.gib_syntax.specs.Meaning.{Outcome, Gives, Stops, Deep, run}
+use Rattle.gib_syntax.specs.Meaning.{Outcome, Gives, run}
 use Rattle.gib_edge.specs.Views.{ShelfView, SinkView}
 use Rattle.gib_app.specs.declared.status.Status.{Status}
 use Rattle.gib_app.specs.declared.status.Status.TheVariants as status
-use Rattle.gib_app.specs.Words.{Request, Run, asked, bytes_in}
+use Rattle.gib_app.specs.declared.made.Reason.TheVariants.{Full}
+use Rattle.gib_app.specs.declared.plan.Options.{Options}
+use Rattle.gib_app.specs.Plan.{Plan, bytes_in}
+use Rattle.gib_app.specs.Words.{asked}
 use Rattle.gib_app.specs.Running.{IsOutput, RunsOut, text_line}
-use Rattle.gib_app.specs.Commands.{OnProgram, target_of}
-use Rattle.gib_app.specs.Ending.{IsEnding, DueOfFiles, TakesAll}
+use Rattle.gib_app.specs.Causes.{OnProgram, HasNoValue}
+use Rattle.gib_app.specs.Ending.{IsEnding, HasText, DueOfFiles, TakesAll}
 use Rattle.gib_app.specs.Stops.{OnBoth}
-use Rattle.gib_app.specs.Headline.{IsRun, IsResult, IsTooDeep, NoneFailed}
+use Rattle.gib_app.specs.Headline.{run_plan, IsRun, IsResult, IsTooDeep, IsTooBig, NoneFailed}
 use Rattle.gib_app.proofs.Performing.{asked_of}
-use Rattle.gib_app.proofs.Endings.{Laws, Whole, Made, Exhausted, DueAll, DueDepth, same_bytes, together, runs_well, due_ends}
+use Rattle.gib_app.proofs.Endings.{Laws, Whole, Exhausted, DueAll, DueDepth, same_bytes, together, runs_well, due_ends}
 
-asked_is : (o : Option Request) (r : Request) (P : Request → Type 0) → o ≡ Some r → MatchOption o ⊥ P → P r
-asked_is o r P e h = let Q : Option Request → Type 0 = λ x. MatchOption x ⊥ P in subst Q e h
+asked_is : (o : Option Plan) (r : Plan) (P : Plan → Type 0) → o ≡ Some r → MatchOption o ⊥ P → P r
+asked_is o r P e h = let Q : Option Plan → Type 0 = λ x. MatchOption x ⊥ P in subst Q e h
 
 -- what holds of the files of a run holds of their bytes
-of_files : (words : List (List ℕ)) (before : ShelfView) (out : SinkView) (source input : List ℕ) (depth : ℕ) (front : List ℕ) (r : IsRun words before out source input depth front)
-    (P : ProgramTree → List (List ℕ) → List ℕ → Type 0) → OnBoth before.kept (Run r.program r.packed depth) P → OnProgram source (λ p names. P p names input)
-of_files words before out source input depth front r P h =
+of_files : (words : List (List ℕ)) (before : ShelfView) (out : SinkView) (source input : List ℕ) (options : Options) (front : List ℕ) (r : IsRun words before out source input options front)
+    (P : ProgramTree → List (List ℕ) → List ℕ → Type 0) → OnBoth before.kept (run_plan r.program r.packed options) P → OnProgram source (λ p names. P p names input)
+of_files words before out source input options front r P h =
     let es = same_bytes (bytes_in before.kept r.program) source h.source r.source_is h.source_held in
     let ei = same_bytes (bytes_in before.kept r.packed) input h.second r.input_is h.second_held in
     let S : List ℕ → Type 0 = λ s. OnProgram s (λ p names. P p names h.second) in
@@ -75,29 +78,49 @@ runs_out source input depth h = record {
   holds = record { value = h.given.value; is_input = record { short = h.given.short; file = h.given.file }; means = h.means };
 }
 
-pub run_done : (tells : Bool) (words : List (List ℕ)) (before now : ShelfView) (out out_now : SinkView) (source input : List ℕ) (depth : ℕ) (front : List ℕ) →
-    IsRun words before out source input depth front → IsEnding tells words before now out out_now status.Done → (output : List ℕ) × IsResult source input depth output × (out_now.taken ≡ Some (front ++ output))
-run_done tells words before now out out_now source input depth front r h =
-    let request = Run r.program r.packed depth in
-    let P : Request → Type 0 = λ q. OnBoth before.kept q (Whole tells now out out_now q) in
-    let on = of_files words before out source input depth front r (Whole tells now out out_now request) (asked_is (asked words) request P r.asks h) in
+pub run_done : (tells : Bool) (words : List (List ℕ)) (before now : ShelfView) (out out_now : SinkView) (source input : List ℕ) (options : Options) (front : List ℕ) →
+    IsRun words before out source input options front → IsEnding tells words before now out out_now status.Done → (output : List ℕ) × IsResult source input options.depth output × (out_now.taken ≡ Some (front ++ output))
+run_done tells words before now out out_now source input options front r h =
+    let plan = run_plan r.program r.packed options in
+    let P : Plan → Type 0 = λ q. OnBoth before.kept q (Whole tells now out out_now q) in
+    let on = of_files words before out source input options front r (Whole tells now out out_now plan) (asked_is (asked words) plan P r.asks h) in
     let T : Option (List ℕ) → Type 0 = λ t. IfSome t (λ first. out_now.taken ≡ Some (first ++ on.holds.0)) in (
       on.holds.0,
-      result_of source input depth on.holds.0 (record { lexed = on.lexed; program = on.program; is_program = on.is_program; holds = on.holds.1 }),
-      subst T r.front_is on.holds.3,
+      result_of source input options.depth on.holds.0 (record { lexed = on.lexed; program = on.program; is_program = on.is_program; holds = on.holds.1.does.1 }),
+      subst T r.front_is on.holds.2,
     )
 
-pub run_deep : (tells : Bool) (words : List (List ℕ)) (before now : ShelfView) (out out_now : SinkView) (source input : List ℕ) (depth : ℕ) (front : List ℕ) →
-    IsRun words before out source input depth front → IsEnding tells words before now out out_now status.Depth → IsTooDeep source input depth
-run_deep tells words before now out out_now source input depth front r h =
-    let request = Run r.program r.packed depth in
-    let P : Request → Type 0 = λ q. OnBoth before.kept q (Exhausted q) in
-    deep_of source input depth (of_files words before out source input depth front r (Exhausted request) (asked_is (asked words) request P r.asks h))
+pub run_deep : (tells : Bool) (words : List (List ℕ)) (before now : ShelfView) (out out_now : SinkView) (source input : List ℕ) (options : Options) (front : List ℕ) →
+    IsRun words before out source input options front → IsEnding tells words before now out out_now status.Depth → IsTooDeep source input options.depth
+run_deep tells words before now out out_now source input options front r h =
+    let plan = run_plan r.program r.packed options in
+    let P : Plan → Type 0 = λ q. OnBoth before.kept q (Exhausted q) in
+    let on = of_files words before out source input options front r (Exhausted plan) (asked_is (asked words) plan P r.asks h) in
+    deep_of source input options.depth (record { lexed = on.lexed; program = on.program; is_program = on.is_program; holds = on.holds.1.1 })
 
-due_of : (words : List (List ℕ)) (before now : ShelfView) (out out_now : SinkView) (source input : List ℕ) (depth : ℕ) (front : List ℕ) (r : IsRun words before out source input depth front) →
+pub run_full : (tells : Bool) (words : List (List ℕ)) (before now : ShelfView) (out out_now : SinkView) (source input : List ℕ) (options : Options) (front : List ℕ) →
+    IsRun words before out source input options front → IsEnding tells words before now out out_now status.Full → IsTooBig source input options.depth options.chunks
+run_full tells words before now out out_now source input options front r h =
+    let plan = run_plan r.program r.packed options in
+    let P : Plan → Type 0 = λ q. OnBoth before.kept q (HasNoValue Full q) in
+    let on = of_files words before out source input options front r (HasNoValue Full plan) (asked_is (asked words) plan P r.asks h) in
+    record {
+      given = record {
+        lexed = on.lexed;
+        program = on.program;
+        value = on.holds.1.1.value;
+        spelled = on.is_program.spelled;
+        typed = on.is_program.typed;
+        short = on.holds.1.1.is_input.short;
+        file = on.holds.1.1.is_input.file;
+      };
+      tight = on.holds.1.1.tight;
+    }
+
+due_of : (words : List (List ℕ)) (before now : ShelfView) (out out_now : SinkView) (source input : List ℕ) (options : Options) (front : List ℕ) (r : IsRun words before out source input options front) →
     NoneFailed r.program r.packed before now out out_now → (P : ProgramTree → List (List ℕ) → List ℕ → Type 0) → OnProgram source (λ p names. P p names input) →
-    DueOfFiles before now (Run r.program r.packed depth) P
-due_of words before now out out_now source input depth front r quiet P on = record {
+    DueOfFiles before now (run_plan r.program r.packed options) P
+due_of words before now out out_now source input options front r quiet P on = record {
   source = source;
   second = input;
   source_told = r.source_is;
@@ -107,24 +130,26 @@ due_of words before now out out_now source input depth front r quiet P on = reco
   holds = on;
 }
 
-pub run_ends_done : Laws → (tells : Bool) (words : List (List ℕ)) (before now : ShelfView) (out out_now : SinkView) (source input : List ℕ) (depth : ℕ) (front output : List ℕ) (end' : Status) →
-    (r : IsRun words before out source input depth front) → NoneFailed r.program r.packed before now out out_now → IsResult source input depth output →
-    IsEnding tells words before now out out_now end' → (end' ≡ status.Done) ⊎ (end' ≡ status.Memory)
-run_ends_done laws tells words before now out out_now source input depth front output end' r quiet h ends =
-    let request = Run r.program r.packed depth in
-    let on = output_of source input depth output h in
-    let takes : TakesAll before now out out_now request = record { target = λ name e rose. cc; out = quiet.put } in
-    let due = due_of words before now out out_now source input depth front r quiet (Made request)
-    (record { lexed = on.lexed; program = on.program; is_program = on.is_program; holds = (output, on.holds) }) in
-    due_ends laws tells words before now out out_now end' ends status.Done (asked_of (asked words) request (DueAll before now out out_now) r.asks (due, takes))
+pub run_ends_done : Laws → (tells : Bool) (words : List (List ℕ)) (before now : ShelfView) (out out_now : SinkView) (source input : List ℕ) (options : Options) (front output : List ℕ) (end' : Status) →
+    (r : IsRun words before out source input options front) → NoneFailed r.program r.packed before now out out_now → IsResult source input options.depth output →
+    IsEnding tells words before now out out_now end' → (end' ≡ status.Done) ⊎ (end' ≡ status.Memory) ⊎ (end' ≡ status.Full)
+run_ends_done laws tells words before now out out_now source input options front output end' r quiet h ends =
+    let plan = run_plan r.program r.packed options in
+    let on = output_of source input options.depth output h in
+    let takes : TakesAll before now out out_now plan = record { target = λ name e rose. cc; out = quiet.put } in
+    let due = due_of words before now out out_now source input options front r quiet (HasText plan)
+    (record { lexed = on.lexed; program = on.program; is_program = on.is_program; holds = (None, output, (refl, on.holds)) }) in
+    due_ends laws tells words before now out out_now end' ends status.Done (asked_of (asked words) plan (DueAll before now out out_now) r.asks (due, takes))
 
-pub run_ends_deep : Laws → (tells : Bool) (words : List (List ℕ)) (before now : ShelfView) (out out_now : SinkView) (source input : List ℕ) (depth : ℕ) (front : List ℕ) (end' : Status) →
-    (r : IsRun words before out source input depth front) → NoneFailed r.program r.packed before now out out_now → IsTooDeep source input depth →
-    IsEnding tells words before now out out_now end' → (end' ≡ status.Depth) ⊎ (end' ≡ status.Memory)
-run_ends_deep laws tells words before now out out_now source input depth front end' r quiet h ends =
-    let request = Run r.program r.packed depth in
-    let due = due_of words before now out out_now source input depth front r quiet (Exhausted request) (runs_out source input depth h) in
-    due_ends laws tells words before now out out_now end' ends status.Depth (asked_of (asked words) request (DueDepth before now) r.asks due)
+pub run_ends_deep : Laws → (tells : Bool) (words : List (List ℕ)) (before now : ShelfView) (out out_now : SinkView) (source input : List ℕ) (options : Options) (front : List ℕ) (end' : Status) →
+    (r : IsRun words before out source input options front) → NoneFailed r.program r.packed before now out out_now → IsTooDeep source input options.depth →
+    IsEnding tells words before now out out_now end' → (end' ≡ status.Depth) ⊎ (end' ≡ status.Memory) ⊎ (end' ≡ status.Full)
+run_ends_deep laws tells words before now out out_now source input options front end' r quiet h ends =
+    let plan = run_plan r.program r.packed options in
+    let on = runs_out source input options.depth h in
+    let due = due_of words before now out out_now source input options front r quiet (Exhausted plan)
+    (record { lexed = on.lexed; program = on.program; is_program = on.is_program; holds = (None, (refl, on.holds)) }) in
+    due_ends laws tells words before now out out_now end' ends status.Depth (asked_of (asked words) plan (DueDepth before now) r.asks due)
 
 one_value : (r : Outcome) (u v : Datum) → r ≡ Gives u → r ≡ Gives v → u ≡ v
 one_value r u v e f = let both = sym e ∙ f in cc

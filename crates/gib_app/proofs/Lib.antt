@@ -1,6 +1,7 @@
 mod Held
 mod Inputs
 mod Told
+mod Doing
 mod Making
 mod Decimals
 mod Performing
@@ -15,3 +16,5 @@ mod Asking
 mod Entering
 mod Calling
 mod Headlines
+mod Roots
+mod Refusals

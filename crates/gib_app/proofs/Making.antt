@@ -1,22 +1,23 @@
 -- From the parts of making to the whole.
-use Rattle.std.proofs.Common.{◌≡◌, ◌∙◌, refl, ℕ, ◌<◌, List, length, Option, Some, None, subst, sym, ap, inl, inr, arith}
+use Rattle.std.proofs.Common.{◌≡◌, ℕ, List, Option, Some, None, subst, sym, inl, inr}
 use Rattle.gib_edge.specs.Causes.{Rose}
 use Rattle.gib_edge.specs.Views.{ShelfView}
 use Rattle.gib_syntax.specs.Tree.{ProgramTree}
 use Rattle.gib_app.specs.declared.input_fault.InputFault.{InputFault}
 use Rattle.gib_app.specs.declared.input_fault.InputFault.TheVariants as input
 use Rattle.gib_app.specs.declared.stop.Stop.{Stop}
-use Rattle.gib_app.specs.declared.stop.Stop.TheVariants.{Usage, Source, Unread, Input, Depth, Memory, Unwritten, Unput}
-use Rattle.gib_app.specs.Words.{Document, Brought, Named, Request, Run, Plain, Check, Core, Pack, Show, Files}
+use Rattle.gib_app.specs.declared.stop.Stop.TheVariants.{Usage, Source, Unread, Input, NoValue, Memory, Unwritten, Unput}
+use Rattle.gib_app.specs.Plan.{Document, Brought, Named, Plan, Files}
 use Rattle.gib_app.specs.Running.{IsSource, IsNoProgram}
 use Rattle.gib_app.specs.SourceFaults.{IsSourceFault}
-use Rattle.gib_app.specs.Commands.{source_of, second_of, most_of, Accepts, Refuses, Exhausts}
+use Rattle.gib_app.specs.Formats.{second_of, most_of, Accepts, Refuses}
 use Rattle.gib_app.specs.Causes.{Holds, HoldsSecond, OnSource, IsUnread, IsSecondUnread}
-use Rattle.gib_app.specs.Stops.{IsCompiled, IsSourceStop, IsSecondStop, IsMakeStop, IsStop, OnBoth}
+use Rattle.gib_app.specs.Stops.{IsCompiled, IsSourceStop, IsSecondStop, IsStop, OnBoth}
 use Rattle.gib_app.proofs.Told.{held_before}
+use Rattle.gib_app.proofs.Doing.{long_refused}
 
 -- what holds of the compiled program and the second file holds of the request's files
-pub on_both : (kept : Files) (r : Request) (d : Document) (p : ProgramTree) (names : List (List ℕ)) (second : List ℕ) (P : ProgramTree → List (List ℕ) → List ℕ → Type 0) → d ≡ source_of r →
+pub on_both : (kept : Files) (r : Plan) (d : Document) (p : ProgramTree) (names : List (List ℕ)) (second : List ℕ) (P : ProgramTree → List (List ℕ) → List ℕ → Type 0) → d ≡ r.source →
     OnSource kept d (λ source. IsCompiled source p names) → HoldsSecond kept (second_of r) second → P p names second → OnBoth kept r P
 on_both kept r d p names second P e on held h =
     let H : Document → Type 0 = λ x. Holds kept x on.source in
@@ -29,20 +30,20 @@ on_both kept r d p names second P e on held h =
       holds = record { lexed = on.holds.lexed; program = p; is_program = on.holds.is_program; holds = subst N on.holds.same h };
     }
 
-source_here : (kept : Files) (r : Request) (d : Document) (p : ProgramTree) (names : List (List ℕ)) → d ≡ source_of r → OnSource kept d (λ source. IsCompiled source p names) → OnSource kept (source_of r) IsSource
+source_here : (kept : Files) (r : Plan) (d : Document) (p : ProgramTree) (names : List (List ℕ)) → d ≡ r.source → OnSource kept d (λ source. IsCompiled source p names) → OnSource kept r.source IsSource
 source_here kept r d p names e on =
     let H : Document → Type 0 = λ x. Holds kept x on.source in
     record { source = on.source; source_held = subst H e on.source_held; holds = (on.holds.lexed, p, on.holds.is_program) }
 
 -- a stop at the source is one of the request
-pub source_stop : (before now : ShelfView) (r : Request) (d : Document) → d ≡ source_of r → (stop : Stop) → IsSourceStop before now d stop → IsStop before now r stop
+pub source_stop : (before now : ShelfView) (r : Plan) (d : Document) → d ≡ r.source → (stop : Stop) → IsSourceStop before now d stop → IsStop before now r stop
 source_stop before now r d e Usage h = h
 source_stop before now r d e (Source fault) h =
     let P : Document → Type 0 = λ x. OnSource before.kept x (λ bytes. IsSourceFault bytes fault × IsNoProgram bytes) in subst P e h
 source_stop before now r d e (Unread name) h =
     let P : Document → Type 0 = λ x. IsUnread before now x name.now in inl (subst P e h)
 source_stop before now r d e (Input fault) h = absurd h
-source_stop before now r d e Depth h = absurd h
+source_stop before now r d e (NoValue reason) h = absurd h
 source_stop before now r d e Memory h = h
 source_stop before now r d e (Unwritten name) h = absurd h
 source_stop before now r d e Unput h = h
@@ -58,17 +59,7 @@ second_unread_before : (before mid now : ShelfView) (o : Option Document) (name 
 second_unread_before before mid now None name e h = h
 second_unread_before before mid now (Some d) name e h = unread_before before mid now d name e h
 
--- a second file of too many bytes is refused
-long_refused : (kept : Files) (r : Request) (p : ProgramTree) (names : List (List ℕ)) (second : List ℕ) → HoldsSecond kept (second_of r) second → most_of r < length second →
-    Refuses r p names second (input.Long (most_of r)) × (Accepts r p names second → ⊥)
-long_refused kept (Run s i depth) p names second held many = ((refl, many), λ a. let short = a.1.short in absurd (omega (arith, many, short)))
-long_refused kept (Plain s i depth) p names second held many = ((refl, many), λ a. let short = a.1.short in absurd (omega (arith, many, short)))
-long_refused kept (Check s) p names second held many = absurd (omega (arith, many, ap length held))
-long_refused kept (Core s pass) p names second held many = absurd (omega (arith, many, ap length held))
-long_refused kept (Pack s i target) p names second held many = ((refl, inl many), λ a. let short = a.1.short in absurd (omega (arith, many, short)))
-long_refused kept (Show s i) p names second held many = (inl (refl, many), λ a. let short = a.1.short in absurd (omega (arith, many, short)))
-
-pub second_stop : (before mid now : ShelfView) (r : Request) (d : Document) (p : ProgramTree) (names : List (List ℕ)) → d ≡ source_of r →
+pub second_stop : (before mid now : ShelfView) (r : Plan) (d : Document) (p : ProgramTree) (names : List (List ℕ)) → d ≡ r.source →
     ((name : List ℕ) → mid.kept name ≡ before.kept name) → ((name : List ℕ) → mid.reads name ≡ before.reads name) →
     OnSource before.kept d (λ source. IsCompiled source p names) → (stop : Stop) → IsSecondStop mid now r stop → IsStop before now r stop
 second_stop before mid now r d p names e same reads on Usage h = h
@@ -76,25 +67,12 @@ second_stop before mid now r d p names e same reads on (Source fault) h = absurd
 second_stop before mid now r d p names e same reads on (Unread name) h =
     inr (second_unread_before before mid now (second_of r) name.now reads h, source_here before.kept r d p names e on)
 second_stop before mid now r d p names e same reads on (Input fault) h =
-    let P : InputFault → Type 0 = λ f. OnBoth before.kept r (λ q ns second. Refuses r q ns second f × (Accepts r q ns second → ⊥)) in
+    let P : InputFault → Type 0 = λ f. OnBoth before.kept r (λ q ns second. Refuses r.job q ns second f × (Accepts r.job q ns second → ⊥)) in
     let held = held_before before.kept mid.kept (second_of r) h.second same h.second_held in
     subst P (sym h.is)
-    (on_both before.kept r d p names h.second (λ q ns second. Refuses r q ns second (input.Long (most_of r)) × (Accepts r q ns second → ⊥)) e on held
-    (long_refused before.kept r p names h.second held h.many))
-second_stop before mid now r d p names e same reads on Depth h = absurd h
+    (on_both before.kept r d p names h.second (λ q ns second. Refuses r.job q ns second (input.Long (most_of r.job)) × (Accepts r.job q ns second → ⊥)) e on held
+    (long_refused before.kept r.job r.second p names h.second held h.many))
+second_stop before mid now r d p names e same reads on (NoValue reason) h = absurd h
 second_stop before mid now r d p names e same reads on Memory h = h
 second_stop before mid now r d p names e same reads on (Unwritten name) h = absurd h
 second_stop before mid now r d p names e same reads on Unput h = h
-
-pub make_stop : (before now : ShelfView) (r : Request) (d : Document) (p : ProgramTree) (names : List (List ℕ)) (second : List ℕ) → d ≡ source_of r →
-    OnSource before.kept d (λ source. IsCompiled source p names) → HoldsSecond before.kept (second_of r) second → (stop : Stop) → IsMakeStop r p names second stop → IsStop before now r stop
-make_stop before now r d p names second e on held Usage h = h
-make_stop before now r d p names second e on held (Source fault) h = absurd h
-make_stop before now r d p names second e on held (Unread name) h = absurd h
-make_stop before now r d p names second e on held (Input fault) h =
-    on_both before.kept r d p names second (λ q ns bytes. Refuses r q ns bytes fault × (Accepts r q ns bytes → ⊥)) e on held h
-make_stop before now r d p names second e on held Depth h =
-    on_both before.kept r d p names second (λ q ns bytes. Exhausts r q bytes) e on held h
-make_stop before now r d p names second e on held Memory h = h
-make_stop before now r d p names second e on held (Unwritten name) h = absurd h
-make_stop before now r d p names second e on held Unput h = h

@@ -2,8 +2,9 @@
 use Rattle.std.specs.Prelude.{ℕ, ◌+◌, List, [], ◌∷◌, ◌++◌, Option, Some, None}
 use Rattle.std.specs.Option.{option_map_or}
 use Rattle.gib_edge.specs.Views.{Call, ReadOf, WriteOf}
-use Rattle.gib_app.specs.Words.{Document, Brought, Named, Request, asked}
-use Rattle.gib_app.specs.Commands.{source_of, second_of, target_of, most_of}
+use Rattle.gib_app.specs.Plan.{Document, Brought, Named, Plan}
+use Rattle.gib_app.specs.Words.{asked}
+use Rattle.gib_app.specs.Formats.{second_of, most_of}
 
 -- The read of a document that may have so many bytes: one more is asked for, so that a longer file is seen.
 abbrev pub read_calls : Document → ℕ → List Call
@@ -20,13 +21,13 @@ abbrev pub write_calls : Option (List ℕ) → List Call
 write_calls None = []
 write_calls (Some name) = WriteOf name ∷ []
 
--- The reads of a request.
-abbrev pub reads_of : Request → List Call
-reads_of request = read_calls (source_of request) 1048576 ++ second_calls (second_of request) (most_of request)
+-- The reads of a plan.
+abbrev pub reads_of : Plan → List Call
+reads_of plan = read_calls plan.source 1048576 ++ second_calls (second_of plan) (most_of plan.job)
 
--- All calls of a request: its source is read, then its second file, then its file is written.
-abbrev pub calls_of : Request → List Call
-calls_of request = reads_of request ++ write_calls (target_of request)
+-- All calls of a plan: its source is read, then its second file, then its file is written.
+abbrev pub calls_of : Plan → List Call
+calls_of plan = reads_of plan ++ write_calls plan.target
 
 -- The calls that the words ask for.
 abbrev pub calls_asked : List (List ℕ) → List Call

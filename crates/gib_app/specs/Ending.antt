@@ -5,35 +5,39 @@ use Rattle.gib_edge.specs.Views.{Has, Missing, ShelfView, SinkView}
 use Rattle.gib_syntax.specs.Tree.{ProgramTree}
 use Rattle.gib_app.specs.declared.status.Status.{Status}
 use Rattle.gib_app.specs.declared.status.Status.TheVariants.{Done, Source, Usage, Depth, Full, Memory, ReadFault, WriteFault, Input}
-use Rattle.gib_app.specs.Words.{Document, Request, asked, Files, bytes_in}
+use Rattle.gib_app.specs.declared.made.Reason.TheVariants as reason
+use Rattle.gib_app.specs.declared.made.Reason.TheVariants.{Deep}
+use Rattle.gib_app.specs.Plan.{Document, Plan, Files, bytes_in}
+use Rattle.gib_app.specs.Words.{asked}
 use Rattle.gib_app.specs.Running.{IsSource, IsNoProgram}
-use Rattle.gib_app.specs.Commands.{source_of, second_of, target_of, Makes, Accepts, Exhausts, OnProgram}
-use Rattle.gib_app.specs.Causes.{Counts, AsksSource, AsksProgram, Prints, PrintsPart, IsUnwritten, IsUnread, IsSecondUnread, FailsToRead}
+use Rattle.gib_app.specs.Formats.{second_of, Accepts}
+use Rattle.gib_app.specs.Jobs.{Prints, Does}
+use Rattle.gib_app.specs.Causes.{Counts, OnProgram, HasNoValue, AsksSource, AsksProgram, IsPrinted, IsPrintedInPart, IsUnwritten, IsUnread, IsSecondUnread, FailsToRead}
 
 -- The file that is to be written could not be, and `out` was not asked; or `out` took a front of what is
 -- printed, and its count rose.
 abbrev pub IsWriteEnding : Bool → List (List ℕ) → ShelfView → ShelfView → SinkView → SinkView → Type 0
 IsWriteEnding tells words before now out_before out_now =
-    (AsksProgram words before.kept (λ request p names second. (name : List ℕ) × IsUnwritten before now request p names second name) × (out_now ≡ out_before))
-    ⊎ (PrintsPart tells words before now out_before out_now × Rose out_before.faults out_now.faults × ((name : List ℕ) → now.writes name ≡ before.writes name))
+    (AsksProgram words before.kept (λ plan p names second. (name : List ℕ) × IsUnwritten before now plan p names second name) × (out_now ≡ out_before))
+    ⊎ (IsPrintedInPart tells words before now out_before out_now × Rose out_before.faults out_now.faults × ((name : List ℕ) → now.writes name ≡ before.writes name))
 
 -- Why a call ends with a status: what is asked for was made, put and written; the source is no program; the words are not
--- taken; the meaning runs out of depth; a file could not be read, or not be written; the second file is none
--- that the command accepts. `Full` does not come yet. Want of memory is free.
+-- taken; the meaning runs out of depth; chunks may run out; a file could not be read, or not be written; the second file is
+-- none that the job accepts. Want of memory is free.
 abbrev pub IsEnding : Bool → List (List ℕ) → ShelfView → ShelfView → SinkView → SinkView → Status → Type 0
-IsEnding tells words before now out_before out_now Done = Prints tells words before now out_before out_now
+IsEnding tells words before now out_before out_now Done = IsPrinted tells words before now out_before out_now
 IsEnding tells words before now out_before out_now Source = AsksSource words before.kept IsNoProgram
 IsEnding tells words before now out_before out_now Usage = asked words ≡ None
-IsEnding tells words before now out_before out_now Depth = AsksProgram words before.kept (λ request p names second. Exhausts request p second)
-IsEnding tells words before now out_before out_now Full = ⊥
+IsEnding tells words before now out_before out_now Depth = AsksProgram words before.kept (HasNoValue Deep)
+IsEnding tells words before now out_before out_now Full = AsksProgram words before.kept (HasNoValue reason.Full)
 IsEnding tells words before now out_before out_now Memory = Unit {0}
-IsEnding tells words before now out_before out_now ReadFault = MatchOption (asked words) ⊥ (λ request. (name : List ℕ) × FailsToRead before now request name)
+IsEnding tells words before now out_before out_now ReadFault = MatchOption (asked words) ⊥ (λ plan. (name : List ℕ) × FailsToRead before now plan name)
 IsEnding tells words before now out_before out_now WriteFault = IsWriteEnding tells words before now out_before out_now
-IsEnding tells words before now out_before out_now Input = AsksProgram words before.kept (λ request p names second. Accepts request p names second → ⊥)
+IsEnding tells words before now out_before out_now Input = AsksProgram words before.kept (λ plan p names second. Accepts plan.job p names second → ⊥)
 
 -- Not the name of the file that the words ask to write.
 abbrev pub IsNoTarget : List (List ℕ) → List ℕ → Type 0
-IsNoTarget words name = MatchOption (asked words) ⊤ (λ request. target_of request ≡ Some name → ⊥)
+IsNoTarget words name = MatchOption (asked words) ⊤ (λ plan. plan.target ≡ Some name → ⊥)
 
 -- What names hold stays, but for the file that is to be written at `Done` and at `WriteFault`.
 pub record FilesStay (words : List (List ℕ)) (before now : Files) (status : Status) : Type 0 where
@@ -53,27 +57,31 @@ pub record OutStays (before now : SinkView) (status : Status) : Type 0 where
   pub quiet : status ≢ WriteFault → now.faults ≡ before.faults
   pub same : status ≢ Done → status ≢ WriteFault → now ≡ before
 
+-- The job ends with a text.
+abbrev pub HasText : Plan → ProgramTree → List (List ℕ) → List ℕ → Type 0
+HasText plan p names second = (file : Option (List ℕ)) × (text : List ℕ) × Does plan.job plan.options p names second file (Prints text)
+
 -- The bytes of a second file, which are told; where none is read there are no bytes.
 abbrev pub IsTold : Files → Option Document → List ℕ → Type 0
 IsTold kept None bytes = bytes ≡ []
 IsTold kept (Some document) bytes = bytes_in kept document ≡ Has bytes
 
 -- The bytes of the source are told, this holds of them, and the count of its file did not rise.
-pub record DueOfSource (before now : ShelfView) (request : Request) (P : List ℕ → Type 0) : Type 0 where
+pub record DueOfSource (before now : ShelfView) (plan : Plan) (P : List ℕ → Type 0) : Type 0 where
   pub source : List ℕ
-  pub source_told : bytes_in before.kept (source_of request) ≡ Has source
-  pub source_read : (name : List ℕ) → IsUnread before now (source_of request) name → ⊥
+  pub source_told : bytes_in before.kept plan.source ≡ Has source
+  pub source_read : (name : List ℕ) → IsUnread before now plan.source name → ⊥
   pub holds : P source
 
 -- The bytes of both files are told, the source is a program, of which this holds with its names and the bytes
 -- of the second file, and the counts of both files did not rise.
-pub record DueOfFiles (before now : ShelfView) (request : Request) (P : ProgramTree → List (List ℕ) → List ℕ → Type 0) : Type 0 where
+pub record DueOfFiles (before now : ShelfView) (plan : Plan) (P : ProgramTree → List (List ℕ) → List ℕ → Type 0) : Type 0 where
   pub source : List ℕ
   pub second : List ℕ
-  pub source_told : bytes_in before.kept (source_of request) ≡ Has source
-  pub second_told : IsTold before.kept (second_of request) second
-  pub source_read : (name : List ℕ) → IsUnread before now (source_of request) name → ⊥
-  pub second_read : (name : List ℕ) → IsSecondUnread before now (second_of request) name → ⊥
+  pub source_told : bytes_in before.kept plan.source ≡ Has source
+  pub second_told : IsTold before.kept (second_of plan) second
+  pub source_read : (name : List ℕ) → IsUnread before now plan.source name → ⊥
+  pub second_read : (name : List ℕ) → IsSecondUnread before now (second_of plan) name → ⊥
   pub holds : OnProgram source (λ p names. P p names second)
 
 -- The second file is not there.
@@ -82,14 +90,14 @@ IsMissing kept None = ⊥
 IsMissing kept (Some document) = bytes_in kept document ≡ Missing
 
 -- A file that is to be read is not there: the source, or else the second file, and the source is a program.
-abbrev pub DueMissing : ShelfView → ShelfView → Request → Type 0
-DueMissing before now request =
-    (bytes_in before.kept (source_of request) ≡ Missing)
-    ⊎ (DueOfSource before now request IsSource × IsMissing before.kept (second_of request))
+abbrev pub DueMissing : ShelfView → ShelfView → Plan → Type 0
+DueMissing before now plan =
+    (bytes_in before.kept plan.source ≡ Missing)
+    ⊎ (DueOfSource before now plan IsSource × IsMissing before.kept (second_of plan))
 
 -- The counts of `out` and of the file that is to be written did not rise.
-pub record TakesAll (before now : ShelfView) (out_before out_now : SinkView) (request : Request) : Type 0 where
-  pub target : (name : List ℕ) → target_of request ≡ Some name → Rose (before.writes name) (now.writes name) → ⊥
+pub record TakesAll (before now : ShelfView) (out_before out_now : SinkView) (plan : Plan) : Type 0 where
+  pub target : (name : List ℕ) → plan.target ≡ Some name → Rose (before.writes name) (now.writes name) → ⊥
   pub out : Rose out_before.faults out_now.faults → ⊥
 
 -- The status that is due by the words and by the bytes of the files that they name, where these are told and no
@@ -97,12 +105,12 @@ pub record TakesAll (before now : ShelfView) (out_before out_now : SinkView) (re
 abbrev pub IsDue : List (List ℕ) → ShelfView → ShelfView → SinkView → SinkView → Status → Type 0
 IsDue words before now out_before out_now Done =
     MatchOption (asked words) ⊥
-    (λ request. DueOfFiles before now request (λ p names second. (made : List ℕ) × Makes request p names second made) × TakesAll before now out_before out_now request)
-IsDue words before now out_before out_now Source = MatchOption (asked words) ⊥ (λ request. DueOfSource before now request IsNoProgram)
+    (λ plan. DueOfFiles before now plan (HasText plan) × TakesAll before now out_before out_now plan)
+IsDue words before now out_before out_now Source = MatchOption (asked words) ⊥ (λ plan. DueOfSource before now plan IsNoProgram)
 IsDue words before now out_before out_now Usage = asked words ≡ None
-IsDue words before now out_before out_now Depth = MatchOption (asked words) ⊥ (λ request. DueOfFiles before now request (λ p names second. Exhausts request p second))
+IsDue words before now out_before out_now Depth = MatchOption (asked words) ⊥ (λ plan. DueOfFiles before now plan (HasNoValue Deep plan))
 IsDue words before now out_before out_now Full = ⊥
 IsDue words before now out_before out_now Memory = ⊥
 IsDue words before now out_before out_now ReadFault = MatchOption (asked words) ⊥ (DueMissing before now)
 IsDue words before now out_before out_now WriteFault = ⊥
-IsDue words before now out_before out_now Input = MatchOption (asked words) ⊥ (λ request. DueOfFiles before now request (λ p names second. Accepts request p names second → ⊥))
+IsDue words before now out_before out_now Input = MatchOption (asked words) ⊥ (λ plan. DueOfFiles before now plan (λ p names second. Accepts plan.job p names second → ⊥))

@@ -1,12 +1,15 @@
 pub mod Sample
+pub mod Plan
 pub mod Words
-pub mod Requests
 pub mod Running
 pub mod Packing
 pub mod Cores
+pub mod Jobs
+pub mod MachineRun
+pub mod Kept
 pub mod SourceFaults
 pub mod InputFaults
-pub mod Commands
+pub mod Formats
 pub mod Causes
 pub mod Calls
 pub mod Lines

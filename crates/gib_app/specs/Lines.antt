@@ -12,7 +12,7 @@ use Rattle.gib_app.specs.declared.input_fault.InputFault.TheVariants as input
 use Rattle.gib_app.specs.declared.status.Status.{Status}
 use Rattle.gib_app.specs.declared.status.Status.TheVariants.{Done, Source, Usage, Depth, Full, Memory, ReadFault, WriteFault, Input}
 use Rattle.gib_app.specs.Words.{asked}
-use Rattle.gib_app.specs.Commands.{Refuses}
+use Rattle.gib_app.specs.Formats.{Refuses}
 use Rattle.gib_app.specs.Causes.{AsksSource, AsksProgram, FailsToRead, IsUnwritten}
 use Rattle.gib_app.specs.SourceFaults.{IsSourceFault}
 
@@ -65,17 +65,17 @@ TellsSource words before said = (fault : SourceFault) × AsksSource words before
 -- The line tells the fault of the second file.
 abbrev pub TellsInput : List (List ℕ) → ShelfView → List ℕ → Type 0
 TellsInput words before said =
-    (fault : InputFault) × AsksProgram words before.kept (λ request p names second. Refuses request p names second fault) × (said ≡ line (input_text fault))
+    (fault : InputFault) × AsksProgram words before.kept (λ plan p names second. Refuses plan.job p names second fault) × (said ≡ line (input_text fault))
 
 -- The line names the file that could not be read.
 abbrev pub TellsUnread : List (List ℕ) → ShelfView → ShelfView → List ℕ → Type 0
 TellsUnread words before now said =
-    MatchOption (asked words) ⊥ (λ request. (name : List ℕ) × FailsToRead before now request name × (said ≡ line (codes "cannot read " ++ name)))
+    MatchOption (asked words) ⊥ (λ plan. (name : List ℕ) × FailsToRead before now plan name × (said ≡ line (codes "cannot read " ++ name)))
 
 -- The line names the file that could not be written; or it names none, and the count of `out` rose.
 abbrev pub TellsUnwritten : List (List ℕ) → ShelfView → ShelfView → SinkView → SinkView → List ℕ → Type 0
 TellsUnwritten words before now out_before out_now said =
-    ((name : List ℕ) × AsksProgram words before.kept (λ request p names second. IsUnwritten before now request p names second name)
+    ((name : List ℕ) × AsksProgram words before.kept (λ plan p names second. IsUnwritten before now plan p names second name)
     × (said ≡ line (codes "cannot write " ++ name)))
     ⊎ (Rose out_before.faults out_now.faults × (said ≡ line (codes "cannot write")))
 

@@ -14,8 +14,8 @@ use Rattle.gib_app.specs.declared.input_fault.InputFault.{InputFault}
 use Rattle.gib_app.specs.declared.input_fault.InputFault.TheVariants as input
 use Rattle.gib_app.specs.declared.compile.CompileFault.{CompileFault}
 use Rattle.gib_app.specs.declared.compile.CompileFault.TheVariants as compile
-use Rattle.gib_app.specs.declared.packed.PackedFault.{PackedFault}
-use Rattle.gib_app.specs.declared.packed.PackedFault.TheVariants as packed
+use Rattle.gib_app.specs.declared.made.JobFault.{JobFault}
+use Rattle.gib_app.specs.declared.made.JobFault.TheVariants as job
 
 -- A fault of lexing.
 abbrev pub lex_fault : LexFault → CompileFault
@@ -44,9 +44,9 @@ header_fault header.Reserved = input.Reserved
 header_fault header.Length = input.Length
 
 -- A fault of a packed file's payload.
-abbrev pub payload_fault : PackFault → PackedFault
-payload_fault payload.Memory = packed.Memory
-payload_fault (payload.Short place) = packed.Refused (input.Short place)
-payload_fault (payload.Tag place) = packed.Refused (input.Tag place)
-payload_fault (payload.Truth place) = packed.Refused (input.Truth place)
-payload_fault (payload.Trailing place) = packed.Refused (input.Trailing place)
+abbrev pub payload_fault : PackFault → JobFault
+payload_fault payload.Memory = job.Memory
+payload_fault (payload.Short place) = job.Refused (input.Short place)
+payload_fault (payload.Tag place) = job.Refused (input.Tag place)
+payload_fault (payload.Truth place) = job.Refused (input.Truth place)
+payload_fault (payload.Trailing place) = job.Refused (input.Trailing place)

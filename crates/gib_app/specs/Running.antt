@@ -9,6 +9,9 @@ use Rattle.gib_syntax.specs.Source.{Spells}
 use Rattle.gib_syntax.specs.Declarations.{table_of_program, input_type}
 use Rattle.gib_syntax.specs.Typing.{IsTypedProgram}
 use Rattle.gib_syntax.specs.Meaning.{Gives, Stops, Deep, run}
+use Rattle.gib_core.specs.Cost.{run_cost}
+use Rattle.gib_core.specs.Tight.{Tight}
+use Rattle.gib_app.specs.Cores.{core_after}
 
 -- The source spells this program with these tokens, and it is typed.
 pub record IsProgram (source : List ℕ) (lexed : Lexed) (p : ProgramTree) : Type 0 where
@@ -46,6 +49,12 @@ pub record RunsOut (p : ProgramTree) (depth : ℕ) (input : List ℕ) : Type 0 w
   pub value : Datum
   pub is_input : IsInput p value input
   pub means : run p depth value ≡ Stops Deep
+
+-- So many chunks may not be enough for what the run of the program on the input costs, within the depth and without forks.
+pub record FillsUp (p : ProgramTree) (depth chunks : ℕ) (input : List ℕ) : Type 0 where
+  pub value : Datum
+  pub is_input : IsInput p value input
+  pub tight : Tight chunks (run_cost (core_after 4 p) depth 0 value)
 
 -- The text of the value whose packed file this is, with a line feed.
 pub record IsShown (p : ProgramTree) (names : List (List ℕ)) (file output : List ℕ) : Type 0 where

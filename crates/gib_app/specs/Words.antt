@@ -1,9 +1,10 @@
 -- What the words of a command line ask for.
-use Rattle.std.specs.Prelude.{ℕ, Bool, true, if◌then◌else◌, List, [], ◌∷◌, map, fold, codes}
+use Rattle.std.specs.Prelude.{ℕ, Bool, true, if◌then◌else◌, List, [], ◌∷◌, ◌++◌, map, fold, codes}
 use Rattle.std.specs.Prelude.{Option, Some, None, option_map, option_and_then, find}
 use Rattle.std.specs.String.{string_bytes}
 use Rattle.std.specs.declared.string.String.{String}
 use Rattle.std.specs.declared.alloc.Global.{Global}
+use Rattle.std.specs.Option.{option_map_or}
 use Rattle.std.specs.Str.{bytes_eq}
 use Rattle.std.specs.Str.Parse.{digits_value, without_leading_plus}
 use Rattle.clap.specs.ValueTests.{is_unsigned_in}
@@ -11,32 +12,15 @@ use Rattle.clap.specs.Walk.{Row, Rule, Text, first_of, one_of}
 use Rattle.clap.specs.Simple.{App, new_app, new_rule, on_top, subcommand_of, with_rule, with_subcommand}
 use Rattle.clap.specs.Takes.{takes}
 use Rattle.clap.specs.declared.builder.value_parser.ValueParser.TheVariants.{Unsigned}
-use Rattle.gib_edge.specs.Views.{Held, Has}
+use Rattle.gib_app.specs.declared.plan.Job.{Job}
+use Rattle.gib_app.specs.declared.plan.Job.TheVariants.{Run, Plain, Check, Core, Code, Pack, Show}
+use Rattle.gib_app.specs.declared.plan.Options.{Options}
+use Rattle.gib_app.specs.Plan.{Document, Brought, Named, Plan}
 use Rattle.gib_app.specs.Sample.{sample_source, sample_input}
 
 -- The bytes of the words.
 abbrev pub bytes_of : List (String Global) → List (List ℕ)
 bytes_of words = map string_bytes words
-
--- Where bytes come from: the product brings them with it, or they stand in a file by its name.
-pub data Document : Type 0 where
-  Brought : List ℕ → Document
-  Named : List ℕ → Document
-
--- What is asked for.
-pub data Request : Type 0 where
-  -- the value of a program on a packed input, by the product's own way: source, input, depth of calls
-  Run : Document → Document → ℕ → Request
-  -- the same by the plain evaluator
-  Plain : Document → Document → ℕ → Request
-  -- whether a source is a typed program
-  Check : Document → Request
-  -- the core of a program after a pass, from 1 to 4: source, pass
-  Core : Document → ℕ → Request
-  -- a packed file of a value that is given as text: source, text, name of the file that is written
-  Pack : Document → Document → List ℕ → Request
-  -- the text of the value of a packed file: source, packed file
-  Show : Document → Document → Request
 
 -- ---- Arguments
 
@@ -44,18 +28,21 @@ pub data Request : Type 0 where
 abbrev pub positional : Text → Rule
 positional id = record (new_rule id) { required = true }
 
--- `--name N` or `--name=N`, where N is a number from `least` to `most`. Where it is left out, N is `default`.
-abbrev pub number : Text → ℕ → ℕ → Text → Rule
-number name least most default =
-    record (new_rule name) { long = Some name; parser = Some (Unsigned least most); defaults = default ∷ [] }
+-- `--name N` or `--name=N`, where N is a number from `least` to `most`. It may be left out.
+abbrev pub number : Text → ℕ → ℕ → Rule
+number name least most = record (new_rule name) { long = Some name; parser = Some (Unsigned least most) }
 
 -- How deep calls may go.
 abbrev pub depth : Rule
-depth = number (codes "depth") 1 1000000 (codes "10000")
+depth = number (codes "depth") 1 1000000
+
+-- How many chunks of memory a run may draw.
+abbrev pub chunks : Rule
+chunks = number (codes "chunks") 16 65536
 
 -- After which pass.
 abbrev pub pass : Rule
-pass = number (codes "pass") 1 4 (codes "4")
+pass = number (codes "pass") 1 4
 
 -- ---- Their values
 
@@ -75,77 +62,97 @@ number_in text = if is_unsigned_in 0 4294967295 text then Some (digits_value 10 
 abbrev pub number_of : Text → List Row → Option ℕ
 number_of id rows = option_and_then number_in (one_of id rows)
 
--- One more value of a request, where it is there.
+-- The number of an option, or what stands where it is left out.
+abbrev pub number_or : Text → ℕ → List Row → ℕ
+number_or id default rows = option_map_or (λ n. n) (number_of id rows) default
+
+-- The options where none is given.
+abbrev pub usual : Options
+usual = record { depth = 10000; chunks = 1024; pass = 4 }
+
+-- All options.
+abbrev pub options_of : List Row → Options
+options_of rows = record {
+  depth = number_or (codes "depth") usual.depth rows;
+  chunks = number_or (codes "chunks") usual.chunks rows;
+  pass = number_or (codes "pass") usual.pass rows;
+}
+
+-- One more value of a plan, where it is there.
 abbrev pub with_value : {X Y : Type 0} → Option (X → Y) → Option X → Option Y
 with_value None value = None
-with_value (Some request) value = option_map request value
+with_value (Some rest) value = option_map rest value
+
+-- The second file, where a command has one.
+abbrev pub second_in : Option Text → List Row → Option (Option Document)
+second_in None rows = Some None
+second_in (Some id) rows = option_map Some (file_of id rows)
+
+-- The name of the file that is written, where a command has one.
+abbrev pub target_in : Option Text → List Row → Option (Option Text)
+target_in None rows = Some None
+target_in (Some id) rows = option_map Some (word_of id rows)
 
 -- ---- Commands
 
--- A command: its name, its arguments, and what their values ask for.
+-- A command: its name, its arguments behind the source (the second file, the file that is written, options), and its job.
 pub record Form : Type 0 where
   pub name : Text
-  pub arguments : List Rule
-  pub request : List Row → Option Request
+  pub second : Option Text
+  pub target : Option Text
+  pub options : List Rule
+  pub job : Job
 
--- `run SOURCE INPUT [--depth N]`.
+-- A word by its place, where there is one.
+abbrev pub place_of : Option Text → List Rule
+place_of None = []
+place_of (Some id) = positional id ∷ []
+
+-- All arguments of a command.
+abbrev pub arguments_of : Form → List Rule
+arguments_of form = positional (codes "source") ∷ (place_of form.second ++ (place_of form.target ++ form.options))
+
+-- What a command asks for.
+abbrev pub planned : Job → Option Text → Option Text → List Row → Option Plan
+planned job second target rows =
+    with_value (with_value (option_map (λ s t u. record { source = s; second = t; target = u; job = job; options = options_of rows }) (file_of (codes "source") rows))
+    (second_in second rows)) (target_in target rows)
+
+-- `run SOURCE INPUT [--depth N] [--chunks N]`.
 abbrev pub run_form : Form
-run_form = record {
-  name = codes "run";
-  arguments = positional (codes "source") ∷ positional (codes "input") ∷ depth ∷ [];
-  request = λ rows. with_value (with_value (option_map (λ source input depth. Run source input depth) (file_of (codes "source") rows)) (file_of (codes "input") rows))
-      (number_of (codes "depth") rows);
-}
+run_form = record { name = codes "run"; second = Some (codes "input"); target = None; options = depth ∷ chunks ∷ []; job = Run }
 
 -- `plain SOURCE INPUT [--depth N]`.
 abbrev pub plain_form : Form
-plain_form = record {
-  name = codes "plain";
-  arguments = positional (codes "source") ∷ positional (codes "input") ∷ depth ∷ [];
-  request = λ rows. with_value (with_value (option_map (λ source input depth. Plain source input depth) (file_of (codes "source") rows)) (file_of (codes "input") rows))
-      (number_of (codes "depth") rows);
-}
+plain_form = record { name = codes "plain"; second = Some (codes "input"); target = None; options = depth ∷ []; job = Plain }
 
 -- `check SOURCE`.
 abbrev pub check_form : Form
-check_form = record {
-  name = codes "check";
-  arguments = positional (codes "source") ∷ [];
-  request = λ rows. option_map (λ source. Check source) (file_of (codes "source") rows);
-}
+check_form = record { name = codes "check"; second = None; target = None; options = []; job = Check }
 
 -- `core SOURCE [--pass P]`.
 abbrev pub core_form : Form
-core_form = record {
-  name = codes "core";
-  arguments = positional (codes "source") ∷ pass ∷ [];
-  request = λ rows. with_value (option_map (λ source pass. Core source pass) (file_of (codes "source") rows)) (number_of (codes "pass") rows);
-}
+core_form = record { name = codes "core"; second = None; target = None; options = pass ∷ []; job = Core }
+
+-- `code SOURCE`.
+abbrev pub code_form : Form
+code_form = record { name = codes "code"; second = None; target = None; options = []; job = Code }
 
 -- `pack SOURCE TEXT TARGET`.
 abbrev pub pack_form : Form
-pack_form = record {
-  name = codes "pack";
-  arguments = positional (codes "source") ∷ positional (codes "text") ∷ positional (codes "target") ∷ [];
-  request = λ rows. with_value (with_value (option_map (λ source text target. Pack source text target) (file_of (codes "source") rows)) (file_of (codes "text") rows))
-      (word_of (codes "target") rows);
-}
+pack_form = record { name = codes "pack"; second = Some (codes "text"); target = Some (codes "target"); options = []; job = Pack }
 
 -- `show SOURCE FILE`.
 abbrev pub show_form : Form
-show_form = record {
-  name = codes "show";
-  arguments = positional (codes "source") ∷ positional (codes "file") ∷ [];
-  request = λ rows. with_value (option_map (λ source file. Show source file) (file_of (codes "source") rows)) (file_of (codes "file") rows);
-}
+show_form = record { name = codes "show"; second = Some (codes "file"); target = None; options = []; job = Show }
 
 -- All commands.
 abbrev pub forms : List Form
-forms = run_form ∷ plain_form ∷ check_form ∷ core_form ∷ pack_form ∷ show_form ∷ []
+forms = run_form ∷ plain_form ∷ check_form ∷ core_form ∷ code_form ∷ pack_form ∷ show_form ∷ []
 
 -- A command as clap sees it.
 abbrev pub app_for : Form → App
-app_for form = fold with_rule (new_app form.name) form.arguments
+app_for form = fold with_rule (new_app form.name) (arguments_of form)
 
 -- The program before its commands: one of them has to be there, and nothing asks for help.
 abbrev pub bare_program : App
@@ -158,9 +165,9 @@ command_set = fold (λ app form. with_subcommand app (app_for form).top) bare_pr
 
 -- ---- What words ask for
 
--- The product's own program on its own input, with the depth that stands where none is given.
-abbrev pub sample : Request
-sample = Run (Brought sample_source) (Brought sample_input) 10000
+-- The product's own program on its own input.
+abbrev pub sample : Plan
+sample = record { source = Brought sample_source; second = Some (Brought sample_input); target = None; job = Run; options = usual }
 
 -- Whether words are taken, the program's name first: at most one, or those that clap takes.
 abbrev pub taken : List Text → Bool
@@ -169,27 +176,16 @@ taken (program ∷ []) = true
 taken (program ∷ word ∷ further) = takes command_set (program ∷ word ∷ further)
 
 -- What the matches of a command, by its name, ask for.
-abbrev pub requested : Text → List Row → Option Request
-requested name rows = option_and_then (λ form. form.request rows) (find (λ form. bytes_eq form.name name) forms)
+abbrev pub requested : Text → List Row → Option Plan
+requested name rows = option_and_then (λ form. planned form.job form.second form.target rows) (find (λ form. bytes_eq form.name name) forms)
 
 -- What the command among the words asks for, the program's name first, where clap takes them.
-abbrev pub asked_by_command : List Text → Option Request
+abbrev pub asked_by_command : List Text → Option Plan
 asked_by_command words =
     if takes command_set words then option_and_then (λ entered. requested entered.0 entered.1) (subcommand_of command_set words) else None
 
 -- What words ask for, the program's name first: the sample where there is no other word.
-abbrev pub asked : List (List ℕ) → Option Request
+abbrev pub asked : List (List ℕ) → Option Plan
 asked [] = Some sample
 asked (program ∷ []) = Some sample
 asked (program ∷ word ∷ further) = asked_by_command (program ∷ word ∷ further)
-
--- ---- Files
-
--- What names hold.
-abbrev pub Files : Type 0
-Files = List ℕ → Held
-
--- What a document holds.
-abbrev pub bytes_in : Files → Document → Held
-bytes_in kept (Brought bytes) = Has bytes
-bytes_in kept (Named name) = kept name

@@ -3,8 +3,8 @@
 ghost use Rattle.std.specs.Prelude.{◌≡◌, IfOk, false};
 ghost use Rattle.clap.specs.Walk.{rule_of};
 ghost use Rattle.clap.specs.Simple.{app_of};
-ghost use Rattle.gib_app.specs.Words.{app_for, bare_program, command_set, depth, pass, positional};
-ghost use Rattle.gib_app.specs.Words.{check_form, core_form, pack_form, plain_form, run_form, show_form};
+ghost use Rattle.gib_app.specs.Words.{app_for, bare_program, chunks, command_set, depth, pass, positional};
+ghost use Rattle.gib_app.specs.Words.{check_form, code_form, core_form, pack_form, plain_form, run_form, show_form};
 
 use clap::builder::ValueParser;
 use clap::{Arg, Command};
@@ -26,7 +26,16 @@ fn depth<'a>(alloc: Global) -> Arg<'a>
     Arg::new(alloc, "depth")
         .long("depth")
         .value_parser(ValueParser::unsigned(1, 1_000_000))
-        .default_value("10000")
+}
+
+/// `--chunks N`, how many chunks of memory a run may draw.
+fn chunks<'a>(alloc: Global) -> Arg<'a>
+    ensures rule { rule_of result ≡ chunks }
+    ensures local { result.global ≡ false }
+{
+    Arg::new(alloc, "chunks")
+        .long("chunks")
+        .value_parser(ValueParser::unsigned(16, 65_536))
 }
 
 /// `--pass P`, after which pass.
@@ -37,17 +46,17 @@ fn pass<'a>(alloc: Global) -> Arg<'a>
     Arg::new(alloc, "pass")
         .long("pass")
         .value_parser(ValueParser::unsigned(1, 4))
-        .default_value("4")
 }
 
-/// `run SOURCE INPUT [--depth N]`.
+/// `run SOURCE INPUT [--depth N] [--chunks N]`.
 fn run_command<'a>(alloc: Global) -> Result<Command<'a>, AllocError>
     ensures { IfOk result (λ command. app_of command ≡ app_for run_form) }
 {
     Command::new(alloc, "run")
         .arg(positional(alloc, "source"))?
         .arg(positional(alloc, "input"))?
-        .arg(depth(alloc))
+        .arg(depth(alloc))?
+        .arg(chunks(alloc))
 }
 
 /// `plain SOURCE INPUT [--depth N]`.
@@ -74,6 +83,13 @@ fn core_command<'a>(alloc: Global) -> Result<Command<'a>, AllocError>
     Command::new(alloc, "core")
         .arg(positional(alloc, "source"))?
         .arg(pass(alloc))
+}
+
+/// `code SOURCE`.
+fn code_command<'a>(alloc: Global) -> Result<Command<'a>, AllocError>
+    ensures { IfOk result (λ command. app_of command ≡ app_for code_form) }
+{
+    Command::new(alloc, "code").arg(positional(alloc, "source"))
 }
 
 /// `pack SOURCE TEXT TARGET`.
@@ -114,6 +130,7 @@ pub fn command_set<'a>(alloc: Global) -> Result<Command<'a>, AllocError>
         .subcommand(plain_command(alloc)?)?
         .subcommand(check_command(alloc)?)?
         .subcommand(core_command(alloc)?)?
+        .subcommand(code_command(alloc)?)?
         .subcommand(pack_command(alloc)?)?
         .subcommand(show_command(alloc)?)
 }

@@ -3,11 +3,11 @@
 ghost use Rattle.std.specs.Prelude.{◌≡◌, ◌<◌, ◌≤◌, ◌^◌, ℕ, List, length, IfOk, IfErr, OnOk, OnErr};
 ghost use Rattle.gib_edge.specs.Causes.{Appends, AppendsPart};
 ghost use Rattle.gib_app.specs.Calls.{read_calls};
-ghost use Rattle.gib_app.specs.Requests.{document_of};
+ghost use Rattle.gib_app.specs.Kept.{document_of};
 ghost use Rattle.gib_app.specs.Causes.{Holds};
 ghost use Rattle.gib_app.specs.Stops.{IsDocumentFault, DocumentReads};
 
-use crate::words::Document;
+use crate::plan::Document;
 use gib_edge::outside::{Shelf, ShelfFault};
 use std::alloc::Global;
 

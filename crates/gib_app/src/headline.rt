@@ -2,9 +2,10 @@
 
 ghost use Rattle.std.specs.Prelude.{◌≡◌, ◌⊎◌, ◌++◌, ℕ, List, Bool, Some};
 ghost use Rattle.gib_edge.specs.Views.{ShelfView, SinkView};
+ghost use Rattle.gib_app.specs.declared.plan.Options.{Options as OptionValues};
 ghost use Rattle.gib_app.specs.declared.status.Status.{Status as Statuses};
 ghost use Rattle.gib_app.specs.Ending.{IsEnding};
-ghost use Rattle.gib_app.specs.Headline.{IsRun, IsResult, IsTooDeep, NoneFailed};
+ghost use Rattle.gib_app.specs.Headline.{IsRun, IsResult, IsTooDeep, IsTooBig, NoneFailed};
 
 use crate::status::Status;
 use gib_file::one_file;
@@ -16,21 +17,24 @@ use gib_parse::law::one_program;
 pub fn run_prints_what_is_meant()
     // Status 0: the files are those of a program and of a packed value, and exactly the text of the value that the program
     // means on it within the depth, with a line feed, was put.
-    ensures done { (tells : Bool) (words : List (List ℕ)) (before now : ShelfView) (out out_now : SinkView) (source input : List ℕ) (depth : ℕ) (front : List ℕ)
-        → IsRun words before out source input depth front → IsEnding tells words before now out out_now Status.Done
-        → (output : List ℕ) × IsResult source input depth output × (out_now.taken ≡ Some (front ++ output)) }
+    ensures done { (tells : Bool) (words : List (List ℕ)) (before now : ShelfView) (out out_now : SinkView) (source input : List ℕ) (options : OptionValues) (front : List ℕ)
+        → IsRun words before out source input options front → IsEnding tells words before now out out_now Status.Done
+        → (output : List ℕ) × IsResult source input options.depth output × (out_now.taken ≡ Some (front ++ output)) }
     // Status 3: the meaning runs out of depth.
-    ensures deep { (tells : Bool) (words : List (List ℕ)) (before now : ShelfView) (out out_now : SinkView) (source input : List ℕ) (depth : ℕ) (front : List ℕ)
-        → IsRun words before out source input depth front → IsEnding tells words before now out out_now Status.Depth → IsTooDeep source input depth }
+    ensures deep { (tells : Bool) (words : List (List ℕ)) (before now : ShelfView) (out out_now : SinkView) (source input : List ℕ) (options : OptionValues) (front : List ℕ)
+        → IsRun words before out source input options front → IsEnding tells words before now out out_now Status.Depth → IsTooDeep source input options.depth }
+    // Status 4: the chunks of memory may not be enough for what the run costs.
+    ensures full { (tells : Bool) (words : List (List ℕ)) (before now : ShelfView) (out out_now : SinkView) (source input : List ℕ) (options : OptionValues) (front : List ℕ)
+        → IsRun words before out source input options front → IsEnding tells words before now out out_now Status.Full → IsTooBig source input options.depth options.chunks }
 
     // The other way round: where the program means a value, the status is 0 and no other, and where its meaning runs out of
-    // depth it is 3; unless memory runs out, or a file or `out` failed.
-    ensures ends_done { (tells : Bool) (words : List (List ℕ)) (before now : ShelfView) (out out_now : SinkView) (source input : List ℕ) (depth : ℕ) (front output : List ℕ) (status : Statuses)
-        → (r : IsRun words before out source input depth front) → NoneFailed r.program r.packed before now out out_now → IsResult source input depth output
-        → IsEnding tells words before now out out_now status → (status ≡ Status.Done) ⊎ (status ≡ Status.Memory) }
-    ensures ends_deep { (tells : Bool) (words : List (List ℕ)) (before now : ShelfView) (out out_now : SinkView) (source input : List ℕ) (depth : ℕ) (front : List ℕ) (status : Statuses)
-        → (r : IsRun words before out source input depth front) → NoneFailed r.program r.packed before now out out_now → IsTooDeep source input depth
-        → IsEnding tells words before now out out_now status → (status ≡ Status.Depth) ⊎ (status ≡ Status.Memory) }
+    // depth it is 3; unless memory or its chunks run out, or a file or `out` failed.
+    ensures ends_done { (tells : Bool) (words : List (List ℕ)) (before now : ShelfView) (out out_now : SinkView) (source input : List ℕ) (options : OptionValues) (front output : List ℕ) (status : Statuses)
+        → (r : IsRun words before out source input options front) → NoneFailed r.program r.packed before now out out_now → IsResult source input options.depth output
+        → IsEnding tells words before now out out_now status → (status ≡ Status.Done) ⊎ (status ≡ Status.Memory) ⊎ (status ≡ Status.Full) }
+    ensures ends_deep { (tells : Bool) (words : List (List ℕ)) (before now : ShelfView) (out out_now : SinkView) (source input : List ℕ) (options : OptionValues) (front : List ℕ) (status : Statuses)
+        → (r : IsRun words before out source input options front) → NoneFailed r.program r.packed before now out out_now → IsTooDeep source input options.depth
+        → IsEnding tells words before now out out_now status → (status ≡ Status.Depth) ⊎ (status ≡ Status.Memory) ⊎ (status ≡ Status.Full) }
 
     // There is one result at most, and none where the meaning runs out of depth.
     ensures one { (source input : List ℕ) (depth : ℕ) (output other : List ℕ) → IsResult source input depth output → IsResult source input depth other → output ≡ other }

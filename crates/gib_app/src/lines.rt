@@ -7,6 +7,7 @@ ghost use Rattle.gib_app.specs.Lines.{rule_text, source_text, input_text};
 ghost use Rattle.gib_app.specs.Stopping.{stop_text, line_for};
 
 use crate::input_fault::InputFault;
+use crate::made::Reason;
 use crate::source_fault::SourceFault;
 use crate::stop::Stop;
 use gib_check::Kind;
@@ -170,7 +171,8 @@ fn put_stop<E: Sink>(err: &mut E, stop: Stop<'_>) -> Result<(), Failed>
         Stop::Source(fault) => put_source(err, fault),
         Stop::Unread(name) => put_named(err, b"cannot read ", name),
         Stop::Input(fault) => put_input(err, fault),
-        Stop::Depth => put_all(err, b"depth"),
+        Stop::NoValue(Reason::Deep) => put_all(err, b"depth"),
+        Stop::NoValue(Reason::Full) => put_all(err, b"chunks"),
         Stop::Memory => put_all(err, b"memory"),
         Stop::Unwritten(name) => put_named(err, b"cannot write ", name),
         Stop::Unput => put_all(err, b"cannot write"),

@@ -1,15 +1,25 @@
 //! What the matches of a command ask for.
 
-ghost use Rattle.std.specs.Prelude.{◌≡◌, option_map, option_and_then};
+ghost use Rattle.std.specs.Prelude.{◌≡◌, None, Some, option_map, option_and_then};
 ghost use Rattle.clap.specs.Walk.{rows_of};
 ghost use Rattle.clap.specs.Simple.{subcommand_rows_of};
 ghost use Rattle.clap.specs.Matches.{found_of};
-ghost use Rattle.gib_app.specs.Words.{file_of, number_of, requested, word_of};
-ghost use Rattle.gib_app.specs.Words.{check_form, core_form, pack_form, plain_form, run_form, show_form};
-ghost use Rattle.gib_app.specs.Requests.{document_of, request_of};
+ghost use Rattle.gib_app.specs.Words.{file_of, number_of, number_or as number_asked, options_of, planned, requested, usual as usual_options, word_of};
+ghost use Rattle.gib_app.specs.Kept.{document_of, plan_of};
 
-use crate::words::{Document, Request};
+use crate::plan::{Document, Job, Options, Plan};
 use clap::ArgMatches;
+
+/// The options where none is given.
+pub fn usual() -> Options
+    ensures { result ≡ usual_options }
+{
+    Options {
+        depth: 10_000,
+        chunks: 1_024,
+        pass: 4,
+    }
+}
 
 /// The word of a positional argument.
 fn word<'a>(matches: &ArgMatches<'a>, id: &str) -> Option<&'a str>
@@ -32,82 +42,88 @@ fn number(matches: &ArgMatches<'_>, id: &str) -> Option<u32>
     matches.get_one::<u32>(id)
 }
 
-fn run_request<'a>(matches: &ArgMatches<'a>) -> Option<Request<'a>>
-    ensures { option_map request_of result ≡ run_form.request (rows_of (found_of matches.now)) }
+/// The number of an option, or what stands where it is left out.
+fn number_or(matches: &ArgMatches<'_>, id: &str, default: u32) -> u32
+    ensures { result ≡ number_asked id.now default (rows_of (found_of matches.now)) }
 {
-    Some(Request::Run {
+    match number(matches, id) {
+        Some(number) => number,
+        None => default,
+    }
+}
+
+/// All options.
+fn options(matches: &ArgMatches<'_>) -> Options
+    ensures { result ≡ options_of (rows_of (found_of matches.now)) }
+{
+    let usual = usual();
+    Options {
+        depth: number_or(matches, "depth", usual.depth),
+        chunks: number_or(matches, "chunks", usual.chunks),
+        pass: number_or(matches, "pass", usual.pass),
+    }
+}
+
+/// A job on a source alone.
+fn on_source<'a>(matches: &ArgMatches<'a>, job: Job) -> Option<Plan<'a>>
+    ensures { option_map plan_of result ≡ planned job None None (rows_of (found_of matches.now)) }
+{
+    Some(Plan {
         source: file(matches, "source")?,
-        input: file(matches, "input")?,
-        depth: number(matches, "depth")?,
+        second: None,
+        target: None,
+        job,
+        options: options(matches),
     })
 }
 
-fn plain_request<'a>(matches: &ArgMatches<'a>) -> Option<Request<'a>>
-    ensures { option_map request_of result ≡ plain_form.request (rows_of (found_of matches.now)) }
+/// A job on a source and a second file.
+fn on_both<'a>(matches: &ArgMatches<'a>, job: Job, second: &str) -> Option<Plan<'a>>
+    ensures { option_map plan_of result ≡ planned job (Some second.now) None (rows_of (found_of matches.now)) }
 {
-    Some(Request::Plain {
+    Some(Plan {
         source: file(matches, "source")?,
-        input: file(matches, "input")?,
-        depth: number(matches, "depth")?,
+        second: Some(file(matches, second)?),
+        target: None,
+        job,
+        options: options(matches),
     })
 }
 
-fn check_request<'a>(matches: &ArgMatches<'a>) -> Option<Request<'a>>
-    ensures { option_map request_of result ≡ check_form.request (rows_of (found_of matches.now)) }
+/// A job on a source and a second file, that makes a file.
+fn to_target<'a>(matches: &ArgMatches<'a>, job: Job, second: &str, target: &str) -> Option<Plan<'a>>
+    ensures { option_map plan_of result ≡ planned job (Some second.now) (Some target.now) (rows_of (found_of matches.now)) }
 {
-    Some(Request::Check {
+    Some(Plan {
         source: file(matches, "source")?,
-    })
-}
-
-fn core_request<'a>(matches: &ArgMatches<'a>) -> Option<Request<'a>>
-    ensures { option_map request_of result ≡ core_form.request (rows_of (found_of matches.now)) }
-{
-    Some(Request::Core {
-        source: file(matches, "source")?,
-        pass: number(matches, "pass")?,
-    })
-}
-
-fn pack_request<'a>(matches: &ArgMatches<'a>) -> Option<Request<'a>>
-    ensures { option_map request_of result ≡ pack_form.request (rows_of (found_of matches.now)) }
-{
-    Some(Request::Pack {
-        source: file(matches, "source")?,
-        text: file(matches, "text")?,
-        target: word(matches, "target")?,
-    })
-}
-
-fn show_request<'a>(matches: &ArgMatches<'a>) -> Option<Request<'a>>
-    ensures { option_map request_of result ≡ show_form.request (rows_of (found_of matches.now)) }
-{
-    Some(Request::Show {
-        source: file(matches, "source")?,
-        file: file(matches, "file")?,
+        second: Some(file(matches, second)?),
+        target: Some(word(matches, target)?),
+        job,
+        options: options(matches),
     })
 }
 
 /// What the matches of the command with this name ask for.
-fn command_request<'a>(name: &str, matches: &ArgMatches<'a>) -> Option<Request<'a>>
-    ensures { option_map request_of result ≡ requested name.now (rows_of (found_of matches.now)) }
+fn command_plan<'a>(name: &str, matches: &ArgMatches<'a>) -> Option<Plan<'a>>
+    ensures { option_map plan_of result ≡ requested name.now (rows_of (found_of matches.now)) }
 {
     match name {
-        "run" => run_request(matches),
-        "plain" => plain_request(matches),
-        "check" => check_request(matches),
-        "core" => core_request(matches),
-        "pack" => pack_request(matches),
-        "show" => show_request(matches),
+        "run" => on_both(matches, Job::Run, "input"),
+        "plain" => on_both(matches, Job::Plain, "input"),
+        "check" => on_source(matches, Job::Check),
+        "core" => on_source(matches, Job::Core),
+        "code" => on_source(matches, Job::Code),
+        "pack" => to_target(matches, Job::Pack, "text", "target"),
+        "show" => on_both(matches, Job::Show, "file"),
         _ => None,
     }
 }
 
 /// What the command that a parse entered asks for.
-pub fn entered_request<'a>(matches: &ArgMatches<'a>) -> Option<Request<'a>>
-    ensures { option_map request_of result
+pub fn entered_plan<'a>(matches: &ArgMatches<'a>) -> Option<Plan<'a>>
+    ensures { option_map plan_of result
         ≡ option_and_then (λ entered. requested entered.0 entered.1) (subcommand_rows_of matches.now) }
 {
     let (name, inner) = matches.subcommand()?;
-    command_request(name, inner)
+    command_plan(name, inner)
 }

@@ -9,21 +9,14 @@ ghost use Rattle.gib_app.specs.Stops.{IsPackedStop};
 ghost use Rattle.gib_app.specs.PassFaults.{header_fault, payload_fault};
 
 use crate::input_fault::InputFault;
+use crate::made::JobFault;
 use gib_check::Typed;
 use gib_file::{HeadFault, PackFault, one_reading, read_header, survey, unpack};
 use gib_value::Value;
 use std::alloc::Global;
 
-/// Why a packed file is not read.
-#[derive(Clone, Copy, Debug, PartialEq, Eq)]
-pub enum PackedFault {
-    Memory,
-    /// It is no packed file of a value of the type.
-    Refused(InputFault),
-}
-
 /// The fault of a header.
-fn of_header(fault: HeadFault) -> InputFault
+pub fn of_header(fault: HeadFault) -> InputFault
     ensures { result ≡ header_fault fault }
 {
     match fault {
@@ -35,15 +28,15 @@ fn of_header(fault: HeadFault) -> InputFault
 }
 
 /// The fault of a payload.
-fn of_payload(fault: PackFault) -> PackedFault
+pub fn of_payload(fault: PackFault) -> JobFault
     ensures { result ≡ payload_fault fault }
 {
     match fault {
-        PackFault::Memory => PackedFault::Memory,
-        PackFault::Short(place) => PackedFault::Refused(InputFault::Short(place)),
-        PackFault::Tag(place) => PackedFault::Refused(InputFault::Tag(place)),
-        PackFault::Truth(place) => PackedFault::Refused(InputFault::Truth(place)),
-        PackFault::Trailing(place) => PackedFault::Refused(InputFault::Trailing(place)),
+        PackFault::Memory => JobFault::Memory,
+        PackFault::Short(place) => JobFault::Refused(InputFault::Short(place)),
+        PackFault::Tag(place) => JobFault::Refused(InputFault::Tag(place)),
+        PackFault::Truth(place) => JobFault::Refused(InputFault::Truth(place)),
+        PackFault::Trailing(place) => JobFault::Refused(InputFault::Trailing(place)),
     }
 }
 
@@ -52,16 +45,16 @@ fn of_payload(fault: PackFault) -> PackedFault
 /// # Errors
 ///
 /// The first fault of the header, else of the payload.
-pub fn read_packed(alloc: Global, typed: &Typed, bytes: &[u8]) -> Result<Value, PackedFault>
+pub fn read_packed(alloc: Global, typed: &Typed, bytes: &[u8]) -> Result<Value, JobFault>
     ensures read { IfOk result (λ v. File (table_of_program (program_of typed.now)) (input_type (program_of typed.now)) v bytes.now) }
     ensures refused { IfErr result (IsPackedStop (table_of_program (program_of typed.now)) (input_type (program_of typed.now)) bytes.now) }
     ensures only { (v : Datum) → File (table_of_program (program_of typed.now)) (input_type (program_of typed.now)) v bytes.now
-        → MatchResult result (λ w. w ≡ v) (λ fault. fault ≡ PackedFault.Memory) }
+        → MatchResult result (λ w. w ≡ v) (λ fault. fault ≡ JobFault.Memory) }
 {
     let ty = typed.input_type();
     let payload = match read_header(bytes) {
         Ok(payload) => payload,
-        Err(fault) => return Err(PackedFault::Refused(of_header(fault))),
+        Err(fault) => return Err(JobFault::Refused(of_header(fault))),
     };
     let survey = match survey(alloc, typed.types(), ty, payload) {
         Ok(survey) => survey,
@@ -70,6 +63,6 @@ pub fn read_packed(alloc: Global, typed: &Typed, bytes: &[u8]) -> Result<Value, 
     one_reading();
     match unpack(alloc, survey) {
         Ok(value) => Ok(value),
-        Err(_) => Err(PackedFault::Memory),
+        Err(_) => Err(JobFault::Memory),
     }
 }

@@ -1,15 +1,21 @@
 //! The bytes that are printed.
 
-ghost use Rattle.std.specs.Prelude.{◌≡◌, IfOk};
+ghost use Rattle.std.specs.Prelude.{◌≡◌, ℕ, List, length, None, IfOk, OnOk, IsErrOf};
 ghost use Rattle.gib_types.specs.Tree.{IsTyped};
 ghost use Rattle.gib_syntax.specs.Parts.{program_of};
 ghost use Rattle.gib_syntax.specs.Declarations.{table_of_program};
-ghost use Rattle.gib_app.specs.Commands.{ok_line};
+ghost use Rattle.gib_app.specs.Jobs.{ok_line};
+ghost use Rattle.gib_app.specs.Kept.{IsTextOf};
+ghost use Rattle.gib_edge.specs.Causes.{Rose, Appends, AppendsPart, PutsPieces, PutsSomePieces};
 ghost use Rattle.gib_app.specs.Running.{text_line};
 ghost use Rattle.gib_app.specs.Stops.{IsReady};
 
 use crate::compile::Compiled;
+use crate::machine_run::print_ran;
+use crate::made::{End, Made, Reason, Valued};
 use gib_base::Memory;
+use gib_edge::outside::Sink;
+use gib_print::PrintFault;
 use gib_value::{Value, write_text};
 use std::alloc::Global;
 
@@ -24,9 +30,50 @@ pub fn value_line(alloc: Global, compiled: &Compiled, value: &Value) -> Result<V
     Ok(line)
 }
 
+/// What a job made that makes no file and ends with a text.
+pub fn only_prints(text: Vec<u8>) -> Made
+    ensures file { result.file ≡ None }
+    ensures end { result.end ≡ End.Prints text }
+{
+    Made {
+        file: None,
+        end: End::Prints(text),
+    }
+}
+
+/// What a job made that makes no file and ends without a value.
+pub fn no_value(reason: Reason) -> Made
+    ensures file { result.file ≡ None }
+    ensures end { result.end ≡ End.NoValue reason }
+{
+    Made {
+        file: None,
+        end: End::NoValue(reason),
+    }
+}
+
 /// What is printed where all is well and nothing else is to be said.
 pub fn ok_answer(alloc: Global) -> Result<Vec<u8>, Memory>
     ensures { IfOk result (λ line. line.items ≡ ok_line) }
 {
     Ok(Vec::from_slice(alloc, b"ok\n")?)
+}
+
+/// Puts the text of a value in region memory, with a line feed.
+///
+/// # Errors
+///
+/// `Memory`, and the sink was not called; `Write` where the sink failed, which took a front of the text.
+pub fn put_value<O: Sink>(alloc: Global, mut value: Valued, out: &mut O) -> Result<(), PrintFault>
+    requires { (text : List ℕ) × IsTextOf value text }
+    ensures done { (text : List ℕ) → IsTextOf value text → OnOk result (Appends (O.view out.old).taken (O.view out.new).taken text × PutsPieces (O.view out.old) (O.view out.new) (length text)) }
+    ensures part { (text : List ℕ) → IsTextOf value text → IsErrOf result PrintFault.Write → AppendsPart (O.view out.old).taken (O.view out.new).taken text × PutsSomePieces (O.view out.old) (O.view out.new) (length text) }
+    ensures cause { IsErrOf result PrintFault.Write → Rose (O.view out.old).faults (O.view out.new).faults }
+    ensures quiet { (IsErrOf result PrintFault.Write → ⊥) → (O.view out.new).faults ≡ (O.view out.old).faults }
+    ensures still { IsErrOf result PrintFault.Memory → O.view out.new ≡ O.view out.old }
+{
+    match print_ran(alloc, &mut value.ran, &value.names, out) {
+        Ok(()) => Ok(()),
+        Err(fault) => Err(fault),
+    }
 }

@@ -1,6 +1,7 @@
 //! Why a call puts no output, or not all of it.
 
 use crate::input_fault::InputFault;
+use crate::made::Reason;
 use crate::source_fault::SourceFault;
 
 /// Why a call puts no output, or not all of it.
@@ -14,8 +15,8 @@ pub enum Stop<'a> {
     Unread(&'a str),
     /// The second file is refused.
     Input(InputFault),
-    /// The program's meaning runs out of depth.
-    Depth,
+    /// There is no value to print.
+    NoValue(Reason),
     Memory,
     /// The file of this name could not be written.
     Unwritten(&'a str),

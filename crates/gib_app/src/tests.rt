@@ -1,7 +1,9 @@
 //! Words of command lines with what they ask for.
 
+use crate::matches::usual;
+use crate::plan::{Document, Job, Plan};
 use crate::sample::{SAMPLE_INPUT, SAMPLE_SOURCE};
-use crate::words::{Document, Request, read_words};
+use crate::words::read_words;
 use std::alloc::{AllocError, Global};
 use std::test::Fail;
 
@@ -13,39 +15,41 @@ fn name<'a>(document: Document<'a>) -> &'a str {
     }
 }
 
-/// A request as one line, or `not taken`.
-fn shown(alloc: Global, request: Option<Request<'_>>) -> Result<String, AllocError> {
-    match request {
-        Some(
-            Request::Run {
-                source,
-                input,
-                depth,
-            },
-        ) => format!(in alloc; "run {} {} {depth}", name(source), name(input)),
-        Some(
-            Request::Plain {
-                source,
-                input,
-                depth,
-            },
-        ) => format!(in alloc; "plain {} {} {depth}", name(source), name(input)),
-        Some(Request::Check { source }) => format!(in alloc; "check {}", name(source)),
-        Some(Request::Core { source, pass }) => format!(in alloc; "core {} {pass}", name(source)),
-        Some(
-            Request::Pack {
-                source,
-                text,
-                target,
-            },
-        ) => format!(in alloc; "pack {} {} {target}", name(source), name(text)),
-        Some(Request::Show { source, file }) => format!(in alloc;
-            "show {} {}",
-            name(source),
-            name(file)
-        ),
-        None => String::from_str(alloc, "not taken"),
+/// The name of a job's command.
+fn command(job: Job) -> &'static str {
+    match job {
+        Job::Run => "run",
+        Job::Plain => "plain",
+        Job::Check => "check",
+        Job::Core => "core",
+        Job::Code => "code",
+        Job::Pack => "pack",
+        Job::Show => "show",
     }
+}
+
+/// A plan as one line: its job, its files, and the options that are not the usual ones; or `not taken`.
+fn shown(alloc: Global, plan: Option<Plan<'_>>) -> Result<String, AllocError> {
+    let Some(plan) = plan else {
+        return String::from_str(alloc, "not taken");
+    };
+    let mut line = format!(in alloc; "{} {}", command(plan.job), name(plan.source))?;
+    if let Some(second) = plan.second {
+        line = format!(in alloc; "{line} {}", name(second))?;
+    }
+    if let Some(target) = plan.target {
+        line = format!(in alloc; "{line} {target}")?;
+    }
+    if plan.options.depth != 10_000 {
+        line = format!(in alloc; "{line} depth {}", plan.options.depth)?;
+    }
+    if plan.options.chunks != 1_024 {
+        line = format!(in alloc; "{line} chunks {}", plan.options.chunks)?;
+    }
+    if plan.options.pass != 4 {
+        line = format!(in alloc; "{line} pass {}", plan.options.pass)?;
+    }
+    Ok(line)
 }
 
 /// What words ask for, without the program's name, which comes before them.
@@ -55,20 +59,22 @@ fn asked(alloc: Global, texts: &[&str]) -> Result<String, AllocError> {
     for text in texts {
         words.push(String::from_str(alloc, text)?)?;
     }
-    let request = read_words(alloc, words.as_slice())?;
-    shown(alloc, request)
+    let plan = read_words(alloc, words.as_slice())?;
+    shown(alloc, plan)
 }
 
-/// Whether a request is to run the product's own program on its own input, at the usual depth.
-fn is_sample(request: Option<Request<'_>>) -> bool {
-    match request {
-        Some(
-            Request::Run {
-                source: Document::Brought(source),
-                input: Document::Brought(input),
-                depth,
-            },
-        ) => source == SAMPLE_SOURCE && input == SAMPLE_INPUT && depth == 10_000,
+/// Whether a plan is to run the product's own program on its own input, with the usual options.
+fn is_sample(plan: Option<Plan<'_>>) -> bool {
+    let Some(plan) = plan else {
+        return false;
+    };
+    match (plan.source, plan.second) {
+        (Document::Brought(source), Some(Document::Brought(input))) => {
+            source == SAMPLE_SOURCE
+                && input == SAMPLE_INPUT
+                && plan.job == Job::Run
+                && plan.options == usual()
+        }
         _ => false,
     }
 }
@@ -86,27 +92,32 @@ fn no_words_ask_for_the_sample(rt: HostRuntime) -> Result<(), Fail> {
 #[test]
 fn commands_take_their_words(rt: HostRuntime) -> Result<(), Fail> {
     let alloc = rt.alloc();
-    let cases: [(&[&str], &str); 33] = [
-        (&["run", "s", "i"], "run s i 10000"),
-        (&["plain", "s", "i"], "plain s i 10000"),
+    let cases: [(&[&str], &str); 43] = [
+        (&["run", "s", "i"], "run s i"),
+        (&["plain", "s", "i"], "plain s i"),
         (&["check", "s"], "check s"),
+        (&["code", "s"], "code s"),
+        (&["code", "s", "--pass", "1"], "not taken"),
         (&["pack", "s", "t", "o"], "pack s t o"),
         (&["show", "s", "f"], "show s f"),
         // The depth of calls, on both sides of its range.
-        (&["run", "s", "i", "--depth", "5"], "run s i 5"),
-        (&["plain", "s", "i", "--depth=5"], "plain s i 5"),
-        (&["run", "--depth", "5", "s", "i"], "run s i 5"),
-        (&["run", "s", "--depth", "5", "i"], "run s i 5"),
-        (&["run", "s", "i", "--depth", "1"], "run s i 1"),
-        (&["run", "s", "i", "--depth", "1000000"], "run s i 1000000"),
+        (&["run", "s", "i", "--depth", "5"], "run s i depth 5"),
+        (&["plain", "s", "i", "--depth=5"], "plain s i depth 5"),
+        (&["run", "--depth", "5", "s", "i"], "run s i depth 5"),
+        (&["run", "s", "--depth", "5", "i"], "run s i depth 5"),
+        (&["run", "s", "i", "--depth", "1"], "run s i depth 1"),
+        (
+            &["run", "s", "i", "--depth", "1000000"],
+            "run s i depth 1000000",
+        ),
         (&["run", "s", "i", "--depth", "0"], "not taken"),
         (&["run", "s", "i", "--depth", "1000001"], "not taken"),
         (
             &["run", "s", "i", "--depth", "18446744073709551617"],
             "not taken",
         ),
-        (&["run", "s", "i", "--depth", "+5"], "run s i 5"),
-        (&["run", "s", "i", "--depth", "007"], "run s i 7"),
+        (&["run", "s", "i", "--depth", "+5"], "run s i depth 5"),
+        (&["run", "s", "i", "--depth", "007"], "run s i depth 7"),
         (&["run", "s", "i", "--depth", "-0"], "not taken"),
         (&["run", "s", "i", "--depth=-0"], "not taken"),
         (&["run", "s", "i", "--depth", "five"], "not taken"),
@@ -120,10 +131,22 @@ fn commands_take_their_words(rt: HostRuntime) -> Result<(), Fail> {
         (&["check", "s", "--depth", "5"], "not taken"),
         (&["run", "s", "i", "-d", "5"], "not taken"),
         (&["--depth", "5", "run", "s", "i"], "not taken"),
+        (&["code", "s", "--depth", "5"], "not taken"),
+        // Chunks of memory, on both sides of their range.
+        (&["run", "s", "i", "--chunks", "16"], "run s i chunks 16"),
+        (&["run", "s", "i", "--chunks=65536"], "run s i chunks 65536"),
+        (&["run", "s", "i", "--chunks", "15"], "not taken"),
+        (&["run", "s", "i", "--chunks", "65537"], "not taken"),
+        (&["plain", "s", "i", "--chunks", "16"], "not taken"),
+        (&["code", "s", "--chunks", "16"], "not taken"),
+        (
+            &["run", "--chunks", "20", "s", "i", "--depth", "3"],
+            "run s i depth 3 chunks 20",
+        ),
         // The pass, on both sides of its range.
-        (&["core", "s"], "core s 4"),
-        (&["core", "s", "--pass", "1"], "core s 1"),
-        (&["core", "--pass=4", "s"], "core s 4"),
+        (&["core", "s"], "core s"),
+        (&["core", "s", "--pass", "1"], "core s pass 1"),
+        (&["core", "--pass=4", "s"], "core s"),
         (&["core", "s", "--pass", "0"], "not taken"),
         (&["core", "s", "--pass", "5"], "not taken"),
         (&["core", "s", "--pass", "1", "--pass", "1"], "not taken"),
@@ -147,9 +170,9 @@ fn names_of_files_are_any_words(rt: HostRuntime) -> Result<(), Fail> {
         (&["check", "a=b"], "check a=b"),
         (&["check", "--", "-s"], "check -s"),
         (&["check", "--", "--"], "check --"),
-        (&["run", "--", "--depth", "5"], "run --depth 5 10000"),
-        (&["run", "s", "--", "-i"], "run s -i 10000"),
-        (&["run", "--depth", "5", "--", "s", "i"], "run s i 5"),
+        (&["run", "--", "--depth", "5"], "run --depth 5"),
+        (&["run", "s", "--", "-i"], "run s -i"),
+        (&["run", "--depth", "5", "--", "s", "i"], "run s i depth 5"),
         (&["run", "--", "s", "i", "--depth", "5"], "not taken"),
         (&["check", "-s"], "not taken"),
         (&["check", "--s"], "not taken"),
@@ -164,7 +187,7 @@ fn names_of_files_are_any_words(rt: HostRuntime) -> Result<(), Fail> {
 #[test]
 fn other_words_are_not_taken(rt: HostRuntime) -> Result<(), Fail> {
     let alloc = rt.alloc();
-    let cases: [&[&str]; 28] = [
+    let cases: [&[&str]; 30] = [
         &[""],
         &["--"],
         &["-"],
@@ -176,6 +199,8 @@ fn other_words_are_not_taken(rt: HostRuntime) -> Result<(), Fail> {
         &["check", "s", "x"],
         &["core"],
         &["core", "s", "x"],
+        &["code"],
+        &["code", "s", "x"],
         &["pack", "s", "t"],
         &["pack", "s", "t", "o", "x"],
         &["show", "s"],

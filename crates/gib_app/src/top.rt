@@ -4,7 +4,7 @@ ghost use Rattle.std.specs.Prelude.{◌≡◌, ◌⊎◌, ◌≤◌, ℕ, List, 
 ghost use Rattle.gib_edge.specs.Causes.{AppendsPart};
 ghost use Rattle.gib_app.specs.declared.status.Status.{Status as Statuses};
 ghost use Rattle.gib_app.specs.Words.{bytes_of};
-ghost use Rattle.gib_app.specs.Causes.{Prints};
+ghost use Rattle.gib_app.specs.Causes.{IsPrinted};
 ghost use Rattle.gib_app.specs.Calls.{calls_asked};
 ghost use Rattle.gib_app.specs.Lines.{IsLine, IsPut};
 ghost use Rattle.gib_app.specs.Ending.{IsEnding, IsNoTarget, FilesStay, ReadsStay, WritesStay, OutStays, IsDue};
@@ -12,7 +12,9 @@ ghost use Rattle.gib_app.specs.Performing.{IsCallStop};
 ghost use Rattle.gib_app.specs.Stopping.{status_for};
 
 use crate::lines::put_line;
+use crate::made::{End, Reason};
 use crate::perform::perform;
+use crate::printing::put_value;
 use crate::status::Status;
 use crate::stop::Stop;
 use crate::words::read_words;
@@ -20,6 +22,7 @@ use gib_edge::outside::{Gate, Shelf, Sink, put_all};
 use gib_file::one_file;
 use gib_lex::laws::one_reading;
 use gib_parse::law::one_program;
+use gib_print::PrintFault;
 use std::alloc::Global;
 use std::sync::Wait;
 use std::thread::Threads;
@@ -33,7 +36,8 @@ fn status_of(stop: Stop<'_>) -> Status
         Stop::Source(_) => Status::Source,
         Stop::Unread(_) => Status::ReadFault,
         Stop::Input(_) => Status::Input,
-        Stop::Depth => Status::Depth,
+        Stop::NoValue(Reason::Deep) => Status::Depth,
+        Stop::NoValue(Reason::Full) => Status::Full,
         Stop::Memory => Status::Memory,
         Stop::Unwritten(_) => Status::WriteFault,
         Stop::Unput => Status::WriteFault,
@@ -47,7 +51,7 @@ fn call<'a, S: Shelf, O: Sink>(
     shelf: &mut S,
     out: &mut O,
 ) -> Result<(), Stop<'a>>
-    ensures done { OnOk result (Prints S.tells (bytes_of words.now) (S.view shelf.old) (S.view shelf.new) (O.view out.old) (O.view out.new)) }
+    ensures done { OnOk result (IsPrinted S.tells (bytes_of words.now) (S.view shelf.old) (S.view shelf.new) (O.view out.old) (O.view out.new)) }
     ensures stop { IfErr result (IsCallStop S.tells (bytes_of words.now) (S.view shelf.old) (S.view shelf.new) (O.view out.old) (O.view out.new)) }
     ensures others { (name : List ℕ) → IsNoTarget (bytes_of words.now) name → (S.view shelf.new).kept name ≡ (S.view shelf.old).kept name }
     ensures same { IfErr result (λ stop. FilesStay (bytes_of words.now) (S.view shelf.old).kept (S.view shelf.new).kept (status_for stop)) }
@@ -61,20 +65,25 @@ fn call<'a, S: Shelf, O: Sink>(
     ensures out { IfErr result (λ stop. OutStays (O.view out.old) (O.view out.new) (status_for stop)) }
     ensures calls { AppendsPart (S.view shelf.old).calls (S.view shelf.new).calls (calls_asked (bytes_of words.now)) }
 {
-    let request = match read_words(alloc, words) {
-        Ok(request) => request,
+    let plan = match read_words(alloc, words) {
+        Ok(plan) => plan,
         Err(_) => return Err(Stop::Memory),
     };
-    let Some(request) = request else {
+    let Some(plan) = plan else {
         return Err(Stop::Usage);
     };
-    let output = match perform(alloc, shelf, request) {
-        Ok(output) => output,
-        Err(stop) => return Err(stop),
-    };
-    match put_all(out, &output) {
-        Ok(()) => Ok(()),
-        Err(_) => Err(Stop::Unput),
+    match perform(alloc, shelf, plan) {
+        Ok(End::Prints(text)) => match put_all(out, &text) {
+            Ok(()) => Ok(()),
+            Err(_) => Err(Stop::Unput),
+        },
+        Ok(End::Value(value)) => match put_value(alloc, value, out) {
+            Ok(()) => Ok(()),
+            Err(PrintFault::Write) => Err(Stop::Unput),
+            Err(PrintFault::Memory) => Err(Stop::Memory),
+        },
+        Ok(End::NoValue(reason)) => Err(Stop::NoValue(reason)),
+        Err(stop) => Err(stop),
     }
 }
 
@@ -95,8 +104,9 @@ pub fn gib<R: Threads + Wait + Sync, S: Shelf, O: Sink, E: Sink, G: Gate + Sync>
     // the value that the program means on the input within the depth, for `pack` also its file was written.
     ensures cause { IsEnding S.tells (bytes_of words.now) (S.view shelf.old) (S.view shelf.new) (O.view out.old) (O.view out.new) result }
 
-    // Where the files are told and no count on the way rises, the status that is due is answered, unless memory runs out.
-    ensures complete { (due : Statuses) → IsDue (bytes_of words.now) (S.view shelf.old) (S.view shelf.new) (O.view out.old) (O.view out.new) due → (result ≡ due) ⊎ (result ≡ Status.Memory) }
+    // Where the files are told and no count on the way rises, the status that is due is answered, unless memory runs out, or
+    // chunks of region memory do, which has its cause.
+    ensures complete { (due : Statuses) → IsDue (bytes_of words.now) (S.view shelf.old) (S.view shelf.new) (O.view out.old) (O.view out.new) due → (result ≡ due) ⊎ (result ≡ Status.Memory) ⊎ (result ≡ Status.Full) }
 
     // What files hold stays, but for the one that is written; counts of faults never fall, and rise only with
     // the status that tells of them; but at `Done` and `WriteFault` nothing is put.

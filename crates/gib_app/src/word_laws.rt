@@ -1,9 +1,11 @@
 //! What holds of the definitions: each law is the clause of a function that does nothing.
 
 ghost use Rattle.std.specs.Prelude.{◌≡◌, ◌∷◌, [], ℕ, List, None, Some, codes, is_some};
-ghost use Rattle.gib_app.specs.Words.{asked, taken, Core, Named, Pack, Plain, Run};
+ghost use Rattle.gib_app.specs.declared.plan.Job.TheVariants.{Run, Plain, Core, Code, Pack};
+ghost use Rattle.gib_app.specs.Plan.{Named};
+ghost use Rattle.gib_app.specs.Words.{asked, taken, usual};
 
-/// Words ask for something exactly where they are taken: each value of a request is there, and its numbers fit.
+/// Words ask for something exactly where they are taken: each name of a file is there.
 pub fn words_ask_where_taken()
     ensures { (words : List (List ℕ)) → is_some (asked words) ≡ taken words }
 {}
@@ -12,17 +14,24 @@ pub fn words_ask_where_taken()
 pub fn examples()
     // The depth that stands where none is given.
     ensures run { asked (codes "gib" ∷ codes "run" ∷ codes "a.gib" ∷ codes "t.gbp" ∷ [])
-        ≡ Some (Run (Named (codes "a.gib")) (Named (codes "t.gbp")) 10000) }
+        ≡ Some (record { source = Named (codes "a.gib"); second = Some (Named (codes "t.gbp")); target = None; job = Run; options = usual }) }
     // A depth before the names of the files, with a plus and zeros.
     ensures depth { asked (codes "gib" ∷ codes "plain" ∷ codes "--depth=+007" ∷ codes "a.gib" ∷ codes "t.gbp" ∷ [])
-        ≡ Some (Plain (Named (codes "a.gib")) (Named (codes "t.gbp")) 7) }
+        ≡ Some (record { source = Named (codes "a.gib"); second = Some (Named (codes "t.gbp")); target = None; job = Plain; options = record { depth = 7; chunks = 1024; pass = 4 } }) }
     // After `--` each word is a name.
     ensures names { asked (codes "gib" ∷ codes "pack" ∷ codes "--" ∷ codes "a" ∷ codes "--depth" ∷ codes "-" ∷ [])
-        ≡ Some (Pack (Named (codes "a")) (Named (codes "--depth")) (codes "-")) }
+        ≡ Some (record { source = Named (codes "a"); second = Some (Named (codes "--depth")); target = Some (codes "-"); job = Pack; options = usual }) }
     // A depth past its range.
     ensures deep { asked (codes "gib" ∷ codes "run" ∷ codes "a" ∷ codes "b" ∷ codes "--depth" ∷ codes "1000001" ∷ []) ≡ None }
     // The pass that stands where none is given.
-    ensures core { asked (codes "gib" ∷ codes "core" ∷ codes "a.gib" ∷ []) ≡ Some (Core (Named (codes "a.gib")) 4) }
+    ensures core { asked (codes "gib" ∷ codes "core" ∷ codes "a.gib" ∷ []) ≡ Some (record { source = Named (codes "a.gib"); second = None; target = None; job = Core; options = usual }) }
+    // Chunks.
+    ensures chunks { asked (codes "gib" ∷ codes "run" ∷ codes "a" ∷ codes "b" ∷ codes "--chunks" ∷ codes "16" ∷ [])
+        ≡ Some (record { source = Named (codes "a"); second = Some (Named (codes "b")); target = None; job = Run; options = record { depth = 10000; chunks = 16; pass = 4 } }) }
+    // Chunks below their range.
+    ensures few_chunks { asked (codes "gib" ∷ codes "run" ∷ codes "a" ∷ codes "b" ∷ codes "--chunks" ∷ codes "15" ∷ []) ≡ None }
+    // The code of a program.
+    ensures code { asked (codes "gib" ∷ codes "code" ∷ codes "a.gib" ∷ []) ≡ Some (record { source = Named (codes "a.gib"); second = None; target = None; job = Code; options = usual }) }
     // A pass past its range.
     ensures pass { asked (codes "gib" ∷ codes "core" ∷ codes "a.gib" ∷ codes "--pass" ∷ codes "5" ∷ []) ≡ None }
     // A name too few.

@@ -36,6 +36,7 @@ abbrev pub operand_text : Operand → List ℕ
 operand_text (o.Slot n) = slot_text n
 operand_text (o.Number w) = 32 ∷ signed_decimal (cast_signed w64 w)
 
+-- The word of an operation.
 abbrev pub operation_text : Operation → List ℕ
 operation_text f.Add = codes " add"
 operation_text f.Sub = codes " sub"
@@ -43,6 +44,7 @@ operation_text f.Mul = codes " mul"
 operation_text f.Eq = codes " eq"
 operation_text f.Lt = codes " lt"
 
+-- The word for how a side's value is put.
 abbrev pub kind_text : Kind → List ℕ
 kind_text k.Here = codes " here"
 kind_text k.Region = codes " region"

@@ -4,6 +4,7 @@
 mod answer;
 mod code;
 mod instruction;
+pub mod names;
 mod text;
 
 pub use answer::{Answer, Side};

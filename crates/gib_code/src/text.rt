@@ -4,37 +4,15 @@ ghost use Rattle.std.specs.Prelude.{◌≡◌, ◌++◌, [], ◌∷◌, ◌==◌
 ghost use Rattle.std.specs.List.{flat_map};
 ghost use Rattle.std.specs.Fmt.{decimal, signed_decimal};
 ghost use Rattle.std.specs.Int.{w64, cast_signed};
-ghost use Rattle.gib_types.specs.Table.{name_at};
 ghost use Rattle.gib_code.specs.Instruction.{instruction_of};
 ghost use Rattle.gib_code.specs.ListingText.{name_text, number_text, slot_text, operand_text, operation_text, kind_text, constructor_text, called, function_text, label_text, instruction_text, line_text, title, head_text, head_at, later_than, lines_text, listing_text};
 
 use crate::code::Code;
 use crate::instruction::{Arm, Entry, Instr, Kind, Operand, Operation};
-use gib_base::{Memory, Name, Names};
+use crate::names::{name_text, push_behind_space};
+use gib_base::{Memory, Name, Names, push_decimal, push_signed};
 use gib_types::{ConId, TypeTable};
 use std::alloc::Global;
-
-/// The text of a name; a number that no name has stands for no text.
-fn name_text(names: &Names, name: Name) -> &[u8]
-    ensures { result.now ≡ name_text names.now name.0 }
-{
-    if name.0 < names.len() {
-        names.text(name)
-    } else {
-        &[]
-    }
-}
-
-/// The name of a constructor; of a number that no constructor has, the first name.
-fn con_name(types: &TypeTable, con: u32) -> Name
-    ensures { result.0 ≡ name_at types.now con }
-{
-    if con < types.len() {
-        types.name_of(ConId(con))
-    } else {
-        Name(0)
-    }
-}
 
 /// The name of a function; of a number that no function has, main.
 fn called(functions: &[Entry], function: u32) -> Option<Name>
@@ -65,40 +43,26 @@ fn push_bytes(out: &mut Vec<u8>, bytes: &[u8]) -> Result<(), Memory>
     Ok(())
 }
 
-fn push_name(out: &mut Vec<u8>, bytes: &[u8]) -> Result<(), Memory>
-    ensures { OnOk result (out.new.items ≡ out.old.items ++ 32 ∷ bytes.now) }
-{
-    out.push(b' ')?;
-    out.extend_from_slice(bytes)?;
-    Ok(())
-}
-
 fn push_number(alloc: Global, out: &mut Vec<u8>, number: u32) -> Result<(), Memory>
     ensures { OnOk result (out.new.items ≡ out.old.items ++ number_text number) }
 {
-    let digits = format!(in alloc; "{number}")?;
     out.push(b' ')?;
-    out.extend_from_slice(digits.as_bytes())?;
-    Ok(())
+    push_decimal(alloc, out, u64::from(number))
 }
 
 fn push_slot(alloc: Global, out: &mut Vec<u8>, slot: u32) -> Result<(), Memory>
     ensures { OnOk result (out.new.items ≡ out.old.items ++ slot_text slot) }
 {
-    let digits = format!(in alloc; "{slot}")?;
     out.push(b' ')?;
     out.push(b'%')?;
-    out.extend_from_slice(digits.as_bytes())?;
-    Ok(())
+    push_decimal(alloc, out, u64::from(slot))
 }
 
 fn push_whole(alloc: Global, out: &mut Vec<u8>, value: i64) -> Result<(), Memory>
     ensures { OnOk result (out.new.items ≡ out.old.items ++ 32 ∷ signed_decimal value) }
 {
-    let digits = format!(in alloc; "{value}")?;
     out.push(b' ')?;
-    out.extend_from_slice(digits.as_bytes())?;
-    Ok(())
+    push_signed(alloc, out, value)
 }
 
 fn push_operand(alloc: Global, out: &mut Vec<u8>, operand: Operand) -> Result<(), Memory>
@@ -173,7 +137,7 @@ fn push_constructor(
 ) -> Result<(), Memory>
     ensures { OnOk result (out.new.items ≡ out.old.items ++ constructor_text names.now types.now con) }
 {
-    push_name(out, name_text(names, con_name(types, con)))
+    push_behind_space(out, name_text(names, types.name_of(ConId(con))))
 }
 
 fn push_function(
@@ -184,7 +148,7 @@ fn push_function(
 ) -> Result<(), Memory>
     ensures { OnOk result (out.new.items ≡ out.old.items ++ function_text names.now functions.now function) }
 {
-    push_name(out, title(names, called(functions, function)))
+    push_behind_space(out, title(names, called(functions, function)))
 }
 
 /// A word, a slot that is set, a slot that is read, and a number.

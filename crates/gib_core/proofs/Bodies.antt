@@ -13,7 +13,7 @@ use Rattle.gib_core.specs.Inferring.{numbers_from}
 use Rattle.gib_core.specs.Numbering.{binders, IsNumbered, AreNumbered}
 use Rattle.gib_core.specs.Met.{Body, reached, with_parameters, result_place, opening}
 use Rattle.gib_core.specs.Rules.{Before, is_bound, type_bound, bound_too, bind_parameters, before_body, IsBuilt, AreBuilt}
-use Rattle.gib_core.specs.Fits.{Sort, Absent, Scalar, Placed, Scope, put, tree_type, dest_of, param_sort, body_scope, Fits, FunctionFits, MainFits, AllFit}
+use Rattle.gib_core.specs.Fits.{Sort, Absent, Scalar, Placed, Scope, put, tree_type, dest_of, param_sort, body_scope, Fits, FunctionFits, MainFits, AllFit, EachFits}
 use Rattle.gib_core.specs.Literals.{LiteralsFit, AllLiteralsFit}
 use Rattle.gib_core.proofs.Later.{later_new, its_type}
 use Rattle.gib_core.proofs.Vars.{named, Tracked, Vars, vars_on, vars_put, known_as, put_there, put_elsewhere}
@@ -154,3 +154,12 @@ built_fits core is num lits built = record {
   functions = λ g f e. functions_fit core core.functions is num lits built g f e;
   main = main_fits core core.functions is num lits built;
 }
+
+each_of : (core : CoreTree) (gs : List FunctionTerm) → IsTable core.table → AllByRecursion IsNumbered (function_bodies core gs) → AllByRecursion (λ (b : Body). LiteralsFit b.term) (function_bodies core gs)
+    → AllByRecursion (IsBuilt core) (function_bodies core gs) → AllByRecursion (function_fits core) gs
+each_of core [] is num lits built = tt
+each_of core (h ∷ gs) is num lits built =
+    (record { fits = body_fits core (body_of h) is num.0 lits.0 built.0; enough = omega arith }, each_of core gs is num.1 lits.1 built.1)
+
+pub each_fits : (core : CoreTree) → IsTable core.table → AreNumbered core → AllLiteralsFit core → AreBuilt core → EachFits core
+each_fits core is num lits built = each_of core core.functions is num lits built

@@ -15,7 +15,6 @@ mod Kept
 mod Onward
 mod Suited
 mod Reached
-mod Sample
 mod Facts
 mod Later
 mod Unused
@@ -26,6 +25,9 @@ mod Covering
 mod Fitted
 mod Builds
 mod Bodies
+mod Fine
+pub mod Signatures
+mod TypesKnown
 mod FunctionCode
 pub mod Adding
 pub mod LiteralTerms

@@ -58,6 +58,7 @@ abbrev mutual
   spell_term d (IfTerm x t u) rest =
       p.Line d k.If ∷ p.Atom x ∷ p.End ∷ spell_term (d + 1) t (p.Line d k.Else ∷ p.End ∷ spell_term (d + 1) u rest)
 
+  -- A binding, with the sides of a `par` one level deeper.
   pub spell_bind : ℕ → Bind → List Piece → List Piece
   spell_bind d (Past h c) rest = p.Line d k.Past ∷ p.Variable h ∷ p.Constructor c ∷ p.End ∷ rest
   spell_bind d (One s) rest = spell_side d s rest
@@ -65,6 +66,7 @@ abbrev mutual
   spell_bind d (Prim x f y z) rest = p.Line d k.Prim ∷ p.Variable x ∷ p.Equals ∷ p.Atom y ∷ p.Operator f ∷ p.Atom z ∷ p.End ∷ rest
   spell_bind d (Reach y by) rest = p.Line d k.Reach ∷ p.Variable y ∷ spell_access by ∷ p.End ∷ rest
 
+  -- A variable that is bound, and its term on the level below.
   pub spell_side : ℕ → Side → List Piece → List Piece
   spell_side d (On kind x ty t) rest = p.Line d (kind_word kind) ∷ p.Variable x ∷ p.End ∷ spell_term (d + 1) t rest
 

@@ -105,12 +105,15 @@ abbrev mutual
   erase_bind table sub (Prim x f y z) rest = Let nowhere (ident x.0) (Op nowhere f (erase_atom sub y) (erase_atom sub z)) (rest sub)
   erase_bind table sub (Reach y by) rest = rest sub
 
+  -- A variable that is bound to a term, before the rest of its line.
   pub erase_one : Table → Substitution → Side → (Substitution → Expression) → Expression
   erase_one table sub (On kind x ty t) rest = let_or_put (left_out kind t) x (erase table sub t) sub rest
 
+  -- The term of a side.
   pub erase_side : Table → Substitution → Side → Expression
   erase_side table sub (On kind x ty t) = erase table sub t
 
+  -- The arms of branches, where there are any.
   pub erase_branches : Table → Substitution → Branches → Option Arms
   erase_branches table sub NoBranch = None
   erase_branches table sub (BranchThen k xs t rest) =

@@ -1,6 +1,7 @@
 -- The build rules as a type, by recursion on terms: what is known of each variable, and where a value is put.
 use Rattle.std.specs.Prelude.{◌≡◌, ◌≤◌, ℕ, zero, suc, ◌+◌, ◌==◌, Bool, true, false, List, [], ◌∷◌, ◌++◌, map, length, Option, Some, None, if◌then◌else◌, ◌||◌, FitsSigned}
 use Rattle.std.specs.Int.{w64}
+use Rattle.std.specs.List.{AllByRecursion}
 use Rattle.gib_base.specs.declared.name.Name.{Name}
 use Rattle.gib_types.specs.declared.table.Ty.{Ty}
 use Rattle.gib_types.specs.declared.table.Ty.TheVariants.{Whole, Truth, Tree}
@@ -40,9 +41,11 @@ pub data Sort : Type 0 where
   AtHead : (t : ℕ) → Sort
   Field : (t z x k p : ℕ) → Sort
 
+-- What is known of each variable, by its number.
 abbrev pub Scope : Type 0
 Scope = ℕ → Sort
 
+-- The variable is bound.
 abbrev pub is_there : Sort → Bool
 is_there Outside = false
 is_there Absent = false
@@ -53,6 +56,7 @@ is_there (Loose t) = true
 is_there (AtHead t) = true
 is_there (Field t z x k p) = true
 
+-- The variable has a slot.
 abbrev pub has_slot : Sort → Bool
 has_slot Outside = false
 has_slot Absent = true
@@ -81,11 +85,13 @@ pub data Dest : Type 0 where
   Empty : (t : ℕ) → Dest
   Open : (t h k : ℕ) (xs dues : List ℕ) → Dest
 
+-- The type that is due at a destination.
 abbrev pub dest_type : Dest → Ty
 dest_type (Nowhere ty) = ty
 dest_type (Empty t) = Tree (record { 0 = t })
 dest_type (Open t h k xs dues) = Tree (record { 0 = t })
 
+-- The destination of a result of the type.
 abbrev pub dest_of : Ty → Dest
 dest_of Whole = Nowhere Whole
 dest_of Truth = Nowhere Truth
@@ -103,6 +109,7 @@ loosen_one true (Loose t) = Loose t
 loosen_one true (AtHead t) = AtHead t
 loosen_one true (Field t z x k p) = Field t z x k p
 
+-- A scope behind a term that has a case on these variables.
 abbrev pub loosen : (ℕ → Bool) → Scope → Scope
 loosen m sc y = loosen_one (m y) (sc y)
 
@@ -113,6 +120,7 @@ is_of (a.Whole z) q = false
 is_of (a.Truth b) q = false
 
 abbrev mutual
+  -- A term has a case on the variable, itself or in a term that is nested in it.
   pub cased : Term → ℕ → Bool
   cased (t.Then b u) q = bind_cased b q || cased u q
   cased (t.Write h k ss ps) q = false
@@ -122,6 +130,7 @@ abbrev mutual
   cased (t.CaseTerm x bs) q = is_of x q || branches_cased bs q
   cased (t.IfTerm x u v) q = cased u q || cased v q
 
+  -- So has a binding.
   pub bind_cased : Bind → ℕ → Bool
   bind_cased (t.Past h k) q = false
   bind_cased (t.One s) q = side_cased s q
@@ -129,9 +138,11 @@ abbrev mutual
   bind_cased (t.Prim x f y z) q = false
   bind_cased (t.Reach y access) q = false
 
+  -- So has the term of a side.
   pub side_cased : Side → ℕ → Bool
   side_cased (t.On kind x ty u) q = cased u q
 
+  -- So has a branch.
   pub branches_cased : Branches → ℕ → Bool
   branches_cased t.NoBranch q = false
   branches_cased (t.BranchThen k xs u bs) q = cased u q || branches_cased bs q
@@ -148,6 +159,7 @@ AtomFits sc (a.Truth b) Whole = ⊥
 AtomFits sc (a.Truth b) Truth = Unit {0}
 AtomFits sc (a.Truth b) (Tree t) = ⊥
 
+-- The atoms are usable at these types, as many as there are.
 abbrev pub AtomsFit : Scope → List Atom → List Ty → Type 0
 AtomsFit sc [] [] = Unit {0}
 AtomsFit sc [] (ty ∷ tys) = ⊥
@@ -180,11 +192,12 @@ abbrev pub ArePlaced : Scope → List ℕ → Type 0
 ArePlaced sc [] = Unit {0}
 ArePlaced sc (x ∷ xs) = ((t : ℕ) × (sc x ≡ Placed t)) × ArePlaced sc xs
 
+-- All but the first stand where they were bound.
 abbrev pub FurtherPlaced : Scope → List ℕ → Type 0
 FurtherPlaced sc [] = Unit {0}
 FurtherPlaced sc (x ∷ xs) = ArePlaced sc xs
 
--- Where the terms is a call, this of it; else that.
+-- One claim where the term is no call, else one of the call.
 abbrev pub by_call : Term → Type 0 → (Name → List Atom → Type 0) → Type 0
 by_call (t.Then b u) A B = A
 by_call (t.Write h k ss ps) A B = A
@@ -201,16 +214,17 @@ pub record CallFits (core : CoreTree) (sc : Scope) (f : Name) (xs : List Atom) (
   pub result : function.result ≡ ty
   pub arguments : AtomsFit sc xs function.parameters
 
--- The variables of fields are new, as many as there are fields, and the scope with them. The next packed field's address
--- is stored at p; z is the packed field before it.
+-- A packed field of the tree x of the constructor k: the first one stands, a further one is behind z and its address is stored at p.
 abbrev pub field_sort : ℕ → ℕ → ℕ → Option ℕ → ℕ → Sort
 field_sort x k p None t = Placed t
 field_sort x k p (Some z) t = Field t z x k p
 
+-- The first packed field has no stored address; each further one has 8 bytes for it.
 abbrev pub next_place : ℕ → Option ℕ → ℕ
 next_place p None = p
 next_place p (Some z) = p + 8
 
+-- The scope of an arm, with its fields. The next packed field's address is stored at p; z is the packed field before it.
 abbrev pub arm_scope : ℕ → ℕ → ℕ → Option ℕ → List Ty → List Variable → Scope → Scope
 arm_scope x k p z [] ys sc = sc
 arm_scope x k p z (ty ∷ ts) [] sc = sc
@@ -238,6 +252,7 @@ pub record IsTree (sc : Scope) (x : Atom) (s : ℕ) : Type 0 where
 
 -- The build rules.
 abbrev mutual
+  -- The term fits the scope and the destination.
   pub Fits : CoreTree → Term → Scope → Dest → Type 0
   Fits core (t.Then b u) sc d = BindFits core b sc d (λ sc' d'. Fits core u sc' d')
   Fits core (t.Write h k ss ps) sc d =
@@ -262,6 +277,7 @@ abbrev mutual
   BindFits core (t.Reach y (by.Skip z)) sc d go =
       (s : ℕ) × (x k p o : ℕ) × (sc y.0 ≡ Field s z.0 x k p) × (sc z.0 ≡ Placed o) × go (put sc y.0 (Placed s)) d
 
+  -- A variable that is bound to a term; go says the rest.
   pub SideFits : CoreTree → Side → Scope → Dest → (Scope → Dest → Type 0) → Type 0
   SideFits core (t.On kind.Here x ty u) sc d go =
       (s : ℕ) × (ty ≡ Tree (record { 0 = s })) × IsDue d s × (sc x.0 ≡ Absent) × Fits core u (put sc x.0 Held) (Empty s) × go (put (loosen (cased u) sc) x.0 (Placed s)) (more d x.0)
@@ -276,17 +292,19 @@ abbrev mutual
   AloneFits core (t.On kind.Region y ty u) sc = (s : ℕ) × (ty ≡ Tree (record { 0 = s })) × (sc y.0 ≡ Absent) × Fits core u (put sc y.0 Held) (Empty s)
   AloneFits core (t.On kind.Scalar y ty u) sc = (is_scalar ty ≡ true) × (sc y.0 ≡ Absent) × by_call u (Fits core u sc (Nowhere ty)) (λ f xs. CallFits core sc f xs ty)
 
+  -- Each branch fits, with its fields in scope.
   pub BranchesFit : CoreTree → Branches → ℕ → Scope → Dest → Type 0
   BranchesFit core t.NoBranch x sc d = Unit {0}
   BranchesFit core (t.BranchThen k ys u bs) x sc d =
       AreNew sc (fields_at core.table k.0) ys × Fits core u (arm_scope x k.0 1 None (fields_at core.table k.0) ys sc) d × BranchesFit core bs x sc d
 
--- Parameters are the first variables; a frame has so many slots.
+-- What is known of a parameter of the type.
 abbrev pub param_sort : Ty → Sort
 param_sort Whole = Scalar Whole
 param_sort Truth = Scalar Truth
 param_sort (Tree t) = Placed t.0
 
+-- The scope of a body with so many slots: its parameters come first, and the other slots are not bound yet.
 abbrev pub body_scope : ℕ → List Ty → Scope
 body_scope zero ts y = Outside
 body_scope (suc n) [] zero = Absent
@@ -303,7 +321,11 @@ pub record FunctionFits (core : CoreTree) (g : FunctionTerm) (slots : ℕ) : Typ
 pub record MainFits (core : CoreTree) (slots : ℕ) : Type 0 where
   pub fits : Fits core core.main.body (body_scope slots (core.main.parameter ∷ [])) (dest_of core.main.result)
 
--- All bodies of a core fit, with a slot for each variable.
+-- The body of each function fits, with a slot for each variable, also where another function has its name.
+abbrev pub EachFits : CoreTree → Type 0
+EachFits core = AllByRecursion (λ (g : FunctionTerm). FunctionFits core g (length g.parameters + length (binders g.body))) core.functions
+
+-- All bodies that a name or main leads to fit, with a slot for each variable.
 pub record AllFit (core : CoreTree) : Type 0 where
   pub table : IsTable core.table
   pub functions : (g : FunctionTerm) (f : ℕ) → function_at core.functions f ≡ Some g → FunctionFits core g (length g.parameters + length (binders g.body))

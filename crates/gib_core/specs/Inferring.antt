@@ -299,10 +299,12 @@ abbrev mutual
   infer g (If p c d e) = of_line (if_line (infer g c).atom (infer g d).line (infer g e).line)
   infer g (Case p x arms) = of_line (case_line g.table x (infer_arms g arms))
 
+  -- What arguments become.
   pub infer_all : Globals → Arguments → List Code
   infer_all g NoArgument = []
   infer_all g (Argument e xs) = infer g e ∷ infer_all g xs
 
+  -- What arms become.
   pub infer_arms : Globals → Arms → List ArmCode
   infer_arms g (LastArm k xs e) = record { con = con_named g k; names = xs; code = infer g e } ∷ []
   infer_arms g (NextArm k xs e arms) = record { con = con_named g k; names = xs; code = infer g e } ∷ infer_arms g arms

@@ -15,6 +15,7 @@ pub mod Literals
 pub mod Low
 pub mod Fits
 pub mod LoweredParts
+pub mod TypesNamed
 pub mod Cost
 pub mod Tight
 pub mod CoreText

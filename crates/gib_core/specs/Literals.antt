@@ -12,12 +12,14 @@ use Rattle.gib_core.specs.Tree as t
 use Rattle.gib_core.specs.Tree.{Term, Bind, Side, Branches, CoreTree}
 use Rattle.gib_core.specs.Met.{Body, bodies}
 
+-- An atom that is a number has 64 bits.
 abbrev pub LiteralFits : Atom → Type 0
 LiteralFits (a.Variable x) = Unit {0}
 LiteralFits (a.Whole z) = FitsSigned w64 z
 LiteralFits (a.Truth b) = Unit {0}
 
 abbrev mutual
+  -- The numbers of a term have 64 bits.
   pub LiteralsFit : Term → Type 0
   LiteralsFit (t.Then b u) = BindLiterals b × LiteralsFit u
   LiteralsFit (t.Write h k ss ps) = AllByRecursion LiteralFits ss
@@ -27,6 +29,7 @@ abbrev mutual
   LiteralsFit (t.CaseTerm x bs) = BranchLiterals bs
   LiteralsFit (t.IfTerm x u v) = LiteralsFit u × LiteralsFit v
 
+  -- Those of a binding.
   pub BindLiterals : Bind → Type 0
   BindLiterals (t.Past h k) = Unit {0}
   BindLiterals (t.One s) = SideLiterals s
@@ -34,9 +37,11 @@ abbrev mutual
   BindLiterals (t.Prim x f y z) = LiteralFits y × LiteralFits z
   BindLiterals (t.Reach y access) = Unit {0}
 
+  -- Those of a side's term.
   pub SideLiterals : Side → Type 0
   SideLiterals (t.On kind x ty u) = LiteralsFit u
 
+  -- Those of branches.
   pub BranchLiterals : Branches → Type 0
   BranchLiterals t.NoBranch = Unit {0}
   BranchLiterals (t.BranchThen k ys u bs) = LiteralsFit u × BranchLiterals bs

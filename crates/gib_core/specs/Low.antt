@@ -45,6 +45,7 @@ operand (a.Variable x) = Slot x.0
 operand (a.Whole z) = Number (cast_unsigned w64 z)
 operand (a.Truth b) = Number (truth_word b)
 
+-- Atoms as operands.
 abbrev pub operands : List Atom → List Operand
 operands xs = map operand xs
 
@@ -54,9 +55,11 @@ slot_of (a.Variable x) = x.0
 slot_of (a.Whole z) = 0
 slot_of (a.Truth b) = 0
 
+-- The slots of packed values.
 abbrev pub slots_of : List Atom → List ℕ
 slots_of xs = map slot_of xs
 
+-- What the machine does for an operator.
 abbrev pub operation : Operator → Operation
 operation o.Add = Add
 operation o.Subtract = Sub
@@ -64,6 +67,7 @@ operation o.Multiply = Mul
 operation o.Equal = Eq
 operation o.Less = Lt
 
+-- How a side's value is put.
 abbrev pub kind_of : Kind → CodeKind
 kind_of kind.Here = k.Here
 kind_of kind.Region = k.Region
@@ -153,9 +157,9 @@ IsNoCall (t.Give x) = Unit {0}
 IsNoCall (t.CaseTerm x bs) = Unit {0}
 IsNoCall (t.IfTerm x u v) = Unit {0}
 
--- Low core code fs a t e z: the instructions from a up to z are the code of the term t with the end e, where fs are the
--- packed fields of the arms around.
 mutual
+  -- Low core code fs a t e z: the instructions from a up to z are the code of the term t with the end e, where fs are the
+  -- packed fields of the arms around.
   pub data Low (core : CoreTree) (code : CodeTree) : List Field → ℕ → Term → End → ℕ → Type 0 where
     write : {fs : List Field} {a z : ℕ} {h : Variable} {c : ConId} {ss ps : List Atom} {e : End}
         → AreAt code a (Fill h.0 c.0 (operands ss) (slots_of ps) ∷ ending e ∷ []) z → Low core code fs a (t.Write h c ss ps) e z

@@ -18,6 +18,7 @@ abbrev mutual
   has_call (CaseTerm x branches) = branches_have_call branches
   has_call (IfTerm x t u) = has_call t || has_call u
 
+  -- A binding contains a call.
   pub bind_has_call : Bind → Bool
   bind_has_call (Past h k) = false
   bind_has_call (One s) = side_has_call s
@@ -25,9 +26,11 @@ abbrev mutual
   bind_has_call (Prim x f y z) = false
   bind_has_call (Reach y by) = false
 
+  -- A side's term contains a call.
   pub side_has_call : Side → Bool
   side_has_call (On kind x ty t) = has_call t
 
+  -- A branch contains a call.
   pub branches_have_call : Branches → Bool
   branches_have_call NoBranch = false
   branches_have_call (BranchThen k xs t rest) = has_call t || branches_have_call rest
@@ -43,6 +46,7 @@ abbrev mutual
   mark (CaseTerm x branches) = CaseTerm x (mark_branches branches)
   mark (IfTerm x t u) = IfTerm x (mark t) (mark u)
 
+  -- A binding, marked so.
   pub mark_bind : Bind → Bind
   mark_bind (Past h k) = Past h k
   mark_bind (One s) = One (mark_side s)
@@ -50,9 +54,11 @@ abbrev mutual
   mark_bind (Prim x f y z) = Prim x f y z
   mark_bind (Reach y by) = Reach y by
 
+  -- A side, marked so.
   pub mark_side : Side → Side
   mark_side (On kind x ty t) = On kind x ty (mark t)
 
+  -- Branches, marked so.
   pub mark_branches : Branches → Branches
   mark_branches NoBranch = NoBranch
   mark_branches (BranchThen k xs t rest) = BranchThen k xs (mark t) (mark_branches rest)
@@ -82,6 +88,7 @@ bind_may_fork (Both fork l r) = side_has_call l && side_has_call r
 bind_may_fork (Prim x f y z) = false
 bind_may_fork (Reach y by) = false
 
+-- A term begins with a par whose sides both contain a call.
 abbrev pub may_fork : Term → Bool
 may_fork (Then b rest) = bind_may_fork b
 may_fork (Write h k ss ps) = false
@@ -99,6 +106,7 @@ with_fork m (b.Par fork l r) = b.Par m l r
 with_fork m (b.Prim x f y z) = b.Prim x f y z
 with_fork m (b.Reach y by) = b.Reach y by
 
+-- A node whose binding has this mark, where it is a par.
 abbrev pub node_with_fork : Bool → Node → Node
 node_with_fork m (n.Then binding rest) = n.Then (with_fork m binding) rest
 node_with_fork m (n.Write h k ss ps) = n.Write h k ss ps

@@ -164,6 +164,7 @@ abbrev mutual
   met table s (CaseTerm x branches) = at s (CaseLine x (arms_of branches)) ∷ met_branches table s branches
   met table s (IfTerm x t u) = at s (IfLine x) ∷ (met table (in_branch s) t ++ met table (in_branch s) u)
 
+  -- Each line of a binding.
   pub met_bind : Table → Setting → Bind → List Met
   met_bind table s (Past h k) = at s (PastLine h k) ∷ []
   met_bind table s (One side) = met_side table s side
@@ -171,9 +172,11 @@ abbrev mutual
   met_bind table s (Prim x f y z) = at s (PrimLine x f y z) ∷ []
   met_bind table s (Reach y by) = at s (ReachLine y by) ∷ []
 
+  -- A side's own line, and each of its term.
   pub met_side : Table → Setting → Side → List Met
   met_side table s (On kind x ty t) = at s (SideLine kind x ty) ∷ met table (in_side table s kind ty) t
 
+  -- Each line of the terms of branches.
   pub met_branches : Table → Setting → Branches → List Met
   met_branches table s NoBranch = []
   met_branches table s (BranchThen k xs t rest) = met table (in_arm table s k xs) t ++ met_branches table s rest

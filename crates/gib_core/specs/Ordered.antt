@@ -17,6 +17,7 @@ IsFit n (atomic.Variable x) = x.0 < n
 IsFit n (atomic.Whole z) = z ≡ pos (literal_of z)
 IsFit n (atomic.Truth b) = Unit {0}
 
+-- Atoms that may be used below the number.
 abbrev pub AreFit : ℕ → List Atom → Type 0
 AreFit n [] = Unit {0}
 AreFit n (x ∷ xs) = IsFit n x × AreFit n xs
@@ -54,6 +55,7 @@ abbrev mutual
   IsOrdered table n (CaseTerm x branches) = IsFit n x × BranchesOrdered table n branches
   IsOrdered table n (IfTerm x t u) = IsFit n x × ((m : ℕ) × (n ≤ m) × IsOrdered table m t) × ((m : ℕ) × (n ≤ m) × IsOrdered table m u)
 
+  -- So is a binding.
   pub BindOrdered : Table → ℕ → Bind → Type 0
   BindOrdered table n (Past h k) = Unit {0}
   BindOrdered table n (One s) = SideOrdered table n s
@@ -61,9 +63,11 @@ abbrev mutual
   BindOrdered table n (Prim x f y z) = (n ≤ x.0) × IsFit n y × IsFit n z
   BindOrdered table n (Reach y by) = Unit {0}
 
+  -- So is a side, whose variable is new.
   pub SideOrdered : Table → ℕ → Side → Type 0
   SideOrdered table n (On kind x ty t) = (n ≤ x.0) × IsOrdered table (x.0 + 1) t
 
+  -- So is each branch, with its fields.
   pub BranchesOrdered : Table → ℕ → Branches → Type 0
   BranchesOrdered table n NoBranch = Unit {0}
   BranchesOrdered table n (BranchThen k xs t rest) =
@@ -75,16 +79,19 @@ AreOrdered core = AllByRecursion (λ (b : Body). IsOrdered core.table (length b.
 
 -- No literal is negative.
 
+-- An atom is no negative number.
 abbrev pub IsNatural : Atom → Type 0
 IsNatural (atomic.Variable x) = Unit {0}
 IsNatural (atomic.Whole z) = z ≡ pos (literal_of z)
 IsNatural (atomic.Truth b) = Unit {0}
 
+-- None of the atoms is.
 abbrev pub AreNaturalAtoms : List Atom → Type 0
 AreNaturalAtoms [] = Unit {0}
 AreNaturalAtoms (x ∷ xs) = IsNatural x × AreNaturalAtoms xs
 
 abbrev mutual
+  -- A term has no negative literal.
   pub IsNaturalTerm : Term → Type 0
   IsNaturalTerm (Then b rest) = IsNaturalBind b × IsNaturalTerm rest
   IsNaturalTerm (Write h k ss ps) = AreNaturalAtoms ss × AreNaturalAtoms ps
@@ -94,6 +101,7 @@ abbrev mutual
   IsNaturalTerm (CaseTerm x branches) = IsNatural x × AreNaturalBranches branches
   IsNaturalTerm (IfTerm x t u) = IsNatural x × IsNaturalTerm t × IsNaturalTerm u
 
+  -- A binding has none.
   pub IsNaturalBind : Bind → Type 0
   IsNaturalBind (Past h k) = Unit {0}
   IsNaturalBind (One s) = IsNaturalSide s
@@ -101,9 +109,11 @@ abbrev mutual
   IsNaturalBind (Prim x f y z) = IsNatural y × IsNatural z
   IsNaturalBind (Reach y by) = Unit {0}
 
+  -- A side's term has none.
   pub IsNaturalSide : Side → Type 0
   IsNaturalSide (On kind x ty t) = IsNaturalTerm t
 
+  -- Branches have none.
   pub AreNaturalBranches : Branches → Type 0
   AreNaturalBranches NoBranch = Unit {0}
   AreNaturalBranches (BranchThen k xs t rest) = IsNaturalTerm t × AreNaturalBranches rest

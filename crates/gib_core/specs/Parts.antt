@@ -1,8 +1,10 @@
 -- A core as the code keeps it, and the core that it is.
-use Rattle.std.specs.Prelude.{ℕ, ◌<◌, List, map, length}
+use Rattle.std.specs.Prelude.{ℕ, ◌<◌, List, [], ◌∷◌, map, length}
 use Rattle.std.specs.List.{AllByRecursion}
 use Rattle.gib_types.specs.declared.table.ConId.{ConId}
+use Rattle.gib_types.specs.declared.table.Ty.{Ty}
 use Rattle.gib_types.specs.Row.{Table}
+use Rattle.gib_types.specs.Table.{IsTyBelow}
 use Rattle.gib_core.specs.declared.node.Node.{Node}
 use Rattle.gib_core.specs.declared.program.CoreFunction.{CoreFunction}
 use Rattle.gib_core.specs.declared.program.CoreMain.{CoreMain}
@@ -21,10 +23,20 @@ pub record Parts : Type 0 where
 abbrev pub IsFunctionInside : ℕ → CoreFunction → Type 0
 IsFunctionInside n f = f.body.0 < n
 
--- Each body is one of the terms.
+-- The types of parameters and of a result are declared, where there are so many.
+abbrev pub AreDeclared : ℕ → List Ty → Ty → Type 0
+AreDeclared n parameters result = AllByRecursion (IsTyBelow n) parameters × IsTyBelow n result
+
+-- The types of a function are declared.
+abbrev pub IsDeclared : ℕ → CoreFunction → Type 0
+IsDeclared n f = AreDeclared n f.parameters.items f.result
+
+-- Each body is one of the terms, and the types of functions and of main are declared.
 pub record AreInside (parts : Parts) : Type 0 where
   pub functions : AllByRecursion (IsFunctionInside (length parts.terms)) parts.functions
   pub main : parts.main.body.0 < length parts.terms
+  pub types : AllByRecursion (IsDeclared (length parts.table.types)) parts.functions
+  pub main_types : AreDeclared (length parts.table.types) (parts.main.parameter ∷ []) parts.main.result
 
 -- A function, where numbers have these terms.
 abbrev pub function_term : (ℕ → Term) → CoreFunction → FunctionTerm

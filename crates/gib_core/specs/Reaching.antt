@@ -34,6 +34,7 @@ abbrev mutual
   uses (CaseTerm y branches) x = is_variable x y || branches_use branches x
   uses (IfTerm y t u) x = is_variable x y || (uses t x || uses u x)
 
+  -- A binding uses the variable.
   pub bind_uses : Bind → Variable → Bool
   bind_uses (Past h k) x = false
   bind_uses (One s) x = side_uses s x
@@ -41,9 +42,11 @@ abbrev mutual
   bind_uses (Prim y f v w) x = is_variable x v || is_variable x w
   bind_uses (Reach y by) x = false
 
+  -- A side's term uses it.
   pub side_uses : Side → Variable → Bool
   side_uses (On kind y ty t) x = uses t x
 
+  -- A branch uses it.
   pub branches_use : Branches → Variable → Bool
   branches_use NoBranch x = false
   branches_use (BranchThen k xs t rest) x = uses t x || branches_use rest x
@@ -84,6 +87,7 @@ abbrev mutual
   reach mode table (CaseTerm x branches) = CaseTerm x (reach_branches mode table branches)
   reach mode table (IfTerm x t u) = IfTerm x (reach mode table t) (reach mode table u)
 
+  -- A binding, with the fields of all arms reached.
   pub reach_bind : AccessMode → Table → Bind → Bind
   reach_bind mode table (Past h k) = Past h k
   reach_bind mode table (One s) = One (reach_side mode table s)
@@ -91,9 +95,11 @@ abbrev mutual
   reach_bind mode table (Prim x f y z) = Prim x f y z
   reach_bind mode table (Reach y by) = Reach y by
 
+  -- A side, with the fields of all arms reached.
   pub reach_side : AccessMode → Table → Side → Side
   reach_side mode table (On kind x ty t) = On kind x ty (reach mode table t)
 
+  -- Branches, each beginning with the fields that its term uses.
   pub reach_branches : AccessMode → Table → Branches → Branches
   reach_branches mode table NoBranch = NoBranch
   reach_branches mode table (BranchThen k xs t rest) =
@@ -116,6 +122,7 @@ abbrev mutual
   offsets_in table (CaseTerm x branches) = branch_offsets table branches
   offsets_in table (IfTerm x t u) = offsets_in table t ++ offsets_in table u
 
+  -- Those in a binding.
   pub bind_offsets : Table → Bind → List ConId
   bind_offsets table (Past h k) = []
   bind_offsets table (One s) = side_offsets table s
@@ -123,9 +130,11 @@ abbrev mutual
   bind_offsets table (Prim x f y z) = []
   bind_offsets table (Reach y by) = []
 
+  -- Those in a side's term.
   pub side_offsets : Table → Side → List ConId
   side_offsets table (On kind x ty t) = offsets_in table t
 
+  -- Those in branches, and the constructors of the branches themselves.
   pub branch_offsets : Table → Branches → List ConId
   branch_offsets table NoBranch = []
   branch_offsets table (BranchThen k xs t rest) =

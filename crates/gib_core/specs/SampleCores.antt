@@ -11,27 +11,36 @@ use Rattle.gib_core.specs.declared.atom.Kind.{Kind}
 use Rattle.gib_core.specs.Tree.{Term, Bind, Point, Give, One, On, Branches, NoBranch, BranchThen, var, CoreTree}
 
 -- data Tree = Leaf Int | Node Tree Tree, data Empty = Nil, data Triple = Three Tree Tree Tree
+
+-- The type `Tree`.
 abbrev pub tree : Ty
 tree = Tree (record { 0 = 0 })
 
+-- The type `Empty`.
 abbrev pub empty : Ty
 empty = Tree (record { 0 = 1 })
 
+-- The type `Triple`.
 abbrev pub triple : Ty
 triple = Tree (record { 0 = 2 })
 
+-- The constructor `Leaf`.
 abbrev pub leaf : ConId
 leaf = record { 0 = 0 }
 
+-- `Node`.
 abbrev pub node : ConId
 node = record { 0 = 1 }
 
+-- `Nil`.
 abbrev pub nil : ConId
 nil = record { 0 = 2 }
 
+-- `Three`.
 abbrev pub three : ConId
 three = record { 0 = 3 }
 
+-- The table of these.
 abbrev pub sample_table : Table
 sample_table = record {
   types = 0 ∷ 1 ∷ 2 ∷ [];
@@ -58,12 +67,22 @@ sample parameter result body = record {
   offsets = node ∷ [];
 }
 
--- Pieces of terms.
+-- The function `size (t : Tree) : Int = 0`.
+abbrev pub size : Name
+size = record { 0 = 8 }
+
+-- A core of this main, behind that function in place of `same`.
+abbrev pub sized : Ty → Ty → Term → CoreTree
+sized parameter result body = record (sample parameter result body) { functions = record { name = size; parameters = tree ∷ []; result = Whole; body = Give (a.Whole (pos 0)) } ∷ [] }
+
+-- The number 0 is given.
 abbrev pub zero_term : Term
 zero_term = Give (a.Whole (pos 0))
 
+-- A variable that is bound to a tree by an indirection to another one.
 abbrev pub points : Kind → ℕ → ℕ → Bind
 points kind x y = One (On kind (v x) tree (Point (var y)))
 
+-- The arms of a case on a tree.
 abbrev pub arms : List Variable → Term → List Variable → Term → Branches
 arms xs t ys u = BranchThen leaf xs t (BranchThen node ys u NoBranch)

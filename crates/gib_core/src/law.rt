@@ -1,6 +1,6 @@
 //! Laws of cores: functions whose contracts are the laws.
 
-ghost use Rattle.std.specs.Prelude.{◌≡◌, ◌↔◌, ℕ, List, None, Some, length};
+ghost use Rattle.std.specs.Prelude.{◌≡◌, ◌<◌, ◌^◌, ◌↔◌, ℕ, List, None, Some, length};
 ghost use Rattle.gib_types.specs.Table.{Table, IsTable};
 ghost use Rattle.gib_types.specs.Tree.{Datum};
 ghost use Rattle.gib_syntax.specs.Tree.{DataTree};
@@ -16,10 +16,11 @@ ghost use Rattle.gib_core.specs.Reachable.{AreReachable};
 ghost use Rattle.gib_core.specs.Numbering.{AreNumbered};
 ghost use Rattle.gib_core.specs.Ordered.{AreOrdered, AreNatural};
 ghost use Rattle.gib_core.specs.Literals.{AllLiteralsFit};
-ghost use Rattle.gib_core.specs.Fits.{AllFit};
+ghost use Rattle.gib_core.specs.Fits.{AllFit, EachFits};
+ghost use Rattle.gib_core.specs.TypesNamed.{AllTypesDeclared, SignaturesDeclared};
 ghost use Rattle.gib_core.specs.Cost.{Costs, plus, cost_from, cost, cost_all};
 ghost use Rattle.gib_core.specs.Low.{IsLowered, HasCode, HasMain, function_number};
-ghost use Rattle.gib_code.specs.Program.{CodeTree};
+ghost use Rattle.gib_code.specs.Program.{CodeTree, Runs};
 
 /// A core meets the build rules exactly where none is the first broken one.
 pub fn built_is_unbroken()
@@ -46,9 +47,23 @@ pub fn built_is_ordered()
 {}
 
 /// Each body of a core fits that meets the build rules, is numbered in the order of the text, and has literals of 64 bits.
-#[tactic(auto, using(crate::proofs::Bodies::built_fits))]
+#[tactic(auto, using(crate::proofs::Bodies::built_fits, crate::proofs::Bodies::each_fits))]
 pub fn built_fits()
-    ensures { (core : CoreTree) → IsTable core.table → AreNumbered core → AllLiteralsFit core → AreBuilt core → AllFit core }
+    ensures named { (core : CoreTree) → IsTable core.table → AreNumbered core → AllLiteralsFit core → AreBuilt core → AllFit core }
+    ensures each { (core : CoreTree) → IsTable core.table → AreNumbered core → AllLiteralsFit core → AreBuilt core → EachFits core }
+{}
+
+/// In a core that meets the build rules, is numbered in the order of the text, and has literals of 64 bits, each type that a
+/// variable is bound with is declared, where the types of functions and of main are.
+#[tactic(auto, using(crate::proofs::TypesKnown::types_known))]
+pub fn types_of_a_built_core_are_declared()
+    ensures { (core : CoreTree) → IsTable core.table → SignaturesDeclared core → AreNumbered core → AllLiteralsFit core → AreBuilt core → AllTypesDeclared core }
+{}
+
+/// A machine can run the code of a core of which each body fits, if it has fewer than 2^32 instructions.
+#[tactic(auto, using(crate::proofs::Fine::code_runs))]
+pub fn code_that_fits_can_be_run()
+    ensures { (core : CoreTree) (code : CodeTree) → IsLowered core code → AllFit core → EachFits core → length code.instructions < 2 ^ 32 → Runs code }
 {}
 
 /// Each function of a core has its code at the entry of its number, and main has its at the last entry.

@@ -5,7 +5,7 @@ use crate::program::Core;
 use gib_code::Code;
 use std::marker::Model;
 
-/// A core that meets the build rules, with its code.
+/// A core that meets the build rules, with its code, which a machine can run.
 #[derive(Drop)]
 pub struct Lowered {
     checked: Checked,
@@ -28,11 +28,13 @@ impl Lowered {
     ghost use Rattle.gib_core.specs.Rules.{AreBuilt};
     ghost use Rattle.gib_core.specs.Low.{IsLowered};
     ghost use Rattle.gib_core.specs.Fits.{AllFit};
+    ghost use Rattle.gib_code.specs.Program.{Runs};
 
     /// A core with its code.
     pub fn make(checked: Checked, code: Code) -> Lowered
         requires lowered { IsLowered (core_of checked) code }
         requires fits { AllFit (core_of checked) }
+        requires runs { Runs code }
         ensures { result ≡ record { core = checked; code = code } }
     {
         Lowered { checked, code }
@@ -47,10 +49,11 @@ impl Lowered {
         self.checked.core()
     }
 
-    /// The code, which is that of the core.
+    /// The code, which is that of the core, and which a machine can run.
     pub fn code(&self) -> &Code
         ensures value { result.now ≡ self.now.code }
         ensures lowered { IsLowered (core_of self.now.core) self.now.code }
+        ensures runs { Runs self.now.code }
     {
         &self.code
     }

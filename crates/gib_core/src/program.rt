@@ -26,7 +26,7 @@ pub struct CoreMain {
 }
 
 /// A core: the types of the program, its functions, the terms in which their bodies stand, and the
-/// constructors whose heads store offsets.
+/// constructors whose heads store offsets. The types of functions and of main are declared.
 #[derive(Drop)]
 pub struct Core {
     types: TypeTable,
@@ -49,6 +49,7 @@ impl Model for Core {
 impl Core {
     ghost use Rattle.gib_core.specs.Parts.{Parts, AreInside, core_of};
     ghost use Rattle.gib_core.specs.Literals.{AllLiteralsFit};
+    ghost use Rattle.gib_core.specs.TypesNamed.{SignaturesDeclared};
 
     /// A core of these parts.
     pub fn new(
@@ -106,6 +107,14 @@ impl Core {
         ensures { result.now ≡ self.now.offsets }
     {
         &self.offsets
+    }
+
+    /// The types of a core's functions and of its main are declared.
+    #[tactic(auto, using(crate::proofs::Signatures::parts_declared))]
+    pub fn types_declared(&self)
+        ensures { SignaturesDeclared (core_of self.now) }
+    {
+        let _all = &self.types;
     }
 
     /// The literals of a core are numbers of 64 bits. This looks at each term, and takes no memory.

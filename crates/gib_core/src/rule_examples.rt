@@ -8,7 +8,7 @@ ghost use Rattle.gib_core.specs.declared.atom.Access.TheVariants as by;
 ghost use Rattle.gib_core.specs.declared.atom.Kind.TheVariants as kind;
 ghost use Rattle.gib_core.specs.Tree.{Term, Then, Write, Point, CallTerm, Give, CaseTerm, IfTerm, Past, One, Both, Prim, Reach, On, NoBranch, BranchThen, var};
 ghost use Rattle.gib_core.specs.Rules.{first_broken};
-ghost use Rattle.gib_core.specs.SampleCores.{tree, empty, triple, leaf, node, nil, three, v, same, sample, zero_term, points, arms};
+ghost use Rattle.gib_core.specs.SampleCores.{tree, empty, triple, leaf, node, nil, three, v, same, sample, size, sized, zero_term, points, arms};
 
 /// Rules 1, 2, 3, 5 and 6: where values are put. Main's terms count from 1.
 pub fn places()
@@ -29,6 +29,7 @@ pub fn places()
         (first_broken (sample tree tree (fields all)) ≡ None)
         × (first_broken (sample tree tree (Then (Past (v 1) node) (Then (points kind.Here 2 0) (Write (v 1) node [] (var 2 ∷ []))))) ≡ Some (5, 4))
         × (first_broken (sample tree tree (fields (Write (v 1) node [] (var 2 ∷ [])))) ≡ Some (5, 6))
+        × (first_broken (sample tree tree (fields (Write (v 1) three [] (var 2 ∷ var 3 ∷ [])))) ≡ Some (5, 6))
         × (first_broken (sample tree tree (Then (points kind.Region 4 0) (fields (Write (v 4) node [] (var 2 ∷ var 3 ∷ []))))) ≡ Some (5, 8))
         × (first_broken (sample tree tree (fields (Then (One (On kind.Scalar (v 4) ty.Whole (CaseTerm (var 2) (arms (v 5 ∷ []) zero_term (v 6 ∷ v 7 ∷ []) zero_term)))) all))) ≡ None)
         × (first_broken (sample tree tree (fields (Then (One (On kind.Scalar (v 4) ty.Whole (CaseTerm (var 3) (arms (v 5 ∷ []) zero_term (v 6 ∷ v 7 ∷ []) zero_term)))) all))) ≡ Some (5, 10)) }
@@ -61,6 +62,14 @@ pub fn scopes()
         × (first_broken (sample triple ty.Whole (of_three (Then (Reach (v 2) by.Offset) zero_term))) ≡ Some (8, 2))
         × (first_broken (sample triple tree (of_three (second (Point (var 2))))) ≡ None)
         × (first_broken (sample triple tree (of_three (Point (var 2)))) ≡ Some (8, 2)) }
+    // A field but the first one is reached by the offset that its head stores.
+    ensures offsets { let of_node : Term → Term = λ t. CaseTerm (var 0) (arms (v 1 ∷ []) zero_term (v 2 ∷ v 3 ∷ []) t) in
+        (first_broken (sample tree ty.Whole (of_node (Then (Reach (v 3) by.Offset) zero_term))) ≡ None)
+        × (first_broken (sample tree ty.Whole (of_node (Then (Reach (v 2) by.Offset) zero_term))) ≡ Some (8, 3)) }
+    // A head is no value.
+    ensures heads { let node_of : Term → Term = λ t. Then (Past (v 1) node) (Then (One (On kind.Here (v 2) tree t)) (Then (points kind.Here 3 0) (Write (v 1) node [] (var 2 ∷ var 3 ∷ [])))) in
+        (first_broken (sample tree tree (node_of (Point (var 0)))) ≡ None)
+        × (first_broken (sample tree tree (node_of (Point (var 1)))) ≡ Some (8, 3)) }
     // Each variable is bound once, and used behind where it is bound.
     ensures bound { (first_broken (sample tree ty.Whole (CaseTerm (var 0) (arms (v 1 ∷ []) zero_term (v 1 ∷ v 2 ∷ []) zero_term))) ≡ Some (8, 1))
         × (first_broken (sample tree ty.Whole (CaseTerm (var 0) (arms (v 0 ∷ []) zero_term (v 1 ∷ v 2 ∷ []) zero_term))) ≡ Some (8, 1))
@@ -76,6 +85,15 @@ pub fn types()
         × (first_broken (sample tree tree (CallTerm same (var 0 ∷ var 0 ∷ []))) ≡ Some (9, 1))
         × (first_broken (sample empty tree (CallTerm same (var 0 ∷ []))) ≡ Some (9, 1))
         × (first_broken (sample tree empty (CallTerm same (var 0 ∷ []))) ≡ Some (9, 1)) }
+    // There is a function of the name.
+    ensures unknown { first_broken (sample tree tree (CallTerm size (var 0 ∷ []))) ≡ Some (9, 1) }
+    // A scalar call is the whole right side of a `scalar`.
+    ensures scalar_calls { let call : Term = CallTerm size (var 0 ∷ []) in
+        let bound : Term → Term = λ t. Then (One (On kind.Scalar (v 1) ty.Whole t)) (Give (var 1)) in
+        (first_broken (sized tree ty.Whole (bound call)) ≡ None)
+        × (first_broken (sized tree ty.Whole call) ≡ Some (9, 1))
+        × (first_broken (sized tree ty.Whole (bound (Then (points kind.Region 2 0) call))) ≡ Some (9, 4))
+        × (first_broken (sized tree ty.Whole (bound (CaseTerm (var 0) (arms (v 2 ∷ []) call (v 3 ∷ v 4 ∷ []) zero_term)))) ≡ Some (9, 3)) }
     // An `if` is on a truth value, an operation on numbers.
     ensures scalars { (first_broken (sample ty.Truth ty.Whole (IfTerm (var 0) zero_term zero_term)) ≡ None)
         × (first_broken (sample ty.Whole ty.Whole (IfTerm (var 0) zero_term zero_term)) ≡ Some (9, 1))

@@ -1,11 +1,11 @@
 ghost use Rattle.std.specs.Prelude.{◌≡◌, ◌++◌, ◌∷◌, [], ◌<◌, ◌≤◌, length, map, IfOk, OnOk};
-ghost use Rattle.gib_types.specs.Table.{row_of};
 ghost use Rattle.gib_core.specs.Arena.{IsBindingBelow, PartsBelow};
 
 use crate::*;
 use gib_base::{Memory, Name, Names};
 use gib_syntax::Operator;
-use gib_types::{ConId, Constructor, Ty, TyId, TypeTable};
+use gib_types::sample::trees;
+use gib_types::{ConId, Ty, TyId};
 use std::alloc::Global;
 use std::test::*;
 
@@ -16,27 +16,6 @@ const LEAF: ConId = ConId(0);
 const NODE: ConId = ConId(1);
 
 const ADD1: Name = Name(3);
-
-fn add(alloc: Global, rows: &mut Vec<Constructor>, name: u32, fields: &[Ty]) -> Result<(), Memory>
-    ensures { OnOk result (map row_of rows.new.items ≡ map row_of rows.old.items ++ record { name = name; owner = 0; fields = fields.now } ∷ []) }
-{
-    let fields = Vec::from_slice(alloc, fields)?;
-    rows.push(Constructor {
-        name: Name(name),
-        owner: TyId(0),
-        fields,
-    })?;
-    Ok(())
-}
-
-// data Tree = Leaf Int | Node Tree Tree ;
-fn table(alloc: Global) -> Result<TypeTable, Memory> {
-    let types = Vec::from_slice(alloc, &[Name(0)])?;
-    let mut rows = Vec::new(alloc);
-    add(alloc, &mut rows, 1, &[Ty::Whole])?;
-    add(alloc, &mut rows, 2, &[TREE, TREE])?;
-    TypeTable::make(alloc, types, rows)
-}
 
 fn names(alloc: Global) -> Result<Names, Fail> {
     let mut names = Names::make(alloc)?;
@@ -224,7 +203,7 @@ fn program(alloc: Global, access: Option<Access>, fork: bool) -> Result<Core, Me
         result: TREE,
         body: main_body,
     };
-    let types = table(alloc)?;
+    let types = trees(alloc)?;
     let copy = types.copy(alloc)?;
     Ok(Core::new(copy, terms, functions, main, Vec::new(alloc)))
 }

@@ -3,14 +3,14 @@
 ghost use Rattle.std.specs.Prelude.{◌≡◌, ◌++◌, [], ◌∷◌, unwrap_or, slice_get, codes, IfOk, OnOk};
 ghost use Rattle.std.specs.List.{flat_map};
 ghost use Rattle.std.specs.Fmt.{decimal, signed_decimal};
-ghost use Rattle.gib_types.specs.Table.{name_at};
-ghost use Rattle.gib_core.specs.CoreText.{keyword_text, operator_text, indent, name_text, variable_text, atom_text, type_text, piece_text};
+ghost use Rattle.gib_core.specs.CoreText.{keyword_text, operator_text, indent, variable_text, atom_text, type_text, piece_text};
 
 use crate::atom::{Atom, Variable};
 use crate::piece::{Keyword, Piece};
-use gib_base::{Memory, Name, Names};
+use gib_base::{Memory, Name, Names, push_decimal, push_signed};
+use gib_code::names::{name_text, push_behind_space};
 use gib_syntax::Operator;
-use gib_types::{ConId, Ty, TyId, TypeTable};
+use gib_types::{Ty, TyId, TypeTable};
 use std::alloc::Global;
 
 /// How a word is written.
@@ -50,28 +50,6 @@ fn operator_text(operator: Operator) -> &'static [u8]
     }
 }
 
-/// The text of a name; a number that no name has stands for no text.
-fn name_text(names: &Names, name: Name) -> &[u8]
-    ensures { result.now ≡ name_text names.now name.0 }
-{
-    if name.0 < names.len() {
-        names.text(name)
-    } else {
-        &[]
-    }
-}
-
-/// The name of a constructor; of a number that no constructor has, the first name.
-fn con_name(types: &TypeTable, con: ConId) -> Name
-    ensures { result.0 ≡ name_at types.now con.0 }
-{
-    if con.0 < types.len() {
-        types.name_of(con)
-    } else {
-        Name(0)
-    }
-}
-
 /// The name of a declared type; of a number that no type has, the first name.
 fn type_name(types: &TypeTable, ty: TyId) -> Name
     ensures { result.0 ≡ unwrap_or (slice_get types.now.types ty.0) 0 }
@@ -94,15 +72,6 @@ fn type_text<'a>(names: &'a Names, types: &TypeTable, ty: Ty) -> &'a [u8]
     }
 }
 
-/// Writes bytes behind a space.
-fn push_behind_space(out: &mut Vec<u8>, bytes: &[u8]) -> Result<(), Memory>
-    ensures { OnOk result (out.new.items ≡ out.old.items ++ 32 ∷ bytes.now) }
-{
-    out.push(b' ')?;
-    out.extend_from_slice(bytes)?;
-    Ok(())
-}
-
 /// Writes the spaces of a level.
 fn push_indent(out: &mut Vec<u8>, level: u64) -> Result<(), Memory>
     ensures { OnOk result (out.new.items ≡ out.old.items ++ indent level) }
@@ -119,20 +88,8 @@ fn push_indent(out: &mut Vec<u8>, level: u64) -> Result<(), Memory>
 fn push_variable(alloc: Global, out: &mut Vec<u8>, variable: Variable) -> Result<(), Memory>
     ensures { OnOk result (out.new.items ≡ out.old.items ++ variable_text variable) }
 {
-    let number = variable.0;
-    let digits = format!(in alloc; "{number}")?;
     out.push(b'%')?;
-    out.extend_from_slice(digits.as_bytes())?;
-    Ok(())
-}
-
-/// Writes a number.
-fn push_whole(alloc: Global, out: &mut Vec<u8>, value: i64) -> Result<(), Memory>
-    ensures { OnOk result (out.new.items ≡ out.old.items ++ signed_decimal value) }
-{
-    let digits = format!(in alloc; "{value}")?;
-    out.extend_from_slice(digits.as_bytes())?;
-    Ok(())
+    push_decimal(alloc, out, u64::from(variable.0))
 }
 
 /// Writes an atom.
@@ -141,7 +98,7 @@ fn push_atom(alloc: Global, out: &mut Vec<u8>, atom: Atom) -> Result<(), Memory>
 {
     match atom {
         Atom::Variable(variable) => push_variable(alloc, out, variable),
-        Atom::Whole(value) => push_whole(alloc, out, value),
+        Atom::Whole(value) => push_signed(alloc, out, value),
         Atom::Truth(value) => {
             out.extend_from_slice(if value { b"True" } else { b"False" })?;
             Ok(())
@@ -183,11 +140,11 @@ fn push_piece(
         }
         Piece::Arm(level, con) => {
             push_indent(out, level)?;
-            out.extend_from_slice(name_text(names, con_name(types, con)))?;
+            out.extend_from_slice(name_text(names, types.name_of(con)))?;
             Ok(())
         }
         Piece::Function(name) => push_behind_space(out, name_text(names, name)),
-        Piece::Constructor(con) => push_behind_space(out, name_text(names, con_name(types, con))),
+        Piece::Constructor(con) => push_behind_space(out, name_text(names, types.name_of(con))),
         Piece::Variable(variable) => {
             out.push(b' ')?;
             push_variable(alloc, out, variable)

@@ -23,6 +23,7 @@ impl<W: Write> StdSink<W> {
         ensures taken { (⟦<StdSink<W> as Sink>⟧.view result).taken ≡ W.contents stream }
         ensures faults { (⟦<StdSink<W> as Sink>⟧.view result).faults ≡ 0 }
         ensures puts { (⟦<StdSink<W> as Sink>⟧.view result).puts ≡ 0 }
+        ensures longest { (⟦<StdSink<W> as Sink>⟧.view result).longest ≡ 0 }
     {
         StdSink {
             stream,

@@ -11,7 +11,7 @@ use Rattle.gib_file.specs.Packed.{number, bit, scalars, tree, trees, packed}
 use Rattle.gib_file.specs.Reading.{read, with_con, Fails}
 use Rattle.gib_file.specs.Front.{all_packed, Front, IsFault}
 use Rattle.gib_file.specs.Surveyed.{IsBytes}
-use Rattle.gib_file.proofs.Sound.{number_of, number_back, number_fits, IsBytes-take, IsBytes-drop, join, split, merge, con_at_is}
+use Rattle.gib_file.proofs.Sound.{number_of, number_back, number_fits, IsBytes-take, IsBytes-drop, join, split, merge_fields, con_at_is}
 
 -- ---- fields as their scalars and their trees
 
@@ -116,7 +116,7 @@ turns_tree table t due b k is = (forward, back) where
       let ts = fields_at table k in
       let p = split table (in_order ts) due ws typed in
       let q = split table (scalar_types ts) (tree_types ts) p.front p.front_typed in
-      let f = merge table ts q.front q.back q.front_typed q.back_typed in
+      let f = merge_fields table ts q.front q.back q.front_typed q.back_typed in
       let apart : all_packed ws ≡ (scalars f.fields ++ trees f.fields) ++ all_packed p.back =
       p.is ∙ ap (λ (l : List ℕ). l ++ all_packed p.back) (q.is ∙ ap (λ (l : List ℕ). l ++ all_packed q.back) f.scalars_are ∙ ap (λ (l : List ℕ). scalars f.fields ++ l) f.trees_are) in
       (more (con k f.fields) p.back, ((own, f.typed), p.back_typed), ap (λ (x : ℕ). x ∷ ((scalars f.fields ++ trees f.fields) ++ all_packed p.back)) (sym same) ∙ ap (λ (l : List ℕ). b ∷ l) (sym apart))

@@ -8,7 +8,6 @@ pub mod HeadLemmas
 pub mod FieldLemmas
 pub mod UnpackLemmas
 pub mod PackLemmas
-pub mod Sample
 pub mod Ended
 pub mod FileLaws
 pub mod Fronts

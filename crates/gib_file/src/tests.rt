@@ -1,10 +1,10 @@
-ghost use Rattle.std.specs.Prelude.{◌≡◌, ◌++◌, ◌∷◌, [], map, IfOk, OnOk};
-ghost use Rattle.gib_types.specs.Table.{row_of};
+ghost use Rattle.std.specs.Prelude.{IfOk};
 ghost use Rattle.gib_types.specs.Tree.{IsTyped};
 
 use super::*;
-use gib_base::{Memory, Name};
-use gib_types::{Constructor, Ty, TyId, TypeTable};
+use gib_base::Memory;
+use gib_types::sample::mixed;
+use gib_types::{Ty, TyId, TypeTable};
 use gib_value::Value;
 use std::alloc::Global;
 use std::test::*;
@@ -16,37 +16,6 @@ const PAIR: Ty = Ty::Tree(TyId(1));
 const TRUTH: Ty = Ty::Tree(TyId(2));
 
 const LIST: Ty = Ty::Tree(TyId(3));
-
-fn add(
-    alloc: Global,
-    rows: &mut Vec<Constructor>,
-    name: u32,
-    owner: u32,
-    fields: &[Ty],
-) -> Result<(), Memory>
-    ensures { OnOk result (map row_of rows.new.items ≡ map row_of rows.old.items ++ record { name = name; owner = owner; fields = fields.now } ∷ []) }
-{
-    let fields = Vec::from_slice(alloc, fields)?;
-    rows.push(Constructor {
-        name: Name(name),
-        owner: TyId(owner),
-        fields,
-    })?;
-    Ok(())
-}
-
-// data Tree = Leaf Int | Node Tree Tree ; data P = P Tree Int ; data B = B Bool ; data List = Nil | Cons Int List ;
-fn table(alloc: Global) -> Result<TypeTable, Memory> {
-    let types = Vec::from_slice(alloc, &[Name(0), Name(1), Name(2), Name(3)])?;
-    let mut rows = Vec::new(alloc);
-    add(alloc, &mut rows, 10, 0, &[Ty::Whole])?;
-    add(alloc, &mut rows, 11, 0, &[TREE, TREE])?;
-    add(alloc, &mut rows, 12, 1, &[TREE, Ty::Whole])?;
-    add(alloc, &mut rows, 13, 2, &[Ty::Truth])?;
-    add(alloc, &mut rows, 14, 3, &[])?;
-    add(alloc, &mut rows, 15, 3, &[Ty::Whole, LIST])?;
-    TypeTable::make(alloc, types, rows)
-}
 
 fn framed(alloc: Global, payload: &[u8]) -> Result<Vec<u8>, Memory> {
     let mut file = Vec::from_slice(alloc, b"GIBP\x01\0\0\0")?;
@@ -67,7 +36,7 @@ fn value_of(alloc: Global, types: &TypeTable, ty: Ty, file: &[u8]) -> Result<(u6
 #[test]
 fn files_are_read_and_written_again(rt: HostRuntime) -> Result<(), Fail> {
     let alloc = rt.alloc();
-    let types = table(alloc)?;
+    let types = mixed(alloc)?;
     let cases: [(Ty, &[u8], u64); 6] = [
         // (Node (Leaf 1) (Leaf 2))
         (
@@ -110,7 +79,7 @@ fn files_are_read_and_written_again(rt: HostRuntime) -> Result<(), Fail> {
 #[test]
 fn payloads_are_refused_at_their_first_fault(rt: HostRuntime) -> Result<(), Fail> {
     let alloc = rt.alloc();
-    let types = table(alloc)?;
+    let types = mixed(alloc)?;
     let cases: [(Ty, &[u8], PackFault); 13] = [
         (
             TREE,
@@ -185,7 +154,7 @@ fn headers_are_refused_at_their_first_fault(rt: HostRuntime) {
 #[test]
 fn a_deep_list_is_read_and_written_again(rt: HostRuntime) -> Result<(), Fail> {
     let alloc = rt.alloc();
-    let types = table(alloc)?;
+    let types = mixed(alloc)?;
     let mut payload = Vec::new(alloc);
     for _ in 0..1_864_000u32 {
         payload.extend_from_slice(b"\x05\x01\x02\x03\x04\x05\x06\x07\x08")?;

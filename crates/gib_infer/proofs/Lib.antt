@@ -7,6 +7,7 @@ pub mod Cases
 pub mod Naming
 pub mod Arms
 pub mod Programs
+pub mod TypesKnown
 pub mod Kept
 pub mod Fits
 pub mod Ordered

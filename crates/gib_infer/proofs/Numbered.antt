@@ -18,15 +18,11 @@ use Rattle.gib_syntax.specs.Meaning.{at_fields, names_of}
 use Rattle.gib_core.specs.declared.atom.Variable.{Variable}
 use Rattle.gib_core.specs.declared.atom.Atom.{Atom}
 use Rattle.gib_core.specs.declared.atom.Atom.TheVariants as atomic
-use Rattle.gib_core.specs.declared.atom.Access.TheVariants.{Offset, Skip}
-use Rattle.gib_core.specs.declared.atom.AccessMode.{AccessMode}
-use Rattle.gib_core.specs.declared.atom.AccessMode.TheVariants.{Skips, Offsets}
 use Rattle.gib_core.specs.declared.atom.Kind.TheVariants.{Scalar}
-use Rattle.gib_core.specs.Tree.{Term, Then, Write, Point, CallTerm, Give, CaseTerm, IfTerm, Bind, Past, One, Both, Prim, Reach, Side, On, Branches, NoBranch, BranchThen, var, variables_from, prepend, FunctionTerm, CoreTree}
+use Rattle.gib_core.specs.Tree.{Term, Write, CallTerm, Give, IfTerm, Bind, Past, One, Prim, On, var, variables_from, prepend, FunctionTerm}
 use Rattle.gib_core.specs.Inferring.{Scope, slot, Lined, Atomed, Several, ToLine, ToAtom, Code, boxed, given, of_line, of_atom, result_of, plain_line, of_plain, several, operation_atom, call_line, call_atom, call_side, scalar_call, call_code, further_types, pointed_fields, as_atoms, make_from, make_line, let_line, par_line, if_line, ArmCode, with_fields, arm_for, branch_of, branches_of, numbers_from, constructors_of, first_constructor, case_line, atom_at, type_at, con_named, gives_type, infer, infer_all, infer_arms, infer_body, infer_function, infer_program}
-use Rattle.gib_core.specs.Reaching.{uses, uses_any, skips_from, offsets_from, reaches, packed_variables, reach, reach_bind, reach_side, reach_branches, reach_function, reach_core}
 use Rattle.gib_core.specs.Met.{Body}
-use Rattle.gib_core.specs.Numbering.{binders, bind_binders, side_binders, branch_binders, IsNumbered, AreNumbered}
+use Rattle.gib_core.specs.Numbering.{binders, bind_binders, branch_binders, IsNumbered, AreNumbered}
 
 -- The numbers from one on to another one, without it.
 abbrev Runs : ℕ → List ℕ → ℕ → Type 0

@@ -14,13 +14,12 @@ use Rattle.gib_syntax.specs.Declarations.{number_of, constructor_named, function
 use Rattle.gib_syntax.specs.Typing as typing
 use Rattle.gib_syntax.specs.Typing.{Globals, Has, HaveAll, HaveArms, parameter_types}
 use Rattle.gib_syntax.specs.Meaning.{at_fields}
-use Rattle.gib_core.specs.declared.atom.Variable.{Variable}
 use Rattle.gib_core.specs.declared.atom.Atom.{Atom}
 use Rattle.gib_core.specs.declared.atom.Atom.TheVariants as atomic
 use Rattle.gib_core.specs.declared.atom.Kind.TheVariants.{Scalar}
-use Rattle.gib_core.specs.Tree.{Term, Then, Write, Point, CallTerm, Give, CaseTerm, IfTerm, Bind, Past, One, Both, Prim, Reach, Side, On, Branches, NoBranch, BranchThen, variable_of, var, variables_from, prepend}
+use Rattle.gib_core.specs.Tree.{Term, Write, CallTerm, Give, IfTerm, Bind, Past, One, Prim, On, Branches, NoBranch, BranchThen, var, variables_from, prepend}
 use Rattle.gib_core.specs.Inferring.{Scope, slot, Lined, Atomed, Several, ToLine, ToAtom, Code, boxed, of_line, of_atom, result_of, plain_line, of_plain, several, operation_atom, call_line, call_atom, call_side, scalar_call, call_code, further_types, pointed_fields, as_atoms, make_from, make_line, let_line, par_line, if_line, ArmCode, with_fields, Branched, arm_for, branch_of, branches_of, constructors_of, first_constructor, case_line, atom_at, type_at, con_or, con_named, gives_type, infer, infer_all, infer_arms, infer_body}
-use Rattle.gib_core.specs.Ordered.{IsFit, AreFit, next_of, FieldsOrdered, behind_fields, IsFound, IsOrdered, BindOrdered, SideOrdered, BranchesOrdered}
+use Rattle.gib_core.specs.Ordered.{IsFit, AreFit, next_of, IsFound, IsOrdered, BindOrdered, BranchesOrdered}
 use Rattle.gib_core.proofs.Erases.{fit_more, fields_ordered, fields_behind}
 use Rattle.gib_infer.proofs.Fits.{ScopeFits, all_fit_more, scope_more, at_fit, fields_fit, named_at}
 

@@ -69,7 +69,7 @@ drop-at [] n f e = absurd cc
 drop-at (x ∷ fs) zero f e = (λ i. same_Some x f e i ∷ fs)
 drop-at (x ∷ fs) (suc n) f e = drop-at fs n f e ∙ ap (λ k. f ∷ drop k (x ∷ fs)) (let q : suc (n + 1) ≡ suc n + 1 = omega arith in q)
 
-inside_more : (n m : ℕ) (made : List CoreFunction) → n ≤ m → AllByRecursion (IsFunctionInside n) made → AllByRecursion (IsFunctionInside m) made
+pub inside_more : (n m : ℕ) (made : List CoreFunction) → n ≤ m → AllByRecursion (IsFunctionInside n) made → AllByRecursion (IsFunctionInside m) made
 inside_more n m [] le h = tt
 inside_more n m (x ∷ made) le h = (let q = h.0 in omega (arith, q, le), inside_more n m made le h.1)
 

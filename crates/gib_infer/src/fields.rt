@@ -1,74 +1,15 @@
 //! The types of fields, and what stands at scalar or packed ones.
 
 ghost use Rattle.std.specs.Prelude.{◌≡◌, false, IfOk};
-ghost use Rattle.gib_syntax.specs.Meaning.{at_fields, is_scalar as scalar};
-ghost use Rattle.gib_core.specs.Inferring.{first_type as first, further_types as further};
+ghost use Rattle.gib_syntax.specs.Meaning.{at_fields};
 ghost use Rattle.gib_infer.specs.Made.{Binds, BindsFields};
 
 use crate::work::{Work, new_variable};
 use gib_base::Memory;
 use gib_core::{Atom, Slot, Variable};
-use gib_syntax::{ExprId, Ident};
-use gib_types::Ty;
+use gib_syntax::Ident;
+use gib_types::{Ty, first_type, further_types};
 use std::alloc::Global;
-
-/// The first of these types; of none, `Int`.
-pub fn first_type(types: &[Ty]) -> Ty
-    ensures { result ≡ first types.now }
-{
-    match types {
-        [] => Ty::Whole,
-        [ty, ..] => *ty,
-    }
-}
-
-/// The types behind the first one.
-pub fn further_types(types: &[Ty]) -> &[Ty]
-    ensures { result.now ≡ further types.now }
-{
-    match types {
-        [] => types,
-        [_, after @ ..] => after,
-    }
-}
-
-/// Whether values of a type are scalars.
-pub fn is_scalar(ty: Ty) -> bool
-    ensures { result ≡ scalar ty }
-{
-    match ty {
-        Ty::Whole => true,
-        Ty::Truth => true,
-        Ty::Tree(_) => false,
-    }
-}
-
-/// The arguments at the scalar fields, or at the packed ones, among fields of these types.
-pub fn arguments_at(
-    alloc: Global,
-    scalars: bool,
-    types: &[Ty],
-    arguments: &[ExprId],
-) -> Result<Vec<ExprId>, Memory>
-    ensures { IfOk result (λ v. v.items ≡ at_fields scalars types.now arguments.now) }
-{
-    let mut selected = Vec::new(alloc);
-    let mut types_left = types;
-    let mut left = arguments;
-    'arguments: while let [argument, after @ ..] = left {
-        match types_left {
-            [] => return Ok(selected),
-            [ty, types_after @ ..] => {
-                if is_scalar(*ty) == scalars {
-                    selected.push(*argument)?;
-                }
-                types_left = types_after;
-                left = after;
-            }
-        }
-    }
-    Ok(selected)
-}
 
 /// The types of the packed fields among these.
 pub fn packed_types(alloc: Global, types: &[Ty]) -> Result<Vec<Ty>, Memory>
@@ -77,7 +18,7 @@ pub fn packed_types(alloc: Global, types: &[Ty]) -> Result<Vec<Ty>, Memory>
     let mut packed = Vec::new(alloc);
     let mut left = types;
     'types: while let [ty, after @ ..] = left {
-        if !is_scalar(*ty) {
+        if !ty.is_scalar() {
             packed.push(*ty)?;
         }
         left = after;

@@ -26,22 +26,14 @@ pub fn constructor(typed: &Typed, name: Ident) -> ConId
 pub fn fields_of(typed: &Typed, con: ConId) -> &[Ty]
     ensures { result.now ≡ fields_at (globals_in typed.now).table con.0 }
 {
-    if con.0 < typed.types().len() {
-        typed.types().fields(con)
-    } else {
-        &[]
-    }
+    typed.types().fields(con)
 }
 
 /// The type that a constructor belongs to.
 pub fn owner_of(typed: &Typed, con: ConId) -> TyId
     ensures { result.0 ≡ owner_at (globals_in typed.now).table con.0 }
 {
-    if con.0 < typed.types().len() {
-        typed.types().type_of(con)
-    } else {
-        TyId(0)
-    }
+    typed.types().owner(con)
 }
 
 /// The first constructor of a type, and how many it has.
@@ -49,13 +41,7 @@ pub fn constructors_of(typed: &Typed, ty: TyId) -> (u32, u32)
     ensures all { numbers_from result.0 result.1 ≡ all_of (globals_in typed.now).table ty.0 }
     ensures few { result.0 + result.1 ≤ 200 }
 {
-    let types = typed.types();
-    types.rules();
-    if ty.0 < types.type_count() {
-        (types.first_of(ty).0, types.count_of(ty))
-    } else {
-        (0, 0)
-    }
+    typed.types().constructors_of(ty)
 }
 
 /// The type that the function of a name gives.

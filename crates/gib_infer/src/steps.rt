@@ -4,11 +4,10 @@ ghost use Rattle.std.specs.Prelude.{◌≡◌, ℕ, ◌+◌, ◌<◌, ◌++◌, 
 ghost use Rattle.gib_core.specs.Inferring.{call_atom, make_from};
 ghost use Rattle.gib_infer.specs.Made.{AreBindingsBelow, MakesLine, MakesAtom, PointsFields, pending, pending_atom, plain_atoms, given_atom, ended_call, side_call};
 
-use crate::fields::{first_type, further_types};
 use crate::work::{Work, new_variable, put_line};
 use gib_base::{Memory, Name};
 use gib_core::{Atom, Binding, BoundTerm, Kind, Node, TermId};
-use gib_types::{ConId, Ty};
+use gib_types::{ConId, Ty, first_type, further_types};
 use std::alloc::Global;
 
 /// A scalar that is given, behind its bindings.

@@ -9,7 +9,7 @@ ghost use Rattle.gib_core.specs.Inferring.{Branched, infer, several, boxed, oper
 ghost use Rattle.gib_infer.specs.Made.{scope_of, globals_in, code_at, codes_at, arms_at, AreBelow, AreBindingsBelow, MakesLine, MakesAtom, MakesAtoms, MakesSide, MakesBranch, BranchesSoFar};
 ghost use Rattle.gib_infer.specs.declared.work.Work.{Work};
 
-use crate::fields::{arguments_at, bind, bind_fields, is_scalar, packed_types};
+use crate::fields::{bind, bind_fields, packed_types};
 use crate::names::{
     arm_of, constructor, constructors_of, fields_of, first_constructor, owner_of, result_type,
 };
@@ -21,7 +21,7 @@ use gib_base::Memory;
 use gib_check::Typed;
 use gib_core::{Atom, Binding, BoundTerm, Branch, Node as TermNode, TermId};
 use gib_syntax::{Arm, ExprId, Exprs, Ident, Node, Operator};
-use gib_types::{ConId, Ty};
+use gib_types::{ConId, Ty, items_at};
 use std::alloc::Global;
 
 /// The expression in result place.
@@ -349,7 +349,7 @@ fn call_atom(
     ensures { IfOk result (λ r. MakesAtom work.old work.new bindings.old.items bindings.new.items r.0 r.1 ((infer (globals_in typed.now) (Call f (arguments_from (tree_of exprs.now) ids.now))).atom (scope_of work.old.scope.items) work.old.fresh)) }
 {
     let ty = result_type(typed, f);
-    if is_scalar(ty) {
+    if ty.is_scalar() {
         let atoms = arguments(alloc, typed, exprs, work, bindings, id, ids)?;
         let atom = bind_call(work, bindings, f.name, atoms, ty)?;
         return Ok((atom, ty));
@@ -378,9 +378,9 @@ fn make(
     let constructor = constructor(typed, k);
     let types = fields_of(typed, constructor);
     let mut bindings = Vec::new(alloc);
-    let scalars = arguments_at(alloc, true, types, ids)?;
+    let scalars = items_at(alloc, true, types, ids)?;
     let scalars = arguments(alloc, typed, exprs, work, &mut bindings, id, &scalars)?;
-    let packed = arguments_at(alloc, false, types, ids)?;
+    let packed = items_at(alloc, false, types, ids)?;
     let packed = arguments(alloc, typed, exprs, work, &mut bindings, id, &packed)?;
     let packed_types = packed_types(alloc, types)?;
     let ty = Ty::Tree(owner_of(typed, constructor));

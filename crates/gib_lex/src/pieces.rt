@@ -3,22 +3,17 @@
 ghost use Rattle.std.specs.Prelude.{◌≡◌, ◌≤◌, length};
 ghost use Rattle.std.specs.List.{prefix_len};
 ghost use Rattle.std.specs.Char.{is_ascii_digit, is_ascii_alphabetic};
-ghost use Rattle.gib_base.specs.Piece.{is_blank, is_name_byte, is_comment_byte, is_sign_byte};
+ghost use Rattle.gib_base.specs.Piece.{is_blank, is_comment_byte, is_sign_byte};
 ghost use Rattle.gib_base.specs.Spelling.{word_of, name_piece, value_from, number_piece, dash_piece, equal_piece, single_of, piece_of};
 ghost use Rattle.gib_lex.specs.Reading.{dash_len, equal_len, longest};
 
-use gib_base::token::{Piece, Sign};
+use gib_base::letters::{digits_len, name_len};
+use gib_base::token::{Piece, Sign, is_literal};
 
 fn is_blank(b: u8) -> bool
     ensures { result ≡ is_blank b }
 {
     b == b' ' || b == b'\t' || b == b'\n' || b == b'\r'
-}
-
-fn is_name_byte(b: u8) -> bool
-    ensures { result ≡ is_name_byte b }
-{
-    b.is_ascii_alphabetic() || b.is_ascii_digit() || b == b'_'
 }
 
 fn is_comment_byte(b: u8) -> bool
@@ -41,20 +36,6 @@ fn is_sign_byte(b: u8) -> bool
         || b == b'+'
         || b == b'*'
         || b == b'<'
-}
-
-fn name_len(bytes: &[u8]) -> usize
-    ensures value { result ≡ prefix_len is_name_byte bytes.now }
-    ensures bound { result ≤ length bytes.now }
-{
-    bytes.iter().take_while(|b| is_name_byte(**b)).count()
-}
-
-fn digits_len(bytes: &[u8]) -> usize
-    ensures value { result ≡ prefix_len is_ascii_digit bytes.now }
-    ensures bound { result ≤ length bytes.now }
-{
-    bytes.iter().take_while(|b| b.is_ascii_digit()).count()
 }
 
 fn comment_len(bytes: &[u8]) -> usize
@@ -182,7 +163,7 @@ fn number(text: &[u8]) -> Piece
         }
         value = 10 * value + u64::from(b.saturating_sub(48));
     }
-    if value < 9_223_372_036_854_775_808 {
+    if is_literal(value) {
         Piece::Number(value)
     } else {
         Piece::TooBig

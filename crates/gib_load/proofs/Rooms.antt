@@ -2,12 +2,12 @@
 use Rattle.std.proofs.Common.{◌≡◌, ℕ, ◌+◌, ◌*◌, ◌<◌, ◌≤◌, ◌^◌, List, [], ◌∷◌, length, refl, sym, ap, subst, ◌∙◌, arith, length-append, Bool, cond, inl, inr}
 use Rattle.std.specs.Prelude.{◌⊎◌}
 use Rattle.std.proofs.lemmas.Bool.Decides.{leb_tells}
-use Rattle.gib_mem.specs.Memory.{Memory, Store, absent, fresh, after_puts, after_draw, Holds, Owned, Grows}
-use Rattle.gib_mem.proofs.Puts.{puts_past, puts_hold, puts_grow, puts_drawn, puts_limit, open_past}
+use Rattle.gib_mem.specs.Memory.{Store, absent, fresh, after_puts, after_draw, Holds, Owned, Grows}
+use Rattle.gib_mem.proofs.Puts.{puts_past, puts_hold, puts_grow, open_past}
 use Rattle.gib_types.specs.declared.table.Ty.{Ty}
 use Rattle.gib_types.specs.declared.table.Ty.TheVariants as ty
 use Rattle.gib_types.specs.Table.{fields_at}
-use Rattle.gib_types.specs.Layout.{LaidOut, is_among, offset_size, packed_count}
+use Rattle.gib_types.specs.Layout.{LaidOut, is_among, offset_size, packed_count, head_size}
 use Rattle.gib_types.specs.Tree.{whole, truth, con, Data, none, more, HaveTypes}
 use Rattle.gib_packed.specs.Scalars.{scalars}
 use Rattle.gib_packed.specs.Head.{head_bytes, offset_bytes}
@@ -17,10 +17,11 @@ use Rattle.gib_region.specs.Leaving.{IsBounded, Leaves}
 use Rattle.gib_region.proofs.Bounds.{there_below, fresh_there}
 use Rattle.gib_region.proofs.Placing.{leaves}
 use Rattle.gib_load.specs.Preorder.{Head}
-use Rattle.gib_load.specs.Spot.{Spot, head_size, start_of, past_item, past_value, places}
+use Rattle.gib_load.specs.Spot.{Spot, further, past_item, past_value, places}
 use Rattle.gib_load.specs.Placement.{Open, spot_of, with_room, place_head}
 use Rattle.gib_load.proofs.Heads.{IsHead, scalars-length}
 use Rattle.gib_load.proofs.Steps.{behind_item}
+use Rattle.gib_load.proofs.Spots.{room_spot, head_spot, head_limit}
 
 -- a region in which items may be placed
 pub record Ready (r : Open) : Type 0 where
@@ -28,20 +29,17 @@ pub record Ready (r : Open) : Type 0 where
   pub behind : Behind r.memory.cells r.at
   pub nine : 9 ≤ rest r.at
 
--- there is room for an item of w bytes at a in the memory m, and s is the spot behind it
-record RoomMade (r : Open) (w : ℕ) (m : Memory) (a : ℕ) (s : Spot) : Type 0 where
-  placed : Placed r.memory r.at w m a
-  above : (q : ℕ) → 4096 * s.drawn ≤ q → m.cells q ≡ absent
-  drawn : m.drawn ≡ s.drawn
-  limit : m.limit ≡ r.memory.limit
-  ends : a + w ≤ 4096 * s.drawn
-  at : s.at ≡ a + w
+-- in the region q an item of w bytes goes at the cursor, below the end of the last of d chunks
+record RoomMade (r : Open) (w : ℕ) (q : Open) (d : ℕ) : Type 0 where
+  placed : Placed r.memory r.at w q.memory q.at
+  above : (x : ℕ) → 4096 * d ≤ x → q.memory.cells x ≡ absent
+  ends : q.at + w ≤ 4096 * d
+
+abbrev drawn_by : Open → Bool → ℕ
+drawn_by r b = (cond {A = Spot} b (spot_of r) (record { at = 4096 * r.memory.drawn; drawn = r.memory.drawn + 1 })).drawn
 
 abbrev room_by : Open → ℕ → Bool → Type 0
-room_by r w b = RoomMade r w (cond b r.memory (redirected r.memory r.at r.memory.drawn)) (cond b r.at (4096 * r.memory.drawn)) (cond {A = Spot} b (record { at = r.at + w; drawn = r.memory.drawn }) (record { at = 4096 * r.memory.drawn + w; drawn = r.memory.drawn + 1 }))
-
-abbrev drawn_by : Open → ℕ → Bool → ℕ
-drawn_by r w b = (cond {A = Spot} b (record { at = r.at + w; drawn = r.memory.drawn }) (record { at = 4096 * r.memory.drawn + w; drawn = r.memory.drawn + 1 })).drawn
+room_by r w b = RoomMade r w (cond {A = Open} b r (record { memory = redirected r.memory r.at r.memory.drawn; at = 4096 * r.memory.drawn })) (drawn_by r b)
 
 -- the chunk of the cursor is drawn
 in_chunk : (r : Open) → Ready r → r.at + rest r.at ≤ 4096 * r.memory.drawn
@@ -50,27 +48,21 @@ in_chunk r ready =
     let below = there_below r.memory r.at fresh ready.bounded first fresh_there in
     omega (arith, below)
 
-room_made : (r : Open) (w : ℕ) → Ready r → w ≤ 65 → (past_item (spot_of r) w).drawn ≤ r.memory.limit → RoomMade r w (with_room r w) (start_of (spot_of r) w) (past_item (spot_of r) w)
+room_made : (r : Open) (w : ℕ) → Ready r → w ≤ 65 → (past_item (spot_of r) w).drawn ≤ r.memory.limit → RoomMade r w (with_room r w) (past_item (spot_of r) w).drawn
 room_made r w ready few small = elim (leb_tells (w + 9) (rest r.at)) [
   | inl le ↦ subst (room_by r w) (sym le.0) (record {
     placed = here le.1;
     above = ready.bounded.above;
-    drawn = refl;
-    limit = refl;
     ends = let e = in_chunk r ready in omega (arith, le.1, e);
-    at = refl;
   })
   | inr lt ↦
-      (let room : r.memory.drawn + 1 ≤ r.memory.limit = subst (λ (b : Bool). drawn_by r w b ≤ r.memory.limit) lt.0 small in
+      (let room : r.memory.drawn + 1 ≤ r.memory.limit = subst (λ (b : Bool). drawn_by r b ≤ r.memory.limit) lt.0 small in
       let e = in_chunk r ready in
       let m1 = after_draw r.memory r.memory.drawn in
       subst (room_by r w) (sym lt.0) (record {
         placed = turned (λ h. absurd (omega (arith, lt.1, h))) (record { order = omega arith; within = omega (arith, room); alone = λ x. refl });
         above = λ q le. puts_past m1 r.at (pointer 255 (4096 * r.memory.drawn)) q (omega (arith, le, e, ready.nine)) ∙ open_past r.memory.cells r.memory.drawn q (omega (arith, le)) ∙ ready.bounded.above q (omega (arith, le));
-        drawn = puts_drawn m1 r.at (pointer 255 (4096 * r.memory.drawn));
-        limit = puts_limit m1 r.at (pointer 255 (4096 * r.memory.drawn));
         ends = omega (arith, few);
-        at = refl;
       }))
 ]
 
@@ -113,36 +105,34 @@ holds_grown : {s t : Store} {a : ℕ} {bs : List ℕ} → Grows s t → Holds s 
 holds_grown g h = Rattle.gib_packed.proofs.Grow.Holds-grows g h
 
 pub head_placed : (laid : LaidOut) (r : Open) (h : Head) → IsHead laid.table h → Ready r → head_size laid h.tag ≤ 65 → (past_item (spot_of r) (head_size laid h.tag)).drawn ≤ r.memory.limit
-    → HeadPlaced laid r h (start_of (spot_of r) (head_size laid h.tag)) (head_bytes laid h.tag (places laid (past_item (spot_of r) (head_size laid h.tag)) h.fields) h.fields) (place_head laid r h)
+    → HeadPlaced laid r h (with_room r (head_size laid h.tag)).at (head_bytes laid h.tag (places laid (past_item (spot_of r) (head_size laid h.tag)) h.fields) h.fields) (place_head laid r h)
 head_placed laid r h is ready few small =
     let w = head_size laid h.tag in
-    let s = past_item (spot_of r) w in
-    let a = start_of (spot_of r) w in
-    let m = with_room r w in
-    let bytes = head_bytes laid h.tag (places laid s h.fields) h.fields in
+    let q = with_room r w in
+    let past : further (spot_of q) w ≡ past_item (spot_of r) w = ap (λ (s : Spot). further s w) (room_spot r w) in
+    let bytes = head_bytes laid h.tag (places laid (further (spot_of q) w) h.fields) h.fields in
     let room = room_made r w ready few small in
-    let left : Leaves r.memory m r.at w a = leaves r.memory r.at w m a ready.bounded ready.behind ready.nine few room.placed in
-    let long : length bytes ≡ w = head-length laid s h is in
-    let own : Owned m.cells a (length bytes) = subst (λ (n : ℕ). Owned m.cells a n) (sym long) left.owned in
-    let grown = puts_grow m a bytes own in
-    let behind : Behind (after_puts m a bytes).cells s.at = subst (λ (x : ℕ). Behind (after_puts m a bytes).cells x) (sym room.at) (behind_item r.memory m r.at w a bytes left long) in
-    let drawn : (after_puts m a bytes).drawn ≡ s.drawn = puts_drawn m a bytes ∙ room.drawn in
-    let limit : (after_puts m a bytes).limit ≡ r.memory.limit = puts_limit m a bytes ∙ room.limit in
+    let left : Leaves r.memory q.memory r.at w q.at = leaves r.memory r.at w q.memory q.at ready.bounded ready.behind ready.nine few room.placed in
+    let long : length bytes ≡ w = head-length laid (further (spot_of q) w) h is in
+    let own : Owned q.memory.cells q.at (length bytes) = subst (λ (n : ℕ). Owned q.memory.cells q.at n) (sym long) left.owned in
+    let grown = puts_grow q.memory q.at bytes own in
+    let drawn : (after_puts q.memory q.at bytes).drawn ≡ (past_item (spot_of r) w).drawn = ap (λ (s : Spot). s.drawn) (head_spot laid r h) in
+    let limit : (after_puts q.memory q.at bytes).limit ≡ r.memory.limit = head_limit laid r h in
     record {
       ready = record {
         bounded = record {
-          above = λ q le. puts_past m a bytes q (omega (arith, le, long, room.ends, drawn)) ∙ room.above q (omega (arith, le, drawn));
+          above = λ x le. puts_past q.memory q.at bytes x (omega (arith, le, long, room.ends, drawn)) ∙ room.above x (omega (arith, le, drawn));
           order = omega (arith, drawn, limit, small);
           small = omega (arith, limit, ready.bounded.small);
         };
-        behind = behind;
-        nine = subst (λ (x : ℕ). 9 ≤ rest x) (sym room.at) left.redirect_fits;
+        behind = behind_item r.memory q.memory r.at w q.at bytes left long;
+        nine = left.redirect_fits;
       };
-      grows = record { kept = λ q b e. grown.kept q b (left.grows.kept q b e) };
-      holds = puts_hold m a bytes;
+      grows = record { kept = λ x b e. grown.kept x b (left.grows.kept x b e) };
+      holds = subst (λ (s : Spot). Holds (after_puts q.memory q.at bytes).cells q.at (head_bytes laid h.tag (places laid s h.fields) h.fields)) past (puts_hold q.memory q.at bytes);
       led = elim left.led [ inl e ↦ inl e | inr h ↦ inr (holds_grown grown h) ];
       small = omega (arith, left.small);
-      spot = ap (λ (d : ℕ). record { at = s.at; drawn = d }) drawn;
-      at = room.at;
+      spot = head_spot laid r h;
+      at = refl;
       limit = limit;
     }

@@ -6,7 +6,7 @@ use Rattle.gib_types.specs.declared.table.Ty.{Ty}
 use Rattle.gib_types.specs.declared.table.Ty.TheVariants as ty
 use Rattle.gib_types.specs.declared.table.TyId.{TyId}
 use Rattle.gib_types.specs.Table.{con_at, fields_at, IsTable}
-use Rattle.gib_types.specs.Layout.{LaidOut}
+use Rattle.gib_types.specs.Layout.{LaidOut, head_size}
 use Rattle.gib_types.specs.Tree.{Datum, whole, truth, con, Data, none, more, HasType, HaveTypes}
 use Rattle.gib_packed.specs.Decoding.{Dec, redirect, head, Decs, done, whole_field, truth_field, tree_field}
 use Rattle.gib_packed.specs.Head.{head_bytes}
@@ -16,7 +16,7 @@ use Rattle.gib_region.specs.Region.{from_none, no_tails}
 use Rattle.gib_region.specs.Leaving.{IsBounded}
 use Rattle.gib_region.proofs.Keeping.{finished_owned}
 use Rattle.gib_load.specs.Preorder.{Head, heads, all_heads}
-use Rattle.gib_load.specs.Spot.{Spot, head_size, past_item, past_value, past_fields, places}
+use Rattle.gib_load.specs.Spot.{Spot, past_item, past_value, past_fields, places}
 use Rattle.gib_load.specs.Placement.{Open, spot_of, place_head, place_heads, begun, placed_in}
 use Rattle.gib_load.specs.Holding.{Holding}
 use Rattle.gib_load.proofs.Heads.{place-append, heads-count}

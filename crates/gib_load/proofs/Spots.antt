@@ -4,13 +4,13 @@ use Rattle.std.proofs.lemmas.Bool.Decides.{leb_tells}
 use Rattle.gib_mem.specs.Memory.{Memory, after_draw}
 use Rattle.gib_mem.proofs.Puts.{puts_drawn, puts_limit}
 use Rattle.gib_types.specs.Table.{IsTable}
-use Rattle.gib_types.specs.Layout.{LaidOut}
+use Rattle.gib_types.specs.Layout.{LaidOut, head_size}
 use Rattle.gib_types.specs.Tree.{Datum, whole, truth, con, Data, none, more}
 use Rattle.gib_packed.specs.Head.{head_bytes}
 use Rattle.gib_region.specs.Region.{rest, pointer, redirected, has_room}
 use Rattle.gib_load.specs.Preorder.{Head, heads, all_heads}
-use Rattle.gib_load.specs.Spot.{Spot, head_size, start_of, past_item, past_value, past_fields, places}
-use Rattle.gib_load.specs.Placement.{Open, spot_of, with_room, place_head, place_heads, begun}
+use Rattle.gib_load.specs.Spot.{Spot, room_for, further, past_item, past_value, past_fields, places}
+use Rattle.gib_load.specs.Placement.{Open, spot_of, with_room, with_bytes, place_head, place_heads, begun}
 use Rattle.gib_load.specs.Refusal.{Refused, at_start, at_head, Spent}
 use Rattle.gib_load.proofs.Heads.{place-append, heads-count}
 
@@ -19,38 +19,45 @@ pub record Sizes (laid : LaidOut) : Type 0 where
   pub rules : IsTable laid.table
   pub heads : (k : ℕ) → head_size laid k ≤ 65
 
--- the spot behind an item, by whether there is room
+-- where an item goes, and the spot behind it, by whether there is room
+abbrev spot_by : Spot → Bool → Spot
+spot_by s b = cond {A = Spot} b s (record { at = 4096 * s.drawn; drawn = s.drawn + 1 })
+
 abbrev past_by : Spot → ℕ → Bool → Spot
-past_by s k b = cond {A = Spot} b (record { at = s.at + k; drawn = s.drawn }) (record { at = 4096 * s.drawn + k; drawn = s.drawn + 1 })
+past_by s k b = further (spot_by s b) k
 
-abbrev room_by : Open → Bool → Memory
-room_by r b = cond b r.memory (redirected r.memory r.at r.memory.drawn)
+abbrev room_by : Open → Bool → Open
+room_by r b = cond {A = Open} b r (record { memory = redirected r.memory r.at r.memory.drawn; at = 4096 * r.memory.drawn })
 
-room_drawn : (r : Open) (w : ℕ) → (with_room r w).drawn ≡ (past_item (spot_of r) w).drawn
-room_drawn r w = go (has_room r.at w)
+pub room_spot : (r : Open) (w : ℕ) → spot_of (with_room r w) ≡ room_for (spot_of r) w
+room_spot r w = go (has_room r.at w)
   where
-    go : (b : Bool) → (room_by r b).drawn ≡ (past_by (spot_of r) w b).drawn
+    go : (b : Bool) → spot_of (room_by r b) ≡ spot_by (spot_of r) b
     go true = refl
-    go false = puts_drawn (after_draw r.memory r.memory.drawn) r.at (pointer 255 (4096 * r.memory.drawn))
+    go false = ap (λ (d : ℕ). record { at = 4096 * r.memory.drawn; drawn = d }) (puts_drawn (after_draw r.memory r.memory.drawn) r.at (pointer 255 (4096 * r.memory.drawn)))
 
-room_limit : (r : Open) (w : ℕ) → (with_room r w).limit ≡ r.memory.limit
+pub room_limit : (r : Open) (w : ℕ) → (with_room r w).memory.limit ≡ r.memory.limit
 room_limit r w = go (has_room r.at w)
   where
-    go : (b : Bool) → (room_by r b).limit ≡ r.memory.limit
+    go : (b : Bool) → (room_by r b).memory.limit ≡ r.memory.limit
     go true = refl
     go false = puts_limit (after_draw r.memory r.memory.drawn) r.at (pointer 255 (4096 * r.memory.drawn))
+
+-- behind bytes that were put
+bytes_spot : (q : Open) (w : ℕ) (bytes : List ℕ) → spot_of (with_bytes q w bytes) ≡ further (spot_of q) w
+bytes_spot q w bytes = ap (λ (d : ℕ). record { at = q.at + w; drawn = d }) (puts_drawn q.memory q.at bytes)
 
 pub head_spot : (laid : LaidOut) (r : Open) (h : Head) → spot_of (place_head laid r h) ≡ past_item (spot_of r) (head_size laid h.tag)
 head_spot laid r h =
     let w = head_size laid h.tag in
-    let s = past_item (spot_of r) w in
-    ap (λ (d : ℕ). record { at = s.at; drawn = d }) (puts_drawn (with_room r w) (start_of (spot_of r) w) (head_bytes laid h.tag (places laid s h.fields) h.fields) ∙ room_drawn r w)
+    let q = with_room r w in
+    bytes_spot q w (head_bytes laid h.tag (places laid (further (spot_of q) w) h.fields) h.fields) ∙ ap (λ (s : Spot). further s w) (room_spot r w)
 
 pub head_limit : (laid : LaidOut) (r : Open) (h : Head) → (place_head laid r h).memory.limit ≡ r.memory.limit
 head_limit laid r h =
     let w = head_size laid h.tag in
-    let s = past_item (spot_of r) w in
-    puts_limit (with_room r w) (start_of (spot_of r) w) (head_bytes laid h.tag (places laid s h.fields) h.fields) ∙ room_limit r w
+    let q = with_room r w in
+    puts_limit q.memory q.at (head_bytes laid h.tag (places laid (further (spot_of q) w) h.fields) h.fields) ∙ room_limit r w
 
 pub heads_limit : (laid : LaidOut) (r : Open) (hs : List Head) → (place_heads laid r hs).memory.limit ≡ r.memory.limit
 heads_limit laid r [] = refl

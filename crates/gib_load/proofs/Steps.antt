@@ -1,5 +1,5 @@
 -- One head more.
-use Rattle.std.proofs.Common.{◌≡◌, ℕ, ◌+◌, ◌-◌, ◌*◌, ◌<◌, ◌≤◌, ◌^◌, List, [], ◌∷◌, ◌++◌, length, get_or, drop, take, refl, sym, ap, subst, subst₂, ◌∙◌, arith, add-one, length-append, length-drop, append_assoc, append-nil, Bool, true, false, cond, Option, Some, None, inl, inr}
+use Rattle.std.proofs.Common.{◌≡◌, ℕ, ◌+◌, ◌-◌, ◌*◌, ◌<◌, ◌≤◌, List, [], ◌∷◌, ◌++◌, length, get_or, drop, take, refl, sym, ap, subst, subst₂, ◌∙◌, arith, add-one, length-append, length-drop, append_assoc, append-nil, Bool, true, false, cond, Option, Some, None, inl, inr}
 use Rattle.std.specs.Prelude.{slice_get}
 use Rattle.std.proofs.Math.Seq.{drop-cons, take-append_seam, drop-append_seam, drop-drop}
 use Rattle.std.proofs.lemmas.Bool.Decides.{leb_tells}
@@ -9,15 +9,15 @@ use Rattle.gib_mem.proofs.Puts.{puts_past, puts_alone}
 use Rattle.gib_types.specs.declared.table.Ty.TheVariants as ty
 use Rattle.gib_types.specs.declared.table.TyId.{TyId}
 use Rattle.gib_types.specs.Table.{Row, Table, con_at, if_owned, fields_at}
-use Rattle.gib_types.specs.Layout.{LaidOut, layout_at}
+use Rattle.gib_types.specs.Layout.{LaidOut, layout_at, head_size}
 use Rattle.gib_types.specs.Tree.{Datum, whole, truth, con}
 use Rattle.gib_file.specs.Packed.{Packed}
 use Rattle.gib_packed.specs.Scalars.{scalars}
 use Rattle.gib_region.specs.Region.{rest, Behind, pointer, HasRoom, Placed, here, turned, redirected, IsFull, has_room}
-use Rattle.gib_region.specs.Leaving.{IsBounded, Leaves}
+use Rattle.gib_region.specs.Leaving.{Leaves}
 use Rattle.gib_load.specs.Preorder.{Head, heads}
-use Rattle.gib_load.specs.Spot.{Spot, head_size, start_of, past_item, places}
-use Rattle.gib_load.specs.Placement.{Open, spot_of, with_room, place_head, place_heads}
+use Rattle.gib_load.specs.Spot.{further, places}
+use Rattle.gib_load.specs.Placement.{Open, spot_of, with_room, with_bytes, place_head, place_heads}
 use Rattle.gib_load.specs.Refusal.{Stuck}
 use Rattle.gib_load.proofs.Heads.{bytes_of, tree-bytes, IsHead, AreHeads, one_head, heads-typed, scalars-length, place-append, plain_bytes, plain_size}
 use Rattle.gib_load.proofs.Going.{Going}
@@ -68,13 +68,10 @@ next_head laid r0 v r b bs bytes e g = go g.later g.parts g.left g.typed
 
 -- an item of so many bytes is placed, by where the cursor is alone
 abbrev place_item : Open → ℕ → List ℕ → Open
-place_item r w bytes = record { memory = after_puts (with_room r w) (start_of (spot_of r) w) bytes; at = (past_item (spot_of r) w).at }
+place_item r w bytes = with_bytes (with_room r w) w bytes
 
 abbrev by_room : Open → ℕ → List ℕ → Bool → Open
-by_room r w bytes b = record {
-  memory = after_puts (cond b r.memory (redirected r.memory r.at r.memory.drawn)) (cond b r.at (4096 * r.memory.drawn)) bytes;
-  at = (cond {A = Spot} b (record { at = r.at + w; drawn = r.memory.drawn }) (record { at = 4096 * r.memory.drawn + w; drawn = r.memory.drawn + 1 })).at;
-}
+by_room r w bytes b = with_bytes (cond {A = Open} b r (record { memory = redirected r.memory r.at r.memory.drawn; at = 4096 * r.memory.drawn })) w bytes
 
 room_true : (at w : ℕ) → HasRoom at w → has_room at w ≡ true
 room_true at w room = elim (leb_tells (w + 9) (rest at)) [ inl le ↦ le.0 | inr lt ↦ absurd (omega (arith, lt.1)) ]
@@ -142,7 +139,7 @@ module _ (laid : LaidOut) (plain : laid.with_offsets ≡ []) (payload : List ℕ
         placed_item r w (take (at + w - at) (drop at payload)) m a alone placed
         ∙ ap (place_item r w) front
         ∙ ap (λ (k : ℕ). place_item r k bytes) head_is
-        ∙ ap (place_item r (head_size laid nx.head.tag)) (sym (plain_bytes laid nx.head.tag (places laid (past_item (spot_of r) (head_size laid nx.head.tag)) nx.head.fields) nx.head.fields plain))
+        ∙ ap (place_item r (head_size laid nx.head.tag)) (sym (plain_bytes laid nx.head.tag (places laid (further (spot_of (with_room r (head_size laid nx.head.tag))) (head_size laid nx.head.tag)) nx.head.fields) nx.head.fields plain))
 
     pub goes_on : (m : Memory) (a : ℕ) → r.memory.alone ≡ true → Placed r.memory r.at w m a → Going laid r0 v (record { memory = after_puts m a (take (at + w - at) (drop at payload)); at = a + w }) (drop (at + w) payload)
     goes_on m a alone placed = record {

@@ -1,14 +1,14 @@
 -- What loading makes of a memory.
-use Rattle.std.specs.Prelude.{ℕ, ◌*◌, List, [], ◌∷◌, if◌then◌else◌}
+use Rattle.std.specs.Prelude.{ℕ, ◌+◌, ◌*◌, List, [], ◌∷◌, if◌then◌else◌}
 use Rattle.gib_mem.specs.Memory.{Memory, after_puts, after_draw}
-use Rattle.gib_types.specs.Layout.{LaidOut}
+use Rattle.gib_types.specs.Layout.{LaidOut, head_size}
 use Rattle.gib_types.specs.Tree.{Datum, whole, truth, con}
 use Rattle.gib_region.specs.Region.{redirected, finished, has_room}
 use Rattle.gib_packed.specs.Head.{head_bytes}
 use Rattle.gib_packed.specs.declared.root.Root.{Root}
 use Rattle.gib_packed.specs.declared.root.Root.TheVariants.{Whole, Truth, At}
 use Rattle.gib_load.specs.Preorder.{Head, heads}
-use Rattle.gib_load.specs.Spot.{Spot, head_size, start_of, past_item, places}
+use Rattle.gib_load.specs.Spot.{Spot, further, places}
 
 -- A region that is open: the memory, and the cursor.
 pub record Open : Type 0 where
@@ -19,17 +19,22 @@ pub record Open : Type 0 where
 abbrev pub spot_of : Open → Spot
 spot_of r = record { at = r.at; drawn = r.memory.drawn }
 
--- The memory once there is room for an item of k bytes: where it does not go here, a chunk was drawn and a redirect to
+-- The region once an item of k bytes goes at its cursor: where there was no room, a chunk was drawn and a redirect to
 -- it put.
-abbrev pub with_room : Open → ℕ → Memory
-with_room r k = if has_room r.at k then r.memory else redirected r.memory r.at r.memory.drawn
+abbrev pub with_room : Open → ℕ → Open
+with_room r k = if has_room r.at k then r else record { memory = redirected r.memory r.at r.memory.drawn; at = 4096 * r.memory.drawn }
 
--- One head more. The offsets in it are the places that its packed fields get.
+-- Bytes are put at the cursor, which is behind them then.
+abbrev pub with_bytes : Open → ℕ → List ℕ → Open
+with_bytes r k bytes = record { memory = after_puts r.memory r.at bytes; at = r.at + k }
+
+-- A head is put at the cursor. The offsets in it are the places that its packed fields get.
+abbrev pub put_head : LaidOut → Open → Head → Open
+put_head laid r h = with_bytes r (head_size laid h.tag) (head_bytes laid h.tag (places laid (further (spot_of r) (head_size laid h.tag)) h.fields) h.fields)
+
+-- One head more, where there is room for it.
 abbrev pub place_head : LaidOut → Open → Head → Open
-place_head laid r h = record {
-  memory = after_puts (with_room r (head_size laid h.tag)) (start_of (spot_of r) (head_size laid h.tag)) (head_bytes laid h.tag (places laid (past_item (spot_of r) (head_size laid h.tag)) h.fields) h.fields);
-  at = (past_item (spot_of r) (head_size laid h.tag)).at;
-}
+place_head laid r h = put_head laid (with_room r (head_size laid h.tag)) h
 
 -- Heads, one after another.
 abbrev pub place_heads : LaidOut → Open → List Head → Open

@@ -1,12 +1,11 @@
 -- Where loading finds all chunks drawn.
 use Rattle.std.specs.Prelude.{◌≡◌, ℕ, List, ◌∷◌, ◌++◌}
 use Rattle.gib_mem.specs.Memory.{Memory}
-use Rattle.gib_types.specs.Layout.{LaidOut}
+use Rattle.gib_types.specs.Layout.{LaidOut, head_size}
 use Rattle.gib_types.specs.Loaded.{Loaded}
 use Rattle.gib_types.specs.Tree.{Datum, con, Data}
 use Rattle.gib_region.specs.Region.{HasRoom}
 use Rattle.gib_load.specs.Preorder.{Head, heads}
-use Rattle.gib_load.specs.Spot.{head_size}
 use Rattle.gib_load.specs.Placement.{Open, place_heads, begun}
 
 -- Some of the heads were placed, and for the next one there is no room and no chunk. The memory is as these heads and

@@ -1,6 +1,6 @@
 -- Where items go, by their lengths alone.
 use Rattle.std.specs.Prelude.{ℕ, ◌+◌, ◌*◌, List, [], ◌∷◌, if◌then◌else◌}
-use Rattle.gib_types.specs.Layout.{LaidOut, layout_at}
+use Rattle.gib_types.specs.Layout.{LaidOut, head_size}
 use Rattle.gib_types.specs.Tree.{Datum, whole, truth, con, Data, none, more}
 use Rattle.gib_region.specs.Region.{has_room}
 
@@ -9,17 +9,17 @@ pub record Spot : Type 0 where
   pub at : ℕ
   pub drawn : ℕ
 
--- How many bytes the head of a constructor has.
-abbrev pub head_size : LaidOut → ℕ → ℕ
-head_size laid k = (layout_at laid.table laid.with_offsets k).head
+-- The spot at which an item of k bytes goes: the cursor, or the start of a new chunk.
+abbrev pub room_for : Spot → ℕ → Spot
+room_for s k = if has_room s.at k then s else record { at = 4096 * s.drawn; drawn = s.drawn + 1 }
 
--- Where an item of k bytes starts: at the cursor, or in a new chunk.
-abbrev pub start_of : Spot → ℕ → ℕ
-start_of s k = if has_room s.at k then s.at else 4096 * s.drawn
+-- The spot so many bytes further on.
+abbrev pub further : Spot → ℕ → Spot
+further s k = record { at = s.at + k; drawn = s.drawn }
 
 -- The spot behind an item of k bytes.
 abbrev pub past_item : Spot → ℕ → Spot
-past_item s k = if has_room s.at k then record { at = s.at + k; drawn = s.drawn } else record { at = 4096 * s.drawn + k; drawn = s.drawn + 1 }
+past_item s k = further (room_for s k) k
 
 -- The spot behind a value, and behind the values of fields; a scalar stands in its head.
 abbrev mutual

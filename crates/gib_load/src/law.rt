@@ -3,11 +3,10 @@
 ghost use Rattle.std.specs.Prelude.{◌≡◌, ◌≤◌, ℕ};
 ghost use Rattle.gib_mem.specs.Memory.{Memory};
 ghost use Rattle.gib_types.specs.declared.table.Ty.{Ty as Type_of};
-ghost use Rattle.gib_types.specs.Layout.{LaidOut};
+ghost use Rattle.gib_types.specs.Layout.{LaidOut, head_size};
 ghost use Rattle.gib_types.specs.Table.{IsTable};
 ghost use Rattle.gib_types.specs.Tree.{Datum, HasType};
 ghost use Rattle.gib_region.specs.Leaving.{IsBounded};
-ghost use Rattle.gib_load.specs.Spot.{head_size};
 ghost use Rattle.gib_load.specs.Placement.{placed_in};
 ghost use Rattle.gib_load.specs.Holding.{Holding};
 ghost use Rattle.gib_load.specs.Refusal.{Refused, Spent};

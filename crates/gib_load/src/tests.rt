@@ -1,15 +1,13 @@
 //! Values in memory, byte by byte.
 
-ghost use Rattle.std.specs.Prelude.{◌≡◌, ◌++◌, ◌∷◌, [], map, IfOk, OnOk};
-ghost use Rattle.gib_types.specs.Table.{row_of};
-
 use super::*;
-use gib_base::{Memory, Name};
+use gib_base::Memory;
 use gib_file::{read_header, survey};
 use gib_mem::{Mem, PlainMem};
 use gib_packed::Root;
 use gib_region::Tails;
-use gib_types::{Constructor, Layouts, Ty, TyId, TypeTable};
+use gib_types::sample::mixed;
+use gib_types::{Layouts, Ty, TyId, TypeTable};
 use std::alloc::Global;
 use std::test::*;
 
@@ -20,37 +18,6 @@ const PAIR: Ty = Ty::Tree(TyId(1));
 const TRUTH: Ty = Ty::Tree(TyId(2));
 
 const LIST: Ty = Ty::Tree(TyId(3));
-
-fn add(
-    alloc: Global,
-    rows: &mut Vec<Constructor>,
-    name: u32,
-    owner: u32,
-    fields: &[Ty],
-) -> Result<(), Memory>
-    ensures { OnOk result (map row_of rows.new.items ≡ map row_of rows.old.items ++ record { name = name; owner = owner; fields = fields.now } ∷ []) }
-{
-    let fields = Vec::from_slice(alloc, fields)?;
-    rows.push(Constructor {
-        name: Name(name),
-        owner: TyId(owner),
-        fields,
-    })?;
-    Ok(())
-}
-
-// data Tree = Leaf Int | Node Tree Tree ; data P = P Tree Int ; data B = B Bool ; data List = Nil | Cons Int List ;
-fn table(alloc: Global) -> Result<TypeTable, Memory> {
-    let types = Vec::from_slice(alloc, &[Name(0), Name(1), Name(2), Name(3)])?;
-    let mut rows = Vec::new(alloc);
-    add(alloc, &mut rows, 10, 0, &[Ty::Whole])?;
-    add(alloc, &mut rows, 11, 0, &[TREE, TREE])?;
-    add(alloc, &mut rows, 12, 1, &[TREE, Ty::Whole])?;
-    add(alloc, &mut rows, 13, 2, &[Ty::Truth])?;
-    add(alloc, &mut rows, 14, 3, &[])?;
-    add(alloc, &mut rows, 15, 3, &[Ty::Whole, LIST])?;
-    TypeTable::make(alloc, types, rows)
-}
 
 // The payload's file.
 fn framed(alloc: Global, payload: &[u8]) -> Result<Vec<u8>, Memory> {
@@ -110,7 +77,7 @@ fn look_at(alloc: Global, mem: &mut PlainMem, from: u64, count: usize) -> Result
 #[test]
 fn short_values_stand_as_they_are_packed(rt: HostRuntime) -> Result<(), Fail> {
     let alloc = rt.alloc();
-    let types = table(alloc)?;
+    let types = mixed(alloc)?;
     let cases: [(Ty, &[u8]); 4] = [
         (TREE, b"\x01\x00\x01\0\0\0\0\0\0\0\x00\x02\0\0\0\0\0\0\0"),
         (PAIR, b"\x02\x07\0\0\0\0\0\0\0\x00\x05\0\0\0\0\0\0\0"),
@@ -132,7 +99,7 @@ fn short_values_stand_as_they_are_packed(rt: HostRuntime) -> Result<(), Fail> {
 #[test]
 fn scalars_are_their_own_roots(rt: HostRuntime) -> Result<(), Fail> {
     let alloc = rt.alloc();
-    let types = table(alloc)?;
+    let types = mixed(alloc)?;
     let cases: [(Ty, &[u8], Root); 3] = [
         (
             Ty::Whole,
@@ -157,7 +124,7 @@ fn scalars_are_their_own_roots(rt: HostRuntime) -> Result<(), Fail> {
 #[test]
 fn a_long_list_turns_to_a_new_chunk(rt: HostRuntime) -> Result<(), Fail> {
     let alloc = rt.alloc();
-    let types = table(alloc)?;
+    let types = mixed(alloc)?;
     let fits = list(alloc, 454)?;
     let (loaded, mut mem) = load_payload(alloc, &types, LIST, &fits, 16)?;
     assert!(rt; loaded == Ok(Root::At(0)));
@@ -188,7 +155,7 @@ fn a_long_list_turns_to_a_new_chunk(rt: HostRuntime) -> Result<(), Fail> {
 #[test]
 fn loading_ends_where_all_chunks_are_drawn(rt: HostRuntime) -> Result<(), Fail> {
     let alloc = rt.alloc();
-    let types = table(alloc)?;
+    let types = mixed(alloc)?;
     let turns = list(alloc, 455)?;
     let (loaded, mut mem) = load_payload(alloc, &types, LIST, &turns, 1)?;
     assert!(rt; loaded == Err(LoadFault::Full));

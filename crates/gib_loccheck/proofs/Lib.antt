@@ -7,7 +7,7 @@ pub mod Lining
 pub mod Named
 pub mod Naming
 pub mod OneLine
-pub mod Sample
 pub mod Scoping
 pub mod Searching
 pub mod Walking
+pub mod FoundLemmas

@@ -1,17 +1,9 @@
 -- The places of functions by the numbers of their names, and flags of constructors by their numbers.
 use Rattle.std.specs.Prelude.{◌≡◌, ℕ, ◌==◌, Bool, false, if◌then◌else◌, List, [], ◌∷◌, Option, Some, None, slice_get}
+pub use Rattle.gib_base.specs.Entries.{joined, entry_at}
 use Rattle.gib_types.specs.declared.table.ConId.{ConId}
 use Rattle.gib_core.specs.declared.program.CoreFunction.{CoreFunction}
 use Rattle.gib_core.specs.Rules.{is_one_of}
-
--- What there is, where there is something at all.
-abbrev pub joined : {A : Type 0} → Option (Option A) → Option A
-joined None = None
-joined (Some o) = o
-
--- What stands at a number; past the end nothing does.
-abbrev pub entry_at : {A : Type 0} → List (Option A) → ℕ → Option A
-entry_at entries number = joined (slice_get entries number)
 
 -- The first function of a name.
 abbrev pub first_named : List CoreFunction → ℕ → Option CoreFunction

@@ -5,8 +5,7 @@ ghost use Rattle.gib_types.specs.Table.{scalar_types};
 ghost use Rattle.gib_core.specs.Rules.{all_usable as usable, any_other as other, have_types as typed, are_variables as variables_are, any_cased as cased_in, further as further_in};
 ghost use Rattle.gib_loccheck.specs.Views.{in_scope, before_of};
 
-use crate::state::{Walk, is_listed};
-use crate::table::is_scalar;
+use crate::state::Walk;
 use gib_core::{Atom, Variable};
 use gib_types::Ty;
 
@@ -52,7 +51,7 @@ pub fn have_scalar_types(walk: &Walk, atoms: &[Atom], fields: &[Ty]) -> bool
     let mut left = atoms;
     let mut fields_left = fields;
     'fields: while let [ty, fields_after @ ..] = fields_left {
-        if is_scalar(*ty) {
+        if ty.is_scalar() {
             match left {
                 [] => return false,
                 [atom, after @ ..] => {
@@ -107,9 +106,7 @@ fn is_variable(variable: Variable, atom: Atom) -> bool
 pub fn any_cased(walk: &Walk, variables: &[Variable]) -> bool
     ensures { result ≡ cased_in (before_of walk.now).cased variables.now }
 {
-    variables
-        .iter()
-        .any(|variable| is_listed(&walk.cased, *variable))
+    variables.iter().any(|variable| walk.cased.has(*variable))
 }
 
 /// The variables behind the first one.

@@ -1,6 +1,6 @@
 //! What stands behind a binding.
 
-ghost use Rattle.std.specs.Prelude.{◌≡◌, ℕ, true, false, None, IfOk, IfErr, OnOk};
+ghost use Rattle.std.specs.Prelude.{◌≡◌, ℕ, true, false, take, None, IfOk, IfErr, OnOk};
 ghost use Rattle.gib_types.specs.declared.table.Ty.{Ty as AnyType};
 ghost use Rattle.gib_core.specs.Tree.{CoreTree, Term, Past, Prim, Reach, On, Both};
 ghost use Rattle.gib_core.specs.Arena.{side_from};
@@ -14,8 +14,7 @@ use crate::cases::enter_arm;
 use crate::fault::LocFault;
 use crate::indexed::IndexedCore;
 use crate::lines::{past, prim, reach};
-use crate::state::{Destination, Target, Walk, find};
-use crate::table::fields_of;
+use crate::state::{Destination, Target, Walk};
 use gib_base::Memory;
 use gib_core::{Access, Atom, BoundTerm, Branch, Kind, Known, Variable};
 use gib_syntax::Operator;
@@ -32,6 +31,15 @@ pub fn enter(walk: &mut Walk, variable: Variable) -> Result<(), Memory>
         behind: None,
     })?;
     Ok(())
+}
+
+/// The variables leave that came into scope since it had so many.
+pub fn leave(walk: &mut Walk, outer: usize) -> Result<(), Memory>
+    ensures scope { OnOk result (walk.new.scope.items ≡ take outer walk.old.scope.items) }
+    ensures others { OnOk result (walk.new.others.items ≡ walk.old.others.items) }
+    ensures stays { OnOk result (Stays walk.old walk.new) }
+{
+    walk.scope.truncate(outer)
 }
 
 /// Behind a field that stands, or another bound term, before its variable is in scope.
@@ -125,7 +133,7 @@ pub fn operate(
 fn enter_field(walk: &mut Walk, field: Variable) -> Result<(), Memory>
     ensures { OnOk result (Reaches walk.old walk.new field) }
 {
-    if let Some(known) = find(&walk.scope, field) {
+    if let Some(known) = walk.scope.find(field) {
         walk.scope.push(Known {
             variable: known.variable,
             reached: true,
@@ -186,7 +194,7 @@ pub fn open_arm(
     ensures binds { IfOk result (λ t. Binds walk.old walk.new t (in_arm core.now.table (setting_of walk.old target.now) branch.now.constructor branch.now.variables.items)) }
     ensures stays { IfOk result (λ _. Stays walk.old walk.new) }
 {
-    let types = fields_of(core.types(), branch.constructor);
+    let types = core.types().fields(branch.constructor);
     enter_arm(
         &mut walk.scope,
         branch.constructor,

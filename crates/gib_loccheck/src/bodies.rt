@@ -11,8 +11,10 @@ ghost use Rattle.gib_loccheck.specs.Judging.{Says};
 ghost use Rattle.gib_loccheck.specs.Bodies.{Pass, Blame, Opens, bodies_of};
 
 use crate::bindings::enter;
+use crate::bound::{BoundVariables, MarkedVariables};
 use crate::fault::LocFault;
 use crate::indexed::IndexedCore;
+use crate::scope::Scope;
 use crate::state::{Destination, Target, Walk};
 use crate::walk::term;
 use gib_base::Memory;
@@ -32,12 +34,12 @@ fn result_place(ty: Ty) -> Destination
 }
 
 /// The walk begins a body: its parameters are bound and in scope, and nothing else is.
-fn open_body(walk: &mut Walk, parameters: &[Ty]) -> Result<(), Memory>
+fn open_body(alloc: Global, walk: &mut Walk, parameters: &[Ty]) -> Result<(), Memory>
     ensures { OnOk result (Opens walk.old walk.new parameters.now) }
 {
-    walk.bound.clear();
-    walk.cased.clear();
-    walk.scope.clear();
+    walk.bound = BoundVariables::new(alloc);
+    walk.cased = MarkedVariables::new(alloc);
+    walk.scope = Scope::new(alloc);
     walk.others.clear();
     let mut number: u32 = 0;
     let mut left = parameters;
@@ -67,7 +69,7 @@ fn body(
     ensures passes { IfOk result (λ _. Pass (core_of core.now) walk.old.place walk.new.place (record { parameters = parameters.now; result = result_type; term = term_of core.now.terms id.0 } ∷ [])) }
     ensures broken { IfErr result (Blame (core_of core.now) walk.old.place (record { parameters = parameters.now; result = result_type; term = term_of core.now.terms id.0 } ∷ [])) }
 {
-    open_body(walk, parameters)?;
+    open_body(alloc, walk, parameters)?;
     let target = Target {
         destination: result_place(result_type),
         due: result_type,
@@ -108,9 +110,9 @@ pub fn check_bodies(alloc: Global, core: &IndexedCore) -> Result<(), LocFault>
     ensures broken { IfErr result (λ e. Says e (first_broken (core_of core.now))) }
 {
     let mut walk = Walk {
-        bound: Vec::new(alloc),
-        cased: Vec::new(alloc),
-        scope: Vec::new(alloc),
+        bound: BoundVariables::new(alloc),
+        cased: MarkedVariables::new(alloc),
+        scope: Scope::new(alloc),
         others: Vec::new(alloc),
         place: 0,
     };

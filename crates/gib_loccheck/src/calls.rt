@@ -11,7 +11,6 @@ ghost use Rattle.gib_loccheck.specs.Views.{setting_of, before_of, call_rules};
 use crate::atoms::{all_usable, any_other, have_types};
 use crate::indexed::IndexedCore;
 use crate::state::{Target, Walk};
-use crate::table::{is_scalar, same_type};
 use gib_base::Name;
 use gib_core::{Atom, CoreFunction};
 use gib_types::Ty;
@@ -20,7 +19,7 @@ use gib_types::Ty;
 fn may_give(target: &Target, ty: Ty) -> bool
     ensures { result ≡ (not (scalar ty) || target.now.whole) }
 {
-    !is_scalar(ty) || target.whole
+    !ty.is_scalar() || target.whole
 }
 
 /// Whether a call fits its function.
@@ -28,7 +27,7 @@ fn call_fits(walk: &Walk, target: &Target, arguments: &[Atom], function: &CoreFu
     ensures { result ≡ fits (before_of walk.now) (setting_of walk.now target.now) arguments.now (Some (function_term (term_of []) function.now)) }
 {
     have_types(walk, arguments, &function.parameters)
-        && same_type(function.result, target.due)
+        && function.result.is(target.due)
         && may_give(target, function.result)
 }
 
@@ -45,7 +44,7 @@ fn known_call_rule(
     if any_other(walk, arguments) {
         return Some(4);
     }
-    if !is_scalar(function.result) && !target.is_empty() {
+    if !function.result.is_scalar() && !target.is_empty() {
         return Some(6);
     }
     if !all_usable(walk, arguments) {

@@ -9,12 +9,13 @@ ghost use Rattle.gib_core.specs.Rules.{least, rules, cover, are_arms as arms_are
 ghost use Rattle.gib_loccheck.specs.Views.{setting_of, before_of, arms_in};
 ghost use Rattle.gib_loccheck.specs.Judging.{Extends};
 
+use crate::bound::BoundVariables;
 use crate::indexed::IndexedCore;
-use crate::state::{Target, Walk, is_bound, is_listed};
-use crate::table::{constructors_of, fields_of, first_type, further_types};
+use crate::scope::Scope;
+use crate::state::{Target, Walk, is_listed};
 use gib_base::Memory;
 use gib_core::{Atom, Behind, Bound, Branch, Known, Variable};
-use gib_types::{ConId, Ty, TyId, TypeTable};
+use gib_types::{ConId, Ty, TyId, TypeTable, first_type, further_types};
 use std::alloc::Global;
 
 /// Whether a branch is one of this constructor, with a variable for each field.
@@ -22,14 +23,14 @@ fn is_arm(types: &TypeTable, constructor: u32, branch: &Branch) -> bool
     ensures { result ≡ (constructor == branch.now.constructor.0 && length (fields_at types.now constructor) == length branch.now.variables.items) }
 {
     constructor == branch.constructor.0
-        && fields_of(types, ConId(constructor)).len() == branch.variables.len()
+        && types.fields(ConId(constructor)).len() == branch.variables.len()
 }
 
 /// Whether branches are those of a type, in its order, each with a variable for each field.
 fn are_arms(types: &TypeTable, ty: TyId, branches: &[Branch]) -> bool
     ensures { result ≡ arms_are types.now (all_of types.now ty.0) (arms_in branches.now) }
 {
-    let (first, count) = constructors_of(types, ty);
+    let (first, count) = types.constructors_of(ty);
     let mut next = first;
     let mut more = count;
     let mut left = branches;
@@ -82,7 +83,7 @@ fn any_bound(alloc: Global, walk: &Walk, variables: &[Variable]) -> Result<bool,
     let mut seen = Vec::new(alloc);
     let mut left = variables;
     'variables: while let [variable, after @ ..] = left {
-        if is_bound(&walk.bound, *variable) || is_listed(&seen, *variable) {
+        if walk.bound.has(*variable) || is_listed(&seen, *variable) {
             return Ok(true);
         }
         seen.push(*variable)?;
@@ -120,7 +121,11 @@ pub fn case_rule(
 }
 
 /// The fields of an arm were bound, with their types.
-fn bind_fields(bound: &mut Vec<Bound>, variables: &[Variable], types: &[Ty]) -> Result<(), Memory>
+fn bind_fields(
+    bound: &mut BoundVariables,
+    variables: &[Variable],
+    types: &[Ty],
+) -> Result<(), Memory>
     ensures { OnOk result (reverse bound.new.items ≡ fields_bound variables.now types.now (reverse bound.old.items)) }
 {
     let mut types_left = types;
@@ -139,18 +144,14 @@ fn bind_fields(bound: &mut Vec<Bound>, variables: &[Variable], types: &[Ty]) -> 
 /// The fields of all branches were bound.
 pub fn bind_arms(
     types: &TypeTable,
-    bound: &mut Vec<Bound>,
+    bound: &mut BoundVariables,
     branches: &[Branch],
 ) -> Result<(), Memory>
     ensures { OnOk result (reverse bound.new.items ≡ arms_bound types.now (arms_in branches.now) (reverse bound.old.items)) }
 {
     let mut left = branches;
     'branches: while let [branch, after @ ..] = left {
-        bind_fields(
-            bound,
-            &branch.variables,
-            fields_of(types, branch.constructor),
-        )?;
+        bind_fields(bound, &branch.variables, types.fields(branch.constructor))?;
         left = after;
     }
     Ok(())
@@ -195,7 +196,7 @@ fn packed_before(variable: Variable, ty: Ty, before: Option<Variable>) -> Option
 
 /// The variables of an arm come into scope.
 pub fn enter_arm(
-    scope: &mut Vec<Known>,
+    scope: &mut Scope,
     constructor: ConId,
     variables: &[Variable],
     types: &[Ty],

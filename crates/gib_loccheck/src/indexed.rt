@@ -1,62 +1,28 @@
 //! Cores whose functions are found by their names, and whose constructors with offsets by their numbers, in
 //! constant time.
 
-ghost use Rattle.std.specs.Prelude.{◌≡◌, ◌==◌, ◌<◌, ℕ, if◌then◌else◌, length, None, Some, IfOk, OnOk};
+ghost use Rattle.std.specs.Prelude.{◌≡◌, ◌==◌, ℕ, if◌then◌else◌, Some, IfOk, OnOk};
 ghost use Rattle.gib_loccheck.specs.Indexing.{IsIndex, entry_at};
 
 use crate::flagging::{is_flagged, list_flags};
-use gib_base::{Memory, Name};
+use gib_base::{ByNumber, Memory, Name};
 use gib_core::{Core, CoreFunction, CoreMain, Terms};
 use gib_types::{ConId, TypeTable};
 use std::alloc::Global;
 use std::marker::Model;
 
-/// What stands at a number, None past the end.
-fn entry(entries: &[Option<usize>], number: u32) -> Option<usize>
-    ensures { result ≡ entry_at entries.now number }
-{
-    let place = number as usize;
-    if place < entries.len() {
-        entries[place]
-    } else {
-        None
-    }
-}
-
-/// Makes room for an entry at a number: what stands there, and elsewhere, stays.
-fn make_room(entries: &mut Vec<Option<usize>>, number: u32) -> Result<(), Memory>
-    ensures room { OnOk result (number < length entries.new.items) }
-    ensures same { (other : ℕ) → entry_at entries.new.items other ≡ entry_at entries.old.items other }
-{
-    let place = number as usize;
-    if entries.len() <= place {
-        entries.resize(place + 1, None)?;
-    }
-    Ok(())
-}
-
-/// Puts a place at a number, where there is room for it.
-fn set_entry(entries: &mut Vec<Option<usize>>, number: u32, place: usize)
-    requires { number < length entries.old.items }
-    ensures { (other : ℕ) → entry_at entries.new.items other ≡ (if number == other then Some place else entry_at entries.old.items other) }
-{
-    entries[number as usize] = Some(place);
-}
-
 /// Puts a place at the number of a name.
-fn put_place(entries: &mut Vec<Option<usize>>, name: Name, place: usize) -> Result<(), Memory>
-    ensures { OnOk result ((other : ℕ) → entry_at entries.new.items other ≡ (if name.0 == other then Some place else entry_at entries.old.items other)) }
+fn put_place(places: &mut ByNumber<usize>, name: Name, place: usize) -> Result<(), Memory>
+    ensures { OnOk result ((other : ℕ) → entry_at places.new other ≡ (if name.0 == other then Some place else entry_at places.old other)) }
 {
-    make_room(entries, name.0)?;
-    set_entry(entries, name.0, place);
-    Ok(())
+    places.set(name.0, Some(place))
 }
 
 /// The place of the first function of each name. The last function comes first, so that the first one stays.
-fn list_places(alloc: Global, functions: &[CoreFunction]) -> Result<Vec<Option<usize>>, Memory>
-    ensures { IfOk result (λ places. IsIndex functions.now places.items) }
+fn list_places(alloc: Global, functions: &[CoreFunction]) -> Result<ByNumber<usize>, Memory>
+    ensures { IfOk result (λ places. IsIndex functions.now places) }
 {
-    let mut places = Vec::new(alloc);
+    let mut places = ByNumber::new(alloc);
     let mut next = functions.len();
     'functions: while next > 0 {
         next -= 1;
@@ -70,7 +36,7 @@ fn list_places(alloc: Global, functions: &[CoreFunction]) -> Result<Vec<Option<u
 #[derive(Drop)]
 pub struct IndexedCore {
     core: Core,
-    places: Vec<Option<usize>>,
+    places: ByNumber<usize>,
     flags: Vec<bool>,
 }
 
@@ -82,7 +48,7 @@ impl Model for IndexedCore {
 
     ghost view = { λ i. i.core };
 
-    ghost invariant = { λ i. IsIndex i.core.functions i.places.items × AreFlagged i.core.offsets i.flags.items };
+    ghost invariant = { λ i. IsIndex i.core.functions i.places × AreFlagged i.core.offsets i.flags.items };
 }
 
 impl IndexedCore {
@@ -154,7 +120,7 @@ impl IndexedCore {
     fn first(&self, name: Name) -> Option<&CoreFunction>
         ensures { MatchOption result (first_named self.now.functions name.0 ≡ None) (λ f. first_named self.now.functions name.0 ≡ Some f.now) }
     {
-        match entry(&self.places, name.0) {
+        match self.places.get(name.0) {
             None => None,
             Some(place) => self.core.functions().get(place),
         }

@@ -13,6 +13,7 @@ ghost use Rattle.gib_loccheck.specs.Answers.{IsMemory, IsMemoryOr, IsFirst};
 mod atoms;
 mod bindings;
 mod bodies;
+mod bound;
 mod calls;
 mod cases;
 mod fault;
@@ -20,6 +21,7 @@ mod flagging;
 mod indexed;
 mod lines;
 mod rules;
+mod scope;
 mod state;
 mod table;
 #[cfg(test)]

@@ -16,7 +16,7 @@ use crate::rules::{
     give_rule, if_rule, past_rule, point_rule, prim_rule, reach_rule, side_rule, write_rule,
 };
 use crate::state::{Target, Walk};
-use crate::table::{operator_type, type_made};
+use crate::table::operator_type;
 use gib_base::Name;
 use gib_core::{Access, Atom, Bound, Branch, Kind, Variable};
 use gib_syntax::Operator;
@@ -62,7 +62,7 @@ pub fn past(
 {
     let rule = past_rule(core, walk, target, head, constructor);
     judge(walk, rule)?;
-    bind(walk, head, type_made(core.types(), constructor))
+    bind(walk, head, core.types().type_made(constructor))
 }
 
 /// A variable that is bound to a term.

@@ -9,8 +9,8 @@ ghost use Rattle.gib_loccheck.specs.Views.{destination_of, setting_of, in_scope,
 
 use crate::atoms::{all_usable, any_cased, any_other, are_variables, further, have_scalar_types};
 use crate::indexed::IndexedCore;
-use crate::state::{Destination, Target, Walk, find, is_bound, is_listed};
-use crate::table::{fields_of, is_of_type, is_scalar, packed_count, same_type};
+use crate::state::{Destination, Target, Walk, is_listed};
+use crate::table::{is_of_type, packed_count};
 use gib_core::{Access, Atom, Behind, Kind, Known, Variable};
 use gib_types::{ConId, Ty, TypeTable};
 
@@ -27,7 +27,7 @@ pub fn past_rule(
     if !(target.is_empty() && is_of_type(core.types(), constructor, target.due)) {
         return Some(1);
     }
-    if is_bound(&walk.bound, head) {
+    if walk.bound.has(head) {
         return Some(8);
     }
     None
@@ -46,10 +46,10 @@ fn here_rule(
     if !target.has_room(core.types()) {
         return Some(2);
     }
-    if is_bound(&walk.bound, variable) {
+    if walk.bound.has(variable) {
         return Some(8);
     }
-    if !same_type(ty, target.field_due(core.types())) {
+    if !ty.is(target.field_due(core.types())) {
         return Some(9);
     }
     None
@@ -59,10 +59,10 @@ fn here_rule(
 fn region_rule(walk: &Walk, variable: Variable, ty: Ty) -> Option<u8>
     ensures { (table : Table) → result ≡ least (side_rules table (before_of walk.now) (in_scope walk.now) Kind.Region variable ty) }
 {
-    if is_scalar(ty) {
+    if ty.is_scalar() {
         return Some(3);
     }
-    if is_bound(&walk.bound, variable) {
+    if walk.bound.has(variable) {
         return Some(8);
     }
     None
@@ -72,10 +72,10 @@ fn region_rule(walk: &Walk, variable: Variable, ty: Ty) -> Option<u8>
 fn scalar_rule(walk: &Walk, variable: Variable, ty: Ty) -> Option<u8>
     ensures { (table : Table) → result ≡ least (side_rules table (before_of walk.now) (in_scope walk.now) Kind.Scalar variable ty) }
 {
-    if is_bound(&walk.bound, variable) {
+    if walk.bound.has(variable) {
         return Some(8);
     }
-    if !is_scalar(ty) {
+    if !ty.is_scalar() {
         return Some(9);
     }
     None
@@ -106,7 +106,7 @@ pub fn prim_rule(walk: &Walk, variable: Variable, left: Atom, right: Atom) -> Op
     if walk.is_other(left) || walk.is_other(right) {
         return Some(4);
     }
-    if is_bound(&walk.bound, variable) {
+    if walk.bound.has(variable) {
         return Some(8);
     }
     if !(walk.is_usable(left) && walk.is_usable(right)) {
@@ -135,7 +135,7 @@ fn by_access(core: &IndexedCore, walk: &Walk, behind: Option<Behind>, access: Ac
 fn ends_known(walk: &Walk, field: Variable) -> bool
     ensures { result ≡ (is_reached (known (in_scope walk.now).scope field) && not (is_among (before_of walk.now).cased field)) }
 {
-    walk.is_usable(Atom::Variable(field)) && !is_listed(&walk.cased, field)
+    walk.is_usable(Atom::Variable(field)) && !walk.cased.has(field)
 }
 
 /// Whether a field that is in scope and not reached can be reached so.
@@ -155,7 +155,7 @@ pub fn reach_rule(core: &IndexedCore, walk: &Walk, field: Variable, access: Acce
     if is_listed(&walk.others, field) {
         return Some(4);
     }
-    if !may_reach(core, walk, find(&walk.scope, field), access) {
+    if !may_reach(core, walk, walk.scope.find(field), access) {
         return Some(8);
     }
     None
@@ -165,7 +165,7 @@ pub fn reach_rule(core: &IndexedCore, walk: &Walk, field: Variable, access: Acce
 fn is_filled(types: &TypeTable, constructor: ConId, standing: &[Variable], packed: &[Atom]) -> bool
     ensures { result ≡ (length standing.now == length (packed_types types.now constructor) && variables_are standing.now packed.now) }
 {
-    standing.len() == packed_count(fields_of(types, constructor)) && are_variables(standing, packed)
+    standing.len() == packed_count(types.fields(constructor)) && are_variables(standing, packed)
 }
 
 /// Whether the open head can be filled so.
@@ -209,7 +209,7 @@ fn are_scalars(types: &TypeTable, walk: &Walk, target: &Target, scalars: &[Atom]
         Destination::Nowhere => true,
         Destination::Empty => true,
         Destination::Open { constructor, .. } => {
-            have_scalar_types(walk, scalars, fields_of(types, *constructor))
+            have_scalar_types(walk, scalars, types.fields(*constructor))
         }
     }
 }

@@ -1,14 +1,16 @@
 //! What the walk keeps, and what a term is met with.
 
 ghost use Rattle.std.specs.Prelude.{◌≡◌, reverse, IfOk};
-ghost use Rattle.gib_core.specs.Met.{known, field_due as due_at, stands_too, in_side};
-ghost use Rattle.gib_core.specs.Rules.{is_among, is_bound as bound_in, type_bound as type_in, is_nowhere as nowhere, is_empty as empty, has_room as room_in, is_usable as usable, is_other as other, type_of as type_in_atom, has_type as typed};
+ghost use Rattle.gib_core.specs.Met.{field_due as due_at, stands_too, in_side};
+ghost use Rattle.gib_core.specs.Rules.{is_among, is_nowhere as nowhere, is_empty as empty, has_room as room_in, is_usable as usable, is_other as other, type_of as type_in_atom, has_type as typed};
 ghost use Rattle.gib_loccheck.specs.Views.{destination_of, in_scope, setting_of, before_of};
 ghost use Rattle.gib_loccheck.specs.declared.state.Walk.{Walk as State};
 
-use crate::table::{fields_of, packed_at, packed_count, same_type};
+use crate::bound::{BoundVariables, MarkedVariables};
+use crate::scope::Scope;
+use crate::table::{packed_at, packed_count};
 use gib_base::Memory;
-use gib_core::{Atom, Bound, Kind, Known, Variable};
+use gib_core::{Atom, Kind, Variable};
 use gib_types::{ConId, Ty, TypeTable};
 
 /// Where a value is put.
@@ -39,11 +41,11 @@ pub struct Target {
 #[derive(Drop)]
 pub struct Walk {
     /// The variables that were bound in this function.
-    pub bound: Vec<Bound>,
+    pub bound: BoundVariables,
     /// The variables that a `case` of this function was on.
-    pub cased: Vec<Variable>,
+    pub cased: MarkedVariables,
     /// The variables in scope.
-    pub scope: Vec<Known>,
+    pub scope: Scope,
     /// The variables of the other sides of the pars around the term.
     pub others: Vec<Variable>,
     /// The number of the term in the order of the text.
@@ -57,48 +59,13 @@ pub fn is_listed(variables: &[Variable], variable: Variable) -> bool
     variables.iter().rev().any(|known| known.0 == variable.0)
 }
 
-/// What is known of a variable in scope: the newest counts.
-pub fn find(scope: &[Known], variable: Variable) -> Option<Known>
-    ensures { result ≡ known (reverse scope.now) variable }
-{
-    let mut left = scope;
-    'scope: while let [before @ .., known] = left {
-        if known.variable.0 == variable.0 {
-            return Some(*known);
-        }
-        left = before;
-    }
-    None
-}
-
-/// Whether a variable was bound.
-pub fn is_bound(bound: &[Bound], variable: Variable) -> bool
-    ensures { result ≡ bound_in (reverse bound.now) variable }
-{
-    bound.iter().rev().any(|one| one.variable.0 == variable.0)
-}
-
-/// The type that a variable was bound with: the newest counts.
-pub fn type_bound(bound: &[Bound], variable: Variable) -> Option<Ty>
-    ensures { result ≡ type_in (reverse bound.now) variable }
-{
-    let mut left = bound;
-    'bound: while let [before @ .., one] = left {
-        if one.variable.0 == variable.0 {
-            return Some(one.ty);
-        }
-        left = before;
-    }
-    None
-}
-
 impl Walk {
     /// Whether an atom can be used here: it is a literal, or a variable in scope that is reached.
     pub fn is_usable(&self, atom: Atom) -> bool
         ensures { result ≡ usable (in_scope self.now) atom }
     {
         match atom {
-            Atom::Variable(x) => match find(&self.scope, x) {
+            Atom::Variable(x) => match self.scope.find(x) {
                 Some(known) => known.reached,
                 None => false,
             },
@@ -123,7 +90,7 @@ impl Walk {
         ensures { result ≡ type_in_atom (before_of self.now) atom }
     {
         match atom {
-            Atom::Variable(x) => type_bound(&self.bound, x),
+            Atom::Variable(x) => self.bound.type_of(x),
             Atom::Whole(_) => Some(Ty::Whole),
             Atom::Truth(_) => Some(Ty::Truth),
         }
@@ -134,7 +101,7 @@ impl Walk {
         ensures { result ≡ typed (before_of self.now) atom ty }
     {
         match self.type_of(atom) {
-            Some(found) => same_type(found, ty),
+            Some(found) => found.is(ty),
             None => false,
         }
     }
@@ -174,7 +141,7 @@ impl Target {
                 constructor,
                 standing,
                 ..
-            } => standing.len() < packed_count(fields_of(types, *constructor)),
+            } => standing.len() < packed_count(types.fields(*constructor)),
         }
     }
 
@@ -189,7 +156,7 @@ impl Target {
                 constructor,
                 standing,
                 ..
-            } => packed_at(fields_of(types, *constructor), standing.len()),
+            } => packed_at(types.fields(*constructor), standing.len()),
         }
     }
 

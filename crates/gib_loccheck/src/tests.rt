@@ -1,6 +1,7 @@
 ghost use Rattle.std.specs.Prelude.{◌≡◌, ◌++◌, ◌∷◌, [], ◌<◌, ◌≤◌, length, map, IfOk, OnOk};
-ghost use Rattle.gib_types.specs.Table.{row_of};
+ghost use Rattle.gib_types.specs.Table.{IsTyBelow};
 ghost use Rattle.gib_core.specs.Arena.{IsBindingBelow, PartsBelow};
+ghost use Rattle.gib_core.specs.Parts.{IsDeclared};
 
 use crate::{LocFault, loccheck};
 use gib_base::{Memory, Name};
@@ -9,7 +10,8 @@ use gib_core::{
     Terms, Variable,
 };
 use gib_syntax::Operator;
-use gib_types::{ConId, Constructor, Ty, TyId, TypeTable};
+use gib_types::sample::trees;
+use gib_types::{ConId, Ty, TyId};
 use std::alloc::Global;
 use std::test::*;
 
@@ -24,27 +26,6 @@ const COPY: Name = Name(3);
 const SIZE: Name = Name(4);
 
 const BEHIND: Access = Access::Skip(Variable(2));
-
-fn add(alloc: Global, rows: &mut Vec<Constructor>, name: u32, fields: &[Ty]) -> Result<(), Memory>
-    ensures { OnOk result (map row_of rows.new.items ≡ map row_of rows.old.items ++ record { name = name; owner = 0; fields = fields.now } ∷ []) }
-{
-    let fields = Vec::from_slice(alloc, fields)?;
-    rows.push(Constructor {
-        name: Name(name),
-        owner: TyId(0),
-        fields,
-    })?;
-    Ok(())
-}
-
-// data Tree = Leaf Int | Node Tree Tree ;
-fn table(alloc: Global) -> Result<TypeTable, Memory> {
-    let types = Vec::from_slice(alloc, &[Name(0)])?;
-    let mut rows = Vec::new(alloc);
-    add(alloc, &mut rows, 1, &[Ty::Whole])?;
-    add(alloc, &mut rows, 2, &[TREE, TREE])?;
-    TypeTable::make(alloc, types, rows)
-}
 
 fn var(number: u32) -> Atom {
     Atom::Variable(Variable(number))
@@ -487,7 +468,8 @@ fn put_line(alloc: Global, terms: &mut Terms, line: Line) -> Result<TermId, Memo
 
 // fun f (t : Tree) : a type = a body
 fn function(alloc: Global, name: Name, ty: Ty, body: TermId) -> Result<CoreFunction, Memory>
-    ensures { IfOk result (λ f. f.body ≡ body) }
+    ensures body { IfOk result (λ f. f.body ≡ body) }
+    ensures types { IsTyBelow 1 ty → IfOk result (IsDeclared 1) }
 {
     let parameters = Vec::from_slice(alloc, &[TREE])?;
     Ok(CoreFunction {
@@ -518,7 +500,7 @@ fn program(alloc: Global, copied: Atom, line: Line, offsets: &[ConId]) -> Result
         body,
     };
     let offsets = Vec::from_slice(alloc, offsets)?;
-    Ok(Core::new(table(alloc)?, terms, functions, main, offsets))
+    Ok(Core::new(trees(alloc)?, terms, functions, main, offsets))
 }
 
 #[test]

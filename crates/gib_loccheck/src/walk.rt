@@ -10,7 +10,7 @@ ghost use Rattle.gib_loccheck.specs.Views.{setting_of};
 ghost use Rattle.gib_loccheck.specs.Judging.{Passes, Blames, Kept, Binds, with_other};
 
 use crate::bindings::{
-    add_other, behind_field, not_whole, open_arm, open_head, operate, reach_field, stand,
+    add_other, behind_field, leave, not_whole, open_arm, open_head, operate, reach_field, stand,
     stand_both,
 };
 use crate::fault::LocFault;
@@ -52,7 +52,7 @@ pub fn term(
         node = node_at(core, rest);
     }
     end(alloc, core, walk, &inner, rest, node)?;
-    walk.scope.truncate(outer);
+    leave(walk, outer)?;
     Ok(())
 }
 
@@ -308,7 +308,7 @@ fn arm(
     let outer = walk.scope.len();
     let inner = open_arm(core, walk, target, branch)?;
     term(alloc, core, walk, inner, branch.term)?;
-    walk.scope.truncate(outer);
+    leave(walk, outer)?;
     Ok(())
 }
 

@@ -108,6 +108,7 @@ lowered_functions core (g ∷ gs) = lowered core [] g.body Returns (lowered_func
 abbrev pub label_in : ℕ → ℕ → ℕ
 label_in n l = n - l
 
+-- An arm with its label as the number of an instruction.
 abbrev pub arm_in : ℕ → Arm → Arm
 arm_in n arm = record { constructor = arm.constructor; label = label_in n arm.label }
 
@@ -146,6 +147,7 @@ abbrev pub begun : CoreTree → List FunctionTerm → List Entry
 begun core [] = entry_of None core.main.result (length (lowered_functions core [])) 1 core.main.body ∷ []
 begun core (g ∷ gs) = entry_of (Some g.name) g.result (length (lowered_functions core (g ∷ gs))) (length g.parameters) g.body ∷ begun core gs
 
+-- A function with its start as the number of an instruction.
 abbrev pub entry_in : ℕ → Entry → Entry
 entry_in n e = record { name = e.name; start = label_in n e.start; slots = e.slots; result = e.result }
 

@@ -5,6 +5,7 @@ use Rattle.gib_core.specs.Parts.{Parts, core_of}
 use Rattle.gib_core.specs.Low.{laid_of}
 use Rattle.gib_lower.specs.Numbers.{IsIndex}
 
+-- Layouts and numbers are those of the core, and there are so many functions.
 pub record IsSource (core : Parts) (layouts : LaidOut) (numbers : List (Option ℕ)) (count : ℕ) : Type 0 where
   pub layouts_are : layouts ≡ laid_of (core_of core)
   pub index : IsIndex core.functions numbers

@@ -1,13 +1,13 @@
 //! The code of whole cores.
 
-ghost use Rattle.std.specs.Prelude.{◌≡◌, ◌<◌, ◌∷◌, [], Some, length, map, reverse, IfOk, OnOk};
+ghost use Rattle.std.specs.Prelude.{◌≡◌, ◌<◌, ◌^◌, ◌∷◌, [], Some, length, map, reverse, IfOk, OnOk};
 ghost use Rattle.std.specs.List.{AllByRecursion};
 ghost use Rattle.gib_core.specs.Arena.{term_of};
 ghost use Rattle.gib_core.specs.Parts.{IsFunctionInside, core_of, function_term};
 ghost use Rattle.gib_code.specs.Instruction.{instruction_of};
 ghost use Rattle.gib_core.specs.Low.{laid_of, Returns};
 ghost use Rattle.gib_core.specs.Numbering.{AreNumbered};
-ghost use Rattle.gib_core.specs.Fits.{AllFit};
+ghost use Rattle.gib_core.specs.Fits.{AllFit, EachFits};
 ghost use Rattle.gib_lower.specs.Counting.{variables_of};
 ghost use Rattle.gib_lower.specs.Lowering.{label_in, entry_in, entry_of, numbered, lowered, lowered_functions, begun, lower_program};
 
@@ -21,7 +21,7 @@ use crate::source::Source;
 use crate::walk::{Lowering, lower_term};
 use gib_base::Memory;
 use gib_code::{Code, Entry, Instr};
-use gib_core::law::built_fits;
+use gib_core::law::{built_fits, code_that_fits_can_be_run};
 use gib_core::{Checked, CoreFunction, Lowered, TermId};
 use std::alloc::Global;
 
@@ -142,6 +142,7 @@ fn number_entries(alloc: Global, count: u32, reversed: Vec<Entry>) -> Result<Vec
 fn lower_core(alloc: Global, source: &Source) -> Result<(Vec<Instr>, Vec<Entry>), Memory>
     ensures instructions { IfOk result (λ made. map instruction_of made.0.items ≡ (lower_program (core_of source.now)).instructions) }
     ensures functions { IfOk result (λ made. made.1.items ≡ (lower_program (core_of source.now)).functions) }
+    ensures few { IfOk result (λ made. length (map instruction_of made.0.items) < 2 ^ 32) }
 {
     let mut out = Lowering {
         alloc,
@@ -158,7 +159,8 @@ fn lower_core(alloc: Global, source: &Source) -> Result<(Vec<Instr>, Vec<Entry>)
 /// Each body of the core fits.
 fn all_fits(checked: &Checked)
     requires { AreNumbered (core_of checked.now) }
-    ensures { AllFit (core_of checked.now) }
+    ensures named { AllFit (core_of checked.now) }
+    ensures each { EachFits (core_of checked.now) }
 {
     built_fits();
     let core = checked.core();
@@ -170,13 +172,14 @@ fn all_fits(checked: &Checked)
 ///
 /// # Errors
 ///
-/// Want of memory.
+/// Want of memory, which also stands for code of 2^32 instructions or more.
 pub fn lower(alloc: Global, checked: Checked) -> Result<Lowered, Memory>
     requires { AreNumbered (core_of checked) }
     ensures core { IfOk result (λ lowered. lowered.core ≡ checked) }
     ensures code { IfOk result (λ lowered. lowered.code ≡ lower_program (core_of checked)) }
 {
     lowering_gives_its_code();
+    code_that_fits_can_be_run();
     all_fits(&checked);
     let source = Source::make(alloc, checked.into_core())?;
     let (instructions, functions) = lower_core(alloc, &source)?;

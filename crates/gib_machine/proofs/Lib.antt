@@ -8,3 +8,5 @@ pub mod Steps
 pub mod Starts
 pub mod Widths
 pub mod Samples
+pub mod InPlaces
+pub mod Stands

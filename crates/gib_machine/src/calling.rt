@@ -53,7 +53,7 @@ fn slots_of(code: &Code, function: u32) -> u32
 impl Machine {
     /// Goes on at the join of the newest `par` whose left side runs, or ends: no call is left.
     #[tactic(auto, using(crate::proofs::Unwinds::unwound_none, crate::proofs::Unwinds::unwound_some))]
-    fn unwinds(&mut self)
+    pub(crate) fn unwinds(&mut self)
         ensures { (ts : List ℕ) → with_tails self.new ts ≡ unwound (with_tails self.old ts) self.old.pars }
     {
         match self.openings.unwind() {

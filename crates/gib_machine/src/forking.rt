@@ -2,14 +2,15 @@
 
 ghost use Rattle.std.specs.Prelude.{◌≡◌, ◌<◌, ◌+◌, ◌-◌, ◌^◌, ℕ};
 ghost use Rattle.gib_mem.specs.Memory.{Memory};
-ghost use Rattle.gib_machine.specs.Machine.{forks_at, joins_at, backs_at};
+ghost use Rattle.gib_machine.specs.Machine.{enters, forks_at, joins_at, backs_at};
 ghost use Rattle.gib_machine.specs.Stepping.{Makes};
 
 use crate::calling::answer_of;
 use crate::regions::Forked;
+use crate::starting::ForkParts;
 use crate::state::{Doing, Machine};
 use crate::turn::Turn;
-use gib_code::{Answer, Kind};
+use gib_code::Answer;
 
 /// The label before one.
 fn before(label: u32) -> u32
@@ -19,27 +20,36 @@ fn before(label: u32) -> u32
 }
 
 impl Machine {
-    /// Stands at a fork where a level is left; else the `par` is in place.
-    pub(crate) fn forks(&mut self, right: u32, joint: u32, kind: Kind, variable: u32) -> Turn
+    /// Enters a `par` whose left side begins at this level, where there is room for it.
+    pub(crate) fn enters(&mut self, left: bool, level: u32, fork: ForkParts)
         requires next { self.old.ip + 1 < 2 ^ 32 }
-        ensures { (v : Memory) → Makes (λ s. forks_at s right joint kind variable s.level) self.old self.new v v result }
+        ensures { self.new ≡ enters self.old left level fork.right fork.joint fork.kind fork.variable self.old.room }
+    {
+        if self.openings.is_full() {
+            self.doing = Doing::Over(Answer::Deep);
+        } else {
+            self.openings.push_par(Forked {
+                left,
+                join: before(fork.right),
+                joint: fork.joint,
+                kind: fork.kind,
+                variable: fork.variable,
+                level: self.level,
+            });
+            self.level = level;
+            self.went();
+        }
+    }
+
+    /// Stands at a fork where a level is left; else the `par` is in place.
+    pub(crate) fn forks(&mut self, fork: ForkParts) -> Turn
+        requires next { self.old.ip + 1 < 2 ^ 32 }
+        ensures { (v : Memory) → Makes (λ s. forks_at s fork.right fork.joint fork.kind fork.variable s.level) self.old self.new v v result }
     {
         if self.level > 0 {
             return Turn::AtFork;
         }
-        if self.openings.is_full() {
-            self.doing = Doing::Over(Answer::Deep);
-            return Turn::Went;
-        }
-        self.openings.push_par(Forked {
-            left: false,
-            join: before(right),
-            back: before(joint),
-            kind,
-            variable,
-            level: 0,
-        });
-        self.went();
+        self.enters(false, 0, fork);
         Turn::Went
     }
 

@@ -86,7 +86,7 @@ fn main_of(functions: &[Entry]) -> Option<Entry>
 }
 
 /// What a fork says; None where the instruction is no fork.
-fn fork_parts(instr: &Instr) -> Option<ForkParts>
+pub(crate) fn fork_parts(instr: &Instr) -> Option<ForkParts>
     ensures some { IfSome result (λ f. fork_of (Some (instruction_of instr.now)) ≡ Some (forking_of f)) }
     ensures none { IfNone result (fork_of (Some (instruction_of instr.now)) ≡ None) }
 {

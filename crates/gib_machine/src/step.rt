@@ -1,10 +1,12 @@
 //! One micro-step, by the running instruction and how far it is.
 
 ghost use Rattle.std.specs.Prelude.{◌≡◌, ◌<◌, ◌+◌, ◌^◌, ℕ, Some, slice_get};
-ghost use Rattle.gib_code.specs.Instruction.{instruction_of};
+ghost use Rattle.gib_code.specs.Instruction.{instruction_of, IsFine};
 ghost use Rattle.gib_machine.specs.Machine.{begin, next, widest};
-ghost use Rattle.gib_machine.specs.Stepping.{with_tails, Made, Can, CanStep, Runs, IsFine, IsSmallAsk};
+ghost use Rattle.gib_code.specs.Program.{Runs};
+ghost use Rattle.gib_machine.specs.Stepping.{with_tails, Made, Can, CanStep, IsSmallAsk};
 
+use crate::starting::ForkParts;
 use crate::state::{Doing, Machine};
 use crate::turn::Turn;
 use gib_code::{Answer, Code, Instr};
@@ -155,8 +157,14 @@ impl Machine {
                 joint,
                 kind,
                 variable,
-                result: _,
-            } => { self.forks(*right, *joint, *kind, *variable) }
+                result,
+            } => self.forks(ForkParts {
+                right: *right,
+                joint: *joint,
+                kind: *kind,
+                variable: *variable,
+                result: *result,
+            }),
             Instr::Join => self.joins(),
             Instr::Back => self.goes_back(),
         }

@@ -25,10 +25,12 @@ abbrev mutual
   below (suc n) (If p a b c) rest = below n a (t.Sign s.Then ∷ spell b (t.Sign s.Else ∷ spell c rest)) ++ (below n b (t.Sign s.Else ∷ spell c rest) ++ below n c rest)
   below (suc n) (Case p x arms) rest = below_arms n arms (t.Sign s.CloseBrace ∷ rest)
 
+  -- The same of the arguments of a call or of a constructor.
   pub below_arguments : ℕ → Arguments → List Token → List ℕ
   below_arguments n NoArgument rest = []
   below_arguments n (Argument a xs) rest = below n a (spell_arguments xs rest) ++ below_arguments n xs rest
 
+  -- The same of the arms of a case.
   pub below_arms : ℕ → Arms → List Token → List ℕ
   below_arms n (LastArm k xs e) rest = below n e rest
   below_arms n (NextArm k xs e arms) rest = below n e (t.Sign s.Semicolon ∷ spell_arms arms rest) ++ below_arms n arms rest

@@ -10,7 +10,7 @@ ghost use Rattle.gib_parse.specs.Parsing.{Fails, Gives, mode_of, Reads, ReadsAll
 
 use crate::phrases::{begins, constructor, span_at, variable, variables, want};
 use crate::stop::Stop;
-use gib_base::token::{Sign, Token};
+use gib_base::token::{Sign, Token, is_literal};
 use gib_base::{Name, Span};
 use gib_syntax::{Arm, ExprId, Exprs, Ident, Node, Operator};
 use std::alloc::Global;
@@ -22,16 +22,6 @@ pub(crate) enum Kind {
     Any,
     Application,
     Atom,
-}
-
-/// The first number that is too large for a literal.
-const TOO_LARGE: u64 = 9_223_372_036_854_775_808;
-
-/// Whether a number may stand as a literal.
-fn is_literal(value: u64) -> bool
-    ensures { result ≡ is_literal value }
-{
-    value < TOO_LARGE
 }
 
 /// Whether an atom begins here.

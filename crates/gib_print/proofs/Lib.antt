@@ -6,3 +6,8 @@ pub mod RootLemmas
 pub mod Examples
 pub mod CountLemmas
 pub mod SizeLemmas
+mod ImageStore
+mod ImageWalkLemmas
+mod ImageLemmas
+mod ImageLaws
+mod TotalLemmas

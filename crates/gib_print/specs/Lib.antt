@@ -4,3 +4,7 @@ pub mod Stepping
 pub mod Counting
 pub mod Waiting
 pub mod Example
+pub mod Image
+pub mod ImageReading
+pub mod ImageWalk
+pub mod Numbers

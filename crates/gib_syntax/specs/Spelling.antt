@@ -46,10 +46,12 @@ abbrev mutual
   spell (If p a b c) rest = t.Sign s.If ∷ spell a (t.Sign s.Then ∷ spell b (t.Sign s.Else ∷ spell c rest))
   spell (Case p x arms) rest = t.Sign s.Case ∷ t.Variable x.name ∷ t.Sign s.Of ∷ t.Sign s.OpenBrace ∷ spell_arms arms (t.Sign s.CloseBrace ∷ rest)
 
+  -- The tokens of arguments, one after another, and then the rest.
   pub spell_arguments : Arguments → List Token → List Token
   spell_arguments NoArgument rest = rest
   spell_arguments (Argument a xs) rest = spell a (spell_arguments xs rest)
 
+  -- The tokens of arms, a semicolon between two, and then the rest.
   pub spell_arms : Arms → List Token → List Token
   spell_arms (LastArm k xs e) rest = t.Constructor k.name ∷ spell_variables xs (t.Sign s.Arrow ∷ spell e rest)
   spell_arms (NextArm k xs e arms) rest = t.Constructor k.name ∷ spell_variables xs (t.Sign s.Arrow ∷ spell e (t.Sign s.Semicolon ∷ spell_arms arms rest))
@@ -165,10 +167,12 @@ abbrev mutual
   IsFine (If p a b c) = IsFine a × IsFine b × IsFine c
   IsFine (Case p x arms) = HasFine arms
 
+  -- The arguments are trees of the grammar, and atoms.
   pub AreFine : Arguments → Type 0
   AreFine NoArgument = Unit {0}
   AreFine (Argument a xs) = IsFine a × (is_atom a ≡ true) × AreFine xs
 
+  -- The arms' bodies are trees of the grammar.
   pub HasFine : Arms → Type 0
   HasFine (LastArm k xs e) = IsFine e
   HasFine (NextArm k xs e arms) = IsFine e × HasFine arms
@@ -202,10 +206,12 @@ abbrev mutual
   levels (If p a b c) = suc (max (levels a) (max (levels b) (levels c)))
   levels (Case p x arms) = suc (levels_arms arms)
 
+  -- The most levels that one of the arguments has.
   pub levels_arguments : Arguments → ℕ
   levels_arguments NoArgument = 0
   levels_arguments (Argument a xs) = max (levels a) (levels_arguments xs)
 
+  -- The most levels that the body of one of the arms has.
   pub levels_arms : Arms → ℕ
   levels_arms (LastArm k xs e) = levels e
   levels_arms (NextArm k xs e arms) = max (levels e) (levels_arms arms)
@@ -261,10 +267,12 @@ abbrev mutual
       × IsAt at x (t.Sign s.Of ∷ t.Sign s.OpenBrace ∷ spell_arms arms (t.Sign s.CloseBrace ∷ rest))
       × HavePlaces at arms (t.Sign s.CloseBrace ∷ rest)
 
+  -- The arguments carry the spans of their tokens.
   pub ArePlaced : Places → Arguments → List Token → Type 0
   ArePlaced at NoArgument rest = Unit {0}
   ArePlaced at (Argument a xs) rest = IsPlaced at a (spell_arguments xs rest) × ArePlaced at xs rest
 
+  -- The arms carry the spans of their tokens.
   pub HavePlaces : Places → Arms → List Token → Type 0
   HavePlaces at (LastArm k xs e) rest =
       IsAt at k (spell_variables xs (t.Sign s.Arrow ∷ spell e rest)) × AreAt at xs (t.Sign s.Arrow ∷ spell e rest) × IsPlaced at e rest

@@ -128,10 +128,12 @@ abbrev mutual
   expressions (If p a b c) = expressions a + expressions b + expressions c + 1
   expressions (Case p x arms) = arm_expressions arms + 1
 
+  -- How many expressions arguments are together.
   pub all_expressions : Arguments → ℕ
   all_expressions NoArgument = 0
   all_expressions (Argument a xs) = expressions a + all_expressions xs
 
+  -- How many expressions the bodies of arms are together.
   pub arm_expressions : Arms → ℕ
   arm_expressions (LastArm k xs e) = expressions e
   arm_expressions (NextArm k xs e arms) = expressions e + arm_expressions arms
@@ -151,10 +153,12 @@ abbrev mutual
   bindings (If p a b c) = bindings a + bindings b + bindings c
   bindings (Case p x arms) = arm_bindings arms
 
+  -- How many variables arguments bind together.
   pub all_bindings : Arguments → ℕ
   all_bindings NoArgument = 0
   all_bindings (Argument a xs) = bindings a + all_bindings xs
 
+  -- How many variables arms bind together, their own among them.
   pub arm_bindings : Arms → ℕ
   arm_bindings (LastArm k xs e) = length xs + bindings e
   arm_bindings (NextArm k xs e arms) = length xs + bindings e + arm_bindings arms

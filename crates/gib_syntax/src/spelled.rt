@@ -1,23 +1,23 @@
 //! Tokens that are put down from the last one to the first.
 
-use gib_base::Memory;
 use gib_base::token::{Sign, Token};
+use gib_base::{Memory, Reversed};
 use std::alloc::Global;
 use std::marker::Model;
 
-/// Tokens, the last one put first.
+/// Tokens, each put before all that were put earlier.
 #[derive(Drop)]
 pub(crate) struct Spelled {
-    reversed: Vec<Token>,
+    tokens: Reversed<Token>,
 }
 
 impl Model for Spelled {
-    ghost use Rattle.std.specs.Prelude.{List, reverse};
+    ghost use Rattle.std.specs.Prelude.{List};
     ghost use Rattle.gib_base.specs.declared.token.Token.{Token as Item};
 
     ghost Value = { List Item };
 
-    ghost view = { λ s. reverse s.reversed.items };
+    ghost view = { λ s. s.tokens };
 }
 
 impl Spelled {
@@ -28,7 +28,7 @@ impl Spelled {
         ensures { result ≡ [] }
     {
         Spelled {
-            reversed: Vec::new(alloc),
+            tokens: Reversed::new(alloc),
         }
     }
 
@@ -36,8 +36,7 @@ impl Spelled {
     pub(crate) fn put(&mut self, token: Token) -> Result<(), Memory>
         ensures { OnOk result (self.new ≡ token ∷ self.old) }
     {
-        self.reversed.push(token)?;
-        Ok(())
+        self.tokens.put(token)
     }
 
     /// A word or sign, before the others.
@@ -51,8 +50,6 @@ impl Spelled {
     pub(crate) fn into_tokens(self) -> Vec<Token>
         ensures { result.items ≡ self }
     {
-        let mut tokens = self.reversed;
-        tokens.reverse();
-        tokens
+        self.tokens.into_vec()
     }
 }

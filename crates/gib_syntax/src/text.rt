@@ -1,11 +1,10 @@
 //! Tokens as text.
 
-ghost use Rattle.std.specs.Prelude.{◌≡◌, ◌++◌, [], ◌∷◌, unwrap_or, slice_get, IfOk, OnOk};
-ghost use Rattle.std.specs.Fmt.{decimal};
+ghost use Rattle.std.specs.Prelude.{◌≡◌, ◌++◌, [], ◌∷◌, IfOk, OnOk};
 ghost use Rattle.gib_base.specs.Spelling.{sign_text, token_text, tokens_text};
 
 use gib_base::token::{Sign, Token};
-use gib_base::{Memory, Name, Names};
+use gib_base::{Memory, Names, push_decimal};
 use std::alloc::Global;
 
 /// How a word or sign is written.
@@ -46,40 +45,20 @@ fn sign_text(sign: Sign) -> &'static [u8]
     }
 }
 
-/// The text of a name; a number that no name has stands for no text.
-fn name_text(names: &Names, name: Name) -> &[u8]
-    ensures { result.now ≡ unwrap_or (slice_get names.now name.0) [] }
-{
-    if name.0 < names.len() {
-        names.text(name)
-    } else {
-        &[]
-    }
-}
-
-/// Writes a number.
-fn push_number(alloc: Global, out: &mut Vec<u8>, value: u64) -> Result<(), Memory>
-    ensures { OnOk result (out.new.items ≡ out.old.items ++ decimal value) }
-{
-    let digits = format!(in alloc; "{value}")?;
-    out.extend_from_slice(digits.as_bytes())?;
-    Ok(())
-}
-
 /// Writes a token.
 fn push_token(alloc: Global, out: &mut Vec<u8>, names: &Names, token: Token) -> Result<(), Memory>
     ensures { OnOk result (out.new.items ≡ out.old.items ++ token_text names.now token) }
 {
     match token {
         Token::Variable(name) => {
-            out.extend_from_slice(name_text(names, name))?;
+            out.extend_from_slice(names.text_or_none(name))?;
             Ok(())
         }
         Token::Constructor(name) => {
-            out.extend_from_slice(name_text(names, name))?;
+            out.extend_from_slice(names.text_or_none(name))?;
             Ok(())
         }
-        Token::Number(value) => push_number(alloc, out, value),
+        Token::Number(value) => push_decimal(alloc, out, value),
         Token::Sign(sign) => {
             out.extend_from_slice(sign_text(sign))?;
             Ok(())

@@ -29,7 +29,7 @@ fn copy_constructor(alloc: Global, types: &TypeTable, con: ConId) -> Result<Cons
     let fields = Vec::from_slice(alloc, types.fields(con))?;
     Ok(Constructor {
         name: types.name_of(con),
-        owner: types.type_of(con),
+        owner: types.owner(con),
         fields,
     })
 }

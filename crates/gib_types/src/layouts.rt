@@ -122,11 +122,7 @@ impl Layouts {
     pub fn fields(&self, con: ConId) -> &[Ty]
         ensures { result.now ≡ field_types self.now con.0 }
     {
-        if con.0 < self.types.len() {
-            self.types.fields(con)
-        } else {
-            &[]
-        }
+        self.types.fields(con)
     }
 
     /// The layout of a constructor; of no constructor, that of one without fields.
@@ -165,13 +161,5 @@ impl Layouts {
         ensures packed { (con : ℕ) → packed_at self.now con ≤ 8 }
     {
         self.types.rules();
-    }
-
-    /// A head has at most 65 bytes, and at most eight packed fields follow it.
-    pub fn heads(&self)
-        ensures long { (con : ℕ) → (layout_at self.now.table self.now.with_offsets con).head ≤ 65 }
-        ensures packed { (con : ℕ) → (layout_at self.now.table self.now.with_offsets con).packed ≤ 8 }
-    {
-        self.rules();
     }
 }

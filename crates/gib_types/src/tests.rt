@@ -1,26 +1,14 @@
 //! Layouts of a small table.
 
-ghost use Rattle.std.specs.Prelude.{◌≡◌, ◌++◌, ◌∷◌, [], map, OnOk, IfOk, length, ◌<◌};
-ghost use Rattle.gib_types.specs.Table.{row_of};
+ghost use Rattle.std.specs.Prelude.{◌≡◌, IfOk, length};
 
 use super::*;
+use crate::sample::add;
 use gib_base::{Memory, Name};
 use std::alloc::Global;
 use std::test::*;
 
 const SELF: Ty = Ty::Tree(TyId(0));
-
-fn add(alloc: Global, rows: &mut Vec<Constructor>, name: u32, fields: &[Ty]) -> Result<(), Memory>
-    ensures { OnOk result (map row_of rows.new.items ≡ map row_of rows.old.items ++ record { name = name; owner = 0; fields = fields.now } ∷ []) }
-{
-    let fields = Vec::from_slice(alloc, fields)?;
-    rows.push(Constructor {
-        name: Name(name),
-        owner: TyId(0),
-        fields,
-    })?;
-    Ok(())
-}
 
 // data T = Leaf Int Bool | Node T Int T | Wide T T T T T T T T | Long Int Int Int Int Int Int Int Int ;
 fn table(alloc: Global) -> Result<TypeTable, Memory>
@@ -28,18 +16,20 @@ fn table(alloc: Global) -> Result<TypeTable, Memory>
 {
     let types = Vec::from_slice(alloc, &[Name(0)])?;
     let mut rows = Vec::new(alloc);
-    add(alloc, &mut rows, 10, &[Ty::Whole, Ty::Truth])?;
-    add(alloc, &mut rows, 11, &[SELF, Ty::Whole, SELF])?;
+    add(alloc, &mut rows, 10, 0, &[Ty::Whole, Ty::Truth])?;
+    add(alloc, &mut rows, 11, 0, &[SELF, Ty::Whole, SELF])?;
     add(
         alloc,
         &mut rows,
         12,
+        0,
         &[SELF, SELF, SELF, SELF, SELF, SELF, SELF, SELF],
     )?;
     add(
         alloc,
         &mut rows,
         13,
+        0,
         &[
             Ty::Whole,
             Ty::Whole,

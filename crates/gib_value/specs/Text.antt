@@ -23,6 +23,7 @@ abbrev mutual
   spell table names (con k none) rest = con_text table names k ++ rest
   spell table names (con k (more v vs)) rest = 40 ∷ (con_text table names k ++ 32 ∷ spell table names v (spell_fields table names vs rest))
 
+  -- The text of fields behind the first one, the parenthesis that closes them, and then the rest.
   pub spell_fields : Table → List (List ℕ) → Data → List ℕ → List ℕ
   spell_fields table names none rest = 41 ∷ rest
   spell_fields table names (more v vs) rest = 32 ∷ spell table names v (spell_fields table names vs rest)

@@ -26,6 +26,7 @@ abbrev mutual
   size (truth b) = 1
   size (con k vs) = sizes vs + 2
 
+  -- How much there is to write of fields.
   pub sizes : Data → ℕ
   sizes none = 0
   sizes (more v vs) = size v + sizes vs

@@ -2,10 +2,8 @@
 
 ghost use Rattle.std.specs.Prelude.{◌≡◌, ◌<◌, ◌≤◌, ◌+◌, ◌-◌, ◌++◌, ◌∷◌, ◌↔◌, [], ℕ, ℤ, List, Bool, true, false, IsTrue, length, map, take, drop, Some, FitsSigned, OnOk, IfOk, MatchOption, MatchResult};
 ghost use Rattle.std.specs.Int.{w64};
-ghost use Rattle.std.specs.List.{AllByRecursion, prefix_len};
-ghost use Rattle.std.specs.Char.{is_ascii_digit};
+ghost use Rattle.std.specs.List.{AllByRecursion};
 ghost use Rattle.std.specs.Fmt.{signed_decimal};
-ghost use Rattle.gib_base.specs.Piece.{is_name_byte};
 ghost use Rattle.gib_types.specs.Tree.{Datum};
 ghost use Rattle.gib_types.specs.Table.{con_at, fields_at, name_at};
 ghost use Rattle.gib_value.specs.Heap.{value_of, IsWithin};
@@ -19,32 +17,10 @@ use crate::heap::Heap;
 use crate::node::Node;
 use crate::todo::{Todo, Wanted};
 use crate::value::Value;
+use gib_base::letters::{digits_len, name_len};
 use gib_base::{Memory, Names};
 use gib_types::{ConId, Ty, TyId, TypeTable};
 use std::alloc::Global;
-
-/// Whether a name goes on with the byte.
-fn name_byte(b: u8) -> bool
-    ensures { result ≡ is_name_byte b }
-{
-    b.is_ascii_alphabetic() || b.is_ascii_digit() || b == 95
-}
-
-/// How many bytes at the front go on a name.
-fn name_len(bytes: &[u8]) -> usize
-    ensures value { result ≡ prefix_len is_name_byte bytes.now }
-    ensures bound { result ≤ length bytes.now }
-{
-    bytes.iter().take_while(|b| name_byte(**b)).count()
-}
-
-/// How many bytes at the front are digits.
-fn digits_len(bytes: &[u8]) -> usize
-    ensures value { result ≡ prefix_len is_ascii_digit bytes.now }
-    ensures bound { result ≤ length bytes.now }
-{
-    bytes.iter().take_while(|b| b.is_ascii_digit()).count()
-}
 
 /// The length of the token at the front, or 0 where none begins.
 fn token_len(bytes: &[u8]) -> usize
@@ -154,7 +130,7 @@ fn find_of(types: &TypeTable, names: &Names, ty: TyId, token: &[u8]) -> Option<C
     let Some(con) = find_named(types, names, token) else {
         return None;
     };
-    if types.type_of(con).0 == ty.0 {
+    if types.owner(con).0 == ty.0 {
         Some(con)
     } else {
         None
@@ -167,7 +143,7 @@ fn is_full(types: &TypeTable, ty: TyId, con: ConId) -> bool
     ensures yes { result ≡ true → HasFull types.now ty }
     ensures no { result ≡ false → con_at types.now ty.0 con.0 ≡ Some con.0 → 0 < length (fields_at types.now con.0) → ⊥ }
 {
-    types.type_of(con).0 == ty.0 && !types.fields(con).is_empty()
+    types.owner(con).0 == ty.0 && !types.fields(con).is_empty()
 }
 
 /// Whether the type has a constructor with fields.

@@ -2,7 +2,6 @@
 
 ghost use Rattle.std.specs.Prelude.{◌≡◌, ◌<◌, ◌+◌, ◌++◌, ◌∷◌, [], reverse, length, map, OnOk, IfOk};
 ghost use Rattle.std.specs.List.{AllByRecursion};
-ghost use Rattle.std.specs.Fmt.{signed_decimal};
 ghost use Rattle.gib_types.specs.Tree.{IsTyped};
 ghost use Rattle.gib_value.specs.declared.write.Due.TheVariants.{Field as field_due};
 ghost use Rattle.gib_value.specs.Heap.{value_of, IsWithin};
@@ -13,7 +12,7 @@ ghost use Rattle.gib_value.specs.Writing.{due_text, due_size, size, IsDue};
 use crate::heap::Heap;
 use crate::node::Node;
 use crate::value::Value;
-use gib_base::{Memory, Names};
+use gib_base::{Memory, Names, push_signed};
 use gib_types::{ConId, TypeTable};
 use std::alloc::Global;
 
@@ -22,15 +21,6 @@ use std::alloc::Global;
 enum Due {
     Field(Node),
     Close,
-}
-
-/// Writes a number.
-fn push_number(alloc: Global, out: &mut Vec<u8>, z: i64) -> Result<(), Memory>
-    ensures { OnOk result (out.new.items ≡ out.old.items ++ signed_decimal z) }
-{
-    let digits = format!(in alloc; "{z}")?;
-    out.extend_from_slice(digits.as_bytes())?;
-    Ok(())
 }
 
 /// Writes a truth value.
@@ -108,7 +98,7 @@ fn push_node(
     ensures less { OnOk result (due_size heap.now (reverse due.new.items) < size (value_of heap.now node) + due_size heap.now (reverse due.old.items)) }
 {
     match node {
-        Node::Whole(z) => push_number(alloc, out, z),
+        Node::Whole(z) => push_signed(alloc, out, z),
         Node::Truth(b) => push_truth(out, b),
         Node::Con { con, count, first } => {
             if count == 0 {

@@ -25,7 +25,8 @@ use Rattle.gib_machine.specs.Machine.{times, widest, Slots, slot, set, Frame, Op
 use Rattle.gib_core.specs.Cost.{Cost, nothing, plus, one_item, one_region}
 use Rattle.gib_weave.proofs.Counts.{Paid, most_then, item_counted, turn_counted, turned_counted, chunk_counted}
 use Rattle.gib_core.specs.Fits.{AloneFits, SideFits, Sort, Scalar, Held, Placed, Scope, Dest, Nowhere, Empty, more, IsDue, cased, side_cased, loosen, Fits}
-use Rattle.gib_weave.specs.Environment.{Ctx, IsPlaced, StandsAt, Turns, there, turn as redirected, Has, HasAll}
+use Rattle.gib_weave.specs.Environment.{Ctx, IsPlaced, StandsAt, Has, HasAll}
+use Rattle.gib_packed.specs.Reaching.{Turns, there, turn as redirected}
 use Rattle.gib_weave.specs.Continuing.{Rest, Plain, Part, Meet, Leave, Last, KSide, KLast, IsInBody, Follows, Next, IsMeet, rest_pars, pars_of, side_of, RestCode, RestFits, result_sort, rest_cased, rest_nest, Kont, end_of, due, root, nest, side_nest, AllCalm, Agrees, IsCode}
 use Rattle.gib_weave.specs.Owing.{debt_of, no_debt, level_after, own_region, link, costs, side_costs, task_costs, Owed, rest_sides, sides_of, rest_means, side_gives, Debt, means, resume}
 use Rattle.gib_weave.specs.Paying.{Share, AtMost, Counted, new_share, cost_after, left_costs, later_costs}

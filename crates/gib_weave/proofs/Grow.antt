@@ -10,7 +10,8 @@ use Rattle.gib_packed.proofs.Grow as g
 use Rattle.gib_code.specs.Program.{CodeTree}
 use Rattle.gib_machine.specs.Machine.{Slots, slot, Frame, Open as OpenRegion}
 use Rattle.gib_core.specs.Fits.{Sort, Outside, Absent, Scalar, Held, Placed, Loose, AtHead, Field, Dest, Nowhere, Empty, Open}
-use Rattle.gib_weave.specs.Environment.{Ctx, StandsAt, Turns, there, turn, Has, HasAll, Fields, none, field, IsDest, Matches}
+use Rattle.gib_weave.specs.Environment.{Ctx, StandsAt, Has, HasAll, Fields, none, field, IsDest, Matches}
+use Rattle.gib_packed.specs.Reaching.{Turns, there, turn}
 use Rattle.gib_weave.specs.Continuing.{Rest, KSide, KLast, Kont, KEnd, KHere, KRegion, KScalar, KCall, KCallScalar}
 use Rattle.gib_weave.specs.Stacks.{Waits, Stack}
 

@@ -32,8 +32,11 @@ pub mod Events
 pub mod Progress
 pub mod Picks
 pub mod Row
-pub mod Fine
 pub mod Calls
 pub mod Mades
 pub mod RootRuns
 pub mod RootEnds
+pub mod Standing
+pub mod Newest
+pub mod Applying
+pub mod Going

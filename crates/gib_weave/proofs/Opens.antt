@@ -22,7 +22,8 @@ use Rattle.gib_core.specs.Low.{To}
 use Rattle.gib_machine.specs.Machine.{Slots, set, Frame, Open as OpenRegion, State, Turning, next, begins, sets, cursor, size, latest, places, turn_on, placed, Item, HeadOf, ToTree, doing}
 use Rattle.gib_weave.proofs.Counts.{goes_on_counted, Paid, item_counted, turn_counted, turned_counted, tail_counted, chunk_counted}
 use Rattle.gib_core.specs.Fits.{Held, Placed, Dest, Empty, Open, dest_type, more, packed_due, cased}
-use Rattle.gib_weave.specs.Environment.{Ctx, Turns, there, turn as redirected, Fields, none, IsDest}
+use Rattle.gib_weave.specs.Environment.{Ctx, Fields, none, IsDest}
+use Rattle.gib_packed.specs.Reaching.{Turns, there, turn as redirected}
 use Rattle.gib_weave.specs.Continuing.{Rest, Plain, Part, RestCode, rest_cased, Kont, KHere, KRegion, end_of, due, IsCode}
 use Rattle.gib_weave.specs.Owing.{Owed, rest_means, means}
 use Rattle.gib_weave.specs.Paying.{Share, Counted, left_costs}

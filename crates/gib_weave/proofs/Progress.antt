@@ -67,7 +67,7 @@ module _ (core : CoreTree) (code : CodeTree) (ok : AreBodies core code) (ty : Ty
   step_applies w sd i (Draw k) on e h = go (chunk_or w.memory sd.bounded)
     where
       go : (w.memory.drawn ≡ w.memory.limit) ⊎ Draws w.memory w.memory.drawn → Applies code w (ev.Step i)
-      go (inl q) = full q
+      go (inl q) = full e q
       go (inr d) = leads (ev.draws on e d)
   step_applies w sd i AtFork on e h = absurd h
   step_applies w sd i AtJoin on e h = absurd h

@@ -24,7 +24,8 @@ use Rattle.gib_core.specs.Low.{operands, slots_of, ending}
 use Rattle.gib_machine.specs.Machine.{Slots, slot, words, Frame, Open as OpenRegion, State, Putting, Put, next, cursor, size, went, putting, doing, fill_bytes, scalar_bytes}
 use Rattle.gib_weave.proofs.Counts.{goes_on_counted}
 use Rattle.gib_core.specs.Fits.{Dest, Open, dest_type, packed_due}
-use Rattle.gib_weave.specs.Environment.{Ctx, Turns, there, turn, Fields, IsHead, IsDest}
+use Rattle.gib_weave.specs.Environment.{Ctx, Fields, IsHead, IsDest}
+use Rattle.gib_packed.specs.Reaching.{Turns, there, turn}
 use Rattle.gib_weave.specs.Continuing.{Kont, end_of}
 use Rattle.gib_weave.specs.Owing.{Owed, resume, means}
 use Rattle.gib_weave.specs.Paying.{Share, Counted, later_costs}

@@ -37,6 +37,7 @@ pub data Kont : Type 0 where
   KCall : (k : Kont) → Kont
   KCallScalar : (x : ℕ) (ty : Ty) (u : Rest) (c : Ctx) (k : Kont) → Kont
 
+-- How the code of the running term ends.
 abbrev pub end_of : Kont → End
 end_of (KEnd ty) = Returns
 end_of (KSide y ty) = Returns
@@ -88,6 +89,7 @@ rest_pars (Meet p s u) ps = p ∷ ps
 rest_pars (Leave p u) ps = p ∷ ps
 rest_pars (Last y ty) ps = ps
 
+-- The `par`s of the lines that wait.
 abbrev pub pars_of : Kont → List Par
 pars_of (KEnd ty) = []
 pars_of (KSide y ty) = []
@@ -98,6 +100,7 @@ pars_of (KScalar l x ty u c k) = rest_pars u (pars_of k)
 pars_of (KCall k) = pars_of k
 pars_of (KCallScalar x ty u c k) = rest_pars u (pars_of k)
 
+-- How the code puts a side's value.
 abbrev pub side_kind : Side → CodeKind
 side_kind (t.On k x ty u) = kind_of k
 
@@ -117,6 +120,7 @@ pub record Under (o : Ctx) (sc : Scope) (env : Environment) : Type 0 where
   pub sorts : (y : ℕ) → Goes (o.scope y) (sc y)
   pub same : (y : ℕ) → is_there (o.scope y) ≡ true → value_in env y ≡ value_in o.env y
 
+-- All lines of this frame that wait do.
 abbrev pub AllUnder : Scope → Environment → Kont → Type 0
 AllUnder sc env (KEnd ty) = Unit {0}
 AllUnder sc env (KSide y ty) = Unit {0}
@@ -131,6 +135,7 @@ AllUnder sc env (KCallScalar x ty u c k) = Unit {0}
 pub record Calm (m : ℕ → Bool) (c : Ctx) : Type 0 where
   pub calm : (y t : ℕ) → m y ≡ true → c.scope y ≡ Placed t → ⊥
 
+-- Nor does any line of this frame.
 abbrev pub AllCalm : (ℕ → Bool) → Kont → Type 0
 AllCalm m (KEnd ty) = Unit {0}
 AllCalm m (KSide y ty) = Unit {0}
@@ -165,6 +170,7 @@ pub record IsMeet (core : CoreTree) (code : CodeTree) (sc : Scope) (at : ℕ) (p
   pub kind : p.kind ≡ side_kind s
   pub variable : p.variable ≡ (variable_of s).0
 
+-- The code of what is next in a line stands at a label, and ends so.
 abbrev pub RestCode : CoreTree → CodeTree → Scope → ℕ → Rest → End → Type 0
 RestCode core code sc at (Plain u) e = IsCode core code sc at u e
 RestCode core code sc at (Part s r) e = (fs : List StoredField) × (m : ℕ) × LowSide core code fs at s m × Agrees fs sc × RestCode core code sc m r e
@@ -172,11 +178,13 @@ RestCode core code sc at (Meet p s u) e = IsMeet core code sc at p s u e
 RestCode core code sc at (Leave p u) e = IsAt code at Back × IsCode core code sc (at + 1) u e
 RestCode core code sc at (Last y ty) e = IsAt code at Back
 
+-- What a variable is bound to, by its type.
 abbrev pub result_sort : Ty → Sort
 result_sort Whole = Scalar Whole
 result_sort Truth = Scalar Truth
 result_sort (Tree t) = Placed t.0
 
+-- What is next in a line fits, in the scope and with the destination.
 abbrev pub RestFits : CoreTree → Rest → Scope → Dest → Type 0
 RestFits core (Plain u) sc d = Fits core u sc d
 RestFits core (Part s r) sc d = SideFits core s sc d (λ sc' d'. RestFits core r sc' d')
@@ -184,6 +192,7 @@ RestFits core (Meet p s u) sc d = SideFits core s sc d (λ sc' d'. Fits core u s
 RestFits core (Leave p u) sc d = (p.left ≡ false) × Fits core u sc d
 RestFits core (Last y ty) sc d = sc y ≡ result_sort ty
 
+-- Whether what is next in a line may have a case on the variable.
 abbrev pub rest_cased : Rest → ℕ → Bool
 rest_cased (Plain u) q = cased u q
 rest_cased (Part s r) q = side_cased s q || rest_cased r q
@@ -210,6 +219,7 @@ Follows x (Meet p s u) k = (side_uses s (record { 0 = x }) ≡ false) × IsInBod
 Follows x (Leave p u) k = IsInBody k
 Follows x (Last y ty) k = k ≡ KSide y ty
 
+-- So is what is next in a line, behind the bindings in it.
 abbrev pub Next : Rest → Kont → Type 0
 Next (Plain u) k = IsInBody k
 Next (Part s r) k = Follows (variable_of s).0 r k
@@ -245,6 +255,7 @@ abbrev mutual
   branches_nest t.NoBranch = 0
   branches_nest (t.BranchThen k xs u bs) = max (nest u) (branches_nest bs)
 
+-- How many regions and `par`s what is next in a line has open at a time.
 abbrev pub rest_nest : Rest → ℕ
 rest_nest (Plain u) = nest u
 rest_nest (Part s r) = max (side_nest s) (rest_nest r)

@@ -10,7 +10,8 @@ use Rattle.gib_syntax.specs.Meaning.{value_in, Environment}
 use Rattle.gib_mem.specs.Memory.{Store, byte, Holds}
 use Rattle.gib_packed.specs.Scalars.{bit}
 use Rattle.gib_packed.specs.Head.{address}
-use Rattle.gib_packed.specs.Decoding.{Points, Dec}
+use Rattle.gib_packed.specs.Decoding.{Dec}
+use Rattle.gib_packed.specs.Reaching.{Turns}
 use Rattle.gib_core.specs.Fits.{Absent, AtHead, Dest, Empty, Field, Held, Loose, Nowhere, Open, Outside, Placed, Scalar, Scope, Sort, has_slot, is_there, packed_due}
 use Rattle.gib_machine.specs.Machine.{Slots, slot, size}
 
@@ -36,15 +37,12 @@ pub record StandsAt (laid : LaidOut) (s : Store) (t a : ℕ) (v : Datum) : Type 
   pub end : ℕ
   pub dec : Dec laid s a t v end
 
--- From a the stream goes to b by redirects.
-pub data Turns (s : Store) : ℕ → ℕ → Type 0 where
-  there : {a : ℕ} → Turns s a a
-  turn : {a b c : ℕ} → Points s a 255 b → Turns s b c → Turns s a c
-
+-- The slot has the place of the value, which stands there.
 pub record IsPlaced (laid : LaidOut) (s : Store) (t sl pl : ℕ) (v : Datum) : Type 0 where
   pub same : sl ≡ pl
   pub stands : StandsAt laid s t pl v
 
+-- The slot has the place of the value's head, whose tag is known.
 pub record IsAtHead (laid : LaidOut) (s : Store) (t sl hd : ℕ) (v : Datum) : Type 0 where
   pub same : sl ≡ hd
   pub tag : ℕ
@@ -62,6 +60,7 @@ pub record IsField (laid : LaidOut) (s : Store) (c : Ctx) (t z x k p : ℕ) (v :
   pub stored : is_among laid.with_offsets k ≡ true → Holds s (c.hd x + p) (address at)
   pub stands : StandsAt laid s t at v
 
+-- What is known of a variable of the sort: its word, its value, its place, the place of its head.
 abbrev pub Has : LaidOut → Store → Ctx → Sort → ℕ → Datum → ℕ → ℕ → Type 0
 Has laid s c Outside w v at hd = Unit {0}
 Has laid s c Absent w v at hd = Unit {0}
@@ -83,6 +82,8 @@ pub data Fields (laid : LaidOut) (s : Store) (c : Ctx) : ℕ → List ℕ → Li
   field : {a x y z t : ℕ} {xs ts : List ℕ} → is_there (c.scope x) ≡ true → c.pl x ≡ a → Dec laid s a t (value_in c.env x) y → Fields laid s c y xs ts z
       → Fields laid s c a (x ∷ xs) (t ∷ ts) z
 
+-- The open head of a constructor k of type t: its fields xs stand behind it, up to the cursor, and fields of the types dues are
+-- still to come.
 pub record IsHead (laid : LaidOut) (s : Store) (sl : Slots) (c : Ctx) (t h k : ℕ) (xs dues : List ℕ) (cur : ℕ) : Type 0 where
   pub con : con_at laid.table t k ≡ Some k
   pub slot : slot sl h ≡ c.head
@@ -98,6 +99,7 @@ IsDest laid s sl c (Nowhere ty) cur = Unit {0}
 IsDest laid s sl c (Empty t) cur = c.front ≡ cur
 IsDest laid s sl c (Open t h k xs dues) cur = IsHead laid s sl c t h k xs dues cur
 
+-- The frame is as the line says.
 pub record Matches (laid : LaidOut) (s : Store) (sl : Slots) (c : Ctx) (cur : ℕ) : Type 0 where
   pub vars : HasAll laid s sl c
   pub dest : IsDest laid s sl c c.dest cur

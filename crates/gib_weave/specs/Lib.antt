@@ -11,3 +11,4 @@ pub mod Example
 pub mod Weave
 pub mod Calling
 pub mod Running
+pub mod Applied

@@ -44,6 +44,7 @@ pub record Debt : Type 0 where
   pub owed : Outcome
   pub most : Cost
 
+-- The type of the variable that a side binds.
 abbrev pub side_type : Side → Ty
 side_type (t.On k x ty u) = ty
 
@@ -51,6 +52,7 @@ side_type (t.On k x ty u) = ty
 abbrev pub costs : CoreTree → ℕ → ℕ → Term → Environment → Cost
 costs core d n u env = cost core.table (core_calls core d) (call_costs core d) n u env
 
+-- What a side costs but for its region.
 abbrev pub side_costs : CoreTree → ℕ → ℕ → Side → Environment → Cost
 side_costs core d n s env = cost_side core.table (core_calls core d) (call_costs core d) n s env
 
@@ -64,14 +66,17 @@ kind_region kind.Here = one_region
 kind_region kind.Region = one_region
 kind_region kind.Scalar = nothing
 
+-- The region of a side that is a task of its own.
 abbrev pub task_region : Side → Cost
 task_region (t.On k x ty u) = kind_region k
 
+-- What the other task places once the side is joined: an indirection to a field's tree.
 abbrev pub kind_link : Kind → Cost
 kind_link kind.Here = one_item
 kind_link kind.Region = nothing
 kind_link kind.Scalar = nothing
 
+-- The same of a side.
 abbrev pub link : Side → Cost
 link (t.On k x ty u) = kind_link k
 

@@ -48,6 +48,7 @@ abbrev pub HaveRoom : List OpenRegion → Type 0
 HaveRoom [] = Unit {0}
 HaveRoom (r ∷ rs) = (9 ≤ rest r.cur) × HaveRoom rs
 
+-- Behind each tail there is.
 abbrev pub TailsHaveRoom : List ℕ → Type 0
 TailsHaveRoom [] = Unit {0}
 TailsHaveRoom (t ∷ ts) = (9 ≤ rest t) × TailsHaveRoom ts
@@ -79,6 +80,7 @@ HasRoom w (Meet p s u) r = (side_nest s + w ≤ r) × (nest u + w ≤ suc r)
 HasRoom w (Leave p u) r = nest u + w ≤ suc r
 HasRoom w (Last y ty) r = Unit {0}
 
+-- The room that is left behind a line, when so much is now.
 abbrev pub freed : Rest → ℕ → ℕ
 freed (Plain u) r = r
 freed (Part s u) r = freed u r

@@ -1,5 +1,5 @@
 -- A run of a core on a loaded value, to its end.
-use Rattle.std.specs.Prelude.{◌≡◌, ℕ, List, [], ◌∷◌, Option, Some, None, Result, Ok, Err}
+use Rattle.std.specs.Prelude.{◌≡◌, ℕ, List, Option, Some, None, Result, Ok, Err}
 use Rattle.std.specs.Int.{w64, cast_unsigned}
 use Rattle.gib_types.specs.Loaded.{Loaded}
 use Rattle.gib_types.specs.Tree.{Datum}
@@ -15,10 +15,8 @@ use Rattle.gib_core.specs.Meaning.{core_run}
 use Rattle.gib_core.specs.Parts.{core_of}
 use Rattle.gib_core.specs.Tight.{Tight}
 use Rattle.gib_code.specs.declared.answer.Answer.{Answer}
-use Rattle.gib_code.specs.Instruction.{Instruction}
 use Rattle.gib_machine.specs.declared.turn.Turn.{Turn}
 use Rattle.gib_machine.specs.declared.turn.Turn.TheVariants as turn
-use Rattle.gib_machine.specs.Stepping.{IsFine}
 use Rattle.gib_weave.specs.declared.root_run.RunFault.{RunFault}
 use Rattle.gib_weave.specs.declared.root_run.RunFault.TheVariants as fault
 use Rattle.gib_weave.specs.Sound.{IsAnswer}
@@ -38,7 +36,7 @@ pub record Kept (v v' : Memory) : Type 0 where
   pub limit : v'.limit ≡ v.limit
 
 -- How a run ends that started with this value, and may nest so many calls: with what the core means; or all chunks are drawn, and so
--- many may not be enough for the run; or memory was wanted.
+-- many may not be enough for the run; or memory was wanted, or more than 2^64 - 1 steps.
 abbrev pub RunEnds : LoweredParts → (depth : ℕ) → Datum → (v v' : Memory) → Result Answer RunFault → Type 0
 RunEnds l depth d v v' (Ok a) = IsAnswer l.code.laid v'.cells (core_of l.core).main.result (core_run (core_of l.core) depth d) a
 RunEnds l depth d v v' (Err fault.Full) = Tight v.limit (run_cost (core_of l.core) depth 0 d) × (v'.drawn ≡ v'.limit)
@@ -50,16 +48,20 @@ word_of (root.Whole z) = cast_unsigned w64 z
 word_of (root.Truth b) = bit b
 word_of (root.At a) = a
 
--- What the last turn makes of a run.
-abbrev pub outcome_of : Option Turn → Result Answer RunFault
-outcome_of None = Err fault.Memory
-outcome_of (Some turn.Went) = Err fault.Memory
-outcome_of (Some turn.AtFork) = Err fault.Memory
-outcome_of (Some turn.AtJoin) = Err fault.Memory
-outcome_of (Some (turn.Ended a)) = Ok a
-outcome_of (Some turn.Full) = Err fault.Full
+-- What the last turn of the root makes of a run in place, which stands at no fork and no join.
+abbrev pub IsOutcome : Option Turn → Result Answer RunFault → Type 0
+IsOutcome None o = o ≡ Err fault.Memory
+IsOutcome (Some turn.Went) o = ⊥
+IsOutcome (Some turn.AtFork) o = ⊥
+IsOutcome (Some turn.AtJoin) o = ⊥
+IsOutcome (Some (turn.Ended a)) o = o ≡ Ok a
+IsOutcome (Some turn.Full) o = o ≡ Err fault.Full
 
--- A machine can run each of these.
-abbrev pub AllFine : List Instruction → Type 0
-AllFine [] = Unit {0}
-AllFine (i ∷ is) = IsFine i × AllFine is
+-- A turn that such a run can end with.
+abbrev pub CanEnd : Option Turn → Type 0
+CanEnd None = Unit {0}
+CanEnd (Some turn.Went) = ⊥
+CanEnd (Some turn.AtFork) = ⊥
+CanEnd (Some turn.AtJoin) = ⊥
+CanEnd (Some (turn.Ended a)) = Unit {0}
+CanEnd (Some turn.Full) = Unit {0}

@@ -74,6 +74,7 @@ IsAnswer laid s ty owed (answer.Whole z) = (ty ≡ Whole) × FitsSigned w64 z ×
 IsAnswer laid s ty owed (answer.Truth b) = (ty ≡ Truth) × (owed ≡ Gives (truth b))
 IsAnswer laid s ty owed answer.Deep = owed ≡ Stops Deep
 
+-- A task between two instructions: at what is next in a line, unwinding, or over.
 pub data Rests (core : CoreTree) (code : CodeTree) (owed : Owed) (own : Owned) (sh : Share) (s : Store) (m : State) : Type 0 where
   at_term : {u : Rest} {c : Ctx} {k : Kont} → AtRest core code owed own sh s m u c k → Rests core code owed own sh s m
   unwinds : IsUnwinding owed m → Rests core code owed own sh s m

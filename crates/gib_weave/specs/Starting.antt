@@ -1,5 +1,5 @@
 -- Bodies with their code, and where the root starts.
-use Rattle.std.specs.Prelude.{◌<◌, ◌≡◌, ℕ, ◌≤◌, List, [], ◌∷◌, length, Some, None}
+use Rattle.std.specs.Prelude.{◌≡◌, ℕ, ◌≤◌, List, [], ◌∷◌, length, Some, None}
 use Rattle.gib_types.specs.declared.table.Ty.{Ty}
 use Rattle.gib_types.specs.declared.table.Ty.TheVariants.{Whole, Truth, Tree}
 use Rattle.gib_types.specs.Table.{IsTable}
@@ -63,7 +63,3 @@ root_start core code w depth level tails = record {
   result = core.main.result;
   doing = first_doing core.main.result;
 }
-
--- A head that a machine can fill: its tag is a constructor's, and it has at most 8 packed fields.
-abbrev pub IsFew : ℕ → List ℕ → Type 0
-IsFew k ps = (k < 254) × (length ps ≤ 8)

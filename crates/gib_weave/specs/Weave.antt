@@ -23,6 +23,7 @@ pub data Status : Type 0 where
   Waits : Waiting → Status
   Runs : ℕ → Status
 
+-- A task runs, has ended with an answer that nobody took, or is joined.
 pub data Stage : Type 0 where
   Running : Stage
   Finished : Answer → Stage
@@ -39,6 +40,7 @@ pub record Weave : Type 0 where
   pub memory : Memory
   pub tasks : List Task
 
+-- What may happen next, each to the task of a number.
 pub data Event : Type 0 where
   Step : ℕ → Event
   Fork : ℕ → Event
@@ -55,6 +57,7 @@ no_task = record {
   stage = Joined;
 }
 
+-- The task of a number.
 abbrev pub task : List Task → ℕ → Task
 task ts i = get_or ts i no_task
 
@@ -62,9 +65,11 @@ task ts i = get_or ts i no_task
 abbrev pub moved : Weave → Memory → ℕ → State → Weave
 moved w v i m = record { memory = v; tasks = slice_set w.tasks i (record { state = m; sides = (task w.tasks i).sides; stage = Running }) }
 
+-- The machine and the right sides of task i change.
 abbrev pub with_sides : Weave → ℕ → State → List Status → Weave
 with_sides w i m sts = record { memory = w.memory; tasks = slice_set w.tasks i (record { state = m; sides = sts; stage = Running }) }
 
+-- Each side is begun.
 abbrev pub NoneWaits : List Status → Type 0
 NoneWaits [] = Unit {0}
 NoneWaits (Waits x ∷ sts) = ⊥
@@ -113,6 +118,7 @@ pub record Family : Type 0 where
   pub parent : ℕ → ℕ
   pub place : ℕ → ℕ
 
+-- The task is not joined yet.
 abbrev pub IsThere : Stage → Type 0
 IsThere Running = Unit {0}
 IsThere (Finished a) = Unit {0}
@@ -124,17 +130,20 @@ abbrev pub OneSide : CoreTree → CodeTree → Store → List Task → Family �
 OneSide core code s ts f i p d (Waits x) = SideSafe core code d s x
 OneSide core code s ts f i p d (Runs j) = (i < j) × (f.parent j ≡ i) × (f.place j ≡ p) × IsThere (task ts j).stage × ((f.owed j).ty ≡ d.ty) × ((f.owed j).all ≡ d.owed)
 
+-- Each right side of task i is so.
 abbrev pub AllSides : CoreTree → CodeTree → Store → List Task → Family → ℕ → List Status → List Debt → Type 0
 AllSides core code s ts f i [] [] = Unit {0}
 AllSides core code s ts f i [] (d ∷ ds) = ⊥
 AllSides core code s ts f i (st ∷ sts) [] = ⊥
 AllSides core code s ts f i (st ∷ sts) (d ∷ ds) = OneSide core code s ts f i (length sts) d st × AllSides core code s ts f i sts ds
 
+-- A task is sound by its stage.
 abbrev pub SoundAs : CoreTree → CodeTree → Store → List Task → Family → ℕ → Owned → Share → Owed → Task → Stage → Type 0
 SoundAs core code s ts f i own sh owed t Running = Safe core code owed own sh s t.state × AllSides core code s ts f i t.sides owed.sides
 SoundAs core code s ts f i own sh owed t (Finished a) = IsAnswer code.laid s owed.ty owed.all a
 SoundAs core code s ts f i own sh owed t Joined = Unit {0}
 
+-- Task i is sound.
 abbrev pub IsSound : CoreTree → CodeTree → Store → List Task → Family → ℕ → Type 0
 IsSound core code s ts f i = SoundAs core code s ts f i (f.own i) (f.share i) (f.owed i) (task ts i) (task ts i).stage
 
@@ -151,6 +160,7 @@ waiting_costs (Runs j ∷ sts) (d ∷ ds) = waiting_costs sts ds
 abbrev pub bill_of : Share → List Status → List Debt → Cost
 bill_of sh sts ds = plus (plus (done_by sh.count) sh.rest) (waiting_costs sts ds)
 
+-- The bill of task i.
 abbrev pub bill_at : List Task → Family → ℕ → Cost
 bill_at ts f i = bill_of (f.share i) (task ts i).sides (f.owed i).sides
 
@@ -186,6 +196,7 @@ weave_start core code v w depth level tails = record { memory = v; tasks = recor
 
 -- What is enabled, and what is picked.
 
+-- The task can make a step.
 abbrev pub IsAction : Ask → Type 0
 IsAction (Silent m) = Unit {0}
 IsAction (Get a k) = Unit {0}
@@ -195,6 +206,7 @@ IsAction AtFork = ⊥
 IsAction AtJoin = ⊥
 IsAction (Ended a) = ⊥
 
+-- The task has ended.
 abbrev pub IsEnd : Ask → Type 0
 IsEnd (Silent m) = ⊥
 IsEnd (Get a k) = ⊥
@@ -204,29 +216,35 @@ IsEnd AtFork = ⊥
 IsEnd AtJoin = ⊥
 IsEnd (Ended a) = Unit {0}
 
+-- A side waits.
 abbrev pub HasWaiting : List Status → Type 0
 HasWaiting [] = ⊥
 HasWaiting (Waits x ∷ sts) = Unit {0}
 HasWaiting (Runs j ∷ sts) = HasWaiting sts
 
+-- The newest side waits.
 abbrev pub NewestWaits : List Status → Type 0
 NewestWaits [] = ⊥
 NewestWaits (Waits x ∷ sts) = Unit {0}
 NewestWaits (Runs j ∷ sts) = ⊥
 
+-- The task has ended, and is not joined.
 abbrev pub IsFinished : Stage → Type 0
 IsFinished Running = ⊥
 IsFinished (Finished a) = Unit {0}
 IsFinished Joined = ⊥
 
+-- The newest side is a task that has ended.
 abbrev pub NewestFinished : List Task → List Status → Type 0
 NewestFinished ts [] = ⊥
 NewestFinished ts (Waits x ∷ sts) = ⊥
 NewestFinished ts (Runs j ∷ sts) = IsFinished (task ts j).stage
 
+-- What task i asks next.
 abbrev pub asks : CodeTree → Weave → ℕ → Ask
 asks code w i = next code (task w.tasks i).state
 
+-- The event may happen.
 abbrev pub Enabled : CodeTree → Weave → Event → Type 0
 Enabled code w (Step i) = IsOn w i × IsAction (asks code w i)
 Enabled code w (Fork i) = IsOn w i × (asks code w i ≡ AtFork)
@@ -241,11 +259,13 @@ pick_at_stage i Running = None
 pick_at_stage i (Finished a) = Some (Join i)
 pick_at_stage i Joined = None
 
+-- At a join: the newest side is taken, or joined if its task has ended.
 abbrev pub pick_at_join : List Task → ℕ → List Status → Option Event
 pick_at_join ts i [] = None
 pick_at_join ts i (Waits x ∷ sts) = Some (Take i)
 pick_at_join ts i (Runs j ∷ sts) = pick_at_stage i (task ts j).stage
 
+-- By what the task asks.
 abbrev pub pick_by : List Task → ℕ → List Status → Ask → Option Event
 pick_by ts i sts (Silent m) = Some (Step i)
 pick_by ts i sts (Get a k) = Some (Step i)
@@ -255,6 +275,7 @@ pick_by ts i sts AtFork = Some (Fork i)
 pick_by ts i sts AtJoin = pick_at_join ts i sts
 pick_by ts i sts (Ended a) = Some (Finish i)
 
+-- By its stage.
 abbrev pub pick_running : CodeTree → Weave → ℕ → Stage → Option Event
 pick_running code w i Running = pick_by w.tasks i (task w.tasks i).sides (asks code w i)
 pick_running code w i (Finished a) = None
@@ -266,9 +287,11 @@ pick_on code w i Running = pick_running code w i (task w.tasks i).stage
 pick_on code w i (Finished a) = None
 pick_on code w i Joined = None
 
+-- The event of a task, other than a steal, that may happen.
 abbrev pub pick_of : CodeTree → Weave → ℕ → Option Event
 pick_of code w i = pick_on code w i (task w.tasks 0).stage
 
+-- The first that there is.
 abbrev pub or_else : Option Event → Option Event → Option Event
 or_else None e = e
 or_else (Some d) e = Some d
@@ -278,6 +301,7 @@ abbrev pub pick_below : CodeTree → Weave → ℕ → Option Event
 pick_below code w zero = None
 pick_below code w (suc n) = or_else (pick_of code w n) (pick_below code w n)
 
+-- An event that may happen, of the newest task that has one.
 abbrev pub pick : CodeTree → Weave → Option Event
 pick code w = pick_below code w (length w.tasks)
 
@@ -296,22 +320,25 @@ has_waiting [] = false
 has_waiting (Waits x ∷ sts) = true
 has_waiting (Runs j ∷ sts) = has_waiting sts
 
+-- Whether the task runs.
 abbrev pub is_running : Stage → Bool
 is_running Running = true
 is_running (Finished a) = false
 is_running Joined = false
 
+-- Of the tasks below n, from the newest on.
 abbrev pub steal_below : Weave → ℕ → Option Event
 steal_below w zero = None
 steal_below w (suc n) = if is_running (task w.tasks n).stage && has_waiting (task w.tasks n).sides then Some (Steal n) else steal_below w n
 
+-- A steal that may happen, of the newest task that has a side that waits.
 abbrev pub pick_steal : Weave → Option Event
 pick_steal w = if is_running (task w.tasks 0).stage && nat_lt (length w.tasks) (2 ^ 32) then steal_below w (length w.tasks) else None
 
--- The event leads on; or its task draws, and all chunks are drawn.
-pub data Applies (code : CodeTree) (w : Weave) (e : Event) : Type 0 where
-  leads : {w' : Weave} → Next code w e w' → Applies code w e
-  full : w.memory.drawn ≡ w.memory.limit → Applies code w e
+-- The event leads on; or it is a step that draws, and all chunks are drawn.
+pub data Applies (code : CodeTree) (w : Weave) : Event → Type 0 where
+  leads : {e : Event} {w' : Weave} → Next code w e w' → Applies code w e
+  full : {i : ℕ} {k : ℕ → State} → asks code w i ≡ Draw k → w.memory.drawn ≡ w.memory.limit → Applies code w (Step i)
 
 -- A byte is got where one stands, and put where none was put.
 abbrev pub IsCareful : Store → Ask → Type 0

@@ -5,8 +5,13 @@
 pub mod call_law;
 pub mod law;
 mod root_run;
+mod sides;
 mod steps;
+mod task;
+mod tasks;
 pub mod weave_law;
 
 pub use root_run::{RunFault, run};
 pub use steps::run_for;
+pub use task::WeaveFault;
+pub use tasks::Tasks;

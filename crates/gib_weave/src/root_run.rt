@@ -1,18 +1,18 @@
 //! Runs a core on a value that was loaded, to its end.
 
-ghost use Rattle.std.specs.Prelude.{◌≡◌, ◌<◌, ◌≤◌, ℕ, List, length, map, true, Some, IsTrue, IfOk};
+ghost use Rattle.std.specs.Prelude.{◌≡◌, ◌<◌, ◌≤◌, ℕ, List, length, true, Some, IfOk};
 ghost use Rattle.gib_types.specs.Tree.{Datum};
 ghost use Rattle.gib_core.specs.Parts.{core_of};
-ghost use Rattle.gib_code.specs.Instruction.{instruction_of};
 ghost use Rattle.gib_machine.specs.Machine.{start_at};
-ghost use Rattle.gib_machine.specs.Stepping.{IsFine, Runs, with_tails};
+ghost use Rattle.gib_code.specs.Program.{Runs};
+ghost use Rattle.gib_machine.specs.Stepping.{with_tails};
 ghost use Rattle.gib_weave.specs.Running as spec;
-ghost use Rattle.gib_weave.specs.Running.{AllFine, IsStart, Kept, RunEnds};
+ghost use Rattle.gib_weave.specs.Running.{CanEnd, IsOutcome, IsStart, Kept, RunEnds};
 ghost use Rattle.gib_weave.specs.Starting.{root_start};
 
 use crate::steps::run_for;
 use gib_base::Memory;
-use gib_code::{Answer, Code, Instr};
+use gib_code::Answer;
 use gib_core::Lowered;
 use gib_machine::{Machine, Turn};
 use gib_mem::Mem;
@@ -40,45 +40,6 @@ fn word_of(root: Root) -> u64
     }
 }
 
-/// Whether a machine can run the instruction.
-fn is_fine(instr: &Instr) -> bool
-    ensures { IsTrue result → IsFine (instruction_of instr.now) }
-{
-    match instr {
-        Instr::Fill {
-            constructor,
-            packed,
-            ..
-        } => *constructor < 256 && packed.len() <= 8,
-        _ => true,
-    }
-}
-
-/// Whether a machine can run each of these.
-fn all_fine(instructions: &[Instr]) -> bool
-    ensures { IsTrue result → AllFine (map instruction_of instructions.now) }
-{
-    let mut left = instructions;
-    'instructions: while let [instr, after @ ..] = left {
-        if !is_fine(instr) {
-            return false;
-        }
-        left = after;
-    }
-    true
-}
-
-/// Whether a machine can run the code.
-fn can_run(code: &Code) -> bool
-    ensures { IsTrue result → Runs code.now }
-{
-    let instructions = code.instructions();
-    if instructions.len() >= 4_294_967_296 {
-        return false;
-    }
-    all_fine(instructions)
-}
-
 /// The label of main's first instruction.
 fn main_start(lowered: &Lowered) -> u32
     ensures { result ≡ start_at lowered.now.code.functions (length (core_of lowered.now.core).functions) }
@@ -90,21 +51,36 @@ fn main_start(lowered: &Lowered) -> u32
 
 /// What the last turn makes of the run.
 fn outcome_of(turn: Option<Turn>) -> Result<Answer, RunFault>
-    ensures { result ≡ spec.outcome_of turn }
+    requires { CanEnd turn }
+    ensures { IsOutcome turn result }
 {
     match turn {
         Some(Turn::Ended(answer)) => Ok(answer),
         Some(Turn::Full) => Err(RunFault::Full),
-        _ => Err(RunFault::Memory),
+        Some(_) => unreachable!(),
+        None => Err(RunFault::Memory),
     }
 }
 
-/// The machine of main, with the word of its parameter. Each `par` runs in place.
-fn root_machine(alloc: Global, lowered: &Lowered, root: Root, depth: u32) -> Result<Machine, Memory>
-    ensures { IfOk result (λ machine. (tails : List ℕ) → with_tails machine tails ≡ root_start (core_of lowered.now.core) lowered.now.code (spec.word_of root) depth 0 tails) }
+/// The machine of main, with the word of its parameter. It may nest so many calls, and so many forks.
+pub(crate) fn root_machine(
+    alloc: Global,
+    lowered: &Lowered,
+    root: Root,
+    depth: u32,
+    level: u32,
+) -> Result<Machine, Memory>
+    ensures { IfOk result (λ machine. (tails : List ℕ) → with_tails machine tails ≡ root_start (core_of lowered.now.core) lowered.now.code (spec.word_of root) depth level tails) }
 {
     let words = [word_of(root)];
-    Machine::make(alloc, lowered.code(), main_start(lowered), &words, depth, 0)
+    Machine::make(
+        alloc,
+        lowered.code(),
+        main_start(lowered),
+        &words,
+        depth,
+        level,
+    )
 }
 
 /// Runs a core on the value of the root, with at most `depth` calls nested and each `par` in place, over a memory from which nobody
@@ -112,8 +88,7 @@ fn root_machine(alloc: Global, lowered: &Lowered, root: Root, depth: u32) -> Res
 ///
 /// # Errors
 ///
-/// `Full`: it draws a chunk, and all are drawn. `Memory`: want of memory, which also stands for code that no machine can run (lowered
-/// code always can be), for a fork (there is none where each `par` is in place), and for a run of more than 2^64 - 1 steps.
+/// `Full`: it draws a chunk, and all are drawn. `Memory`: want of memory, which also stands for a run of more than 2^64 - 1 steps.
 pub fn run<M: Mem>(
     alloc: Global,
     lowered: &Lowered,
@@ -129,10 +104,7 @@ pub fn run<M: Mem>(
 {
     lowered.core();
     let code = lowered.code();
-    if !can_run(code) {
-        return Err(RunFault::Memory);
-    }
-    match root_machine(alloc, lowered, root, depth) {
+    match root_machine(alloc, lowered, root, depth, 0) {
         Ok(machine) => {
             let mut machine = machine;
             let mut tails = tails;

@@ -1,6 +1,6 @@
 //! What holds of a weave: its start is sound, each event keeps it sound, it goes on until the root has ended.
 
-ghost use Rattle.std.specs.Prelude.{◌≡◌, ℕ, List, Some, None, true};
+ghost use Rattle.std.specs.Prelude.{◌≡◌, ◌<◌, ℕ, List, length, Some, None, true};
 ghost use Rattle.gib_types.specs.declared.table.Ty.{Ty};
 ghost use Rattle.gib_types.specs.Loaded.{Loaded};
 ghost use Rattle.gib_types.specs.Tree.{Datum};
@@ -12,7 +12,9 @@ ghost use Rattle.gib_core.specs.Low.{IsLowered};
 ghost use Rattle.gib_core.specs.Meaning.{core_run};
 ghost use Rattle.gib_core.specs.Tree.{CoreTree};
 ghost use Rattle.gib_code.specs.declared.answer.Answer.{Answer};
-ghost use Rattle.gib_code.specs.Program.{CodeTree};
+ghost use Rattle.gib_code.specs.Program.{CodeTree, Runs};
+ghost use Rattle.gib_machine.specs.Machine.{widest};
+ghost use Rattle.gib_weave.specs.Applied.{CanGo};
 ghost use Rattle.gib_core.specs.Cost.{Cost, run_cost};
 ghost use Rattle.gib_core.specs.Tight.{Tight};
 ghost use Rattle.gib_weave.specs.Paying.{whole_of};
@@ -78,4 +80,17 @@ pub fn picks_are_enabled()
     ensures steals { (code : CodeTree) (w : Weave) (e : Event) → pick_steal w ≡ Some e → Enabled code w e }
     ensures no_steals { (code : CodeTree) (w : Weave) (i : ℕ) → pick_steal w ≡ None → Enabled code w (Steal i) → ⊥ }
     ensures over { (code : CodeTree) (w : Weave) → ((task w.tasks 0).stage ≡ Running → ⊥) → pick code w ≡ None }
+{}
+
+/// In a weave that is sound each task that runs can make its next action, so calls on its tasks may be made, once their frames have the
+/// width of the code.
+pub fn a_sound_weave_can_go()
+    ensures { (core : CoreTree) (code : CodeTree) (ty : Ty) (o : Outcome) (whole : Cost) (w : Weave) → IsLowered core code → AllFit core → Runs code → Sound core code ty o whole w
+        → ((i : ℕ) → i < length w.tasks → (task w.tasks i).state.width ≡ widest code.functions) → CanGo code w }
+{}
+
+/// No event changes the width of a frame.
+pub fn events_keep_the_widths()
+    ensures { (code : CodeTree) (w : Weave) → ((i : ℕ) → i < length w.tasks → (task w.tasks i).state.width ≡ widest code.functions) → (e : Event) (v : Weave) → Next code w e v
+        → (i : ℕ) → i < length v.tasks → (task v.tasks i).state.width ≡ widest code.functions }
 {}

@@ -1,7 +1,12 @@
-use Rattle.gib_access.proofs.Programs.{core_reached}
+use Rattle.gib_access.proofs.Programs.{core_reached, parts_inside}
 use Rattle.gib_access.proofs.reached.Goals as goal
 
 pub returns : goal.returns
 returns c =
     let into = c.into_parts-types in
     core_reached c.args.mode c.args.core c.new.result into.result.0 into.result.1 into.result.2.items c.in_ok-functions.functions.items into.result.3 c.in_ok-main.main c.offsets_kept-offsets.result.items c.new-work.result c.reach_main.new.work c.reach_functions.new.work into.ensures.types into.ensures.terms into.ensures.functions into.ensures.main c.new-work.ensures.offsets c.new.ensures c.in_ok-main.ensures c.in_ok-functions.ensures c.offsets_kept-offsets.ensures
+
+pub new-requires : goal.new-requires
+new-requires c =
+    let into = c.into_parts-types in
+    parts_inside c.args.mode c.args.core into.result.0 into.result.1 into.result.2.items into.result.3 c.new-work.result c.reach_main.new.work c.reach_functions.new.work c.in_ok-functions.functions.items c.in_ok-main.main c.offsets_kept-offsets.result.items into.ensures.inside into.ensures.types into.ensures.functions into.ensures.main c.in_ok-main.ensures c.in_ok-functions.ensures

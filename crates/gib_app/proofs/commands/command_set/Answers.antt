@@ -9,5 +9,6 @@ returns c =
     let two = adds_command _ _ _ _ _ c.in_ok-subcommand-2.ensures one c.in_ok-plain_command.ensures refl in
     let three = adds_command _ _ _ _ _ c.in_ok-subcommand-3.ensures two c.in_ok-check_command.ensures refl in
     let four = adds_command _ _ _ _ _ c.in_ok-subcommand-4.ensures three c.in_ok-core_command.ensures refl in
-    let five = adds_command _ _ _ _ _ c.in_ok-subcommand-5.ensures four c.in_ok-pack_command.ensures refl in
-    IfOk-weaker c.subcommand-6.result _ _ (λ command adds. adds_command _ _ _ _ _ adds five c.in_ok-show_command.ensures refl) c.subcommand-6.ensures
+    let five = adds_command _ _ _ _ _ c.in_ok-subcommand-5.ensures four c.in_ok-code_command.ensures refl in
+    let six = adds_command _ _ _ _ _ c.in_ok-subcommand-6.ensures five c.in_ok-pack_command.ensures refl in
+    IfOk-weaker c.subcommand-7.result _ _ (λ command adds. adds_command _ _ _ _ _ adds six c.in_ok-show_command.ensures refl) c.subcommand-7.ensures

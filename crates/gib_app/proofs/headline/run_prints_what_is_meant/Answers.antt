@@ -1,5 +1,5 @@
 use Rattle.gib_app.proofs.Endings.{Laws}
-use Rattle.gib_app.proofs.Headlines.{run_done, run_deep, run_ends_done, run_ends_deep, one_result, no_result}
+use Rattle.gib_app.proofs.Headlines.{run_done, run_deep, run_full, run_ends_done, run_ends_deep, one_result, no_result}
 use Rattle.gib_app.proofs.headline.run_prints_what_is_meant.Goals as goal
 
 pub returns-clause-done : goal.returns-clause-done
@@ -7,6 +7,9 @@ returns-clause-done c = run_done
 
 pub returns-clause-deep : goal.returns-clause-deep
 returns-clause-deep c = run_deep
+
+pub returns-clause-full : goal.returns-clause-full
+returns-clause-full c = run_full
 
 pub returns-clause-ends_done : goal.returns-clause-ends_done
 returns-clause-ends_done c =

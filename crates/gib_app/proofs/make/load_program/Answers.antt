@@ -1,5 +1,5 @@
 use Rattle.gib_app.specs.Calls.{read_calls}
-use Rattle.gib_app.specs.Requests.{document_of}
+use Rattle.gib_app.specs.Kept.{document_of}
 use Rattle.gib_app.proofs.Calling.{added_whole}
 use Rattle.gib_app.proofs.make.load_program.Goals as goal
 

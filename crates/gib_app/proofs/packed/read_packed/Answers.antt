@@ -9,7 +9,7 @@ use Rattle.gib_syntax.specs.Declarations.{table_of_program, input_type}
 use Rattle.gib_app.specs.declared.input_fault.InputFault.{InputFault}
 use Rattle.gib_app.specs.InputFaults.{IsFileFault}
 use Rattle.gib_file.specs.Reading.{Fails, read_all}
-use Rattle.gib_app.specs.declared.packed.PackedFault.{PackedFault}
+use Rattle.gib_app.specs.declared.made.JobFault.{JobFault}
 use Rattle.gib_app.specs.Stops.{IsPackedStop}
 use Rattle.gib_app.proofs.Inputs.{same_value, header_refused, payload_refused}
 use Rattle.gib_app.proofs.packed.read_packed.Goals as goal
@@ -44,5 +44,5 @@ returns-in-Err-survey-clause-refused c =
     let Q : Table → Type 0 = λ t. Fails fault (read_all t c.input_type-ty.result payload) in
     let R : Ty → Type 0 = λ t. Fails fault (read_all table t payload) in
     let read = subst R c.input_type-ty.ensures (subst Q c.types.ensures c.in-Err-survey.ensures.exact) in
-    let P : PackedFault → Type 0 = IsPackedStop table ty c.args.bytes.now in
+    let P : JobFault → Type 0 = IsPackedStop table ty c.args.bytes.now in
     subst P (sym c.of_payload.ensures) (payload_refused table ty c.args.bytes.now payload fault ((c.read_header.ensures.passed payload).0 c.in-Ok.is) read)

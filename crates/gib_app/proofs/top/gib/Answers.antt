@@ -39,7 +39,7 @@ returns-clause-complete g c = λ due h.
     let b : SinkView = g.O.Sink.view c.call.new.out in
     let words = bytes_of c.args.words.now in
     let ends = ending_of g.S.Shelf.tells words before now a b c.in-Err.stop c.in-Err.ensures.stop in
-    let P : Status → Type 0 = λ s. (s ≡ due) ⊎ (s ≡ status.Memory) in
+    let P : Status → Type 0 = λ s. (s ≡ due) ⊎ (s ≡ status.Memory) ⊎ (s ≡ status.Full) in
     subst P (sym c.status_of.ensures) (due_ends laws g.S.Shelf.tells words before now a b (status_for c.in-Err.stop) ends due h)
 
 pub returns-in-Ok-clause-line : goal.returns-in-Ok-clause-line

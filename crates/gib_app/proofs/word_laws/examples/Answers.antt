@@ -29,3 +29,15 @@ returns-clause-pass c = refl
 pub returns-clause-few : goal.returns-clause-few
 unfolding clap_on_literals
 returns-clause-few c = refl
+
+pub returns-clause-chunks : goal.returns-clause-chunks
+unfolding clap_on_literals
+returns-clause-chunks c = refl
+
+pub returns-clause-few_chunks : goal.returns-clause-few_chunks
+unfolding clap_on_literals
+returns-clause-few_chunks c = refl
+
+pub returns-clause-code : goal.returns-clause-code
+unfolding clap_on_literals
+returns-clause-code c = refl

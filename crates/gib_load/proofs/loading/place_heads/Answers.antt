@@ -5,7 +5,7 @@ use Rattle.gib_mem.proofs.Puts.{puts_alone}
 use Rattle.gib_region.specs.Region.{Behind, rest}
 use Rattle.gib_region.proofs.Placing.{leaves}
 use Rattle.gib_load.proofs.Going.{Going}
-use Rattle.gib_load.proofs.Steps.{first_going, last_going, known, fits, slice_long, goes_on, stuck, full_same, full_all, behind_item, alone_kept}
+use Rattle.gib_load.proofs.Steps.{first_going, last_going, fits, slice_long, goes_on, stuck, full_same, full_all, behind_item, alone_kept}
 use Rattle.gib_load.proofs.loading.place_heads.Goals as goal
 
 pub heads-init : goal.heads-init

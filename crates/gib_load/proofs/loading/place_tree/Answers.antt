@@ -1,4 +1,4 @@
-use Rattle.std.proofs.Common.{ℕ, List, sym, ap, subst, ◌∙◌}
+use Rattle.std.proofs.Common.{ap, ◌∙◌}
 use Rattle.gib_load.specs.Preorder.{heads}
 use Rattle.gib_load.specs.Placement.{Open, place_heads}
 use Rattle.gib_load.proofs.Ends.{begun_by, tree_placement, finished_placement, refused_start, refused_head}

@@ -81,8 +81,8 @@ term-returns-in_err-end-clause-broken t c =
 
 pub term-returns-clause-passes : goal.term-returns-clause-passes
 term-returns-clause-passes t c =
-    line_passes (core_of c.args.core.now) c.args.core.now.terms c.args.walk.now c.bindings.walk c.end.new.walk (record c.end.new.walk { scope = c.truncate.new.self }) c.args.target c.bindings.inner c.args.id.0 c.bindings.rest.0 c.bindings.node.now c.bindings.invariant c.in_ok-end.ensures.passes (record { bound = refl; cased = refl; place = refl })
+    line_passes (core_of c.args.core.now) c.args.core.now.terms c.args.walk.now c.bindings.walk c.end.new.walk c.leave.new.walk c.args.target c.bindings.inner c.args.id.0 c.bindings.rest.0 c.bindings.node.now c.bindings.invariant c.in_ok-end.ensures.passes c.in_ok-leave.ensures.stays
 
 pub term-returns-clause-kept : goal.term-returns-clause-kept
 term-returns-clause-kept t c =
-    line_kept (core_of c.args.core.now) c.args.core.now.terms c.args.walk.now c.bindings.walk c.end.new.walk (record c.end.new.walk { scope = c.truncate.new.self }) c.args.target c.bindings.inner c.args.id.0 c.bindings.rest.0 c.bindings.node.now c.len-outer.result c.bindings.invariant c.in_ok-end.ensures.kept (c.len-outer.ensures ∙ c.args.walk.now.scope.ok.0) c.truncate.ensures.items refl
+    line_kept (core_of c.args.core.now) c.args.core.now.terms c.args.walk.now c.bindings.walk c.end.new.walk c.leave.new.walk c.args.target c.bindings.inner c.args.id.0 c.bindings.rest.0 c.bindings.node.now c.len-outer.result c.bindings.invariant c.in_ok-end.ensures.kept c.len-outer.ensures c.in_ok-leave.ensures.scope c.in_ok-leave.ensures.others

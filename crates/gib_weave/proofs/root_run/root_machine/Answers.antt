@@ -9,5 +9,5 @@ make-requires c = is_wide (core_of c.args.lowered.now.core) c.args.lowered.now.c
 pub returns : goal.returns
 returns c =
     if_ok c.make.result
-    (λ m e. made_is_root (core_of c.args.lowered.now.core) c.args.lowered.now.code c.code.result.now c.main_start.result c.word_of.result (word_of c.args.root) c.args.depth m c.code.ensures.lowered c.code.ensures.value c.main_start.ensures c.word_of.ensures e)
+    (λ m e. made_is_root (core_of c.args.lowered.now.core) c.args.lowered.now.code c.code.result.now c.main_start.result c.word_of.result (word_of c.args.root) c.args.depth c.args.level m c.code.ensures.lowered c.code.ensures.value c.main_start.ensures c.word_of.ensures e)
     c.make.ensures

@@ -1,0 +1,74 @@
+-- Facts of all jobs, by cases.
+use Rattle.std.proofs.Common.{◌≡◌, refl, ℕ, ◌<◌, List, length, Option, Some, None, ap, inl, arith}
+use Rattle.std.specs.Prelude.{option_and_then}
+use Rattle.gib_syntax.specs.Tree.{ProgramTree}
+use Rattle.gib_app.specs.declared.input_fault.InputFault.TheVariants as input
+use Rattle.gib_app.specs.declared.made.Reason.{Reason}
+use Rattle.gib_app.specs.declared.made.Reason.TheVariants.{Deep, Full}
+use Rattle.gib_app.specs.declared.plan.Job.{Job}
+use Rattle.gib_app.specs.declared.plan.Job.TheVariants.{Run, Plain, Check, Core, Code, Pack, Show}
+use Rattle.gib_app.specs.declared.plan.Options.{Options}
+use Rattle.gib_app.specs.Formats.{format_of, most_of, Accepts, Refuses}
+use Rattle.gib_app.specs.Plan.{Document, Files}
+use Rattle.gib_app.specs.Causes.{HoldsSecond}
+use Rattle.gib_app.specs.Jobs.{End, Prints, NoValue, Does, Means, Runs}
+
+-- what was made was made of a file that is accepted
+pub does_accepts : (job : Job) (o : Options) (p : ProgramTree) (names : List (List ℕ)) (second : List ℕ) (file : Option (List ℕ)) (e : End) → Does job o p names second file e → Accepts job p names second
+does_accepts Run o p names second file (Prints text) h = (h.1.value, h.1.is_input)
+does_accepts Run o p names second file (NoValue Deep) h = (h.1.value, h.1.is_input)
+does_accepts Run o p names second file (NoValue Full) h = (h.1.value, h.1.is_input)
+does_accepts Plain o p names second file (Prints text) h = (h.1.value, h.1.is_input)
+does_accepts Plain o p names second file (NoValue Deep) h = (h.1.value, h.1.is_input)
+does_accepts Plain o p names second file (NoValue Full) h = absurd h
+does_accepts Check o p names second file e h = tt {0}
+does_accepts Core o p names second file e h = tt {0}
+does_accepts Code o p names second file e h = tt {0}
+does_accepts Pack o p names second file (Prints text) h = (h.0, h.2)
+does_accepts Pack o p names second file (NoValue reason) h = absurd h
+does_accepts Show o p names second file (Prints text) h = (h.1.value, h.1.is_input)
+does_accepts Show o p names second file (NoValue reason) h = absurd h
+
+-- where there is no value, no file was made
+pub no_file : (job : Job) (o : Options) (p : ProgramTree) (names : List (List ℕ)) (second : List ℕ) (file : Option (List ℕ)) (reason : Reason) → Does job o p names second file (NoValue reason) → file ≡ None
+no_file Run o p names second file Deep h = h.0
+no_file Run o p names second file Full h = h.0
+no_file Plain o p names second file Deep h = h.0
+no_file Plain o p names second file Full h = absurd h
+no_file Check o p names second file reason h = absurd h
+no_file Core o p names second file reason h = absurd h
+no_file Code o p names second file reason h = absurd h
+no_file Pack o p names second file reason h = absurd h
+no_file Show o p names second file reason h = absurd h
+
+-- where a file is made, there is a value
+pub file_or_none : (job : Job) (o : Options) (p : ProgramTree) (names : List (List ℕ)) (second bytes : List ℕ) (e : End) (file : Option (List ℕ)) (reason : Reason) →
+    Does job o p names second (Some bytes) e → Does job o p names second file (NoValue reason) → ⊥
+file_or_none Run o p names second bytes (Prints text) file reason h k = let none' = h.0 in cc
+file_or_none Run o p names second bytes (NoValue Deep) file reason h k = let none' = h.0 in cc
+file_or_none Run o p names second bytes (NoValue Full) file reason h k = let none' = h.0 in cc
+file_or_none Plain o p names second bytes (Prints text) file reason h k = let none' = h.0 in cc
+file_or_none Plain o p names second bytes (NoValue Deep) file reason h k = let none' = h.0 in cc
+file_or_none Plain o p names second bytes (NoValue Full) file reason h k = h
+file_or_none Check o p names second bytes e file reason h k = k
+file_or_none Core o p names second bytes e file reason h k = k
+file_or_none Code o p names second bytes e file reason h k = k
+file_or_none Pack o p names second bytes e file reason h k = k
+file_or_none Show o p names second bytes e file reason h k = k
+
+-- what is too long is refused
+pub long_refused : (kept : Files) (job : Job) (o : Option Document) (p : ProgramTree) (names : List (List ℕ)) (second : List ℕ) → HoldsSecond kept (option_and_then (λ format. o) (format_of job)) second →
+    most_of job < length second → Refuses job p names second (input.Long (most_of job)) × (Accepts job p names second → ⊥)
+long_refused kept Run o p names second held many = ((refl, many), λ a. let short = a.1.short in absurd (omega (arith, many, short)))
+long_refused kept Plain o p names second held many = ((refl, many), λ a. let short = a.1.short in absurd (omega (arith, many, short)))
+long_refused kept Check o p names second held many = absurd (omega (arith, many, ap length held))
+long_refused kept Core o p names second held many = absurd (omega (arith, many, ap length held))
+long_refused kept Code o p names second held many = absurd (omega (arith, many, ap length held))
+long_refused kept Pack o p names second held many = ((refl, inl many), λ a. let short = a.1.short in absurd (omega (arith, many, short)))
+long_refused kept Show o p names second held many = (inl (refl, many), λ a. let short = a.1.short in absurd (omega (arith, many, short)))
+
+-- what the plain evaluator may do, a run may
+pub means_runs : (p : ProgramTree) (names : List (List ℕ)) (o : Options) (second : List ℕ) (file : Option (List ℕ)) (e : End) → Means p names o.depth second file e → Runs p names o second file e
+means_runs p names o second file (Prints text) h = h
+means_runs p names o second file (NoValue Deep) h = h
+means_runs p names o second file (NoValue Full) h = absurd h

@@ -1,0 +1,192 @@
+-- From the end of a run over region memory to what the program means.
+use Rattle.std.proofs.Common.{◌≡◌, ◌∙◌, refl, Bool, ℤ, ℕ, ◌+◌, ◌-◌, ◌*◌, ◌≤◌, List, [], length, Result, Ok, Err, IfOk, IfErr, MatchResult, sym, ap, subst, subst₂, arith}
+use Rattle.gib_types.specs.declared.table.Ty.{Ty}
+use Rattle.gib_types.specs.Layout.{LaidOut}
+use Rattle.gib_types.specs.Loaded.{Loaded}
+use Rattle.gib_types.specs.Table.{Table}
+use Rattle.gib_types.specs.Tree.{Datum, whole, truth, con, constructors}
+use Rattle.gib_mem.specs.Memory.{Memory, Store}
+use Rattle.gib_mem.specs.Plain.{plain_cells}
+use Rattle.gib_mem.specs.declared.plain.PlainMem.{PlainMem}
+use Rattle.gib_packed.specs.declared.root.Root.{Root}
+use Rattle.gib_packed.specs.declared.root.Root.TheVariants as root
+use Rattle.gib_packed.specs.Stands.{Stands, a_whole, a_truth, a_tree}
+use Rattle.gib_file.specs.Framed.{File}
+use Rattle.gib_file.specs.Packed.{Packed, IsPacked}
+use Rattle.gib_file.specs.Surveyed.{Surveyed}
+use Rattle.gib_load.specs.Holding.{Holding}
+use Rattle.gib_load.specs.Placement.{placed_in, begun, Placement}
+use Rattle.gib_load.specs.Preorder.{heads}
+use Rattle.gib_load.specs.Refusal.{Refused, at_start, at_head, Spent}
+use Rattle.gib_load.proofs.Spots.{heads_limit}
+use Rattle.gib_syntax.specs.Tree.{ProgramTree}
+use Rattle.gib_syntax.specs.Declarations.{table_of_program, input_type, output_type}
+use Rattle.gib_syntax.specs.Meaning.{Outcome, run}
+use Rattle.gib_core.specs.Cost.{Cost, run_cost, body_cost}
+use Rattle.gib_core.specs.Low.{laid_of}
+use Rattle.gib_core.specs.LoweredParts.{LoweredParts}
+use Rattle.gib_core.specs.Meaning.{core_run}
+use Rattle.gib_core.specs.Parts.{core_of}
+use Rattle.gib_core.specs.Tight.{Tight}
+use Rattle.gib_core.specs.Tree.{CoreTree}
+use Rattle.gib_code.specs.declared.answer.Answer.{Answer}
+use Rattle.gib_code.specs.declared.answer.Answer.TheVariants as answer
+use Rattle.gib_weave.specs.declared.root_run.RunFault.{RunFault}
+use Rattle.gib_weave.specs.Running.{IsStart, RunEnds}
+use Rattle.gib_weave.specs.Sound.{IsAnswer}
+use Rattle.gib_app.specs.declared.machine_run.Ran.{Ran}
+use Rattle.gib_app.specs.declared.machine_run.RunStop.{RunStop}
+use Rattle.gib_app.specs.declared.machine_run.RunStop.TheVariants as stop
+use Rattle.gib_app.specs.Cores.{core_after}
+use Rattle.gib_app.specs.Running.{IsInput}
+use Rattle.gib_app.specs.MachineRun.{StandsMeant, IsMachineStop, IsRootOf, Halts, EndsWith, program_cost}
+
+-- A value that was loaded is where a run may start.
+pub start_of : (l : LoweredParts) (laid : LaidOut) (ty : Ty) (v : Datum) (m : Memory) (place : Root) (tails : List ℕ) → laid ≡ l.code.laid → ty ≡ (core_of l.core).main.parameter
+    → Holding laid ty v (record { memory = m; root = place; tails = tails }) → IsStart l place tails m v
+start_of l laid ty v m place tails e f h = record {
+  stands = subst₂ (λ (x : LaidOut) (t : Ty). Stands x m.cells place t v) e f h.stands;
+  owned = h.tails;
+  loaded = h.loaded;
+}
+
+-- Loading leaves how many chunks there are.
+pub placed_limit : (laid : LaidOut) (m : Memory) (v : Datum) → (placed_in laid m v).memory.limit ≡ m.limit
+placed_limit laid m (whole z) = refl
+placed_limit laid m (truth b) = refl
+placed_limit laid m (con k vs) = heads_limit laid (begun m) (heads (con k vs))
+
+pub refused_limit : (laid : LaidOut) (m m' : Memory) (v : Datum) → Refused laid m v m' → m'.limit ≡ m.limit
+refused_limit laid m _ v (at_start e full) = refl
+refused_limit laid m m' v (at_head st) = ap (λ (x : Memory). x.limit) st.same ∙ heads_limit laid (begun m) st.front
+
+-- Where chunks run out as a value is loaded, they may run out in the run.
+enough : (chunks r i k : ℕ) → 4023 * (chunks - 1) ≤ 65 * k → 32 * chunks ≤ 32 * ((r + 0) + 3) + (i + k)
+enough chunks r i k h = omega (arith, h)
+
+pub loading_is_tight : (core : CoreTree) (depth chunks : ℕ) (v : Datum) → Loaded chunks v → Tight chunks (run_cost core depth 0 v)
+loading_is_tight core depth chunks v h = enough chunks (body_cost core depth 0 v).regions (body_cost core depth 0 v).items (constructors v) h
+
+pub load_halts : (core : CoreTree) (laid : LaidOut) (depth : ℕ) (v : Datum) (m m' : Memory) → Refused laid m v m' → Spent v m' → Tight m.limit (run_cost core depth 0 v)
+load_halts core laid depth v m m' refused spent =
+    subst (λ (n : ℕ). Tight n (run_cost core depth 0 v)) (refused_limit laid m m' v refused) (loading_is_tight core depth m'.limit v spent.loaded)
+
+-- An answer of the machine is a root for what was owed.
+module _ (laid : LaidOut) (s : Store) (ty : Ty) (owed : Outcome) where
+  pub whole_stands : (z : ℤ) → IsAnswer laid s ty owed (answer.Whole z) → IsRootOf laid s ty owed (root.Whole z)
+  whole_stands z h = record { result = whole z; means = h.2; stands = subst (λ (t : Ty). Stands laid s (root.Whole z) t (whole z)) (sym h.0) (a_whole h.1) }
+
+  pub truth_stands : (b : Bool) → IsAnswer laid s ty owed (answer.Truth b) → IsRootOf laid s ty owed (root.Truth b)
+  truth_stands b h = record { result = truth b; means = h.1; stands = subst (λ (t : Ty). Stands laid s (root.Truth b) t (truth b)) (sym h.0) a_truth }
+
+  pub tree_stands : (a : ℕ) → IsAnswer laid s ty owed (answer.At a) → IsRootOf laid s ty owed (root.At a)
+  tree_stands a h = record { result = h.1; means = h.3; stands = subst (λ (t : Ty). Stands laid s (root.At a) t h.1) (sym h.2) (a_tree {t = record { 0 = h.0 }} h.4.dec) }
+
+-- What is packed by the survey's table is so by that of the layouts.
+packed_in : (l : LoweredParts) (laid : LaidOut) (s : Surveyed) (v : Datum) → laid ≡ l.code.laid → s.table ≡ l.code.laid.table → Packed s.table s.ty v s.bytes → Packed laid.table s.ty v s.bytes
+packed_in l laid s v e f p = subst (λ (t : Table). Packed t s.ty v s.bytes) (f ∙ sym (ap (λ (x : LaidOut). x.table) e)) p
+
+-- Loading and then running.
+pub loaded_ran : (l : LoweredParts) (laid : LaidOut) (s : Surveyed) (depth : ℕ) (m0 m1 m2 : Memory) (place : Root) (tails : List ℕ) (r : Result Answer RunFault) (e : Result Root RunStop)
+    → laid ≡ l.code.laid → s.table ≡ l.code.laid.table → s.ty ≡ (core_of l.core).main.parameter
+    → ((v : Datum) → Packed laid.table s.ty v s.bytes → record { memory = m1; root = place; tails = tails } ≡ placed_in laid m0 v)
+    → ((v : Datum) → Packed laid.table s.ty v s.bytes → Holding laid s.ty v (record { memory = m1; root = place; tails = tails }))
+    → ((v : Datum) → IsStart l place tails m1 v → RunEnds l depth v m1 m2 r) → ((v : Datum) → RunEnds l depth v m1 m2 r → EndsWith l depth m1.limit v m2.cells e)
+    → (v : Datum) → Packed s.table s.ty v s.bytes → EndsWith l depth m0.limit v m2.cells e
+loaded_ran l laid s depth m0 m1 m2 place tails r e same table ty placed holds ran ends v p =
+    let q = packed_in l laid s v same table p in
+    let limit : m1.limit ≡ m0.limit = ap (λ (x : Placement). x.memory.limit) (placed v q) ∙ placed_limit laid m0 v in
+    let start = start_of l laid s.ty v m1 place tails same ty (holds v q) in
+    subst (λ (n : ℕ). EndsWith l depth n v m2.cells e) limit (ends v (ran v start))
+
+-- Loading that stops.
+pub load_stops : (l : LoweredParts) (laid : LaidOut) (s : Surveyed) (depth : ℕ) (m0 m1 : Memory) → laid ≡ l.code.laid → s.table ≡ l.code.laid.table
+    → ((v : Datum) → Packed laid.table s.ty v s.bytes → Refused laid m0 v m1) → ((v : Datum) → Packed laid.table s.ty v s.bytes → Spent v m1)
+    → (v : Datum) → Packed s.table s.ty v s.bytes → Tight m0.limit (run_cost (core_of l.core) depth 0 v)
+load_stops l laid s depth m0 m1 same table refused spent v p =
+    let q = packed_in l laid s v same table p in
+    load_halts (core_of l.core) laid depth v m0 m1 (refused v q) (spent v q)
+
+-- A core and layouts that are a program's.
+pub record IsOfProgram (p : ProgramTree) (l : LoweredParts) : Type 0 where
+  pub core : core_of l.core ≡ core_after 3 p
+  pub means : (depth : ℕ) (v : Datum) → core_run (core_of l.core) depth v ≡ run p depth v
+  pub laid : l.code.laid ≡ record { table = table_of_program p; with_offsets = [] }
+
+-- The layouts of a program's code.
+pub laid_after : (p : ProgramTree) (core : CoreTree) (laid : LaidOut) → core ≡ core_after 3 p → laid ≡ laid_of core → laid ≡ record { table = table_of_program p; with_offsets = [] }
+laid_after p core laid e h = h ∙ ap laid_of e
+
+pub parameter_of : (p : ProgramTree) (l : LoweredParts) → core_of l.core ≡ core_after 3 p → (core_of l.core).main.parameter ≡ input_type p
+parameter_of p l e = ap (λ (c : CoreTree). c.main.parameter) e
+
+pub root_meant : (p : ProgramTree) (depth : ℕ) (input : List ℕ) (v : Datum) (l l' : LoweredParts) (s : Store) (place : Root) → IsOfProgram p l → IsInput p v input → l' ≡ l
+    → IsRootOf l.code.laid s (core_of l.core).main.result (core_run (core_of l.core) depth v) place → StandsMeant p depth input l'.code.laid s place
+root_meant p depth input v l l' s place of is e h =
+    let there : StandsMeant p depth input l.code.laid s place = record {
+      value = v;
+      result = h.result;
+      is_input = is;
+      means = sym (of.means depth v) ∙ h.means;
+      table = ap (λ (x : LaidOut). x.table) of.laid;
+      stands = subst (λ (t : Ty). Stands l.code.laid s place t h.result) (ap (λ (c : CoreTree). c.main.result) of.core) h.stands;
+    } in
+    subst (λ (x : LoweredParts). StandsMeant p depth input x.code.laid s place) (sym e) there
+
+pub stop_meant : (p : ProgramTree) (depth chunks : ℕ) (input : List ℕ) (v : Datum) (l : LoweredParts) → IsOfProgram p l → IsInput p v input → (why : RunStop)
+    → Halts (core_run (core_of l.core) depth v) chunks (run_cost (core_of l.core) depth 0 v) why → IsMachineStop p depth chunks input why
+stop_meant p depth chunks input v l of is stop.Memory h = tt {0}
+stop_meant p depth chunks input v l of is (stop.Refused f) h = absurd h
+stop_meant p depth chunks input v l of is stop.Deep h = record { value = v; is_input = is; means = sym (of.means depth v) ∙ h }
+stop_meant p depth chunks input v l of is stop.Full h = record {
+  value = v;
+  is_input = is;
+  tight = subst (λ (c : CoreTree). Tight chunks (run_cost c depth 0 v)) of.core h;
+}
+
+-- The region memory of a run.
+abbrev pub store_of : PlainMem → Store
+store_of m = plain_cells m.bytes.items m.drawn
+
+-- A survey's value is the input.
+input_of : (p : ProgramTree) (input : List ℕ) (s : Surveyed) → length input ≤ 16777216 → ((v : Datum) → Packed s.table s.ty v s.bytes → File (table_of_program p) (input_type p) v input)
+    → (v : Datum) → Packed s.table s.ty v s.bytes → IsInput p v input
+input_of p input s short file v q = record { short = short; file = file v q }
+
+-- The run of a program on a survey that is of the input.
+pub survey_stands : (p : ProgramTree) (depth : ℕ) (input : List ℕ) (s : Surveyed) (l : LoweredParts) → IsOfProgram p l → length input ≤ 16777216 → IsPacked s.table s.ty s.bytes s.count
+    → ((v : Datum) → Packed s.table s.ty v s.bytes → File (table_of_program p) (input_type p) v input) → (r : Result Ran RunStop) → IfOk r (λ ran. ran.lowered ≡ l)
+    → IfOk r (λ ran. (v : Datum) → Packed s.table s.ty v s.bytes → IsRootOf l.code.laid (store_of ran.memory) (core_of l.core).main.result (core_run (core_of l.core) depth v) ran.root)
+    → IfOk r (λ ran. StandsMeant p depth input ran.lowered.code.laid (store_of ran.memory) ran.root)
+survey_stands p depth input s l of short packed file (Ok ran) same ends =
+    root_meant p depth input packed.0 l ran.lowered (store_of ran.memory) ran.root of (input_of p input s short file packed.0 packed.1) same (ends packed.0 packed.1)
+survey_stands p depth input s l of short packed file (Err why) same ends = tt {0}
+
+pub survey_stops : (p : ProgramTree) (depth chunks : ℕ) (input : List ℕ) (s : Surveyed) (l : LoweredParts) → IsOfProgram p l → length input ≤ 16777216 → IsPacked s.table s.ty s.bytes s.count
+    → ((v : Datum) → Packed s.table s.ty v s.bytes → File (table_of_program p) (input_type p) v input) → (r : Result Ran RunStop)
+    → IfErr r (λ why. (v : Datum) → Packed s.table s.ty v s.bytes → Halts (core_run (core_of l.core) depth v) chunks (run_cost (core_of l.core) depth 0 v) why)
+    → IfErr r (IsMachineStop p depth chunks input)
+survey_stops p depth chunks input s l of short packed file (Ok ran) ends = tt {0}
+survey_stops p depth chunks input s l of short packed file (Err why) ends = stop_meant p depth chunks input packed.0 l of (input_of p input s short file packed.0 packed.1) why (ends packed.0 packed.1)
+
+-- Any value that is the input is the survey's.
+pub survey_only : (p : ProgramTree) (depth chunks : ℕ) (input : List ℕ) (s : Surveyed) (l : LoweredParts) → IsOfProgram p l → length input ≤ 16777216 → IsPacked s.table s.ty s.bytes s.count
+    → ((v : Datum) → Packed s.table s.ty v s.bytes → File (table_of_program p) (input_type p) v input)
+    → ((table : Table) (ty : Ty) (v w : Datum) (bytes : List ℕ) → File table ty v bytes → File table ty w bytes → v ≡ w) → (r : Result Ran RunStop) → IfOk r (λ ran. ran.lowered ≡ l)
+    → IfOk r (λ ran. (v : Datum) → Packed s.table s.ty v s.bytes → IsRootOf l.code.laid (store_of ran.memory) (core_of l.core).main.result (core_run (core_of l.core) depth v) ran.root)
+    → IfErr r (λ why. (v : Datum) → Packed s.table s.ty v s.bytes → Halts (core_run (core_of l.core) depth v) chunks (run_cost (core_of l.core) depth 0 v) why)
+    → (v : Datum) → IsInput p v input
+    → MatchResult r (λ ran. IsRootOf ran.lowered.code.laid (store_of ran.memory) (output_type p) (run p depth v) ran.root) (Halts (run p depth v) chunks (program_cost p depth v))
+survey_only p depth chunks input s l of short packed file one (Ok ran) same root halts v is =
+    let meant = survey_stands p depth input s l of short packed file (Ok ran) same root in
+    record {
+      result = meant.result;
+      means = ap (run p depth) (one (table_of_program p) (input_type p) v meant.value input is.file meant.is_input.file) ∙ meant.means;
+      stands = meant.stands;
+    }
+survey_only p depth chunks input s l of short packed file one (Err why) same root halts v is =
+    let w = packed.0 in
+    let e : w ≡ v = one (table_of_program p) (input_type p) w v input (file w packed.1) is.file in
+    let owed : core_run (core_of l.core) depth w ≡ run p depth v = of.means depth w ∙ ap (run p depth) e in
+    let most : run_cost (core_of l.core) depth 0 w ≡ program_cost p depth v = ap (λ (c : CoreTree). run_cost c depth 0 w) of.core ∙ ap (program_cost p depth) e in
+    subst₂ (λ (o : Outcome) (k : Cost). Halts o chunks k why) owed most (halts w packed.1)

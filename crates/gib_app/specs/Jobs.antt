@@ -1,0 +1,56 @@
+-- What each job makes.
+use Rattle.std.specs.Prelude.{◌≡◌, ℕ, List, [], ◌∷◌, ◌++◌, codes, Option, None, Some}
+use Rattle.gib_syntax.specs.Tree.{ProgramTree}
+use Rattle.gib_core.specs.CoreText.{core_text}
+use Rattle.gib_code.specs.ListingText.{listing_text}
+use Rattle.gib_lower.specs.Lowering.{lower_program}
+use Rattle.gib_app.specs.declared.plan.Job.{Job}
+use Rattle.gib_app.specs.declared.plan.Job.TheVariants.{Run, Plain, Check, Core, Code, Pack, Show}
+use Rattle.gib_app.specs.declared.plan.Options.{Options}
+use Rattle.gib_app.specs.declared.made.Reason.{Reason}
+use Rattle.gib_app.specs.declared.made.Reason.TheVariants.{Deep, Full}
+use Rattle.gib_app.specs.Running.{IsOutput, RunsOut, FillsUp, IsShown}
+use Rattle.gib_app.specs.Packing.{IsPackedText}
+use Rattle.gib_app.specs.Cores.{core_after}
+
+-- How a job ends: with a text that is printed, or with no value to print.
+pub data End : Type 0 where
+  Prints : List ℕ → End
+  NoValue : Reason → End
+
+-- A job that makes no file and ends with a text of which this holds.
+abbrev pub OnlyPrints : (List ℕ → Type 0) → Option (List ℕ) → End → Type 0
+OnlyPrints P file (Prints text) = (file ≡ None) × P text
+OnlyPrints P file (NoValue reason) = ⊥
+
+-- What is printed where all is well and nothing else is to be said.
+abbrev pub ok_line : List ℕ
+ok_line = codes "ok" ++ 10 ∷ []
+
+-- `plain`: the text of the value that the program means on the input within the depth; or that is too deep.
+abbrev pub Means : ProgramTree → List (List ℕ) → ℕ → List ℕ → Option (List ℕ) → End → Type 0
+Means p names depth input file (Prints text) = (file ≡ None) × IsOutput p names depth input text
+Means p names depth input file (NoValue Deep) = (file ≡ None) × RunsOut p depth input
+Means p names depth input file (NoValue Full) = ⊥
+
+-- `run`: the same; or so many chunks of memory may not be enough.
+abbrev pub Runs : ProgramTree → List (List ℕ) → Options → List ℕ → Option (List ℕ) → End → Type 0
+Runs p names options input file (Prints text) = (file ≡ None) × IsOutput p names options.depth input text
+Runs p names options input file (NoValue Deep) = (file ≡ None) × RunsOut p options.depth input
+Runs p names options input file (NoValue Full) = (file ≡ None) × FillsUp p options.depth options.chunks input
+
+-- `pack`: the packed file of the value whose text this is.
+abbrev pub Packs : ProgramTree → List (List ℕ) → List ℕ → Option (List ℕ) → End → Type 0
+Packs p names bytes file (Prints text) = (packed : List ℕ) × (file ≡ Some packed) × IsPackedText p names bytes packed × (text ≡ ok_line)
+Packs p names bytes file (NoValue reason) = ⊥
+
+-- What a job with these options makes, for the program with these names, of the bytes of the second file: a file, or none,
+-- and its end.
+abbrev pub Does : Job → Options → ProgramTree → List (List ℕ) → List ℕ → Option (List ℕ) → End → Type 0
+Does Run options p names second = Runs p names options second
+Does Plain options p names second = Means p names options.depth second
+Does Check options p names second = OnlyPrints (λ text. text ≡ ok_line)
+Does Core options p names second = OnlyPrints (λ text. text ≡ core_text names (core_after options.pass p))
+Does Code options p names second = OnlyPrints (λ text. text ≡ listing_text names (lower_program (core_after 4 p)))
+Does Pack options p names second = Packs p names second
+Does Show options p names second = OnlyPrints (IsShown p names second)

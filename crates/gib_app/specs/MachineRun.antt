@@ -1,0 +1,62 @@
+-- What a run of the machine on a packed file leaves: a root in region memory, or why there is none.
+use Rattle.std.specs.Prelude.{◌≡◌, ℕ, List, Result, MatchResult}
+use Rattle.gib_types.specs.declared.table.Ty.{Ty}
+use Rattle.gib_types.specs.Layout.{LaidOut}
+use Rattle.gib_types.specs.Tree.{Datum}
+use Rattle.gib_mem.specs.Memory.{Store}
+use Rattle.gib_mem.specs.Plain.{plain_cells}
+use Rattle.gib_mem.specs.declared.plain.PlainMem.{PlainMem}
+use Rattle.gib_packed.specs.Stands.{Stands}
+use Rattle.gib_packed.specs.declared.root.Root.{Root}
+use Rattle.gib_syntax.specs.Tree.{ProgramTree}
+use Rattle.gib_syntax.specs.Declarations.{table_of_program, output_type}
+use Rattle.gib_syntax.specs.Meaning.{Outcome, Gives, Stops, Deep, run}
+use Rattle.gib_core.specs.Cost.{Cost, run_cost}
+use Rattle.gib_core.specs.LoweredParts.{LoweredParts}
+use Rattle.gib_core.specs.Meaning.{core_run}
+use Rattle.gib_core.specs.Parts.{core_of}
+use Rattle.gib_core.specs.Tight.{Tight}
+use Rattle.gib_app.specs.declared.machine_run.RunStop.{RunStop}
+use Rattle.gib_app.specs.declared.machine_run.RunStop.TheVariants as stop
+use Rattle.gib_app.specs.InputFaults.{IsInputFault}
+use Rattle.gib_app.specs.Running.{IsInput, RunsOut, FillsUp}
+
+-- The bytes of a memory.
+abbrev pub cells_of : PlainMem → Store
+cells_of m = plain_cells m.bytes.items m.drawn
+
+-- The program means a value on the input within the depth, and in region memory that value stands for the root.
+pub record StandsMeant (p : ProgramTree) (depth : ℕ) (input : List ℕ) (laid : LaidOut) (s : Store) (place : Root) : Type 0 where
+  pub value : Datum
+  pub result : Datum
+  pub is_input : IsInput p value input
+  pub means : run p depth value ≡ Gives result
+  pub table : laid.table ≡ table_of_program p
+  pub stands : Stands laid s place (output_type p) result
+
+-- Why a run leaves no root.
+abbrev pub IsMachineStop : ProgramTree → (depth chunks : ℕ) → (input : List ℕ) → RunStop → Type 0
+IsMachineStop p depth chunks input stop.Memory = Unit {0}
+IsMachineStop p depth chunks input (stop.Refused fault) = IsInputFault p input fault × (((v : Datum) × IsInput p v input) → ⊥)
+IsMachineStop p depth chunks input stop.Deep = RunsOut p depth input
+IsMachineStop p depth chunks input stop.Full = FillsUp p depth chunks input
+
+-- A value was owed, and in region memory it stands for the root.
+pub record IsRootOf (laid : LaidOut) (s : Store) (ty : Ty) (owed : Outcome) (place : Root) : Type 0 where
+  pub result : Datum
+  pub means : owed ≡ Gives result
+  pub stands : Stands laid s place ty result
+
+-- Why a run leaves no root, where this outcome was owed, and the run costs so much at most.
+abbrev pub Halts : Outcome → (chunks : ℕ) → Cost → RunStop → Type 0
+Halts owed chunks most stop.Memory = Unit {0}
+Halts owed chunks most (stop.Refused fault) = ⊥
+Halts owed chunks most stop.Deep = owed ≡ Stops Deep
+Halts owed chunks most stop.Full = Tight chunks most
+
+-- How a run of code on a value ends, where there are so many chunks: with a root in region memory for what its core means, or
+-- with why there is none.
+abbrev pub EndsWith : LoweredParts → (depth chunks : ℕ) → Datum → Store → Result Root RunStop → Type 0
+EndsWith l depth chunks v s end =
+    MatchResult end (IsRootOf l.code.laid s (core_of l.core).main.result (core_run (core_of l.core) depth v))
+    (Halts (core_run (core_of l.core) depth v) chunks (run_cost (core_of l.core) depth 0 v))

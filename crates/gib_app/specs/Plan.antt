@@ -1,0 +1,28 @@
+-- What the words of a command line ask to do.
+use Rattle.std.specs.Prelude.{ℕ, List, Option}
+use Rattle.gib_edge.specs.Views.{Held, Has}
+use Rattle.gib_app.specs.declared.plan.Job.{Job}
+use Rattle.gib_app.specs.declared.plan.Options.{Options}
+
+-- Where bytes come from: the product brings them with it, or they stand in a file by its name.
+pub data Document : Type 0 where
+  Brought : List ℕ → Document
+  Named : List ℕ → Document
+
+-- The source is read, then the second file, where there is one; a job is done with them; the file that it makes is
+-- written under the target's name.
+pub record Plan : Type 0 where
+  pub source : Document
+  pub second : Option Document
+  pub target : Option (List ℕ)
+  pub job : Job
+  pub options : Options
+
+-- What names hold.
+abbrev pub Files : Type 0
+Files = List ℕ → Held
+
+-- What a document holds.
+abbrev pub bytes_in : Files → Document → Held
+bytes_in kept (Brought bytes) = Has bytes
+bytes_in kept (Named name) = kept name

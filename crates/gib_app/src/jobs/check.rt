@@ -1,0 +1,24 @@
+//! `check`: says that a source is a typed program.
+
+ghost use Rattle.std.specs.Prelude.{◌≡◌, IfOk, IfErr};
+ghost use Rattle.gib_app.specs.Jobs.{OnlyPrints, ok_line};
+ghost use Rattle.gib_app.specs.Kept.{EndsBy, file_of};
+
+use crate::made::{JobFault, Made};
+use crate::printing::{ok_answer, only_prints};
+use std::alloc::Global;
+
+/// What is printed of a source that is a typed program.
+///
+/// # Errors
+///
+/// Want of memory alone.
+pub fn check(alloc: Global) -> Result<Made, JobFault>
+    ensures made { IfOk result (λ made. EndsBy (file_of made) made.end (OnlyPrints (λ text. text ≡ ok_line))) }
+    ensures memory { IfErr result (λ e. e ≡ JobFault.Memory) }
+{
+    match ok_answer(alloc) {
+        Ok(text) => Ok(only_prints(text)),
+        Err(_) => Err(JobFault::Memory),
+    }
+}

@@ -1,0 +1,56 @@
+//! `core`: prints the core of a program after a pass.
+
+ghost use Rattle.std.specs.Prelude.{◌≡◌, IfOk, IfErr};
+ghost use Rattle.gib_syntax.specs.Parts.{program_of};
+ghost use Rattle.gib_core.specs.Parts.{core_of};
+ghost use Rattle.gib_core.specs.CoreText.{core_text as text_of_core};
+ghost use Rattle.gib_app.specs.Cores.{core_after};
+ghost use Rattle.gib_app.specs.Jobs.{OnlyPrints};
+ghost use Rattle.gib_app.specs.Kept.{EndsBy, file_of};
+
+use crate::compile::Compiled;
+use crate::made::{JobFault, Made};
+use crate::printing::only_prints;
+use gib_access::reach;
+use gib_base::Memory;
+use gib_check::Typed;
+use gib_core::{AccessMode, Core, print_core};
+use gib_infer::infer;
+use std::alloc::Global;
+
+/// The core of a program after a pass. Values are not placed directly yet, and sides are not marked.
+fn core_after(alloc: Global, typed: &Typed, pass: u32) -> Result<Core, Memory>
+    ensures { IfOk result (λ core. core_of core ≡ core_after pass (program_of typed.now)) }
+{
+    let core = infer(alloc, typed)?;
+    if pass < 3 {
+        return Ok(core);
+    }
+    match reach(alloc, core, AccessMode::Skips) {
+        Ok(reached) => Ok(reached),
+        Err(memory) => Err(memory),
+    }
+}
+
+/// The text of the core of a program after a pass.
+fn print_after(alloc: Global, compiled: &Compiled, pass: u32) -> Result<Vec<u8>, Memory>
+    ensures { IfOk result (λ text. text.items ≡ text_of_core compiled.now.names (core_after pass (program_of compiled.now.typed))) }
+{
+    let core = core_after(alloc, &compiled.typed, pass)?;
+    print_core(alloc, &core, &compiled.names)
+}
+
+/// What is printed of the core of a program after a pass.
+///
+/// # Errors
+///
+/// Want of memory alone.
+pub fn core_text(alloc: Global, compiled: &Compiled, pass: u32) -> Result<Made, JobFault>
+    ensures made { IfOk result (λ made. EndsBy (file_of made) made.end (OnlyPrints (λ text. text ≡ text_of_core compiled.now.names (core_after pass (program_of compiled.now.typed))))) }
+    ensures memory { IfErr result (λ e. e ≡ JobFault.Memory) }
+{
+    match print_after(alloc, compiled, pass) {
+        Ok(text) => Ok(only_prints(text)),
+        Err(_) => Err(JobFault::Memory),
+    }
+}

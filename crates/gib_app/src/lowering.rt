@@ -1,0 +1,54 @@
+//! A typed program to code.
+
+ghost use Rattle.std.specs.Prelude.{◌≡◌, ℕ, [], IfOk};
+ghost use Rattle.gib_types.specs.Tree.{Datum};
+ghost use Rattle.gib_syntax.specs.Parts.{program_of};
+ghost use Rattle.gib_syntax.specs.Declarations.{table_of_program};
+ghost use Rattle.gib_syntax.specs.Meaning.{run};
+ghost use Rattle.gib_core.specs.Meaning.{core_run};
+ghost use Rattle.gib_core.specs.Numbering.{AreNumbered};
+ghost use Rattle.gib_core.specs.Parts.{core_of};
+ghost use Rattle.gib_lower.specs.Lowering.{lower_program};
+ghost use Rattle.gib_app.specs.Cores.{core_after};
+
+use gib_access::reach;
+use gib_base::Memory;
+use gib_check::Typed;
+use gib_core::{AccessMode, Checked, Lowered};
+use gib_infer::infer;
+use gib_lower::lower;
+use std::alloc::Global;
+
+/// The core of a program with its fields reached, which meets the build rules.
+fn checked_core(alloc: Global, typed: &Typed) -> Result<Checked, Memory>
+    ensures core { IfOk result (λ core. core_of core ≡ core_after 3 (program_of typed.now)) }
+    ensures numbered { IfOk result (λ core. AreNumbered (core_of core)) }
+    ensures means { IfOk result (λ core. (depth : ℕ) (v : Datum) → core_run (core_of core) depth v ≡ run (program_of typed.now) depth v) }
+{
+    let core = infer(alloc, typed)?;
+    match reach(alloc, core, AccessMode::Skips) {
+        Ok(reached) => Ok(Checked::make(reached)),
+        Err(memory) => Err(memory),
+    }
+}
+
+/// The core of a program with its fields reached, and its code. It means what the program means, and no head stores offsets.
+///
+/// # Errors
+///
+/// Want of memory.
+pub fn lowered(alloc: Global, typed: &Typed) -> Result<Lowered, Memory>
+    ensures core { IfOk result (λ made. core_of made.core ≡ core_after 3 (program_of typed.now)) }
+    ensures means { IfOk result (λ made. (depth : ℕ) (v : Datum) → core_run (core_of made.core) depth v ≡ run (program_of typed.now) depth v) }
+    ensures code { IfOk result (λ made. made.code ≡ lower_program (core_after 3 (program_of typed.now))) }
+    ensures laid { IfOk result (λ made. made.code.laid ≡ record { table = table_of_program (program_of typed.now); with_offsets = [] }) }
+{
+    let checked = checked_core(alloc, typed)?;
+    match lower(alloc, checked) {
+        Ok(made) => {
+            let _code = made.code();
+            Ok(made)
+        }
+        Err(memory) => Err(memory),
+    }
+}

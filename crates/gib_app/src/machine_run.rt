@@ -1,0 +1,224 @@
+//! Runs a program by the machine, from the bytes of a packed file to a root in region memory, and prints from there.
+
+ghost use Rattle.std.specs.Prelude.{◌≡◌, ◌≤◌, ◌+◌, ◌++◌, ◌∷◌, [], ℕ, List, length, IfOk, IfErr, OnOk, OnErr, IsErrOf, MatchResult};
+ghost use Rattle.gib_edge.specs.Causes.{Rose, Appends, AppendsPart, PutsPieces, PutsSomePieces};
+ghost use Rattle.gib_types.specs.declared.table.Ty.{Ty as Type_of};
+ghost use Rattle.gib_types.specs.Layout.{LaidOut};
+ghost use Rattle.gib_types.specs.Tree.{Datum};
+ghost use Rattle.gib_mem.specs.Memory.{Memory, Store};
+ghost use Rattle.gib_value.specs.Text.{AreHeld};
+ghost use Rattle.gib_file.specs.Packed.{Packed};
+ghost use Rattle.gib_syntax.specs.Declarations.{output_type};
+ghost use Rattle.gib_syntax.specs.Meaning.{Outcome, Stops, Deep, run};
+ghost use Rattle.gib_syntax.specs.Parts.{program_of};
+ghost use Rattle.gib_syntax.specs.Tree.{ProgramTree};
+ghost use Rattle.gib_core.specs.Cost.{run_cost};
+ghost use Rattle.gib_core.specs.Low.{laid_of};
+ghost use Rattle.gib_core.specs.LoweredParts.{LoweredParts};
+ghost use Rattle.gib_core.specs.Meaning.{core_run};
+ghost use Rattle.gib_core.specs.Parts.{core_of};
+ghost use Rattle.gib_weave.specs.Running.{RunEnds};
+ghost use Rattle.gib_weave.specs.Sound.{IsAnswer};
+ghost use Rattle.gib_app.specs.Cores.{core_after};
+ghost use Rattle.gib_app.specs.Running.{IsInput, text_line};
+ghost use Rattle.gib_app.specs.MachineRun.{StandsMeant, IsMachineStop, IsRootOf, Halts, EndsWith, program_cost};
+
+use crate::input_fault::InputFault;
+use crate::lowering::lowered;
+use crate::made::JobFault;
+use crate::surveying::survey_input;
+use gib_base::Names;
+use gib_base::limits::FILE_BYTES;
+use gib_check::Typed;
+use gib_code::Answer;
+use gib_core::Lowered;
+use gib_edge::outside::Sink;
+use gib_file::{Survey, one_file, refused_file, refused_header};
+use gib_load::{LoadFault, load};
+use gib_mem::{Mem, PlainMem};
+use gib_packed::Root;
+use gib_print::{PrintFault, print_at};
+use gib_region::Tails;
+use gib_weave::{RunFault, run};
+use std::alloc::Global;
+
+/// Why a run leaves no root.
+#[derive(Clone, Copy, Debug, PartialEq, Eq)]
+pub enum RunStop {
+    Memory,
+    /// The file is no packed file of a value of the type of main's parameter.
+    Refused(InputFault),
+    /// The program's meaning runs out of depth.
+    Deep,
+    /// A chunk is needed, and all are drawn.
+    Full,
+}
+
+/// What a run leaves: the code with the layouts of its heads, the region memory, and the root in it for which the result
+/// stands.
+#[derive(Drop)]
+pub struct Ran {
+    pub lowered: Lowered,
+    pub memory: PlainMem,
+    pub root: Root,
+}
+
+/// The root that an answer of the machine is; the one that is none says that depth ran out.
+fn root_of(answer: Answer) -> Result<Root, RunStop>
+    ensures { (laid : LaidOut) (s : Store) (ty : Type_of) (owed : Outcome) → IsAnswer laid s ty owed answer
+        → MatchResult result (IsRootOf laid s ty owed) (λ why. (why ≡ RunStop.Deep) × (owed ≡ Stops Deep)) }
+{
+    match answer {
+        Answer::Whole(value) => Ok(Root::Whole(value)),
+        Answer::Truth(value) => Ok(Root::Truth(value)),
+        Answer::At(address) => Ok(Root::At(address)),
+        Answer::Deep => Err(RunStop::Deep),
+    }
+}
+
+/// What the end of the machine's run is to a run.
+fn end_of(end: Result<Answer, RunFault>) -> Result<Root, RunStop>
+    ensures { (l : LoweredParts) (depth : ℕ) (v : Datum) (m m' : Memory) → RunEnds l depth v m m' end → EndsWith l depth m.limit v m'.cells result }
+{
+    match end {
+        Ok(answer) => root_of(answer),
+        Err(RunFault::Memory) => Err(RunStop::Memory),
+        Err(RunFault::Full) => Err(RunStop::Full),
+    }
+}
+
+/// Loads the value of a survey into a memory in which nothing is drawn, and runs the code on it.
+fn run_loaded(
+    alloc: Global,
+    lowered: &Lowered,
+    survey: Survey<'_>,
+    memory: &mut PlainMem,
+    depth: u32,
+) -> Result<Root, RunStop>
+    requires table { survey.table ≡ lowered.now.code.laid.table }
+    requires ty { survey.ty ≡ (core_of lowered.now.core).main.parameter }
+    requires plain { lowered.now.code.laid.with_offsets ≡ [] }
+    requires undrawn { (⟦<PlainMem as Mem>⟧.view memory.old).drawn ≡ 0 }
+    ensures { (v : Datum) → Packed survey.entry.table survey.entry.ty v survey.entry.bytes
+        → EndsWith lowered.now depth (⟦<PlainMem as Mem>⟧.view memory.old).limit v (⟦<PlainMem as Mem>⟧.view memory.new).cells result }
+{
+    let _packed = survey.payload();
+    let mut tails = Tails::new();
+    let layouts = lowered.code().layouts();
+    match load(alloc, layouts, survey, memory, &mut tails) {
+        Ok(root) => end_of(run(alloc, lowered, memory, tails, root, depth)),
+        Err(LoadFault::Full) => Err(RunStop::Full),
+        Err(LoadFault::Memory) => Err(RunStop::Memory),
+    }
+}
+
+/// Runs the code on the value of a survey, in a memory of its own of so many chunks.
+fn run_survey(
+    alloc: Global,
+    lowered: Lowered,
+    survey: Survey<'_>,
+    depth: u32,
+    chunks: u32,
+) -> Result<Ran, RunStop>
+    requires table { survey.table ≡ lowered.code.laid.table }
+    requires ty { survey.ty ≡ (core_of lowered.core).main.parameter }
+    requires plain { lowered.code.laid.with_offsets ≡ [] }
+    ensures same { IfOk result (λ ran. ran.lowered ≡ lowered) }
+    ensures root { IfOk result (λ ran. (v : Datum) → Packed survey.entry.table survey.entry.ty v survey.entry.bytes
+        → IsRootOf lowered.code.laid (⟦<PlainMem as Mem>⟧.view ran.memory).cells (core_of lowered.core).main.result (core_run (core_of lowered.core) depth v) ran.root) }
+    ensures halts { IfErr result (λ why. (v : Datum) → Packed survey.entry.table survey.entry.ty v survey.entry.bytes → Halts (core_run (core_of lowered.core) depth v) chunks (run_cost (core_of lowered.core) depth 0 v) why) }
+{
+    let mut memory = match PlainMem::make(alloc, chunks) {
+        Ok(memory) => memory,
+        Err(_) => return Err(RunStop::Memory),
+    };
+    match run_loaded(alloc, &lowered, survey, &mut memory, depth) {
+        Ok(root) => Ok(Ran {
+            lowered,
+            memory,
+            root,
+        }),
+        Err(stop) => Err(stop),
+    }
+}
+
+/// Runs a program on the bytes of a packed file, with at most `depth` calls nested, in region memory of so many chunks of 4,096
+/// bytes. What the program means stands for the root, in the memory that is handed back.
+///
+/// # Errors
+///
+/// `Refused` where the bytes are no packed file of a value of the type of main's parameter; else `Deep` where the meaning runs
+/// out of depth, and `Full` where so many chunks may not be enough. `Memory`: want of memory.
+pub fn run_packed(
+    alloc: Global,
+    typed: &Typed,
+    file: &[u8],
+    depth: u32,
+    chunks: u32,
+) -> Result<Ran, RunStop>
+    requires short { length file.now ≤ FILE_BYTES }
+    ensures stands { IfOk result (λ ran. StandsMeant (program_of typed.now) depth file.now ran.lowered.code.laid (⟦<PlainMem as Mem>⟧.view ran.memory).cells ran.root) }
+    // The heads lie as those of the program's core.
+    ensures laid { IfOk result (λ ran. ran.lowered.code.laid ≡ laid_of (core_after 3 (program_of typed.now))) }
+    ensures stop { IfErr result (IsMachineStop (program_of typed.now) depth chunks file.now) }
+    // The other way round: of which value the file is, and what the program means on it, tells how the run ends.
+    ensures only { (v : Datum) → IsInput (program_of typed.now) v file.now
+        → MatchResult result (λ ran. IsRootOf ran.lowered.code.laid (⟦<PlainMem as Mem>⟧.view ran.memory).cells (output_type (program_of typed.now)) (run (program_of typed.now) depth v) ran.root)
+        (Halts (run (program_of typed.now) depth v) chunks (program_cost (program_of typed.now) depth v)) }
+{
+    one_file();
+    refused_header();
+    refused_file();
+    let survey = match survey_input(alloc, typed, file) {
+        Ok(survey) => survey,
+        Err(JobFault::Refused(fault)) => return Err(RunStop::Refused(fault)),
+        Err(JobFault::Memory) => return Err(RunStop::Memory),
+    };
+    let _packed = survey.payload();
+    match lowered(alloc, typed) {
+        Ok(lowered) => run_survey(alloc, lowered, survey, depth, chunks),
+        Err(_) => Err(RunStop::Memory),
+    }
+}
+
+/// Puts the text of what a run leaves and a line feed, in pieces of 4,096 bytes and a last one that may be shorter. The memory of
+/// the run stays.
+///
+/// # Errors
+///
+/// `Memory`, and the sink was not called; `Write` where the sink failed, which took a front of the bytes.
+pub fn print_ran<O: Sink>(
+    alloc: Global,
+    ran: &mut Ran,
+    names: &Names,
+    out: &mut O,
+) -> Result<(), PrintFault>
+    requires names { AreHeld ran.old.lowered.code.laid.table names.now }
+    requires stands { (p : ProgramTree) × (depth : ℕ) × (input : List ℕ) × StandsMeant p depth input ran.old.lowered.code.laid (⟦<PlainMem as Mem>⟧.view ran.old.memory).cells ran.old.root }
+    ensures done { (p : ProgramTree) (depth : ℕ) (input : List ℕ) (s : StandsMeant p depth input ran.old.lowered.code.laid (⟦<PlainMem as Mem>⟧.view ran.old.memory).cells ran.old.root)
+        → OnOk result (Appends (O.view out.old).taken (O.view out.new).taken (text_line p names.now s.result)) }
+    ensures part { (p : ProgramTree) (depth : ℕ) (input : List ℕ) (s : StandsMeant p depth input ran.old.lowered.code.laid (⟦<PlainMem as Mem>⟧.view ran.old.memory).cells ran.old.root)
+        → IsErrOf result PrintFault.Write → AppendsPart (O.view out.old).taken (O.view out.new).taken (text_line p names.now s.result) }
+    ensures cause { IsErrOf result PrintFault.Write → Rose (O.view out.old).faults (O.view out.new).faults }
+    ensures later { (O.view out.old).faults ≤ (O.view out.new).faults }
+    ensures quiet { (IsErrOf result PrintFault.Write → ⊥) → (O.view out.new).faults ≡ (O.view out.old).faults }
+    ensures pieces { (p : ProgramTree) (depth : ℕ) (input : List ℕ) (s : StandsMeant p depth input ran.old.lowered.code.laid (⟦<PlainMem as Mem>⟧.view ran.old.memory).cells ran.old.root)
+        → OnOk result (PutsPieces (O.view out.old) (O.view out.new) (length (text_line p names.now s.result))) }
+    ensures some { (p : ProgramTree) (depth : ℕ) (input : List ℕ) (s : StandsMeant p depth input ran.old.lowered.code.laid (⟦<PlainMem as Mem>⟧.view ran.old.memory).cells ran.old.root)
+        → IsErrOf result PrintFault.Write → PutsSomePieces (O.view out.old) (O.view out.new) (length (text_line p names.now s.result)) }
+    ensures still { IsErrOf result PrintFault.Memory → O.view out.new ≡ O.view out.old }
+    ensures same { ⟦<PlainMem as Mem>⟧.view ran.new.memory ≡ ⟦<PlainMem as Mem>⟧.view ran.old.memory }
+    ensures kept { ran.new.lowered ≡ ran.old.lowered }
+    ensures root { ran.new.root ≡ ran.old.root }
+{
+    let layouts = ran.lowered.code().layouts();
+    print_at(
+        alloc,
+        &mut ran.memory,
+        layouts.types(),
+        names,
+        layouts,
+        ran.root,
+        out,
+    )
+}

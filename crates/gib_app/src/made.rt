@@ -1,0 +1,46 @@
+//! What a job makes.
+
+use crate::input_fault::InputFault;
+use crate::machine_run::Ran;
+use gib_base::Names;
+
+/// Why a job ends without a value.
+#[derive(Clone, Copy, Debug, PartialEq, Eq)]
+pub enum Reason {
+    /// The program's meaning runs out of depth.
+    Deep,
+    /// All chunks of region memory are used up.
+    Full,
+}
+
+/// A value in region memory, with the names of its program.
+#[derive(Drop)]
+pub struct Valued {
+    pub ran: Ran,
+    pub names: Names,
+}
+
+/// How a job ends.
+#[derive(Drop)]
+pub enum End {
+    /// With these bytes, which are printed.
+    Prints(Vec<u8>),
+    /// With a value in region memory, whose text is printed.
+    Value(Valued),
+    NoValue(Reason),
+}
+
+/// What a job made: a file that is to be written, or none, and its end.
+#[derive(Drop)]
+pub struct Made {
+    pub file: Option<Vec<u8>>,
+    pub end: End,
+}
+
+/// Why a job makes nothing of its second file.
+#[derive(Clone, Copy, Debug, PartialEq, Eq)]
+pub enum JobFault {
+    Memory,
+    /// The second file is refused.
+    Refused(InputFault),
+}

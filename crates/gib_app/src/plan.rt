@@ -1,0 +1,114 @@
+//! What the words of a command line ask to do.
+
+ghost use Rattle.std.specs.Prelude.{◌≡◌};
+
+use gib_base::limits::FILE_BYTES;
+
+/// Where bytes come from.
+#[derive(Clone, Copy, Debug)]
+pub enum Document<'a> {
+    /// The product brings them with it.
+    Brought(&'a [u8]),
+    /// They stand in the file of this name.
+    Named(&'a str),
+}
+
+/// What is done with a source and a second file.
+#[derive(Clone, Copy, Debug, PartialEq, Eq)]
+pub enum Job {
+    /// Prints the value of a program on a packed input, within a depth of calls.
+    Run,
+    /// Prints the same by the plain evaluator.
+    Plain,
+    /// Says that a source is a typed program.
+    Check,
+    /// Prints the core of a program after a pass.
+    Core,
+    /// Prints the code of a program.
+    Code,
+    /// Makes a packed file of a value that is given as text.
+    Pack,
+    /// Prints the value of a packed file.
+    Show,
+}
+
+/// What a second file is read as.
+#[derive(Clone, Copy, Debug, PartialEq, Eq)]
+pub enum Format {
+    /// The packed file of a value.
+    Packed,
+    /// The text of a value.
+    Text,
+    /// A file whose value is shown.
+    Shown,
+}
+
+/// The options of all jobs; a job looks at its own.
+#[derive(Clone, Copy, Debug, PartialEq, Eq)]
+pub struct Options {
+    /// How deep calls may go.
+    pub depth: u32,
+    /// How many chunks of memory a run may draw.
+    pub chunks: u32,
+    /// After which pass the core is printed, from 1 to 4.
+    pub pass: u32,
+}
+
+/// What to do: the source is read, then the second file; the job is done with them; the file that it makes is written
+/// under the target's name.
+#[derive(Clone, Copy, Debug)]
+pub struct Plan<'a> {
+    pub source: Document<'a>,
+    pub second: Option<Document<'a>>,
+    pub target: Option<&'a str>,
+    pub job: Job,
+    pub options: Options,
+}
+
+impl Job {
+    ghost use Rattle.std.specs.Prelude.{◌<◌, ◌^◌};
+    ghost use Rattle.gib_app.specs.Formats.{format_of, most_of};
+
+    /// What the second file is read as, where there is one.
+    pub fn format(self) -> Option<Format>
+        ensures { result ≡ format_of self }
+    {
+        match self {
+            Job::Run => Some(Format::Packed),
+            Job::Plain => Some(Format::Packed),
+            Job::Check => None,
+            Job::Core => None,
+            Job::Code => None,
+            Job::Pack => Some(Format::Text),
+            Job::Show => Some(Format::Shown),
+        }
+    }
+
+    /// How many bytes of the second file are read at most.
+    pub fn most(self) -> u64
+        ensures most { result ≡ most_of self }
+        ensures bound { result < 2 ^ 40 }
+    {
+        match self.format() {
+            Some(format) => format.limit(),
+            None => 0,
+        }
+    }
+}
+
+impl Format {
+    ghost use Rattle.std.specs.Prelude.{◌<◌, ◌^◌};
+    ghost use Rattle.gib_app.specs.Formats.{limit_of};
+
+    /// The greatest length of such a file, in bytes; of one that is shown, that of an image with all its chunks.
+    pub fn limit(self) -> u64
+        ensures limit { result ≡ limit_of self }
+        ensures bound { result < 2 ^ 40 }
+    {
+        match self {
+            Format::Packed => FILE_BYTES,
+            Format::Text => FILE_BYTES,
+            Format::Shown => 268_435_480,
+        }
+    }
+}

@@ -1,0 +1,242 @@
+-- A machine can run the code of a core of which each body fits.
+use Rattle.std.proofs.Common.{◌≡◌, ℕ, suc, ◌+◌, ◌<◌, ◌≤◌, ◌^◌, Bool, true, false, nat_lt, List, [], ◌∷◌, ◌++◌, map, length, slice_get, Option, Some, None, refl, sym, ap, subst, ◌∙◌, arith}
+use Rattle.std.proofs.lemmas.Bool.Decides.{nat_tests}
+use Rattle.std.proofs.lemmas.List.{length-append}
+use Rattle.std.proofs.lemmas.Option.{slice_get_within}
+use Rattle.std.specs.List.{AllByRecursion}
+use Rattle.gib_base.specs.declared.name.Name.{Name}
+use Rattle.gib_types.specs.declared.table.Ty.{Ty}
+use Rattle.gib_types.specs.declared.table.Ty.TheVariants.{Whole, Truth, Tree}
+use Rattle.gib_types.specs.Layout.{LaidOut, layout_at}
+use Rattle.gib_types.specs.Table.{Row, Table, IsTable, fields_at, fields_of, con_at, if_owned}
+use Rattle.gib_code.specs.declared.instruction.Arm.{Arm}
+use Rattle.gib_code.specs.declared.instruction.Entry.{Entry}
+use Rattle.gib_code.specs.declared.instruction.Operand.{Operand}
+use Rattle.gib_code.specs.Instruction.{Instruction, IsFine}
+use Rattle.gib_code.specs.Program.{CodeTree, IsAt, AreAt, none, one_more, Runs}
+use Rattle.gib_core.specs.declared.atom.Atom.{Atom}
+use Rattle.gib_core.specs.declared.atom.Access.{Access}
+use Rattle.gib_core.specs.declared.atom.Access.TheVariants as by
+use Rattle.gib_core.specs.declared.atom.Kind.TheVariants as kind
+use Rattle.gib_core.specs.declared.atom.Variable.{Variable}
+use Rattle.gib_core.specs.Fits.{Scope, Dest, Nowhere, Empty, Open, AtHead, Fits, BindFits, SideFits, BranchesFit, CallFits, FunctionFits, MainFits, AllFit, EachFits, more, packed_due, dest_of, by_call, put}
+use Rattle.gib_core.specs.Low as low
+use Rattle.gib_core.specs.Low.{Low, LowArms, LowBind, LowSide, LowFunctions, IsLowered, IsNoCall, End, Returns, To, Field, laid_of, slots_of, arm_opening, scalar_reads, first_reach, giving, ending, reaching}
+use Rattle.gib_core.specs.Numbering.{binders}
+use Rattle.gib_core.specs.Tree as t
+use Rattle.gib_core.specs.Tree.{Term, CoreTree, Side, FunctionTerm, var}
+
+-- The instructions from a label up to another one are fine.
+record Fine (code : CodeTree) (a z : ℕ) : Type 0 where
+  pub fine : (q : ℕ) (j : Instruction) → a ≤ q → q < z → IsAt code q j → IsFine j
+
+fine_none : {code : CodeTree} {a : ℕ} → Fine code a a
+fine_none = record { fine = λ q j x y e. absurd (omega (arith, x, y)) }
+
+fine_join : {code : CodeTree} {a m z : ℕ} → Fine code a m → Fine code m z → Fine code a z
+fine_join {code} {a} {m} {z} f g = record { fine = λ q j x y e. go q j x y e (nat_lt q m) refl }
+  where
+    go : (q : ℕ) (j : Instruction) → a ≤ q → q < z → IsAt code q j → (b : Bool) → nat_lt q m ≡ b → IsFine j
+    go q j x y e true r = f.fine q j x (grind (arith, nat_tests)) e
+    go q j x y e false r = g.fine q j (grind (arith, nat_tests)) y e
+
+same_some : {j l : Instruction} → ◌≡◌ {A = Option Instruction} (Some j) (Some l) → j ≡ l
+same_some e = cc
+
+fine_one : {code : CodeTree} {a : ℕ} {j : Instruction} → IsAt code a j → IsFine j → Fine code a (a + 1)
+fine_one {code} {a} {j} at f = record {
+  fine = λ q l x y e.
+      let r : q ≡ a = omega (arith, x, y) in
+      subst IsFine (same_some (sym at ∙ ap (λ (n : ℕ). slice_get code.instructions n) (sym r) ∙ e)) f;
+}
+
+abbrev AreFine : List Instruction → Type 0
+AreFine [] = Unit {0}
+AreFine (j ∷ js) = IsFine j × AreFine js
+
+fine_list : {code : CodeTree} {a z : ℕ} {js : List Instruction} → AreAt code a js z → AreFine js → Fine code a z
+fine_list none f = fine_none
+fine_list (one_more at more) f = fine_join (fine_one at f.0) (fine_list more f.1)
+
+fine_append : (js ls : List Instruction) → AreFine js → AreFine ls → AreFine (js ++ ls)
+fine_append [] ls f g = g
+fine_append (j ∷ js) ls f g = (f.0, fine_append js ls f.1 g)
+
+fine_ending : (e : End) → IsFine (ending e)
+fine_ending Returns = tt
+fine_ending (To l d) = tt
+
+fine_giving : (s : Operand) (e : End) → AreFine (giving s e)
+fine_giving s Returns = (tt, tt)
+fine_giving s (To l d) = (tt, (tt, tt))
+
+fine_reads : (x p : ℕ) (ts : List Ty) (ys : List Variable) → AreFine (scalar_reads x p ts ys)
+fine_reads x p [] ys = tt
+fine_reads x p (u ∷ ts) [] = tt
+fine_reads x p (Whole ∷ ts) (y ∷ ys) = (tt, fine_reads x (p + 8) ts ys)
+fine_reads x p (Truth ∷ ts) (y ∷ ys) = (tt, fine_reads x (p + 1) ts ys)
+fine_reads x p (Tree u ∷ ts) (y ∷ ys) = fine_reads x p ts ys
+
+fine_first : (x n : ℕ) (ts : List Ty) (ys : List Variable) → AreFine (first_reach x n ts ys)
+fine_first x n [] ys = tt
+fine_first x n (u ∷ ts) [] = tt
+fine_first x n (Whole ∷ ts) (y ∷ ys) = fine_first x n ts ys
+fine_first x n (Truth ∷ ts) (y ∷ ys) = fine_first x n ts ys
+fine_first x n (Tree u ∷ ts) (y ∷ ys) = (tt, tt)
+
+fine_opening : (laid : LaidOut) (x k : ℕ) (ys : List Variable) → AreFine (arm_opening laid x k ys)
+fine_opening laid x k ys =
+    fine_append (scalar_reads x (1 + (layout_at laid.table laid.with_offsets k).offsets) (fields_at laid.table k) ys) (first_reach x (layout_at laid.table laid.with_offsets k).head (fields_at laid.table k) ys)
+    (fine_reads x (1 + (layout_at laid.table laid.with_offsets k).offsets) (fields_at laid.table k) ys) (fine_first x (layout_at laid.table laid.with_offsets k).head (fields_at laid.table k) ys)
+
+fine_reaching : (fs : List Field) (y : Variable) (access : Access) → IsFine (reaching fs y access)
+fine_reaching fs y by.Offset = tt
+fine_reaching fs y (by.Skip z) = tt
+
+-- An open head has as many fields as its constructor.
+abbrev IsOpen : Dest → Type 0
+IsOpen (Nowhere ty) = Unit {0}
+IsOpen (Empty s) = Unit {0}
+IsOpen (Open s h k xs dues) = (k < 256) × (length xs + length dues ≤ 8)
+
+one_further : (d : Dest) (x : ℕ) → IsOpen d → IsOpen (more d x)
+one_further (Nowhere ty) x o = tt
+one_further (Empty s) x o = tt
+one_further (Open s h k xs []) x o = o
+one_further (Open s h k xs (u ∷ dues)) x o = (o.0, let e = length-append xs (x ∷ []) in let l = o.1 in omega (arith, e, l))
+
+result_open : (ty : Ty) → IsOpen (dest_of ty)
+result_open Whole = tt
+result_open Truth = tt
+result_open (Tree s) = tt
+
+few_due : (ts : List Ty) → length (packed_due ts) ≤ length ts
+few_due [] = omega arith
+few_due (Whole ∷ ts) = let h = few_due ts in omega (arith, h)
+few_due (Truth ∷ ts) = let h = few_due ts in omega (arith, h)
+few_due (Tree u ∷ ts) = let h = few_due ts in omega (arith, h)
+
+few_fields : (table : Table) → IsTable table → (k : ℕ) → length (fields_at table k) ≤ 8
+few_fields table t k = go (slice_get table.rows k) refl
+  where
+    go : (o : Option Row) → slice_get table.rows k ≡ o → length (fields_of o) ≤ 8
+    go None e = omega arith
+    go (Some row) e = (t.rows k row e).few
+
+con_within : (table : Table) (s k : ℕ) → con_at table s k ≡ Some k → k < length table.rows
+con_within table s k e = go (slice_get table.rows k) refl e
+  where
+    go : (o : Option Row) → slice_get table.rows k ≡ o → if_owned s k o ≡ Some k → k < length table.rows
+    go None p q = absurd cc
+    go (Some row) p q = slice_get_within table.rows k row p
+
+slots_length : (xs : List ℕ) → length (slots_of (map var xs)) ≡ length xs
+slots_length [] = refl
+slots_length (x ∷ xs) = ap suc (slots_length xs)
+
+-- Where a line goes on behind a binding.
+abbrev GoesOn : (Scope → Dest → Type 0) → Type 0
+GoesOn P = (sc : Scope) × (d : Dest) × IsOpen d × P sc d
+
+abbrev pub anywhere : Scope → Dest → Type 0
+anywhere sc d = Unit {0}
+
+pub side_alone : (core : CoreTree) (s : Side) (sc : Scope) (d : Dest) (P : Scope → Dest → Type 0) → SideFits core s sc d P → SideFits core s sc d anywhere
+side_alone core (t.On kind.Here x ty u) sc d P f = (f.0, f.1, f.2, f.3, f.4, tt)
+side_alone core (t.On kind.Region x ty u) sc d P f = (f.0, f.1, f.2, f.3, tt)
+side_alone core (t.On kind.Scalar x ty u) sc d P f = (f.0, f.1, f.2, tt)
+
+side_goes : (core : CoreTree) (s : Side) (sc : Scope) (d : Dest) (P : Scope → Dest → Type 0) → IsOpen d → SideFits core s sc d P → GoesOn P
+side_goes core (t.On kind.Here x ty u) sc d P o f = (_, _, one_further d x.0 o, f.5)
+side_goes core (t.On kind.Region x ty u) sc d P o f = (_, d, o, f.4)
+side_goes core (t.On kind.Scalar x ty u) sc d P o f = (_, d, o, f.3)
+
+side_both : (core : CoreTree) (l r : Side) (sc : Scope) (d : Dest) (P : Scope → Dest → Type 0) → SideFits core l sc d (λ sc' d'. SideFits core r sc' d' P) → SideFits core l sc d (λ sc' d'. SideFits core r sc' d' anywhere)
+side_both core (t.On kind.Here x ty u) r sc d P f = (f.0, f.1, f.2, f.3, f.4, side_alone core r _ _ P f.5)
+side_both core (t.On kind.Region x ty u) r sc d P f = (f.0, f.1, f.2, f.3, side_alone core r _ _ P f.4)
+side_both core (t.On kind.Scalar x ty u) r sc d P f = (f.0, f.1, f.2, side_alone core r _ _ P f.3)
+
+pub bind_alone : (core : CoreTree) (b : t.Bind) (sc : Scope) (d : Dest) (P : Scope → Dest → Type 0) → BindFits core b sc d P → BindFits core b sc d anywhere
+bind_alone core (t.Past h k) sc d P f = (f.0, f.1, f.2, f.3, tt)
+bind_alone core (t.One s) sc d P f = side_alone core s sc d P f
+bind_alone core (t.Both false l r) sc d P f = (f.0, side_both core l r sc d P f.1)
+bind_alone core (t.Both true l r) sc d P f = (f.0, f.1, side_both core l r sc d P f.2)
+bind_alone core (t.Prim x g y z) sc d P f = (f.0, f.1, f.2, tt)
+bind_alone core (t.Reach y by.Offset) sc d P f = (f.0, f.1, f.2, f.3, f.4, f.5, f.6, tt)
+bind_alone core (t.Reach y (by.Skip z)) sc d P f = (f.0, f.1, f.2, f.3, f.4, f.5, f.6, tt)
+
+bind_goes : (core : CoreTree) (is : IsTable core.table) (b : t.Bind) (sc : Scope) (d : Dest) (P : Scope → Dest → Type 0) → IsOpen d → BindFits core b sc d P → GoesOn P
+bind_goes core is (t.Past h c) sc d P o f =
+    let w = con_within core.table f.0 c.0 f.2 in
+    let n = is.few in
+    let l = few_due (fields_at core.table c.0) in
+    let m = few_fields core.table is c.0 in
+    (_, _, (omega (arith, w, n), omega (arith, l, m)), f.4)
+bind_goes core is (t.One s) sc d P o f = side_goes core s sc d P o f
+bind_goes core is (t.Both false l r) sc d P o f = let x = side_goes core l sc d (λ sc' d'. SideFits core r sc' d' P) o f.1 in side_goes core r x.0 x.1 P x.2 x.3
+bind_goes core is (t.Both true l r) sc d P o f = let x = side_goes core l sc d (λ sc' d'. SideFits core r sc' d' P) o f.2 in side_goes core r x.0 x.1 P x.2 x.3
+bind_goes core is (t.Prim x g y z) sc d P o f = (_, d, o, f.3)
+bind_goes core is (t.Reach y by.Offset) sc d P o f = (_, d, o, f.7)
+bind_goes core is (t.Reach y (by.Skip z)) sc d P o f = (_, d, o, f.7)
+
+no_call : (A : Type 0) (B : Name → List Atom → Type 0) (u : Term) → IsNoCall u → by_call u A B → A
+no_call A B (t.Then b u) n h = h
+no_call A B (t.Write x k ss ps) n h = h
+no_call A B (t.Point x) n h = h
+no_call A B (t.CallTerm f xs) n h = absurd n
+no_call A B (t.Give x) n h = h
+no_call A B (t.CaseTerm x bs) n h = h
+no_call A B (t.IfTerm x u v) n h = h
+
+module _ (core : CoreTree) (code : CodeTree) (is : IsTable core.table) where
+  mutual
+    term_fine : {fs : List Field} {a z : ℕ} {u : Term} {e : End} → Low core code fs a u e z → (sc : Scope) (d : Dest) → IsOpen d → Fits core u sc d → Fine code a z
+    term_fine (low.write {ps = ps} ar) sc d o f =
+        let p = subst IsOpen f.2 o in
+        let l = slots_length f.1 in
+        let m = ap (λ (q : List Atom). length (slots_of q)) f.3 in
+        let n = p.1 in
+        fine_list ar ((p.0, omega (arith, l, m, n)), (fine_ending _, tt))
+    term_fine (low.point ar) sc d o f = fine_list ar (tt, (fine_ending _, tt))
+    term_fine (low.call ar) sc d o f = fine_list ar (tt, (fine_ending _, tt))
+    term_fine (low.give ar) sc d o f = fine_list ar (fine_giving _ _)
+    term_fine (low.branch at lu lv) sc d o f = fine_join (fine_one at tt) (fine_join (term_fine lu sc d o f.1) (term_fine lv sc d o f.2))
+    term_fine (low.case at la) sc d o f = fine_join (fine_one at tt) (arms_fine la f.1.variable.0 (put sc f.1.variable.0 (AtHead f.0)) d o f.3)
+    term_fine (low.binding {b = b} {u = u} lb lu) sc d o f =
+        let r = bind_goes core is b sc d (λ sc' d'. Fits core u sc' d') o f in
+        fine_join (bind_fine lb sc d o (bind_alone core b sc d (λ sc' d'. Fits core u sc' d') f)) (term_fine lu r.0 r.1 r.2 r.3)
+
+    arms_fine : {fs : List Field} {x a z : ℕ} {arms : List Arm} {bs : t.Branches} {e : End} → LowArms core code fs x a arms bs e z → (y : ℕ) (sc : Scope) (d : Dest) → IsOpen d → BranchesFit core bs y sc d → Fine code a z
+    arms_fine low.no_arm y sc d o f = fine_none
+    arms_fine (low.arm {x = x} {c = c} {ys = ys} op lo rest) y sc d o f =
+        fine_join (fine_list op (fine_opening (laid_of core) x c.0 ys)) (fine_join (term_fine lo _ d o f.1) (arms_fine rest y sc d o f.2))
+
+    bind_fine : {fs : List Field} {a m : ℕ} {b : t.Bind} → LowBind core code fs a b m → (sc : Scope) (d : Dest) → IsOpen d → BindFits core b sc d anywhere → Fine code a m
+    bind_fine (low.past at) sc d o f = fine_one at tt
+    bind_fine (low.one ls) sc d o f = side_fine ls sc d o f
+    bind_fine (low.in_turn {l = l} {r = r} ll lr) sc d o f =
+        let x = side_goes core l sc d (λ sc' d'. SideFits core r sc' d' anywhere) o f.1 in
+        fine_join (side_fine ll sc d o (side_alone core l sc d (λ sc' d'. SideFits core r sc' d' anywhere) f.1)) (side_fine lr x.0 x.1 x.2 x.3)
+    bind_fine (low.forked {l = l} {c = c} {x = v} {ty = ty} {u = u} at ll ej lr eb) sc d o f =
+        let x = side_goes core l sc d (λ sc' d'. SideFits core (t.On c v ty u) sc' d' anywhere) o f.2 in
+        fine_join (fine_one at tt) (fine_join (side_fine ll sc d o (side_alone core l sc d (λ sc' d'. SideFits core (t.On c v ty u) sc' d' anywhere) f.2))
+        (fine_join (fine_one ej tt) (fine_join (side_fine lr x.0 x.1 x.2 x.3) (fine_one eb tt))))
+    bind_fine (low.prim at) sc d o f = fine_one at tt
+    bind_fine (low.reach {fs = fs} {y = y} {access = access} at) sc d o f = fine_one at (fine_reaching fs y access)
+
+    side_fine : {fs : List Field} {a m : ℕ} {s : Side} → LowSide core code fs a s m → (sc : Scope) (d : Dest) → IsOpen d → SideFits core s sc d anywhere → Fine code a m
+    side_fine (low.here at lt) sc d o f = fine_join (fine_one at tt) (term_fine lt _ (Empty f.0) tt f.4)
+    side_fine (low.region at lt dn) sc d o f = fine_join (fine_one at tt) (fine_join (term_fine lt _ (Empty f.0) tt f.3) (fine_one dn tt))
+    side_fine (low.scalar_call at) sc d o f = fine_one at tt
+    side_fine (low.scalar {ty = ty} {u = u} nc lt) sc d o f = term_fine lt sc (Nowhere ty) tt (no_call (Fits core u sc (Nowhere ty)) (λ g xs. CallFits core sc g xs ty) u nc f.2)
+
+  functions_fine : (a : ℕ) (gs : List FunctionTerm) (es : List Entry) → LowFunctions core code a gs es → AllByRecursion (λ (g : FunctionTerm). FunctionFits core g (length g.parameters + length (binders g.body))) gs
+      → MainFits core (1 + length (binders core.main.body)) → Fine code a (length code.instructions)
+  functions_fine a _ _ (low.main nm rs st sl lo) f m = term_fine lo _ _ (result_open core.main.result) m.fits
+  functions_fine a _ _ (low.function {z = z} {g = g} {gs = gs} {es = es} nm rs st sl lo later) f m = fine_join (term_fine lo _ _ (result_open g.result) f.0.fits) (functions_fine z gs es later f.1 m)
+
+pub code_runs : (core : CoreTree) (code : CodeTree) → IsLowered core code → AllFit core → EachFits core → length code.instructions < 2 ^ 32 → Runs code
+code_runs core code lo fits each few = record {
+  few = few;
+  fine = λ a j e. (functions_fine core code fits.table 0 core.functions code.functions lo.functions each fits.main).fine a j (omega arith) (slice_get_within code.instructions a j e) e;
+}

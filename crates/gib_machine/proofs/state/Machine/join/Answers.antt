@@ -1,0 +1,20 @@
+use Rattle.std.proofs.Common.{◌≡◌, ℕ, suc, ap, sym, ◌∙◌, drop, false, add-one}
+use Rattle.gib_machine.specs.contracts.state.Machine.{the_view}
+use Rattle.gib_machine.specs.Machine.{State, Ready, answered, is_unwinding, joins}
+use Rattle.gib_machine.specs.Openings.{Opened, par_from}
+use Rattle.gib_machine.specs.Stepping.{with_tails}
+use Rattle.gib_machine.proofs.Unwinds.{join_goes}
+use Rattle.gib_machine.proofs.state.Machine.join.Goals as goal
+
+pub returns-else-is_unwinding : goal.returns-else-is_unwinding
+returns-else-is_unwinding c = λ ts.
+    let w : State = the_view c.self.inside in
+    let f = c.in-Some.forked in
+    let at = c.back_of-self-inside.result in
+    let e : is_unwinding w.doing ≡ false = ap (λ (q : State). is_unwinding q.doing) c.self.view_is ∙ sym c.if-is_unwinding.ensures in
+    c.answered.ensures ts
+    ∙ ap (λ (o : Opened). answered (record (with_tails w ts) { level = f.level; pars = o.pars; regions = o.regions; room = o.room; ip = at; doing = Ready }) f.kind f.variable c.args.answer) c.pop_par.ensures
+    ∙ ap (λ (n : ℕ). answered (record (with_tails w ts) { level = f.level; pars = drop 1 w.pars; room = n; ip = at; doing = Ready }) f.kind f.variable c.args.answer) (add-one w.room)
+    ∙ ap (λ (n : ℕ). answered (record (with_tails w ts) { level = f.level; pars = drop 1 w.pars; room = suc w.room; ip = n; doing = Ready }) f.kind f.variable c.args.answer) c.back_of-self-inside.ensures.before
+    ∙ sym (join_goes (with_tails w ts) (par_from f) (drop 1 w.pars) c.args.answer e c.in-Some.ensures.some)
+    ∙ ap (λ (q : State). joins (with_tails q ts) c.args.answer) c.self.view_is

@@ -1,0 +1,238 @@
+-- What the steps of the walk make of what their parts made.
+use Rattle.std.proofs.Common.{◌≡◌, ℕ, zero, suc, ◌+◌, ◌<◌, ◌≤◌, Bool, true, false, if◌then◌else◌, List, [], ◌∷◌, ◌++◌, map, length, drop, get_or, reverse, Option, Some, None, refl, sym, ap, ◌∙◌, subst, arith}
+use Rattle.std.specs.Prelude.{Result, Ok, Err, IfOk}
+use Rattle.std.specs.List.{AllByRecursion}
+use Rattle.std.proofs.lemmas.List.{drop_more, drop_all, reverse-append}
+use Rattle.gib_core.specs.declared.atom.Variable.{Variable}
+use Rattle.gib_core.specs.declared.atom.Atom.{Atom}
+use Rattle.gib_core.specs.declared.node.Binding.{Binding}
+use Rattle.gib_core.specs.declared.node.Binding.TheVariants as b
+use Rattle.gib_core.specs.declared.node.BoundTerm.{BoundTerm}
+use Rattle.gib_core.specs.declared.node.Branch.{Branch}
+use Rattle.gib_core.specs.declared.node.Node.{Node}
+use Rattle.gib_core.specs.declared.node.Node.TheVariants as n
+use Rattle.gib_core.specs.declared.node.TermId.{TermId}
+use Rattle.gib_core.specs.Tree.{Term, Then, Write, Point, CallTerm, Give, CaseTerm, IfTerm, Bind, Past, One, Both, Prim, Reach, Side, On, BranchThen, prepend}
+use Rattle.gib_core.specs.Inferring.{as_atoms}
+use Rattle.gib_core.specs.Arena.{Grows, IsBindingBelow, IsBranchBelow, IsLine, bind_from, binds_from, branches_from, layer, term_of}
+use Rattle.gib_place.specs.declared.field.Field.{Field}
+use Rattle.gib_place.specs.declared.line.Head.{Head}
+use Rattle.gib_place.specs.declared.line.Line.{Line}
+use Rattle.gib_place.specs.declared.line.Laid.{Laid as Made}
+use Rattle.gib_place.specs.Placing.{Filling, binding_first, room_first, filling_of, ending_of, fill, are_fields, lay, laid_line, place_line, place_inner, inner_bind, inner_branches, place}
+use Rattle.gib_place.specs.Filled.{field_of, IsOtherEnd, LaysLine, filling_from, ending_with}
+use Rattle.gib_place.specs.Made.{MakesTerm, MakesBinding, MakesBindings, MakesSide, MakesBranch, MakesBranches}
+use Rattle.gib_place.proofs.Lays.{append_append}
+use Rattle.gib_place.proofs.Found.{with_field, ending_then}
+use Rattle.gib_place.proofs.Fronting.{binding_below_more, below_more, below_push, branches_below_more, binds_same, branches_same, grows_more, grows_none}
+
+nothing_behind : {A : Type 0} (xs : List A) → xs ++ [] ≡ xs
+nothing_behind [] = refl
+nothing_behind (x ∷ xs) = ap (λ l. x ∷ l) (nothing_behind xs)
+
+-- What holds of what was made, in each case.
+pub made_passed : {E : Type 0} (o : Result TermId E) (P Q : TermId → Type 0) → ((t : TermId) → P t → Q t) → IfOk o P → IfOk o Q
+made_passed (Ok t) P Q h p = h t p
+made_passed (Err x) P Q h p = tt
+
+-- A line that ends otherwise fills no head.
+abbrev Others : Term → Type 0
+Others (Then x rest) = ⊥
+Others (Write h k ss ps) = ⊥
+Others (Point x) = Unit {0}
+Others (CallTerm f xs) = Unit {0}
+Others (Give x) = Unit {0}
+Others (CaseTerm x branches) = Unit {0}
+Others (IfTerm x t u) = Unit {0}
+
+no_field : (o : Option Field) → with_field o None ≡ None
+no_field None = refl
+no_field (Some f) = refl
+
+no_ending : (bs : List Bind) (e : Term) → Others e → ending_of (prepend bs e) ≡ None
+no_ending [] (Then x rest) o = absurd o
+no_ending [] (Write h k ss ps) o = absurd o
+no_ending [] (Point x) o = refl
+no_ending [] (CallTerm f xs) o = refl
+no_ending [] (Give x) o = refl
+no_ending [] (CaseTerm x branches) o = refl
+no_ending [] (IfTerm x t u) o = refl
+no_ending (x ∷ bs) e o = ending_then x (prepend bs e) ∙ ap (with_field (field_of x)) (no_ending bs e o) ∙ no_field (field_of x)
+
+no_filling : (bs : List Bind) (e : Term) → Others e → filling_of (prepend bs e) ≡ None
+no_filling [] (Then x rest) o = absurd o
+no_filling [] (Write h k ss ps) o = absurd o
+no_filling [] (Point x) o = refl
+no_filling [] (CallTerm f xs) o = refl
+no_filling [] (Give x) o = refl
+no_filling [] (CaseTerm x branches) o = refl
+no_filling [] (IfTerm x t u) o = refl
+no_filling (Past h k ∷ bs) e o = ap (room_first h k) (no_ending bs e o)
+no_filling (One s ∷ bs) e o = ap (binding_first (One s)) (no_filling bs e o)
+no_filling (Both fork l r ∷ bs) e o = ap (binding_first (Both fork l r)) (no_filling bs e o)
+no_filling (Prim x f y z ∷ bs) e o = ap (binding_first (Prim x f y z)) (no_filling bs e o)
+no_filling (Reach y by ∷ bs) e o = ap (binding_first (Reach y by)) (no_filling bs e o)
+
+others_from : (f : ℕ → Term) (end : Node) → IsOtherEnd end → Others (layer f (Some end))
+others_from f (n.Then x rest) o = absurd o
+others_from f (n.Write h k ss ps) o = absurd o
+others_from f (n.Point x) o = tt
+others_from f (n.Call g xs) o = tt
+others_from f (n.Give x) o = tt
+others_from f (n.Case x branches) o = tt
+others_from f (n.If x t u) o = tt
+
+pub other_made : (old new : List Node) (bs : List Binding) (made : TermId) (end : Node) → IsOtherEnd end → Grows old new → made.0 < length new → term_of new made.0 ≡ prepend (binds_from (term_of old) bs) (layer (term_of old) (Some end))
+    → (once : Variable → Bool) → MakesTerm old new made (place_line once (prepend (binds_from (term_of old) bs) (layer (term_of old) (Some end))))
+other_made old new bs made end o g lt e once = record {
+  grows = g;
+  inside = lt;
+  is = e ∙ ap (fill once (prepend (binds_from (term_of old) bs) (layer (term_of old) (Some end)))) (sym (no_filling (binds_from (term_of old) bs) (layer (term_of old) (Some end)) (others_from (term_of old) end o)));
+}
+
+pub other_passed : {E : Type 0} (old new : List Node) (bs : List Binding) (o : Result TermId E) (end : Node) → IsOtherEnd end → IfOk o (λ _. Grows old new) → IfOk o (λ t. t.0 < length new) → IfOk o (λ t. term_of new t.0 ≡ prepend (binds_from (term_of old) bs) (layer (term_of old) (Some end)))
+    → IfOk o (λ made. (once : Variable → Bool) → MakesTerm old new made (place_line once (prepend (binds_from (term_of old) bs) (layer (term_of old) (Some end)))))
+other_passed old new bs (Ok made) end o g lt e = other_made old new bs made end o g lt e
+other_passed old new bs (Err x) end o g lt e = tt
+
+-- A line that fills a head, laid anew or not.
+pub laid_made : (once : Variable → Bool) (old new : List Node) (made : TermId) (line : Line) (head : Head) (laid : Made) (packed : List Atom) → LaysLine (term_of old) (length old) once line laid → packed ≡ as_atoms laid.standing.items
+    → MakesTerm old new made (prepend (binds_from (term_of old) laid.bindings.items) (Write head.variable head.constructor head.scalars.items packed))
+    → MakesTerm old new made (laid_line (ending_with head line.fields.items) (lay once (binds_from (term_of old) line.run.items) (Past line.head line.constructor ∷ []) line.fields.items))
+laid_made once old new made line head laid packed l ep m = record {
+  grows = m.grows;
+  inside = m.inside;
+  is = m.is ∙ (λ i. prepend (l.binds i) (Write head.variable head.constructor head.scalars.items ((ep ∙ ap as_atoms l.standing) i)));
+}
+
+pub no_line : (once : Variable → Bool) (old new : List Node) (made : TermId) (t : Term) → filling_of t ≡ None → MakesTerm old new made t → MakesTerm old new made (place_line once t)
+no_line once old new made t e m = record { grows = m.grows; inside = m.inside; is = m.is ∙ ap (fill once t) (sym e) }
+
+pub line_stays : (once : Variable → Bool) (f : ℕ → Term) (old new : List Node) (made : TermId) (t : Term) (line : Line) (head : Head) → filling_of t ≡ filling_from f head.variable head.constructor head.scalars.items head.packed.items (Some line) → are_fields once line.fields.items head.packed.items ≡ false
+    → MakesTerm old new made t → MakesTerm old new made (place_line once t)
+line_stays once f old new made t line head e isnt m = record {
+  grows = m.grows;
+  inside = m.inside;
+  is =
+      m.is
+      ∙ ap (λ (c : Bool). if c then laid_line (ending_with head line.fields.items) (lay once (binds_from f line.run.items) (Past line.head line.constructor ∷ []) line.fields.items) else t) (sym isnt)
+      ∙ ap (fill once t) (sym e);
+}
+
+pub line_laid : (once : Variable → Bool) (f : ℕ → Term) (old new : List Node) (made : TermId) (t : Term) (line : Line) (head : Head) → filling_of t ≡ filling_from f head.variable head.constructor head.scalars.items head.packed.items (Some line) → are_fields once line.fields.items head.packed.items ≡ true
+    → MakesTerm old new made (laid_line (ending_with head line.fields.items) (lay once (binds_from f line.run.items) (Past line.head line.constructor ∷ []) line.fields.items)) → MakesTerm old new made (place_line once t)
+line_laid once f old new made t line head e yes' m = record {
+  grows = m.grows;
+  inside = m.inside;
+  is =
+      m.is
+      ∙ ap (λ (c : Bool). if c then laid_line (ending_with head line.fields.items) (lay once (binds_from f line.run.items) (Past line.head line.constructor ∷ []) line.fields.items) else t) (sym yes')
+      ∙ ap (fill once t) (sym e);
+}
+
+-- The end of a line, whose parts were made before it.
+pub end_made : (once : Variable → Bool) (old mid new : List Node) (bs : List Binding) (made : TermId) (e is : Term) → Grows old mid → AllByRecursion (IsBindingBelow (length old)) bs → e ≡ is
+    → MakesTerm mid new made (place_line once (prepend (binds_from (term_of mid) bs) e)) → MakesTerm old new made (place_line once (prepend (binds_from (term_of old) bs) is))
+end_made once old mid new bs made e is g below same m = record {
+  grows = grows_more old mid new g m.grows;
+  inside = m.inside;
+  is = m.is ∙ (λ i. place_line once (prepend (binds_same old mid bs g below i) (same i)));
+}
+
+pub end_passed : {E : Type 0} (once : Variable → Bool) (terms old mid new : List Node) (id : ℕ) (bs : List Binding) (end node was : Node) (o : Result TermId E) → Grows old mid → AllByRecursion (IsBindingBelow (length old)) bs → term_of terms id ≡ layer (term_of terms) (Some was) → was ≡ node
+    → layer (term_of mid) (Some end) ≡ place_inner once (layer (term_of terms) (Some node)) → IfOk o (λ made. (by : Variable → Bool) → MakesTerm mid new made (place_line by (prepend (binds_from (term_of mid) bs) (layer (term_of mid) (Some end)))))
+    → IfOk o (λ made. MakesTerm old new made (place_line once (prepend (binds_from (term_of old) bs) (place_inner once (term_of terms id)))))
+end_passed once terms old mid new id bs end node was (Ok made) g below opens is e m =
+    end_made once old mid new bs made (layer (term_of mid) (Some end)) (place_inner once (term_of terms id)) g below (e ∙ sym (ap (place_inner once) (opens ∙ ap (λ z. layer (term_of terms) (Some z)) is))) (m once)
+end_passed once terms old mid new id bs end node was (Err x) g below opens is e m = tt
+
+pub if_made : (once : Variable → Bool) (f : ℕ → Term) (old mid new : List Node) (x : Atom) (t u t' u' : TermId) → MakesTerm old mid t' (place once (f t.0)) → MakesTerm mid new u' (place once (f u.0)) → layer (term_of new) (Some (n.If x t' u')) ≡ place_inner once (IfTerm x (f t.0) (f u.0))
+if_made once f old mid new x t u t' u' h k = λ i. IfTerm x ((k.grows.same t'.0 h.inside ∙ h.is) i) (k.is i)
+
+inner_line : (once : Variable → Bool) (bs : List Bind) (t : Term) → place_inner once (prepend bs t) ≡ prepend (map (inner_bind once) bs) (place_inner once t)
+inner_line once [] t = refl
+inner_line once (x ∷ bs) t = ap (Then (inner_bind once x)) (inner_line once bs t)
+
+-- A whole line.
+pub line_placed : (once : Variable → Bool) (terms old mid new : List Node) (id last : ℕ) (bs cs : List Binding) (made : TermId) → IsLine terms id bs last → MakesBindings old mid cs (map (inner_bind once) (binds_from (term_of terms) bs))
+    → MakesTerm mid new made (place_line once (prepend (binds_from (term_of mid) cs) (place_inner once (term_of terms last)))) → MakesTerm old new made (place once (term_of terms id))
+line_placed once terms old mid new id last bs cs made l h m = record {
+  grows = grows_more old mid new h.grows m.grows;
+  inside = m.inside;
+  is = m.is ∙ ap (place_line once) ((λ i. prepend (h.are i) (place_inner once (term_of terms last))) ∙ sym (inner_line once (binds_from (term_of terms) bs) (term_of terms last)) ∙ ap (place_inner once) (sym l.term));
+}
+
+-- Some bindings of a line.
+pub record BindingsSoFar (once : Variable → Bool) (f : ℕ → Term) (bs : List Binding) (i : ℕ) (old now : List Node) (cs : List Binding) : Type 0 where
+  pub within : i ≤ length bs
+  pub grows : Grows old now
+  pub inside : AllByRecursion (IsBindingBelow (length now)) cs
+  pub are : binds_from (term_of now) cs ++ map (inner_bind once) (binds_from f (drop i bs)) ≡ map (inner_bind once) (binds_from f bs)
+
+pub bindings_start : (once : Variable → Bool) (f : ℕ → Term) (bs : List Binding) (old : List Node) → BindingsSoFar once f bs 0 old old []
+bindings_start once f bs old = record { within = omega arith; grows = grows_none old; inside = tt; are = refl }
+
+binds_push : (f : ℕ → Term) (xs : List Binding) (x : Binding) → binds_from f (xs ++ x ∷ []) ≡ binds_from f xs ++ bind_from f x ∷ []
+binds_push f [] x = refl
+binds_push f (y ∷ xs) x = ap (λ l. bind_from f y ∷ l) (binds_push f xs x)
+
+pub bindings_next : (once : Variable → Bool) (f : ℕ → Term) (bs : List Binding) (i : ℕ) (old now new : List Node) (cs ds : List Binding) (x d made : Binding) → BindingsSoFar once f bs i old now cs → i < length bs → x ≡ get_or bs i d → MakesBinding now new made (inner_bind once (bind_from f x)) → ds ≡ cs ++ made ∷ [] → BindingsSoFar once f bs (i + 1) old new ds
+bindings_next once f bs i old now new cs ds x d made h lt ex m ed =
+    let left : drop i bs ≡ x ∷ drop (i + 1) bs = drop_more bs i d lt ∙ ap (λ (z : Binding). z ∷ drop (i + 1) bs) (sym ex) in
+    let rest = map (inner_bind once) (binds_from f (drop (i + 1) bs)) in
+    record {
+      within = omega arith;
+      grows = grows_more old now new h.grows m.grows;
+      inside = subst (AllByRecursion (IsBindingBelow (length new))) (sym ed) (below_push (length new) cs made (below_more (length now) (length new) cs m.grows.longer h.inside) m.inside);
+      are =
+          ap (λ z. z ++ rest) (ap (binds_from (term_of new)) ed ∙ binds_push (term_of new) cs made ∙ (λ j. binds_same now new cs m.grows h.inside j ++ m.is j ∷ []))
+          ∙ append_append (binds_from (term_of now) cs) (inner_bind once (bind_from f x) ∷ []) rest
+          ∙ ap (λ z. binds_from (term_of now) cs ++ map (inner_bind once) (binds_from f z)) (sym left)
+          ∙ h.are;
+    }
+
+pub bindings_end : (once : Variable → Bool) (f : ℕ → Term) (bs : List Binding) (i : ℕ) (old now : List Node) (cs : List Binding) → BindingsSoFar once f bs i old now cs → length bs ≤ i → MakesBindings old now cs (map (inner_bind once) (binds_from f bs))
+bindings_end once f bs i old now cs h le = record {
+  grows = h.grows;
+  inside = h.inside;
+  are = sym (nothing_behind (binds_from (term_of now) cs)) ∙ ap (λ z. binds_from (term_of now) cs ++ map (inner_bind once) (binds_from f z)) (sym (drop_all i bs le)) ∙ h.are;
+}
+
+-- A binding that has no terms stays; one side, and two.
+pub binding_stays : (once : Variable → Bool) (old : List Node) (f : ℕ → Term) (x : Binding) → IsBindingBelow 0 x → MakesBinding old old x (inner_bind once (bind_from f x))
+binding_stays once old f (b.Past h k) below = record { grows = grows_none old; inside = tt; is = refl }
+binding_stays once old f (b.One s) below = absurd (omega arith)
+binding_stays once old f (b.Par fork l r) below = absurd (let p = below.0 in omega arith)
+binding_stays once old f (b.Prim x g y z) below = record { grows = grows_none old; inside = tt; is = refl }
+binding_stays once old f (b.Reach y by) below = record { grows = grows_none old; inside = tt; is = refl }
+
+pub one_made : (old new : List Node) (made : BoundTerm) (s : Side) → MakesSide old new made s → MakesBinding old new (b.One made) (One s)
+one_made old new made s h = record { grows = h.grows; inside = h.inside; is = ap One h.is }
+
+pub par_made : (old mid new : List Node) (fork : Bool) (left right : BoundTerm) (l r : Side) → MakesSide old mid left l → MakesSide mid new right r → MakesBinding old new (b.Par fork left right) (Both fork l r)
+par_made old mid new fork left right l r h k = record {
+  grows = grows_more old mid new h.grows k.grows;
+  inside = (let lt = h.inside in let le = k.grows.longer in omega arith, k.inside);
+  is = λ i. Both fork ((ap (On left.kind left.variable left.ty) (k.grows.same left.term.0 h.inside) ∙ h.is) i) (k.is i);
+}
+
+pub side_made : (once : Variable → Bool) (old new : List Node) (s : BoundTerm) (id : TermId) (t : Term) → MakesTerm old new id (place once t) → MakesSide old new (record s { term = id }) (On s.kind s.variable s.ty (place once t))
+side_made once old new s id t h = record { grows = h.grows; inside = h.inside; is = ap (On s.kind s.variable s.ty) h.is }
+
+-- Branches.
+pub branches_none : (once : Variable → Bool) (old : List Node) (f : ℕ → Term) (bs : List Branch) (i : ℕ) → length bs ≤ i → MakesBranches old old [] (inner_branches once (branches_from f (drop i bs)))
+branches_none once old f bs i le = record { grows = grows_none old; inside = tt; are = ap (λ z. inner_branches once (branches_from f z)) (sym (drop_all i bs le)) }
+
+pub branches_next : (once : Variable → Bool) (f : ℕ → Term) (old now new : List Node) (made x d : Branch) (done more bs : List Branch) (i j : ℕ) → j ≡ i + 1 → j ≤ length bs → x ≡ get_or bs i d → more ≡ done ++ made ∷ []
+    → MakesBranches old now (reverse done) (inner_branches once (branches_from f (drop j bs))) → MakesBranch now new made x (place once (f x.term.0)) → MakesBranches old new (reverse more) (inner_branches once (branches_from f (drop i bs)))
+branches_next once f old now new made x d done more bs i j ej le ex em h m =
+    let rest = drop (i + 1) bs in
+    let left : drop i bs ≡ x ∷ rest = drop_more bs i d (omega arith) ∙ ap (λ (z : Branch). z ∷ rest) (sym ex) in
+    let turned : reverse more ≡ made ∷ reverse done = ap reverse em ∙ reverse-append done (made ∷ []) in
+    let h' : MakesBranches old now (reverse done) (inner_branches once (branches_from f rest)) = subst (λ k. MakesBranches old now (reverse done) (inner_branches once (branches_from f (drop k bs)))) ej h in
+    let both : MakesBranches old new (made ∷ reverse done) (inner_branches once (branches_from f (x ∷ rest))) = record {
+      grows = grows_more old now new h.grows m.grows;
+      inside = (m.inside, branches_below_more (length now) (length new) (reverse done) m.grows.longer h.inside);
+      are = λ k. BranchThen (m.constructor k) (m.variables k) (m.is k) ((branches_same now new (reverse done) m.grows h'.inside ∙ h'.are) k);
+    } in
+    subst (λ z. MakesBranches old new z (inner_branches once (branches_from f (drop i bs)))) (sym turned) (subst (λ z. MakesBranches old new (made ∷ reverse done) (inner_branches once (branches_from f z))) (sym left) both)

@@ -1,0 +1,108 @@
+-- When variables were bound.
+use Rattle.std.proofs.Common.{◌≡◌, ℕ, zero, suc, ◌+◌, ◌<◌, ◌≤◌, Bool, true, false, ◌||◌, ◌==◌, nat_lt, if◌then◌else◌, List, [], ◌∷◌, ◌++◌, length, drop, get_or, refl, sym, ap, ◌∙◌, subst, arith, ⊎_elim}
+use Rattle.std.specs.Prelude.{slice_index}
+use Rattle.std.proofs.str.Laws.{order}
+use Rattle.std.proofs.lemmas.Bool.{lt-ltb, le-ltb}
+use Rattle.std.proofs.lemmas.List.{drop_more, drop_all}
+use Rattle.gib_core.specs.declared.atom.Variable.{Variable}
+use Rattle.gib_core.specs.declared.node.Binding.{Binding}
+use Rattle.gib_core.specs.Rules.{is_among}
+use Rattle.gib_core.proofs.Along.{among_append}
+use Rattle.gib_place.specs.Late.{Seen, is_late, ArePast, Ticks, Marks, Binds, Timed, binding_variables, run_variables}
+
+-- One variable is bound, or none, or two.
+pub binds_one : (old mid new : Seen) (binding : Binding) (x : Variable) → Ticks old mid → Marks mid new x → binding_variables binding ≡ x ∷ [] → Binds old new binding
+binds_one old mid new binding x t m e = record {
+  clock = m.clock ∙ t.clock;
+  each = λ y. m.each y.0 ∙ (λ i. if x.0 == y.0 then t.clock i else slice_index (t.times i) y.0) ∙ go y (x.0 == y.0) ∙ ap (λ xs. if is_among xs y then old.clock + 1 else slice_index old.times y.0) (sym e);
+}
+  where
+    go : (y : Variable) (b : Bool) → (if b then old.clock + 1 else slice_index old.times y.0) ≡ (if b || false then old.clock + 1 else slice_index old.times y.0)
+    go y true = refl
+    go y false = refl
+
+pub binds_none : (old new : Seen) (binding : Binding) → Ticks old new → binding_variables binding ≡ [] → Binds old new binding
+binds_none old new binding t e = record {
+  clock = t.clock;
+  each = λ y. ap (λ ts. slice_index ts y.0) t.times ∙ ap (λ xs. if is_among xs y then old.clock + 1 else slice_index old.times y.0) (sym e);
+}
+
+pub binds_two : (old mid after new : Seen) (binding : Binding) (x z : Variable) → Ticks old mid → Marks mid after x → Marks after new z → binding_variables binding ≡ x ∷ z ∷ [] → Binds old new binding
+binds_two old mid after new binding x z t m n e = record {
+  clock = n.clock ∙ (m.clock ∙ t.clock);
+  each = λ y.
+      n.each y.0
+      ∙ (λ i. if z.0 == y.0 then (m.clock ∙ t.clock) i else (m.each y.0 ∙ (λ j. if x.0 == y.0 then t.clock j else slice_index (t.times j) y.0)) i)
+      ∙ go y (x.0 == y.0) (z.0 == y.0)
+      ∙ ap (λ xs. if is_among xs y then old.clock + 1 else slice_index old.times y.0) (sym e);
+}
+  where
+    go : (y : Variable) (b c : Bool) → (if c then old.clock + 1 else (if b then old.clock + 1 else slice_index old.times y.0)) ≡ (if b || (c || false) then old.clock + 1 else slice_index old.times y.0)
+    go y true true = refl
+    go y true false = refl
+    go y false true = refl
+    go y false false = refl
+
+-- A run is bound so far.
+pub record Timing (start : ℕ) (run : List Binding) (k : ℕ) (seen : Seen) : Type 0 where
+  pub within : k ≤ length run
+  pub clock : seen.clock ≡ start + k
+  pub past : ArePast seen.clock seen.times
+  pub late : (i : ℕ) → i ≤ k → (y : Variable) → is_among (run_variables (drop i run)) y ≡ (is_late seen (start + i) y || is_among (run_variables (drop k run)) y)
+
+pub timing_start : (run : List Binding) (seen : Seen) (start : ℕ) → start ≡ seen.clock → ArePast seen.clock seen.times → Timing start run 0 seen
+timing_start run seen start e past = record {
+  within = omega arith;
+  clock = omega arith;
+  past = past;
+  late = λ i le y.
+      let none : i ≡ 0 = omega arith in
+      let stands : is_late seen (start + i) y ≡ false = le-ltb (start + i) (slice_index seen.times y.0) (let p = past y.0 in omega arith) in
+      ap (λ n. is_among (run_variables (drop n run)) y) none
+      ∙ ap (λ (b : Bool). b || is_among (run_variables run) y) (sym stands);
+}
+
+pub timing_next : (start : ℕ) (run : List Binding) (k : ℕ) (old new : Seen) (x d : Binding) → Timing start run k old → k < length run → x ≡ get_or run k d → Binds old new x → Timing start run (k + 1) new
+timing_next start run k old new x d h lt ex b =
+    let left : drop k run ≡ x ∷ drop (k + 1) run = drop_more run k d lt ∙ ap (λ (z : Binding). z ∷ drop (k + 1) run) (sym ex) in
+    record {
+      within = omega arith;
+      clock = (let c = b.clock in let e = h.clock in omega arith);
+      past = past;
+      late = λ i le y. ⊎_elim
+          (λ less. h.late i (omega arith) y ∙ ap (λ xs. is_late old (start + i) y || is_among (run_variables xs) y) left ∙ ap (λ (c : Bool). is_late old (start + i) y || c) (among_append (binding_variables x) (run_variables (drop (k + 1) run)) y) ∙ step i (omega arith) y (is_among (binding_variables x) y) (b.each y))
+          (λ more.
+          let same : i ≡ k + 1 = omega arith in
+          let stands : is_late new (start + i) y ≡ false = le-ltb (start + i) (slice_index new.times y.0) (let p = past y.0 in let c = b.clock in let e = h.clock in omega arith) in
+          ap (λ n. is_among (run_variables (drop n run)) y) same
+          ∙ ap (λ (c : Bool). c || is_among (run_variables (drop (k + 1) run)) y) (sym stands))
+          (order i (k + 1));
+    }
+  where
+    bounded : (y : Variable) (c : Bool) → slice_index new.times y.0 ≡ (if c then old.clock + 1 else slice_index old.times y.0) → slice_index new.times y.0 ≤ new.clock
+    bounded y true e = let c = b.clock in omega arith
+    bounded y false e = let c = b.clock in let p = h.past y.0 in omega arith
+
+    past : ArePast new.clock new.times
+    past y = bounded (record { 0 = y }) (is_among (binding_variables x) (record { 0 = y })) (b.each (record { 0 = y }))
+
+    step : (i : ℕ) → i ≤ k → (y : Variable) (c : Bool) → slice_index new.times y.0 ≡ (if c then old.clock + 1 else slice_index old.times y.0)
+        → (is_late old (start + i) y || (c || is_among (run_variables (drop (k + 1) run)) y)) ≡ (is_late new (start + i) y || is_among (run_variables (drop (k + 1) run)) y)
+    step i le y true e =
+        let now : is_late new (start + i) y ≡ true = lt-ltb (start + i) (slice_index new.times y.0) (let c = h.clock in omega arith) in
+        either (is_late old (start + i) y) ∙ ap (λ (c : Bool). c || is_among (run_variables (drop (k + 1) run)) y) (sym now)
+      where
+        either : (p : Bool) → (p || true) ≡ true
+        either true = refl
+        either false = refl
+    step i le y false e = ap (λ t. nat_lt (start + i) t || is_among (run_variables (drop (k + 1) run)) y) (sym e)
+
+pub timing_end : (start : ℕ) (run : List Binding) (k : ℕ) (seen : Seen) → Timing start run k seen → length run ≤ k → Timed start run seen
+timing_end start run k seen h le = record {
+  late = λ i within y.
+      h.late i (let w = h.within in omega arith) y ∙ ap (λ xs. is_late seen (start + i) y || is_among (run_variables xs) y) (drop_all k run le) ∙ none (is_late seen (start + i) y);
+}
+  where
+    none : (p : Bool) → (p || false) ≡ p
+    none true = refl
+    none false = refl

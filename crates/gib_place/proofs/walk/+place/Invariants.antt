@@ -1,0 +1,40 @@
+use Rattle.std.proofs.Common.{◌≤◌, ◌+◌, ◌*◌, ◌-◌, length, drop, reverse}
+use Rattle.gib_core.specs.Arena.{term_of, branches_from}
+use Rattle.gib_place.specs.Placing.{inner_branches}
+use Rattle.gib_place.specs.Filled.{once_by}
+use Rattle.gib_place.specs.Made.{MakesBranches}
+use Rattle.gib_place.proofs.Making.{BindingsSoFar}
+use Rattle.gib_place.proofs.walk.+place.Given as goal
+
+abbrev pub decreases-place_term : goal.decreases-place_term
+decreases-place_term l = 6 * l.id.0 + 5
+
+abbrev pub decreases-place_bindings : goal.decreases-place_bindings
+decreases-place_bindings l = 6 * l.whole.0 + 3
+
+abbrev pub decreases-place_binding : goal.decreases-place_binding
+decreases-place_binding l = 6 * l.whole.0 + 2
+
+abbrev pub decreases-place_side : goal.decreases-place_side
+decreases-place_side l = 6 * l.side.term.0 + 6
+
+abbrev pub decreases-place_end : goal.decreases-place_end
+decreases-place_end l = 6 * l.id.0 + 4
+
+abbrev pub decreases-place_branches : goal.decreases-place_branches
+decreases-place_branches l = 6 * l.whole.0 + 1
+
+abbrev pub decreases-place_branch : goal.decreases-place_branch
+decreases-place_branch l = 6 * l.branch.now.term.0 + 6
+
+abbrev pub invariant-place_bindings-bindings : goal.invariant-place_bindings-bindings
+invariant-place_bindings-bindings l = BindingsSoFar (once_by l.once) (term_of l.terms) l.bindings l.i l.fn.scratch.terms l.scratch.terms l.placed.items
+
+abbrev pub decreases-place_bindings-bindings : goal.decreases-place_bindings-bindings
+decreases-place_bindings-bindings l = length l.bindings - l.i
+
+abbrev pub invariant-place_branches-branches : goal.invariant-place_branches-branches
+invariant-place_branches-branches l = (l.i ≤ length l.branches) × MakesBranches l.fn.scratch.terms l.scratch.terms (reverse l.reversed.items) (inner_branches (once_by l.once) (branches_from (term_of l.terms) (drop l.i l.branches)))
+
+abbrev pub decreases-place_branches-branches : goal.decreases-place_branches-branches
+decreases-place_branches-branches l = l.i

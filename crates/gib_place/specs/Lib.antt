@@ -1,0 +1,10 @@
+pub mod Placing
+pub mod Renaming
+pub mod Numbering
+pub mod SameSource
+pub mod Numbered
+pub mod Shifting
+pub mod Tallying
+pub mod Late
+pub mod Filled
+pub mod Made

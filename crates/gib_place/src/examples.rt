@@ -1,0 +1,62 @@
+//! Examples of what is placed.
+
+ghost use Rattle.std.specs.Prelude.{◌≡◌, ◌∷◌, [], ℕ, pos, false};
+ghost use Rattle.gib_types.specs.declared.table.Ty.{Ty as FieldType};
+ghost use Rattle.gib_types.specs.declared.table.Ty.TheVariants as ty;
+ghost use Rattle.gib_types.specs.declared.table.ConId.{ConId as Con};
+ghost use Rattle.gib_core.specs.declared.atom.Atom.TheVariants as a;
+ghost use Rattle.gib_core.specs.declared.atom.Kind.TheVariants as kind;
+ghost use Rattle.gib_core.specs.declared.atom.Variable.{Variable as X};
+ghost use Rattle.gib_base.specs.declared.name.Name.{Name as Fun};
+ghost use Rattle.gib_core.specs.Tree.{Term, Then, Write, Point, CallTerm, Past, One, Both, On, var};
+ghost use Rattle.gib_place.specs.Placing.{place_body};
+ghost use Rattle.gib_place.specs.Numbering.{number_anew};
+
+/// Fields over `data Tree = Leaf Int | Node Tree Tree`.
+pub fn examples()
+    // `Node (Leaf n) (Leaf 7)`: both leaves stand directly behind the head.
+    ensures leaves { let leaf : Con = record { 0 = 0 } in
+        let node : Con = record { 0 = 1 } in
+        let tree : FieldType = ty.Tree (record { 0 = 0 }) in
+        let x : ℕ → X = λ n. record { 0 = n } in
+        number_anew 1 (place_body (
+        Then (One (On kind.Region (x 1) tree (Then (Past (x 2) leaf) (Write (x 2) leaf (var 0 ∷ []) []))))
+        (Then (One (On kind.Region (x 3) tree (Then (Past (x 4) leaf) (Write (x 4) leaf (a.Whole (pos 7) ∷ []) []))))
+        (Then (Past (x 5) node) (Then (One (On kind.Here (x 6) tree (Point (var 1)))) (Then (One (On kind.Here (x 7) tree (Point (var 3))))
+        (Write (x 5) node [] (var 6 ∷ var 7 ∷ []))))))))
+        ≡ Then (Past (x 1) node)
+        (Then (One (On kind.Here (x 2) tree (Then (Past (x 3) leaf) (Write (x 3) leaf (var 0 ∷ []) []))))
+        (Then (One (On kind.Here (x 4) tree (Then (Past (x 5) leaf) (Write (x 5) leaf (a.Whole (pos 7) ∷ []) []))))
+        (Write (x 1) node [] (var 2 ∷ var 4 ∷ [])))) }
+    // `let x = f v in Node x x`: a value that two fields point to stays in its region.
+    ensures shared { let node : Con = record { 0 = 1 } in
+        let tree : FieldType = ty.Tree (record { 0 = 0 }) in
+        let x : ℕ → X = λ n. record { 0 = n } in
+        let f : Fun = record { 0 = 3 } in
+        let t : Term = Then (One (On kind.Region (x 1) tree (CallTerm f (var 0 ∷ []))))
+        (Then (Past (x 2) node) (Then (One (On kind.Here (x 3) tree (Point (var 1)))) (Then (One (On kind.Here (x 4) tree (Point (var 1))))
+        (Write (x 2) node [] (var 3 ∷ var 4 ∷ []))))) in
+        number_anew 1 (place_body t) ≡ t }
+    // `let par a = f v and b = f v in Node a b`: both sides are placed, behind the head in front of the par.
+    ensures par { let node : Con = record { 0 = 1 } in
+        let tree : FieldType = ty.Tree (record { 0 = 0 }) in
+        let x : ℕ → X = λ n. record { 0 = n } in
+        let call : Term = CallTerm (record { 0 = 3 }) (var 0 ∷ []) in
+        number_anew 1 (place_body (
+        Then (Both false (On kind.Region (x 1) tree call) (On kind.Region (x 2) tree call))
+        (Then (Past (x 3) node) (Then (One (On kind.Here (x 4) tree (Point (var 1)))) (Then (One (On kind.Here (x 5) tree (Point (var 2))))
+        (Write (x 3) node [] (var 4 ∷ var 5 ∷ [])))))))
+        ≡ Then (Past (x 1) node) (Then (Both false (On kind.Here (x 2) tree call) (On kind.Here (x 3) tree call)) (Write (x 1) node [] (var 2 ∷ var 3 ∷ []))) }
+    // `let par a = f v and b = f v in Three a v b`: no field is put before a side whose left side is placed, so the right one stays.
+    ensures right_stays { let three : Con = record { 0 = 2 } in
+        let tree : FieldType = ty.Tree (record { 0 = 0 }) in
+        let x : ℕ → X = λ n. record { 0 = n } in
+        let call : Term = CallTerm (record { 0 = 3 }) (var 0 ∷ []) in
+        number_anew 1 (place_body (
+        Then (Both false (On kind.Region (x 1) tree call) (On kind.Region (x 2) tree call))
+        (Then (Past (x 3) three) (Then (One (On kind.Here (x 4) tree (Point (var 1)))) (Then (One (On kind.Here (x 5) tree (Point (var 0))))
+        (Then (One (On kind.Here (x 6) tree (Point (var 2)))) (Write (x 3) three [] (var 4 ∷ var 5 ∷ var 6 ∷ []))))))))
+        ≡ Then (Past (x 1) three) (Then (Both false (On kind.Here (x 2) tree call) (On kind.Region (x 3) tree call))
+        (Then (One (On kind.Here (x 4) tree (Point (var 0)))) (Then (One (On kind.Here (x 5) tree (Point (var 3))))
+        (Write (x 1) three [] (var 2 ∷ var 4 ∷ var 5 ∷ []))))) }
+{}

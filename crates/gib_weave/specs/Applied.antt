@@ -1,0 +1,104 @@
+-- What a call of a weave leaves, by its answer.
+use Rattle.std.specs.Prelude.{◌≡◌, ℕ, ◌<◌, List, [], ◌∷◌, ◌++◌, length, true, Option, Result, Ok, Err}
+use Rattle.gib_mem.specs.Memory.{Memory}
+use Rattle.gib_code.specs.Instruction.{Instruction}
+use Rattle.gib_code.specs.Program.{CodeTree, Runs}
+use Rattle.gib_machine.specs.Machine.{Ask, Silent, Get, Put, Draw, AtFork, AtJoin, Ended, left_starts, right_of, widest}
+use Rattle.gib_machine.specs.Starting.{waiting_of}
+use Rattle.gib_machine.specs.Stepping.{Can}
+use Rattle.gib_weave.specs.declared.sides.RightSide.{RightSide}
+use Rattle.gib_weave.specs.declared.sides.RightSide.TheVariants as side
+use Rattle.gib_weave.specs.declared.sides.Newest.{Newest}
+use Rattle.gib_weave.specs.declared.sides.Newest.TheVariants as newest
+use Rattle.gib_weave.specs.declared.task.Stage.{Stage as TaskStage}
+use Rattle.gib_weave.specs.declared.task.Stage.TheVariants as stage
+use Rattle.gib_weave.specs.declared.task.WeaveFault.{WeaveFault}
+use Rattle.gib_weave.specs.declared.task.WeaveFault.TheVariants as fault
+use Rattle.gib_machine.specs.declared.turn.Turn.{Turn}
+use Rattle.gib_machine.specs.declared.turn.Turn.TheVariants as turn
+use Rattle.gib_weave.specs.Weave.{Weave, Task, Event, Step, Fork, Steal, Take, Finish, Join, Next, Enabled, Status, Waits, Stage, asks, task}
+use Rattle.gib_weave.specs.Weave as w
+
+-- A right side as the code keeps it.
+abbrev pub status_of : RightSide → Status
+status_of (side.Waiting s) = Waits (waiting_of s)
+status_of (side.Begun n) = w.Runs n
+
+-- Right sides that stand with the oldest first.
+abbrev pub newest_first : List RightSide → List Status
+newest_first [] = []
+newest_first (x ∷ xs) = newest_first xs ++ status_of x ∷ []
+
+-- How far a right side is.
+abbrev pub newest_of : Status → Newest
+newest_of (Waits x) = newest.Waiting
+newest_of (w.Runs n) = newest.Begun n
+
+-- The newest side is a task.
+abbrev pub IsBegun : List Status → Type 0
+IsBegun [] = ⊥
+IsBegun (Waits x ∷ sts) = ⊥
+IsBegun (w.Runs n ∷ sts) = Unit {0}
+
+-- A stage as the code keeps it.
+abbrev pub stage_of : TaskStage → Stage
+stage_of stage.Running = w.Running
+stage_of (stage.Finished a) = w.Finished a
+stage_of stage.Joined = w.Joined
+
+-- The left side of the task's fork starts, and its right side waits.
+abbrev pub forked : Task → Option Instruction → Task
+forked t i = record { state = left_starts t.state i; sides = Waits (right_of t.state i) ∷ t.sides; stage = t.stage }
+
+-- A fork of a task leaves this, by its answer.
+abbrev pub IsForked : Task → Option Instruction → Task → Result (Unit {0}) WeaveFault → Type 0
+IsForked t i t' (Ok u) = t' ≡ forked t i
+IsForked t i t' (Err fault.Memory) = t' ≡ t
+IsForked t i t' (Err fault.NotNow) = ⊥
+IsForked t i t' (Err fault.Full) = ⊥
+
+-- Tasks over a memory.
+abbrev pub over : Memory → List Task → Weave
+over m ts = record { memory = m; tasks = ts }
+
+-- A turn as the answer of a step: a machine that stands cannot make one.
+abbrev pub stepped : Turn → Result (Unit {0}) WeaveFault
+stepped turn.Went = Ok tt
+stepped turn.Full = Err fault.Full
+stepped turn.AtFork = Err fault.NotNow
+stepped turn.AtJoin = Err fault.NotNow
+stepped (turn.Ended a) = Err fault.NotNow
+
+-- The event is a step that draws.
+abbrev pub IsDraw : Ask → Type 0
+IsDraw (Silent s) = ⊥
+IsDraw (Get a k) = ⊥
+IsDraw (Put a b s) = ⊥
+IsDraw (Draw k) = Unit {0}
+IsDraw AtFork = ⊥
+IsDraw AtJoin = ⊥
+IsDraw (Ended a) = ⊥
+
+-- Of an event.
+abbrev pub DrawsNow : CodeTree → Weave → Event → Type 0
+DrawsNow code v (Step i) = IsDraw (asks code v i)
+DrawsNow code v (Fork i) = ⊥
+DrawsNow code v (Steal i) = ⊥
+DrawsNow code v (Take i) = ⊥
+DrawsNow code v (Finish i) = ⊥
+DrawsNow code v (Join i) = ⊥
+
+-- An event that is accepted leads on; a refusal leaves the weave as it was: the event is not enabled; or it is enabled and draws, and
+-- all chunks are drawn; or memory was wanted.
+abbrev pub Applied : CodeTree → Weave → Event → Weave → Result (Unit {0}) WeaveFault → Type 0
+Applied code v e v' (Ok u) = Next code v e v'
+Applied code v e v' (Err fault.NotNow) = (v' ≡ v) × (Enabled code v e → ⊥)
+Applied code v e v' (Err fault.Full) = (v' ≡ v) × Enabled code v e × DrawsNow code v e × (v.memory.drawn ≡ v.memory.limit)
+Applied code v e v' (Err fault.Memory) = v' ≡ v
+
+-- The tasks run this code, and each that runs asks the memory for nothing that it cannot answer; nobody else draws.
+pub record CanGo (code : CodeTree) (v : Weave) : Type 0 where
+  pub runs : Runs code
+  pub alone : v.memory.alone ≡ true
+  pub widths : (i : ℕ) → i < length v.tasks → (task v.tasks i).state.width ≡ widest code.functions
+  pub can : (i : ℕ) → (task v.tasks i).stage ≡ w.Running → Can (asks code v i) v.memory

@@ -1,0 +1,221 @@
+//! A task of a weave: its machine, its tails, its right sides, and whether it runs.
+
+ghost use Rattle.std.specs.Prelude.{◌≡◌, ◌<◌, [], ◌∷◌, length, drop, slice_get, IsTrue, ◌↔◌, IfSome, IfNone};
+ghost use Rattle.gib_code.specs.Program.{Runs};
+ghost use Rattle.gib_machine.specs.Machine.{AtFork, AtJoin, Ended, next, takes, joins};
+ghost use Rattle.gib_machine.specs.Stepping.{CanStep, Made, stand_of, with_tails};
+ghost use Rattle.gib_weave.specs.Applied.{IsBegun, IsForked};
+ghost use Rattle.gib_weave.specs.Weave.{Running, Finished, Joined, IsEnd, IsFinished, NewestWaits, Runs as Begun};
+
+use crate::sides::Sides;
+use gib_code::{Answer, Code};
+use gib_machine::{Machine, Stand, Turn};
+use gib_mem::Mem;
+use gib_region::Tails;
+use std::alloc::Global;
+use std::marker::Model;
+
+/// Why an event is refused.
+#[derive(Clone, Copy, Debug, PartialEq, Eq)]
+pub enum WeaveFault {
+    /// Want of memory.
+    Memory,
+    /// The event is not enabled.
+    NotNow,
+    /// The task draws, and all chunks are drawn.
+    Full,
+}
+
+/// Whether a task runs.
+#[derive(Clone, Copy, Debug, PartialEq, Eq)]
+pub enum Stage {
+    Running,
+    /// It ended, and is not joined.
+    Finished(Answer),
+    Joined,
+}
+
+/// A task.
+#[derive(Drop)]
+pub struct Task {
+    pub(crate) machine: Machine,
+    pub(crate) tails: Tails,
+    pub(crate) sides: Sides,
+    pub(crate) stage: Stage,
+}
+
+impl Model for Task {
+    ghost use Rattle.gib_machine.specs.Stepping.{with_tails};
+    ghost use Rattle.gib_weave.specs.Weave as w;
+    ghost use Rattle.gib_weave.specs.Applied.{stage_of};
+
+    ghost Value = { w.Task };
+
+    ghost view = { λ t. record { state = with_tails t.machine t.tails; sides = t.sides; stage = stage_of t.stage } };
+}
+
+impl Task {
+    /// A task without right sides.
+    pub fn new(alloc: Global, machine: Machine, tails: Tails) -> Task
+        ensures { result ≡ record { state = with_tails machine tails; sides = []; stage = Running } }
+    {
+        Task {
+            machine,
+            tails,
+            sides: Sides::new(alloc),
+            stage: Stage::Running,
+        }
+    }
+
+    /// Whether it runs.
+    pub fn is_running(&self) -> bool
+        ensures { IsTrue result ↔ (self.now.stage ≡ Running) }
+    {
+        match self.stage {
+            Stage::Running => true,
+            Stage::Finished(_) => false,
+            Stage::Joined => false,
+        }
+    }
+
+    /// The answer of a task that has ended and is not joined.
+    pub fn finished(&self) -> Option<Answer>
+        ensures some { IfSome result (λ a. self.now.stage ≡ Finished a) }
+        ensures none { IfNone result (IsFinished self.now.stage → ⊥) }
+    {
+        match self.stage {
+            Stage::Finished(answer) => Some(answer),
+            Stage::Running => None,
+            Stage::Joined => None,
+        }
+    }
+
+    /// Where its machine stands.
+    pub fn stand(&self, code: &Code) -> Stand
+        ensures { result ≡ stand_of (next code.now self.now.state) }
+    {
+        self.machine.stand(code)
+    }
+
+    /// Whether it stands at a fork.
+    #[tactic(auto, using(crate::proofs::Applying::at_fork))]
+    pub fn is_at_fork(&self, code: &Code) -> bool
+        ensures { IsTrue result ↔ (next code.now self.now.state ≡ AtFork) }
+    {
+        match self.stand(code) {
+            Stand::Fork => true,
+            Stand::Goes => false,
+            Stand::Join => false,
+            Stand::End(_) => false,
+        }
+    }
+
+    /// Whether it stands at a join.
+    #[tactic(auto, using(crate::proofs::Applying::at_join))]
+    pub fn is_at_join(&self, code: &Code) -> bool
+        ensures { IsTrue result ↔ (next code.now self.now.state ≡ AtJoin) }
+    {
+        match self.stand(code) {
+            Stand::Join => true,
+            Stand::Goes => false,
+            Stand::Fork => false,
+            Stand::End(_) => false,
+        }
+    }
+
+    /// What it has ended with; None where it has not.
+    #[tactic(auto, using(crate::proofs::Applying::at_end, crate::proofs::Applying::not_end))]
+    pub fn end(&self, code: &Code) -> Option<Answer>
+        ensures some { IfSome result (λ a. next code.now self.now.state ≡ Ended a) }
+        ensures none { IfNone result (IsEnd (next code.now self.now.state) → ⊥) }
+    {
+        match self.stand(code) {
+            Stand::End(answer) => Some(answer),
+            Stand::Goes => None,
+            Stand::Fork => None,
+            Stand::Join => None,
+        }
+    }
+
+    /// Whether its newest right side waits.
+    pub fn side_waits(&self) -> bool
+        ensures { IsTrue result ↔ NewestWaits self.now.sides }
+    {
+        self.sides.waits()
+    }
+
+    /// The task of its newest right side; None where that waits, or there is none.
+    pub fn side_begun(&self) -> Option<u32>
+        ensures some { IfSome result (λ n. self.now.sides ≡ Begun n ∷ drop 1 self.now.sides) }
+        ensures none { IfNone result (IsBegun self.now.sides → ⊥) }
+    {
+        self.sides.begun()
+    }
+
+    /// One micro-step of its machine.
+    pub fn step<M: Mem>(&mut self, code: &Code, mem: &mut M) -> Turn
+        requires { CanStep code.now self.old.state (M.view mem.old) }
+        ensures made { Made (next code.now self.old.state) self.old.state self.new.state (M.view mem.old) (M.view mem.new) result }
+        ensures kept { self.new ≡ record self.old { state = self.new.state } }
+    {
+        self.machine.step(code, mem, &mut self.tails)
+    }
+
+    /// Its left side starts at the fork where it stands, and the right side waits.
+    ///
+    /// # Errors
+    ///
+    /// Want of memory; the task stays.
+    pub fn fork(&mut self, alloc: Global, code: &Code) -> Result<(), WeaveFault>
+        requires runs { Runs code.now }
+        requires fork { next code.now self.old.state ≡ AtFork }
+        ensures { IsForked self.old (slice_get code.now.instructions self.old.state.ip) self.new result }
+    {
+        match self.machine.side(alloc, code) {
+            Err(_) => Err(WeaveFault::Memory),
+            Ok(side) => {
+                if self.sides.push(side).is_err() {
+                    return Err(WeaveFault::Memory);
+                }
+                self.machine.left(code);
+                Ok(())
+            }
+        }
+    }
+
+    /// Takes its newest right side back, which waits.
+    pub fn take(&mut self, code: &Code)
+        requires runs { Runs code.now }
+        requires join { next code.now self.old.state ≡ AtJoin }
+        requires side { 0 < length self.old.sides }
+        ensures { self.new ≡ record { state = takes self.old.state; sides = drop 1 self.old.sides; stage = self.old.stage } }
+    {
+        self.machine.take(code);
+        self.sides.pop();
+    }
+
+    /// Takes the answer of its newest right side, which is a task that ended.
+    pub fn join(&mut self, answer: Answer)
+        requires { 0 < length self.old.sides }
+        ensures { self.new ≡ record { state = joins self.old.state answer; sides = drop 1 self.old.sides; stage = self.old.stage } }
+    {
+        self.machine.join(answer);
+        self.sides.pop();
+    }
+
+    /// It has ended with this answer.
+    pub fn finish(&mut self, answer: Answer)
+        ensures { self.new ≡ record { state = self.old.state; sides = []; stage = Finished answer } }
+    {
+        self.sides.clear();
+        self.stage = Stage::Finished(answer);
+    }
+
+    /// It is joined.
+    pub fn leave(&mut self)
+        ensures { self.new ≡ record { state = self.old.state; sides = []; stage = Joined } }
+    {
+        self.sides.clear();
+        self.stage = Stage::Joined;
+    }
+}

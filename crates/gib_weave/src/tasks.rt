@@ -1,0 +1,234 @@
+//! The tasks of a weave, and what becomes of them by events.
+
+ghost use Rattle.std.specs.Prelude.{◌≡◌, ◌<◌, length, IsTrue, ◌↔◌, IfOk, IfSome, IfNone};
+ghost use Rattle.gib_mem.specs.Memory as M;
+ghost use Rattle.gib_core.specs.Parts.{core_of};
+ghost use Rattle.gib_code.specs.Program.{Runs};
+ghost use Rattle.gib_weave.specs.Applied.{Applied, CanGo, over, stepped};
+ghost use Rattle.gib_weave.specs.Weave.{Finished, IsFinished, IsOn, task, weave_start};
+ghost use Rattle.gib_weave.specs.Running.{word_of};
+ghost use Rattle.gib_weave.specs.Weave as w;
+
+use crate::root_run::root_machine;
+use crate::task::{Task, WeaveFault};
+use gib_base::Memory;
+use gib_code::{Answer, Code};
+use gib_core::Lowered;
+use gib_machine::Turn;
+use gib_mem::Mem;
+use gib_packed::Root;
+use gib_region::Tails;
+use std::alloc::Global;
+use std::marker::Model;
+
+/// Tasks by their numbers. Task 0 is the root. The memory over which they run is handed to each call.
+#[derive(Drop)]
+pub struct Tasks {
+    items: Vec<Task>,
+}
+
+impl Model for Tasks {
+    ghost use Rattle.std.specs.Prelude.{List};
+    ghost use Rattle.gib_weave.specs.Weave as w;
+
+    ghost Value = { List w.Task };
+
+    ghost view = { λ t. t.items.items };
+}
+
+/// A turn as the answer of a step.
+fn stepped(turn: Turn) -> Result<(), WeaveFault>
+    ensures { result ≡ stepped turn }
+{
+    match turn {
+        Turn::Went => Ok(()),
+        Turn::Full => Err(WeaveFault::Full),
+        Turn::AtFork => Err(WeaveFault::NotNow),
+        Turn::AtJoin => Err(WeaveFault::NotNow),
+        Turn::Ended(_) => Err(WeaveFault::NotNow),
+    }
+}
+
+impl Tasks {
+    /// The root alone, on a value that was loaded. It may nest so many calls, and so many forks.
+    ///
+    /// # Errors
+    ///
+    /// Want of memory.
+    #[tactic(auto, using(crate::proofs::Applying::root_alone))]
+    pub fn start(
+        alloc: Global,
+        lowered: &Lowered,
+        tails: Tails,
+        root: Root,
+        depth: u32,
+        level: u32,
+    ) -> Result<Tasks, Memory>
+        ensures { IfOk result (λ tasks. (v : M.Memory) → over v tasks ≡ weave_start (core_of lowered.now.core) lowered.now.code v (word_of root) depth level tails) }
+    {
+        let machine = root_machine(alloc, lowered, root, depth, level)?;
+        let task = Task::new(alloc, machine, tails);
+        let items = vec![in alloc; task]?;
+        Ok(Tasks { items })
+    }
+
+    /// The task of a number.
+    fn at(&self, number: usize) -> &Task
+        requires { number < length self.now }
+        ensures { result.now ≡ task self.now number }
+    {
+        &self.items[number]
+    }
+
+    /// Whether neither the task nor the run has ended.
+    #[tactic(auto, using(crate::proofs::Applying::is_not_past))]
+    fn is_on(&self, number: usize) -> bool
+        ensures on { (v : M.Memory) → IsTrue result ↔ IsOn (over v self.now) number }
+        ensures below { IsTrue result → number < length self.now }
+    {
+        if number >= self.items.len() {
+            return false;
+        }
+        if !self.at(0).is_running() {
+            return false;
+        }
+        self.at(number).is_running()
+    }
+
+    /// A task makes a micro-step.
+    ///
+    /// # Errors
+    ///
+    /// `NotNow`: it has none here. `Full`: it draws, and all chunks are drawn. All is then as it was.
+    #[tactic(auto, using(crate::proofs::Applying::step_applied))]
+    pub fn step<V: Mem>(&mut self, code: &Code, mem: &mut V, number: u32) -> Result<(), WeaveFault>
+        requires { CanGo code.now (over (V.view mem.old) self.old) }
+        ensures { Applied code.now (over (V.view mem.old) self.old) (w.Step number) (over (V.view mem.new) self.new) result }
+    {
+        let place = number as usize;
+        if !self.is_on(place) {
+            return Err(WeaveFault::NotNow);
+        }
+        let turn = self.items[place].step(code, mem);
+        stepped(turn)
+    }
+
+    /// A task's left side starts, and its right side waits.
+    ///
+    /// # Errors
+    ///
+    /// `NotNow`: it stands at no fork. `Memory`: want of memory. All is then as it was.
+    pub fn fork(&mut self, alloc: Global, code: &Code, number: u32) -> Result<(), WeaveFault>
+        requires { Runs code.now }
+        ensures { (v : M.Memory) → Applied code.now (over v self.old) (w.Fork number) (over v self.new) result }
+    {
+        let place = number as usize;
+        if !self.is_on(place) {
+            return Err(WeaveFault::NotNow);
+        }
+        if !self.at(place).is_at_fork(code) {
+            return Err(WeaveFault::NotNow);
+        }
+        self.items[place].fork(alloc, code)
+    }
+
+    /// A task takes its newest right side back, which waits.
+    ///
+    /// # Errors
+    ///
+    /// `NotNow`: it stands at no join, or the side does not wait. All is then as it was.
+    pub fn take(&mut self, code: &Code, number: u32) -> Result<(), WeaveFault>
+        requires { Runs code.now }
+        ensures { (v : M.Memory) → Applied code.now (over v self.old) (w.Take number) (over v self.new) result }
+    {
+        let place = number as usize;
+        if !self.is_on(place) {
+            return Err(WeaveFault::NotNow);
+        }
+        if !self.at(place).is_at_join(code) {
+            return Err(WeaveFault::NotNow);
+        }
+        if !self.at(place).side_waits() {
+            return Err(WeaveFault::NotNow);
+        }
+        self.items[place].take(code);
+        Ok(())
+    }
+
+    /// A task that has ended is finished.
+    ///
+    /// # Errors
+    ///
+    /// `NotNow`: it has not ended. All is then as it was.
+    pub fn finish(&mut self, code: &Code, number: u32) -> Result<(), WeaveFault>
+        ensures { (v : M.Memory) → Applied code.now (over v self.old) (w.Finish number) (over v self.new) result }
+    {
+        let place = number as usize;
+        if !self.is_on(place) {
+            return Err(WeaveFault::NotNow);
+        }
+        match self.at(place).end(code) {
+            None => Err(WeaveFault::NotNow),
+            Some(answer) => {
+                self.items[place].finish(answer);
+                Ok(())
+            }
+        }
+    }
+
+    /// The answer of a task that has ended and is not joined.
+    #[tactic(auto, using(crate::proofs::Applying::none_finished))]
+    fn finished(&self, number: usize) -> Option<Answer>
+        ensures some { IfSome result (λ a. (task self.now number).stage ≡ Finished a) }
+        ensures below { IfSome result (λ a. number < length self.now) }
+        ensures none { IfNone result (IsFinished (task self.now number).stage → ⊥) }
+    {
+        if number >= self.items.len() {
+            return None;
+        }
+        self.at(number).finished()
+    }
+
+    /// A task takes the answer of its newest right side's task, which has ended.
+    ///
+    /// # Errors
+    ///
+    /// `NotNow`: it stands at no join, or the side's task has not ended. All is then as it was.
+    pub fn join(&mut self, code: &Code, number: u32) -> Result<(), WeaveFault>
+        ensures { (v : M.Memory) → Applied code.now (over v self.old) (w.Join number) (over v self.new) result }
+    {
+        let place = number as usize;
+        if !self.is_on(place) {
+            return Err(WeaveFault::NotNow);
+        }
+        if !self.at(place).is_at_join(code) {
+            return Err(WeaveFault::NotNow);
+        }
+        match self.at(place).side_begun() {
+            None => Err(WeaveFault::NotNow),
+            Some(side) => match self.finished(side as usize) {
+                None => Err(WeaveFault::NotNow),
+                Some(answer) => {
+                    self.items[place].join(answer);
+                    self.items[side as usize].leave();
+                    Ok(())
+                }
+            },
+        }
+    }
+
+    /// The answer of the root; None until it has ended.
+    pub fn ended(&self) -> Option<Answer>
+        ensures some { IfSome result (λ a. (task self.now 0).stage ≡ Finished a) }
+        ensures none { IfNone result (IsFinished (task self.now 0).stage → ⊥) }
+    {
+        self.finished(0)
+    }
+
+    /// How many tasks were made so far: the number of the next one.
+    pub fn tasks(&self) -> u64
+        ensures { result ≡ length self.now }
+    {
+        self.items.len() as u64
+    }
+}
