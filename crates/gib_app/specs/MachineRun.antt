@@ -18,6 +18,7 @@ use Rattle.gib_core.specs.Parts.{core_of}
 use Rattle.gib_core.specs.Tight.{Tight}
 use Rattle.gib_app.specs.declared.machine_run.RunStop.{RunStop}
 use Rattle.gib_app.specs.declared.machine_run.RunStop.TheVariants as stop
+use Rattle.gib_app.specs.Cores.{core_after}
 use Rattle.gib_app.specs.InputFaults.{IsInputFault}
 use Rattle.gib_app.specs.Running.{IsInput, RunsOut, FillsUp}
 
@@ -33,6 +34,10 @@ pub record StandsMeant (p : ProgramTree) (depth : ℕ) (input : List ℕ) (laid 
   pub means : run p depth value ≡ Gives result
   pub table : laid.table ≡ table_of_program p
   pub stands : Stands laid s place (output_type p) result
+
+-- What a run of a program on a value costs at most: that of its core, with each `par` in place.
+abbrev pub program_cost : ProgramTree → (depth : ℕ) → Datum → Cost
+program_cost p depth v = run_cost (core_after 3 p) depth 0 v
 
 -- Why a run leaves no root.
 abbrev pub IsMachineStop : ProgramTree → (depth chunks : ℕ) → (input : List ℕ) → RunStop → Type 0
