@@ -1,6 +1,7 @@
 """Times the program on inputs and sources of two sizes, one ten times the other, and holds the aims against them."""
 
 import os
+import shutil
 import subprocess
 import sys
 import tempfile
@@ -16,6 +17,11 @@ MOST_PER_SOURCE = 100
 RUNS = 3
 
 LAUNCH = os.path.join(os.path.dirname(os.path.abspath(__file__)), "launch.py")
+
+# Trees of so many leaves are measured beside the other ways to do the same.
+BESIDE_LEAVES = (2**10, 2**14, 2**18)
+# Chunks of region memory: as many as there may be.
+CHUNKS = "65536"
 
 PAYLOADS = (1_600_000, 16_000_000)
 SOURCES = (100_000, 1_000_000)
@@ -114,6 +120,44 @@ def measure_values(bench, what, program, file, text, result, counts, texts):
     bench.case(f"pack, {what}", MOST_PER_PAYLOAD, sizes, words, [file(count) for count in texts], "made")
 
 
+def ocaml_programs(folder):
+    """The same pass on trees in OCaml, as bytecode and as native code, where its compilers are installed."""
+    source = os.path.join(os.path.dirname(LAUNCH), "next_tree.ml")
+    made = []
+    for what, compiler in (("OCaml bytecode", "ocamlc"), ("OCaml native", "ocamlopt")):
+        if shutil.which(compiler) is None:
+            print(f"{what}: {compiler} is not installed", flush=True)
+            continue
+        copy, program = os.path.join(folder, f"{compiler}.ml"), os.path.join(folder, compiler)
+        shutil.copy(source, copy)
+        subprocess.run([compiler, "-o", program, copy], check=True, capture_output=True)
+        made.append((what, [program]))
+    return made
+
+
+def measure_beside(bench):
+    """One pass over a tree: by the machine on packed bytes, by the plain evaluator, and in OCaml, in one run."""
+    program = bench.at("program")
+    bench.put("program", inputs.TREE.encode())
+    ways = [
+        ("run", [*bench.gib, "run", program, "@", "--chunks", CHUNKS]),
+        ("plain", [*bench.gib, "plain", program, "@"]),
+        *((what, [*words, "@"]) for what, words in ocaml_programs(bench.folder)),
+    ]
+    for leaves in BESIDE_LEAVES:
+        file = inputs.tree_file(leaves)
+        bench.put("tree", file)
+        for what, words in ways:
+            here = [bench.at("tree") if word == "@" else word for word in words]
+            try:
+                seconds, peak = measure(here, bench.at("out"), bench.at("out"), inputs.next_text(leaves))
+            except Missed as missed:
+                print(f"{what}: MISSED: {missed}", flush=True)
+                bench.failed += 1
+                continue
+            print(f"{what:22}{len(file):>12,}{seconds:>10.3f} s{peak / 1e6:>10.1f} MB{peak / len(file):>8.1f}", flush=True)
+
+
 def main():
     gib = sys.argv[1].split()
     with tempfile.TemporaryDirectory(prefix="gib-bench-") as folder:
@@ -126,6 +170,7 @@ def main():
         # a tree's text is longer than its payload
         texts = [size // inputs.LEAF_TEXT for size in PAYLOADS]
         measure_values(bench, "tree", inputs.TREE, inputs.tree_file, inputs.tree_text, inputs.next_text, leaves, texts)
+        measure_beside(bench)
     print(f"{bench.failed} missed")
     sys.exit(1 if bench.failed else 0)
 
