@@ -1,6 +1,6 @@
 //! What becomes of a right side at a fork and at a join. Whoever runs the tasks decides it.
 
-ghost use Rattle.std.specs.Prelude.{◌≡◌, ◌<◌, ◌≤◌, ◌+◌, ◌-◌, ◌^◌, ℕ, List, drop, length, None, Some, IfOk, IfSome, IfNone, slice_get};
+ghost use Rattle.std.specs.Prelude.{◌≡◌, ◌<◌, ◌+◌, ◌-◌, ◌^◌, ℕ, List, drop, length, None, Some, IfOk, IfSome, IfNone, slice_get};
 ghost use Rattle.gib_machine.specs.Machine.{AtFork, AtJoin, next, fork_of, right_of, left_starts, takes, joins, unwound, is_unwinding};
 ghost use Rattle.gib_machine.specs.Machine as m;
 ghost use Rattle.gib_machine.specs.Starting.{forking_of, waiting_of};
@@ -37,7 +37,7 @@ impl Machine {
     }
 
     /// The right side of the fork at which the machine stands, for whoever begins it: it has the words of the frame, its calls, and a
-    /// level less. No frame is longer than its width.
+    /// level less.
     ///
     /// # Errors
     ///
@@ -45,8 +45,7 @@ impl Machine {
     #[tactic(auto, using(crate::proofs::Stands::fork_is_there, crate::proofs::Stands::fork_has_level))]
     pub fn side(&self, alloc: Global, code: &Code) -> Result<Side, Memory>
         requires fork { (tails : List ℕ) × (next code.now (with_tails self.now tails) ≡ AtFork) }
-        ensures right { IfOk result (λ side. (tails : List ℕ) → waiting_of side ≡ right_of (with_tails self.now tails) (slice_get code.now.instructions self.now.ip)) }
-        ensures fits { IfOk result (λ side. length side.words.items ≤ self.now.width) }
+        ensures { IfOk result (λ side. (tails : List ℕ) → waiting_of side ≡ right_of (with_tails self.now tails) (slice_get code.now.instructions self.now.ip)) }
     {
         match self.fork_here(code) {
             None => unreachable!(),
@@ -106,8 +105,8 @@ impl Machine {
         self.unwinds();
     }
 
-    /// Whether a left side had no depth left: a right side that is joined or taken then is dropped.
-    pub fn is_unwinding(&self) -> bool
+    /// Whether a left side had no depth left.
+    fn is_unwinding(&self) -> bool
         ensures { result ≡ is_unwinding self.now.doing }
     {
         match self.doing {
