@@ -20,11 +20,17 @@ LAUNCH = os.path.join(os.path.dirname(os.path.abspath(__file__)), "launch.py")
 
 # Trees of so many leaves are measured beside the other ways to do the same.
 BESIDE_LEAVES = (2**10, 2**14, 2**18)
-# Chunks of region memory: as many as there may be.
-CHUNKS = "65536"
-
 PAYLOADS = (1_600_000, 16_000_000)
 SOURCES = (100_000, 1_000_000)
+
+
+# A pass over a tree writes so many bytes of memory at most for each byte of payload, its input with them.
+GROWTH = 8
+
+
+def chunks_for(payload):
+    """How many chunks of memory a run on so many bytes gets."""
+    return str(GROWTH * payload // 4096 + 64)
 
 
 class Missed(Exception):
@@ -69,10 +75,12 @@ class Bench:
             file.write(data)
 
     def case(self, what, most_memory, sizes, words, due, result="out"):
-        """Measures a command on `NAME.0` and `NAME.1`, for the names among its words, of the two sizes."""
+        """Measures a command on `NAME.0` and `NAME.1`, for the names among its words, of the two sizes. `#` stands for the chunks that a run of
+        that size gets."""
         found, faults = [], []
         for place, size in enumerate(sizes):
-            here = [self.at(f"{word[1:]}.{place}") if word.startswith("@") else word for word in words]
+            named = [self.at(f"{word[1:]}.{place}") if word.startswith("@") else word for word in words]
+            here = [chunks_for(size) if word == "#" else word for word in named]
             try:
                 seconds, peak = measure([*self.gib, *here], self.at("out"), self.at(result), due[place])
             except Missed as missed:
@@ -112,7 +120,8 @@ def measure_values(bench, what, program, file, text, result, counts, texts):
     shown = [text(count) for count in counts]
     bench.case(f"show, {what}", MOST_PER_PAYLOAD, sizes, ["show", "@program", "@packed"], shown)
     run = [result(count) for count in counts]
-    bench.case(f"run, {what}", MOST_PER_PAYLOAD, sizes, ["run", "@program", "@packed"], run)
+    bench.case(f"run, {what}", MOST_PER_PAYLOAD, sizes, ["run", "@program", "@packed", "--chunks", "#"], run)
+    bench.case(f"plain, {what}", MOST_PER_PAYLOAD, sizes, ["plain", "@program", "@packed"], run)
     for place, count in enumerate(texts):
         bench.put(f"text.{place}", text(count))
     sizes = [len(file(count)) - len(inputs.packed(b"")) for count in texts]
@@ -140,7 +149,7 @@ def measure_beside(bench):
     program = bench.at("program")
     bench.put("program", inputs.TREE.encode())
     ways = [
-        ("run", [*bench.gib, "run", program, "@", "--chunks", CHUNKS]),
+        ("run", [*bench.gib, "run", program, "@", "--chunks", "#"]),
         ("plain", [*bench.gib, "plain", program, "@"]),
         *((what, [*words, "@"]) for what, words in ocaml_programs(bench.folder)),
     ]
@@ -148,7 +157,8 @@ def measure_beside(bench):
         file = inputs.tree_file(leaves)
         bench.put("tree", file)
         for what, words in ways:
-            here = [bench.at("tree") if word == "@" else word for word in words]
+            places = {"@": bench.at("tree"), "#": chunks_for(len(file))}
+            here = [places.get(word, word) for word in words]
             try:
                 seconds, peak = measure(here, bench.at("out"), bench.at("out"), inputs.next_text(leaves))
             except Missed as missed:
