@@ -23,10 +23,7 @@ mod lines;
 mod rules;
 mod scope;
 mod state;
-mod table;
-#[cfg(test)]
-mod tests;
-mod walk;
+mod table;mod walk;
 
 use bodies::check_bodies;
 pub use fault::LocFault;
