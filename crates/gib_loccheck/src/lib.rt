@@ -23,7 +23,8 @@ mod lines;
 mod rules;
 mod scope;
 mod state;
-mod table;mod walk;
+mod table;
+mod walk;
 
 use bodies::check_bodies;
 pub use fault::LocFault;
