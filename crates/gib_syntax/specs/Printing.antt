@@ -3,7 +3,10 @@ use Rattle.std.specs.Prelude.{ℕ, List, [], ◌∷◌}
 use Rattle.gib_base.specs.declared.token.Sign.TheVariants as s
 use Rattle.gib_base.specs.declared.token.Token.{Token}
 use Rattle.gib_base.specs.declared.token.Token.TheVariants as t
+use Rattle.gib_syntax.specs.declared.tree.Ident.{Ident}
 use Rattle.gib_syntax.specs.declared.exprs.Arm.{Arm}
+use Rattle.gib_syntax.specs.declared.exprs.Node.{Node}
+use Rattle.gib_syntax.specs.declared.exprs.Node.TheVariants as n
 use Rattle.gib_syntax.specs.Tree.{Expression}
 use Rattle.gib_syntax.specs.Spelling.{spell, spell_variables, spell_arms}
 use Rattle.gib_syntax.specs.Arena.{arms_from}
@@ -21,3 +24,15 @@ spell_further f (arm ∷ arms) rest = t.Sign s.Semicolon ∷ spell_arm f arm (sp
 abbrev pub spell_all_arms : (ℕ → Expression) → List Arm → List Token → List Token
 spell_all_arms f [] rest = rest
 spell_all_arms f (arm ∷ arms) rest = spell_arms (arms_from f arm arms) rest
+
+-- A case of these arms.
+abbrev pub spell_case : (ℕ → Expression) → Ident → List Arm → List Token → List Token
+spell_case f x arms rest = t.Sign s.Case ∷ t.Variable x.name ∷ t.Sign s.Of ∷ t.Sign s.OpenBrace ∷ spell_all_arms f arms (t.Sign s.CloseBrace ∷ rest)
+
+-- A word begins the expression.
+abbrev pub IsWorded : Node → Type 0
+IsWorded (n.Let p x a b) = Unit {0}
+IsWorded (n.LetPar p x a y b c) = Unit {0}
+IsWorded (n.If p a b c) = Unit {0}
+IsWorded (n.Case p x arms) = Unit {0}
+IsWorded node = ⊥

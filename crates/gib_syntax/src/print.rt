@@ -6,8 +6,8 @@ ghost use Rattle.std.specs.Prelude.{◌≡◌, ◌<◌, ◌≤◌, [], ◌∷◌
 ghost use Rattle.std.specs.List.{AllByRecursion};
 ghost use Rattle.gib_base.specs.Spelling.{tokens_text};
 ghost use Rattle.gib_syntax.specs.Spelling.{spell, spell_operator, spell_bit, spell_variables, spell_arguments, spell_type, spell_types, spell_constructor, spell_constructors, spell_more, spell_data, spell_datas, spell_parameter, spell_parameters, spell_body, spell_function, spell_functions, spell_main, spell_program, levels_program};
-ghost use Rattle.gib_syntax.specs.Printing.{spell_arm, spell_further, spell_all_arms};
-ghost use Rattle.gib_syntax.specs.Arena.{IsArmBelow, ArmsBelow, tree_of, arguments_from};
+ghost use Rattle.gib_syntax.specs.Printing.{spell_arm, spell_further, spell_all_arms, spell_case, IsWorded};
+ghost use Rattle.gib_syntax.specs.Arena.{IsArmBelow, ArmsBelow, Opens, tree_of, arguments_from};
 ghost use Rattle.gib_syntax.specs.Parts.{IsFunctionInside, constructor_tree, data_tree, function_tree, main_tree, program_of};
 
 use crate::exprs::{Arm, ExprId, Exprs, Node};
@@ -109,7 +109,8 @@ fn put_expression(exprs: &Exprs, id: ExprId, out: &mut Spelled) -> Result<(), Me
     requires { id.0 < length exprs.now }
     ensures { OnOk result (out.new ≡ spell (tree_of exprs.now id.0) out.old) }
 {
-    match exprs.node(id) {
+    let node = exprs.node(id);
+    match node {
         Node::Variable(name) => out.put(Token::Variable(name.name)),
         Node::Whole(_, value) => out.put(Token::Number(*value)),
         Node::Truth(_, value) => put_bit(*value, out),
@@ -136,6 +137,21 @@ fn put_expression(exprs: &Exprs, id: ExprId, out: &mut Spelled) -> Result<(), Me
             put_arguments(exprs, id, arguments, out)?;
             out.put(Token::Constructor(name.name))
         }
+        Node::Let { .. } | Node::LetPar { .. } | Node::If { .. } | Node::Case { .. } => {
+            put_worded(exprs, id, node, out)
+        }
+    }
+}
+
+/// An expression that a word begins.
+#[cycle(expressions)]
+fn put_worded(exprs: &Exprs, id: ExprId, node: &Node, out: &mut Spelled) -> Result<(), Memory>
+    requires inside { id.0 < length exprs.now }
+    requires opens { Opens exprs.now id.0 node.now }
+    requires worded { IsWorded node.now }
+    ensures { OnOk result (out.new ≡ spell (tree_of exprs.now id.0) out.old) }
+{
+    match node {
         Node::Let {
             name,
             bound,
@@ -171,15 +187,30 @@ fn put_expression(exprs: &Exprs, id: ExprId, out: &mut Spelled) -> Result<(), Me
             put_behind(exprs, Sign::Then, *then_part, out)?;
             put_behind(exprs, Sign::If, *condition, out)
         }
-        Node::Case { variable, arms, .. } => {
-            out.put_sign(Sign::CloseBrace)?;
-            put_arms(exprs, id, arms, out)?;
-            out.put_sign(Sign::OpenBrace)?;
-            out.put_sign(Sign::Of)?;
-            out.put(Token::Variable(variable.name))?;
-            out.put_sign(Sign::Case)
-        }
+        Node::Case { variable, arms, .. } => put_case(exprs, id, *variable, arms, out),
+        _ => unreachable!(),
     }
+}
+
+/// A case of these arms, the expression of the number.
+#[cycle(expressions)]
+fn put_case(
+    exprs: &Exprs,
+    whole: ExprId,
+    variable: Ident,
+    arms: &[Arm],
+    out: &mut Spelled,
+) -> Result<(), Memory>
+    requires whole { whole.0 < length exprs.now }
+    requires below { ArmsBelow arms.now whole.0 }
+    ensures { OnOk result (out.new ≡ spell_case (tree_of exprs.now) variable arms.now out.old) }
+{
+    out.put_sign(Sign::CloseBrace)?;
+    put_arms(exprs, whole, arms, out)?;
+    out.put_sign(Sign::OpenBrace)?;
+    out.put_sign(Sign::Of)?;
+    out.put(Token::Variable(variable.name))?;
+    out.put_sign(Sign::Case)
 }
 
 /// An expression behind a word or sign.

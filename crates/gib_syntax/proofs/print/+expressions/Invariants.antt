@@ -7,6 +7,12 @@ use Rattle.gib_syntax.proofs.print.+expressions.Given as goal
 abbrev pub decreases-put_expression : goal.decreases-put_expression
 decreases-put_expression l = 6 * l.id.0 + 5
 
+abbrev pub decreases-put_worded : goal.decreases-put_worded
+decreases-put_worded l = 6 * l.id.0 + 4
+
+abbrev pub decreases-put_case : goal.decreases-put_case
+decreases-put_case l = 6 * l.whole.0 + 3
+
 abbrev pub decreases-put_behind : goal.decreases-put_behind
 decreases-put_behind l = 6 * l.id.0 + 6
 
