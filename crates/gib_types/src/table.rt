@@ -1,10 +1,10 @@
 //! The table of the declared types and their constructors.
 
-ghost use Rattle.std.specs.Prelude.{◌≡◌, ◌↔◌, IsTrue, ◌≤◌, ◌<◌, ◌+◌, ℕ, length, map, count_by, nat_lt, slice_get, slice_index, Some, None, IfOk, OnOk, MatchOption};
+ghost use Rattle.std.specs.Prelude.{◌≡◌, ◌↔◌, IsTrue, ◌≤◌, ◌<◌, ◌+◌, ℕ, length, map, count_by, nat_lt, slice_get, slice_index, Some, None, IfOk, MatchOption};
 ghost use Rattle.gib_types.specs.Table.{row_of, table_of, con_at, fields_at, owner_at, name_at, first_at, count_at, numbers_from, constructors_of, type_made, is_scalar as scalar, same_type, IsTable, IsNamed};
-ghost use Rattle.gib_types.specs.Index.{NamesDiffer, ArePlacesOf, IsPut, HasName};
+ghost use Rattle.gib_types.specs.Index.{NamesDiffer, ArePlacesOf};
 
-use gib_base::{Memory, Name};
+use gib_base::{ByNumber, Memory, Name};
 use std::alloc::Global;
 use std::marker::Model;
 
@@ -76,8 +76,8 @@ pub struct TypeTable {
     constructors: Vec<Constructor>,
     /// Where the constructors of each type begin, and at the end where those of the last type end.
     firsts: Vec<u32>,
-    /// The number of a constructor, at the number of its name.
-    places: Vec<u32>,
+    /// The number of each constructor, at the number of its name.
+    places: ByNumber<u32>,
 }
 
 impl Model for TypeTable {
@@ -89,7 +89,7 @@ impl Model for TypeTable {
 
     ghost use Rattle.gib_types.specs.Index.{IsIndexed};
 
-    ghost invariant = { λ t. IsIndexed (table_of t.types.items t.constructors.items) t.firsts.items t.places.items };
+    ghost invariant = { λ t. IsIndexed (table_of t.types.items t.constructors.items) t.firsts.items t.places };
 }
 
 /// How many of the constructors belong to types before this one.
@@ -120,41 +120,19 @@ fn list_firsts(
     Ok(firsts)
 }
 
-/// Writes the number of a constructor at the number of its name.
-fn put_place(places: &mut Vec<u32>, name: Name, con: u32) -> Result<(), Memory>
-    ensures { OnOk result (IsPut places.old.items places.new.items name.0 con) }
-{
-    let place = name.0 as usize;
-    if places.len() <= place {
-        places.resize(place + 1, 0)?;
-    }
-    places[place] = con;
-    Ok(())
-}
-
 /// The number of each constructor, at the number of its name.
-fn list_places(alloc: Global, constructors: &[Constructor]) -> Result<Vec<u32>, Memory>
+fn list_places(alloc: Global, constructors: &[Constructor]) -> Result<ByNumber<u32>, Memory>
     requires few { length constructors.now ≤ 200 }
     requires differ { NamesDiffer constructors.now }
-    ensures { IfOk result (λ places. ArePlacesOf constructors.now places.items) }
+    ensures { IfOk result (λ places. ArePlacesOf constructors.now places) }
 {
-    let mut places = Vec::new(alloc);
+    let mut places = ByNumber::new(alloc);
     let mut con = 0;
     'constructors: while con < constructors.len() {
-        put_place(&mut places, constructors[con].name, con as u32)?;
+        places.set(constructors[con].name.0, Some(con as u32))?;
         con += 1;
     }
     Ok(places)
-}
-
-/// Whether there is such a constructor, and it has the name.
-fn has_name(constructors: &[Constructor], con: usize, name: Name) -> bool
-    ensures { IsTrue result ↔ HasName constructors.now con name.0 }
-{
-    if con >= constructors.len() {
-        return false;
-    }
-    constructors[con].name.0 == name.0
 }
 
 impl TypeTable {
@@ -300,15 +278,9 @@ impl TypeTable {
     pub fn con_named(&self, name: Name) -> Option<ConId>
         ensures { MatchOption result ((con : ℕ) → IsNamed self.now name.0 con → ⊥) (λ con. IsNamed self.now name.0 con.0) }
     {
-        let place = name.0 as usize;
-        if place >= self.places.len() {
-            return None;
-        }
-        let con = self.places[place];
-        if has_name(&self.constructors, con as usize, name) {
-            Some(ConId(con))
-        } else {
-            None
+        match self.places.get(name.0) {
+            Some(con) => Some(ConId(con)),
+            None => None,
         }
     }
 

@@ -16,7 +16,7 @@ list_places-requires-clause-differ c = subst NamesDiffer (sym c.deref-2.ensures.
 
 pub invariant_of-result : goal.invariant_of-result
 invariant_of-result c =
-    indexed c.args.types.items c.args.constructors.items c.in_ok-firsts.firsts.items c.in_ok-places.places.items c.requires
+    indexed c.args.types.items c.args.constructors.items c.in_ok-firsts.firsts.items c.in_ok-places.places c.requires
     (λ ty lt. c.in_ok-firsts.ensures.each ty (omega arith) ∙ ap (λ (l : List Constructor). count_by (λ (d : Constructor). nat_lt d.owner.0 ty) l) c.deref.ensures.value)
     (let long = c.in_ok-firsts.ensures.long in omega arith)
-    (let stand : ArePlacesOf c.deref-2.result.now c.in_ok-places.places.items = c.in_ok-places.ensures in subst (λ (l : List Constructor). ArePlacesOf l c.in_ok-places.places.items) c.deref-2.ensures.value stand)
+    (let stand : ArePlacesOf c.deref-2.result.now c.in_ok-places.places = c.in_ok-places.ensures in subst (λ (l : List Constructor). ArePlacesOf l c.in_ok-places.places) c.deref-2.ensures.value stand)
