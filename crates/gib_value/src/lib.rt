@@ -1,6 +1,7 @@
 //! Values as trees, and their texts.
 #![tactic(auto)]
 
+mod context;
 mod fault;
 pub mod heap;
 pub mod law;

@@ -12,6 +12,7 @@ ghost use Rattle.gib_value.specs.Due as item;
 ghost use Rattle.gib_value.specs.Text.{truth_text, con_text, AreHeld};
 ghost use Rattle.gib_value.specs.Reading.{token_len as token_len_of, fields_wanted, closed, HasFull, AreWords, IsLeaf, Opens, IsReady, Steps, Refuses, IsTextOf, ReadsTo};
 
+use crate::context::Context;
 use crate::fault::TextFault;
 use crate::heap::Heap;
 use crate::node::Node;
@@ -211,18 +212,12 @@ fn find_bare(types: &TypeTable, names: &Names, ty: TyId, token: &[u8]) -> Option
 }
 
 /// The value of the type whose whole text the token is.
-fn find_leaf(
-    alloc: Global,
-    types: &TypeTable,
-    names: &Names,
-    ty: Ty,
-    token: &[u8],
-) -> Result<Option<Node>, Memory>
-    requires { AreHeld types.now names.now }
-    ensures { IfOk result (λ found. MatchOption found ((node : Node) → IsLeaf types.now names.now ty token.now node → ⊥) (λ node. IsLeaf types.now names.now ty token.now node)) }
+fn find_leaf(context: &Context<'_>, ty: Ty, token: &[u8]) -> Result<Option<Node>, Memory>
+    requires { AreHeld context.now.types.now context.now.names.now }
+    ensures { IfOk result (λ found. MatchOption found ((node : Node) → IsLeaf context.now.types.now context.now.names.now ty token.now node → ⊥) (λ node. IsLeaf context.now.types.now context.now.names.now ty token.now node)) }
 {
     match ty {
-        Ty::Whole => match number_of(alloc, token)? {
+        Ty::Whole => match number_of(context.alloc, token)? {
             Some(z) => Ok(Some(Node::Whole(z))),
             None => Ok(None),
         },
@@ -230,7 +225,7 @@ fn find_leaf(
             Some(b) => Ok(Some(Node::Truth(b))),
             None => Ok(None),
         },
-        Ty::Tree(of) => match find_bare(types, names, of, token) {
+        Ty::Tree(of) => match find_bare(context.types, context.names, of, token) {
             Some(node) => Ok(Some(node)),
             None => Ok(None),
         },
@@ -253,132 +248,111 @@ fn find_opened(types: &TypeTable, ty: Ty, token: &[u8]) -> Option<TyId>
     }
 }
 
-/// Takes the first token of a value.
-fn take_value(
-    alloc: Global,
-    types: &TypeTable,
-    names: &Names,
-    heap: &Heap,
-    done: &mut Vec<Node>,
-    wanted: &mut Todo,
-    ty: Ty,
-    token: &[u8],
-) -> Result<bool, Memory>
-    requires names { AreHeld types.now names.now }
-    requires held { AllByRecursion (IsWithin (length heap.now)) done.old.items }
-    ensures yes { IfOk result (λ took. took ≡ true → Steps types.now names.now (item.Value ty) token.now heap.now heap.now done.old.items done.new.items wanted.old wanted.new) }
-    ensures no { IfOk result (λ took. took ≡ false → Refuses types.now names.now (item.Value ty) token.now) }
-{
-    if let Some(node) = find_leaf(alloc, types, names, ty, token)? {
-        done.push(node)?;
-        return Ok(true);
-    }
-    let Some(opened) = find_opened(types, ty, token) else {
-        return Ok(false);
-    };
-    wanted.put(Wanted::Name(opened))?;
-    Ok(true)
+/// How far a text is read: the values that were met, with their parts in the heap, and what is due next.
+#[derive(Drop)]
+struct Reader {
+    heap: Heap,
+    done: Vec<Node>,
+    wanted: Todo,
 }
 
-/// Takes the name of a constructor with fields.
-fn take_name(
-    types: &TypeTable,
-    names: &Names,
-    heap: &Heap,
-    done: &[Node],
-    wanted: &mut Todo,
-    ty: TyId,
-    token: &[u8],
-) -> Result<bool, Memory>
-    requires names { AreHeld types.now names.now }
-    requires held { AllByRecursion (IsWithin (length heap.now)) done.now }
-    ensures yes { IfOk result (λ took. took ≡ true → Steps types.now names.now (item.Name ty) token.now heap.now heap.now done.now done.now wanted.old wanted.new) }
-    ensures no { IfOk result (λ took. took ≡ false → Refuses types.now names.now (item.Name ty) token.now) }
-{
-    let Some(con) = find_of(types, names, ty, token) else {
-        return Ok(false);
-    };
-    let fields = types.fields(con);
-    if fields.is_empty() {
-        return Ok(false);
-    }
-    push_wanted(wanted, con, fields)?;
-    Ok(true)
-}
-
-/// Takes the parenthesis that ends a constructor.
-fn take_close(
-    types: &TypeTable,
-    names: &Names,
-    heap: &mut Heap,
-    done: &mut Vec<Node>,
-    con: ConId,
-    token: &[u8],
-) -> Result<bool, Memory>
-    requires ready { IsReady types.now (item.Close con) (length done.old.items) }
-    requires held { AllByRecursion (IsWithin (length heap.old)) done.old.items }
-    ensures yes { IfOk result (λ took. took ≡ true → (wanted : List Due) → Steps types.now names.now (item.Close con) token.now heap.old heap.new done.old.items done.new.items wanted wanted) }
-    ensures no { IfOk result (λ took. took ≡ false → Refuses types.now names.now (item.Close con) token.now) }
-{
-    if !is_byte(token, 41) {
-        return Ok(false);
-    }
-    types.rules();
-    close(heap, done, con, types.fields(con).len())?;
-    Ok(true)
-}
-
-/// Takes a token, where it can stand; answers whether it can.
-fn take(
-    alloc: Global,
-    types: &TypeTable,
-    names: &Names,
-    heap: &mut Heap,
-    done: &mut Vec<Node>,
-    wanted: &mut Todo,
-    next: Wanted,
-    token: &[u8],
-) -> Result<bool, Memory>
-    requires names { AreHeld types.now names.now }
-    requires ready { IsReady types.now (due_of next) (length done.old.items) }
-    requires held { AllByRecursion (IsWithin (length heap.old)) done.old.items }
-    ensures yes { IfOk result (λ took. took ≡ true → Steps types.now names.now (due_of next) token.now heap.old heap.new done.old.items done.new.items wanted.old wanted.new) }
-    ensures no { IfOk result (λ took. took ≡ false → Refuses types.now names.now (due_of next) token.now) }
-{
-    match next {
-        Wanted::Value(ty) => {
-            let took = take_value(alloc, types, names, heap, done, wanted, ty, token)?;
-            Ok(took)
+impl Reader {
+    /// Takes the first token of a value.
+    fn take_value(&mut self, context: &Context<'_>, ty: Ty, token: &[u8]) -> Result<bool, Memory>
+        requires names { AreHeld context.now.types.now context.now.names.now }
+        requires held { AllByRecursion (IsWithin (length self.old.heap)) self.old.done.items }
+        ensures yes { IfOk result (λ took. took ≡ true → Steps context.now.types.now context.now.names.now (item.Value ty) token.now self.old.heap self.new.heap self.old.done.items self.new.done.items self.old.wanted self.new.wanted) }
+        ensures no { IfOk result (λ took. took ≡ false → Refuses context.now.types.now context.now.names.now (item.Value ty) token.now) }
+    {
+        if let Some(node) = find_leaf(context, ty, token)? {
+            self.done.push(node)?;
+            return Ok(true);
         }
-        Wanted::Name(ty) => {
-            let took = take_name(types, names, heap, done, wanted, ty, token)?;
-            Ok(took)
+        let Some(opened) = find_opened(context.types, ty, token) else {
+            return Ok(false);
+        };
+        self.wanted.put(Wanted::Name(opened))?;
+        Ok(true)
+    }
+
+    /// Takes the name of a constructor with fields.
+    fn take_name(&mut self, context: &Context<'_>, ty: TyId, token: &[u8]) -> Result<bool, Memory>
+        requires names { AreHeld context.now.types.now context.now.names.now }
+        requires held { AllByRecursion (IsWithin (length self.old.heap)) self.old.done.items }
+        ensures yes { IfOk result (λ took. took ≡ true → Steps context.now.types.now context.now.names.now (item.Name ty) token.now self.old.heap self.new.heap self.old.done.items self.new.done.items self.old.wanted self.new.wanted) }
+        ensures no { IfOk result (λ took. took ≡ false → Refuses context.now.types.now context.now.names.now (item.Name ty) token.now) }
+    {
+        let Some(con) = find_of(context.types, context.names, ty, token) else {
+            return Ok(false);
+        };
+        let fields = context.types.fields(con);
+        if fields.is_empty() {
+            return Ok(false);
         }
-        Wanted::Space => Ok(is_byte(token, 32)),
-        Wanted::Close(con) => {
-            let took = take_close(types, names, heap, done, con, token)?;
-            Ok(took)
+        push_wanted(&mut self.wanted, con, fields)?;
+        Ok(true)
+    }
+
+    /// Takes the parenthesis that ends a constructor.
+    fn take_close(
+        &mut self,
+        context: &Context<'_>,
+        con: ConId,
+        token: &[u8],
+    ) -> Result<bool, Memory>
+        requires ready { IsReady context.now.types.now (item.Close con) (length self.old.done.items) }
+        requires held { AllByRecursion (IsWithin (length self.old.heap)) self.old.done.items }
+        ensures yes { IfOk result (λ took. took ≡ true → Steps context.now.types.now context.now.names.now (item.Close con) token.now self.old.heap self.new.heap self.old.done.items self.new.done.items self.old.wanted self.new.wanted) }
+        ensures no { IfOk result (λ took. took ≡ false → Refuses context.now.types.now context.now.names.now (item.Close con) token.now) }
+    {
+        if !is_byte(token, 41) {
+            return Ok(false);
+        }
+        context.types.rules();
+        let count = context.types.fields(con).len();
+        close(&mut self.heap, &mut self.done, con, count)?;
+        Ok(true)
+    }
+
+    /// Takes a token, where it can stand; answers whether it can.
+    fn take(&mut self, context: &Context<'_>, next: Wanted, token: &[u8]) -> Result<bool, Memory>
+        requires names { AreHeld context.now.types.now context.now.names.now }
+        requires ready { IsReady context.now.types.now (due_of next) (length self.old.done.items) }
+        requires held { AllByRecursion (IsWithin (length self.old.heap)) self.old.done.items }
+        ensures yes { IfOk result (λ took. took ≡ true → Steps context.now.types.now context.now.names.now (due_of next) token.now self.old.heap self.new.heap self.old.done.items self.new.done.items self.old.wanted self.new.wanted) }
+        ensures no { IfOk result (λ took. took ≡ false → Refuses context.now.types.now context.now.names.now (due_of next) token.now) }
+    {
+        match next {
+            Wanted::Value(ty) => {
+                let took = self.take_value(context, ty, token)?;
+                Ok(took)
+            }
+            Wanted::Name(ty) => {
+                let took = self.take_name(context, ty, token)?;
+                Ok(took)
+            }
+            Wanted::Space => Ok(is_byte(token, 32)),
+            Wanted::Close(con) => {
+                let took = self.take_close(context, con, token)?;
+                Ok(took)
+            }
         }
     }
 }
 
 /// Reads token by token, up to the first one that can't stand.
-fn read_tokens(
-    alloc: Global,
-    types: &TypeTable,
-    names: &Names,
-    ty: Ty,
-    text: &[u8],
-) -> Result<Value, TextFault>
-    requires { AreHeld types.now names.now }
-    ensures { ReadsTo types.now names.now ty text.now result }
+fn read_tokens(context: &Context<'_>, ty: Ty, text: &[u8]) -> Result<Value, TextFault>
+    requires { AreHeld context.now.types.now context.now.names.now }
+    ensures { ReadsTo context.now.types.now context.now.names.now ty text.now result }
 {
-    let mut heap = Heap::new(alloc);
-    let mut done = Vec::new(alloc);
-    let mut wanted = Todo::new(alloc);
-    wanted.put(Wanted::Value(ty))?;
+    let mut reader = Reader {
+        heap: Heap::new(context.alloc),
+        done: Vec::new(context.alloc),
+        wanted: Todo::new(context.alloc),
+    };
+    reader.wanted.put(Wanted::Value(ty))?;
     let mut at = 0;
-    'wanted: while let Some(next) = wanted.pop() {
+    'wanted: while let Some(next) = reader.wanted.pop() {
         let place = at as u64;
         let (_, rest) = text.split_at(at);
         let len = token_len(rest);
@@ -386,16 +360,7 @@ fn read_tokens(
             return Err(TextFault::At(place));
         }
         let (token, _) = rest.split_at(len);
-        if !take(
-            alloc,
-            types,
-            names,
-            &mut heap,
-            &mut done,
-            &mut wanted,
-            next,
-            token,
-        )? {
+        if !reader.take(context, next, token)? {
             return Err(TextFault::At(place));
         }
         at += len;
@@ -403,8 +368,8 @@ fn read_tokens(
     if at < text.len() {
         return Err(TextFault::At(at as u64));
     }
-    match done.pop() {
-        Some(root) => Ok(Value::from_parts(heap, root)),
+    match reader.done.pop() {
+        Some(root) => Ok(Value::from_parts(reader.heap, root)),
         None => unreachable!(),
     }
 }
@@ -431,7 +396,12 @@ pub fn read_text(
     // Different numbers are different texts, and no two constructors have one name.
     let _count = names.len();
     types.rules();
-    match read_tokens(alloc, types, names, ty, text) {
+    let context = Context {
+        alloc,
+        types,
+        names,
+    };
+    match read_tokens(&context, ty, text) {
         Ok(value) => Ok(value),
         Err(fault) => Err(fault),
     }

@@ -9,6 +9,7 @@ ghost use Rattle.gib_value.specs.Text.{spell, text, truth_text, con_text, AreHel
 ghost use Rattle.gib_value.specs.Tags.{HasTags};
 ghost use Rattle.gib_value.specs.Writing.{due_text, due_size, size, IsDue};
 
+use crate::context::Context;
 use crate::heap::Heap;
 use crate::node::Node;
 use crate::value::Value;
@@ -36,12 +37,12 @@ fn push_truth(out: &mut Vec<u8>, b: bool) -> Result<(), Memory>
 }
 
 /// Writes the name of a constructor.
-fn push_name(out: &mut Vec<u8>, types: &TypeTable, names: &Names, con: ConId) -> Result<(), Memory>
-    requires con { con.0 < length types.now.rows }
-    requires names { AreHeld types.now names.now }
-    ensures { OnOk result (out.new.items ≡ out.old.items ++ con_text types.now names.now con.0) }
+fn push_name(out: &mut Vec<u8>, context: &Context<'_>, con: ConId) -> Result<(), Memory>
+    requires con { con.0 < length context.now.types.now.rows }
+    requires names { AreHeld context.now.types.now context.now.names.now }
+    ensures { OnOk result (out.new.items ≡ out.old.items ++ con_text context.now.types.now context.now.names.now con.0) }
 {
-    out.extend_from_slice(names.text(types.name_of(con)))?;
+    out.extend_from_slice(context.names.text(context.types.name_of(con)))?;
     Ok(())
 }
 
@@ -57,85 +58,75 @@ fn push_fields(due: &mut Vec<Due>, fields: &[Node]) -> Result<(), Memory>
     Ok(())
 }
 
-/// Writes the front of a constructor's text, and puts what is left of it on the stack.
-fn push_con(
-    out: &mut Vec<u8>,
-    due: &mut Vec<Due>,
-    types: &TypeTable,
-    names: &Names,
-    con: ConId,
-    fields: &[Node],
-) -> Result<(), Memory>
-    requires con { con.0 < length types.now.rows }
-    requires names { AreHeld types.now names.now }
-    ensures text { OnOk result (out.new.items ≡ (out.old.items ++ 40 ∷ []) ++ con_text types.now names.now con.0) }
-    ensures due { OnOk result (reverse due.new.items ≡ map field_due fields.now ++ Due.Close ∷ reverse due.old.items) }
-{
-    out.push(40)?;
-    push_name(out, types, names, con)?;
-    due.push(Due::Close)?;
-    push_fields(due, fields)?;
-    Ok(())
+/// A text as far as it is written, and what is still to be written.
+#[derive(Drop)]
+struct Writer {
+    out: Vec<u8>,
+    due: Vec<Due>,
 }
 
-/// Writes the front of a node's text, and puts what is left of it on the stack.
-fn push_node(
-    alloc: Global,
-    out: &mut Vec<u8>,
-    due: &mut Vec<Due>,
-    types: &TypeTable,
-    names: &Names,
-    heap: &Heap,
-    node: Node,
-) -> Result<(), Memory>
-    requires names { AreHeld types.now names.now }
-    requires within { IsWithin (length heap.now) node }
-    requires tags { HasTags (length types.now.rows) (value_of heap.now node) }
-    requires due { AllByRecursion (IsDue (length types.now.rows) heap.now) (reverse due.old.items) }
-    ensures text { OnOk result (out.new.items ++ due_text types.now names.now heap.now (reverse due.new.items)
-        ≡ out.old.items ++ spell types.now names.now (value_of heap.now node) (due_text types.now names.now heap.now (reverse due.old.items))) }
-    ensures due { OnOk result (AllByRecursion (IsDue (length types.now.rows) heap.now) (reverse due.new.items)) }
-    ensures less { OnOk result (due_size heap.now (reverse due.new.items) < size (value_of heap.now node) + due_size heap.now (reverse due.old.items)) }
-{
-    match node {
-        Node::Whole(z) => push_signed(alloc, out, z),
-        Node::Truth(b) => push_truth(out, b),
-        Node::Con { con, count, first } => {
-            if count == 0 {
-                return push_name(out, types, names, con);
+impl Writer {
+    /// Writes the front of a constructor's text, and puts what is left of it on the stack.
+    fn push_con(&mut self, context: &Context<'_>, con: ConId, fields: &[Node]) -> Result<(), Memory>
+        requires con { con.0 < length context.now.types.now.rows }
+        requires names { AreHeld context.now.types.now context.now.names.now }
+        ensures text { OnOk result (self.new.out.items ≡ (self.old.out.items ++ 40 ∷ []) ++ con_text context.now.types.now context.now.names.now con.0) }
+        ensures due { OnOk result (reverse self.new.due.items ≡ map field_due fields.now ++ Due.Close ∷ reverse self.old.due.items) }
+    {
+        self.out.push(40)?;
+        push_name(&mut self.out, context, con)?;
+        self.due.push(Due::Close)?;
+        push_fields(&mut self.due, fields)?;
+        Ok(())
+    }
+
+    /// Writes the front of a node's text, and puts what is left of it on the stack.
+    fn push_node(&mut self, context: &Context<'_>, heap: &Heap, node: Node) -> Result<(), Memory>
+        requires names { AreHeld context.now.types.now context.now.names.now }
+        requires within { IsWithin (length heap.now) node }
+        requires tags { HasTags (length context.now.types.now.rows) (value_of heap.now node) }
+        requires due { AllByRecursion (IsDue (length context.now.types.now.rows) heap.now) (reverse self.old.due.items) }
+        ensures text { OnOk result (self.new.out.items ++ due_text context.now.types.now context.now.names.now heap.now (reverse self.new.due.items)
+            ≡ self.old.out.items ++ spell context.now.types.now context.now.names.now (value_of heap.now node) (due_text context.now.types.now context.now.names.now heap.now (reverse self.old.due.items))) }
+        ensures due { OnOk result (AllByRecursion (IsDue (length context.now.types.now.rows) heap.now) (reverse self.new.due.items)) }
+        ensures less { OnOk result (due_size heap.now (reverse self.new.due.items) < size (value_of heap.now node) + due_size heap.now (reverse self.old.due.items)) }
+    {
+        match node {
+            Node::Whole(z) => push_signed(context.alloc, &mut self.out, z),
+            Node::Truth(b) => push_truth(&mut self.out, b),
+            Node::Con { con, count, first } => {
+                if count == 0 {
+                    return push_name(&mut self.out, context, con);
+                }
+                self.push_con(context, con, heap.fields(first, count))?;
+                Ok(())
             }
-            push_con(out, due, types, names, con, heap.fields(first, count))?;
-            Ok(())
         }
     }
 }
 
 /// The text of the value that a node is in a heap.
-fn write_node(
-    alloc: Global,
-    types: &TypeTable,
-    names: &Names,
-    heap: &Heap,
-    root: Node,
-) -> Result<Vec<u8>, Memory>
-    requires names { AreHeld types.now names.now }
+fn write_node(context: &Context<'_>, heap: &Heap, root: Node) -> Result<Vec<u8>, Memory>
+    requires names { AreHeld context.now.types.now context.now.names.now }
     requires within { IsWithin (length heap.now) root }
-    requires tags { HasTags (length types.now.rows) (value_of heap.now root) }
-    ensures { IfOk result (λ out. out.items ≡ text types.now names.now (value_of heap.now root)) }
+    requires tags { HasTags (length context.now.types.now.rows) (value_of heap.now root) }
+    ensures { IfOk result (λ out. out.items ≡ text context.now.types.now context.now.names.now (value_of heap.now root)) }
 {
-    let mut out = Vec::new(alloc);
-    let mut due = Vec::new(alloc);
-    push_node(alloc, &mut out, &mut due, types, names, heap, root)?;
-    'due: while let Some(next) = due.pop() {
+    let mut writer = Writer {
+        out: Vec::new(context.alloc),
+        due: Vec::new(context.alloc),
+    };
+    writer.push_node(context, heap, root)?;
+    'due: while let Some(next) = writer.due.pop() {
         match next {
-            Due::Close => out.push(41)?,
+            Due::Close => writer.out.push(41)?,
             Due::Field(node) => {
-                out.push(32)?;
-                push_node(alloc, &mut out, &mut due, types, names, heap, node)?;
+                writer.out.push(32)?;
+                writer.push_node(context, heap, node)?;
             }
         }
     }
-    Ok(out)
+    Ok(writer.out)
 }
 
 /// The text of a value.
@@ -154,5 +145,10 @@ pub fn write_text(
     ensures { IfOk result (λ out. out.items ≡ text types.now names.now value.now) }
 {
     let (heap, root) = value.parts();
-    write_node(alloc, types, names, heap, root)
+    let context = Context {
+        alloc,
+        types,
+        names,
+    };
+    write_node(&context, heap, root)
 }

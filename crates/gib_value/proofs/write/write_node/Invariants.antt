@@ -6,7 +6,7 @@ use Rattle.gib_value.proofs.WriteLemmas.{Writes}
 use Rattle.gib_value.proofs.write.write_node.Given as goal
 
 abbrev pub invariant-due : goal.invariant-due
-invariant-due l = Writes l.types l.names l.heap (text l.types l.names (value_of l.heap l.fn.root)) (reverse l.due.items) l.out.items
+invariant-due l = Writes l.context.types.now l.context.names.now l.heap (text l.context.types.now l.context.names.now (value_of l.heap l.fn.root)) (reverse l.writer.due.items) l.writer.out.items
 
 abbrev pub decreases-due : goal.decreases-due
-decreases-due l = due_size l.heap (reverse l.due.items)
+decreases-due l = due_size l.heap (reverse l.writer.due.items)
