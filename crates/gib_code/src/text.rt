@@ -1,10 +1,12 @@
 //! Code as text.
 
-ghost use Rattle.std.specs.Prelude.{◌≡◌, ◌++◌, [], ◌∷◌, ◌==◌, ◌<◌, ◌≤◌, length, drop, slice_get, unwrap_or, codes, true, false, Some, None, IsTrue, ◌↔◌, IfOk, OnOk};
+ghost use Rattle.std.specs.Prelude.{◌≡◌, ◌++◌, [], ◌∷◌, ◌==◌, ◌<◌, ◌≤◌, length, drop, slice_get, unwrap_or, codes, true, false, Some, None, IfOk, OnOk, ℕ, List};
 ghost use Rattle.std.specs.List.{flat_map};
 ghost use Rattle.std.specs.Fmt.{decimal, signed_decimal};
 ghost use Rattle.std.specs.Int.{w64, cast_signed};
 ghost use Rattle.gib_code.specs.Instruction.{instruction_of};
+ghost use Rattle.gib_code.specs.Program.{CodeTree};
+ghost use Rattle.gib_code.specs.Families.{family_of, Setting, Putting, Jumping, Calling, Forking};
 ghost use Rattle.gib_code.specs.ListingText.{name_text, number_text, slot_text, operand_text, operation_text, kind_text, constructor_text, called, function_text, label_text, instruction_text, line_text, title, head_text, head_at, later_than, lines_text, listing_text};
 
 use crate::code::Code;
@@ -176,15 +178,10 @@ fn push_one(alloc: Global, out: &mut Vec<u8>, word: &[u8], slot: u32) -> Result<
     push_slot(alloc, out, slot)
 }
 
-/// Writes an instruction.
-fn push_instruction(
-    alloc: Global,
-    out: &mut Vec<u8>,
-    names: &Names,
-    code: &Code,
-    instr: &Instr,
-) -> Result<(), Memory>
-    ensures { OnOk result (out.new.items ≡ out.old.items ++ instruction_text names.now code.now (instruction_of instr.now)) }
+/// Writes an instruction that sets a slot.
+fn push_setting(alloc: Global, out: &mut Vec<u8>, instr: &Instr) -> Result<(), Memory>
+    requires { family_of (instruction_of instr.now) ≡ Setting }
+    ensures { (names : List (List ℕ)) (code : CodeTree) → OnOk result (out.new.items ≡ out.old.items ++ instruction_text names code (instruction_of instr.now)) }
 {
     match instr {
         Instr::Move { to, from } => {
@@ -201,19 +198,6 @@ fn push_instruction(
             push_operand(alloc, out, *left)?;
             push_operand(alloc, out, *right)
         }
-        Instr::Jump(label) => {
-            push_bytes(out, b" jump")?;
-            push_number(alloc, out, *label)
-        }
-        Instr::Unless { test, label } => {
-            push_bytes(out, b" unless")?;
-            push_operand(alloc, out, *test)?;
-            push_number(alloc, out, *label)
-        }
-        Instr::Switch { tree, arms } => {
-            push_one(alloc, out, b" switch", *tree)?;
-            push_labels(alloc, out, arms)
-        }
         Instr::Whole { to, tree, place } => push_read(alloc, out, b" whole", *to, *tree, *place),
         Instr::Truth { to, tree, place } => push_read(alloc, out, b" truth", *to, *tree, *place),
         Instr::First { to, tree, place } => push_read(alloc, out, b" first", *to, *tree, *place),
@@ -222,6 +206,22 @@ fn push_instruction(
             push_one(alloc, out, b" skip", *to)?;
             push_slot(alloc, out, *from)
         }
+        _ => unreachable!(),
+    }
+}
+
+/// Writes an instruction that puts a value.
+fn push_putting(
+    alloc: Global,
+    out: &mut Vec<u8>,
+    names: &Names,
+    code: &Code,
+    instr: &Instr,
+) -> Result<(), Memory>
+    requires { family_of (instruction_of instr.now) ≡ Putting }
+    ensures { OnOk result (out.new.items ≡ out.old.items ++ instruction_text names.now code.now (instruction_of instr.now)) }
+{
+    match instr {
         Instr::Begin(slot) => push_one(alloc, out, b" begin", *slot),
         Instr::Done => push_bytes(out, b" done"),
         Instr::Here(slot) => push_one(alloc, out, b" here", *slot),
@@ -241,6 +241,45 @@ fn push_instruction(
             push_slots(alloc, out, packed)
         }
         Instr::Point(slot) => push_one(alloc, out, b" point", *slot),
+        _ => unreachable!(),
+    }
+}
+
+/// Writes an instruction that goes to a label.
+fn push_jumping(alloc: Global, out: &mut Vec<u8>, instr: &Instr) -> Result<(), Memory>
+    requires { family_of (instruction_of instr.now) ≡ Jumping }
+    ensures { (names : List (List ℕ)) (code : CodeTree) → OnOk result (out.new.items ≡ out.old.items ++ instruction_text names code (instruction_of instr.now)) }
+{
+    match instr {
+        Instr::Jump(label) => {
+            push_bytes(out, b" jump")?;
+            push_number(alloc, out, *label)
+        }
+        Instr::Unless { test, label } => {
+            push_bytes(out, b" unless")?;
+            push_operand(alloc, out, *test)?;
+            push_number(alloc, out, *label)
+        }
+        Instr::Switch { tree, arms } => {
+            push_one(alloc, out, b" switch", *tree)?;
+            push_labels(alloc, out, arms)
+        }
+        _ => unreachable!(),
+    }
+}
+
+/// Writes an instruction that begins or ends a call.
+fn push_calling(
+    alloc: Global,
+    out: &mut Vec<u8>,
+    names: &Names,
+    code: &Code,
+    instr: &Instr,
+) -> Result<(), Memory>
+    requires { family_of (instruction_of instr.now) ≡ Calling }
+    ensures { OnOk result (out.new.items ≡ out.old.items ++ instruction_text names.now code.now (instruction_of instr.now)) }
+{
+    match instr {
         Instr::Call {
             function,
             arguments,
@@ -263,6 +302,16 @@ fn push_instruction(
             push_bytes(out, b" give")?;
             push_operand(alloc, out, *operand)
         }
+        _ => unreachable!(),
+    }
+}
+
+/// Writes an instruction that begins or ends a side.
+fn push_forking(alloc: Global, out: &mut Vec<u8>, instr: &Instr) -> Result<(), Memory>
+    requires { family_of (instruction_of instr.now) ≡ Forking }
+    ensures { (names : List (List ℕ)) (code : CodeTree) → OnOk result (out.new.items ≡ out.old.items ++ instruction_text names code (instruction_of instr.now)) }
+{
+    match instr {
         Instr::Fork {
             right,
             joint,
@@ -277,6 +326,41 @@ fn push_instruction(
         }
         Instr::Join => push_bytes(out, b" join"),
         Instr::Back => push_bytes(out, b" back"),
+        _ => unreachable!(),
+    }
+}
+
+/// Writes an instruction.
+fn push_instruction(
+    alloc: Global,
+    out: &mut Vec<u8>,
+    names: &Names,
+    code: &Code,
+    instr: &Instr,
+) -> Result<(), Memory>
+    ensures { OnOk result (out.new.items ≡ out.old.items ++ instruction_text names.now code.now (instruction_of instr.now)) }
+{
+    match instr {
+        Instr::Move { .. }
+        | Instr::Operate { .. }
+        | Instr::Whole { .. }
+        | Instr::Truth { .. }
+        | Instr::First { .. }
+        | Instr::Offset { .. }
+        | Instr::Skip { .. } => push_setting(alloc, out, instr),
+        Instr::Begin(_)
+        | Instr::Done
+        | Instr::Here(_)
+        | Instr::Past { .. }
+        | Instr::Fill { .. }
+        | Instr::Point(_) => push_putting(alloc, out, names, code, instr),
+        Instr::Jump(_) | Instr::Unless { .. } | Instr::Switch { .. } => {
+            push_jumping(alloc, out, instr)
+        }
+        Instr::Call { .. } | Instr::CallScalar { .. } | Instr::Return | Instr::Give(_) => {
+            push_calling(alloc, out, names, code, instr)
+        }
+        Instr::Fork { .. } | Instr::Join | Instr::Back => { push_forking(alloc, out, instr) }
     }
 }
 

@@ -45,11 +45,12 @@ pub fn adding_one()
         × (run_cost (core placed) 1 4 input ≡ record { regions = 1; items = 5 }) }
 {}
 
-/// For how many chunks a run is tight: until there is one for each 32 items, and 3 more, and one for each region.
+/// For how many chunks a run is tight: as long as there are no more than one for each 32 items, one for each region, and
+/// 3 more.
 pub fn tight()
     // A list of 8000 cells that is built in place has 8001 items: 253 chunks may not be enough, 254 are.
     ensures in_place { let c : Cost = record { regions = 0; items = 8001 } in Tight 253 c × (Tight 254 c → ⊥) }
-    // Where each cell but the last is built in a region of its own, there is an indirection too for each.
+    // Where the rest of each cell is built in a region of its own, there is an indirection too in each cell.
     ensures apart { let c : Cost = record { regions = 8000; items = 16001 } in Tight 8503 c × (Tight 8504 c → ⊥) }
     // By one item: 64 chunks are enough for 1951 items, and may not be for 1952.
     ensures by_item { (Tight 64 (record { regions = 0; items = 1951 }) → ⊥) × Tight 64 (record { regions = 0; items = 1952 }) }

@@ -14,7 +14,7 @@ use crate::piece::{Keyword, Piece};
 use crate::program::{Core, CoreFunction, CoreMain};
 use crate::text::text_of;
 use crate::written::Written;
-use gib_base::{Memory, Names};
+use gib_base::{Memory, Name, Names};
 use gib_types::Ty;
 use std::alloc::{AllocError, Global};
 
@@ -47,6 +47,25 @@ fn put_atom_line(level: u64, word: Keyword, atom: Atom, out: &mut Written) -> Re
     out.put(Piece::End)?;
     out.put(Piece::Atom(atom))?;
     out.put_line(level, word)
+}
+
+/// What a head is filled with, up to the end of the line.
+fn put_fields(scalars: &[Atom], packed: &[Atom], out: &mut Written) -> Result<(), Memory>
+    ensures { OnOk result (out.new ≡ spell_atoms scalars.now (spell_atoms packed.now (Piece.End ∷ out.old))) }
+{
+    out.put(Piece::End)?;
+    put_atoms(packed, out)?;
+    put_atoms(scalars, out)
+}
+
+/// The line of a call.
+fn put_call(level: u64, name: Name, arguments: &[Atom], out: &mut Written) -> Result<(), Memory>
+    ensures { OnOk result (out.new ≡ Piece.Line level Keyword.Call ∷ Piece.Function name ∷ spell_atoms arguments.now (Piece.End ∷ out.old)) }
+{
+    out.put(Piece::End)?;
+    put_atoms(arguments, out)?;
+    out.put(Piece::Function(name))?;
+    out.put_line(level, Keyword::Call)
 }
 
 /// The word for how a term is bound.
@@ -120,19 +139,12 @@ fn put_end(
             packed,
             ..
         } => {
-            out.put(Piece::End)?;
-            put_atoms(packed, out)?;
-            put_atoms(scalars, out)?;
+            put_fields(scalars, packed, out)?;
             out.put(Piece::Variable(*head))?;
             out.put_line(level, Keyword::Write)
         }
         Node::Point(atom) => put_atom_line(level, Keyword::Point, *atom, out),
-        Node::Call(name, arguments) => {
-            out.put(Piece::End)?;
-            put_atoms(arguments, out)?;
-            out.put(Piece::Function(*name))?;
-            out.put_line(level, Keyword::Call)
-        }
+        Node::Call(name, arguments) => put_call(level, *name, arguments, out),
         Node::Give(atom) => put_atom_line(level, Keyword::Give, *atom, out),
         Node::Case { subject, branches } => {
             put_branches(alloc, terms, level + 1, id, branches, out)?;

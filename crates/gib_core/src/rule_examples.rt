@@ -3,6 +3,7 @@
 ghost use Rattle.std.specs.Prelude.{◌≡◌, ◌∷◌, [], pos, true, false, None, Some};
 ghost use Rattle.gib_types.specs.declared.table.Ty.TheVariants as ty;
 ghost use Rattle.gib_syntax.specs.declared.tree.Operator.TheVariants as o;
+ghost use Rattle.gib_core.specs.declared.atom.Atom.{Atom};
 ghost use Rattle.gib_core.specs.declared.atom.Atom.TheVariants as a;
 ghost use Rattle.gib_core.specs.declared.atom.Access.TheVariants as by;
 ghost use Rattle.gib_core.specs.declared.atom.Kind.TheVariants as kind;
@@ -20,6 +21,7 @@ pub fn places()
     // A `here` has an open head with room; a `region` is of a packed type.
     ensures room { (first_broken (sample tree tree (Then (points kind.Here 1 0) (Point (var 1)))) ≡ Some (2, 1))
         × (first_broken (sample tree tree (Then (Past (v 1) node) (Then (points kind.Here 2 0) (Then (points kind.Here 3 0) (Then (points kind.Here 4 0) (Write (v 1) node [] (var 2 ∷ var 3 ∷ []))))))) ≡ Some (2, 6))
+        × (first_broken (sample tree ty.Whole (Then (points kind.Here 1 0) zero_term)) ≡ Some (2, 1))
         × (first_broken (sample tree tree (Then (points kind.Region 1 0) (Point (var 1)))) ≡ None)
         × (first_broken (sample tree tree (Then (One (On kind.Region (v 1) ty.Whole zero_term)) (Point (var 0)))) ≡ Some (3, 1)) }
     // A head is filled once all fields stand, by its own constructor and name; but for the first, no `case` stands
@@ -27,14 +29,22 @@ pub fn places()
     ensures filled { let fields : Term → Term = λ t. Then (Past (v 1) node) (Then (points kind.Here 2 0) (Then (points kind.Here 3 0) t)) in
         let all : Term = Write (v 1) node [] (var 2 ∷ var 3 ∷ []) in
         (first_broken (sample tree tree (fields all)) ≡ None)
+        × (first_broken (sample tree tree (Write (v 1) node [] (var 0 ∷ var 0 ∷ []))) ≡ Some (5, 1))
+        × (first_broken (sample tree ty.Whole (Write (v 1) node [] (var 0 ∷ var 0 ∷ []))) ≡ Some (5, 1))
         × (first_broken (sample tree tree (Then (Past (v 1) node) (Then (points kind.Here 2 0) (Write (v 1) node [] (var 2 ∷ []))))) ≡ Some (5, 4))
+        × (first_broken (sample tree tree (fields (Write (v 1) node [] (var 3 ∷ var 2 ∷ [])))) ≡ Some (5, 6))
+        × (first_broken (sample tree tree (fields (Write (v 1) node [] (var 2 ∷ var 0 ∷ [])))) ≡ Some (5, 6))
+        × (first_broken (sample tree tree (fields (Write (v 1) node [] (var 2 ∷ a.Whole (pos 3) ∷ [])))) ≡ Some (5, 6))
+        × (first_broken (sample tree tree (fields (Write (v 1) node [] (var 2 ∷ var 3 ∷ var 0 ∷ [])))) ≡ Some (5, 6))
         × (first_broken (sample tree tree (fields (Write (v 1) node [] (var 2 ∷ [])))) ≡ Some (5, 6))
         × (first_broken (sample tree tree (fields (Write (v 1) three [] (var 2 ∷ var 3 ∷ [])))) ≡ Some (5, 6))
         × (first_broken (sample tree tree (Then (points kind.Region 4 0) (fields (Write (v 4) node [] (var 2 ∷ var 3 ∷ []))))) ≡ Some (5, 8))
         × (first_broken (sample tree tree (fields (Then (One (On kind.Scalar (v 4) ty.Whole (CaseTerm (var 2) (arms (v 5 ∷ []) zero_term (v 6 ∷ v 7 ∷ []) zero_term)))) all))) ≡ None)
         × (first_broken (sample tree tree (fields (Then (One (On kind.Scalar (v 4) ty.Whole (CaseTerm (var 3) (arms (v 5 ∷ []) zero_term (v 6 ∷ v 7 ∷ []) zero_term)))) all))) ≡ Some (5, 10)) }
-    // To point, and to call for a packed value, is at an empty place.
+    // To point, and to call for a packed value, is at an empty place, and not where a scalar is due.
     ensures ends { (first_broken (sample tree tree (CallTerm same (var 0 ∷ []))) ≡ None)
+        × (first_broken (sample tree ty.Whole (CallTerm same (var 0 ∷ []))) ≡ Some (6, 1))
+        × (first_broken (sample ty.Whole ty.Whole (Point (var 0))) ≡ Some (6, 1))
         × (first_broken (sample tree tree (Then (Past (v 1) node) (CallTerm same (var 0 ∷ [])))) ≡ Some (6, 2))
         × (first_broken (sample tree tree (Then (Past (v 1) node) (Point (var 0)))) ≡ Some (6, 2)) }
 {}
@@ -45,13 +55,30 @@ pub fn scopes()
     ensures sides { (first_broken (sample tree tree (Then (Both false (On kind.Region (v 1) tree (Point (var 0))) (On kind.Region (v 2) tree (Point (var 0)))) (Point (var 2)))) ≡ None)
         × (first_broken (sample tree tree (Then (Both false (On kind.Region (v 1) tree (Point (var 2))) (On kind.Region (v 2) tree (Point (var 0)))) (Point (var 2)))) ≡ Some (4, 3))
         × (first_broken (sample tree tree (Then (Both true (On kind.Region (v 1) tree (Point (var 0))) (On kind.Region (v 2) tree (Point (var 1)))) (Point (var 2)))) ≡ Some (4, 5)) }
+    // So it is with each kind of line; the first one of the right side is the term 5.
+    ensures others { let whole : Term → Term = λ t. Then (Both false (On kind.Scalar (v 1) ty.Whole zero_term) (On kind.Scalar (v 2) ty.Whole t)) (Give (var 2)) in
+        let add : Atom → Atom → Term = λ y z. Then (Prim (v 3) o.Add y z) (Give (var 3)) in
+        let made : Term → Term = λ t. Then (Both false (On kind.Region (v 1) tree (Point (var 0))) (On kind.Region (v 2) tree t)) (Point (var 2)) in
+        (first_broken (sample ty.Whole ty.Whole (whole (add (var 0) (var 0)))) ≡ None)
+        × (first_broken (sample ty.Whole ty.Whole (whole (add (var 1) (var 0)))) ≡ Some (4, 5))
+        × (first_broken (sample ty.Whole ty.Whole (whole (add (var 0) (var 1)))) ≡ Some (4, 5))
+        × (first_broken (sample ty.Whole ty.Whole (whole (Give (var 1)))) ≡ Some (4, 5))
+        × (first_broken (sample ty.Whole ty.Whole (Then (Both false (On kind.Scalar (v 1) ty.Truth (Give (a.Truth true))) (On kind.Scalar (v 2) ty.Whole (IfTerm (var 1) zero_term zero_term))) (Give (var 2)))) ≡ Some (4, 5))
+        × (first_broken (sample tree tree (made (CallTerm same (var 0 ∷ [])))) ≡ None)
+        × (first_broken (sample tree tree (made (CallTerm same (var 1 ∷ [])))) ≡ Some (4, 5))
+        × (first_broken (sample tree tree (made (CaseTerm (var 1) (arms (v 3 ∷ []) (Point (var 0)) (v 4 ∷ v 5 ∷ []) (Point (var 0)))))) ≡ Some (4, 5))
+        × (first_broken (sample tree tree (made (Then (Reach (v 1) (by.Skip (v 0))) (Point (var 0))))) ≡ Some (4, 5))
+        × (first_broken (sample tree tree (made (Then (Past (v 3) node) (Then (points kind.Here 4 0) (Then (points kind.Here 5 0) (Write (v 3) node [] (var 4 ∷ var 1 ∷ []))))))) ≡ Some (4, 10))
+        × (first_broken (sample tree tree (Then (Both false (On kind.Scalar (v 1) ty.Whole zero_term) (On kind.Region (v 2) tree (Then (Past (v 3) leaf) (Write (v 3) leaf (var 1 ∷ []) [])))) (Point (var 2)))) ≡ Some (4, 6)) }
     // A `case` has one arm for each constructor, in their order, with a variable for each field.
     ensures arms { (first_broken (sample tree ty.Whole (CaseTerm (var 0) (arms (v 1 ∷ []) zero_term (v 2 ∷ v 3 ∷ []) zero_term))) ≡ None)
         × (first_broken (sample tree ty.Whole (CaseTerm (var 0) (arms (v 1 ∷ []) zero_term (v 2 ∷ []) zero_term))) ≡ Some (7, 1))
         × (first_broken (sample tree ty.Whole (CaseTerm (var 0) (arms (v 1 ∷ v 4 ∷ []) zero_term (v 2 ∷ v 3 ∷ []) zero_term))) ≡ Some (7, 1))
         × (first_broken (sample tree ty.Whole (CaseTerm (var 0) (BranchThen leaf (v 1 ∷ []) zero_term NoBranch))) ≡ Some (7, 1))
         × (first_broken (sample tree ty.Whole (CaseTerm (var 0) (BranchThen node (v 2 ∷ v 3 ∷ []) zero_term (BranchThen leaf (v 1 ∷ []) zero_term NoBranch)))) ≡ Some (7, 1))
-        × (first_broken (sample ty.Whole ty.Whole (CaseTerm (var 0) NoBranch)) ≡ Some (7, 1)) }
+        × (first_broken (sample tree ty.Whole (CaseTerm (var 0) (BranchThen leaf (v 1 ∷ []) zero_term (BranchThen node (v 2 ∷ v 3 ∷ []) zero_term (BranchThen nil [] zero_term NoBranch))))) ≡ Some (7, 1))
+        × (first_broken (sample ty.Whole ty.Whole (CaseTerm (var 0) NoBranch)) ≡ Some (7, 1))
+        × (first_broken (sample ty.Truth ty.Whole (CaseTerm (var 0) NoBranch)) ≡ Some (7, 1)) }
     // A field is reached once, from the field directly before it.
     ensures fields { let of_three : Term → Term = λ t. CaseTerm (var 0) (BranchThen three (v 1 ∷ v 2 ∷ v 3 ∷ []) t NoBranch) in
         let second : Term → Term = λ t. Then (Reach (v 2) (by.Skip (v 1))) t in
@@ -66,15 +93,48 @@ pub fn scopes()
     ensures offsets { let of_node : Term → Term = λ t. CaseTerm (var 0) (arms (v 1 ∷ []) zero_term (v 2 ∷ v 3 ∷ []) t) in
         (first_broken (sample tree ty.Whole (of_node (Then (Reach (v 3) by.Offset) zero_term))) ≡ None)
         × (first_broken (sample tree ty.Whole (of_node (Then (Reach (v 2) by.Offset) zero_term))) ≡ Some (8, 3)) }
+    // A field is reached by no skip of one that a `case` was on; nor is what is no field, or not in scope.
+    ensures skipped { let of_node : Term → Term = λ t. CaseTerm (var 0) (arms (v 1 ∷ []) zero_term (v 2 ∷ v 3 ∷ []) t) in
+        let look : Term → Term = λ t. Then (One (On kind.Scalar (v 4) ty.Whole (CaseTerm (var 2) (arms (v 5 ∷ []) zero_term (v 6 ∷ v 7 ∷ []) zero_term)))) t in
+        let skip : Term → Term = λ t. Then (Reach (v 3) (by.Skip (v 2))) t in
+        (first_broken (sample tree ty.Whole (of_node (skip (look zero_term)))) ≡ None)
+        × (first_broken (sample tree ty.Whole (of_node (look (skip zero_term)))) ≡ Some (8, 7))
+        × (first_broken (sample tree ty.Whole (Then (Reach (v 0) by.Offset) zero_term)) ≡ Some (8, 1))
+        × (first_broken (sample tree ty.Whole (Then (Reach (v 1) by.Offset) zero_term)) ≡ Some (8, 1)) }
+    // A field that is not reached is used in no line.
+    ensures unreached { let of_node : Term → Term = λ t. CaseTerm (var 0) (arms (v 1 ∷ []) (Point (var 0)) (v 2 ∷ v 3 ∷ []) t) in
+        let on : Atom → Term = λ x. CaseTerm x (arms (v 4 ∷ []) (Point (var 0)) (v 5 ∷ v 6 ∷ []) (Point (var 0))) in
+        (first_broken (sample tree tree (of_node (CallTerm same (var 2 ∷ [])))) ≡ None)
+        × (first_broken (sample tree tree (of_node (CallTerm same (var 3 ∷ [])))) ≡ Some (8, 3))
+        × (first_broken (sample tree tree (of_node (on (var 2)))) ≡ None)
+        × (first_broken (sample tree tree (of_node (on (var 3)))) ≡ Some (8, 3)) }
+    // Nor is what was bound in another term, %2 here; the first line behind it is the term 4.
+    ensures outside { let number : Term → Term = λ t. Then (One (On kind.Scalar (v 1) ty.Whole (Then (Prim (v 2) o.Add (var 0) (a.Whole (pos 1))) (Give (var 2))))) t in
+        let truth : Term → Term = λ t. Then (One (On kind.Scalar (v 1) ty.Truth (Then (Prim (v 2) o.Less (var 0) (a.Whole (pos 1))) (Give (var 2))))) t in
+        let add : Atom → Atom → Term = λ y z. Then (Prim (v 3) o.Add y z) (Give (var 3)) in
+        let filled : Atom → Term = λ x. Then (Past (v 3) leaf) (Write (v 3) leaf (x ∷ []) []) in
+        (first_broken (sample ty.Whole ty.Whole (number (add (var 0) (var 1)))) ≡ None)
+        × (first_broken (sample ty.Whole ty.Whole (number (add (var 2) (var 1)))) ≡ Some (8, 4))
+        × (first_broken (sample ty.Whole ty.Whole (number (add (var 0) (var 2)))) ≡ Some (8, 4))
+        × (first_broken (sample ty.Whole ty.Whole (number (Give (var 2)))) ≡ Some (8, 4))
+        × (first_broken (sample ty.Whole ty.Whole (truth (IfTerm (var 1) zero_term zero_term))) ≡ None)
+        × (first_broken (sample ty.Whole ty.Whole (truth (IfTerm (var 2) zero_term zero_term))) ≡ Some (8, 4))
+        × (first_broken (sample ty.Whole tree (number (filled (var 1)))) ≡ None)
+        × (first_broken (sample ty.Whole tree (number (filled (var 2)))) ≡ Some (8, 5)) }
     // A head is no value.
     ensures heads { let node_of : Term → Term = λ t. Then (Past (v 1) node) (Then (One (On kind.Here (v 2) tree t)) (Then (points kind.Here 3 0) (Write (v 1) node [] (var 2 ∷ var 3 ∷ [])))) in
         (first_broken (sample tree tree (node_of (Point (var 0)))) ≡ None)
         × (first_broken (sample tree tree (node_of (Point (var 1)))) ≡ Some (8, 3)) }
-    // Each variable is bound once, and used behind where it is bound.
+    // Each variable is bound once, in whatever line, and used behind where it is bound.
     ensures bound { (first_broken (sample tree ty.Whole (CaseTerm (var 0) (arms (v 1 ∷ []) zero_term (v 1 ∷ v 2 ∷ []) zero_term))) ≡ Some (8, 1))
         × (first_broken (sample tree ty.Whole (CaseTerm (var 0) (arms (v 0 ∷ []) zero_term (v 1 ∷ v 2 ∷ []) zero_term))) ≡ Some (8, 1))
         × (first_broken (sample tree tree (Then (points kind.Region 1 1) (Point (var 1)))) ≡ Some (8, 2))
         × (first_broken (sample tree tree (Then (points kind.Region 0 0) (Point (var 0)))) ≡ Some (8, 1))
+        × (first_broken (sample tree tree (Then (Both false (On kind.Region (v 1) tree (Point (var 0))) (On kind.Region (v 1) tree (Point (var 0)))) (Point (var 1)))) ≡ Some (8, 4))
+        × (first_broken (sample tree tree (Then (Past (v 1) node) (Then (points kind.Here 0 0) (Then (points kind.Here 2 0) (Write (v 1) node [] (var 0 ∷ var 2 ∷ [])))))) ≡ Some (8, 2))
+        × (first_broken (sample tree tree (Then (Past (v 0) leaf) (Write (v 0) leaf (a.Whole (pos 1) ∷ []) []))) ≡ Some (8, 1))
+        × (first_broken (sample ty.Whole ty.Whole (Then (One (On kind.Scalar (v 0) ty.Whole zero_term)) zero_term)) ≡ Some (8, 1))
+        × (first_broken (sample ty.Whole ty.Whole (Then (Prim (v 0) o.Add (var 0) (a.Whole (pos 1))) zero_term)) ≡ Some (8, 1))
         × (first_broken (sample tree tree (Point (var 1))) ≡ Some (8, 1)) }
 {}
 
@@ -98,7 +158,8 @@ pub fn types()
     ensures scalars { (first_broken (sample ty.Truth ty.Whole (IfTerm (var 0) zero_term zero_term)) ≡ None)
         × (first_broken (sample ty.Whole ty.Whole (IfTerm (var 0) zero_term zero_term)) ≡ Some (9, 1))
         × (first_broken (sample ty.Whole ty.Whole (Then (Prim (v 1) o.Add (var 0) (a.Whole (pos 1))) (Give (var 1)))) ≡ None)
-        × (first_broken (sample ty.Truth ty.Whole (Then (Prim (v 1) o.Add (var 0) (a.Whole (pos 1))) (Give (var 1)))) ≡ Some (9, 1)) }
+        × (first_broken (sample ty.Truth ty.Whole (Then (Prim (v 1) o.Add (var 0) (a.Whole (pos 1))) (Give (var 1)))) ≡ Some (9, 1))
+        × (first_broken (sample ty.Truth ty.Whole (Then (Prim (v 1) o.Add (a.Whole (pos 1)) (var 0)) (Give (var 1)))) ≡ Some (9, 1)) }
     // What is given is due, and at no place; what is pointed to is of the type that is due.
     ensures ends { (first_broken (sample tree tree zero_term) ≡ Some (9, 1))
         × (first_broken (sample tree ty.Truth zero_term) ≡ Some (9, 1))
@@ -106,6 +167,7 @@ pub fn types()
     // A head is filled with its constructor's scalars; a `here` is of the field's type, a `scalar` of a scalar type.
     ensures fields { (first_broken (sample tree tree (Then (Past (v 1) leaf) (Write (v 1) leaf (a.Whole (pos 1) ∷ []) []))) ≡ None)
         × (first_broken (sample tree tree (Then (Past (v 1) leaf) (Write (v 1) leaf [] []))) ≡ Some (9, 2))
+        × (first_broken (sample tree tree (Then (Past (v 1) leaf) (Write (v 1) leaf (a.Whole (pos 1) ∷ a.Whole (pos 1) ∷ []) []))) ≡ Some (9, 2))
         × (first_broken (sample tree tree (Then (Past (v 1) leaf) (Write (v 1) leaf (a.Truth true ∷ []) []))) ≡ Some (9, 2))
         × (first_broken (sample empty tree (Then (Past (v 1) node) (Then (One (On kind.Here (v 2) empty (Point (var 0)))) (Write (v 1) node [] (var 2 ∷ []))))) ≡ Some (9, 2))
         × (first_broken (sample tree ty.Whole (Then (One (On kind.Scalar (v 1) tree (Point (var 0)))) zero_term)) ≡ Some (9, 1)) }

@@ -84,6 +84,15 @@ fn push_indent(out: &mut Vec<u8>, level: u64) -> Result<(), Memory>
     Ok(())
 }
 
+/// Writes what a line begins with, on its level.
+fn push_indented(out: &mut Vec<u8>, level: u64, bytes: &[u8]) -> Result<(), Memory>
+    ensures { OnOk result (out.new.items ≡ out.old.items ++ (indent level ++ bytes.now)) }
+{
+    push_indent(out, level)?;
+    out.extend_from_slice(bytes)?;
+    Ok(())
+}
+
 /// Writes a variable.
 fn push_variable(alloc: Global, out: &mut Vec<u8>, variable: Variable) -> Result<(), Memory>
     ensures { OnOk result (out.new.items ≡ out.old.items ++ variable_text variable) }
@@ -133,16 +142,8 @@ fn push_piece(
     ensures { OnOk result (out.new.items ≡ out.old.items ++ piece_text names.now types.now piece) }
 {
     match piece {
-        Piece::Line(level, keyword) => {
-            push_indent(out, level)?;
-            out.extend_from_slice(keyword_text(keyword))?;
-            Ok(())
-        }
-        Piece::Arm(level, con) => {
-            push_indent(out, level)?;
-            out.extend_from_slice(name_text(names, types.name_of(con)))?;
-            Ok(())
-        }
+        Piece::Line(level, keyword) => push_indented(out, level, keyword_text(keyword)),
+        Piece::Arm(level, con) => push_indented(out, level, name_text(names, types.name_of(con))),
         Piece::Function(name) => push_behind_space(out, name_text(names, name)),
         Piece::Constructor(con) => push_behind_space(out, name_text(names, types.name_of(con))),
         Piece::Variable(variable) => {
