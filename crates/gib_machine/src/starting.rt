@@ -1,8 +1,8 @@
 //! A machine at its first instruction.
 
-ghost use Rattle.std.specs.Prelude.{◌≡◌, ◌≤◌, ◌<◌, ℕ, length, Option, Some, None, IfOk, IfSome, IfNone, if◌then◌else◌};
+ghost use Rattle.std.specs.Prelude.{◌≡◌, ◌≤◌, ◌<◌, ◌+◌, ℕ, length, map, Option, Some, None, IfOk, IfSome, IfNone, if◌then◌else◌};
 ghost use Rattle.gib_code.specs.Instruction.{instruction_of};
-ghost use Rattle.gib_machine.specs.Machine.{Ready, Opening, fork_of, side_doing, side_start};
+ghost use Rattle.gib_machine.specs.Machine.{Ready, Opening, fork_of, side_doing, side_start, nesting_from};
 ghost use Rattle.gib_machine.specs.Machine as m;
 ghost use Rattle.gib_machine.specs.Starting.{begun, is_packed, main_entry, started, forking_of, waiting_of};
 ghost use Rattle.gib_machine.specs.Starting as s;
@@ -14,7 +14,7 @@ use crate::state::{Doing, Machine};
 use gib_base::Memory;
 use gib_code::{Code, Entry, Instr, Kind, Side};
 use gib_types::Ty;
-use std::alloc::Global;
+use std::alloc::{AllocError, Global};
 
 /// How a machine begins: where, with how many slots, with which variable where it is a right side, with what type of answer,
 /// and whether it opens a region first.
@@ -126,21 +126,61 @@ fn fork_to(code: &Code, label: u32) -> Option<ForkParts>
     None
 }
 
-/// A machine that begins so, with frames of this width and these first words; the other slots are 0.
+/// One more; want of memory where that is too large for a number.
+fn one_more(count: u32) -> Result<u32, Memory>
+    ensures { IfOk result (λ more. more ≡ count + 1) }
+{
+    match count.checked_add(1) {
+        Some(more) => Ok(more),
+        None => Err(AllocError),
+    }
+}
+
+/// How many regions and `par`s are open behind an instruction, before which `open` are.
+fn open_behind(open: u32, instr: &Instr) -> Result<u32, Memory>
+    ensures { IfOk result (λ behind. behind ≡ m.open_behind open (instruction_of instr.now)) }
+{
+    match instr {
+        Instr::Begin(_) => one_more(open),
+        Instr::Fork { .. } => one_more(open),
+        Instr::Done => Ok(open.saturating_sub(1)),
+        Instr::Back => Ok(open.saturating_sub(1)),
+        _ => Ok(open),
+    }
+}
+
+/// The most regions and `par`s that a frame has open at a time.
+fn nesting(instructions: &[Instr]) -> Result<u32, Memory>
+    ensures { IfOk result (λ most. most ≡ nesting_from 0 (map instruction_of instructions.now)) }
+{
+    let mut rest = instructions;
+    let mut open = 0;
+    let mut most = 0;
+    'instructions: while let [instr, after @ ..] = rest {
+        most = most.max(open);
+        open = open_behind(open, instr)?;
+        rest = after;
+    }
+    Ok(most.max(open))
+}
+
+/// A machine that begins so with these first words; the other slots are 0.
 #[tactic(auto, using(crate::proofs::Starts::room_is))]
 fn begin(
     alloc: Global,
-    width: u32,
+    code: &Code,
     start: Start,
     words: &[u64],
     depth: u32,
     level: u32,
 ) -> Result<Machine, Memory>
-    requires { start.slots ≤ width }
-    ensures { IfOk result (λ machine. machine ≡ begun width start words.now depth level) }
+    requires { start.slots ≤ m.widest code.now.functions }
+    ensures { IfOk result (λ machine. machine ≡ begun code.now start words.now depth level) }
 {
+    let width = widest(code.functions());
+    let most = nesting(code.instructions())?;
     let frames = Frames::make(alloc, words, start.slots, depth, width)?;
-    let openings = Openings::make(alloc, (depth as usize + 1) * width as usize + 1)?;
+    let openings = Openings::make(alloc, (depth as usize + 1) * most as usize + 1)?;
     let doing = if start.opens {
         Doing::Opening
     } else {
@@ -177,7 +217,6 @@ impl Machine {
         requires { length words.now ≤ m.widest code.now.functions }
         ensures { IfOk result (λ machine. machine ≡ started code.now start words.now depth level) }
     {
-        let width = widest(code.functions());
         if let Some(main) = main_of(code.functions()) {
             if main.start == start {
                 let start = Start {
@@ -187,7 +226,7 @@ impl Machine {
                     result: main.result,
                     opens: is_packed(main.result),
                 };
-                return begin(alloc, width, start, words, depth, level);
+                return begin(alloc, code, start, words, depth, level);
             }
         }
         let slots = words.len() as u32;
@@ -207,7 +246,7 @@ impl Machine {
                 opens: false,
             },
         };
-        begin(alloc, width, start, words, depth, level)
+        begin(alloc, code, start, words, depth, level)
     }
 
     /// The machine of a right side that waits. It takes all its memory here.
@@ -220,7 +259,6 @@ impl Machine {
         requires { length side.now.words.items ≤ m.widest code.now.functions }
         ensures { IfOk result (λ machine. machine ≡ side_start code.now (waiting_of side.now)) }
     {
-        let width = widest(code.functions());
         let start = Start {
             label: side.start,
             slots: side.words.len() as u32,
@@ -228,6 +266,6 @@ impl Machine {
             result: side.result,
             opens: opens_region(side.kind),
         };
-        begin(alloc, width, start, &side.words, side.depth, side.level)
+        begin(alloc, code, start, &side.words, side.depth, side.level)
     }
 }

@@ -18,7 +18,7 @@ use Rattle.gib_core.specs.Meaning.{value}
 use Rattle.gib_code.specs.Instruction as i
 use Rattle.gib_code.specs.Program.{CodeTree, IsAt}
 use Rattle.gib_core.specs.Low.{operand, field_of, Field as StoredField, reaching}
-use Rattle.gib_machine.specs.Machine.{times, widest, Slots, slot, set, word, Frame, Open as OpenRegion, Silent, next, cursor, went, went_to}
+use Rattle.gib_machine.specs.Machine.{times, nesting, Slots, slot, set, word, Frame, Open as OpenRegion, Silent, next, cursor, went, went_to}
 use Rattle.gib_core.specs.Cost.{Cost, plus, choose_cost}
 use Rattle.gib_weave.proofs.Counts.{goes_on_counted}
 use Rattle.gib_core.specs.Fits.{put, Sort, Outside, Absent, Scalar, Held, Placed, Loose, AtHead, Field, Scope, is_there, has_slot, Dest, Nowhere, Empty, Open, dest_type, Fits, cased}
@@ -128,7 +128,7 @@ module _ (core : CoreTree) (code : CodeTree) (owed : Owed) (own : Owned) (sh : S
   pub line_of : (s : Store) (ip : ℕ) (sl : Slots) (fs : List Frame) (n : ℕ) (rs : List OpenRegion) (ts : List ℕ) (t : Term) (c : Ctx) (k : Kont) → AtTerm core code owed own sh s (at_rest lv ty rm ip sl fs n rs ts) t c k → Line s sl fs rs ts c k (cased t)
   line_of s ip sl fs n rs ts t c k at = record { kind = at.kind; matches = at.matches; stack = at.stack; under = at.under; calm = at.calm; places = at.places; rooms = at.rooms; tail_rooms = at.tail_rooms; small = at.small; result = at.result; type = at.type; pars = at.pars; side = at.side; free = at.free }
 
-  pub term_at : (s : Store) (ip : ℕ) (sl : Slots) (fs : List Frame) (n : ℕ) (rs : List OpenRegion) (ts : List ℕ) (t : Term) (c : Ctx) (k : Kont) (m : ℕ → Bool) → Line s sl fs rs ts c k m → IsCode core code c.scope ip t (end_of k) → Fits core t c.scope c.dest → ((y : ℕ) → cased t y ≡ true → m y ≡ true) → resume core n k (means core n t c.env) ≡ owed.all → sides_of core n lv.level k ≡ owed.sides → nest t + times n (widest code.functions) ≤ rm → nest t ≤ widest code.functions → AllRoom (widest code.functions) n rm k → Counted rs (left_costs core n lv.level (Plain t) c.env k) sh → AtTerm core code owed own sh s (at_rest lv ty rm ip sl fs n rs ts) t c k
+  pub term_at : (s : Store) (ip : ℕ) (sl : Slots) (fs : List Frame) (n : ℕ) (rs : List OpenRegion) (ts : List ℕ) (t : Term) (c : Ctx) (k : Kont) (m : ℕ → Bool) → Line s sl fs rs ts c k m → IsCode core code c.scope ip t (end_of k) → Fits core t c.scope c.dest → ((y : ℕ) → cased t y ≡ true → m y ≡ true) → resume core n k (means core n t c.env) ≡ owed.all → sides_of core n lv.level k ≡ owed.sides → nest t + times n (nesting code) ≤ rm → nest t ≤ nesting code → AllRoom (nesting code) n rm k → Counted rs (left_costs core n lv.level (Plain t) c.env k) sh → AtTerm core code owed own sh s (at_rest lv ty rm ip sl fs n rs ts) t c k
   term_at s ip sl fs n rs ts t c k m l low fits less ow sd ne nar ar counted = record {
     ready = refl;
     low = low;

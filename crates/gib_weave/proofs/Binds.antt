@@ -22,7 +22,7 @@ use Rattle.gib_code.specs.Instruction.{Instruction, Operate, Move, Jump, Call, C
 use Rattle.gib_code.specs.Instruction as i
 use Rattle.gib_code.specs.Program.{CodeTree, IsAt, AreAt, one_more}
 use Rattle.gib_core.specs.Low.{To, ending, giving, operand, operands, operation, function_number, IsNoCall}
-use Rattle.gib_machine.specs.Machine.{times, widest, Slots, slot, set, word, words, Frame, Open as OpenRegion, Silent, cursor, set_answer, answer_of, operated, frame_words, slots_at}
+use Rattle.gib_machine.specs.Machine.{times, nesting, Slots, slot, set, word, words, Frame, Open as OpenRegion, Silent, cursor, set_answer, answer_of, operated, frame_words, slots_at}
 use Rattle.gib_core.specs.Cost.{Cost, plus}
 use Rattle.gib_weave.proofs.Costs.{call_costs_same}
 use Rattle.gib_weave.proofs.Counts.{goes_on_counted, same_most, most_then}
@@ -221,7 +221,7 @@ module _ (core : CoreTree) (code : CodeTree) (owed : Owed) (own : Owned) (sh : S
   -- the scalar of a line that waits has come
   scalar_comes : (s : Store) (ip : ℕ) (sl : Slots) (fs : List Frame) (n : ℕ) (rs : List OpenRegion) (ts : List ℕ) (x : ℕ) (xt : Ty) (u : Rest) (c : Ctx) (k : Kont) (w : ℕ) (v : Datum) → Waits core code s sl ip x (Scalar xt) u c c.dest (cursor rs) k → Stack core code s k sl fs c.front rs
       → IsScalar xt w v → Apart own s (λ q. (head_covers code.laid c c.dest q + kont_covers code.laid k q) + (rest_covers rs q + tail_covers ts q)) → HaveRoom rs → TailsHaveRoom ts → IsSmall s
-      → resume core n k (rest_means core n u ((x, v) ∷ c.env)) ≡ owed.all → rest_sides core n lv.level u c.env (sides_of core n (level_after lv.level u) k) ≡ owed.sides → lv.pars ≡ rest_pars u (pars_of k) → lv.side ≡ side_of k → ty ≡ root k → owed.ty ≡ root k → HasRoom (times n (widest code.functions)) u rm → AllRoom (widest code.functions) n (freed u rm) k → Counted rs (left_costs core n lv.level u ((x, v) ∷ c.env) k) sh → AtRest core code owed own sh s (at_rest lv ty rm ip (set sl x w) fs n rs ts) u (with_var c x (Scalar xt) v 0) k
+      → resume core n k (rest_means core n u ((x, v) ∷ c.env)) ≡ owed.all → rest_sides core n lv.level u c.env (sides_of core n (level_after lv.level u) k) ≡ owed.sides → lv.pars ≡ rest_pars u (pars_of k) → lv.side ≡ side_of k → ty ≡ root k → owed.ty ≡ root k → HasRoom (times n (nesting code)) u rm → AllRoom (nesting code) n (freed u rm) k → Counted rs (left_costs core n lv.level u ((x, v) ∷ c.env) k) sh → AtRest core code owed own sh s (at_rest lv ty rm ip (set sl x w) fs n rs ts) u (with_var c x (Scalar xt) v 0) k
   scalar_comes s ip sl fs n rs ts x xt u c k w v wt st sc places rooms tails small ow sd pa si res oty ne ar counted = record {
     ready = refl;
     low = rest_code_put core code c.scope ip u (end_of k) x (Scalar xt) refl wt.low;

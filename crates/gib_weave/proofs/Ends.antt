@@ -10,7 +10,7 @@ use Rattle.gib_core.specs.Tree.{CoreTree}
 use Rattle.gib_code.specs.Instruction.{Instruction}
 use Rattle.gib_code.specs.Program.{CodeTree, IsAt}
 use Rattle.gib_core.specs.Low.{ending}
-use Rattle.gib_machine.specs.Machine.{times, widest, Slots, slot, Frame, Open as OpenRegion, State, Doing, Ready, Ask, Silent, next, begin, goes_on, cursor, Unwinding, unwound, Par, backs_at, ends_side, answer_of}
+use Rattle.gib_machine.specs.Machine.{times, nesting, Slots, slot, Frame, Open as OpenRegion, State, Doing, Ready, Ask, Silent, next, begin, goes_on, cursor, Unwinding, unwound, Par, backs_at, ends_side, answer_of}
 use Rattle.gib_weave.proofs.Counts.{Paid, finish_counted}
 use Rattle.gib_core.specs.Fits.{Placed, more}
 use Rattle.gib_weave.specs.Environment.{Ctx, StandsAt, IsPlaced}
@@ -140,7 +140,7 @@ module _ (core : CoreTree) (code : CodeTree) (owed : Owed) (own : Owned) (sh : S
     pub result : ty ≡ root k
     pub type : owed.ty ≡ root k
     pub counted : Counted rs (later_costs core n lv.level k (Gives v)) sh
-    pub all_room : AllRoom (widest code.functions) n rm k
+    pub all_room : AllRoom (nesting code) n rm k
 
   -- the whole task's tree
   at_root : (s : Store) (a : ℕ) (rs : List OpenRegion) (t : ℕ) (v : Datum) (u : Ty) → u ≡ Tree (record { 0 = t }) → IsRoot u a rs → Dec code.laid s a t v (cursor rs) → Gives v ≡ owed.all → IsAnswer code.laid s u owed.all (Rattle.gib_code.specs.declared.answer.Answer.TheVariants.At (Rattle.gib_machine.specs.Machine.start_of rs))

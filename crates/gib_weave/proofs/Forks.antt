@@ -21,7 +21,7 @@ use Rattle.gib_code.specs.Instruction.{Here, Join, Back}
 use Rattle.gib_code.specs.Program.{CodeTree, IsAt}
 use Rattle.gib_core.specs.Low as low
 use Rattle.gib_core.specs.Low.{Low, LowSide, End, To, kind_of, Field as StoredField}
-use Rattle.gib_machine.specs.Machine.{times, widest, Slots, slot, set, Frame, Open as OpenRegion, State, Par, Silent, AtJoin, next, cursor, room, joins_at, backs_at, ends_side, answer_of, side_start, points, ToTree}
+use Rattle.gib_machine.specs.Machine.{times, nesting, widest, Slots, slot, set, Frame, Open as OpenRegion, State, Par, Silent, AtJoin, next, cursor, room, joins_at, backs_at, ends_side, answer_of, side_start, points, ToTree}
 use Rattle.gib_core.specs.Cost.{Cost, nothing, plus, one_item, one_region}
 use Rattle.gib_weave.proofs.Counts.{Paid, most_then, item_counted, turn_counted, turned_counted, chunk_counted}
 use Rattle.gib_core.specs.Fits.{AloneFits, SideFits, Sort, Scalar, Held, Placed, Scope, Dest, Nowhere, Empty, more, IsDue, cased, side_cased, loosen, Fits}
@@ -135,7 +135,7 @@ new_counted left most h = record { balanced = omega arith; cursors = refl; left 
 module _ (core : CoreTree) (code : CodeTree) where
   -- a region's or a scalar's side
   bound_side : (s : Store) (a z : ℕ) (sl : Slots) (n lv rm : ℕ) (stored : List StoredField) (kd : Kind) (y : Variable) (xt : Ty) (t : Term) (c : Ctx)
-      → LowSide core code stored a (On kd y xt t) z → IsAt code z Back → Agrees stored c.scope → HasAll code.laid s sl c → IsSmall s → side_nest (On kd y xt t) ≤ widest code.functions → side_nest (On kd y xt t) + times n (widest code.functions) ≤ rm
+      → LowSide core code stored a (On kd y xt t) z → IsAt code z Back → Agrees stored c.scope → HasAll code.laid s sl c → IsSmall s → side_nest (On kd y xt t) ≤ nesting code → side_nest (On kd y xt t) + times n (nesting code) ≤ rm
       → SideFits core (On kd y xt t) c.scope (Nowhere Whole) (λ sc' d'. RestFits core (Last y.0 xt) sc' d')
       → Safe core code (record { ty = xt; all = means core n t c.env; sides = [] }) (λ q. 0) (new_share (task_costs core n lv (On kd y xt t) c.env)) s (at_rest (record { level = lv; pars = []; side = Some y.0; width = widest code.functions }) xt rm a sl [] n [] [])
   bound_side s a z sl n lv rm stored kd y xt t c ls eb ag vars sm na le fit = rests (at_term {u = Part (On kd y xt t) (Last y.0 xt)} {c = alone c} {k = KSide y.0 xt} record {
@@ -167,11 +167,11 @@ module _ (core : CoreTree) (code : CodeTree) where
 
   -- a field's side opens a region of its own
   field_side : (s : Store) (a z : ℕ) (sl : Slots) (n lv : ℕ) (stored : List StoredField) (y : Variable) (xt : Ty) (t : Term) (c : Ctx)
-      → IsAt code a (Here y.0) → Low core code stored (a + 1) t (To z 0) z → IsAt code z Back → Agrees stored c.scope → HasAll code.laid s sl c → IsSmall s → nest t ≤ widest code.functions
+      → IsAt code a (Here y.0) → Low core code stored (a + 1) t (To z 0) z → IsAt code z Back → Agrees stored c.scope → HasAll code.laid s sl c → IsSmall s → nest t ≤ nesting code
       → AloneFits core (On kind.Here y xt t) c.scope
       → Safe core code (record { ty = xt; all = means core n t c.env; sides = [] }) (λ q. 0) (new_share (task_costs core n lv (On kind.Here y xt t) c.env)) s (side_start code (record { start = a; words = sl; depth = n; level = lv; kind = at.Here; variable = y.0; result = xt }))
   field_side s a z sl n lv stored y xt t c eh lt eb ag vars sm na fit =
-      let rm = times (suc n) (widest code.functions) in
+      let rm = times (suc n) (nesting code) in
       let owes : Owed = record { ty = xt; all = means core n t c.env; sides = [] } in
       let lvs : Levels = record { level = lv; pars = []; side = Some y.0; width = widest code.functions } in
       let most = task_costs core n lv (On kind.Here y xt t) c.env in
@@ -212,15 +212,15 @@ module _ (core : CoreTree) (code : CodeTree) where
       }))))
 
   pub side_safe : (s : Store) (a z : ℕ) (sl : Slots) (n lv : ℕ) (stored : List StoredField) (kd : Kind) (y : Variable) (xt : Ty) (t : Term) (c : Ctx)
-      → LowSide core code stored a (On kd y xt t) z → IsAt code z Back → Agrees stored c.scope → HasAll code.laid s sl c → side_nest (On kd y xt t) ≤ widest code.functions
+      → LowSide core code stored a (On kd y xt t) z → IsAt code z Back → Agrees stored c.scope → HasAll code.laid s sl c → side_nest (On kd y xt t) ≤ nesting code
       → AloneFits core (On kd y xt t) c.scope
       → SideSafe core code (record { ty = xt; owed = means core n t c.env; most = task_costs core n lv (On kd y xt t) c.env }) s (record { start = a; words = sl; depth = n; level = lv; kind = kind_of kd; variable = y.0; result = xt })
   side_safe s a z sl n lv stored kind.Here y xt t c (low.here eh lt) eb ag vars le fit = record { safe = λ r g sm. field_side r a z sl n lv stored y xt t c eh lt eb ag (Rattle.gib_weave.proofs.Grow.HasAll-grows g vars) sm le fit }
   side_safe s a z sl n lv stored kind.Region y xt t c ls eb ag vars le fit = record {
-    safe = λ r g sm. bound_side r a z sl n lv (suc (times (suc n) (widest code.functions))) stored kind.Region y xt t c ls eb ag (Rattle.gib_weave.proofs.Grow.HasAll-grows g vars) sm le (let h = le in omega (arith, h)) (fit.0, fit.1, fit.2, fit.3, put-same (loosen (cased t) c.scope) y.0 (Placed fit.0) ∙ ap result_sort (sym fit.1));
+    safe = λ r g sm. bound_side r a z sl n lv (suc (times (suc n) (nesting code))) stored kind.Region y xt t c ls eb ag (Rattle.gib_weave.proofs.Grow.HasAll-grows g vars) sm le (let h = le in omega (arith, h)) (fit.0, fit.1, fit.2, fit.3, put-same (loosen (cased t) c.scope) y.0 (Placed fit.0) ∙ ap result_sort (sym fit.1));
   }
   side_safe s a z sl n lv stored kind.Scalar y xt t c ls eb ag vars le fit = record {
-    safe = λ r g sm. bound_side r a z sl n lv (suc (times (suc n) (widest code.functions))) stored kind.Scalar y xt t c ls eb ag (Rattle.gib_weave.proofs.Grow.HasAll-grows g vars) sm le (let h = le in omega (arith, h)) (fit.0, fit.1, fit.2, put-same (loosen (cased t) c.scope) y.0 (Scalar xt) ∙ scalar_sort xt fit.0);
+    safe = λ r g sm. bound_side r a z sl n lv (suc (times (suc n) (nesting code))) stored kind.Scalar y xt t c ls eb ag (Rattle.gib_weave.proofs.Grow.HasAll-grows g vars) sm le (let h = le in omega (arith, h)) (fit.0, fit.1, fit.2, put-same (loosen (cased t) c.scope) y.0 (Scalar xt) ∙ scalar_sort xt fit.0);
   }
 
 -- At a join.
@@ -341,7 +341,7 @@ module _ (core : CoreTree) (code : CodeTree) (owed : Owed) (own : Owned) (sh : S
   -- a scalar, or a tree in a region
   pub bound_comes : (s : Store) (ip : ℕ) (sl : Slots) (fs : List Frame) (n : ℕ) (rs : List OpenRegion) (ts : List ℕ) (x : ℕ) (so : Sort) (u : Rest) (c : Ctx) (k : Kont) (w pl : ℕ) (v : Datum) → is_field so ≡ false → Waits core code s sl ip x so u c c.dest (cursor rs) k → Stack core code s k sl fs c.front rs
       → Has code.laid s (with_var c x so v pl) so w v pl (c.hd x) → Apart own s (λ q. (head_covers code.laid c c.dest q + kont_covers code.laid k q) + (rest_covers rs q + tail_covers ts q)) → HaveRoom rs → TailsHaveRoom ts → IsSmall s
-      → resume core n k (rest_means core n u ((x, v) ∷ c.env)) ≡ owed.all → rest_sides core n lv.level u c.env (sides_of core n (level_after lv.level u) k) ≡ owed.sides → lv.pars ≡ rest_pars u (pars_of k) → lv.side ≡ side_of k → ty ≡ root k → owed.ty ≡ root k → HasRoom (times n (widest code.functions)) u rm → AllRoom (widest code.functions) n (freed u rm) k → Counted rs (left_costs core n lv.level u ((x, v) ∷ c.env) k) sh
+      → resume core n k (rest_means core n u ((x, v) ∷ c.env)) ≡ owed.all → rest_sides core n lv.level u c.env (sides_of core n (level_after lv.level u) k) ≡ owed.sides → lv.pars ≡ rest_pars u (pars_of k) → lv.side ≡ side_of k → ty ≡ root k → owed.ty ≡ root k → HasRoom (times n (nesting code)) u rm → AllRoom (nesting code) n (freed u rm) k → Counted rs (left_costs core n lv.level u ((x, v) ∷ c.env) k) sh
       → AtRest core code owed own sh s (at_rest lv ty rm ip (set sl x w) fs n rs ts) u (with_var c x so v pl) k
   bound_comes s ip sl fs n rs ts x so u c k w pl v nf wt st has places rooms tails small ow sd pa si res oty ne ar counted = record {
     ready = refl;
@@ -372,7 +372,7 @@ module _ (core : CoreTree) (code : CodeTree) (owed : Owed) (own : Owned) (sh : S
   -- a field, at a, where its slot is as it should be
   pub field_comes : (s : Store) (ip : ℕ) (sl : Slots) (fs : List Frame) (n : ℕ) (rs : List OpenRegion) (ts : List ℕ) (x t : ℕ) (u : Rest) (c : Ctx) (k : Kont) (a : ℕ) (v : Datum) → Waits core code s sl ip x (Placed t) u c (more c.dest x) a k → Stack core code s k sl fs c.front rs → slot sl x ≡ a → IsDue c.dest t
       → Dec code.laid s a t v (cursor rs) → Apart own s (λ q. (head_covers code.laid c c.dest q + kont_covers code.laid k q) + (rest_covers rs q + tail_covers ts q)) → HaveRoom rs → TailsHaveRoom ts → IsSmall s
-      → resume core n k (rest_means core n u ((x, v) ∷ c.env)) ≡ owed.all → rest_sides core n lv.level u c.env (sides_of core n (level_after lv.level u) k) ≡ owed.sides → lv.pars ≡ rest_pars u (pars_of k) → lv.side ≡ side_of k → ty ≡ root k → owed.ty ≡ root k → HasRoom (times n (widest code.functions)) u rm → AllRoom (widest code.functions) n (freed u rm) k → Counted rs (left_costs core n lv.level u ((x, v) ∷ c.env) k) sh
+      → resume core n k (rest_means core n u ((x, v) ∷ c.env)) ≡ owed.all → rest_sides core n lv.level u c.env (sides_of core n (level_after lv.level u) k) ≡ owed.sides → lv.pars ≡ rest_pars u (pars_of k) → lv.side ≡ side_of k → ty ≡ root k → owed.ty ≡ root k → HasRoom (times n (nesting code)) u rm → AllRoom (nesting code) n (freed u rm) k → Counted rs (left_costs core n lv.level u ((x, v) ∷ c.env) k) sh
       → AtRest core code owed own sh s (at_rest lv ty rm ip sl fs n rs ts) u (with_dest (with_var c x (Placed t) v a) (more c.dest x)) k
   field_comes s ip sl fs n rs ts x t u c k a v w st at due dec places rooms tails small ow sd pa si res oty ne ar counted =
       let place : IsPlaced code.laid s t (slot sl x) a v = record { same = at; stands = record { end = cursor rs; dec = dec } } in

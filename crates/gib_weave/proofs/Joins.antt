@@ -18,7 +18,7 @@ use Rattle.gib_code.specs.declared.answer.Answer.{Answer}
 use Rattle.gib_code.specs.declared.answer.Answer.TheVariants as answer
 use Rattle.gib_code.specs.Program.{CodeTree}
 use Rattle.gib_core.specs.Low.{kind_of}
-use Rattle.gib_machine.specs.Machine.{times, widest, Slots, slot, set, Frame, Open as OpenRegion, State, Doing, Ready, Opening, Over, Unwinding, Joining, Par, Waiting, Ask, Silent, Draw, AtFork, AtJoin, next, goes_on, begin, cursor, room, enters, forks_at, joins_at, backs_at, ends_side, answer_of, unwound, left_starts, right_of, side_start, takes, taken, joins, joined, answered, at_place, points, doing, ToTree}
+use Rattle.gib_machine.specs.Machine.{times, Slots, slot, set, Frame, Open as OpenRegion, State, Doing, Ready, Opening, Over, Unwinding, Joining, Par, Waiting, Ask, Silent, Draw, AtFork, AtJoin, next, goes_on, begin, cursor, room, enters, forks_at, joins_at, backs_at, ends_side, answer_of, unwound, left_starts, right_of, side_start, takes, taken, joins, joined, answered, at_place, points, doing, ToTree}
 use Rattle.gib_core.specs.Cost.{Cost, nothing, plus, one_item}
 use Rattle.gib_weave.proofs.Counts.{goes_on_counted, joins_counted}
 use Rattle.gib_core.specs.Fits.{put, Sort, Absent, Scalar, Placed, Dest, more, cased, loosen, Fits}

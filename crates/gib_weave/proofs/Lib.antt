@@ -20,6 +20,7 @@ pub mod Switches
 pub mod Forks
 pub mod Joins
 pub mod Step
+pub mod Nests
 pub mod Starts
 pub mod Others
 pub mod Bills

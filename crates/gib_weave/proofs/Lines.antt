@@ -10,7 +10,7 @@ use Rattle.gib_core.specs.declared.atom.Kind.{Kind}
 use Rattle.gib_core.specs.Tree.{Term, Then, One, On, CoreTree}
 use Rattle.gib_core.specs.Meaning.{from_there, having, Went}
 use Rattle.gib_code.specs.Program.{CodeTree}
-use Rattle.gib_machine.specs.Machine.{widest, Slots, slot, set}
+use Rattle.gib_machine.specs.Machine.{nesting, Slots, slot, set}
 use Rattle.gib_core.specs.Fits.{put, Sort, Outside, Absent, Scalar, Held, Placed, Loose, AtHead, Field, Scope, is_there, has_slot, loosen_one, loosen, Dest, Nowhere, Empty, Open, dest_type, cased}
 use Rattle.gib_weave.specs.Environment.{Ctx, StandsAt, Has, HasAll, IsDest, Matches}
 use Rattle.gib_weave.specs.Continuing.{Rest, Plain, Part, Meet, Leave, Last, KSide, KLast, Follows, Next, RestCode, RestFits, rest_cased, rest_nest, Kont, KEnd, KHere, KRegion, KScalar, KCall, KCallScalar, Goes, Under, AllUnder, Calm, AllCalm, due, end_of}
@@ -218,7 +218,7 @@ side_means core n kind x ty t u env = from_having x.0 env (means core n t env) (
 
 -- a line waits for the value of x, which a term with such cases makes
 pub waiting : (core : CoreTree) (code : CodeTree) (s : Store) (sl : Slots) (at x : ℕ) (so : Sort) (t : Term) (u : Rest) (c : Ctx) (after : Dest) (cur : ℕ) (k : Kont)
-    → RestCode core code c.scope at u (end_of k) → RestFits core u (put (loosen (cased t) c.scope) x so) after → c.scope x ≡ Absent → Matches code.laid s sl c cur → AllUnder c.scope c.env k → AllCalm (rest_cased u) k → dest_type c.dest ≡ due k → Follows x u k → rest_nest u ≤ widest code.functions
+    → RestCode core code c.scope at u (end_of k) → RestFits core u (put (loosen (cased t) c.scope) x so) after → c.scope x ≡ Absent → Matches code.laid s sl c cur → AllUnder c.scope c.env k → AllCalm (rest_cased u) k → dest_type c.dest ≡ due k → Follows x u k → rest_nest u ≤ nesting code
     → Waits core code s sl at x so u (loosened (cased t) c) after cur k
 waiting core code s sl at x so t u c after cur k low fits new m under calm kind free nar = record {
   free = free;

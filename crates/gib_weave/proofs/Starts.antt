@@ -8,23 +8,19 @@ use Rattle.gib_types.specs.Tree.{Datum}
 use Rattle.gib_syntax.specs.Meaning.{is_scalar, value_in}
 use Rattle.gib_mem.specs.Memory.{Store, open_chunk}
 use Rattle.gib_region.specs.Region.{rest}
-use Rattle.gib_core.specs.Tree.{Term, CoreTree, FunctionTerm}
-use Rattle.gib_core.specs.Numbering.{binders, bind_binders, side_binders, branch_binders}
-use Rattle.gib_core.specs.Tree as t
-use Rattle.gib_core.specs.declared.atom.Variable.{Variable}
-use Rattle.gib_core.specs.declared.atom.Kind.TheVariants as kind
-use Rattle.std.proofs.lemmas.List.{length-append}
+use Rattle.gib_core.specs.Tree.{CoreTree, FunctionTerm}
+use Rattle.gib_core.specs.Numbering.{binders}
 use Rattle.gib_core.specs.Meaning.{function_at, core_run}
 use Rattle.gib_code.specs.declared.instruction.Entry.{Entry}
 use Rattle.gib_code.specs.Program.{CodeTree}
 use Rattle.gib_core.specs.Low as low
 use Rattle.gib_core.specs.Low.{Low, LowFunctions, IsLowered, End, Returns, function_number, laid_of, Field as StoredField}
-use Rattle.gib_machine.specs.Machine.{times, widest, Slots, slot, Open as OpenRegion, State, Opening, begins, latest, cursor, frame_words, start_at, slots_at}
+use Rattle.gib_machine.specs.Machine.{times, nesting, widest, Slots, slot, Open as OpenRegion, State, Opening, begins, latest, cursor, frame_words, start_at, slots_at}
 use Rattle.gib_core.specs.Cost.{Cost, plus, one_region}
 use Rattle.gib_weave.proofs.Counts.{goes_on_counted, same_most, Paid, tail_counted, chunk_counted}
 use Rattle.gib_core.specs.Fits.{Sort, Outside, Absent, Scalar, Placed, Field, Scope, Dest, dest_of, dest_type, param_sort, body_scope, AllFit}
 use Rattle.gib_weave.specs.Environment.{Ctx, Has, HasAll, IsDest}
-use Rattle.gib_weave.specs.Continuing.{Plain, KEnd, Agrees, nest, bind_nest, side_nest, branches_nest}
+use Rattle.gib_weave.specs.Continuing.{Plain, KEnd, Agrees}
 use Rattle.gib_weave.specs.Paying.{Share, AtMost, Counted, left_costs, region_of}
 use Rattle.gib_weave.specs.Places.{within, Owned, with_chunk, rest_covers, tail_covers, TailsHaveRoom, IsSmall, IsNew, Apart, HasRoom, freed}
 use Rattle.gib_weave.specs.Stacks.{IsRoot}
@@ -36,6 +32,7 @@ use Rattle.gib_weave.proofs.Places.{Apart-less, Apart-open, open-grows, open-sma
 use Rattle.gib_weave.proofs.Grow.{StandsAt-grows}
 use Rattle.gib_weave.proofs.Binds.{frame-length, no_slot, nothing_bound, result_dest, result_type, no_result_cover}
 use Rattle.gib_weave.proofs.Ends.{at_rest}
+use Rattle.gib_weave.proofs.Nests.{nests_within}
 
 clash : true ≡ false → ⊥
 clash h = absurd cc
@@ -56,48 +53,6 @@ body_field (suc n) (p ∷ ps) (suc y) = body_field n ps y
 
 no_fields : (fs : List StoredField) (n : ℕ) (ps : List Ty) → Agrees fs (body_scope n ps)
 no_fields fs n ps = record { agrees = λ y t z x k p e. absurd (clash (sym (ap is_field e) ∙ body_field n ps y)) }
-
--- A term has no more regions open than it binds variables.
-
-side_binds : (s : t.Side) → 1 ≤ length (side_binders s)
-side_binds (t.On kd x ty u) = omega arith
-
-mutual
-  nest_below : (t : Term) → nest t ≤ length (binders t)
-  nest_below (t.Then b u) = let i = bind_nest_below b in let j = nest_below u in let e = length-append (bind_binders b) (binders u) in omega (arith, i, j, e)
-  nest_below (t.Write h k ss ps) = omega arith
-  nest_below (t.Point x) = omega arith
-  nest_below (t.CallTerm f xs) = omega arith
-  nest_below (t.Give x) = omega arith
-  nest_below (t.CaseTerm x bs) = branches_nest_below bs
-  nest_below (t.IfTerm x u v) = let i = nest_below u in let j = nest_below v in let e = length-append (binders u) (binders v) in omega (arith, i, j, e)
-
-  bind_nest_below : (b : t.Bind) → bind_nest b ≤ length (bind_binders b)
-  bind_nest_below (t.Past h k) = omega arith
-  bind_nest_below (t.One s) = side_nest_below s
-  bind_nest_below (t.Both false l r) = let i = side_nest_below l in let j = side_nest_below r in let e = length-append (side_binders l) (side_binders r) in omega (arith, i, j, e)
-  bind_nest_below (t.Both true l r) = let i = side_nest_below l in let j = side_nest_below r in let e = length-append (side_binders l) (side_binders r) in let a = side_binds l in let b = side_binds r in omega (arith, i, j, e, a, b)
-  bind_nest_below (t.Prim x f y z) = omega arith
-  bind_nest_below (t.Reach y access) = omega arith
-
-  side_nest_below : (s : t.Side) → side_nest s ≤ length (side_binders s)
-  side_nest_below (t.On kind.Here x ty u) = let i = nest_below u in omega (arith, i)
-  side_nest_below (t.On kind.Region x ty u) = let i = nest_below u in omega (arith, i)
-  side_nest_below (t.On kind.Scalar x ty u) = let i = nest_below u in omega (arith, i)
-
-  branches_nest_below : (bs : t.Branches) → branches_nest bs ≤ length (branch_binders bs)
-  branches_nest_below t.NoBranch = omega arith
-  branches_nest_below (t.BranchThen k xs u bs) =
-      let i = nest_below u in
-      let j = branches_nest_below bs in
-      let e = length-append (map (λ (x : Variable). x.0) xs) (binders u ++ branch_binders bs) in
-      let f = length-append (binders u) (branch_binders bs) in
-      omega (arith, i, j, e, f)
-
-slots_below : (es : List Entry) (i : ℕ) → slots_at es i ≤ widest es
-slots_below [] i = omega arith
-slots_below (e ∷ es) zero = omega arith
-slots_below (e ∷ es) (suc i) = let h = slots_below es i in omega (arith, h)
 
 -- The code of a function of a name.
 
@@ -141,7 +96,7 @@ lowered_bodies core code lo fit = record {
         low = record { fields = []; until = i.until; low = i.low; agree = no_fields [] n g.parameters };
         fits = subst (λ (m : ℕ). Rattle.gib_core.specs.Fits.Fits core g.body (body_scope m g.parameters) (dest_of g.result)) (sym i.slots) ft.fits;
         enough = subst (λ (m : ℕ). length g.parameters ≤ m) (sym i.slots) ft.enough;
-        nests = let a = nest_below g.body in let b = slots_below code.functions (function_number core.functions f) in let e = i.slots in omega (arith, a, b, e);
+        nests = nests_within core code [] _ g.body Returns i.until i.low;
       };
 }
 
@@ -152,7 +107,7 @@ lowered_main core code lo fit =
     record {
       low = record { fields = []; until = i.until; low = i.low; agree = no_fields [] n (core.main.parameter ∷ []) };
       fits = subst (λ (m : ℕ). Rattle.gib_core.specs.Fits.Fits core core.main.body (body_scope m (core.main.parameter ∷ [])) (dest_of core.main.result)) (sym i.slots) fit.main.fits;
-      nests = let a = nest_below core.main.body in let b = slots_below code.functions (length core.functions) in let e = i.slots in omega (arith, a, b, e);
+      nests = nests_within core code [] _ core.main.body Returns i.until i.low;
     }
 
 -- The root.
@@ -186,7 +141,7 @@ root_of (Tree t) a = refl
 module _ (core : CoreTree) (code : CodeTree) (main : IsMain core code) (own : Owned) (w depth level rm : ℕ) (v : Datum) where
   -- main's body is next
   begun : (s : Store) (rs : List OpenRegion) (tails : List ℕ) (a : ℕ) → IsArgument code.laid s core.main.parameter w v → IsRoot core.main.result a rs → IsDest code.laid s (frame_words (slots_at code.functions (length core.functions)) (w ∷ [])) (main_line (slots_at code.functions (length core.functions)) core.main.parameter w v (dest_of core.main.result) a) (dest_of core.main.result) (cursor rs)
-      → Rattle.gib_weave.specs.Places.HaveRoom rs → TailsHaveRoom tails → Apart own s (λ q. rest_covers rs q + tail_covers tails q) → IsSmall s → times (suc depth) (widest code.functions) ≤ rm → (sh : Share) → Counted rs (left_costs core depth level (Plain core.main.body) ((0, v) ∷ []) (KEnd core.main.result)) sh
+      → Rattle.gib_weave.specs.Places.HaveRoom rs → TailsHaveRoom tails → Apart own s (λ q. rest_covers rs q + tail_covers tails q) → IsSmall s → times (suc depth) (nesting code) ≤ rm → (sh : Share) → Counted rs (left_costs core depth level (Plain core.main.body) ((0, v) ∷ []) (KEnd core.main.result)) sh
       → Safe core code (record { ty = core.main.result; all = core_run core depth v; sides = [] }) own sh s (at_rest (record { level = level; pars = []; side = None; width = widest code.functions }) core.main.result rm (start_at code.functions (length core.functions)) (frame_words (slots_at code.functions (length core.functions)) (w ∷ [])) [] depth rs tails)
   begun s rs tails a arg ro de rooms tr ap9 sm le sh counted =
       let n = slots_at code.functions (length core.functions) in
@@ -235,7 +190,7 @@ pub root_starts : (core : CoreTree) (code : CodeTree) → IsMain core code → (
 root_starts core code main own s w depth level v tails arg tr ap9 sm sh counted = go core.main.result refl
   where
     from_ty : Ty → State
-    from_ty u = record { ip = start_at code.functions (length core.functions); words = frame_words (slots_at code.functions (length core.functions)) (w ∷ []); frames = []; depth = depth; level = level; pars = []; side = None; regions = []; tails = tails; room = suc (times (suc depth) (widest code.functions)); width = widest code.functions; result = core.main.result; doing = first_doing u }
+    from_ty u = record { ip = start_at code.functions (length core.functions); words = frame_words (slots_at code.functions (length core.functions)) (w ∷ []); frames = []; depth = depth; level = level; pars = []; side = None; regions = []; tails = tails; room = suc (times (suc depth) (nesting code)); width = widest code.functions; result = core.main.result; doing = first_doing u }
 
     scalar_root : (u : Ty) (a : ℕ) → is_scalar u ≡ true → IsRoot u a []
     scalar_root Whole a h = tt
@@ -247,8 +202,8 @@ root_starts core code main own s w depth level v tails arg tr ap9 sm sh counted 
     scalar_dest laid sl c Truth h = tt
     scalar_dest laid sl c (Tree t) h = absurd cc
 
-    scalar : (u : Ty) → core.main.result ≡ u → is_scalar u ≡ true → Safe core code (record { ty = core.main.result; all = core_run core depth v; sides = [] }) own sh s (at_rest (record { level = level; pars = []; side = None; width = widest code.functions }) core.main.result (suc (times (suc depth) (widest code.functions))) (start_at code.functions (length core.functions)) (frame_words (slots_at code.functions (length core.functions)) (w ∷ [])) [] depth [] tails)
-    scalar u e h = begun core code main own w depth level (suc (times (suc depth) (widest code.functions))) v s [] tails 0 arg (scalar_root core.main.result 0 (ap is_scalar e ∙ h)) (scalar_dest code.laid _ _ core.main.result (ap is_scalar e ∙ h)) tt tr (Apart-less ap9 (λ q. omega arith)) sm (omega arith) sh (goes_on_counted (record { regions = omega arith; items = omega arith }) counted)
+    scalar : (u : Ty) → core.main.result ≡ u → is_scalar u ≡ true → Safe core code (record { ty = core.main.result; all = core_run core depth v; sides = [] }) own sh s (at_rest (record { level = level; pars = []; side = None; width = widest code.functions }) core.main.result (suc (times (suc depth) (nesting code))) (start_at code.functions (length core.functions)) (frame_words (slots_at code.functions (length core.functions)) (w ∷ [])) [] depth [] tails)
+    scalar u e h = begun core code main own w depth level (suc (times (suc depth) (nesting code))) v s [] tails 0 arg (scalar_root core.main.result 0 (ap is_scalar e ∙ h)) (scalar_dest code.laid _ _ core.main.result (ap is_scalar e ∙ h)) tt tr (Apart-less ap9 (λ q. omega arith)) sm (omega arith) sh (goes_on_counted (record { regions = omega arith; items = omega arith }) counted)
 
     left : Cost
     left = left_costs core depth level (Plain core.main.body) ((0, v) ∷ []) (KEnd core.main.result)
@@ -259,17 +214,17 @@ root_starts core code main own s w depth level v tails arg tr ap9 sm sh counted 
     in_tail : (t : Ty) → core.main.result ≡ t → first_doing t ≡ Opening → (a : ℕ) → Paid (record { start = a; cur = a } ∷ []) (left_costs core depth level (Plain core.main.body) ((0, v) ∷ []) (KEnd core.main.result)) sh 0
     in_tail t e f a = tail_counted (record { start = a; cur = a }) [] (root_costs core depth level v core.main.result) left sh (dearer core depth level v t e f) counted
 
-    packed : (o : Option (List ℕ × ℕ)) → latest tails ≡ o → SplitsAt tails o → (t : Ty) → core.main.result ≡ t → first_doing t ≡ Opening → Safe core code (record { ty = core.main.result; all = core_run core depth v; sides = [] }) own sh s (record { ip = start_at code.functions (length core.functions); words = frame_words (slots_at code.functions (length core.functions)) (w ∷ []); frames = []; depth = depth; level = level; pars = []; side = None; regions = []; tails = tails; room = suc (times (suc depth) (widest code.functions)); width = widest code.functions; result = core.main.result; doing = Opening })
+    packed : (o : Option (List ℕ × ℕ)) → latest tails ≡ o → SplitsAt tails o → (t : Ty) → core.main.result ≡ t → first_doing t ≡ Opening → Safe core code (record { ty = core.main.result; all = core_run core depth v; sides = [] }) own sh s (record { ip = start_at code.functions (length core.functions); words = frame_words (slots_at code.functions (length core.functions)) (w ∷ []); frames = []; depth = depth; level = level; pars = []; side = None; regions = []; tails = tails; room = suc (times (suc depth) (nesting code)); width = widest code.functions; result = core.main.result; doing = Opening })
     packed None q h t e f =
-        moves (draws (λ d. (in_chunk t e f d).share) (ap (begins (record { ip = start_at code.functions (length core.functions); words = frame_words (slots_at code.functions (length core.functions)) (w ∷ []); frames = []; depth = depth; level = level; pars = []; side = None; regions = []; tails = tails; room = times (suc depth) (widest code.functions); width = widest code.functions; result = core.main.result; doing = Opening }) (λ t a. t)) q)
+        moves (draws (λ d. (in_chunk t e f d).share) (ap (begins (record { ip = start_at code.functions (length core.functions); words = frame_words (slots_at code.functions (length core.functions)) (w ∷ []); frames = []; depth = depth; level = level; pars = []; side = None; regions = []; tails = tails; room = times (suc depth) (nesting code); width = widest code.functions; result = core.main.result; doing = Opening }) (λ t a. t)) q)
         (λ d new. (in_chunk t e f d).spends)
-        (λ d new. begun core code main (with_chunk own d) w depth level (times (suc depth) (widest code.functions)) v (open_chunk s d) (record { start = 4096 * d; cur = 4096 * d } ∷ []) [] (4096 * d) (argument_grows code.laid s (open_chunk s d) core.main.parameter w v (open-grows s d new) arg)
+        (λ d new. begun core code main (with_chunk own d) w depth level (times (suc depth) (nesting code)) v (open_chunk s d) (record { start = 4096 * d; cur = 4096 * d } ∷ []) [] (4096 * d) (argument_grows code.laid s (open_chunk s d) core.main.parameter w v (open-grows s d new) arg)
         (root_of core.main.result (4096 * d)) (result_dest code.laid (open_chunk s d) _ _ core.main.result (4096 * d) refl) (omega arith, tt) tt
         (Apart-open d new ap9 (λ q. let i : rest (4096 * d) ≡ 4096 = omega arith in let j = ap (λ (z : ℕ). within (4096 * d) z q) i in omega (arith, j))) (open-small s d new sm) (omega arith) (in_chunk t e f d).share (in_chunk t e f d).counted))
     packed (Some p) q h t e f =
         let ro = h.rooms tr in
-        moves (silent (ap (begins (record { ip = start_at code.functions (length core.functions); words = frame_words (slots_at code.functions (length core.functions)) (w ∷ []); frames = []; depth = depth; level = level; pars = []; side = None; regions = []; tails = tails; room = times (suc depth) (widest code.functions); width = widest code.functions; result = core.main.result; doing = Opening }) (λ t a. t)) q)
-        (counts (in_tail t e f p.1).spends (begun core code main own w depth level (times (suc depth) (widest code.functions)) v s (record { start = p.1; cur = p.1 } ∷ []) p.0 p.1 arg
+        moves (silent (ap (begins (record { ip = start_at code.functions (length core.functions); words = frame_words (slots_at code.functions (length core.functions)) (w ∷ []); frames = []; depth = depth; level = level; pars = []; side = None; regions = []; tails = tails; room = times (suc depth) (nesting code); width = widest code.functions; result = core.main.result; doing = Opening }) (λ t a. t)) q)
+        (counts (in_tail t e f p.1).spends (begun core code main own w depth level (times (suc depth) (nesting code)) v s (record { start = p.1; cur = p.1 } ∷ []) p.0 p.1 arg
         (root_of core.main.result p.1) (result_dest code.laid s _ _ core.main.result p.1 refl) (ro.1, tt) ro.0
         (Apart-less ap9 (λ q. let i = h.covers q in omega (arith, i))) sm (omega arith) (in_tail t e f p.1).share (in_tail t e f p.1).counted)))
 

@@ -14,7 +14,7 @@ use Rattle.gib_code.specs.Program.{CodeTree}
 use Rattle.gib_core.specs.Fits.{dest_type}
 use Rattle.gib_region.specs.Count.{Count, Balanced}
 use Rattle.gib_core.specs.Cost.{Cost, plus, own}
-use Rattle.gib_machine.specs.Machine.{State, Ready, Over, Unwinding, Par, Waiting, times, widest, left_starts, right_of, side_start, takes, joins, Ask, Silent, Get, Put, Draw, AtFork, AtJoin, Ended, next, cursor}
+use Rattle.gib_machine.specs.Machine.{State, Ready, Over, Unwinding, Par, Waiting, times, nesting, left_starts, right_of, side_start, takes, joins, Ask, Silent, Get, Put, Draw, AtFork, AtJoin, Ended, next, cursor}
 use Rattle.gib_weave.specs.Environment.{Ctx, Matches, StandsAt}
 use Rattle.gib_weave.specs.Continuing.{AllCalm, AllUnder, Kont, Next, Plain, Rest, RestCode, RestFits, due, end_of, pars_of, rest_cased, rest_nest, rest_pars, root, side_of}
 use Rattle.gib_weave.specs.Owing.{Debt, Owed, level_after, rest_means, rest_sides, resume, sides_of}
@@ -44,9 +44,9 @@ pub record AtRest (core : CoreTree) (code : CodeTree) (owed : Owed) (own : Owned
   pub result : m.result ≡ root k
   pub type : owed.ty ≡ root k
   pub counted : Counted m.regions (left_costs core m.depth m.level u c.env k) sh
-  pub narrow : rest_nest u ≤ widest code.functions
-  pub nests : HasRoom (times m.depth (widest code.functions)) u m.room
-  pub all_room : AllRoom (widest code.functions) m.depth (freed u m.room) k
+  pub narrow : rest_nest u ≤ nesting code
+  pub nests : HasRoom (times m.depth (nesting code)) u m.room
+  pub all_room : AllRoom (nesting code) m.depth (freed u m.room) k
 
 -- A task at the start of a term.
 abbrev pub AtTerm : CoreTree → CodeTree → Owed → Owned → Share → Store → State → Term → Ctx → Kont → Type 0

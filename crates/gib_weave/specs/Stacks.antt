@@ -9,7 +9,7 @@ use Rattle.gib_code.specs.Instruction.{Done, Back}
 use Rattle.gib_code.specs.Program.{CodeTree, IsAt}
 use Rattle.gib_core.specs.Fits.{Absent, Dest, IsDue, Placed, Scalar, Sort, dest_type, more, put}
 use Rattle.gib_core.specs.Low.{ending}
-use Rattle.gib_machine.specs.Machine.{Slots, slot, Frame, Open as OpenRegion, widest, cursor}
+use Rattle.gib_machine.specs.Machine.{Slots, slot, Frame, Open as OpenRegion, nesting, cursor}
 use Rattle.gib_weave.specs.Environment.{Ctx, Matches}
 use Rattle.gib_weave.specs.Continuing.{AllCalm, AllUnder, Follows, KCall, KCallScalar, KEnd, KHere, KLast, KRegion, KScalar, KSide, Kont, Rest, RestCode, RestFits, due, end_of, rest_cased, rest_nest}
 
@@ -23,7 +23,7 @@ pub record Waits (core : CoreTree) (code : CodeTree) (s : Store) (sl : Slots) (a
   pub calm : AllCalm (rest_cased u) k
   pub kind : dest_type c.dest ≡ due k
   pub free : Follows x u k
-  pub narrow : rest_nest u ≤ widest code.functions
+  pub narrow : rest_nest u ≤ nesting code
 
 -- Where the whole value is to stand.
 abbrev pub IsRoot : Ty → ℕ → List OpenRegion → Type 0

@@ -11,7 +11,7 @@ use Rattle.gib_core.specs.Meaning.{function_at}
 use Rattle.gib_code.specs.Program.{CodeTree}
 use Rattle.gib_core.specs.Fits.{Fits, body_scope, dest_of}
 use Rattle.gib_core.specs.Low.{laid_of, Returns, function_number}
-use Rattle.gib_machine.specs.Machine.{State, Doing, Ready, widest, whole_room, start_at, slots_at, frame_words, Opening}
+use Rattle.gib_machine.specs.Machine.{State, Doing, Ready, nesting, widest, whole_room, start_at, slots_at, frame_words, Opening}
 use Rattle.gib_weave.specs.Environment.{IsScalar, StandsAt}
 use Rattle.gib_weave.specs.Continuing.{IsCode, nest}
 
@@ -20,7 +20,7 @@ pub record IsBody (core : CoreTree) (code : CodeTree) (g : FunctionTerm) (i : �
   pub low : IsCode core code (body_scope (slots_at code.functions i) g.parameters) (start_at code.functions i) g.body Returns
   pub fits : Fits core g.body (body_scope (slots_at code.functions i) g.parameters) (dest_of g.result)
   pub enough : length g.parameters ≤ slots_at code.functions i
-  pub nests : nest g.body ≤ widest code.functions
+  pub nests : nest g.body ≤ nesting code
 
 -- The code of each function is that of its body, which fits.
 pub record AreBodies (core : CoreTree) (code : CodeTree) : Type 0 where
@@ -32,7 +32,7 @@ pub record AreBodies (core : CoreTree) (code : CodeTree) : Type 0 where
 pub record IsMain (core : CoreTree) (code : CodeTree) : Type 0 where
   pub low : IsCode core code (body_scope (slots_at code.functions (length core.functions)) (core.main.parameter ∷ [])) (start_at code.functions (length core.functions)) core.main.body Returns
   pub fits : Fits core core.main.body (body_scope (slots_at code.functions (length core.functions)) (core.main.parameter ∷ [])) (dest_of core.main.result)
-  pub nests : nest core.main.body ≤ widest code.functions
+  pub nests : nest core.main.body ≤ nesting code
 
 -- A word is the argument.
 abbrev pub IsArgument : LaidOut → Store → Ty → ℕ → Datum → Type 0
