@@ -6,9 +6,6 @@ ghost use Rattle.gib_machine.specs.Items.{Bytes, bytes_of};
 
 use std::marker::Model;
 
-/// How many bytes an item may have.
-const ROOM: usize = 128;
-
 /// At most 128 bytes, of which some are put.
 #[derive(Drop)]
 pub struct Item {

@@ -136,16 +136,16 @@ fn one_more(count: u32) -> Result<u32, Memory>
     }
 }
 
-/// How many regions and `par`s are open behind an instruction, before which `open` are.
-fn open_behind(open: u32, instr: &Instr) -> Result<u32, Memory>
-    ensures { IfOk result (λ behind. behind ≡ m.open_behind open (instruction_of instr.now)) }
+/// How many regions and `par`s are open behind an instruction, before which `before` are.
+fn open_behind(before: u32, instr: &Instr) -> Result<u32, Memory>
+    ensures { IfOk result (λ behind. behind ≡ m.open_behind before (instruction_of instr.now)) }
 {
     match instr {
-        Instr::Begin(_) => one_more(open),
-        Instr::Fork { .. } => one_more(open),
-        Instr::Done => Ok(open.saturating_sub(1)),
-        Instr::Back => Ok(open.saturating_sub(1)),
-        _ => Ok(open),
+        Instr::Begin(_) => one_more(before),
+        Instr::Fork { .. } => one_more(before),
+        Instr::Done => Ok(before.saturating_sub(1)),
+        Instr::Back => Ok(before.saturating_sub(1)),
+        _ => Ok(before),
     }
 }
 
@@ -154,14 +154,14 @@ fn nesting(instructions: &[Instr]) -> Result<u32, Memory>
     ensures { IfOk result (λ most. most ≡ nesting_from 0 (map instruction_of instructions.now)) }
 {
     let mut rest = instructions;
-    let mut open = 0;
+    let mut current = 0;
     let mut most = 0;
     'instructions: while let [instr, after @ ..] = rest {
-        most = most.max(open);
-        open = open_behind(open, instr)?;
+        most = most.max(current);
+        current = open_behind(current, instr)?;
         rest = after;
     }
-    Ok(most.max(open))
+    Ok(most.max(current))
 }
 
 /// A machine that begins so with these first words; the other slots are 0.

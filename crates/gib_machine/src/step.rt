@@ -1,10 +1,11 @@
 //! One micro-step, by the running instruction and how far it is.
 
-ghost use Rattle.std.specs.Prelude.{◌≡◌, ◌<◌, ◌+◌, ◌^◌, ℕ, Some, slice_get};
+ghost use Rattle.std.specs.Prelude.{◌≡◌, ◌<◌, ◌+◌, ◌^◌, ℕ, List, Some, slice_get};
+ghost use Rattle.gib_mem.specs.Memory.{Memory};
 ghost use Rattle.gib_code.specs.Instruction.{instruction_of, IsFine};
 ghost use Rattle.gib_machine.specs.Machine.{begin, next, widest};
 ghost use Rattle.gib_code.specs.Program.{Runs};
-ghost use Rattle.gib_machine.specs.Stepping.{with_tails, Made, Can, CanStep, IsSmallAsk};
+ghost use Rattle.gib_machine.specs.Stepping.{with_tails, Made, Can, CanStep, IsSmallAsk, IsSilent, IsFlow};
 
 use crate::starting::ForkParts;
 use crate::state::{Doing, Machine};
@@ -91,7 +92,7 @@ impl Machine {
         self.begins_with(code, &instructions[place], mem, tails)
     }
 
-    /// An instruction begins.
+    /// An instruction begins; here those that ask the memory for something.
     fn begins_with<M: Mem>(
         &mut self,
         code: &Code,
@@ -107,24 +108,12 @@ impl Machine {
         ensures { Made (begin code.now (with_tails self.old tails.old) (Some (instruction_of instr.now))) (with_tails self.old tails.old) (with_tails self.new tails.new) (M.view mem.old) (M.view mem.new) result }
     {
         match instr {
-            Instr::Move { to, from } => self.moves(*to, *from),
-            Instr::Operate {
-                to,
-                operation,
-                left,
-                right,
-            } => { self.operates(*to, *operation, *left, *right) }
-            Instr::Jump(label) => self.jumps(*label),
-            Instr::Unless { test, label } => self.jumps_unless(*test, *label),
             Instr::Switch { tree, arms } => self.switches(*tree, arms, mem),
             Instr::Whole { to, tree, place } => self.reads(*to, *tree, *place, mem),
             Instr::Truth { to, tree, place } => self.reads_truth(*to, *tree, *place, mem),
-            Instr::First { to, tree, place } => self.reaches_first(*to, *tree, *place),
             Instr::Offset { to, tree, place } => self.reads(*to, *tree, *place, mem),
             Instr::Skip { to, from } => self.skips(code, *to, *from, mem),
             Instr::Begin(to) => self.begins(*to, mem, tails),
-            Instr::Done => self.finishes(tails),
-            Instr::Here(to) => self.stands_here(*to),
             Instr::Past { head, constructor } => self.passes(code, *head, *constructor, mem),
             Instr::Fill {
                 head,
@@ -141,6 +130,42 @@ impl Machine {
                 let target = self.frames.slot(*from);
                 self.points(target, mem)
             }
+            _ => self.begins_silent(code, instr, tails),
+        }
+    }
+
+    /// An instruction that asks the memory for nothing; here those after which the next one follows, and the jumps.
+    fn begins_silent(&mut self, code: &Code, instr: &Instr, tails: &mut Tails) -> Turn
+        requires next { self.old.ip + 1 < 2 ^ 32 }
+        requires silent { IsSilent (instruction_of instr.now) }
+        requires made { self.old.width ≡ widest code.now.functions }
+        ensures { (v : Memory) → Made (begin code.now (with_tails self.old tails.old) (Some (instruction_of instr.now))) (with_tails self.old tails.old) (with_tails self.new tails.new) v v result }
+    {
+        match instr {
+            Instr::Move { to, from } => self.moves(*to, *from),
+            Instr::Operate {
+                to,
+                operation,
+                left,
+                right,
+            } => { self.operates(*to, *operation, *left, *right) }
+            Instr::Jump(label) => self.jumps(*label),
+            Instr::Unless { test, label } => self.jumps_unless(*test, *label),
+            Instr::First { to, tree, place } => self.reaches_first(*to, *tree, *place),
+            Instr::Done => self.finishes(tails),
+            Instr::Here(to) => self.stands_here(*to),
+            _ => self.begins_flow(code, instr),
+        }
+    }
+
+    /// An instruction that calls, returns, forks or joins.
+    fn begins_flow(&mut self, code: &Code, instr: &Instr) -> Turn
+        requires next { self.old.ip + 1 < 2 ^ 32 }
+        requires flow { IsFlow (instruction_of instr.now) }
+        requires made { self.old.width ≡ widest code.now.functions }
+        ensures { (v : Memory) (ts : List ℕ) → Made (begin code.now (with_tails self.old ts) (Some (instruction_of instr.now))) (with_tails self.old ts) (with_tails self.new ts) v v result }
+    {
+        match instr {
             Instr::Call {
                 function,
                 arguments,
@@ -167,6 +192,7 @@ impl Machine {
             }),
             Instr::Join => self.joins(),
             Instr::Back => self.goes_back(),
+            _ => unreachable!(),
         }
     }
 }

@@ -1,9 +1,8 @@
-use Rattle.std.proofs.Common.{List, refl, sym, ap, subst, ◌∙◌}
-use Rattle.std.specs.Prelude.{Some, None}
-use Rattle.gib_code.specs.declared.instruction.Operand.{Operand}
+use Rattle.std.proofs.Common.{sym, subst}
+use Rattle.std.specs.Prelude.{Some}
 use Rattle.gib_code.specs.declared.instruction.Instr.{Instr}
 use Rattle.gib_code.specs.Instruction.{instruction_of}
-use Rattle.gib_machine.specs.Machine.{State, words, called, begin}
+use Rattle.gib_machine.specs.Machine.{State, begin}
 use Rattle.gib_machine.specs.Stepping.{with_tails, Made}
 use Rattle.gib_machine.proofs.state.Machine.begins_with.Goals as goal
 
@@ -21,15 +20,3 @@ pub returns-in-Offset : goal.returns-in-Offset
 returns-in-Offset g c =
     let s : State = with_tails c.args.self.now c.args.tails.now in
     subst (λ (i : Instr). Made (begin c.args.code.now s (Some (instruction_of i))) s (with_tails c.reads-in-Offset.new.self c.args.tails.now) (g.M.Mem.view c.args.mem.now) (g.M.Mem.view c.reads-in-Offset.new.mem) c.reads-in-Offset.result) (sym c.in-Offset.is) (c.reads-in-Offset.ensures c.args.tails.now)
-
-pub returns-in-Call : goal.returns-in-Call
-returns-in-Call g c =
-    let s : State = with_tails c.args.self.now c.args.tails.now in
-    let e = c.calls.ensures.state c.args.tails.now ∙ ap (λ (l : List Operand). called c.args.code.now s c.in-Call.function (words c.args.self.now.words l) None c.args.self.now.depth) c.deref-in-Call.ensures.value in
-    subst (λ (i : Instr). Made (begin c.args.code.now s (Some (instruction_of i))) s (with_tails c.calls.new.self c.args.tails.now) (g.M.Mem.view c.args.mem.now) (g.M.Mem.view c.args.mem.now) c.calls.result) (sym c.in-Call.is) (c.calls.ensures.turn, e, refl)
-
-pub returns-in-CallScalar : goal.returns-in-CallScalar
-returns-in-CallScalar g c =
-    let s : State = with_tails c.args.self.now c.args.tails.now in
-    let e = c.calls-in-CallScalar.ensures.state c.args.tails.now ∙ ap (λ (l : List Operand). called c.args.code.now s c.in-CallScalar.function (words c.args.self.now.words l) (Some c.in-CallScalar.to) c.args.self.now.depth) c.deref-in-CallScalar.ensures.value in
-    subst (λ (i : Instr). Made (begin c.args.code.now s (Some (instruction_of i))) s (with_tails c.calls-in-CallScalar.new.self c.args.tails.now) (g.M.Mem.view c.args.mem.now) (g.M.Mem.view c.args.mem.now) c.calls-in-CallScalar.result) (sym c.in-CallScalar.is) (c.calls-in-CallScalar.ensures.turn, e, refl)
