@@ -1,6 +1,6 @@
 //! What becomes of a right side at a fork and at a join. Whoever runs the tasks decides it.
 
-ghost use Rattle.std.specs.Prelude.{◌≡◌, ◌<◌, ◌+◌, ◌-◌, ◌^◌, ℕ, List, drop, length, None, Some, IfOk, IfSome, IfNone, slice_get};
+ghost use Rattle.std.specs.Prelude.{◌≡◌, ◌<◌, ◌≤◌, ◌+◌, ◌-◌, ◌^◌, ℕ, List, drop, length, None, Some, IfOk, IfSome, IfNone, slice_get};
 ghost use Rattle.gib_machine.specs.Machine.{AtFork, AtJoin, next, fork_of, right_of, left_starts, takes, joins, unwound, is_unwinding};
 ghost use Rattle.gib_machine.specs.Machine as m;
 ghost use Rattle.gib_machine.specs.Starting.{forking_of, waiting_of};
@@ -37,7 +37,7 @@ impl Machine {
     }
 
     /// The right side of the fork at which the machine stands, for whoever begins it: it has the words of the frame, its calls, and a
-    /// level less.
+    /// level less. A machine for the same code has room for it.
     ///
     /// # Errors
     ///
@@ -45,7 +45,8 @@ impl Machine {
     #[tactic(auto, using(crate::proofs::Stands::fork_is_there, crate::proofs::Stands::fork_has_level))]
     pub fn side(&self, alloc: Global, code: &Code) -> Result<Side, Memory>
         requires fork { (tails : List ℕ) × (next code.now (with_tails self.now tails) ≡ AtFork) }
-        ensures { IfOk result (λ side. (tails : List ℕ) → waiting_of side ≡ right_of (with_tails self.now tails) (slice_get code.now.instructions self.now.ip)) }
+        ensures side { IfOk result (λ side. (tails : List ℕ) → waiting_of side ≡ right_of (with_tails self.now tails) (slice_get code.now.instructions self.now.ip)) }
+        ensures fits { IfOk result (λ side. length side.words.items ≤ self.now.width) }
     {
         match self.fork_here(code) {
             None => unreachable!(),
