@@ -164,6 +164,15 @@ fn nesting(instructions: &[Instr]) -> Result<u32, Memory>
     Ok(most.max(current))
 }
 
+/// As many slots as there are words, which are no more than a frame of the code may have.
+fn slots_for(code: &Code, words: &[u64]) -> u32
+    requires { length words.now ≤ m.widest code.now.functions }
+    ensures { result ≡ length words.now }
+{
+    let width = widest(code.functions());
+    words.len().min(width as usize) as u32
+}
+
 /// A machine that begins so with these first words; the other slots are 0.
 #[tactic(auto, using(crate::proofs::Starts::room_is))]
 fn begin(
@@ -229,7 +238,7 @@ impl Machine {
                 return begin(alloc, code, start, words, depth, level);
             }
         }
-        let slots = words.len() as u32;
+        let slots = slots_for(code, words);
         let start = match fork_to(code, start) {
             Some(fork) => Start {
                 label: fork.right,
@@ -261,7 +270,7 @@ impl Machine {
     {
         let start = Start {
             label: side.start,
-            slots: side.words.len() as u32,
+            slots: slots_for(code, &side.words),
             side: Some(side.variable),
             result: side.result,
             opens: opens_region(side.kind),
