@@ -2,6 +2,7 @@ pub mod Tops
 pub mod Fronts
 pub mod Windows
 pub mod Puts
+pub mod Gathers
 pub mod Latest
 pub mod Unwinds
 pub mod Steps

@@ -1,12 +1,13 @@
 //! Instructions that read: each gets a byte in a step.
 
-ghost use Rattle.std.specs.Prelude.{◌≡◌, ◌<◌, ◌≤◌, ◌+◌, ◌-◌, ◌^◌, ℕ, List, [], ◌∷◌, ◌++◌, take, slice_get};
+ghost use Rattle.std.specs.Prelude.{◌≡◌, ◌<◌, ◌≤◌, ◌+◌, ◌-◌, ◌^◌, ℕ, List, [], ◌∷◌, ◌++◌, slice_get};
 ghost use Rattle.gib_mem.specs.Memory.{byte};
 ghost use Rattle.gib_machine.specs.Machine.{Get, slot, sets, read_on, looked, followed, skip_on, skipped, skip_turned, arms_of};
 ghost use Rattle.gib_machine.specs.Machine as m;
-ghost use Rattle.gib_machine.specs.Stepping.{Makes};
+ghost use Rattle.gib_machine.specs.Stepping.{Makes, came};
 
-use crate::state::{Doing, Gathered, Machine};
+use crate::gathered::Gathered;
+use crate::state::{Doing, Machine};
 use crate::turn::Turn;
 use gib_code::{Arm, Code, Instr};
 use gib_mem::{INDIRECTION, Mem, POINTER_BYTES, REDIRECT};
@@ -42,17 +43,6 @@ fn arms_at(code: &Code, label: u32) -> &[Arm]
     }
 }
 
-/// Where a number begins of which no byte was read.
-fn gathered_none(at: u64) -> Gathered
-    ensures { result ≡ record { at = at; bytes = result.bytes; count = 0 } }
-{
-    Gathered {
-        at,
-        bytes: [0; 8],
-        count: 0,
-    }
-}
-
 impl Machine {
     /// A switch got a tag.
     fn looks(&mut self, tree: u32, arms: &[Arm], at: u64, tag: u8)
@@ -65,7 +55,7 @@ impl Machine {
         } else {
             self.doing = Doing::Following {
                 tree,
-                gathered: gathered_none(at + 1),
+                gathered: Gathered::empty(at + 1),
             };
         }
     }
@@ -100,23 +90,17 @@ impl Machine {
     fn followed(&mut self, tree: u32, gathered: Gathered, answer: u8)
         requires small { gathered.at < 2 ^ 44 }
         requires few { gathered.count ≤ 7 }
-        ensures { self.new ≡ followed self.old tree gathered.at (take gathered.count gathered.bytes ++ answer ∷ []) (7 - gathered.count) }
+        ensures { self.new ≡ followed self.old tree gathered.at (came gathered ++ answer ∷ []) (7 - gathered.count) }
     {
-        let mut bytes = gathered.bytes;
-        bytes[gathered.count as usize] = answer;
         if gathered.count == 7 {
             self.doing = Doing::Looking {
                 tree,
-                at: u64::from_le_bytes(bytes),
+                at: gathered.whole(answer),
             };
         } else {
             self.doing = Doing::Following {
                 tree,
-                gathered: Gathered {
-                    at: gathered.at + 1,
-                    bytes,
-                    count: gathered.count + 1,
-                },
+                gathered: gathered.with_byte(answer),
             };
         }
     }
@@ -124,7 +108,7 @@ impl Machine {
     pub(crate) fn follows<M: Mem>(&mut self, tree: u32, gathered: Gathered, mem: &mut M) -> Turn
         requires few { gathered.count ≤ 7 }
         requires known { (b : ℕ) × ((M.view mem.old).cells gathered.at ≡ byte b) }
-        ensures { Makes (λ s. Get gathered.at (λ b. followed s tree gathered.at (take gathered.count gathered.bytes ++ b ∷ []) (7 - gathered.count))) self.old self.new (M.view mem.old) (M.view mem.new) result }
+        ensures { Makes (λ s. Get gathered.at (λ b. followed s tree gathered.at (came gathered ++ b ∷ []) (7 - gathered.count))) self.old self.new (M.view mem.old) (M.view mem.new) result }
     {
         let answer = mem.get(gathered.at);
         self.followed(tree, gathered, answer);
@@ -137,15 +121,9 @@ impl Machine {
         requires small { at < 2 ^ 44 }
         ensures { self.new ≡ read_on self.old to at (answer ∷ []) 7 }
     {
-        let mut bytes = [0; 8];
-        bytes[0] = answer;
         self.doing = Doing::Reading {
             to,
-            gathered: Gathered {
-                at: at + 1,
-                bytes,
-                count: 1,
-            },
+            gathered: Gathered::empty(at).with_byte(answer),
         };
     }
 
@@ -166,20 +144,14 @@ impl Machine {
         requires next { self.old.ip + 1 < 2 ^ 32 }
         requires small { gathered.at < 2 ^ 44 }
         requires few { gathered.count ≤ 7 }
-        ensures { self.new ≡ read_on self.old to gathered.at (take gathered.count gathered.bytes ++ answer ∷ []) (7 - gathered.count) }
+        ensures { self.new ≡ read_on self.old to gathered.at (came gathered ++ answer ∷ []) (7 - gathered.count) }
     {
-        let mut bytes = gathered.bytes;
-        bytes[gathered.count as usize] = answer;
         if gathered.count == 7 {
-            self.sets(to, u64::from_le_bytes(bytes));
+            self.sets(to, gathered.whole(answer));
         } else {
             self.doing = Doing::Reading {
                 to,
-                gathered: Gathered {
-                    at: gathered.at + 1,
-                    bytes,
-                    count: gathered.count + 1,
-                },
+                gathered: gathered.with_byte(answer),
             };
         }
     }
@@ -188,7 +160,7 @@ impl Machine {
         requires next { self.old.ip + 1 < 2 ^ 32 }
         requires few { gathered.count ≤ 7 }
         requires known { (b : ℕ) × ((M.view mem.old).cells gathered.at ≡ byte b) }
-        ensures { Makes (λ s. Get gathered.at (λ b. read_on s to gathered.at (take gathered.count gathered.bytes ++ b ∷ []) (7 - gathered.count))) self.old self.new (M.view mem.old) (M.view mem.new) result }
+        ensures { Makes (λ s. Get gathered.at (λ b. read_on s to gathered.at (came gathered ++ b ∷ []) (7 - gathered.count))) self.old self.new (M.view mem.old) (M.view mem.new) result }
     {
         let answer = mem.get(gathered.at);
         self.read_next(to, gathered, answer);
@@ -233,7 +205,7 @@ impl Machine {
             self.doing = Doing::SkipTurn {
                 to,
                 due,
-                gathered: gathered_none(at + 1),
+                gathered: Gathered::empty(at + 1),
             };
         } else if tag == INDIRECTION {
             self.skip_on(to, at + POINTER_BYTES, due);
@@ -280,25 +252,19 @@ impl Machine {
         requires next { self.old.ip + 1 < 2 ^ 32 }
         requires small { gathered.at < 2 ^ 44 }
         requires few { gathered.count ≤ 7 }
-        ensures { self.new ≡ skip_turned self.old to due gathered.at (take gathered.count gathered.bytes ++ answer ∷ []) (7 - gathered.count) }
+        ensures { self.new ≡ skip_turned self.old to due gathered.at (came gathered ++ answer ∷ []) (7 - gathered.count) }
     {
-        let mut bytes = gathered.bytes;
-        bytes[gathered.count as usize] = answer;
         if gathered.count == 7 {
             self.doing = Doing::Skipping {
                 to,
-                at: u64::from_le_bytes(bytes),
+                at: gathered.whole(answer),
                 due,
             };
         } else {
             self.doing = Doing::SkipTurn {
                 to,
                 due,
-                gathered: Gathered {
-                    at: gathered.at + 1,
-                    bytes,
-                    count: gathered.count + 1,
-                },
+                gathered: gathered.with_byte(answer),
             };
         }
     }
@@ -313,7 +279,7 @@ impl Machine {
         requires next { self.old.ip + 1 < 2 ^ 32 }
         requires few { gathered.count ≤ 7 }
         requires known { (b : ℕ) × ((M.view mem.old).cells gathered.at ≡ byte b) }
-        ensures { Makes (λ s. Get gathered.at (λ b. skip_turned s to due gathered.at (take gathered.count gathered.bytes ++ b ∷ []) (7 - gathered.count))) self.old self.new (M.view mem.old) (M.view mem.new) result }
+        ensures { Makes (λ s. Get gathered.at (λ b. skip_turned s to due gathered.at (came gathered ++ b ∷ []) (7 - gathered.count))) self.old self.new (M.view mem.old) (M.view mem.new) result }
     {
         let answer = mem.get(gathered.at);
         self.skip_turned(to, due, gathered, answer);
