@@ -107,7 +107,7 @@ module _ (core : CoreTree) (code : CodeTree) where
   simple a z e = record { back = e; below = let h = most_open a 0 code.instructions in omega (arith, h) }
 
   mutual
-    pub level : (fs : List Field) (a : ℕ) (t : Term) (e : End) (z : ℕ) → Low core code fs a t e z → Level a z (nest t)
+    level : (fs : List Field) (a : ℕ) (t : Term) (e : End) (z : ℕ) → Low core code fs a t e z → Level a z (nest t)
     level fs a _ e z (low.write h) = simple a z (plain a _ z h ((λ n. refl), (plain_ending e, tt)))
     level fs a _ e z (low.point h) = simple a z (plain a _ z h ((λ n. refl), (plain_ending e, tt)))
     level fs a _ e z (low.call h) = simple a z (plain a _ z h ((λ n. refl), (plain_ending e, tt)))
