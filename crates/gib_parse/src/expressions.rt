@@ -1,14 +1,14 @@
 //! Expressions, by recursive descent. `level` says how many levels are left for the parts of an expression.
 
-ghost use Rattle.std.specs.Prelude.{◌≡◌, ◌<◌, ℕ, length, IfOk};
+ghost use Rattle.std.specs.Prelude.{◌≡◌, ◌<◌, ℕ, length, Some, Ok, IfOk};
 ghost use Rattle.std.specs.List.{AllByRecursion};
-ghost use Rattle.gib_syntax.specs.Tree.{Expression};
+ghost use Rattle.gib_syntax.specs.Tree.{Expression, Bit};
 ghost use Rattle.gib_syntax.specs.Spelling.{places_of, is_application};
 ghost use Rattle.gib_syntax.specs.Arena.{PartsBelow, layer, tree_of, arguments_from};
-ghost use Rattle.gib_parse.specs.Reading.{Any, Atom, next_is, starts, starts_atom, is_literal, literal_at, no_level, parse, any_at, let_at, bind_at, par_at, if_at, case_at, arms_at, arm_at, next_arm_at, app_at, call, arguments_at, atom_at, open_at, close_at, side_at, Fault, At, Nested};
+ghost use Rattle.gib_parse.specs.Reading.{Any, Atom, next_is, starts, starts_atom, is_literal, literal_at, no_level, parse, any_at, let_at, bind_at, par_at, if_at, case_at, arms_at, arm_at, next_arm_at, app_at, call, arguments_at, atom_at, open_at, close_at, operation_at, side_at, operator_of, Fault, At, Nested};
 ghost use Rattle.gib_parse.specs.Parsing.{Fails, Gives, mode_of, Reads, ReadsAll, ReadsArms, arm_tree, arms_tree};
 
-use crate::phrases::{begins, constructor, span_at, variable, variables, want};
+use crate::phrases::{begins, constructor, named, span_at, variable, variables, want};
 use crate::stop::Stop;
 use gib_base::token::{Sign, Token, is_literal};
 use gib_base::{Name, Span};
@@ -102,32 +102,12 @@ fn any<'a>(
     ensures kept { IfOk result (λ x. Reads exprs.old exprs.new x.0.0) }
     ensures read { Gives (λ x. (tree_of exprs.new x.0.0, x.1.now)) result (any_at (places_of spans.now) (parse (places_of spans.now) level) tokens.now) }
 {
+    let span = span_at(spans, tokens.len());
     match tokens {
         [Token::Sign(sign), rest @ ..] => match sign {
-            Sign::Let => let_in(
-                alloc,
-                spans,
-                exprs,
-                level,
-                span_at(spans, tokens.len()),
-                rest,
-            ),
-            Sign::If => if_then(
-                alloc,
-                spans,
-                exprs,
-                level,
-                span_at(spans, tokens.len()),
-                rest,
-            ),
-            Sign::Case => case_of(
-                alloc,
-                spans,
-                exprs,
-                level,
-                span_at(spans, tokens.len()),
-                rest,
-            ),
+            Sign::Let => let_in(alloc, spans, exprs, level, span, rest),
+            Sign::If => if_then(alloc, spans, exprs, level, span, rest),
+            Sign::Case => case_of(alloc, spans, exprs, level, span, rest),
             _ => application(alloc, spans, exprs, level, tokens),
         },
         _ => application(alloc, spans, exprs, level, tokens),
@@ -353,19 +333,13 @@ fn application<'a>(
 {
     match tokens {
         [Token::Variable(name), rest @ ..] => {
-            let ident = Ident {
-                name: *name,
-                span: span_at(spans, tokens.len()),
-            };
+            let ident = named(spans, *name, tokens.len());
             let (ids, rest) = arguments(alloc, spans, exprs, level, rest)?;
             let id = exprs.put(call_of(ident, ids))?;
             Ok((id, rest))
         }
         [Token::Constructor(name), rest @ ..] => {
-            let ident = Ident {
-                name: *name,
-                span: span_at(spans, tokens.len()),
-            };
+            let ident = named(spans, *name, tokens.len());
             let (ids, rest) = arguments(alloc, spans, exprs, level, rest)?;
             let id = exprs.put(Node::Make(ident, ids))?;
             Ok((id, rest))
@@ -425,6 +399,20 @@ fn literal<'a>(
     Ok((id, rest))
 }
 
+/// A truth value, which stands before these tokens.
+fn truth<'a>(
+    exprs: &mut Exprs,
+    span: Span,
+    value: bool,
+    rest: &'a [Token],
+) -> Result<(ExprId, &'a [Token]), Stop>
+    ensures kept { IfOk result (λ x. Reads exprs.old exprs.new x.0.0) }
+    ensures read { Gives (λ x. (tree_of exprs.new x.0.0, x.1.now)) result (Ok (Bit span value, rest.now)) }
+{
+    let id = exprs.put(Node::Truth(span, value))?;
+    Ok((id, rest))
+}
+
 #[cycle(expressions)]
 fn atom<'a>(
     alloc: Global,
@@ -436,48 +424,40 @@ fn atom<'a>(
     ensures kept { IfOk result (λ x. Reads exprs.old exprs.new x.0.0) }
     ensures read { Gives (λ x. (tree_of exprs.new x.0.0, x.1.now)) result (atom_at (places_of spans.now) (parse (places_of spans.now) level) tokens.now) }
 {
+    let span = span_at(spans, tokens.len());
     match tokens {
         [] => Err(Stop::At(0)),
         [Token::Variable(name), rest @ ..] => {
-            let id = exprs.put(Node::Variable(Ident {
-                name: *name,
-                span: span_at(spans, tokens.len()),
-            }))?;
+            let ident = named(spans, *name, tokens.len());
+            let id = exprs.put(Node::Variable(ident))?;
             Ok((id, rest))
         }
         [Token::Constructor(name), rest @ ..] => {
-            let ident = Ident {
-                name: *name,
-                span: span_at(spans, tokens.len()),
-            };
+            let ident = named(spans, *name, tokens.len());
             let id = exprs.put(Node::Make(ident, Vec::new(alloc)))?;
             Ok((id, rest))
         }
-        [Token::Number(value), rest @ ..] => literal(
-            exprs,
-            span_at(spans, tokens.len()),
-            *value,
-            rest,
-        ),
+        [Token::Number(value), rest @ ..] => literal(exprs, span, *value, rest),
         [Token::Sign(sign), rest @ ..] => match sign {
-            Sign::True => {
-                let id = exprs.put(Node::Truth(span_at(spans, tokens.len()), true))?;
-                Ok((id, rest))
-            }
-            Sign::False => {
-                let id = exprs.put(Node::Truth(span_at(spans, tokens.len()), false))?;
-                Ok((id, rest))
-            }
-            Sign::Open => parentheses(
-                alloc,
-                spans,
-                exprs,
-                level,
-                span_at(spans, tokens.len()),
-                rest,
-            ),
+            Sign::True => truth(exprs, span, true, rest),
+            Sign::False => truth(exprs, span, false, rest),
+            Sign::Open => parentheses(alloc, spans, exprs, level, span, rest),
             _ => Err(Stop::At(tokens.len())),
         },
+    }
+}
+
+/// The operator of a sign.
+fn operator_of(sign: Sign) -> Option<Operator>
+    ensures { result ≡ operator_of sign }
+{
+    match sign {
+        Sign::Plus => Some(Operator::Add),
+        Sign::Minus => Some(Operator::Subtract),
+        Sign::Times => Some(Operator::Multiply),
+        Sign::Same => Some(Operator::Equal),
+        Sign::Less => Some(Operator::Less),
+        _ => None,
     }
 }
 
@@ -495,85 +475,63 @@ fn parentheses<'a>(
     ensures kept { IfOk result (λ x. Reads exprs.old exprs.new x.0.0) }
     ensures read { Gives (λ x. (tree_of exprs.new x.0.0, x.1.now)) result (open_at (parse (places_of spans.now) level) span tokens.now) }
 {
-    let (inner, tokens) = expression(alloc, spans, exprs, level, Kind::Any, tokens)?;
+    let (left, tokens) = expression(alloc, spans, exprs, level, Kind::Any, tokens)?;
     match tokens {
         [Token::Sign(sign), rest @ ..] => match sign {
             Sign::Close => {
-                let id = exprs.put(Node::Paren(span, inner))?;
+                let id = exprs.put(Node::Paren(span, left))?;
                 Ok((id, rest))
             }
-            Sign::Plus => operation(alloc, spans, exprs, level, span, Operator::Add, inner, rest),
-            Sign::Minus => operation(
-                alloc,
-                spans,
-                exprs,
-                level,
-                span,
-                Operator::Subtract,
-                inner,
-                rest,
-            ),
-            Sign::Times => operation(
-                alloc,
-                spans,
-                exprs,
-                level,
-                span,
-                Operator::Multiply,
-                inner,
-                rest,
-            ),
-            Sign::Same => operation(
-                alloc,
-                spans,
-                exprs,
-                level,
-                span,
-                Operator::Equal,
-                inner,
-                rest,
-            ),
-            Sign::Less => operation(
-                alloc,
-                spans,
-                exprs,
-                level,
-                span,
-                Operator::Less,
-                inner,
-                rest,
-            ),
-            _ => Err(Stop::At(tokens.len())),
+            _ => {
+                let operator = operator_of(*sign);
+                let begun = Begun {
+                    span,
+                    left,
+                    operator,
+                };
+                operation(alloc, spans, exprs, level, begun, rest)
+            }
         },
         _ => Err(Stop::At(tokens.len())),
     }
 }
 
-/// Behind the operator of an operation: its other side, if the first may be one.
+/// An expression in parentheses as far as it is read: where it begins, its first part, and the operator of the
+/// sign behind that.
+#[derive(Clone, Copy)]
+struct Begun {
+    span: Span,
+    left: ExprId,
+    operator: Option<Operator>,
+}
+
+/// Behind a sign that follows the first expression in parentheses: the other side of an operation, if it is an
+/// operator's and the first expression may be a side.
 #[cycle(expressions)]
 fn operation<'a>(
     alloc: Global,
     spans: &[Span],
     exprs: &mut Exprs,
     level: u32,
-    span: Span,
-    operator: Operator,
-    left: ExprId,
+    begun: Begun,
     tokens: &'a [Token],
 ) -> Result<(ExprId, &'a [Token]), Stop>
-    requires { left.0 < length exprs.old }
+    requires { begun.left.0 < length exprs.old }
     ensures kept { IfOk result (λ x. Reads exprs.old exprs.new x.0.0) }
-    ensures read { Gives (λ x. (tree_of exprs.new x.0.0, x.1.now)) result (side_at (is_application (tree_of exprs.old left.0)) (parse (places_of spans.now) level) span operator (tree_of exprs.old left.0) tokens.now) }
+    ensures read { Gives (λ x. (tree_of exprs.new x.0.0, x.1.now)) result (operation_at begun.operator (parse (places_of spans.now) level) begun.span (tree_of exprs.old begun.left.0) tokens.now) }
 {
-    if !may_be_side(exprs, left) {
+    let Some(operator) = begun.operator else {
+        return Err(Stop::At(tokens.len() + 1));
+    };
+    if !may_be_side(exprs, begun.left) {
         return Err(Stop::At(tokens.len() + 1));
     }
     let (right, tokens) = expression(alloc, spans, exprs, level, Kind::Application, tokens)?;
     let tokens = want(Sign::Close, tokens)?;
     let id = exprs.put(Node::Operation {
-        span,
+        span: begun.span,
         operator,
-        left,
+        left: begun.left,
         right,
     })?;
     Ok((id, tokens))

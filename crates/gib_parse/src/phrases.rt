@@ -7,8 +7,8 @@ ghost use Rattle.gib_parse.specs.Reading.{Fault, At, Nested, same, want, var_at,
 ghost use Rattle.gib_parse.specs.Parsing.{Fails, Gives};
 
 use crate::stop::Stop;
-use gib_base::Span;
 use gib_base::token::{Sign, Token};
+use gib_base::{Name, Span};
 use gib_syntax::{ConstructorDecl, Ident, Parameter, TypeName};
 use std::alloc::Global;
 
@@ -21,6 +21,16 @@ pub(crate) fn span_at(spans: &[Span], left: usize) -> Span
         spans[index]
     } else {
         Span { start: 0, end: 0 }
+    }
+}
+
+/// A name as that of the token from which so many tokens are left.
+pub(crate) fn named(spans: &[Span], name: Name, left: usize) -> Ident
+    ensures { result ≡ record { name = name; span = places_of spans.now left } }
+{
+    Ident {
+        name,
+        span: span_at(spans, left),
     }
 }
 
@@ -55,13 +65,7 @@ pub(crate) fn variable<'a>(
     ensures { Gives (λ x. (x.0, x.1.now)) result (var_at (places_of spans.now) tokens.now) }
 {
     match tokens {
-        [Token::Variable(name), rest @ ..] => Ok((
-            Ident {
-                name: *name,
-                span: span_at(spans, tokens.len()),
-            },
-            rest,
-        )),
+        [Token::Variable(name), rest @ ..] => Ok((named(spans, *name, tokens.len()), rest)),
         _ => Err(Stop::At(tokens.len())),
     }
 }
@@ -74,13 +78,7 @@ pub(crate) fn constructor<'a>(
     ensures { Gives (λ x. (x.0, x.1.now)) result (con_at (places_of spans.now) tokens.now) }
 {
     match tokens {
-        [Token::Constructor(name), rest @ ..] => Ok((
-            Ident {
-                name: *name,
-                span: span_at(spans, tokens.len()),
-            },
-            rest,
-        )),
+        [Token::Constructor(name), rest @ ..] => Ok((named(spans, *name, tokens.len()), rest)),
         _ => Err(Stop::At(tokens.len())),
     }
 }
@@ -119,10 +117,7 @@ pub(crate) fn type_name<'a>(
 {
     match tokens {
         [Token::Constructor(name), rest @ ..] => {
-            let ident = Ident {
-                name: *name,
-                span: span_at(spans, tokens.len()),
-            };
+            let ident = named(spans, *name, tokens.len());
             Ok((TypeName::Declared(ident), rest))
         }
         [Token::Sign(sign), rest @ ..] => match sign {
