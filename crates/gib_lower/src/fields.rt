@@ -1,7 +1,8 @@
 //! The packed fields of the arms around a term.
 
-ghost use Rattle.std.specs.Prelude.{◌≡◌, map, reverse};
-ghost use Rattle.gib_core.specs.Low.{field_of};
+ghost use Rattle.std.specs.Prelude.{◌≡◌, ◌≤◌, [], ◌∷◌, ℕ, List, length, map, reverse, MatchOption};
+ghost use Rattle.gib_code.specs.Instruction.{First};
+ghost use Rattle.gib_core.specs.Low.{Field, field_of, first_reach, further_fields, with_fields};
 ghost use Rattle.gib_lower.specs.Stored.{stored};
 
 use gib_base::Memory;
@@ -50,6 +51,48 @@ fn find(items: &[StoredField], variable: u32) -> StoredField
         tree: 0,
         place: 0,
     }
+}
+
+/// The first packed field of an arm, with the types and the variables of the fields behind it.
+#[derive(Clone, Copy)]
+pub(crate) struct FirstPacked<'a> {
+    pub variable: Variable,
+    pub types: &'a [Ty],
+    pub variables: &'a [Variable],
+}
+
+/// The first packed field of an arm; none where all its fields are scalars.
+pub(crate) fn first_packed<'a>(
+    types: &'a [Ty],
+    variables: &'a [Variable],
+) -> Option<FirstPacked<'a>>
+    ensures reached { (x size : ℕ) → MatchOption result (first_reach x size types.now variables.now ≡ []) (λ f. first_reach x size types.now variables.now ≡ First f.variable.0 x size ∷ []) }
+    ensures behind { (x : ℕ) (fs : List Field) → MatchOption result (with_fields x types.now variables.now fs ≡ fs) (λ f. with_fields x types.now variables.now fs ≡ further_fields x 1 f.types.now f.variables.now fs) }
+    ensures fewer { MatchOption result (Unit {0}) (λ f. length f.types.now ≤ length types.now) }
+{
+    let mut types_left = types;
+    let mut left = variables;
+    'types: while let [ty, types_after @ ..] = types_left {
+        match left {
+            [] => return None,
+            [variable, after @ ..] => {
+                match ty {
+                    Ty::Whole => {}
+                    Ty::Truth => {}
+                    Ty::Tree(_) => {
+                        return Some(FirstPacked {
+                            variable: *variable,
+                            types: types_after,
+                            variables: after,
+                        });
+                    }
+                }
+                types_left = types_after;
+                left = after;
+            }
+        }
+    }
+    None
 }
 
 impl Fields {
@@ -130,23 +173,10 @@ impl Fields {
         requires { length types.now ≤ 8 }
         ensures { OnOk result (self.new ≡ with_fields tree types.now variables.now self.old) }
     {
-        let mut types_left = types;
-        let mut left = variables;
-        'types: while let [ty, types_after @ ..] = types_left {
-            match left {
-                [] => return Ok(()),
-                [_, after @ ..] => {
-                    match ty {
-                        Ty::Whole => {}
-                        Ty::Truth => {}
-                        Ty::Tree(_) => return self.add_further(tree, types_after, after),
-                    }
-                    types_left = types_after;
-                    left = after;
-                }
-            }
+        match first_packed(types, variables) {
+            None => Ok(()),
+            Some(first) => self.add_further(tree, first.types, first.variables),
         }
-        Ok(())
     }
 
     /// The newest fields leave scope, until there are so many.

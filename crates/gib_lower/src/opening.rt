@@ -5,6 +5,7 @@ ghost use Rattle.gib_types.specs.Layout.{layout_at};
 ghost use Rattle.gib_code.specs.Instruction.{instruction_of};
 ghost use Rattle.gib_core.specs.Low.{scalar_reads, first_reach, arm_opening};
 
+use crate::fields::first_packed;
 use gib_base::Memory;
 use gib_code::Instr;
 use gib_core::Variable;
@@ -59,30 +60,17 @@ fn reach_first(
 ) -> Result<(), Memory>
     ensures { OnOk result (map instruction_of instrs.new.items ≡ map instruction_of instrs.old.items ++ first_reach tree place types.now variables.now) }
 {
-    let mut types_left = types;
-    let mut left = variables;
-    'types: while let [ty, types_after @ ..] = types_left {
-        match left {
-            [] => return Ok(()),
-            [variable, after @ ..] => {
-                match ty {
-                    Ty::Whole => {}
-                    Ty::Truth => {}
-                    Ty::Tree(_) => {
-                        instrs.push(Instr::First {
-                            to: variable.0,
-                            tree,
-                            place,
-                        })?;
-                        return Ok(());
-                    }
-                }
-                types_left = types_after;
-                left = after;
-            }
+    match first_packed(types, variables) {
+        None => Ok(()),
+        Some(first) => {
+            instrs.push(Instr::First {
+                to: first.variable.0,
+                tree,
+                place,
+            })?;
+            Ok(())
         }
     }
-    Ok(())
 }
 
 /// What an arm begins with: its scalar fields are read, and its first packed field is reached.

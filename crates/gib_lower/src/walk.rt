@@ -9,7 +9,7 @@ ghost use Rattle.gib_types.specs.Table.{fields_at};
 ghost use Rattle.gib_core.specs.Arena.{IsBindingBelow, IsBranchBelow, IsEnd, term_of, side_from, bind_from, branches_from};
 ghost use Rattle.gib_core.specs.Parts.{core_of};
 ghost use Rattle.gib_core.specs.Tree.{CallTerm, Both};
-ghost use Rattle.gib_core.specs.Low.{laid_of, IsNoCall, with_fields, arm_opening, giving, ending as ending_spec, reaching};
+ghost use Rattle.gib_core.specs.Low.{laid_of, IsNoCall, with_fields, arm_opening, giving, operands as operands_spec, slots_of as slots_spec, ending as ending_spec, reaching};
 ghost use Rattle.gib_code.specs.Instruction as i;
 ghost use Rattle.gib_code.specs.Instruction.{instruction_of};
 ghost use Rattle.gib_lower.specs.Ends.{end_of};
@@ -24,6 +24,7 @@ use crate::source::Source;
 use gib_base::{Memory, Name};
 use gib_code::{Arm, Instr, Operand};
 use gib_core::{Access, Atom, Binding, BoundTerm, Branch, Kind, Node, TermId, Terms, Variable};
+use gib_types::ConId;
 use std::alloc::Global;
 
 /// What lowering makes, from the last instruction to the first.
@@ -43,6 +44,32 @@ fn ending(end: Ending) -> Instr
         Ending::Returns => Instr::Return,
         Ending::To { label, .. } => Instr::Jump(label),
     }
+}
+
+/// What puts a packed value, and what stands behind it.
+fn put_value(out: &mut Emitted, end: Ending, instr: Instr) -> Result<(), Memory>
+    ensures { OnOk result (out.new ≡ instruction_of instr ∷ ending_spec (end_of end) ∷ out.old) }
+{
+    out.put(ending(end))?;
+    out.put(instr)
+}
+
+/// What fills a head.
+fn fill(
+    alloc: Global,
+    head: Variable,
+    constructor: ConId,
+    scalars: &[Atom],
+    packed: &[Atom],
+) -> Result<Instr, Memory>
+    ensures { IfOk result (λ instr. instruction_of instr ≡ i.Fill head.0 constructor.0 (operands_spec scalars.now) (slots_spec packed.now)) }
+{
+    Ok(Instr::Fill {
+        head: head.0,
+        constructor: constructor.0,
+        scalars: operands(alloc, scalars)?,
+        packed: slots_of(alloc, packed)?,
+    })
 }
 
 /// What gives a scalar.
@@ -153,24 +180,16 @@ fn lower_end(source: &Source, id: TermId, end: Ending, out: &mut Lowering) -> Re
             scalars,
             packed,
         } => {
-            out.code.put(ending(end))?;
-            out.code.put(Instr::Fill {
-                head: head.0,
-                constructor: constructor.0,
-                scalars: operands(out.alloc, scalars)?,
-                packed: slots_of(out.alloc, packed)?,
-            })
+            let instr = fill(out.alloc, *head, *constructor, scalars, packed)?;
+            put_value(&mut out.code, end, instr)
         }
-        Node::Point(atom) => {
-            out.code.put(ending(end))?;
-            out.code.put(Instr::Point(slot_of(*atom)))
-        }
+        Node::Point(atom) => put_value(&mut out.code, end, Instr::Point(slot_of(*atom))),
         Node::Call(name, arguments) => {
-            out.code.put(ending(end))?;
-            out.code.put(Instr::Call {
+            let instr = Instr::Call {
                 function: source.number(*name),
                 arguments: operands(out.alloc, arguments)?,
-            })
+            };
+            put_value(&mut out.code, end, instr)
         }
         Node::Give(atom) => give(&mut out.code, end, operand(*atom)),
         Node::Case { subject, branches } => {
