@@ -1,7 +1,7 @@
 -- What a call of a weave leaves.
 use Rattle.std.proofs.lemmas.Bool.{cases_lt}
-use Rattle.std.proofs.lemmas.List.{get_or_read, get_or-set_other, length-set}
-use Rattle.std.proofs.Common.{◌≡◌, ◌⊎◌, inl, inr, ℕ, zero, suc, ◌<◌, ◌≤◌, List, [], ◌∷◌, length, get_or, drop, slice_set, true, refl, sym, ap, subst, ◌∙◌, arith}
+use Rattle.std.proofs.lemmas.List.{get_or_read, get_or-set_other, get_or_append_left, length-append, length-set, set-append_left}
+use Rattle.std.proofs.Common.{◌≡◌, ◌⊎◌, inl, inr, ℕ, zero, suc, ◌<◌, ◌≤◌, List, [], ◌∷◌, ◌++◌, ◌^◌, length, get_or, drop, slice_set, true, refl, sym, ap, subst, ◌∙◌, arith}
 use Rattle.std.specs.Prelude.{Result, Ok, Err, slice_get}
 use Rattle.gib_code.specs.declared.answer.Answer.{Answer}
 use Rattle.gib_machine.specs.declared.stand.Stand.TheVariants as stand
@@ -9,14 +9,14 @@ use Rattle.gib_mem.specs.Memory.{Memory, with_drawn, after_put, after_draw}
 use Rattle.gib_region.specs.Region.{IsFull}
 use Rattle.gib_core.specs.Tree.{CoreTree}
 use Rattle.gib_code.specs.Program.{CodeTree}
-use Rattle.gib_machine.specs.Machine.{State, Ask, Silent, Get, Put, Draw, AtFork, AtJoin, Ended, left_starts, joins, next, right_of, takes}
+use Rattle.gib_machine.specs.Machine.{State, Ask, Silent, Get, Put, Draw, AtFork, AtJoin, Ended, Waiting, left_starts, joins, next, right_of, side_start, takes}
 use Rattle.gib_machine.specs.Stepping.{CanStep, Made, stand_of, with_tails}
 use Rattle.gib_machine.specs.declared.turn.Turn.{Turn}
 use Rattle.gib_machine.specs.declared.turn.Turn.TheVariants as turn
 use Rattle.gib_weave.specs.declared.task.WeaveFault.{WeaveFault}
 use Rattle.gib_weave.specs.declared.task.WeaveFault.TheVariants as fault
 use Rattle.gib_weave.specs.Applied.{Applied, CanGo, IsBegun, IsDraw, IsForked, forked, stepped}
-use Rattle.gib_weave.specs.Weave.{Weave, Task, Stage, Status, Waits, Running, Joined, Step, Fork, Take, Finish, Join, Next, NewestWaits, NewestFinished, Enabled, IsAction, IsEnd, IsFinished, IsOn, asks, moved, no_task, task, weave_start, with_sides}
+use Rattle.gib_weave.specs.Weave.{Weave, Task, Stage, Status, Waits, Running, Joined, Step, Fork, Steal, Take, Finish, Join, Stolen, Next, NewestWaits, NewestFinished, Enabled, IsAction, IsEnd, IsFinished, IsOn, asks, moved, no_task, task, weave_start, with_sides}
 use Rattle.gib_weave.specs.Weave as w
 use Rattle.gib_weave.specs.Starting.{root_start}
 
@@ -37,6 +37,14 @@ set_same : (ts : List Task) (i : ℕ) → slice_set ts i (task ts i) ≡ ts
 set_same [] i = refl
 set_same (t ∷ ts) zero = refl
 set_same (t ∷ ts) (suc i) = ap (λ (us : List Task). t ∷ us) (set_same ts i)
+
+-- A task that is set leaves as many.
+pub set_few : (ts : List Task) (i : ℕ) (t : Task) → length ts ≤ 2 ^ 32 → length (slice_set ts i t) ≤ 2 ^ 32
+set_few ts i t h = let e = length-set ts i t in omega (arith, e, h)
+
+-- One more where there are fewer.
+pub few_more : (ts : List Task) (t : Task) → length ts < 2 ^ 32 → length (ts ++ t ∷ []) ≤ 2 ^ 32
+few_more ts t h = let e = length-append ts (t ∷ []) in omega (arith, e, h)
 
 module _ (code : CodeTree) (v : Weave) (i : ℕ) (on : IsOn v i) where
   -- the machine and the memory are as they were
@@ -236,6 +244,24 @@ no_side code v i t e n h = go (task v.tasks i).sides (subst (λ (z : Task). IsBe
 
 pub not_ended : (code : CodeTree) (v : Weave) (i j : ℕ) (t : Task) → t ≡ task v.tasks i → t.sides ≡ w.Runs j ∷ drop 1 t.sides → (IsFinished (task v.tasks j).stage → ⊥) → Enabled code v (Join i) → ⊥
 not_ended code v i j t e q n h = n (subst (NewestFinished v.tasks) (sym (ap (λ (z : Task). z.sides) e) ∙ q) h.2)
+
+-- A steal.
+
+pub steal_applied : (code : CodeTree) (v : Weave) (us : List Task) (i : ℕ) (x : Waiting) (t u n : Task) → IsOn v i → i < length v.tasks → length v.tasks < 2 ^ 32 → us ≡ v.tasks ++ n ∷ [] → t ≡ task v.tasks i
+    → n ≡ record { state = side_start code x; sides = []; stage = Running } → Stolen (length v.tasks) t.sides x u.sides → u ≡ record t { sides = u.sides } → Next code v (Steal i) (record { memory = v.memory; tasks = slice_set us i u })
+steal_applied code v us i x t u n on b few ue e ne s h =
+    let f = task v.tasks i in
+    let side : Task = record { state = side_start code x; sides = []; stage = Running } in
+    let new : Task = record { state = f.state; sides = u.sides; stage = Running } in
+    let k : u ≡ new = h ∙ ap (λ (q : Task). record { state = q.state; sides = u.sides; stage = q.stage }) e ∙ ap (λ (g : Stage). record { state = f.state; sides = u.sides; stage = g }) on.here in
+    let all : slice_set us i u ≡ slice_set v.tasks i new ++ side ∷ [] =
+    ap (λ (q : List Task). slice_set q i u) ue ∙ set-append_left v.tasks (n ∷ []) i u b ∙ ap (λ (q : Task). slice_set v.tasks i q ++ n ∷ []) k ∙ ap (λ (q : Task). slice_set v.tasks i new ++ q ∷ []) ne in
+    subst (λ (q : List Task). Next code v (Steal i) (record { memory = v.memory; tasks = q })) (sym all) (w.steals on few (subst (λ (q : Task). Stolen (length v.tasks) q.sides x u.sides) e s))
+
+-- The task that was read is the task of the number, though one was put behind.
+pub read_before : (ts us : List Task) (i : ℕ) (t n : Task) → t ≡ get_or us i t → us ≡ ts ++ n ∷ [] → i < length ts → t ≡ task ts i
+read_before ts us i t n e f h =
+    read_task (ts ++ n ∷ []) us i t e f (let l = length-append ts (n ∷ []) in omega (arith, h, l)) ∙ get_or_append_left ts (n ∷ []) no_task i h
 
 -- The root alone.
 pub root_alone : (core : CoreTree) (code : CodeTree) (v : Memory) (m : State) (w depth level : ℕ) (tails : List ℕ) → ((ts : List ℕ) → with_tails m ts ≡ root_start core code w depth level ts)

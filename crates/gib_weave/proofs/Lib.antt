@@ -39,5 +39,8 @@ pub mod RootRuns
 pub mod RootEnds
 pub mod Standing
 pub mod Newest
+pub mod Narrow
 pub mod Applying
+pub mod Picking
 pub mod Going
+pub mod Single

@@ -32,7 +32,7 @@ use Rattle.gib_weave.proofs.Mades.{made_root}
 use Rattle.gib_weave.proofs.RootRuns.{root_ran, root_task}
 
 -- the word of a root for which a value stands is the argument
-argument : (laid : LaidOut) (s : Store) (place : Root) (ty : Ty) (d : Datum) → Stands laid s place ty d → IsArgument laid s ty (word_of place) d
+pub argument : (laid : LaidOut) (s : Store) (place : Root) (ty : Ty) (d : Datum) → Stands laid s place ty d → IsArgument laid s ty (word_of place) d
 argument laid s _ _ _ (a_whole {z = z} f) = (z, refl, f, refl)
 argument laid s _ _ _ (a_truth {b = b}) = (b, refl, refl)
 argument laid s _ _ _ (a_tree {z = z} d) = record { end = z; dec = d }

@@ -1,4 +1,5 @@
--- A worked run: a tree's leaves get 1 more, the right side is stolen.
+-- Worked runs: a tree's leaves get 1 more, and the right side is stolen; a side has no depth left, and the other one ends.
+use Rattle.std.specs.Prelude.{pos}
 use Rattle.std.proofs.Common.{Some, None, ◌≡◌, ℕ, zero, suc, true, [], ◌∷◌, slice_get, refl}
 use Rattle.gib_types.specs.declared.table.Ty.{Ty}
 use Rattle.gib_types.specs.declared.table.Ty.TheVariants.{Whole, Tree}
@@ -6,7 +7,7 @@ use Rattle.gib_types.specs.Table.{Table}
 use Rattle.gib_mem.specs.Memory.{sole, Memory, Cell, absent, fresh, byte, after_put, after_puts, after_draw, open_chunk}
 use Rattle.gib_code.specs.declared.instruction.Kind.TheVariants as at
 use Rattle.gib_code.specs.declared.instruction.Operand.TheVariants.{Slot, Number}
-use Rattle.gib_code.specs.declared.instruction.Operation.TheVariants.{Add}
+use Rattle.gib_code.specs.declared.instruction.Operation.TheVariants.{Add, Lt, Sub}
 use Rattle.gib_code.specs.declared.answer.Answer.TheVariants as answer
 use Rattle.gib_code.specs.Instruction as i
 use Rattle.gib_code.specs.Program.{CodeTree}
@@ -55,42 +56,44 @@ act w n AtFork = w
 act w n AtJoin = w
 act w n (Ended a) = w
 
-abbrev steps : ℕ → ℕ → Weave → Weave
-steps n zero w = w
-steps n (suc m) w = steps n m (act w n (asks code w n))
+-- So many steps of task n.
+abbrev steps : CodeTree → ℕ → ℕ → Weave → Weave
+steps p n zero w = w
+steps p n (suc m) w = steps p n m (act w n (asks p w n))
 
 abbrev w0 : Weave
 w0 = weave_start core code loaded 0 10000 4 (27 ∷ [])
 
-pub at_fork : asks code (steps 0 13 w0) 0 ≡ AtFork
+pub at_fork : asks code (steps code 0 13 w0) 0 ≡ AtFork
 at_fork = refl
 
-abbrev fork : Weave → Weave
-fork w = with_sides w 0 (left_starts (task w.tasks 0).state (slice_get code.instructions (task w.tasks 0).state.ip)) (Waits (right_of (task w.tasks 0).state (slice_get code.instructions (task w.tasks 0).state.ip)) ∷ [])
+abbrev fork : CodeTree → Weave → Weave
+fork p w = with_sides w 0 (left_starts (task w.tasks 0).state (slice_get p.instructions (task w.tasks 0).state.ip)) (Waits (right_of (task w.tasks 0).state (slice_get p.instructions (task w.tasks 0).state.ip)) ∷ [])
 
 abbrev w1 : Weave
-w1 = steps 0 13 w0
+w1 = steps code 0 13 w0
 
-abbrev steal : Weave → Weave
-steal w = record { memory = w.memory; tasks = record { state = (task w.tasks 0).state; sides = Runs 1 ∷ []; stage = Running } ∷ record { state = side_start code (right_of (task w1.tasks 0).state (slice_get code.instructions 9)); sides = []; stage = Running } ∷ [] }
+-- The fork of the root, whose right side is then the task 1.
+abbrev stolen : CodeTree → Weave → Weave
+stolen p w = record { memory = w.memory; tasks = record { state = (task (fork p w).tasks 0).state; sides = Runs 1 ∷ []; stage = Running } ∷ record { state = side_start p (right_of (task w.tasks 0).state (slice_get p.instructions (task w.tasks 0).state.ip)); sides = []; stage = Running } ∷ [] }
 
 abbrev w2 : Weave
-w2 = steal (fork w1)
+w2 = stolen code w1
 
 abbrev w3 : Weave
-w3 = steps 1 26 w2
+w3 = steps code 1 26 w2
 
 pub side_ends : asks code w3 1 ≡ Ended (answer.At 4096)
 side_ends = refl
 
 abbrev w4 : Weave
-w4 = steps 0 24 w3
+w4 = steps code 0 24 w3
 
 pub at_join : asks code w4 0 ≡ AtJoin
 at_join = refl
 
 abbrev w5 : Weave
-w5 = steps 0 20 (with_sides w4 0 (joins (task w4.tasks 0).state (answer.At 4096)) [])
+w5 = steps code 0 20 (with_sides w4 0 (joins (task w4.tasks 0).state (answer.At 4096)) [])
 
 pub root_ends : asks code w5 0 ≡ Ended (answer.At 27)
 root_ends = refl
@@ -117,7 +120,7 @@ abbrev take : Weave → Weave
 take w = with_sides w 0 (takes (task w.tasks 0).state) []
 
 abbrev w6 : Weave
-w6 = steps 0 36 (take (steps 0 24 (fork w1)))
+w6 = steps code 0 36 (take (steps code 0 24 (fork code w1)))
 
 pub taken_ends : asks code w6 0 ≡ Ended (answer.At 27)
 taken_ends = refl
@@ -134,7 +137,7 @@ taken_chunks = refl
 -- In place, with no level left: no fork, and the same bytes.
 
 abbrev w7 : Weave
-w7 = steps 0 75 (weave_start core code loaded 0 10000 0 (27 ∷ []))
+w7 = steps code 0 75 (weave_start core code loaded 0 10000 0 (27 ∷ []))
 
 pub placed_ends : asks code w7 0 ≡ Ended (answer.At 27)
 placed_ends = refl
@@ -142,10 +145,51 @@ placed_ends = refl
 -- With one call, the left side has none left: the task stands at the join, and ends once its side is dropped.
 
 abbrev w8 : Weave
-w8 = steps 0 2 (fork (steps 0 13 (weave_start core code loaded 0 1 4 (27 ∷ []))))
+w8 = steps code 0 2 (fork code (steps code 0 13 (weave_start core code loaded 0 1 4 (27 ∷ []))))
 
 pub unwinds : asks code w8 0 ≡ AtJoin
 unwinds = refl
 
 pub dropped : asks code (take w8) 0 ≡ Ended answer.Deep
 dropped = refl
+
+-- Both sides of main's fork count down, the left one from 5 and the right one, which is stolen, from 1.
+
+abbrev counts_down : CodeTree
+counts_down = record {
+  laid = record { table = table; with_offsets = [] };
+  instructions =
+      i.Operate 1 Lt (Slot 0) (Number 1) ∷ i.Unless (Slot 1) 3 ∷ i.Give (Number 0) ∷ i.Operate 2 Sub (Slot 0) (Number 1) ∷ i.CallScalar 3 0 (Slot 2 ∷ []) ∷ i.Give (Slot 3)
+      ∷ i.Fork 9 11 at.Scalar 2 Whole ∷ i.CallScalar 1 0 (Number 5 ∷ []) ∷ i.Join ∷ i.CallScalar 2 0 (Number 1 ∷ []) ∷ i.Back ∷ i.Operate 3 Add (Slot 1) (Slot 2) ∷ i.Give (Slot 3) ∷ [];
+  functions = record { name = Some (record { 0 = 0 }); start = 0; slots = 4; result = Whole } ∷ record { name = None; start = 6; slots = 4; result = Whole } ∷ [];
+}
+
+abbrev counting : CoreTree
+counting = record core { main = record { parameter = Whole; result = Whole; body = example.body } }
+
+abbrev nothing_drawn : Memory
+nothing_drawn = record { cells = λ q. absent; drawn = 0; share = 0; limit = 1024; alone = true; holder = sole }
+
+-- The right side has ended, and the root stands at the join.
+abbrev apart : ℕ → ℕ → Weave
+apart depth n = steps counts_down 0 n (steps counts_down 1 10 (stolen counts_down (weave_start counting counts_down nothing_drawn 0 depth 4 [])))
+
+-- With three calls the left side has none left, and the root ends without a value, though the right side has one.
+pub right_ends : asks counts_down (apart 3 0) 1 ≡ Ended (answer.Whole (pos 0))
+right_ends = refl
+
+pub left_unwinds : asks counts_down (apart 3 13) 0 ≡ AtJoin
+left_unwinds = refl
+
+abbrev joined : Weave → Weave
+joined w = with_sides w 0 (joins (task w.tasks 0).state (answer.Whole (pos 0))) []
+
+pub root_unwinds : asks counts_down (joined (apart 3 13)) 0 ≡ Ended answer.Deep
+root_unwinds = refl
+
+-- With six it ends with a value.
+pub left_ends : asks counts_down (apart 6 29) 0 ≡ AtJoin
+left_ends = refl
+
+pub root_counted : asks counts_down (steps counts_down 0 2 (joined (apart 6 29))) 0 ≡ Ended (answer.Whole (pos 0))
+root_counted = refl

@@ -1,22 +1,24 @@
 -- What a call of a weave leaves, by its answer.
-use Rattle.std.specs.Prelude.{◌≡◌, ℕ, ◌<◌, List, [], ◌∷◌, ◌++◌, length, true, Option, Result, Ok, Err}
+use Rattle.std.specs.Prelude.{◌≡◌, ℕ, zero, suc, ◌<◌, ◌≤◌, List, [], ◌∷◌, ◌++◌, length, Bool, ◌&&◌, true, Option, Some, None, Result, Ok, Err}
 use Rattle.gib_mem.specs.Memory.{Memory}
 use Rattle.gib_code.specs.Instruction.{Instruction}
 use Rattle.gib_code.specs.Program.{CodeTree, Runs}
-use Rattle.gib_machine.specs.Machine.{Ask, Silent, Get, Put, Draw, AtFork, AtJoin, Ended, left_starts, right_of, widest}
+use Rattle.gib_machine.specs.Machine.{Waiting, Ask, Silent, Get, Put, Draw, AtFork, AtJoin, Ended, left_starts, right_of, widest}
 use Rattle.gib_machine.specs.Starting.{waiting_of}
 use Rattle.gib_machine.specs.Stepping.{Can}
 use Rattle.gib_weave.specs.declared.sides.RightSide.{RightSide}
 use Rattle.gib_weave.specs.declared.sides.RightSide.TheVariants as side
 use Rattle.gib_weave.specs.declared.sides.Newest.{Newest}
 use Rattle.gib_weave.specs.declared.sides.Newest.TheVariants as newest
+use Rattle.gib_weave.specs.declared.event.Event.{Event as TaskEvent}
+use Rattle.gib_weave.specs.declared.event.Event.TheVariants as event
 use Rattle.gib_weave.specs.declared.task.Stage.{Stage as TaskStage}
 use Rattle.gib_weave.specs.declared.task.Stage.TheVariants as stage
 use Rattle.gib_weave.specs.declared.task.WeaveFault.{WeaveFault}
 use Rattle.gib_weave.specs.declared.task.WeaveFault.TheVariants as fault
 use Rattle.gib_machine.specs.declared.turn.Turn.{Turn}
 use Rattle.gib_machine.specs.declared.turn.Turn.TheVariants as turn
-use Rattle.gib_weave.specs.Weave.{Weave, Task, Event, Step, Fork, Steal, Take, Finish, Join, Next, Enabled, Status, Waits, Stage, asks, task}
+use Rattle.gib_weave.specs.Weave.{Weave, Task, Event, Step, Fork, Steal, Take, Finish, Join, Next, Enabled, Status, Stolen, Waits, Stage, asks, has_waiting, is_running, task}
 use Rattle.gib_weave.specs.Weave as w
 
 -- A right side as the code keeps it.
@@ -28,6 +30,25 @@ status_of (side.Begun n) = w.Runs n
 abbrev pub newest_first : List RightSide → List Status
 newest_first [] = []
 newest_first (x ∷ xs) = newest_first xs ++ status_of x ∷ []
+
+-- The oldest so many are begun, and the others wait.
+abbrev pub AreBegunFirst : ℕ → List RightSide → Type 0
+AreBegunFirst zero [] = Unit {0}
+AreBegunFirst zero (side.Waiting s ∷ xs) = AreBegunFirst zero xs
+AreBegunFirst zero (side.Begun n ∷ xs) = ⊥
+AreBegunFirst (suc k) [] = ⊥
+AreBegunFirst (suc k) (side.Waiting s ∷ xs) = ⊥
+AreBegunFirst (suc k) (side.Begun n ∷ xs) = AreBegunFirst k xs
+
+-- The oldest side that waits.
+abbrev pub IsOldest : List Status → Waiting → Type 0
+IsOldest sts x = (sts' : List Status) × Stolen 0 sts x sts'
+
+-- Each side that waits has no more words than a frame of this width.
+abbrev pub AreNarrow : ℕ → List Status → Type 0
+AreNarrow width [] = Unit {0}
+AreNarrow width (Waits x ∷ sts) = (length x.words ≤ width) × AreNarrow width sts
+AreNarrow width (w.Runs n ∷ sts) = AreNarrow width sts
 
 -- How far a right side is.
 abbrev pub newest_of : Status → Newest
@@ -60,6 +81,24 @@ IsForked t i t' (Err fault.Full) = ⊥
 -- Tasks over a memory.
 abbrev pub over : Memory → List Task → Weave
 over m ts = record { memory = m; tasks = ts }
+
+-- An event as the code keeps it.
+abbrev pub event_of : TaskEvent → Event
+event_of (event.Step i) = Step i
+event_of (event.Fork i) = Fork i
+event_of (event.Steal i) = Steal i
+event_of (event.Take i) = Take i
+event_of (event.Finish i) = Finish i
+event_of (event.Join i) = Join i
+
+-- An event that is picked, or none.
+abbrev pub picked_of : Option TaskEvent → Option Event
+picked_of None = None
+picked_of (Some e) = Some (event_of e)
+
+-- A task that runs, and has a side that waits.
+abbrev pub can_steal_from : Task → Bool
+can_steal_from t = is_running t.stage && has_waiting t.sides
 
 -- A turn as the answer of a step: a machine that stands cannot make one.
 abbrev pub stepped : Turn → Result (Unit {0}) WeaveFault
@@ -96,9 +135,13 @@ Applied code v e v' (Err fault.NotNow) = (v' ≡ v) × (Enabled code v e → ⊥
 Applied code v e v' (Err fault.Full) = (v' ≡ v) × Enabled code v e × DrawsNow code v e × (v.memory.drawn ≡ v.memory.limit)
 Applied code v e v' (Err fault.Memory) = v' ≡ v
 
+-- The frames of each task have the width of this code.
+abbrev pub HaveWidth : CodeTree → List Task → Type 0
+HaveWidth code ts = (i : ℕ) → i < length ts → (task ts i).state.width ≡ widest code.functions
+
 -- The tasks run this code, and each that runs asks the memory for nothing that it cannot answer; nobody else draws.
 pub record CanGo (code : CodeTree) (v : Weave) : Type 0 where
   pub runs : Runs code
   pub alone : v.memory.alone ≡ true
-  pub widths : (i : ℕ) → i < length v.tasks → (task v.tasks i).state.width ≡ widest code.functions
+  pub widths : HaveWidth code v.tasks
   pub can : (i : ℕ) → (task v.tasks i).stage ≡ w.Running → Can (asks code v i) v.memory

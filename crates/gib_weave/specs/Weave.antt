@@ -314,6 +314,15 @@ IsOf i (Take j) = j ≡ i
 IsOf i (Finish j) = j ≡ i
 IsOf i (Join j) = j ≡ i
 
+-- The event is a steal.
+abbrev pub IsSteal : Event → Type 0
+IsSteal (Step i) = ⊥
+IsSteal (Fork i) = ⊥
+IsSteal (Steal i) = Unit {0}
+IsSteal (Take i) = ⊥
+IsSteal (Finish i) = ⊥
+IsSteal (Join i) = ⊥
+
 -- A steal of a task with a side that waits: of the first below n, from the newest on.
 abbrev pub has_waiting : List Status → Bool
 has_waiting [] = false
@@ -338,7 +347,7 @@ pick_steal w = if is_running (task w.tasks 0).stage && nat_lt (length w.tasks) (
 -- The event leads on; or it is a step that draws, and all chunks are drawn.
 pub data Applies (code : CodeTree) (w : Weave) : Event → Type 0 where
   leads : {e : Event} {w' : Weave} → Next code w e w' → Applies code w e
-  full : {i : ℕ} {k : ℕ → State} → asks code w i ≡ Draw k → w.memory.drawn ≡ w.memory.limit → Applies code w (Step i)
+  full : {i : ℕ} {k : ℕ → State} → IsOn w i → asks code w i ≡ Draw k → w.memory.drawn ≡ w.memory.limit → Applies code w (Step i)
 
 -- A byte is got where one stands, and put where none was put.
 abbrev pub IsCareful : Store → Ask → Type 0

@@ -3,6 +3,7 @@
 #![tactic(auto)]
 
 pub mod call_law;
+mod event;
 pub mod law;
 mod root_run;
 mod sides;
@@ -11,6 +12,7 @@ mod task;
 mod tasks;
 pub mod weave_law;
 
+pub use event::Event;
 pub use root_run::{RunFault, run};
 pub use steps::run_for;
 pub use task::WeaveFault;

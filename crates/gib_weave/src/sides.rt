@@ -1,9 +1,10 @@
 //! The right sides of a task that it neither joined nor took.
 
 ghost use Rattle.std.specs.Prelude.{◌≡◌, ◌<◌, [], ◌∷◌, length, drop, OnOk, OnErr, IfSome, IfNone, IsTrue, ◌↔◌};
+ghost use Rattle.gib_machine.specs.Machine.{Waiting};
 ghost use Rattle.gib_machine.specs.Starting.{waiting_of};
-ghost use Rattle.gib_weave.specs.Applied.{IsBegun, status_of, newest_of};
-ghost use Rattle.gib_weave.specs.Weave.{NewestWaits, Runs, Status, Waits};
+ghost use Rattle.gib_weave.specs.Applied.{IsBegun, IsOldest, status_of, newest_of};
+ghost use Rattle.gib_weave.specs.Weave.{HasWaiting, NewestWaits, Runs, Status, Stolen, Waits};
 
 use gib_base::Memory;
 use gib_code::Side;
@@ -28,21 +29,25 @@ pub enum Newest {
     Begun(u32),
 }
 
-/// The right sides of a task, seen with the newest first.
+/// The right sides of a task, seen with the newest first. Those that wait are the newest, since the oldest one is begun first.
 #[derive(Debug, Drop)]
 pub struct Sides {
     /// The oldest first.
     items: Vec<RightSide>,
+    /// How many are begun.
+    begun: usize,
 }
 
 impl Model for Sides {
     ghost use Rattle.std.specs.Prelude.{List};
     ghost use Rattle.gib_weave.specs.Weave.{Status};
-    ghost use Rattle.gib_weave.specs.Applied.{newest_first};
+    ghost use Rattle.gib_weave.specs.Applied.{newest_first, AreBegunFirst};
 
     ghost Value = { List Status };
 
     ghost view = { λ s. newest_first s.items.items };
+
+    ghost invariant = { λ s. AreBegunFirst s.begun s.items.items };
 }
 
 /// How far the side is.
@@ -62,6 +67,7 @@ impl Sides {
     {
         Sides {
             items: Vec::new(alloc),
+            begun: 0,
         }
     }
 
@@ -70,7 +76,7 @@ impl Sides {
     /// # Errors
     ///
     /// Want of memory; the sides stay.
-    #[tactic(auto, using(crate::proofs::Newest::one_more))]
+    #[tactic(auto, using(crate::proofs::Newest::one_more, crate::proofs::Newest::begun_with_one_more))]
     pub fn push(&mut self, side: Side) -> Result<(), Memory>
         ensures pushed { OnOk result (self.new ≡ Waits (waiting_of side) ∷ self.old) }
         ensures same { OnErr result (self.new ≡ self.old) }
@@ -114,13 +120,46 @@ impl Sides {
         }
     }
 
+    /// Whether one waits.
+    #[tactic(auto, using(crate::proofs::Newest::waits_behind, crate::proofs::Newest::begun_before))]
+    pub fn has_waiting(&self) -> bool
+        ensures { IsTrue result ↔ HasWaiting self.now }
+    {
+        self.begun < self.items.len()
+    }
+
+    /// The oldest one that waits.
+    #[tactic(auto, using(crate::proofs::Newest::oldest_is, crate::proofs::Newest::oldest_waits, crate::proofs::Newest::begun_before))]
+    pub fn oldest(&self) -> &Side
+        requires { HasWaiting self.now }
+        ensures { IsOldest self.now (waiting_of result.now) }
+    {
+        match &self.items[self.begun] {
+            RightSide::Waiting(side) => side,
+            RightSide::Begun(_) => unreachable!(),
+        }
+    }
+
+    /// The oldest one that waits is now the task of this number.
+    #[tactic(auto, using(crate::proofs::Newest::oldest_begins, crate::proofs::Newest::begun_more, crate::proofs::Newest::begun_before))]
+    pub fn begin_oldest(&mut self, task: u32)
+        requires { HasWaiting self.old }
+        ensures { (x : Waiting) → IsOldest self.old x → Stolen task self.old x self.new }
+    {
+        self.items[self.begun] = RightSide::Begun(task);
+        self.begun += 1;
+    }
+
     /// Drops the newest one.
-    #[tactic(auto, using(crate::proofs::Newest::popped))]
+    #[tactic(auto, using(crate::proofs::Newest::popped, crate::proofs::Newest::waiting_popped, crate::proofs::Newest::begun_popped))]
     pub fn pop(&mut self)
         requires { 0 < length self.old }
         ensures { self.new ≡ drop 1 self.old }
     {
         let _ = self.items.pop();
+        if self.begun > self.items.len() {
+            self.begun = self.items.len();
+        }
     }
 
     /// Drops all.
@@ -128,5 +167,6 @@ impl Sides {
         ensures { self.new ≡ [] }
     {
         self.items.clear();
+        self.begun = 0;
     }
 }

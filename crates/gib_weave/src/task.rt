@@ -1,13 +1,14 @@
 //! A task of a weave: its machine, its tails, its right sides, and whether it runs.
 
-ghost use Rattle.std.specs.Prelude.{◌≡◌, ◌<◌, [], ◌∷◌, length, drop, slice_get, IsTrue, ◌↔◌, IfSome, IfNone};
+ghost use Rattle.std.specs.Prelude.{◌≡◌, ◌<◌, [], ◌∷◌, length, drop, slice_get, IsTrue, ◌↔◌, IfOk, IfSome, IfNone};
 ghost use Rattle.gib_code.specs.Program.{Runs};
-ghost use Rattle.gib_machine.specs.Machine.{AtFork, AtJoin, Ended, next, takes, joins};
+ghost use Rattle.gib_machine.specs.Machine.{AtFork, AtJoin, Ended, Waiting, next, side_start, takes, joins, widest};
 ghost use Rattle.gib_machine.specs.Stepping.{CanStep, Made, stand_of, with_tails};
-ghost use Rattle.gib_weave.specs.Applied.{IsBegun, IsForked};
-ghost use Rattle.gib_weave.specs.Weave.{Running, Finished, Joined, IsEnd, IsFinished, NewestWaits, Runs as Begun};
+ghost use Rattle.gib_weave.specs.Applied.{IsBegun, IsForked, IsOldest, newest_of};
+ghost use Rattle.gib_weave.specs.Weave.{Running, Finished, Joined, HasWaiting, IsEnd, IsFinished, NewestWaits, Status, Stolen, Runs as Begun};
 
-use crate::sides::Sides;
+use crate::sides::{Newest, Sides};
+use gib_base::Memory;
 use gib_code::{Answer, Code};
 use gib_machine::{Machine, Stand, Turn};
 use gib_mem::Mem;
@@ -35,7 +36,7 @@ pub enum Stage {
     Joined,
 }
 
-/// A task.
+/// A task. A machine for its code has room for each of its right sides that waits.
 #[derive(Drop)]
 pub struct Task {
     pub(crate) machine: Machine,
@@ -47,11 +48,13 @@ pub struct Task {
 impl Model for Task {
     ghost use Rattle.gib_machine.specs.Stepping.{with_tails};
     ghost use Rattle.gib_weave.specs.Weave as w;
-    ghost use Rattle.gib_weave.specs.Applied.{stage_of};
+    ghost use Rattle.gib_weave.specs.Applied.{stage_of, AreNarrow};
 
     ghost Value = { w.Task };
 
     ghost view = { λ t. record { state = with_tails t.machine t.tails; sides = t.sides; stage = stage_of t.stage } };
+
+    ghost invariant = { λ t. AreNarrow t.machine.width t.sides };
 }
 
 impl Task {
@@ -144,6 +147,14 @@ impl Task {
         self.sides.waits()
     }
 
+    /// How far its newest right side is; None where there is none.
+    pub fn newest_side(&self) -> Option<Newest>
+        ensures some { IfSome result (λ newest. (st : Status) × (self.now.sides ≡ st ∷ drop 1 self.now.sides) × (newest ≡ newest_of st)) }
+        ensures none { IfNone result (self.now.sides ≡ []) }
+    {
+        self.sides.newest()
+    }
+
     /// The task of its newest right side; None where that waits, or there is none.
     pub fn side_begun(&self) -> Option<u32>
         ensures some { IfSome result (λ n. self.now.sides ≡ Begun n ∷ drop 1 self.now.sides) }
@@ -152,7 +163,37 @@ impl Task {
         self.sides.begun()
     }
 
+    /// Whether a right side waits.
+    pub fn has_waiting(&self) -> bool
+        ensures { IsTrue result ↔ HasWaiting self.now.sides }
+    {
+        self.sides.has_waiting()
+    }
+
+    /// The machine of its oldest right side that waits.
+    ///
+    /// # Errors
+    ///
+    /// Want of memory.
+    pub fn oldest(&self, alloc: Global, code: &Code) -> Result<Machine, Memory>
+        requires waits { HasWaiting self.now.sides }
+        requires width { self.now.state.width ≡ widest code.now.functions }
+        ensures { IfOk result (λ m. (x : Waiting) × IsOldest self.now.sides x × (m ≡ side_start code.now x)) }
+    {
+        Machine::of_side(alloc, code, self.sides.oldest())
+    }
+
+    /// Its oldest right side that waits is now the task of this number.
+    pub fn begin_oldest(&mut self, number: u32)
+        requires { HasWaiting self.old.sides }
+        ensures begun { (x : Waiting) → IsOldest self.old.sides x → Stolen number self.old.sides x self.new.sides }
+        ensures kept { self.new ≡ record self.old { sides = self.new.sides } }
+    {
+        self.sides.begin_oldest(number);
+    }
+
     /// One micro-step of its machine.
+    #[tactic(auto, using(crate::proofs::Narrow::step_narrow))]
     pub fn step<M: Mem>(&mut self, code: &Code, mem: &mut M) -> Turn
         requires { CanStep code.now self.old.state (M.view mem.old) }
         ensures made { Made (next code.now self.old.state) self.old.state self.new.state (M.view mem.old) (M.view mem.new) result }
@@ -174,11 +215,13 @@ impl Task {
         match self.machine.side(alloc, code) {
             Err(_) => Err(WeaveFault::Memory),
             Ok(side) => {
-                if self.sides.push(side).is_err() {
-                    return Err(WeaveFault::Memory);
+                match self.sides.push(side) {
+                    Err(_) => Err(WeaveFault::Memory),
+                    Ok(()) => {
+                        self.machine.left(code);
+                        Ok(())
+                    }
                 }
-                self.machine.left(code);
-                Ok(())
             }
         }
     }

@@ -1,25 +1,30 @@
 //! The tasks of a weave, and what becomes of them by events.
 
-ghost use Rattle.std.specs.Prelude.{◌≡◌, ◌<◌, length, IsTrue, ◌↔◌, IfOk, IfSome, IfNone};
+ghost use Rattle.std.specs.Prelude.{◌≡◌, ◌<◌, ◌^◌, ◌++◌, ◌∷◌, [], length, OnOk, OnErr, IsTrue, ◌↔◌, IfOk, IfSome, IfNone};
 ghost use Rattle.gib_mem.specs.Memory as M;
 ghost use Rattle.gib_core.specs.Parts.{core_of};
 ghost use Rattle.gib_code.specs.Program.{Runs};
-ghost use Rattle.gib_weave.specs.Applied.{Applied, CanGo, over, stepped};
+ghost use Rattle.gib_weave.specs.Applied.{Applied, CanGo, HaveWidth, can_steal_from, event_of, over, picked_of, stepped};
 ghost use Rattle.gib_weave.specs.Weave.{Finished, IsFinished, IsOn, task, weave_start};
 ghost use Rattle.gib_weave.specs.Running.{word_of};
 ghost use Rattle.gib_weave.specs.Weave as w;
 
+use crate::event::Event;
 use crate::root_run::root_machine;
+use crate::sides::Newest;
 use crate::task::{Task, WeaveFault};
 use gib_base::Memory;
 use gib_code::{Answer, Code};
 use gib_core::Lowered;
-use gib_machine::Turn;
+use gib_machine::{Stand, Turn};
 use gib_mem::Mem;
 use gib_packed::Root;
 use gib_region::Tails;
 use std::alloc::Global;
 use std::marker::Model;
+
+/// How many tasks may be made: each has a number.
+const TASKS: usize = 1 << 32;
 
 /// Tasks by their numbers. Task 0 is the root. The memory over which they run is handed to each call.
 #[derive(Drop)]
@@ -28,12 +33,14 @@ pub struct Tasks {
 }
 
 impl Model for Tasks {
-    ghost use Rattle.std.specs.Prelude.{List};
+    ghost use Rattle.std.specs.Prelude.{List, ◌≤◌, ◌^◌, length};
     ghost use Rattle.gib_weave.specs.Weave as w;
 
     ghost Value = { List w.Task };
 
     ghost view = { λ t. t.items.items };
+
+    ghost invariant = { λ t. length t.items.items ≤ 2 ^ 32 };
 }
 
 /// A turn as the answer of a step.
@@ -100,7 +107,7 @@ impl Tasks {
     /// # Errors
     ///
     /// `NotNow`: it has none here. `Full`: it draws, and all chunks are drawn. All is then as it was.
-    #[tactic(auto, using(crate::proofs::Applying::step_applied))]
+    #[tactic(auto, using(crate::proofs::Applying::step_applied, crate::proofs::Applying::set_few))]
     pub fn step<V: Mem>(&mut self, code: &Code, mem: &mut V, number: u32) -> Result<(), WeaveFault>
         requires { CanGo code.now (over (V.view mem.old) self.old) }
         ensures { Applied code.now (over (V.view mem.old) self.old) (w.Step number) (over (V.view mem.new) self.new) result }
@@ -118,6 +125,7 @@ impl Tasks {
     /// # Errors
     ///
     /// `NotNow`: it stands at no fork. `Memory`: want of memory. All is then as it was.
+    #[tactic(auto, using(crate::proofs::Applying::set_few))]
     pub fn fork(&mut self, alloc: Global, code: &Code, number: u32) -> Result<(), WeaveFault>
         requires { Runs code.now }
         ensures { (v : M.Memory) → Applied code.now (over v self.old) (w.Fork number) (over v self.new) result }
@@ -132,11 +140,63 @@ impl Tasks {
         self.items[place].fork(alloc, code)
     }
 
+    /// One more task.
+    ///
+    /// # Errors
+    ///
+    /// Want of memory. The tasks are then as they were.
+    #[tactic(auto, using(crate::proofs::Applying::few_more))]
+    fn add(&mut self, task: Task) -> Result<(), Memory>
+        requires { length self.old < 2 ^ 32 }
+        ensures added { OnOk result (self.new ≡ self.old ++ task ∷ []) }
+        ensures same { OnErr result (self.new ≡ self.old) }
+    {
+        self.items.push(task)?;
+        Ok(())
+    }
+
+    /// The oldest right side of a task that waits becomes a task of its own.
+    ///
+    /// # Errors
+    ///
+    /// `NotNow`: none waits, or 2^32 tasks were made. `Memory`: want of memory. All is then as it was.
+    #[tactic(auto, using(crate::proofs::Applying::set_few))]
+    pub fn steal(&mut self, alloc: Global, code: &Code, number: u32) -> Result<(), WeaveFault>
+        requires { HaveWidth code.now self.old }
+        ensures { (v : M.Memory) → Applied code.now (over v self.old) (w.Steal number) (over v self.new) result }
+    {
+        let place = number as usize;
+        if !self.is_on(place) {
+            return Err(WeaveFault::NotNow);
+        }
+        if self.items.len() >= TASKS {
+            return Err(WeaveFault::NotNow);
+        }
+        if !self.at(place).has_waiting() {
+            return Err(WeaveFault::NotNow);
+        }
+        match self.at(place).oldest(alloc, code) {
+            Err(_) => Err(WeaveFault::Memory),
+            Ok(machine) => {
+                let side = self.items.len() as u32;
+                let task = Task::new(alloc, machine, Tails::new());
+                match self.add(task) {
+                    Err(_) => Err(WeaveFault::Memory),
+                    Ok(()) => {
+                        self.items[place].begin_oldest(side);
+                        Ok(())
+                    }
+                }
+            }
+        }
+    }
+
     /// A task takes its newest right side back, which waits.
     ///
     /// # Errors
     ///
     /// `NotNow`: it stands at no join, or the side does not wait. All is then as it was.
+    #[tactic(auto, using(crate::proofs::Applying::set_few))]
     pub fn take(&mut self, code: &Code, number: u32) -> Result<(), WeaveFault>
         requires { Runs code.now }
         ensures { (v : M.Memory) → Applied code.now (over v self.old) (w.Take number) (over v self.new) result }
@@ -160,6 +220,7 @@ impl Tasks {
     /// # Errors
     ///
     /// `NotNow`: it has not ended. All is then as it was.
+    #[tactic(auto, using(crate::proofs::Applying::set_few))]
     pub fn finish(&mut self, code: &Code, number: u32) -> Result<(), WeaveFault>
         ensures { (v : M.Memory) → Applied code.now (over v self.old) (w.Finish number) (over v self.new) result }
     {
@@ -194,6 +255,7 @@ impl Tasks {
     /// # Errors
     ///
     /// `NotNow`: it stands at no join, or the side's task has not ended. All is then as it was.
+    #[tactic(auto, using(crate::proofs::Applying::set_few))]
     pub fn join(&mut self, code: &Code, number: u32) -> Result<(), WeaveFault>
         ensures { (v : M.Memory) → Applied code.now (over v self.old) (w.Join number) (over v self.new) result }
     {
@@ -215,6 +277,112 @@ impl Tasks {
                 }
             },
         }
+    }
+
+    /// An event happens, in a time that depends neither on how many tasks there are nor on how deep their stacks are.
+    ///
+    /// # Errors
+    ///
+    /// `NotNow`: it is not enabled. `Full`: it draws, and all chunks are drawn. `Memory`: want of memory. All is then as it was.
+    pub fn apply<V: Mem>(
+        &mut self,
+        alloc: Global,
+        code: &Code,
+        mem: &mut V,
+        event: Event,
+    ) -> Result<(), WeaveFault>
+        requires { CanGo code.now (over (V.view mem.old) self.old) }
+        ensures { Applied code.now (over (V.view mem.old) self.old) (event_of event) (over (V.view mem.new) self.new) result }
+    {
+        match event {
+            Event::Step(number) => self.step(code, mem, number),
+            Event::Fork(number) => self.fork(alloc, code, number),
+            Event::Steal(number) => self.steal(alloc, code, number),
+            Event::Take(number) => self.take(code, number),
+            Event::Finish(number) => self.finish(code, number),
+            Event::Join(number) => self.join(code, number),
+        }
+    }
+
+    /// The event of a task at a join: its newest right side is taken back, or joined if its task has ended.
+    #[tactic(auto, using(crate::proofs::Picking::no_sides, crate::proofs::Picking::newest_waits, crate::proofs::Picking::newest_ended, crate::proofs::Picking::newest_goes_on))]
+    fn pick_at_join(&self, number: u32) -> Option<Event>
+        requires { number < length self.now }
+        ensures { picked_of result ≡ w.pick_at_join self.now number (task self.now number).sides }
+    {
+        match self.at(number as usize).newest_side() {
+            None => None,
+            Some(Newest::Waiting) => Some(Event::Take(number)),
+            Some(Newest::Begun(side)) => match self.finished(side as usize) {
+                Some(_) => Some(Event::Join(number)),
+                None => None,
+            },
+        }
+    }
+
+    /// The event that a task may do, other than a steal; None where it has none.
+    pub fn pick_of(&self, code: &Code, number: u32) -> Option<Event>
+        ensures { (v : M.Memory) → picked_of result ≡ w.pick_of code.now (over v self.now) number }
+    {
+        let place = number as usize;
+        if !self.is_on(place) {
+            return None;
+        }
+        match self.at(place).stand(code) {
+            Stand::Goes => Some(Event::Step(number)),
+            Stand::Fork => Some(Event::Fork(number)),
+            Stand::Join => self.pick_at_join(number),
+            Stand::End(_) => Some(Event::Finish(number)),
+        }
+    }
+
+    /// An event other than a steal, of the newest task that has one; None where there is none.
+    #[tactic(auto, using(crate::proofs::Picking::first_found, crate::proofs::Picking::not_this))]
+    pub fn pick(&self, code: &Code) -> Option<Event>
+        ensures { (v : M.Memory) → picked_of result ≡ w.pick code.now (over v self.now) }
+    {
+        let mut rest = self.items.len();
+        'tasks: while rest > 0 {
+            rest -= 1;
+            if let Some(event) = self.pick_of(code, rest as u32) {
+                return Some(event);
+            }
+        }
+        None
+    }
+
+    /// Whether a task runs, and has a right side that waits.
+    #[tactic(auto, using(crate::proofs::Picking::not_running))]
+    fn may_be_stolen_from(&self, place: usize) -> bool
+        requires { place < length self.now }
+        ensures { result ≡ can_steal_from (task self.now place) }
+    {
+        let task = self.at(place);
+        if !task.is_running() {
+            return false;
+        }
+        task.has_waiting()
+    }
+
+    /// A steal, from the newest task that has a right side that waits; None where there is none, or 2^32 tasks were made.
+    #[tactic(auto, using(crate::proofs::Picking::steal_here, crate::proofs::Picking::steal_later, crate::proofs::Picking::steal_ended, crate::proofs::Picking::steal_many, crate::proofs::Picking::steal_few))]
+    pub fn pick_steal(&self) -> Option<Event>
+        ensures { (v : M.Memory) → picked_of result ≡ w.pick_steal (over v self.now) }
+    {
+        if !self.is_on(0) {
+            return None;
+        }
+        if self.items.len() >= TASKS {
+            return None;
+        }
+        let mut rest = self.items.len();
+        'tasks: while rest > 0 {
+            rest -= 1;
+            if self.may_be_stolen_from(rest) {
+                return Some(Event::Steal(rest as u32));
+            }
+        }
+        None
     }
 
     /// The answer of the root; None until it has ended.
