@@ -44,3 +44,4 @@ pub mod Applying
 pub mod Picking
 pub mod Going
 pub mod Single
+pub mod Wovens

@@ -12,3 +12,4 @@ pub mod Weave
 pub mod Calling
 pub mod Running
 pub mod Applied
+pub mod Woven

@@ -10,6 +10,7 @@ mod sides;
 mod steps;
 mod task;
 mod tasks;
+mod weave;
 pub mod weave_law;
 
 pub use event::Event;
@@ -17,3 +18,4 @@ pub use root_run::{RunFault, run};
 pub use steps::run_for;
 pub use task::WeaveFault;
 pub use tasks::Tasks;
+pub use weave::{Nesting, Weave};

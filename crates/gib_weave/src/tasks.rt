@@ -279,7 +279,8 @@ impl Tasks {
         }
     }
 
-    /// An event happens, in a time that depends neither on how many tasks there are nor on how deep their stacks are.
+    /// An event happens. It takes a time that depends neither on how many tasks there are nor on how deep their stacks are; a steal
+    /// takes all memory of a machine.
     ///
     /// # Errors
     ///
