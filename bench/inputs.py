@@ -111,13 +111,51 @@ def pair(k, pairs):
     return PAIR.format(k=k, d=k // PAIRS_PER_TYPE, **others)
 
 
+MAIN = "main (n : Int) : Int = n ;\n"
+
+
 def source(size):
     """A typed source of about so many bytes: types, pairs of functions that call others, and main."""
     pairs = size // BYTES_PER_PAIR
     boxes = (f"data Box_{k} = Box_{k} Int Tree ;\n" for k in range(pairs // PAIRS_PER_TYPE))
     types = "data Tree = Leaf Int | Node Tree Tree ;\n\n" + "".join(boxes) + "\n"
     functions = "".join(pair(k, pairs) for k in range(pairs))
-    main = "main (n : Int) : Int = n ;\n"
     comment = "-- " + "x" * 96 + "\n"
-    left = size - len(types) - len(functions) - len(main)
-    return (types + functions + comment * (left // len(comment)) + main).encode()
+    left = size - len(types) - len(functions) - len(MAIN)
+    return (types + functions + comment * (left // len(comment)) + MAIN).encode()
+
+
+# What one constructor, one branch and one head can hold at most, near the limits of a source.
+ARMS, LEVELS, FIELDS = 198, 180, 8
+
+
+def functions_up_to(size, types, function):
+    """A source of types, of as many functions as fit into so many bytes, and of main."""
+    count = (size - len(types) - len(MAIN)) // len(function(999))
+    return (types + "".join(function(k) for k in range(count)) + MAIN).encode()
+
+
+def arms_source(size):
+    """Functions whose `case` has nearly as many arms as a program may have constructors."""
+    names = [f"Case_{k}" for k in range(ARMS)]
+    arms = " ; ".join(f"{name} -> {k}" for k, name in enumerate(names))
+    types = f"data Many = {' | '.join(names)} ;\n\n"
+    return functions_up_to(size, types, lambda k: f"fun pick_{k} (m : Many) : Int = case m of {{ {arms} }} ;\n\n")
+
+
+def deep_source(size):
+    """Functions whose expressions are nested nearly as deep as they may be, with many operations at the greatest depth."""
+    end = "n"
+    for _ in range(LEVELS // 20):
+        end = f"({end} + {end})"
+    tests = " ".join(f"if (n < {k}) then {k} else" for k in range(LEVELS))
+    return functions_up_to(size, "", lambda k: f"fun deep_{k} (n : Int) : Int = {tests} {end} ;\n\n")
+
+
+def wide_source(size):
+    """Functions that build many heads of as many packed fields as there may be."""
+    fields = " ".join("abcdefgh"[:FIELDS])
+    types = f"data Tree = Leaf Int | Node{' Tree' * FIELDS} ;\n\n"
+    built = "".join(f"let x{k} = Node {fields} in " for k in range(6 * FIELDS))
+    arms = f"Leaf n -> t ; Node {fields} -> {built}x0"
+    return functions_up_to(size, types, lambda k: f"fun wide_{k} (t : Tree) : Tree = case t of {{ {arms} }} ;\n\n")

@@ -1,18 +1,17 @@
 """Times the program on inputs and sources of two sizes, one ten times the other, and holds the aims against them."""
 
+import math
 import os
 import shutil
 import subprocess
 import sys
 import tempfile
+from typing import NamedTuple
 
 import inputs
 
 # Ten times the input may take so many times the time.
 MOST_RATIO = 13
-# Bytes of memory at the peak for each byte of payload and of source.
-MOST_PER_PAYLOAD = 40
-MOST_PER_SOURCE = 100
 # The least time of so many runs counts.
 RUNS = 3
 
@@ -31,6 +30,19 @@ GROWTH = 8
 def chunks_for(payload):
     """How many chunks of memory a run on so many bytes gets."""
     return str(GROWTH * payload // 4096 + 64)
+
+
+class Aims(NamedTuple):
+    """What a command may take at the greater size: bytes of memory at the peak for each byte of payload or source, and seconds."""
+
+    per_byte: float = math.inf
+    seconds: float = math.inf
+
+
+VALUES = Aims(per_byte=40)
+SOURCE = Aims(per_byte=100, seconds=2)
+# A core or code may be many times as long as its source, so its memory is only printed.
+PRINTED = Aims(seconds=2)
 
 
 class Missed(Exception):
@@ -54,7 +66,7 @@ def measure(words, out, result, due):
     for _ in range(RUNS):
         time, peak = run_once(words, out)
         with open(result, "rb") as made:
-            if made.read() != due:
+            if not due(made.read()) if callable(due) else made.read() != due:
                 raise Missed("another result than is due")
         seconds.append(time)
         peaks.append(peak)
@@ -74,7 +86,7 @@ class Bench:
         with open(self.at(name), "wb") as file:
             file.write(data)
 
-    def case(self, what, most_memory, sizes, words, due, result="out"):
+    def case(self, what, aims, sizes, words, due, result="out"):
         """Measures a command on `NAME.0` and `NAME.1`, for the names among its words, of the two sizes. `#` stands for the chunks that a run of
         that size gets."""
         found, faults = [], []
@@ -94,21 +106,51 @@ class Bench:
                 print(f"{ratio:>8.1f}", end="")
                 if ratio > MOST_RATIO:
                     faults.append(f"more than {MOST_RATIO} times the time")
+                if seconds > aims.seconds:
+                    faults.append(f"more than {aims.seconds} s")
                 # at the greater size alone, where the program's own few million bytes don't matter
-                if per_byte > most_memory:
-                    faults.append(f"more than {most_memory} bytes a byte")
+                if per_byte > aims.per_byte:
+                    faults.append(f"more than {aims.per_byte} bytes a byte")
             print(flush=True)
         for fault in faults:
             print(f"{what}: MISSED: {fault}", flush=True)
         self.failed += bool(faults)
 
 
+def has_functions(source, begins):
+    """Whether a text has a line that begins a function for each function of a source."""
+    due = source.count(b"fun ")
+    return lambda made: sum(map(begins, made.splitlines())) == due
+
+
+def begins_in_core(line):
+    return line.startswith(b"fun ")
+
+
+def begins_in_code(line):
+    """Main's line is no function's; each instruction begins with its number."""
+    return not line[:1].isdigit() and not line.startswith(b"main ")
+
+
+def measure_passes(bench, what, make):
+    """Checks sources of two sizes, and prints their cores and their code."""
+    sources = [make(size) for size in SOURCES]
+    for place, source in enumerate(sources):
+        bench.put(f"large.{place}", source)
+    bench.case(f"check, {what}", SOURCE, SOURCES, ["check", "@large"], [b"ok\n"] * 2)
+    for command, begins in (("core", begins_in_core), ("code", begins_in_code)):
+        dues = [has_functions(source, begins) for source in sources]
+        bench.case(f"{command}, {what}", PRINTED, SOURCES, [command, "@large"], dues)
+
+
 def measure_sources(bench):
-    for place, size in enumerate(SOURCES):
-        bench.put(f"large.{place}", inputs.source(size))
+    measure_passes(bench, "source", inputs.source)
+    for place in range(len(SOURCES)):
         bench.put(f"one.{place}", inputs.packed(inputs.number(1)))
-    bench.case("check, source", MOST_PER_SOURCE, SOURCES, ["check", "@large"], [b"ok\n"] * 2)
-    bench.case("run, source", MOST_PER_SOURCE, SOURCES, ["run", "@large", "@one"], [b"1\n"] * 2)
+    bench.case("run, source", SOURCE, SOURCES, ["run", "@large", "@one"], [b"1\n"] * 2)
+    measure_passes(bench, "arms", inputs.arms_source)
+    measure_passes(bench, "deep", inputs.deep_source)
+    measure_passes(bench, "wide", inputs.wide_source)
 
 
 def measure_values(bench, what, program, file, text, result, counts, texts):
@@ -118,15 +160,15 @@ def measure_values(bench, what, program, file, text, result, counts, texts):
         bench.put(f"packed.{place}", file(count))
     sizes = [len(file(count)) - len(inputs.packed(b"")) for count in counts]
     shown = [text(count) for count in counts]
-    bench.case(f"show, {what}", MOST_PER_PAYLOAD, sizes, ["show", "@program", "@packed"], shown)
+    bench.case(f"show, {what}", VALUES, sizes, ["show", "@program", "@packed"], shown)
     run = [result(count) for count in counts]
-    bench.case(f"run, {what}", MOST_PER_PAYLOAD, sizes, ["run", "@program", "@packed", "--chunks", "#"], run)
-    bench.case(f"plain, {what}", MOST_PER_PAYLOAD, sizes, ["plain", "@program", "@packed"], run)
+    bench.case(f"run, {what}", VALUES, sizes, ["run", "@program", "@packed", "--chunks", "#"], run)
+    bench.case(f"plain, {what}", VALUES, sizes, ["plain", "@program", "@packed"], run)
     for place, count in enumerate(texts):
         bench.put(f"text.{place}", text(count))
     sizes = [len(file(count)) - len(inputs.packed(b"")) for count in texts]
     words = ["pack", "@program", "@text", bench.at("made")]
-    bench.case(f"pack, {what}", MOST_PER_PAYLOAD, sizes, words, [file(count) for count in texts], "made")
+    bench.case(f"pack, {what}", VALUES, sizes, words, [file(count) for count in texts], "made")
 
 
 def ocaml_programs(folder):
