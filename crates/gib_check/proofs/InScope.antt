@@ -1,12 +1,12 @@
 -- Variables in scope, one more and one fewer.
-use Rattle.std.proofs.Common.{◌≡◌, ℕ, zero, suc, ◌+◌, ◌-◌, ◌<◌, ◌≤◌, Bool, true, false, cond, eqb, List, [], ◌∷◌, ◌++◌, drop, length, Option, Some, None, refl, sym, ap, ◌∙◌, subst, arith, slice_get}
-use Rattle.std.proofs.lemmas.Bool.{eqb-true, eq-eqb}
+use Rattle.std.proofs.Common.{◌≡◌, ℕ, zero, suc, ◌+◌, ◌-◌, ◌<◌, ◌≤◌, Bool, true, false, cond, eqb, List, [], ◌∷◌, ◌++◌, drop, take, get_or, length, Option, Some, refl, sym, ap, ◌∙◌, subst, arith}
+use Rattle.std.proofs.lemmas.Bool.{eqb-true}
 use Rattle.std.proofs.lemmas.List.{length-drop}
-use Rattle.std.proofs.lemmas.Option.{slice_get_within}
+use Rattle.std.proofs.Math.Seq.{take-length, take-suc}
 use Rattle.gib_types.specs.declared.table.Ty.{Ty}
 use Rattle.gib_syntax.specs.Typing.{Scope, type_in}
 use Rattle.gib_check.specs.declared.variables.Variable.{Variable}
-use Rattle.gib_check.specs.Entries.{entry_at, joined}
+use Rattle.gib_check.specs.Entries.{entry_at}
 use Rattle.gib_check.specs.InScope.{scope_onto, scope_of, AreHidden, IsScope}
 
 onto-push : (scope : Scope) (vs : List Variable) (v : Variable) → scope_onto scope (vs ++ v ∷ []) ≡ (v.name.0, v.ty) ∷ scope_onto scope vs
@@ -25,10 +25,10 @@ hidden-front scope [] v h = (tt, h.0)
 hidden-front scope (w ∷ vs) v h = let p = hidden-front ((w.name.0, w.ty) ∷ scope) vs v h.1 in ((h.0, p.0), p.1)
 
 -- One more variable.
-pub one_in : (vs new : List Variable) (v : Variable) (types room after : List (Option Ty)) → IsScope vs types → ((n : ℕ) → entry_at room n ≡ entry_at types n) → v.hidden ≡ entry_at room v.name.0 → new ≡ vs ++ v ∷ [] → ((n : ℕ) → entry_at after n ≡ cond (eqb v.name.0 n) (Some v.ty) (entry_at room n)) → IsScope new after
-one_in vs new v types room after h same eh e put = record {
-  each = λ n. put n ∙ ap (λ o. cond (eqb v.name.0 n) (Some v.ty) o) (same n ∙ h.each n) ∙ sym (ap (λ z. type_in (scope_of z) n) e ∙ ap (λ s. type_in s n) (scope_of-push vs v));
-  hidden = subst (AreHidden []) (sym e) (hidden-push [] vs v h.hidden (eh ∙ same v.name.0 ∙ h.each v.name.0));
+pub one_in : (vs new : List Variable) (v : Variable) (types after : List (Option Ty)) → IsScope vs types → v.hidden ≡ entry_at types v.name.0 → new ≡ vs ++ v ∷ [] → ((n : ℕ) → entry_at after n ≡ cond (eqb v.name.0 n) (Some v.ty) (entry_at types n)) → IsScope new after
+one_in vs new v types after h eh e put = record {
+  each = λ n. put n ∙ ap (λ o. cond (eqb v.name.0 n) (Some v.ty) o) (h.each n) ∙ sym (ap (λ z. type_in (scope_of z) n) e ∙ ap (λ s. type_in s n) (scope_of-push vs v));
+  hidden = subst (AreHidden []) (sym e) (hidden-push [] vs v h.hidden (eh ∙ h.each v.name.0));
 }
 
 -- The newest variable goes.
@@ -47,16 +47,10 @@ one_out old vs v types after h e put = record {
   go n true q = p.1 ∙ ap (λ z. type_in (scope_of vs) z) (eqb-true v.name.0 n q)
   go n false q = here n ∙ ap (λ b. cond b (Some v.ty) (type_in (scope_of vs) n)) q
 
--- There is room for what stands somewhere.
-entry_within : {A : Type 0} (types : List (Option A)) (n : ℕ) (t : A) → entry_at types n ≡ Some t → n < length types
-entry_within {A = A} types n t e = go (slice_get types n) refl e where
-  go : (o : Option (Option A)) → slice_get types n ≡ o → joined o ≡ Some t → n < length types
-  go None q f = absurd cc
-  go (Some p) q f = slice_get_within types n p q
-
-pub newest_within : (old vs : List Variable) (v : Variable) (types : List (Option Ty)) → IsScope old types → old ≡ vs ++ v ∷ [] → v.name.0 < length types
-newest_within old vs v types h e =
-    entry_within types v.name.0 v.ty (h.each v.name.0 ∙ ap (λ z. type_in (scope_of z) v.name.0) e ∙ ap (λ s. type_in s v.name.0) (scope_of-push vs v) ∙ ap (λ b. cond b (Some v.ty) (type_in (scope_of vs) v.name.0)) (eq-eqb v.name.0 v.name.0 refl))
+-- The newest variable stands behind all others.
+pub newest_out : (old vs : List Variable) (v : Variable) (n : ℕ) → 0 < length old → n ≡ length old - 1 → v ≡ get_or old n v → vs ≡ take n old → old ≡ vs ++ v ∷ []
+newest_out old vs v n lt e is t =
+    sym (ap (λ k. take k old) (let l : suc n ≡ length old = omega arith in l) ∙ take-length old) ∙ take-suc old n v (omega arith) ∙ ap (λ l. l ++ get_or old n v ∷ []) (sym t) ∙ ap (λ x. vs ++ x ∷ []) (sym is)
 
 length-onto : (scope : Scope) (vs : List Variable) → length (scope_onto scope vs) ≡ length scope + length vs
 length-onto scope [] = omega arith

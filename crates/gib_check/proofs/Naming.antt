@@ -37,8 +37,8 @@ length-numbers [] = refl
 length-numbers (m ∷ names) = ap suc (length-numbers names)
 
 -- A name that was not there is put at its number.
-pub name_put : (names new : List Name) (n : Name) (places room after : List (Option ℕ)) (place : ℕ) (o : Option ℕ) → ArePlaces (map number names) places → new ≡ names ++ n ∷ [] → length new < 2 ^ 32 → ((other : ℕ) → entry_at room other ≡ entry_at places other) → o ≡ entry_at room n.0 → is_some o ≡ false → place ≡ length names → ((other : ℕ) → entry_at after other ≡ cond (eqb n.0 other) (Some place) (entry_at room other)) → ArePlaces (map number new) after
-name_put names new n places room after place o h e lt same eo none ep put = record {
+pub name_put : (names new : List Name) (n : Name) (places after : List (Option ℕ)) (place : ℕ) (o : Option ℕ) → ArePlaces (map number names) places → new ≡ names ++ n ∷ [] → length new < 2 ^ 32 → o ≡ entry_at places n.0 → is_some o ≡ false → place ≡ length names → ((other : ℕ) → entry_at after other ≡ cond (eqb n.0 other) (Some place) (entry_at places other)) → ArePlaces (map number new) after
+name_put names new n places after place o h e lt eo none ep put = record {
   few = let l = length-numbers new in omega (arith, l, lt);
   each = λ x. put x ∙ go x (eqb n.0 x) refl ∙ sym (ap (λ z. place_of (map number z) x) e ∙ ap (λ z. place_of z x) (numbers-push names n));
 } where
@@ -47,24 +47,24 @@ name_put names new n places room after place o h e lt same eo none ep put = reco
   is (Some i) r = absurd cc
 
   absent : place_of (map number names) n.0 ≡ None
-  absent = sym (eo ∙ same n.0 ∙ h.each n.0) ∙ is o none
+  absent = sym (eo ∙ h.each n.0) ∙ is o none
 
-  go : (x : ℕ) (b : Bool) → eqb n.0 x ≡ b → cond b (Some place) (entry_at room x) ≡ place_of (map number names ++ n.0 ∷ []) x
+  go : (x : ℕ) (b : Bool) → eqb n.0 x ≡ b → cond b (Some place) (entry_at places x) ≡ place_of (map number names ++ n.0 ∷ []) x
   go x true eb = subst (λ z. Some place ≡ place_of (map number names ++ n.0 ∷ []) z) (eqb-true n.0 x eb) (sym (place_new (map number names) n.0 absent ∙ ap Some (length-numbers names ∙ sym ep)))
-  go x false eb = same x ∙ h.each x ∙ sym (place_other (map number names) n.0 x eb)
+  go x false eb = h.each x ∙ sym (place_other (map number names) n.0 x eb)
 
 -- A name that was there keeps its first place.
-pub name_kept : (names new : List Name) (n : Name) (places room : List (Option ℕ)) (o : Option ℕ) → ArePlaces (map number names) places → new ≡ names ++ n ∷ [] → length new < 2 ^ 32 → ((other : ℕ) → entry_at room other ≡ entry_at places other) → o ≡ entry_at room n.0 → is_some o ≡ true → ArePlaces (map number new) room
-name_kept names new n places room o h e lt same eo there = record {
+pub name_kept : (names new : List Name) (n : Name) (places : List (Option ℕ)) (o : Option ℕ) → ArePlaces (map number names) places → new ≡ names ++ n ∷ [] → length new < 2 ^ 32 → o ≡ entry_at places n.0 → is_some o ≡ true → ArePlaces (map number new) places
+name_kept names new n places o h e lt eo there = record {
   few = let l = length-numbers new in omega (arith, l, lt);
-  each = λ x. same x ∙ h.each x ∙ sym (ap (λ z. place_of (map number z) x) e ∙ ap (λ z. place_of z x) (numbers-push names n) ∙ go x (eqb n.0 x) refl);
+  each = λ x. h.each x ∙ sym (ap (λ z. place_of (map number z) x) e ∙ ap (λ z. place_of z x) (numbers-push names n) ∙ go x (eqb n.0 x) refl);
 } where
   at : (q : Option ℕ) → is_some q ≡ true → (i : ℕ) × (q ≡ Some i)
   at None r = absurd cc
   at (Some i) r = (i, refl)
 
   go : (x : ℕ) (b : Bool) → eqb n.0 x ≡ b → place_of (map number names ++ n.0 ∷ []) x ≡ place_of (map number names) x
-  go x true eb = let p = at o there in subst (λ z. place_of (map number names ++ n.0 ∷ []) z ≡ place_of (map number names) z) (eqb-true n.0 x eb) (place_kept (map number names) n.0 n.0 p.0 (sym (eo ∙ same n.0 ∙ h.each n.0) ∙ p.1))
+  go x true eb = let p = at o there in subst (λ z. place_of (map number names ++ n.0 ∷ []) z ≡ place_of (map number names) z) (eqb-true n.0 x eb) (place_kept (map number names) n.0 n.0 p.0 (sym (eo ∙ h.each n.0) ∙ p.1))
   go x false eb = place_other (map number names) n.0 x eb
 
 -- A place that is found is one of the names.

@@ -42,4 +42,4 @@ place_above lowest places con = if nat_lt con lowest then None else entry_at pla
 
 -- What an index says of a constructor.
 abbrev pub place_in : ArmIndex → ℕ → Option ℕ
-place_in index con = place_above index.lowest index.places.items con
+place_in index con = place_above index.lowest index.places con

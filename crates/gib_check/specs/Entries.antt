@@ -1,15 +1,7 @@
--- What stands at numbers, in a list.
-use Rattle.std.specs.Prelude.{◌≡◌, ◌<◌, ◌^◌, ℕ, List, length, Option, Some, None, slice_get}
+-- What stands at the numbers of names.
+use Rattle.std.specs.Prelude.{◌≡◌, ◌<◌, ◌^◌, ℕ, List, length, Option, Some, None}
+pub use Rattle.gib_base.specs.Entries.{joined, entry_at}
 use Rattle.gib_syntax.specs.Declarations.{place_of}
-
--- What there is, where there is something at all.
-abbrev pub joined : {A : Type 0} → Option (Option A) → Option A
-joined None = None
-joined (Some o) = o
-
--- What stands at a number; past the end nothing does.
-abbrev pub entry_at : {A : Type 0} → List (Option A) → ℕ → Option A
-entry_at entries number = joined (slice_get entries number)
 
 -- The first of two, where it is there, else the second.
 abbrev pub first_of : {A : Type 0} → Option A → Option A → Option A

@@ -6,8 +6,7 @@ ghost use Rattle.gib_check.specs.Entries.{entry_at, first_of};
 ghost use Rattle.gib_check.specs.Views.{table_in};
 
 use crate::declared::Declared;
-use crate::entries::{entry, make_room, set_entry};
-use gib_base::Memory;
+use gib_base::{ByNumber, Memory};
 use gib_syntax::Arm;
 use gib_types::ConId;
 use std::alloc::{AllocError, Global};
@@ -16,7 +15,7 @@ use std::alloc::{AllocError, Global};
 #[derive(Debug, Drop)]
 pub struct ArmIndex {
     pub lowest: u32,
-    pub places: Vec<Option<u32>>,
+    pub places: ByNumber<u32>,
 }
 
 impl ArmIndex {
@@ -25,7 +24,7 @@ impl ArmIndex {
         ensures { result ≡ place_in self.now con.0 }
     {
         match con.0.checked_sub(self.lowest) {
-            Some(slot) => entry(&self.places, slot),
+            Some(slot) => self.places.get(slot),
             None => None,
         }
     }
@@ -47,12 +46,11 @@ fn lowest(declared: &Declared, arms: &[Arm]) -> u32
 }
 
 /// Puts the place of an arm at its constructor's, unless an arm before it stands there.
-fn put_place(places: &mut Vec<Option<u32>>, slot: u32, place: u32) -> Result<(), Memory>
-    ensures { OnOk result ((other : ℕ) → entry_at places.new.items other ≡ (if slot == other then first_of (entry_at places.old.items other) (Some place) else entry_at places.old.items other)) }
+fn put_place(places: &mut ByNumber<u32>, slot: u32, place: u32) -> Result<(), Memory>
+    ensures { OnOk result ((other : ℕ) → entry_at places.new other ≡ (if slot == other then first_of (entry_at places.old other) (Some place) else entry_at places.old other)) }
 {
-    make_room(places, slot)?;
-    if entry(places, slot).is_none() {
-        set_entry(places, slot, Some(place));
+    if places.get(slot).is_none() {
+        places.set(slot, Some(place))?;
     }
     Ok(())
 }
@@ -62,7 +60,7 @@ pub fn index_arms(alloc: Global, declared: &Declared, arms: &[Arm]) -> Result<Ar
     ensures { IfOk result (λ index. (con : ℕ) → place_in index con ≡ place_named (table_in declared.now) (map arm_name arms.now) con) }
 {
     let lowest = lowest(declared, arms);
-    let mut places = Vec::new(alloc);
+    let mut places = ByNumber::new(alloc);
     let mut place = 0_u32;
     let mut rest = arms;
     'arms: while let [arm, after @ ..] = rest {

@@ -48,6 +48,7 @@ pub fn check_body(
         return Err(TypeFault::Memory);
     };
     let mut state = State {
+        alloc,
         scope: Variables::new(alloc),
         counts: Counts {
             variables,
@@ -55,7 +56,7 @@ pub fn check_body(
         },
     };
     push_parameters(declared, &mut state.scope, parameters)?;
-    let ty = infer(alloc, declared, &mut state, body)?;
+    let ty = infer(declared, &mut state, body)?;
     wanted(declared.type_named(result_name), part(declared, body, ty))?;
     Ok(())
 }

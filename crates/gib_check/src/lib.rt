@@ -18,7 +18,6 @@ mod bodies;
 pub mod counts;
 mod datas;
 mod declared;
-mod entries;
 pub mod fault;
 pub mod functions;
 mod heads;

@@ -3,8 +3,7 @@
 ghost use Rattle.std.specs.Prelude.{◌≡◌, ◌<◌, length, IfSome};
 ghost use Rattle.gib_syntax.specs.Declarations.{place_of};
 
-use crate::entries::{entry, make_room, set_entry};
-use gib_base::{Memory, Name};
+use gib_base::{ByNumber, Memory, Name};
 use std::alloc::{AllocError, Global};
 use std::marker::Model;
 
@@ -13,7 +12,7 @@ use std::marker::Model;
 pub struct NameList {
     names: Vec<Name>,
     /// The first place of each name, at the name's number.
-    places: Vec<Option<u32>>,
+    places: ByNumber<u32>,
 }
 
 impl Model for NameList {
@@ -25,7 +24,7 @@ impl Model for NameList {
 
     ghost view = { λ l. map number l.names.items };
 
-    ghost invariant = { λ l. ArePlaces (map number l.names.items) l.places.items };
+    ghost invariant = { λ l. ArePlaces (map number l.names.items) l.places };
 }
 
 impl NameList {
@@ -37,7 +36,7 @@ impl NameList {
     {
         NameList {
             names: Vec::new(alloc),
-            places: Vec::new(alloc),
+            places: ByNumber::new(alloc),
         }
     }
 
@@ -56,10 +55,13 @@ impl NameList {
             return Err(AllocError);
         }
         let place = self.names.len() as u32;
-        make_room(&mut self.places, name.0)?;
+        let len = self.names.len();
         self.names.push(name)?;
-        if entry(&self.places, name.0).is_none() {
-            set_entry(&mut self.places, name.0, Some(place));
+        if self.places.get(name.0).is_none() {
+            if let Err(fault) = self.places.set(name.0, Some(place)) {
+                self.names.truncate(len);
+                return Err(fault);
+            }
         }
         Ok(())
     }
@@ -69,6 +71,6 @@ impl NameList {
         ensures place { result ≡ place_of self.now name.0 }
         ensures within { IfSome result (λ place. place < length self.now) }
     {
-        entry(&self.places, name.0)
+        self.places.get(name.0)
     }
 }

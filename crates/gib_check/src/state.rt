@@ -12,10 +12,12 @@ use crate::variables::Variables;
 use gib_base::Span;
 use gib_syntax::Ident;
 use gib_types::Ty;
+use std::alloc::Global;
 
-/// What is in scope, and what was met so far of a function.
+/// Where memory comes from, what is in scope, and what was met so far of a function.
 #[derive(Drop)]
 pub struct State {
+    pub alloc: Global,
     pub scope: Variables,
     pub counts: Counts,
 }

@@ -3,8 +3,7 @@
 ghost use Rattle.std.specs.Prelude.{◌≡◌, ◌≤◌, ◌-◌, [], length, drop, OnOk};
 ghost use Rattle.gib_syntax.specs.Typing.{type_in, bound};
 
-use crate::entries::{entry, make_room, set_entry};
-use gib_base::{Memory, Name};
+use gib_base::{ByNumber, Memory, Name};
 use gib_syntax::Ident;
 use gib_types::Ty;
 use std::alloc::Global;
@@ -23,7 +22,7 @@ pub struct Variable {
 pub struct Variables {
     variables: Vec<Variable>,
     /// The type of the newest variable of each name, at the name's number.
-    types: Vec<Option<Ty>>,
+    types: ByNumber<Ty>,
 }
 
 impl Model for Variables {
@@ -35,7 +34,7 @@ impl Model for Variables {
 
     ghost view = { λ s. scope_of s.variables.items };
 
-    ghost invariant = { λ s. IsScope s.variables.items s.types.items };
+    ghost invariant = { λ s. IsScope s.variables.items s.types };
 }
 
 impl Variables {
@@ -45,7 +44,7 @@ impl Variables {
     {
         Variables {
             variables: Vec::new(alloc),
-            types: Vec::new(alloc),
+            types: ByNumber::new(alloc),
         }
     }
 
@@ -60,39 +59,51 @@ impl Variables {
     pub fn find(&self, name: Name) -> Option<Ty>
         ensures { result ≡ type_in self.now name.0 }
     {
-        entry(&self.types, name.0)
+        self.types.get(name.0)
     }
 
     /// One more variable.
     pub fn push(&mut self, x: Ident, ty: Ty) -> Result<(), Memory>
         ensures { OnOk result (self.new ≡ bound x ty self.old) }
     {
-        make_room(&mut self.types, x.name.0)?;
-        let hidden = entry(&self.types, x.name.0);
+        let hidden = self.types.get(x.name.0);
+        let len = self.variables.len();
         self.variables.push(Variable {
             name: x.name,
             ty,
             hidden,
         })?;
-        set_entry(&mut self.types, x.name.0, Some(ty));
+        if let Err(fault) = self.types.set(x.name.0, Some(ty)) {
+            self.variables.truncate(len);
+            return Err(fault);
+        }
         Ok(())
     }
 
     /// Takes the newest variable out.
-    fn pop(&mut self)
-        ensures { self.new ≡ drop 1 self.old }
+    fn pop(&mut self) -> Result<(), Memory>
+        ensures { OnOk result (self.new ≡ drop 1 self.old) }
     {
-        if let Some(variable) = self.variables.pop() {
-            set_entry(&mut self.types, variable.name.0, variable.hidden);
+        let len = self.variables.len();
+        if len > 0 {
+            let variable = self.variables[len - 1];
+            self.types.set(variable.name.0, variable.hidden)?;
+            self.variables.truncate(len - 1);
         }
+        Ok(())
     }
 
     /// Keeps so many of the oldest variables.
-    pub fn truncate(&mut self, len: usize)
-        ensures { self.new ≡ drop (length self.old - len) self.old }
+    ///
+    /// # Errors
+    ///
+    /// Want of memory.
+    pub fn truncate(&mut self, len: usize) -> Result<(), Memory>
+        ensures { OnOk result (self.new ≡ drop (length self.old - len) self.old) }
     {
         'variables: while self.len() > len {
-            self.pop();
+            self.pop()?;
         }
+        Ok(())
     }
 }

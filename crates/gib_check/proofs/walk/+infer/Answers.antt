@@ -9,19 +9,19 @@ use Rattle.gib_check.proofs.walk.+infer.Goals as goal
 pub infer-returns-in-Call-clause-read : goal.infer-returns-in-Call-clause-read
 infer-returns-in-Call-clause-read t c =
     gives_same (λ ty. (ty, c.call.new.state.counts)) c.call.result _ _
-    (call_opened (globals_in c.args.declared.now) (tree_in c.args.declared.now) c.args.state.now.scope c.args.state.now.counts (tree_in c.args.declared.now c.args.id.0) c.in-Call.f c.deref.result.now c.in-Call.ids.items (c.node.ensures.0 ∙ ap (λ z. layer (tree_of c.args.declared.now.exprs) (Some z)) c.in-Call.is) c.deref.ensures.value)
+    (call_opened (globals_in c.args.declared.now) (tree_in c.args.declared.now) c.args.state.now.scope c.args.state.now.counts (tree_in c.args.declared.now c.args.id.0) c.in-Call.f c.deref.result.now c.in-Call.ids.items (c.node-node.ensures.0 ∙ ap (λ z. layer (tree_of c.args.declared.now.exprs) (Some z)) c.in-Call.is) c.deref.ensures.value)
     c.call.ensures.read
 
 pub infer-returns-in-Make-clause-read : goal.infer-returns-in-Make-clause-read
 infer-returns-in-Make-clause-read t c =
     gives_same (λ ty. (ty, c.make.new.state.counts)) c.make.result _ _
-    (make_opened (globals_in c.args.declared.now) (tree_in c.args.declared.now) c.args.state.now.scope c.args.state.now.counts (tree_in c.args.declared.now c.args.id.0) c.in-Make.k c.deref-in-Make.result.now c.in-Make.ids.items (c.node.ensures.0 ∙ ap (λ z. layer (tree_of c.args.declared.now.exprs) (Some z)) c.in-Make.is) c.deref-in-Make.ensures.value)
+    (make_opened (globals_in c.args.declared.now) (tree_in c.args.declared.now) c.args.state.now.scope c.args.state.now.counts (tree_in c.args.declared.now c.args.id.0) c.in-Make.k c.deref-in-Make.result.now c.in-Make.ids.items (c.node-node.ensures.0 ∙ ap (λ z. layer (tree_of c.args.declared.now.exprs) (Some z)) c.in-Make.is) c.deref-in-Make.ensures.value)
     c.make.ensures.read
 
-pub infer-returns-in-Case-clause-read : goal.infer-returns-in-Case-clause-read
-infer-returns-in-Case-clause-read t c =
+pub infer_worded-returns-in-Case-clause-read : goal.infer_worded-returns-in-Case-clause-read
+infer_worded-returns-in-Case-clause-read t c =
     gives_same (λ ty. (ty, c.case.new.state.counts)) c.case.result _ _
-    (case_opened (globals_in c.args.declared.now) (tree_in c.args.declared.now) c.args.state.now.scope c.args.state.now.counts (tree_in c.args.declared.now c.args.id.0) c.in-Case.span c.in-Case.variable c.args.id.0 c.deref-in-Case.result.now c.in-Case.arms.items (c.node.ensures.0 ∙ ap (λ z. layer (tree_of c.args.declared.now.exprs) (Some z)) c.in-Case.is) (subst (λ z. PartsBelow z c.args.id.0) c.in-Case.is c.node.ensures.1) c.deref-in-Case.ensures.value)
+    (case_opened (globals_in c.args.declared.now) (tree_in c.args.declared.now) c.args.state.now.scope c.args.state.now.counts (tree_in c.args.declared.now c.args.id.0) c.in-Case.span c.in-Case.variable c.args.id.0 c.deref.result.now c.in-Case.arms.items (c.requires.opens.0 ∙ ap (λ z. layer (tree_of c.args.declared.now.exprs) (Some z)) c.in-Case.is) (subst (λ z. PartsBelow z c.args.id.0) c.in-Case.is c.requires.opens.1) c.deref.ensures.value)
     c.case.ensures.read
 
 pub arguments-returns-in_err-ty-clause-read : goal.arguments-returns-in_err-ty-clause-read

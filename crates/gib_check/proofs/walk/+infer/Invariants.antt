@@ -3,37 +3,40 @@ use Rattle.gib_check.proofs.Loops.{ArgumentsSoFar, ArmsSoFar}
 use Rattle.gib_check.proofs.walk.+infer.Given as goal
 
 abbrev pub decreases-infer : goal.decreases-infer
-decreases-infer l = 5 * l.id.0 + 4
+decreases-infer l = 6 * l.id.0 + 5
+
+abbrev pub decreases-infer_worded : goal.decreases-infer_worded
+decreases-infer_worded l = 6 * l.id.0 + 4
 
 abbrev pub decreases-operation : goal.decreases-operation
-decreases-operation l = 5 * l.id.0 + 3
+decreases-operation l = 6 * l.at.id.0 + 3
 
 abbrev pub decreases-call : goal.decreases-call
-decreases-call l = 5 * l.id.0 + 3
+decreases-call l = 6 * l.id.0 + 3
 
 abbrev pub decreases-make : goal.decreases-make
-decreases-make l = 5 * l.id.0 + 3
+decreases-make l = 6 * l.id.0 + 3
 
 abbrev pub decreases-let_in : goal.decreases-let_in
-decreases-let_in l = 5 * l.id.0 + 3
+decreases-let_in l = 6 * l.at.id.0 + 3
 
 abbrev pub decreases-let_par : goal.decreases-let_par
-decreases-let_par l = 5 * l.id.0 + 3
+decreases-let_par l = 6 * l.at.id.0 + 3
 
 abbrev pub decreases-if_else : goal.decreases-if_else
-decreases-if_else l = 5 * l.id.0 + 3
+decreases-if_else l = 6 * l.at.id.0 + 3
 
 abbrev pub decreases-case : goal.decreases-case
-decreases-case l = 5 * l.id.0 + 3
+decreases-case l = 6 * l.at.id.0 + 3
 
 abbrev pub decreases-arguments : goal.decreases-arguments
-decreases-arguments l = 5 * l.id.0 + 2
+decreases-arguments l = 6 * l.id.0 + 2
 
 abbrev pub decreases-arm_results : goal.decreases-arm_results
-decreases-arm_results l = 5 * l.id.0 + 2
+decreases-arm_results l = 6 * l.id.0 + 2
 
 abbrev pub decreases-arm_result : goal.decreases-arm_result
-decreases-arm_result l = 5 * l.id.0 + 1
+decreases-arm_result l = 6 * l.id.0 + 1
 
 abbrev pub invariant-arguments-arguments : goal.invariant-arguments-arguments
 invariant-arguments-arguments l = ArgumentsSoFar l.declared l.fn.id.0 l.fn.state l.state l.ids l.rest l.parts.items

@@ -1,20 +1,20 @@
-use Rattle.std.proofs.Common.{◌++◌, ap, sym, ◌∙◌, drop}
-use Rattle.std.specs.Option.{option_to_list}
+use Rattle.std.proofs.Common.{ap, sym, ◌∙◌, drop, arith}
 use Rattle.gib_syntax.specs.Typing.{Scope}
 use Rattle.gib_check.specs.InScope.{scope_of}
-use Rattle.gib_check.proofs.InScope.{one_out, newest_within, scope_of-push}
+use Rattle.gib_check.proofs.InScope.{newest_out, one_out, scope_of-push}
 use Rattle.gib_check.proofs.variables.Variables.pop.Goals as goal
 
-pub set_entry-requires : goal.set_entry-requires
-set_entry-requires c =
-    newest_within c.self.inside.variables.items c.pop.new.self.items c.in-Some.variable c.self.inside.types.items c.self.invariant
-    (c.pop.ensures.items ∙ ap (λ z. c.pop.new.self.items ++ option_to_list z) c.in-Some.is)
+pub invariant_of-self-then-len-gt0 : goal.invariant_of-self-then-len-gt0
+invariant_of-self-then-len-gt0 c =
+    one_out c.self.inside.variables.items c.truncate.new.self.items c.index-variable.result.now c.self.inside.types c.set.new.self c.self.invariant
+    (newest_out c.self.inside.variables.items c.truncate.new.self.items c.index-variable.result.now _ (omega (arith, c.if-len-gt0.true, c.len-len.ensures)) (omega (arith, c.len-len.ensures, c.self.inside.variables.ok)) c.index-variable.ensures c.truncate.ensures.items)
+    c.in_ok-set.ensures.set
 
-pub invariant_of-self : goal.invariant_of-self
-invariant_of-self c =
-    one_out c.self.inside.variables.items c.pop.new.self.items c.in-Some.variable c.self.inside.types.items c.set_entry.new.entries.items c.self.invariant
-    (c.pop.ensures.items ∙ ap (λ z. c.pop.new.self.items ++ option_to_list z) c.in-Some.is) c.set_entry.ensures
-
-pub returns-in-Some : goal.returns-in-Some
-returns-in-Some c =
-    sym (ap (λ (s : Scope). drop 1 s) (sym c.self.view_is ∙ ap scope_of (c.pop.ensures.items ∙ ap (λ z. c.pop.new.self.items ++ option_to_list z) c.in-Some.is) ∙ scope_of-push c.pop.new.self.items c.in-Some.variable))
+pub returns-in_ok-set : goal.returns-in_ok-set
+returns-in_ok-set c =
+    sym
+    (ap (λ (s : Scope). drop 1 s)
+    (sym c.self.view_is
+    ∙ ap scope_of
+    (newest_out c.self.inside.variables.items c.truncate.new.self.items c.index-variable.result.now _ (omega (arith, c.if-len-gt0.true, c.len-len.ensures)) (omega (arith, c.len-len.ensures, c.self.inside.variables.ok)) c.index-variable.ensures c.truncate.ensures.items)
+    ∙ scope_of-push c.truncate.new.self.items c.index-variable.result.now))
