@@ -19,6 +19,7 @@ mod cases;
 mod fault;
 mod flagging;
 mod indexed;
+pub mod law;
 mod lines;
 mod rules;
 mod scope;
