@@ -11,3 +11,4 @@ pub mod Scoping
 pub mod Searching
 pub mod Walking
 pub mod FoundLemmas
+pub mod Smallest

@@ -20,6 +20,7 @@ mod entry;
 mod fault;
 mod flagging;
 mod indexed;
+pub mod law;
 mod lines;
 mod rules;
 mod scope;
