@@ -6,26 +6,22 @@ ghost use Rattle.gib_core.specs.Arena.{term_of};
 ghost use Rattle.gib_core.specs.Parts.{IsFunctionInside, function_term, main_term};
 ghost use Rattle.gib_access.specs.Bodies.{ReachesFunction, ReachesFunctions, ReachesMain};
 
+use crate::source::Source;
 use crate::walk::reach_term;
 use crate::work::Work;
 use gib_base::Memory;
-use gib_core::{AccessMode, CoreFunction, CoreMain, Terms};
-use gib_types::TypeTable;
-use std::alloc::Global;
+use gib_core::{CoreFunction, CoreMain};
 
 /// A function with the fields of all arms reached.
 fn reach_function(
-    alloc: Global,
-    mode: AccessMode,
-    types: &TypeTable,
-    terms: &Terms,
+    source: &Source,
     work: &mut Work,
     function: CoreFunction,
 ) -> Result<CoreFunction, Memory>
-    requires { function.body.0 < length terms.now }
-    ensures { IfOk result (λ made. ReachesFunction mode types.now work.old work.new made (function_term (term_of terms.now) function)) }
+    requires { function.body.0 < length source.now.terms }
+    ensures { IfOk result (λ made. ReachesFunction source.now.mode source.now.types work.old work.new made (function_term (term_of source.now.terms) function)) }
 {
-    let body = reach_term(alloc, mode, types, terms, work, function.body)?;
+    let body = reach_term(source, work, function.body)?;
     Ok(CoreFunction {
         name: function.name,
         parameters: function.parameters,
@@ -36,19 +32,16 @@ fn reach_function(
 
 /// The functions but main, from the last one to the first.
 pub fn reach_functions(
-    alloc: Global,
-    mode: AccessMode,
-    types: &TypeTable,
-    terms: &Terms,
+    source: &Source,
     work: &mut Work,
     mut functions: Vec<CoreFunction>,
 ) -> Result<Vec<CoreFunction>, Memory>
-    requires { AllByRecursion (IsFunctionInside (length terms.now)) functions.items }
-    ensures { IfOk result (λ made. ReachesFunctions mode types.now work.old work.new made.items (map (function_term (term_of terms.now)) functions.items)) }
+    requires { AllByRecursion (IsFunctionInside (length source.now.terms)) functions.items }
+    ensures { IfOk result (λ made. ReachesFunctions source.now.mode source.now.types work.old work.new made.items (map (function_term (term_of source.now.terms)) functions.items)) }
 {
-    let mut reversed = Vec::new(alloc);
+    let mut reversed = Vec::new(source.alloc);
     'functions: while let Some(function) = functions.pop() {
-        let function = reach_function(alloc, mode, types, terms, work, function)?;
+        let function = reach_function(source, work, function)?;
         reversed.push(function)?;
     }
     reversed.reverse();
@@ -56,17 +49,10 @@ pub fn reach_functions(
 }
 
 /// Main with the fields of all arms reached.
-pub fn reach_main(
-    alloc: Global,
-    mode: AccessMode,
-    types: &TypeTable,
-    terms: &Terms,
-    work: &mut Work,
-    main: CoreMain,
-) -> Result<CoreMain, Memory>
-    requires { main.body.0 < length terms.now }
-    ensures { IfOk result (λ made. ReachesMain mode types.now work.old work.new made (main_term (term_of terms.now) main)) }
+pub fn reach_main(source: &Source, work: &mut Work, main: CoreMain) -> Result<CoreMain, Memory>
+    requires { main.body.0 < length source.now.terms }
+    ensures { IfOk result (λ made. ReachesMain source.now.mode source.now.types work.old work.new made (main_term (term_of source.now.terms) main)) }
 {
-    let body = reach_term(alloc, mode, types, terms, work, main.body)?;
+    let body = reach_term(source, work, main.body)?;
     Ok(CoreMain { body, ..main })
 }

@@ -17,6 +17,7 @@ mod bodies;
 mod fields;
 pub mod law;
 mod offset_list;
+mod source;
 mod stamps;
 #[cfg(test)]
 mod tests;
@@ -30,6 +31,7 @@ use gib_core::{AccessMode, Core};
 use gib_types::ConId;
 use law::{reaching_keeps_numbers, reaching_keeps_the_meaning};
 use offset_list::OffsetList;
+use source::Source;
 use std::alloc::Global;
 use work::Work;
 
@@ -48,11 +50,17 @@ fn reached(alloc: Global, core: Core, mode: AccessMode) -> Result<Core, Memory>
     ensures { IfOk result (λ made. core_of made ≡ reach_core mode (core_of core)) }
 {
     let (types, terms, functions, main, _) = core.into_parts();
+    let source = Source {
+        alloc,
+        mode,
+        types,
+        terms,
+    };
     let mut work = Work::new(alloc);
-    let main = reach_main(alloc, mode, &types, &terms, &mut work, main)?;
-    let functions = reach_functions(alloc, mode, &types, &terms, &mut work, functions)?;
+    let main = reach_main(&source, &mut work, main)?;
+    let functions = reach_functions(&source, &mut work, functions)?;
     let offsets = offsets_kept(alloc, mode, work.offsets);
-    Ok(Core::new(types, work.terms, functions, main, offsets))
+    Ok(Core::new(source.types, work.terms, functions, main, offsets))
 }
 
 /// A core with the fields of all arms reached, where an arm's term uses them: each from the end of the field

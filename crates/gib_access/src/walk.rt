@@ -10,33 +10,25 @@ ghost use Rattle.gib_core.specs.Tree.{CaseTerm, IfTerm};
 ghost use Rattle.gib_access.specs.Made.{ReachesTerm, ReachesBinding, ReachesSide, ReachesBranches, ReachesBranch};
 
 use crate::fields::{list_constructor, packed_variables, put_reaches};
+use crate::source::Source;
 use crate::stamps::mark_atom;
 use crate::work::{Work, put_call, put_give, put_point, put_write};
 use gib_base::Memory;
-use gib_core::{AccessMode, Atom, Binding, BoundTerm, Branch, Node, TermId, Terms};
-use gib_types::TypeTable;
-use std::alloc::Global;
+use gib_core::{Atom, Binding, BoundTerm, Branch, Node, TermId};
 
 /// A term with the fields of all its arms reached. This recurses as deep as terms are nested in bindings and
 /// branches, and not along a line.
 #[cycle(reach)]
-pub fn reach_term(
-    alloc: Global,
-    mode: AccessMode,
-    types: &TypeTable,
-    terms: &Terms,
-    work: &mut Work,
-    id: TermId,
-) -> Result<TermId, Memory>
-    requires { id.0 < length terms.now }
-    ensures { IfOk result (λ made. ReachesTerm mode types.now work.old work.new made (term_of terms.now id.0)) }
+pub fn reach_term(source: &Source, work: &mut Work, id: TermId) -> Result<TermId, Memory>
+    requires { id.0 < length source.now.terms }
+    ensures { IfOk result (λ made. ReachesTerm source.now.mode source.now.types work.old work.new made (term_of source.now.terms id.0)) }
 {
-    let (bindings, last) = terms.line(alloc, id)?;
-    let mut made = reach_end(alloc, mode, types, terms, work, last)?;
+    let (bindings, last) = source.terms.line(source.alloc, id)?;
+    let mut made = reach_end(source, work, last)?;
     let mut i = bindings.len();
     'bindings: while i > 0 {
         i -= 1;
-        let binding = reach_binding(alloc, mode, types, terms, work, id, bindings[i])?;
+        let binding = reach_binding(source, work, id, bindings[i])?;
         made = work.terms.put(Node::Then(binding, made))?;
     }
     Ok(made)
@@ -44,66 +36,52 @@ pub fn reach_term(
 
 /// The end of a line.
 #[cycle(reach)]
-fn reach_end(
-    alloc: Global,
-    mode: AccessMode,
-    types: &TypeTable,
-    terms: &Terms,
-    work: &mut Work,
-    id: TermId,
-) -> Result<TermId, Memory>
-    requires inside { id.0 < length terms.now }
-    requires end { IsEnd (term_of terms.now id.0) }
-    ensures { IfOk result (λ made. ReachesTerm mode types.now work.old work.new made (term_of terms.now id.0)) }
+fn reach_end(source: &Source, work: &mut Work, id: TermId) -> Result<TermId, Memory>
+    requires inside { id.0 < length source.now.terms }
+    requires end { IsEnd (term_of source.now.terms id.0) }
+    ensures { IfOk result (λ made. ReachesTerm source.now.mode source.now.types work.old work.new made (term_of source.now.terms id.0)) }
 {
-    match terms.node(id) {
+    match source.terms.node(id) {
         Node::Then(_, _) => unreachable!(),
         Node::Write {
             head,
             constructor,
             scalars,
             packed,
-        } => put_write(alloc, work, *head, *constructor, scalars, packed),
+        } => put_write(source.alloc, work, *head, *constructor, scalars, packed),
         Node::Point(atom) => put_point(work, *atom),
-        Node::Call(name, arguments) => put_call(alloc, work, *name, arguments),
+        Node::Call(name, arguments) => put_call(source.alloc, work, *name, arguments),
         Node::Give(atom) => put_give(work, *atom),
-        Node::Case { subject, branches } => {
-            reach_case(alloc, mode, types, terms, work, id, *subject, branches)
-        }
+        Node::Case { subject, branches } => { reach_case(source, work, id, *subject, branches) }
         Node::If {
             condition,
             then_part,
             else_part,
-        } => reach_if(
-            alloc, mode, types, terms, work, id, *condition, *then_part, *else_part,
-        ),
+        } => reach_if(source, work, id, *condition, *then_part, *else_part),
     }
 }
 
 /// A binding of the term of a number, whose terms stand below it.
 #[cycle(reach)]
 fn reach_binding(
-    alloc: Global,
-    mode: AccessMode,
-    types: &TypeTable,
-    terms: &Terms,
+    source: &Source,
     work: &mut Work,
     whole: TermId,
     binding: Binding,
 ) -> Result<Binding, Memory>
-    requires inside { whole.0 < length terms.now }
+    requires inside { whole.0 < length source.now.terms }
     requires below { IsBindingBelow whole.0 binding }
-    ensures { IfOk result (λ made. ReachesBinding mode types.now work.old work.new made (bind_from (term_of terms.now) binding)) }
+    ensures { IfOk result (λ made. ReachesBinding source.now.mode source.now.types work.old work.new made (bind_from (term_of source.now.terms) binding)) }
 {
     match binding {
         Binding::Past { .. } => Ok(binding),
         Binding::One(side) => {
-            let side = reach_side(alloc, mode, types, terms, work, side)?;
+            let side = reach_side(source, work, side)?;
             Ok(Binding::One(side))
         }
         Binding::Par { fork, left, right } => {
-            let right = reach_side(alloc, mode, types, terms, work, right)?;
-            let left = reach_side(alloc, mode, types, terms, work, left)?;
+            let right = reach_side(source, work, right)?;
+            let left = reach_side(source, work, left)?;
             Ok(Binding::Par { fork, left, right })
         }
         Binding::Prim { left, right, .. } => {
@@ -117,41 +95,31 @@ fn reach_binding(
 
 /// A variable with the term that it is bound to.
 #[cycle(reach)]
-fn reach_side(
-    alloc: Global,
-    mode: AccessMode,
-    types: &TypeTable,
-    terms: &Terms,
-    work: &mut Work,
-    side: BoundTerm,
-) -> Result<BoundTerm, Memory>
-    requires { side.term.0 < length terms.now }
-    ensures { IfOk result (λ made. ReachesSide mode types.now work.old work.new made (side_from (term_of terms.now) side)) }
+fn reach_side(source: &Source, work: &mut Work, side: BoundTerm) -> Result<BoundTerm, Memory>
+    requires { side.term.0 < length source.now.terms }
+    ensures { IfOk result (λ made. ReachesSide source.now.mode source.now.types work.old work.new made (side_from (term_of source.now.terms) side)) }
 {
-    let term = reach_term(alloc, mode, types, terms, work, side.term)?;
+    let term = reach_term(source, work, side.term)?;
     Ok(BoundTerm { term, ..side })
 }
 
 /// The `if` of a number, whose parts stand below it.
 #[cycle(reach)]
 fn reach_if(
-    alloc: Global,
-    mode: AccessMode,
-    types: &TypeTable,
-    terms: &Terms,
+    source: &Source,
     work: &mut Work,
     whole: TermId,
     condition: Atom,
     then_part: TermId,
     else_part: TermId,
 ) -> Result<TermId, Memory>
-    requires inside { whole.0 < length terms.now }
+    requires inside { whole.0 < length source.now.terms }
     requires then_part { then_part.0 < whole.0 }
     requires else_part { else_part.0 < whole.0 }
-    ensures { IfOk result (λ made. ReachesTerm mode types.now work.old work.new made (IfTerm condition (term_of terms.now then_part.0) (term_of terms.now else_part.0))) }
+    ensures { IfOk result (λ made. ReachesTerm source.now.mode source.now.types work.old work.new made (IfTerm condition (term_of source.now.terms then_part.0) (term_of source.now.terms else_part.0))) }
 {
-    let else_part = reach_term(alloc, mode, types, terms, work, else_part)?;
-    let then_part = reach_term(alloc, mode, types, terms, work, then_part)?;
+    let else_part = reach_term(source, work, else_part)?;
+    let then_part = reach_term(source, work, then_part)?;
     mark_atom(&mut work.stamps, condition)?;
     let made = work.terms.put(Node::If {
         condition,
@@ -164,20 +132,17 @@ fn reach_if(
 /// The case of a number, whose branches' terms stand below it.
 #[cycle(reach)]
 fn reach_case(
-    alloc: Global,
-    mode: AccessMode,
-    types: &TypeTable,
-    terms: &Terms,
+    source: &Source,
     work: &mut Work,
     whole: TermId,
     subject: Atom,
     branches: &[Branch],
 ) -> Result<TermId, Memory>
-    requires inside { whole.0 < length terms.now }
+    requires inside { whole.0 < length source.now.terms }
     requires below { AllByRecursion (IsBranchBelow whole.0) branches.now }
-    ensures { IfOk result (λ made. ReachesTerm mode types.now work.old work.new made (CaseTerm subject (branches_from (term_of terms.now) branches.now))) }
+    ensures { IfOk result (λ made. ReachesTerm source.now.mode source.now.types work.old work.new made (CaseTerm subject (branches_from (term_of source.now.terms) branches.now))) }
 {
-    let branches = reach_branches(alloc, mode, types, terms, work, whole, branches)?;
+    let branches = reach_branches(source, work, whole, branches)?;
     mark_atom(&mut work.stamps, subject)?;
     let made = work.terms.put(Node::Case { subject, branches })?;
     Ok(made)
@@ -186,23 +151,20 @@ fn reach_case(
 /// The branches of the case of a number.
 #[cycle(reach)]
 fn reach_branches(
-    alloc: Global,
-    mode: AccessMode,
-    types: &TypeTable,
-    terms: &Terms,
+    source: &Source,
     work: &mut Work,
     whole: TermId,
     branches: &[Branch],
 ) -> Result<Vec<Branch>, Memory>
-    requires inside { whole.0 < length terms.now }
+    requires inside { whole.0 < length source.now.terms }
     requires below { AllByRecursion (IsBranchBelow whole.0) branches.now }
-    ensures { IfOk result (λ made. ReachesBranches mode types.now work.old work.new made.items (branches_from (term_of terms.now) branches.now)) }
+    ensures { IfOk result (λ made. ReachesBranches source.now.mode source.now.types work.old work.new made.items (branches_from (term_of source.now.terms) branches.now)) }
 {
-    let mut reversed = Vec::new(alloc);
+    let mut reversed = Vec::new(source.alloc);
     let mut i = branches.len();
     'branches: while i > 0 {
         i -= 1;
-        let branch = reach_branch(alloc, mode, types, terms, work, &branches[i])?;
+        let branch = reach_branch(source, work, &branches[i])?;
         reversed.push(branch)?;
     }
     reversed.reverse();
@@ -211,20 +173,18 @@ fn reach_branches(
 
 /// A branch: its fields are reached where its term uses them.
 #[cycle(reach)]
-fn reach_branch(
-    alloc: Global,
-    mode: AccessMode,
-    types: &TypeTable,
-    terms: &Terms,
-    work: &mut Work,
-    branch: &Branch,
-) -> Result<Branch, Memory>
-    requires { branch.now.term.0 < length terms.now }
-    ensures { IfOk result (λ made. ReachesBranch mode types.now work.old work.new made branch.now (term_of terms.now branch.now.term.0)) }
+fn reach_branch(source: &Source, work: &mut Work, branch: &Branch) -> Result<Branch, Memory>
+    requires { branch.now.term.0 < length source.now.terms }
+    ensures { IfOk result (λ made. ReachesBranch source.now.mode source.now.types work.old work.new made branch.now (term_of source.now.terms branch.now.term.0)) }
 {
     let start = work.stamps.enter()?;
-    let body = reach_term(alloc, mode, types, terms, work, branch.term)?;
-    let packed = packed_variables(alloc, types, branch.constructor, &branch.variables)?;
+    let body = reach_term(source, work, branch.term)?;
+    let packed = packed_variables(
+        source.alloc,
+        &source.types,
+        branch.constructor,
+        &branch.variables,
+    )?;
     list_constructor(
         &mut work.offsets,
         &work.stamps,
@@ -232,8 +192,15 @@ fn reach_branch(
         branch.constructor,
         &packed,
     )?;
-    let term = put_reaches(mode, &mut work.terms, &work.stamps, start, &packed, body)?;
-    let variables = Vec::from_slice(alloc, &branch.variables)?;
+    let term = put_reaches(
+        source.mode,
+        &mut work.terms,
+        &work.stamps,
+        start,
+        &packed,
+        body,
+    )?;
+    let variables = Vec::from_slice(source.alloc, &branch.variables)?;
     Ok(Branch {
         constructor: branch.constructor,
         variables,

@@ -24,13 +24,17 @@ bound_found (b ∷ bound) x = go (b.variable.0 == x.0) (bound_found bound x)
     go true e = refl
     go false e = e
 
+found_or : (c : Bool) (o : Option Bool) → is_found (if c then Some true else o) ≡ (c || is_found o)
+found_or true o = refl
+found_or false o = refl
+
+pub flag_put : (old new : List (Option Bool)) (n : ℕ)
+    → ((other : ℕ) → entry_at new other ≡ (if n == other then Some true else entry_at old other)) → (other : ℕ) → is_found (entry_at new other) ≡ (n == other || is_found (entry_at old other))
+flag_put old new n set other = ap is_found (set other) ∙ found_or (n == other) (entry_at old other)
+
 pub marks_put : (variables : List Variable) (old new : List (Option Bool)) (v : Variable) → AreMarked variables old
     → ((other : ℕ) → entry_at new other ≡ (if v.0 == other then Some true else entry_at old other)) → AreMarked (v ∷ variables) new
-marks_put variables old new v h set = record { each = λ x. ap is_found (set x.0) ∙ go (v.0 == x.0) (entry_at old x.0) (is_among variables x) (h.each x) }
-  where
-    go : (c : Bool) (o : Option Bool) (p : Bool) → is_found o ≡ p → is_found (if c then Some true else o) ≡ (c || p)
-    go true o p e = refl
-    go false o p e = e
+marks_put variables old new v h set = record { each = λ x. flag_put old new v.0 set x.0 ∙ ap (λ (p : Bool). (v.0 == x.0) || p) (h.each x) }
 
 pub known_put : (es : List InScope) (old new : List (Option Known)) (e : InScope) → AreKnown es old → e.before ≡ entry_at old e.known.variable.0
     → ((other : ℕ) → entry_at new other ≡ (if e.known.variable.0 == other then Some e.known else entry_at old other)) → AreKnown (e ∷ es) new

@@ -1,9 +1,10 @@
 -- The places of functions by the numbers of their names, and flags of constructors by their numbers.
-use Rattle.std.specs.Prelude.{◌≡◌, ℕ, ◌==◌, Bool, false, if◌then◌else◌, List, [], ◌∷◌, Option, Some, None, slice_get}
+use Rattle.std.specs.Prelude.{◌≡◌, ℕ, ◌==◌, Bool, if◌then◌else◌, List, [], ◌∷◌, Option, Some, None, slice_get}
 pub use Rattle.gib_base.specs.Entries.{joined, entry_at}
 use Rattle.gib_types.specs.declared.table.ConId.{ConId}
 use Rattle.gib_core.specs.declared.program.CoreFunction.{CoreFunction}
 use Rattle.gib_core.specs.Rules.{is_one_of}
+use Rattle.gib_loccheck.specs.Found.{is_found}
 
 -- The first function of a name.
 abbrev pub first_named : List CoreFunction → ℕ → Option CoreFunction
@@ -19,15 +20,6 @@ at_place functions (Some place) = slice_get functions place
 pub record IsIndex (functions : List CoreFunction) (places : List (Option ℕ)) : Type 0 where
   pub each : (name : ℕ) → at_place functions (entry_at places name) ≡ first_named functions name
 
--- Whether a flag is set, where there is one.
-abbrev pub is_set : Option Bool → Bool
-is_set None = false
-is_set (Some flag) = flag
-
--- Whether the flag of a number is set; past the end none is.
-abbrev pub flag_at : List Bool → ℕ → Bool
-flag_at flags number = is_set (slice_get flags number)
-
--- The flags that are set are those of these constructors.
-pub record AreFlagged (constructors : List ConId) (flags : List Bool) : Type 0 where
-  pub each : (k : ConId) → flag_at flags k.0 ≡ is_one_of constructors k
+-- The numbers at which something stands are those of these constructors.
+pub record AreFlagged (constructors : List ConId) (flags : List (Option Bool)) : Type 0 where
+  pub each : (k : ConId) → is_found (entry_at flags k.0) ≡ is_one_of constructors k

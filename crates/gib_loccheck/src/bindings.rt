@@ -13,13 +13,12 @@ ghost use Rattle.gib_loccheck.specs.declared.state.Walk.{Walk as State};
 use crate::cases::enter_arm;
 use crate::fault::LocFault;
 use crate::indexed::IndexedCore;
-use crate::lines::{past, prim, reach};
+use crate::lines::{judge_past, judge_prim, judge_reach};
 use crate::state::{Destination, Target, Walk};
 use gib_base::Memory;
 use gib_core::{Access, Atom, BoundTerm, Branch, Kind, Known, Variable};
 use gib_syntax::Operator;
 use gib_types::ConId;
-use std::alloc::Global;
 
 /// A variable that is reached comes into scope.
 pub fn enter(walk: &mut Walk, variable: Variable) -> Result<(), Memory>
@@ -42,7 +41,7 @@ pub fn leave(walk: &mut Walk, outer: usize) -> Result<(), Memory>
     walk.scope.truncate(outer)
 }
 
-/// Behind a field that stands, or another bound term, before its variable is in scope.
+/// What is due behind a field that stands, or another bound term, before its variable is in scope.
 pub fn behind_field(target: &Target, kind: Kind, variable: Variable) -> Result<Target, Memory>
     ensures { IfOk result (λ t. (w : State) → setting_of w t ≡ past_field kind variable (setting_of w target.now)) }
 {
@@ -54,7 +53,7 @@ pub fn behind_field(target: &Target, kind: Kind, variable: Variable) -> Result<T
     })
 }
 
-/// The same, where a scalar call may not stand.
+/// The same is due, where a scalar call may not stand.
 pub fn not_whole(target: &Target) -> Result<Target, Memory>
     ensures { IfOk result (λ t. (w : State) → setting_of w t ≡ record (setting_of w target.now) { whole = false }) }
 {
@@ -66,7 +65,7 @@ pub fn not_whole(target: &Target) -> Result<Target, Memory>
     })
 }
 
-/// Behind a side, whose variable is in scope from here on.
+/// The variable of a side comes into scope; what is due behind it.
 pub fn stand(
     walk: &mut Walk,
     target: &Target,
@@ -85,9 +84,8 @@ pub fn stand(
     })
 }
 
-/// Behind room for a head: it is open now.
+/// Judges room for a head; what is due behind it, where the head is open.
 pub fn open_head(
-    alloc: Global,
     core: &IndexedCore,
     walk: &mut Walk,
     target: &Target,
@@ -98,19 +96,19 @@ pub fn open_head(
     ensures binds { IfOk result (λ t. Binds walk.old walk.new t (behind (setting_of walk.old target.now) (Past head constructor))) }
     ensures broken { IfErr result (Blames (core_of core.now) walk.old (one (setting_of walk.old target.now) (PastLine head constructor))) }
 {
-    past(core, walk, target, head, constructor)?;
+    judge_past(core, walk, target, head, constructor)?;
     Ok(Target {
         destination: Destination::Open {
             head,
             constructor,
-            standing: Vec::new(alloc),
+            standing: Vec::new(walk.alloc),
         },
         due: target.due,
         whole: false,
     })
 }
 
-/// Behind an operation.
+/// Judges an operation, whose variable comes into scope; what is due behind it.
 pub fn operate(
     walk: &mut Walk,
     target: &Target,
@@ -123,7 +121,7 @@ pub fn operate(
     ensures binds { IfOk result (λ t. Binds walk.old walk.new t (behind (setting_of walk.old target.now) (Prim variable operator left right))) }
     ensures broken { (core : CoreTree) → IfErr result (Blames core walk.old (one (setting_of walk.old target.now) (PrimLine variable operator left right))) }
 {
-    prim(walk, variable, operator, left, right)?;
+    judge_prim(walk, variable, operator, left, right)?;
     enter(walk, variable)?;
     let next = not_whole(target)?;
     Ok(next)
@@ -143,7 +141,7 @@ fn enter_field(walk: &mut Walk, field: Variable) -> Result<(), Memory>
     Ok(())
 }
 
-/// Behind a field that is reached.
+/// Judges the reaching of a field, which can be used from there on; what is due behind it.
 pub fn reach_field(
     core: &IndexedCore,
     walk: &mut Walk,
@@ -155,7 +153,7 @@ pub fn reach_field(
     ensures binds { IfOk result (λ t. Binds walk.old walk.new t (behind (setting_of walk.old target.now) (Reach field access))) }
     ensures broken { IfErr result (Blames (core_of core.now) walk.old (one (setting_of walk.old target.now) (ReachLine field access))) }
 {
-    reach(core, walk, field, access)?;
+    judge_reach(core, walk, field, access)?;
     enter_field(walk, field)?;
     let next = not_whole(target)?;
     Ok(next)
@@ -169,7 +167,7 @@ pub fn add_other(walk: &mut Walk, variable: Variable) -> Result<(), Memory>
     Ok(())
 }
 
-/// Behind two sides, whose variables are in scope from here on.
+/// The variables of two sides come into scope; what is due behind them.
 pub fn stand_both(
     walk: &mut Walk,
     target: &Target,
@@ -184,7 +182,7 @@ pub fn stand_both(
     Ok(next)
 }
 
-/// What the term of a branch is met with: its fields are in scope.
+/// The fields of a branch come into scope; what is due at its term.
 pub fn open_arm(
     core: &IndexedCore,
     walk: &mut Walk,

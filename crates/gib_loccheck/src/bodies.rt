@@ -16,7 +16,7 @@ use crate::fault::LocFault;
 use crate::indexed::IndexedCore;
 use crate::scope::Scope;
 use crate::state::{Destination, Target, Walk};
-use crate::walk::term;
+use crate::walk::check_term;
 use gib_base::Memory;
 use gib_core::{Bound, CoreFunction, TermId, Variable};
 use gib_types::Ty;
@@ -34,12 +34,12 @@ fn result_place(ty: Ty) -> Destination
 }
 
 /// The walk begins a body: its parameters are bound and in scope, and nothing else is.
-fn open_body(alloc: Global, walk: &mut Walk, parameters: &[Ty]) -> Result<(), Memory>
+fn open_body(walk: &mut Walk, parameters: &[Ty]) -> Result<(), Memory>
     ensures { OnOk result (Opens walk.old walk.new parameters.now) }
 {
-    walk.bound = BoundVariables::new(alloc);
-    walk.cased = MarkedVariables::new(alloc);
-    walk.scope = Scope::new(alloc);
+    walk.bound = BoundVariables::new(walk.alloc);
+    walk.cased = MarkedVariables::new(walk.alloc);
+    walk.scope = Scope::new(walk.alloc);
     walk.others.clear();
     let mut number: u32 = 0;
     let mut left = parameters;
@@ -57,8 +57,7 @@ fn open_body(alloc: Global, walk: &mut Walk, parameters: &[Ty]) -> Result<(), Me
 }
 
 /// One body.
-fn body(
-    alloc: Global,
+fn check_body(
     core: &IndexedCore,
     walk: &mut Walk,
     parameters: &[Ty],
@@ -69,18 +68,17 @@ fn body(
     ensures passes { IfOk result (λ _. Pass (core_of core.now) walk.old.place walk.new.place (record { parameters = parameters.now; result = result_type; term = term_of core.now.terms id.0 } ∷ [])) }
     ensures broken { IfErr result (Blame (core_of core.now) walk.old.place (record { parameters = parameters.now; result = result_type; term = term_of core.now.terms id.0 } ∷ [])) }
 {
-    open_body(alloc, walk, parameters)?;
+    open_body(walk, parameters)?;
     let target = Target {
         destination: result_place(result_type),
         due: result_type,
         whole: false,
     };
-    term(alloc, core, walk, target, id)
+    check_term(core, walk, target, id)
 }
 
 /// The bodies of functions, one after another.
-fn functions(
-    alloc: Global,
+fn check_functions(
     core: &IndexedCore,
     walk: &mut Walk,
     functions: &[CoreFunction],
@@ -91,8 +89,7 @@ fn functions(
 {
     let mut left = functions;
     'functions: while let [function, after @ ..] = left {
-        body(
-            alloc,
+        check_body(
             core,
             walk,
             &function.parameters,
@@ -110,14 +107,15 @@ pub fn check_bodies(alloc: Global, core: &IndexedCore) -> Result<(), LocFault>
     ensures broken { IfErr result (λ e. Says e (first_broken (core_of core.now))) }
 {
     let mut walk = Walk {
+        alloc,
         bound: BoundVariables::new(alloc),
         cased: MarkedVariables::new(alloc),
         scope: Scope::new(alloc),
         others: Vec::new(alloc),
         place: 0,
     };
-    functions(alloc, core, &mut walk, core.functions())?;
+    check_functions(core, &mut walk, core.functions())?;
     let main = core.main();
     let parameters = [main.parameter];
-    body(alloc, core, &mut walk, &parameters, main.result, main.body)
+    check_body(core, &mut walk, &parameters, main.result, main.body)
 }

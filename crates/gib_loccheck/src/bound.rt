@@ -1,5 +1,6 @@
 //! The variables that were bound in a function, and those that a `case` was on.
 
+use crate::entry::push_entry;
 use gib_base::{ByNumber, Memory};
 use gib_core::{Bound, Variable};
 use gib_types::Ty;
@@ -48,14 +49,8 @@ impl BoundVariables {
     pub fn push(&mut self, bound: Bound) -> Result<(), Memory>
         ensures { OnOk result (self.new.items ≡ self.old.items ++ bound ∷ []) }
     {
-        self.items.push(bound)?;
-        match self.types.set(bound.variable.0, Some(bound.ty)) {
-            Ok(()) => Ok(()),
-            Err(fault) => {
-                let _ = self.items.pop();
-                Err(fault)
-            }
-        }
+        let number = bound.variable.0;
+        push_entry(&mut self.items, bound, &mut self.types, number, bound.ty)
     }
 
     /// The type that a variable was bound with: the newest counts.
@@ -116,14 +111,7 @@ impl MarkedVariables {
     pub fn push(&mut self, variable: Variable) -> Result<(), Memory>
         ensures { OnOk result (self.new.items ≡ self.old.items ++ variable ∷ []) }
     {
-        self.items.push(variable)?;
-        match self.marks.set(variable.0, Some(true)) {
-            Ok(()) => Ok(()),
-            Err(fault) => {
-                let _ = self.items.pop();
-                Err(fault)
-            }
-        }
+        push_entry(&mut self.items, variable, &mut self.marks, variable.0, true)
     }
 
     /// Whether a variable is one of these.

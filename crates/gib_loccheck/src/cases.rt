@@ -77,10 +77,10 @@ fn variables_of(alloc: Global, branches: &[Branch]) -> Result<Vec<Variable>, Mem
 }
 
 /// Whether one of these variables was bound before, or is there twice.
-fn any_bound(alloc: Global, walk: &Walk, variables: &[Variable]) -> Result<bool, Memory>
+fn any_bound(walk: &Walk, variables: &[Variable]) -> Result<bool, Memory>
     ensures { IfOk result (λ again. again ≡ bound_again variables.now [] (before_of walk.now).bound) }
 {
-    let mut seen = Vec::new(alloc);
+    let mut seen = Vec::new(walk.alloc);
     let mut left = variables;
     'variables: while let [variable, after @ ..] = left {
         if walk.bound.has(*variable) || is_listed(&seen, *variable) {
@@ -95,7 +95,6 @@ fn any_bound(alloc: Global, walk: &Walk, variables: &[Variable]) -> Result<bool,
 /// A case.
 #[tactic(auto, using(crate::proofs::Scoping::other_same, crate::proofs::Scoping::usable_same))]
 pub fn case_rule(
-    alloc: Global,
     core: &IndexedCore,
     walk: &Walk,
     target: &Target,
@@ -113,8 +112,8 @@ pub fn case_rule(
     if !walk.is_usable(subject) {
         return Ok(Some(8));
     }
-    let variables = variables_of(alloc, branches)?;
-    if any_bound(alloc, walk, &variables)? {
+    let variables = variables_of(walk.alloc, branches)?;
+    if any_bound(walk, &variables)? {
         return Ok(Some(8));
     }
     Ok(None)

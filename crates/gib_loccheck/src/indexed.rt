@@ -4,7 +4,7 @@
 ghost use Rattle.std.specs.Prelude.{◌≡◌, ◌==◌, ℕ, if◌then◌else◌, Some, IfOk, OnOk};
 ghost use Rattle.gib_loccheck.specs.Indexing.{IsIndex, entry_at};
 
-use crate::flagging::{is_flagged, list_flags};
+use crate::flagging::list_flags;
 use gib_base::{ByNumber, Memory, Name};
 use gib_core::{Core, CoreFunction, CoreMain, Terms};
 use gib_types::{ConId, TypeTable};
@@ -37,7 +37,7 @@ fn list_places(alloc: Global, functions: &[CoreFunction]) -> Result<ByNumber<usi
 pub struct IndexedCore {
     core: Core,
     places: ByNumber<usize>,
-    flags: Vec<bool>,
+    flags: ByNumber<bool>,
 }
 
 impl Model for IndexedCore {
@@ -48,7 +48,7 @@ impl Model for IndexedCore {
 
     ghost view = { λ i. i.core };
 
-    ghost invariant = { λ i. IsIndex i.core.functions i.places × AreFlagged i.core.offsets i.flags.items };
+    ghost invariant = { λ i. IsIndex i.core.functions i.places × AreFlagged i.core.offsets i.flags };
 }
 
 impl IndexedCore {
@@ -113,7 +113,7 @@ impl IndexedCore {
     pub fn has_offsets(&self, constructor: ConId) -> bool
         ensures { result ≡ is_one_of self.now.offsets constructor }
     {
-        is_flagged(&self.flags, constructor.0)
+        self.flags.get(constructor.0).is_some()
     }
 
     /// The first function of a name.

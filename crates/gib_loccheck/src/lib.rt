@@ -16,6 +16,7 @@ mod bodies;
 mod bound;
 mod calls;
 mod cases;
+mod entry;
 mod fault;
 mod flagging;
 mod indexed;
@@ -25,6 +26,8 @@ mod rules;
 mod scope;
 mod state;
 mod table;
+#[cfg(test)]
+mod tests;
 mod walk;
 
 use bodies::check_bodies;
@@ -45,7 +48,9 @@ fn unbroken(alloc: Global, core: Core) -> Result<Core, LocFault>
     Ok(indexed.into_core())
 }
 
-/// Checks a core: which build rule it breaks first, or none.
+/// Checks a core: which build rule it breaks first, or none. Variables are found by their numbers, so memory goes by the
+/// greatest number of a variable, and not by how many there are; in a numbered core the two are the same. So it is with
+/// names of functions and with constructors whose heads store offsets.
 ///
 /// # Errors
 ///

@@ -13,15 +13,13 @@ use crate::cases::{bind_arms, case_rule};
 use crate::fault::LocFault;
 use crate::indexed::IndexedCore;
 use crate::rules::{
-    give_rule, if_rule, past_rule, point_rule, prim_rule, reach_rule, side_rule, write_rule,
+    Head, give_rule, if_rule, past_rule, point_rule, prim_rule, reach_rule, side_rule, write_rule,
 };
 use crate::state::{Target, Walk};
-use crate::table::operator_type;
 use gib_base::Name;
 use gib_core::{Access, Atom, Bound, Branch, Kind, Variable};
 use gib_syntax::Operator;
 use gib_types::{ConId, Ty};
-use std::alloc::Global;
 
 /// One more line, with the rule that it breaks first.
 fn judge(walk: &mut Walk, rule: Option<u8>) -> Result<(), LocFault>
@@ -49,7 +47,7 @@ fn bind(walk: &mut Walk, variable: Variable, ty: Ty) -> Result<(), LocFault>
 }
 
 /// Room for the head of a constructor.
-pub fn past(
+pub fn judge_past(
     core: &IndexedCore,
     walk: &mut Walk,
     target: &Target,
@@ -66,7 +64,7 @@ pub fn past(
 }
 
 /// A variable that is bound to a term.
-pub fn side_line(
+pub fn judge_side(
     core: &IndexedCore,
     walk: &mut Walk,
     target: &Target,
@@ -84,7 +82,7 @@ pub fn side_line(
 }
 
 /// Two sides.
-pub fn par(walk: &mut Walk) -> Result<(), LocFault>
+pub fn judge_par(walk: &mut Walk) -> Result<(), LocFault>
     ensures passes { (core : CoreTree) → IfOk result (λ _. Passes core walk.old walk.new (one (in_scope walk.old) (ParLine))) }
     ensures kept { IfOk result (λ _. Kept walk.old walk.new) }
     ensures broken { (core : CoreTree) → IfErr result (Blames core walk.old (one (in_scope walk.old) (ParLine))) }
@@ -93,7 +91,7 @@ pub fn par(walk: &mut Walk) -> Result<(), LocFault>
 }
 
 /// An operation.
-pub fn prim(
+pub fn judge_prim(
     walk: &mut Walk,
     variable: Variable,
     operator: Operator,
@@ -106,11 +104,11 @@ pub fn prim(
 {
     let rule = prim_rule(walk, variable, left, right);
     judge(walk, rule)?;
-    bind(walk, variable, operator_type(operator))
+    bind(walk, variable, operator.result())
 }
 
 /// From here on a field of an arm can be used.
-pub fn reach(
+pub fn judge_reach(
     core: &IndexedCore,
     walk: &mut Walk,
     field: Variable,
@@ -125,25 +123,22 @@ pub fn reach(
 }
 
 /// The open head is filled.
-pub fn write(
+pub fn judge_write(
     core: &IndexedCore,
     walk: &mut Walk,
     target: &Target,
-    head: Variable,
-    constructor: ConId,
-    scalars: &[Atom],
-    packed: &[Atom],
+    head: &Head<'_>,
 ) -> Result<(), LocFault>
-    ensures passes { IfOk result (λ _. Passes (core_of core.now) walk.old walk.new (one (setting_of walk.old target.now) (WriteLine head constructor scalars.now packed.now))) }
+    ensures passes { IfOk result (λ _. Passes (core_of core.now) walk.old walk.new (one (setting_of walk.old target.now) (WriteLine head.now.variable head.now.constructor head.now.scalars.now head.now.packed.now))) }
     ensures kept { IfOk result (λ _. Kept walk.old walk.new) }
-    ensures broken { IfErr result (Blames (core_of core.now) walk.old (one (setting_of walk.old target.now) (WriteLine head constructor scalars.now packed.now))) }
+    ensures broken { IfErr result (Blames (core_of core.now) walk.old (one (setting_of walk.old target.now) (WriteLine head.now.variable head.now.constructor head.now.scalars.now head.now.packed.now))) }
 {
-    let rule = write_rule(core, walk, target, head, constructor, scalars, packed);
+    let rule = write_rule(core, walk, target, head);
     judge(walk, rule)
 }
 
 /// An indirection to a packed value.
-pub fn point(
+pub fn judge_point(
     core: &IndexedCore,
     walk: &mut Walk,
     target: &Target,
@@ -158,7 +153,7 @@ pub fn point(
 }
 
 /// A call.
-pub fn call(
+pub fn judge_call(
     core: &IndexedCore,
     walk: &mut Walk,
     target: &Target,
@@ -174,7 +169,7 @@ pub fn call(
 }
 
 /// A scalar result.
-pub fn give(
+pub fn judge_give(
     core: &IndexedCore,
     walk: &mut Walk,
     target: &Target,
@@ -189,7 +184,7 @@ pub fn give(
 }
 
 /// The condition of branches.
-pub fn condition(core: &IndexedCore, walk: &mut Walk, condition: Atom) -> Result<(), LocFault>
+pub fn judge_if(core: &IndexedCore, walk: &mut Walk, condition: Atom) -> Result<(), LocFault>
     ensures passes { IfOk result (λ _. Passes (core_of core.now) walk.old walk.new (one (in_scope walk.old) (IfLine condition))) }
     ensures kept { IfOk result (λ _. Kept walk.old walk.new) }
     ensures broken { IfErr result (Blames (core_of core.now) walk.old (one (in_scope walk.old) (IfLine condition))) }
@@ -199,8 +194,7 @@ pub fn condition(core: &IndexedCore, walk: &mut Walk, condition: Atom) -> Result
 }
 
 /// The subject of a case, and what its arms bind.
-pub fn subject(
-    alloc: Global,
+pub fn judge_case(
     core: &IndexedCore,
     walk: &mut Walk,
     target: &Target,
@@ -211,7 +205,7 @@ pub fn subject(
     ensures kept { IfOk result (λ _. Kept walk.old walk.new) }
     ensures broken { IfErr result (Blames (core_of core.now) walk.old (one (setting_of walk.old target.now) (CaseLine subject (arms_in branches.now)))) }
 {
-    let rule = case_rule(alloc, core, walk, target, subject, branches)?;
+    let rule = case_rule(core, walk, target, subject, branches)?;
     judge(walk, rule)?;
     bind_arms(core.types(), &mut walk.bound, branches)?;
     case_on(walk, subject)

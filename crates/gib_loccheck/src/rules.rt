@@ -14,6 +14,15 @@ use crate::table::{is_of_type, packed_count};
 use gib_core::{Access, Atom, Behind, Kind, Known, Variable};
 use gib_types::{ConId, Ty, TypeTable};
 
+/// A head that is filled, with the atoms at its fields.
+#[derive(Drop)]
+pub struct Head<'a> {
+    pub variable: Variable,
+    pub constructor: ConId,
+    pub scalars: &'a [Atom],
+    pub packed: &'a [Atom],
+}
+
 /// Room for the head of a constructor.
 pub fn past_rule(
     core: &IndexedCore,
@@ -169,31 +178,24 @@ fn is_filled(types: &TypeTable, constructor: ConId, standing: &[Variable], packe
 }
 
 /// Whether the open head can be filled so.
-fn may_write(
-    types: &TypeTable,
-    walk: &Walk,
-    target: &Target,
-    head: Variable,
-    constructor: ConId,
-    packed: &[Atom],
-) -> bool
-    ensures { result ≡ writes types.now (before_of walk.now) (destination_of target.now.destination) head constructor packed.now }
+fn may_write(types: &TypeTable, walk: &Walk, target: &Target, head: &Head<'_>) -> bool
+    ensures { result ≡ writes types.now (before_of walk.now) (destination_of target.now.destination) head.now.variable head.now.constructor head.now.packed.now }
 {
     match &target.destination {
         Destination::Nowhere => false,
         Destination::Empty => false,
         Destination::Open {
             head: open,
-            constructor: opened,
+            constructor,
             standing,
         } => {
-            if open.0 != head.0 {
+            if open.0 != head.variable.0 {
                 return false;
             }
-            if opened.0 != constructor.0 {
+            if constructor.0 != head.constructor.0 {
                 return false;
             }
-            if !is_filled(types, *opened, standing, packed) {
+            if !is_filled(types, *constructor, standing, head.packed) {
                 return false;
             }
             !any_cased(walk, further(standing))
@@ -216,27 +218,19 @@ fn are_scalars(types: &TypeTable, walk: &Walk, target: &Target, scalars: &[Atom]
 
 /// The open head is filled.
 #[tactic(auto, using(crate::proofs::Scoping::both_other, crate::proofs::Scoping::both_usable))]
-pub fn write_rule(
-    core: &IndexedCore,
-    walk: &Walk,
-    target: &Target,
-    head: Variable,
-    constructor: ConId,
-    scalars: &[Atom],
-    packed: &[Atom],
-) -> Option<u8>
-    ensures { result ≡ least (rules (core_of core.now) (before_of walk.now) (setting_of walk.now target.now) (WriteLine head constructor scalars.now packed.now)) }
+pub fn write_rule(core: &IndexedCore, walk: &Walk, target: &Target, head: &Head<'_>) -> Option<u8>
+    ensures { result ≡ least (rules (core_of core.now) (before_of walk.now) (setting_of walk.now target.now) (WriteLine head.now.variable head.now.constructor head.now.scalars.now head.now.packed.now)) }
 {
-    if any_other(walk, scalars) || any_other(walk, packed) {
+    if any_other(walk, head.scalars) || any_other(walk, head.packed) {
         return Some(4);
     }
-    if !may_write(core.types(), walk, target, head, constructor, packed) {
+    if !may_write(core.types(), walk, target, head) {
         return Some(5);
     }
-    if !(all_usable(walk, scalars) && all_usable(walk, packed)) {
+    if !(all_usable(walk, head.scalars) && all_usable(walk, head.packed)) {
         return Some(8);
     }
-    if !are_scalars(core.types(), walk, target, scalars) {
+    if !are_scalars(core.types(), walk, target, head.scalars) {
         return Some(9);
     }
     None

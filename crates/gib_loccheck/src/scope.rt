@@ -1,5 +1,6 @@
 //! The variables in scope.
 
+use crate::entry::push_entry;
 use gib_base::{ByNumber, Memory};
 use gib_core::{Known, Variable};
 use std::alloc::Global;
@@ -69,15 +70,10 @@ impl Scope {
     pub fn push(&mut self, known: Known) -> Result<(), Memory>
         ensures { OnOk result (self.new.items ≡ self.old.items ++ known ∷ []) }
     {
-        let before = self.known.get(known.variable.0);
-        self.entries.push(InScope { known, before })?;
-        match self.known.set(known.variable.0, Some(known)) {
-            Ok(()) => Ok(()),
-            Err(fault) => {
-                let _ = self.entries.pop();
-                Err(fault)
-            }
-        }
+        let number = known.variable.0;
+        let before = self.known.get(number);
+        let entry = InScope { known, before };
+        push_entry(&mut self.entries, entry, &mut self.known, number, known)
     }
 
     /// The newest variable leaves, where there is one.

@@ -12,6 +12,7 @@ use crate::table::{packed_at, packed_count};
 use gib_base::Memory;
 use gib_core::{Atom, Kind, Variable};
 use gib_types::{ConId, Ty, TypeTable};
+use std::alloc::Global;
 
 /// Where a value is put.
 #[derive(Drop)]
@@ -40,6 +41,7 @@ pub struct Target {
 /// What stands before a term, with the newest last.
 #[derive(Drop)]
 pub struct Walk {
+    pub alloc: Global,
     /// The variables that were bound in this function.
     pub bound: BoundVariables,
     /// The variables that a `case` of this function was on.

@@ -4,24 +4,9 @@
 ghost use Rattle.std.specs.Prelude.{◌≡◌, length, get_or};
 ghost use Rattle.gib_types.specs.Table.{tree_types};
 ghost use Rattle.gib_types.specs.declared.table.Ty.TheVariants.{Whole};
-ghost use Rattle.gib_syntax.specs.Typing.{operator_type as type_of_operator};
 ghost use Rattle.gib_core.specs.Rules.{is_of_type as of_type};
 
-use gib_syntax::Operator;
 use gib_types::{ConId, Ty, TypeTable};
-
-/// What an operator gives.
-pub fn operator_type(operator: Operator) -> Ty
-    ensures { result ≡ type_of_operator operator }
-{
-    match operator {
-        Operator::Add => Ty::Whole,
-        Operator::Subtract => Ty::Whole,
-        Operator::Multiply => Ty::Whole,
-        Operator::Equal => Ty::Truth,
-        Operator::Less => Ty::Truth,
-    }
-}
 
 /// How many of these types are packed.
 pub fn packed_count(types: &[Ty]) -> usize

@@ -15,10 +15,12 @@ use crate::bindings::{
 };
 use crate::fault::LocFault;
 use crate::indexed::IndexedCore;
-use crate::lines::{call, condition, give, par, point, side_line, subject, write};
+use crate::lines::{
+    judge_call, judge_case, judge_give, judge_if, judge_par, judge_point, judge_side, judge_write,
+};
+use crate::rules::Head;
 use crate::state::{Target, Walk};
 use gib_core::{Atom, Binding, BoundTerm, Branch, Node, TermId, Variable};
-use std::alloc::Global;
 
 /// The term of a number.
 fn node_at(core: &IndexedCore, id: TermId) -> &Node
@@ -28,10 +30,9 @@ fn node_at(core: &IndexedCore, id: TermId) -> &Node
     core.terms().node(id)
 }
 
-/// The lines of a term. This recurses as deep as terms are nested in bindings and branches, and not along a line.
+/// Checks the lines of a term. This recurses as deep as terms are nested in bindings and branches, and not along a line.
 #[cycle(lines)]
-pub fn term(
-    alloc: Global,
+pub fn check_term(
     core: &IndexedCore,
     walk: &mut Walk,
     target: Target,
@@ -47,19 +48,18 @@ pub fn term(
     let mut rest = id;
     let mut node = node_at(core, id);
     'bindings: while let Node::Then(binding, after) = node {
-        inner = bind(alloc, core, walk, &inner, rest, *binding)?;
+        inner = check_binding(core, walk, &inner, rest, *binding)?;
         rest = *after;
         node = node_at(core, rest);
     }
-    end(alloc, core, walk, &inner, rest, node)?;
+    check_end(core, walk, &inner, rest, node)?;
     leave(walk, outer)?;
     Ok(())
 }
 
-/// The end of a line.
+/// Checks the end of a line.
 #[cycle(lines)]
-fn end(
-    alloc: Global,
+fn check_end(
     core: &IndexedCore,
     walk: &mut Walk,
     target: &Target,
@@ -80,27 +80,32 @@ fn end(
             constructor,
             scalars,
             packed,
-        } => write(core, walk, target, *head, *constructor, scalars, packed),
-        Node::Point(atom) => point(core, walk, target, *atom),
-        Node::Call(name, arguments) => call(core, walk, target, *name, arguments),
-        Node::Give(atom) => give(core, walk, target, *atom),
+        } => {
+            let head = Head {
+                variable: *head,
+                constructor: *constructor,
+                scalars,
+                packed,
+            };
+            judge_write(core, walk, target, &head)
+        }
+        Node::Point(atom) => judge_point(core, walk, target, *atom),
+        Node::Call(name, arguments) => judge_call(core, walk, target, *name, arguments),
+        Node::Give(atom) => judge_give(core, walk, target, *atom),
         Node::Case { subject, branches } => {
-            case(alloc, core, walk, target, id, *subject, branches)
+            check_case(core, walk, target, id, *subject, branches)
         }
         Node::If {
             condition,
             then_part,
             else_part,
-        } => if_else(
-            alloc, core, walk, target, id, *condition, *then_part, *else_part,
-        ),
+        } => check_if(core, walk, target, *condition, *then_part, *else_part),
     }
 }
 
-/// A binding, and what its rest is met with.
+/// Checks a binding; what is due at its rest.
 #[cycle(lines)]
-fn bind(
-    alloc: Global,
+fn check_binding(
     core: &IndexedCore,
     walk: &mut Walk,
     target: &Target,
@@ -114,13 +119,9 @@ fn bind(
     ensures broken { IfErr result (Blames (core_of core.now) walk.old (met_bind core.now.table (setting_of walk.old target.now) (bind_from (term_of core.now.terms) binding))) }
 {
     match binding {
-        Binding::Past { head, constructor } => {
-            open_head(alloc, core, walk, target, head, constructor)
-        }
-        Binding::One(bound) => one_side(alloc, core, walk, target, whole, bound),
-        Binding::Par { left, right, .. } => {
-            both_sides(alloc, core, walk, target, whole, left, right)
-        }
+        Binding::Past { head, constructor } => { open_head(core, walk, target, head, constructor) }
+        Binding::One(bound) => bind_side(core, walk, target, whole, bound),
+        Binding::Par { left, right, .. } => { bind_sides(core, walk, target, whole, left, right) }
         Binding::Prim {
             variable,
             operator,
@@ -131,10 +132,9 @@ fn bind(
     }
 }
 
-/// A variable that is bound to a term: its line, and the term's.
+/// Checks a variable that is bound to a term: its line, and the term's.
 #[cycle(lines)]
-fn side(
-    alloc: Global,
+fn check_side(
     core: &IndexedCore,
     walk: &mut Walk,
     target: &Target,
@@ -147,15 +147,14 @@ fn side(
     ensures kept { IfOk result (λ _. Kept walk.old walk.new) }
     ensures broken { IfErr result (Blames (core_of core.now) walk.old (met_side core.now.table (setting_of walk.old target.now) (side_from (term_of core.now.terms) bound))) }
 {
-    side_line(core, walk, target, bound.kind, bound.variable, bound.ty)?;
+    judge_side(core, walk, target, bound.kind, bound.variable, bound.ty)?;
     let inner = target.in_side(core.types(), bound.kind, bound.ty);
-    term(alloc, core, walk, inner, bound.term)
+    check_term(core, walk, inner, bound.term)
 }
 
-/// A variable that is bound to a term, and what stands behind it.
+/// Checks a variable that is bound to a term, which comes into scope; what is due behind it.
 #[cycle(lines)]
-fn one_side(
-    alloc: Global,
+fn bind_side(
     core: &IndexedCore,
     walk: &mut Walk,
     target: &Target,
@@ -168,15 +167,14 @@ fn one_side(
     ensures binds { IfOk result (λ t. Binds walk.old walk.new t (behind (setting_of walk.old target.now) (One (side_from (term_of core.now.terms) bound)))) }
     ensures broken { IfErr result (Blames (core_of core.now) walk.old (met_bind core.now.table (setting_of walk.old target.now) (One (side_from (term_of core.now.terms) bound)))) }
 {
-    side(alloc, core, walk, target, whole, bound)?;
+    check_side(core, walk, target, whole, bound)?;
     let next = stand(walk, target, bound.kind, bound.variable)?;
     Ok(next)
 }
 
-/// A side of a par, where a variable is the other side's.
+/// Checks a side of a par, where a variable is the other side's.
 #[cycle(lines)]
-fn beside(
-    alloc: Global,
+fn check_beside(
     core: &IndexedCore,
     walk: &mut Walk,
     target: &Target,
@@ -192,15 +190,14 @@ fn beside(
 {
     let outer = walk.others.len();
     add_other(walk, other)?;
-    side(alloc, core, walk, target, whole, bound)?;
+    check_side(core, walk, target, whole, bound)?;
     walk.others.truncate(outer);
     Ok(())
 }
 
-/// The lines of two sides. Whether they may run at the same time changes no rule.
+/// Checks the lines of two sides. Whether they may run at the same time changes no rule.
 #[cycle(lines)]
-fn sides(
-    alloc: Global,
+fn check_sides(
     core: &IndexedCore,
     walk: &mut Walk,
     target: &Target,
@@ -215,16 +212,15 @@ fn sides(
     ensures kept { IfOk result (λ _. Kept walk.old walk.new) }
     ensures broken { IfErr result (Blames (core_of core.now) walk.old (met_bind core.now.table (setting_of walk.old target.now) (Both false (side_from (term_of core.now.terms) left) (side_from (term_of core.now.terms) right)))) }
 {
-    par(walk)?;
-    beside(alloc, core, walk, target, whole, left, right.variable)?;
+    judge_par(walk)?;
+    check_beside(core, walk, target, whole, left, right.variable)?;
     let next = behind_field(target, left.kind, left.variable)?;
-    beside(alloc, core, walk, &next, whole, right, left.variable)
+    check_beside(core, walk, &next, whole, right, left.variable)
 }
 
-/// Two sides, and what stands behind them.
+/// Checks two sides, whose variables come into scope; what is due behind them.
 #[cycle(lines)]
-fn both_sides(
-    alloc: Global,
+fn bind_sides(
     core: &IndexedCore,
     walk: &mut Walk,
     target: &Target,
@@ -239,15 +235,14 @@ fn both_sides(
     ensures binds { IfOk result (λ t. Binds walk.old walk.new t (behind (setting_of walk.old target.now) (Both false (side_from (term_of core.now.terms) left) (side_from (term_of core.now.terms) right)))) }
     ensures broken { IfErr result (Blames (core_of core.now) walk.old (met_bind core.now.table (setting_of walk.old target.now) (Both false (side_from (term_of core.now.terms) left) (side_from (term_of core.now.terms) right)))) }
 {
-    sides(alloc, core, walk, target, whole, left, right)?;
+    check_sides(core, walk, target, whole, left, right)?;
     let next = stand_both(walk, target, left, right)?;
     Ok(next)
 }
 
-/// A case: its subject, and its branches.
+/// Checks a case: its subject, and its branches.
 #[cycle(lines)]
-fn case(
-    alloc: Global,
+fn check_case(
     core: &IndexedCore,
     walk: &mut Walk,
     target: &Target,
@@ -261,14 +256,13 @@ fn case(
     ensures kept { IfOk result (λ _. Kept walk.old walk.new) }
     ensures broken { IfErr result (Blames (core_of core.now) walk.old (met core.now.table (setting_of walk.old target.now) (CaseTerm atom (branches_from (term_of core.now.terms) branches.now)))) }
 {
-    subject(alloc, core, walk, target, atom, branches)?;
-    arms(alloc, core, walk, target, whole, branches)
+    judge_case(core, walk, target, atom, branches)?;
+    check_branches(core, walk, target, whole, branches)
 }
 
-/// The branches of a case, one after another.
+/// Checks the branches of a case, one after another.
 #[cycle(lines)]
-fn arms(
-    alloc: Global,
+fn check_branches(
     core: &IndexedCore,
     walk: &mut Walk,
     target: &Target,
@@ -283,16 +277,15 @@ fn arms(
 {
     let mut left = branches;
     'branches: while let [branch, after @ ..] = left {
-        arm(alloc, core, walk, target, whole, branch)?;
+        check_branch(core, walk, target, whole, branch)?;
         left = after;
     }
     Ok(())
 }
 
-/// A branch, whose fields are in scope in it.
+/// Checks a branch, whose fields are in scope in it.
 #[cycle(lines)]
-fn arm(
-    alloc: Global,
+fn check_branch(
     core: &IndexedCore,
     walk: &mut Walk,
     target: &Target,
@@ -307,33 +300,30 @@ fn arm(
 {
     let outer = walk.scope.len();
     let inner = open_arm(core, walk, target, branch)?;
-    term(alloc, core, walk, inner, branch.term)?;
+    check_term(core, walk, inner, branch.term)?;
     leave(walk, outer)?;
     Ok(())
 }
 
-/// Both branches of an `if`.
+/// Checks an `if`: its condition, and its branches.
 #[cycle(lines)]
-fn if_else(
-    alloc: Global,
+fn check_if(
     core: &IndexedCore,
     walk: &mut Walk,
     target: &Target,
-    whole: TermId,
     atom: Atom,
     then_part: TermId,
     else_part: TermId,
 ) -> Result<(), LocFault>
-    requires inside { whole.0 < length core.now.terms }
-    requires first { then_part.0 < whole.0 }
-    requires second { else_part.0 < whole.0 }
+    requires first { then_part.0 < length core.now.terms }
+    requires second { else_part.0 < length core.now.terms }
     ensures passes { IfOk result (λ _. Passes (core_of core.now) walk.old walk.new (met core.now.table (setting_of walk.old target.now) (IfTerm atom (term_of core.now.terms then_part.0) (term_of core.now.terms else_part.0)))) }
     ensures kept { IfOk result (λ _. Kept walk.old walk.new) }
     ensures broken { IfErr result (Blames (core_of core.now) walk.old (met core.now.table (setting_of walk.old target.now) (IfTerm atom (term_of core.now.terms then_part.0) (term_of core.now.terms else_part.0)))) }
 {
-    condition(core, walk, atom)?;
+    judge_if(core, walk, atom)?;
     let first = not_whole(target)?;
-    term(alloc, core, walk, first, then_part)?;
+    check_term(core, walk, first, then_part)?;
     let second = not_whole(target)?;
-    term(alloc, core, walk, second, else_part)
+    check_term(core, walk, second, else_part)
 }

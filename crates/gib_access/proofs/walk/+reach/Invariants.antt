@@ -29,13 +29,13 @@ abbrev pub decreases-reach_branch : goal.decreases-reach_branch
 decreases-reach_branch l = 5 * l.branch.now.term.0 + 5
 
 abbrev pub invariant-reach_term-bindings : goal.invariant-reach_term-bindings
-invariant-reach_term-bindings l = LineSoFar l.mode l.types l.terms l.id.0 l.bindings.items l.i l.fn.work l.work l.made
+invariant-reach_term-bindings l = LineSoFar l.source.mode l.source.types l.source.terms l.id.0 l.bindings.items l.i l.fn.work l.work l.made
 
 abbrev pub decreases-reach_term-bindings : goal.decreases-reach_term-bindings
 decreases-reach_term-bindings l = l.i
 
 abbrev pub invariant-reach_branches-branches : goal.invariant-reach_branches-branches
-invariant-reach_branches-branches l = (l.i ≤ length l.branches) × ReachesBranches l.mode l.types l.fn.work l.work (reverse l.reversed.items) (branches_from (term_of l.terms) (drop l.i l.branches))
+invariant-reach_branches-branches l = (l.i ≤ length l.branches) × ReachesBranches l.source.mode l.source.types l.fn.work l.work (reverse l.reversed.items) (branches_from (term_of l.source.terms) (drop l.i l.branches))
 
 abbrev pub decreases-reach_branches-branches : goal.decreases-reach_branches-branches
 decreases-reach_branches-branches l = l.i
