@@ -1,8 +1,11 @@
 -- Facts of all jobs, by cases.
-use Rattle.std.proofs.Common.{◌≡◌, refl, ℕ, ◌<◌, List, length, Option, Some, None, ap, inl, subst, arith}
+use Rattle.std.proofs.Common.{◌≡◌, refl, ℕ, ◌<◌, List, length, Option, Some, None, ap, inl, sym, subst, subst₂, arith}
 use Rattle.std.specs.Prelude.{option_and_then}
 use Rattle.gib_syntax.specs.Tree.{ProgramTree}
 use Rattle.gib_app.specs.declared.input_fault.InputFault.TheVariants as input
+use Rattle.gib_app.specs.declared.made.End.{End as KeptEnd}
+use Rattle.gib_app.specs.declared.made.End.TheVariants as ends
+use Rattle.gib_app.specs.declared.made.Made.{Made}
 use Rattle.gib_app.specs.declared.made.Reason.{Reason}
 use Rattle.gib_app.specs.declared.made.Reason.TheVariants.{Deep, Full}
 use Rattle.gib_app.specs.declared.plan.Job.{Job}
@@ -12,6 +15,7 @@ use Rattle.gib_app.specs.Formats.{format_of, most_of, Accepts, Refuses}
 use Rattle.gib_app.specs.Plan.{Document, Files}
 use Rattle.gib_app.specs.Causes.{HoldsSecond}
 use Rattle.gib_app.specs.Jobs.{End, Prints, NoValue, Does, Runs}
+use Rattle.gib_app.specs.Kept.{EndsBy, file_of}
 use Rattle.gib_app.specs.MachineRun.{LacksValue, IsMachineStop}
 use Rattle.gib_app.specs.Stops.{reason_of, IsRunStop}
 use Rattle.gib_app.specs.declared.stop.Stop.{Stop}
@@ -108,3 +112,10 @@ stop_refuses p depth chunks input (Stopped why) e h = cc
 stop_refuses p depth chunks input Memory e h = h
 stop_refuses p depth chunks input (Unwritten name) e h = h
 stop_refuses p depth chunks input Unput e h = h
+
+-- what a job made that makes no file and ends without a value
+pub ends_without : (made : Made) (why : Reason) (P : Option (List ℕ) → End → Type 0) → made.file ≡ None → made.end ≡ ends.NoValue why → P None (NoValue why) → EndsBy (file_of made) made.end P
+ends_without made why P file end' h =
+    let none : file_of made ≡ None = cc in
+    let E : Option (List ℕ) → KeptEnd → Type 0 = λ f e. EndsBy f e P in
+    subst₂ E (sym none) (sym end') h

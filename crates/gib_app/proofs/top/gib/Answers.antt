@@ -31,10 +31,10 @@ returns-clause-ends g c =
     let a : SinkView = g.O.Sink.view c.args.out.now in
     let b : SinkView = g.O.Sink.view c.call.new.out in
     let words = bytes_of c.args.words.now in
-    let said = line (said_text c.answer_to.result.said) in
+    let said = line (said_text c.answer_to-answer.result.said) in
     let P : Answer → Type 0 = λ x. IsEnding g.S.Shelf.tells words before now a b x.status (line x.said) in (
       said,
-      subst P (sym c.answer_to.ensures.answer) (ending_of g.S.Shelf.tells words before now a b c.in-Err.stop c.in-Err.ensures.stop),
+      subst P (sym c.answer_to-answer.ensures.answer) (ending_of g.S.Shelf.tells words before now a b c.in-Err.stop c.in-Err.ensures.stop),
       is_put c.put_line.result (g.E.Sink.view c.args.err.now) (g.E.Sink.view c.put_line.new.err) said c.put_line.ensures.ok c.put_line.ensures.part c.put_line.ensures.cause,
     )
 
@@ -48,5 +48,5 @@ returns-clause-complete g c = λ due h.
     let words = bytes_of c.args.words.now in
     let stop = c.in-Err.stop in
     let P : Answer → Type 0 = λ x. IsDueOrScarce words due x.status in
-    subst P (sym c.answer_to.ensures.answer)
+    subst P (sym c.answer_to-answer.ensures.answer)
     (ends_as_due laws g.S.Shelf.tells words before now a b (answer_for stop).status (line (answer_for stop).said) (ending_of g.S.Shelf.tells words before now a b stop c.in-Err.ensures.stop) due h)
