@@ -9,8 +9,9 @@ ghost use Rattle.gib_app.specs.Jobs.{OnlyPrints};
 ghost use Rattle.gib_app.specs.Kept.{EndsBy, file_of};
 
 use crate::compile::Compiled;
-use crate::made::{JobFault, Made};
+use crate::made::Made;
 use crate::printing::only_prints;
+use crate::stop::Stop;
 use gib_access::reach;
 use gib_base::Memory;
 use gib_check::Typed;
@@ -45,12 +46,12 @@ fn print_after(alloc: Global, compiled: &Compiled, pass: u32) -> Result<Vec<u8>,
 /// # Errors
 ///
 /// Want of memory alone.
-pub fn core_text(alloc: Global, compiled: &Compiled, pass: u32) -> Result<Made, JobFault>
+pub fn core_text(alloc: Global, compiled: &Compiled, pass: u32) -> Result<Made, Stop<'static>>
     ensures made { IfOk result (λ made. EndsBy (file_of made) made.end (OnlyPrints (λ text. text ≡ text_of_core compiled.now.names (core_after pass (program_of compiled.now.typed))))) }
-    ensures memory { IfErr result (λ e. e ≡ JobFault.Memory) }
+    ensures memory { IfErr result (λ e. e ≡ Stop.Memory) }
 {
     match print_after(alloc, compiled, pass) {
         Ok(text) => Ok(only_prints(text)),
-        Err(_) => Err(JobFault::Memory),
+        Err(_) => Err(Stop::Memory),
     }
 }

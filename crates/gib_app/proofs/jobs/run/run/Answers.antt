@@ -16,3 +16,13 @@ returns-in-Ok-clause-made c =
       record { program = p; depth = c.args.options.depth; input = c.args.input.now; stands = s; held = subst H (sym s.table) c.requires.ready.held; is_text = refl },
       (refl, record { value = s.value; result = s.result; is_input = s.is_input; means = s.means; is_text = refl }),
     )
+
+pub returns-in-Some-clause-made : goal.returns-in-Some-clause-made
+returns-in-Some-clause-made c =
+    let p = program_of c.args.compiled.typed in
+    let o = c.args.options in
+    lacks_runs p c.args.compiled.names o c.args.input.now c.in-Some.reason (stop_lacks p o.depth o.chunks c.args.input.now c.in-Err.stop c.in-Some.reason _ c.in-Err.ensures.stop)
+
+pub returns-in-None-clause-stop : goal.returns-in-None-clause-stop
+returns-in-None-clause-stop c =
+    stop_refuses (program_of c.args.compiled.typed) c.args.options.depth c.args.options.chunks c.args.input.now c.in-Err.stop _ c.in-Err.ensures.stop
