@@ -77,17 +77,17 @@ shown p bytes (Tag place) h = record { file = h.1; short = let s = h.0 in omega 
 shown p bytes (Truth place) h = record { file = h.1; short = let s = h.0 in omega (arith, s); shorter = λ m. h.0 }
 shown p bytes (Trailing place) h = record { file = h.1; short = let s = h.0 in omega (arith, s); shorter = λ m. h.0 }
 
--- The laws that these rest on, of one program and its names.
+-- The laws that these rest on, of one table and its names.
 
-pub record Laws (p : ProgramTree) (names : List (List ℕ)) : Type 0 where
+pub record Laws (table : Table) (names : List (List ℕ)) : Type 0 where
   pub headers : HeaderRefuses
   pub payloads : PayloadRefuses
-  pub files : (table : Table) (ty : Ty) (v : Datum) (a b : List ℕ) → File table ty v a → File table ty v b → a ≡ b
-  pub texts : (ty : Ty) (v w : Datum) → HasType (table_of_program p) v ty → HasType (table_of_program p) w ty → text (table_of_program p) names v ≡ text (table_of_program p) names w → v ≡ w
-  pub no_text : (ty : Ty) (bytes : List ℕ) (place : ℕ) (v : Datum) → IsRefusedAt (table_of_program p) names ty bytes place → IsTextOf (table_of_program p) names ty v bytes → ⊥
-  pub one_place : (ty : Ty) (bytes : List ℕ) (a b : ℕ) → IsRefusedAt (table_of_program p) names ty bytes a → IsRefusedAt (table_of_program p) names ty bytes b → a ≡ b
+  pub files : (t : Table) (ty : Ty) (v : Datum) (a b : List ℕ) → File t ty v a → File t ty v b → a ≡ b
+  pub texts : (ty : Ty) (v w : Datum) → HasType table v ty → HasType table w ty → text table names v ≡ text table names w → v ≡ w
+  pub no_text : (ty : Ty) (bytes : List ℕ) (place : ℕ) (v : Datum) → IsRefusedAt table names ty bytes place → IsTextOf table names ty v bytes → ⊥
+  pub one_place : (ty : Ty) (bytes : List ℕ) (a b : ℕ) → IsRefusedAt table names ty bytes a → IsRefusedAt table names ty bytes b → a ≡ b
 
-module _ (p : ProgramTree) (names : List (List ℕ)) (laws : Laws p names) (bytes : List ℕ) where
+module _ (p : ProgramTree) (names : List (List ℕ)) (laws : Laws (table_of_program p) names) (bytes : List ℕ) where
   one_packed : (f g : PackedFault) → IsFileFault (table_of_program p) (input_type p) bytes f → IsFileFault (table_of_program p) (input_type p) bytes g → Packed f ≡ Packed g
   one_packed f g h k = ap Packed (one_file_fault (table_of_program p) (input_type p) bytes f g h k)
 

@@ -30,14 +30,14 @@ PayloadRefuses = (table : Table) (ty : Ty) (payload bytes : List ℕ) (fault : P
 
 module _ (headers : HeaderRefuses) (payloads : PayloadRefuses) (table : Table) (ty : Ty) (bytes : List ℕ) where
   by_payload : (fault : PackFault) → IsPayloadFault table ty bytes fault → (v : Datum) → File table ty v bytes → ⊥
-  by_payload fault h = payloads table ty h.payload bytes fault h.framed h.read
+  by_payload fault h v file = payloads table ty h.payload bytes fault h.framed h.read v file
 
   pub no_file : (fault : PackedFault) → IsFileFault table ty bytes fault → (v : Datum) → File table ty v bytes → ⊥
   no_file (Header fault) h v file = headers table ty v bytes fault h file
-  no_file (Short place) h = by_payload (payload.Short place) h
-  no_file (Tag place) h = by_payload (payload.Tag place) h
-  no_file (Truth place) h = by_payload (payload.Truth place) h
-  no_file (Trailing place) h = by_payload (payload.Trailing place) h
+  no_file (Short place) h v file = by_payload (payload.Short place) h v file
+  no_file (Tag place) h v file = by_payload (payload.Tag place) h v file
+  no_file (Truth place) h v file = by_payload (payload.Truth place) h v file
+  no_file (Trailing place) h v file = by_payload (payload.Trailing place) h v file
 
   refuses : (fault : PackedFault) → IsFileFault table ty bytes fault → IsPackedStop table ty bytes (packed_stop fault)
   refuses fault h = (h, no_file fault h)

@@ -40,6 +40,7 @@ pub fn one_input_fault(compiled: &Compiled)
     refused_header();
     refused_file();
     one_file();
-    texts_differ(compiled.typed.types(), &compiled.names);
-    refusals_hold(compiled.typed.types(), &compiled.names);
+    let types = compiled.typed.types();
+    texts_differ(types, &compiled.names);
+    refusals_hold(types, &compiled.names);
 }
