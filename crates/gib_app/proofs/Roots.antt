@@ -102,6 +102,14 @@ loaded_ran l laid s depth m0 m1 m2 place tails r e same table ty placed holds ra
     let start = start_of l laid s.ty v m1 place tails same ty (holds v q) in
     subst (λ (n : ℕ). EndsWith l depth n v m2.cells e) limit (ends v (ran v start))
 
+-- The run has as many chunks as there were before.
+pub loaded_limit : {X E : Type 0} (l : LoweredParts) (laid : LaidOut) (s : Surveyed) (m0 m1 m2 : Memory) (place : Root) (tails : List ℕ) (r : Result X E) → laid ≡ l.code.laid → s.table ≡ l.code.laid.table
+    → ((v : Datum) → Packed laid.table s.ty v s.bytes → record { memory = m1; root = place; tails = tails } ≡ placed_in laid m0 v)
+    → (v : Datum) → Packed s.table s.ty v s.bytes → m2.limit ≡ m1.limit → IfOk r (λ _. m2.limit ≡ m0.limit)
+loaded_limit l laid s m0 m1 m2 place tails (Ok value) same table placed v p kept =
+    kept ∙ ap (λ (x : Placement). x.memory.limit) (placed v (packed_in l laid s v same table p)) ∙ placed_limit laid m0 v
+loaded_limit l laid s m0 m1 m2 place tails (Err e) same table placed v p kept = tt {0}
+
 -- Loading that stops.
 pub load_stops : (l : LoweredParts) (laid : LaidOut) (s : Surveyed) (depth : ℕ) (m0 m1 : Memory) → laid ≡ l.code.laid → s.table ≡ l.code.laid.table
     → ((v : Datum) → Packed laid.table s.ty v s.bytes → Refused laid m0 v m1) → ((v : Datum) → Packed laid.table s.ty v s.bytes → Spent v m1)

@@ -71,7 +71,7 @@ input_text (input.Text place) = codes "input: bad text at " ++ decimal place
 abbrev pub with_detail : List ℕ → Detail → List ℕ
 with_detail words Nothing = words
 with_detail words (Number n) = words ++ decimal n
-with_detail words (Bytes n) = words ++ decimal n ++ codes " bytes"
+with_detail words (Bytes n) = words ++ (decimal n ++ codes " bytes")
 with_detail words (Name name) = words ++ name.now
 
 -- What the code keeps of what is said.

@@ -78,8 +78,8 @@ fn put_numbered<E: Sink>(err: &mut E, words: &[u8], number: u64) -> Result<(), F
 
 /// Puts words, and then how many bytes.
 fn put_sized<E: Sink>(err: &mut E, words: &[u8], count: u64) -> Result<(), Failed>
-    ensures ok { OnOk result (Appends (E.view err.old).taken (E.view err.new).taken (words.now ++ decimal count ++ codes " bytes")) }
-    ensures part { OnErr result (AppendsPart (E.view err.old).taken (E.view err.new).taken (words.now ++ decimal count ++ codes " bytes")) }
+    ensures ok { OnOk result (Appends (E.view err.old).taken (E.view err.new).taken (words.now ++ (decimal count ++ codes " bytes"))) }
+    ensures part { OnErr result (AppendsPart (E.view err.old).taken (E.view err.new).taken (words.now ++ (decimal count ++ codes " bytes"))) }
     ensures cause { HasCause (E.view err.old).faults (E.view err.new).faults result }
 {
     put_all(err, words)?;

@@ -36,9 +36,10 @@ fn evaluate(
 {
     let _program = compiled.typed.program();
     results_are_typed();
-    let result = match evaluated(alloc, &compiled.typed, value, depth)? {
-        Outcome::Gives(result) => result,
-        Outcome::Deep => return Ok(None),
+    let result = match evaluated(alloc, &compiled.typed, value, depth) {
+        Ok(Outcome::Gives(result)) => result,
+        Ok(Outcome::Deep) => return Ok(None),
+        Err(memory) => return Err(memory),
     };
     match value_line(alloc, compiled, &result) {
         Ok(output) => Ok(Some(output)),

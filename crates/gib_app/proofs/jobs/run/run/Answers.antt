@@ -1,8 +1,9 @@
-use Rattle.std.proofs.Common.{refl, sym, subst}
+use Rattle.std.proofs.Common.{◌∙◌, refl, sym, subst}
 use Rattle.gib_types.specs.Table.{Table}
 use Rattle.gib_value.specs.Text.{AreHeld}
 use Rattle.gib_syntax.specs.Parts.{program_of}
 use Rattle.gib_app.specs.Running.{text_line}
+use Rattle.gib_app.proofs.Doing.{lacks_runs, stop_lacks, stop_refuses}
 use Rattle.gib_app.proofs.jobs.run.run.Goals as goal
 
 pub returns-in-Ok-clause-made : goal.returns-in-Ok-clause-made
@@ -21,8 +22,8 @@ pub returns-in-Some-clause-made : goal.returns-in-Some-clause-made
 returns-in-Some-clause-made c =
     let p = program_of c.args.compiled.typed in
     let o = c.args.options in
-    lacks_runs p c.args.compiled.names o c.args.input.now c.in-Some.reason (stop_lacks p o.depth o.chunks c.args.input.now c.in-Err.stop c.in-Some.reason _ c.in-Err.ensures.stop)
+    lacks_runs p c.args.compiled.names o c.args.input.now c.in-Some.reason (stop_lacks p o.depth o.chunks c.args.input.now c.in-Err.stop c.in-Some.reason (sym c.reason.ensures ∙ c.in-Some.is) c.in-Err.ensures.stop)
 
-pub returns-in-None-clause-stop : goal.returns-in-None-clause-stop
-returns-in-None-clause-stop c =
-    stop_refuses (program_of c.args.compiled.typed) c.args.options.depth c.args.options.chunks c.args.input.now c.in-Err.stop _ c.in-Err.ensures.stop
+pub returns-clause-stop : goal.returns-clause-stop
+returns-clause-stop c =
+    stop_refuses (program_of c.args.compiled.typed) c.args.options.depth c.args.options.chunks c.args.input.now c.in-Err.stop (sym c.reason.ensures ∙ c.in-None.is) c.in-Err.ensures.stop
