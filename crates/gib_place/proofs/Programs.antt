@@ -1,6 +1,6 @@
 -- Whole cores are placed.
 use Rattle.std.proofs.Common.{◌≡◌, ℕ, zero, suc, ◌+◌, ◌<◌, ◌≤◌, List, [], ◌∷◌, ◌++◌, map, length, reverse, refl, sym, ap, ◌∙◌, subst, arith, append_assoc}
-use Rattle.std.specs.Prelude.{Result, Ok, Err, IfOk}
+use Rattle.std.specs.Prelude.{Option, Result, Ok, Err, IfOk}
 use Rattle.std.specs.List.{AllByRecursion}
 use Rattle.std.proofs.lemmas.List.{append-nil, map-append, reverse-append}
 use Rattle.gib_types.specs.declared.table.ConId.{ConId}
@@ -47,7 +47,7 @@ pub numbers_all : (parameters count i : ℕ) (old new : List ℕ) (t : Term) →
 numbers_all parameters count i old new t ec le ge e a = a ∙ (let same : i ≡ parameters = omega arith in λ k. (e ∙ ap (numbers_from 0) same) k ++ binders t)
 
 -- A body.
-pub body_made : (terms scratch old new : List Node) (empty : List Node) (id placed made : TermId) (tally numbers : List ℕ) (parameters : ℕ) → Adds [] tally (count (term_of terms id.0)) → MakesTerm empty scratch placed (place (once_by tally) (term_of terms id.0))
+pub body_made : (terms scratch old new : List Node) (empty : List Node) (id placed made : TermId) (tally : List (Option ℕ)) (numbers : List ℕ) (parameters : ℕ) → Adds [] tally (count (term_of terms id.0)) → MakesTerm empty scratch placed (place (once_by tally) (term_of terms id.0))
     → numbers ≡ variables_in parameters (term_of scratch placed.0) → MakesTerm old new made (rename (place_in numbers) (term_of scratch placed.0)) → MakesTerm old new made (number_anew parameters (place_body (term_of terms id.0)))
 body_made terms scratch old new empty id placed made tally numbers parameters a p en m =
     let t = term_of terms id.0 in
