@@ -1,6 +1,6 @@
 //! The walk that lists what a body says of its variables, in the order of the text.
 
-ghost use Rattle.std.specs.Prelude.{◌≡◌, ◌<◌, ◌++◌, length, OnOk};
+ghost use Rattle.std.specs.Prelude.{◌≡◌, ◌<◌, ◌++◌, length, IfOk, OnOk};
 ghost use Rattle.std.specs.List.{AllByRecursion};
 ghost use Rattle.gib_core.specs.Arena.{IsBindingBelow, IsBranchBelow, IsEnd, term_of, side_from, bind_from, branches_from};
 ghost use Rattle.gib_core.specs.Numbering.{binders};

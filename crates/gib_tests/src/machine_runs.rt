@@ -84,13 +84,22 @@ fn the_machine_runs_programs(rt: HostRuntime) -> Result<(), Fail> {
             low: (0, b"\x01\xfe\0\x10\0\0\0\0\0\0\xfe\0\x10\0\0\0\0\0\0"),
             high: (4096, b"\x00\x01\0\0\0\0\0\0\0"),
         },
-        // The second leaf begins what the first one's chunk has left.
+        // Both leaves stand behind the head that they belong to.
         Run {
             source: "data Tree = Leaf Int | Node Tree Tree ; main (n : Int) : Tree = Node (Leaf n) (Leaf 7) ;",
             payload: b"\x05\0\0\0\0\0\0\0",
             root: Root::At(0),
+            drawn: 1,
+            low: (0, b"\x01\x00\x05\0\0\0\0\0\0\0\x00\x07\0\0\0\0\0\0\0"),
+            high: (19, b""),
+        },
+        // Leaves that are used twice stay in their regions. The second one begins what the first one's chunk has left.
+        Run {
+            source: "data Tree = Leaf Int | Node Tree Tree ; main (n : Int) : Tree = let x = Leaf n in let y = Leaf 7 in Node (Node x y) (Node x y) ;",
+            payload: b"\x05\0\0\0\0\0\0\0",
+            root: Root::At(0),
             drawn: 2,
-            low: (0, b"\x01\xfe\0\x10\0\0\0\0\0\0\xfe\x09\x10\0\0\0\0\0\0"),
+            low: (0, b"\x01\x01\xfe\0\x10\0\0\0\0\0\0\xfe\x09\x10\0\0\0\0\0\0"),
             high: (4096, b"\x00\x05\0\0\0\0\0\0\0\x00\x07\0\0\0\0\0\0\0"),
         },
         Run {
@@ -105,9 +114,9 @@ fn the_machine_runs_programs(rt: HostRuntime) -> Result<(), Fail> {
             source: "data Tree = Leaf Int | Node Tree Tree ; fun add1 (t : Tree) : Tree = case t of { Leaf n -> Leaf (n + 1) ; Node l r -> let par a = add1 l and b = add1 r in Node a b } ; main (t : Tree) : Tree = add1 t ;",
             payload: TWO_LEAVES,
             root: Root::At(19),
-            drawn: 2,
-            low: (19, b"\x01\xfe\0\x10\0\0\0\0\0\0\xfe\x09\x10\0\0\0\0\0\0"),
-            high: (4096, b"\x00\x02\0\0\0\0\0\0\0\x00\x03\0\0\0\0\0\0\0"),
+            drawn: 1,
+            low: (0, TWO_LEAVES),
+            high: (19, b"\x01\x00\x02\0\0\0\0\0\0\0\x00\x03\0\0\0\0\0\0\0"),
         },
         Run {
             source: "data Tree = Leaf Int | Node Tree Tree ; fun right (t : Tree) : Int = case t of { Leaf n -> n ; Node l r -> right r } ; main (t : Tree) : Int = right t ;",
