@@ -5,9 +5,9 @@ use Rattle.gib_core.specs.declared.atom.Atom.{Atom}
 use Rattle.gib_core.specs.Tree.{Term, Then, Write, Point, CallTerm, Give, CaseTerm, IfTerm, Bind, Past, One, Both, Prim, Reach, Side, On, Branches, NoBranch, BranchThen}
 use Rattle.gib_core.specs.Numbering.{binders, bind_binders, side_binders, branch_binders}
 use Rattle.gib_place.specs.declared.mention.Mention.{Mention}
-use Rattle.gib_place.specs.declared.mention.Mention.TheVariants.{Bound, Used}
+use Rattle.gib_place.specs.declared.mention.Mention.TheVariants.{Used}
 use Rattle.gib_place.specs.Placing.{count_atom, count_in, count, count_bind, count_side, count_branches}
-use Rattle.gib_place.specs.Mentioned.{all_bound, all_used, mentions, bind_mentions, side_mentions, branch_mentions, binder, binders_in, use_of, uses_in}
+use Rattle.gib_place.specs.Mentioned.{all_bound, all_used, mentions, bind_mentions, side_mentions, branch_mentions, binder, binders_in, uses_in}
 use Rattle.gib_place.proofs.Lays.{append_append}
 
 pub binders_append : (xs ys : List Mention) → binders_in (xs ++ ys) ≡ binders_in xs ++ binders_in ys

@@ -1,5 +1,5 @@
 -- The places of a list, and one more number behind it.
-use Rattle.std.proofs.lemmas.List.{drop_more, drop_all}
+use Rattle.std.proofs.lemmas.List.{append-nil, drop_more, drop_all}
 use Rattle.std.proofs.Common.{◌≡◌, ℕ, suc, ◌+◌, ◌<◌, ◌≤◌, Bool, true, false, ◌==◌, if◌then◌else◌, List, [], ◌∷◌, ◌++◌, length, drop, get_or, Option, Some, None, refl, sym, ap, ◌∙◌, subst, arith}
 use Rattle.gib_base.specs.Entries.{entry_at}
 use Rattle.gib_place.specs.declared.mention.Mention.{Mention}
@@ -49,12 +49,8 @@ pub places_end : (xs : List ℕ) (i : ℕ) (entries : List (Option ℕ)) → i �
 places_end xs i entries e h x = h x ∙ ap (λ k. place_from k (drop k xs) x) e
 
 -- Variables that are bound, one after another.
-nothing_behind : (xs : List ℕ) → xs ++ [] ≡ xs
-nothing_behind [] = refl
-nothing_behind (x ∷ xs) = ap (λ l. x ∷ l) (nothing_behind xs)
-
 pub none_bound : (old : List ℕ) → old ≡ old ++ []
-none_bound old = sym (nothing_behind old)
+none_bound old = sym (append-nil old)
 
 pub binders_next : (ms : List Mention) (i : ℕ) (m d : Mention) (old now new : List ℕ) → i < length ms → m ≡ get_or ms i d → now ++ binders_in (drop i ms) ≡ old ++ binders_in ms → new ≡ now ++ binder m → new ++ binders_in (drop (i + 1) ms) ≡ old ++ binders_in ms
 binders_next ms i m d old now new lt e h a =
@@ -63,4 +59,4 @@ binders_next ms i m d old now new lt e h a =
     ap (λ l. l ++ rest) a ∙ (append_append now (binder m) rest ∙ (sym (ap (λ l. now ++ binders_in l) left) ∙ h))
 
 pub binders_end : (ms : List Mention) (i : ℕ) (old now : List ℕ) → length ms ≤ i → now ++ binders_in (drop i ms) ≡ old ++ binders_in ms → now ≡ old ++ binders_in ms
-binders_end ms i old now le h = sym (nothing_behind now) ∙ (ap (λ l. now ++ binders_in l) (sym (drop_all i ms le)) ∙ h)
+binders_end ms i old now le h = sym (append-nil now) ∙ (ap (λ l. now ++ binders_in l) (sym (drop_all i ms le)) ∙ h)

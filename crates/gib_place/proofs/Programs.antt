@@ -4,7 +4,6 @@ use Rattle.std.specs.Prelude.{Option, Result, Ok, Err, IfOk}
 use Rattle.std.specs.List.{AllByRecursion}
 use Rattle.std.proofs.lemmas.List.{append-nil, map-append, reverse-append}
 use Rattle.gib_types.specs.declared.table.ConId.{ConId}
-use Rattle.gib_types.specs.declared.table.Ty.{Ty}
 use Rattle.gib_types.specs.Row.{Table}
 use Rattle.gib_types.specs.Tree.{Datum}
 use Rattle.gib_syntax.specs.Tree.{DataTree}
@@ -21,14 +20,13 @@ use Rattle.gib_core.specs.Inferring.{numbers_from}
 use Rattle.gib_core.specs.Numbering.{binders, AreNumbered}
 use Rattle.gib_core.specs.Reachable.{AreReachable}
 use Rattle.gib_core.proofs.Signatures.{functions_declared, declared_functions}
-use Rattle.gib_place.specs.Placing.{count, place, place_body, is_once, place_function, place_main}
+use Rattle.gib_place.specs.Placing.{count, place, place_body, is_once, place_function}
 use Rattle.gib_place.specs.Renaming.{rename}
-use Rattle.gib_place.specs.Numbering.{place_in, variables_in, number_anew, number_function, number_main, place_core}
+use Rattle.gib_place.specs.Numbering.{place_in, variables_in, number_anew, number_function, place_core}
 use Rattle.gib_place.specs.SameSource.{IsSameProgram}
 use Rattle.gib_place.specs.Tallying.{Adds}
 use Rattle.gib_place.specs.Filled.{once_by}
 use Rattle.gib_place.specs.Made.{MakesTerm, PlacesFunction, PlacesFunctions, PlacesMain}
-use Rattle.gib_place.proofs.Lays.{append_append}
 use Rattle.gib_place.proofs.Tallied.{once_told}
 use Rattle.gib_place.proofs.Fronting.{grows_more, grows_none}
 

@@ -1,4 +1,4 @@
-use Rattle.std.proofs.Common.{arith, rules}
+use Rattle.std.proofs.Common.{arith}
 use Rattle.gib_place.proofs.Programs.{number_next}
 use Rattle.gib_place.proofs.bodies.numbers_of.Goals as goal
 

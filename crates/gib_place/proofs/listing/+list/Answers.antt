@@ -1,4 +1,4 @@
-use Rattle.std.proofs.Common.{arith, rules}
+use Rattle.std.proofs.Common.{arith}
 use Rattle.gib_core.specs.Arena.{term_of}
 use Rattle.gib_place.proofs.Listed.{branches_next}
 use Rattle.gib_place.proofs.listing.+list.Goals as goal
