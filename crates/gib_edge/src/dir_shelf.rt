@@ -33,18 +33,37 @@ impl<'a, R: Files> DirShelf<'a, R> {
 
 impl<R: Files> Shelf for DirShelf<'_, R> {
     ghost use Rattle.gib_edge.specs.Views.{Hidden, ReadOf, WriteOf};
-    ghost use Rattle.gib_edge.specs.Causes.{Rose, raised};
+    ghost use Rattle.gib_edge.specs.Causes.{Rose, raised, told, IsFrontOf, Appends, AppendsPart};
 
     ghost tells = { false };
 
     ghost view = { λ shelf. record { kept = λ name. Hidden; reads = λ name. shelf.read_faults; writes = λ name. shelf.write_faults; calls = None } };
 
-    fn read(&mut self, alloc: Global, name: &str, most: u64) -> Result<Vec<u8>, ShelfFault> {
+    fn read(&mut self, alloc: Global, name: &str, most: u64) -> Result<Vec<u8>, ShelfFault>
+        ensures bytes { IfOk result (λ bytes. IsFrontOf Hidden most bytes.items) }
+        ensures most { IfOk result (λ bytes. length bytes.items ≤ most) }
+        ensures cause { IsErrOf result ShelfFault.Failed → Rose self.old.read_faults self.new.read_faults }
+        ensures later { (other : List ℕ) → self.old.read_faults ≤ self.new.read_faults }
+        ensures quiet { (IsErrOf result ShelfFault.Failed → ⊥) → (other : List ℕ) → self.new.read_faults ≡ self.old.read_faults }
+        ensures writes { (other : List ℕ) → self.new.write_faults ≡ self.old.write_faults }
+        ensures called { OnOk result (Appends None None (ReadOf name.now most ∷ [])) }
+        ensures once { OnErr result (AppendsPart None None (ReadOf name.now most ∷ [])) }
+        ensures counted { IsErrOf result ShelfFault.Failed → self.new.read_faults ≡ raised self.old.read_faults 1 }
+    {
         let read = read_opened(fs::open(self.rt, name), alloc, most);
         counted(&mut self.read_faults, read)
     }
 
-    fn write(&mut self, _alloc: Global, name: &str, bytes: &[u8]) -> Result<(), ShelfFault> {
+    fn write(&mut self, _alloc: Global, name: &str, bytes: &[u8]) -> Result<(), ShelfFault>
+        ensures ok { OnOk result (Hidden ≡ told false bytes.now) }
+        ensures cause { IsErrOf result ShelfFault.Failed → Rose self.old.write_faults self.new.write_faults }
+        ensures later { (other : List ℕ) → self.old.write_faults ≤ self.new.write_faults }
+        ensures quiet { (IsErrOf result ShelfFault.Failed → ⊥) → (other : List ℕ) → self.new.write_faults ≡ self.old.write_faults }
+        ensures reads { (other : List ℕ) → self.new.read_faults ≡ self.old.read_faults }
+        ensures called { OnOk result (Appends None None (WriteOf name.now ∷ [])) }
+        ensures once { OnErr result (AppendsPart None None (WriteOf name.now ∷ [])) }
+        ensures counted { IsErrOf result ShelfFault.Failed → self.new.write_faults ≡ raised self.old.write_faults 1 }
+    {
         let written = write_opened(fs::create(self.rt, name), bytes);
         counted(&mut self.write_faults, closed(written))
     }

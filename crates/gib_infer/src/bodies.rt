@@ -21,7 +21,6 @@ use std::alloc::Global;
 
 /// A body whose parameters have these names and types: they are its first variables.
 fn make_body(
-    alloc: Global,
     typed: &Typed,
     work: &mut Work,
     names: &[Ident],
@@ -33,8 +32,8 @@ fn make_body(
 {
     work.scope.clear();
     work.fresh = 0;
-    bind_fields(alloc, work, names, types)?;
-    let (term, _) = line(alloc, typed, typed.program().exprs(), work, id)?;
+    bind_fields(work, names, types)?;
+    let (term, _) = line(typed, work, id)?;
     Ok(term)
 }
 
@@ -52,20 +51,15 @@ fn names_of(alloc: Global, parameters: &[Parameter]) -> Result<Vec<Ident>, Memor
 }
 
 /// The function of a number.
-fn make_function(
-    alloc: Global,
-    typed: &Typed,
-    work: &mut Work,
-    id: FunctionId,
-) -> Result<CoreFunction, Memory>
+fn make_function(typed: &Typed, work: &mut Work, id: FunctionId) -> Result<CoreFunction, Memory>
     requires { id.0 < length (program_of typed.now).functions }
     ensures { (f : FunctionTree) → slice_get (program_of typed.now).functions id.0 ≡ Some f → IfOk result (λ made. MakesFunction work.old work.new made (infer_function (globals_in typed.now) f)) }
 {
     let declaration = typed.declaration(id);
     let types = typed.parameter_types(id);
-    let names = names_of(alloc, &declaration.parameters)?;
-    let body = make_body(alloc, typed, work, &names, types, declaration.body)?;
-    let parameters = types.to_vec(alloc)?;
+    let names = names_of(work.alloc, &declaration.parameters)?;
+    let body = make_body(typed, work, &names, types, declaration.body)?;
+    let parameters = types.to_vec(work.alloc)?;
     Ok(CoreFunction {
         name: declaration.name.name,
         parameters,
@@ -75,18 +69,14 @@ fn make_function(
 }
 
 /// The functions but main, in the order of the text.
-pub fn make_functions(
-    alloc: Global,
-    typed: &Typed,
-    work: &mut Work,
-) -> Result<Vec<CoreFunction>, Memory>
+pub fn make_functions(typed: &Typed, work: &mut Work) -> Result<Vec<CoreFunction>, Memory>
     ensures { IfOk result (λ made. MakesFunctions work.old work.new made.items (map (infer_function (globals_in typed.now)) (program_of typed.now).functions)) }
 {
     let count = typed.program().functions().len() as u32;
-    let mut functions = Vec::new(alloc);
+    let mut functions = Vec::new(work.alloc);
     let mut next = 0;
     'functions: while next < count {
-        let function = make_function(alloc, typed, work, FunctionId(next))?;
+        let function = make_function(typed, work, FunctionId(next))?;
         functions.push(function)?;
         next += 1;
     }
@@ -94,13 +84,13 @@ pub fn make_functions(
 }
 
 /// Main.
-pub fn make_main(alloc: Global, typed: &Typed, work: &mut Work) -> Result<CoreMain, Memory>
+pub fn make_main(typed: &Typed, work: &mut Work) -> Result<CoreMain, Memory>
     ensures { IfOk result (λ made. MakesMain work.old work.new made (infer_program (program_of typed.now)).main) }
 {
     let main = typed.program().main();
     let parameter = typed.input_type();
     let names = [main.parameter.name];
-    let body = make_body(alloc, typed, work, &names, &[parameter], main.body)?;
+    let body = make_body(typed, work, &names, &[parameter], main.body)?;
     Ok(CoreMain {
         parameter,
         result: typed.output_type(),

@@ -39,15 +39,10 @@ pub fn bind(work: &mut Work, name: Ident, atom: Atom, ty: Ty) -> Result<(), Memo
 }
 
 /// The names of fields of these types become new variables.
-pub fn bind_fields(
-    alloc: Global,
-    work: &mut Work,
-    names: &[Ident],
-    types: &[Ty],
-) -> Result<Vec<Variable>, Memory>
+pub fn bind_fields(work: &mut Work, names: &[Ident], types: &[Ty]) -> Result<Vec<Variable>, Memory>
     ensures { IfOk result (λ v. BindsFields work.old work.new names.now types.now v.items) }
 {
-    let mut variables = Vec::new(alloc);
+    let mut variables = Vec::new(work.alloc);
     let mut types_left = types;
     let mut left = names;
     'names: while let [name, after @ ..] = left {

@@ -36,12 +36,13 @@ fn make_core(alloc: Global, typed: &Typed) -> Result<Core, Memory>
     ensures { IfOk result (λ core. core_of core ≡ infer_program (program_of typed.now)) }
 {
     let mut work = Work {
+        alloc,
         terms: Terms::new(alloc),
         scope: Vec::new(alloc),
         fresh: 0,
     };
-    let functions = make_functions(alloc, typed, &mut work)?;
-    let main = make_main(alloc, typed, &mut work)?;
+    let functions = make_functions(typed, &mut work)?;
+    let main = make_main(typed, &mut work)?;
     let types = typed.types().copy(alloc)?;
     let core = Core::new(types, work.terms, functions, main, Vec::new(alloc));
     Ok(core)

@@ -1,14 +1,39 @@
 //! The ends of constructs, once the code of their parts stands.
 
 ghost use Rattle.std.specs.Prelude.{◌≡◌, ℕ, ◌+◌, ◌<◌, ◌++◌, ◌∷◌, [], length, IfOk};
-ghost use Rattle.gib_core.specs.Inferring.{call_atom, make_from};
-ghost use Rattle.gib_infer.specs.Made.{AreBindingsBelow, MakesLine, MakesAtom, PointsFields, pending, pending_atom, plain_atoms, given_atom, ended_call, side_call};
+ghost use Rattle.gib_core.specs.Inferring.{atom_at, type_at, plain_line as plainly, call_atom, make_from};
+ghost use Rattle.gib_infer.specs.Made.{scope_of, AreBindingsBelow, MakesLine, MakesAtom, PointsFields, pending, pending_atom, plain_atoms, given_atom, ended_call, side_call};
 
-use crate::work::{Work, new_variable, put_line};
+use crate::work::{Work, find, new_variable, put_line, put_plain};
 use gib_base::{Memory, Name};
 use gib_core::{Atom, Binding, BoundTerm, Kind, Node, TermId};
 use gib_types::{ConId, Ty, first_type, further_types};
-use std::alloc::Global;
+
+/// A constructor with the atoms at its fields: the scalars, and the packed ones with their types.
+#[derive(Drop)]
+pub struct Construction {
+    pub ty: Ty,
+    pub constructor: ConId,
+    pub types: Vec<Ty>,
+    pub scalars: Vec<Atom>,
+    pub packed: Vec<Atom>,
+}
+
+/// An atom of a type in result place.
+pub fn plain_line(work: &mut Work, atom: Atom, ty: Ty) -> Result<(TermId, Ty), Memory>
+    ensures { IfOk result (λ r. MakesLine work.old work.new r.0 r.1 (plainly (λ _. ty) (λ _. atom) (scope_of work.old.scope.items) work.old.fresh)) }
+{
+    let term = put_plain(&mut work.terms, atom, ty)?;
+    Ok((term, ty))
+}
+
+/// A variable in result place.
+pub fn variable_line(work: &mut Work, name: Name) -> Result<(TermId, Ty), Memory>
+    ensures { IfOk result (λ r. MakesLine work.old work.new r.0 r.1 (plainly (λ scope. type_at scope name.0) (λ scope. atom_at scope name.0) (scope_of work.old.scope.items) work.old.fresh)) }
+{
+    let (atom, ty) = find(&work.scope, name);
+    plain_line(work, atom, ty)
+}
 
 /// A scalar that is given, behind its bindings.
 pub fn give(work: &mut Work, bindings: Vec<Binding>, atom: Atom, ty: Ty) -> Result<TermId, Memory>
@@ -95,7 +120,6 @@ pub fn end_side(
 
 /// The packed fields of a head: each points to its atom.
 fn point_fields(
-    alloc: Global,
     work: &mut Work,
     bindings: &mut Vec<Binding>,
     types: &[Ty],
@@ -104,7 +128,7 @@ fn point_fields(
     requires { AreBindingsBelow (length work.old.terms) bindings.old.items }
     ensures { IfOk result (λ v. PointsFields work.old work.new bindings.old.items bindings.new.items types.now atoms.now v.items) }
 {
-    let mut fields = Vec::new(alloc);
+    let mut fields = Vec::new(work.alloc);
     let mut types_left = types;
     let mut atoms_left = atoms;
     'fields: while let [atom, atoms_after @ ..] = atoms_left {
@@ -126,30 +150,23 @@ fn point_fields(
 
 /// A constructor behind its arguments: room for its head, its packed fields, its head.
 pub fn end_make(
-    alloc: Global,
     work: &mut Work,
     mut bindings: Vec<Binding>,
-    ty: Ty,
-    constructor: ConId,
-    types: &[Ty],
-    scalars: Vec<Atom>,
-    packed: &[Atom],
+    made: Construction,
 ) -> Result<TermId, Memory>
     requires { AreBindingsBelow (length work.old.terms) bindings.items }
-    ensures { IfOk result (λ t. MakesLine work.old work.new t ty (make_from ty constructor types.now (pending work.old bindings.items scalars.items) (plain_atoms work.old packed.now))) }
+    ensures { IfOk result (λ t. MakesLine work.old work.new t made.ty (make_from made.ty made.constructor made.types.items (pending work.old bindings.items made.scalars.items) (plain_atoms work.old made.packed.items))) }
 {
+    let constructor = made.constructor;
     let head = new_variable(work)?;
     bindings.push(Binding::Past { head, constructor })?;
-    let fields = point_fields(alloc, work, &mut bindings, types, packed)?;
-    let term = put_line(
-        &mut work.terms,
-        bindings,
-        Node::Write {
-            head,
-            constructor,
-            scalars,
-            packed: fields,
-        },
-    )?;
+    let fields = point_fields(work, &mut bindings, &made.types, &made.packed)?;
+    let end = Node::Write {
+        head,
+        constructor,
+        scalars: made.scalars,
+        packed: fields,
+    };
+    let term = put_line(&mut work.terms, bindings, end)?;
     Ok(term)
 }

@@ -4,8 +4,8 @@ ghost use Rattle.std.specs.Prelude.{◌≡◌, ℕ, ◌+◌, ◌<◌, ◌++◌, 
 ghost use Rattle.std.specs.Option.{option_or};
 ghost use Rattle.gib_types.specs.declared.table.Ty.{Ty};
 ghost use Rattle.gib_syntax.specs.Tree.{Call, Make};
-ghost use Rattle.gib_syntax.specs.Arena.{tree_of, arguments_from, ArmsBelow, IsArmBelow};
-ghost use Rattle.gib_core.specs.Inferring.{Branched, infer, several, boxed, operation_atom, let_line, par_line, if_line, case_line};
+ghost use Rattle.gib_syntax.specs.Arena.{Opens, tree_of, arguments_from, ArmsBelow, IsArmBelow};
+ghost use Rattle.gib_core.specs.Inferring.{Branched, infer, several, boxed, given, operation_atom, let_line, par_line, if_line, case_line};
 ghost use Rattle.gib_infer.specs.Made.{scope_of, globals_in, code_at, codes_at, arms_at, AreBelow, AreBindingsBelow, MakesLine, MakesAtom, MakesAtoms, MakesSide, MakesBranch, BranchesSoFar};
 ghost use Rattle.gib_infer.specs.declared.work.Work.{Work};
 
@@ -13,73 +13,65 @@ use crate::fields::{bind, bind_fields, packed_types};
 use crate::names::{
     arm_of, constructor, constructors_of, fields_of, first_constructor, owner_of, result_type,
 };
-use crate::steps::{bind_call, end_call, end_make, end_side, give};
-use crate::work::{
-    Work, find, kind, new_variable, operator_type, push_bound, put_before, put_line, put_plain,
+use crate::steps::{
+    Construction, bind_call, end_call, end_make, end_side, give, plain_line, variable_line,
 };
+use crate::work::{Work, find, kind, new_variable, push_bound, put_before, put_line};
 use gib_base::Memory;
 use gib_check::Typed;
 use gib_core::{Atom, Binding, BoundTerm, Branch, Node as TermNode, TermId};
-use gib_syntax::{Arm, ExprId, Exprs, Ident, Node, Operator};
+use gib_syntax::{Arm, ExprId, Ident, Node, Operator};
 use gib_types::{ConId, Ty, items_at};
-use std::alloc::Global;
+
+/// A name, with the expression that it is bound to.
+#[derive(Clone, Copy)]
+struct Named {
+    name: Ident,
+    value: ExprId,
+}
+
+impl Named {
+    /// A name with its expression.
+    fn new(name: Ident, value: ExprId) -> Named
+        ensures { result ≡ record { name = name; value = value } }
+    {
+        Named { name, value }
+    }
+}
+
+/// The expression of a number.
+fn node_at(typed: &Typed, id: ExprId) -> &Node
+    requires { id.0 < length typed.now.exprs }
+    ensures { Opens typed.now.exprs id.0 result.now }
+{
+    typed.program().exprs().node(id)
+}
 
 /// The expression in result place.
 #[cycle(infer)]
-pub fn line(
-    alloc: Global,
-    typed: &Typed,
-    exprs: &Exprs,
-    work: &mut Work,
-    id: ExprId,
-) -> Result<(TermId, Ty), Memory>
-    requires { id.0 < length exprs.now }
-    ensures { IfOk result (λ r. MakesLine work.old work.new r.0 r.1 ((code_at typed.now exprs.now id.0).line (scope_of work.old.scope.items) work.old.fresh)) }
+pub fn line(typed: &Typed, work: &mut Work, id: ExprId) -> Result<(TermId, Ty), Memory>
+    requires { id.0 < length typed.now.exprs }
+    ensures { IfOk result (λ r. MakesLine work.old work.new r.0 r.1 ((code_at typed.now typed.now.exprs id.0).line (scope_of work.old.scope.items) work.old.fresh)) }
 {
-    match exprs.node(id) {
-        Node::Variable(x) => {
-            let (atom, ty) = find(&work.scope, x.name);
-            let term = put_plain(&mut work.terms, atom, ty)?;
-            Ok((term, ty))
-        }
-        Node::Whole(_, number) => {
-            let term = put_plain(&mut work.terms, Atom::literal(*number), Ty::Whole)?;
-            Ok((term, Ty::Whole))
-        }
-        Node::Truth(_, truth) => {
-            let term = put_plain(&mut work.terms, Atom::Truth(*truth), Ty::Truth)?;
-            Ok((term, Ty::Truth))
-        }
-        Node::Paren(_, inner) => line(alloc, typed, exprs, work, *inner),
+    match node_at(typed, id) {
+        Node::Variable(x) => variable_line(work, x.name),
+        Node::Whole(_, number) => plain_line(work, Atom::literal(*number), Ty::Whole),
+        Node::Truth(_, truth) => plain_line(work, Atom::Truth(*truth), Ty::Truth),
+        Node::Paren(_, inner) => line(typed, work, *inner),
         Node::Operation {
             operator,
             left,
             right,
             ..
-        } => {
-            let mut bindings = Vec::new(alloc);
-            let (atom, ty) = operation(
-                alloc,
-                typed,
-                exprs,
-                work,
-                &mut bindings,
-                id,
-                *operator,
-                *left,
-                *right,
-            )?;
-            let term = give(work, bindings, atom, ty)?;
-            Ok((term, ty))
-        }
-        Node::Call(f, ids) => call_line(alloc, typed, exprs, work, id, *f, ids),
-        Node::Make(k, ids) => make(alloc, typed, exprs, work, id, *k, ids),
+        } => operation_line(typed, work, *operator, *left, *right),
+        Node::Call(f, ids) => call_line(typed, work, id, *f, ids),
+        Node::Make(k, ids) => make(typed, work, id, *k, ids),
         Node::Let {
             name,
             bound,
             body,
             ..
-        } => let_in(alloc, typed, exprs, work, id, *name, *bound, *body),
+        } => let_in(typed, work, Named::new(*name, *bound), *body),
         Node::LetPar {
             left_name,
             left,
@@ -88,15 +80,10 @@ pub fn line(
             body,
             ..
         } => let_par(
-            alloc,
             typed,
-            exprs,
             work,
-            id,
-            *left_name,
-            *left,
-            *right_name,
-            *right,
+            Named::new(*left_name, *left),
+            Named::new(*right_name, *right),
             *body,
         ),
         Node::If {
@@ -104,128 +91,110 @@ pub fn line(
             then_part,
             else_part,
             ..
-        } => if_else(
-            alloc, typed, exprs, work, id, *condition, *then_part, *else_part,
-        ),
-        Node::Case { variable, arms, .. } => case(alloc, typed, exprs, work, id, *variable, arms),
+        } => if_else(typed, work, *condition, *then_part, *else_part),
+        Node::Case { variable, arms, .. } => case(typed, work, id, *variable, arms),
     }
 }
 
 /// The expression as a side of a `let par`.
 #[cycle(infer)]
-fn side(
-    alloc: Global,
-    typed: &Typed,
-    exprs: &Exprs,
-    work: &mut Work,
-    id: ExprId,
-) -> Result<(TermId, Ty), Memory>
-    requires { id.0 < length exprs.now }
-    ensures { IfOk result (λ r. MakesLine work.old work.new r.0 r.1 ((code_at typed.now exprs.now id.0).side (scope_of work.old.scope.items) work.old.fresh)) }
+fn side(typed: &Typed, work: &mut Work, id: ExprId) -> Result<(TermId, Ty), Memory>
+    requires { id.0 < length typed.now.exprs }
+    ensures { IfOk result (λ r. MakesLine work.old work.new r.0 r.1 ((code_at typed.now typed.now.exprs id.0).side (scope_of work.old.scope.items) work.old.fresh)) }
 {
-    match exprs.node(id) {
-        Node::Paren(_, inner) => side(alloc, typed, exprs, work, *inner),
-        Node::Call(f, ids) => call_side(alloc, typed, exprs, work, id, *f, ids),
-        Node::Variable(_) => line(alloc, typed, exprs, work, id),
-        Node::Whole(_, _) => line(alloc, typed, exprs, work, id),
-        Node::Truth(_, _) => line(alloc, typed, exprs, work, id),
-        Node::Operation { .. } => line(alloc, typed, exprs, work, id),
-        Node::Make(_, _) => line(alloc, typed, exprs, work, id),
-        Node::Let { .. } => line(alloc, typed, exprs, work, id),
-        Node::LetPar { .. } => line(alloc, typed, exprs, work, id),
-        Node::If { .. } => line(alloc, typed, exprs, work, id),
-        Node::Case { .. } => line(alloc, typed, exprs, work, id),
+    match node_at(typed, id) {
+        Node::Paren(_, inner) => side(typed, work, *inner),
+        Node::Call(f, ids) => call_side(typed, work, id, *f, ids),
+        Node::Variable(_) => line(typed, work, id),
+        Node::Whole(_, _) => line(typed, work, id),
+        Node::Truth(_, _) => line(typed, work, id),
+        Node::Operation { .. } => line(typed, work, id),
+        Node::Make(_, _) => line(typed, work, id),
+        Node::Let { .. } => line(typed, work, id),
+        Node::LetPar { .. } => line(typed, work, id),
+        Node::If { .. } => line(typed, work, id),
+        Node::Case { .. } => line(typed, work, id),
     }
 }
 
 /// The expression as an argument, operand or condition.
 #[cycle(infer)]
 fn atom(
-    alloc: Global,
     typed: &Typed,
-    exprs: &Exprs,
     work: &mut Work,
     bindings: &mut Vec<Binding>,
     id: ExprId,
 ) -> Result<(Atom, Ty), Memory>
-    requires inside { id.0 < length exprs.now }
+    requires inside { id.0 < length typed.now.exprs }
     requires bindings { AreBindingsBelow (length work.old.terms) bindings.old.items }
-    ensures { IfOk result (λ r. MakesAtom work.old work.new bindings.old.items bindings.new.items r.0 r.1 ((code_at typed.now exprs.now id.0).atom (scope_of work.old.scope.items) work.old.fresh)) }
+    ensures { IfOk result (λ r. MakesAtom work.old work.new bindings.old.items bindings.new.items r.0 r.1 ((code_at typed.now typed.now.exprs id.0).atom (scope_of work.old.scope.items) work.old.fresh)) }
 {
-    match exprs.node(id) {
+    match node_at(typed, id) {
         Node::Variable(x) => Ok(find(&work.scope, x.name)),
         Node::Whole(_, number) => Ok((Atom::literal(*number), Ty::Whole)),
         Node::Truth(_, truth) => Ok((Atom::Truth(*truth), Ty::Truth)),
-        Node::Paren(_, inner) => atom(alloc, typed, exprs, work, bindings, *inner),
+        Node::Paren(_, inner) => atom(typed, work, bindings, *inner),
         Node::Operation {
             operator,
             left,
             right,
             ..
-        } => operation(
-            alloc, typed, exprs, work, bindings, id, *operator, *left, *right,
-        ),
-        Node::Call(f, ids) => call_atom(alloc, typed, exprs, work, bindings, id, *f, ids),
-        Node::Make(_, _) => bound_line(alloc, typed, exprs, work, bindings, id),
-        Node::Let { .. } => bound_line(alloc, typed, exprs, work, bindings, id),
-        Node::LetPar { .. } => bound_line(alloc, typed, exprs, work, bindings, id),
-        Node::If { .. } => bound_line(alloc, typed, exprs, work, bindings, id),
-        Node::Case { .. } => bound_line(alloc, typed, exprs, work, bindings, id),
+        } => operation(typed, work, bindings, *operator, *left, *right),
+        Node::Call(f, ids) => call_atom(typed, work, bindings, id, *f, ids),
+        Node::Make(_, _) => bound_line(typed, work, bindings, id),
+        Node::Let { .. } => bound_line(typed, work, bindings, id),
+        Node::LetPar { .. } => bound_line(typed, work, bindings, id),
+        Node::If { .. } => bound_line(typed, work, bindings, id),
+        Node::Case { .. } => bound_line(typed, work, bindings, id),
     }
 }
 
 /// The expression as the right side of a `let`.
 #[cycle(infer)]
 fn right_side(
-    alloc: Global,
     typed: &Typed,
-    exprs: &Exprs,
     work: &mut Work,
     bindings: &mut Vec<Binding>,
     id: ExprId,
 ) -> Result<(Atom, Ty), Memory>
-    requires inside { id.0 < length exprs.now }
+    requires inside { id.0 < length typed.now.exprs }
     requires bindings { AreBindingsBelow (length work.old.terms) bindings.old.items }
-    ensures { IfOk result (λ r. MakesAtom work.old work.new bindings.old.items bindings.new.items r.0 r.1 ((code_at typed.now exprs.now id.0).bound (scope_of work.old.scope.items) work.old.fresh)) }
+    ensures { IfOk result (λ r. MakesAtom work.old work.new bindings.old.items bindings.new.items r.0 r.1 ((code_at typed.now typed.now.exprs id.0).bound (scope_of work.old.scope.items) work.old.fresh)) }
 {
-    match exprs.node(id) {
-        Node::Variable(_) => bound_line(alloc, typed, exprs, work, bindings, id),
-        Node::Whole(_, _) => bound_line(alloc, typed, exprs, work, bindings, id),
-        Node::Truth(_, _) => bound_line(alloc, typed, exprs, work, bindings, id),
-        Node::Paren(_, inner) => right_side(alloc, typed, exprs, work, bindings, *inner),
+    match node_at(typed, id) {
+        Node::Variable(_) => bound_line(typed, work, bindings, id),
+        Node::Whole(_, _) => bound_line(typed, work, bindings, id),
+        Node::Truth(_, _) => bound_line(typed, work, bindings, id),
+        Node::Paren(_, inner) => right_side(typed, work, bindings, *inner),
         Node::Operation {
             operator,
             left,
             right,
             ..
-        } => operation(
-            alloc, typed, exprs, work, bindings, id, *operator, *left, *right,
-        ),
-        Node::Call(f, ids) => call_atom(alloc, typed, exprs, work, bindings, id, *f, ids),
-        Node::Make(_, _) => bound_line(alloc, typed, exprs, work, bindings, id),
-        Node::Let { .. } => bound_line(alloc, typed, exprs, work, bindings, id),
-        Node::LetPar { .. } => bound_line(alloc, typed, exprs, work, bindings, id),
-        Node::If { .. } => bound_line(alloc, typed, exprs, work, bindings, id),
-        Node::Case { .. } => bound_line(alloc, typed, exprs, work, bindings, id),
+        } => operation(typed, work, bindings, *operator, *left, *right),
+        Node::Call(f, ids) => call_atom(typed, work, bindings, id, *f, ids),
+        Node::Make(_, _) => bound_line(typed, work, bindings, id),
+        Node::Let { .. } => bound_line(typed, work, bindings, id),
+        Node::LetPar { .. } => bound_line(typed, work, bindings, id),
+        Node::If { .. } => bound_line(typed, work, bindings, id),
+        Node::Case { .. } => bound_line(typed, work, bindings, id),
     }
 }
 
 /// A line that is bound to a new variable.
 #[cycle(infer)]
 fn bound_line(
-    alloc: Global,
     typed: &Typed,
-    exprs: &Exprs,
     work: &mut Work,
     bindings: &mut Vec<Binding>,
     id: ExprId,
 ) -> Result<(Atom, Ty), Memory>
-    requires inside { id.0 < length exprs.now }
+    requires inside { id.0 < length typed.now.exprs }
     requires bindings { AreBindingsBelow (length work.old.terms) bindings.old.items }
-    ensures { IfOk result (λ r. MakesAtom work.old work.new bindings.old.items bindings.new.items r.0 r.1 (boxed (code_at typed.now exprs.now id.0).line (scope_of work.old.scope.items) work.old.fresh)) }
+    ensures { IfOk result (λ r. MakesAtom work.old work.new bindings.old.items bindings.new.items r.0 r.1 (boxed (code_at typed.now typed.now.exprs id.0).line (scope_of work.old.scope.items) work.old.fresh)) }
 {
     let variable = new_variable(work)?;
-    let (term, ty) = line(alloc, typed, exprs, work, id)?;
+    let (term, ty) = line(typed, work, id)?;
     push_bound(bindings, variable, ty, term)?;
     Ok((Atom::Variable(variable), ty))
 }
@@ -233,24 +202,21 @@ fn bound_line(
 /// An operation on two operands.
 #[cycle(infer)]
 fn operation(
-    alloc: Global,
     typed: &Typed,
-    exprs: &Exprs,
     work: &mut Work,
     bindings: &mut Vec<Binding>,
-    id: ExprId,
     operator: Operator,
     left: ExprId,
     right: ExprId,
 ) -> Result<(Atom, Ty), Memory>
-    requires left { left.0 < id.0 }
-    requires right { right.0 < id.0 }
-    requires inside { id.0 < length exprs.now }
+    requires left { left.0 < length typed.now.exprs }
+    requires right { right.0 < length typed.now.exprs }
     requires bindings { AreBindingsBelow (length work.old.terms) bindings.old.items }
-    ensures { IfOk result (λ r. MakesAtom work.old work.new bindings.old.items bindings.new.items r.0 r.1 (operation_atom operator (code_at typed.now exprs.now left.0).atom (code_at typed.now exprs.now right.0).atom (scope_of work.old.scope.items) work.old.fresh)) }
+    ensures { IfOk result (λ r. MakesAtom work.old work.new bindings.old.items bindings.new.items r.0 r.1 (operation_atom operator (code_at typed.now typed.now.exprs left.0).atom (code_at typed.now typed.now.exprs right.0).atom (scope_of work.old.scope.items) work.old.fresh)) }
 {
-    let (left, _) = atom(alloc, typed, exprs, work, bindings, left)?;
-    let (right, _) = atom(alloc, typed, exprs, work, bindings, right)?;
+    let (left, _) = atom(typed, work, bindings, left)?;
+    let (right, _) = atom(typed, work, bindings, right)?;
+    let ty = operator.result();
     let variable = new_variable(work)?;
     bindings.push(Binding::Prim {
         variable,
@@ -258,29 +224,46 @@ fn operation(
         left,
         right,
     })?;
-    Ok((Atom::Variable(variable), operator_type(operator)))
+    Ok((Atom::Variable(variable), ty))
+}
+
+/// An operation in result place.
+#[cycle(infer)]
+fn operation_line(
+    typed: &Typed,
+    work: &mut Work,
+    operator: Operator,
+    left: ExprId,
+    right: ExprId,
+) -> Result<(TermId, Ty), Memory>
+    requires left { left.0 < length typed.now.exprs }
+    requires right { right.0 < length typed.now.exprs }
+    ensures { IfOk result (λ r. MakesLine work.old work.new r.0 r.1 (given (operation_atom operator (code_at typed.now typed.now.exprs left.0).atom (code_at typed.now typed.now.exprs right.0).atom) (scope_of work.old.scope.items) work.old.fresh)) }
+{
+    let mut bindings = Vec::new(work.alloc);
+    let (atom, ty) = operation(typed, work, &mut bindings, operator, left, right)?;
+    let term = give(work, bindings, atom, ty)?;
+    Ok((term, ty))
 }
 
 /// Arguments, from left to right.
 #[cycle(infer)]
 fn arguments(
-    alloc: Global,
     typed: &Typed,
-    exprs: &Exprs,
     work: &mut Work,
     bindings: &mut Vec<Binding>,
     id: ExprId,
     ids: &[ExprId],
 ) -> Result<Vec<Atom>, Memory>
-    requires inside { id.0 < length exprs.now }
+    requires inside { id.0 < length typed.now.exprs }
     requires below { AreBelow id.0 ids.now }
     requires bindings { AreBindingsBelow (length work.old.terms) bindings.old.items }
-    ensures { IfOk result (λ v. MakesAtoms work.old work.new bindings.old.items bindings.new.items v.items (several (codes_at typed.now exprs.now ids.now) (scope_of work.old.scope.items) work.old.fresh)) }
+    ensures { IfOk result (λ v. MakesAtoms work.old work.new bindings.old.items bindings.new.items v.items (several (codes_at typed.now typed.now.exprs ids.now) (scope_of work.old.scope.items) work.old.fresh)) }
 {
-    let mut atoms = Vec::new(alloc);
+    let mut atoms = Vec::new(work.alloc);
     let mut left = ids;
     'arguments: while let [argument, after @ ..] = left {
-        let (argument, _) = atom(alloc, typed, exprs, work, bindings, *argument)?;
+        let (argument, _) = atom(typed, work, bindings, *argument)?;
         atoms.push(argument)?;
         left = after;
     }
@@ -290,20 +273,18 @@ fn arguments(
 /// A call in result place.
 #[cycle(infer)]
 fn call_line(
-    alloc: Global,
     typed: &Typed,
-    exprs: &Exprs,
     work: &mut Work,
     id: ExprId,
     f: Ident,
     ids: &[ExprId],
 ) -> Result<(TermId, Ty), Memory>
-    requires inside { id.0 < length exprs.now }
+    requires inside { id.0 < length typed.now.exprs }
     requires below { AreBelow id.0 ids.now }
-    ensures { IfOk result (λ r. MakesLine work.old work.new r.0 r.1 ((infer (globals_in typed.now) (Call f (arguments_from (tree_of exprs.now) ids.now))).line (scope_of work.old.scope.items) work.old.fresh)) }
+    ensures { IfOk result (λ r. MakesLine work.old work.new r.0 r.1 ((infer (globals_in typed.now) (Call f (arguments_from (tree_of typed.now.exprs) ids.now))).line (scope_of work.old.scope.items) work.old.fresh)) }
 {
-    let mut bindings = Vec::new(alloc);
-    let atoms = arguments(alloc, typed, exprs, work, &mut bindings, id, ids)?;
+    let mut bindings = Vec::new(work.alloc);
+    let atoms = arguments(typed, work, &mut bindings, id, ids)?;
     let ty = result_type(typed, f);
     let term = end_call(work, bindings, f.name, atoms, ty)?;
     Ok((term, ty))
@@ -312,20 +293,18 @@ fn call_line(
 /// A call as a side.
 #[cycle(infer)]
 fn call_side(
-    alloc: Global,
     typed: &Typed,
-    exprs: &Exprs,
     work: &mut Work,
     id: ExprId,
     f: Ident,
     ids: &[ExprId],
 ) -> Result<(TermId, Ty), Memory>
-    requires inside { id.0 < length exprs.now }
+    requires inside { id.0 < length typed.now.exprs }
     requires below { AreBelow id.0 ids.now }
-    ensures { IfOk result (λ r. MakesLine work.old work.new r.0 r.1 ((infer (globals_in typed.now) (Call f (arguments_from (tree_of exprs.now) ids.now))).side (scope_of work.old.scope.items) work.old.fresh)) }
+    ensures { IfOk result (λ r. MakesLine work.old work.new r.0 r.1 ((infer (globals_in typed.now) (Call f (arguments_from (tree_of typed.now.exprs) ids.now))).side (scope_of work.old.scope.items) work.old.fresh)) }
 {
-    let mut bindings = Vec::new(alloc);
-    let atoms = arguments(alloc, typed, exprs, work, &mut bindings, id, ids)?;
+    let mut bindings = Vec::new(work.alloc);
+    let atoms = arguments(typed, work, &mut bindings, id, ids)?;
     let ty = result_type(typed, f);
     let term = end_side(work, bindings, f.name, atoms, ty)?;
     Ok((term, ty))
@@ -334,28 +313,26 @@ fn call_side(
 /// A call as an argument, operand, condition or right side of a `let`.
 #[cycle(infer)]
 fn call_atom(
-    alloc: Global,
     typed: &Typed,
-    exprs: &Exprs,
     work: &mut Work,
     bindings: &mut Vec<Binding>,
     id: ExprId,
     f: Ident,
     ids: &[ExprId],
 ) -> Result<(Atom, Ty), Memory>
-    requires inside { id.0 < length exprs.now }
+    requires inside { id.0 < length typed.now.exprs }
     requires below { AreBelow id.0 ids.now }
     requires bindings { AreBindingsBelow (length work.old.terms) bindings.old.items }
-    ensures { IfOk result (λ r. MakesAtom work.old work.new bindings.old.items bindings.new.items r.0 r.1 ((infer (globals_in typed.now) (Call f (arguments_from (tree_of exprs.now) ids.now))).atom (scope_of work.old.scope.items) work.old.fresh)) }
+    ensures { IfOk result (λ r. MakesAtom work.old work.new bindings.old.items bindings.new.items r.0 r.1 ((infer (globals_in typed.now) (Call f (arguments_from (tree_of typed.now.exprs) ids.now))).atom (scope_of work.old.scope.items) work.old.fresh)) }
 {
     let ty = result_type(typed, f);
     if ty.is_scalar() {
-        let atoms = arguments(alloc, typed, exprs, work, bindings, id, ids)?;
+        let atoms = arguments(typed, work, bindings, id, ids)?;
         let atom = bind_call(work, bindings, f.name, atoms, ty)?;
         return Ok((atom, ty));
     }
     let variable = new_variable(work)?;
-    let (term, ty) = call_line(alloc, typed, exprs, work, id, f, ids)?;
+    let (term, ty) = call_line(typed, work, id, f, ids)?;
     push_bound(bindings, variable, ty, term)?;
     Ok((Atom::Variable(variable), ty))
 }
@@ -363,62 +340,53 @@ fn call_atom(
 /// A constructor with its arguments: scalar arguments first, then packed ones.
 #[cycle(infer)]
 fn make(
-    alloc: Global,
     typed: &Typed,
-    exprs: &Exprs,
     work: &mut Work,
     id: ExprId,
     k: Ident,
     ids: &[ExprId],
 ) -> Result<(TermId, Ty), Memory>
-    requires inside { id.0 < length exprs.now }
+    requires inside { id.0 < length typed.now.exprs }
     requires below { AreBelow id.0 ids.now }
-    ensures { IfOk result (λ r. MakesLine work.old work.new r.0 r.1 ((infer (globals_in typed.now) (Make k (arguments_from (tree_of exprs.now) ids.now))).line (scope_of work.old.scope.items) work.old.fresh)) }
+    ensures { IfOk result (λ r. MakesLine work.old work.new r.0 r.1 ((infer (globals_in typed.now) (Make k (arguments_from (tree_of typed.now.exprs) ids.now))).line (scope_of work.old.scope.items) work.old.fresh)) }
 {
     let constructor = constructor(typed, k);
     let types = fields_of(typed, constructor);
-    let mut bindings = Vec::new(alloc);
-    let scalars = items_at(alloc, true, types, ids)?;
-    let scalars = arguments(alloc, typed, exprs, work, &mut bindings, id, &scalars)?;
-    let packed = items_at(alloc, false, types, ids)?;
-    let packed = arguments(alloc, typed, exprs, work, &mut bindings, id, &packed)?;
-    let packed_types = packed_types(alloc, types)?;
+    let mut bindings = Vec::new(work.alloc);
+    let scalars = items_at(work.alloc, true, types, ids)?;
+    let scalars = arguments(typed, work, &mut bindings, id, &scalars)?;
+    let packed = items_at(work.alloc, false, types, ids)?;
+    let packed = arguments(typed, work, &mut bindings, id, &packed)?;
+    let packed_types = packed_types(work.alloc, types)?;
     let ty = Ty::Tree(owner_of(typed, constructor));
-    let term = end_make(
-        alloc,
-        work,
-        bindings,
+    let made = Construction {
         ty,
         constructor,
-        &packed_types,
+        types: packed_types,
         scalars,
-        &packed,
-    )?;
+        packed,
+    };
+    let term = end_make(work, bindings, made)?;
     Ok((term, ty))
 }
 
 /// A `let` in result place.
 #[cycle(infer)]
 fn let_in(
-    alloc: Global,
     typed: &Typed,
-    exprs: &Exprs,
     work: &mut Work,
-    id: ExprId,
-    name: Ident,
-    bound: ExprId,
+    bound: Named,
     body: ExprId,
 ) -> Result<(TermId, Ty), Memory>
-    requires bound { bound.0 < id.0 }
-    requires body { body.0 < id.0 }
-    requires inside { id.0 < length exprs.now }
-    ensures { IfOk result (λ r. MakesLine work.old work.new r.0 r.1 (let_line name (code_at typed.now exprs.now bound.0).bound (code_at typed.now exprs.now body.0).line (scope_of work.old.scope.items) work.old.fresh)) }
+    requires bound { bound.value.0 < length typed.now.exprs }
+    requires body { body.0 < length typed.now.exprs }
+    ensures { IfOk result (λ r. MakesLine work.old work.new r.0 r.1 (let_line bound.name (code_at typed.now typed.now.exprs bound.value.0).bound (code_at typed.now typed.now.exprs body.0).line (scope_of work.old.scope.items) work.old.fresh)) }
 {
-    let mut bindings = Vec::new(alloc);
-    let (atom, ty) = right_side(alloc, typed, exprs, work, &mut bindings, bound)?;
+    let mut bindings = Vec::new(work.alloc);
+    let (atom, ty) = right_side(typed, work, &mut bindings, bound.value)?;
     let outer = work.scope.len();
-    bind(work, name, atom, ty)?;
-    let (rest, ty) = line(alloc, typed, exprs, work, body)?;
+    bind(work, bound.name, atom, ty)?;
+    let (rest, ty) = line(typed, work, body)?;
     work.scope.truncate(outer);
     let term = put_before(&mut work.terms, bindings, rest)?;
     Ok((term, ty))
@@ -427,34 +395,28 @@ fn let_in(
 /// A `let par` in result place.
 #[cycle(infer)]
 fn let_par(
-    alloc: Global,
     typed: &Typed,
-    exprs: &Exprs,
     work: &mut Work,
-    id: ExprId,
-    left_name: Ident,
-    left: ExprId,
-    right_name: Ident,
-    right: ExprId,
+    left: Named,
+    right: Named,
     body: ExprId,
 ) -> Result<(TermId, Ty), Memory>
-    requires left { left.0 < id.0 }
-    requires right { right.0 < id.0 }
-    requires body { body.0 < id.0 }
-    requires inside { id.0 < length exprs.now }
-    ensures { IfOk result (λ r. MakesLine work.old work.new r.0 r.1 (par_line left_name (code_at typed.now exprs.now left.0).side right_name (code_at typed.now exprs.now right.0).side (code_at typed.now exprs.now body.0).line (scope_of work.old.scope.items) work.old.fresh)) }
+    requires left { left.value.0 < length typed.now.exprs }
+    requires right { right.value.0 < length typed.now.exprs }
+    requires body { body.0 < length typed.now.exprs }
+    ensures { IfOk result (λ r. MakesLine work.old work.new r.0 r.1 (par_line left.name (code_at typed.now typed.now.exprs left.value.0).side right.name (code_at typed.now typed.now.exprs right.value.0).side (code_at typed.now typed.now.exprs body.0).line (scope_of work.old.scope.items) work.old.fresh)) }
 {
-    let left = bound_side(alloc, typed, exprs, work, left)?;
-    let right = bound_side(alloc, typed, exprs, work, right)?;
+    let first = bound_side(typed, work, left.value)?;
+    let second = bound_side(typed, work, right.value)?;
     let outer = work.scope.len();
-    bind(work, left_name, Atom::Variable(left.variable), left.ty)?;
-    bind(work, right_name, Atom::Variable(right.variable), right.ty)?;
-    let (rest, ty) = line(alloc, typed, exprs, work, body)?;
+    bind(work, left.name, Atom::Variable(first.variable), first.ty)?;
+    bind(work, right.name, Atom::Variable(second.variable), second.ty)?;
+    let (rest, ty) = line(typed, work, body)?;
     work.scope.truncate(outer);
     let sides = Binding::Par {
         fork: false,
-        left,
-        right,
+        left: first,
+        right: second,
     };
     let term = work.terms.put(TermNode::Then(sides, rest))?;
     Ok((term, ty))
@@ -462,18 +424,12 @@ fn let_par(
 
 /// A side of a `let par` with its variable.
 #[cycle(infer)]
-fn bound_side(
-    alloc: Global,
-    typed: &Typed,
-    exprs: &Exprs,
-    work: &mut Work,
-    id: ExprId,
-) -> Result<BoundTerm, Memory>
-    requires { id.0 < length exprs.now }
-    ensures { IfOk result (λ s. MakesSide work.old work.new s ((code_at typed.now exprs.now id.0).side (scope_of work.old.scope.items) (work.old.fresh + 1))) }
+fn bound_side(typed: &Typed, work: &mut Work, id: ExprId) -> Result<BoundTerm, Memory>
+    requires { id.0 < length typed.now.exprs }
+    ensures { IfOk result (λ s. MakesSide work.old work.new s ((code_at typed.now typed.now.exprs id.0).side (scope_of work.old.scope.items) (work.old.fresh + 1))) }
 {
     let variable = new_variable(work)?;
-    let (term, ty) = side(alloc, typed, exprs, work, id)?;
+    let (term, ty) = side(typed, work, id)?;
     Ok(BoundTerm {
         kind: kind(ty),
         variable,
@@ -485,25 +441,21 @@ fn bound_side(
 /// An `if` in result place.
 #[cycle(infer)]
 fn if_else(
-    alloc: Global,
     typed: &Typed,
-    exprs: &Exprs,
     work: &mut Work,
-    id: ExprId,
     condition: ExprId,
     then_part: ExprId,
     else_part: ExprId,
 ) -> Result<(TermId, Ty), Memory>
-    requires condition { condition.0 < id.0 }
-    requires then_part { then_part.0 < id.0 }
-    requires else_part { else_part.0 < id.0 }
-    requires inside { id.0 < length exprs.now }
-    ensures { IfOk result (λ r. MakesLine work.old work.new r.0 r.1 (if_line (code_at typed.now exprs.now condition.0).atom (code_at typed.now exprs.now then_part.0).line (code_at typed.now exprs.now else_part.0).line (scope_of work.old.scope.items) work.old.fresh)) }
+    requires condition { condition.0 < length typed.now.exprs }
+    requires then_part { then_part.0 < length typed.now.exprs }
+    requires else_part { else_part.0 < length typed.now.exprs }
+    ensures { IfOk result (λ r. MakesLine work.old work.new r.0 r.1 (if_line (code_at typed.now typed.now.exprs condition.0).atom (code_at typed.now typed.now.exprs then_part.0).line (code_at typed.now typed.now.exprs else_part.0).line (scope_of work.old.scope.items) work.old.fresh)) }
 {
-    let mut bindings = Vec::new(alloc);
-    let (condition, _) = atom(alloc, typed, exprs, work, &mut bindings, condition)?;
-    let (then_part, ty) = line(alloc, typed, exprs, work, then_part)?;
-    let (else_part, _) = line(alloc, typed, exprs, work, else_part)?;
+    let mut bindings = Vec::new(work.alloc);
+    let (condition, _) = atom(typed, work, &mut bindings, condition)?;
+    let (then_part, ty) = line(typed, work, then_part)?;
+    let (else_part, _) = line(typed, work, else_part)?;
     let end = TermNode::If {
         condition,
         then_part,
@@ -516,35 +468,24 @@ fn if_else(
 /// A `case` in result place: its branches stand in the declared order.
 #[cycle(infer)]
 fn case(
-    alloc: Global,
     typed: &Typed,
-    exprs: &Exprs,
     work: &mut Work,
     id: ExprId,
     variable: Ident,
     arms: &[Arm],
 ) -> Result<(TermId, Ty), Memory>
-    requires inside { id.0 < length exprs.now }
+    requires inside { id.0 < length typed.now.exprs }
     requires below { ArmsBelow arms.now id.0 }
-    ensures { IfOk result (λ r. MakesLine work.old work.new r.0 r.1 (case_line (globals_in typed.now).table variable (arms_at typed.now exprs.now arms.now) (scope_of work.old.scope.items) work.old.fresh)) }
+    ensures { IfOk result (λ r. MakesLine work.old work.new r.0 r.1 (case_line (globals_in typed.now).table variable (arms_at typed.now typed.now.exprs arms.now) (scope_of work.old.scope.items) work.old.fresh)) }
 {
     let (subject, _) = find(&work.scope, variable.name);
     let ty = owner_of(typed, first_constructor(typed, arms));
     let (mut next, mut left) = constructors_of(typed, ty);
-    let mut branches = Vec::new(alloc);
+    let mut branches = Vec::new(work.alloc);
     let mut ty = None;
     'constructors: while left > 0 {
         let constructor = ConId(next);
-        let made = put_branch(
-            alloc,
-            typed,
-            exprs,
-            work,
-            &mut branches,
-            id,
-            arms,
-            constructor,
-        )?;
+        let made = put_branch(typed, work, &mut branches, id, arms, constructor)?;
         ty = ty.or(made);
         next += 1;
         left -= 1;
@@ -556,23 +497,21 @@ fn case(
 /// The branch of a constructor, where it has an arm, behind others.
 #[cycle(infer)]
 fn put_branch(
-    alloc: Global,
     typed: &Typed,
-    exprs: &Exprs,
     work: &mut Work,
     branches: &mut Vec<Branch>,
     id: ExprId,
     arms: &[Arm],
     constructor: ConId,
 ) -> Result<Option<Ty>, Memory>
-    requires inside { id.0 < length exprs.now }
+    requires inside { id.0 < length typed.now.exprs }
     requires below { ArmsBelow arms.now id.0 }
-    ensures { (start : Work) (of : Option Ty) (ks : List ℕ) (all : Branched) → BranchesSoFar typed.now exprs.now arms.now start work.old branches.old.items of (constructor.0 ∷ ks) all → IfOk result (λ ty. BranchesSoFar typed.now exprs.now arms.now start work.new branches.new.items (option_or of ty) ks all) }
+    ensures { (start : Work) (of : Option Ty) (ks : List ℕ) (all : Branched) → BranchesSoFar typed.now typed.now.exprs arms.now start work.old branches.old.items of (constructor.0 ∷ ks) all → IfOk result (λ ty. BranchesSoFar typed.now typed.now.exprs arms.now start work.new branches.new.items (option_or of ty) ks all) }
 {
     match arm_of(typed, arms, constructor) {
         None => Ok(None),
         Some(arm) => {
-            let (branch, ty) = branch(alloc, typed, exprs, work, id, arm, constructor)?;
+            let (branch, ty) = branch(typed, work, id, arm, constructor)?;
             branches.push(branch)?;
             Ok(Some(ty))
         }
@@ -582,21 +521,19 @@ fn put_branch(
 /// The branch of a constructor.
 #[cycle(infer)]
 fn branch(
-    alloc: Global,
     typed: &Typed,
-    exprs: &Exprs,
     work: &mut Work,
     id: ExprId,
     arm: &Arm,
     constructor: ConId,
 ) -> Result<(Branch, Ty), Memory>
-    requires inside { id.0 < length exprs.now }
+    requires inside { id.0 < length typed.now.exprs }
     requires below { IsArmBelow id.0 arm.now }
-    ensures { IfOk result (λ r. MakesBranch work.old work.new r.0 r.1 typed.now exprs.now arm.now constructor) }
+    ensures { IfOk result (λ r. MakesBranch work.old work.new r.0 r.1 typed.now typed.now.exprs arm.now constructor) }
 {
     let outer = work.scope.len();
-    let variables = bind_fields(alloc, work, &arm.variables, fields_of(typed, constructor))?;
-    let (term, ty) = line(alloc, typed, exprs, work, arm.body)?;
+    let variables = bind_fields(work, &arm.variables, fields_of(typed, constructor))?;
+    let (term, ty) = line(typed, work, arm.body)?;
     work.scope.truncate(outer);
     let branch = Branch {
         constructor,

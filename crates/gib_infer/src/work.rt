@@ -2,7 +2,6 @@
 
 ghost use Rattle.std.specs.Prelude.{◌≡◌, ℕ, ◌+◌, ◌<◌, ◌++◌, ◌∷◌, [], length, Some, IfOk};
 ghost use Rattle.gib_core.specs.declared.node.Binding.TheVariants as b;
-ghost use Rattle.gib_syntax.specs.Typing.{operator_type as type_of_operator};
 ghost use Rattle.gib_core.specs.Tree.{prepend};
 ghost use Rattle.gib_core.specs.Arena.{Grows, PartsBelow, term_of, binds_from, layer};
 ghost use Rattle.gib_core.specs.Inferring.{atom_at, type_at, kind_of, result_of};
@@ -10,13 +9,13 @@ ghost use Rattle.gib_infer.specs.Made.{scope_of, AreBindingsBelow};
 
 use gib_base::{Memory, Name};
 use gib_core::{Atom, Binding, BoundTerm, Kind, Node, Slot, TermId, Terms, Variable};
-use gib_syntax::Operator;
 use gib_types::Ty;
-use std::alloc::AllocError;
+use std::alloc::{AllocError, Global};
 
 /// The terms so far, the names in scope with the newest last, and the number of the next variable.
 #[derive(Drop)]
 pub struct Work {
+    pub alloc: Global,
     pub terms: Terms,
     pub scope: Vec<Slot>,
     pub fresh: u32,
@@ -59,19 +58,6 @@ pub fn kind(ty: Ty) -> Kind
         Ty::Whole => Kind::Scalar,
         Ty::Truth => Kind::Scalar,
         Ty::Tree(_) => Kind::Region,
-    }
-}
-
-/// What an operator gives.
-pub fn operator_type(operator: Operator) -> Ty
-    ensures { result ≡ type_of_operator operator }
-{
-    match operator {
-        Operator::Add => Ty::Whole,
-        Operator::Subtract => Ty::Whole,
-        Operator::Multiply => Ty::Whole,
-        Operator::Equal => Ty::Truth,
-        Operator::Less => Ty::Truth,
     }
 }
 

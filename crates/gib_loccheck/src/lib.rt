@@ -17,6 +17,7 @@ mod bound;
 mod calls;
 mod cases;
 mod entry;
+pub mod examples;
 mod fault;
 mod flagging;
 mod indexed;

@@ -1,4 +1,4 @@
-use Rattle.std.proofs.Common.{◌+◌, ◌*◌, length}
+use Rattle.std.proofs.Common.{◌+◌, ◌*◌, max, length}
 use Rattle.gib_infer.proofs.Calls.{ArgumentsSoFar}
 use Rattle.gib_infer.proofs.Cases.{CaseSoFar}
 use Rattle.gib_infer.proofs.walk.+infer.Given as goal
@@ -13,7 +13,10 @@ abbrev pub decreases-put_branch : goal.decreases-put_branch
 decreases-put_branch l = 8 * l.id.0 + 1
 
 abbrev pub decreases-operation : goal.decreases-operation
-decreases-operation l = 8 * l.id.0
+decreases-operation l = 8 * max l.left.0 l.right.0 + 6
+
+abbrev pub decreases-operation_line : goal.decreases-operation_line
+decreases-operation_line l = 8 * max l.left.0 l.right.0 + 7
 
 abbrev pub decreases-call_line : goal.decreases-call_line
 decreases-call_line l = 8 * l.id.0 + 1
@@ -28,13 +31,13 @@ abbrev pub decreases-make : goal.decreases-make
 decreases-make l = 8 * l.id.0 + 1
 
 abbrev pub decreases-let_in : goal.decreases-let_in
-decreases-let_in l = 8 * l.id.0
+decreases-let_in l = 8 * max l.bound.value.0 l.body.0 + 6
 
 abbrev pub decreases-let_par : goal.decreases-let_par
-decreases-let_par l = 8 * l.id.0
+decreases-let_par l = 8 * max (max l.left.value.0 l.right.value.0) l.body.0 + 6
 
 abbrev pub decreases-if_else : goal.decreases-if_else
-decreases-if_else l = 8 * l.id.0
+decreases-if_else l = 8 * max (max l.condition.0 l.then_part.0) l.else_part.0 + 6
 
 abbrev pub decreases-case : goal.decreases-case
 decreases-case l = 8 * l.id.0 + 2
@@ -58,13 +61,13 @@ abbrev pub decreases-right_side : goal.decreases-right_side
 decreases-right_side l = 8 * l.id.0 + 5
 
 abbrev pub invariant-arguments-arguments : goal.invariant-arguments-arguments
-invariant-arguments-arguments l = ArgumentsSoFar l.typed l.exprs l.fn.id.0 l.fn.work l.work l.fn.bindings.items l.bindings.items l.ids l.left l.atoms.items
+invariant-arguments-arguments l = ArgumentsSoFar l.typed l.typed.exprs l.fn.id.0 l.fn.work l.work l.fn.bindings.items l.bindings.items l.ids l.left l.atoms.items
 
 abbrev pub decreases-arguments-arguments : goal.decreases-arguments-arguments
 decreases-arguments-arguments l = length l.left
 
 abbrev pub invariant-case-constructors : goal.invariant-case-constructors
-invariant-case-constructors l = CaseSoFar l.typed l.exprs l.arms l.fn.work l.work l.branches.items l.ty l.next l.left
+invariant-case-constructors l = CaseSoFar l.typed l.typed.exprs l.arms l.fn.work l.work l.branches.items l.ty l.next l.left
 
 abbrev pub decreases-case-constructors : goal.decreases-case-constructors
 decreases-case-constructors l = l.left
