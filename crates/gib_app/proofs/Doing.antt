@@ -1,8 +1,11 @@
 -- Facts of all jobs, by cases.
-use Rattle.std.proofs.Common.{◌≡◌, refl, ℕ, ◌<◌, List, length, Option, Some, None, ap, inl, arith}
+use Rattle.std.proofs.Common.{◌≡◌, refl, ℕ, ◌<◌, List, length, Option, Some, None, ap, inl, sym, subst, subst₂, arith}
 use Rattle.std.specs.Prelude.{option_and_then}
 use Rattle.gib_syntax.specs.Tree.{ProgramTree}
 use Rattle.gib_app.specs.declared.input_fault.InputFault.TheVariants as input
+use Rattle.gib_app.specs.declared.made.End.{End as KeptEnd}
+use Rattle.gib_app.specs.declared.made.End.TheVariants as ends
+use Rattle.gib_app.specs.declared.made.Made.{Made}
 use Rattle.gib_app.specs.declared.made.Reason.{Reason}
 use Rattle.gib_app.specs.declared.made.Reason.TheVariants.{Deep, Full}
 use Rattle.gib_app.specs.declared.plan.Job.{Job}
@@ -11,7 +14,13 @@ use Rattle.gib_app.specs.declared.plan.Options.{Options}
 use Rattle.gib_app.specs.Formats.{format_of, most_of, Accepts, Refuses}
 use Rattle.gib_app.specs.Plan.{Document, Files}
 use Rattle.gib_app.specs.Causes.{HoldsSecond}
-use Rattle.gib_app.specs.Jobs.{End, Prints, NoValue, Does, Means, Runs}
+use Rattle.gib_app.specs.Jobs.{End, Prints, NoValue, Does, Runs}
+use Rattle.gib_app.specs.Kept.{EndsBy, file_of}
+use Rattle.gib_app.specs.MachineRun.{LacksValue, IsMachineStop}
+use Rattle.gib_app.specs.Stops.{reason_of, IsRunStop}
+use Rattle.gib_app.specs.declared.stop.Stop.{Stop}
+use Rattle.gib_app.specs.declared.stop.Stop.TheVariants.{Usage, Source, Unread, Input, Memory, Unwritten, Unput}
+use Rattle.gib_app.specs.declared.stop.Stop.TheVariants.{NoValue as Stopped}
 
 -- what was made was made of a file that is accepted
 pub does_accepts : (job : Job) (o : Options) (p : ProgramTree) (names : List (List ℕ)) (second : List ℕ) (file : Option (List ℕ)) (e : End) → Does job o p names second file e → Accepts job p names second
@@ -67,8 +76,46 @@ long_refused kept Code o p names second held many = absurd (omega (arith, many, 
 long_refused kept Pack o p names second held many = ((refl, inl many), λ a. let short = a.1.short in absurd (omega (arith, many, short)))
 long_refused kept Show o p names second held many = (inl (refl, many), λ a. let short = a.1.short in absurd (omega (arith, many, short)))
 
--- what the plain evaluator may do, a run may
-pub means_runs : (p : ProgramTree) (names : List (List ℕ)) (o : Options) (second : List ℕ) (file : Option (List ℕ)) (e : End) → Means p names o.depth second file e → Runs p names o second file e
-means_runs p names o second file (Prints text) h = h
-means_runs p names o second file (NoValue Deep) h = h
-means_runs p names o second file (NoValue Full) h = absurd h
+-- chunks run out in a run alone
+pub full_runs : (job : Job) (o : Options) (p : ProgramTree) (names : List (List ℕ)) (second : List ℕ) (file : Option (List ℕ)) → Does job o p names second file (NoValue Full) → job ≡ Run
+full_runs Run o p names second file h = refl
+full_runs Plain o p names second file h = absurd h
+full_runs Check o p names second file h = absurd h
+full_runs Core o p names second file h = absurd h
+full_runs Code o p names second file h = absurd h
+full_runs Pack o p names second file h = absurd h
+full_runs Show o p names second file h = absurd h
+
+-- a run that lacks a value
+pub lacks_runs : (p : ProgramTree) (names : List (List ℕ)) (o : Options) (input : List ℕ) (why : Reason) → LacksValue p o.depth o.chunks input why → Runs p names o input None (NoValue why)
+lacks_runs p names o input Deep h = (refl, h)
+lacks_runs p names o input Full h = (refl, h)
+
+-- a stop of a run, by whether it is for want of a value
+
+pub stop_lacks : (p : ProgramTree) (depth chunks : ℕ) (input : List ℕ) (stop : Stop) (why : Reason) → reason_of stop ≡ Some why → IsMachineStop p depth chunks input stop → LacksValue p depth chunks input why
+stop_lacks p depth chunks input Usage why e h = absurd h
+stop_lacks p depth chunks input (Source fault) why e h = absurd h
+stop_lacks p depth chunks input (Unread name) why e h = absurd h
+stop_lacks p depth chunks input (Input fault) why e h = cc
+stop_lacks p depth chunks input (Stopped other) why e h = let same : other ≡ why = cc in let P : Reason → Type 0 = LacksValue p depth chunks input in subst P same h
+stop_lacks p depth chunks input Memory why e h = cc
+stop_lacks p depth chunks input (Unwritten name) why e h = absurd h
+stop_lacks p depth chunks input Unput why e h = absurd h
+
+pub stop_refuses : (p : ProgramTree) (depth chunks : ℕ) (input : List ℕ) (stop : Stop) → reason_of stop ≡ None → IsMachineStop p depth chunks input stop → IsRunStop p input stop
+stop_refuses p depth chunks input Usage e h = h
+stop_refuses p depth chunks input (Source fault) e h = h
+stop_refuses p depth chunks input (Unread name) e h = h
+stop_refuses p depth chunks input (Input fault) e h = h
+stop_refuses p depth chunks input (Stopped why) e h = cc
+stop_refuses p depth chunks input Memory e h = h
+stop_refuses p depth chunks input (Unwritten name) e h = h
+stop_refuses p depth chunks input Unput e h = h
+
+-- what a job made that makes no file and ends without a value
+pub ends_without : (made : Made) (why : Reason) (P : Option (List ℕ) → End → Type 0) → made.file ≡ None → made.end ≡ ends.NoValue why → P None (NoValue why) → EndsBy (file_of made) made.end P
+ends_without made why P file end' h =
+    let none : file_of made ≡ None = cc in
+    let E : Option (List ℕ) → KeptEnd → Type 0 = λ f e. EndsBy f e P in
+    subst₂ E (sym none) (sym end') h

@@ -1,5 +1,4 @@
--- From the stop of a call to its status, and from the status that is due to the one that is answered.
-use Rattle.std.specs.Prelude.{codes}
+-- From the stop of a call to its answer, and from the status that is due to the one that is answered.
 use Rattle.std.proofs.Common.{◌≡◌, ◌∙◌, refl, ℕ, List, ◌++◌, length, Option, Some, None, MatchOption, ◌⊎◌, inl, inr, subst, sym, Bool}
 use Rattle.gib_base.specs.Lexed.{Lexed, IsLexed}
 use Rattle.gib_base.specs.declared.token.Token.{Token}
@@ -11,7 +10,7 @@ use Rattle.gib_syntax.specs.Tree.{ProgramTree}
 use Rattle.gib_syntax.specs.Spelling.{Places, Derives, IsPlacedProgram, places_of}
 use Rattle.gib_syntax.specs.Declarations.{table_of_program, input_type}
 use Rattle.gib_syntax.specs.Meaning.{Outcome, Gives, Stops, Deep as TooDeep, run}
-use Rattle.gib_edge.specs.Causes.{IsAllOf, Appends, AppendsPart, PutsPieces, PutsSomePieces}
+use Rattle.gib_edge.specs.Causes.{Rose, IsAllOf, Appends, AppendsPart, PutsPieces, PutsSomePieces}
 use Rattle.gib_edge.specs.Views.{Held, Has, Missing, ShelfView, SinkView}
 use Rattle.gib_app.specs.declared.input_fault.InputFault.{InputFault}
 use Rattle.gib_app.specs.declared.status.Status.{Status}
@@ -29,14 +28,14 @@ use Rattle.gib_app.specs.SourceFaults.{IsSourceFault}
 use Rattle.gib_app.specs.Formats.{second_of, Accepts, Refuses}
 use Rattle.gib_app.specs.Jobs.{Prints, Does}
 use Rattle.gib_app.specs.Jobs.{NoValue as Without}
-use Rattle.gib_app.specs.Causes.{HoldsSecond, OnProgram, OnSource, IsMade, HasNoValue, IsUnwritten, FailsToRead}
-use Rattle.gib_app.specs.Lines.{IsLine, line}
-use Rattle.gib_app.specs.Ending.{IsEnding, HasText, IsTold, IsMissing, DueOfSource, DueOfFiles, DueMissing, TakesAll, IsDue}
+use Rattle.gib_app.specs.Causes.{HoldsSecond, OnProgram, OnSource, IsMade, HasNoValue, AsksSource, AsksProgram, IsPrinted, IsPrintedInPart, IsUnwritten, FailsToRead}
+use Rattle.gib_app.specs.Lines.{line}
+use Rattle.gib_app.specs.Ending.{IsEnding, HasText, IsTold, IsMissing, DueOfSource, DueOfFiles, DueMissing, TakesAll, IsDue, AsksRun, IsDueOrScarce}
 use Rattle.gib_app.specs.Stops.{IsStop, OnBoth}
-use Rattle.gib_app.specs.Stopping.{status_for, line_for}
+use Rattle.gib_app.specs.Stopping.{answer_for}
 use Rattle.gib_app.specs.Performing.{IsCallStop}
 use Rattle.gib_app.proofs.Performing.{map_both}
-use Rattle.gib_app.proofs.Doing.{does_accepts, file_or_none}
+use Rattle.gib_app.proofs.Doing.{does_accepts, file_or_none, full_runs}
 
 map_asked : (o : Option Plan) (P Q : Plan → Type 0) → ((r : Plan) → P r → Q r) → MatchOption o ⊥ P → MatchOption o ⊥ Q
 map_asked None P Q go h = h
@@ -45,52 +44,61 @@ map_asked (Some r) P Q go h = go r h
 on_source : (kept : Files) (d : Document) (P Q : List ℕ → Type 0) → ((source : List ℕ) → P source → Q source) → OnSource kept d P → OnSource kept d Q
 on_source kept d P Q go h = record { source = h.source; source_held = h.source_held; holds = go h.source h.holds }
 
--- what a stop at a refused second file is
-abbrev Refused : Plan → ProgramTree → List (List ℕ) → List ℕ → InputFault → Type 0
-Refused r p names second fault = Refuses r.job p names second fault × (Accepts r.job p names second → ⊥)
+-- Why a call ends with a status, without its line
+abbrev IsWriteCause : Bool → List (List ℕ) → ShelfView → ShelfView → SinkView → SinkView → Type 0
+IsWriteCause tells words before now out_before out_now =
+    (AsksProgram words before.kept (λ plan p names second. (name : List ℕ) × IsUnwritten before now plan p names second name) × (out_now ≡ out_before))
+    ⊎ (IsPrintedInPart tells words before now out_before out_now × Rose out_before.faults out_now.faults × ((name : List ℕ) → now.writes name ≡ before.writes name))
 
-pub ending_of : (tells : Bool) (words : List (List ℕ)) (before now : ShelfView) (out_before out_now : SinkView) (stop : Stop) → IsCallStop tells words before now out_before out_now stop → IsEnding tells words before now out_before out_now (status_for stop)
-ending_of tells words before now out_before out_now Usage h = h
-ending_of tells words before now out_before out_now (Source fault) h =
-    map_asked (asked words) (λ r. IsStop before now r (Source fault)) (λ r. OnSource before.kept r.source IsNoProgram)
-    (λ r k. on_source before.kept r.source (λ bytes. IsSourceFault bytes fault × IsNoProgram bytes) IsNoProgram (λ bytes both. both.1) k) h
-ending_of tells words before now out_before out_now (Unread name) h =
-    map_asked (asked words) (λ r. IsStop before now r (Unread name)) (λ r. (file : List ℕ) × FailsToRead before now r file) (λ r k. (name.now, k)) h
-ending_of tells words before now out_before out_now (Input fault) h =
-    map_asked (asked words) (λ r. IsStop before now r (Input fault)) (λ r. OnBoth before.kept r (λ p names second. Accepts r.job p names second → ⊥))
-    (λ r k. map_both before.kept r (λ p names second. Refused r p names second fault) (λ p names second. Accepts r.job p names second → ⊥) (λ p names second both. both.1) k) h
-ending_of tells words before now out_before out_now (NoValue Deep) h = h
-ending_of tells words before now out_before out_now (NoValue Full) h = h
-ending_of tells words before now out_before out_now Memory h = h
-ending_of tells words before now out_before out_now (Unwritten name) h =
+abbrev pub IsCause : Bool → List (List ℕ) → ShelfView → ShelfView → SinkView → SinkView → Status → Type 0
+IsCause tells words before now out_before out_now status.Done = IsPrinted tells words before now out_before out_now
+IsCause tells words before now out_before out_now status.Source = AsksSource words before.kept IsNoProgram
+IsCause tells words before now out_before out_now status.Usage = asked words ≡ None
+IsCause tells words before now out_before out_now status.Depth = AsksProgram words before.kept (HasNoValue Deep)
+IsCause tells words before now out_before out_now status.Full = AsksProgram words before.kept (HasNoValue Full)
+IsCause tells words before now out_before out_now status.Memory = Unit {0}
+IsCause tells words before now out_before out_now status.ReadFault = MatchOption (asked words) ⊥ (λ plan. (name : List ℕ) × FailsToRead before now plan name)
+IsCause tells words before now out_before out_now status.WriteFault = IsWriteCause tells words before now out_before out_now
+IsCause tells words before now out_before out_now status.Input = AsksProgram words before.kept (λ plan p names second. Accepts plan.job p names second → ⊥)
+
+-- what holds of a second file that is refused
+abbrev Refused : Plan → InputFault → ProgramTree → List (List ℕ) → List ℕ → Type 0
+Refused r fault p names second = Refuses r.job p names second fault × (Accepts r.job p names second → ⊥)
+
+pub cause_of : (tells : Bool) (words : List (List ℕ)) (before now : ShelfView) (out_before out_now : SinkView) (status : Status) (said : List ℕ) → IsEnding tells words before now out_before out_now status said → IsCause tells words before now out_before out_now status
+cause_of tells words before now out_before out_now status.Done said h = h.0
+cause_of tells words before now out_before out_now status.Source said h =
+    map_asked (asked words) (λ r. OnSource before.kept r.source (λ bytes. IsSourceFault bytes h.0 × IsNoProgram bytes)) (λ r. OnSource before.kept r.source IsNoProgram)
+    (λ r k. on_source before.kept r.source (λ bytes. IsSourceFault bytes h.0 × IsNoProgram bytes) IsNoProgram (λ bytes both. both.1) k) h.1
+cause_of tells words before now out_before out_now status.Usage said h = h.0
+cause_of tells words before now out_before out_now status.Depth said h = h.0
+cause_of tells words before now out_before out_now status.Full said h = h.0
+cause_of tells words before now out_before out_now status.Memory said h = tt {0}
+cause_of tells words before now out_before out_now status.ReadFault said h =
+    map_asked (asked words) (λ r. FailsToRead before now r h.0) (λ r. (file : List ℕ) × FailsToRead before now r file) (λ r k. (h.0, k)) h.1
+cause_of tells words before now out_before out_now status.WriteFault said (inl h) =
     inl (
-      map_asked (asked words) (λ r. IsStop before now r (Unwritten name)) (λ r. OnBoth before.kept r (λ p names second. (file : List ℕ) × IsUnwritten before now r p names second file))
-          (λ r k. map_both before.kept r (λ p names second. IsUnwritten before now r p names second name.now) (λ p names second. (file : List ℕ) × IsUnwritten before now r p names second file) (λ p names second one. (name.now, one)) k) h.0,
-      h.1,
+      map_asked (asked words) (λ r. OnBoth before.kept r (λ p names second. IsUnwritten before now r p names second h.0)) (λ r. OnBoth before.kept r (λ p names second. (file : List ℕ) × IsUnwritten before now r p names second file))
+          (λ r k. map_both before.kept r (λ p names second. IsUnwritten before now r p names second h.0) (λ p names second. (file : List ℕ) × IsUnwritten before now r p names second file) (λ p names second one. (h.0, one)) k) h.1,
+      h.2,
     )
-ending_of tells words before now out_before out_now Unput h = inr h
+cause_of tells words before now out_before out_now status.WriteFault said (inr h) = inr (h.0, h.1, h.2)
+cause_of tells words before now out_before out_now status.Input said h =
+    map_asked (asked words) (λ r. OnBoth before.kept r (Refused r h.0)) (λ r. OnBoth before.kept r (λ p names second. Accepts r.job p names second → ⊥))
+    (λ r k. map_both before.kept r (Refused r h.0) (λ p names second. Accepts r.job p names second → ⊥) (λ p names second both. both.1) k) h.1
 
-pub line_of : (tells : Bool) (words : List (List ℕ)) (before now : ShelfView) (out_before out_now : SinkView) (stop : Stop) → IsCallStop tells words before now out_before out_now stop → IsLine words before now out_before out_now (status_for stop) (line_for stop)
-line_of tells words before now out_before out_now Usage h = refl
-line_of tells words before now out_before out_now (Source fault) h = (
-  fault,
-  map_asked (asked words) (λ r. IsStop before now r (Source fault)) (λ r. OnSource before.kept r.source (λ bytes. IsSourceFault bytes fault))
-      (λ r k. on_source before.kept r.source (λ bytes. IsSourceFault bytes fault × IsNoProgram bytes) (λ bytes. IsSourceFault bytes fault) (λ bytes both. both.0) k) h,
-  refl,
-)
-line_of tells words before now out_before out_now (Unread name) h =
-    map_asked (asked words) (λ r. IsStop before now r (Unread name)) (λ r. (file : List ℕ) × FailsToRead before now r file × (line_for (Unread name) ≡ line (codes "cannot read " ++ file))) (λ r k. (name.now, k, refl)) h
-line_of tells words before now out_before out_now (Input fault) h = (
-  fault,
-  map_asked (asked words) (λ r. IsStop before now r (Input fault)) (λ r. OnBoth before.kept r (λ p names second. Refuses r.job p names second fault))
-      (λ r k. map_both before.kept r (λ p names second. Refused r p names second fault) (λ p names second. Refuses r.job p names second fault) (λ p names second both. both.0) k) h,
-  refl,
-)
-line_of tells words before now out_before out_now (NoValue Deep) h = refl
-line_of tells words before now out_before out_now (NoValue Full) h = refl
-line_of tells words before now out_before out_now Memory h = refl
-line_of tells words before now out_before out_now (Unwritten name) h = inl (name.now, h.0, refl)
-line_of tells words before now out_before out_now Unput h = inr (h.1, refl)
+-- From the stop of a call to its status and its line
+pub ending_of : (tells : Bool) (words : List (List ℕ)) (before now : ShelfView) (out_before out_now : SinkView) (stop : Stop) → IsCallStop tells words before now out_before out_now stop →
+    IsEnding tells words before now out_before out_now (answer_for stop).status (line (answer_for stop).said)
+ending_of tells words before now out_before out_now Usage h = (h, refl)
+ending_of tells words before now out_before out_now (Source fault) h = (fault, h, refl)
+ending_of tells words before now out_before out_now (Unread name) h = (name.now, h, refl)
+ending_of tells words before now out_before out_now (Input fault) h = (fault, h, refl)
+ending_of tells words before now out_before out_now (NoValue Deep) h = (h, refl)
+ending_of tells words before now out_before out_now (NoValue Full) h = (h, refl)
+ending_of tells words before now out_before out_now Memory h = refl
+ending_of tells words before now out_before out_now (Unwritten name) h = inl (name.now, h.0, h.1, refl)
+ending_of tells words before now out_before out_now Unput h = inr (h.0, h.1, h.2, refl)
 
 -- The laws that make a program and an input one
 
@@ -214,7 +222,7 @@ DueAll before now a b r = DueOfFiles before now r (HasText r) × TakesAll before
 
 -- the output is due
 
-done_due : Laws → (tells : Bool) (words : List (List ℕ)) (before now : ShelfView) (a b : SinkView) → MatchOption (asked words) ⊥ (DueAll before now a b) → (end' : Status) → IsEnding tells words before now a b end' → (end' ≡ status.Done) ⊎ (end' ≡ status.Memory) ⊎ (end' ≡ status.Full)
+done_due : Laws → (tells : Bool) (words : List (List ℕ)) (before now : ShelfView) (a b : SinkView) → MatchOption (asked words) ⊥ (DueAll before now a b) → (end' : Status) → IsCause tells words before now a b end' → (end' ≡ status.Done) ⊎ (end' ≡ status.Memory) ⊎ (end' ≡ status.Full)
 done_due laws tells words before now a b due status.Done h = inl refl
 done_due laws tells words before now a b due status.Source h =
     let k = both_asked (asked words) (DueAll before now a b) (λ r. OnSource before.kept r.source IsNoProgram) due h in
@@ -246,7 +254,7 @@ done_due laws tells words before now a b due status.Input h =
 abbrev DueRefusal : ShelfView → ShelfView → Plan → Type 0
 DueRefusal before now r = DueOfSource before now r IsNoProgram
 
-source_due : (tells : Bool) (words : List (List ℕ)) (before now : ShelfView) (a b : SinkView) → MatchOption (asked words) ⊥ (DueRefusal before now) → (end' : Status) → IsEnding tells words before now a b end' → (end' ≡ status.Source) ⊎ (end' ≡ status.Memory) ⊎ (end' ≡ status.Full)
+source_due : (tells : Bool) (words : List (List ℕ)) (before now : ShelfView) (a b : SinkView) → MatchOption (asked words) ⊥ (DueRefusal before now) → (end' : Status) → IsCause tells words before now a b end' → (end' ≡ status.Source) ⊎ (end' ≡ status.Memory) ⊎ (end' ≡ status.Full)
 source_due tells words before now a b due status.Done h =
     let k = both_asked (asked words) (DueRefusal before now) (λ r. OnBoth before.kept r (Whole tells now a b r)) due h in
     absurd (a_program before now k.0 (Whole tells now a b k.0) k.1 k.2)
@@ -275,7 +283,7 @@ source_due tells words before now a b due status.Input h =
 abbrev pub DueDepth : ShelfView → ShelfView → Plan → Type 0
 DueDepth before now r = DueOfFiles before now r (Exhausted r)
 
-depth_due : Laws → (tells : Bool) (words : List (List ℕ)) (before now : ShelfView) (a b : SinkView) → MatchOption (asked words) ⊥ (DueDepth before now) → (end' : Status) → IsEnding tells words before now a b end' → (end' ≡ status.Depth) ⊎ (end' ≡ status.Memory) ⊎ (end' ≡ status.Full)
+depth_due : Laws → (tells : Bool) (words : List (List ℕ)) (before now : ShelfView) (a b : SinkView) → MatchOption (asked words) ⊥ (DueDepth before now) → (end' : Status) → IsCause tells words before now a b end' → (end' ≡ status.Depth) ⊎ (end' ≡ status.Memory) ⊎ (end' ≡ status.Full)
 depth_due laws tells words before now a b due status.Done h =
     let k = both_asked (asked words) (DueDepth before now) (λ r. OnBoth before.kept r (Whole tells now a b r)) due h in
     let both = clash laws before now k.0 (Exhausted k.0) (Whole tells now a b k.0) k.1 k.2 in
@@ -309,7 +317,7 @@ depth_due laws tells words before now a b due status.Input h =
 abbrev DueUnfit : ShelfView → ShelfView → Plan → Type 0
 DueUnfit before now r = DueOfFiles before now r (Unfit r)
 
-input_due : Laws → (tells : Bool) (words : List (List ℕ)) (before now : ShelfView) (a b : SinkView) → MatchOption (asked words) ⊥ (DueUnfit before now) → (end' : Status) → IsEnding tells words before now a b end' → (end' ≡ status.Input) ⊎ (end' ≡ status.Memory) ⊎ (end' ≡ status.Full)
+input_due : Laws → (tells : Bool) (words : List (List ℕ)) (before now : ShelfView) (a b : SinkView) → MatchOption (asked words) ⊥ (DueUnfit before now) → (end' : Status) → IsCause tells words before now a b end' → (end' ≡ status.Input) ⊎ (end' ≡ status.Memory) ⊎ (end' ≡ status.Full)
 input_due laws tells words before now a b due status.Done h =
     let k = both_asked (asked words) (DueUnfit before now) (λ r. OnBoth before.kept r (Whole tells now a b r)) due h in
     let both = clash laws before now k.0 (Unfit k.0) (Whole tells now a b k.0) k.1 k.2 in
@@ -358,7 +366,7 @@ missing_program before now r (inr d) h =
     let program : IsSource d.0.source = d.0.holds in
     subst IsNoProgram es h.holds program.0 program.1 program.2
 
-read_due : (tells : Bool) (words : List (List ℕ)) (before now : ShelfView) (a b : SinkView) → MatchOption (asked words) ⊥ (DueMissing before now) → (end' : Status) → IsEnding tells words before now a b end' → (end' ≡ status.ReadFault) ⊎ (end' ≡ status.Memory) ⊎ (end' ≡ status.Full)
+read_due : (tells : Bool) (words : List (List ℕ)) (before now : ShelfView) (a b : SinkView) → MatchOption (asked words) ⊥ (DueMissing before now) → (end' : Status) → IsCause tells words before now a b end' → (end' ≡ status.ReadFault) ⊎ (end' ≡ status.Memory) ⊎ (end' ≡ status.Full)
 read_due tells words before now a b due status.Done h =
     let k = both_asked (asked words) (DueMissing before now) (λ r. OnBoth before.kept r (Whole tells now a b r)) due h in
     absurd (missing_both before now k.0 (Whole tells now a b k.0) k.1 k.2)
@@ -384,7 +392,7 @@ read_due tells words before now a b due status.Input h =
 
 -- the words are not taken
 
-usage_due : (tells : Bool) (words : List (List ℕ)) (before now : ShelfView) (a b : SinkView) → asked words ≡ None → (end' : Status) → IsEnding tells words before now a b end' → (end' ≡ status.Usage) ⊎ (end' ≡ status.Memory) ⊎ (end' ≡ status.Full)
+usage_due : (tells : Bool) (words : List (List ℕ)) (before now : ShelfView) (a b : SinkView) → asked words ≡ None → (end' : Status) → IsCause tells words before now a b end' → (end' ≡ status.Usage) ⊎ (end' ≡ status.Memory) ⊎ (end' ≡ status.Full)
 usage_due tells words before now a b due status.Done h = absurd (none_asked (asked words) (λ r. OnBoth before.kept r (Whole tells now a b r)) due h)
 usage_due tells words before now a b due status.Source h = absurd (none_asked (asked words) (λ r. OnSource before.kept r.source IsNoProgram) due h)
 usage_due tells words before now a b due status.Usage h = inl refl
@@ -396,7 +404,7 @@ usage_due tells words before now a b due status.WriteFault (inl h) = absurd (non
 usage_due tells words before now a b due status.WriteFault (inr h) = absurd (none_asked (asked words) (λ r. OnBoth before.kept r (Front tells now a b r)) due h.0)
 usage_due tells words before now a b due status.Input h = absurd (none_asked (asked words) (λ r. OnBoth before.kept r (Unfit r)) due h)
 
-pub due_ends : Laws → (tells : Bool) (words : List (List ℕ)) (before now : ShelfView) (a b : SinkView) (end' : Status) → IsEnding tells words before now a b end' → (due : Status) → IsDue words before now a b due → (end' ≡ due) ⊎ (end' ≡ status.Memory) ⊎ (end' ≡ status.Full)
+pub due_ends : Laws → (tells : Bool) (words : List (List ℕ)) (before now : ShelfView) (a b : SinkView) (end' : Status) → IsCause tells words before now a b end' → (due : Status) → IsDue words before now a b due → (end' ≡ due) ⊎ (end' ≡ status.Memory) ⊎ (end' ≡ status.Full)
 due_ends laws tells words before now a b end' h status.Done due = done_due laws tells words before now a b due end' h
 due_ends laws tells words before now a b end' h status.Source due = source_due tells words before now a b due end' h
 due_ends laws tells words before now a b end' h status.Usage due = usage_due tells words before now a b due end' h
@@ -406,3 +414,20 @@ due_ends laws tells words before now a b end' h status.Memory due = absurd due
 due_ends laws tells words before now a b end' h status.ReadFault due = read_due tells words before now a b due end' h
 due_ends laws tells words before now a b end' h status.WriteFault due = absurd due
 due_ends laws tells words before now a b end' h status.Input due = input_due laws tells words before now a b due end' h
+
+-- chunks run out in a run alone
+scarce : (tells : Bool) (words : List (List ℕ)) (before now : ShelfView) (a b : SinkView) → IsCause tells words before now a b status.Full → AsksRun words
+scarce tells words before now a b h =
+    map_asked (asked words) (λ r. OnBoth before.kept r (HasNoValue Full r)) (λ r. r.job ≡ Run)
+    (λ r k. full_runs r.job r.options k.holds.program k.holds.lexed.names k.second k.holds.holds.0 k.holds.holds.1) h
+
+due_or_scarce : (tells : Bool) (words : List (List ℕ)) (before now : ShelfView) (a b : SinkView) (end' due : Status) → IsCause tells words before now a b end' →
+    (end' ≡ due) ⊎ (end' ≡ status.Memory) ⊎ (end' ≡ status.Full) → IsDueOrScarce words due end'
+due_or_scarce tells words before now a b end' due h (inl e) = inl e
+due_or_scarce tells words before now a b end' due h (inr (inl e)) = inr (inl e)
+due_or_scarce tells words before now a b end' due h (inr (inr e)) = let P : Status → Type 0 = IsCause tells words before now a b in inr (inr (e, scarce tells words before now a b (subst P e h)))
+
+pub ends_as_due : Laws → (tells : Bool) (words : List (List ℕ)) (before now : ShelfView) (a b : SinkView) (end' : Status) (said : List ℕ) → IsEnding tells words before now a b end' said → (due : Status) → IsDue words before now a b due → IsDueOrScarce words due end'
+ends_as_due laws tells words before now a b end' said h due is =
+    let cause = cause_of tells words before now a b end' said h in
+    due_or_scarce tells words before now a b end' due cause (due_ends laws tells words before now a b end' cause due is)

@@ -1,9 +1,9 @@
 -- The promise of `run`, from how a call ends.
-use Rattle.std.proofs.Common.{◌≡◌, ◌∙◌, refl, ℕ, List, ◌++◌, Option, Some, None, IfSome, MatchOption, ◌⊎◌, subst, sym, ap, Bool}
+use Rattle.std.proofs.Common.{◌≡◌, ◌∙◌, refl, ℕ, List, ◌++◌, Option, Some, None, IfSome, MatchOption, ◌⊎◌, inl, inr, subst, sym, ap, Bool}
 use Rattle.gib_types.specs.Tree.{Datum}
 use Rattle.gib_syntax.specs.Tree.{ProgramTree}
 use Rattle.gib_syntax.specs.Declarations.{table_of_program, input_type}
-use Rattle.gib_syntax.specs.Meaning.{Outcome, Gives, run}
+use Rattle.gib_syntax.specs.Meaning.{Outcome, Gives, Stops, Deep, run}
 use Rattle.gib_edge.specs.Views.{ShelfView, SinkView}
 use Rattle.gib_app.specs.declared.status.Status.{Status}
 use Rattle.gib_app.specs.declared.status.Status.TheVariants as status
@@ -15,9 +15,9 @@ use Rattle.gib_app.specs.Running.{IsOutput, RunsOut, text_line}
 use Rattle.gib_app.specs.Causes.{OnProgram, HasNoValue}
 use Rattle.gib_app.specs.Ending.{IsEnding, HasText, DueOfFiles, TakesAll}
 use Rattle.gib_app.specs.Stops.{OnBoth}
-use Rattle.gib_app.specs.Headline.{run_plan, IsRun, IsResult, IsTooDeep, IsTooBig, NoneFailed}
+use Rattle.gib_app.specs.Headline.{run_plan, IsRun, Given, IsResult, IsTooDeep, IsTooBig, NoneFailed}
 use Rattle.gib_app.proofs.Performing.{asked_of}
-use Rattle.gib_app.proofs.Endings.{Laws, Whole, Exhausted, DueAll, DueDepth, same_bytes, together, runs_well, due_ends}
+use Rattle.gib_app.proofs.Endings.{Laws, Whole, Exhausted, DueAll, DueDepth, same_bytes, together, runs_well, cause_of, due_ends}
 
 asked_is : (o : Option Plan) (r : Plan) (P : Plan → Type 0) → o ≡ Some r → MatchOption o ⊥ P → P r
 asked_is o r P e h = let Q : Option Plan → Type 0 = λ x. MatchOption x ⊥ P in subst Q e h
@@ -78,32 +78,32 @@ runs_out source input depth h = record {
   holds = record { value = h.given.value; is_input = record { short = h.given.short; file = h.given.file }; means = h.means };
 }
 
-pub run_done : (tells : Bool) (words : List (List ℕ)) (before now : ShelfView) (out out_now : SinkView) (source input : List ℕ) (options : Options) (front : List ℕ) →
-    IsRun words before out source input options front → IsEnding tells words before now out out_now status.Done → (output : List ℕ) × IsResult source input options.depth output × (out_now.taken ≡ Some (front ++ output))
-run_done tells words before now out out_now source input options front r h =
+pub run_done : (tells : Bool) (words : List (List ℕ)) (before now : ShelfView) (out out_now : SinkView) (source input : List ℕ) (options : Options) (front said : List ℕ) →
+    IsRun words before out source input options front → IsEnding tells words before now out out_now status.Done said → (output : List ℕ) × IsResult source input options.depth output × (out_now.taken ≡ Some (front ++ output))
+run_done tells words before now out out_now source input options front said r h =
     let plan = run_plan r.program r.packed options in
     let P : Plan → Type 0 = λ q. OnBoth before.kept q (Whole tells now out out_now q) in
-    let on = of_files words before out source input options front r (Whole tells now out out_now plan) (asked_is (asked words) plan P r.asks h) in
+    let on = of_files words before out source input options front r (Whole tells now out out_now plan) (asked_is (asked words) plan P r.asks h.0) in
     let T : Option (List ℕ) → Type 0 = λ t. IfSome t (λ first. out_now.taken ≡ Some (first ++ on.holds.0)) in (
       on.holds.0,
       result_of source input options.depth on.holds.0 (record { lexed = on.lexed; program = on.program; is_program = on.is_program; holds = on.holds.1.does.1 }),
       subst T r.front_is on.holds.2,
     )
 
-pub run_deep : (tells : Bool) (words : List (List ℕ)) (before now : ShelfView) (out out_now : SinkView) (source input : List ℕ) (options : Options) (front : List ℕ) →
-    IsRun words before out source input options front → IsEnding tells words before now out out_now status.Depth → IsTooDeep source input options.depth
-run_deep tells words before now out out_now source input options front r h =
+pub run_deep : (tells : Bool) (words : List (List ℕ)) (before now : ShelfView) (out out_now : SinkView) (source input : List ℕ) (options : Options) (front said : List ℕ) →
+    IsRun words before out source input options front → IsEnding tells words before now out out_now status.Depth said → IsTooDeep source input options.depth
+run_deep tells words before now out out_now source input options front said r h =
     let plan = run_plan r.program r.packed options in
     let P : Plan → Type 0 = λ q. OnBoth before.kept q (Exhausted q) in
-    let on = of_files words before out source input options front r (Exhausted plan) (asked_is (asked words) plan P r.asks h) in
+    let on = of_files words before out source input options front r (Exhausted plan) (asked_is (asked words) plan P r.asks h.0) in
     deep_of source input options.depth (record { lexed = on.lexed; program = on.program; is_program = on.is_program; holds = on.holds.1.1 })
 
-pub run_full : (tells : Bool) (words : List (List ℕ)) (before now : ShelfView) (out out_now : SinkView) (source input : List ℕ) (options : Options) (front : List ℕ) →
-    IsRun words before out source input options front → IsEnding tells words before now out out_now status.Full → IsTooBig source input options.depth options.chunks
-run_full tells words before now out out_now source input options front r h =
+pub run_full : (tells : Bool) (words : List (List ℕ)) (before now : ShelfView) (out out_now : SinkView) (source input : List ℕ) (options : Options) (front said : List ℕ) →
+    IsRun words before out source input options front → IsEnding tells words before now out out_now status.Full said → IsTooBig source input options.depth options.chunks
+run_full tells words before now out out_now source input options front said r h =
     let plan = run_plan r.program r.packed options in
     let P : Plan → Type 0 = λ q. OnBoth before.kept q (HasNoValue Full q) in
-    let on = of_files words before out source input options front r (HasNoValue Full plan) (asked_is (asked words) plan P r.asks h) in
+    let on = of_files words before out source input options front r (HasNoValue Full plan) (asked_is (asked words) plan P r.asks h.0) in
     record {
       given = record {
         lexed = on.lexed;
@@ -130,26 +130,58 @@ due_of words before now out out_now source input options front r quiet P on = re
   holds = on;
 }
 
-pub run_ends_done : Laws → (tells : Bool) (words : List (List ℕ)) (before now : ShelfView) (out out_now : SinkView) (source input : List ℕ) (options : Options) (front output : List ℕ) (end' : Status) →
+pub run_ends_done : Laws → (tells : Bool) (words : List (List ℕ)) (before now : ShelfView) (out out_now : SinkView) (source input : List ℕ) (options : Options) (front output said : List ℕ) (end' : Status) →
     (r : IsRun words before out source input options front) → NoneFailed r.program r.packed before now out out_now → IsResult source input options.depth output →
-    IsEnding tells words before now out out_now end' → (end' ≡ status.Done) ⊎ (end' ≡ status.Memory) ⊎ (end' ≡ status.Full)
-run_ends_done laws tells words before now out out_now source input options front output end' r quiet h ends =
+    IsEnding tells words before now out out_now end' said → (end' ≡ status.Done) ⊎ (end' ≡ status.Memory) ⊎ (end' ≡ status.Full)
+run_ends_done laws tells words before now out out_now source input options front output said end' r quiet h ends =
     let plan = run_plan r.program r.packed options in
     let on = output_of source input options.depth output h in
     let takes : TakesAll before now out out_now plan = record { target = λ name e rose. cc; out = quiet.put } in
     let due = due_of words before now out out_now source input options front r quiet (HasText plan)
     (record { lexed = on.lexed; program = on.program; is_program = on.is_program; holds = (None, output, (refl, on.holds)) }) in
-    due_ends laws tells words before now out out_now end' ends status.Done (asked_of (asked words) plan (DueAll before now out out_now) r.asks (due, takes))
+    due_ends laws tells words before now out out_now end' (cause_of tells words before now out out_now end' said ends) status.Done (asked_of (asked words) plan (DueAll before now out out_now) r.asks (due, takes))
 
-pub run_ends_deep : Laws → (tells : Bool) (words : List (List ℕ)) (before now : ShelfView) (out out_now : SinkView) (source input : List ℕ) (options : Options) (front : List ℕ) (end' : Status) →
+pub run_ends_deep : Laws → (tells : Bool) (words : List (List ℕ)) (before now : ShelfView) (out out_now : SinkView) (source input : List ℕ) (options : Options) (front said : List ℕ) (end' : Status) →
     (r : IsRun words before out source input options front) → NoneFailed r.program r.packed before now out out_now → IsTooDeep source input options.depth →
-    IsEnding tells words before now out out_now end' → (end' ≡ status.Depth) ⊎ (end' ≡ status.Memory) ⊎ (end' ≡ status.Full)
-run_ends_deep laws tells words before now out out_now source input options front end' r quiet h ends =
+    IsEnding tells words before now out out_now end' said → (end' ≡ status.Depth) ⊎ (end' ≡ status.Memory) ⊎ (end' ≡ status.Full)
+run_ends_deep laws tells words before now out out_now source input options front said end' r quiet h ends =
     let plan = run_plan r.program r.packed options in
     let on = runs_out source input options.depth h in
     let due = due_of words before now out out_now source input options front r quiet (Exhausted plan)
     (record { lexed = on.lexed; program = on.program; is_program = on.is_program; holds = (None, (refl, on.holds)) }) in
-    due_ends laws tells words before now out out_now end' ends status.Depth (asked_of (asked words) plan (DueDepth before now) r.asks due)
+    due_ends laws tells words before now out out_now end' (cause_of tells words before now out out_now end' said ends) status.Depth (asked_of (asked words) plan (DueDepth before now) r.asks due)
+
+-- Chunks that are enough do not run out
+
+value_or_deep : (o : Outcome) → ((v : Datum) × (o ≡ Gives v)) ⊎ (o ≡ Stops Deep)
+value_or_deep (Gives v) = inl (v, refl)
+value_or_deep (Stops Deep) = inr refl
+
+-- one of three, by one of three others
+either_of : (end' a b c d : Status) → (end' ≡ a → (end' ≡ c) ⊎ (end' ≡ d) ⊎ (end' ≡ b)) → (end' ≡ status.Full → ⊥) → (end' ≡ a) ⊎ (end' ≡ b) ⊎ (end' ≡ status.Full) → (end' ≡ c) ⊎ (end' ≡ d) ⊎ (end' ≡ b)
+either_of end' a b c d first never (inl e) = first e
+either_of end' a b c d first never (inr (inl e)) = inr (inr e)
+either_of end' a b c d first never (inr (inr e)) = absurd (never e)
+
+fits_by : Laws → (tells : Bool) (words : List (List ℕ)) (before now : ShelfView) (out out_now : SinkView) (source input : List ℕ) (options : Options) (front said : List ℕ) (end' : Status) →
+    (r : IsRun words before out source input options front) → NoneFailed r.program r.packed before now out out_now → (g : Given source input) → (end' ≡ status.Full → ⊥) →
+    ((v : Datum) × (run g.program options.depth g.value ≡ Gives v)) ⊎ (run g.program options.depth g.value ≡ Stops Deep) →
+    IsEnding tells words before now out out_now end' said → (end' ≡ status.Done) ⊎ (end' ≡ status.Depth) ⊎ (end' ≡ status.Memory)
+fits_by laws tells words before now out out_now source input options front said end' r quiet g never (inl gives) ends =
+    either_of end' status.Done status.Memory status.Done status.Depth (λ e. inl e) never
+    (run_ends_done laws tells words before now out out_now source input options front (text_line g.program g.lexed.names gives.0) said end' r quiet
+    (record { given = g; result = gives.0; means = gives.1; is_text = refl }) ends)
+fits_by laws tells words before now out out_now source input options front said end' r quiet g never (inr deep) ends =
+    either_of end' status.Depth status.Memory status.Done status.Depth (λ e. inr (inl e)) never
+    (run_ends_deep laws tells words before now out out_now source input options front said end' r quiet (record { given = g; means = deep }) ends)
+
+pub run_fits : Laws → (tells : Bool) (words : List (List ℕ)) (before now : ShelfView) (out out_now : SinkView) (source input : List ℕ) (options : Options) (front said : List ℕ) (end' : Status) →
+    (r : IsRun words before out source input options front) → NoneFailed r.program r.packed before now out out_now → Given source input → (IsTooBig source input options.depth options.chunks → ⊥) →
+    IsEnding tells words before now out out_now end' said → (end' ≡ status.Done) ⊎ (end' ≡ status.Depth) ⊎ (end' ≡ status.Memory)
+run_fits laws tells words before now out out_now source input options front said end' r quiet g fits ends =
+    let E : Status → Type 0 = λ s. IsEnding tells words before now out out_now s said in
+    let never : end' ≡ status.Full → ⊥ = λ e. fits (run_full tells words before now out out_now source input options front said r (subst E e ends)) in
+    fits_by laws tells words before now out out_now source input options front said end' r quiet g never (value_or_deep (run g.program options.depth g.value)) ends
 
 one_value : (r : Outcome) (u v : Datum) → r ≡ Gives u → r ≡ Gives v → u ≡ v
 one_value r u v e f = let both = sym e ∙ f in cc

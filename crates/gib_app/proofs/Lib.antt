@@ -1,5 +1,4 @@
 mod Held
-mod Inputs
 mod Told
 mod Doing
 mod Making
@@ -18,3 +17,4 @@ mod Calling
 mod Headlines
 mod Roots
 mod Refusals
+mod InputLaws

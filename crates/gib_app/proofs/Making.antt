@@ -1,5 +1,5 @@
 -- From the parts of making to the whole.
-use Rattle.std.proofs.Common.{◌≡◌, ℕ, List, Option, Some, None, subst, sym, inl, inr}
+use Rattle.std.proofs.Common.{◌≡◌, refl, ℕ, List, Option, Some, None, subst, sym, inl, inr}
 use Rattle.gib_edge.specs.Causes.{Rose}
 use Rattle.gib_edge.specs.Views.{ShelfView}
 use Rattle.gib_syntax.specs.Tree.{ProgramTree}
@@ -7,12 +7,12 @@ use Rattle.gib_app.specs.declared.input_fault.InputFault.{InputFault}
 use Rattle.gib_app.specs.declared.input_fault.InputFault.TheVariants as input
 use Rattle.gib_app.specs.declared.stop.Stop.{Stop}
 use Rattle.gib_app.specs.declared.stop.Stop.TheVariants.{Usage, Source, Unread, Input, NoValue, Memory, Unwritten, Unput}
-use Rattle.gib_app.specs.Plan.{Document, Brought, Named, Plan, Files}
+use Rattle.gib_app.specs.Plan.{Document, BuiltIn, Named, Plan, Files}
 use Rattle.gib_app.specs.Running.{IsSource, IsNoProgram}
 use Rattle.gib_app.specs.SourceFaults.{IsSourceFault}
 use Rattle.gib_app.specs.Formats.{second_of, most_of, Accepts, Refuses}
 use Rattle.gib_app.specs.Causes.{Holds, HoldsSecond, OnSource, IsUnread, IsSecondUnread}
-use Rattle.gib_app.specs.Stops.{IsCompiled, IsSourceStop, IsSecondStop, IsStop, OnBoth}
+use Rattle.gib_app.specs.Stops.{IsCompiled, IsCompileStop, IsReadStop, IsSourceStop, IsSecondStop, FailsTo, IsStop, OnBoth}
 use Rattle.gib_app.proofs.Told.{held_before}
 use Rattle.gib_app.proofs.Doing.{long_refused}
 
@@ -35,6 +35,53 @@ source_here kept r d p names e on =
     let H : Document → Type 0 = λ x. Holds kept x on.source in
     record { source = on.source; source_held = subst H e on.source_held; holds = (on.holds.lexed, p, on.holds.is_program) }
 
+-- why a source is not read, or not compiled
+
+pub read_source : (before now : ShelfView) (d : Document) (stop : Stop) → IsReadStop before now d stop → IsSourceStop before now d stop
+read_source before now d Usage h = h
+read_source before now d (Source fault) h = absurd h
+read_source before now d (Unread name) h = h
+read_source before now d (Input fault) h = h
+read_source before now d (NoValue reason) h = h
+read_source before now d Memory h = h
+read_source before now d (Unwritten name) h = h
+read_source before now d Unput h = h
+
+pub compile_source : (before now : ShelfView) (d : Document) (source : List ℕ) → Holds before.kept d source → (stop : Stop) → IsCompileStop source stop → IsSourceStop before now d stop
+compile_source before now d source held Usage h = h
+compile_source before now d source held (Source fault) h = record { source = source; source_held = held; holds = h }
+compile_source before now d source held (Unread name) h = absurd h
+compile_source before now d source held (Input fault) h = h
+compile_source before now d source held (NoValue reason) h = h
+compile_source before now d source held Memory h = h
+compile_source before now d source held (Unwritten name) h = h
+compile_source before now d source held Unput h = h
+
+-- why a second file is not read
+pub read_second_stop : (before now : ShelfView) (r : Plan) (d : Document) → second_of r ≡ Some d → (stop : Stop) → IsReadStop before now d stop → IsSecondStop before now r stop
+read_second_stop before now r d e Usage h = h
+read_second_stop before now r d e (Source fault) h = h
+read_second_stop before now r d e (Unread name) h =
+    let P : Option Document → Type 0 = λ o. IsSecondUnread before now o name.now in subst P (sym e) h
+read_second_stop before now r d e (Input fault) h = absurd h
+read_second_stop before now r d e (NoValue reason) h = h
+read_second_stop before now r d e Memory h = h
+read_second_stop before now r d e (Unwritten name) h = h
+read_second_stop before now r d e Unput h = h
+
+-- what a job does not make of a second file
+pub job_stop : (before now : ShelfView) (r : Plan) (p : ProgramTree) (names : List (List ℕ)) (second : List ℕ) → OnSource before.kept r.source (λ source. IsCompiled source p names) →
+    HoldsSecond before.kept (second_of r) second → (stop : Stop) → FailsTo r.job p names second stop → IsStop before now r stop
+job_stop before now r p names second on held Usage h = h
+job_stop before now r p names second on held (Source fault) h = absurd h
+job_stop before now r p names second on held (Unread name) h = absurd h
+job_stop before now r p names second on held (Input fault) h =
+    on_both before.kept r r.source p names second (λ q ns bytes. Refuses r.job q ns bytes fault × (Accepts r.job q ns bytes → ⊥)) refl on held h
+job_stop before now r p names second on held (NoValue reason) h = absurd h
+job_stop before now r p names second on held Memory h = h
+job_stop before now r p names second on held (Unwritten name) h = absurd h
+job_stop before now r p names second on held Unput h = h
+
 -- a stop at the source is one of the request
 pub source_stop : (before now : ShelfView) (r : Plan) (d : Document) → d ≡ r.source → (stop : Stop) → IsSourceStop before now d stop → IsStop before now r stop
 source_stop before now r d e Usage h = h
@@ -51,7 +98,7 @@ source_stop before now r d e Unput h = h
 -- counts that stayed in the first part
 
 unread_before : (before mid now : ShelfView) (d : Document) (name : List ℕ) → ((file : List ℕ) → mid.reads file ≡ before.reads file) → IsUnread mid now d name → IsUnread before now d name
-unread_before before mid now (Brought bytes) name e h = h
+unread_before before mid now (BuiltIn bytes) name e h = h
 unread_before before mid now (Named file) name e h =
     let P : ℕ → Type 0 = λ n. Rose n (now.reads name) in (h.0, subst P (e name) h.1)
 

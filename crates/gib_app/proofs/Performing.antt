@@ -20,7 +20,7 @@ use Rattle.gib_app.specs.Jobs.{End, Prints, NoValue, Does}
 use Rattle.gib_app.specs.Causes.{Counts, IsWritten, IsMade, HasFile, HasNoValue, IsPrinted, IsPrintedInPart, IsUnwritten}
 use Rattle.gib_app.specs.Ending.{IsNoTarget, FilesStay, ReadsStay, WritesStay, OutStays}
 use Rattle.gib_app.specs.Stops.{IsStop, OnBoth}
-use Rattle.gib_app.specs.Stopping.{status_for}
+use Rattle.gib_app.specs.Stopping.{answer_for}
 use Rattle.gib_app.specs.Performing.{IsWriteStop, IsDone, IsPerformed, OthersStay, StopFiles, IsCallStop}
 use Rattle.gib_app.proofs.Doing.{no_file}
 
@@ -95,7 +95,7 @@ no_target o r P e h = let Q : Option Plan → Type 0 = λ x. MatchOption x ⊤ P
 pub others_stay : (words : List (List ℕ)) (r : Plan) (before now : Files) → asked words ≡ Some r → OthersStay r before now → (name : List ℕ) → IsNoTarget words name → now name ≡ before name
 others_stay words r before now e h name no' = h name (no_target (asked words) r (λ plan. plan.target ≡ Some name → ⊥) e no')
 
-pub files_of : (words : List (List ℕ)) (r : Plan) (before now : Files) (stop : Stop) → asked words ≡ Some r → OthersStay r before now → StopFiles before now stop → FilesStay words before now (status_for stop)
+pub files_of : (words : List (List ℕ)) (r : Plan) (before now : Files) (stop : Stop) → asked words ≡ Some r → OthersStay r before now → StopFiles before now stop → FilesStay words before now (answer_for stop).status
 files_of words r before now stop e others h = record { others = others_stay words r before now e others; same = λ done' unwritten. h unwritten }
 
 pub prints : (tells : Bool) (words : List (List ℕ)) (before now : ShelfView) (out_before out_now : SinkView) (r : Plan) (e : KeptEnd) (text : List ℕ) → asked words ≡ Some r →
@@ -171,7 +171,7 @@ spared_reads before now = λ other. absurd (other refl)
 pub spared_writes : (before now : Counts) → WritesStay before now status.WriteFault
 spared_writes before now = λ other. absurd (other refl)
 
-pub spared_files : (before now : Files) (stop : Stop) → status_for stop ≡ status.WriteFault → StopFiles before now stop
+pub spared_files : (before now : Files) (stop : Stop) → (answer_for stop).status ≡ status.WriteFault → StopFiles before now stop
 spared_files before now stop e = λ other. absurd (other e)
 
 pub done_files : (words : List (List ℕ)) (before now : Files) → ((name : List ℕ) → IsNoTarget words name → now name ≡ before name) → FilesStay words before now status.Done

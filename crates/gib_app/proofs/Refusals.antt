@@ -1,5 +1,5 @@
--- A file with a fault is the packed file of no value.
-use Rattle.std.proofs.Common.{◌≡◌, ℕ, ◌≤◌, List, length, Err}
+-- A file with a fault is the packed file of no value, and a call stops at it.
+use Rattle.std.proofs.Common.{◌≡◌, ℕ, ◌≤◌, List, length, Err, arith}
 use Rattle.gib_types.specs.declared.table.Ty.{Ty}
 use Rattle.gib_types.specs.Table.{Table}
 use Rattle.gib_types.specs.Tree.{Datum}
@@ -8,13 +8,19 @@ use Rattle.gib_file.specs.declared.fault.HeadFault.TheVariants as header
 use Rattle.gib_file.specs.declared.fault.PackFault.{PackFault}
 use Rattle.gib_file.specs.declared.fault.PackFault.TheVariants as payload
 use Rattle.gib_file.specs.Framed.{File, Framed, IsFirstFault}
-use Rattle.gib_file.specs.Reading.{read_all}
+use Rattle.gib_file.specs.Reading.{Fails, read_all}
 use Rattle.gib_syntax.specs.Tree.{ProgramTree}
 use Rattle.gib_syntax.specs.Declarations.{table_of_program, input_type}
-use Rattle.gib_app.specs.declared.input_fault.InputFault.{InputFault}
-use Rattle.gib_app.specs.declared.input_fault.InputFault.TheVariants.{Long, Magic, Version, Reserved, Length, Short, Tag, Truth, Trailing, Text}
-use Rattle.gib_app.specs.InputFaults.{IsFileFault, IsInputFault, IsPayloadFault}
+use Rattle.gib_app.specs.declared.input_fault.InputFault.TheVariants as input
+use Rattle.gib_app.specs.declared.input_fault.PackedFault.{PackedFault}
+use Rattle.gib_app.specs.declared.input_fault.PackedFault.TheVariants.{Header, Short, Tag, Truth, Trailing}
+use Rattle.gib_app.specs.declared.stop.Stop.{Stop}
+use Rattle.gib_app.specs.declared.stop.Stop.TheVariants.{Usage, Source, Unread, Input, NoValue, Memory, Unwritten, Unput}
+use Rattle.gib_app.specs.InputFaults.{IsFileFault, IsPayloadFault}
+use Rattle.gib_app.specs.PassFaults.{packed_stop, payload_stop}
+use Rattle.gib_app.specs.MachineRun.{IsMachineStop}
 use Rattle.gib_app.specs.Running.{IsInput}
+use Rattle.gib_app.specs.Stops.{IsPackedStop, IsRunStop, IsShowStop}
 
 abbrev pub HeaderRefuses : Type 0
 HeaderRefuses = (table : Table) (ty : Ty) (v : Datum) (bytes : List ℕ) (fault : HeadFault) → IsFirstFault bytes fault → File table ty v bytes → ⊥
@@ -22,24 +28,70 @@ HeaderRefuses = (table : Table) (ty : Ty) (v : Datum) (bytes : List ℕ) (fault 
 abbrev pub PayloadRefuses : Type 0
 PayloadRefuses = (table : Table) (ty : Ty) (payload bytes : List ℕ) (fault : PackFault) → Framed payload bytes → read_all table ty payload ≡ Err fault → (v : Datum) → File table ty v bytes → ⊥
 
-module _ (p : ProgramTree) (input : List ℕ) (headers : HeaderRefuses) (payloads : PayloadRefuses) (short : length input ≤ 16777216) where
-  abbrev None : Type 0
-  None = ((v : Datum) × IsInput p v input) → ⊥
+module _ (headers : HeaderRefuses) (payloads : PayloadRefuses) (table : Table) (ty : Ty) (bytes : List ℕ) where
+  by_payload : (fault : PackFault) → IsPayloadFault table ty bytes fault → (v : Datum) → File table ty v bytes → ⊥
+  by_payload fault h v file = payloads table ty h.payload bytes fault h.framed h.read v file
 
-  by_header : (fault : HeadFault) → IsFirstFault input fault → None
-  by_header fault h a = headers (table_of_program p) (input_type p) a.0 input fault h a.1.file
+  pub no_file : (fault : PackedFault) → IsFileFault table ty bytes fault → (v : Datum) → File table ty v bytes → ⊥
+  no_file (Header fault) h v file = headers table ty v bytes fault h file
+  no_file (Short place) h v file = by_payload (payload.Short place) h v file
+  no_file (Tag place) h v file = by_payload (payload.Tag place) h v file
+  no_file (Truth place) h v file = by_payload (payload.Truth place) h v file
+  no_file (Trailing place) h v file = by_payload (payload.Trailing place) h v file
 
-  by_payload : (fault : PackFault) → IsPayloadFault (table_of_program p) (input_type p) input fault → None
-  by_payload fault h a = payloads (table_of_program p) (input_type p) h.payload input fault h.framed h.read a.0 a.1.file
+  refuses : (fault : PackedFault) → IsFileFault table ty bytes fault → IsPackedStop table ty bytes (packed_stop fault)
+  refuses fault h = (h, no_file fault h)
 
-  pub file_refused : (f : InputFault) → IsFileFault (table_of_program p) (input_type p) input f → IsInputFault p input f × (((v : Datum) × IsInput p v input) → ⊥)
-  file_refused (Long most) h = absurd h
-  file_refused Magic h = ((short, h), by_header header.Magic h)
-  file_refused (Version v) h = ((short, h), by_header (header.Version v) h)
-  file_refused Reserved h = ((short, h), by_header header.Reserved h)
-  file_refused Length h = ((short, h), by_header header.Length h)
-  file_refused (Short place) h = ((short, h), by_payload (payload.Short place) h)
-  file_refused (Tag place) h = ((short, h), by_payload (payload.Tag place) h)
-  file_refused (Truth place) h = ((short, h), by_payload (payload.Truth place) h)
-  file_refused (Trailing place) h = ((short, h), by_payload (payload.Trailing place) h)
-  file_refused (Text place) h = absurd h
+  pub header_stops : (fault : HeadFault) → IsFirstFault bytes fault → IsPackedStop table ty bytes (packed_stop (Header fault))
+  header_stops fault h = refuses (Header fault) h
+
+  pub payload_stops : (content : List ℕ) (fault : PackFault) → Framed content bytes → Fails fault (read_all table ty content) → IsPackedStop table ty bytes (payload_stop fault)
+  payload_stops content payload.Memory framed h = tt {0}
+  payload_stops content (payload.Short place) framed h = refuses (Short place) (record { payload = content; framed = framed; read = h })
+  payload_stops content (payload.Tag place) framed h = refuses (Tag place) (record { payload = content; framed = framed; read = h })
+  payload_stops content (payload.Truth place) framed h = refuses (Truth place) (record { payload = content; framed = framed; read = h })
+  payload_stops content (payload.Trailing place) framed h = refuses (Trailing place) (record { payload = content; framed = framed; read = h })
+
+-- A job stops where its file is refused as a packed one.
+
+module _ (p : ProgramTree) (bytes : List ℕ) (short : length bytes ≤ 16777216) where
+  pub run_stop : (stop : Stop) → IsPackedStop (table_of_program p) (input_type p) bytes stop → IsRunStop p bytes stop
+  run_stop Usage h = h
+  run_stop (Source fault) h = h
+  run_stop (Unread name) h = h
+  run_stop (Input (input.Long most)) h = absurd h
+  run_stop (Input (input.Packed fault)) h = ((short, h.0), λ a. h.1 a.0 a.1.file)
+  run_stop (Input (input.Text place)) h = absurd h
+  run_stop (NoValue reason) h = h
+  run_stop Memory h = h
+  run_stop (Unwritten name) h = h
+  run_stop Unput h = h
+
+  pub show_stop : (stop : Stop) → IsPackedStop (table_of_program p) (input_type p) bytes stop → IsShowStop p bytes stop
+  show_stop Usage h = h
+  show_stop (Source fault) h = h
+  show_stop (Unread name) h = h
+  show_stop (Input (input.Long most)) h = absurd h
+  show_stop (Input (input.Packed (Header header.Magic))) h = ((omega (arith, short), h.0), λ a. h.1 a.0 a.1.file)
+  show_stop (Input (input.Packed (Header (header.Version v)))) h = ((short, h.0), λ a. h.1 a.0 a.1.file)
+  show_stop (Input (input.Packed (Header header.Reserved))) h = ((short, h.0), λ a. h.1 a.0 a.1.file)
+  show_stop (Input (input.Packed (Header header.Length))) h = ((short, h.0), λ a. h.1 a.0 a.1.file)
+  show_stop (Input (input.Packed (Short place))) h = ((short, h.0), λ a. h.1 a.0 a.1.file)
+  show_stop (Input (input.Packed (Tag place))) h = ((short, h.0), λ a. h.1 a.0 a.1.file)
+  show_stop (Input (input.Packed (Truth place))) h = ((short, h.0), λ a. h.1 a.0 a.1.file)
+  show_stop (Input (input.Packed (Trailing place))) h = ((short, h.0), λ a. h.1 a.0 a.1.file)
+  show_stop (Input (input.Text place)) h = absurd h
+  show_stop (NoValue reason) h = h
+  show_stop Memory h = h
+  show_stop (Unwritten name) h = h
+  show_stop Unput h = h
+
+pub machine_stop : (p : ProgramTree) (depth chunks : ℕ) (bytes : List ℕ) (stop : Stop) → IsRunStop p bytes stop → IsMachineStop p depth chunks bytes stop
+machine_stop p depth chunks bytes Usage h = h
+machine_stop p depth chunks bytes (Source fault) h = h
+machine_stop p depth chunks bytes (Unread name) h = h
+machine_stop p depth chunks bytes (Input fault) h = h
+machine_stop p depth chunks bytes (NoValue reason) h = absurd h
+machine_stop p depth chunks bytes Memory h = h
+machine_stop p depth chunks bytes (Unwritten name) h = h
+machine_stop p depth chunks bytes Unput h = h

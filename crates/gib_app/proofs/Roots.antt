@@ -35,11 +35,14 @@ use Rattle.gib_weave.specs.declared.root_run.RunFault.{RunFault}
 use Rattle.gib_weave.specs.Running.{IsStart, RunEnds}
 use Rattle.gib_weave.specs.Sound.{IsAnswer}
 use Rattle.gib_app.specs.declared.machine_run.Ran.{Ran}
-use Rattle.gib_app.specs.declared.machine_run.RunStop.{RunStop}
-use Rattle.gib_app.specs.declared.machine_run.RunStop.TheVariants as stop
+use Rattle.gib_app.specs.declared.made.Reason.{Reason}
+use Rattle.gib_app.specs.declared.made.Reason.TheVariants as reason
+use Rattle.gib_app.specs.declared.stop.Stop.{Stop}
+use Rattle.gib_app.specs.declared.stop.Stop.TheVariants as stop
 use Rattle.gib_app.specs.Cores.{core_after}
 use Rattle.gib_app.specs.Running.{IsInput}
-use Rattle.gib_app.specs.MachineRun.{StandsMeant, IsMachineStop, IsRootOf, Halts, EndsWith, program_cost}
+use Rattle.gib_app.specs.Stops.{IsRunStop}
+use Rattle.gib_app.specs.MachineRun.{StandsMeant, LacksValue, IsMachineStop, IsRootOf, Lacks, Halts, EndsWith, program_cost}
 
 -- A value that was loaded is where a run may start.
 pub start_of : (l : LoweredParts) (laid : LaidOut) (ty : Ty) (v : Datum) (m : Memory) (place : Root) (tails : List ℕ) → laid ≡ l.code.laid → ty ≡ (core_of l.core).main.parameter
@@ -87,7 +90,7 @@ packed_in : (l : LoweredParts) (laid : LaidOut) (s : Surveyed) (v : Datum) → l
 packed_in l laid s v e f p = subst (λ (t : Table). Packed t s.ty v s.bytes) (f ∙ sym (ap (λ (x : LaidOut). x.table) e)) p
 
 -- Loading and then running.
-pub loaded_ran : (l : LoweredParts) (laid : LaidOut) (s : Surveyed) (depth : ℕ) (m0 m1 m2 : Memory) (place : Root) (tails : List ℕ) (r : Result Answer RunFault) (e : Result Root RunStop)
+pub loaded_ran : (l : LoweredParts) (laid : LaidOut) (s : Surveyed) (depth : ℕ) (m0 m1 m2 : Memory) (place : Root) (tails : List ℕ) (r : Result Answer RunFault) (e : Result Root Stop)
     → laid ≡ l.code.laid → s.table ≡ l.code.laid.table → s.ty ≡ (core_of l.core).main.parameter
     → ((v : Datum) → Packed laid.table s.ty v s.bytes → record { memory = m1; root = place; tails = tails } ≡ placed_in laid m0 v)
     → ((v : Datum) → Packed laid.table s.ty v s.bytes → Holding laid s.ty v (record { memory = m1; root = place; tails = tails }))
@@ -98,6 +101,14 @@ loaded_ran l laid s depth m0 m1 m2 place tails r e same table ty placed holds ra
     let limit : m1.limit ≡ m0.limit = ap (λ (x : Placement). x.memory.limit) (placed v q) ∙ placed_limit laid m0 v in
     let start = start_of l laid s.ty v m1 place tails same ty (holds v q) in
     subst (λ (n : ℕ). EndsWith l depth n v m2.cells e) limit (ends v (ran v start))
+
+-- The run has as many chunks as there were before.
+pub loaded_limit : {X E : Type 0} (l : LoweredParts) (laid : LaidOut) (s : Surveyed) (m0 m1 m2 : Memory) (place : Root) (tails : List ℕ) (r : Result X E) → laid ≡ l.code.laid → s.table ≡ l.code.laid.table
+    → ((v : Datum) → Packed laid.table s.ty v s.bytes → record { memory = m1; root = place; tails = tails } ≡ placed_in laid m0 v)
+    → (v : Datum) → Packed s.table s.ty v s.bytes → m2.limit ≡ m1.limit → IfOk r (λ _. m2.limit ≡ m0.limit)
+loaded_limit l laid s m0 m1 m2 place tails (Ok value) same table placed v p kept =
+    kept ∙ ap (λ (x : Placement). x.memory.limit) (placed v (packed_in l laid s v same table p)) ∙ placed_limit laid m0 v
+loaded_limit l laid s m0 m1 m2 place tails (Err e) same table placed v p kept = tt {0}
 
 -- Loading that stops.
 pub load_stops : (l : LoweredParts) (laid : LaidOut) (s : Surveyed) (depth : ℕ) (m0 m1 : Memory) → laid ≡ l.code.laid → s.table ≡ l.code.laid.table
@@ -133,16 +144,25 @@ root_meant p depth input v l l' s place of is e h =
     } in
     subst (λ (x : LoweredParts). StandsMeant p depth input x.code.laid s place) (sym e) there
 
-pub stop_meant : (p : ProgramTree) (depth chunks : ℕ) (input : List ℕ) (v : Datum) (l : LoweredParts) → IsOfProgram p l → IsInput p v input → (why : RunStop)
-    → Halts (core_run (core_of l.core) depth v) chunks (run_cost (core_of l.core) depth 0 v) why → IsMachineStop p depth chunks input why
-stop_meant p depth chunks input v l of is stop.Memory h = tt {0}
-stop_meant p depth chunks input v l of is (stop.Refused f) h = absurd h
-stop_meant p depth chunks input v l of is stop.Deep h = record { value = v; is_input = is; means = sym (of.means depth v) ∙ h }
-stop_meant p depth chunks input v l of is stop.Full h = record {
+lacks_meant : (p : ProgramTree) (depth chunks : ℕ) (input : List ℕ) (v : Datum) (l : LoweredParts) → IsOfProgram p l → IsInput p v input → (why : Reason)
+    → Lacks (core_run (core_of l.core) depth v) chunks (run_cost (core_of l.core) depth 0 v) why → LacksValue p depth chunks input why
+lacks_meant p depth chunks input v l of is reason.Deep h = record { value = v; is_input = is; means = sym (of.means depth v) ∙ h }
+lacks_meant p depth chunks input v l of is reason.Full h = record {
   value = v;
   is_input = is;
   tight = subst (λ (c : CoreTree). Tight chunks (run_cost c depth 0 v)) of.core h;
 }
+
+pub stop_meant : (p : ProgramTree) (depth chunks : ℕ) (input : List ℕ) (v : Datum) (l : LoweredParts) → IsOfProgram p l → IsInput p v input → (why : Stop)
+    → Halts (core_run (core_of l.core) depth v) chunks (run_cost (core_of l.core) depth 0 v) why → IsMachineStop p depth chunks input why
+stop_meant p depth chunks input v l of is stop.Usage h = h
+stop_meant p depth chunks input v l of is (stop.Source fault) h = h
+stop_meant p depth chunks input v l of is (stop.Unread name) h = h
+stop_meant p depth chunks input v l of is (stop.Input fault) h = absurd h
+stop_meant p depth chunks input v l of is (stop.NoValue why) h = lacks_meant p depth chunks input v l of is why h
+stop_meant p depth chunks input v l of is stop.Memory h = h
+stop_meant p depth chunks input v l of is (stop.Unwritten name) h = h
+stop_meant p depth chunks input v l of is stop.Unput h = h
 
 -- The region memory of a run.
 abbrev pub store_of : PlainMem → Store
@@ -155,7 +175,7 @@ input_of p input s short file v q = record { short = short; file = file v q }
 
 -- The run of a program on a survey that is of the input.
 pub survey_stands : (p : ProgramTree) (depth : ℕ) (input : List ℕ) (s : Surveyed) (l : LoweredParts) → IsOfProgram p l → length input ≤ 16777216 → IsPacked s.table s.ty s.bytes s.count
-    → ((v : Datum) → Packed s.table s.ty v s.bytes → File (table_of_program p) (input_type p) v input) → (r : Result Ran RunStop) → IfOk r (λ ran. ran.lowered ≡ l)
+    → ((v : Datum) → Packed s.table s.ty v s.bytes → File (table_of_program p) (input_type p) v input) → (r : Result Ran Stop) → IfOk r (λ ran. ran.lowered ≡ l)
     → IfOk r (λ ran. (v : Datum) → Packed s.table s.ty v s.bytes → IsRootOf l.code.laid (store_of ran.memory) (core_of l.core).main.result (core_run (core_of l.core) depth v) ran.root)
     → IfOk r (λ ran. StandsMeant p depth input ran.lowered.code.laid (store_of ran.memory) ran.root)
 survey_stands p depth input s l of short packed file (Ok ran) same ends =
@@ -163,7 +183,7 @@ survey_stands p depth input s l of short packed file (Ok ran) same ends =
 survey_stands p depth input s l of short packed file (Err why) same ends = tt {0}
 
 pub survey_stops : (p : ProgramTree) (depth chunks : ℕ) (input : List ℕ) (s : Surveyed) (l : LoweredParts) → IsOfProgram p l → length input ≤ 16777216 → IsPacked s.table s.ty s.bytes s.count
-    → ((v : Datum) → Packed s.table s.ty v s.bytes → File (table_of_program p) (input_type p) v input) → (r : Result Ran RunStop)
+    → ((v : Datum) → Packed s.table s.ty v s.bytes → File (table_of_program p) (input_type p) v input) → (r : Result Ran Stop)
     → IfErr r (λ why. (v : Datum) → Packed s.table s.ty v s.bytes → Halts (core_run (core_of l.core) depth v) chunks (run_cost (core_of l.core) depth 0 v) why)
     → IfErr r (IsMachineStop p depth chunks input)
 survey_stops p depth chunks input s l of short packed file (Ok ran) ends = tt {0}
@@ -172,7 +192,7 @@ survey_stops p depth chunks input s l of short packed file (Err why) ends = stop
 -- Any value that is the input is the survey's.
 pub survey_only : (p : ProgramTree) (depth chunks : ℕ) (input : List ℕ) (s : Surveyed) (l : LoweredParts) → IsOfProgram p l → length input ≤ 16777216 → IsPacked s.table s.ty s.bytes s.count
     → ((v : Datum) → Packed s.table s.ty v s.bytes → File (table_of_program p) (input_type p) v input)
-    → ((table : Table) (ty : Ty) (v w : Datum) (bytes : List ℕ) → File table ty v bytes → File table ty w bytes → v ≡ w) → (r : Result Ran RunStop) → IfOk r (λ ran. ran.lowered ≡ l)
+    → ((table : Table) (ty : Ty) (v w : Datum) (bytes : List ℕ) → File table ty v bytes → File table ty w bytes → v ≡ w) → (r : Result Ran Stop) → IfOk r (λ ran. ran.lowered ≡ l)
     → IfOk r (λ ran. (v : Datum) → Packed s.table s.ty v s.bytes → IsRootOf l.code.laid (store_of ran.memory) (core_of l.core).main.result (core_run (core_of l.core) depth v) ran.root)
     → IfErr r (λ why. (v : Datum) → Packed s.table s.ty v s.bytes → Halts (core_run (core_of l.core) depth v) chunks (run_cost (core_of l.core) depth 0 v) why)
     → (v : Datum) → IsInput p v input
@@ -190,3 +210,14 @@ survey_only p depth chunks input s l of short packed file one (Err why) same roo
     let owed : core_run (core_of l.core) depth w ≡ run p depth v = of.means depth w ∙ ap (run p depth) e in
     let most : run_cost (core_of l.core) depth 0 w ≡ program_cost p depth v = ap (λ (c : CoreTree). run_cost c depth 0 w) of.core ∙ ap (program_cost p depth) e in
     subst₂ (λ (o : Outcome) (k : Cost). Halts o chunks k why) owed most (halts w packed.1)
+
+-- Where the file is refused, there is no value of which it is the input.
+pub refused_halts : (p : ProgramTree) (depth chunks : ℕ) (input : List ℕ) (v : Datum) (owed : Outcome) (most : Cost) → IsInput p v input → (stop : Stop) → IsRunStop p input stop → Halts owed chunks most stop
+refused_halts p depth chunks input v owed most is stop.Usage h = h
+refused_halts p depth chunks input v owed most is (stop.Source fault) h = h
+refused_halts p depth chunks input v owed most is (stop.Unread name) h = h
+refused_halts p depth chunks input v owed most is (stop.Input fault) h = h.1 (v, is)
+refused_halts p depth chunks input v owed most is (stop.NoValue why) h = absurd h
+refused_halts p depth chunks input v owed most is stop.Memory h = h
+refused_halts p depth chunks input v owed most is (stop.Unwritten name) h = h
+refused_halts p depth chunks input v owed most is stop.Unput h = h

@@ -8,8 +8,8 @@ use Rattle.gib_lex.specs.Refused.{IsRefused}
 use Rattle.gib_parse.specs.Answers.{place_of, read_of, AnswersRead, IsBlamedAt, IsTooDeepAt}
 use Rattle.gib_parse.specs.declared.fault.ParseFault.{ParseFault}
 use Rattle.gib_parse.specs.declared.fault.ParseFault.TheVariants as parsing
-use Rattle.gib_app.specs.PassFaults.{parse_fault}
-use Rattle.gib_app.specs.Stops.{IsCompileFault}
+use Rattle.gib_app.specs.PassFaults.{parse_stop}
+use Rattle.gib_app.specs.Stops.{IsCompileStop}
 use Rattle.gib_parse.specs.Reading.{Fault as ReadFault, At, Nested as TooDeep, whole}
 use Rattle.gib_check.specs.declared.fault.Fault.{Fault}
 use Rattle.gib_check.specs.FirstFault.{first_fault}
@@ -84,7 +84,7 @@ not_read laws source l m fault p tokens e spells = read_nowhere laws.lexed laws.
 -- a fault of the tokens is one of the source, which is no program
 pub parse_refused : OneLexed → IsRead → (source : List ℕ) (l : Lexed) (fault : ParseFault) → HasTokens source l
     → ((place : ℕ) → fault ≡ parsing.At place → IsBlamedAt l place) → ((place : ℕ) → fault ≡ parsing.Nested place → IsTooDeepAt l place)
-    → AnswersRead l (Err fault) → IsCompileFault source (parse_fault fault)
+    → AnswersRead l (Err fault) → IsCompileStop source (parse_stop fault)
 parse_refused one_lexed is_read source l parsing.Memory tokens blamed deep read = tt {0}
 parse_refused one_lexed is_read source l (parsing.At place) tokens blamed deep read = (
   record { lexed = l; tokens = tokens; blamed = blamed place refl; refused = read },

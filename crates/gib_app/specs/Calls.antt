@@ -2,13 +2,13 @@
 use Rattle.std.specs.Prelude.{ℕ, ◌+◌, List, [], ◌∷◌, ◌++◌, Option, Some, None}
 use Rattle.std.specs.Option.{option_map_or}
 use Rattle.gib_edge.specs.Views.{Call, ReadOf, WriteOf}
-use Rattle.gib_app.specs.Plan.{Document, Brought, Named, Plan}
+use Rattle.gib_app.specs.Plan.{Document, BuiltIn, Named, Plan}
 use Rattle.gib_app.specs.Words.{asked}
 use Rattle.gib_app.specs.Formats.{second_of, most_of}
 
 -- The read of a document that may have so many bytes: one more is asked for, so that a longer file is seen.
 abbrev pub read_calls : Document → ℕ → List Call
-read_calls (Brought bytes) most = []
+read_calls (BuiltIn bytes) most = []
 read_calls (Named name) most = ReadOf name (most + 1) ∷ []
 
 -- The same of a second file.

@@ -5,7 +5,7 @@ use Rattle.gib_edge.specs.Causes.{Rose, told, IsAllOf, IsUntold, Appends, Append
 use Rattle.gib_edge.specs.Views.{ShelfView, SinkView}
 use Rattle.gib_syntax.specs.Tree.{ProgramTree}
 use Rattle.gib_app.specs.declared.made.Reason.{Reason}
-use Rattle.gib_app.specs.Plan.{Document, Brought, Named, Plan, Files, bytes_in}
+use Rattle.gib_app.specs.Plan.{Document, BuiltIn, Named, Plan, Files, bytes_in}
 use Rattle.gib_app.specs.Words.{asked}
 use Rattle.gib_app.specs.Running.{IsProgram, IsSource}
 use Rattle.gib_app.specs.Formats.{second_of}
@@ -98,7 +98,7 @@ IsUnwritten before now plan p names second name =
 
 -- The count of the document's file rose, which has this name.
 abbrev pub IsUnread : ShelfView → ShelfView → Document → List ℕ → Type 0
-IsUnread before now (Brought bytes) name = ⊥
+IsUnread before now (BuiltIn bytes) name = ⊥
 IsUnread before now (Named file) name = (file ≡ name) × Rose (before.reads name) (now.reads name)
 
 -- The same of a second file.

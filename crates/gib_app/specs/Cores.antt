@@ -5,9 +5,13 @@ use Rattle.gib_core.specs.declared.atom.AccessMode.TheVariants.{Skips}
 use Rattle.gib_core.specs.Tree.{CoreTree}
 use Rattle.gib_core.specs.Inferring.{infer_program}
 use Rattle.gib_core.specs.Reaching.{reach_core}
+use Rattle.gib_place.specs.Numbering.{place_core}
 
--- The core of a program after a pass: 1 makes it of the program, 2 places values directly, 3 reaches the fields
--- of arms, 4 marks sides that may run at the same time. Direct placement and marks are not there yet: 2 leaves the
--- core as it is after 1, and 4 as after 3.
+-- The core of a program whose values are built where they belong.
+abbrev pub placed_program : ProgramTree → CoreTree
+placed_program p = place_core (infer_program p)
+
+-- The core of a program after a pass: 1 makes it of the program, 2 builds values where they belong, 3 reaches the fields
+-- of arms, 4 marks sides that may run at the same time. Marks are not there yet: 4 leaves the core as it is after 3.
 abbrev pub core_after : ℕ → ProgramTree → CoreTree
-core_after pass p = if nat_lt pass 3 then infer_program p else reach_core Skips (infer_program p)
+core_after pass p = if nat_lt pass 2 then infer_program p else if nat_lt pass 3 then placed_program p else reach_core Skips (placed_program p)

@@ -1,8 +1,11 @@
 -- Each status by its cause, and what stays with it.
-use Rattle.std.specs.Prelude.{◌≡◌, ◌≢◌, ◌⊎◌, ℕ, List, [], Option, None, Some, MatchOption, Bool, ⊤}
+use Rattle.std.specs.Prelude.{◌≡◌, ◌≢◌, ◌⊎◌, ℕ, List, [], ◌++◌, codes, Option, None, Some, MatchOption, Bool, ⊤}
 use Rattle.gib_edge.specs.Causes.{Rose}
 use Rattle.gib_edge.specs.Views.{Has, Missing, ShelfView, SinkView}
 use Rattle.gib_syntax.specs.Tree.{ProgramTree}
+use Rattle.gib_app.specs.declared.input_fault.InputFault.{InputFault}
+use Rattle.gib_app.specs.declared.plan.Job.TheVariants.{Run}
+use Rattle.gib_app.specs.declared.source_fault.SourceFault.{SourceFault}
 use Rattle.gib_app.specs.declared.status.Status.{Status}
 use Rattle.gib_app.specs.declared.status.Status.TheVariants.{Done, Source, Usage, Depth, Full, Memory, ReadFault, WriteFault, Input}
 use Rattle.gib_app.specs.declared.made.Reason.TheVariants as reason
@@ -10,30 +13,37 @@ use Rattle.gib_app.specs.declared.made.Reason.TheVariants.{Deep}
 use Rattle.gib_app.specs.Plan.{Document, Plan, Files, bytes_in}
 use Rattle.gib_app.specs.Words.{asked}
 use Rattle.gib_app.specs.Running.{IsSource, IsNoProgram}
-use Rattle.gib_app.specs.Formats.{second_of, Accepts}
+use Rattle.gib_app.specs.SourceFaults.{IsSourceFault}
+use Rattle.gib_app.specs.Formats.{second_of, Accepts, Refuses}
+use Rattle.gib_app.specs.Lines.{line, source_text, input_text}
 use Rattle.gib_app.specs.Jobs.{Prints, Does}
 use Rattle.gib_app.specs.Causes.{Counts, OnProgram, HasNoValue, AsksSource, AsksProgram, IsPrinted, IsPrintedInPart, IsUnwritten, IsUnread, IsSecondUnread, FailsToRead}
 
--- The file that is to be written could not be, and `out` was not asked; or `out` took a front of what is
--- printed, and its count rose.
-abbrev pub IsWriteEnding : Bool → List (List ℕ) → ShelfView → ShelfView → SinkView → SinkView → Type 0
-IsWriteEnding tells words before now out_before out_now =
-    (AsksProgram words before.kept (λ plan p names second. (name : List ℕ) × IsUnwritten before now plan p names second name) × (out_now ≡ out_before))
-    ⊎ (IsPrintedInPart tells words before now out_before out_now × Rose out_before.faults out_now.faults × ((name : List ℕ) → now.writes name ≡ before.writes name))
+-- The file that is to be written could not be, `out` was not asked, and the line names the file; or `out` took a front of what
+-- is printed, and its count rose.
+abbrev pub IsWriteEnding : Bool → List (List ℕ) → ShelfView → ShelfView → SinkView → SinkView → List ℕ → Type 0
+IsWriteEnding tells words before now out_before out_now said =
+    ((name : List ℕ) × AsksProgram words before.kept (λ plan p names second. IsUnwritten before now plan p names second name) × (out_now ≡ out_before)
+    × (said ≡ line (codes "cannot write " ++ name)))
+    ⊎ (IsPrintedInPart tells words before now out_before out_now × Rose out_before.faults out_now.faults × ((name : List ℕ) → now.writes name ≡ before.writes name)
+    × (said ≡ line (codes "cannot write")))
 
--- Why a call ends with a status: what is asked for was made, put and written; the source is no program; the words are not
--- taken; the meaning runs out of depth; chunks may run out; a file could not be read, or not be written; the second file is
--- none that the job accepts. Want of memory is free.
-abbrev pub IsEnding : Bool → List (List ℕ) → ShelfView → ShelfView → SinkView → SinkView → Status → Type 0
-IsEnding tells words before now out_before out_now Done = IsPrinted tells words before now out_before out_now
-IsEnding tells words before now out_before out_now Source = AsksSource words before.kept IsNoProgram
-IsEnding tells words before now out_before out_now Usage = asked words ≡ None
-IsEnding tells words before now out_before out_now Depth = AsksProgram words before.kept (HasNoValue Deep)
-IsEnding tells words before now out_before out_now Full = AsksProgram words before.kept (HasNoValue reason.Full)
-IsEnding tells words before now out_before out_now Memory = Unit {0}
-IsEnding tells words before now out_before out_now ReadFault = MatchOption (asked words) ⊥ (λ plan. (name : List ℕ) × FailsToRead before now plan name)
-IsEnding tells words before now out_before out_now WriteFault = IsWriteEnding tells words before now out_before out_now
-IsEnding tells words before now out_before out_now Input = AsksProgram words before.kept (λ plan p names second. Accepts plan.job p names second → ⊥)
+-- Why a call ends with a status, and the line that tells it: what is asked for was made, put and written; the source is no
+-- program, by this fault; the words are not taken; the meaning runs out of depth; chunks may run out; this file could not be read,
+-- or not be written; the second file is none that the job accepts, by this fault. Want of memory is free.
+abbrev pub IsEnding : Bool → List (List ℕ) → ShelfView → ShelfView → SinkView → SinkView → Status → List ℕ → Type 0
+IsEnding tells words before now out_before out_now Done said = IsPrinted tells words before now out_before out_now × (said ≡ [])
+IsEnding tells words before now out_before out_now Source said =
+    (fault : SourceFault) × AsksSource words before.kept (λ bytes. IsSourceFault bytes fault × IsNoProgram bytes) × (said ≡ line (source_text fault))
+IsEnding tells words before now out_before out_now Usage said = (asked words ≡ None) × (said ≡ line (codes "usage"))
+IsEnding tells words before now out_before out_now Depth said = AsksProgram words before.kept (HasNoValue Deep) × (said ≡ line (codes "depth"))
+IsEnding tells words before now out_before out_now Full said = AsksProgram words before.kept (HasNoValue reason.Full) × (said ≡ line (codes "chunks"))
+IsEnding tells words before now out_before out_now Memory said = said ≡ line (codes "memory")
+IsEnding tells words before now out_before out_now ReadFault said =
+    (name : List ℕ) × MatchOption (asked words) ⊥ (λ plan. FailsToRead before now plan name) × (said ≡ line (codes "cannot read " ++ name))
+IsEnding tells words before now out_before out_now WriteFault said = IsWriteEnding tells words before now out_before out_now said
+IsEnding tells words before now out_before out_now Input said =
+    (fault : InputFault) × AsksProgram words before.kept (λ plan p names second. Refuses plan.job p names second fault × (Accepts plan.job p names second → ⊥)) × (said ≡ line (input_text fault))
 
 -- Not the name of the file that the words ask to write.
 abbrev pub IsNoTarget : List (List ℕ) → List ℕ → Type 0
@@ -114,3 +124,11 @@ IsDue words before now out_before out_now Memory = ⊥
 IsDue words before now out_before out_now ReadFault = MatchOption (asked words) ⊥ (DueMissing before now)
 IsDue words before now out_before out_now WriteFault = ⊥
 IsDue words before now out_before out_now Input = MatchOption (asked words) ⊥ (λ plan. DueOfFiles before now plan (λ p names second. Accepts plan.job p names second → ⊥))
+
+-- The words ask for `run`: no other job uses chunks of region memory.
+abbrev pub AsksRun : List (List ℕ) → Type 0
+AsksRun words = MatchOption (asked words) ⊥ (λ plan. plan.job ≡ Run)
+
+-- The status is the one that is due; or memory ran out, or chunks of region memory did, in a run.
+abbrev pub IsDueOrScarce : List (List ℕ) → (due status : Status) → Type 0
+IsDueOrScarce words due status = (status ≡ due) ⊎ (status ≡ Memory) ⊎ ((status ≡ Full) × AsksRun words)

@@ -12,7 +12,9 @@ use Rattle.gib_value.specs.Reading.{IsRefusedAt}
 use Rattle.gib_syntax.specs.Tree.{ProgramTree}
 use Rattle.gib_syntax.specs.Declarations.{table_of_program, input_type}
 use Rattle.gib_app.specs.declared.input_fault.InputFault.{InputFault}
-use Rattle.gib_app.specs.declared.input_fault.InputFault.TheVariants.{Long, Magic, Version, Reserved, Length, Short, Tag, Truth, Trailing, Text}
+use Rattle.gib_app.specs.declared.input_fault.InputFault.TheVariants.{Long, Packed, Text}
+use Rattle.gib_app.specs.declared.input_fault.PackedFault.{PackedFault}
+use Rattle.gib_app.specs.declared.input_fault.PackedFault.TheVariants.{Header, Short, Tag, Truth, Trailing}
 use Rattle.gib_app.specs.Packing.{without_feed, IsTextLine}
 
 -- The header has no fault, and this is the first one that reading meets in the payload.
@@ -23,33 +25,21 @@ pub record IsPayloadFault (table : Table) (ty : Ty) (bytes : List ℕ) (fault : 
 
 -- The bytes are no packed file of a value of the type, whatever their number: the first fault of the header,
 -- else of the payload.
-abbrev pub IsFileFault : Table → Ty → List ℕ → InputFault → Type 0
-IsFileFault table ty bytes (Long most) = ⊥
-IsFileFault table ty bytes Magic = IsFirstFault bytes header.Magic
-IsFileFault table ty bytes (Version v) = IsFirstFault bytes (header.Version v)
-IsFileFault table ty bytes Reserved = IsFirstFault bytes header.Reserved
-IsFileFault table ty bytes Length = IsFirstFault bytes header.Length
+abbrev pub IsFileFault : Table → Ty → List ℕ → PackedFault → Type 0
+IsFileFault table ty bytes (Header fault) = IsFirstFault bytes fault
 IsFileFault table ty bytes (Short place) = IsPayloadFault table ty bytes (payload.Short place)
 IsFileFault table ty bytes (Tag place) = IsPayloadFault table ty bytes (payload.Tag place)
 IsFileFault table ty bytes (Truth place) = IsPayloadFault table ty bytes (payload.Truth place)
 IsFileFault table ty bytes (Trailing place) = IsPayloadFault table ty bytes (payload.Trailing place)
-IsFileFault table ty bytes (Text place) = ⊥
 
 -- The first fault of a packed file that is to be of the type of main's parameter.
-abbrev pub IsPackedFault : ProgramTree → List ℕ → InputFault → Type 0
+abbrev pub IsPackedFault : ProgramTree → List ℕ → PackedFault → Type 0
 IsPackedFault p bytes fault = (length bytes ≤ 16777216) × IsFileFault (table_of_program p) (input_type p) bytes fault
 
 -- The input of a run is refused for this fault: it has more than 16,777,216 bytes, or is no packed file.
 abbrev pub IsInputFault : ProgramTree → List ℕ → InputFault → Type 0
 IsInputFault p bytes (Long most) = (most ≡ 16777216) × (16777216 < length bytes)
-IsInputFault p bytes Magic = IsPackedFault p bytes Magic
-IsInputFault p bytes (Version v) = IsPackedFault p bytes (Version v)
-IsInputFault p bytes Reserved = IsPackedFault p bytes Reserved
-IsInputFault p bytes Length = IsPackedFault p bytes Length
-IsInputFault p bytes (Short place) = IsPackedFault p bytes (Short place)
-IsInputFault p bytes (Tag place) = IsPackedFault p bytes (Tag place)
-IsInputFault p bytes (Truth place) = IsPackedFault p bytes (Truth place)
-IsInputFault p bytes (Trailing place) = IsPackedFault p bytes (Trailing place)
+IsInputFault p bytes (Packed fault) = IsPackedFault p bytes fault
 IsInputFault p bytes (Text place) = ⊥
 
 -- The file has more than 268,435,480 bytes; or it begins as a packed file and has more than 16,777,216.
@@ -62,14 +52,8 @@ IsTooLong bytes most =
 -- is none.
 abbrev pub IsShowFault : ProgramTree → List ℕ → InputFault → Type 0
 IsShowFault p bytes (Long most) = IsTooLong bytes most
-IsShowFault p bytes Magic = (length bytes ≤ 268435480) × IsFirstFault bytes header.Magic
-IsShowFault p bytes (Version v) = IsPackedFault p bytes (Version v)
-IsShowFault p bytes Reserved = IsPackedFault p bytes Reserved
-IsShowFault p bytes Length = IsPackedFault p bytes Length
-IsShowFault p bytes (Short place) = IsPackedFault p bytes (Short place)
-IsShowFault p bytes (Tag place) = IsPackedFault p bytes (Tag place)
-IsShowFault p bytes (Truth place) = IsPackedFault p bytes (Truth place)
-IsShowFault p bytes (Trailing place) = IsPackedFault p bytes (Trailing place)
+IsShowFault p bytes (Packed (Header header.Magic)) = (length bytes ≤ 268435480) × IsFirstFault bytes header.Magic
+IsShowFault p bytes (Packed fault) = IsPackedFault p bytes fault
 IsShowFault p bytes (Text place) = ⊥
 
 -- The bytes are the text of a value whose packed file has more than 16,777,216 bytes.
@@ -84,12 +68,5 @@ pub record HasLongFile (p : ProgramTree) (names : List (List ℕ)) (bytes : List
 -- value, by the first token that cannot stand in one; or the packed file would have too many bytes.
 abbrev pub IsTextFault : ProgramTree → List (List ℕ) → List ℕ → InputFault → Type 0
 IsTextFault p names bytes (Long most) = (most ≡ 16777216) × ((16777216 < length bytes) ⊎ ((length bytes ≤ 16777216) × HasLongFile p names bytes))
-IsTextFault p names bytes Magic = ⊥
-IsTextFault p names bytes (Version v) = ⊥
-IsTextFault p names bytes Reserved = ⊥
-IsTextFault p names bytes Length = ⊥
-IsTextFault p names bytes (Short place) = ⊥
-IsTextFault p names bytes (Tag place) = ⊥
-IsTextFault p names bytes (Truth place) = ⊥
-IsTextFault p names bytes (Trailing place) = ⊥
+IsTextFault p names bytes (Packed fault) = ⊥
 IsTextFault p names bytes (Text place) = (length bytes ≤ 16777216) × IsRefusedAt (table_of_program p) names (input_type p) (without_feed bytes) place

@@ -9,14 +9,14 @@ use Rattle.gib_app.specs.declared.made.End.{End as KeptEnd}
 use Rattle.gib_app.specs.declared.made.End.TheVariants as ends
 use Rattle.gib_app.specs.declared.made.Made.{Made}
 use Rattle.gib_app.specs.declared.made.Valued.{Valued}
-use Rattle.gib_app.specs.Plan.{Document, Brought, Named, Plan}
+use Rattle.gib_app.specs.Plan.{Document, BuiltIn, Named, Plan}
 use Rattle.gib_app.specs.Jobs.{End, Prints, NoValue}
 use Rattle.gib_app.specs.MachineRun.{StandsMeant, cells_of}
 use Rattle.gib_app.specs.Running.{text_line}
 
 -- The document.
 abbrev pub document_of : KeptDocument → Document
-document_of (document.Brought bytes) = Brought bytes.now
+document_of (document.BuiltIn bytes) = BuiltIn bytes.now
 document_of (document.Named name) = Named name.now
 
 -- The plan.

@@ -5,8 +5,6 @@ pub mod Running
 pub mod Packing
 pub mod Cores
 pub mod Jobs
-pub mod MachineRun
-pub mod Kept
 pub mod SourceFaults
 pub mod InputFaults
 pub mod Formats
@@ -16,6 +14,8 @@ pub mod Lines
 pub mod Ending
 pub mod Codes
 pub mod Stops
+pub mod MachineRun
+pub mod Kept
 pub mod PassFaults
 pub mod Stopping
 pub mod Performing

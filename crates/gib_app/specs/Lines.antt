@@ -1,20 +1,21 @@
--- The line that a call puts for each status but `Done`.
-use Rattle.std.specs.Prelude.{◌≡◌, ◌≤◌, ℕ, ◌⊎◌, List, [], ◌∷◌, ◌++◌, codes, MatchOption}
+-- What the line of a call says.
+use Rattle.std.specs.Prelude.{ℕ, ◌≤◌, List, [], ◌∷◌, ◌++◌, codes}
 use Rattle.std.specs.Fmt.{decimal}
 use Rattle.gib_edge.specs.Causes.{Rose, Appends, AppendsPart}
-use Rattle.gib_edge.specs.Views.{ShelfView, SinkView}
+use Rattle.gib_edge.specs.Views.{SinkView}
 use Rattle.gib_check.specs.declared.fault.Kind.{Kind}
 use Rattle.gib_check.specs.declared.fault.Kind.TheVariants as rule
+use Rattle.gib_file.specs.declared.fault.HeadFault.{HeadFault}
+use Rattle.gib_file.specs.declared.fault.HeadFault.TheVariants as header
+use Rattle.gib_app.specs.declared.answer.Detail.{Detail}
+use Rattle.gib_app.specs.declared.answer.Detail.TheVariants.{Nothing, Number, Bytes, Name}
+use Rattle.gib_app.specs.declared.answer.Said.{Said}
 use Rattle.gib_app.specs.declared.source_fault.SourceFault.{SourceFault}
 use Rattle.gib_app.specs.declared.source_fault.SourceFault.TheVariants as source
 use Rattle.gib_app.specs.declared.input_fault.InputFault.{InputFault}
 use Rattle.gib_app.specs.declared.input_fault.InputFault.TheVariants as input
-use Rattle.gib_app.specs.declared.status.Status.{Status}
-use Rattle.gib_app.specs.declared.status.Status.TheVariants.{Done, Source, Usage, Depth, Full, Memory, ReadFault, WriteFault, Input}
-use Rattle.gib_app.specs.Words.{asked}
-use Rattle.gib_app.specs.Formats.{Refuses}
-use Rattle.gib_app.specs.Causes.{AsksSource, AsksProgram, FailsToRead, IsUnwritten}
-use Rattle.gib_app.specs.SourceFaults.{IsSourceFault}
+use Rattle.gib_app.specs.declared.input_fault.PackedFault.{PackedFault}
+use Rattle.gib_app.specs.declared.input_fault.PackedFault.TheVariants as packed
 
 -- A line: `gib: `, what is said, and a line feed.
 abbrev pub line : List ℕ → List ℕ
@@ -45,48 +46,34 @@ source_text (source.Syntax place) = codes "source: syntax at " ++ decimal place
 source_text (source.Nested place) = codes "source: nested too deep at " ++ decimal place
 source_text (source.Broken kind place) = codes "source: " ++ rule_text kind ++ decimal place
 
+-- What is said of the header of a packed file.
+abbrev pub header_text : HeadFault → List ℕ
+header_text header.Magic = codes "not a packed file"
+header_text (header.Version v) = codes "version " ++ decimal v
+header_text header.Reserved = codes "reserved bytes"
+header_text header.Length = codes "wrong length"
+
+-- What is said of a file that is no packed one.
+abbrev pub packed_text : PackedFault → List ℕ
+packed_text (packed.Header fault) = header_text fault
+packed_text (packed.Short place) = codes "short at " ++ decimal place
+packed_text (packed.Tag place) = codes "bad tag at " ++ decimal place
+packed_text (packed.Truth place) = codes "bad truth value at " ++ decimal place
+packed_text (packed.Trailing place) = codes "trailing bytes at " ++ decimal place
+
 -- What is said of a second file that is refused.
 abbrev pub input_text : InputFault → List ℕ
 input_text (input.Long most) = codes "input: longer than " ++ decimal most ++ codes " bytes"
-input_text input.Magic = codes "input: not a packed file"
-input_text (input.Version v) = codes "input: version " ++ decimal v
-input_text input.Reserved = codes "input: reserved bytes"
-input_text input.Length = codes "input: wrong length"
-input_text (input.Short place) = codes "input: short at " ++ decimal place
-input_text (input.Tag place) = codes "input: bad tag at " ++ decimal place
-input_text (input.Truth place) = codes "input: bad truth value at " ++ decimal place
-input_text (input.Trailing place) = codes "input: trailing bytes at " ++ decimal place
+input_text (input.Packed fault) = codes "input: " ++ packed_text fault
 input_text (input.Text place) = codes "input: bad text at " ++ decimal place
 
--- The line tells the fault of the source.
-abbrev pub TellsSource : List (List ℕ) → ShelfView → List ℕ → Type 0
-TellsSource words before said = (fault : SourceFault) × AsksSource words before.kept (λ bytes. IsSourceFault bytes fault) × (said ≡ line (source_text fault))
+-- Words, and what stands behind them.
+abbrev pub with_detail : List ℕ → Detail → List ℕ
+with_detail words Nothing = words
+with_detail words (Number n) = words ++ decimal n
+with_detail words (Bytes n) = words ++ (decimal n ++ codes " bytes")
+with_detail words (Name name) = words ++ name.now
 
--- The line tells the fault of the second file.
-abbrev pub TellsInput : List (List ℕ) → ShelfView → List ℕ → Type 0
-TellsInput words before said =
-    (fault : InputFault) × AsksProgram words before.kept (λ plan p names second. Refuses plan.job p names second fault) × (said ≡ line (input_text fault))
-
--- The line names the file that could not be read.
-abbrev pub TellsUnread : List (List ℕ) → ShelfView → ShelfView → List ℕ → Type 0
-TellsUnread words before now said =
-    MatchOption (asked words) ⊥ (λ plan. (name : List ℕ) × FailsToRead before now plan name × (said ≡ line (codes "cannot read " ++ name)))
-
--- The line names the file that could not be written; or it names none, and the count of `out` rose.
-abbrev pub TellsUnwritten : List (List ℕ) → ShelfView → ShelfView → SinkView → SinkView → List ℕ → Type 0
-TellsUnwritten words before now out_before out_now said =
-    ((name : List ℕ) × AsksProgram words before.kept (λ plan p names second. IsUnwritten before now plan p names second name)
-    × (said ≡ line (codes "cannot write " ++ name)))
-    ⊎ (Rose out_before.faults out_now.faults × (said ≡ line (codes "cannot write")))
-
--- The line of a status.
-abbrev pub IsLine : List (List ℕ) → ShelfView → ShelfView → SinkView → SinkView → Status → List ℕ → Type 0
-IsLine words before now out_before out_now Done said = said ≡ []
-IsLine words before now out_before out_now Source said = TellsSource words before said
-IsLine words before now out_before out_now Usage said = said ≡ line (codes "usage")
-IsLine words before now out_before out_now Depth said = said ≡ line (codes "depth")
-IsLine words before now out_before out_now Full said = said ≡ line (codes "chunks")
-IsLine words before now out_before out_now Memory said = said ≡ line (codes "memory")
-IsLine words before now out_before out_now ReadFault said = TellsUnread words before now said
-IsLine words before now out_before out_now WriteFault said = TellsUnwritten words before now out_before out_now said
-IsLine words before now out_before out_now Input said = TellsInput words before said
+-- What the code keeps of what is said.
+abbrev pub said_text : Said → List ℕ
+said_text said = with_detail said.words.now said.detail

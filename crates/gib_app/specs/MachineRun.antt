@@ -16,11 +16,13 @@ use Rattle.gib_core.specs.LoweredParts.{LoweredParts}
 use Rattle.gib_core.specs.Meaning.{core_run}
 use Rattle.gib_core.specs.Parts.{core_of}
 use Rattle.gib_core.specs.Tight.{Tight}
-use Rattle.gib_app.specs.declared.machine_run.RunStop.{RunStop}
-use Rattle.gib_app.specs.declared.machine_run.RunStop.TheVariants as stop
+use Rattle.gib_app.specs.declared.made.Reason.{Reason}
+use Rattle.gib_app.specs.declared.made.Reason.TheVariants as reason
+use Rattle.gib_app.specs.declared.stop.Stop.{Stop}
 use Rattle.gib_app.specs.Cores.{core_after}
 use Rattle.gib_app.specs.InputFaults.{IsInputFault}
 use Rattle.gib_app.specs.Running.{IsInput, RunsOut, FillsUp}
+use Rattle.gib_app.specs.Stops.{StopsBy}
 
 -- The bytes of a memory.
 abbrev pub cells_of : PlainMem → Store
@@ -39,12 +41,15 @@ pub record StandsMeant (p : ProgramTree) (depth : ℕ) (input : List ℕ) (laid 
 abbrev pub program_cost : ProgramTree → (depth : ℕ) → Datum → Cost
 program_cost p depth v = run_cost (core_after 3 p) depth 0 v
 
+-- Why a program has no value on an input: its meaning runs out of depth, or so many chunks may not be enough.
+abbrev pub LacksValue : ProgramTree → (depth chunks : ℕ) → (input : List ℕ) → Reason → Type 0
+LacksValue p depth chunks input reason.Deep = RunsOut p depth input
+LacksValue p depth chunks input reason.Full = FillsUp p depth chunks input
+
 -- Why a run leaves no root.
-abbrev pub IsMachineStop : ProgramTree → (depth chunks : ℕ) → (input : List ℕ) → RunStop → Type 0
-IsMachineStop p depth chunks input stop.Memory = Unit {0}
-IsMachineStop p depth chunks input (stop.Refused fault) = IsInputFault p input fault × (((v : Datum) × IsInput p v input) → ⊥)
-IsMachineStop p depth chunks input stop.Deep = RunsOut p depth input
-IsMachineStop p depth chunks input stop.Full = FillsUp p depth chunks input
+abbrev pub IsMachineStop : ProgramTree → (depth chunks : ℕ) → (input : List ℕ) → Stop → Type 0
+IsMachineStop p depth chunks input =
+    StopsBy (λ fault. ⊥) (λ name. ⊥) (λ fault. IsInputFault p input fault × (((v : Datum) × IsInput p v input) → ⊥)) (LacksValue p depth chunks input) (λ name. ⊥)
 
 -- A value was owed, and in region memory it stands for the root.
 pub record IsRootOf (laid : LaidOut) (s : Store) (ty : Ty) (owed : Outcome) (place : Root) : Type 0 where
@@ -52,16 +57,18 @@ pub record IsRootOf (laid : LaidOut) (s : Store) (ty : Ty) (owed : Outcome) (pla
   pub means : owed ≡ Gives result
   pub stands : Stands laid s place ty result
 
+-- Why there is no value, where this outcome was owed, and the run costs so much at most.
+abbrev pub Lacks : Outcome → (chunks : ℕ) → Cost → Reason → Type 0
+Lacks owed chunks most reason.Deep = owed ≡ Stops Deep
+Lacks owed chunks most reason.Full = Tight chunks most
+
 -- Why a run leaves no root, where this outcome was owed, and the run costs so much at most.
-abbrev pub Halts : Outcome → (chunks : ℕ) → Cost → RunStop → Type 0
-Halts owed chunks most stop.Memory = Unit {0}
-Halts owed chunks most (stop.Refused fault) = ⊥
-Halts owed chunks most stop.Deep = owed ≡ Stops Deep
-Halts owed chunks most stop.Full = Tight chunks most
+abbrev pub Halts : Outcome → (chunks : ℕ) → Cost → Stop → Type 0
+Halts owed chunks most = StopsBy (λ fault. ⊥) (λ name. ⊥) (λ fault. ⊥) (Lacks owed chunks most) (λ name. ⊥)
 
 -- How a run of code on a value ends, where there are so many chunks: with a root in region memory for what its core means, or
 -- with why there is none.
-abbrev pub EndsWith : LoweredParts → (depth chunks : ℕ) → Datum → Store → Result Root RunStop → Type 0
+abbrev pub EndsWith : LoweredParts → (depth chunks : ℕ) → Datum → Store → Result Root Stop → Type 0
 EndsWith l depth chunks v s end =
     MatchResult end (IsRootOf l.code.laid s (core_of l.core).main.result (core_run (core_of l.core) depth v))
     (Halts (core_run (core_of l.core) depth v) chunks (run_cost (core_of l.core) depth 0 v))

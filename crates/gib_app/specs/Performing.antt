@@ -12,7 +12,7 @@ use Rattle.gib_app.specs.Jobs.{Does}
 use Rattle.gib_app.specs.Kept.{EndsBy}
 use Rattle.gib_app.specs.Causes.{IsWritten, IsPrintedInPart}
 use Rattle.gib_app.specs.Stops.{StopsBy, IsStop, OnBoth}
-use Rattle.gib_app.specs.Stopping.{status_for}
+use Rattle.gib_app.specs.Stopping.{answer_for}
 
 -- Why the file that a job made is not written.
 abbrev pub IsWriteStop : ShelfView → ShelfView → Plan → Option (List ℕ) → Stop → Type 0
@@ -36,7 +36,7 @@ OthersStay plan before now = (name : List ℕ) → (plan.target ≡ Some name �
 
 -- What names hold stays, but where a file could not be written, or was written before.
 abbrev pub StopFiles : Files → Files → Stop → Type 0
-StopFiles before now stop = status_for stop ≢ WriteFault → (name : List ℕ) → now name ≡ before name
+StopFiles before now stop = (answer_for stop).status ≢ WriteFault → (name : List ℕ) → now name ≡ before name
 
 -- Why a call stops.
 abbrev pub IsCallStop : Bool → List (List ℕ) → ShelfView → ShelfView → SinkView → SinkView → Stop → Type 0

@@ -4,9 +4,9 @@ use Rattle.gib_edge.specs.Views.{Held, Has}
 use Rattle.gib_app.specs.declared.plan.Job.{Job}
 use Rattle.gib_app.specs.declared.plan.Options.{Options}
 
--- Where bytes come from: the product brings them with it, or they stand in a file by its name.
+-- Where bytes come from: they are part of the product, or stand in a file by its name.
 pub data Document : Type 0 where
-  Brought : List ℕ → Document
+  BuiltIn : List ℕ → Document
   Named : List ℕ → Document
 
 -- The source is read, then the second file, where there is one; a job is done with them; the file that it makes is
@@ -24,5 +24,5 @@ Files = List ℕ → Held
 
 -- What a document holds.
 abbrev pub bytes_in : Files → Document → Held
-bytes_in kept (Brought bytes) = Has bytes
+bytes_in kept (BuiltIn bytes) = Has bytes
 bytes_in kept (Named name) = kept name

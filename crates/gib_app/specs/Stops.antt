@@ -1,23 +1,19 @@
 -- What the parts of a call answer, and why they stop.
-use Rattle.std.specs.Prelude.{◌≡◌, ◌<◌, ℕ, List, length}
+use Rattle.std.specs.Prelude.{◌≡◌, ◌<◌, ℕ, List, length, Option, Some, None}
 use Rattle.gib_base.specs.Lexed.{Lexed}
 use Rattle.gib_types.specs.declared.table.Ty.{Ty}
 use Rattle.gib_types.specs.Table.{Table}
 use Rattle.gib_types.specs.Tree.{Datum}
+use Rattle.gib_file.specs.Framed.{File}
 use Rattle.gib_value.specs.Text.{AreHeld}
 use Rattle.gib_value.specs.Reading.{AreWords}
 use Rattle.gib_syntax.specs.Tree.{ProgramTree}
 use Rattle.gib_syntax.specs.Spelling.{IsFineProgram}
 use Rattle.gib_syntax.specs.Declarations.{table_of_program}
 use Rattle.gib_edge.specs.Views.{ShelfView}
-use Rattle.gib_app.specs.declared.compile.CompileFault.{CompileFault}
-use Rattle.gib_app.specs.declared.compile.CompileFault.TheVariants as compile
-use Rattle.gib_app.specs.declared.documents.DocumentFault.{DocumentFault}
-use Rattle.gib_app.specs.declared.documents.DocumentFault.TheVariants as document
 use Rattle.gib_app.specs.declared.input_fault.InputFault.{InputFault}
 use Rattle.gib_app.specs.declared.input_fault.InputFault.TheVariants as input
-use Rattle.gib_app.specs.declared.made.JobFault.{JobFault}
-use Rattle.gib_app.specs.declared.made.JobFault.TheVariants as job
+use Rattle.gib_app.specs.declared.input_fault.PackedFault.{PackedFault}
 use Rattle.gib_app.specs.declared.made.Reason.{Reason}
 use Rattle.gib_app.specs.declared.plan.Job.{Job}
 use Rattle.gib_app.specs.declared.source_fault.SourceFault.{SourceFault}
@@ -29,7 +25,7 @@ use Rattle.gib_app.specs.Packing.{IsPackedText}
 use Rattle.gib_app.specs.SourceFaults.{IsSourceFault}
 use Rattle.gib_app.specs.InputFaults.{IsFileFault, IsInputFault, IsShowFault, IsTextFault}
 use Rattle.gib_app.specs.Formats.{second_of, most_of, Accepts, Refuses}
-use Rattle.gib_app.specs.Causes.{Counts, HoldsSecond, OnSource, OnFiles, OnProgram, HasNoValue, IsUnread, IsSecondUnread, FailsToRead, IsUnwritten}
+use Rattle.gib_app.specs.Causes.{HoldsSecond, OnSource, OnFiles, OnProgram, HasNoValue, IsUnread, IsSecondUnread, FailsToRead, IsUnwritten}
 
 -- The source spells this program with these names, and it is typed.
 pub record IsCompiled (source : List ℕ) (p : ProgramTree) (names : List (List ℕ)) : Type 0 where
@@ -44,22 +40,10 @@ pub record IsReady (p : ProgramTree) (names : List (List ℕ)) : Type 0 where
   pub held : AreHeld (table_of_program p) names
   pub words : AreWords (table_of_program p) names
 
--- Why a source is not compiled.
-abbrev pub IsCompileFault : List ℕ → CompileFault → Type 0
-IsCompileFault source compile.Memory = Unit {0}
-IsCompileFault source (compile.Refused fault) = IsSourceFault source fault × IsNoProgram source
-
--- Why the bytes of a document are not read: they are more than so many, or the count of its file rose.
-abbrev pub IsDocumentFault : ShelfView → ShelfView → Document → ℕ → DocumentFault → Type 0
-IsDocumentFault before now d most document.Memory = Unit {0}
-IsDocumentFault before now d most document.Long = OnSource before.kept d (λ bytes. most < length bytes)
-IsDocumentFault before now d most (document.Unread name) = IsUnread before now d name.now
-
--- Counts of reads stay, but where a file could not be read.
-abbrev pub DocumentReads : Counts → Counts → DocumentFault → Type 0
-DocumentReads before now document.Memory = (name : List ℕ) → now name ≡ before name
-DocumentReads before now document.Long = (name : List ℕ) → now name ≡ before name
-DocumentReads before now (document.Unread file) = Unit {0}
+-- Why there is no value, where that is the stop.
+abbrev pub reason_of : Stop → Option Reason
+reason_of (NoValue reason) = Some reason
+reason_of _ = None
 
 -- Why a call stops: a source that is no program, a file that is not read, a second file that is refused, a job without a value,
 -- a file that is not written. Want of memory is free.
@@ -72,6 +56,14 @@ StopsBy source unread input novalue unwritten (NoValue reason) = novalue reason
 StopsBy source unread input novalue unwritten Memory = Unit {0}
 StopsBy source unread input novalue unwritten (Unwritten name) = unwritten name.now
 StopsBy source unread input novalue unwritten Unput = ⊥
+
+-- Why a source is not compiled.
+abbrev pub IsCompileStop : List ℕ → Stop → Type 0
+IsCompileStop source = StopsBy (λ fault. IsSourceFault source fault × IsNoProgram source) (λ name. ⊥) (λ fault. ⊥) (λ reason. ⊥) (λ name. ⊥)
+
+-- Why the bytes of a document are not read: the count of its file rose.
+abbrev pub IsReadStop : ShelfView → ShelfView → Document → Stop → Type 0
+IsReadStop before now d = StopsBy (λ fault. ⊥) (λ name. IsUnread before now d name) (λ fault. ⊥) (λ reason. ⊥) (λ name. ⊥)
 
 -- Why no program comes of a source.
 abbrev pub IsSourceStop : ShelfView → ShelfView → Document → Stop → Type 0
@@ -89,30 +81,35 @@ pub record IsLongSecond (before : ShelfView) (plan : Plan) (fault : InputFault) 
 abbrev pub IsSecondStop : ShelfView → ShelfView → Plan → Stop → Type 0
 IsSecondStop before now plan = StopsBy (λ fault. ⊥) (λ name. IsSecondUnread before now (second_of plan) name) (IsLongSecond before plan) (λ reason. ⊥) (λ name. ⊥)
 
--- Why nothing is made of a second file: it is refused so. Want of memory is free.
-abbrev pub IsJobFault : (InputFault → Type 0) → JobFault → Type 0
-IsJobFault refused job.Memory = Unit {0}
-IsJobFault refused (job.Refused fault) = refused fault
+-- Why nothing is made of a second file: it is refused so.
+abbrev pub IsRefusal : (InputFault → Type 0) → Stop → Type 0
+IsRefusal refused = StopsBy (λ fault. ⊥) (λ name. ⊥) refused (λ reason. ⊥) (λ name. ⊥)
 
--- Why a file is not read as a packed one.
-abbrev pub IsPackedStop : Table → Ty → List ℕ → JobFault → Type 0
-IsPackedStop table ty bytes = IsJobFault (IsFileFault table ty bytes)
+-- The fault is that of a packed file, of which this holds.
+abbrev pub IsPacked : (PackedFault → Type 0) → InputFault → Type 0
+IsPacked P (input.Long most) = ⊥
+IsPacked P (input.Packed fault) = P fault
+IsPacked P (input.Text place) = ⊥
+
+-- Why a file is not read as a packed one: it is that of no value.
+abbrev pub IsPackedStop : Table → Ty → List ℕ → Stop → Type 0
+IsPackedStop table ty bytes = IsRefusal (IsPacked (λ fault. IsFileFault table ty bytes fault × ((v : Datum) → File table ty v bytes → ⊥)))
 
 -- Why a program is not run on an input.
-abbrev pub IsRunFault : ProgramTree → List ℕ → JobFault → Type 0
-IsRunFault p input = IsJobFault (λ fault. IsInputFault p input fault × (((v : Datum) × IsInput p v input) → ⊥))
+abbrev pub IsRunStop : ProgramTree → List ℕ → Stop → Type 0
+IsRunStop p input = IsRefusal (λ fault. IsInputFault p input fault × (((v : Datum) × IsInput p v input) → ⊥))
 
 -- Why a file is not shown.
-abbrev pub IsShownFault : ProgramTree → List ℕ → JobFault → Type 0
-IsShownFault p file = IsJobFault (λ fault. IsShowFault p file fault × (((v : Datum) × IsInput p v file) → ⊥))
+abbrev pub IsShowStop : ProgramTree → List ℕ → Stop → Type 0
+IsShowStop p file = IsRefusal (λ fault. IsShowFault p file fault × (((v : Datum) × IsInput p v file) → ⊥))
 
 -- Why a text is not packed.
-abbrev pub IsPackFault : ProgramTree → List (List ℕ) → List ℕ → JobFault → Type 0
-IsPackFault p names bytes = IsJobFault (λ fault. IsTextFault p names bytes fault × (((file : List ℕ) × IsPackedText p names bytes file) → ⊥))
+abbrev pub IsPackStop : ProgramTree → List (List ℕ) → List ℕ → Stop → Type 0
+IsPackStop p names bytes = IsRefusal (λ fault. IsTextFault p names bytes fault × (((file : List ℕ) × IsPackedText p names bytes file) → ⊥))
 
 -- Why a job makes nothing, for this program, of the bytes of the second file.
-abbrev pub FailsTo : Job → ProgramTree → List (List ℕ) → List ℕ → JobFault → Type 0
-FailsTo job p names second = IsJobFault (λ fault. Refuses job p names second fault × (Accepts job p names second → ⊥))
+abbrev pub FailsTo : Job → ProgramTree → List (List ℕ) → List ℕ → Stop → Type 0
+FailsTo job p names second = IsRefusal (λ fault. Refuses job p names second fault × (Accepts job p names second → ⊥))
 
 -- The source is a program, of which this holds with its names and the bytes of the second file.
 abbrev pub OnBoth : Files → Plan → (ProgramTree → List (List ℕ) → List ℕ → Type 0) → Type 0

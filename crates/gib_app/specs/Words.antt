@@ -15,7 +15,7 @@ use Rattle.clap.specs.declared.builder.value_parser.ValueParser.TheVariants.{Uns
 use Rattle.gib_app.specs.declared.plan.Job.{Job}
 use Rattle.gib_app.specs.declared.plan.Job.TheVariants.{Run, Plain, Check, Core, Code, Pack, Show}
 use Rattle.gib_app.specs.declared.plan.Options.{Options}
-use Rattle.gib_app.specs.Plan.{Document, Brought, Named, Plan}
+use Rattle.gib_app.specs.Plan.{Document, BuiltIn, Named, Plan}
 use Rattle.gib_app.specs.Sample.{sample_source, sample_input}
 
 -- The bytes of the words.
@@ -167,7 +167,7 @@ command_set = fold (λ app form. with_subcommand app (app_for form).top) bare_pr
 
 -- The product's own program on its own input.
 abbrev pub sample : Plan
-sample = record { source = Brought sample_source; second = Some (Brought sample_input); target = None; job = Run; options = usual }
+sample = record { source = BuiltIn sample_source; second = Some (BuiltIn sample_input); target = None; job = Run; options = usual }
 
 -- Whether words are taken, the program's name first: at most one, or those that clap takes.
 abbrev pub taken : List Text → Bool

@@ -5,10 +5,11 @@ ghost use Rattle.gib_base.specs.Lexed.{Lexed};
 ghost use Rattle.gib_syntax.specs.Tree.{ProgramTree};
 ghost use Rattle.gib_syntax.specs.Parts.{program_of};
 ghost use Rattle.gib_app.specs.Running.{IsProgram};
-ghost use Rattle.gib_app.specs.Stops.{IsCompiled, IsReady, IsCompileFault};
-ghost use Rattle.gib_app.specs.PassFaults.{lex_fault, parse_fault, check_fault};
+ghost use Rattle.gib_app.specs.Stops.{IsCompiled, IsReady, IsCompileStop};
+ghost use Rattle.gib_app.specs.PassFaults.{lex_stop, parse_stop, check_stop};
 
 use crate::source_fault::SourceFault;
+use crate::stop::Stop;
 use gib_base::Names;
 use gib_check::laws::faults_are_exact;
 use gib_check::{TypeFault, Typed, check};
@@ -18,14 +19,6 @@ use gib_parse::law::{one_program, program_is_read};
 use gib_parse::{ParseFault, parse};
 use std::alloc::Global;
 
-/// Why a source is not compiled.
-#[derive(Clone, Copy, Debug, PartialEq, Eq)]
-pub enum CompileFault {
-    Memory,
-    /// It is no program.
-    Refused(SourceFault),
-}
-
 /// A typed program, and the names of its source.
 #[derive(Drop)]
 pub struct Compiled {
@@ -33,38 +26,38 @@ pub struct Compiled {
     pub names: Names,
 }
 
-/// The fault of a text without tokens.
-fn of_lexing(fault: LexFault) -> CompileFault
-    ensures { result ≡ lex_fault fault }
+/// Why a call stops at a text without tokens.
+fn of_lexing(fault: LexFault) -> Stop<'static>
+    ensures { result ≡ lex_stop fault }
 {
     match fault {
-        LexFault::Memory => CompileFault::Memory,
-        LexFault::Long => CompileFault::Refused(SourceFault::Long),
-        LexFault::At(place) => CompileFault::Refused(SourceFault::BadCharacter(place)),
-        LexFault::Big(place) => CompileFault::Refused(SourceFault::BigNumber(place)),
-        LexFault::Many => CompileFault::Refused(SourceFault::ManyNames),
+        LexFault::Memory => Stop::Memory,
+        LexFault::Long => Stop::Source(SourceFault::Long),
+        LexFault::At(place) => Stop::Source(SourceFault::BadCharacter(place)),
+        LexFault::Big(place) => Stop::Source(SourceFault::BigNumber(place)),
+        LexFault::Many => Stop::Source(SourceFault::ManyNames),
     }
 }
 
-/// The fault of tokens that are no program.
-fn of_parsing(fault: ParseFault) -> CompileFault
-    ensures { result ≡ parse_fault fault }
+/// Why it stops at tokens that are no program.
+fn of_parsing(fault: ParseFault) -> Stop<'static>
+    ensures { result ≡ parse_stop fault }
 {
     match fault {
-        ParseFault::Memory => CompileFault::Memory,
-        ParseFault::At(place) => CompileFault::Refused(SourceFault::Syntax(place)),
-        ParseFault::Nested(place) => CompileFault::Refused(SourceFault::Nested(place)),
+        ParseFault::Memory => Stop::Memory,
+        ParseFault::At(place) => Stop::Source(SourceFault::Syntax(place)),
+        ParseFault::Nested(place) => Stop::Source(SourceFault::Nested(place)),
     }
 }
 
-/// The fault of a program that is not typed.
-fn of_checking(fault: TypeFault) -> CompileFault
-    ensures { result ≡ check_fault fault }
+/// Why it stops at a program that is not typed.
+fn of_checking(fault: TypeFault) -> Stop<'static>
+    ensures { result ≡ check_stop fault }
 {
     match fault {
-        TypeFault::Memory => CompileFault::Memory,
+        TypeFault::Memory => Stop::Memory,
         TypeFault::Broken(fault) => {
-            CompileFault::Refused(SourceFault::Broken(fault.kind, fault.span.start))
+            Stop::Source(SourceFault::Broken(fault.kind, fault.span.start))
         }
     }
 }
@@ -73,13 +66,13 @@ fn of_checking(fault: TypeFault) -> CompileFault
 ///
 /// # Errors
 ///
-/// The first fault of the source, in the order of lexing, parsing and typing.
-pub fn compile(alloc: Global, source: &[u8]) -> Result<Compiled, CompileFault>
+/// `Source` with the first fault, in the order of lexing, parsing and typing; `Memory`.
+pub fn compile(alloc: Global, source: &[u8]) -> Result<Compiled, Stop<'static>>
     ensures compiled { IfOk result (λ c. IsCompiled source.now (program_of c.typed) c.names) }
     ensures ready { IfOk result (λ c. IsReady (program_of c.typed) c.names) }
-    ensures refused { IfErr result (IsCompileFault source.now) }
+    ensures refused { IfErr result (IsCompileStop source.now) }
     ensures only { (l : Lexed) (p : ProgramTree) → IsProgram source.now l p
-        → MatchResult result (λ c. (program_of c.typed ≡ p) × (c.names ≡ l.names)) (λ fault. fault ≡ CompileFault.Memory) }
+        → MatchResult result (λ c. (program_of c.typed ≡ p) × (c.names ≡ l.names)) (λ stop. stop ≡ Stop.Memory) }
 {
     one_reading();
     one_refusal();

@@ -5,36 +5,41 @@ ghost use Rattle.gib_edge.specs.Views.{ShelfView, SinkView};
 ghost use Rattle.gib_app.specs.declared.plan.Options.{Options as OptionValues};
 ghost use Rattle.gib_app.specs.declared.status.Status.{Status as Statuses};
 ghost use Rattle.gib_app.specs.Ending.{IsEnding};
-ghost use Rattle.gib_app.specs.Headline.{IsRun, IsResult, IsTooDeep, IsTooBig, NoneFailed};
+ghost use Rattle.gib_app.specs.Headline.{IsRun, Given, IsResult, IsTooDeep, IsTooBig, NoneFailed};
 
 use crate::status::Status;
 use gib_file::one_file;
 use gib_lex::laws::one_reading;
 use gib_parse::law::one_program;
 
-/// What is promised of a call whose words ask for `run`, by how it ends: `IsEnding` is the clause `cause` of `gib`,
-/// on what the shelf and `out` tell before and after the call.
+/// What is promised of a call whose words ask for `run`, by how it ends: `IsEnding` stands in the clause `ends` of `gib`,
+/// on what the shelf and `out` tell before and after the call, and the line that is said.
 pub fn run_prints_what_is_meant()
     // Status 0: the files are those of a program and of a packed value, and exactly the text of the value that the program
     // means on it within the depth, with a line feed, was put.
-    ensures done { (tells : Bool) (words : List (List ℕ)) (before now : ShelfView) (out out_now : SinkView) (source input : List ℕ) (options : OptionValues) (front : List ℕ)
-        → IsRun words before out source input options front → IsEnding tells words before now out out_now Status.Done
+    ensures done { (tells : Bool) (words : List (List ℕ)) (before now : ShelfView) (out out_now : SinkView) (source input : List ℕ) (options : OptionValues) (front said : List ℕ)
+        → IsRun words before out source input options front → IsEnding tells words before now out out_now Status.Done said
         → (output : List ℕ) × IsResult source input options.depth output × (out_now.taken ≡ Some (front ++ output)) }
     // Status 3: the meaning runs out of depth.
-    ensures deep { (tells : Bool) (words : List (List ℕ)) (before now : ShelfView) (out out_now : SinkView) (source input : List ℕ) (options : OptionValues) (front : List ℕ)
-        → IsRun words before out source input options front → IsEnding tells words before now out out_now Status.Depth → IsTooDeep source input options.depth }
+    ensures deep { (tells : Bool) (words : List (List ℕ)) (before now : ShelfView) (out out_now : SinkView) (source input : List ℕ) (options : OptionValues) (front said : List ℕ)
+        → IsRun words before out source input options front → IsEnding tells words before now out out_now Status.Depth said → IsTooDeep source input options.depth }
     // Status 4: the chunks of memory may not be enough for what the run costs.
-    ensures full { (tells : Bool) (words : List (List ℕ)) (before now : ShelfView) (out out_now : SinkView) (source input : List ℕ) (options : OptionValues) (front : List ℕ)
-        → IsRun words before out source input options front → IsEnding tells words before now out out_now Status.Full → IsTooBig source input options.depth options.chunks }
+    ensures full { (tells : Bool) (words : List (List ℕ)) (before now : ShelfView) (out out_now : SinkView) (source input : List ℕ) (options : OptionValues) (front said : List ℕ)
+        → IsRun words before out source input options front → IsEnding tells words before now out out_now Status.Full said → IsTooBig source input options.depth options.chunks }
 
     // The other way round: where the program means a value, the status is 0 and no other, and where its meaning runs out of
     // depth it is 3; unless memory or its chunks run out, or a file or `out` failed.
-    ensures ends_done { (tells : Bool) (words : List (List ℕ)) (before now : ShelfView) (out out_now : SinkView) (source input : List ℕ) (options : OptionValues) (front output : List ℕ) (status : Statuses)
+    ensures ends_done { (tells : Bool) (words : List (List ℕ)) (before now : ShelfView) (out out_now : SinkView) (source input : List ℕ) (options : OptionValues) (front output said : List ℕ) (status : Statuses)
         → (r : IsRun words before out source input options front) → NoneFailed r.program r.packed before now out out_now → IsResult source input options.depth output
-        → IsEnding tells words before now out out_now status → (status ≡ Status.Done) ⊎ (status ≡ Status.Memory) ⊎ (status ≡ Status.Full) }
-    ensures ends_deep { (tells : Bool) (words : List (List ℕ)) (before now : ShelfView) (out out_now : SinkView) (source input : List ℕ) (options : OptionValues) (front : List ℕ) (status : Statuses)
+        → IsEnding tells words before now out out_now status said → (status ≡ Status.Done) ⊎ (status ≡ Status.Memory) ⊎ (status ≡ Status.Full) }
+    ensures ends_deep { (tells : Bool) (words : List (List ℕ)) (before now : ShelfView) (out out_now : SinkView) (source input : List ℕ) (options : OptionValues) (front said : List ℕ) (status : Statuses)
         → (r : IsRun words before out source input options front) → NoneFailed r.program r.packed before now out out_now → IsTooDeep source input options.depth
-        → IsEnding tells words before now out out_now status → (status ≡ Status.Depth) ⊎ (status ≡ Status.Memory) ⊎ (status ≡ Status.Full) }
+        → IsEnding tells words before now out out_now status said → (status ≡ Status.Depth) ⊎ (status ≡ Status.Memory) ⊎ (status ≡ Status.Full) }
+    // Where so many chunks are enough for what the run costs, they do not run out: the status is 0 or 3, and never 4.
+    ensures fits { (tells : Bool) (words : List (List ℕ)) (before now : ShelfView) (out out_now : SinkView) (source input : List ℕ) (options : OptionValues) (front said : List ℕ) (status : Statuses)
+        → (r : IsRun words before out source input options front) → NoneFailed r.program r.packed before now out out_now → Given source input
+        → (IsTooBig source input options.depth options.chunks → ⊥)
+        → IsEnding tells words before now out out_now status said → (status ≡ Status.Done) ⊎ (status ≡ Status.Depth) ⊎ (status ≡ Status.Memory) }
 
     // There is one result at most, and none where the meaning runs out of depth.
     ensures one { (source input : List ℕ) (depth : ℕ) (output other : List ℕ) → IsResult source input depth output → IsResult source input depth other → output ≡ other }

@@ -1,19 +1,23 @@
 //! Why the second file of a command is refused.
 
-/// Why the second file of a command is refused. A place counts bytes from 0: of a packed file from its payload's
-/// start.
+use gib_file::HeadFault;
+
+/// Why the second file of a command is refused.
 #[derive(Clone, Copy, Debug, PartialEq, Eq)]
 pub enum InputFault {
     /// It, or the file that would be made of it, has more bytes than this.
     Long(u64),
-    /// It does not begin as a packed file.
-    Magic,
-    /// It is of this version, which is not read here.
-    Version(u8),
-    /// A reserved byte of its header is not zero.
-    Reserved,
-    /// Its header is not there whole, or gives another length than that of the rest.
-    Length,
+    /// It is no packed file of a value of the type that is due.
+    Packed(PackedFault),
+    /// The token at this place of a text, in bytes from 0, cannot stand there.
+    Text(u64),
+}
+
+/// Why bytes are no packed file of a value of a type: the first fault of the header, else of the payload, whose bytes a
+/// place counts from 0.
+#[derive(Clone, Copy, Debug, PartialEq, Eq)]
+pub enum PackedFault {
+    Header(HeadFault),
     /// The tag, number or truth value at this place does not fit in what is left.
     Short(u64),
     /// The byte at this place is no tag of a constructor of the type that is due.
@@ -22,6 +26,4 @@ pub enum InputFault {
     Truth(u64),
     /// The value ends at this place, before the end of the payload.
     Trailing(u64),
-    /// The token at this place of a text cannot stand there.
-    Text(u64),
 }

@@ -16,26 +16,27 @@ pub mod run;
 pub mod show;
 
 use crate::compile::Compiled;
-use crate::made::{JobFault, Made};
+use crate::made::Made;
 use crate::plan::{Job, Options};
+use crate::stop::Stop;
 use std::alloc::Global;
 
 /// What a job makes, for a program, of the bytes of the second file.
 ///
 /// # Errors
 ///
-/// `Refused` where the second file is none that the job accepts.
+/// `Input` where the second file is none that the job accepts; `Memory`.
 pub fn do_job(
     alloc: Global,
     compiled: Compiled,
     job: Job,
     options: Options,
     second: &[u8],
-) -> Result<Made, JobFault>
+) -> Result<Made, Stop<'static>>
     requires ready { IsReady (program_of compiled.typed) compiled.names }
     requires most { length second.now ≤ most_of job }
     ensures made { IfOk result (λ made. EndsBy (file_of made) made.end (Does job options (program_of compiled.typed) compiled.names second.now)) }
-    ensures fault { IfErr result (FailsTo job (program_of compiled.typed) compiled.names second.now) }
+    ensures stop { IfErr result (FailsTo job (program_of compiled.typed) compiled.names second.now) }
 {
     match job {
         Job::Plain => plain::plain(alloc, &compiled, options.depth, second),

@@ -1,13 +1,21 @@
 //! The laws of refusals. Each function does nothing: its contract is the law.
 
 ghost use Rattle.std.specs.Prelude.{◌≡◌, ℕ, List};
+ghost use Rattle.gib_syntax.specs.Parts.{program_of};
+ghost use Rattle.gib_app.specs.declared.input_fault.InputFault.{InputFault};
+ghost use Rattle.gib_app.specs.declared.plan.Job.{Job};
 ghost use Rattle.gib_app.specs.declared.source_fault.SourceFault.{SourceFault};
+ghost use Rattle.gib_app.specs.Formats.{Accepts, Refuses};
 ghost use Rattle.gib_app.specs.Running.{IsNoProgram};
 ghost use Rattle.gib_app.specs.SourceFaults.{IsSourceFault};
+ghost use Rattle.gib_app.specs.Stops.{IsReady};
 
+use crate::compile::Compiled;
 use gib_check::laws::faults_are_exact;
+use gib_file::{one_file, refused_file, refused_header};
 use gib_lex::laws::{one_reading, one_refusal};
 use gib_parse::law::{one_text, program_is_read};
+use gib_value::law::{refusals_hold, texts_differ};
 
 /// A source is refused for one fault, at one place, and a source that is refused is no program.
 pub fn one_source_fault()
@@ -19,4 +27,20 @@ pub fn one_source_fault()
     one_text();
     program_is_read();
     faults_are_exact();
+}
+
+/// The second file of a job is refused for one fault, at one place, and a file that is refused is not accepted.
+pub fn one_input_fault(compiled: &Compiled)
+    requires ready { IsReady (program_of compiled.now.typed) compiled.now.names }
+    ensures one { (job : Job) (bytes : List ℕ) (f g : InputFault)
+        → Refuses job (program_of compiled.now.typed) compiled.now.names bytes f → Refuses job (program_of compiled.now.typed) compiled.now.names bytes g → f ≡ g }
+    ensures none { (job : Job) (bytes : List ℕ) (f : InputFault)
+        → Refuses job (program_of compiled.now.typed) compiled.now.names bytes f → Accepts job (program_of compiled.now.typed) compiled.now.names bytes → ⊥ }
+{
+    refused_header();
+    refused_file();
+    one_file();
+    let types = compiled.typed.types();
+    texts_differ(types, &compiled.names);
+    refusals_hold(types, &compiled.names);
 }

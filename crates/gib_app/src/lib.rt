@@ -1,6 +1,7 @@
 //! The top call: from the words of a command line to output, a line and a status.
 #![tactic(auto)]
 
+mod answer;
 mod commands;
 mod compile;
 mod documents;
@@ -22,7 +23,6 @@ mod sample;
 pub mod source_fault;
 pub mod status;
 mod stop;
-pub mod surveying;
 pub mod top;
 pub mod word_laws;
 mod words;

@@ -8,31 +8,55 @@ ghost use Rattle.gib_syntax.specs.Meaning.{run};
 ghost use Rattle.gib_core.specs.Meaning.{core_run};
 ghost use Rattle.gib_core.specs.Numbering.{AreNumbered};
 ghost use Rattle.gib_core.specs.Parts.{core_of};
+ghost use Rattle.gib_core.specs.Reachable.{AreReachable};
 ghost use Rattle.gib_lower.specs.Lowering.{lower_program};
 ghost use Rattle.gib_app.specs.Cores.{core_after};
 
 use gib_access::reach;
 use gib_base::Memory;
 use gib_check::Typed;
-use gib_core::{AccessMode, Checked, Lowered};
+use gib_core::{AccessMode, Checked, Core, Lowered};
 use gib_infer::infer;
 use gib_lower::lower;
+use gib_place::place;
 use std::alloc::Global;
 
-/// The core of a program with its fields reached, which meets the build rules.
-fn checked_core(alloc: Global, typed: &Typed) -> Result<Checked, Memory>
-    ensures core { IfOk result (λ core. core_of core ≡ core_after 3 (program_of typed.now)) }
+/// The core of a program whose values are built where they belong. It breaks no build rule but that its fields are not reached yet.
+///
+/// # Errors
+///
+/// Want of memory.
+pub fn placed_core(alloc: Global, typed: &Typed) -> Result<Core, Memory>
+    ensures core { IfOk result (λ core. core_of core ≡ core_after 2 (program_of typed.now)) }
+    ensures reachable { IfOk result (λ core. AreReachable (core_of core)) }
     ensures numbered { IfOk result (λ core. AreNumbered (core_of core)) }
     ensures means { IfOk result (λ core. (depth : ℕ) (v : Datum) → core_run (core_of core) depth v ≡ run (program_of typed.now) depth v) }
 {
     let core = infer(alloc, typed)?;
+    match place(alloc, core) {
+        Ok(placed) => Ok(placed),
+        Err(memory) => Err(memory),
+    }
+}
+
+/// The core of a program whose values are built where they belong, with its fields reached. It meets the build rules.
+///
+/// # Errors
+///
+/// Want of memory.
+pub fn checked_core(alloc: Global, typed: &Typed) -> Result<Checked, Memory>
+    ensures core { IfOk result (λ core. core_of core ≡ core_after 3 (program_of typed.now)) }
+    ensures numbered { IfOk result (λ core. AreNumbered (core_of core)) }
+    ensures means { IfOk result (λ core. (depth : ℕ) (v : Datum) → core_run (core_of core) depth v ≡ run (program_of typed.now) depth v) }
+{
+    let core = placed_core(alloc, typed)?;
     match reach(alloc, core, AccessMode::Skips) {
         Ok(reached) => Ok(Checked::make(reached)),
         Err(memory) => Err(memory),
     }
 }
 
-/// The core of a program with its fields reached, and its code. It means what the program means, and no head stores offsets.
+/// The core of a program after all passes, and its code. It means what the program means, and no head stores offsets.
 ///
 /// # Errors
 ///

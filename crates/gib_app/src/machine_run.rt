@@ -17,23 +17,24 @@ ghost use Rattle.gib_core.specs.Low.{laid_of};
 ghost use Rattle.gib_core.specs.LoweredParts.{LoweredParts};
 ghost use Rattle.gib_core.specs.Meaning.{core_run};
 ghost use Rattle.gib_core.specs.Parts.{core_of};
+ghost use Rattle.gib_lower.specs.Lowering.{lower_program};
 ghost use Rattle.gib_weave.specs.Running.{RunEnds};
 ghost use Rattle.gib_weave.specs.Sound.{IsAnswer};
 ghost use Rattle.gib_app.specs.Cores.{core_after};
 ghost use Rattle.gib_app.specs.Running.{IsInput, text_line};
 ghost use Rattle.gib_app.specs.MachineRun.{StandsMeant, IsMachineStop, IsRootOf, Halts, EndsWith, program_cost};
 
-use crate::input_fault::InputFault;
 use crate::lowering::lowered;
-use crate::made::JobFault;
-use crate::surveying::survey_input;
+use crate::made::Reason;
+use crate::packed::survey_input;
+use crate::stop::Stop;
 use gib_base::Names;
 use gib_base::limits::FILE_BYTES;
 use gib_check::Typed;
 use gib_code::Answer;
 use gib_core::Lowered;
 use gib_edge::outside::Sink;
-use gib_file::{Survey, one_file, refused_file, refused_header};
+use gib_file::{Survey, one_file};
 use gib_load::{LoadFault, load};
 use gib_mem::{Mem, PlainMem};
 use gib_packed::Root;
@@ -41,18 +42,6 @@ use gib_print::{PrintFault, print_at};
 use gib_region::Tails;
 use gib_weave::{RunFault, run};
 use std::alloc::Global;
-
-/// Why a run leaves no root.
-#[derive(Clone, Copy, Debug, PartialEq, Eq)]
-pub enum RunStop {
-    Memory,
-    /// The file is no packed file of a value of the type of main's parameter.
-    Refused(InputFault),
-    /// The program's meaning runs out of depth.
-    Deep,
-    /// A chunk is needed, and all are drawn.
-    Full,
-}
 
 /// What a run leaves: the code with the layouts of its heads, the region memory, and the root in it for which the result
 /// stands.
@@ -64,26 +53,26 @@ pub struct Ran {
 }
 
 /// The root that an answer of the machine is; the one that is none says that depth ran out.
-fn root_of(answer: Answer) -> Result<Root, RunStop>
+fn root_of(answer: Answer) -> Result<Root, Stop<'static>>
     ensures { (laid : LaidOut) (s : Store) (ty : Type_of) (owed : Outcome) → IsAnswer laid s ty owed answer
-        → MatchResult result (IsRootOf laid s ty owed) (λ why. (why ≡ RunStop.Deep) × (owed ≡ Stops Deep)) }
+        → MatchResult result (IsRootOf laid s ty owed) (λ why. (why ≡ Stop.NoValue Reason.Deep) × (owed ≡ Stops Deep)) }
 {
     match answer {
         Answer::Whole(value) => Ok(Root::Whole(value)),
         Answer::Truth(value) => Ok(Root::Truth(value)),
         Answer::At(address) => Ok(Root::At(address)),
-        Answer::Deep => Err(RunStop::Deep),
+        Answer::Deep => Err(Stop::NoValue(Reason::Deep)),
     }
 }
 
 /// What the end of the machine's run is to a run.
-fn end_of(end: Result<Answer, RunFault>) -> Result<Root, RunStop>
+fn end_of(end: Result<Answer, RunFault>) -> Result<Root, Stop<'static>>
     ensures { (l : LoweredParts) (depth : ℕ) (v : Datum) (m m' : Memory) → RunEnds l depth v m m' end → EndsWith l depth m.limit v m'.cells result }
 {
     match end {
         Ok(answer) => root_of(answer),
-        Err(RunFault::Memory) => Err(RunStop::Memory),
-        Err(RunFault::Full) => Err(RunStop::Full),
+        Err(RunFault::Memory) => Err(Stop::Memory),
+        Err(RunFault::Full) => Err(Stop::NoValue(Reason::Full)),
     }
 }
 
@@ -94,21 +83,22 @@ fn run_loaded(
     survey: Survey<'_>,
     memory: &mut PlainMem,
     depth: u32,
-) -> Result<Root, RunStop>
+) -> Result<Root, Stop<'static>>
     requires table { survey.table ≡ lowered.now.code.laid.table }
     requires ty { survey.ty ≡ (core_of lowered.now.core).main.parameter }
     requires plain { lowered.now.code.laid.with_offsets ≡ [] }
     requires undrawn { (⟦<PlainMem as Mem>⟧.view memory.old).drawn ≡ 0 }
-    ensures { (v : Datum) → Packed survey.entry.table survey.entry.ty v survey.entry.bytes
+    ensures ends { (v : Datum) → Packed survey.entry.table survey.entry.ty v survey.entry.bytes
         → EndsWith lowered.now depth (⟦<PlainMem as Mem>⟧.view memory.old).limit v (⟦<PlainMem as Mem>⟧.view memory.new).cells result }
+    ensures limit { IfOk result (λ _. (⟦<PlainMem as Mem>⟧.view memory.new).limit ≡ (⟦<PlainMem as Mem>⟧.view memory.old).limit) }
 {
     let _packed = survey.payload();
     let mut tails = Tails::new();
     let layouts = lowered.code().layouts();
     match load(alloc, layouts, survey, memory, &mut tails) {
         Ok(root) => end_of(run(alloc, lowered, memory, tails, root, depth)),
-        Err(LoadFault::Full) => Err(RunStop::Full),
-        Err(LoadFault::Memory) => Err(RunStop::Memory),
+        Err(LoadFault::Full) => Err(Stop::NoValue(Reason::Full)),
+        Err(LoadFault::Memory) => Err(Stop::Memory),
     }
 }
 
@@ -119,18 +109,19 @@ fn run_survey(
     survey: Survey<'_>,
     depth: u32,
     chunks: u32,
-) -> Result<Ran, RunStop>
+) -> Result<Ran, Stop<'static>>
     requires table { survey.table ≡ lowered.code.laid.table }
     requires ty { survey.ty ≡ (core_of lowered.core).main.parameter }
     requires plain { lowered.code.laid.with_offsets ≡ [] }
     ensures same { IfOk result (λ ran. ran.lowered ≡ lowered) }
+    ensures limit { IfOk result (λ ran. (⟦<PlainMem as Mem>⟧.view ran.memory).limit ≡ chunks) }
     ensures root { IfOk result (λ ran. (v : Datum) → Packed survey.entry.table survey.entry.ty v survey.entry.bytes
         → IsRootOf lowered.code.laid (⟦<PlainMem as Mem>⟧.view ran.memory).cells (core_of lowered.core).main.result (core_run (core_of lowered.core) depth v) ran.root) }
     ensures halts { IfErr result (λ why. (v : Datum) → Packed survey.entry.table survey.entry.ty v survey.entry.bytes → Halts (core_run (core_of lowered.core) depth v) chunks (run_cost (core_of lowered.core) depth 0 v) why) }
 {
     let mut memory = match PlainMem::make(alloc, chunks) {
         Ok(memory) => memory,
-        Err(_) => return Err(RunStop::Memory),
+        Err(_) => return Err(Stop::Memory),
     };
     match run_loaded(alloc, &lowered, survey, &mut memory, depth) {
         Ok(root) => Ok(Ran {
@@ -147,17 +138,20 @@ fn run_survey(
 ///
 /// # Errors
 ///
-/// `Refused` where the bytes are no packed file of a value of the type of main's parameter; else `Deep` where the meaning runs
-/// out of depth, and `Full` where so many chunks may not be enough. `Memory`: want of memory.
+/// `Input` where the bytes are no packed file of a value of the type of main's parameter; else `NoValue`: `Deep` where the
+/// meaning runs out of depth, and `Full` where so many chunks may not be enough. `Memory`: want of memory.
 pub fn run_packed(
     alloc: Global,
     typed: &Typed,
     file: &[u8],
     depth: u32,
     chunks: u32,
-) -> Result<Ran, RunStop>
+) -> Result<Ran, Stop<'static>>
     requires short { length file.now ≤ FILE_BYTES }
     ensures stands { IfOk result (λ ran. StandsMeant (program_of typed.now) depth file.now ran.lowered.code.laid (⟦<PlainMem as Mem>⟧.view ran.memory).cells ran.root) }
+    // It is the code of the program's core that ran, in a memory of so many chunks.
+    ensures code { IfOk result (λ ran. ran.lowered.code ≡ lower_program (core_after 3 (program_of typed.now))) }
+    ensures limit { IfOk result (λ ran. (⟦<PlainMem as Mem>⟧.view ran.memory).limit ≡ chunks) }
     // The heads lie as those of the program's core.
     ensures laid { IfOk result (λ ran. ran.lowered.code.laid ≡ laid_of (core_after 3 (program_of typed.now))) }
     ensures stop { IfErr result (IsMachineStop (program_of typed.now) depth chunks file.now) }
@@ -167,17 +161,14 @@ pub fn run_packed(
         (Halts (run (program_of typed.now) depth v) chunks (program_cost (program_of typed.now) depth v)) }
 {
     one_file();
-    refused_header();
-    refused_file();
     let survey = match survey_input(alloc, typed, file) {
         Ok(survey) => survey,
-        Err(JobFault::Refused(fault)) => return Err(RunStop::Refused(fault)),
-        Err(JobFault::Memory) => return Err(RunStop::Memory),
+        Err(stop) => return Err(stop),
     };
     let _packed = survey.payload();
     match lowered(alloc, typed) {
         Ok(lowered) => run_survey(alloc, lowered, survey, depth, chunks),
-        Err(_) => Err(RunStop::Memory),
+        Err(_) => Err(Stop::Memory),
     }
 }
 

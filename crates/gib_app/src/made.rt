@@ -1,6 +1,5 @@
 //! What a job makes.
 
-use crate::input_fault::InputFault;
 use crate::machine_run::Ran;
 use gib_base::Names;
 
@@ -9,7 +8,7 @@ use gib_base::Names;
 pub enum Reason {
     /// The program's meaning runs out of depth.
     Deep,
-    /// All chunks of region memory are used up.
+    /// So many chunks of region memory may not be enough for what the run costs.
     Full,
 }
 
@@ -35,12 +34,4 @@ pub enum End {
 pub struct Made {
     pub file: Option<Vec<u8>>,
     pub end: End,
-}
-
-/// Why a job makes nothing of its second file.
-#[derive(Clone, Copy, Debug, PartialEq, Eq)]
-pub enum JobFault {
-    Memory,
-    /// The second file is refused.
-    Refused(InputFault),
 }

@@ -7,16 +7,16 @@ ghost use Rattle.gib_app.specs.Causes.{HoldsSecond, OnSource};
 ghost use Rattle.gib_edge.specs.Causes.{Appends, AppendsPart};
 ghost use Rattle.gib_app.specs.Calls.{read_calls, second_calls, reads_of};
 ghost use Rattle.gib_app.specs.Ending.{ReadsStay};
-ghost use Rattle.gib_app.specs.Stopping.{status_for};
+ghost use Rattle.gib_app.specs.Stopping.{answer_for};
 ghost use Rattle.gib_app.specs.Kept.{document_of, plan_of, file_of};
 ghost use Rattle.gib_app.specs.Stops.{IsCompiled, IsReady, IsSourceStop, IsSecondStop, IsStop};
 ghost use Rattle.gib_app.specs.Performing.{IsDone};
 
-use crate::compile::{CompileFault, Compiled, compile};
-use crate::documents::{DocumentFault, read_document};
+use crate::compile::{Compiled, compile};
+use crate::documents::read_document;
 use crate::input_fault::InputFault;
 use crate::jobs::do_job;
-use crate::made::{JobFault, Made};
+use crate::made::Made;
 use crate::plan::{Document, Plan};
 use crate::source_fault::SourceFault;
 use crate::stop::Stop;
@@ -37,20 +37,18 @@ fn load_program<'a, S: Shelf>(
     ensures later { (name : List ℕ) → (S.view shelf.old).reads name ≤ (S.view shelf.new).reads name }
     ensures writes { (name : List ℕ) → (S.view shelf.new).writes name ≡ (S.view shelf.old).writes name }
     ensures quiet { IfOk result (λ _. (name : List ℕ) → (S.view shelf.new).reads name ≡ (S.view shelf.old).reads name) }
-    ensures reads { IfErr result (λ stop. ReadsStay (S.view shelf.old).reads (S.view shelf.new).reads (status_for stop)) }
+    ensures reads { IfErr result (λ stop. ReadsStay (S.view shelf.old).reads (S.view shelf.new).reads (answer_for stop).status) }
     ensures called { OnOk result (Appends (S.view shelf.old).calls (S.view shelf.new).calls (read_calls (document_of document.entry) 1048576)) }
     ensures once { OnErr result (AppendsPart (S.view shelf.old).calls (S.view shelf.new).calls (read_calls (document_of document.entry) 1048576)) }
 {
     let source = match read_document(shelf, alloc, document, SOURCE_BYTES) {
-        Ok(source) => source,
-        Err(DocumentFault::Long) => return Err(Stop::Source(SourceFault::Long)),
-        Err(DocumentFault::Unread(name)) => return Err(Stop::Unread(name)),
-        Err(DocumentFault::Memory) => return Err(Stop::Memory),
+        Ok(Some(source)) => source,
+        Ok(None) => return Err(Stop::Source(SourceFault::Long)),
+        Err(stop) => return Err(stop),
     };
     match compile(alloc, &source) {
         Ok(compiled) => Ok(compiled),
-        Err(CompileFault::Refused(fault)) => Err(Stop::Source(fault)),
-        Err(CompileFault::Memory) => Err(Stop::Memory),
+        Err(stop) => Err(stop),
     }
 }
 
@@ -77,7 +75,7 @@ fn read_second<'a, S: Shelf>(
     ensures later { (name : List ℕ) → (S.view shelf.old).reads name ≤ (S.view shelf.new).reads name }
     ensures writes { (name : List ℕ) → (S.view shelf.new).writes name ≡ (S.view shelf.old).writes name }
     ensures quiet { IfOk result (λ _. (name : List ℕ) → (S.view shelf.new).reads name ≡ (S.view shelf.old).reads name) }
-    ensures reads { IfErr result (λ stop. ReadsStay (S.view shelf.old).reads (S.view shelf.new).reads (status_for stop)) }
+    ensures reads { IfErr result (λ stop. ReadsStay (S.view shelf.old).reads (S.view shelf.new).reads (answer_for stop).status) }
     ensures called { OnOk result (Appends (S.view shelf.old).calls (S.view shelf.new).calls (second_calls (second_asked (plan_of plan.entry)) (most_of plan.entry.job))) }
     ensures once { OnErr result (AppendsPart (S.view shelf.old).calls (S.view shelf.new).calls (second_calls (second_asked (plan_of plan.entry)) (most_of plan.entry.job))) }
 {
@@ -86,10 +84,9 @@ fn read_second<'a, S: Shelf>(
     };
     let most = plan.job.most();
     match read_document(shelf, alloc, document, most) {
-        Ok(bytes) => Ok(bytes),
-        Err(DocumentFault::Long) => Err(Stop::Input(InputFault::Long(most))),
-        Err(DocumentFault::Unread(name)) => Err(Stop::Unread(name)),
-        Err(DocumentFault::Memory) => Err(Stop::Memory),
+        Ok(Some(bytes)) => Ok(bytes),
+        Ok(None) => Err(Stop::Input(InputFault::Long(most))),
+        Err(stop) => Err(stop),
     }
 }
 
@@ -106,7 +103,7 @@ pub fn make<'a, S: Shelf>(alloc: Global, shelf: &mut S, plan: Plan<'a>) -> Resul
     ensures later { (name : List ℕ) → (S.view shelf.old).reads name ≤ (S.view shelf.new).reads name }
     ensures writes { (name : List ℕ) → (S.view shelf.new).writes name ≡ (S.view shelf.old).writes name }
     ensures quiet { IfOk result (λ _. (name : List ℕ) → (S.view shelf.new).reads name ≡ (S.view shelf.old).reads name) }
-    ensures reads { IfErr result (λ stop. ReadsStay (S.view shelf.old).reads (S.view shelf.new).reads (status_for stop)) }
+    ensures reads { IfErr result (λ stop. ReadsStay (S.view shelf.old).reads (S.view shelf.new).reads (answer_for stop).status) }
     ensures called { OnOk result (Appends (S.view shelf.old).calls (S.view shelf.new).calls (reads_of (plan_of plan.entry))) }
     ensures once { OnErr result (AppendsPart (S.view shelf.old).calls (S.view shelf.new).calls (reads_of (plan_of plan.entry))) }
 {
@@ -120,7 +117,6 @@ pub fn make<'a, S: Shelf>(alloc: Global, shelf: &mut S, plan: Plan<'a>) -> Resul
     };
     match do_job(alloc, compiled, plan.job, plan.options, &second) {
         Ok(made) => Ok(made),
-        Err(JobFault::Refused(fault)) => Err(Stop::Input(fault)),
-        Err(JobFault::Memory) => Err(Stop::Memory),
+        Err(stop) => Err(stop),
     }
 }

@@ -1,42 +1,66 @@
-//! The bytes of a packed file to a value.
+//! The bytes of a packed file, looked over, and their value.
 
-ghost use Rattle.std.specs.Prelude.{◌≡◌, IfOk, IfErr, MatchResult};
+ghost use Rattle.std.specs.Prelude.{◌≡◌, IfOk, IfErr};
 ghost use Rattle.gib_types.specs.Tree.{Datum};
 ghost use Rattle.gib_file.specs.Framed.{File};
+ghost use Rattle.gib_file.specs.Packed.{Packed};
 ghost use Rattle.gib_syntax.specs.Parts.{program_of};
 ghost use Rattle.gib_syntax.specs.Declarations.{table_of_program, input_type};
 ghost use Rattle.gib_app.specs.Stops.{IsPackedStop};
-ghost use Rattle.gib_app.specs.PassFaults.{header_fault, payload_fault};
+ghost use Rattle.gib_app.specs.PassFaults.{packed_stop, payload_stop};
 
-use crate::input_fault::InputFault;
-use crate::made::JobFault;
+use crate::input_fault::{InputFault, PackedFault};
+use crate::stop::Stop;
 use gib_check::Typed;
-use gib_file::{HeadFault, PackFault, one_reading, read_header, survey, unpack};
+use gib_file::{PackFault, Survey, read_header, refused_file, refused_header, survey, unpack};
 use gib_value::Value;
 use std::alloc::Global;
 
-/// The fault of a header.
-pub fn of_header(fault: HeadFault) -> InputFault
-    ensures { result ≡ header_fault fault }
+/// Why a call stops at a second file that is no packed file.
+pub fn of_packed(fault: PackedFault) -> Stop<'static>
+    ensures { result ≡ packed_stop fault }
+{
+    Stop::Input(InputFault::Packed(fault))
+}
+
+/// Why it stops at the payload of a packed file.
+fn of_payload(fault: PackFault) -> Stop<'static>
+    ensures { result ≡ payload_stop fault }
 {
     match fault {
-        HeadFault::Magic => InputFault::Magic,
-        HeadFault::Version(version) => InputFault::Version(version),
-        HeadFault::Reserved => InputFault::Reserved,
-        HeadFault::Length => InputFault::Length,
+        PackFault::Memory => Stop::Memory,
+        PackFault::Short(place) => of_packed(PackedFault::Short(place)),
+        PackFault::Tag(place) => of_packed(PackedFault::Tag(place)),
+        PackFault::Truth(place) => of_packed(PackedFault::Truth(place)),
+        PackFault::Trailing(place) => of_packed(PackedFault::Trailing(place)),
     }
 }
 
-/// The fault of a payload.
-pub fn of_payload(fault: PackFault) -> JobFault
-    ensures { result ≡ payload_fault fault }
+/// The payload of the packed file of a value of the type of main's parameter.
+///
+/// # Errors
+///
+/// `Input` with the first fault of the header, else of the payload; `Memory`.
+pub fn survey_input<'a>(
+    alloc: Global,
+    typed: &'a Typed,
+    bytes: &'a [u8],
+) -> Result<Survey<'a>, Stop<'static>>
+    ensures table { IfOk result (λ s. s.table ≡ table_of_program (program_of typed.now)) }
+    ensures ty { IfOk result (λ s. s.ty ≡ input_type (program_of typed.now)) }
+    ensures file { IfOk result (λ s. (v : Datum) → Packed s.table s.ty v s.bytes → File (table_of_program (program_of typed.now)) (input_type (program_of typed.now)) v bytes.now) }
+    ensures refused { IfErr result (IsPackedStop (table_of_program (program_of typed.now)) (input_type (program_of typed.now)) bytes.now) }
 {
-    match fault {
-        PackFault::Memory => JobFault::Memory,
-        PackFault::Short(place) => JobFault::Refused(InputFault::Short(place)),
-        PackFault::Tag(place) => JobFault::Refused(InputFault::Tag(place)),
-        PackFault::Truth(place) => JobFault::Refused(InputFault::Truth(place)),
-        PackFault::Trailing(place) => JobFault::Refused(InputFault::Trailing(place)),
+    refused_header();
+    refused_file();
+    let ty = typed.input_type();
+    let payload = match read_header(bytes) {
+        Ok(payload) => payload,
+        Err(fault) => return Err(of_packed(PackedFault::Header(fault))),
+    };
+    match survey(alloc, typed.types(), ty, payload) {
+        Ok(survey) => Ok(survey),
+        Err(fault) => Err(of_payload(fault)),
     }
 }
 
@@ -44,25 +68,17 @@ pub fn of_payload(fault: PackFault) -> JobFault
 ///
 /// # Errors
 ///
-/// The first fault of the header, else of the payload.
-pub fn read_packed(alloc: Global, typed: &Typed, bytes: &[u8]) -> Result<Value, JobFault>
+/// As `survey_input`.
+pub fn read_packed(alloc: Global, typed: &Typed, bytes: &[u8]) -> Result<Value, Stop<'static>>
     ensures read { IfOk result (λ v. File (table_of_program (program_of typed.now)) (input_type (program_of typed.now)) v bytes.now) }
     ensures refused { IfErr result (IsPackedStop (table_of_program (program_of typed.now)) (input_type (program_of typed.now)) bytes.now) }
-    ensures only { (v : Datum) → File (table_of_program (program_of typed.now)) (input_type (program_of typed.now)) v bytes.now
-        → MatchResult result (λ w. w ≡ v) (λ fault. fault ≡ JobFault.Memory) }
 {
-    let ty = typed.input_type();
-    let payload = match read_header(bytes) {
-        Ok(payload) => payload,
-        Err(fault) => return Err(JobFault::Refused(of_header(fault))),
-    };
-    let survey = match survey(alloc, typed.types(), ty, payload) {
+    let survey = match survey_input(alloc, typed, bytes) {
         Ok(survey) => survey,
-        Err(fault) => return Err(of_payload(fault)),
+        Err(stop) => return Err(stop),
     };
-    one_reading();
     match unpack(alloc, survey) {
         Ok(value) => Ok(value),
-        Err(_) => Err(JobFault::Memory),
+        Err(_) => Err(Stop::Memory),
     }
 }

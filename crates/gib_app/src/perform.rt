@@ -9,7 +9,7 @@ ghost use Rattle.gib_app.specs.Calls.{write_calls, calls_of};
 ghost use Rattle.gib_app.specs.Kept.{plan_of, file_of};
 ghost use Rattle.gib_app.specs.declared.made.Reason.{Reason as Reasons};
 ghost use Rattle.gib_app.specs.declared.made.Valued.{Valued as Values};
-ghost use Rattle.gib_app.specs.Stopping.{status_for};
+ghost use Rattle.gib_app.specs.Stopping.{answer_for};
 ghost use Rattle.gib_app.specs.Stops.{IsStop};
 
 use crate::made::{End, Made};
@@ -34,7 +34,7 @@ fn write_file<'a, S: Shelf>(
     ensures reads { (name : List ℕ) → (S.view shelf.new).reads name ≡ (S.view shelf.old).reads name }
     ensures later { (name : List ℕ) → (S.view shelf.old).writes name ≤ (S.view shelf.new).writes name }
     ensures quiet { OnOk result ((name : List ℕ) → (S.view shelf.new).writes name ≡ (S.view shelf.old).writes name) }
-    ensures writes { IfErr result (λ stop. WritesStay (S.view shelf.old).writes (S.view shelf.new).writes (status_for stop)) }
+    ensures writes { IfErr result (λ stop. WritesStay (S.view shelf.old).writes (S.view shelf.new).writes (answer_for stop).status) }
     ensures once { AppendsPart (S.view shelf.old).calls (S.view shelf.new).calls (write_calls (plan_of plan.entry).target) }
 {
     let Some(name) = plan.target else {
@@ -65,10 +65,10 @@ pub fn perform<'a, S: Shelf>(alloc: Global, shelf: &mut S, plan: Plan<'a>) -> Re
     ensures same { IfErr result (StopFiles (S.view shelf.old).kept (S.view shelf.new).kept) }
     ensures reads_later { (name : List ℕ) → (S.view shelf.old).reads name ≤ (S.view shelf.new).reads name }
     ensures reads_quiet { IfOk result (λ _. (name : List ℕ) → (S.view shelf.new).reads name ≡ (S.view shelf.old).reads name) }
-    ensures reads { IfErr result (λ stop. ReadsStay (S.view shelf.old).reads (S.view shelf.new).reads (status_for stop)) }
+    ensures reads { IfErr result (λ stop. ReadsStay (S.view shelf.old).reads (S.view shelf.new).reads (answer_for stop).status) }
     ensures writes_later { (name : List ℕ) → (S.view shelf.old).writes name ≤ (S.view shelf.new).writes name }
     ensures writes_quiet { IfOk result (λ _. (name : List ℕ) → (S.view shelf.new).writes name ≡ (S.view shelf.old).writes name) }
-    ensures writes { IfErr result (λ stop. WritesStay (S.view shelf.old).writes (S.view shelf.new).writes (status_for stop)) }
+    ensures writes { IfErr result (λ stop. WritesStay (S.view shelf.old).writes (S.view shelf.new).writes (answer_for stop).status) }
     ensures once { AppendsPart (S.view shelf.old).calls (S.view shelf.new).calls (calls_of (plan_of plan.entry)) }
 {
     let made = match make(alloc, shelf, plan) {

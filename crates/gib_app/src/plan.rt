@@ -7,8 +7,8 @@ use gib_base::limits::FILE_BYTES;
 /// Where bytes come from.
 #[derive(Clone, Copy, Debug)]
 pub enum Document<'a> {
-    /// The product brings them with it.
-    Brought(&'a [u8]),
+    /// They are part of the product.
+    BuiltIn(&'a [u8]),
     /// They stand in the file of this name.
     Named(&'a str),
 }

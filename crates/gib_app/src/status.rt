@@ -13,7 +13,7 @@ pub enum Status {
     Usage,
     /// The program's meaning runs out of depth.
     Depth,
-    /// All chunks of region memory are used up.
+    /// So many chunks of region memory may not be enough for what the run costs.
     Full,
     /// Want of memory.
     Memory,

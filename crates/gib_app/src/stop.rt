@@ -1,5 +1,7 @@
 //! Why a call puts no output, or not all of it.
 
+ghost use Rattle.std.specs.Prelude.{◌≡◌};
+
 use crate::input_fault::InputFault;
 use crate::made::Reason;
 use crate::source_fault::SourceFault;
@@ -22,4 +24,18 @@ pub enum Stop<'a> {
     Unwritten(&'a str),
     /// The sink did not take all of the output.
     Unput,
+}
+
+impl<'a> Stop<'a> {
+    ghost use Rattle.gib_app.specs.Stops.{reason_of};
+
+    /// Why there is no value, where that is the stop.
+    pub fn reason(self) -> Option<Reason>
+        ensures { result ≡ reason_of self.entry }
+    {
+        match self {
+            Stop::NoValue(reason) => Some(reason),
+            _ => None,
+        }
+    }
 }

@@ -10,7 +10,7 @@ use std::test::Fail;
 /// The name of a document's file.
 fn name<'a>(document: Document<'a>) -> &'a str {
     match document {
-        Document::Brought(_) => "(brought)",
+        Document::BuiltIn(_) => "(built in)",
         Document::Named(name) => name,
     }
 }
@@ -69,7 +69,7 @@ fn is_sample(plan: Option<Plan<'_>>) -> bool {
         return false;
     };
     match (plan.source, plan.second) {
-        (Document::Brought(source), Some(Document::Brought(input))) => {
+        (Document::BuiltIn(source), Some(Document::BuiltIn(input))) => {
             source == SAMPLE_SOURCE
                 && input == SAMPLE_INPUT
                 && plan.job == Job::Run

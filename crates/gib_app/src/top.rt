@@ -1,18 +1,19 @@
 //! The top call.
 
-ghost use Rattle.std.specs.Prelude.{◌≡◌, ◌⊎◌, ◌≤◌, ℕ, List, OnOk, IfErr};
+ghost use Rattle.std.specs.Prelude.{◌≡◌, ◌≤◌, ℕ, List, OnOk, IfErr};
 ghost use Rattle.gib_edge.specs.Causes.{AppendsPart};
 ghost use Rattle.gib_app.specs.declared.status.Status.{Status as Statuses};
 ghost use Rattle.gib_app.specs.Words.{bytes_of};
 ghost use Rattle.gib_app.specs.Causes.{IsPrinted};
 ghost use Rattle.gib_app.specs.Calls.{calls_asked};
-ghost use Rattle.gib_app.specs.Lines.{IsLine, IsPut};
-ghost use Rattle.gib_app.specs.Ending.{IsEnding, IsNoTarget, FilesStay, ReadsStay, WritesStay, OutStays, IsDue};
+ghost use Rattle.gib_app.specs.Lines.{IsPut};
+ghost use Rattle.gib_app.specs.Ending.{IsEnding, IsNoTarget, FilesStay, ReadsStay, WritesStay, OutStays, IsDue, IsDueOrScarce};
 ghost use Rattle.gib_app.specs.Performing.{IsCallStop};
-ghost use Rattle.gib_app.specs.Stopping.{status_for};
+ghost use Rattle.gib_app.specs.Stopping.{answer_for};
 
+use crate::answer::answer_to;
 use crate::lines::put_line;
-use crate::made::{End, Reason};
+use crate::made::End;
 use crate::perform::perform;
 use crate::printing::put_value;
 use crate::status::Status;
@@ -27,23 +28,6 @@ use std::alloc::Global;
 use std::sync::Wait;
 use std::thread::Threads;
 
-/// The status of a stop.
-fn status_of(stop: Stop<'_>) -> Status
-    ensures { result ≡ status_for stop.entry }
-{
-    match stop {
-        Stop::Usage => Status::Usage,
-        Stop::Source(_) => Status::Source,
-        Stop::Unread(_) => Status::ReadFault,
-        Stop::Input(_) => Status::Input,
-        Stop::NoValue(Reason::Deep) => Status::Depth,
-        Stop::NoValue(Reason::Full) => Status::Full,
-        Stop::Memory => Status::Memory,
-        Stop::Unwritten(_) => Status::WriteFault,
-        Stop::Unput => Status::WriteFault,
-    }
-}
-
 /// Does what the words ask for, and puts what is printed.
 fn call<'a, S: Shelf, O: Sink>(
     alloc: Global,
@@ -54,15 +38,15 @@ fn call<'a, S: Shelf, O: Sink>(
     ensures done { OnOk result (IsPrinted S.tells (bytes_of words.now) (S.view shelf.old) (S.view shelf.new) (O.view out.old) (O.view out.new)) }
     ensures stop { IfErr result (IsCallStop S.tells (bytes_of words.now) (S.view shelf.old) (S.view shelf.new) (O.view out.old) (O.view out.new)) }
     ensures others { (name : List ℕ) → IsNoTarget (bytes_of words.now) name → (S.view shelf.new).kept name ≡ (S.view shelf.old).kept name }
-    ensures same { IfErr result (λ stop. FilesStay (bytes_of words.now) (S.view shelf.old).kept (S.view shelf.new).kept (status_for stop)) }
+    ensures same { IfErr result (λ stop. FilesStay (bytes_of words.now) (S.view shelf.old).kept (S.view shelf.new).kept (answer_for stop).status) }
     ensures reads_later { (name : List ℕ) → (S.view shelf.old).reads name ≤ (S.view shelf.new).reads name }
     ensures reads_quiet { OnOk result ((name : List ℕ) → (S.view shelf.new).reads name ≡ (S.view shelf.old).reads name) }
-    ensures reads { IfErr result (λ stop. ReadsStay (S.view shelf.old).reads (S.view shelf.new).reads (status_for stop)) }
+    ensures reads { IfErr result (λ stop. ReadsStay (S.view shelf.old).reads (S.view shelf.new).reads (answer_for stop).status) }
     ensures writes_later { (name : List ℕ) → (S.view shelf.old).writes name ≤ (S.view shelf.new).writes name }
     ensures writes_quiet { OnOk result ((name : List ℕ) → (S.view shelf.new).writes name ≡ (S.view shelf.old).writes name) }
-    ensures writes { IfErr result (λ stop. WritesStay (S.view shelf.old).writes (S.view shelf.new).writes (status_for stop)) }
+    ensures writes { IfErr result (λ stop. WritesStay (S.view shelf.old).writes (S.view shelf.new).writes (answer_for stop).status) }
     ensures out_quiet { OnOk result ((O.view out.new).faults ≡ (O.view out.old).faults) }
-    ensures out { IfErr result (λ stop. OutStays (O.view out.old) (O.view out.new) (status_for stop)) }
+    ensures out { IfErr result (λ stop. OutStays (O.view out.old) (O.view out.new) (answer_for stop).status) }
     ensures calls { AppendsPart (S.view shelf.old).calls (S.view shelf.new).calls (calls_asked (bytes_of words.now)) }
 {
     let plan = match read_words(alloc, words) {
@@ -100,13 +84,15 @@ pub fn gib<R: Threads + Wait + Sync, S: Shelf, O: Sink, E: Sink, G: Gate + Sync>
     err: &mut E,
     gate: &G,
 ) -> Status
-    // Each status comes only by its cause; `Done` only where what the words ask for was made and put: for `run` the text of
-    // the value that the program means on the input within the depth, for `pack` also its file was written.
-    ensures cause { IsEnding S.tells (bytes_of words.now) (S.view shelf.old) (S.view shelf.new) (O.view out.old) (O.view out.new) result }
+    // Each status comes only by its cause, and one line about it is put on `err`, or a front of the line where the count of `err` rose.
+    // `Done` comes only where what the words ask for was made and put: for `run` the text of the value that the program means on the
+    // input within the depth, for `pack` also its file was written.
+    ensures ends { (said : List ℕ) × IsEnding S.tells (bytes_of words.now) (S.view shelf.old) (S.view shelf.new) (O.view out.old) (O.view out.new) result said
+        × IsPut (E.view err.old) (E.view err.new) said }
 
-    // Where the files are told and no count on the way rises, the status that is due is answered, unless memory runs out, or
+    // Where the files are told and no count on the way rises, the status that is due is answered, unless memory runs out, or in a run
     // chunks of region memory do, which has its cause.
-    ensures complete { (due : Statuses) → IsDue (bytes_of words.now) (S.view shelf.old) (S.view shelf.new) (O.view out.old) (O.view out.new) due → (result ≡ due) ⊎ (result ≡ Status.Memory) ⊎ (result ≡ Status.Full) }
+    ensures complete { (due : Statuses) → IsDue (bytes_of words.now) (S.view shelf.old) (S.view shelf.new) (O.view out.old) (O.view out.new) due → IsDueOrScarce (bytes_of words.now) due result }
 
     // What files hold stays, but for the one that is written; counts of faults never fall, and rise only with
     // the status that tells of them; but at `Done` and `WriteFault` nothing is put.
@@ -120,17 +106,14 @@ pub fn gib<R: Threads + Wait + Sync, S: Shelf, O: Sink, E: Sink, G: Gate + Sync>
     // Each file is read or written once at most, in this order, with one byte more than its limit asked for, and no
     // file is touched that the words do not name.
     ensures calls { AppendsPart (S.view shelf.old).calls (S.view shelf.new).calls (calls_asked (bytes_of words.now)) }
-
-    // One line about the status is put on `err`, or a front of it where its count rose.
-    ensures line { (said : List ℕ) × IsLine (bytes_of words.now) (S.view shelf.old) (S.view shelf.new) (O.view out.old) (O.view out.new) result said × IsPut (E.view err.old) (E.view err.new) said }
 {
     one_reading();
     one_program();
     one_file();
-    let stop = match call(alloc, words, shelf, out) {
+    let answer = match call(alloc, words, shelf, out) {
         Ok(()) => return Status::Done,
-        Err(stop) => stop,
+        Err(stop) => answer_to(stop),
     };
-    let _ = put_line(err, stop);
-    status_of(stop)
+    let _ = put_line(err, answer.said);
+    answer.status
 }

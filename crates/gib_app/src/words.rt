@@ -18,8 +18,8 @@ fn sample() -> Plan<'static>
     ensures { plan_of result ≡ sample_plan }
 {
     Plan {
-        source: Document::Brought(SAMPLE_SOURCE),
-        second: Some(Document::Brought(SAMPLE_INPUT)),
+        source: Document::BuiltIn(SAMPLE_SOURCE),
+        second: Some(Document::BuiltIn(SAMPLE_INPUT)),
         target: None,
         job: Job::Run,
         options: usual(),

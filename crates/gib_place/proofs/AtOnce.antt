@@ -1,7 +1,7 @@
 -- Each body by itself: placed, and its variables numbered.
 use Rattle.std.proofs.Common.{◌≡◌, List, [], ◌∷◌, map, length, refl}
 use Rattle.gib_core.specs.Tree.{FunctionTerm, CoreTree}
-use Rattle.gib_place.specs.Placing.{place_body, place_function, place_bodies}
+use Rattle.gib_place.specs.Placing.{place_body, place_function}
 use Rattle.gib_place.specs.Numbering.{number_anew, number_function, place_core}
 
 abbrev pub function_at_once : FunctionTerm → FunctionTerm

@@ -1,24 +1,22 @@
 -- Where a binding is placed.
-use Rattle.std.proofs.Common.{◌≡◌, ℕ, zero, suc, ◌+◌, ◌-◌, ◌<◌, ◌≤◌, Bool, true, false, not, ◌&&◌, ◌||◌, ◌==◌, if◌then◌else◌, List, [], ◌∷◌, ◌++◌, map, length, take, drop, get_or, Option, Some, None, refl, sym, ap, ◌∙◌, subst, arith}
+use Rattle.std.proofs.Common.{◌≡◌, ℕ, zero, suc, ◌+◌, ◌-◌, ◌<◌, ◌≤◌, Bool, true, false, not, ◌&&◌, ◌||◌, ◌==◌, if◌then◌else◌, List, [], ◌∷◌, ◌++◌, map, length, take, drop, get_or, Option, Some, None, refl, sym, ap, ◌∙◌, arith}
 use Rattle.std.specs.List.{list_any}
 use Rattle.std.proofs.lemmas.List.{drop_more, drop_all}
 use Rattle.std.proofs.lemmas.Bool.{eqb-true, false_from_ne_true}
-use Rattle.gib_types.specs.declared.table.Ty.{Ty}
 use Rattle.gib_core.specs.declared.atom.Variable.{Variable}
 use Rattle.gib_core.specs.declared.atom.Atom.{Atom}
 use Rattle.gib_core.specs.declared.atom.Atom.TheVariants as a
 use Rattle.gib_core.specs.declared.atom.Kind.TheVariants.{Here, Region, Scalar}
 use Rattle.gib_core.specs.declared.node.BoundTerm.{BoundTerm}
 use Rattle.gib_core.specs.declared.node.Binding.TheVariants as b
-use Rattle.gib_core.specs.Tree.{Term, Side, On, One, Both, variable_of}
+use Rattle.gib_core.specs.Tree.{Term, Side, On, One, Both}
 use Rattle.gib_core.specs.Arena.{side_from}
 use Rattle.gib_core.specs.Reaching.{is_variable}
-use Rattle.gib_core.specs.Rules.{is_among}
 use Rattle.gib_place.specs.declared.field.Field.{Field}
 use Rattle.gib_place.specs.declared.line.Spot.{Spot}
-use Rattle.gib_place.specs.Late.{Seen, is_late, is_late_or}
-use Rattle.gib_place.specs.Placing.{Cut, before_cut, cut_at, is_one, are_there, are_none, PlacedSide, place_at, place_side, PlacedBind, place_one, place_right, place_too, place_both, place_bind}
-use Rattle.gib_place.specs.Filled.{cut_from, put_here, side_at, side_placed, IsPlace, placed_at, bind_placed, AreLate}
+use Rattle.gib_place.specs.Late.{Seen, is_late_or}
+use Rattle.gib_place.specs.Placing.{Cut, before_cut, cut_at, is_one, are_there, are_none, place_at, place_side, place_one, place_right, place_too, place_both, place_bind}
+use Rattle.gib_place.specs.Filled.{cut_from, put_here, side_at, side_placed, placed_at, bind_placed, AreLate}
 use Rattle.gib_place.proofs.Lays.{append_append}
 
 pub map_take : {A : Type 0} {B : Type 0} (g : A → B) (xs : List A) (n : ℕ) → map g (take n xs) ≡ take n (map g xs)

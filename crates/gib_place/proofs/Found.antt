@@ -1,21 +1,20 @@
 -- Which line fills a head.
-use Rattle.std.proofs.Common.{◌≡◌, ℕ, zero, suc, ◌+◌, ◌<◌, ◌≤◌, List, [], ◌∷◌, ◌++◌, map, length, take, drop, get_or, Option, Some, None, refl, sym, ap, ◌∙◌, subst, arith}
+use Rattle.std.proofs.Common.{◌≡◌, ℕ, suc, ◌+◌, ◌<◌, ◌≤◌, List, [], ◌∷◌, ◌++◌, map, length, take, drop, get_or, Option, Some, None, refl, sym, ap, ◌∙◌, arith}
 use Rattle.std.specs.Prelude.{Result, Ok, Err, IfOk}
 use Rattle.std.specs.List.{AllByRecursion}
 use Rattle.std.proofs.lemmas.List.{drop_more, drop_all}
-use Rattle.gib_types.specs.declared.table.Ty.{Ty}
 use Rattle.gib_types.specs.declared.table.ConId.{ConId}
 use Rattle.gib_core.specs.declared.atom.Variable.{Variable}
 use Rattle.gib_core.specs.declared.atom.Atom.{Atom}
 use Rattle.gib_core.specs.declared.atom.Kind.TheVariants.{Here, Region, Scalar}
 use Rattle.gib_core.specs.declared.node.Binding.{Binding}
 use Rattle.gib_core.specs.declared.node.Binding.TheVariants as b
-use Rattle.gib_core.specs.Tree.{Term, Then, Write, Point, CallTerm, Give, CaseTerm, IfTerm, Bind, Past, One, Both, Prim, Reach, Side, On, prepend}
+use Rattle.gib_core.specs.Tree.{Term, Then, Write, Point, CallTerm, Give, CaseTerm, IfTerm, Bind, Past, One, Both, Prim, Reach, On, prepend}
 use Rattle.gib_core.specs.Arena.{IsBindingBelow, bind_from, binds_from}
 use Rattle.gib_place.specs.declared.field.Field.{Field}
 use Rattle.gib_place.specs.declared.line.Line.{Line}
 use Rattle.gib_place.specs.Placing.{pointing, Ending, Filling, field_first, binding_first, room_first, ending_of, filling_of}
-use Rattle.gib_place.specs.Filled.{field_of, ArePointing, bindings_first, room_in, filling_from, IsLineOf}
+use Rattle.gib_place.specs.Filled.{field_of, ArePointing, bindings_first, room_in, filling_from}
 use Rattle.gib_place.proofs.Lays.{append_append}
 use Rattle.gib_place.proofs.Cutting.{take_more_one}
 

@@ -17,7 +17,7 @@ pub mod Built
 pub mod Places
 pub mod Shifted
 pub mod Tallied
-pub mod Walked
+pub mod Mentioning
 pub mod Listed
 pub mod Fronting
 pub mod Cutting

@@ -1,5 +1,5 @@
 -- What the steps of the walk make of what their parts made.
-use Rattle.std.proofs.Common.{◌≡◌, ℕ, zero, suc, ◌+◌, ◌<◌, ◌≤◌, Bool, true, false, if◌then◌else◌, List, [], ◌∷◌, ◌++◌, map, length, drop, get_or, reverse, Option, Some, None, refl, sym, ap, ◌∙◌, subst, arith}
+use Rattle.std.proofs.Common.{◌≡◌, ℕ, ◌+◌, ◌<◌, ◌≤◌, Bool, true, false, if◌then◌else◌, List, [], ◌∷◌, ◌++◌, map, length, drop, get_or, reverse, Option, Some, None, refl, sym, ap, ◌∙◌, subst, arith}
 use Rattle.std.specs.Prelude.{Result, Ok, Err, IfOk}
 use Rattle.std.specs.List.{AllByRecursion}
 use Rattle.std.proofs.lemmas.List.{drop_more, drop_all, reverse-append}
@@ -14,17 +14,17 @@ use Rattle.gib_core.specs.declared.node.Node.TheVariants as n
 use Rattle.gib_core.specs.declared.node.TermId.{TermId}
 use Rattle.gib_core.specs.Tree.{Term, Then, Write, Point, CallTerm, Give, CaseTerm, IfTerm, Bind, Past, One, Both, Prim, Reach, Side, On, BranchThen, prepend}
 use Rattle.gib_core.specs.Inferring.{as_atoms}
-use Rattle.gib_core.specs.Arena.{Grows, IsBindingBelow, IsBranchBelow, IsLine, bind_from, binds_from, branches_from, layer, term_of}
+use Rattle.gib_core.specs.Arena.{Grows, IsBindingBelow, IsLine, bind_from, binds_from, branches_from, layer, term_of}
 use Rattle.gib_place.specs.declared.field.Field.{Field}
 use Rattle.gib_place.specs.declared.line.Head.{Head}
 use Rattle.gib_place.specs.declared.line.Line.{Line}
 use Rattle.gib_place.specs.declared.line.Laid.{Laid as Made}
-use Rattle.gib_place.specs.Placing.{Filling, binding_first, room_first, filling_of, ending_of, fill, are_fields, lay, laid_line, place_line, place_inner, inner_bind, inner_branches, place}
+use Rattle.gib_place.specs.Placing.{binding_first, room_first, filling_of, ending_of, fill, are_fields, lay, laid_line, place_line, place_inner, inner_bind, inner_branches, place}
 use Rattle.gib_place.specs.Filled.{field_of, IsOtherEnd, LaysLine, filling_from, ending_with}
 use Rattle.gib_place.specs.Made.{MakesTerm, MakesBinding, MakesBindings, MakesSide, MakesBranch, MakesBranches}
 use Rattle.gib_place.proofs.Lays.{append_append}
 use Rattle.gib_place.proofs.Found.{with_field, ending_then}
-use Rattle.gib_place.proofs.Fronting.{binding_below_more, below_more, below_push, branches_below_more, binds_same, branches_same, grows_more, grows_none}
+use Rattle.gib_place.proofs.Fronting.{below_more, below_push, branches_below_more, binds_same, branches_same, grows_more, grows_none}
 
 nothing_behind : {A : Type 0} (xs : List A) → xs ++ [] ≡ xs
 nothing_behind [] = refl

@@ -1,7 +1,7 @@
 -- A line is laid, one binding after another.
-use Rattle.std.proofs.Common.{◌≡◌, ℕ, zero, suc, ◌+◌, ◌-◌, ◌<◌, ◌≤◌, Bool, true, false, ◌||◌, if◌then◌else◌, nat_lt, List, [], ◌∷◌, ◌++◌, map, length, take, drop, get_or, Option, Some, None, refl, sym, ap, ◌∙◌, subst, arith}
+use Rattle.std.proofs.Common.{◌≡◌, ℕ, zero, suc, ◌+◌, ◌-◌, ◌<◌, ◌≤◌, Bool, true, false, List, [], ◌∷◌, ◌++◌, map, length, take, drop, get_or, Some, None, refl, sym, ap, ◌∙◌, subst, arith}
 use Rattle.std.specs.List.{AllByRecursion}
-use Rattle.std.specs.Prelude.{slice_index, Result, Ok, Err, OnOk}
+use Rattle.std.specs.Prelude.{Result, Ok, Err, OnOk}
 use Rattle.std.proofs.lemmas.List.{drop_more, drop_all, map-append}
 use Rattle.gib_types.specs.declared.table.ConId.{ConId}
 use Rattle.gib_core.specs.declared.atom.Variable.{Variable}
@@ -14,9 +14,9 @@ use Rattle.gib_place.specs.declared.field.Field.{Field}
 use Rattle.gib_place.specs.declared.line.Line.{Line}
 use Rattle.gib_place.specs.declared.line.Spot.{Spot}
 use Rattle.gib_place.specs.declared.line.Laid.{Laid as Made}
-use Rattle.gib_place.specs.Late.{Seen, is_late, ArePast, Binds, Timed, binding_variables, run_variables}
+use Rattle.gib_place.specs.Late.{Seen, is_late, Timed, binding_variables, run_variables}
 use Rattle.gib_place.specs.Placing.{pointing, bound_by, bound_in, Laid, fields_laid, laid_behind, lay_bind, place_bind, lay}
-use Rattle.gib_place.specs.Filled.{ArePointing, placed_at, IsSpotBelow, AreLate, room_left, laid_with, room_binding, standing_of, Opens, Puts, LaysSpot, Lays, LaysLine, IsLineOf}
+use Rattle.gib_place.specs.Filled.{ArePointing, placed_at, AreLate, room_left, laid_with, room_binding, standing_of, Opens, Puts, LaysSpot, Lays, LaysLine, IsLineOf}
 use Rattle.gib_place.proofs.Lays.{append_append}
 use Rattle.gib_place.proofs.Cutting.{map_take, map_drop, drop_drop, take_all, drop_rest, tail_is}
 use Rattle.gib_place.proofs.Fronting.{below_push}

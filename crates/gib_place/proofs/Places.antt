@@ -1,99 +1,62 @@
 -- The places of a list, and one more number behind it.
-use Rattle.std.proofs.lemmas.Bool.{eqb-true}
-use Rattle.std.proofs.Common.{◌≡◌, ℕ, suc, ◌+◌, Bool, true, false, ◌==◌, if◌then◌else◌, List, [], ◌∷◌, ◌++◌, length, Option, Some, None, refl, sym, ap, ◌∙◌, subst, arith}
-use Rattle.std.specs.Option.{is_some}
+use Rattle.std.proofs.lemmas.List.{append-nil, drop_more, drop_all}
+use Rattle.std.proofs.Common.{◌≡◌, ℕ, suc, ◌+◌, ◌<◌, ◌≤◌, Bool, true, false, ◌==◌, if◌then◌else◌, List, [], ◌∷◌, ◌++◌, length, drop, get_or, Option, Some, None, refl, sym, ap, ◌∙◌, subst, arith}
+use Rattle.gib_base.specs.Entries.{entry_at}
+use Rattle.gib_place.specs.declared.mention.Mention.{Mention}
+use Rattle.gib_place.specs.Mentioned.{binder, binders_in}
 use Rattle.gib_place.specs.Numbering.{place_in}
-use Rattle.gib_place.specs.Numbered.{further, place_of, entry_at, ArePlaces}
+use Rattle.gib_place.specs.Numbered.{place_from, ArePlaces}
+use Rattle.gib_place.proofs.Lays.{append_append}
 
-abbrev IsPlaced : List ℕ → ℕ → Option ℕ → Type 0
-IsPlaced xs x None = place_in xs x ≡ x + length xs
-IsPlaced xs x (Some place) = place_in xs x ≡ place
+abbrev IsPlaced : ℕ → List ℕ → ℕ → Option ℕ → Type 0
+IsPlaced n xs x None = place_in xs x ≡ x + length xs
+IsPlaced n xs x (Some place) = n + place_in xs x ≡ place
 
-placed_step : (b : Bool) (xs : List ℕ) (x : ℕ) (o : Option ℕ) → IsPlaced xs x o → (y : ℕ) → (y == x) ≡ b → IsPlaced (y ∷ xs) x (if b then Some 0 else further o)
-placed_step true xs x o h y e = ap (λ (c : Bool). if c then 0 else suc (place_in xs x)) e
-placed_step false xs x None h y e = ap (λ (c : Bool). if c then 0 else suc (place_in xs x)) e ∙ (let q = ap suc h in omega arith)
-placed_step false xs x (Some place) h y e = ap (λ (c : Bool). if c then 0 else suc (place_in xs x)) e ∙ ap suc h
+placed_step : (b : Bool) (n : ℕ) (xs : List ℕ) (x : ℕ) (o : Option ℕ) → IsPlaced (suc n) xs x o → (y : ℕ) → (y == x) ≡ b → IsPlaced n (y ∷ xs) x (if b then Some n else o)
+placed_step true n xs x o h y e = ap (λ (c : Bool). n + (if c then 0 else suc (place_in xs x))) e ∙ (let z : n + 0 ≡ n = omega arith in z)
+placed_step false n xs x None h y e = ap (λ (c : Bool). if c then 0 else suc (place_in xs x)) e ∙ (let q = ap suc h in omega arith)
+placed_step false n xs x (Some place) h y e = ap (λ (c : Bool). n + (if c then 0 else suc (place_in xs x))) e ∙ (let q = h in omega arith)
 
-is_placed : (xs : List ℕ) (x : ℕ) → IsPlaced xs x (place_of xs x)
-is_placed [] x = omega arith
-is_placed (y ∷ xs) x = placed_step (y == x) xs x (place_of xs x) (is_placed xs x) y refl
+is_placed : (n : ℕ) (xs : List ℕ) (x : ℕ) → IsPlaced n xs x (place_from n xs x)
+is_placed n [] x = omega arith
+is_placed n (y ∷ xs) x = placed_step (y == x) n xs x (place_from (suc n) xs x) (is_placed (suc n) xs x) y refl
 
-at_place : (xs : List ℕ) (x : ℕ) (o : Option ℕ) → place_of xs x ≡ o → IsPlaced xs x o
-at_place xs x o e = subst (λ (p : Option ℕ). IsPlaced xs x p) e (is_placed xs x)
+at_place : (xs : List ℕ) (x : ℕ) (o : Option ℕ) → place_from 0 xs x ≡ o → IsPlaced 0 xs x o
+at_place xs x o e = subst (λ (p : Option ℕ). IsPlaced 0 xs x p) e (is_placed 0 xs x)
 
-pub place_there : (xs : List ℕ) (x place : ℕ) → place_of xs x ≡ Some place → place_in xs x ≡ place
-place_there xs x place e = at_place xs x (Some place) e
+pub number_there : (xs ys : List ℕ) (entries : List (Option ℕ)) (x place : ℕ) (r : Option ℕ) → ArePlaces ys entries → ys ≡ xs → r ≡ entry_at entries x → r ≡ Some place → place ≡ place_in xs x
+number_there xs ys entries x place r h e g i =
+    let there : 0 + place_in xs x ≡ place = at_place xs x (Some place) (ap (λ l. place_from 0 l x) (sym e) ∙ (sym (h x) ∙ (sym g ∙ i))) in omega arith
 
-pub place_behind : (xs : List ℕ) (x : ℕ) → place_of xs x ≡ None → place_in xs x ≡ x + length xs
-place_behind xs x e = at_place xs x None e
+pub number_behind : (xs ys : List ℕ) (entries : List (Option ℕ)) (x : ℕ) (r : Option ℕ) → ArePlaces ys entries → ys ≡ xs → r ≡ entry_at entries x → r ≡ None → x + length ys ≡ place_in xs x
+number_behind xs ys entries x r h e g i =
+    ap (λ l. x + length l) e ∙ sym (at_place xs x None (ap (λ l. place_from 0 l x) (sym e) ∙ (sym (h x) ∙ (sym g ∙ i))))
 
--- A number behind a list that holds it, or not.
-abbrev with_last : Option ℕ → ℕ → ℕ → ℕ → Option ℕ
-with_last (Some place) last x n = Some place
-with_last None last x n = if last == x then Some n else None
+-- Places are set from the last variable to the first.
+pub places_start : (xs : List ℕ) (n : ℕ) → n ≡ length xs → (x : ℕ) → entry_at [] x ≡ place_from n (drop n xs) x
+places_start xs n e x = sym (ap (λ l. place_from n l x) (drop_all n xs (let l = e in omega arith)))
 
-last_step : (b : Bool) (o : Option ℕ) (last x n : ℕ) → (if b then Some 0 else further (with_last o last x n)) ≡ with_last (if b then Some 0 else further o) last x (suc n)
-last_step true o last x n = refl
-last_step false (Some place) last x n = refl
-last_step false None last x n = go (last == x)
-  where
-    go : (c : Bool) → further (if c then Some n else None) ≡ (if c then Some (suc n) else None)
-    go true = refl
-    go false = refl
-
-pub place_of-last : (xs : List ℕ) (last x : ℕ) → place_of (xs ++ last ∷ []) x ≡ with_last (place_of xs x) last x (length xs)
-place_of-last [] last x = refl
-place_of-last (y ∷ xs) last x =
-    ap (λ o. if y == x then Some 0 else further o) (place_of-last xs last x) ∙ last_step (y == x) (place_of xs x) last x (length xs)
-
-pub number_there : (xs ys : List ℕ) (entries seen : List (Option ℕ)) (x place : ℕ) (r : Option ℕ) → ArePlaces ys entries → ys ≡ xs → seen ≡ entries → r ≡ entry_at seen x → r ≡ Some place → place ≡ place_in xs x
-number_there xs ys entries seen x place r h e f g i =
-    sym (place_there xs x place (ap (λ l. place_of l x) (sym e) ∙ (sym (h x) ∙ (ap (λ l. entry_at l x) (sym f) ∙ (sym g ∙ i)))))
-
-pub number_behind : (xs ys : List ℕ) (entries seen : List (Option ℕ)) (x : ℕ) (r : Option ℕ) → ArePlaces ys entries → ys ≡ xs → seen ≡ entries → r ≡ entry_at seen x → r ≡ None → x + length ys ≡ place_in xs x
-number_behind xs ys entries seen x r h e f g i =
-    ap (λ l. x + length l) e ∙ sym (place_behind xs x (ap (λ l. place_of l x) (sym e) ∙ (sym (h x) ∙ (ap (λ l. entry_at l x) (sym f) ∙ (sym g ∙ i)))))
-
-last_new : (o : Option ℕ) (last x n : ℕ) (b : Bool) → (last == x) ≡ b → (b ≡ true → o ≡ None) → (if b then Some n else o) ≡ with_last o last x n
-last_new (Some place) last x n true e h = absurd (let e = h refl in cc)
-last_new (Some place) last x n false e h = refl
-last_new None last x n true e h = ap (λ c. if c then Some n else None) (sym e)
-last_new None last x n false e h = ap (λ c. if c then Some n else None) (sym e)
-
-pub push_new : (xs all : List ℕ) (entries room new : List (Option ℕ)) (last place : ℕ) → ArePlaces xs entries → ((o : ℕ) → entry_at room o ≡ entry_at entries o) → entry_at room last ≡ None
-    → ((o : ℕ) → entry_at new o ≡ (if last == o then Some place else entry_at room o)) → place ≡ length xs → all ≡ xs ++ last ∷ [] → (x : ℕ) → entry_at new x ≡ place_of all x
-push_new xs all entries room new last place h same none set is e x =
+pub places_next : (xs : List ℕ) (i j y d place : ℕ) (old new : List (Option ℕ)) → j ≡ i + 1 → j ≤ length xs → y ≡ get_or xs i d → place ≡ i → ((x : ℕ) → entry_at old x ≡ place_from j (drop j xs) x)
+    → ((o : ℕ) → entry_at new o ≡ (if y == o then Some place else entry_at old o)) → (x : ℕ) → entry_at new x ≡ place_from i (drop i xs) x
+places_next xs i j y d place old new ej le e is h set x =
+    let left : drop i xs ≡ y ∷ drop (i + 1) xs = drop_more xs i d (omega (arith, ej, le)) ∙ ap (λ (z : ℕ). z ∷ drop (i + 1) xs) (sym e) in
+    let further : j ≡ suc i = omega arith in
     set x
-    ∙ ((λ i. if last == x then Some (is i) else (same x ∙ h x) i)
-    ∙ (last_new (place_of xs x) last x (length xs) (last == x) refl (λ q. ap (place_of xs) (sym (eqb-true last x q)) ∙ (sym (same last ∙ h last) ∙ none))
-    ∙ (sym (place_of-last xs last x) ∙ ap (λ l. place_of l x) (sym e))))
+    ∙ ((λ k. if y == x then Some (is k) else h x k)
+    ∙ ((λ k. if y == x then Some i else place_from (further k) (drop (ej k) xs) x) ∙ sym (ap (λ l. place_from i l x) left)))
 
-last_old : (o : Option ℕ) (last x n p : ℕ) → ((last == x) ≡ true → o ≡ Some p) → o ≡ with_last o last x n
-last_old (Some place) last x n p h = refl
-last_old None last x n p h = go (last == x) refl
-  where
-    go : (b : Bool) → (last == x) ≡ b → None ≡ (if b then Some n else None)
-    go true q = absurd (let e = h q in cc)
-    go false q = refl
+pub places_end : (xs : List ℕ) (i : ℕ) (entries : List (Option ℕ)) → i ≡ 0 → ((x : ℕ) → entry_at entries x ≡ place_from i (drop i xs) x) → (x : ℕ) → entry_at entries x ≡ place_from 0 xs x
+places_end xs i entries e h x = h x ∙ ap (λ k. place_from k (drop k xs) x) e
 
-pub push_old : (xs all : List ℕ) (entries room : List (Option ℕ)) (last p : ℕ) → ArePlaces xs entries → ((o : ℕ) → entry_at room o ≡ entry_at entries o) → entry_at room last ≡ Some p
-    → all ≡ xs ++ last ∷ [] → (x : ℕ) → entry_at room x ≡ place_of all x
-push_old xs all entries room last p h same there e x =
-    (same x ∙ h x)
-    ∙ (last_old (place_of xs x) last x (length xs) p (λ q. ap (place_of xs) (sym (eqb-true last x q)) ∙ (sym (same last ∙ h last) ∙ there))
-    ∙ (sym (place_of-last xs last x) ∙ ap (λ l. place_of l x) (sym e)))
+-- Variables that are bound, one after another.
+pub none_bound : (old : List ℕ) → old ≡ old ++ []
+none_bound old = sym (append-nil old)
 
-none_of : (r : Option ℕ) → is_some r ≡ false → r ≡ None
-none_of None e = refl
-none_of (Some x) e = absurd cc
+pub binders_next : (ms : List Mention) (i : ℕ) (m d : Mention) (old now new : List ℕ) → i < length ms → m ≡ get_or ms i d → now ++ binders_in (drop i ms) ≡ old ++ binders_in ms → new ≡ now ++ binder m → new ++ binders_in (drop (i + 1) ms) ≡ old ++ binders_in ms
+binders_next ms i m d old now new lt e h a =
+    let left : drop i ms ≡ m ∷ drop (i + 1) ms = drop_more ms i d lt ∙ ap (λ (z : Mention). z ∷ drop (i + 1) ms) (sym e) in
+    let rest = binders_in (drop (i + 1) ms) in
+    ap (λ l. l ++ rest) a ∙ (append_append now (binder m) rest ∙ (sym (ap (λ l. now ++ binders_in l) left) ∙ h))
 
-pub push_none : (xs all : List ℕ) (entries room seen new : List (Option ℕ)) (last place : ℕ) (r : Option ℕ) → ArePlaces xs entries → ((o : ℕ) → entry_at room o ≡ entry_at entries o) → seen ≡ room → r ≡ entry_at seen last → is_some r ≡ false
-    → ((o : ℕ) → entry_at new o ≡ (if last == o then Some place else entry_at room o)) → place ≡ length xs → all ≡ xs ++ last ∷ [] → (x : ℕ) → entry_at new x ≡ place_of all x
-push_none xs all entries room seen new last place r h same f g none set is e =
-    push_new xs all entries room new last place h same (ap (λ l. entry_at l last) (sym f) ∙ (sym g ∙ none_of r none)) set is e
-
-pub push_some : (xs all : List ℕ) (entries room seen : List (Option ℕ)) (last : ℕ) (r : Option ℕ) → ArePlaces xs entries → ((o : ℕ) → entry_at room o ≡ entry_at entries o) → seen ≡ room → r ≡ entry_at seen last → is_some r ≡ true
-    → all ≡ xs ++ last ∷ [] → (x : ℕ) → entry_at room x ≡ place_of all x
-push_some xs all entries room seen last None h same f g there e = absurd cc
-push_some xs all entries room seen last (Some p) h same f g there e =
-    push_old xs all entries room last p h same (ap (λ l. entry_at l last) (sym f) ∙ sym g) e
+pub binders_end : (ms : List Mention) (i : ℕ) (old now : List ℕ) → length ms ≤ i → now ++ binders_in (drop i ms) ≡ old ++ binders_in ms → now ≡ old ++ binders_in ms
+binders_end ms i old now le h = sym (append-nil now) ∙ (ap (λ l. now ++ binders_in l) (sym (drop_all i ms le)) ∙ h)

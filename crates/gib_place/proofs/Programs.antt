@@ -1,10 +1,9 @@
 -- Whole cores are placed.
 use Rattle.std.proofs.Common.{◌≡◌, ℕ, zero, suc, ◌+◌, ◌<◌, ◌≤◌, List, [], ◌∷◌, ◌++◌, map, length, reverse, refl, sym, ap, ◌∙◌, subst, arith, append_assoc}
-use Rattle.std.specs.Prelude.{Result, Ok, Err, IfOk}
+use Rattle.std.specs.Prelude.{Option, Result, Ok, Err, IfOk}
 use Rattle.std.specs.List.{AllByRecursion}
 use Rattle.std.proofs.lemmas.List.{append-nil, map-append, reverse-append}
 use Rattle.gib_types.specs.declared.table.ConId.{ConId}
-use Rattle.gib_types.specs.declared.table.Ty.{Ty}
 use Rattle.gib_types.specs.Row.{Table}
 use Rattle.gib_types.specs.Tree.{Datum}
 use Rattle.gib_syntax.specs.Tree.{DataTree}
@@ -21,14 +20,13 @@ use Rattle.gib_core.specs.Inferring.{numbers_from}
 use Rattle.gib_core.specs.Numbering.{binders, AreNumbered}
 use Rattle.gib_core.specs.Reachable.{AreReachable}
 use Rattle.gib_core.proofs.Signatures.{functions_declared, declared_functions}
-use Rattle.gib_place.specs.Placing.{count, place, place_body, is_once, place_function, place_main}
+use Rattle.gib_place.specs.Placing.{count, place, place_body, is_once, place_function}
 use Rattle.gib_place.specs.Renaming.{rename}
-use Rattle.gib_place.specs.Numbering.{place_in, variables_in, number_anew, number_function, number_main, place_core}
+use Rattle.gib_place.specs.Numbering.{place_in, variables_in, number_anew, number_function, place_core}
 use Rattle.gib_place.specs.SameSource.{IsSameProgram}
 use Rattle.gib_place.specs.Tallying.{Adds}
 use Rattle.gib_place.specs.Filled.{once_by}
 use Rattle.gib_place.specs.Made.{MakesTerm, PlacesFunction, PlacesFunctions, PlacesMain}
-use Rattle.gib_place.proofs.Lays.{append_append}
 use Rattle.gib_place.proofs.Tallied.{once_told}
 use Rattle.gib_place.proofs.Fronting.{grows_more, grows_none}
 
@@ -47,7 +45,7 @@ pub numbers_all : (parameters count i : ℕ) (old new : List ℕ) (t : Term) →
 numbers_all parameters count i old new t ec le ge e a = a ∙ (let same : i ≡ parameters = omega arith in λ k. (e ∙ ap (numbers_from 0) same) k ++ binders t)
 
 -- A body.
-pub body_made : (terms scratch old new : List Node) (empty : List Node) (id placed made : TermId) (tally numbers : List ℕ) (parameters : ℕ) → Adds [] tally (count (term_of terms id.0)) → MakesTerm empty scratch placed (place (once_by tally) (term_of terms id.0))
+pub body_made : (terms scratch old new : List Node) (empty : List Node) (id placed made : TermId) (tally : List (Option ℕ)) (numbers : List ℕ) (parameters : ℕ) → Adds [] tally (count (term_of terms id.0)) → MakesTerm empty scratch placed (place (once_by tally) (term_of terms id.0))
     → numbers ≡ variables_in parameters (term_of scratch placed.0) → MakesTerm old new made (rename (place_in numbers) (term_of scratch placed.0)) → MakesTerm old new made (number_anew parameters (place_body (term_of terms id.0)))
 body_made terms scratch old new empty id placed made tally numbers parameters a p en m =
     let t = term_of terms id.0 in

@@ -1,6 +1,5 @@
 -- Branches that are copied one after another.
-use Rattle.std.proofs.Common.{◌≡◌, ℕ, ◌+◌, ◌<◌, List, [], ◌∷◌, ◌++◌, map, length, drop, get_or, reverse, ◌≤◌, Vec, Global, refl, sym, ap, ◌∙◌, subst, arith, ⊎_elim}
-use Rattle.std.specs.List.{AllByRecursion}
+use Rattle.std.proofs.Common.{◌≡◌, ℕ, ◌+◌, List, [], ◌∷◌, ◌++◌, length, drop, get_or, reverse, ◌≤◌, Vec, Global, refl, sym, ap, ◌∙◌, subst, arith, ⊎_elim}
 use Rattle.gib_core.specs.declared.node.Branch.{Branch}
 use Rattle.std.proofs.str.Laws.{order}
 use Rattle.std.proofs.lemmas.List.{drop_more, reverse-append}
@@ -9,11 +8,11 @@ use Rattle.gib_core.specs.declared.node.TermId.{TermId}
 use Rattle.gib_core.specs.declared.node.Node.TheVariants as n
 use Rattle.gib_core.specs.declared.atom.Atom.{Atom}
 use Rattle.gib_core.specs.declared.node.Node.{Node}
-use Rattle.gib_core.specs.Tree.{Term, Then, CaseTerm, BranchThen}
-use Rattle.gib_core.specs.Arena.{IsBranchBelow, branches_from, term_of, Opens, Makes}
-use Rattle.gib_place.specs.Renaming.{Renaming, rename_branches, rename_variable, rename_atom, rename}
+use Rattle.gib_core.specs.Tree.{Then, CaseTerm, BranchThen}
+use Rattle.gib_core.specs.Arena.{term_of, Opens, Makes}
+use Rattle.gib_place.specs.Renaming.{Renaming, rename_atom, rename}
 use Rattle.gib_place.specs.Numbering.{place_in}
-use Rattle.gib_place.specs.Shifting.{Shifts, BindingShifted, BranchShifted, BranchesShifted, NodeShifted, Copies}
+use Rattle.gib_place.specs.Shifting.{BindingShifted, BranchShifted, BranchesShifted, NodeShifted, Copies}
 
 pub shifted_none : (r : Renaming) (base : ℕ) → BranchesShifted r base [] []
 shifted_none r base = record { below = λ id h. tt; are = λ id f g h s. refl }

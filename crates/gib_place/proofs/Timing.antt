@@ -1,6 +1,6 @@
 -- When variables were bound.
-use Rattle.std.proofs.Common.{◌≡◌, ℕ, zero, suc, ◌+◌, ◌<◌, ◌≤◌, Bool, true, false, ◌||◌, ◌==◌, nat_lt, if◌then◌else◌, List, [], ◌∷◌, ◌++◌, length, drop, get_or, refl, sym, ap, ◌∙◌, subst, arith, ⊎_elim}
-use Rattle.std.specs.Prelude.{slice_index}
+use Rattle.std.proofs.Common.{◌≡◌, ℕ, ◌+◌, ◌<◌, ◌≤◌, Bool, true, false, ◌||◌, ◌==◌, nat_lt, if◌then◌else◌, List, [], ◌∷◌, length, drop, get_or, refl, sym, ap, ◌∙◌, arith, ⊎_elim}
+use Rattle.gib_place.specs.Numbered.{number_at}
 use Rattle.std.proofs.str.Laws.{order}
 use Rattle.std.proofs.lemmas.Bool.{lt-ltb, le-ltb}
 use Rattle.std.proofs.lemmas.List.{drop_more, drop_all}
@@ -14,17 +14,17 @@ use Rattle.gib_place.specs.Late.{Seen, is_late, ArePast, Ticks, Marks, Binds, Ti
 pub binds_one : (old mid new : Seen) (binding : Binding) (x : Variable) → Ticks old mid → Marks mid new x → binding_variables binding ≡ x ∷ [] → Binds old new binding
 binds_one old mid new binding x t m e = record {
   clock = m.clock ∙ t.clock;
-  each = λ y. m.each y.0 ∙ (λ i. if x.0 == y.0 then t.clock i else slice_index (t.times i) y.0) ∙ go y (x.0 == y.0) ∙ ap (λ xs. if is_among xs y then old.clock + 1 else slice_index old.times y.0) (sym e);
+  each = λ y. m.each y.0 ∙ (λ i. if x.0 == y.0 then t.clock i else number_at (t.times i) y.0) ∙ go y (x.0 == y.0) ∙ ap (λ xs. if is_among xs y then old.clock + 1 else number_at old.times y.0) (sym e);
 }
   where
-    go : (y : Variable) (b : Bool) → (if b then old.clock + 1 else slice_index old.times y.0) ≡ (if b || false then old.clock + 1 else slice_index old.times y.0)
+    go : (y : Variable) (b : Bool) → (if b then old.clock + 1 else number_at old.times y.0) ≡ (if b || false then old.clock + 1 else number_at old.times y.0)
     go y true = refl
     go y false = refl
 
 pub binds_none : (old new : Seen) (binding : Binding) → Ticks old new → binding_variables binding ≡ [] → Binds old new binding
 binds_none old new binding t e = record {
   clock = t.clock;
-  each = λ y. ap (λ ts. slice_index ts y.0) t.times ∙ ap (λ xs. if is_among xs y then old.clock + 1 else slice_index old.times y.0) (sym e);
+  each = λ y. ap (λ ts. number_at ts y.0) t.times ∙ ap (λ xs. if is_among xs y then old.clock + 1 else number_at old.times y.0) (sym e);
 }
 
 pub binds_two : (old mid after new : Seen) (binding : Binding) (x z : Variable) → Ticks old mid → Marks mid after x → Marks after new z → binding_variables binding ≡ x ∷ z ∷ [] → Binds old new binding
@@ -32,12 +32,12 @@ binds_two old mid after new binding x z t m n e = record {
   clock = n.clock ∙ (m.clock ∙ t.clock);
   each = λ y.
       n.each y.0
-      ∙ (λ i. if z.0 == y.0 then (m.clock ∙ t.clock) i else (m.each y.0 ∙ (λ j. if x.0 == y.0 then t.clock j else slice_index (t.times j) y.0)) i)
+      ∙ (λ i. if z.0 == y.0 then (m.clock ∙ t.clock) i else (m.each y.0 ∙ (λ j. if x.0 == y.0 then t.clock j else number_at (t.times j) y.0)) i)
       ∙ go y (x.0 == y.0) (z.0 == y.0)
-      ∙ ap (λ xs. if is_among xs y then old.clock + 1 else slice_index old.times y.0) (sym e);
+      ∙ ap (λ xs. if is_among xs y then old.clock + 1 else number_at old.times y.0) (sym e);
 }
   where
-    go : (y : Variable) (b c : Bool) → (if c then old.clock + 1 else (if b then old.clock + 1 else slice_index old.times y.0)) ≡ (if b || (c || false) then old.clock + 1 else slice_index old.times y.0)
+    go : (y : Variable) (b c : Bool) → (if c then old.clock + 1 else (if b then old.clock + 1 else number_at old.times y.0)) ≡ (if b || (c || false) then old.clock + 1 else number_at old.times y.0)
     go y true true = refl
     go y true false = refl
     go y false true = refl
@@ -57,7 +57,7 @@ timing_start run seen start e past = record {
   past = past;
   late = λ i le y.
       let none : i ≡ 0 = omega arith in
-      let stands : is_late seen (start + i) y ≡ false = le-ltb (start + i) (slice_index seen.times y.0) (let p = past y.0 in omega arith) in
+      let stands : is_late seen (start + i) y ≡ false = le-ltb (start + i) (number_at seen.times y.0) (let p = past y.0 in omega arith) in
       ap (λ n. is_among (run_variables (drop n run)) y) none
       ∙ ap (λ (b : Bool). b || is_among (run_variables run) y) (sym stands);
 }
@@ -73,23 +73,23 @@ timing_next start run k old new x d h lt ex b =
           (λ less. h.late i (omega arith) y ∙ ap (λ xs. is_late old (start + i) y || is_among (run_variables xs) y) left ∙ ap (λ (c : Bool). is_late old (start + i) y || c) (among_append (binding_variables x) (run_variables (drop (k + 1) run)) y) ∙ step i (omega arith) y (is_among (binding_variables x) y) (b.each y))
           (λ more.
           let same : i ≡ k + 1 = omega arith in
-          let stands : is_late new (start + i) y ≡ false = le-ltb (start + i) (slice_index new.times y.0) (let p = past y.0 in let c = b.clock in let e = h.clock in omega arith) in
+          let stands : is_late new (start + i) y ≡ false = le-ltb (start + i) (number_at new.times y.0) (let p = past y.0 in let c = b.clock in let e = h.clock in omega arith) in
           ap (λ n. is_among (run_variables (drop n run)) y) same
           ∙ ap (λ (c : Bool). c || is_among (run_variables (drop (k + 1) run)) y) (sym stands))
           (order i (k + 1));
     }
   where
-    bounded : (y : Variable) (c : Bool) → slice_index new.times y.0 ≡ (if c then old.clock + 1 else slice_index old.times y.0) → slice_index new.times y.0 ≤ new.clock
+    bounded : (y : Variable) (c : Bool) → number_at new.times y.0 ≡ (if c then old.clock + 1 else number_at old.times y.0) → number_at new.times y.0 ≤ new.clock
     bounded y true e = let c = b.clock in omega arith
     bounded y false e = let c = b.clock in let p = h.past y.0 in omega arith
 
     past : ArePast new.clock new.times
     past y = bounded (record { 0 = y }) (is_among (binding_variables x) (record { 0 = y })) (b.each (record { 0 = y }))
 
-    step : (i : ℕ) → i ≤ k → (y : Variable) (c : Bool) → slice_index new.times y.0 ≡ (if c then old.clock + 1 else slice_index old.times y.0)
+    step : (i : ℕ) → i ≤ k → (y : Variable) (c : Bool) → number_at new.times y.0 ≡ (if c then old.clock + 1 else number_at old.times y.0)
         → (is_late old (start + i) y || (c || is_among (run_variables (drop (k + 1) run)) y)) ≡ (is_late new (start + i) y || is_among (run_variables (drop (k + 1) run)) y)
     step i le y true e =
-        let now : is_late new (start + i) y ≡ true = lt-ltb (start + i) (slice_index new.times y.0) (let c = h.clock in omega arith) in
+        let now : is_late new (start + i) y ≡ true = lt-ltb (start + i) (number_at new.times y.0) (let c = h.clock in omega arith) in
         either (is_late old (start + i) y) ∙ ap (λ (c : Bool). c || is_among (run_variables (drop (k + 1) run)) y) (sym now)
       where
         either : (p : Bool) → (p || true) ≡ true

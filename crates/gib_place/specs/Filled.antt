@@ -1,5 +1,5 @@
 -- A line that fills a head as the code keeps it, and what the code says of where its fields are placed.
-use Rattle.std.specs.Prelude.{◌≡◌, ℕ, suc, ◌<◌, ◌≤◌, ◌+◌, Bool, true, false, ◌==◌, if◌then◌else◌, List, [], ◌∷◌, ◌++◌, map, length, take, drop, slice_index, Option, Some, None}
+use Rattle.std.specs.Prelude.{◌≡◌, ℕ, suc, ◌<◌, ◌≤◌, ◌+◌, Bool, true, false, ◌==◌, if◌then◌else◌, List, [], ◌∷◌, ◌++◌, map, take, drop, Option, Some, None}
 use Rattle.std.specs.List.{AllByRecursion}
 use Rattle.std.specs.Global.{Vec}
 use Rattle.gib_types.specs.declared.table.ConId.{ConId}
@@ -9,7 +9,7 @@ use Rattle.gib_core.specs.declared.atom.Kind.TheVariants.{Here}
 use Rattle.gib_core.specs.declared.node.Binding.{Binding}
 use Rattle.gib_core.specs.declared.node.Binding.TheVariants as b
 use Rattle.gib_core.specs.declared.node.BoundTerm.{BoundTerm}
-use Rattle.gib_core.specs.Tree.{Term, Bind, Past, One, Both, Prim, Reach, Side, On, Then, Write, Point, CallTerm, Give, CaseTerm, IfTerm, prepend}
+use Rattle.gib_core.specs.Tree.{Term, Bind, Past, One, Both, Prim, Reach, On, Then, Write, Point, CallTerm, Give, CaseTerm, IfTerm}
 use Rattle.gib_core.specs.Arena.{IsBindingBelow, bind_from, binds_from, side_from}
 use Rattle.gib_core.specs.Rules.{is_among}
 use Rattle.gib_place.specs.declared.field.Field.{Field}
@@ -20,11 +20,12 @@ use Rattle.gib_place.specs.declared.line.Line.{Line}
 use Rattle.gib_place.specs.declared.line.Spot.{Spot}
 use Rattle.gib_place.specs.declared.line.Laid.{Laid as Made}
 use Rattle.gib_place.specs.Late.{Seen, is_late}
-use Rattle.gib_place.specs.Placing.{pointing, Ending, Filling, Cut, PlacedSide, PlacedBind, Laid, place_side, place_bind, lay_bind, laid_behind, lay}
+use Rattle.gib_place.specs.Numbered.{number_at}
+use Rattle.gib_place.specs.Placing.{pointing, Ending, Filling, Cut, PlacedSide, PlacedBind, Laid, place_bind, lay_bind, laid_behind, lay}
 
 -- What a tally of a body tells: which variables are used once.
-abbrev pub once_by : List ℕ → Variable → Bool
-once_by tally x = slice_index tally x.0 == 1
+abbrev pub once_by : List (Option ℕ) → Variable → Bool
+once_by tally x = number_at tally x.0 == 1
 
 -- The field that a binding is, where it is one that points to a value.
 abbrev pub field_of : Bind → Option Field

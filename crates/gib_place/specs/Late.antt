@@ -1,24 +1,25 @@
 -- Which variables a run binds later, told by the times at which they were bound.
-use Rattle.std.specs.Prelude.{◌≡◌, ℕ, ◌+◌, ◌≤◌, Bool, false, ◌||◌, ◌==◌, if◌then◌else◌, nat_lt, slice_index, List, [], ◌∷◌, ◌++◌, length, drop, Option, Some, None}
+use Rattle.std.specs.Prelude.{◌≡◌, ℕ, ◌+◌, ◌≤◌, Bool, false, ◌||◌, ◌==◌, if◌then◌else◌, nat_lt, List, [], ◌∷◌, ◌++◌, length, drop, Option, Some, None}
 use Rattle.gib_core.specs.declared.atom.Variable.{Variable}
 use Rattle.gib_core.specs.declared.atom.Atom.{Atom}
 use Rattle.gib_core.specs.declared.atom.Atom.TheVariants as a
 use Rattle.gib_core.specs.declared.node.Binding.{Binding}
 use Rattle.gib_core.specs.declared.node.Binding.TheVariants as b
 use Rattle.gib_core.specs.Rules.{is_among}
+use Rattle.gib_place.specs.Numbered.{number_at}
 
 -- A clock, and at the number of each variable the time at which it was bound last; past the end, 0.
 pub record Seen : Type 0 where
   pub clock : ℕ
-  pub times : List ℕ
+  pub times : List (Option ℕ)
 
 -- The variable was bound after a moment.
 abbrev pub is_late : Seen → ℕ → Variable → Bool
-is_late seen moment x = nat_lt moment (slice_index seen.times x.0)
+is_late seen moment x = nat_lt moment (number_at seen.times x.0)
 
 -- No time is later than the clock.
-abbrev pub ArePast : ℕ → List ℕ → Type 0
-ArePast clock times = (x : ℕ) → slice_index times x ≤ clock
+abbrev pub ArePast : ℕ → List (Option ℕ) → Type 0
+ArePast clock times = (x : ℕ) → number_at times x ≤ clock
 
 -- The clock went up.
 pub record Ticks (old new : Seen) : Type 0 where
@@ -28,7 +29,7 @@ pub record Ticks (old new : Seen) : Type 0 where
 -- A variable was bound now.
 pub record Marks (old new : Seen) (x : Variable) : Type 0 where
   pub clock : new.clock ≡ old.clock
-  pub each : (y : ℕ) → slice_index new.times y ≡ (if x.0 == y then old.clock else slice_index old.times y)
+  pub each : (y : ℕ) → number_at new.times y ≡ (if x.0 == y then old.clock else number_at old.times y)
 
 -- The variables that a binding binds in its line.
 abbrev pub binding_variables : Binding → List Variable
@@ -46,7 +47,7 @@ run_variables (x ∷ xs) = binding_variables x ++ run_variables xs
 -- The variables of a binding were bound, one moment later.
 pub record Binds (old new : Seen) (binding : Binding) : Type 0 where
   pub clock : new.clock ≡ old.clock + 1
-  pub each : (y : Variable) → slice_index new.times y.0 ≡ (if is_among (binding_variables binding) y then old.clock + 1 else slice_index old.times y.0)
+  pub each : (y : Variable) → number_at new.times y.0 ≡ (if is_among (binding_variables binding) y then old.clock + 1 else number_at old.times y.0)
 
 -- The bindings of a run were bound from a moment on: what is bound from a binding on was bound after its moment.
 pub record Timed (start : ℕ) (run : List Binding) (seen : Seen) : Type 0 where

@@ -1,25 +1,21 @@
--- Variables in an order, and a table of their places.
-use Rattle.std.specs.Prelude.{◌≡◌, ℕ, suc, ◌==◌, if◌then◌else◌, List, [], ◌∷◌, Option, Some, None, slice_get}
+-- What stands at variables, by their numbers: numbers, or the places of the variables in an order.
+use Rattle.std.specs.Prelude.{◌≡◌, ℕ, suc, ◌==◌, if◌then◌else◌, List, [], ◌∷◌, Option, Some, None}
+use Rattle.gib_base.specs.Entries.{entry_at}
 
--- What stands at a number, None past the end.
-abbrev pub found : Option (Option ℕ) → Option ℕ
-found None = None
-found (Some entry) = entry
+-- A number, 0 where there is none.
+abbrev pub or_zero : Option ℕ → ℕ
+or_zero None = 0
+or_zero (Some n) = n
 
--- The entry at a number of a table, None past its end.
-abbrev pub entry_at : List (Option ℕ) → ℕ → Option ℕ
-entry_at entries x = found (slice_get entries x)
+-- The number that stands at a variable's number, 0 where none does.
+abbrev pub number_at : List (Option ℕ) → ℕ → ℕ
+number_at entries x = or_zero (entry_at entries x)
 
--- One place further.
-abbrev pub further : Option ℕ → Option ℕ
-further None = None
-further (Some place) = Some (suc place)
-
--- The place of a number in a list, where it is there.
-abbrev pub place_of : List ℕ → ℕ → Option ℕ
-place_of [] x = None
-place_of (y ∷ ys) x = if y == x then Some 0 else further (place_of ys x)
+-- The place of a number in a list whose first one has this place, where it is there.
+abbrev pub place_from : ℕ → List ℕ → ℕ → Option ℕ
+place_from place [] x = None
+place_from place (y ∷ ys) x = if y == x then Some place else place_from (suc place) ys x
 
 -- The table holds the places of a list.
 abbrev pub ArePlaces : List ℕ → List (Option ℕ) → Type 0
-ArePlaces xs entries = (x : ℕ) → entry_at entries x ≡ place_of xs x
+ArePlaces xs entries = (x : ℕ) → entry_at entries x ≡ place_from 0 xs x

@@ -13,19 +13,22 @@ ghost use Rattle.gib_place.specs.Numbering.{place_core};
 ghost use Rattle.gib_place.specs.SameSource.{IsSameProgram};
 
 mod bodies;
+mod by_variable;
 mod copying;
-mod counting;
 mod examples;
 pub mod field;
 mod filling;
 pub mod law;
 mod laying;
 pub mod line;
+mod listing;
+pub mod mention;
 mod numbers;
-mod ordering;
 mod scratch;
 mod spots;
 mod tally;
+#[cfg(test)]
+mod tests;
 mod times;
 mod walk;
 

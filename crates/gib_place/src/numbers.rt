@@ -1,50 +1,61 @@
 //! The numbers that variables get: their places in the order in which the text binds them.
 
-ghost use Rattle.std.specs.Prelude.{◌≡◌, ◌==◌, ◌<◌, ℕ, if◌then◌else◌, length, Some, OnOk};
-ghost use Rattle.gib_place.specs.Numbered.{entry_at};
+ghost use Rattle.std.specs.Prelude.{◌≡◌, ◌++◌, IfOk, OnOk};
+ghost use Rattle.gib_place.specs.Mentioned.{binder, binders_in};
+ghost use Rattle.gib_place.specs.Numbered.{ArePlaces};
 
-use gib_base::Memory;
+use crate::mention::Mention;
+use gib_base::{ByNumber, Memory};
 use gib_core::{Atom, Variable};
 use std::alloc::{AllocError, Global};
 use std::marker::Model;
 
-/// What stands at a number, None past the end.
-fn entry(entries: &[Option<u32>], number: u32) -> Option<u32>
-    ensures { result ≡ entry_at entries.now number }
+/// The variable that is bound, behind others.
+fn push_binder(order: &mut Vec<u32>, mention: Mention) -> Result<(), Memory>
+    ensures { OnOk result (order.new.items ≡ order.old.items ++ binder mention) }
 {
-    let place = number as usize;
-    if place < entries.len() {
-        entries[place]
-    } else {
-        None
+    match mention {
+        Mention::Bound(x) => {
+            order.push(x.0)?;
+            Ok(())
+        }
+        Mention::Used(_) => Ok(()),
     }
 }
 
-/// Makes room for an entry at a number: what stands there, and elsewhere, stays.
-fn make_room(entries: &mut Vec<Option<u32>>, number: u32) -> Result<(), Memory>
-    ensures room { OnOk result (number < length entries.new.items) }
-    ensures same { (other : ℕ) → entry_at entries.new.items other ≡ entry_at entries.old.items other }
+/// The variables that are bound, behind others.
+pub fn push_binders(order: &mut Vec<u32>, mentions: &[Mention]) -> Result<(), Memory>
+    ensures { OnOk result (order.new.items ≡ order.old.items ++ binders_in mentions.now) }
 {
-    let place = number as usize;
-    if entries.len() <= place {
-        entries.resize(place + 1, None)?;
+    let mut i = 0;
+    'mentions: while i < mentions.len() {
+        push_binder(order, mentions[i])?;
+        i += 1;
     }
     Ok(())
 }
 
-/// Puts a place at a number, where there is room for it.
-fn set_entry(entries: &mut Vec<Option<u32>>, number: u32, place: u32)
-    requires { number < length entries.old.items }
-    ensures { (other : ℕ) → entry_at entries.new.items other ≡ (if number == other then Some place else entry_at entries.old.items other) }
+/// The place of each variable in an order, where it stands first. The last one comes first, so that the first one stays.
+fn places_of(alloc: Global, order: &[u32]) -> Result<ByNumber<u32>, Memory>
+    ensures { IfOk result (λ places. ArePlaces order.now places) }
 {
-    entries[number as usize] = Some(place);
+    let mut places = ByNumber::new(alloc);
+    let mut i = order.len();
+    'order: while i > 0 {
+        i -= 1;
+        let Ok(place) = u32::try_from(i) else {
+            return Err(AllocError);
+        };
+        places.set(order[i], Some(place))?;
+    }
+    Ok(places)
 }
 
 /// Variables in an order, each with the place where it stands first.
 #[derive(Drop)]
 pub struct Numbers {
     order: Vec<u32>,
-    places: Vec<Option<u32>>,
+    places: ByNumber<u32>,
 }
 
 impl Model for Numbers {
@@ -55,41 +66,24 @@ impl Model for Numbers {
 
     ghost view = { λ n. n.order.items };
 
-    ghost invariant = { λ n. ArePlaces n.order.items n.places.items };
+    ghost invariant = { λ n. ArePlaces n.order.items n.places };
 }
 
 impl Numbers {
-    ghost use Rattle.std.specs.Prelude.{◌≡◌, [], ◌∷◌, ◌++◌, IfOk, OnOk};
+    ghost use Rattle.std.specs.Prelude.{◌≡◌, IfOk};
     ghost use Rattle.gib_place.specs.Renaming.{rename_variable, rename_atom};
     ghost use Rattle.gib_place.specs.Numbering.{place_in};
 
-    /// No variables.
-    pub fn new(alloc: Global) -> Numbers
-        ensures { result ≡ [] }
-    {
-        Numbers {
-            order: Vec::new(alloc),
-            places: Vec::new(alloc),
-        }
-    }
-
-    /// One more variable, behind the others.
+    /// The variables of an order.
     ///
     /// # Errors
     ///
     /// Want of memory, where no further number is left too.
-    pub fn push(&mut self, x: Variable) -> Result<(), Memory>
-        ensures { OnOk result (self.new ≡ self.old ++ x.0 ∷ []) }
+    pub fn make(alloc: Global, order: Vec<u32>) -> Result<Numbers, Memory>
+        ensures { IfOk result (λ numbers. numbers ≡ order.items) }
     {
-        make_room(&mut self.places, x.0)?;
-        let Ok(place) = u32::try_from(self.order.len()) else {
-            return Err(AllocError);
-        };
-        self.order.push(x.0)?;
-        if entry(&self.places, x.0).is_none() {
-            set_entry(&mut self.places, x.0, place);
-        }
-        Ok(())
+        let places = places_of(alloc, &order)?;
+        Ok(Numbers { order, places })
     }
 
     /// The number of a variable: its place, or one behind them all.
@@ -100,7 +94,7 @@ impl Numbers {
     pub fn number(&self, x: Variable) -> Result<Variable, Memory>
         ensures { IfOk result (λ number. number ≡ rename_variable (place_in self.now) x) }
     {
-        match entry(&self.places, x.0) {
+        match self.places.get(x.0) {
             Some(place) => Ok(Variable(place)),
             None => {
                 let Ok(count) = u32::try_from(self.order.len()) else {

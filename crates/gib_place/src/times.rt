@@ -3,40 +3,18 @@
 //! A clock goes up at each binding of a run, and each variable keeps the time at which it was bound last. So whether a
 //! variable is bound later in a run is told by one look, and not by a search of the run.
 
-ghost use Rattle.std.specs.Prelude.{◌≡◌, ◌==◌, ◌<◌, ℕ, slice_index, if◌then◌else◌, OnOk, OnErr};
-
-use gib_base::Memory;
+use crate::by_variable::{number_of, set_number};
+use gib_base::{ByNumber, Memory};
 use gib_core::{Binding, Variable};
 use std::alloc::{AllocError, Global};
 use std::marker::Model;
-
-/// The time at which a variable was bound last, 0 where it was not.
-fn time_of(times: &[u64], x: Variable) -> u64
-    ensures { result ≡ slice_index times.now x.0 }
-{
-    let place = x.0 as usize;
-    if place < times.len() { times[place] } else { 0 }
-}
-
-/// Writes down when a variable was bound.
-fn set_time(times: &mut Vec<u64>, x: Variable, time: u64) -> Result<(), Memory>
-    ensures set { OnOk result ((other : ℕ) → slice_index times.new.items other ≡ (if x.0 == other then time else slice_index times.old.items other)) }
-    ensures same { OnErr result (times.new.items ≡ times.old.items) }
-{
-    let place = x.0 as usize;
-    if times.len() <= place {
-        times.resize(place + 1, 0)?;
-    }
-    times[place] = time;
-    Ok(())
-}
 
 /// When each variable was bound last.
 #[derive(Drop)]
 pub struct Times {
     /// How many bindings were seen.
     clock: u64,
-    times: Vec<u64>,
+    times: ByNumber<u64>,
 }
 
 impl Model for Times {
@@ -44,9 +22,9 @@ impl Model for Times {
 
     ghost Value = { Seen };
 
-    ghost view = { λ t. record { clock = t.clock; times = t.times.items } };
+    ghost view = { λ t. record { clock = t.clock; times = t.times } };
 
-    ghost invariant = { λ t. ArePast t.clock t.times.items };
+    ghost invariant = { λ t. ArePast t.clock t.times };
 }
 
 impl Times {
@@ -60,7 +38,7 @@ impl Times {
     {
         Times {
             clock: 0,
-            times: Vec::new(alloc),
+            times: ByNumber::new(alloc),
         }
     }
 
@@ -86,7 +64,7 @@ impl Times {
     fn mark(&mut self, x: Variable) -> Result<(), Memory>
         ensures { OnOk result (Marks self.old self.new x) }
     {
-        set_time(&mut self.times, x, self.clock)
+        set_number(&mut self.times, x, self.clock)
     }
 
     /// The variables of a binding are bound, one moment later.
@@ -128,6 +106,6 @@ impl Times {
     pub fn is_late(&self, moment: u64, x: Variable) -> bool
         ensures { result ≡ is_late self.now moment x }
     {
-        moment < time_of(&self.times, x)
+        moment < number_of(&self.times, x)
     }
 }

@@ -8,9 +8,13 @@ use std::sync::Wait;
 use std::test::Fail;
 use std::thread::Threads;
 
-/// A list of so many cells; each cell's rest is built in a region of its own, which draws a chunk.
+/// A list of so many cells, each behind the one before, 454 a chunk.
 const BUILD: &str =
     "data List = Nil | Cons Int List ; fun build (n : Int) : List = if (n < 1) then Nil else Cons n (build (n - 1)) ; main (n : Int) : List = build n ;";
+
+/// The same list. Each cell's rest is used twice, so it is built in a region of its own, which draws a chunk.
+const SPREAD: &str =
+    "data List = Nil | Cons Int List ; fun same (l : List) : List = l ; fun build (n : Int) : List = if (n < 1) then Nil else let r = build (n - 1) in let s = same r in Cons n r ; main (n : Int) : List = build n ;";
 
 /// A list as it is loaded, 454 cells a chunk.
 const SAME: &str = "data List = Nil | Cons Int List ; main (l : List) : List = l ;";
@@ -89,18 +93,21 @@ fn ends<R: Threads + Wait + Sync>(
 #[test]
 fn lists_are_built_in_their_chunks(rt: HostRuntime) -> Result<(), Fail> {
     let alloc = rt.alloc();
-    for (count, chunks, depth, status, err) in [
-        (15, "16", "10000", Status::Done, ""),
-        (16, "16", "10000", Status::Full, "gib: chunks\n"),
-        (16, "17", "10000", Status::Done, ""),
+    for (source, count, chunks, depth, status, err) in [
+        (SPREAD, 15, "16", "10000", Status::Done, ""),
+        (SPREAD, 16, "16", "10000", Status::Full, "gib: chunks\n"),
+        (SPREAD, 16, "17", "10000", Status::Done, ""),
         // What is met first is told: depth before the seventeenth chunk, or this chunk.
-        (8_000, "16", "15", Status::Depth, "gib: depth\n"),
-        (8_000, "16", "16", Status::Full, "gib: chunks\n"),
-        (8_000, "9000", "8001", Status::Done, ""),
+        (SPREAD, 8_000, "16", "15", Status::Depth, "gib: depth\n"),
+        (SPREAD, 8_000, "16", "16", Status::Full, "gib: chunks\n"),
+        (SPREAD, 8_000, "9000", "8001", Status::Done, ""),
+        (BUILD, 7_264, "16", "10000", Status::Done, ""),
+        (BUILD, 7_265, "16", "10000", Status::Full, "gib: chunks\n"),
+        (BUILD, 7_265, "17", "10000", Status::Done, ""),
     ] {
         let number = u64::to_le_bytes(count);
         let case = Case {
-            source: BUILD,
+            source,
             payload: &number,
             chunks,
             depth,

@@ -10,21 +10,15 @@ use std::thread::Threads;
 pub const ADD_ONE: &str =
     "data Tree = Leaf Int | Node Tree Tree ; fun add1 (t : Tree) : Tree = case t of { Leaf n -> Leaf (n + 1) ; Node l r -> let par a = add1 l and b = add1 r in Node a b } ; main (t : Tree) : Tree = add1 t ;";
 
-/// Its core: lines, and a line that stands behind them where fields are reached.
-const ADD_ONE_CORE: [(&str, &str); 2] = [
-    (
-        "fun add1 %0:Tree : Tree
+/// Its core.
+const ADD_ONE_INFERRED: &str = "fun add1 %0:Tree : Tree
   case %0
     Leaf %1
       prim %2 = %1 + 1
       past %3 Leaf
       write %3 %2
     Node %4 %5
-",
-        "      reach %5 by skip %4\n",
-    ),
-    (
-        "      par
+      par
         region %6
           call add1 %4
         region %7
@@ -37,13 +31,38 @@ const ADD_ONE_CORE: [(&str, &str); 2] = [
       write %8 %9 %10
 main %0:Tree : Tree
   call add1 %0
+";
+
+/// Its core, with values built where they belong: lines, and a line that stands behind them where fields are reached.
+const ADD_ONE_PLACED: [(&str, &str); 2] = [
+    (
+        "fun add1 %0:Tree : Tree
+  case %0
+    Leaf %1
+      prim %2 = %1 + 1
+      past %3 Leaf
+      write %3 %2
+    Node %4 %5
+",
+        "      reach %5 by skip %4\n",
+    ),
+    (
+        "      past %6 Node
+      par
+        here %7
+          call add1 %4
+        here %8
+          call add1 %5
+      write %6 %7 %8
+main %0:Tree : Tree
+  call add1 %0
 ",
         "",
     ),
 ];
 
 /// Its code.
-const ADD_ONE_CODE: &str = "add1 11
+const ADD_ONE_CODE: &str = "add1 9
 0 switch %0 1 6
 1 whole %1 %0 1
 2 add %2 %1 1
@@ -52,33 +71,40 @@ const ADD_ONE_CODE: &str = "add1 11
 5 ret
 6 first %4 %0 1
 7 skip %5 %4
-8 begin %6
-9 call add1 %4
-10 jump 11
-11 done
-12 begin %7
+8 past %6 Node
+9 here %7
+10 call add1 %4
+11 jump 12
+12 here %8
 13 call add1 %5
 14 jump 15
-15 done
-16 past %8 Node
-17 here %9
-18 point %6
-19 jump 20
-20 here %10
-21 point %7
-22 jump 23
-23 fill %8 Node %9 %10
-24 ret
+15 fill %6 Node %7 %8
+16 ret
 main 1
-25 call add1 %0
-26 ret
+17 call add1 %0
+18 ret
 ";
 
 pub const RIGHT: &str =
     "data Tree = Leaf Int | Node Tree Tree ; fun right (t : Tree) : Int = case t of { Leaf n -> n ; Node l r -> right r } ; main (t : Tree) : Int = right t ;";
 
-/// Its core, in the same way.
-const RIGHT_CORE: [(&str, &str); 2] = [
+/// Its core.
+const RIGHT_INFERRED: &str = "fun right %0:Tree : Int
+  case %0
+    Leaf %1
+      give %1
+    Node %2 %3
+      scalar %4
+        call right %3
+      give %4
+main %0:Tree : Int
+  scalar %1
+    call right %0
+  give %1
+";
+
+/// Its core with values built where they belong, in the same way.
+const RIGHT_PLACED: [(&str, &str); 2] = [
     (
         "fun right %0:Tree : Int
   case %0
@@ -128,8 +154,141 @@ fun deep (m : Mark) : Row = case m of {
   } ;
 main (m : Mark) : Mark = let r = deep m in Mark (both (sum r 2 False < 0)) r (sum r (1 + 1) True) ;";
 
-/// Its core, in the same way.
-const EACH_CORE: [(&str, &str); 4] = [
+/// Its core.
+const EACH_INFERRED: &str = "fun sum %0:Row %1:Int %2:Bool : Int
+  if %2
+    case %0
+      End
+        give %1
+      Cell %3 %4 %5
+        par
+          scalar %6
+            prim %7 = %1 + %3
+            scalar %8
+              call sum %4 %7 True
+            give %8
+          scalar %9
+            prim %10 = %3 < 9223372036854775807
+            scalar %11
+              call sum %5 %1 %10
+            give %11
+        prim %12 = %9 - %1
+        prim %13 = %6 * %12
+        give %13
+  else
+    scalar %14
+      call sum %0 0 True
+    prim %15 = %14 - 1
+    give %15
+fun both %0:Bool : Bool
+  prim %1 = 1 == 2
+  par
+    scalar %2
+      call both False
+    scalar %3
+      if %0
+        give %1
+      else
+        give True
+  if %2
+    give %3
+  else
+    scalar %4
+      call both %0
+    give %4
+fun turn %0:Row %1:Bool : Row
+  case %0
+    End
+      region %2
+        past %3 End
+        write %3
+      prim %4 = 0 - 1
+      past %5 Cell
+      here %6
+        point %2
+      here %7
+        point %0
+      write %5 %4 %6 %7
+    Cell %8 %9 %10
+      par
+        region %11
+          call turn %10 True
+        scalar %12
+          scalar %13
+            call sum %9 1 %1
+          prim %14 = %8 + %13
+          give %14
+      region %15
+        if %1
+          region %16
+            prim %17 = %8 < %12
+            call turn %9 %17
+          call turn %16 False
+        else
+          point %9
+      prim %18 = %12 + %12
+      past %19 Cell
+      here %20
+        point %11
+      here %21
+        point %15
+      write %19 %18 %20 %21
+fun deep %0:Mark : Row
+  case %0
+    Mark %1 %2 %3
+      if %1
+        region %4
+          region %5
+            past %6 Bare
+            write %6
+          call deep %5
+        past %7 Cell
+        here %8
+          point %2
+        here %9
+          point %4
+        write %7 %3 %8 %9
+      else
+        case %2
+          End
+            point %2
+          Cell %10 %11 %12
+            prim %13 = %10 == %3
+            call turn %12 %13
+    Bare
+      region %14
+        region %15
+          past %16 End
+          write %16
+        region %17
+          past %18 End
+          write %18
+        past %19 Cell
+        here %20
+          point %15
+        here %21
+          point %17
+        write %19 1 %20 %21
+      call turn %14 False
+main %0:Mark : Mark
+  region %1
+    call deep %0
+  scalar %2
+    call sum %1 2 False
+  prim %3 = %2 < 0
+  scalar %4
+    call both %3
+  prim %5 = 1 + 1
+  scalar %6
+    call sum %1 %5 True
+  past %7 Mark
+  here %8
+    point %1
+  write %7 %4 %6 %8
+";
+
+/// Its core with values built where they belong, in the same way.
+const EACH_PLACED: [(&str, &str); 4] = [
     (
         "fun sum %0:Row %1:Int %2:Bool : Int
   if %2
@@ -179,85 +338,73 @@ fun both %0:Bool : Bool
 fun turn %0:Row %1:Bool : Row
   case %0
     End
-      region %2
-        past %3 End
-        write %3
-      prim %4 = 0 - 1
-      past %5 Cell
+      past %2 Cell
+      here %3
+        past %4 End
+        write %4
+      prim %5 = 0 - 1
       here %6
-        point %2
-      here %7
         point %0
-      write %5 %4 %6 %7
-    Cell %8 %9 %10
+      write %2 %5 %3 %6
+    Cell %7 %8 %9
 ",
-        "      reach %10 by skip %9\n",
+        "      reach %9 by skip %8\n",
     ),
     (
-        "      par
-        region %11
-          call turn %10 True
+        "      past %10 Cell
+      par
+        here %11
+          call turn %9 True
         scalar %12
           scalar %13
-            call sum %9 1 %1
-          prim %14 = %8 + %13
+            call sum %8 1 %1
+          prim %14 = %7 + %13
           give %14
-      region %15
+      here %15
         if %1
           region %16
-            prim %17 = %8 < %12
-            call turn %9 %17
+            prim %17 = %7 < %12
+            call turn %8 %17
           call turn %16 False
         else
-          point %9
+          point %8
       prim %18 = %12 + %12
-      past %19 Cell
-      here %20
-        point %11
-      here %21
-        point %15
-      write %19 %18 %20 %21
+      write %10 %18 %11 %15
 fun deep %0:Mark : Row
   case %0
     Mark %1 %2 %3
       if %1
-        region %4
-          region %5
-            past %6 Bare
-            write %6
-          call deep %5
-        past %7 Cell
-        here %8
+        past %4 Cell
+        here %5
           point %2
-        here %9
-          point %4
-        write %7 %3 %8 %9
+        here %6
+          region %7
+            past %8 Bare
+            write %8
+          call deep %7
+        write %4 %3 %5 %6
       else
         case %2
           End
             point %2
-          Cell %10 %11 %12
+          Cell %9 %10 %11
 ",
-        "            reach %12 by skip %11\n",
+        "            reach %11 by skip %10\n",
     ),
     (
-        "            prim %13 = %10 == %3
-            call turn %12 %13
+        "            prim %12 = %9 == %3
+            call turn %11 %12
     Bare
-      region %14
-        region %15
+      region %13
+        past %14 Cell
+        here %15
           past %16 End
           write %16
-        region %17
+        here %17
           past %18 End
           write %18
-        past %19 Cell
-        here %20
-          point %15
-        here %21
-          point %17
-        write %19 1 %20 %21
-      call turn %14 False
+        write %14 1 %15 %17
+      call turn %13 False
 main %0:Mark : Mark
   region %1
     call deep %0
@@ -307,23 +454,24 @@ fn prints<R: Threads + Wait + Sync>(
     )
 }
 
-/// Whether `core` prints this core of a source after each pass.
+/// Whether `core` prints these cores of a source after each pass.
 fn prints_each_pass<R: Threads + Wait + Sync>(
     rt: &R,
     alloc: Global,
     source: &str,
+    inferred: &str,
     pieces: &[(&str, &str)],
 ) -> Result<bool, AllocError> {
     let placed = core_text(alloc, pieces, false)?;
     let reached = core_text(alloc, pieces, true)?;
     for (pass, text) in [
-        ("1", &placed),
-        ("2", &placed),
-        ("3", &reached),
-        ("4", &reached),
+        ("1", inferred),
+        ("2", placed.as_str()),
+        ("3", reached.as_str()),
+        ("4", reached.as_str()),
     ] {
         let words = ["gib", "core", "a.gib", "--pass", pass];
-        if !prints(rt, alloc, source, &words, text.as_str())? {
+        if !prints(rt, alloc, source, &words, text)? {
             return Ok(false);
         }
     }
@@ -339,9 +487,9 @@ fn prints_each_pass<R: Threads + Wait + Sync>(
 #[test]
 fn a_core_is_printed_after_each_pass(rt: HostRuntime) -> Result<(), Fail> {
     let alloc = rt.alloc();
-    assert!(rt; prints_each_pass(&rt, alloc, ADD_ONE, &ADD_ONE_CORE)?);
-    assert!(rt; prints_each_pass(&rt, alloc, RIGHT, &RIGHT_CORE)?);
-    assert!(rt; prints_each_pass(&rt, alloc, EACH, &EACH_CORE)?);
+    assert!(rt; prints_each_pass(&rt, alloc, ADD_ONE, ADD_ONE_INFERRED, &ADD_ONE_PLACED)?);
+    assert!(rt; prints_each_pass(&rt, alloc, RIGHT, RIGHT_INFERRED, &RIGHT_PLACED)?);
+    assert!(rt; prints_each_pass(&rt, alloc, EACH, EACH_INFERRED, &EACH_PLACED)?);
     Ok(())
 }
 

@@ -4,8 +4,9 @@ ghost use Rattle.std.specs.Prelude.{◌≡◌, IfOk, IfErr};
 ghost use Rattle.gib_app.specs.Jobs.{OnlyPrints, ok_line};
 ghost use Rattle.gib_app.specs.Kept.{EndsBy, file_of};
 
-use crate::made::{JobFault, Made};
+use crate::made::Made;
 use crate::printing::{ok_answer, only_prints};
+use crate::stop::Stop;
 use std::alloc::Global;
 
 /// What is printed of a source that is a typed program.
@@ -13,12 +14,12 @@ use std::alloc::Global;
 /// # Errors
 ///
 /// Want of memory alone.
-pub fn check(alloc: Global) -> Result<Made, JobFault>
+pub fn check(alloc: Global) -> Result<Made, Stop<'static>>
     ensures made { IfOk result (λ made. EndsBy (file_of made) made.end (OnlyPrints (λ text. text ≡ ok_line))) }
-    ensures memory { IfErr result (λ e. e ≡ JobFault.Memory) }
+    ensures memory { IfErr result (λ e. e ≡ Stop.Memory) }
 {
     match ok_answer(alloc) {
         Ok(text) => Ok(only_prints(text)),
-        Err(_) => Err(JobFault::Memory),
+        Err(_) => Err(Stop::Memory),
     }
 }

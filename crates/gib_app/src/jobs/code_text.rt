@@ -10,8 +10,9 @@ ghost use Rattle.gib_app.specs.Kept.{EndsBy, file_of};
 
 use crate::compile::Compiled;
 use crate::lowering::lowered;
-use crate::made::{JobFault, Made};
+use crate::made::Made;
 use crate::printing::only_prints;
+use crate::stop::Stop;
 use gib_base::Memory;
 use gib_code::listing;
 use std::alloc::Global;
@@ -29,12 +30,12 @@ fn print_code(alloc: Global, compiled: &Compiled) -> Result<Vec<u8>, Memory>
 /// # Errors
 ///
 /// Want of memory alone.
-pub fn code_text(alloc: Global, compiled: &Compiled) -> Result<Made, JobFault>
+pub fn code_text(alloc: Global, compiled: &Compiled) -> Result<Made, Stop<'static>>
     ensures made { IfOk result (λ made. EndsBy (file_of made) made.end (OnlyPrints (λ text. text ≡ listing_text compiled.now.names (lower_program (core_after 4 (program_of compiled.now.typed)))))) }
-    ensures memory { IfErr result (λ e. e ≡ JobFault.Memory) }
+    ensures memory { IfErr result (λ e. e ≡ Stop.Memory) }
 {
     match print_code(alloc, compiled) {
         Ok(text) => Ok(only_prints(text)),
-        Err(_) => Err(JobFault::Memory),
+        Err(_) => Err(Stop::Memory),
     }
 }

@@ -9,25 +9,28 @@ ghost use Rattle.gib_app.specs.Jobs.{OnlyPrints};
 ghost use Rattle.gib_app.specs.Kept.{EndsBy, file_of};
 
 use crate::compile::Compiled;
-use crate::made::{JobFault, Made};
+use crate::lowering::{checked_core, placed_core};
+use crate::made::Made;
 use crate::printing::only_prints;
-use gib_access::reach;
+use crate::stop::Stop;
 use gib_base::Memory;
 use gib_check::Typed;
-use gib_core::{AccessMode, Core, print_core};
+use gib_core::{Core, print_core};
 use gib_infer::infer;
 use std::alloc::Global;
 
-/// The core of a program after a pass. Values are not placed directly yet, and sides are not marked.
+/// The core of a program after a pass. Sides are not marked yet.
 fn core_after(alloc: Global, typed: &Typed, pass: u32) -> Result<Core, Memory>
     ensures { IfOk result (λ core. core_of core ≡ core_after pass (program_of typed.now)) }
 {
-    let core = infer(alloc, typed)?;
-    if pass < 3 {
-        return Ok(core);
+    if pass < 2 {
+        return infer(alloc, typed);
     }
-    match reach(alloc, core, AccessMode::Skips) {
-        Ok(reached) => Ok(reached),
+    if pass < 3 {
+        return placed_core(alloc, typed);
+    }
+    match checked_core(alloc, typed) {
+        Ok(checked) => Ok(checked.into_core()),
         Err(memory) => Err(memory),
     }
 }
@@ -45,12 +48,12 @@ fn print_after(alloc: Global, compiled: &Compiled, pass: u32) -> Result<Vec<u8>,
 /// # Errors
 ///
 /// Want of memory alone.
-pub fn core_text(alloc: Global, compiled: &Compiled, pass: u32) -> Result<Made, JobFault>
+pub fn core_text(alloc: Global, compiled: &Compiled, pass: u32) -> Result<Made, Stop<'static>>
     ensures made { IfOk result (λ made. EndsBy (file_of made) made.end (OnlyPrints (λ text. text ≡ text_of_core compiled.now.names (core_after pass (program_of compiled.now.typed))))) }
-    ensures memory { IfErr result (λ e. e ≡ JobFault.Memory) }
+    ensures memory { IfErr result (λ e. e ≡ Stop.Memory) }
 {
     match print_after(alloc, compiled, pass) {
         Ok(text) => Ok(only_prints(text)),
-        Err(_) => Err(JobFault::Memory),
+        Err(_) => Err(Stop::Memory),
     }
 }

@@ -5,12 +5,13 @@ ghost use Rattle.gib_syntax.specs.Parts.{program_of};
 ghost use Rattle.gib_app.specs.Jobs.{Packs};
 ghost use Rattle.gib_app.specs.Kept.{EndsBy, file_of};
 ghost use Rattle.gib_app.specs.Packing.{IsPackedText, without_feed as feed_cut};
-ghost use Rattle.gib_app.specs.Stops.{IsReady, IsPackFault};
+ghost use Rattle.gib_app.specs.Stops.{IsReady, IsPackStop};
 
 use crate::compile::Compiled;
 use crate::input_fault::InputFault;
-use crate::made::{End, JobFault, Made};
+use crate::made::{End, Made};
 use crate::printing::ok_answer;
+use crate::stop::Stop;
 use gib_base::limits::FILE_BYTES;
 use gib_file::pack as packed_file;
 use gib_value::{TextFault, read_text};
@@ -35,24 +36,24 @@ fn without_feed(bytes: &[u8]) -> &[u8]
 /// # Errors
 ///
 /// `Input` where the text is none of such a value, or the file would be too long.
-fn pack_text(alloc: Global, compiled: &Compiled, text: &[u8]) -> Result<Vec<u8>, JobFault>
+fn pack_text(alloc: Global, compiled: &Compiled, text: &[u8]) -> Result<Vec<u8>, Stop<'static>>
     requires ready { IsReady (program_of compiled.now.typed) compiled.now.names }
     requires short { length text.now ≤ FILE_BYTES }
     ensures file { IfOk result (λ file. IsPackedText (program_of compiled.now.typed) compiled.now.names text.now file.items) }
-    ensures fault { IfErr result (IsPackFault (program_of compiled.now.typed) compiled.now.names text.now) }
+    ensures stop { IfErr result (IsPackStop (program_of compiled.now.typed) compiled.now.names text.now) }
 {
     let types = compiled.typed.types();
     let ty = compiled.typed.input_type();
     let value = match read_text(alloc, types, &compiled.names, ty, without_feed(text)) {
         Ok(value) => value,
-        Err(TextFault::At(place)) => return Err(JobFault::Refused(InputFault::Text(place))),
-        Err(TextFault::Memory) => return Err(JobFault::Memory),
+        Err(TextFault::At(place)) => return Err(Stop::Input(InputFault::Text(place))),
+        Err(TextFault::Memory) => return Err(Stop::Memory),
     };
     let Ok(file) = packed_file(alloc, types, &value) else {
-        return Err(JobFault::Memory);
+        return Err(Stop::Memory);
     };
     if file.len() as u64 > FILE_BYTES {
-        return Err(JobFault::Refused(InputFault::Long(FILE_BYTES)));
+        return Err(Stop::Input(InputFault::Long(FILE_BYTES)));
     }
     Ok(file)
 }
@@ -62,19 +63,19 @@ fn pack_text(alloc: Global, compiled: &Compiled, text: &[u8]) -> Result<Vec<u8>,
 ///
 /// # Errors
 ///
-/// `Refused` where the text is none of a value of the type of main's parameter, or the file would be too long.
-pub fn pack(alloc: Global, compiled: &Compiled, text: &[u8]) -> Result<Made, JobFault>
+/// `Input` where the text is none of a value of the type of main's parameter, or the file would be too long.
+pub fn pack(alloc: Global, compiled: &Compiled, text: &[u8]) -> Result<Made, Stop<'static>>
     requires ready { IsReady (program_of compiled.now.typed) compiled.now.names }
     requires short { length text.now ≤ FILE_BYTES }
     ensures made { IfOk result (λ made. EndsBy (file_of made) made.end (Packs (program_of compiled.now.typed) compiled.now.names text.now)) }
-    ensures fault { IfErr result (IsPackFault (program_of compiled.now.typed) compiled.now.names text.now) }
+    ensures stop { IfErr result (IsPackStop (program_of compiled.now.typed) compiled.now.names text.now) }
 {
     let file = match pack_text(alloc, compiled, text) {
         Ok(file) => file,
-        Err(fault) => return Err(fault),
+        Err(stop) => return Err(stop),
     };
     let Ok(answer) = ok_answer(alloc) else {
-        return Err(JobFault::Memory);
+        return Err(Stop::Memory);
     };
     Ok(Made {
         file: Some(file),

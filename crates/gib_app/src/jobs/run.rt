@@ -4,13 +4,14 @@ ghost use Rattle.std.specs.Prelude.{◌≤◌, length, IfOk, IfErr};
 ghost use Rattle.gib_syntax.specs.Parts.{program_of};
 ghost use Rattle.gib_app.specs.Jobs.{Runs};
 ghost use Rattle.gib_app.specs.Kept.{EndsBy, file_of};
-ghost use Rattle.gib_app.specs.Stops.{IsReady, IsRunFault};
+ghost use Rattle.gib_app.specs.Stops.{IsReady, IsRunStop};
 
 use crate::compile::Compiled;
-use crate::machine_run::{RunStop, run_packed};
-use crate::made::{End, JobFault, Made, Reason, Valued};
+use crate::machine_run::run_packed;
+use crate::made::{End, Made, Valued};
 use crate::plan::Options;
 use crate::printing::no_value;
+use crate::stop::Stop;
 use gib_base::limits::FILE_BYTES;
 use std::alloc::Global;
 
@@ -18,17 +19,17 @@ use std::alloc::Global;
 ///
 /// # Errors
 ///
-/// `Refused` where the bytes are no packed file of a value of the type of main's parameter.
+/// `Input` where the bytes are no packed file of a value of the type of main's parameter.
 pub fn run(
     alloc: Global,
     compiled: Compiled,
     options: Options,
     input: &[u8],
-) -> Result<Made, JobFault>
+) -> Result<Made, Stop<'static>>
     requires ready { IsReady (program_of compiled.typed) compiled.names }
     requires short { length input.now ≤ FILE_BYTES }
     ensures made { IfOk result (λ made. EndsBy (file_of made) made.end (Runs (program_of compiled.typed) compiled.names options input.now)) }
-    ensures fault { IfErr result (IsRunFault (program_of compiled.typed) input.now) }
+    ensures stop { IfErr result (IsRunStop (program_of compiled.typed) input.now) }
 {
     let Compiled { typed, names } = compiled;
     match run_packed(alloc, &typed, input, options.depth, options.chunks) {
@@ -36,9 +37,9 @@ pub fn run(
             file: None,
             end: End::Value(Valued { ran, names }),
         }),
-        Err(RunStop::Deep) => Ok(no_value(Reason::Deep)),
-        Err(RunStop::Full) => Ok(no_value(Reason::Full)),
-        Err(RunStop::Refused(fault)) => Err(JobFault::Refused(fault)),
-        Err(RunStop::Memory) => Err(JobFault::Memory),
+        Err(stop) => match stop.reason() {
+            Some(reason) => Ok(no_value(reason)),
+            None => Err(stop),
+        },
     }
 }

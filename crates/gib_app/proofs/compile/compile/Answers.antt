@@ -1,8 +1,8 @@
 use Rattle.std.proofs.Common.{◌≤◌, Err, length, ap, sym, subst, arith}
 use Rattle.gib_syntax.specs.Parts.{Parts, program_of}
-use Rattle.gib_app.specs.declared.compile.CompileFault.{CompileFault}
+use Rattle.gib_app.specs.declared.stop.Stop.{Stop}
 use Rattle.gib_app.specs.SourceFaults.{HasTokens}
-use Rattle.gib_app.specs.Stops.{IsReady, IsCompileFault}
+use Rattle.gib_app.specs.Stops.{IsReady, IsCompileStop}
 use Rattle.gib_app.proofs.SourceLaws.{parse_refused}
 use Rattle.gib_app.proofs.Held.{names_held, names_are_words}
 use Rattle.gib_app.proofs.compile.compile.Goals as goal
@@ -27,7 +27,7 @@ returns-in-Err-parse-clause-refused c =
     let fault = c.in-Err-parse.fault in
     let short : length source ≤ 1048576 = omega (arith, c.in-Ok.ensures.lexed.len, c.tokens-known.ensures.whole.short) in
     let tokens : HasTokens source l = record { is_lexed = c.in-Ok.ensures.lexed; short = short; few_names = c.tokens-known.ensures.whole.few } in
-    let P : CompileFault → Type 0 = IsCompileFault source in
+    let P : Stop → Type 0 = IsCompileStop source in
     subst P (sym c.of_parsing.ensures)
     (parse_refused c.one_reading.ensures c.program_is_read.ensures source l fault tokens (λ place e. c.in-Err-parse.ensures.at place (ap Err e)) (λ place e. c.in-Err-parse.ensures.nested place (ap Err e))
     c.in-Err-parse.ensures.exact)

@@ -1,5 +1,5 @@
 use Rattle.gib_app.proofs.Endings.{Laws}
-use Rattle.gib_app.proofs.Headlines.{run_done, run_deep, run_full, run_ends_done, run_ends_deep, one_result, no_result}
+use Rattle.gib_app.proofs.Headlines.{run_done, run_deep, run_full, run_ends_done, run_ends_deep, run_fits, one_result, no_result}
 use Rattle.gib_app.proofs.headline.run_prints_what_is_meant.Goals as goal
 
 pub returns-clause-done : goal.returns-clause-done
@@ -18,6 +18,10 @@ returns-clause-ends_done c =
 pub returns-clause-ends_deep : goal.returns-clause-ends_deep
 returns-clause-ends_deep c =
     let laws : Laws = record { lexed = c.one_reading.ensures; parsed = c.one_program.ensures; filed = c.one_file.ensures.value } in run_ends_deep laws
+
+pub returns-clause-fits : goal.returns-clause-fits
+returns-clause-fits c =
+    let laws : Laws = record { lexed = c.one_reading.ensures; parsed = c.one_program.ensures; filed = c.one_file.ensures.value } in run_fits laws
 
 pub returns-clause-one : goal.returns-clause-one
 returns-clause-one c =

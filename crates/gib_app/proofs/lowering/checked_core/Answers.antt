@@ -5,4 +5,4 @@ use Rattle.gib_app.proofs.lowering.checked_core.Goals as goal
 
 pub returns-in-Ok-clause-means : goal.returns-in-Ok-clause-means
 returns-in-Ok-clause-means c = λ depth v.
-    ap (λ (x : Parts). core_run (core_of x) depth v) c.make.ensures ∙ c.in-Ok.ensures.run depth v ∙ c.in_ok-core.ensures.main depth v
+    ap (λ (x : Parts). core_run (core_of x) depth v) c.make.ensures ∙ c.in-Ok.ensures.run depth v ∙ c.in_ok-core.ensures.means depth v

@@ -1,16 +1,14 @@
 use Rattle.std.proofs.Common.{refl, subst, List, ℕ}
 use Rattle.gib_syntax.specs.Parts.{program_of}
-use Rattle.gib_app.specs.declared.input_fault.InputFault.{InputFault}
-use Rattle.gib_app.specs.declared.made.JobFault.{JobFault}
 use Rattle.gib_app.specs.declared.made.Made.{Made}
 use Rattle.gib_app.specs.Stops.{FailsTo}
-use Rattle.gib_app.specs.Formats.{second_of, most_of, Accepts, Refuses}
+use Rattle.gib_app.specs.Formats.{second_of, most_of}
 use Rattle.gib_app.specs.Jobs.{Does}
 use Rattle.gib_app.specs.Calls.{second_calls, reads_of}
 use Rattle.gib_app.specs.Kept.{document_of, plan_of, EndsBy, file_of}
 use Rattle.gib_app.proofs.Told.{held_before}
 use Rattle.gib_app.proofs.Calling.{added_whole, calls_first, calls_then, calls_both}
-use Rattle.gib_app.proofs.Making.{on_both, second_stop}
+use Rattle.gib_app.proofs.Making.{on_both, second_stop, job_stop}
 use Rattle.gib_app.proofs.make.make.Goals as goal
 
 pub returns-in-Err-read_second-clause-stop : goal.returns-in-Err-read_second-clause-stop
@@ -33,17 +31,15 @@ returns-in-Ok-do_job-clause-made g c =
     c.in-Ok.ensures.compiled (held_before kept (g.S.Shelf.view c.load_program.new.shelf).kept _ c.in-Ok-read_second.second.items c.in-Ok.ensures.same c.in-Ok-read_second.ensures.bytes)
     (subst P c.deref.ensures.value c.in-Ok-do_job.ensures.made)
 
-pub returns-in-Err-Refused-clause-stop : goal.returns-in-Err-Refused-clause-stop
-returns-in-Err-Refused-clause-stop g c =
-    let kept = (g.S.Shelf.view c.args.shelf.now).kept in
+pub returns-clause-stop : goal.returns-clause-stop
+returns-clause-stop g c =
+    let before = g.S.Shelf.view c.args.shelf.now in
     let r = plan_of c.args.plan in
     let p = program_of c.in-Ok.compiled.typed in
-    let fault : InputFault = c.in-Err-Refused.fault in
-    let F : JobFault → Type 0 = FailsTo r.job p c.in-Ok.compiled.names c.deref.result.now in
-    let P : List ℕ → Type 0 = λ bytes. Refuses r.job p c.in-Ok.compiled.names bytes fault × (Accepts r.job p c.in-Ok.compiled.names bytes → ⊥) in
-    on_both kept r (document_of c.args.plan.source) p c.in-Ok.compiled.names c.in-Ok-read_second.second.items (λ q ns bytes. Refuses r.job q ns bytes fault × (Accepts r.job q ns bytes → ⊥)) refl
-    c.in-Ok.ensures.compiled (held_before kept (g.S.Shelf.view c.load_program.new.shelf).kept _ c.in-Ok-read_second.second.items c.in-Ok.ensures.same c.in-Ok-read_second.ensures.bytes)
-    (subst P c.deref.ensures.value (subst F c.in-Err-Refused.field-0-is c.in-Err-Refused.ensures.fault))
+    let P : List ℕ → Type 0 = λ bytes. FailsTo r.job p c.in-Ok.compiled.names bytes c.in-Err-do_job.stop in
+    job_stop before (g.S.Shelf.view c.read_second.new.shelf) r p c.in-Ok.compiled.names c.in-Ok-read_second.second.items c.in-Ok.ensures.compiled
+    (held_before before.kept (g.S.Shelf.view c.load_program.new.shelf).kept _ c.in-Ok-read_second.second.items c.in-Ok.ensures.same c.in-Ok-read_second.ensures.bytes)
+    c.in-Err-do_job.stop (subst P c.deref.ensures.value c.in-Err-do_job.ensures.stop)
 
 pub returns-in-Err-clause-once : goal.returns-in-Err-clause-once
 returns-in-Err-clause-once g c =
@@ -62,13 +58,6 @@ returns-in-Ok-do_job-clause-called g c =
     let r = plan_of c.args.plan in
     calls_both (g.S.Shelf.view c.args.shelf.now).calls (g.S.Shelf.view c.load_program.new.shelf).calls (g.S.Shelf.view c.read_second.new.shelf).calls r.source r.source 1048576
     (second_calls (second_of r) (most_of r.job)) refl c.in-Ok.ensures.called c.in-Ok-read_second.ensures.called
-
-pub returns-in-Err-Refused-clause-once : goal.returns-in-Err-Refused-clause-once
-returns-in-Err-Refused-clause-once g c =
-    let r = plan_of c.args.plan in
-    let whole = calls_both (g.S.Shelf.view c.args.shelf.now).calls (g.S.Shelf.view c.load_program.new.shelf).calls (g.S.Shelf.view c.read_second.new.shelf).calls r.source r.source 1048576
-    (second_calls (second_of r) (most_of r.job)) refl c.in-Ok.ensures.called c.in-Ok-read_second.ensures.called in
-    added_whole (g.S.Shelf.view c.args.shelf.now).calls (g.S.Shelf.view c.read_second.new.shelf).calls (reads_of r) whole
 
 pub returns-clause-once : goal.returns-clause-once
 returns-clause-once g c =

@@ -1,13 +1,8 @@
-use Rattle.std.proofs.Common.{ℕ, List, subst}
-use Rattle.gib_core.specs.Arena.{term_of}
-use Rattle.gib_place.specs.Placing.{count}
-use Rattle.gib_place.specs.Tallying.{Adds}
 use Rattle.gib_place.proofs.Making.{made_passed}
 use Rattle.gib_place.proofs.Programs.{body_made}
 use Rattle.gib_place.proofs.bodies.place_body.Goals as goal
 
 pub returns : goal.returns
 returns c =
-    made_passed c.copy_term.result _ _ (λ t. body_made c.args.terms.now c.place_term.new.scratch.terms c.args.made.now c.copy_term.new.into c.new-scratch.result.terms c.args.id c.in_ok-placed.placed t c.tally_term.new.tally c.in_ok-numbers.numbers c.args.parameters
-    (subst (λ (z : List ℕ). Adds z c.tally_term.new.tally (count (term_of c.args.terms.now c.args.id.0))) c.new-once.ensures c.in_ok-tally_term.ensures)
-    c.in_ok-placed.ensures c.in_ok-numbers.ensures) c.copy_term.ensures
+    made_passed c.copy_term.result _ _ (λ t. body_made c.args.terms.now c.place_term.new.scratch.terms c.args.made.now c.copy_term.new.into c.new-scratch.result.terms c.args.id c.in_ok-placed.placed t c.in_ok-once.once c.in_ok-numbers.numbers c.args.parameters
+    c.in_ok-once.ensures c.in_ok-placed.ensures c.in_ok-numbers.ensures) c.copy_term.ensures

@@ -1,6 +1,4 @@
-use Rattle.std.proofs.Common.{rules, sym, subst, List}
-use Rattle.gib_core.specs.declared.program.CoreFunction.{CoreFunction}
-use Rattle.gib_core.specs.Arena.{term_of}
+use Rattle.std.proofs.Common.{rules}
 use Rattle.gib_place.proofs.Programs.{functions_next, functions_end}
 use Rattle.gib_place.proofs.bodies.place_functions.Goals as goal
 

@@ -1,4 +1,4 @@
-use Rattle.std.proofs.Common.{◌≡◌, ◌≤◌, ◌-◌, length}
+use Rattle.std.proofs.Common.{◌≤◌, ◌-◌, length}
 use Rattle.gib_place.specs.Shifting.{Copies}
 use Rattle.gib_place.proofs.copying.copy_terms.Given as goal
 

@@ -1,5 +1,4 @@
 use Rattle.std.proofs.Common.{sym, subst}
-use Rattle.gib_syntax.specs.Tree.{DataTree}
 use Rattle.gib_core.specs.Erasing.{erase_core}
 use Rattle.gib_core.specs.Tree.{CoreTree}
 use Rattle.gib_place.specs.SameSource.{IsSameProgram}

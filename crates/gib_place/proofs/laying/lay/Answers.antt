@@ -1,4 +1,4 @@
-use Rattle.std.proofs.Common.{◌-◌, refl, arith}
+use Rattle.std.proofs.Common.{◌-◌, arith}
 use Rattle.gib_place.specs.Filled.{once_by}
 use Rattle.gib_place.proofs.Onward.{laying_next, laying_end}
 use Rattle.gib_place.proofs.laying.lay.Goals as goal

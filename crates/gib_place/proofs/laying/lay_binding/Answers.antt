@@ -1,4 +1,3 @@
-use Rattle.std.proofs.Common.{refl}
 use Rattle.gib_place.specs.Filled.{once_by}
 use Rattle.gib_place.proofs.Onward.{spot_laid}
 use Rattle.gib_place.proofs.laying.lay_binding.Goals as goal

@@ -1,4 +1,4 @@
-use Rattle.std.proofs.Common.{refl, sym, ◌∙◌, arith, rules}
+use Rattle.std.proofs.Common.{refl, sym, ◌∙◌, arith}
 use Rattle.gib_place.proofs.Cutting.{cut_found}
 use Rattle.gib_place.proofs.spots.cut_at.Goals as goal
 

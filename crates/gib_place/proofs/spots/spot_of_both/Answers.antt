@@ -1,9 +1,9 @@
-use Rattle.std.proofs.Common.{◌+◌, suc, refl, subst, List, drop, arith, Some, ◌≡◌}
+use Rattle.std.proofs.Common.{◌+◌, suc, refl, subst, List, arith, Some, ◌≡◌}
 use Rattle.gib_core.specs.Arena.{side_from}
 use Rattle.gib_place.specs.declared.field.Field.{Field}
 use Rattle.gib_place.specs.Placing.{are_none, place_side}
 use Rattle.gib_place.specs.Filled.{once_by, side_placed}
-use Rattle.gib_place.proofs.Cutting.{both_placed, left_placed, tail_is}
+use Rattle.gib_place.proofs.Cutting.{both_placed, tail_is}
 use Rattle.gib_place.proofs.spots.spot_of_both.Goals as goal
 
 pub returns-then-takes_first-clause-bind : goal.returns-then-takes_first-clause-bind

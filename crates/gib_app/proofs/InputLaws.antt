@@ -1,0 +1,180 @@
+-- A second file is refused for one fault, and then it is not accepted.
+use Rattle.std.proofs.Common.{◌≡◌, ◌∙◌, refl, ℕ, ◌≤◌, List, length, drop, Err, inl, inr, sym, subst, ap, arith}
+use Rattle.gib_types.specs.declared.table.Ty.{Ty}
+use Rattle.gib_types.specs.Table.{Table}
+use Rattle.gib_types.specs.Tree.{Datum, HasType}
+use Rattle.gib_value.specs.Text.{text}
+use Rattle.gib_value.specs.Reading.{IsRefusedAt, IsTextOf}
+use Rattle.gib_file.specs.declared.fault.HeadFault.{HeadFault}
+use Rattle.gib_file.specs.declared.fault.HeadFault.TheVariants as header
+use Rattle.gib_file.specs.declared.fault.PackFault.{PackFault}
+use Rattle.gib_file.specs.declared.fault.PackFault.TheVariants as payload
+use Rattle.gib_file.specs.Framed.{File, Framed, HasMagic, IsFirstFault}
+use Rattle.gib_file.specs.Reading.{read_all}
+use Rattle.gib_file.proofs.HeadLemmas.{parts, no_file as no_fault, one_fault as one_header_fault}
+use Rattle.gib_syntax.specs.Tree.{ProgramTree}
+use Rattle.gib_syntax.specs.Declarations.{table_of_program, input_type}
+use Rattle.gib_app.specs.declared.input_fault.InputFault.{InputFault}
+use Rattle.gib_app.specs.declared.input_fault.InputFault.TheVariants.{Long, Packed, Text}
+use Rattle.gib_app.specs.declared.input_fault.PackedFault.{PackedFault}
+use Rattle.gib_app.specs.declared.input_fault.PackedFault.TheVariants.{Header, Short, Tag, Truth, Trailing}
+use Rattle.gib_app.specs.declared.plan.Job.{Job}
+use Rattle.gib_app.specs.declared.plan.Job.TheVariants.{Run, Plain, Check, Core, Code, Pack, Show}
+use Rattle.gib_app.specs.InputFaults.{IsPayloadFault, IsFileFault, IsInputFault, IsShowFault, IsTextFault}
+use Rattle.gib_app.specs.Formats.{Accepts, Refuses}
+use Rattle.gib_app.specs.Packing.{without_feed, IsPackedText}
+use Rattle.gib_app.specs.Running.{IsInput}
+use Rattle.gib_app.proofs.Refusals.{HeaderRefuses, PayloadRefuses, no_file}
+
+-- The fault of a packed file is that of its header, or of its payload.
+
+abbrev of_payload : PackFault → PackedFault
+of_payload payload.Memory = Short 0
+of_payload (payload.Short place) = Short place
+of_payload (payload.Tag place) = Tag place
+of_payload (payload.Truth place) = Truth place
+of_payload (payload.Trailing place) = Trailing place
+
+data Stage (table : Table) (ty : Ty) (bytes : List ℕ) (f : PackedFault) : Type 0 where
+  in_header : (fault : HeadFault) → IsFirstFault bytes fault → f ≡ Header fault → Stage table ty bytes f
+  in_payload : (fault : PackFault) → IsPayloadFault table ty bytes fault → f ≡ of_payload fault → Stage table ty bytes f
+
+stage : (table : Table) (ty : Ty) (bytes : List ℕ) (f : PackedFault) → IsFileFault table ty bytes f → Stage table ty bytes f
+stage table ty bytes (Header fault) h = in_header fault h refl
+stage table ty bytes (Short place) h = in_payload (payload.Short place) h refl
+stage table ty bytes (Tag place) h = in_payload (payload.Tag place) h refl
+stage table ty bytes (Truth place) h = in_payload (payload.Truth place) h refl
+stage table ty bytes (Trailing place) h = in_payload (payload.Trailing place) h refl
+
+one_payload_fault : (table : Table) (ty : Ty) (bytes : List ℕ) (f g : PackFault) → IsPayloadFault table ty bytes f → IsPayloadFault table ty bytes g → f ≡ g
+one_payload_fault table ty bytes f g h k =
+    let same : h.payload ≡ k.payload = sym (parts h.payload bytes h.framed).rest_is ∙ (parts k.payload bytes k.framed).rest_is in
+    let both : Err f ≡ Err g = sym h.read ∙ ap (read_all table ty) same ∙ k.read in
+    cc
+
+one_stage : (table : Table) (ty : Ty) (bytes : List ℕ) (f g : PackedFault) → Stage table ty bytes f → Stage table ty bytes g → f ≡ g
+one_stage table ty bytes f g (in_header a ra ea) (in_header b rb eb) = ea ∙ ap Header (one_header_fault bytes a b ra rb) ∙ sym eb
+one_stage table ty bytes f g (in_header a ra ea) (in_payload b rb eb) = absurd (no_fault rb.payload bytes a rb.framed ra)
+one_stage table ty bytes f g (in_payload a ra ea) (in_header b rb eb) = absurd (no_fault ra.payload bytes b ra.framed rb)
+one_stage table ty bytes f g (in_payload a ra ea) (in_payload b rb eb) = ea ∙ ap of_payload (one_payload_fault table ty bytes a b ra rb) ∙ sym eb
+
+one_file_fault : (table : Table) (ty : Ty) (bytes : List ℕ) (f g : PackedFault) → IsFileFault table ty bytes f → IsFileFault table ty bytes g → f ≡ g
+one_file_fault table ty bytes f g h k = one_stage table ty bytes f g (stage table ty bytes f h) (stage table ty bytes g k)
+
+-- What a fault of a file that is shown says: it is one of a packed file, which is not too long.
+record IsShown (p : ProgramTree) (bytes : List ℕ) (fault : PackedFault) : Type 0 where
+  file : IsFileFault (table_of_program p) (input_type p) bytes fault
+  short : length bytes ≤ 268435480
+  shorter : HasMagic bytes → length bytes ≤ 16777216
+
+shown : (p : ProgramTree) (bytes : List ℕ) (fault : PackedFault) → IsShowFault p bytes (Packed fault) → IsShown p bytes fault
+shown p bytes (Header header.Magic) h = record { file = h.1; short = h.0; shorter = λ m. absurd (h.1 m) }
+shown p bytes (Header (header.Version v)) h = record { file = h.1; short = let s = h.0 in omega (arith, s); shorter = λ m. h.0 }
+shown p bytes (Header header.Reserved) h = record { file = h.1; short = let s = h.0 in omega (arith, s); shorter = λ m. h.0 }
+shown p bytes (Header header.Length) h = record { file = h.1; short = let s = h.0 in omega (arith, s); shorter = λ m. h.0 }
+shown p bytes (Short place) h = record { file = h.1; short = let s = h.0 in omega (arith, s); shorter = λ m. h.0 }
+shown p bytes (Tag place) h = record { file = h.1; short = let s = h.0 in omega (arith, s); shorter = λ m. h.0 }
+shown p bytes (Truth place) h = record { file = h.1; short = let s = h.0 in omega (arith, s); shorter = λ m. h.0 }
+shown p bytes (Trailing place) h = record { file = h.1; short = let s = h.0 in omega (arith, s); shorter = λ m. h.0 }
+
+-- The laws that these rest on, of one table and its names.
+
+pub record Laws (table : Table) (names : List (List ℕ)) : Type 0 where
+  pub headers : HeaderRefuses
+  pub payloads : PayloadRefuses
+  pub files : (t : Table) (ty : Ty) (v : Datum) (a b : List ℕ) → File t ty v a → File t ty v b → a ≡ b
+  pub texts : (ty : Ty) (v w : Datum) → HasType table v ty → HasType table w ty → text table names v ≡ text table names w → v ≡ w
+  pub no_text : (ty : Ty) (bytes : List ℕ) (place : ℕ) (v : Datum) → IsRefusedAt table names ty bytes place → IsTextOf table names ty v bytes → ⊥
+  pub one_place : (ty : Ty) (bytes : List ℕ) (a b : ℕ) → IsRefusedAt table names ty bytes a → IsRefusedAt table names ty bytes b → a ≡ b
+
+module _ (p : ProgramTree) (names : List (List ℕ)) (laws : Laws (table_of_program p) names) (bytes : List ℕ) where
+  one_packed : (f g : PackedFault) → IsFileFault (table_of_program p) (input_type p) bytes f → IsFileFault (table_of_program p) (input_type p) bytes g → Packed f ≡ Packed g
+  one_packed f g h k = ap Packed (one_file_fault (table_of_program p) (input_type p) bytes f g h k)
+
+  one_input : (f g : InputFault) → IsInputFault p bytes f → IsInputFault p bytes g → f ≡ g
+  one_input (Long a) (Long b) h k = ap Long (h.0 ∙ sym k.0)
+  one_input (Long a) (Packed g) h k = let many = h.1 in let short = k.0 in absurd (omega (arith, many, short))
+  one_input (Long a) (Text place) h k = absurd k
+  one_input (Packed f) (Long b) h k = let many = k.1 in let short = h.0 in absurd (omega (arith, many, short))
+  one_input (Packed f) (Packed g) h k = one_packed f g h.1 k.1
+  one_input (Packed f) (Text place) h k = absurd k
+  one_input (Text place) g h k = absurd h
+
+  long_or_shown : (most : ℕ) (f : PackedFault) → IsShowFault p bytes (Long most) → IsShown p bytes f → ⊥
+  long_or_shown most f (inl h) s = let many = h.1 in let short = s.short in omega (arith, many, short)
+  long_or_shown most f (inr h) s = let many = h.1 in let short = s.shorter h.3 in omega (arith, many, short)
+
+  one_long : (a b : ℕ) → IsShowFault p bytes (Long a) → IsShowFault p bytes (Long b) → a ≡ b
+  one_long a b (inl h) (inl k) = h.0 ∙ sym k.0
+  one_long a b (inl h) (inr k) = let many = h.1 in let short = k.2 in absurd (omega (arith, many, short))
+  one_long a b (inr h) (inl k) = let many = k.1 in let short = h.2 in absurd (omega (arith, many, short))
+  one_long a b (inr h) (inr k) = h.0 ∙ sym k.0
+
+  one_show : (f g : InputFault) → IsShowFault p bytes f → IsShowFault p bytes g → f ≡ g
+  one_show (Long a) (Long b) h k = ap Long (one_long a b h k)
+  one_show (Long a) (Packed g) h k = absurd (long_or_shown a g h (shown p bytes g k))
+  one_show (Long a) (Text place) h k = absurd k
+  one_show (Packed f) (Long b) h k = absurd (long_or_shown b f k (shown p bytes f h))
+  one_show (Packed f) (Packed g) h k = one_packed f g (shown p bytes f h).file (shown p bytes g k).file
+  one_show (Packed f) (Text place) h k = absurd k
+  one_show (Text place) g h k = absurd h
+
+  long_or_text : (most place : ℕ) → IsTextFault p names bytes (Long most) → IsTextFault p names bytes (Text place) → ⊥
+  long_or_text most place (e, inl many) k = let short = k.0 in omega (arith, many, short)
+  long_or_text most place (e, inr h) k = laws.no_text (input_type p) (without_feed bytes) place h.1.value k.1 h.1.is_text
+
+  one_text : (f g : InputFault) → IsTextFault p names bytes f → IsTextFault p names bytes g → f ≡ g
+  one_text (Long a) (Long b) h k = ap Long (h.0 ∙ sym k.0)
+  one_text (Long a) (Packed g) h k = absurd k
+  one_text (Long a) (Text place) h k = absurd (long_or_text a place h k)
+  one_text (Packed f) g h k = absurd h
+  one_text (Text place) (Long b) h k = absurd (long_or_text b place k h)
+  one_text (Text place) (Packed g) h k = absurd k
+  one_text (Text a) (Text b) h k = ap Text (laws.one_place (input_type p) (without_feed bytes) a b h.1 k.1)
+
+  pub one_refusal : (job : Job) (f g : InputFault) → Refuses job p names bytes f → Refuses job p names bytes g → f ≡ g
+  one_refusal Run f g h k = one_input f g h k
+  one_refusal Plain f g h k = one_input f g h k
+  one_refusal Check f g h k = absurd h
+  one_refusal Core f g h k = absurd h
+  one_refusal Code f g h k = absurd h
+  one_refusal Pack f g h k = one_text f g h k
+  one_refusal Show f g h k = one_show f g h k
+
+  -- A file that is refused is not accepted.
+
+  not_input : (f : InputFault) (v : Datum) → IsInputFault p bytes f → IsInput p v bytes → ⊥
+  not_input (Long most) v h is = let many = h.1 in let short = is.short in omega (arith, many, short)
+  not_input (Packed f) v h is = no_file laws.headers laws.payloads (table_of_program p) (input_type p) bytes f h.1 v is.file
+  not_input (Text place) v h is = h
+
+  not_long : (most : ℕ) (v : Datum) → IsShowFault p bytes (Long most) → IsInput p v bytes → ⊥
+  not_long most v (inl h) is = let many = h.1 in let short = is.short in omega (arith, many, short)
+  not_long most v (inr h) is = let many = h.1 in let short = is.short in omega (arith, many, short)
+
+  not_shown : (f : InputFault) (v : Datum) → IsShowFault p bytes f → IsInput p v bytes → ⊥
+  not_shown (Long most) v h is = not_long most v h is
+  not_shown (Packed f) v h is = no_file laws.headers laws.payloads (table_of_program p) (input_type p) bytes f (shown p bytes f h).file v is.file
+  not_shown (Text place) v h is = h
+
+  not_text : (f : InputFault) (file : List ℕ) → IsTextFault p names bytes f → IsPackedText p names bytes file → ⊥
+  not_text (Long most) file (e, inl many) is = let short = is.short in omega (arith, many, short)
+  not_text (Long most) file (e, inr h) is =
+      let long = h.1 in
+      let same : long.value ≡ is.value = laws.texts (input_type p) long.value is.value long.is_text.typed is.is_text.typed (sym long.is_text.is ∙ is.is_text.is) in
+      let F : Datum → Type 0 = λ v. File (table_of_program p) (input_type p) v long.file in
+      let one = ap length (laws.files (table_of_program p) (input_type p) is.value long.file file (subst F same long.is_file) is.is_file) in
+      let many = long.many in
+      let few = is.few in
+      omega (arith, one, many, few)
+  not_text (Packed f) file h is = h
+  not_text (Text place) file h is = laws.no_text (input_type p) (without_feed bytes) place is.value h.1 is.is_text
+
+  pub not_accepted : (job : Job) (f : InputFault) → Refuses job p names bytes f → Accepts job p names bytes → ⊥
+  not_accepted Run f h a = not_input f a.0 h a.1
+  not_accepted Plain f h a = not_input f a.0 h a.1
+  not_accepted Check f h a = h
+  not_accepted Core f h a = h
+  not_accepted Code f h a = h
+  not_accepted Pack f h a = not_text f a.0 h a.1
+  not_accepted Show f h a = not_shown f a.0 h a.1

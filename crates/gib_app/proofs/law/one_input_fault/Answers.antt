@@ -1,0 +1,36 @@
+use Rattle.std.proofs.Common.{subst}
+use Rattle.gib_types.specs.Table.{Table}
+use Rattle.gib_syntax.specs.Parts.{program_of}
+use Rattle.gib_syntax.specs.Declarations.{table_of_program}
+use Rattle.gib_app.proofs.InputLaws.{Laws, one_refusal, not_accepted}
+use Rattle.gib_app.proofs.law.one_input_fault.Goals as goal
+
+pub returns-clause-one : goal.returns-clause-one
+returns-clause-one c = λ job bytes f g h k.
+    let p = program_of c.args.compiled.now.typed in
+    let names = c.args.compiled.now.names in
+    let L : Table → Type 0 = λ t. Laws t names in
+    let laws : Laws (table_of_program p) names = subst L c.types-types.ensures (record {
+      headers = c.refused_header.ensures;
+      payloads = c.refused_file.ensures;
+      files = c.one_file.ensures.bytes;
+      texts = c.texts_differ.ensures;
+      no_text = c.refusals_hold.ensures.no_text;
+      one_place = c.refusals_hold.ensures.one_place;
+    }) in
+    one_refusal p names laws bytes job f g h k
+
+pub returns-clause-none : goal.returns-clause-none
+returns-clause-none c = λ job bytes f h a.
+    let p = program_of c.args.compiled.now.typed in
+    let names = c.args.compiled.now.names in
+    let L : Table → Type 0 = λ t. Laws t names in
+    let laws : Laws (table_of_program p) names = subst L c.types-types.ensures (record {
+      headers = c.refused_header.ensures;
+      payloads = c.refused_file.ensures;
+      files = c.one_file.ensures.bytes;
+      texts = c.texts_differ.ensures;
+      no_text = c.refusals_hold.ensures.no_text;
+      one_place = c.refusals_hold.ensures.one_place;
+    }) in
+    not_accepted p names laws bytes job f h a
