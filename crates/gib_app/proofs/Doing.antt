@@ -14,7 +14,7 @@ use Rattle.gib_app.specs.declared.plan.Options.{Options}
 use Rattle.gib_app.specs.Formats.{format_of, most_of, Accepts, Refuses}
 use Rattle.gib_app.specs.Plan.{Document, Files}
 use Rattle.gib_app.specs.Causes.{HoldsSecond}
-use Rattle.gib_app.specs.Jobs.{End, Prints, NoValue, Does, Runs}
+use Rattle.gib_app.specs.Jobs.{End, Prints, NoValue, Does, Runs, without_image}
 use Rattle.gib_app.specs.Kept.{EndsBy, file_of}
 use Rattle.gib_app.specs.MachineRun.{LacksValue, IsMachineStop}
 use Rattle.gib_app.specs.Stops.{reason_of, IsRunStop}
@@ -49,21 +49,6 @@ no_file Core o p names second file reason h = absurd h
 no_file Code o p names second file reason h = absurd h
 no_file Pack o p names second file reason h = absurd h
 no_file Show o p names second file reason h = absurd h
-
--- where a file is made, there is a value
-pub file_or_none : (job : Job) (o : Options) (p : ProgramTree) (names : List (List ℕ)) (second bytes : List ℕ) (e : End) (file : Option (List ℕ)) (reason : Reason) →
-    Does job o p names second (Some bytes) e → Does job o p names second file (NoValue reason) → ⊥
-file_or_none Run o p names second bytes (Prints text) file reason h k = let none' = h.0 in cc
-file_or_none Run o p names second bytes (NoValue Deep) file reason h k = let none' = h.0 in cc
-file_or_none Run o p names second bytes (NoValue Full) file reason h k = let none' = h.0 in cc
-file_or_none Plain o p names second bytes (Prints text) file reason h k = let none' = h.0 in cc
-file_or_none Plain o p names second bytes (NoValue Deep) file reason h k = let none' = h.0 in cc
-file_or_none Plain o p names second bytes (NoValue Full) file reason h k = h
-file_or_none Check o p names second bytes e file reason h k = k
-file_or_none Core o p names second bytes e file reason h k = k
-file_or_none Code o p names second bytes e file reason h k = k
-file_or_none Pack o p names second bytes e file reason h k = k
-file_or_none Show o p names second bytes e file reason h k = k
 
 -- what is too long is refused
 pub long_refused : (kept : Files) (job : Job) (o : Option Document) (p : ProgramTree) (names : List (List ℕ)) (second : List ℕ) → HoldsSecond kept (option_and_then (λ format. o) (format_of job)) second →
@@ -119,3 +104,16 @@ ends_without made why P file end' h =
     let none : file_of made ≡ None = cc in
     let E : Option (List ℕ) → KeptEnd → Type 0 = λ f e. EndsBy f e P in
     subst₂ E (sym none) (sym end') h
+
+-- without a value, an image makes no difference
+pub no_image : (job : Job) (o : Options) (p : ProgramTree) (names : List (List ℕ)) (second : List ℕ) (file : Option (List ℕ)) (reason : Reason) → Does job o p names second file (NoValue reason) →
+    Does job (without_image o) p names second file (NoValue reason)
+no_image Run o p names second file Deep h = h
+no_image Run o p names second file Full h = h
+no_image Plain o p names second file Deep h = h
+no_image Plain o p names second file Full h = h
+no_image Check o p names second file reason h = h
+no_image Core o p names second file reason h = h
+no_image Code o p names second file reason h = h
+no_image Pack o p names second file reason h = h
+no_image Show o p names second file reason h = h

@@ -13,6 +13,8 @@ mod Taking
 mod Filling
 mod Asking
 mod Entering
+mod Fitting
+mod Imaging
 mod Calling
 mod Headlines
 mod Roots

@@ -6,12 +6,13 @@ use Rattle.gib_file.specs.Framed.{File}
 use Rattle.gib_value.specs.Text.{text}
 use Rattle.gib_syntax.specs.Tree.{ProgramTree}
 use Rattle.gib_syntax.specs.Source.{Spells}
-use Rattle.gib_syntax.specs.Declarations.{table_of_program, input_type}
+use Rattle.gib_print.specs.Image.{IsImageOf}
+use Rattle.gib_syntax.specs.Declarations.{table_of_program, input_type, output_type}
 use Rattle.gib_syntax.specs.Typing.{IsTypedProgram}
 use Rattle.gib_syntax.specs.Meaning.{Gives, Stops, Deep, run}
 use Rattle.gib_core.specs.Cost.{run_cost}
 use Rattle.gib_core.specs.Tight.{Tight}
-use Rattle.gib_app.specs.Cores.{core_after}
+use Rattle.gib_app.specs.Cores.{core_after, layouts_of}
 
 -- The source spells this program with these tokens, and it is typed.
 pub record IsProgram (source : List ℕ) (lexed : Lexed) (p : ProgramTree) : Type 0 where
@@ -43,6 +44,14 @@ pub record IsOutput (p : ProgramTree) (names : List (List ℕ)) (depth : ℕ) (i
   pub is_input : IsInput p value input
   pub means : run p depth value ≡ Gives result
   pub is_text : output ≡ text_line p names result
+
+-- The bytes are an image in which the value stands that the program means on the input within the depth.
+pub record IsRunImage (p : ProgramTree) (depth : ℕ) (input bytes : List ℕ) : Type 0 where
+  pub value : Datum
+  pub result : Datum
+  pub is_input : IsInput p value input
+  pub means : run p depth value ≡ Gives result
+  pub image : IsImageOf (layouts_of p) (output_type p) bytes result
 
 -- The program's meaning on the input runs out of depth.
 pub record RunsOut (p : ProgramTree) (depth : ℕ) (input : List ℕ) : Type 0 where

@@ -3,7 +3,7 @@
 ghost use Rattle.std.specs.Prelude.{◌≡◌, IfOk, false};
 ghost use Rattle.clap.specs.Walk.{rule_of};
 ghost use Rattle.clap.specs.Simple.{app_of};
-ghost use Rattle.gib_app.specs.Words.{app_for, bare_program, chunks, command_set, depth, pass, positional};
+ghost use Rattle.gib_app.specs.Words.{app_for, bare_program, chunks, command_set, depth, image, pass, positional};
 ghost use Rattle.gib_app.specs.Words.{check_form, code_form, core_form, pack_form, plain_form, run_form, show_form};
 
 use clap::builder::ValueParser;
@@ -48,7 +48,15 @@ fn pass<'a>(alloc: Global) -> Arg<'a>
         .value_parser(ValueParser::unsigned(1, 4))
 }
 
-/// `run SOURCE INPUT [--depth N] [--chunks N]`.
+/// `--image FILE`, under which name the image of region memory is written.
+fn image<'a>(alloc: Global) -> Arg<'a>
+    ensures rule { rule_of result ≡ image }
+    ensures local { result.global ≡ false }
+{
+    Arg::new(alloc, "image").long("image")
+}
+
+/// `run SOURCE INPUT [--depth N] [--chunks N] [--image FILE]`.
 fn run_command<'a>(alloc: Global) -> Result<Command<'a>, AllocError>
     ensures { IfOk result (λ command. app_of command ≡ app_for run_form) }
 {
@@ -56,7 +64,8 @@ fn run_command<'a>(alloc: Global) -> Result<Command<'a>, AllocError>
         .arg(positional(alloc, "source"))?
         .arg(positional(alloc, "input"))?
         .arg(depth(alloc))?
-        .arg(chunks(alloc))
+        .arg(chunks(alloc))?
+        .arg(image(alloc))
 }
 
 /// `plain SOURCE INPUT [--depth N]`.

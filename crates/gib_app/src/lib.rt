@@ -2,6 +2,7 @@
 #![tactic(auto)]
 
 mod answer;
+mod buffer;
 mod commands;
 mod compile;
 mod documents;
