@@ -13,6 +13,7 @@ mod Taking
 mod Filling
 mod Asking
 mod Entering
+mod Signs
 mod Fitting
 mod Imaging
 mod Calling

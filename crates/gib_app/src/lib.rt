@@ -7,6 +7,8 @@ mod commands;
 mod compile;
 mod documents;
 pub mod headline;
+mod image_file;
+mod imaging;
 pub mod input_fault;
 mod jobs;
 pub mod law;
