@@ -72,8 +72,8 @@ fn text_of(alloc: Global, ran: &mut Ran, names: &Names) -> Result<Vec<u8>, Memor
 pub fn with_image(alloc: Global, mut value: Valued) -> Result<Made, Memory>
     requires names { AreHeld value.ran.lowered.code.laid.table value.names }
     requires stands { (p : ProgramTree) × (depth : ℕ) × (input : List ℕ) × StandsMeant p depth input value.ran.lowered.code.laid (⟦<PlainMem as Mem>⟧.view value.ran.memory).cells value.ran.root }
-    ensures { (p : ProgramTree) (depth : ℕ) (input : List ℕ) (s : StandsMeant p depth input value.entry.ran.lowered.code.laid (⟦<PlainMem as Mem>⟧.view value.entry.ran.memory).cells value.entry.ran.root)
-        → IfOk result (λ made. IsImaged value.entry.ran.lowered.code.laid p value.entry.names s.result (file_of made) made.end) }
+    ensures { (p : ProgramTree) (depth : ℕ) (input : List ℕ) (s : StandsMeant p depth input value.ran.lowered.code.laid (⟦<PlainMem as Mem>⟧.view value.ran.memory).cells value.ran.root)
+        → IfOk result (λ made. IsImaged value.ran.lowered.code.laid p value.names s.result (file_of made) made.end) }
 {
     let bytes = image_of(alloc, &mut value.ran)?;
     let text = text_of(alloc, &mut value.ran, &value.names)?;

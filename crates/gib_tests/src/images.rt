@@ -294,3 +294,168 @@ fn an_image_may_be_written_over_a_file_that_was_read(rt: HostRuntime) -> Result<
     }
     Ok(())
 }
+
+/// Shows a file by a program.
+fn show<R: Threads + Wait + Sync>(
+    rt: &R,
+    alloc: Global,
+    source: &str,
+    bytes: &[u8],
+) -> Result<Ended, AllocError> {
+    let files = vec![in alloc;
+        file(alloc, "a.gib", source.as_bytes())?,
+        file(alloc, "m.gbi", bytes)?,
+    ]?;
+    let words = ["gib", "show", "a.gib", "m.gbi"];
+    call_failing(rt, alloc, &words, files, Vec::new(alloc), Vec::new(alloc))
+}
+
+/// Whether a file is refused with this line, and nothing is put.
+fn refuses<R: Threads + Wait + Sync>(
+    rt: &R,
+    alloc: Global,
+    source: &str,
+    bytes: &[u8],
+    line: &str,
+) -> Result<bool, AllocError> {
+    let ended = show(rt, alloc, source, bytes)?;
+    Ok(
+        ended.status == Status::Input
+            && ended.out.bytes().is_empty()
+            && ended.err.bytes() == line.as_bytes(),
+    )
+}
+
+/// The image of a row with other bytes at some places of the file.
+fn changed(alloc: Global, row: &Row<'_>, changes: &[(usize, u8)]) -> Result<Vec<u8>, AllocError> {
+    let mut bytes = image(alloc, row)?;
+    for (at, byte) in changes {
+        if *at < bytes.len() {
+            bytes[*at] = *byte;
+        }
+    }
+    Ok(bytes)
+}
+
+#[test]
+fn an_image_is_shown(rt: HostRuntime) -> Result<(), Fail> {
+    let alloc = rt.alloc();
+    for row in &ROWS {
+        let ended = show(&rt, alloc, row.source, &image(alloc, row)?)?;
+        assert_eq!(rt; ended.status, Status::Done, "{}", row.source);
+        assert_eq!(rt; ended.out.bytes(), row.text.as_bytes(), "{}", row.source);
+        assert!(rt; ended.err.bytes().is_empty(), "{}", row.source);
+    }
+    Ok(())
+}
+
+#[test]
+fn an_image_is_read_from_its_root(rt: HostRuntime) -> Result<(), Fail> {
+    let alloc = rt.alloc();
+    for (changes, text) in [
+        ([(8, 0), (9, 0)], "(Node (Leaf 1) (Leaf 2))\n"),
+        ([(8, 1), (9, 0)], "(Leaf 1)\n"),
+        ([(8, 10), (9, 0)], "(Leaf 2)\n"),
+        // The first tree of the root is a leaf with the bytes of an address, and the second one is where it was.
+        ([(8, 19), (24 + 20, 0)], "(Node (Leaf 4096) (Leaf 3))\n"),
+    ] {
+        let ended = show(&rt, alloc, ADD_ONE, &changed(alloc, &ROWS[3], &changes)?)?;
+        assert_eq!(rt; ended.status, Status::Done, "{text}");
+        assert_eq!(rt; ended.out.bytes(), text.as_bytes(), "{text}");
+    }
+    Ok(())
+}
+
+#[test]
+fn a_header_of_another_form_is_refused(rt: HostRuntime) -> Result<(), Fail> {
+    let alloc = rt.alloc();
+    let line = "gib: input: bad image header\n";
+    // Version, kind, reserved bytes, and the number of chunks: one more, one less, and 65,538.
+    for change in [
+        (4, 2),
+        (5, 0),
+        (5, 1),
+        (6, 1),
+        (7, 1),
+        (16, 3),
+        (16, 1),
+        (18, 1),
+    ] {
+        let bytes = changed(alloc, &ROWS[3], &[change])?;
+        assert!(rt; refuses(&rt, alloc, ADD_ONE, &bytes, line)?);
+    }
+    let whole = image(alloc, &ROWS[3])?;
+    let mut longer = image(alloc, &ROWS[3])?;
+    longer.push(0)?;
+    let (shorter, _) = whole.split_at(whole.len().saturating_sub(1));
+    let (cut, _) = whole.split_at(whole.len().saturating_sub(CHUNK));
+    for bytes in [longer.as_slice(), shorter, cut, b"GIBI".as_slice()] {
+        assert!(rt; refuses(&rt, alloc, ADD_ONE, bytes, line)?);
+    }
+    let number = "data Tree = Leaf Int | Node Tree Tree ; main (t : Tree) : Int = 0 ;";
+    assert!(rt; refuses(&rt, alloc, number, &whole, line)?, "another type");
+    let truth = changed(alloc, &ROWS[6], &[(8, 2)])?;
+    assert!(rt;
+        refuses(&rt, alloc, ROWS[6].source, &truth, line)?,
+        "a truth value past 1"
+    );
+    let line = "gib: input: not a packed file\n";
+    for bytes in [
+        b"GIB".as_slice(),
+        b"GIBJ\x01\x02".as_slice(),
+        b"".as_slice(),
+    ] {
+        assert!(rt; refuses(&rt, alloc, ADD_ONE, bytes, line)?);
+    }
+    Ok(())
+}
+
+#[test]
+fn the_first_bad_item_is_named(rt: HostRuntime) -> Result<(), Fail> {
+    let alloc = rt.alloc();
+    let far = [
+        (24 + 21, 255),
+        (24 + 22, 255),
+        (24 + 23, 255),
+        (24 + 24, 255),
+        (24 + 25, 255),
+        (24 + 26, 255),
+        (24 + 27, 255),
+        (24 + 28, 255),
+    ];
+    let cases: [(&[(usize, u8)], &str); 11] = [
+        // The root's address, behind all chunks.
+        (&[(8, 0), (9, 32)], "8192"),
+        // A tag that no constructor has, and the greatest such tag.
+        (&[(24 + 19, 2)], "19"),
+        (&[(24 + 19, 253)], "19"),
+        // An indirection behind all chunks, at their end and far off.
+        (&[(24 + 22, 32)], "8192"),
+        (&far, "18446744073709551615"),
+        // The first tree, the second one, and both.
+        (&[(24 + 4096, 2)], "4096"),
+        (&[(24 + 4105, 9)], "4105"),
+        (&[(24 + 4096, 9), (24 + 4105, 9)], "4096"),
+        // A leaf and an indirection that the end cuts, and a node whose first tree is behind it.
+        (&[(8, 255), (9, 31), (24 + 8191, 0)], "8191"),
+        (&[(8, 255), (9, 31), (24 + 8191, 254)], "8191"),
+        (&[(8, 255), (9, 31), (24 + 8191, 1)], "8192"),
+    ];
+    for (changes, place) in cases {
+        let bytes = changed(alloc, &ROWS[3], changes)?;
+        let line = format!(in alloc; "gib: input: bad image at {place}\n")?;
+        assert!(rt; refuses(&rt, alloc, ADD_ONE, &bytes, &line)?, "{place}");
+    }
+    let source = "data B = B Bool ; main (n : Int) : B = B True ;";
+    let row = Row {
+        source,
+        payload: b"",
+        kind: 2,
+        root: 0,
+        chunks: &[b"\x00\x02"],
+        text: "",
+    };
+    let bytes = image(alloc, &row)?;
+    assert!(rt; refuses(&rt, alloc, source, &bytes, "gib: input: bad image at 1\n")?);
+    Ok(())
+}
