@@ -349,19 +349,29 @@ fn an_image_is_shown(rt: HostRuntime) -> Result<(), Fail> {
     Ok(())
 }
 
+/// Whether the first row's image with these changes is shown as this text.
+fn shows_changed<R: Threads + Wait + Sync>(
+    rt: &R,
+    alloc: Global,
+    changes: &[(usize, u8)],
+    text: &str,
+) -> Result<bool, AllocError> {
+    let bytes = changed(alloc, &ROWS[0], changes)?;
+    let ended = show(rt, alloc, ROWS[0].source, &bytes)?;
+    Ok(ended.status == Status::Done && ended.out.bytes() == text.as_bytes())
+}
+
 #[test]
 fn an_image_is_read_from_its_root(rt: HostRuntime) -> Result<(), Fail> {
     let alloc = rt.alloc();
     for (changes, text) in [
-        ([(8, 0), (9, 0)], "(Node (Leaf 1) (Leaf 2))\n"),
-        ([(8, 1), (9, 0)], "(Leaf 1)\n"),
-        ([(8, 10), (9, 0)], "(Leaf 2)\n"),
-        // The first tree of the root is a leaf with the bytes of an address, and the second one is where it was.
-        ([(8, 19), (24 + 20, 0)], "(Node (Leaf 4096) (Leaf 3))\n"),
+        ([(9, 16)].as_slice(), "(Leaf 1)\n"),
+        ([(8, 1)].as_slice(), "(Leaf 1)\n"),
+        ([(8, 10)].as_slice(), "(Leaf 1)\n"),
+        // The first tree is a leaf with the bytes of an address, and the second one is where it was.
+        ([(24 + 1, 0)].as_slice(), "(Node (Leaf 4096) (Leaf 1))\n"),
     ] {
-        let ended = show(&rt, alloc, ADD_ONE, &changed(alloc, &ROWS[3], &changes)?)?;
-        assert_eq!(rt; ended.status, Status::Done, "{text}");
-        assert_eq!(rt; ended.out.bytes(), text.as_bytes(), "{text}");
+        assert!(rt; shows_changed(&rt, alloc, changes, text)?, "{text}");
     }
     Ok(())
 }
@@ -369,6 +379,7 @@ fn an_image_is_read_from_its_root(rt: HostRuntime) -> Result<(), Fail> {
 #[test]
 fn a_header_of_another_form_is_refused(rt: HostRuntime) -> Result<(), Fail> {
     let alloc = rt.alloc();
+    let source = ROWS[0].source;
     let line = "gib: input: bad image header\n";
     // Version, kind, reserved bytes, and the number of chunks: one more, one less, and 65,538.
     for change in [
@@ -381,16 +392,16 @@ fn a_header_of_another_form_is_refused(rt: HostRuntime) -> Result<(), Fail> {
         (16, 1),
         (18, 1),
     ] {
-        let bytes = changed(alloc, &ROWS[3], &[change])?;
-        assert!(rt; refuses(&rt, alloc, ADD_ONE, &bytes, line)?);
+        let bytes = changed(alloc, &ROWS[0], &[change])?;
+        assert!(rt; refuses(&rt, alloc, source, &bytes, line)?);
     }
-    let whole = image(alloc, &ROWS[3])?;
-    let mut longer = image(alloc, &ROWS[3])?;
+    let whole = image(alloc, &ROWS[0])?;
+    let mut longer = image(alloc, &ROWS[0])?;
     longer.push(0)?;
     let (shorter, _) = whole.split_at(whole.len().saturating_sub(1));
     let (cut, _) = whole.split_at(whole.len().saturating_sub(CHUNK));
     for bytes in [longer.as_slice(), shorter, cut, b"GIBI".as_slice()] {
-        assert!(rt; refuses(&rt, alloc, ADD_ONE, bytes, line)?);
+        assert!(rt; refuses(&rt, alloc, source, bytes, line)?);
     }
     let number = "data Tree = Leaf Int | Node Tree Tree ; main (t : Tree) : Int = 0 ;";
     assert!(rt; refuses(&rt, alloc, number, &whole, line)?, "another type");
@@ -405,46 +416,50 @@ fn a_header_of_another_form_is_refused(rt: HostRuntime) -> Result<(), Fail> {
         b"GIBJ\x01\x02".as_slice(),
         b"".as_slice(),
     ] {
-        assert!(rt; refuses(&rt, alloc, ADD_ONE, bytes, line)?);
+        assert!(rt; refuses(&rt, alloc, source, bytes, line)?);
     }
     Ok(())
 }
 
+/// Bytes that make the address of an indirection the greatest one.
+const FAR: [(usize, u8); 8] = [
+    (26, 255),
+    (27, 255),
+    (28, 255),
+    (29, 255),
+    (30, 255),
+    (31, 255),
+    (32, 255),
+    (33, 255),
+];
+
 #[test]
 fn the_first_bad_item_is_named(rt: HostRuntime) -> Result<(), Fail> {
     let alloc = rt.alloc();
-    let far = [
-        (24 + 21, 255),
-        (24 + 22, 255),
-        (24 + 23, 255),
-        (24 + 24, 255),
-        (24 + 25, 255),
-        (24 + 26, 255),
-        (24 + 27, 255),
-        (24 + 28, 255),
-    ];
-    let cases: [(&[(usize, u8)], &str); 11] = [
+    for (changes, place) in [
         // The root's address, behind all chunks.
-        (&[(8, 0), (9, 32)], "8192"),
+        ([(9, 32)].as_slice(), "8192"),
         // A tag that no constructor has, and the greatest such tag.
-        (&[(24 + 19, 2)], "19"),
-        (&[(24 + 19, 253)], "19"),
+        ([(24, 2)].as_slice(), "0"),
+        ([(24, 253)].as_slice(), "0"),
         // An indirection behind all chunks, at their end and far off.
-        (&[(24 + 22, 32)], "8192"),
-        (&far, "18446744073709551615"),
-        // The first tree, the second one, and both.
-        (&[(24 + 4096, 2)], "4096"),
-        (&[(24 + 4105, 9)], "4105"),
-        (&[(24 + 4096, 9), (24 + 4105, 9)], "4096"),
+        ([(24 + 3, 32)].as_slice(), "8192"),
+        (FAR.as_slice(), "18446744073709551615"),
+        // The leaf, the second tree, and the first of two that are bad.
+        ([(24 + 4096, 2)].as_slice(), "4096"),
+        ([(24 + 10, 253)].as_slice(), "10"),
+        ([(24 + 1, 2), (24 + 10, 9)].as_slice(), "1"),
         // A leaf and an indirection that the end cuts, and a node whose first tree is behind it.
-        (&[(8, 255), (9, 31), (24 + 8191, 0)], "8191"),
-        (&[(8, 255), (9, 31), (24 + 8191, 254)], "8191"),
-        (&[(8, 255), (9, 31), (24 + 8191, 1)], "8192"),
-    ];
-    for (changes, place) in cases {
-        let bytes = changed(alloc, &ROWS[3], changes)?;
+        ([(8, 255), (9, 31)].as_slice(), "8191"),
+        ([(8, 255), (9, 31), (24 + 8191, 254)].as_slice(), "8191"),
+        ([(8, 255), (9, 31), (24 + 8191, 1)].as_slice(), "8192"),
+    ] {
+        let bytes = changed(alloc, &ROWS[0], changes)?;
         let line = format!(in alloc; "gib: input: bad image at {place}\n")?;
-        assert!(rt; refuses(&rt, alloc, ADD_ONE, &bytes, &line)?, "{place}");
+        assert!(rt;
+            refuses(&rt, alloc, ROWS[0].source, &bytes, &line)?,
+            "{place}"
+        );
     }
     let source = "data B = B Bool ; main (n : Int) : B = B True ;";
     let row = Row {
