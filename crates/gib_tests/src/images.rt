@@ -75,16 +75,13 @@ const ROWS: [Row<'static>; 9] = [
         ],
         text: "(Node (Leaf 1) (Leaf 1))\n",
     },
-    // The second leaf begins what the first one's chunk has left.
+    // Both leaves stand where they belong.
     Row {
         source: "data Tree = Leaf Int | Node Tree Tree ; main (n : Int) : Tree = Node (Leaf n) (Leaf 7) ;",
         payload: b"\x05\0\0\0\0\0\0\0",
         kind: 2,
         root: 0,
-        chunks: &[
-            b"\x01\xfe\0\x10\0\0\0\0\0\0\xfe\x09\x10\0\0\0\0\0\0",
-            b"\x00\x05\0\0\0\0\0\0\0\x00\x07\0\0\0\0\0\0\0",
-        ],
+        chunks: &[b"\x01\x00\x05\0\0\0\0\0\0\0\x00\x07\0\0\0\0\0\0\0"],
         text: "(Node (Leaf 5) (Leaf 7))\n",
     },
     // The input, and an indirection to it.
@@ -102,8 +99,7 @@ const ROWS: [Row<'static>; 9] = [
         kind: 2,
         root: 19,
         chunks: &[
-            b"\x01\x00\x01\0\0\0\0\0\0\0\x00\x02\0\0\0\0\0\0\0\x01\xfe\0\x10\0\0\0\0\0\0\xfe\x09\x10\0\0\0\0\0\0",
-            b"\x00\x02\0\0\0\0\0\0\0\x00\x03\0\0\0\0\0\0\0",
+            b"\x01\x00\x01\0\0\0\0\0\0\0\x00\x02\0\0\0\0\0\0\0\x01\x00\x02\0\0\0\0\0\0\0\x00\x03\0\0\0\0\0\0\0",
         ],
         text: "(Node (Leaf 2) (Leaf 3))\n",
     },
