@@ -215,6 +215,7 @@ fn changed(alloc: Global, root: Root, changes: &[(usize, u8)]) -> Result<Vec<u8>
 }
 
 // The text of the value that is read, or why there is none.
+#[tactic(auto, using(crate::proofs::Examples::read_typed, crate::proofs::Examples::names_held))]
 fn read(alloc: Global, ty: Ty, bytes: &[u8]) -> Result<Result<Vec<u8>, ImageFault>, Fail> {
     let types = make_types(alloc)?;
     let names = make_names(alloc).map_err(|_| "names")?;
