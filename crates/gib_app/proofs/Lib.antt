@@ -15,7 +15,7 @@ mod Asking
 mod Entering
 mod Signs
 mod Fitting
-mod Imaging
+mod Imaged
 mod Calling
 mod Headlines
 mod Roots
