@@ -1,5 +1,5 @@
 -- What a run makes, with its image and without.
-use Rattle.std.proofs.Common.{◌≡◌, refl, ℕ, ◌≤◌, List, Option, Some, None, Bool, true, false, subst, sym}
+use Rattle.std.proofs.Common.{◌≡◌, ◌∙◌, refl, ap, ℕ, ◌≤◌, List, [], ◌++◌, Option, Some, None, Bool, true, false, Result, Ok, Err, IfErr, subst, sym}
 use Rattle.gib_types.specs.declared.table.Ty.{Ty}
 use Rattle.gib_types.specs.Layout.{LaidOut}
 use Rattle.gib_types.specs.Tree.{Datum}
@@ -20,6 +20,9 @@ use Rattle.gib_app.specs.Jobs.{MakesImage, Runs}
 use Rattle.gib_app.specs.Kept.{EndsBy}
 use Rattle.gib_app.specs.MachineRun.{StandsMeant, cells_of}
 use Rattle.gib_app.specs.Running.{IsRunImage, text_line}
+use Rattle.gib_app.specs.declared.stop.Stop.{Stop}
+use Rattle.gib_app.specs.declared.stop.Stop.TheVariants.{Memory as NoMemory}
+use Rattle.gib_app.specs.Stops.{IsRunStop}
 
 -- The law that the image of a memory is one of the value that stands there.
 abbrev pub WrittenIsRead : Type 0
@@ -56,3 +59,31 @@ value_ends p o input value held off s =
       record { program = p; depth = o.depth; input = input; stands = s; held = held; is_text = refl },
       (subst M (sym off) refl, record { value = s.value; result = s.result; is_input = s.is_input; means = s.means; is_text = refl }),
     )
+
+-- Want of memory is free to stop a run.
+pub memory_stops : {T : Type 0} (r : Result T Stop) (p : ProgramTree) (input : List ℕ) → IfErr r (λ stop. stop ≡ NoMemory) → IfErr r (IsRunStop p input)
+memory_stops (Ok x) p input h = tt {0}
+memory_stops (Err stop) p input h = subst (IsRunStop p input) (sym h) (tt {0})
+
+-- A buffer that held nothing holds what it took.
+pub text_kept : (old new got text : List ℕ) → old ≡ [] → Some new ≡ Some (old ++ text) → got ≡ new → got ≡ text
+text_kept old new got text e put g =
+    let is : new ≡ old ++ text = cc in
+    g ∙ is ∙ ap (λ (l : List ℕ). l ++ text) e
+
+-- What is printed of a memory is what is printed of the same memory.
+pub text_moved : (p : ProgramTree) (depth : ℕ) (input : List ℕ) (names : List (List ℕ)) (text : List ℕ) (laid other : LaidOut) (m n : Memory) (place spot : Root) → other ≡ laid → n ≡ m → spot ≡ place
+    → ((q : ProgramTree) (d : ℕ) (i : List ℕ) (s : StandsMeant q d i other n.cells spot) → text ≡ text_line q names s.result)
+    → (s : StandsMeant p depth input laid m.cells place) → text ≡ text_line p names s.result
+text_moved p depth input names text laid other m n place spot e f g printed s =
+    let one = subst (λ (l : LaidOut). Stands l m.cells place (output_type p) s.result) (sym e) s.stands in
+    let two = subst (λ (x : Memory). Stands other x.cells place (output_type p) s.result) (sym f) one in
+    let three = subst (λ (r : Root). Stands other n.cells r (output_type p) s.result) (sym g) two in
+    printed p depth input (record {
+      value = s.value;
+      result = s.result;
+      is_input = s.is_input;
+      means = s.means;
+      table = ap (λ (l : LaidOut). l.table) e ∙ s.table;
+      stands = three;
+    })
