@@ -21,7 +21,7 @@ use Rattle.gib_app.specs.PassFaults.{image_stop}
 use Rattle.gib_app.specs.Running.{IsInput, IsShownValue}
 use Rattle.gib_app.specs.Stops.{IsShowStop}
 
-fourth : List ℕ → ℕ
+abbrev fourth : List ℕ → ℕ
 fourth (a ∷ b ∷ c ∷ d ∷ rest) = d
 fourth rest = 0
 
