@@ -3,7 +3,8 @@ use Rattle.std.proofs.Common.{◌≡◌, ◌∙◌, ℕ, ◌≤◌, List, [], �
 use Rattle.std.proofs.lemmas.List.{take-take}
 use Rattle.gib_types.specs.declared.table.Ty.{Ty}
 use Rattle.gib_types.specs.Layout.{LaidOut}
-use Rattle.gib_types.specs.Tree.{Datum}
+use Rattle.gib_types.specs.Tree.{Datum, IsTyped}
+use Rattle.gib_packed.proofs.Typed.{Stands-typed}
 use Rattle.gib_file.specs.Framed.{File, HasMagic}
 use Rattle.gib_file.proofs.HeadLemmas.{parts}
 use Rattle.gib_file.specs.Packed.{packed}
@@ -49,6 +50,11 @@ no_packed_value p bytes m none' (v, inr read) = signs_differ bytes m (formed_sig
 pub no_sign_value : (p : ProgramTree) (bytes : List ℕ) → (HasMagic bytes → ⊥) → (HasImageSign bytes → ⊥) → ((v : Datum) × IsShownValue p v bytes) → ⊥
 no_sign_value p bytes m s (v, inl is) = m (file_magic p v bytes is)
 no_sign_value p bytes m s (v, inr read) = s (formed_sign (output_type p) bytes read.image.formed)
+
+-- A value that is shown is typed.
+pub shown_typed : (p : ProgramTree) (v : Datum) (bytes : List ℕ) → IsShownValue p v bytes → IsTyped (table_of_program p) v
+shown_typed p v bytes (inl is) = (input_type p, is.file.0)
+shown_typed p v bytes (inr read) = (output_type p, Stands-typed read.image.stands)
 
 -- The law that bytes that are read as a value are not refused.
 abbrev pub ReadOrRefused : Type 0
