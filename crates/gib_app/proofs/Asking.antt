@@ -15,13 +15,13 @@ use Rattle.clap.proofs.WalkLemmas.{both}
 use Rattle.gib_app.specs.declared.plan.Job.{Job}
 use Rattle.gib_app.specs.declared.plan.Job.TheVariants.{Run, Plain, Check, Core, Code, Pack, Show}
 use Rattle.gib_app.specs.Plan.{Named}
-use Rattle.gib_app.specs.Words.{Form, app_for, asked_by_command, command_set, file_of, planned, requested, second_in, target_in, with_value, word_of}
+use Rattle.gib_app.specs.Words.{Target, NoTarget, AtPlace, ByOption, Form, app_for, asked_by_command, command_set, file_of, planned, requested, second_in, target_in, with_value, word_of}
 use Rattle.gib_app.specs.Words.{check_form, code_form, core_form, pack_form, plain_form, run_form, show_form}
 use Rattle.gib_app.proofs.Filling.{AllFilled, AllKnown, AllOf, Filled, Known, is_valued, level_filled}
 
 -- ---- Rows
 
-found_in : {X : Type 0} (P : X → Type 0) (p : X → Bool) (xs : List X) (x : X) → AllOf P xs → find p xs ≡ Some x → P x × (p x ≡ true)
+pub found_in : {X : Type 0} (P : X → Type 0) (p : X → Bool) (xs : List X) (x : X) → AllOf P xs → find p xs ≡ Some x → P x × (p x ≡ true)
 found_in P p [] x all e = absurd (true≢false (sym (ap is_some e)))
 found_in P p (y ∷ ys) x all e = go (p y) refl e (found_in P p ys x all.1)
   where
@@ -88,6 +88,12 @@ all_known c all p a e = (found_in (Known c) p c a all e).0
 abbrev Reads : Shape → Text → Type 0
 Reads s id = (a : Rule) × (arg_by_id s.rules id ≡ Some a) × (is_valued a ≡ true) × (a.required ≡ true)
 
+-- The same of a file that is written, where a place names it.
+abbrev MayWrite : Shape → Target → Type 0
+MayWrite s NoTarget = ⊤
+MayWrite s (AtPlace id) = Reads s id
+MayWrite s (ByOption id) = ⊤
+
 -- The same, where there is such a place.
 abbrev MayRead : Shape → Option Text → Type 0
 MayRead s None = ⊤
@@ -117,12 +123,13 @@ module _ (s : Shape) (words : List Text) (is : AllOf (Known s.rules) s.rules) (s
   second_there None reads = refl
   second_there (Some id) reads = mapped Some (file_of id rows) (source_there id reads)
 
-  target_there : (o : Option Text) → MayRead s o → is_some (target_in o rows) ≡ true
-  target_there None reads = refl
-  target_there (Some id) reads = mapped Some (word_of id rows) (read_there id reads)
+  target_there : (t : Target) → MayWrite s t → is_some (target_in t rows) ≡ true
+  target_there NoTarget reads = refl
+  target_there (AtPlace id) reads = mapped Some (word_of id rows) (read_there id reads)
+  target_there (ByOption id) reads = refl
 
   -- One lemma for all forms.
-  plan_there : (job : Job) (second target : Option Text) → Reads s (codes "source") → MayRead s second → MayRead s target → is_some (planned job second target rows) ≡ true
+  plan_there : (job : Job) (second : Option Text) (target : Target) → Reads s (codes "source") → MayRead s second → MayWrite s target → is_some (planned job second target rows) ≡ true
   plan_there job second target source other written =
       joined _ (target_in target rows) (joined _ (second_in second rows) (mapped _ (file_of (codes "source") rows) (source_there (codes "source") source)) (second_there second other)) (target_there target written)
 
@@ -130,31 +137,31 @@ module _ (s : Shape) (words : List Text) (is : AllOf (Known s.rules) s.rules) (s
 
 run_asks : Asks (built_form run_form)
 unfolding clap_on_literals
-run_asks words passes = plan_there (built_form run_form) words ((refl, refl), ((refl, refl), ((refl, refl), ((refl, refl), tt)))) refl passes Run (Some (codes "input")) None (_, refl, refl, refl) (_, refl, refl, refl) tt
+run_asks words passes = plan_there (built_form run_form) words ((refl, refl), ((refl, refl), ((refl, refl), ((refl, refl), ((refl, refl), tt))))) refl passes Run (Some (codes "input")) (ByOption (codes "image")) (_, refl, refl, refl) (_, refl, refl, refl) tt
 
 plain_asks : Asks (built_form plain_form)
 unfolding clap_on_literals
-plain_asks words passes = plan_there (built_form plain_form) words ((refl, refl), ((refl, refl), ((refl, refl), tt))) refl passes Plain (Some (codes "input")) None (_, refl, refl, refl) (_, refl, refl, refl) tt
+plain_asks words passes = plan_there (built_form plain_form) words ((refl, refl), ((refl, refl), ((refl, refl), tt))) refl passes Plain (Some (codes "input")) NoTarget (_, refl, refl, refl) (_, refl, refl, refl) tt
 
 check_asks : Asks (built_form check_form)
 unfolding clap_on_literals
-check_asks words passes = plan_there (built_form check_form) words ((refl, refl), tt) refl passes Check None None (_, refl, refl, refl) tt tt
+check_asks words passes = plan_there (built_form check_form) words ((refl, refl), tt) refl passes Check None NoTarget (_, refl, refl, refl) tt tt
 
 core_asks : Asks (built_form core_form)
 unfolding clap_on_literals
-core_asks words passes = plan_there (built_form core_form) words ((refl, refl), ((refl, refl), tt)) refl passes Core None None (_, refl, refl, refl) tt tt
+core_asks words passes = plan_there (built_form core_form) words ((refl, refl), ((refl, refl), tt)) refl passes Core None NoTarget (_, refl, refl, refl) tt tt
 
 code_asks : Asks (built_form code_form)
 unfolding clap_on_literals
-code_asks words passes = plan_there (built_form code_form) words ((refl, refl), tt) refl passes Code None None (_, refl, refl, refl) tt tt
+code_asks words passes = plan_there (built_form code_form) words ((refl, refl), tt) refl passes Code None NoTarget (_, refl, refl, refl) tt tt
 
 pack_asks : Asks (built_form pack_form)
 unfolding clap_on_literals
-pack_asks words passes = plan_there (built_form pack_form) words ((refl, refl), ((refl, refl), ((refl, refl), tt))) refl passes Pack (Some (codes "text")) (Some (codes "target")) (_, refl, refl, refl) (_, refl, refl, refl) (_, refl, refl, refl)
+pack_asks words passes = plan_there (built_form pack_form) words ((refl, refl), ((refl, refl), ((refl, refl), tt))) refl passes Pack (Some (codes "text")) (AtPlace (codes "target")) (_, refl, refl, refl) (_, refl, refl, refl) (_, refl, refl, refl)
 
 show_asks : Asks (built_form show_form)
 unfolding clap_on_literals
-show_asks words passes = plan_there (built_form show_form) words ((refl, refl), ((refl, refl), tt)) refl passes Show (Some (codes "file")) None (_, refl, refl, refl) (_, refl, refl, refl) tt
+show_asks words passes = plan_there (built_form show_form) words ((refl, refl), ((refl, refl), tt)) refl passes Show (Some (codes "file")) NoTarget (_, refl, refl, refl) (_, refl, refl, refl) tt
 
 all_ask : AllOf Asks (built command_set).subs
 unfolding clap_on_literals

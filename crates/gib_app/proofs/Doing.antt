@@ -1,6 +1,7 @@
 -- Facts of all jobs, by cases.
-use Rattle.std.proofs.Common.{◌≡◌, refl, ℕ, ◌<◌, List, length, Option, Some, None, ap, inl, sym, subst, subst₂, arith}
+use Rattle.std.proofs.Common.{◌≡◌, refl, ℕ, ◌<◌, List, length, Option, Some, None, ap, inl, inr, ◌≤◌, sym, subst, subst₂, arith}
 use Rattle.std.specs.Prelude.{option_and_then}
+use Rattle.gib_types.specs.Tree.{Datum}
 use Rattle.gib_syntax.specs.Tree.{ProgramTree}
 use Rattle.gib_app.specs.declared.input_fault.InputFault.TheVariants as input
 use Rattle.gib_app.specs.declared.made.End.{End as KeptEnd}
@@ -14,7 +15,8 @@ use Rattle.gib_app.specs.declared.plan.Options.{Options}
 use Rattle.gib_app.specs.Formats.{format_of, most_of, Accepts, Refuses}
 use Rattle.gib_app.specs.Plan.{Document, Files}
 use Rattle.gib_app.specs.Causes.{HoldsSecond}
-use Rattle.gib_app.specs.Jobs.{End, Prints, NoValue, Does, Runs}
+use Rattle.gib_app.specs.Running.{IsShownValue}
+use Rattle.gib_app.specs.Jobs.{End, Prints, NoValue, Does, Runs, without_image}
 use Rattle.gib_app.specs.Kept.{EndsBy, file_of}
 use Rattle.gib_app.specs.MachineRun.{LacksValue, IsMachineStop}
 use Rattle.gib_app.specs.Stops.{reason_of, IsRunStop}
@@ -35,7 +37,7 @@ does_accepts Core o p names second file e h = tt {0}
 does_accepts Code o p names second file e h = tt {0}
 does_accepts Pack o p names second file (Prints text) h = (h.0, h.2)
 does_accepts Pack o p names second file (NoValue reason) h = absurd h
-does_accepts Show o p names second file (Prints text) h = (h.1.value, h.1.is_input)
+does_accepts Show o p names second file (Prints text) h = (h.1.value, h.1.is_value)
 does_accepts Show o p names second file (NoValue reason) h = absurd h
 
 -- where there is no value, no file was made
@@ -50,20 +52,10 @@ no_file Code o p names second file reason h = absurd h
 no_file Pack o p names second file reason h = absurd h
 no_file Show o p names second file reason h = absurd h
 
--- where a file is made, there is a value
-pub file_or_none : (job : Job) (o : Options) (p : ProgramTree) (names : List (List ℕ)) (second bytes : List ℕ) (e : End) (file : Option (List ℕ)) (reason : Reason) →
-    Does job o p names second (Some bytes) e → Does job o p names second file (NoValue reason) → ⊥
-file_or_none Run o p names second bytes (Prints text) file reason h k = let none' = h.0 in cc
-file_or_none Run o p names second bytes (NoValue Deep) file reason h k = let none' = h.0 in cc
-file_or_none Run o p names second bytes (NoValue Full) file reason h k = let none' = h.0 in cc
-file_or_none Plain o p names second bytes (Prints text) file reason h k = let none' = h.0 in cc
-file_or_none Plain o p names second bytes (NoValue Deep) file reason h k = let none' = h.0 in cc
-file_or_none Plain o p names second bytes (NoValue Full) file reason h k = h
-file_or_none Check o p names second bytes e file reason h k = k
-file_or_none Core o p names second bytes e file reason h k = k
-file_or_none Code o p names second bytes e file reason h k = k
-file_or_none Pack o p names second bytes e file reason h k = k
-file_or_none Show o p names second bytes e file reason h k = k
+-- a file whose value is shown is not too long
+pub shown_short : (p : ProgramTree) (v : Datum) (bytes : List ℕ) → IsShownValue p v bytes → length bytes ≤ 268435480
+shown_short p v bytes (inl is) = let short = is.short in omega (arith, short)
+shown_short p v bytes (inr read) = let few = read.image.formed.few in let long = read.image.formed.long in omega (arith, few, long)
 
 -- what is too long is refused
 pub long_refused : (kept : Files) (job : Job) (o : Option Document) (p : ProgramTree) (names : List (List ℕ)) (second : List ℕ) → HoldsSecond kept (option_and_then (λ format. o) (format_of job)) second →
@@ -74,7 +66,7 @@ long_refused kept Check o p names second held many = absurd (omega (arith, many,
 long_refused kept Core o p names second held many = absurd (omega (arith, many, ap length held))
 long_refused kept Code o p names second held many = absurd (omega (arith, many, ap length held))
 long_refused kept Pack o p names second held many = ((refl, inl many), λ a. let short = a.1.short in absurd (omega (arith, many, short)))
-long_refused kept Show o p names second held many = (inl (refl, many), λ a. let short = a.1.short in absurd (omega (arith, many, short)))
+long_refused kept Show o p names second held many = (inl (refl, many), λ a. let short = shown_short p a.0 second a.1 in absurd (omega (arith, many, short)))
 
 -- chunks run out in a run alone
 pub full_runs : (job : Job) (o : Options) (p : ProgramTree) (names : List (List ℕ)) (second : List ℕ) (file : Option (List ℕ)) → Does job o p names second file (NoValue Full) → job ≡ Run
@@ -119,3 +111,16 @@ ends_without made why P file end' h =
     let none : file_of made ≡ None = cc in
     let E : Option (List ℕ) → KeptEnd → Type 0 = λ f e. EndsBy f e P in
     subst₂ E (sym none) (sym end') h
+
+-- without a value, an image makes no difference
+pub no_image : (job : Job) (o : Options) (p : ProgramTree) (names : List (List ℕ)) (second : List ℕ) (file : Option (List ℕ)) (reason : Reason) → Does job o p names second file (NoValue reason) →
+    Does job (without_image o) p names second file (NoValue reason)
+no_image Run o p names second file Deep h = h
+no_image Run o p names second file Full h = h
+no_image Plain o p names second file Deep h = h
+no_image Plain o p names second file Full h = h
+no_image Check o p names second file reason h = h
+no_image Core o p names second file reason h = h
+no_image Code o p names second file reason h = h
+no_image Pack o p names second file reason h = h
+no_image Show o p names second file reason h = h

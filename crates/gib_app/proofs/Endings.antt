@@ -26,7 +26,7 @@ use Rattle.gib_app.specs.Words.{asked}
 use Rattle.gib_app.specs.Running.{IsProgram, IsSource, IsNoProgram, IsOutput, RunsOut}
 use Rattle.gib_app.specs.SourceFaults.{IsSourceFault}
 use Rattle.gib_app.specs.Formats.{second_of, Accepts, Refuses}
-use Rattle.gib_app.specs.Jobs.{Prints, Does}
+use Rattle.gib_app.specs.Jobs.{End, Prints, Does, without_image}
 use Rattle.gib_app.specs.Jobs.{NoValue as Without}
 use Rattle.gib_app.specs.Causes.{HoldsSecond, OnProgram, OnSource, IsMade, HasNoValue, AsksSource, AsksProgram, IsPrinted, IsPrintedInPart, IsUnwritten, FailsToRead}
 use Rattle.gib_app.specs.Lines.{line}
@@ -35,7 +35,7 @@ use Rattle.gib_app.specs.Stops.{IsStop, OnBoth}
 use Rattle.gib_app.specs.Stopping.{answer_for}
 use Rattle.gib_app.specs.Performing.{IsCallStop}
 use Rattle.gib_app.proofs.Performing.{map_both}
-use Rattle.gib_app.proofs.Doing.{does_accepts, file_or_none, full_runs}
+use Rattle.gib_app.proofs.Doing.{does_accepts, full_runs, no_image}
 
 map_asked : (o : Option Plan) (P Q : Plan → Type 0) → ((r : Plan) → P r → Q r) → MatchOption o ⊥ P → MatchOption o ⊥ Q
 map_asked None P Q go h = h
@@ -187,6 +187,21 @@ text_or_deep laws Code o p names second text file other h k = k
 text_or_deep laws Pack o p names second text file other h k = k
 text_or_deep laws Show o p names second text file other h k = k
 
+-- where a file is made, there is a value
+file_or_deep : Laws → (job : Job) (o : Options) (p : ProgramTree) (names : List (List ℕ)) (second bytes : List ℕ) (e : End) (file : Option (List ℕ)) →
+    Does job o p names second (Some bytes) e → Does job o p names second file (Without Deep) → ⊥
+file_or_deep laws Run o p names second bytes (Prints text) file h k = runs_well laws p names o.depth second text h.1 k.1
+file_or_deep laws Run o p names second bytes (Without Deep) file h k = let none' = h.0 in cc
+file_or_deep laws Run o p names second bytes (Without Full) file h k = let none' = h.0 in cc
+file_or_deep laws Plain o p names second bytes (Prints text) file h k = let none' = h.0 in cc
+file_or_deep laws Plain o p names second bytes (Without Deep) file h k = let none' = h.0 in cc
+file_or_deep laws Plain o p names second bytes (Without Full) file h k = h
+file_or_deep laws Check o p names second bytes e file h k = k
+file_or_deep laws Core o p names second bytes e file h k = k
+file_or_deep laws Code o p names second bytes e file h k = k
+file_or_deep laws Pack o p names second bytes e file h k = k
+file_or_deep laws Show o p names second bytes e file h k = k
+
 -- The status that is due
 
 both_asked : (o : Option Plan) (P Q : Plan → Type 0) → MatchOption o ⊥ P → MatchOption o ⊥ Q → (r : Plan) × P r × Q r
@@ -231,7 +246,8 @@ done_due laws tells words before now a b due status.Usage h = absurd (none_asked
 done_due laws tells words before now a b due status.Depth h =
     let k = both_asked (asked words) (DueAll before now a b) (λ r. OnBoth before.kept r (Exhausted r)) due h in
     let both = clash laws before now k.0 (HasText k.0) (Exhausted k.0) k.1.0 k.2 in
-    absurd (text_or_deep laws k.0.job k.0.options both.0 both.1 both.2 both.3.1 both.3.0 both.4.0 both.3.2 both.4.1)
+    let deep' = no_image k.0.job k.0.options both.0 both.1 both.2 both.4.0 Deep both.4.1 in
+    absurd (text_or_deep laws k.0.job (without_image k.0.options) both.0 both.1 both.2 both.3.1 both.3.0 both.4.0 both.3.2 deep')
 done_due laws tells words before now a b due status.Full h = inr (inr refl)
 done_due laws tells words before now a b due status.Memory h = inr (inl refl)
 done_due laws tells words before now a b due status.ReadFault h =
@@ -247,7 +263,7 @@ done_due laws tells words before now a b due status.WriteFault (inr h) =
 done_due laws tells words before now a b due status.Input h =
     let k = both_asked (asked words) (DueAll before now a b) (λ r. OnBoth before.kept r (Unfit r)) due h in
     let both = clash laws before now k.0 (HasText k.0) (Unfit k.0) k.1.0 k.2 in
-    absurd (both.4 (does_accepts k.0.job k.0.options both.0 both.1 both.2 both.3.0 (Prints both.3.1) both.3.2))
+    absurd (both.4 (does_accepts k.0.job (without_image k.0.options) both.0 both.1 both.2 both.3.0 (Prints both.3.1) both.3.2))
 
 -- a refusal of the source is due
 
@@ -302,7 +318,7 @@ depth_due laws tells words before now a b due status.WriteFault (inl h) =
     let k = both_asked (asked words) (DueDepth before now) (λ r. OnBoth before.kept r (Somewhere before now r)) due h.0 in
     let both = clash laws before now k.0 (Exhausted k.0) (Somewhere before now k.0) k.1 k.2 in
     let made = both.4.1.1 in
-    absurd (file_or_none k.0.job k.0.options both.0 both.1 both.2 made.0 made.1 both.3.0 Deep made.2 both.3.1)
+    absurd (file_or_deep laws k.0.job k.0.options both.0 both.1 both.2 made.0 made.1 both.3.0 made.2 both.3.1)
 depth_due laws tells words before now a b due status.WriteFault (inr h) =
     let k = both_asked (asked words) (DueDepth before now) (λ r. OnBoth before.kept r (Front tells now a b r)) due h.0 in
     let both = clash laws before now k.0 (Exhausted k.0) (Front tells now a b k.0) k.1 k.2 in

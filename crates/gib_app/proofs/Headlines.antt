@@ -1,9 +1,10 @@
 -- The promise of `run`, from how a call ends.
-use Rattle.std.proofs.Common.{◌≡◌, ◌∙◌, refl, ℕ, List, ◌++◌, Option, Some, None, IfSome, MatchOption, ◌⊎◌, inl, inr, subst, sym, ap, Bool}
+use Rattle.std.proofs.Common.{◌≡◌, ◌∙◌, refl, ℕ, List, ◌++◌, Option, Some, None, IfSome, MatchOption, ◌⊎◌, inl, inr, subst, sym, ap, Bool, true, false}
 use Rattle.gib_types.specs.Tree.{Datum}
 use Rattle.gib_syntax.specs.Tree.{ProgramTree}
 use Rattle.gib_syntax.specs.Declarations.{table_of_program, input_type}
 use Rattle.gib_syntax.specs.Meaning.{Outcome, Gives, Stops, Deep, run}
+use Rattle.gib_edge.specs.Causes.{told}
 use Rattle.gib_edge.specs.Views.{ShelfView, SinkView}
 use Rattle.gib_app.specs.declared.status.Status.{Status}
 use Rattle.gib_app.specs.declared.status.Status.TheVariants as status
@@ -15,7 +16,7 @@ use Rattle.gib_app.specs.Running.{IsOutput, RunsOut, text_line}
 use Rattle.gib_app.specs.Causes.{OnProgram, HasNoValue}
 use Rattle.gib_app.specs.Ending.{IsEnding, HasText, DueOfFiles, TakesAll}
 use Rattle.gib_app.specs.Stops.{OnBoth}
-use Rattle.gib_app.specs.Headline.{run_plan, IsRun, Given, IsResult, IsTooDeep, IsTooBig, NoneFailed}
+use Rattle.gib_app.specs.Headline.{run_plan, IsRun, Given, IsResult, IsResultImage, IsTooDeep, IsTooBig, NoneFailed}
 use Rattle.gib_app.proofs.Performing.{asked_of}
 use Rattle.gib_app.proofs.Endings.{Laws, Whole, Exhausted, DueAll, DueDepth, same_bytes, together, runs_well, cause_of, due_ends}
 
@@ -24,7 +25,7 @@ asked_is o r P e h = let Q : Option Plan → Type 0 = λ x. MatchOption x ⊥ P 
 
 -- what holds of the files of a run holds of their bytes
 of_files : (words : List (List ℕ)) (before : ShelfView) (out : SinkView) (source input : List ℕ) (options : Options) (front : List ℕ) (r : IsRun words before out source input options front)
-    (P : ProgramTree → List (List ℕ) → List ℕ → Type 0) → OnBoth before.kept (run_plan r.program r.packed options) P → OnProgram source (λ p names. P p names input)
+    (P : ProgramTree → List (List ℕ) → List ℕ → Type 0) → OnBoth before.kept (run_plan r.program r.packed r.image options) P → OnProgram source (λ p names. P p names input)
 of_files words before out source input options front r P h =
     let es = same_bytes (bytes_in before.kept r.program) source h.source r.source_is h.source_held in
     let ei = same_bytes (bytes_in before.kept r.packed) input h.second r.input_is h.second_held in
@@ -81,7 +82,7 @@ runs_out source input depth h = record {
 pub run_done : (tells : Bool) (words : List (List ℕ)) (before now : ShelfView) (out out_now : SinkView) (source input : List ℕ) (options : Options) (front said : List ℕ) →
     IsRun words before out source input options front → IsEnding tells words before now out out_now status.Done said → (output : List ℕ) × IsResult source input options.depth output × (out_now.taken ≡ Some (front ++ output))
 run_done tells words before now out out_now source input options front said r h =
-    let plan = run_plan r.program r.packed options in
+    let plan = run_plan r.program r.packed r.image options in
     let P : Plan → Type 0 = λ q. OnBoth before.kept q (Whole tells now out out_now q) in
     let on = of_files words before out source input options front r (Whole tells now out out_now plan) (asked_is (asked words) plan P r.asks h.0) in
     let T : Option (List ℕ) → Type 0 = λ t. IfSome t (λ first. out_now.taken ≡ Some (first ++ on.holds.0)) in (
@@ -90,10 +91,45 @@ run_done tells words before now out out_now source input options front said r h 
       subst T r.front_is on.holds.2,
     )
 
+image_there : (tells : Bool) (now : Files) (name : List ℕ) (asked_for : Bool) (p : ProgramTree) (depth : ℕ) (input : List ℕ) (file : Option (List ℕ)) → IsStored tells now (Some name) file
+    → MakesImage asked_for p depth input file → (bytes : List ℕ) × (now name ≡ told tells bytes) × IsRunImage p depth input bytes
+image_there tells now name asked_for p depth input None stored made = absurd stored
+image_there tells now name false p depth input (Some bytes) stored made = cc
+image_there tells now name true p depth input (Some bytes) stored made = (bytes, stored, made)
+
+pub run_image : (tells : Bool) (words : List (List ℕ)) (before now : ShelfView) (out out_now : SinkView) (source input : List ℕ) (options : Options) (front said name : List ℕ) →
+    (r : IsRun words before out source input options front) → r.image ≡ Some name → IsEnding tells words before now out out_now status.Done said →
+    (bytes : List ℕ) × (now.kept name ≡ told tells bytes) × IsResultImage source input options.depth bytes
+run_image tells words before now out out_now source input options front said name r named h =
+    let plan = run_plan r.program r.packed r.image options in
+    let P : Plan → Type 0 = λ q. OnBoth before.kept q (Whole tells now out out_now q) in
+    let on = of_files words before out source input options front r (Whole tells now out out_now plan) (asked_is (asked words) plan P r.asks h.0) in
+    let made = on.holds.1 in
+    let S : Option (List ℕ) → Type 0 = λ t. IsStored tells now.kept t made.file in
+    let there = image_there tells now.kept name options.image on.program options.depth input made.file (subst S named made.stored) made.does.0 in
+    let is = there.2 in (
+      there.0,
+      there.1,
+      record {
+        given = record {
+          lexed = on.lexed;
+          program = on.program;
+          value = is.value;
+          spelled = on.is_program.spelled;
+          typed = on.is_program.typed;
+          short = is.is_input.short;
+          file = is.is_input.file;
+        };
+        result = is.result;
+        means = is.means;
+        image = is.image;
+      },
+    )
+
 pub run_deep : (tells : Bool) (words : List (List ℕ)) (before now : ShelfView) (out out_now : SinkView) (source input : List ℕ) (options : Options) (front said : List ℕ) →
     IsRun words before out source input options front → IsEnding tells words before now out out_now status.Depth said → IsTooDeep source input options.depth
 run_deep tells words before now out out_now source input options front said r h =
-    let plan = run_plan r.program r.packed options in
+    let plan = run_plan r.program r.packed r.image options in
     let P : Plan → Type 0 = λ q. OnBoth before.kept q (Exhausted q) in
     let on = of_files words before out source input options front r (Exhausted plan) (asked_is (asked words) plan P r.asks h.0) in
     deep_of source input options.depth (record { lexed = on.lexed; program = on.program; is_program = on.is_program; holds = on.holds.1.1 })
@@ -101,7 +137,7 @@ run_deep tells words before now out out_now source input options front said r h 
 pub run_full : (tells : Bool) (words : List (List ℕ)) (before now : ShelfView) (out out_now : SinkView) (source input : List ℕ) (options : Options) (front said : List ℕ) →
     IsRun words before out source input options front → IsEnding tells words before now out out_now status.Full said → IsTooBig source input options.depth options.chunks
 run_full tells words before now out out_now source input options front said r h =
-    let plan = run_plan r.program r.packed options in
+    let plan = run_plan r.program r.packed r.image options in
     let P : Plan → Type 0 = λ q. OnBoth before.kept q (HasNoValue Full q) in
     let on = of_files words before out source input options front r (HasNoValue Full plan) (asked_is (asked words) plan P r.asks h.0) in
     record {
@@ -118,8 +154,8 @@ run_full tells words before now out out_now source input options front said r h 
     }
 
 due_of : (words : List (List ℕ)) (before now : ShelfView) (out out_now : SinkView) (source input : List ℕ) (options : Options) (front : List ℕ) (r : IsRun words before out source input options front) →
-    NoneFailed r.program r.packed before now out out_now → (P : ProgramTree → List (List ℕ) → List ℕ → Type 0) → OnProgram source (λ p names. P p names input) →
-    DueOfFiles before now (run_plan r.program r.packed options) P
+    NoneFailed r.program r.packed r.image before now out out_now → (P : ProgramTree → List (List ℕ) → List ℕ → Type 0) → OnProgram source (λ p names. P p names input) →
+    DueOfFiles before now (run_plan r.program r.packed r.image options) P
 due_of words before now out out_now source input options front r quiet P on = record {
   source = source;
   second = input;
@@ -131,21 +167,21 @@ due_of words before now out out_now source input options front r quiet P on = re
 }
 
 pub run_ends_done : Laws → (tells : Bool) (words : List (List ℕ)) (before now : ShelfView) (out out_now : SinkView) (source input : List ℕ) (options : Options) (front output said : List ℕ) (end' : Status) →
-    (r : IsRun words before out source input options front) → NoneFailed r.program r.packed before now out out_now → IsResult source input options.depth output →
+    (r : IsRun words before out source input options front) → NoneFailed r.program r.packed r.image before now out out_now → IsResult source input options.depth output →
     IsEnding tells words before now out out_now end' said → (end' ≡ status.Done) ⊎ (end' ≡ status.Memory) ⊎ (end' ≡ status.Full)
 run_ends_done laws tells words before now out out_now source input options front output said end' r quiet h ends =
-    let plan = run_plan r.program r.packed options in
+    let plan = run_plan r.program r.packed r.image options in
     let on = output_of source input options.depth output h in
-    let takes : TakesAll before now out out_now plan = record { target = λ name e rose. cc; out = quiet.put } in
+    let takes : TakesAll before now out out_now plan = record { target = quiet.image_written; out = quiet.put } in
     let due = due_of words before now out out_now source input options front r quiet (HasText plan)
     (record { lexed = on.lexed; program = on.program; is_program = on.is_program; holds = (None, output, (refl, on.holds)) }) in
     due_ends laws tells words before now out out_now end' (cause_of tells words before now out out_now end' said ends) status.Done (asked_of (asked words) plan (DueAll before now out out_now) r.asks (due, takes))
 
 pub run_ends_deep : Laws → (tells : Bool) (words : List (List ℕ)) (before now : ShelfView) (out out_now : SinkView) (source input : List ℕ) (options : Options) (front said : List ℕ) (end' : Status) →
-    (r : IsRun words before out source input options front) → NoneFailed r.program r.packed before now out out_now → IsTooDeep source input options.depth →
+    (r : IsRun words before out source input options front) → NoneFailed r.program r.packed r.image before now out out_now → IsTooDeep source input options.depth →
     IsEnding tells words before now out out_now end' said → (end' ≡ status.Depth) ⊎ (end' ≡ status.Memory) ⊎ (end' ≡ status.Full)
 run_ends_deep laws tells words before now out out_now source input options front said end' r quiet h ends =
-    let plan = run_plan r.program r.packed options in
+    let plan = run_plan r.program r.packed r.image options in
     let on = runs_out source input options.depth h in
     let due = due_of words before now out out_now source input options front r quiet (Exhausted plan)
     (record { lexed = on.lexed; program = on.program; is_program = on.is_program; holds = (None, (refl, on.holds)) }) in
@@ -164,7 +200,7 @@ either_of end' a b c d first never (inr (inl e)) = inr (inr e)
 either_of end' a b c d first never (inr (inr e)) = absurd (never e)
 
 fits_by : Laws → (tells : Bool) (words : List (List ℕ)) (before now : ShelfView) (out out_now : SinkView) (source input : List ℕ) (options : Options) (front said : List ℕ) (end' : Status) →
-    (r : IsRun words before out source input options front) → NoneFailed r.program r.packed before now out out_now → (g : Given source input) → (end' ≡ status.Full → ⊥) →
+    (r : IsRun words before out source input options front) → NoneFailed r.program r.packed r.image before now out out_now → (g : Given source input) → (end' ≡ status.Full → ⊥) →
     ((v : Datum) × (run g.program options.depth g.value ≡ Gives v)) ⊎ (run g.program options.depth g.value ≡ Stops Deep) →
     IsEnding tells words before now out out_now end' said → (end' ≡ status.Done) ⊎ (end' ≡ status.Depth) ⊎ (end' ≡ status.Memory)
 fits_by laws tells words before now out out_now source input options front said end' r quiet g never (inl gives) ends =
@@ -176,7 +212,7 @@ fits_by laws tells words before now out out_now source input options front said 
     (run_ends_deep laws tells words before now out out_now source input options front said end' r quiet (record { given = g; means = deep }) ends)
 
 pub run_fits : Laws → (tells : Bool) (words : List (List ℕ)) (before now : ShelfView) (out out_now : SinkView) (source input : List ℕ) (options : Options) (front said : List ℕ) (end' : Status) →
-    (r : IsRun words before out source input options front) → NoneFailed r.program r.packed before now out out_now → Given source input → (IsTooBig source input options.depth options.chunks → ⊥) →
+    (r : IsRun words before out source input options front) → NoneFailed r.program r.packed r.image before now out out_now → Given source input → (IsTooBig source input options.depth options.chunks → ⊥) →
     IsEnding tells words before now out out_now end' said → (end' ≡ status.Done) ⊎ (end' ≡ status.Depth) ⊎ (end' ≡ status.Memory)
 run_fits laws tells words before now out out_now source input options front said end' r quiet g fits ends =
     let E : Status → Type 0 = λ s. IsEnding tells words before now out out_now s said in

@@ -13,17 +13,26 @@ use Rattle.gib_file.specs.Framed.{File, Framed, HasMagic, IsFirstFault}
 use Rattle.gib_file.specs.Reading.{read_all}
 use Rattle.gib_file.proofs.HeadLemmas.{parts, no_file as no_fault, one_fault as one_header_fault}
 use Rattle.gib_syntax.specs.Tree.{ProgramTree}
-use Rattle.gib_syntax.specs.Declarations.{table_of_program, input_type}
+use Rattle.gib_syntax.specs.Declarations.{table_of_program, input_type, output_type}
+use Rattle.gib_types.specs.Layout.{LaidOut}
+use Rattle.gib_print.specs.declared.image_fault.ImageFault.{ImageFault as ReadFault}
+use Rattle.gib_print.specs.declared.image_fault.ImageFault.TheVariants as reading
+use Rattle.gib_print.specs.ImageReading.{IsRefused as IsRefusedImage}
+use Rattle.gib_app.specs.Cores.{layouts_of}
 use Rattle.gib_app.specs.declared.input_fault.InputFault.{InputFault}
-use Rattle.gib_app.specs.declared.input_fault.InputFault.TheVariants.{Long, Packed, Text}
+use Rattle.gib_app.specs.declared.input_fault.InputFault.TheVariants.{Long, Packed, Image, Text}
+use Rattle.gib_app.specs.declared.input_fault.ImageFault.{ImageFault}
+use Rattle.gib_app.specs.declared.input_fault.ImageFault.TheVariants as image
 use Rattle.gib_app.specs.declared.input_fault.PackedFault.{PackedFault}
 use Rattle.gib_app.specs.declared.input_fault.PackedFault.TheVariants.{Header, Short, Tag, Truth, Trailing}
 use Rattle.gib_app.specs.declared.plan.Job.{Job}
 use Rattle.gib_app.specs.declared.plan.Job.TheVariants.{Run, Plain, Check, Core, Code, Pack, Show}
-use Rattle.gib_app.specs.InputFaults.{IsPayloadFault, IsFileFault, IsInputFault, IsShowFault, IsTextFault}
+use Rattle.gib_app.specs.InputFaults.{IsPayloadFault, IsFileFault, IsInputFault, IsImageFault, IsShowFault, IsTextFault}
 use Rattle.gib_app.specs.Formats.{Accepts, Refuses}
 use Rattle.gib_app.specs.Packing.{without_feed, IsPackedText}
-use Rattle.gib_app.specs.Running.{IsInput}
+use Rattle.gib_app.specs.Running.{IsInput, IsShownValue}
+use Rattle.gib_app.proofs.Doing.{shown_short}
+use Rattle.gib_app.proofs.Signs.{signs_differ, formed_sign, fault_sign, no_packed_value, no_sign_value, ReadOrRefused, no_image_value}
 use Rattle.gib_app.proofs.Refusals.{HeaderRefuses, PayloadRefuses, no_file}
 
 -- The fault of a packed file is that of its header, or of its payload.
@@ -85,6 +94,8 @@ pub record Laws (table : Table) (names : List (List ℕ)) : Type 0 where
   pub files : (t : Table) (ty : Ty) (v : Datum) (a b : List ℕ) → File t ty v a → File t ty v b → a ≡ b
   pub texts : (ty : Ty) (v w : Datum) → HasType table v ty → HasType table w ty → text table names v ≡ text table names w → v ≡ w
   pub no_text : (ty : Ty) (bytes : List ℕ) (place : ℕ) (v : Datum) → IsRefusedAt table names ty bytes place → IsTextOf table names ty v bytes → ⊥
+  pub images : (laid : LaidOut) (type : Ty) (bytes : List ℕ) (f g : ReadFault) → IsRefusedImage laid type bytes f → IsRefusedImage laid type bytes g → f ≡ g
+  pub no_image : ReadOrRefused
   pub one_place : (ty : Ty) (bytes : List ℕ) (a b : ℕ) → IsRefusedAt table names ty bytes a → IsRefusedAt table names ty bytes b → a ≡ b
 
 module _ (p : ProgramTree) (names : List (List ℕ)) (laws : Laws (table_of_program p) names) (bytes : List ℕ) where
@@ -98,6 +109,9 @@ module _ (p : ProgramTree) (names : List (List ℕ)) (laws : Laws (table_of_prog
   one_input (Packed f) (Long b) h k = let many = k.1 in let short = h.0 in absurd (omega (arith, many, short))
   one_input (Packed f) (Packed g) h k = one_packed f g h.1 k.1
   one_input (Packed f) (Text place) h k = absurd k
+  one_input (Long a) (Image g) h k = absurd k
+  one_input (Packed f) (Image g) h k = absurd k
+  one_input (Image f) g h k = absurd h
   one_input (Text place) g h k = absurd h
 
   long_or_shown : (most : ℕ) (f : PackedFault) → IsShowFault p bytes (Long most) → IsShown p bytes f → ⊥
@@ -110,6 +124,31 @@ module _ (p : ProgramTree) (names : List (List ℕ)) (laws : Laws (table_of_prog
   one_long a b (inr h) (inl k) = let many = k.1 in let short = h.2 in absurd (omega (arith, many, short))
   one_long a b (inr h) (inr k) = h.0 ∙ sym k.0
 
+  long_or_image : (most : ℕ) (g : ImageFault) → IsShowFault p bytes (Long most) → IsShowFault p bytes (Image g) → ⊥
+  long_or_image most g (inl h) k = let many = h.1 in let short = k.0 in omega (arith, many, short)
+  long_or_image most g (inr h) k = signs_differ bytes h.3 (fault_sign p bytes g k.1)
+
+  packed_or_image : (f : PackedFault) (g : ImageFault) → IsShowFault p bytes (Packed f) → IsShowFault p bytes (Image g) → ⊥
+  packed_or_image (Header header.Magic) g h k = h.2 (fault_sign p bytes g k.1)
+  packed_or_image (Header (header.Version v)) g h k = signs_differ bytes h.1.0 (fault_sign p bytes g k.1)
+  packed_or_image (Header header.Reserved) g h k = signs_differ bytes h.1.0 (fault_sign p bytes g k.1)
+  packed_or_image (Header header.Length) g h k = signs_differ bytes h.1.0 (fault_sign p bytes g k.1)
+  packed_or_image (Short place) g h k = signs_differ bytes (parts h.1.payload bytes h.1.framed).magic_is (fault_sign p bytes g k.1)
+  packed_or_image (Tag place) g h k = signs_differ bytes (parts h.1.payload bytes h.1.framed).magic_is (fault_sign p bytes g k.1)
+  packed_or_image (Truth place) g h k = signs_differ bytes (parts h.1.payload bytes h.1.framed).magic_is (fault_sign p bytes g k.1)
+  packed_or_image (Trailing place) g h k = signs_differ bytes (parts h.1.payload bytes h.1.framed).magic_is (fault_sign p bytes g k.1)
+
+  one_image : (f g : ImageFault) → IsImageFault p bytes f → IsImageFault p bytes g → f ≡ g
+  one_image image.Header image.Header h k = refl
+  one_image image.Header (image.Item b) h k = absurd (h.1 k.formed)
+  one_image image.Header image.Long h k = absurd (h.1 k.formed)
+  one_image (image.Item a) image.Header h k = absurd (k.1 h.formed)
+  one_image (image.Item a) (image.Item b) h k = let same = laws.images (layouts_of p) (output_type p) bytes (reading.Bad a) (reading.Bad b) h k in cc
+  one_image (image.Item a) image.Long h k = let same = laws.images (layouts_of p) (output_type p) bytes (reading.Bad a) reading.Long h k in cc
+  one_image image.Long image.Header h k = absurd (k.1 h.formed)
+  one_image image.Long (image.Item b) h k = let same = laws.images (layouts_of p) (output_type p) bytes reading.Long (reading.Bad b) h k in cc
+  one_image image.Long image.Long h k = refl
+
   one_show : (f g : InputFault) → IsShowFault p bytes f → IsShowFault p bytes g → f ≡ g
   one_show (Long a) (Long b) h k = ap Long (one_long a b h k)
   one_show (Long a) (Packed g) h k = absurd (long_or_shown a g h (shown p bytes g k))
@@ -117,6 +156,12 @@ module _ (p : ProgramTree) (names : List (List ℕ)) (laws : Laws (table_of_prog
   one_show (Packed f) (Long b) h k = absurd (long_or_shown b f k (shown p bytes f h))
   one_show (Packed f) (Packed g) h k = one_packed f g (shown p bytes f h).file (shown p bytes g k).file
   one_show (Packed f) (Text place) h k = absurd k
+  one_show (Long a) (Image g) h k = absurd (long_or_image a g h k)
+  one_show (Packed f) (Image g) h k = absurd (packed_or_image f g h k)
+  one_show (Image f) (Long b) h k = absurd (long_or_image b f k h)
+  one_show (Image f) (Packed g) h k = absurd (packed_or_image g f k h)
+  one_show (Image f) (Image g) h k = ap Image (one_image f g h.1 k.1)
+  one_show (Image f) (Text place) h k = absurd k
   one_show (Text place) g h k = absurd h
 
   long_or_text : (most place : ℕ) → IsTextFault p names bytes (Long most) → IsTextFault p names bytes (Text place) → ⊥
@@ -127,6 +172,9 @@ module _ (p : ProgramTree) (names : List (List ℕ)) (laws : Laws (table_of_prog
   one_text (Long a) (Long b) h k = ap Long (h.0 ∙ sym k.0)
   one_text (Long a) (Packed g) h k = absurd k
   one_text (Long a) (Text place) h k = absurd (long_or_text a place h k)
+  one_text (Long a) (Image g) h k = absurd k
+  one_text (Text place) (Image g) h k = absurd k
+  one_text (Image f) g h k = absurd h
   one_text (Packed f) g h k = absurd h
   one_text (Text place) (Long b) h k = absurd (long_or_text b place k h)
   one_text (Text place) (Packed g) h k = absurd k
@@ -146,15 +194,31 @@ module _ (p : ProgramTree) (names : List (List ℕ)) (laws : Laws (table_of_prog
   not_input : (f : InputFault) (v : Datum) → IsInputFault p bytes f → IsInput p v bytes → ⊥
   not_input (Long most) v h is = let many = h.1 in let short = is.short in omega (arith, many, short)
   not_input (Packed f) v h is = no_file laws.headers laws.payloads (table_of_program p) (input_type p) bytes f h.1 v is.file
+  not_input (Image f) v h is = h
   not_input (Text place) v h is = h
 
-  not_long : (most : ℕ) (v : Datum) → IsShowFault p bytes (Long most) → IsInput p v bytes → ⊥
-  not_long most v (inl h) is = let many = h.1 in let short = is.short in omega (arith, many, short)
-  not_long most v (inr h) is = let many = h.1 in let short = is.short in omega (arith, many, short)
+  not_long : (most : ℕ) (v : Datum) → IsShowFault p bytes (Long most) → IsShownValue p v bytes → ⊥
+  not_long most v (inl h) is = let many = h.1 in let short = shown_short p v bytes is in omega (arith, many, short)
+  not_long most v (inr h) (inl is) = let many = h.1 in let short = is.short in omega (arith, many, short)
+  not_long most v (inr h) (inr read) = signs_differ bytes h.3 (formed_sign (output_type p) bytes read.image.formed)
 
-  not_shown : (f : InputFault) (v : Datum) → IsShowFault p bytes f → IsInput p v bytes → ⊥
+  none : (f : PackedFault) → IsFileFault (table_of_program p) (input_type p) bytes f → (v : Datum) → File (table_of_program p) (input_type p) v bytes → ⊥
+  none f h = no_file laws.headers laws.payloads (table_of_program p) (input_type p) bytes f h
+
+  not_packed : (f : PackedFault) (v : Datum) → IsShowFault p bytes (Packed f) → IsShownValue p v bytes → ⊥
+  not_packed (Header header.Magic) v h is = no_sign_value p bytes h.1 h.2 (v, is)
+  not_packed (Header (header.Version n)) v h is = no_packed_value p bytes h.1.0 (none (Header (header.Version n)) h.1) (v, is)
+  not_packed (Header header.Reserved) v h is = no_packed_value p bytes h.1.0 (none (Header header.Reserved) h.1) (v, is)
+  not_packed (Header header.Length) v h is = no_packed_value p bytes h.1.0 (none (Header header.Length) h.1) (v, is)
+  not_packed (Short place) v h is = no_packed_value p bytes (parts h.1.payload bytes h.1.framed).magic_is (none (Short place) h.1) (v, is)
+  not_packed (Tag place) v h is = no_packed_value p bytes (parts h.1.payload bytes h.1.framed).magic_is (none (Tag place) h.1) (v, is)
+  not_packed (Truth place) v h is = no_packed_value p bytes (parts h.1.payload bytes h.1.framed).magic_is (none (Truth place) h.1) (v, is)
+  not_packed (Trailing place) v h is = no_packed_value p bytes (parts h.1.payload bytes h.1.framed).magic_is (none (Trailing place) h.1) (v, is)
+
+  not_shown : (f : InputFault) (v : Datum) → IsShowFault p bytes f → IsShownValue p v bytes → ⊥
   not_shown (Long most) v h is = not_long most v h is
-  not_shown (Packed f) v h is = no_file laws.headers laws.payloads (table_of_program p) (input_type p) bytes f (shown p bytes f h).file v is.file
+  not_shown (Packed f) v h is = not_packed f v h is
+  not_shown (Image f) v h is = no_image_value laws.no_image p bytes f h.1 v is
   not_shown (Text place) v h is = h
 
   not_text : (f : InputFault) (file : List ℕ) → IsTextFault p names bytes f → IsPackedText p names bytes file → ⊥
@@ -168,6 +232,7 @@ module _ (p : ProgramTree) (names : List (List ℕ)) (laws : Laws (table_of_prog
       let few = is.few in
       omega (arith, one, many, few)
   not_text (Packed f) file h is = h
+  not_text (Image f) file h is = h
   not_text (Text place) file h is = laws.no_text (input_type p) (without_feed bytes) place is.value h.1 is.is_text
 
   pub not_accepted : (job : Job) (f : InputFault) → Refuses job p names bytes f → Accepts job p names bytes → ⊥

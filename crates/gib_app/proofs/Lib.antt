@@ -13,6 +13,9 @@ mod Taking
 mod Filling
 mod Asking
 mod Entering
+mod Signs
+mod Fitting
+mod Imaged
 mod Calling
 mod Headlines
 mod Roots

@@ -23,6 +23,7 @@ use Rattle.gib_app.specs.Stops.{IsStop, OnBoth}
 use Rattle.gib_app.specs.Stopping.{answer_for}
 use Rattle.gib_app.specs.Performing.{IsWriteStop, IsDone, IsPerformed, OthersStay, StopFiles, IsCallStop}
 use Rattle.gib_app.proofs.Doing.{no_file}
+use Rattle.gib_app.proofs.Fitting.{is_made}
 
 pub map_both : (kept : Files) (r : Plan) (P Q : ProgramTree → List (List ℕ) → List ℕ → Type 0) → ((p : ProgramTree) (names : List (List ℕ)) (second : List ℕ) → P p names second → Q p names second) → OnBoth kept r P → OnBoth kept r Q
 map_both kept r P Q go h = record {
@@ -106,7 +107,7 @@ prints tells words before now out_before out_now r e text is reads h put pieces 
     (λ plan. OnBoth before.kept plan (λ p names second. (said : List ℕ) × IsMade tells now.kept plan p names second said × Appends out_before.taken out_now.taken said × PutsPieces out_before out_now (length said))) is
     (map_both before.kept r (λ p names second. EndsBy h.file e (Does r.job r.options p names second))
     (λ p names second. (said : List ℕ) × IsMade tells now.kept r p names second said × Appends out_before.taken out_now.taken said × PutsPieces out_before out_now (length said))
-    (λ p names second k. (text, record { file = h.file; does = reads h.file (Does r.job r.options p names second) k; written = h.written }, put, pieces)) h.is_done)
+    (λ p names second k. (text, is_made tells words now.kept r p names second text h.file is (reads h.file (Does r.job r.options p names second) k) h.written, put, pieces)) h.is_done)
 
 pub prints_part : (tells : Bool) (words : List (List ℕ)) (before now : ShelfView) (out_before out_now : SinkView) (r : Plan) (e : KeptEnd) (text : List ℕ) → asked words ≡ Some r →
     ((file : Option (List ℕ)) (P : Option (List ℕ) → End → Type 0) → EndsBy file e P → P file (Prints text)) → IsPerformed tells before.kept now.kept r e →
@@ -116,7 +117,7 @@ prints_part tells words before now out_before out_now r e text is reads h put pi
     (λ plan. OnBoth before.kept plan (λ p names second. (said : List ℕ) × IsMade tells now.kept plan p names second said × AppendsPart out_before.taken out_now.taken said × PutsSomePieces out_before out_now (length said))) is
     (map_both before.kept r (λ p names second. EndsBy h.file e (Does r.job r.options p names second))
     (λ p names second. (said : List ℕ) × IsMade tells now.kept r p names second said × AppendsPart out_before.taken out_now.taken said × PutsSomePieces out_before out_now (length said))
-    (λ p names second k. (text, record { file = h.file; does = reads h.file (Does r.job r.options p names second) k; written = h.written }, put, pieces)) h.is_done)
+    (λ p names second k. (text, is_made tells words now.kept r p names second text h.file is (reads h.file (Does r.job r.options p names second) k) h.written, put, pieces)) h.is_done)
 
 pub prints_value : (tells : Bool) (words : List (List ℕ)) (before now : ShelfView) (out_before out_now : SinkView) (r : Plan) (value : Valued) → asked words ≡ Some r →
     IsPerformed tells before.kept now.kept r (ends.Value value) → ((text : List ℕ) → IsTextOf value text → Appends out_before.taken out_now.taken text × PutsPieces out_before out_now (length text)) →
@@ -126,7 +127,7 @@ prints_value tells words before now out_before out_now r value is h put =
     (λ plan. OnBoth before.kept plan (λ p names second. (said : List ℕ) × IsMade tells now.kept plan p names second said × Appends out_before.taken out_now.taken said × PutsPieces out_before out_now (length said))) is
     (map_both before.kept r (λ p names second. EndsBy h.file (ends.Value value) (Does r.job r.options p names second))
     (λ p names second. (said : List ℕ) × IsMade tells now.kept r p names second said × Appends out_before.taken out_now.taken said × PutsPieces out_before out_now (length said))
-    (λ p names second k. let taken = put k.1 k.2 in (k.1, record { file = h.file; does = k.3; written = h.written }, taken.0, taken.1)) h.is_done)
+    (λ p names second k. let taken = put k.1 k.2 in (k.1, is_made tells words now.kept r p names second k.1 h.file is k.3 h.written, taken.0, taken.1)) h.is_done)
 
 pub prints_value_part : (tells : Bool) (words : List (List ℕ)) (before now : ShelfView) (out_before out_now : SinkView) (r : Plan) (value : Valued) → asked words ≡ Some r →
     IsPerformed tells before.kept now.kept r (ends.Value value) → ((text : List ℕ) → IsTextOf value text → AppendsPart out_before.taken out_now.taken text × PutsSomePieces out_before out_now (length text)) →
@@ -136,7 +137,7 @@ prints_value_part tells words before now out_before out_now r value is h put =
     (λ plan. OnBoth before.kept plan (λ p names second. (said : List ℕ) × IsMade tells now.kept plan p names second said × AppendsPart out_before.taken out_now.taken said × PutsSomePieces out_before out_now (length said))) is
     (map_both before.kept r (λ p names second. EndsBy h.file (ends.Value value) (Does r.job r.options p names second))
     (λ p names second. (said : List ℕ) × IsMade tells now.kept r p names second said × AppendsPart out_before.taken out_now.taken said × PutsSomePieces out_before out_now (length said))
-    (λ p names second k. let taken = put k.1 k.2 in (k.1, record { file = h.file; does = k.3; written = h.written }, taken.0, taken.1)) h.is_done)
+    (λ p names second k. let taken = put k.1 k.2 in (k.1, is_made tells words now.kept r p names second k.1 h.file is k.3 h.written, taken.0, taken.1)) h.is_done)
 
 -- the text of a value that was made
 pub value_text : (tells : Bool) (before now : Files) (r : Plan) (value : Valued) → IsPerformed tells before now r (ends.Value value) → (text : List ℕ) × IsTextOf value text

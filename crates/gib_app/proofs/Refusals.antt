@@ -1,5 +1,5 @@
 -- A file with a fault is the packed file of no value, and a call stops at it.
-use Rattle.std.proofs.Common.{◌≡◌, ℕ, ◌≤◌, List, length, Err, arith}
+use Rattle.std.proofs.Common.{◌≡◌, ℕ, ◌≤◌, List, length, Err}
 use Rattle.gib_types.specs.declared.table.Ty.{Ty}
 use Rattle.gib_types.specs.Table.{Table}
 use Rattle.gib_types.specs.Tree.{Datum}
@@ -7,7 +7,7 @@ use Rattle.gib_file.specs.declared.fault.HeadFault.{HeadFault}
 use Rattle.gib_file.specs.declared.fault.HeadFault.TheVariants as header
 use Rattle.gib_file.specs.declared.fault.PackFault.{PackFault}
 use Rattle.gib_file.specs.declared.fault.PackFault.TheVariants as payload
-use Rattle.gib_file.specs.Framed.{File, Framed, IsFirstFault}
+use Rattle.gib_file.specs.Framed.{File, Framed, HasMagic, IsFirstFault}
 use Rattle.gib_file.specs.Reading.{Fails, read_all}
 use Rattle.gib_syntax.specs.Tree.{ProgramTree}
 use Rattle.gib_syntax.specs.Declarations.{table_of_program, input_type}
@@ -21,6 +21,7 @@ use Rattle.gib_app.specs.PassFaults.{packed_stop, payload_stop}
 use Rattle.gib_app.specs.MachineRun.{IsMachineStop}
 use Rattle.gib_app.specs.Running.{IsInput}
 use Rattle.gib_app.specs.Stops.{IsPackedStop, IsRunStop, IsShowStop}
+use Rattle.gib_app.proofs.Signs.{no_packed_value}
 
 abbrev pub HeaderRefuses : Type 0
 HeaderRefuses = (table : Table) (ty : Ty) (v : Datum) (bytes : List ℕ) (fault : HeadFault) → IsFirstFault bytes fault → File table ty v bytes → ⊥
@@ -61,25 +62,29 @@ module _ (p : ProgramTree) (bytes : List ℕ) (short : length bytes ≤ 16777216
   run_stop (Unread name) h = h
   run_stop (Input (input.Long most)) h = absurd h
   run_stop (Input (input.Packed fault)) h = ((short, h.0), λ a. h.1 a.0 a.1.file)
+  run_stop (Input (input.Image fault)) h = absurd h
   run_stop (Input (input.Text place)) h = absurd h
   run_stop (NoValue reason) h = h
   run_stop Memory h = h
   run_stop (Unwritten name) h = h
   run_stop Unput h = h
 
+-- The same where a file that begins as a packed one is shown.
+module _ (p : ProgramTree) (bytes : List ℕ) (short : length bytes ≤ 16777216) (magic : HasMagic bytes) where
   pub show_stop : (stop : Stop) → IsPackedStop (table_of_program p) (input_type p) bytes stop → IsShowStop p bytes stop
   show_stop Usage h = h
   show_stop (Source fault) h = h
   show_stop (Unread name) h = h
   show_stop (Input (input.Long most)) h = absurd h
-  show_stop (Input (input.Packed (Header header.Magic))) h = ((omega (arith, short), h.0), λ a. h.1 a.0 a.1.file)
-  show_stop (Input (input.Packed (Header (header.Version v)))) h = ((short, h.0), λ a. h.1 a.0 a.1.file)
-  show_stop (Input (input.Packed (Header header.Reserved))) h = ((short, h.0), λ a. h.1 a.0 a.1.file)
-  show_stop (Input (input.Packed (Header header.Length))) h = ((short, h.0), λ a. h.1 a.0 a.1.file)
-  show_stop (Input (input.Packed (Short place))) h = ((short, h.0), λ a. h.1 a.0 a.1.file)
-  show_stop (Input (input.Packed (Tag place))) h = ((short, h.0), λ a. h.1 a.0 a.1.file)
-  show_stop (Input (input.Packed (Truth place))) h = ((short, h.0), λ a. h.1 a.0 a.1.file)
-  show_stop (Input (input.Packed (Trailing place))) h = ((short, h.0), λ a. h.1 a.0 a.1.file)
+  show_stop (Input (input.Packed (Header header.Magic))) h = absurd (h.0 magic)
+  show_stop (Input (input.Packed (Header (header.Version v)))) h = ((short, h.0), no_packed_value p bytes magic h.1)
+  show_stop (Input (input.Packed (Header header.Reserved))) h = ((short, h.0), no_packed_value p bytes magic h.1)
+  show_stop (Input (input.Packed (Header header.Length))) h = ((short, h.0), no_packed_value p bytes magic h.1)
+  show_stop (Input (input.Packed (Short place))) h = ((short, h.0), no_packed_value p bytes magic h.1)
+  show_stop (Input (input.Packed (Tag place))) h = ((short, h.0), no_packed_value p bytes magic h.1)
+  show_stop (Input (input.Packed (Truth place))) h = ((short, h.0), no_packed_value p bytes magic h.1)
+  show_stop (Input (input.Packed (Trailing place))) h = ((short, h.0), no_packed_value p bytes magic h.1)
+  show_stop (Input (input.Image fault)) h = absurd h
   show_stop (Input (input.Text place)) h = absurd h
   show_stop (NoValue reason) h = h
   show_stop Memory h = h

@@ -63,11 +63,17 @@ IsWritten tells now None file = Unit {0}
 IsWritten tells now (Some name) None = Unit {0}
 IsWritten tells now (Some name) (Some bytes) = now name ≡ told tells bytes
 
+-- The same where the output was put: where there is a target, the job made a file.
+abbrev pub IsStored : Bool → Files → Option (List ℕ) → Option (List ℕ) → Type 0
+IsStored tells now None file = Unit {0}
+IsStored tells now (Some name) None = ⊥
+IsStored tells now (Some name) (Some bytes) = now name ≡ told tells bytes
+
 -- The job was done, and ends with a text; the file that it made is written.
 pub record IsMade (tells : Bool) (now : Files) (plan : Plan) (p : ProgramTree) (names : List (List ℕ)) (second text : List ℕ) : Type 0 where
   pub file : Option (List ℕ)
   pub does : Does plan.job plan.options p names second file (Prints text)
-  pub written : IsWritten tells now plan.target file
+  pub stored : IsStored tells now plan.target file
 
 -- The job ends without a value, for this reason.
 abbrev pub HasNoValue : Reason → Plan → ProgramTree → List (List ℕ) → List ℕ → Type 0

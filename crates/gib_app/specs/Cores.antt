@@ -1,6 +1,8 @@
 -- The core of a program after each pass.
-use Rattle.std.specs.Prelude.{ℕ, nat_lt, if◌then◌else◌}
+use Rattle.std.specs.Prelude.{ℕ, [], nat_lt, if◌then◌else◌}
+use Rattle.gib_types.specs.Layout.{LaidOut}
 use Rattle.gib_syntax.specs.Tree.{ProgramTree}
+use Rattle.gib_syntax.specs.Declarations.{table_of_program}
 use Rattle.gib_core.specs.declared.atom.AccessMode.TheVariants.{Skips}
 use Rattle.gib_core.specs.Tree.{CoreTree}
 use Rattle.gib_core.specs.Inferring.{infer_program}
@@ -15,3 +17,7 @@ placed_program p = place_core (infer_program p)
 -- of arms, 4 marks sides that may run at the same time. Marks are not there yet: 4 leaves the core as it is after 3.
 abbrev pub core_after : ℕ → ProgramTree → CoreTree
 core_after pass p = if nat_lt pass 2 then infer_program p else if nat_lt pass 3 then placed_program p else reach_core Skips (placed_program p)
+
+-- How the heads of a program's values lie in region memory: none of them stores offsets.
+abbrev pub layouts_of : ProgramTree → LaidOut
+layouts_of p = record { table = table_of_program p; with_offsets = [] }

@@ -16,7 +16,7 @@ use Rattle.gib_app.specs.Running.{IsSource, IsNoProgram}
 use Rattle.gib_app.specs.SourceFaults.{IsSourceFault}
 use Rattle.gib_app.specs.Formats.{second_of, Accepts, Refuses}
 use Rattle.gib_app.specs.Lines.{line, source_text, input_text}
-use Rattle.gib_app.specs.Jobs.{Prints, Does}
+use Rattle.gib_app.specs.Jobs.{Prints, Does, without_image}
 use Rattle.gib_app.specs.Causes.{Counts, OnProgram, HasNoValue, AsksSource, AsksProgram, IsPrinted, IsPrintedInPart, IsUnwritten, IsUnread, IsSecondUnread, FailsToRead}
 
 -- The file that is to be written could not be, `out` was not asked, and the line names the file; or `out` took a front of what
@@ -67,9 +67,9 @@ pub record OutStays (before now : SinkView) (status : Status) : Type 0 where
   pub quiet : status ≢ WriteFault → now.faults ≡ before.faults
   pub same : status ≢ Done → status ≢ WriteFault → now ≡ before
 
--- The job ends with a text.
+-- The job ends with a text, where it may leave out an image.
 abbrev pub HasText : Plan → ProgramTree → List (List ℕ) → List ℕ → Type 0
-HasText plan p names second = (file : Option (List ℕ)) × (text : List ℕ) × Does plan.job plan.options p names second file (Prints text)
+HasText plan p names second = (file : Option (List ℕ)) × (text : List ℕ) × Does plan.job (without_image plan.options) p names second file (Prints text)
 
 -- The bytes of a second file, which are told; where none is read there are no bytes.
 abbrev pub IsTold : Files → Option Document → List ℕ → Type 0

@@ -9,7 +9,7 @@ use Rattle.gib_app.specs.declared.plan.Format.TheVariants.{Packed, Text, Shown}
 use Rattle.gib_app.specs.declared.plan.Job.{Job}
 use Rattle.gib_app.specs.declared.plan.Job.TheVariants.{Run, Plain, Check, Core, Code, Pack, Show}
 use Rattle.gib_app.specs.Plan.{Document, Plan}
-use Rattle.gib_app.specs.Running.{IsInput}
+use Rattle.gib_app.specs.Running.{IsInput, IsShownValue}
 use Rattle.gib_app.specs.Packing.{IsPackedText}
 use Rattle.gib_app.specs.InputFaults.{IsInputFault, IsShowFault, IsTextFault}
 
@@ -41,7 +41,7 @@ most_of job = option_map_or limit_of (format_of job) 0
 abbrev pub IsAccepted : Format → ProgramTree → List (List ℕ) → List ℕ → Type 0
 IsAccepted Packed p names bytes = (v : Datum) × IsInput p v bytes
 IsAccepted Text p names bytes = (packed : List ℕ) × IsPackedText p names bytes packed
-IsAccepted Shown p names bytes = (v : Datum) × IsInput p v bytes
+IsAccepted Shown p names bytes = (v : Datum) × IsShownValue p v bytes
 
 -- The file is refused as that, for this fault.
 abbrev pub IsRefused : Format → ProgramTree → List (List ℕ) → List ℕ → InputFault → Type 0

@@ -1,5 +1,5 @@
 -- Why the second file of a command is refused. Places count from 0: in a packed file from its payload's start.
-use Rattle.std.specs.Prelude.{◌≡◌, ◌≤◌, ◌<◌, ◌⊎◌, ℕ, List, length, Err}
+use Rattle.std.specs.Prelude.{◌≡◌, ◌≤◌, ◌<◌, ◌⊎◌, ℕ, List, [], ◌∷◌, length, take, Err}
 use Rattle.gib_types.specs.declared.table.Ty.{Ty}
 use Rattle.gib_types.specs.Table.{Table}
 use Rattle.gib_types.specs.Tree.{Datum}
@@ -10,11 +10,17 @@ use Rattle.gib_file.specs.Framed.{Framed, File, HasMagic, IsFirstFault}
 use Rattle.gib_file.specs.Reading.{read_all}
 use Rattle.gib_value.specs.Reading.{IsRefusedAt}
 use Rattle.gib_syntax.specs.Tree.{ProgramTree}
-use Rattle.gib_syntax.specs.Declarations.{table_of_program, input_type}
+use Rattle.gib_syntax.specs.Declarations.{table_of_program, input_type, output_type}
 use Rattle.gib_app.specs.declared.input_fault.InputFault.{InputFault}
-use Rattle.gib_app.specs.declared.input_fault.InputFault.TheVariants.{Long, Packed, Text}
+use Rattle.gib_app.specs.declared.input_fault.InputFault.TheVariants.{Long, Packed, Image, Text}
 use Rattle.gib_app.specs.declared.input_fault.PackedFault.{PackedFault}
 use Rattle.gib_app.specs.declared.input_fault.PackedFault.TheVariants.{Header, Short, Tag, Truth, Trailing}
+use Rattle.gib_print.specs.declared.image_fault.ImageFault.TheVariants as reading
+use Rattle.gib_print.specs.Image.{IsFormed}
+use Rattle.gib_print.specs.ImageReading.{IsRefused}
+use Rattle.gib_app.specs.declared.input_fault.ImageFault.{ImageFault}
+use Rattle.gib_app.specs.declared.input_fault.ImageFault.TheVariants as image
+use Rattle.gib_app.specs.Cores.{layouts_of}
 use Rattle.gib_app.specs.Packing.{without_feed, IsTextLine}
 
 -- The header has no fault, and this is the first one that reading meets in the payload.
@@ -40,6 +46,7 @@ IsPackedFault p bytes fault = (length bytes ≤ 16777216) × IsFileFault (table_
 abbrev pub IsInputFault : ProgramTree → List ℕ → InputFault → Type 0
 IsInputFault p bytes (Long most) = (most ≡ 16777216) × (16777216 < length bytes)
 IsInputFault p bytes (Packed fault) = IsPackedFault p bytes fault
+IsInputFault p bytes (Image fault) = ⊥
 IsInputFault p bytes (Text place) = ⊥
 
 -- The file has more than 268,435,480 bytes; or it begins as a packed file and has more than 16,777,216.
@@ -48,12 +55,23 @@ IsTooLong bytes most =
     ((most ≡ 268435480) × (268435480 < length bytes))
     ⊎ ((most ≡ 16777216) × (16777216 < length bytes) × (length bytes ≤ 268435480) × HasMagic bytes)
 
--- The file that is to be shown is refused for this fault: it is too long, does not begin as a packed file, or
+-- The bytes begin with those of each image: GIBI.
+abbrev pub HasImageSign : List ℕ → Type 0
+HasImageSign bytes = take 4 bytes ≡ 71 ∷ 73 ∷ 66 ∷ 73 ∷ []
+
+-- The first fault, in reading order, of bytes that are to be an image of a value of the type of main's result.
+abbrev pub IsImageFault : ProgramTree → List ℕ → ImageFault → Type 0
+IsImageFault p bytes image.Header = HasImageSign bytes × (IsFormed (output_type p) bytes → ⊥)
+IsImageFault p bytes (image.Item at) = IsRefused (layouts_of p) (output_type p) bytes (reading.Bad at)
+IsImageFault p bytes image.Long = IsRefused (layouts_of p) (output_type p) bytes reading.Long
+
+-- The file that is to be shown is refused for this fault: it is too long, begins neither as a packed file nor as an image, or
 -- is none.
 abbrev pub IsShowFault : ProgramTree → List ℕ → InputFault → Type 0
 IsShowFault p bytes (Long most) = IsTooLong bytes most
-IsShowFault p bytes (Packed (Header header.Magic)) = (length bytes ≤ 268435480) × IsFirstFault bytes header.Magic
+IsShowFault p bytes (Packed (Header header.Magic)) = (length bytes ≤ 268435480) × IsFirstFault bytes header.Magic × (HasImageSign bytes → ⊥)
 IsShowFault p bytes (Packed fault) = IsPackedFault p bytes fault
+IsShowFault p bytes (Image fault) = (length bytes ≤ 268435480) × IsImageFault p bytes fault
 IsShowFault p bytes (Text place) = ⊥
 
 -- The bytes are the text of a value whose packed file has more than 16,777,216 bytes.
@@ -69,4 +87,5 @@ pub record HasLongFile (p : ProgramTree) (names : List (List ℕ)) (bytes : List
 abbrev pub IsTextFault : ProgramTree → List (List ℕ) → List ℕ → InputFault → Type 0
 IsTextFault p names bytes (Long most) = (most ≡ 16777216) × ((16777216 < length bytes) ⊎ ((length bytes ≤ 16777216) × HasLongFile p names bytes))
 IsTextFault p names bytes (Packed fault) = ⊥
+IsTextFault p names bytes (Image fault) = ⊥
 IsTextFault p names bytes (Text place) = (length bytes ≤ 16777216) × IsRefusedAt (table_of_program p) names (input_type p) (without_feed bytes) place

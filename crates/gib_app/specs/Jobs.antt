@@ -1,5 +1,5 @@
 -- What each job makes.
-use Rattle.std.specs.Prelude.{◌≡◌, ℕ, List, [], ◌∷◌, ◌++◌, codes, Option, None, Some}
+use Rattle.std.specs.Prelude.{◌≡◌, ℕ, List, [], ◌∷◌, ◌++◌, codes, Bool, true, false, Option, None, Some}
 use Rattle.gib_syntax.specs.Tree.{ProgramTree}
 use Rattle.gib_core.specs.CoreText.{core_text}
 use Rattle.gib_code.specs.ListingText.{listing_text}
@@ -9,7 +9,7 @@ use Rattle.gib_app.specs.declared.plan.Job.TheVariants.{Run, Plain, Check, Core,
 use Rattle.gib_app.specs.declared.plan.Options.{Options}
 use Rattle.gib_app.specs.declared.made.Reason.{Reason}
 use Rattle.gib_app.specs.declared.made.Reason.TheVariants.{Deep, Full}
-use Rattle.gib_app.specs.Running.{IsOutput, RunsOut, FillsUp, IsShown}
+use Rattle.gib_app.specs.Running.{IsOutput, IsRunImage, RunsOut, FillsUp, IsShown}
 use Rattle.gib_app.specs.Packing.{IsPackedText}
 use Rattle.gib_app.specs.Cores.{core_after}
 
@@ -33,9 +33,15 @@ Means p names depth input file (Prints text) = (file ≡ None) × IsOutput p nam
 Means p names depth input file (NoValue Deep) = (file ≡ None) × RunsOut p depth input
 Means p names depth input file (NoValue Full) = ⊥
 
--- `run`: the same; or so many chunks of memory may not be enough.
+-- Where an image is asked for, it is the file that a run makes; else there is none.
+abbrev pub MakesImage : Bool → ProgramTree → ℕ → List ℕ → Option (List ℕ) → Type 0
+MakesImage false p depth input file = file ≡ None
+MakesImage true p depth input None = ⊥
+MakesImage true p depth input (Some bytes) = IsRunImage p depth input bytes
+
+-- `run`: the same, and its image, where that is asked for; or so many chunks of memory may not be enough.
 abbrev pub Runs : ProgramTree → List (List ℕ) → Options → List ℕ → Option (List ℕ) → End → Type 0
-Runs p names options input file (Prints text) = (file ≡ None) × IsOutput p names options.depth input text
+Runs p names options input file (Prints text) = MakesImage options.image p options.depth input file × IsOutput p names options.depth input text
 Runs p names options input file (NoValue Deep) = (file ≡ None) × RunsOut p options.depth input
 Runs p names options input file (NoValue Full) = (file ≡ None) × FillsUp p options.depth options.chunks input
 
@@ -54,3 +60,7 @@ Does Core options p names second = OnlyPrints (λ text. text ≡ core_text names
 Does Code options p names second = OnlyPrints (λ text. text ≡ listing_text names (lower_program (core_after 4 p)))
 Does Pack options p names second = Packs p names second
 Does Show options p names second = OnlyPrints (IsShown p names second)
+
+-- The same options, without an image.
+abbrev pub without_image : Options → Options
+without_image options = record options { image = false }

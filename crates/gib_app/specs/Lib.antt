@@ -16,6 +16,7 @@ pub mod Codes
 pub mod Stops
 pub mod MachineRun
 pub mod Kept
+pub mod Imaging
 pub mod PassFaults
 pub mod Stopping
 pub mod Performing

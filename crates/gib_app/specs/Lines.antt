@@ -14,6 +14,8 @@ use Rattle.gib_app.specs.declared.source_fault.SourceFault.{SourceFault}
 use Rattle.gib_app.specs.declared.source_fault.SourceFault.TheVariants as source
 use Rattle.gib_app.specs.declared.input_fault.InputFault.{InputFault}
 use Rattle.gib_app.specs.declared.input_fault.InputFault.TheVariants as input
+use Rattle.gib_app.specs.declared.input_fault.ImageFault.{ImageFault}
+use Rattle.gib_app.specs.declared.input_fault.ImageFault.TheVariants as image
 use Rattle.gib_app.specs.declared.input_fault.PackedFault.{PackedFault}
 use Rattle.gib_app.specs.declared.input_fault.PackedFault.TheVariants as packed
 
@@ -61,10 +63,17 @@ packed_text (packed.Tag place) = codes "bad tag at " ++ decimal place
 packed_text (packed.Truth place) = codes "bad truth value at " ++ decimal place
 packed_text (packed.Trailing place) = codes "trailing bytes at " ++ decimal place
 
+-- What is said of a file that is no image.
+abbrev pub image_text : ImageFault → List ℕ
+image_text image.Header = codes "bad image header"
+image_text (image.Item at) = codes "bad image at " ++ decimal at
+image_text image.Long = codes "image too long"
+
 -- What is said of a second file that is refused.
 abbrev pub input_text : InputFault → List ℕ
 input_text (input.Long most) = codes "input: longer than " ++ decimal most ++ codes " bytes"
 input_text (input.Packed fault) = codes "input: " ++ packed_text fault
+input_text (input.Image fault) = codes "input: " ++ image_text fault
 input_text (input.Text place) = codes "input: bad text at " ++ decimal place
 
 -- Words, and what stands behind them.

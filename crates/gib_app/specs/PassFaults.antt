@@ -9,6 +9,9 @@ use Rattle.gib_file.specs.declared.fault.PackFault.{PackFault}
 use Rattle.gib_file.specs.declared.fault.PackFault.TheVariants as payload
 use Rattle.gib_app.specs.declared.source_fault.SourceFault.TheVariants as source
 use Rattle.gib_app.specs.declared.input_fault.InputFault.TheVariants as input
+use Rattle.gib_print.specs.declared.image_fault.ImageFault.{ImageFault as ReadFault}
+use Rattle.gib_print.specs.declared.image_fault.ImageFault.TheVariants as reading
+use Rattle.gib_app.specs.declared.input_fault.ImageFault.TheVariants as image
 use Rattle.gib_app.specs.declared.input_fault.PackedFault.{PackedFault}
 use Rattle.gib_app.specs.declared.input_fault.PackedFault.TheVariants as packed
 use Rattle.gib_app.specs.declared.stop.Stop.{Stop}
@@ -44,3 +47,10 @@ payload_stop (payload.Short place) = packed_stop (packed.Short place)
 payload_stop (payload.Tag place) = packed_stop (packed.Tag place)
 payload_stop (payload.Truth place) = packed_stop (packed.Truth place)
 payload_stop (payload.Trailing place) = packed_stop (packed.Trailing place)
+
+-- A fault of reading an image.
+abbrev pub image_stop : ReadFault → Stop
+image_stop reading.Memory = Memory
+image_stop reading.Head = Input (input.Image image.Header)
+image_stop (reading.Bad at) = Input (input.Image (image.Item at))
+image_stop reading.Long = Input (input.Image image.Long)

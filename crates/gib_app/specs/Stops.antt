@@ -20,7 +20,7 @@ use Rattle.gib_app.specs.declared.source_fault.SourceFault.{SourceFault}
 use Rattle.gib_app.specs.declared.stop.Stop.{Stop}
 use Rattle.gib_app.specs.declared.stop.Stop.TheVariants.{Usage, Source, Unread, Input, NoValue, Memory, Unwritten, Unput}
 use Rattle.gib_app.specs.Plan.{Document, Plan, Files}
-use Rattle.gib_app.specs.Running.{IsProgram, IsNoProgram, IsInput}
+use Rattle.gib_app.specs.Running.{IsProgram, IsNoProgram, IsInput, IsShownValue}
 use Rattle.gib_app.specs.Packing.{IsPackedText}
 use Rattle.gib_app.specs.SourceFaults.{IsSourceFault}
 use Rattle.gib_app.specs.InputFaults.{IsFileFault, IsInputFault, IsShowFault, IsTextFault}
@@ -89,6 +89,7 @@ IsRefusal refused = StopsBy (λ fault. ⊥) (λ name. ⊥) refused (λ reason. �
 abbrev pub IsPacked : (PackedFault → Type 0) → InputFault → Type 0
 IsPacked P (input.Long most) = ⊥
 IsPacked P (input.Packed fault) = P fault
+IsPacked P (input.Image fault) = ⊥
 IsPacked P (input.Text place) = ⊥
 
 -- Why a file is not read as a packed one: it is that of no value.
@@ -101,7 +102,7 @@ IsRunStop p input = IsRefusal (λ fault. IsInputFault p input fault × (((v : Da
 
 -- Why a file is not shown.
 abbrev pub IsShowStop : ProgramTree → List ℕ → Stop → Type 0
-IsShowStop p file = IsRefusal (λ fault. IsShowFault p file fault × (((v : Datum) × IsInput p v file) → ⊥))
+IsShowStop p file = IsRefusal (λ fault. IsShowFault p file fault × (((v : Datum) × IsShownValue p v file) → ⊥))
 
 -- Why a text is not packed.
 abbrev pub IsPackStop : ProgramTree → List (List ℕ) → List ℕ → Stop → Type 0

@@ -1,6 +1,6 @@
 -- What the words of a command line ask for.
-use Rattle.std.specs.Prelude.{ℕ, Bool, true, if◌then◌else◌, List, [], ◌∷◌, ◌++◌, map, fold, codes}
-use Rattle.std.specs.Prelude.{Option, Some, None, option_map, option_and_then, find}
+use Rattle.std.specs.Prelude.{ℕ, Bool, true, false, if◌then◌else◌, List, [], ◌∷◌, ◌++◌, map, fold, codes}
+use Rattle.std.specs.Prelude.{Option, Some, None, is_some, option_map, option_and_then, find}
 use Rattle.std.specs.String.{string_bytes}
 use Rattle.std.specs.declared.string.String.{String}
 use Rattle.std.specs.declared.alloc.Global.{Global}
@@ -44,6 +44,10 @@ chunks = number (codes "chunks") 16 65536
 abbrev pub pass : Rule
 pass = number (codes "pass") 1 4
 
+-- Under which name the image of region memory is written.
+abbrev pub image : Rule
+image = record (new_rule (codes "image")) { long = Some (codes "image") }
+
 -- ---- Their values
 
 -- The word at a place.
@@ -68,7 +72,7 @@ number_or id default rows = option_map_or (λ n. n) (number_of id rows) default
 
 -- The options where none is given.
 abbrev pub usual : Options
-usual = record { depth = 10000; chunks = 1024; pass = 4 }
+usual = record { depth = 10000; chunks = 1024; pass = 4; image = false }
 
 -- All options.
 abbrev pub options_of : List Row → Options
@@ -76,6 +80,7 @@ options_of rows = record {
   depth = number_or (codes "depth") usual.depth rows;
   chunks = number_or (codes "chunks") usual.chunks rows;
   pass = number_or (codes "pass") usual.pass rows;
+  image = is_some (word_of (codes "image") rows);
 }
 
 -- One more value of a plan, where it is there.
@@ -88,10 +93,18 @@ abbrev pub second_in : Option Text → List Row → Option (Option Document)
 second_in None rows = Some None
 second_in (Some id) rows = option_map Some (file_of id rows)
 
--- The name of the file that is written, where a command has one.
-abbrev pub target_in : Option Text → List Row → Option (Option Text)
-target_in None rows = Some None
-target_in (Some id) rows = option_map Some (word_of id rows)
+-- What names the file that a command writes: nothing, since there is none; the word of a place; or an option, which may be
+-- left out.
+pub data Target : Type 0 where
+  NoTarget : Target
+  AtPlace : Text → Target
+  ByOption : Text → Target
+
+-- The name of the file that is written, where there is one.
+abbrev pub target_in : Target → List Row → Option (Option Text)
+target_in NoTarget rows = Some None
+target_in (AtPlace id) rows = option_map Some (word_of id rows)
+target_in (ByOption id) rows = Some (word_of id rows)
 
 -- ---- Commands
 
@@ -99,7 +112,7 @@ target_in (Some id) rows = option_map Some (word_of id rows)
 pub record Form : Type 0 where
   pub name : Text
   pub second : Option Text
-  pub target : Option Text
+  pub target : Target
   pub options : List Rule
   pub job : Job
 
@@ -108,43 +121,49 @@ abbrev pub place_of : Option Text → List Rule
 place_of None = []
 place_of (Some id) = positional id ∷ []
 
+-- The same of what names a file.
+abbrev pub target_place : Target → List Rule
+target_place NoTarget = []
+target_place (AtPlace id) = positional id ∷ []
+target_place (ByOption id) = []
+
 -- All arguments of a command.
 abbrev pub arguments_of : Form → List Rule
-arguments_of form = positional (codes "source") ∷ (place_of form.second ++ (place_of form.target ++ form.options))
+arguments_of form = positional (codes "source") ∷ (place_of form.second ++ (target_place form.target ++ form.options))
 
 -- What a command asks for.
-abbrev pub planned : Job → Option Text → Option Text → List Row → Option Plan
+abbrev pub planned : Job → Option Text → Target → List Row → Option Plan
 planned job second target rows =
     with_value (with_value (option_map (λ s t u. record { source = s; second = t; target = u; job = job; options = options_of rows }) (file_of (codes "source") rows))
     (second_in second rows)) (target_in target rows)
 
--- `run SOURCE INPUT [--depth N] [--chunks N]`.
+-- `run SOURCE INPUT [--depth N] [--chunks N] [--image FILE]`.
 abbrev pub run_form : Form
-run_form = record { name = codes "run"; second = Some (codes "input"); target = None; options = depth ∷ chunks ∷ []; job = Run }
+run_form = record { name = codes "run"; second = Some (codes "input"); target = ByOption (codes "image"); options = depth ∷ chunks ∷ image ∷ []; job = Run }
 
 -- `plain SOURCE INPUT [--depth N]`.
 abbrev pub plain_form : Form
-plain_form = record { name = codes "plain"; second = Some (codes "input"); target = None; options = depth ∷ []; job = Plain }
+plain_form = record { name = codes "plain"; second = Some (codes "input"); target = NoTarget; options = depth ∷ []; job = Plain }
 
 -- `check SOURCE`.
 abbrev pub check_form : Form
-check_form = record { name = codes "check"; second = None; target = None; options = []; job = Check }
+check_form = record { name = codes "check"; second = None; target = NoTarget; options = []; job = Check }
 
 -- `core SOURCE [--pass P]`.
 abbrev pub core_form : Form
-core_form = record { name = codes "core"; second = None; target = None; options = pass ∷ []; job = Core }
+core_form = record { name = codes "core"; second = None; target = NoTarget; options = pass ∷ []; job = Core }
 
 -- `code SOURCE`.
 abbrev pub code_form : Form
-code_form = record { name = codes "code"; second = None; target = None; options = []; job = Code }
+code_form = record { name = codes "code"; second = None; target = NoTarget; options = []; job = Code }
 
 -- `pack SOURCE TEXT TARGET`.
 abbrev pub pack_form : Form
-pack_form = record { name = codes "pack"; second = Some (codes "text"); target = Some (codes "target"); options = []; job = Pack }
+pack_form = record { name = codes "pack"; second = Some (codes "text"); target = AtPlace (codes "target"); options = []; job = Pack }
 
 -- `show SOURCE FILE`.
 abbrev pub show_form : Form
-show_form = record { name = codes "show"; second = Some (codes "file"); target = None; options = []; job = Show }
+show_form = record { name = codes "show"; second = Some (codes "file"); target = NoTarget; options = []; job = Show }
 
 -- All commands.
 abbrev pub forms : List Form

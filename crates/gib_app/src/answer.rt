@@ -2,10 +2,10 @@
 
 ghost use Rattle.std.specs.Prelude.{◌≡◌, ◌++◌, codes};
 ghost use Rattle.std.specs.Fmt.{decimal};
-ghost use Rattle.gib_app.specs.Lines.{rule_text, source_text, header_text, packed_text, input_text, said_text};
+ghost use Rattle.gib_app.specs.Lines.{rule_text, source_text, header_text, packed_text, image_text, input_text, said_text};
 ghost use Rattle.gib_app.specs.Stopping.{answer_for, answer_of};
 
-use crate::input_fault::{InputFault, PackedFault};
+use crate::input_fault::{ImageFault, InputFault, PackedFault};
 use crate::made::Reason;
 use crate::source_fault::SourceFault;
 use crate::status::Status;
@@ -132,6 +132,17 @@ fn of_packed(fault: PackedFault) -> Said<'static>
     }
 }
 
+/// What is said of a file that is no image.
+fn of_image(fault: ImageFault) -> Said<'static>
+    ensures { said_text result ≡ codes "input: " ++ image_text fault }
+{
+    match fault {
+        ImageFault::Header => only(b"input: bad image header"),
+        ImageFault::Item(at) => numbered(b"input: bad image at ", at),
+        ImageFault::Long => only(b"input: image too long"),
+    }
+}
+
 /// What is said of a second file that is refused.
 fn of_input(fault: InputFault) -> Said<'static>
     ensures { said_text result ≡ input_text fault }
@@ -142,6 +153,7 @@ fn of_input(fault: InputFault) -> Said<'static>
             detail: Detail::Bytes(most),
         },
         InputFault::Packed(fault) => of_packed(fault),
+        InputFault::Image(fault) => of_image(fault),
         InputFault::Text(place) => numbered(b"input: bad text at ", place),
     }
 }

@@ -1,9 +1,9 @@
 //! The commands of the program with their arguments, as `clap` takes them.
 
-ghost use Rattle.std.specs.Prelude.{◌≡◌, IfOk, false};
+ghost use Rattle.std.specs.Prelude.{◌≡◌, IfOk, codes, false};
 ghost use Rattle.clap.specs.Walk.{rule_of};
-ghost use Rattle.clap.specs.Simple.{app_of};
-ghost use Rattle.gib_app.specs.Words.{app_for, bare_program, chunks, command_set, depth, pass, positional};
+ghost use Rattle.clap.specs.Simple.{app_of, new_app, with_rule};
+ghost use Rattle.gib_app.specs.Words.{app_for, bare_program, chunks, command_set, depth, image, pass, positional};
 ghost use Rattle.gib_app.specs.Words.{check_form, code_form, core_form, pack_form, plain_form, run_form, show_form};
 
 use clap::builder::ValueParser;
@@ -48,15 +48,31 @@ fn pass<'a>(alloc: Global) -> Arg<'a>
         .value_parser(ValueParser::unsigned(1, 4))
 }
 
-/// `run SOURCE INPUT [--depth N] [--chunks N]`.
+/// `--image FILE`, under which name the image of region memory is written.
+fn image<'a>(alloc: Global) -> Arg<'a>
+    ensures rule { rule_of result ≡ image }
+    ensures local { result.global ≡ false }
+{
+    Arg::new(alloc, "image").long("image")
+}
+
+/// A command of this name on a source and a second file.
+fn on_both<'a>(alloc: Global, name: &'a str, second: &'a str) -> Result<Command<'a>, AllocError>
+    ensures { IfOk result (λ command. app_of command ≡ with_rule (with_rule (new_app name.entry.now) (positional (codes "source"))) (positional second.entry.now)) }
+{
+    Command::new(alloc, name)
+        .arg(positional(alloc, "source"))?
+        .arg(positional(alloc, second))
+}
+
+/// `run SOURCE INPUT [--depth N] [--chunks N] [--image FILE]`.
 fn run_command<'a>(alloc: Global) -> Result<Command<'a>, AllocError>
     ensures { IfOk result (λ command. app_of command ≡ app_for run_form) }
 {
-    Command::new(alloc, "run")
-        .arg(positional(alloc, "source"))?
-        .arg(positional(alloc, "input"))?
+    on_both(alloc, "run", "input")?
         .arg(depth(alloc))?
-        .arg(chunks(alloc))
+        .arg(chunks(alloc))?
+        .arg(image(alloc))
 }
 
 /// `plain SOURCE INPUT [--depth N]`.

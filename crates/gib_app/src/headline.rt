@@ -1,11 +1,12 @@
 //! What `gib run` promises. Read this first: the function does nothing, and its contract is the promise.
 
 ghost use Rattle.std.specs.Prelude.{◌≡◌, ◌⊎◌, ◌++◌, ℕ, List, Bool, Some};
+ghost use Rattle.gib_edge.specs.Causes.{told};
 ghost use Rattle.gib_edge.specs.Views.{ShelfView, SinkView};
 ghost use Rattle.gib_app.specs.declared.plan.Options.{Options as OptionValues};
 ghost use Rattle.gib_app.specs.declared.status.Status.{Status as Statuses};
 ghost use Rattle.gib_app.specs.Ending.{IsEnding};
-ghost use Rattle.gib_app.specs.Headline.{IsRun, Given, IsResult, IsTooDeep, IsTooBig, NoneFailed};
+ghost use Rattle.gib_app.specs.Headline.{IsRun, Given, IsResult, IsResultImage, IsTooDeep, IsTooBig, NoneFailed};
 
 use crate::status::Status;
 use gib_file::one_file;
@@ -20,6 +21,10 @@ pub fn run_prints_what_is_meant()
     ensures done { (tells : Bool) (words : List (List ℕ)) (before now : ShelfView) (out out_now : SinkView) (source input : List ℕ) (options : OptionValues) (front said : List ℕ)
         → IsRun words before out source input options front → IsEnding tells words before now out out_now Status.Done said
         → (output : List ℕ) × IsResult source input options.depth output × (out_now.taken ≡ Some (front ++ output)) }
+    // With an image asked for and status 0: under its name bytes were written in whose chunks that value stands.
+    ensures image { (tells : Bool) (words : List (List ℕ)) (before now : ShelfView) (out out_now : SinkView) (source input : List ℕ) (options : OptionValues) (front said name : List ℕ)
+        → (r : IsRun words before out source input options front) → r.image ≡ Some name → IsEnding tells words before now out out_now Status.Done said
+        → (bytes : List ℕ) × (now.kept name ≡ told tells bytes) × IsResultImage source input options.depth bytes }
     // Status 3: the meaning runs out of depth.
     ensures deep { (tells : Bool) (words : List (List ℕ)) (before now : ShelfView) (out out_now : SinkView) (source input : List ℕ) (options : OptionValues) (front said : List ℕ)
         → IsRun words before out source input options front → IsEnding tells words before now out out_now Status.Depth said → IsTooDeep source input options.depth }
@@ -30,14 +35,14 @@ pub fn run_prints_what_is_meant()
     // The other way round: where the program means a value, the status is 0 and no other, and where its meaning runs out of
     // depth it is 3; unless memory or its chunks run out, or a file or `out` failed.
     ensures ends_done { (tells : Bool) (words : List (List ℕ)) (before now : ShelfView) (out out_now : SinkView) (source input : List ℕ) (options : OptionValues) (front output said : List ℕ) (status : Statuses)
-        → (r : IsRun words before out source input options front) → NoneFailed r.program r.packed before now out out_now → IsResult source input options.depth output
+        → (r : IsRun words before out source input options front) → NoneFailed r.program r.packed r.image before now out out_now → IsResult source input options.depth output
         → IsEnding tells words before now out out_now status said → (status ≡ Status.Done) ⊎ (status ≡ Status.Memory) ⊎ (status ≡ Status.Full) }
     ensures ends_deep { (tells : Bool) (words : List (List ℕ)) (before now : ShelfView) (out out_now : SinkView) (source input : List ℕ) (options : OptionValues) (front said : List ℕ) (status : Statuses)
-        → (r : IsRun words before out source input options front) → NoneFailed r.program r.packed before now out out_now → IsTooDeep source input options.depth
+        → (r : IsRun words before out source input options front) → NoneFailed r.program r.packed r.image before now out out_now → IsTooDeep source input options.depth
         → IsEnding tells words before now out out_now status said → (status ≡ Status.Depth) ⊎ (status ≡ Status.Memory) ⊎ (status ≡ Status.Full) }
     // Where so many chunks are enough for what the run costs, they do not run out: the status is 0 or 3, and never 4.
     ensures fits { (tells : Bool) (words : List (List ℕ)) (before now : ShelfView) (out out_now : SinkView) (source input : List ℕ) (options : OptionValues) (front said : List ℕ) (status : Statuses)
-        → (r : IsRun words before out source input options front) → NoneFailed r.program r.packed before now out out_now → Given source input
+        → (r : IsRun words before out source input options front) → NoneFailed r.program r.packed r.image before now out out_now → Given source input
         → (IsTooBig source input options.depth options.chunks → ⊥)
         → IsEnding tells words before now out out_now status said → (status ≡ Status.Done) ⊎ (status ≡ Status.Depth) ⊎ (status ≡ Status.Memory) }
 

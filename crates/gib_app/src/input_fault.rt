@@ -9,6 +9,8 @@ pub enum InputFault {
     Long(u64),
     /// It is no packed file of a value of the type that is due.
     Packed(PackedFault),
+    /// It is no image of a value of the type that is due.
+    Image(ImageFault),
     /// The token at this place of a text, in bytes from 0, cannot stand there.
     Text(u64),
 }
@@ -26,4 +28,15 @@ pub enum PackedFault {
     Truth(u64),
     /// The value ends at this place, before the end of the payload.
     Trailing(u64),
+}
+
+/// Why bytes that begin as an image does are no image of a value of a type.
+#[derive(Clone, Copy, Debug, PartialEq, Eq)]
+pub enum ImageFault {
+    /// The header is not that of an image with a value of the type, or the length is not that of its chunks.
+    Header,
+    /// The item that begins at this address is cut or has no tag of the type, or the truth value there is past 1.
+    Item(u64),
+    /// Reading meets more than 16,777,216 items.
+    Long,
 }

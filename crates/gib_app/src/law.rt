@@ -15,6 +15,7 @@ use gib_check::laws::faults_are_exact;
 use gib_file::{one_file, refused_file, refused_header};
 use gib_lex::laws::{one_reading, one_refusal};
 use gib_parse::law::{one_text, program_is_read};
+use gib_print::law::{a_value_is_not_refused, one_fault};
 use gib_value::law::{refusals_hold, texts_differ};
 
 /// A source is refused for one fault, at one place, and a source that is refused is no program.
@@ -43,4 +44,6 @@ pub fn one_input_fault(compiled: &Compiled)
     let types = compiled.typed.types();
     texts_differ(types, &compiled.names);
     refusals_hold(types, &compiled.names);
+    one_fault();
+    a_value_is_not_refused();
 }

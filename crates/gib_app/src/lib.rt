@@ -2,10 +2,13 @@
 #![tactic(auto)]
 
 mod answer;
+mod buffer;
 mod commands;
 mod compile;
 mod documents;
 pub mod headline;
+mod image_file;
+mod imaging;
 pub mod input_fault;
 mod jobs;
 pub mod law;

@@ -1,10 +1,11 @@
 //! What the matches of a command ask for.
 
-ghost use Rattle.std.specs.Prelude.{◌≡◌, None, Some, option_map, option_and_then};
+ghost use Rattle.std.specs.Prelude.{◌≡◌, None, Some, is_some, option_map, option_and_then};
 ghost use Rattle.clap.specs.Walk.{rows_of};
 ghost use Rattle.clap.specs.Simple.{subcommand_rows_of};
 ghost use Rattle.clap.specs.Matches.{found_of};
 ghost use Rattle.gib_app.specs.Words.{file_of, number_of, number_or as number_asked, options_of, planned, requested, usual as usual_options, word_of};
+ghost use Rattle.gib_app.specs.Words.{NoTarget, AtPlace, ByOption};
 ghost use Rattle.gib_app.specs.Kept.{document_of, plan_of};
 
 use crate::plan::{Document, Job, Options, Plan};
@@ -18,6 +19,7 @@ pub fn usual() -> Options
         depth: 10_000,
         chunks: 1_024,
         pass: 4,
+        image: false,
     }
 }
 
@@ -33,6 +35,13 @@ fn file<'a>(matches: &ArgMatches<'a>, id: &str) -> Option<Document<'a>>
     ensures { option_map document_of result ≡ file_of id.now (rows_of (found_of matches.now)) }
 {
     word(matches, id).map(Document::Named)
+}
+
+/// Whether there is a word.
+fn is_given(matches: &ArgMatches<'_>, id: &str) -> bool
+    ensures { result ≡ is_some (word_of id.now (rows_of (found_of matches.now))) }
+{
+    word(matches, id).is_some()
 }
 
 /// The number of an option.
@@ -61,12 +70,13 @@ fn options(matches: &ArgMatches<'_>) -> Options
         depth: number_or(matches, "depth", usual.depth),
         chunks: number_or(matches, "chunks", usual.chunks),
         pass: number_or(matches, "pass", usual.pass),
+        image: is_given(matches, "image"),
     }
 }
 
 /// A job on a source alone.
 fn on_source<'a>(matches: &ArgMatches<'a>, job: Job) -> Option<Plan<'a>>
-    ensures { option_map plan_of result ≡ planned job None None (rows_of (found_of matches.now)) }
+    ensures { option_map plan_of result ≡ planned job None NoTarget (rows_of (found_of matches.now)) }
 {
     Some(Plan {
         source: file(matches, "source")?,
@@ -79,7 +89,7 @@ fn on_source<'a>(matches: &ArgMatches<'a>, job: Job) -> Option<Plan<'a>>
 
 /// A job on a source and a second file.
 fn on_both<'a>(matches: &ArgMatches<'a>, job: Job, second: &str) -> Option<Plan<'a>>
-    ensures { option_map plan_of result ≡ planned job (Some second.now) None (rows_of (found_of matches.now)) }
+    ensures { option_map plan_of result ≡ planned job (Some second.now) NoTarget (rows_of (found_of matches.now)) }
 {
     Some(Plan {
         source: file(matches, "source")?,
@@ -92,7 +102,7 @@ fn on_both<'a>(matches: &ArgMatches<'a>, job: Job, second: &str) -> Option<Plan<
 
 /// A job on a source and a second file, that makes a file.
 fn to_target<'a>(matches: &ArgMatches<'a>, job: Job, second: &str, target: &str) -> Option<Plan<'a>>
-    ensures { option_map plan_of result ≡ planned job (Some second.now) (Some target.now) (rows_of (found_of matches.now)) }
+    ensures { option_map plan_of result ≡ planned job (Some second.now) (AtPlace target.now) (rows_of (found_of matches.now)) }
 {
     Some(Plan {
         source: file(matches, "source")?,
@@ -103,12 +113,25 @@ fn to_target<'a>(matches: &ArgMatches<'a>, job: Job, second: &str, target: &str)
     })
 }
 
+/// A job on a source and a second file, that makes a file where an option names one.
+fn to_option<'a>(matches: &ArgMatches<'a>, job: Job, second: &str, target: &str) -> Option<Plan<'a>>
+    ensures { option_map plan_of result ≡ planned job (Some second.now) (ByOption target.now) (rows_of (found_of matches.now)) }
+{
+    Some(Plan {
+        source: file(matches, "source")?,
+        second: Some(file(matches, second)?),
+        target: word(matches, target),
+        job,
+        options: options(matches),
+    })
+}
+
 /// What the matches of the command with this name ask for.
 fn command_plan<'a>(name: &str, matches: &ArgMatches<'a>) -> Option<Plan<'a>>
     ensures { option_map plan_of result ≡ requested name.now (rows_of (found_of matches.now)) }
 {
     match name {
-        "run" => on_both(matches, Job::Run, "input"),
+        "run" => to_option(matches, Job::Run, "input", "image"),
         "plain" => on_both(matches, Job::Plain, "input"),
         "check" => on_source(matches, Job::Check),
         "core" => on_source(matches, Job::Core),

@@ -52,6 +52,8 @@ pub struct Options {
     pub chunks: u32,
     /// After which pass the core is printed, from 1 to 4.
     pub pass: u32,
+    /// Whether the image of region memory is written.
+    pub image: bool,
 }
 
 /// What to do: the source is read, then the second file; the job is done with them; the file that it makes is written

@@ -49,6 +49,9 @@ fn shown(alloc: Global, plan: Option<Plan<'_>>) -> Result<String, AllocError> {
     if plan.options.pass != 4 {
         line = format!(in alloc; "{line} pass {}", plan.options.pass)?;
     }
+    if plan.options.image {
+        line = format!(in alloc; "{line} image")?;
+    }
     Ok(line)
 }
 
@@ -92,7 +95,7 @@ fn no_words_ask_for_the_sample(rt: HostRuntime) -> Result<(), Fail> {
 #[test]
 fn commands_take_their_words(rt: HostRuntime) -> Result<(), Fail> {
     let alloc = rt.alloc();
-    let cases: [(&[&str], &str); 43] = [
+    let cases: [(&[&str], &str); 48] = [
         (&["run", "s", "i"], "run s i"),
         (&["plain", "s", "i"], "plain s i"),
         (&["check", "s"], "check s"),
@@ -143,6 +146,15 @@ fn commands_take_their_words(rt: HostRuntime) -> Result<(), Fail> {
             &["run", "--chunks", "20", "s", "i", "--depth", "3"],
             "run s i depth 3 chunks 20",
         ),
+        // The image of memory.
+        (&["run", "s", "i", "--image", "m"], "run s i m image"),
+        (&["run", "--image=m", "s", "i"], "run s i m image"),
+        (&["run", "s", "i", "--image"], "not taken"),
+        (
+            &["run", "s", "i", "--image", "m", "--image", "n"],
+            "not taken",
+        ),
+        (&["plain", "s", "i", "--image", "m"], "not taken"),
         // The pass, on both sides of its range.
         (&["core", "s"], "core s"),
         (&["core", "s", "--pass", "1"], "core s pass 1"),

@@ -1,6 +1,6 @@
 //! What holds of the definitions: each law is the clause of a function that does nothing.
 
-ghost use Rattle.std.specs.Prelude.{◌≡◌, ◌∷◌, [], ℕ, List, None, Some, codes, is_some};
+ghost use Rattle.std.specs.Prelude.{◌≡◌, ◌∷◌, [], ℕ, List, None, Some, codes, is_some, true};
 ghost use Rattle.gib_app.specs.declared.plan.Job.TheVariants.{Run, Plain, Core, Code, Pack};
 ghost use Rattle.gib_app.specs.Plan.{Named};
 ghost use Rattle.gib_app.specs.Words.{asked, taken, usual};
@@ -17,7 +17,7 @@ pub fn examples()
         ≡ Some (record { source = Named (codes "a.gib"); second = Some (Named (codes "t.gbp")); target = None; job = Run; options = usual }) }
     // A depth before the names of the files, with a plus and zeros.
     ensures depth { asked (codes "gib" ∷ codes "plain" ∷ codes "--depth=+007" ∷ codes "a.gib" ∷ codes "t.gbp" ∷ [])
-        ≡ Some (record { source = Named (codes "a.gib"); second = Some (Named (codes "t.gbp")); target = None; job = Plain; options = record { depth = 7; chunks = 1024; pass = 4 } }) }
+        ≡ Some (record { source = Named (codes "a.gib"); second = Some (Named (codes "t.gbp")); target = None; job = Plain; options = record usual { depth = 7 } }) }
     // After `--` each word is a name.
     ensures names { asked (codes "gib" ∷ codes "pack" ∷ codes "--" ∷ codes "a" ∷ codes "--depth" ∷ codes "-" ∷ [])
         ≡ Some (record { source = Named (codes "a"); second = Some (Named (codes "--depth")); target = Some (codes "-"); job = Pack; options = usual }) }
@@ -27,9 +27,12 @@ pub fn examples()
     ensures core { asked (codes "gib" ∷ codes "core" ∷ codes "a.gib" ∷ []) ≡ Some (record { source = Named (codes "a.gib"); second = None; target = None; job = Core; options = usual }) }
     // Chunks.
     ensures chunks { asked (codes "gib" ∷ codes "run" ∷ codes "a" ∷ codes "b" ∷ codes "--chunks" ∷ codes "16" ∷ [])
-        ≡ Some (record { source = Named (codes "a"); second = Some (Named (codes "b")); target = None; job = Run; options = record { depth = 10000; chunks = 16; pass = 4 } }) }
+        ≡ Some (record { source = Named (codes "a"); second = Some (Named (codes "b")); target = None; job = Run; options = record usual { chunks = 16 } }) }
     // Chunks below their range.
     ensures few_chunks { asked (codes "gib" ∷ codes "run" ∷ codes "a" ∷ codes "b" ∷ codes "--chunks" ∷ codes "15" ∷ []) ≡ None }
+    // An image.
+    ensures image { asked (codes "gib" ∷ codes "run" ∷ codes "a" ∷ codes "b" ∷ codes "--image" ∷ codes "m.gbi" ∷ [])
+        ≡ Some (record { source = Named (codes "a"); second = Some (Named (codes "b")); target = Some (codes "m.gbi"); job = Run; options = record usual { image = true } }) }
     // The code of a program.
     ensures code { asked (codes "gib" ∷ codes "code" ∷ codes "a.gib" ∷ []) ≡ Some (record { source = Named (codes "a.gib"); second = None; target = None; job = Code; options = usual }) }
     // A pass past its range.

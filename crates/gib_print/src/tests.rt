@@ -1,4 +1,4 @@
-//! Values that were put by hand are printed.
+//! Values that were put by hand are printed; images of them are written and read.
 
 ghost use Rattle.std.specs.Prelude.{◌≡◌, ◌≤◌, ◌^◌, ◌+◌, length, true, IsTrue, IfOk};
 ghost use Rattle.gib_mem.specs.Memory.{Owned, after_puts};
@@ -13,10 +13,16 @@ use gib_edge::mem_sink::MemSink;
 use gib_mem::{Mem, PlainMem};
 use gib_packed::Root;
 use gib_types::{Constructor, Layouts, Ty, TyId, TypeTable};
+use gib_value::write_text;
 use std::alloc::Global;
 use std::test::*;
 
 const T: Ty = Ty::Tree(TyId(0));
+
+// At 0 a redirect to 28, at 9 an indirection to 0, at 18 (Node True (Cons 258 Nil) -2 (Cons 258 Nil)) with its first
+// packed field at 28 and an indirection to 9 as its second one at 38.
+const EXAMPLE: &[u8] =
+    b"\xff\x1c\0\0\0\0\0\0\0\xfe\0\0\0\0\0\0\0\0\x02\x01\xfe\xff\xff\xff\xff\xff\xff\xff\x01\x02\x01\0\0\0\0\0\0\x00\xfe\x09\0\0\0\0\0\0\0";
 
 fn constructor(alloc: Global, name: u32, fields: &[Ty]) -> Result<Constructor, Memory>
     ensures { IfOk result (λ c. row_of c ≡ entry name fields.now) }
@@ -121,11 +127,7 @@ fn print_values<M: Mem>(
     requires names { names.now ≡ example_names }
     requires laid { layouts.now ≡ laid }
 {
-    put(
-        mem,
-        0,
-        b"\xff\x1c\0\0\0\0\0\0\0\xfe\0\0\0\0\0\0\0\0\x02\x01\xfe\xff\xff\xff\xff\xff\xff\xff\x01\x02\x01\0\0\0\0\0\0\x00\xfe\x09\0\0\0\0\0\0\0",
-    );
+    put(mem, 0, EXAMPLE);
     print_at(alloc, mem, types, names, layouts, Root::At(18), sink)?;
     print_at(alloc, mem, types, names, layouts, Root::Whole(-7), sink)?;
     print_at(alloc, mem, types, names, layouts, Root::Truth(true), sink)
@@ -185,6 +187,173 @@ fn a_list_of_455_cells_is_put_in_two_pieces(rt: HostRuntime) -> Result<(), Fail>
         assert!(rt; answer == want, "{taken}");
         assert_eq!(rt; sink.bytes().len(), taken);
         assert!(rt; line.as_slice().starts_with(sink.bytes()), "{taken}");
+    }
+    Ok(())
+}
+
+// The image of two chunks in which the example stands from 0 on, with this root.
+fn image_with(alloc: Global, root: Root) -> Result<Vec<u8>, Fail> {
+    let mut mem = PlainMem::make(alloc, 2)?;
+    if !draw_both(&mut mem) {
+        return Err("chunks".into());
+    }
+    put(&mut mem, 0, EXAMPLE);
+    mem.owns_all();
+    let bytes = image(alloc, &mut mem, root)?;
+    Ok(bytes)
+}
+
+// The same with other bytes at some places of the file.
+fn changed(alloc: Global, root: Root, changes: &[(usize, u8)]) -> Result<Vec<u8>, Fail> {
+    let mut bytes = image_with(alloc, root)?;
+    'changes: for (at, byte) in changes {
+        if *at < bytes.len() {
+            bytes[*at] = *byte;
+        }
+    }
+    Ok(bytes)
+}
+
+// The text of the value that is read, or why there is none.
+#[tactic(auto, using(crate::proofs::Examples::read_typed, crate::proofs::Examples::names_held))]
+fn read(alloc: Global, ty: Ty, bytes: &[u8]) -> Result<Result<Vec<u8>, ImageFault>, Fail> {
+    let types = make_types(alloc)?;
+    let names = make_names(alloc).map_err(|_| "names")?;
+    let layouts = Layouts::make(alloc, &types, &[])?;
+    match read_image(alloc, &types, &layouts, ty, bytes) {
+        Ok(value) => {
+            let text = write_text(alloc, &types, &names, &value)?;
+            Ok(Ok(text))
+        }
+        Err(fault) => Ok(Err(fault)),
+    }
+}
+
+// Whether this text is read.
+fn reads_as(alloc: Global, ty: Ty, bytes: &[u8], text: &[u8]) -> Result<bool, Fail> {
+    match read(alloc, ty, bytes)? {
+        Ok(found) => Ok(found.as_slice() == text),
+        Err(_) => Ok(false),
+    }
+}
+
+// Whether reading comes to this fault.
+fn fails_with(alloc: Global, ty: Ty, bytes: &[u8], fault: ImageFault) -> Result<bool, Fail> {
+    match read(alloc, ty, bytes)? {
+        Ok(_) => Ok(false),
+        Err(found) => Ok(found == fault),
+    }
+}
+
+#[test]
+fn an_image_has_its_header_and_all_drawn_chunks(rt: HostRuntime) -> Result<(), Fail> {
+    let alloc = rt.alloc();
+    let mut want = Vec::from_slice(
+        alloc,
+        b"GIBI\x01\x02\0\0\x12\0\0\0\0\0\0\0\x02\0\0\0\0\0\0\0",
+    )?;
+    want.extend_from_slice(EXAMPLE)?;
+    let rest = vec![in alloc; 0u8; 8145]?;
+    want.extend_from_slice(&rest)?;
+    assert!(rt; image_with(alloc, Root::At(18))? == want);
+    let whole = image_with(alloc, Root::Whole(-7))?;
+    assert!(rt;
+        whole
+            .as_slice()
+            .starts_with(b"GIBI\x01\0\0\0\xf9\xff\xff\xff\xff\xff\xff\xff\x02\0")
+    );
+    let truth = image_with(alloc, Root::Truth(true))?;
+    assert!(rt;
+        truth
+            .as_slice()
+            .starts_with(b"GIBI\x01\x01\0\0\x01\0\0\0\0\0\0\0\x02\0")
+    );
+    Ok(())
+}
+
+#[test]
+fn what_was_written_is_read(rt: HostRuntime) -> Result<(), Fail> {
+    let alloc = rt.alloc();
+    for (root, ty, text) in [
+        (
+            Root::At(18),
+            T,
+            b"(Node True (Cons 258 Nil) -2 (Cons 258 Nil))".as_slice(),
+        ),
+        (Root::At(9), T, b"(Cons 258 Nil)".as_slice()),
+        (Root::At(0), T, b"(Cons 258 Nil)".as_slice()),
+        (Root::At(8191), T, b"Nil".as_slice()),
+        (Root::Whole(-7), Ty::Whole, b"-7".as_slice()),
+        (Root::Truth(true), Ty::Truth, b"True".as_slice()),
+    ] {
+        assert!(rt; reads_as(alloc, ty, &image_with(alloc, root)?, text)?);
+    }
+    Ok(())
+}
+
+#[test]
+fn a_header_of_another_form_is_refused(rt: HostRuntime) -> Result<(), Fail> {
+    let alloc = rt.alloc();
+    // another sign, version, kind, reserved byte, number of chunks, and 65,537 chunks
+    for change in [(0, 103), (4, 2), (5, 1), (6, 1), (7, 1), (16, 1), (18, 1)] {
+        let bytes = changed(alloc, Root::At(18), &[change])?;
+        assert!(rt; fails_with(alloc, T, &bytes, ImageFault::Head)?);
+    }
+    let short = image_with(alloc, Root::At(18))?;
+    assert!(rt;
+        fails_with(alloc, Ty::Whole, &short, ImageFault::Head)?,
+        "another type"
+    );
+    let mut long = image_with(alloc, Root::At(18))?;
+    long.push(0)?;
+    assert!(rt;
+        fails_with(alloc, T, &long, ImageFault::Head)?,
+        "a byte too many"
+    );
+    assert!(rt;
+        fails_with(alloc, T, b"GIBI\x01\x02\0\0", ImageFault::Head)?,
+        "no root"
+    );
+    assert!(rt; fails_with(alloc, T, b"", ImageFault::Head)?, "nothing");
+    let truth = changed(alloc, Root::Truth(true), &[(8, 2)])?;
+    assert!(rt;
+        fails_with(alloc, Ty::Truth, &truth, ImageFault::Head)?,
+        "a truth value past 1"
+    );
+    Ok(())
+}
+
+#[test]
+fn the_first_fault_is_named(rt: HostRuntime) -> Result<(), Fail> {
+    let alloc = rt.alloc();
+    let far = 18_446_744_073_709_551_615;
+    let mut at_far = [(24 + 39, 255); 8];
+    'far: for i in 0..8usize {
+        at_far[i] = (24 + 39 + i, 255);
+    }
+    let cases: [(Root, &[(usize, u8)], u64); 12] = [
+        (Root::At(8192), &[], 8192),
+        (Root::At(far), &[], far),
+        // the second packed field leads past all chunks
+        (Root::At(18), &at_far, far),
+        // a tag that no constructor has, and the greatest such tag
+        (Root::At(18), &[(24 + 18, 3)], 18),
+        (Root::At(18), &[(24 + 18, 253)], 18),
+        // the first packed field, behind the redirect too
+        (Root::At(18), &[(24 + 28, 3)], 28),
+        (Root::At(9), &[(24 + 28, 3)], 28),
+        // a truth value past 1, at its own address; it stands before a bad field
+        (Root::At(18), &[(24 + 19, 2)], 19),
+        (Root::At(18), &[(24 + 28, 3), (24 + 19, 2)], 19),
+        // the first of two bad fields
+        (Root::At(18), &[(24 + 38, 9), (24 + 37, 3)], 37),
+        // a head that is cut by the end, and an indirection
+        (Root::At(8191), &[(24 + 8191, 1)], 8191),
+        (Root::At(8184), &[(24 + 8184, 254)], 8184),
+    ];
+    for (root, changes, at) in cases {
+        let bytes = changed(alloc, root, changes)?;
+        assert!(rt; fails_with(alloc, T, &bytes, ImageFault::Bad(at))?, "{at}");
     }
     Ok(())
 }

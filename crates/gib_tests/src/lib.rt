@@ -14,6 +14,8 @@ mod deep;
 #[cfg(test)]
 mod harness;
 #[cfg(test)]
+mod images;
+#[cfg(test)]
 mod limits;
 #[cfg(test)]
 mod locations;

@@ -1,19 +1,47 @@
 //! `run`: prints what a program means on an input.
 
-ghost use Rattle.std.specs.Prelude.{◌≤◌, length, IfOk, IfErr};
+ghost use Rattle.std.specs.Prelude.{◌≡◌, ◌≤◌, ℕ, List, length, IfOk, IfErr};
+ghost use Rattle.gib_value.specs.Text.{AreHeld};
+ghost use Rattle.gib_syntax.specs.Tree.{ProgramTree};
 ghost use Rattle.gib_syntax.specs.Parts.{program_of};
+ghost use Rattle.gib_app.specs.declared.plan.Options.{Options as OptionValues};
+ghost use Rattle.gib_app.specs.Cores.{layouts_of};
 ghost use Rattle.gib_app.specs.Jobs.{Runs};
 ghost use Rattle.gib_app.specs.Kept.{EndsBy, file_of};
+ghost use Rattle.gib_app.specs.MachineRun.{StandsMeant};
 ghost use Rattle.gib_app.specs.Stops.{IsReady, IsRunStop};
 
 use crate::compile::Compiled;
+use crate::imaging::with_image;
 use crate::machine_run::run_packed;
 use crate::made::{End, Made, Valued};
 use crate::plan::Options;
 use crate::printing::no_value;
 use crate::stop::Stop;
 use gib_base::limits::FILE_BYTES;
+use gib_mem::{Mem, PlainMem};
 use std::alloc::Global;
+
+/// What a run makes that leaves a value: its image too, where that is asked for.
+fn finish(alloc: Global, value: Valued, image: bool) -> Result<Made, Stop<'static>>
+    requires names { AreHeld value.ran.lowered.code.laid.table value.names }
+    requires stands { (p : ProgramTree) × (depth : ℕ) × (input : List ℕ) × StandsMeant p depth input value.ran.lowered.code.laid (⟦<PlainMem as Mem>⟧.view value.ran.memory).cells value.ran.root }
+    ensures made { (p : ProgramTree) (options : OptionValues) (input : List ℕ) → value.ran.lowered.code.laid ≡ layouts_of p → options.image ≡ image
+        → (s : StandsMeant p options.depth input value.ran.lowered.code.laid (⟦<PlainMem as Mem>⟧.view value.ran.memory).cells value.ran.root)
+        → IfOk result (λ made. EndsBy (file_of made) made.end (Runs p value.names options input)) }
+    ensures memory { IfErr result (λ stop. stop ≡ Stop.Memory) }
+{
+    if !image {
+        return Ok(Made {
+            file: None,
+            end: End::Value(value),
+        });
+    }
+    match with_image(alloc, value) {
+        Ok(made) => Ok(made),
+        Err(_) => Err(Stop::Memory),
+    }
+}
 
 /// What a program means on the bytes of an input, within the depth, by the machine in region memory of so many chunks.
 ///
@@ -33,10 +61,7 @@ pub fn run(
 {
     let Compiled { typed, names } = compiled;
     match run_packed(alloc, &typed, input, options.depth, options.chunks) {
-        Ok(ran) => Ok(Made {
-            file: None,
-            end: End::Value(Valued { ran, names }),
-        }),
+        Ok(ran) => finish(alloc, Valued { ran, names }, options.image),
         Err(stop) => match stop.reason() {
             Some(reason) => Ok(no_value(reason)),
             None => Err(stop),

@@ -1,9 +1,12 @@
 use Rattle.gib_app.proofs.Endings.{Laws}
-use Rattle.gib_app.proofs.Headlines.{run_done, run_deep, run_full, run_ends_done, run_ends_deep, run_fits, one_result, no_result}
+use Rattle.gib_app.proofs.Headlines.{run_done, run_image, run_deep, run_full, run_ends_done, run_ends_deep, run_fits, one_result, no_result}
 use Rattle.gib_app.proofs.headline.run_prints_what_is_meant.Goals as goal
 
 pub returns-clause-done : goal.returns-clause-done
 returns-clause-done c = run_done
+
+pub returns-clause-image : goal.returns-clause-image
+returns-clause-image c = run_image
 
 pub returns-clause-deep : goal.returns-clause-deep
 returns-clause-deep c = run_deep

@@ -16,6 +16,8 @@ returns-clause-one c = λ job bytes f g h k.
       files = c.one_file.ensures.bytes;
       texts = c.texts_differ.ensures;
       no_text = c.refusals_hold.ensures.no_text;
+      images = c.one_fault.ensures;
+      no_image = c.a_value_is_not_refused.ensures;
       one_place = c.refusals_hold.ensures.one_place;
     }) in
     one_refusal p names laws bytes job f g h k
@@ -31,6 +33,8 @@ returns-clause-none c = λ job bytes f h a.
       files = c.one_file.ensures.bytes;
       texts = c.texts_differ.ensures;
       no_text = c.refusals_hold.ensures.no_text;
+      images = c.one_fault.ensures;
+      no_image = c.a_value_is_not_refused.ensures;
       one_place = c.refusals_hold.ensures.one_place;
     }) in
     not_accepted p names laws bytes job f h a

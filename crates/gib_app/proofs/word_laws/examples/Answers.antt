@@ -38,6 +38,10 @@ pub returns-clause-few_chunks : goal.returns-clause-few_chunks
 unfolding clap_on_literals
 returns-clause-few_chunks c = refl
 
+pub returns-clause-image : goal.returns-clause-image
+unfolding clap_on_literals
+returns-clause-image c = refl
+
 pub returns-clause-code : goal.returns-clause-code
 unfolding clap_on_literals
 returns-clause-code c = refl

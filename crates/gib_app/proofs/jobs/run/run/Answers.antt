@@ -3,21 +3,23 @@ use Rattle.gib_types.specs.Table.{Table}
 use Rattle.gib_value.specs.Text.{AreHeld}
 use Rattle.gib_syntax.specs.Parts.{program_of}
 use Rattle.gib_app.specs.Jobs.{Runs}
-use Rattle.gib_app.specs.Running.{text_line}
 use Rattle.gib_app.proofs.Doing.{ends_without, lacks_runs, stop_lacks, stop_refuses}
+use Rattle.gib_app.proofs.Imaged.{memory_stops}
 use Rattle.gib_app.proofs.jobs.run.run.Goals as goal
 
+pub finish-requires-clause-names : goal.finish-requires-clause-names
+finish-requires-clause-names c =
+    let H : Table → Type 0 = λ t. AreHeld t c.args.compiled.names in
+    subst H (sym c.in-Ok.ensures.stands.table) c.requires.ready.held
+
+pub finish-requires-clause-stands : goal.finish-requires-clause-stands
+finish-requires-clause-stands c = (program_of c.args.compiled.typed, c.args.options.depth, c.args.input.now, c.in-Ok.ensures.stands)
+
 pub returns-in-Ok-clause-made : goal.returns-in-Ok-clause-made
-returns-in-Ok-clause-made c =
-    let p = program_of c.args.compiled.typed in
-    let names = c.args.compiled.names in
-    let s = c.in-Ok.ensures.stands in
-    let H : Table → Type 0 = λ t. AreHeld t names in (
-      refl,
-      text_line p names s.result,
-      record { program = p; depth = c.args.options.depth; input = c.args.input.now; stands = s; held = subst H (sym s.table) c.requires.ready.held; is_text = refl },
-      (refl, record { value = s.value; result = s.result; is_input = s.is_input; means = s.means; is_text = refl }),
-    )
+returns-in-Ok-clause-made c = c.finish.ensures.made (program_of c.args.compiled.typed) c.args.options c.args.input.now c.in-Ok.ensures.laid refl c.in-Ok.ensures.stands
+
+pub returns-in-Ok-clause-stop : goal.returns-in-Ok-clause-stop
+returns-in-Ok-clause-stop c = memory_stops c.finish.result (program_of c.args.compiled.typed) c.args.input.now c.finish.ensures.memory
 
 pub returns-in-Some-clause-made : goal.returns-in-Some-clause-made
 returns-in-Some-clause-made c =

@@ -1,0 +1,54 @@
+//! A sink that keeps what it takes.
+
+ghost use Rattle.std.specs.Prelude.{◌≡◌, []};
+
+use gib_edge::outside::{Failed, Sink};
+use std::alloc::Global;
+
+/// A sink that keeps what it takes. Want of memory alone makes it fail.
+#[derive(Drop)]
+pub struct Buffer {
+    bytes: Vec<u8>,
+    puts: u64,
+    longest: usize,
+    faults: u64,
+}
+
+impl Buffer {
+    /// Nothing is taken yet.
+    pub fn new(alloc: Global) -> Buffer
+        ensures { result.bytes.items ≡ [] }
+    {
+        Buffer {
+            bytes: Vec::new(alloc),
+            puts: 0,
+            longest: 0,
+            faults: 0,
+        }
+    }
+
+    /// All that was taken.
+    pub fn into_bytes(self) -> Vec<u8>
+        ensures { result.items ≡ self.bytes.items }
+    {
+        self.bytes
+    }
+}
+
+impl Sink for Buffer {
+    ghost use Rattle.gib_app.specs.Imaging.{buffered};
+
+    ghost view = { buffered };
+
+    fn put(&mut self, bytes: &[u8]) -> Result<(), Failed> {
+        self.puts = self.puts.saturating_add(1);
+        self.longest = self.longest.max(bytes.len());
+        match self.bytes.extend_from_slice(bytes) {
+            Ok(()) => Ok(()),
+            Err(_) => {
+                self.faults = self.faults.saturating_add(1);
+                Err(Failed)
+            }
+        }
+    }
+}
