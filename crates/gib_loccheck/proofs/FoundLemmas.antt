@@ -1,5 +1,5 @@
 -- What is found by numbers, as more comes and the newest leaves.
-use Rattle.std.proofs.Common.{◌≡◌, ℕ, zero, suc, ◌+◌, ◌-◌, ◌<◌, ◌++◌, Bool, true, false, ◌==◌, ◌||◌, if◌then◌else◌, List, [], ◌∷◌, map, reverse, take, get_or, length, Option, Some, None, refl, sym, ap, subst, ◌∙◌, arith}
+use Rattle.std.proofs.Common.{◌≡◌, ℕ, zero, suc, ◌+◌, ◌-◌, ◌<◌, ◌++◌, Bool, true, false, ◌==◌, ◌||◌, if◌then◌else◌, List, [], ◌∷◌, map, reverse, take, get_or, length, Option, Some, refl, sym, ap, subst, ◌∙◌, arith}
 use Rattle.std.proofs.lemmas.Bool.Decides.{nat_tests}
 use Rattle.std.proofs.lemmas.List.{map-append, reverse-append}
 use Rattle.gib_base.specs.Entries.{entry_at}
@@ -8,7 +8,7 @@ use Rattle.gib_core.specs.declared.atom.Variable.{Variable}
 use Rattle.gib_core.specs.declared.scope.Bound.{Bound}
 use Rattle.gib_core.specs.declared.scope.Known.{Known}
 use Rattle.gib_core.specs.Met.{known}
-use Rattle.gib_core.specs.Rules.{is_among, is_bound, type_bound}
+use Rattle.gib_core.specs.Rules.{is_bound, type_bound}
 use Rattle.gib_loccheck.specs.declared.scope.InScope.{InScope}
 use Rattle.gib_loccheck.specs.Found.{AreTypes, AreMarked, AreKnown, known_of, is_found}
 

@@ -1,5 +1,5 @@
 -- What is found by the numbers of variables.
-use Rattle.std.specs.Prelude.{◌≡◌, ℕ, Bool, true, false, List, [], ◌∷◌, map, Option, Some, None}
+use Rattle.std.specs.Prelude.{◌≡◌, Bool, true, false, List, [], ◌∷◌, map, Option, Some, None}
 use Rattle.gib_base.specs.Entries.{entry_at}
 use Rattle.gib_types.specs.declared.table.Ty.{Ty}
 use Rattle.gib_core.specs.declared.atom.Variable.{Variable}

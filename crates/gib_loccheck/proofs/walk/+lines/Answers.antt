@@ -1,4 +1,4 @@
-use Rattle.std.proofs.Common.{refl, false, rules, ◌∙◌}
+use Rattle.std.proofs.Common.{refl, false, rules}
 use Rattle.gib_core.specs.Tree.{One, Both}
 use Rattle.gib_core.specs.Arena.{term_of, side_from}
 use Rattle.gib_core.specs.Parts.{core_of}
