@@ -1,6 +1,6 @@
 //! Images that runs write, byte by byte. The bytes are those of a second implementation.
 
-use crate::harness::{Ended, call_failing, file, packed};
+use crate::harness::{Ended, call, call_failing, file, packed};
 use gib_app::Status;
 use std::alloc::{AllocError, Global};
 use std::sync::Wait;
@@ -42,24 +42,22 @@ fn image(alloc: Global, row: &Row<'_>) -> Result<Vec<u8>, AllocError> {
     Ok(bytes)
 }
 
-/// Runs a program on an input, with an image under a name; the shelf fails at the calls of these numbers, and `out` as the
-/// pairs say.
-fn run_imaged<R: Threads + Wait + Sync>(
-    rt: &R,
+/// The words of a run whose image is written.
+const WORDS: [&str; 8] = [
+    "gib", "run", "a.gib", "a.gbp", "--image", "m.gbi", "--chunks", "16",
+];
+
+/// The files of a program and of its packed input.
+fn files(
     alloc: Global,
     source: &str,
     payload: &[u8],
-    words: &[&str],
-    shelf_fails: Vec<u64>,
-    out_fails: Vec<(u64, u64)>,
-) -> Result<Ended, AllocError> {
+) -> Result<Vec<(String, Vec<u8>)>, AllocError> {
     let files = vec![in alloc;
         file(alloc, "a.gib", source.as_bytes())?,
         file(alloc, "a.gbp", &packed(alloc, payload)?)?,
     ]?;
-    let mut texts = Vec::from_slice(alloc, &["gib", "run", "a.gib", "a.gbp", "--image"])?;
-    texts.extend_from_slice(words)?;
-    call_failing(rt, alloc, &texts, files, shelf_fails, out_fails)
+    Ok(files)
 }
 
 const ROWS: [Row<'static>; 9] = [
@@ -155,16 +153,8 @@ const ROWS: [Row<'static>; 9] = [
 fn a_run_writes_its_image(rt: HostRuntime) -> Result<(), Fail> {
     let alloc = rt.alloc();
     for row in &ROWS {
-        let words = ["m.gbi", "--chunks", "16"];
-        let ended = run_imaged(
-            &rt,
-            alloc,
-            row.source,
-            row.payload,
-            &words,
-            Vec::new(alloc),
-            Vec::new(alloc),
-        )?;
+        let files = files(alloc, row.source, row.payload)?;
+        let ended = call(&rt, alloc, &WORDS, files, Vec::new(alloc))?;
         let want = image(alloc, row)?;
         assert_eq!(rt; ended.status, Status::Done, "{}", row.source);
         assert_eq!(rt; ended.out.bytes(), row.text.as_bytes(), "{}", row.source);
@@ -187,17 +177,9 @@ fn each_call_of_a_run_with_an_image_may_fail(rt: HostRuntime) -> Result<(), Fail
         (2, Status::WriteFault, "gib: cannot write m.gbi\n", false),
         (3, Status::Done, "", true),
     ] {
-        let words = ["m.gbi", "--chunks", "16"];
         let fails = vec![in alloc; number]?;
-        let ended = run_imaged(
-            &rt,
-            alloc,
-            ADD_ONE,
-            TWO_LEAVES,
-            &words,
-            fails,
-            Vec::new(alloc),
-        )?;
+        let files = files(alloc, ADD_ONE, TWO_LEAVES)?;
+        let ended = call_failing(&rt, alloc, &WORDS, files, fails, Vec::new(alloc))?;
         assert_eq!(rt; ended.status, status);
         assert_eq!(rt; ended.err.bytes(), err.as_bytes());
         assert_eq!(rt; ended.out.bytes().is_empty(), !written);
@@ -209,15 +191,8 @@ fn each_call_of_a_run_with_an_image_may_fail(rt: HostRuntime) -> Result<(), Fail
 #[test]
 fn an_image_stands_before_the_output(rt: HostRuntime) -> Result<(), Fail> {
     let alloc = rt.alloc();
-    let ended = run_imaged(
-        &rt,
-        alloc,
-        ADD_ONE,
-        TWO_LEAVES,
-        &["m.gbi", "--chunks", "16"],
-        Vec::new(alloc),
-        vec![in alloc; (0, 3)]?,
-    )?;
+    let files = files(alloc, ADD_ONE, TWO_LEAVES)?;
+    let ended = call(&rt, alloc, &WORDS, files, vec![in alloc; (0, 3)]?)?;
     assert_eq!(rt; ended.status, Status::WriteFault);
     assert_eq!(rt; ended.err.bytes(), b"gib: cannot write\n".as_slice());
     assert_eq!(rt; ended.out.bytes(), b"(No".as_slice());
@@ -234,34 +209,30 @@ fn without_a_value_no_image_is_written(rt: HostRuntime) -> Result<(), Fail> {
         (
             ADD_ONE,
             TWO_LEAVES,
-            ["m.gbi", "--depth", "1"].as_slice(),
+            [
+                "gib", "run", "a.gib", "a.gbp", "--image", "m.gbi", "--depth", "1",
+            ]
+            .as_slice(),
             Status::Depth,
             "gib: depth\n",
         ),
         (
             build,
             b"\x40\x1f\0\0\0\0\0\0".as_slice(),
-            ["m.gbi", "--chunks", "16"].as_slice(),
+            WORDS.as_slice(),
             Status::Full,
             "gib: chunks\n",
         ),
         (
             ADD_ONE,
             b"\x02".as_slice(),
-            ["m.gbi", "--chunks", "16"].as_slice(),
+            WORDS.as_slice(),
             Status::Input,
             "gib: input: bad tag at 0\n",
         ),
     ] {
-        let ended = run_imaged(
-            &rt,
-            alloc,
-            source,
-            payload,
-            words,
-            Vec::new(alloc),
-            Vec::new(alloc),
-        )?;
+        let files = files(alloc, source, payload)?;
+        let ended = call(&rt, alloc, words, files, Vec::new(alloc))?;
         assert_eq!(rt; ended.status, status);
         assert_eq!(rt; ended.err.bytes(), err.as_bytes());
         assert!(rt; ended.out.bytes().is_empty());
@@ -275,15 +246,11 @@ fn an_image_may_be_written_over_a_file_that_was_read(rt: HostRuntime) -> Result<
     let alloc = rt.alloc();
     let want = image(alloc, &ROWS[3])?;
     for name in ["a.gib", "a.gbp"] {
-        let ended = run_imaged(
-            &rt,
-            alloc,
-            ADD_ONE,
-            TWO_LEAVES,
-            &[name, "--chunks", "16"],
-            Vec::new(alloc),
-            Vec::new(alloc),
-        )?;
+        let words = [
+            "gib", "run", "a.gib", "a.gbp", "--image", name, "--chunks", "16",
+        ];
+        let files = files(alloc, ADD_ONE, TWO_LEAVES)?;
+        let ended = call(&rt, alloc, &words, files, Vec::new(alloc))?;
         assert_eq!(rt; ended.status, Status::Done);
         assert_eq!(rt; ended.out.bytes(), b"(Node (Leaf 2) (Leaf 3))\n".as_slice());
         assert!(rt; ended.shelf.file(name) == Some(want.as_slice()));
@@ -303,7 +270,7 @@ fn show<R: Threads + Wait + Sync>(
         file(alloc, "m.gbi", bytes)?,
     ]?;
     let words = ["gib", "show", "a.gib", "m.gbi"];
-    call_failing(rt, alloc, &words, files, Vec::new(alloc), Vec::new(alloc))
+    call(rt, alloc, &words, files, Vec::new(alloc))
 }
 
 /// Whether a file is refused with this line, and nothing is put.
