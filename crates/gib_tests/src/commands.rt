@@ -131,7 +131,7 @@ fn texts_and_files_are_refused_with_their_place(rt: HostRuntime) -> Result<(), F
         ("pack", b"".as_slice(), "gib: input: bad text at 0\n"),
         (
             "show",
-            b"GIBI".as_slice(),
+            b"GIBJ".as_slice(),
             "gib: input: not a packed file\n",
         ),
         ("show", b"GIBP\x02".as_slice(), "gib: input: version 2\n"),
