@@ -10,10 +10,11 @@ use Rattle.gib_app.specs.declared.status.Status.{Status}
 use Rattle.gib_app.specs.declared.status.Status.TheVariants as status
 use Rattle.gib_app.specs.declared.made.Reason.TheVariants.{Full}
 use Rattle.gib_app.specs.declared.plan.Options.{Options}
-use Rattle.gib_app.specs.Plan.{Plan, bytes_in}
+use Rattle.gib_app.specs.Plan.{Plan, Files, bytes_in}
 use Rattle.gib_app.specs.Words.{asked}
-use Rattle.gib_app.specs.Running.{IsOutput, RunsOut, text_line}
-use Rattle.gib_app.specs.Causes.{OnProgram, HasNoValue}
+use Rattle.gib_app.specs.Running.{IsOutput, IsRunImage, RunsOut, text_line}
+use Rattle.gib_app.specs.Jobs.{MakesImage}
+use Rattle.gib_app.specs.Causes.{OnProgram, HasNoValue, IsStored}
 use Rattle.gib_app.specs.Ending.{IsEnding, HasText, DueOfFiles, TakesAll}
 use Rattle.gib_app.specs.Stops.{OnBoth}
 use Rattle.gib_app.specs.Headline.{run_plan, IsRun, Given, IsResult, IsResultImage, IsTooDeep, IsTooBig, NoneFailed}
