@@ -462,16 +462,17 @@ fn prints_each_pass<R: Threads + Wait + Sync>(
     inferred: &str,
     pieces: &[(&str, &str)],
 ) -> Result<bool, AllocError> {
+    let inferred = String::from_str(alloc, inferred)?;
     let placed = core_text(alloc, pieces, false)?;
     let reached = core_text(alloc, pieces, true)?;
     for (pass, text) in [
-        ("1", inferred),
-        ("2", placed.as_str()),
-        ("3", reached.as_str()),
-        ("4", reached.as_str()),
+        ("1", &inferred),
+        ("2", &placed),
+        ("3", &reached),
+        ("4", &reached),
     ] {
         let words = ["gib", "core", "a.gib", "--pass", pass];
-        if !prints(rt, alloc, source, &words, text)? {
+        if !prints(rt, alloc, source, &words, text.as_str())? {
             return Ok(false);
         }
     }
