@@ -76,14 +76,25 @@ pack_fits second target rows r e name named =
     subst (λ (job : Job). MakesFile job r.options) (sym is.0) tt
 
 all_fit : AllOf FormFits forms
-all_fit =
-    (run_fits (Some (codes "input")),
-    (without_target Plain (Some (codes "input")),
-    (without_target Check None,
-    (without_target Core None,
-    (without_target Code None,
-    (pack_fits (Some (codes "text")) (AtPlace (codes "target")),
-    (without_target Show (Some (codes "file")), tt)))))))
+all_fit = (
+  run_fits (Some (codes "input")),
+  (
+    without_target Plain (Some (codes "input")),
+    (
+      without_target Check None,
+      (
+        without_target Core None,
+        (
+          without_target Code None,
+          (
+            pack_fits (Some (codes "text")) (AtPlace (codes "target")),
+            (without_target Show (Some (codes "file")), tt),
+          ),
+        ),
+      ),
+    ),
+  ),
+)
 
 -- ---- What words ask for
 
