@@ -27,8 +27,6 @@ mod numbers;
 mod scratch;
 mod spots;
 mod tally;
-#[cfg(test)]
-mod tests;
 mod times;
 mod walk;
 
