@@ -14,7 +14,7 @@ use Rattle.gib_app.specs.declared.plan.Job.TheVariants.{Run, Plain, Check, Core,
 use Rattle.gib_app.specs.declared.plan.Options.{Options}
 use Rattle.gib_app.specs.Formats.{format_of, limits_of, most_of, with_limits, Accepts, Refuses}
 use Rattle.gib_app.specs.Plan.{Document, Files, Contents}
-use Rattle.gib_app.specs.Causes.{AreHeld}
+use Rattle.gib_app.specs.Causes.{AreGiven}
 use Rattle.gib_app.specs.Running.{IsShownValue}
 use Rattle.gib_app.specs.Jobs.{End, Prints, NoValue, Does, Runs, without_image}
 use Rattle.gib_app.specs.Kept.{EndsBy, file_of}
@@ -46,7 +46,7 @@ shown_short p v bytes (inl is) = let short = is.short in omega (arith, short)
 shown_short p v bytes (inr read) = let few = read.image.formed.few in let long = read.image.formed.long in omega (arith, few, long)
 
 -- what is too long is refused
-pub long_refused : (kept : Files) (job : Job) (o : List Document) (p : ProgramTree) (names : List (List ℕ)) (given : Contents) → AreHeld kept (with_limits (option_map_or limits_of (format_of job) []) o) given →
+pub long_refused : (kept : Files) (job : Job) (o : List Document) (p : ProgramTree) (names : List (List ℕ)) (given : Contents) → AreGiven kept (with_limits (option_map_or limits_of (format_of job) []) o) given →
     most_of job < length given.second → Refuses job p names given (input.Long (most_of job)) × (Accepts job p names given → ⊥)
 long_refused kept Run o p names given held many = ((refl, many), λ a. let short = a.1.short in absurd (omega (arith, many, short)))
 long_refused kept Plain o p names given held many = ((refl, many), λ a. let short = a.1.short in absurd (omega (arith, many, short)))

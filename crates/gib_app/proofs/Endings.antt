@@ -27,10 +27,11 @@ use Rattle.gib_app.specs.Writes.{at_reading, with_write, IsStuckIn, IsNamedIn}
 use Rattle.gib_app.specs.Words.{asked}
 use Rattle.gib_app.specs.Running.{IsProgram, IsSource, IsNoProgram, IsOutput, RunsOut}
 use Rattle.gib_app.specs.SourceFaults.{IsSourceFault}
-use Rattle.gib_app.specs.Formats.{Input, inputs_of, Accepts, Refuses}
+use Rattle.gib_app.specs.Formats.{inputs_of, Accepts, Refuses}
+use Rattle.gib_app.specs.Formats.{Input as PlanInput}
 use Rattle.gib_app.specs.Jobs.{End, Prints, Does, without_image}
 use Rattle.gib_app.specs.Jobs.{NoValue as Without}
-use Rattle.gib_app.specs.Causes.{AreFurther, AreHeld, OnProgram, OnSource, OnBoth, IsMade, HasNoValue, EndsWithout, AsksSource, AsksProgram, IsPrinted, IsPrintedInPart, IsUnwritten, FailsToRead, FailsToWrite}
+use Rattle.gib_app.specs.Causes.{AreFurther, AreGiven, OnProgram, OnSource, OnBoth, IsMade, HasNoValue, EndsWithout, AsksSource, AsksProgram, IsPrinted, IsPrintedInPart, IsUnwritten, FailsToRead, FailsToWrite}
 use Rattle.gib_app.specs.Lines.{line}
 use Rattle.gib_app.specs.Ending.{IsEnding, HasText, AreFurtherTold, AreTold, IsMissing, FirstWritten, DueOfSource, DueOfFiles, DueMissing, DueWithout, TakesAll, IsDue, AsksRun, IsDueOrScarce}
 use Rattle.gib_app.specs.Stops.{IsStop}
@@ -139,7 +140,7 @@ together laws source P Q a b =
 pub same_bytes : (o : Held) (a b : List ℕ) → o ≡ Has a → IsAllOf o b → b ≡ a
 same_bytes o a b e h = let P : Held → Type 0 = λ x. IsAllOf x b in subst P e h
 
-same_further : (kept : Files) (is : List Input) (a b : List (List ℕ)) → AreFurtherTold kept is a → AreFurther kept is b → b ≡ a
+same_further : (kept : Files) (is : List PlanInput) (a b : List (List ℕ)) → AreFurtherTold kept is a → AreFurther kept is b → b ≡ a
 same_further kept [] a b e h = h ∙ sym e
 same_further kept (i ∷ is) [] b e h = absurd e
 same_further kept (i ∷ is) (x ∷ a) [] e h = absurd h
@@ -148,7 +149,7 @@ same_further kept (i ∷ is) (x ∷ a) (y ∷ b) e h = ap₂ (λ z c. z ∷ c) (
 same_parts : (a b : Contents) → b.second ≡ a.second → b.further ≡ a.further → b ≡ a
 same_parts a b e f = ap₂ (λ s (t : List (List ℕ)). record { second = s; further = t }) e f
 
-pub same_given : (kept : Files) (is : List Input) (a b : Contents) → AreTold kept is a → AreHeld kept is b → b ≡ a
+pub same_given : (kept : Files) (is : List PlanInput) (a b : Contents) → AreTold kept is a → AreGiven kept is b → b ≡ a
 same_given kept [] a b e h = same_parts a b (h.0 ∙ sym e.0) (h.1 ∙ sym e.1)
 same_given kept (i ∷ is) a b e h = same_parts a b (same_bytes (bytes_in kept i.document) a.second b.second e.0 h.0) (same_further kept is a.further b.further e.1 h.1)
 
@@ -402,7 +403,7 @@ input_due laws tells words before now a b due status.Input h = inl refl
 not_missing : (o : Held) (bytes : List ℕ) → o ≡ Missing → IsAllOf o bytes → ⊥
 not_missing o bytes e h = let P : Held → Type 0 = λ x. IsAllOf x bytes in subst P e h
 
-input_missing : (kept : Files) (is : List Input) (given : Contents) → IsMissing kept is → AreHeld kept is given → ⊥
+input_missing : (kept : Files) (is : List PlanInput) (given : Contents) → IsMissing kept is → AreGiven kept is given → ⊥
 input_missing kept [] given e h = e
 input_missing kept (i ∷ is) given e h = not_missing (bytes_in kept i.document) given.second e h.0
 

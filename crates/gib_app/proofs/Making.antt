@@ -14,7 +14,7 @@ use Rattle.gib_app.specs.Running.{IsSource, IsNoProgram}
 use Rattle.gib_app.specs.SourceFaults.{IsSourceFault}
 use Rattle.gib_app.specs.Formats.{inputs_of, most_of, Accepts, Refuses}
 use Rattle.gib_app.specs.Formats.{Input as PlanInput}
-use Rattle.gib_app.specs.Causes.{Holds, AreHeld, OnSource, OnBoth, IsUnread, AreUnread, FailsToRead}
+use Rattle.gib_app.specs.Causes.{Holds, AreGiven, OnSource, OnBoth, IsUnread, AreUnread, FailsToRead}
 use Rattle.gib_app.specs.Stops.{IsCompiled, IsCompileStop, IsReadStop, IsSourceStop, IsInputStop, FailsTo, IsMakeStop, IsStop}
 use Rattle.gib_app.specs.Writes.{at_reading}
 use Rattle.gib_app.proofs.Told.{document_before, held_before}
@@ -22,7 +22,7 @@ use Rattle.gib_app.proofs.Doing.{long_refused}
 
 -- what holds of the compiled program and the inputs holds of the plan's files
 pub on_both : (kept : Files) (r : Plan) (d : Document) (p : ProgramTree) (names : List (List ℕ)) (given : Contents) (P : ProgramTree → List (List ℕ) → Contents → Type 0) → d ≡ r.source →
-    OnSource kept d (λ source. IsCompiled source p names) → AreHeld kept (inputs_of r) given → P p names given → OnBoth kept r P
+    OnSource kept d (λ source. IsCompiled source p names) → AreGiven kept (inputs_of r) given → P p names given → OnBoth kept r P
 on_both kept r d p names given P e on held h =
     let H : Document → Type 0 = λ x. Holds kept x on.source in
     let N : List (List ℕ) → Type 0 = λ ns. P p ns given in
@@ -67,15 +67,15 @@ module _ (o : Option KeptInput) (r : Plan) (same : option_to_list (option_map in
   one_input : (i : KeptInput) → o ≡ Some i → input_of i ∷ [] ≡ inputs_of r
   one_input i e = let Q : Option KeptInput → Type 0 = λ x. option_to_list (option_map input_of x) ≡ inputs_of r in subst Q e same
 
-  pub held_none : (kept : Files) (bytes : List ℕ) → o ≡ None → bytes ≡ [] → AreHeld kept (inputs_of r) (record { second = bytes; further = [] })
+  pub held_none : (kept : Files) (bytes : List ℕ) → o ≡ None → bytes ≡ [] → AreGiven kept (inputs_of r) (record { second = bytes; further = [] })
   held_none kept bytes e empty =
       let Q : Option KeptInput → Type 0 = λ x. option_to_list (option_map input_of x) ≡ inputs_of r in
-      let P : List PlanInput → Type 0 = λ is. AreHeld kept is (record { second = bytes; further = [] }) in
+      let P : List PlanInput → Type 0 = λ is. AreGiven kept is (record { second = bytes; further = [] }) in
       subst P (subst Q e same) (empty, refl)
 
-  pub held_one : (kept : Files) (i : KeptInput) (bytes : List ℕ) → o ≡ Some i → Holds kept (document_of i.document) bytes → AreHeld kept (inputs_of r) (record { second = bytes; further = [] })
+  pub held_one : (kept : Files) (i : KeptInput) (bytes : List ℕ) → o ≡ Some i → Holds kept (document_of i.document) bytes → AreGiven kept (inputs_of r) (record { second = bytes; further = [] })
   held_one kept i bytes e h =
-      let P : List PlanInput → Type 0 = λ is. AreHeld kept is (record { second = bytes; further = [] }) in
+      let P : List PlanInput → Type 0 = λ is. AreGiven kept is (record { second = bytes; further = [] }) in
       subst P (one_input i e) (h, refl)
 
   pub long_input : (before now : ShelfView) (i : KeptInput) → o ≡ Some i → i.most ≡ most_of r.job → OnSource before.kept (document_of i.document) (λ bytes. i.most < length bytes) →
@@ -101,7 +101,7 @@ module _ (o : Option KeptInput) (r : Plan) (same : option_to_list (option_map in
 
 -- what a job does not make of its inputs
 pub job_stop : (before now : ShelfView) (r : Plan) (p : ProgramTree) (names : List (List ℕ)) (given : Contents) → OnSource before.kept r.source (λ source. IsCompiled source p names) →
-    AreHeld before.kept (inputs_of r) given → (stop : Stop) → FailsTo r.job p names given stop → IsMakeStop before now r stop
+    AreGiven before.kept (inputs_of r) given → (stop : Stop) → FailsTo r.job p names given stop → IsMakeStop before now r stop
 job_stop before now r p names given on held Usage h = h
 job_stop before now r p names given on held (Source fault) h = absurd h
 job_stop before now r p names given on held (Unread name) h = absurd h

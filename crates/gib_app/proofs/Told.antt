@@ -4,7 +4,7 @@ use Rattle.gib_edge.specs.Causes.{IsAllOf}
 use Rattle.gib_edge.specs.Views.{Held}
 use Rattle.gib_app.specs.Plan.{Document, BuiltIn, Named, Files, bytes_in, Contents}
 use Rattle.gib_app.specs.Formats.{Input}
-use Rattle.gib_app.specs.Causes.{Holds, AreFurther, AreHeld}
+use Rattle.gib_app.specs.Causes.{Holds, AreFurther, AreGiven}
 
 -- shelves that keep the same tell the same of each document
 same_bytes : (kept now : Files) (d : Document) → ((name : List ℕ) → now name ≡ kept name) → bytes_in now d ≡ bytes_in kept d
@@ -19,6 +19,6 @@ further_before kept now [] further e h = h
 further_before kept now (i ∷ is) [] e h = h
 further_before kept now (i ∷ is) (bytes ∷ further) e h = (document_before kept now i.document bytes e h.0, further_before kept now is further e h.1)
 
-pub held_before : (kept now : Files) (inputs : List Input) (given : Contents) → ((name : List ℕ) → now name ≡ kept name) → AreHeld now inputs given → AreHeld kept inputs given
+pub held_before : (kept now : Files) (inputs : List Input) (given : Contents) → ((name : List ℕ) → now name ≡ kept name) → AreGiven now inputs given → AreGiven kept inputs given
 held_before kept now [] given e h = h
 held_before kept now (i ∷ is) given e h = (document_before kept now i.document given.second e h.0, further_before kept now is given.further e h.1)

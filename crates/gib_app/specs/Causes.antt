@@ -27,9 +27,9 @@ AreFurther kept (input ∷ rest) [] = ⊥
 AreFurther kept (input ∷ rest) (bytes ∷ further) = Holds kept input.document bytes × AreFurther kept rest further
 
 -- The same of all inputs.
-abbrev pub AreHeld : Files → List Input → Contents → Type 0
-AreHeld kept [] given = (given.second ≡ []) × (given.further ≡ [])
-AreHeld kept (input ∷ rest) given = Holds kept input.document given.second × AreFurther kept rest given.further
+abbrev pub AreGiven : Files → List Input → Contents → Type 0
+AreGiven kept [] given = (given.second ≡ []) × (given.further ≡ [])
+AreGiven kept (input ∷ rest) given = Holds kept input.document given.second × AreFurther kept rest given.further
 
 -- The document has these bytes, of which this holds.
 pub record OnSource (kept : Files) (first : Document) (P : List ℕ → Type 0) : Type 0 where
@@ -42,7 +42,7 @@ pub record OnFiles (kept : Files) (first : Document) (inputs : List Input) (P : 
   pub source : List ℕ
   pub given : Contents
   pub source_held : Holds kept first source
-  pub given_held : AreHeld kept inputs given
+  pub given_held : AreGiven kept inputs given
   pub holds : P source given
 
 -- The source is a program, of which this holds with its names.

@@ -17,7 +17,8 @@ use Rattle.gib_app.specs.Writes.{after, at_reading, AreMade, IsNamedIn, IsTarget
 use Rattle.gib_app.specs.Words.{asked}
 use Rattle.gib_app.specs.Running.{IsSource, IsNoProgram}
 use Rattle.gib_app.specs.SourceFaults.{IsSourceFault}
-use Rattle.gib_app.specs.Formats.{Input, inputs_of, Accepts, Refuses}
+use Rattle.gib_app.specs.Formats.{inputs_of, Accepts, Refuses}
+use Rattle.gib_app.specs.Formats.{Input as PlanInput}
 use Rattle.gib_app.specs.Lines.{line, source_text, input_text}
 use Rattle.gib_app.specs.Jobs.{End, Prints, NoValue, Does, without_image}
 use Rattle.gib_app.specs.Causes.{Counts, OnProgram, HasNoValue, EndsWithout, AsksSource, AsksProgram, IsPrinted, IsPrintedInPart, IsUnread, AreUnread, FailsToRead, FailsToWrite}
@@ -92,13 +93,13 @@ abbrev pub HasText : Plan → ProgramTree → List (List ℕ) → Contents → T
 HasText plan p names given = (file : Option (List ℕ)) × (text : List ℕ) × Does plan.job (without_image plan.options) p names given file (Prints text)
 
 -- The bytes of further inputs, which are told.
-abbrev pub AreFurtherTold : Files → List Input → List (List ℕ) → Type 0
+abbrev pub AreFurtherTold : Files → List PlanInput → List (List ℕ) → Type 0
 AreFurtherTold kept [] further = further ≡ []
 AreFurtherTold kept (input ∷ rest) [] = ⊥
 AreFurtherTold kept (input ∷ rest) (bytes ∷ further) = (bytes_in kept input.document ≡ Has bytes) × AreFurtherTold kept rest further
 
 -- The bytes of all inputs, which are told.
-abbrev pub AreTold : Files → List Input → Contents → Type 0
+abbrev pub AreTold : Files → List PlanInput → Contents → Type 0
 AreTold kept [] given = (given.second ≡ []) × (given.further ≡ [])
 AreTold kept (input ∷ rest) given = (bytes_in kept input.document ≡ Has given.second) × AreFurtherTold kept rest given.further
 
@@ -127,7 +128,7 @@ pub record DueOfFiles (tells : Bool) (before now : ShelfView) (plan : Plan) (P :
   pub holds : OnProgram source (λ p names. P p names given)
 
 -- The first input is not there.
-abbrev pub IsMissing : Files → List Input → Type 0
+abbrev pub IsMissing : Files → List PlanInput → Type 0
 IsMissing kept [] = ⊥
 IsMissing kept (input ∷ rest) = bytes_in kept input.document ≡ Missing
 

@@ -27,7 +27,7 @@ use Rattle.gib_app.specs.Packing.{IsPackedText}
 use Rattle.gib_app.specs.SourceFaults.{IsSourceFault}
 use Rattle.gib_app.specs.InputFaults.{IsFileFault, IsInputFault, IsShowFault, IsTextFault}
 use Rattle.gib_app.specs.Formats.{inputs_of, most_of, Accepts, Refuses}
-use Rattle.gib_app.specs.Causes.{AreHeld, OnSource, OnBoth, IsUnread, AreUnread, FailsToRead, FailsToWrite}
+use Rattle.gib_app.specs.Causes.{AreGiven, OnSource, OnBoth, IsUnread, AreUnread, FailsToRead, FailsToWrite}
 
 -- The source spells this program with these names, and it is typed.
 pub record IsCompiled (source : List ℕ) (p : ProgramTree) (names : List (List ℕ)) : Type 0 where
@@ -76,7 +76,7 @@ IsSourceStop before now d =
 pub record IsLongInput (kept : Files) (plan : Plan) (fault : InputFault) : Type 0 where
   pub is : fault ≡ input.Long (most_of plan.job)
   pub given : Contents
-  pub given_held : AreHeld kept (inputs_of plan) given
+  pub given_held : AreGiven kept (inputs_of plan) given
   pub many : most_of plan.job < length given.second
 
 -- Why the bytes of the inputs are not read.

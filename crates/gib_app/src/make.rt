@@ -3,7 +3,7 @@
 ghost use Rattle.std.specs.Prelude.{◌≡◌, ◌≤◌, [], ℕ, List, length, IfOk, IfErr, OnOk, OnErr};
 ghost use Rattle.gib_syntax.specs.Parts.{program_of};
 ghost use Rattle.gib_app.specs.Formats.{most_of, inputs_of};
-ghost use Rattle.gib_app.specs.Causes.{AreHeld, OnSource};
+ghost use Rattle.gib_app.specs.Causes.{AreGiven, OnSource};
 ghost use Rattle.gib_edge.specs.Causes.{Appends, AppendsPart};
 ghost use Rattle.gib_app.specs.Calls.{read_calls, input_calls, reads_of};
 ghost use Rattle.gib_app.specs.Ending.{ReadsStay};
@@ -58,7 +58,7 @@ fn read_second<'a, S: Shelf>(
     shelf: &mut S,
     plan: Plan<'a>,
 ) -> Result<Vec<u8>, Stop<'a>>
-    ensures bytes { IfOk result (λ bytes. AreHeld (S.view shelf.old).kept (inputs_of (plan_of plan.entry)) (record { second = bytes.items; further = [] })) }
+    ensures bytes { IfOk result (λ bytes. AreGiven (S.view shelf.old).kept (inputs_of (plan_of plan.entry)) (record { second = bytes.items; further = [] })) }
     ensures most { IfOk result (λ bytes. length bytes.items ≤ most_of plan.entry.job) }
     ensures stop { IfErr result (IsInputStop (S.view shelf.old) (S.view shelf.new) (plan_of plan.entry)) }
     ensures same { (name : List ℕ) → (S.view shelf.new).kept name ≡ (S.view shelf.old).kept name }
