@@ -50,9 +50,9 @@ pub long_refused : (kept : Files) (job : Job) (o : List Document) (p : ProgramTr
     most_of job < length given.second → Refuses job p names given (input.Long (most_of job)) × (Accepts job p names given → ⊥)
 long_refused kept Run o p names given held many = ((refl, many), λ a. let short = a.1.short in absurd (omega (arith, many, short)))
 long_refused kept Plain o p names given held many = ((refl, many), λ a. let short = a.1.short in absurd (omega (arith, many, short)))
-long_refused kept Check o p names given held many = absurd (omega (arith, many, ap length held))
-long_refused kept Core o p names given held many = absurd (omega (arith, many, ap length held))
-long_refused kept Code o p names given held many = absurd (omega (arith, many, ap length held))
+long_refused kept Check o p names given held many = absurd (omega (arith, many, ap length held.0))
+long_refused kept Core o p names given held many = absurd (omega (arith, many, ap length held.0))
+long_refused kept Code o p names given held many = absurd (omega (arith, many, ap length held.0))
 long_refused kept Pack o p names given held many = ((refl, inl many), λ a. let short = a.1.short in absurd (omega (arith, many, short)))
 long_refused kept Show o p names given held many = (inl (refl, many), λ a. let short = shown_short p a.0 given.second a.1 in absurd (omega (arith, many, short)))
 
