@@ -6,12 +6,14 @@ ghost use Rattle.gib_gen.specs.Made.{source_text, grown, file_of};
 
 mod input;
 pub mod law;
+mod line;
 mod source;
 #[cfg(test)]
 mod tests;
 
 use gib_base::Memory;
 use input::file;
+pub use line::summary;
 use source::text;
 use std::alloc::Global;
 
