@@ -1,14 +1,14 @@
 -- The numbers of a value that is a tree: how many, and their sum.
-use Rattle.std.proofs.Common.{◌≡◌, ℕ, ◌+◌, ◌%◌, ◌^◌, ◌<◌, List, [], ◌∷◌, ◌++◌, length, refl, sym, ap, subst, ◌∙◌, arith, append-nil, length-append}
+use Rattle.std.proofs.Common.{◌≡◌, ℕ, ◌+◌, ◌%◌, ◌^◌, ◌<◌, List, [], ◌∷◌, ◌++◌, length, refl, sym, ap, ◌∙◌, arith, append-nil, length-append}
 use Rattle.std.specs.Prelude.{ℤ, ◌+ℤ◌, FitsSigned}
 use Rattle.std.specs.Int.{w64, cast_signed, cast_unsigned, int_wrap}
-use Rattle.std.proofs.lemmas.Int.{to_z-of_z, int_wrap_fits, int_wrap-add_left, int_wrap-add_right, wrapping_add-bits}
+use Rattle.std.proofs.lemmas.Int.{to_z-of_z, of_z-to_z, int_wrap_fits, int_wrap-add_left, int_wrap-add_right, wrapping_add-bits}
 use Rattle.std.proofs.Math.Facts.{Fits-lt-pow, Fits-of_z}
 use Rattle.std.proofs.Math.Nat.{mod-lt}
 use Rattle.gib_types.specs.declared.table.Ty.{Ty}
 use Rattle.gib_types.specs.declared.table.Ty.TheVariants as ty
 use Rattle.gib_types.specs.Table.{Table}
-use Rattle.gib_types.specs.Tree.{Datum, Data, whole, con, none, more, HasType, HaveTypes}
+use Rattle.gib_types.specs.Tree.{Datum, whole, none, more, HasType, HaveTypes}
 use Rattle.gib_print.specs.Numbers.{numbers, count_of, sum_of, total_of}
 use Rattle.gib_gen.specs.NumberTree.{NumberTree, Leaf, Node, value_of, leaves, sum, tree_type}
 
@@ -68,6 +68,13 @@ summed (Node l r) f =
     ∙ (λ i. int_wrap w64 (summed l f.0 i +ℤ summed r f.1 i))
     ∙ int_wrap-add_left w64 (sum l) (int_wrap w64 (sum r)) ∙ int_wrap-add_right w64 (sum l) (sum r)
 
+-- A total is as the code keeps it.
+pub total_kept : (zs : List ℤ) → cast_signed w64 (cast_unsigned w64 (total_of zs)) ≡ total_of zs
+total_kept zs = ap (cast_signed w64) (of_z-to_z w64 (sum_of zs % 2 ^ 64) (mod-lt (sum_of zs) (omega arith)))
+
 -- What is counted and summed of the numbers of a tree is of its leaves.
-pub of_tree : (table : Table) (t : NumberTree) → HasType table (value_of t) tree_type → (count_of (numbers (value_of t)) ≡ leaves t % 2 ^ 64) × (total_of (numbers (value_of t)) ≡ int_wrap w64 (sum t))
-of_tree table t h = (ap (λ (n : ℕ). n % 2 ^ 64) (many t), summed t (tree_fits table t tree_type h))
+pub counted : (t : NumberTree) → count_of (numbers (value_of t)) ≡ leaves t % 2 ^ 64
+counted t = ap (λ (n : ℕ). n % 2 ^ 64) (many t)
+
+pub totalled : (table : Table) (t : NumberTree) → HasType table (value_of t) tree_type → total_of (numbers (value_of t)) ≡ int_wrap w64 (sum t)
+totalled table t h = summed t (tree_fits table t tree_type h)

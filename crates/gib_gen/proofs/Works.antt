@@ -1,10 +1,10 @@
 -- What the made program means on a tree.
-use Rattle.std.proofs.Common.{◌≡◌, ℕ, zero, suc, ◌+◌, ◌*◌, ◌^◌, ◌<◌, ◌≤◌, max, List, [], ◌∷◌, refl, ap, ◌∙◌, arith, ⊎_elim}
+use Rattle.std.proofs.Common.{◌≡◌, ℕ, zero, suc, ◌^◌, ◌<◌, ◌≤◌, [], ◌∷◌, refl, ap, arith, ⊎_elim}
 use Rattle.std.proofs.Math.Nat.{pow-suc}
 use Rattle.std.proofs.str.Laws.{order}
 use Rattle.gib_types.specs.Tree.{con, none, more}
 use Rattle.gib_syntax.specs.Spelling.{Places}
-use Rattle.gib_syntax.specs.Meaning.{Outcome, Gives, Stops, Deep, with_value, calls, run}
+use Rattle.gib_syntax.specs.Meaning.{Outcome, Gives, Stops, Deep, with_value, calls}
 use Rattle.gib_gen.specs.Made.{grown}
 use Rattle.gib_gen.specs.NumberTree.{NumberTree, Leaf, Node, value_of, leaves, height, worked}
 use Rattle.gib_gen.proofs.Program.{program}

@@ -33,7 +33,6 @@ fn push_leaf(out: &mut Vec<u8>, x: u32) -> Result<(), Memory>
 /// recurses once a level.
 #[cycle(trees)]
 fn push_tree(out: &mut Vec<u8>, levels: u8, x: u32) -> Result<u32, Memory>
-    requires { levels ≤ 18 }
     ensures last { IfOk result (λ last. last ≡ (grown levels x).last) }
     ensures bytes { OnOk result (out.new.items ≡ out.old.items ++ packed_tree (grown levels x).tree) }
 {
@@ -50,7 +49,6 @@ fn push_tree(out: &mut Vec<u8>, levels: u8, x: u32) -> Result<u32, Memory>
 
 /// The packed file of the full tree of so many levels that grows from a number.
 pub(crate) fn file(alloc: Global, number: u32, levels: u8) -> Result<Vec<u8>, Memory>
-    requires { levels ≤ 18 }
     ensures { IfOk result (λ file. file.items ≡ file_of (grown levels number).tree) }
 {
     let mut payload = Vec::new(alloc);
