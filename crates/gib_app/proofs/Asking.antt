@@ -174,8 +174,7 @@ show_asks words passes = plan_there (built_form show_form) words ((refl, refl), 
 gen_asks : Asks built_gen
 unfolding clap_on_literals
 gen_asks words passes =
-    let known = ((refl, refl), ((refl, refl), ((refl, refl), ((refl, refl), ((refl, refl), ((refl, refl), tt)))))) in
-    made_there built_gen words known refl passes (_, refl, refl, refl) (_, refl, refl, refl)
+    made_there built_gen words ((refl, refl), ((refl, refl), ((refl, refl), ((refl, refl), ((refl, refl), ((refl, refl), tt)))))) refl passes (_, refl, refl, refl) (_, refl, refl, refl)
 
 all_ask : AllOf Asks (built command_set).subs
 unfolding clap_on_literals

@@ -1,5 +1,5 @@
 -- What writes leave, one after another.
-use Rattle.std.proofs.Common.{◌≡◌, ◌≢◌, ◌∙◌, ◌≤◌, refl, sym, subst, ap, ℕ, zero, suc, List, [], ◌∷◌, ◌++◌, length, take, Bool, true, false, cond, Some, bytes_eq, true≢false, inl, inr, absurd}
+use Rattle.std.proofs.Common.{◌≡◌, ◌≢◌, ◌∙◌, ◌≤◌, refl, sym, subst, ap, ℕ, zero, suc, List, [], ◌∷◌, ◌++◌, length, take, Bool, true, false, cond, Some, bytes_eq, true≢false, inl, inr, arith}
 use Rattle.std.proofs.lemmas.Slice.Eq.{bytes_eq-Decides}
 use Rattle.gib_edge.specs.Causes.{Rose, told, IsUntold, Appends, AppendsPart}
 use Rattle.gib_edge.specs.Views.{Held, ShelfView, WriteOf}
@@ -106,7 +106,10 @@ module _ (tells : Bool) (before now : ShelfView) (name bytes : List ℕ) (reads 
 
 -- ---- One, and then others
 
-take_none : {X : Type 0} (n : ℕ) → take {X} n [] ≡ []
+abbrev nothing : List Write
+nothing = []
+
+take_none : (n : ℕ) → take n nothing ≡ nothing
 take_none zero = refl
 take_none (suc n) = refl
 

@@ -103,9 +103,9 @@ all_fit = (
 made_fits : (source input : Option Text) (o : Options) (r : Plan) → with_value (option_map (made_plan o) source) input ≡ Some r → Fits r
 made_fits None input o r e = none_is_some r e
 made_fits (Some source) None o r e = none_is_some r e
-made_fits (Some source) (Some input) o r e name named =
+made_fits (Some source) (Some input) o r e =
     let same : made_plan o source input ≡ r = some_is (made_plan o source input) r e in
-    none_is_some name (ap (λ (q : Plan). q.target) same ∙ named)
+    λ name named. none_is_some name (ap (λ (q : Plan). q.target) same ∙ named)
 
 read_fits : (name : Text) (rows : List Row) (r : Plan) → read_requested name rows ≡ Some r → Fits r
 read_fits name rows r e = go (find (λ form. bytes_eq form.name name) forms) refl e
