@@ -120,15 +120,15 @@ load_stops l laid s depth m0 m1 same table refused spent v p =
 
 -- A core and layouts that are a program's.
 pub record IsOfProgram (p : ProgramTree) (l : LoweredParts) : Type 0 where
-  pub core : core_of l.core ≡ core_after 3 p
+  pub core : core_of l.core ≡ core_after 4 p
   pub means : (depth : ℕ) (v : Datum) → core_run (core_of l.core) depth v ≡ run p depth v
   pub laid : l.code.laid ≡ record { table = table_of_program p; with_offsets = [] }
 
 -- The layouts of a program's code.
-pub laid_after : (p : ProgramTree) (core : CoreTree) (laid : LaidOut) → core ≡ core_after 3 p → laid ≡ laid_of core → laid ≡ record { table = table_of_program p; with_offsets = [] }
+pub laid_after : (p : ProgramTree) (core : CoreTree) (laid : LaidOut) → core ≡ core_after 4 p → laid ≡ laid_of core → laid ≡ record { table = table_of_program p; with_offsets = [] }
 laid_after p core laid e h = h ∙ ap laid_of e
 
-pub parameter_of : (p : ProgramTree) (l : LoweredParts) → core_of l.core ≡ core_after 3 p → (core_of l.core).main.parameter ≡ input_type p
+pub parameter_of : (p : ProgramTree) (l : LoweredParts) → core_of l.core ≡ core_after 4 p → (core_of l.core).main.parameter ≡ input_type p
 parameter_of p l e = ap (λ (c : CoreTree). c.main.parameter) e
 
 pub root_meant : (p : ProgramTree) (depth : ℕ) (input : List ℕ) (v : Datum) (l l' : LoweredParts) (s : Store) (place : Root) → IsOfProgram p l → IsInput p v input → l' ≡ l

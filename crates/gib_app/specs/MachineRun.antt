@@ -37,9 +37,9 @@ pub record StandsMeant (p : ProgramTree) (depth : ℕ) (input : List ℕ) (laid 
   pub table : laid.table ≡ table_of_program p
   pub stands : Stands laid s place (output_type p) result
 
--- What a run of a program on a value costs at most: that of its core, with each `par` in place.
+-- What a run of a program on a value costs at most: that of the core that runs, with each `par` in place, marked or not.
 abbrev pub program_cost : ProgramTree → (depth : ℕ) → Datum → Cost
-program_cost p depth v = run_cost (core_after 3 p) depth 0 v
+program_cost p depth v = run_cost (core_after 4 p) depth 0 v
 
 -- Why a program has no value on an input: its meaning runs out of depth, or so many chunks may not be enough.
 abbrev pub LacksValue : ProgramTree → (depth chunks : ℕ) → (input : List ℕ) → Reason → Type 0

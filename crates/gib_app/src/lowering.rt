@@ -16,6 +16,7 @@ use gib_access::reach;
 use gib_base::Memory;
 use gib_check::Typed;
 use gib_core::{AccessMode, Checked, Core, Lowered};
+use gib_forks::forks;
 use gib_infer::infer;
 use gib_lower::lower;
 use gib_place::place;
@@ -56,19 +57,35 @@ pub fn checked_core(alloc: Global, typed: &Typed) -> Result<Checked, Memory>
     }
 }
 
+/// The core of a program with each `par` marked whose sides may run at the same time. It meets the build rules.
+///
+/// # Errors
+///
+/// Want of memory.
+pub fn marked_core(alloc: Global, typed: &Typed) -> Result<Checked, Memory>
+    ensures core { IfOk result (λ core. core_of core ≡ core_after 4 (program_of typed.now)) }
+    ensures numbered { IfOk result (λ core. AreNumbered (core_of core)) }
+    ensures means { IfOk result (λ core. (depth : ℕ) (v : Datum) → core_run (core_of core) depth v ≡ run (program_of typed.now) depth v) }
+{
+    match checked_core(alloc, typed) {
+        Ok(checked) => Ok(forks(checked)),
+        Err(memory) => Err(memory),
+    }
+}
+
 /// The core of a program after all passes, and its code. It means what the program means, and no head stores offsets.
 ///
 /// # Errors
 ///
 /// Want of memory.
 pub fn lowered(alloc: Global, typed: &Typed) -> Result<Lowered, Memory>
-    ensures core { IfOk result (λ made. core_of made.core ≡ core_after 3 (program_of typed.now)) }
+    ensures core { IfOk result (λ made. core_of made.core ≡ core_after 4 (program_of typed.now)) }
     ensures means { IfOk result (λ made. (depth : ℕ) (v : Datum) → core_run (core_of made.core) depth v ≡ run (program_of typed.now) depth v) }
-    ensures code { IfOk result (λ made. made.code ≡ lower_program (core_after 3 (program_of typed.now))) }
+    ensures code { IfOk result (λ made. made.code ≡ lower_program (core_after 4 (program_of typed.now))) }
     ensures laid { IfOk result (λ made. made.code.laid ≡ record { table = table_of_program (program_of typed.now); with_offsets = [] }) }
 {
-    let checked = checked_core(alloc, typed)?;
-    match lower(alloc, checked) {
+    let marked = marked_core(alloc, typed)?;
+    match lower(alloc, marked) {
         Ok(made) => {
             let _code = made.code();
             Ok(made)

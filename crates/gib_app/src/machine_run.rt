@@ -150,10 +150,10 @@ pub fn run_packed(
     requires short { length file.now ≤ FILE_BYTES }
     ensures stands { IfOk result (λ ran. StandsMeant (program_of typed.now) depth file.now ran.lowered.code.laid (⟦<PlainMem as Mem>⟧.view ran.memory).cells ran.root) }
     // It is the code of the program's core that ran, in a memory of so many chunks.
-    ensures code { IfOk result (λ ran. ran.lowered.code ≡ lower_program (core_after 3 (program_of typed.now))) }
+    ensures code { IfOk result (λ ran. ran.lowered.code ≡ lower_program (core_after 4 (program_of typed.now))) }
     ensures limit { IfOk result (λ ran. (⟦<PlainMem as Mem>⟧.view ran.memory).limit ≡ chunks) }
     // The heads lie as those of the program's core.
-    ensures laid { IfOk result (λ ran. ran.lowered.code.laid ≡ laid_of (core_after 3 (program_of typed.now))) }
+    ensures laid { IfOk result (λ ran. ran.lowered.code.laid ≡ laid_of (core_after 4 (program_of typed.now))) }
     ensures stop { IfErr result (IsMachineStop (program_of typed.now) depth chunks file.now) }
     // The other way round: of which value the file is, and what the program means on it, tells how the run ends.
     ensures only { (v : Datum) → IsInput (program_of typed.now) v file.now

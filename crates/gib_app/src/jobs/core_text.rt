@@ -9,7 +9,7 @@ ghost use Rattle.gib_app.specs.Jobs.{OnlyPrints};
 ghost use Rattle.gib_app.specs.Kept.{EndsBy, file_of};
 
 use crate::compile::Compiled;
-use crate::lowering::{checked_core, placed_core};
+use crate::lowering::{checked_core, marked_core, placed_core};
 use crate::made::Made;
 use crate::printing::only_prints;
 use crate::stop::Stop;
@@ -19,7 +19,7 @@ use gib_core::{Core, print_core};
 use gib_infer::infer;
 use std::alloc::Global;
 
-/// The core of a program after a pass. Sides are not marked yet.
+/// The core of a program after a pass.
 fn core_after(alloc: Global, typed: &Typed, pass: u32) -> Result<Core, Memory>
     ensures { IfOk result (λ core. core_of core ≡ core_after pass (program_of typed.now)) }
 {
@@ -29,7 +29,8 @@ fn core_after(alloc: Global, typed: &Typed, pass: u32) -> Result<Core, Memory>
     if pass < 3 {
         return placed_core(alloc, typed);
     }
-    match checked_core(alloc, typed) {
+    let made = if pass < 4 { checked_core(alloc, typed) } else { marked_core(alloc, typed) };
+    match made {
         Ok(checked) => Ok(checked.into_core()),
         Err(memory) => Err(memory),
     }

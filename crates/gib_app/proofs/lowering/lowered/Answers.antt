@@ -4,4 +4,4 @@ use Rattle.gib_core.specs.Parts.{Parts, core_of}
 use Rattle.gib_app.proofs.lowering.lowered.Goals as goal
 
 pub returns-in-Ok-clause-means : goal.returns-in-Ok-clause-means
-returns-in-Ok-clause-means c = λ depth v. ap (λ (x : Parts). core_run (core_of x) depth v) c.in-Ok.ensures.core ∙ c.in_ok-checked.ensures.means depth v
+returns-in-Ok-clause-means c = λ depth v. ap (λ (x : Parts). core_run (core_of x) depth v) c.in-Ok.ensures.core ∙ c.in_ok-marked.ensures.means depth v
