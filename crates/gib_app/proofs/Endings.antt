@@ -59,11 +59,11 @@ IsCause tells words before now out_before out_now status.Full = AsksProgram word
 IsCause tells words before now out_before out_now status.Memory = Unit {0}
 IsCause tells words before now out_before out_now status.ReadFault = MatchOption (asked words) ⊥ (λ plan. (name : List ℕ) × FailsToRead before now plan name)
 IsCause tells words before now out_before out_now status.WriteFault = IsWriteCause tells words before now out_before out_now
-IsCause tells words before now out_before out_now status.Input = AsksProgram words before.kept (λ plan p names second. Accepts plan.job p names second → ⊥)
+IsCause tells words before now out_before out_now status.Input = AsksProgram words before.kept (λ plan p names second. Accepts plan.job plan.options.skips p names second → ⊥)
 
 -- what holds of a second file that is refused
 abbrev Refused : Plan → InputFault → ProgramTree → List (List ℕ) → List ℕ → Type 0
-Refused r fault p names second = Refuses r.job p names second fault × (Accepts r.job p names second → ⊥)
+Refused r fault p names second = Refuses r.job r.options.skips p names second fault × (Accepts r.job r.options.skips p names second → ⊥)
 
 pub cause_of : (tells : Bool) (words : List (List ℕ)) (before now : ShelfView) (out_before out_now : SinkView) (status : Status) (said : List ℕ) → IsEnding tells words before now out_before out_now status said → IsCause tells words before now out_before out_now status
 cause_of tells words before now out_before out_now status.Done said h = h.0
@@ -84,8 +84,8 @@ cause_of tells words before now out_before out_now status.WriteFault said (inl h
     )
 cause_of tells words before now out_before out_now status.WriteFault said (inr h) = inr (h.0, h.1, h.2)
 cause_of tells words before now out_before out_now status.Input said h =
-    map_asked (asked words) (λ r. OnBoth before.kept r (Refused r h.0)) (λ r. OnBoth before.kept r (λ p names second. Accepts r.job p names second → ⊥))
-    (λ r k. map_both before.kept r (Refused r h.0) (λ p names second. Accepts r.job p names second → ⊥) (λ p names second both. both.1) k) h.1
+    map_asked (asked words) (λ r. OnBoth before.kept r (Refused r h.0)) (λ r. OnBoth before.kept r (λ p names second. Accepts r.job r.options.skips p names second → ⊥))
+    (λ r k. map_both before.kept r (Refused r h.0) (λ p names second. Accepts r.job r.options.skips p names second → ⊥) (λ p names second both. both.1) k) h.1
 
 -- From the stop of a call to its status and its line
 pub ending_of : (tells : Bool) (words : List (List ℕ)) (before now : ShelfView) (out_before out_now : SinkView) (stop : Stop) → IsCallStop tells words before now out_before out_now stop →
@@ -227,7 +227,7 @@ abbrev pub Exhausted : Plan → ProgramTree → List (List ℕ) → List ℕ →
 Exhausted r = HasNoValue Deep r
 
 abbrev Unfit : Plan → ProgramTree → List (List ℕ) → List ℕ → Type 0
-Unfit r p names second = Accepts r.job p names second → ⊥
+Unfit r p names second = Accepts r.job r.options.skips p names second → ⊥
 
 abbrev Fails : ShelfView → ShelfView → Plan → Type 0
 Fails before now r = (name : List ℕ) × FailsToRead before now r name

@@ -92,22 +92,22 @@ run_done tells words before now out out_now source input options front said r h 
       subst T r.front_is on.holds.2,
     )
 
-image_there : (tells : Bool) (now : Files) (name : List ℕ) (asked_for : Bool) (p : ProgramTree) (depth : ℕ) (input : List ℕ) (file : Option (List ℕ)) → IsStored tells now (Some name) file
-    → MakesImage asked_for p depth input file → (bytes : List ℕ) × (now name ≡ told tells bytes) × IsRunImage p depth input bytes
-image_there tells now name asked_for p depth input None stored made = absurd stored
-image_there tells now name false p depth input (Some bytes) stored made = cc
-image_there tells now name true p depth input (Some bytes) stored made = (bytes, stored, made)
+image_there : (tells : Bool) (now : Files) (name : List ℕ) (asked_for : Bool) (p : ProgramTree) (skips : Bool) (depth : ℕ) (input : List ℕ) (file : Option (List ℕ)) → IsStored tells now (Some name) file
+    → MakesImage asked_for p skips depth input file → (bytes : List ℕ) × (now name ≡ told tells bytes) × IsRunImage p skips depth input bytes
+image_there tells now name asked_for p skips depth input None stored made = absurd stored
+image_there tells now name false p skips depth input (Some bytes) stored made = cc
+image_there tells now name true p skips depth input (Some bytes) stored made = (bytes, stored, made)
 
 pub run_image : (tells : Bool) (words : List (List ℕ)) (before now : ShelfView) (out out_now : SinkView) (source input : List ℕ) (options : Options) (front said name : List ℕ) →
     (r : IsRun words before out source input options front) → r.image ≡ Some name → IsEnding tells words before now out out_now status.Done said →
-    (bytes : List ℕ) × (now.kept name ≡ told tells bytes) × IsResultImage source input options.depth bytes
+    (bytes : List ℕ) × (now.kept name ≡ told tells bytes) × IsResultImage source input options.skips options.depth bytes
 run_image tells words before now out out_now source input options front said name r named h =
     let plan = run_plan r.program r.packed r.image options in
     let P : Plan → Type 0 = λ q. OnBoth before.kept q (Whole tells now out out_now q) in
     let on = of_files words before out source input options front r (Whole tells now out out_now plan) (asked_is (asked words) plan P r.asks h.0) in
     let made = on.holds.1 in
     let S : Option (List ℕ) → Type 0 = λ t. IsStored tells now.kept t made.file in
-    let there = image_there tells now.kept name options.image on.program options.depth input made.file (subst S named made.stored) made.does.0 in
+    let there = image_there tells now.kept name options.image on.program options.skips options.depth input made.file (subst S named made.stored) made.does.0 in
     let is = there.2 in (
       there.0,
       there.1,
@@ -136,7 +136,7 @@ run_deep tells words before now out out_now source input options front said r h 
     deep_of source input options.depth (record { lexed = on.lexed; program = on.program; is_program = on.is_program; holds = on.holds.1.1 })
 
 pub run_full : (tells : Bool) (words : List (List ℕ)) (before now : ShelfView) (out out_now : SinkView) (source input : List ℕ) (options : Options) (front said : List ℕ) →
-    IsRun words before out source input options front → IsEnding tells words before now out out_now status.Full said → IsTooBig source input options.depth options.chunks
+    IsRun words before out source input options front → IsEnding tells words before now out out_now status.Full said → IsTooBig source input options.skips options.depth options.chunks
 run_full tells words before now out out_now source input options front said r h =
     let plan = run_plan r.program r.packed r.image options in
     let P : Plan → Type 0 = λ q. OnBoth before.kept q (HasNoValue Full q) in
@@ -213,7 +213,7 @@ fits_by laws tells words before now out out_now source input options front said 
     (run_ends_deep laws tells words before now out out_now source input options front said end' r quiet (record { given = g; means = deep }) ends)
 
 pub run_fits : Laws → (tells : Bool) (words : List (List ℕ)) (before now : ShelfView) (out out_now : SinkView) (source input : List ℕ) (options : Options) (front said : List ℕ) (end' : Status) →
-    (r : IsRun words before out source input options front) → NoneFailed r.program r.packed r.image before now out out_now → Given source input → (IsTooBig source input options.depth options.chunks → ⊥) →
+    (r : IsRun words before out source input options front) → NoneFailed r.program r.packed r.image before now out out_now → Given source input → (IsTooBig source input options.skips options.depth options.chunks → ⊥) →
     IsEnding tells words before now out out_now end' said → (end' ≡ status.Done) ⊎ (end' ≡ status.Depth) ⊎ (end' ≡ status.Memory)
 run_fits laws tells words before now out out_now source input options front said end' r quiet g fits ends =
     let E : Status → Type 0 = λ s. IsEnding tells words before now out out_now s said in

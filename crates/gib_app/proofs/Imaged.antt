@@ -34,17 +34,17 @@ image_stands law laid m place bytes bounded few is ty v stands = subst (λ (l : 
 
 -- An image and a text end a run that is asked for an image.
 pub imaged_ends : (p : ProgramTree) (names : List (List ℕ)) (o : Options) (input : List ℕ) (laid : LaidOut) (cells : Store) (place : Root) (s : StandsMeant p o.depth input laid cells place)
-    → laid ≡ layouts_of p → o.image ≡ true → (file : Option (List ℕ)) (e : KeptEnd) → IsImaged laid p names s.result file e → EndsBy file e (Runs p names o input)
+    → laid ≡ layouts_of o.skips p → o.image ≡ true → (file : Option (List ℕ)) (e : KeptEnd) → IsImaged laid p names s.result file e → EndsBy file e (Runs p names o input)
 imaged_ends p names o input laid cells place s same on None e h = absurd h
 imaged_ends p names o input laid cells place s same on (Some bytes) (ends.Prints text) h =
-    let image : IsRunImage p o.depth input bytes = record {
+    let image : IsRunImage p o.skips o.depth input bytes = record {
       value = s.value;
       result = s.result;
       is_input = s.is_input;
       means = s.means;
       image = subst (λ (l : LaidOut). IsImageOf l (output_type p) bytes s.result) same h.0;
     } in
-    let M : Bool → Type 0 = λ b. MakesImage b p o.depth input (Some bytes) in
+    let M : Bool → Type 0 = λ b. MakesImage b p o.skips o.depth input (Some bytes) in
     (subst M (sym on) image, record { value = s.value; result = s.result; is_input = s.is_input; means = s.means; is_text = h.1 })
 imaged_ends p names o input laid cells place s same on (Some bytes) (ends.Value value) h = absurd h
 imaged_ends p names o input laid cells place s same on (Some bytes) (ends.NoValue reason) h = absurd h
@@ -53,7 +53,7 @@ imaged_ends p names o input laid cells place s same on (Some bytes) (ends.NoValu
 pub value_ends : (p : ProgramTree) (o : Options) (input : List ℕ) (value : Valued) → AreHeld value.ran.lowered.code.laid.table value.names → o.image ≡ false
     → StandsMeant p o.depth input value.ran.lowered.code.laid (cells_of value.ran.memory) value.ran.root → EndsBy None (ends.Value value) (Runs p value.names o input)
 value_ends p o input value held off s =
-    let M : Bool → Type 0 = λ b. MakesImage b p o.depth input None in (
+    let M : Bool → Type 0 = λ b. MakesImage b p o.skips o.depth input None in (
       refl,
       text_line p value.names s.result,
       record { program = p; depth = o.depth; input = input; stands = s; held = held; is_text = refl },

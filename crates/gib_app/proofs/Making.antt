@@ -71,12 +71,12 @@ read_second_stop before now r d e Unput h = h
 
 -- what a job does not make of a second file
 pub job_stop : (before now : ShelfView) (r : Plan) (p : ProgramTree) (names : List (List ℕ)) (second : List ℕ) → OnSource before.kept r.source (λ source. IsCompiled source p names) →
-    HoldsSecond before.kept (second_of r) second → (stop : Stop) → FailsTo r.job p names second stop → IsStop before now r stop
+    HoldsSecond before.kept (second_of r) second → (stop : Stop) → FailsTo r.job r.options.skips p names second stop → IsStop before now r stop
 job_stop before now r p names second on held Usage h = h
 job_stop before now r p names second on held (Source fault) h = absurd h
 job_stop before now r p names second on held (Unread name) h = absurd h
 job_stop before now r p names second on held (Input fault) h =
-    on_both before.kept r r.source p names second (λ q ns bytes. Refuses r.job q ns bytes fault × (Accepts r.job q ns bytes → ⊥)) refl on held h
+    on_both before.kept r r.source p names second (λ q ns bytes. Refuses r.job r.options.skips q ns bytes fault × (Accepts r.job r.options.skips q ns bytes → ⊥)) refl on held h
 job_stop before now r p names second on held (NoValue reason) h = absurd h
 job_stop before now r p names second on held Memory h = h
 job_stop before now r p names second on held (Unwritten name) h = absurd h
@@ -114,11 +114,11 @@ second_stop before mid now r d p names e same reads on (Source fault) h = absurd
 second_stop before mid now r d p names e same reads on (Unread name) h =
     inr (second_unread_before before mid now (second_of r) name.now reads h, source_here before.kept r d p names e on)
 second_stop before mid now r d p names e same reads on (Input fault) h =
-    let P : InputFault → Type 0 = λ f. OnBoth before.kept r (λ q ns second. Refuses r.job q ns second f × (Accepts r.job q ns second → ⊥)) in
+    let P : InputFault → Type 0 = λ f. OnBoth before.kept r (λ q ns second. Refuses r.job r.options.skips q ns second f × (Accepts r.job r.options.skips q ns second → ⊥)) in
     let held = held_before before.kept mid.kept (second_of r) h.second same h.second_held in
     subst P (sym h.is)
-    (on_both before.kept r d p names h.second (λ q ns second. Refuses r.job q ns second (input.Long (most_of r.job)) × (Accepts r.job q ns second → ⊥)) e on held
-    (long_refused before.kept r.job r.second p names h.second held h.many))
+    (on_both before.kept r d p names h.second (λ q ns second. Refuses r.job r.options.skips q ns second (input.Long (most_of r.job)) × (Accepts r.job r.options.skips q ns second → ⊥)) e on held
+    (long_refused before.kept r.job r.options.skips r.second p names h.second held h.many))
 second_stop before mid now r d p names e same reads on (NoValue reason) h = absurd h
 second_stop before mid now r d p names e same reads on Memory h = h
 second_stop before mid now r d p names e same reads on (Unwritten name) h = absurd h

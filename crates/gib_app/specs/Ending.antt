@@ -43,7 +43,7 @@ IsEnding tells words before now out_before out_now ReadFault said =
     (name : List ℕ) × MatchOption (asked words) ⊥ (λ plan. FailsToRead before now plan name) × (said ≡ line (codes "cannot read " ++ name))
 IsEnding tells words before now out_before out_now WriteFault said = IsWriteEnding tells words before now out_before out_now said
 IsEnding tells words before now out_before out_now Input said =
-    (fault : InputFault) × AsksProgram words before.kept (λ plan p names second. Refuses plan.job p names second fault × (Accepts plan.job p names second → ⊥)) × (said ≡ line (input_text fault))
+    (fault : InputFault) × AsksProgram words before.kept (λ plan p names second. Refuses plan.job plan.options.skips p names second fault × (Accepts plan.job plan.options.skips p names second → ⊥)) × (said ≡ line (input_text fault))
 
 -- Not the name of the file that the words ask to write.
 abbrev pub IsNoTarget : List (List ℕ) → List ℕ → Type 0
@@ -123,7 +123,7 @@ IsDue words before now out_before out_now Full = ⊥
 IsDue words before now out_before out_now Memory = ⊥
 IsDue words before now out_before out_now ReadFault = MatchOption (asked words) ⊥ (DueMissing before now)
 IsDue words before now out_before out_now WriteFault = ⊥
-IsDue words before now out_before out_now Input = MatchOption (asked words) ⊥ (λ plan. DueOfFiles before now plan (λ p names second. Accepts plan.job p names second → ⊥))
+IsDue words before now out_before out_now Input = MatchOption (asked words) ⊥ (λ plan. DueOfFiles before now plan (λ p names second. Accepts plan.job plan.options.skips p names second → ⊥))
 
 -- The words ask for `run`: no other job uses chunks of region memory.
 abbrev pub AsksRun : List (List ℕ) → Type 0

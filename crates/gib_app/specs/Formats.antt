@@ -1,5 +1,5 @@
 -- What the second file of each job is, which files are accepted as that, and why others are refused.
-use Rattle.std.specs.Prelude.{ℕ, List, Option, None, Some, MatchOption, option_and_then, ⊤}
+use Rattle.std.specs.Prelude.{Bool, ℕ, List, Option, None, Some, MatchOption, option_and_then, ⊤}
 use Rattle.std.specs.Option.{option_map_or}
 use Rattle.gib_types.specs.Tree.{Datum}
 use Rattle.gib_syntax.specs.Tree.{ProgramTree}
@@ -37,22 +37,22 @@ limit_of Shown = 268435480
 abbrev pub most_of : Job → ℕ
 most_of job = option_map_or limit_of (format_of job) 0
 
--- The file is accepted as that.
-abbrev pub IsAccepted : Format → ProgramTree → List (List ℕ) → List ℕ → Type 0
-IsAccepted Packed p names bytes = (v : Datum) × IsInput p v bytes
-IsAccepted Text p names bytes = (packed : List ℕ) × IsPackedText p names bytes packed
-IsAccepted Shown p names bytes = (v : Datum) × IsShownValue p v bytes
+-- The file is accepted as that. An image is read by the layouts that the flag `--skips` chooses.
+abbrev pub IsAccepted : Format → (skips : Bool) → ProgramTree → List (List ℕ) → List ℕ → Type 0
+IsAccepted Packed skips p names bytes = (v : Datum) × IsInput p v bytes
+IsAccepted Text skips p names bytes = (packed : List ℕ) × IsPackedText p names bytes packed
+IsAccepted Shown skips p names bytes = (v : Datum) × IsShownValue p skips v bytes
 
 -- The file is refused as that, for this fault.
-abbrev pub IsRefused : Format → ProgramTree → List (List ℕ) → List ℕ → InputFault → Type 0
-IsRefused Packed p names bytes fault = IsInputFault p bytes fault
-IsRefused Text p names bytes fault = IsTextFault p names bytes fault
-IsRefused Shown p names bytes fault = IsShowFault p bytes fault
+abbrev pub IsRefused : Format → (skips : Bool) → ProgramTree → List (List ℕ) → List ℕ → InputFault → Type 0
+IsRefused Packed skips p names bytes fault = IsInputFault p bytes fault
+IsRefused Text skips p names bytes fault = IsTextFault p names bytes fault
+IsRefused Shown skips p names bytes fault = IsShowFault p skips bytes fault
 
 -- A job accepts the second file, if it has one.
-abbrev pub Accepts : Job → ProgramTree → List (List ℕ) → List ℕ → Type 0
-Accepts job p names second = MatchOption (format_of job) ⊤ (λ format. IsAccepted format p names second)
+abbrev pub Accepts : Job → (skips : Bool) → ProgramTree → List (List ℕ) → List ℕ → Type 0
+Accepts job skips p names second = MatchOption (format_of job) ⊤ (λ format. IsAccepted format skips p names second)
 
 -- A job refuses the second file for this fault.
-abbrev pub Refuses : Job → ProgramTree → List (List ℕ) → List ℕ → InputFault → Type 0
-Refuses job p names second fault = MatchOption (format_of job) ⊥ (λ format. IsRefused format p names second fault)
+abbrev pub Refuses : Job → (skips : Bool) → ProgramTree → List (List ℕ) → List ℕ → InputFault → Type 0
+Refuses job skips p names second fault = MatchOption (format_of job) ⊥ (λ format. IsRefused format skips p names second fault)

@@ -1,5 +1,5 @@
 -- What the parts of a call answer, and why they stop.
-use Rattle.std.specs.Prelude.{◌≡◌, ◌<◌, ℕ, List, length, Option, Some, None}
+use Rattle.std.specs.Prelude.{◌≡◌, ◌<◌, Bool, ℕ, List, length, Option, Some, None}
 use Rattle.gib_base.specs.Lexed.{Lexed}
 use Rattle.gib_types.specs.declared.table.Ty.{Ty}
 use Rattle.gib_types.specs.Table.{Table}
@@ -101,16 +101,16 @@ abbrev pub IsRunStop : ProgramTree → List ℕ → Stop → Type 0
 IsRunStop p input = IsRefusal (λ fault. IsInputFault p input fault × (((v : Datum) × IsInput p v input) → ⊥))
 
 -- Why a file is not shown.
-abbrev pub IsShowStop : ProgramTree → List ℕ → Stop → Type 0
-IsShowStop p file = IsRefusal (λ fault. IsShowFault p file fault × (((v : Datum) × IsShownValue p v file) → ⊥))
+abbrev pub IsShowStop : ProgramTree → (skips : Bool) → List ℕ → Stop → Type 0
+IsShowStop p skips file = IsRefusal (λ fault. IsShowFault p skips file fault × (((v : Datum) × IsShownValue p skips v file) → ⊥))
 
 -- Why a text is not packed.
 abbrev pub IsPackStop : ProgramTree → List (List ℕ) → List ℕ → Stop → Type 0
 IsPackStop p names bytes = IsRefusal (λ fault. IsTextFault p names bytes fault × (((file : List ℕ) × IsPackedText p names bytes file) → ⊥))
 
 -- Why a job makes nothing, for this program, of the bytes of the second file.
-abbrev pub FailsTo : Job → ProgramTree → List (List ℕ) → List ℕ → Stop → Type 0
-FailsTo job p names second = IsRefusal (λ fault. Refuses job p names second fault × (Accepts job p names second → ⊥))
+abbrev pub FailsTo : Job → (skips : Bool) → ProgramTree → List (List ℕ) → List ℕ → Stop → Type 0
+FailsTo job skips p names second = IsRefusal (λ fault. Refuses job skips p names second fault × (Accepts job skips p names second → ⊥))
 
 -- The source is a program, of which this holds with its names and the bytes of the second file.
 abbrev pub OnBoth : Files → Plan → (ProgramTree → List (List ℕ) → List ℕ → Type 0) → Type 0
@@ -120,6 +120,6 @@ OnBoth kept plan P = OnFiles kept plan.source (second_of plan) (λ source second
 abbrev pub IsStop : ShelfView → ShelfView → Plan → Stop → Type 0
 IsStop before now plan =
     StopsBy (λ fault. OnSource before.kept plan.source (λ bytes. IsSourceFault bytes fault × IsNoProgram bytes)) (λ name. FailsToRead before now plan name)
-    (λ fault. OnBoth before.kept plan (λ p names second. Refuses plan.job p names second fault × (Accepts plan.job p names second → ⊥)))
+    (λ fault. OnBoth before.kept plan (λ p names second. Refuses plan.job plan.options.skips p names second fault × (Accepts plan.job plan.options.skips p names second → ⊥)))
     (λ reason. OnBoth before.kept plan (HasNoValue reason plan))
     (λ name. OnBoth before.kept plan (λ p names second. IsUnwritten before now plan p names second name))

@@ -1,6 +1,6 @@
 //! Runs a program by the machine, from the bytes of a packed file to a root in region memory, and prints from there.
 
-ghost use Rattle.std.specs.Prelude.{◌≡◌, ◌≤◌, ◌+◌, ◌++◌, ◌∷◌, [], ℕ, List, length, IfOk, IfErr, OnOk, OnErr, IsErrOf, MatchResult};
+ghost use Rattle.std.specs.Prelude.{◌≡◌, ◌≤◌, ◌+◌, ◌++◌, ◌∷◌, ℕ, List, length, IfOk, IfErr, OnOk, OnErr, IsErrOf, MatchResult};
 ghost use Rattle.gib_edge.specs.Causes.{Rose, Appends, AppendsPart, PutsPieces, PutsSomePieces};
 ghost use Rattle.gib_types.specs.declared.table.Ty.{Ty as Type_of};
 ghost use Rattle.gib_types.specs.Layout.{LaidOut};
@@ -13,14 +13,13 @@ ghost use Rattle.gib_syntax.specs.Meaning.{Outcome, Stops, Deep, run};
 ghost use Rattle.gib_syntax.specs.Parts.{program_of};
 ghost use Rattle.gib_syntax.specs.Tree.{ProgramTree};
 ghost use Rattle.gib_core.specs.Cost.{run_cost};
-ghost use Rattle.gib_core.specs.Low.{laid_of};
 ghost use Rattle.gib_core.specs.LoweredParts.{LoweredParts};
 ghost use Rattle.gib_core.specs.Meaning.{core_run};
 ghost use Rattle.gib_core.specs.Parts.{core_of};
 ghost use Rattle.gib_lower.specs.Lowering.{lower_program};
 ghost use Rattle.gib_weave.specs.Running.{RunEnds};
 ghost use Rattle.gib_weave.specs.Sound.{IsAnswer};
-ghost use Rattle.gib_app.specs.Cores.{core_after};
+ghost use Rattle.gib_app.specs.Cores.{core_after, layouts_of};
 ghost use Rattle.gib_app.specs.Running.{IsInput, text_line};
 ghost use Rattle.gib_app.specs.MachineRun.{StandsMeant, IsMachineStop, IsRootOf, Halts, EndsWith, program_cost};
 
@@ -86,7 +85,6 @@ fn run_loaded(
 ) -> Result<Root, Stop<'static>>
     requires table { survey.table ≡ lowered.now.code.laid.table }
     requires ty { survey.ty ≡ (core_of lowered.now.core).main.parameter }
-    requires plain { lowered.now.code.laid.with_offsets ≡ [] }
     requires undrawn { (⟦<PlainMem as Mem>⟧.view memory.old).drawn ≡ 0 }
     ensures ends { (v : Datum) → Packed survey.entry.table survey.entry.ty v survey.entry.bytes
         → EndsWith lowered.now depth (⟦<PlainMem as Mem>⟧.view memory.old).limit v (⟦<PlainMem as Mem>⟧.view memory.new).cells result }
@@ -112,7 +110,6 @@ fn run_survey(
 ) -> Result<Ran, Stop<'static>>
     requires table { survey.table ≡ lowered.code.laid.table }
     requires ty { survey.ty ≡ (core_of lowered.core).main.parameter }
-    requires plain { lowered.code.laid.with_offsets ≡ [] }
     ensures same { IfOk result (λ ran. ran.lowered ≡ lowered) }
     ensures limit { IfOk result (λ ran. (⟦<PlainMem as Mem>⟧.view ran.memory).limit ≡ chunks) }
     ensures root { IfOk result (λ ran. (v : Datum) → Packed survey.entry.table survey.entry.ty v survey.entry.bytes
@@ -134,7 +131,7 @@ fn run_survey(
 }
 
 /// Runs a program on the bytes of a packed file, with at most `depth` calls nested, in region memory of so many chunks of 4,096
-/// bytes. What the program means stands for the root, in the memory that is handed back.
+/// bytes; fields are reached by offsets, or by skips. What the program means stands for the root, in the memory that is handed back.
 ///
 /// # Errors
 ///
@@ -146,19 +143,20 @@ pub fn run_packed(
     file: &[u8],
     depth: u32,
     chunks: u32,
+    skips: bool,
 ) -> Result<Ran, Stop<'static>>
     requires short { length file.now ≤ FILE_BYTES }
     ensures stands { IfOk result (λ ran. StandsMeant (program_of typed.now) depth file.now ran.lowered.code.laid (⟦<PlainMem as Mem>⟧.view ran.memory).cells ran.root) }
     // It is the code of the program's core that ran, in a memory of so many chunks.
-    ensures code { IfOk result (λ ran. ran.lowered.code ≡ lower_program (core_after 4 (program_of typed.now))) }
+    ensures code { IfOk result (λ ran. ran.lowered.code ≡ lower_program (core_after skips 4 (program_of typed.now))) }
     ensures limit { IfOk result (λ ran. (⟦<PlainMem as Mem>⟧.view ran.memory).limit ≡ chunks) }
     // The heads lie as those of the program's core.
-    ensures laid { IfOk result (λ ran. ran.lowered.code.laid ≡ laid_of (core_after 4 (program_of typed.now))) }
-    ensures stop { IfErr result (IsMachineStop (program_of typed.now) depth chunks file.now) }
+    ensures laid { IfOk result (λ ran. ran.lowered.code.laid ≡ layouts_of skips (program_of typed.now)) }
+    ensures stop { IfErr result (IsMachineStop (program_of typed.now) skips depth chunks file.now) }
     // The other way round: of which value the file is, and what the program means on it, tells how the run ends.
     ensures only { (v : Datum) → IsInput (program_of typed.now) v file.now
         → MatchResult result (λ ran. IsRootOf ran.lowered.code.laid (⟦<PlainMem as Mem>⟧.view ran.memory).cells (output_type (program_of typed.now)) (run (program_of typed.now) depth v) ran.root)
-        (Halts (run (program_of typed.now) depth v) chunks (program_cost (program_of typed.now) depth v)) }
+        (Halts (run (program_of typed.now) depth v) chunks (program_cost (program_of typed.now) skips depth v)) }
 {
     one_file();
     let survey = match survey_input(alloc, typed, file) {
@@ -166,7 +164,7 @@ pub fn run_packed(
         Err(stop) => return Err(stop),
     };
     let _packed = survey.payload();
-    match lowered(alloc, typed) {
+    match lowered(alloc, typed, skips) {
         Ok(lowered) => run_survey(alloc, lowered, survey, depth, chunks),
         Err(_) => Err(Stop::Memory),
     }

@@ -54,6 +54,8 @@ pub struct Options {
     pub pass: u32,
     /// Whether the image of region memory is written.
     pub image: bool,
+    /// Whether fields are reached from the end of the field before them, and not by offsets that heads store.
+    pub skips: bool,
 }
 
 /// What to do: the source is read, then the second file; the job is done with them; the file that it makes is written
