@@ -33,8 +33,9 @@ main %0:Tree : Tree
   call add1 %0
 ";
 
-/// Its core, with values built where they belong: lines, and a line that stands behind them where fields are reached.
-const ADD_ONE_PLACED: [(&str, &str); 2] = [
+/// Its core, with values built where they belong: pieces, each with when it is there: always, where fields are reached, or where sides
+/// are marked.
+const ADD_ONE_PLACED: [(&str, &str); 5] = [
     (
         "fun add1 %0:Tree : Tree
   case %0
@@ -44,11 +45,17 @@ const ADD_ONE_PLACED: [(&str, &str); 2] = [
       write %3 %2
     Node %4 %5
 ",
-        "      reach %5 by skip %4\n",
+        "",
     ),
+    ("      reach %5 by skip %4\n", "reach"),
     (
         "      past %6 Node
-      par
+      par",
+        "",
+    ),
+    (" fork", "mark"),
+    (
+        "
         here %7
           call add1 %4
         here %8
@@ -72,17 +79,20 @@ const ADD_ONE_CODE: &str = "add1 9
 6 first %4 %0 1
 7 skip %5 %4
 8 past %6 Node
-9 here %7
-10 call add1 %4
-11 jump 12
-12 here %8
-13 call add1 %5
-14 jump 15
-15 fill %6 Node %7 %8
-16 ret
+9 fork 14 18 here %8
+10 here %7
+11 call add1 %4
+12 jump 13
+13 join
+14 here %8
+15 call add1 %5
+16 jump 17
+17 back
+18 fill %6 Node %7 %8
+19 ret
 main 1
-17 call add1 %0
-18 ret
+20 call add1 %0
+21 ret
 ";
 
 pub const RIGHT: &str =
@@ -103,8 +113,8 @@ main %0:Tree : Int
   give %1
 ";
 
-/// Its core with values built where they belong, in the same way.
-const RIGHT_PLACED: [(&str, &str); 2] = [
+/// Its core, with values built where they belong, in the same way.
+const RIGHT_PLACED: [(&str, &str); 3] = [
     (
         "fun right %0:Tree : Int
   case %0
@@ -112,8 +122,9 @@ const RIGHT_PLACED: [(&str, &str); 2] = [
       give %1
     Node %2 %3
 ",
-        "      reach %3 by skip %2\n",
+        "",
     ),
+    ("      reach %3 by skip %2\n", "reach"),
     (
         "      scalar %4
         call right %3
@@ -287,8 +298,8 @@ main %0:Mark : Mark
   write %7 %4 %6 %8
 ";
 
-/// Its core with values built where they belong, in the same way.
-const EACH_PLACED: [(&str, &str); 4] = [
+/// Its core, with values built where they belong, in the same way.
+const EACH_PLACED: [(&str, &str); 11] = [
     (
         "fun sum %0:Row %1:Int %2:Bool : Int
   if %2
@@ -297,10 +308,13 @@ const EACH_PLACED: [(&str, &str); 4] = [
         give %1
       Cell %3 %4 %5
 ",
-        "        reach %5 by skip %4\n",
+        "",
     ),
+    ("        reach %5 by skip %4\n", "reach"),
+    ("        par", ""),
+    (" fork", "mark"),
     (
-        "        par
+        "
           scalar %6
             prim %7 = %1 + %3
             scalar %8
@@ -348,11 +362,17 @@ fun turn %0:Row %1:Bool : Row
       write %2 %5 %3 %6
     Cell %7 %8 %9
 ",
-        "      reach %9 by skip %8\n",
+        "",
     ),
+    ("      reach %9 by skip %8\n", "reach"),
     (
         "      past %10 Cell
-      par
+      par",
+        "",
+    ),
+    (" fork", "mark"),
+    (
+        "
         here %11
           call turn %9 True
         scalar %12
@@ -389,8 +409,9 @@ fun deep %0:Mark : Row
             point %2
           Cell %9 %10 %11
 ",
-        "            reach %11 by skip %10\n",
+        "",
     ),
+    ("            reach %11 by skip %10\n", "reach"),
     (
         "            prim %12 = %9 == %3
             call turn %11 %12
@@ -425,13 +446,17 @@ main %0:Mark : Mark
     ),
 ];
 
-/// The text of a core, with the lines that reach fields or without them.
-fn core_text(alloc: Global, pieces: &[(&str, &str)], reached: bool) -> Result<String, AllocError> {
+/// The text of a core after a pass, from 2 on: of its pieces those that are there.
+fn core_text(alloc: Global, pieces: &[(&str, &str)], pass: u32) -> Result<String, AllocError> {
     let mut text = String::new(alloc);
-    for (lines, reach) in pieces {
-        text.push_str(lines)?;
-        if reached {
-            text.push_str(reach)?;
+    for (piece, when) in pieces {
+        let there = match *when {
+            "reach" => pass >= 3,
+            "mark" => pass >= 4,
+            _ => true,
+        };
+        if there {
+            text.push_str(piece)?;
         }
     }
     Ok(text)
@@ -463,13 +488,14 @@ fn prints_each_pass<R: Threads + Wait + Sync>(
     pieces: &[(&str, &str)],
 ) -> Result<bool, AllocError> {
     let inferred = String::from_str(alloc, inferred)?;
-    let placed = core_text(alloc, pieces, false)?;
-    let reached = core_text(alloc, pieces, true)?;
+    let placed = core_text(alloc, pieces, 2)?;
+    let reached = core_text(alloc, pieces, 3)?;
+    let marked = core_text(alloc, pieces, 4)?;
     for (pass, text) in [
         ("1", &inferred),
         ("2", &placed),
         ("3", &reached),
-        ("4", &reached),
+        ("4", &marked),
     ] {
         let words = ["gib", "core", "a.gib", "--pass", pass];
         if !prints(rt, alloc, source, &words, text.as_str())? {
@@ -481,7 +507,7 @@ fn prints_each_pass<R: Threads + Wait + Sync>(
         alloc,
         source,
         &["gib", "core", "a.gib"],
-        reached.as_str(),
+        marked.as_str(),
     )
 }
 
