@@ -23,10 +23,10 @@ use Rattle.gib_app.specs.Causes.{IsUnread}
 
 -- To run the program of one document on the packed value of another, and to write the image of region memory under a name.
 abbrev pub run_plan : Document → Document → Option (List ℕ) → Options → Plan
-run_plan program packed image options = record { source = program; second = Some packed; target = image; job = Run; options = options }
+run_plan program packed image options = record { first = []; source = program; inputs = packed ∷ []; target = image; job = Run; options = options }
 
 -- The words ask for that, within a depth of calls and a number of chunks. These are the bytes of both documents, and
--- those that `out` has taken so far. A document is a file by its name; where there are no words, both are built in. An image may
+-- option_to_list that `out` has taken so far. A document is a file by its name; where there are no words, both are built in. An image may
 -- be asked for.
 pub record IsRun (words : List (List ℕ)) (files : ShelfView) (out : SinkView) (source input : List ℕ) (options : Options) (front : List ℕ) : Type 0 where
   pub program : Document
