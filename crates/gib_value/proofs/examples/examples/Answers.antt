@@ -1,6 +1,6 @@
 use Rattle.std.proofs.Common.{refl}
 use Rattle.std.specs.Fmt.{digits}
-use Rattle.gib_value.proofs.worked_examples.examples.Goals as goal
+use Rattle.gib_value.proofs.examples.examples.Goals as goal
 
 pub returns-clause-tree : goal.returns-clause-tree
 unfolding digits
