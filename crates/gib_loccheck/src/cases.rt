@@ -1,10 +1,9 @@
 //! The build rules of a `case`, and what its arms bind.
 
 ghost use Rattle.std.specs.Prelude.{◌≡◌, ◌==◌, ◌&&◌, [], length, reverse, IfOk, OnOk, None};
-ghost use Rattle.gib_types.specs.Table.{fields_at};
+ghost use Rattle.gib_types.specs.Table.{fields_at, constructors_of as all_of};
 ghost use Rattle.gib_core.specs.Parts.{core_of};
 ghost use Rattle.gib_core.specs.Met.{CaseLine, with_arm, field as field_of_arm, packed_before as packed_before_next};
-ghost use Rattle.gib_core.specs.Inferring.{constructors_of as all_of};
 ghost use Rattle.gib_core.specs.Rules.{least, rules, cover, are_arms as arms_are, arm_variables, any_bound as bound_again, bind_fields as fields_bound, bind_arms as arms_bound};
 ghost use Rattle.gib_loccheck.specs.Views.{setting_of, before_of, arms_in};
 ghost use Rattle.gib_loccheck.specs.Judging.{Extends};

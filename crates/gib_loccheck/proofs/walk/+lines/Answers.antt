@@ -9,11 +9,11 @@ use Rattle.gib_loccheck.proofs.walk.+lines.Goals as goal
 
 pub check_branches-returns-in_err-check_branch-clause-broken : goal.check_branches-returns-in_err-check_branch-clause-broken
 check_branches-returns-in_err-check_branch-clause-broken t c =
-    let h = arms_blame (core_of c.args.core.now) c.in_err-check_branch.field-0.0 c.args.walk.now c.branches.walk c.args.target.now (term_of c.args.core.now.terms) c.args.branches.now c.branches.left.now c.args.whole.0 c.branch-item.result c.in-len1-up.len_at_least c.branch-item.is c.branches.invariant c.in_err-check_branch.ensures.broken in search rules
+    let h = arms_blame (core_of c.args.core.now) c.in_err-check_branch.field-0.0 c.args.walk.now c.branches.walk c.args.target.now (term_of c.args.core.now.terms) c.args.branches.now c.branches.left.now c.args.parent.0 c.branch-item.result c.in-len1-up.len_at_least c.branch-item.is c.branches.invariant c.in_err-check_branch.ensures.broken in search rules
 
 pub check_branches-branches-preserved : goal.check_branches-branches-preserved
 check_branches-branches-preserved t c =
-    arms_next (core_of c.args.core.now) c.args.walk.now c.branches.walk c.check_branch.new.walk c.args.target.now (term_of c.args.core.now.terms) c.args.branches.now c.branches.left.now c.args.whole.0 c.branch-item.result c.in-len1-up.len_at_least c.branch-item.is c.branches.invariant c.in_ok-check_branch.ensures.passes c.in_ok-check_branch.ensures.kept
+    arms_next (core_of c.args.core.now) c.args.walk.now c.branches.walk c.check_branch.new.walk c.args.target.now (term_of c.args.core.now.terms) c.args.branches.now c.branches.left.now c.args.parent.0 c.branch-item.result c.in-len1-up.len_at_least c.branch-item.is c.branches.invariant c.in_ok-check_branch.ensures.passes c.in_ok-check_branch.ensures.kept
 
 pub bind_sides-returns-clause-binds : goal.bind_sides-returns-clause-binds
 bind_sides-returns-clause-binds t c =
