@@ -18,11 +18,11 @@ use gib_types::{ConId, Ty, TyId, TypeTable, first_type, further_types};
 use std::alloc::Global;
 
 /// Whether a branch is one of this constructor, with a variable for each field.
-fn is_arm(types: &TypeTable, constructor: u32, branch: &Branch) -> bool
-    ensures { result ≡ (constructor == branch.now.constructor.0 && length (fields_at types.now constructor) == length branch.now.variables.items) }
+fn is_arm(types: &TypeTable, constructor: ConId, branch: &Branch) -> bool
+    ensures { result ≡ (constructor.0 == branch.now.constructor.0 && length (fields_at types.now constructor.0) == length branch.now.variables.items) }
 {
-    constructor == branch.constructor.0
-        && types.fields(ConId(constructor)).len() == branch.variables.len()
+    constructor.0 == branch.constructor.0
+        && types.fields(constructor).len() == branch.variables.len()
 }
 
 /// Whether branches are those of a type, in its order, each with a variable for each field.
@@ -37,7 +37,7 @@ fn are_arms(types: &TypeTable, ty: TyId, branches: &[Branch]) -> bool
         if more == 0 {
             return false;
         }
-        if !is_arm(types, next, branch) {
+        if !is_arm(types, ConId(next), branch) {
             return false;
         }
         next += 1;

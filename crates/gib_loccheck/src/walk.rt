@@ -10,8 +10,8 @@ ghost use Rattle.gib_loccheck.specs.Views.{setting_of};
 ghost use Rattle.gib_loccheck.specs.Judging.{Passes, Blames, Kept, Binds, with_other};
 
 use crate::bindings::{
-    add_other, behind_field, leave, not_whole, open_arm, open_head, operate, reach_field, stand,
-    stand_both,
+    add_other, behind_field, behind_operation, enter_side, enter_sides, leave, open_arm, open_head,
+    reach_field, without_call,
 };
 use crate::fault::LocFault;
 use crate::indexed::IndexedCore;
@@ -127,7 +127,7 @@ fn check_binding(
             operator,
             left,
             right,
-        } => operate(walk, target, variable, operator, left, right),
+        } => behind_operation(walk, target, variable, operator, left, right),
         Binding::Reach { field, access } => reach_field(core, walk, target, field, access),
     }
 }
@@ -168,7 +168,7 @@ fn bind_side(
     ensures broken { IfErr result (Blames (core_of core.now) walk.old (met_bind core.now.table (setting_of walk.old target.now) (One (side_from (term_of core.now.terms) bound)))) }
 {
     check_side(core, walk, target, parent, bound)?;
-    let next = stand(walk, target, bound.kind, bound.variable)?;
+    let next = enter_side(walk, target, bound.kind, bound.variable)?;
     Ok(next)
 }
 
@@ -236,7 +236,7 @@ fn bind_sides(
     ensures broken { IfErr result (Blames (core_of core.now) walk.old (met_bind core.now.table (setting_of walk.old target.now) (Both false (side_from (term_of core.now.terms) left) (side_from (term_of core.now.terms) right)))) }
 {
     check_sides(core, walk, target, parent, left, right)?;
-    let next = stand_both(walk, target, left, right)?;
+    let next = enter_sides(walk, target, left, right)?;
     Ok(next)
 }
 
@@ -322,8 +322,8 @@ fn check_if(
     ensures broken { IfErr result (Blames (core_of core.now) walk.old (met core.now.table (setting_of walk.old target.now) (IfTerm atom (term_of core.now.terms then_part.0) (term_of core.now.terms else_part.0)))) }
 {
     judge_if(core, walk, atom)?;
-    let first = not_whole(target)?;
+    let first = without_call(target)?;
     check_term(core, walk, first, then_part)?;
-    let second = not_whole(target)?;
+    let second = without_call(target)?;
     check_term(core, walk, second, else_part)
 }

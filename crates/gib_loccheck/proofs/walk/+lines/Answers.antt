@@ -17,7 +17,7 @@ check_branches-branches-preserved t c =
 
 pub bind_sides-returns-clause-binds : goal.bind_sides-returns-clause-binds
 bind_sides-returns-clause-binds t c =
-    kept_binds c.args.walk.now c.check_sides.new.walk c.stand_both.new.walk c.in_ok-next.next c.args.target.now (Both false (side_from (term_of c.args.core.now.terms) c.args.left) (side_from (term_of c.args.core.now.terms) c.args.right)) c.in_ok-check_sides.ensures.kept (c.in_ok-next.ensures.binds (term_of c.args.core.now.terms))
+    kept_binds c.args.walk.now c.check_sides.new.walk c.enter_sides.new.walk c.in_ok-next.next c.args.target.now (Both false (side_from (term_of c.args.core.now.terms) c.args.left) (side_from (term_of c.args.core.now.terms) c.args.right)) c.in_ok-check_sides.ensures.kept (c.in_ok-next.ensures.binds (term_of c.args.core.now.terms))
 
 pub check_case-returns-in_err-judge_case-clause-broken : goal.check_case-returns-in_err-judge_case-clause-broken
 check_case-returns-in_err-judge_case-clause-broken t c =
@@ -45,7 +45,7 @@ check_if-returns-clause-broken t c =
 
 pub bind_side-returns-clause-binds : goal.bind_side-returns-clause-binds
 bind_side-returns-clause-binds t c =
-    kept_binds c.args.walk.now c.check_side.new.walk c.stand.new.walk c.in_ok-next.next c.args.target.now (One (side_from (term_of c.args.core.now.terms) c.args.bound)) c.in_ok-check_side.ensures.kept (c.in_ok-next.ensures.binds c.args.bound.ty (term_of c.args.core.now.terms c.args.bound.term.0))
+    kept_binds c.args.walk.now c.check_side.new.walk c.enter_side.new.walk c.in_ok-next.next c.args.target.now (One (side_from (term_of c.args.core.now.terms) c.args.bound)) c.in_ok-check_side.ensures.kept (c.in_ok-next.ensures.binds c.args.bound.ty (term_of c.args.core.now.terms c.args.bound.term.0))
 
 pub check_sides-returns-in_err-judge_par-clause-broken : goal.check_sides-returns-in_err-judge_par-clause-broken
 check_sides-returns-in_err-judge_par-clause-broken t c =

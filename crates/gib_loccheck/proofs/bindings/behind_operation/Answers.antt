@@ -4,7 +4,7 @@ use Rattle.gib_loccheck.proofs.OneLine.{prim_blames, prim_passes}
 use Rattle.gib_loccheck.specs.Judging.{one}
 use Rattle.gib_loccheck.specs.Views.{setting_of}
 use Rattle.gib_core.specs.Met.{PrimLine}
-use Rattle.gib_loccheck.proofs.bindings.operate.Goals as goal
+use Rattle.gib_loccheck.proofs.bindings.behind_operation.Goals as goal
 
 pub returns-in_err-judge_prim-clause-broken : goal.returns-in_err-judge_prim-clause-broken
 returns-in_err-judge_prim-clause-broken c =
