@@ -1,0 +1,9 @@
+//! Journals of runs, and runs by workers over one lock: each event is applied by the thread that holds the one slot with the weave
+//! and its journal.
+#![tactic(auto)]
+
+mod journal;
+mod settings;
+
+pub use journal::{Journal, Line, Lines};
+pub use settings::Settings;
