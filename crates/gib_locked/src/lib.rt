@@ -2,8 +2,11 @@
 //! and its journal.
 #![tactic(auto)]
 
+mod held;
 mod journal;
+mod runner;
 mod settings;
 
 pub use journal::{Journal, Line, Lines};
+pub use runner::{Locked, run_locked};
 pub use settings::Settings;
