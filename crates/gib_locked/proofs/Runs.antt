@@ -1,5 +1,5 @@
 -- A run that is one event longer.
-use Rattle.std.proofs.Common.{◌≡◌, ℕ, List, [], ◌∷◌, ◌++◌, sym, ap, ◌∙◌, subst, subst₂, refl, Result, Err}
+use Rattle.std.proofs.Common.{◌≡◌, ℕ, List, [], ◌∷◌, ◌++◌, sym, ap, ◌∙◌, subst, subst₂, refl, Err}
 use Rattle.gib_types.specs.Tree.{Datum}
 use Rattle.gib_code.specs.Program.{CodeTree}
 use Rattle.gib_core.specs.LoweredParts.{LoweredParts}

@@ -1,4 +1,4 @@
-use Rattle.std.proofs.Common.{rules, ◌≡◌, ap, ◌∙◌, [], ◌∷◌, ◌++◌}
+use Rattle.std.proofs.Common.{rules, ap, ◌∙◌, [], ◌∷◌, ◌++◌}
 use Rattle.gib_weave.specs.Applied.{event_of}
 use Rattle.gib_weave.specs.Woven.{weave_of}
 use Rattle.gib_locked.specs.Lines.{counted_out}
