@@ -1,0 +1,2 @@
+pub mod LinesKeep
+pub mod Runs
