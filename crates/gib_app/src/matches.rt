@@ -66,7 +66,7 @@ fn number_or(matches: &ArgMatches<'_>, id: &str, default: u32) -> u32
 fn flag(matches: &ArgMatches<'_>, id: &str) -> bool
     ensures { result ≡ flag_of id.now (rows_of (found_of matches.now)) }
 {
-    match matches.get_str(id) {
+    match word(matches, id) {
         Some(value) => value == "true",
         None => false,
     }
