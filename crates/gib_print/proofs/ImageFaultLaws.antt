@@ -1,29 +1,32 @@
 -- There is one fault, and none where a value is read.
-use Rattle.std.proofs.Common.{◌≡◌, ℕ, ◌+◌, ◌<◌, ◌≤◌, List, [], ◌∷◌, ◌++◌, length, get_or, Option, Some, None, Bool, true, false, refl, sym, ap, subst, subst₂, ◌∙◌, arith, inl, inr}
+use Rattle.std.proofs.Common.{◌≡◌, ℕ, suc, ◌+◌, ◌*◌, ◌<◌, ◌≤◌, ◌^◌, List, [], ◌∷◌, ◌++◌, length, Option, Some, None, Bool, true, false, refl, sym, ap, subst, subst₂, ◌∙◌, arith, length-drop, inl, inr}
 use Rattle.std.specs.Prelude.{slice_get, slice_index, nat_lt, if◌then◌else◌, ◌⊎◌}
 use Rattle.std.proofs.lemmas.Option.{slice_get_within, get_or_from_slice_get}
 use Rattle.gib_types.specs.declared.table.Ty.{Ty}
 use Rattle.gib_types.specs.declared.table.Ty.TheVariants as ty
 use Rattle.gib_types.specs.declared.table.TyId.{TyId}
 use Rattle.gib_types.specs.Table.{Table, con_at, fields_at}
-use Rattle.gib_types.specs.Layout.{LaidOut, layout_at, head_size, is_among}
+use Rattle.gib_types.specs.Layout.{LaidOut, layout_at, head_size, is_among, has_offsets}
 use Rattle.gib_types.specs.Tree.{Datum, Data}
 use Rattle.gib_mem.specs.Memory.{Cell, Store, Holds, byte, absent}
 use Rattle.gib_mem.specs.Memory as m
-use Rattle.gib_packed.specs.Head.{head_bytes, offset_bytes}
+use Rattle.gib_packed.specs.Head.{address, addresses, head_bytes, offset_bytes}
 use Rattle.gib_packed.specs.Scalars.{number, bit, scalars}
 use Rattle.gib_packed.specs.declared.root.Root.TheVariants.{At}
 use Rattle.gib_packed.specs.Decoding.{Dec, redirect, indirect, head, Decs, done, whole_field, truth_field, tree_field, Points}
 use Rattle.gib_packed.specs.Stands.{Stands, a_tree}
 use Rattle.gib_packed.proofs.HoldsLemmas.{Holds-first, Holds-rest, same_byte, Points-same}
 use Rattle.gib_packed.proofs.HeadLemmas.{Dec-no_scalar, offsets-length, head_bytes-length}
+use Rattle.gib_packed.proofs.SpanLemmas.{Dec-known}
 use Rattle.gib_packed.proofs.Unique.{Dec-same}
-use Rattle.gib_print.specs.Image.{cell_of, chunk_store}
-use Rattle.gib_print.specs.ImageReading.{items, all_items, met, HasHead, first_bad, scalars_at, IsBad, outside, cut_pointer, no_tag, cut_head, bad_truth, Fails, too_many, refused, behind, inside, FailAmong, IsRead, IsRefused}
+use Rattle.gib_print.specs.Image.{cell_of, chunk_store, chunks_of, IsFormed}
+use Rattle.gib_print.specs.ImageReading.{items, all_items, met, HasHead, first_bad, scalars_at, stored_at, slot_of, Tells, IsBad, outside, cut_pointer, no_tag, cut_head, bad_truth, Fails, too_many, refused, behind, inside, FailAmong, IsRead, IsRefused}
 use Rattle.gib_print.specs.ImageReading as among
 use Rattle.gib_print.specs.declared.image_fault.ImageFault.{ImageFault}
 use Rattle.gib_print.specs.declared.image_fault.ImageFault.TheVariants.{Bad, Long}
 use Rattle.gib_print.proofs.TextLemmas.{halves}
+use Rattle.gib_print.proofs.ImageStore.{address_told}
+use Rattle.gib_print.proofs.ImageWalkLemmas.{AreTold}
 
 -- ---- bytes of chunks
 
@@ -57,21 +60,64 @@ bits_fine chunks a (truth_field {b = b} {ts = ts} {vs = vs} ds) h =
     ap (λ (o : Bool). if o then Some a else first_bad chunks (a + 1) ts) (bit_fine b (slice_index chunks a) is) ∙ bits_fine chunks (a + 1) ds r.second
 bits_fine chunks a (tree_field {vs = vs} d ds) h = bits_fine chunks a ds (subst (λ (x : List ℕ). Holds (chunk_store chunks) a (x ++ scalars vs)) (Dec-no_scalar d) h)
 
+-- ---- the places that a head of a value stores
+
+-- each place is that of a byte of the chunks
+abbrev AreSmall : List ℕ → Type 0
+AreSmall [] = Unit {0}
+AreSmall (p ∷ ps) = (p < 2 ^ 64) × AreSmall ps
+
+place_small : (chunks : List ℕ) {laid : LaidOut} {s : Store} {a t z : ℕ} {v : Datum} → length chunks < 2 ^ 64 → chunk_store chunks ≡ s → Dec laid s a t v z → a < 2 ^ 64
+place_small chunks {a = a} small same d =
+    let known = Dec-known d in
+    let lt = slice_get_within chunks a known.0 (byte_here chunks a known.0 (ap (λ (s : Store). s a) same ∙ known.1)) in
+    omega (arith, lt, small)
+
+places_small : (chunks : List ℕ) {laid : LaidOut} {s : Store} {a z : ℕ} {ts : List Ty} {vs : Data} {places : List ℕ} → length chunks < 2 ^ 64 → chunk_store chunks ≡ s → Decs laid s a ts vs places z → AreSmall places
+places_small chunks small same done = tt {0}
+places_small chunks small same (whole_field f ds) = places_small chunks small same ds
+places_small chunks small same (truth_field ds) = places_small chunks small same ds
+places_small chunks small same (tree_field d ds) = (place_small chunks small same d, places_small chunks small same ds)
+
+addresses_told : (chunks : List ℕ) (h n b : ℕ) (ps : List ℕ) → b ≡ h + 1 + 8 * n → Holds (chunk_store chunks) b (addresses ps) → AreSmall ps → AreTold chunks true h (suc n) ps
+addresses_told chunks h n b [] e held small = tt {0}
+addresses_told chunks h n b (p ∷ ps) e held small =
+    let parts = halves b (b + 8) (address p) (addresses ps) refl held in
+    let next : suc (suc n) ≡ suc n + 1 = omega arith in (
+      ap (stored_at chunks) (sym e) ∙ address_told chunks b p parts.first small.0,
+      subst (λ (i : ℕ). AreTold chunks true h i ps) next (addresses_told chunks h (suc n) (b + 8) ps (omega (arith, e)) parts.second small.1),
+    )
+
+none_told : (chunks : List ℕ) (h n : ℕ) (ps : List ℕ) → AreTold chunks false h n ps
+none_told chunks h n [] = tt {0}
+none_told chunks h n (p ∷ ps) = (tt {0}, none_told chunks h (n + 1) ps)
+
+offsets_told : (chunks : List ℕ) (o : Bool) (h : ℕ) (ps : List ℕ) → Holds (chunk_store chunks) (h + 1) (offset_bytes o ps) → AreSmall ps → AreTold chunks o h 0 ps
+offsets_told chunks false h ps held small = none_told chunks h 0 ps
+offsets_told chunks true h [] held small = tt {0}
+offsets_told chunks true h (p ∷ ps) held small = (tt {0}, addresses_told chunks h 0 (h + 1) ps (omega arith) held small.1)
+
+-- a place that is told is not misplaced
+not_misplaced : (chunks : List ℕ) (slot : Option ℕ) (a p : ℕ) → Tells chunks slot a → slot ≡ Some p → (stored_at chunks p ≡ a → ⊥) → ⊥
+not_misplaced chunks slot a p told e ne = ne (subst (λ (o : Option ℕ). Tells chunks o a) e told)
+
 -- ---- heads and pointers are not refused
 
-record Fine (laid : LaidOut) (chunks : List ℕ) (a t k : ℕ) : Type 0 where
+record Fine (laid : LaidOut) (chunks : List ℕ) (a t k : ℕ) (places : List ℕ) : Type 0 where
   has : HasHead laid chunks a t k
+  told : AreTold chunks (has_offsets laid k) a 0 places
   bits : first_bad chunks (scalars_at laid a k) (fields_at laid.table k) ≡ None
 
-fine_head : {laid : LaidOut} {chunks : List ℕ} {s : Store} {a t k z : ℕ} {vs : Data} {places : List ℕ} → k < 254 → con_at laid.table t k ≡ Some k → Holds (chunk_store chunks) a (head_bytes laid k places vs)
-    → Decs laid s (a + (layout_at laid.table laid.with_offsets k).head) (fields_at laid.table k) vs places z → Fine laid chunks a t k
-fine_head {laid = laid} {chunks = chunks} {a = a} {k = k} {vs = vs} {places = places} lt own h ds =
+fine_head : {laid : LaidOut} {chunks : List ℕ} {s : Store} {a t k z : ℕ} {vs : Data} {places : List ℕ} → length chunks < 2 ^ 64 → chunk_store chunks ≡ s → k < 254 → con_at laid.table t k ≡ Some k → Holds (chunk_store chunks) a (head_bytes laid k places vs)
+    → Decs laid s (a + (layout_at laid.table laid.with_offsets k).head) (fields_at laid.table k) vs places z → Fine laid chunks a t k places
+fine_head {laid = laid} {chunks = chunks} {a = a} {k = k} {vs = vs} {places = places} small same lt own h ds =
     let long = head_bytes-length k ds in
     let within = held_within chunks a k _ h in
     let n = offsets-length k ds in
     let start : scalars_at laid a k ≡ a + 1 + length (offset_bytes (is_among laid.with_offsets k) places) = ap (λ (x : ℕ). a + 1 + x) (sym n) in
     record {
       has = record { tag = byte_here chunks a k (Holds-first h); small = lt; own = own; whole = omega (arith, long, within) };
+      told = offsets_told chunks (has_offsets laid k) a places (halves (a + 1) (scalars_at laid a k) (offset_bytes (is_among laid.with_offsets k) places) (scalars vs) start (Holds-rest h)).first (places_small chunks small same ds);
       bits = bits_fine chunks (scalars_at laid a k) ds (halves (a + 1) (scalars_at laid a k) (offset_bytes (is_among laid.with_offsets k) places) (scalars vs) start (Holds-rest h)).second;
     }
 
@@ -166,12 +212,6 @@ past_bound le (refused lt bad) = absurd (omega (arith, le, lt))
 past_bound le (behind lt big p f) = absurd (omega (arith, le, lt))
 past_bound le (inside lt h none f) = absurd (omega (arith, le, lt))
 
-past_among : {laid : LaidOut} {chunks : List ℕ} {c a : ℕ} {ts : List Ty} {fault : ImageFault} → 16777216 ≤ c → FailAmong laid chunks c a ts fault → fault ≡ Long
-past_among le (among.this f) = past_bound le f
-past_among {c = c} le (among.later d f) = past_among (omega (arith, le)) f
-past_among le (among.past_whole f) = past_among le f
-past_among le (among.past_truth f) = past_among le f
-
 -- where a value stands, reading fails for its many items alone
 record Late (c n : ℕ) (fault : ImageFault) : Type 0 where
   long : fault ≡ Long
@@ -188,78 +228,91 @@ same_end chunks {laid = laid} {a = a} {t = t} {y = y} {z = z} {w = w} same e d =
     subst (λ (s : Store). (d : Dec laid s a t w z) → (items e ≡ items d) × (y ≡ z)) same (λ d. (same_items e d, (Dec-same e d).end)) d
 
 mutual
-  value_late : {laid : LaidOut} {s : Store} {chunks : List ℕ} {c a t z : ℕ} {v : Datum} {fault : ImageFault} → chunk_store chunks ≡ s → (d : Dec laid s a t v z) → Fails laid chunks c a t fault → Late c (items d) fault
-  value_late same (redirect p d) (too_many le) = record { long = refl; past = omega (arith, le) }
-  value_late same (redirect p d) (refused lt bad) = absurd (pointer_not_bad (points_there _ same p) (omega arith) bad)
-  value_late {laid = laid} {chunks = chunks} {c = c} {t = t} {fault = fault} same (redirect p d) (behind lt big q f) =
+  value_late : {laid : LaidOut} {s : Store} {chunks : List ℕ} {c a t z : ℕ} {v : Datum} {fault : ImageFault} → length chunks < 2 ^ 64 → chunk_store chunks ≡ s → (d : Dec laid s a t v z) → Fails laid chunks c a t fault → Late c (items d) fault
+  value_late small same (redirect p d) (too_many le) = record { long = refl; past = omega (arith, le) }
+  value_late small same (redirect p d) (refused lt bad) = absurd (pointer_not_bad (points_there _ same p) (omega arith) bad)
+  value_late {laid = laid} {chunks = chunks} {c = c} {t = t} {fault = fault} small same (redirect p d) (behind lt big q f) =
       let point = Points-same (points_there _ same p) q in
-      let r = value_late same d (subst (λ (x : ℕ). Fails laid chunks (c + 1) x t fault) (sym point.target) f) in
+      let r = value_late small same d (subst (λ (x : ℕ). Fails laid chunks (c + 1) x t fault) (sym point.target) f) in
       record { long = r.long; past = omega (arith, r.past) }
-  value_late same (redirect p d) (inside lt h none f) = absurd (pointer_no_head (points_there _ same p) (omega arith) h)
-  value_late same (indirect p d e) (too_many le) = record { long = refl; past = omega (arith, le) }
-  value_late same (indirect p d e) (refused lt bad) = absurd (pointer_not_bad (points_there _ same p) (omega arith) bad)
-  value_late {laid = laid} {chunks = chunks} {c = c} {t = t} {fault = fault} same (indirect p d e) (behind lt big q f) =
+  value_late small same (redirect p d) (inside lt h none f) = absurd (pointer_no_head (points_there _ same p) (omega arith) h)
+  value_late small same (indirect p d e) (too_many le) = record { long = refl; past = omega (arith, le) }
+  value_late small same (indirect p d e) (refused lt bad) = absurd (pointer_not_bad (points_there _ same p) (omega arith) bad)
+  value_late {laid = laid} {chunks = chunks} {c = c} {t = t} {fault = fault} small same (indirect p d e) (behind lt big q f) =
       let point = Points-same (points_there _ same p) q in
-      let r = value_late same d (subst (λ (x : ℕ). Fails laid chunks (c + 1) x t fault) (sym point.target) f) in
+      let r = value_late small same d (subst (λ (x : ℕ). Fails laid chunks (c + 1) x t fault) (sym point.target) f) in
       record { long = r.long; past = omega (arith, r.past) }
-  value_late same (indirect p d e) (inside lt h none f) = absurd (pointer_no_head (points_there _ same p) (omega arith) h)
-  value_late same (head k o h ds) (too_many le) = record { long = refl; past = omega (arith, le) }
-  value_late same (head k o h ds) (refused lt bad) = let here = fine_head k o (held_there _ same h) ds in absurd (fine_not_bad here.has here.bits bad)
-  value_late same (head k o h ds) (behind lt big q f) = let here = fine_head k o (held_there _ same h) ds in absurd (pointer_no_head q big here.has)
-  value_late {laid = laid} {chunks = chunks} {c = c} {a = a} {fault = fault} same (head k o h ds) (inside lt g none f) =
-      let here = fine_head k o (held_there _ same h) ds in
-      let r = fields_late same ds (subst (λ (x : ℕ). FailAmong laid chunks (c + 1) (a + head_size laid x) (fields_at laid.table x) fault) (same_con g here.has) f) in
+  value_late small same (indirect p d e) (inside lt h none f) = absurd (pointer_no_head (points_there _ same p) (omega arith) h)
+  value_late small same (head k o h ds) (too_many le) = record { long = refl; past = omega (arith, le) }
+  value_late small same (head k o h ds) (refused lt bad) = let here = fine_head small same k o (held_there _ same h) ds in absurd (fine_not_bad here.has here.bits bad)
+  value_late small same (head k o h ds) (behind lt big q f) = let here = fine_head small same k o (held_there _ same h) ds in absurd (pointer_no_head q big here.has)
+  value_late {laid = laid} {chunks = chunks} {c = c} {a = a} {fault = fault} small same (head k o h ds) (inside lt g none f) =
+      let here = fine_head small same k o (held_there _ same h) ds in
+      let r = fields_late small same ds here.told (subst (λ (x : ℕ). FailAmong laid chunks (has_offsets laid x) a (c + 1) (a + head_size laid x) 0 (fields_at laid.table x) fault) (same_con g here.has) f) in
       record { long = r.long; past = omega (arith, r.past) }
 
-  fields_late : {laid : LaidOut} {s : Store} {chunks : List ℕ} {c a z : ℕ} {ts : List Ty} {vs : Data} {places : List ℕ} {fault : ImageFault} → chunk_store chunks ≡ s → (ds : Decs laid s a ts vs places z)
-      → FailAmong laid chunks c a ts fault → Late c (all_items ds) fault
-  fields_late same done f = elim f [ ]
-  fields_late same (whole_field g ds) (among.past_whole f) = fields_late same ds f
-  fields_late same (truth_field ds) (among.past_truth f) = fields_late same ds f
-  fields_late same (tree_field d ds) (among.this f) = let r = value_late same d f in record { long = r.long; past = omega (arith, r.past) }
-  fields_late {laid = laid} {chunks = chunks} {c = c} {fault = fault} same (tree_field {ts = ts} d ds) (among.later e f) =
+  fields_late : {laid : LaidOut} {s : Store} {chunks : List ℕ} {o : Bool} {h c a n z : ℕ} {ts : List Ty} {vs : Data} {places : List ℕ} {fault : ImageFault} → length chunks < 2 ^ 64 → chunk_store chunks ≡ s
+      → (ds : Decs laid s a ts vs places z) → AreTold chunks o h n places → FailAmong laid chunks o h c a n ts fault → Late c (all_items ds) fault
+  fields_late small same done told f = elim f [ ]
+  fields_late small same (whole_field g ds) told (among.past_whole f) = fields_late small same ds told f
+  fields_late small same (truth_field ds) told (among.past_truth f) = fields_late small same ds told f
+  fields_late small same (tree_field d ds) told (among.this t f) = let r = value_late small same d f in record { long = r.long; past = omega (arith, r.past) }
+  fields_late {chunks = chunks} {o = o} {h = h} {a = a} {n = n} small same (tree_field d ds) told (among.misplaced {p = p} e ne) = absurd (not_misplaced chunks (slot_of o h n) a p told.0 e ne)
+  fields_late {laid = laid} {chunks = chunks} {o = o} {h = h} {c = c} {n = n} {fault = fault} small same (tree_field {ts = ts} d ds) told (among.later t e few f) =
       let both = same_end chunks same e d in
-      let r = fields_late same ds (subst₂ (λ (n x : ℕ). FailAmong laid chunks (c + n) x ts fault) both.0 both.1 f) in
+      let r = fields_late small same ds told.1 (subst₂ (λ (m x : ℕ). FailAmong laid chunks o h (c + m) x (n + 1) ts fault) both.0 both.1 f) in
       record { long = r.long; past = omega (arith, r.past) }
 
 -- ---- one fault
 
-mutual
-  same_fault : {laid : LaidOut} {chunks : List ℕ} {c a t : ℕ} {f g : ImageFault} → Fails laid chunks c a t f → Fails laid chunks c a t g → f ≡ g
-  same_fault (too_many le) y = sym (past_bound le y)
-  same_fault (refused lt bad) (too_many le) = absurd (omega (arith, lt, le))
-  same_fault (refused lt bad) (refused less worse) = ap (λ (x : ℕ). Bad x) (same_bad bad worse)
-  same_fault (refused lt bad) (behind less big p y) = absurd (pointer_not_bad p big bad)
-  same_fault (refused lt bad) (inside less h none y) = absurd (fine_not_bad h none bad)
-  same_fault (behind lt big p x) (too_many le) = absurd (omega (arith, lt, le))
-  same_fault (behind lt big p x) (refused less bad) = absurd (pointer_not_bad p big bad)
-  same_fault {laid = laid} {chunks = chunks} {c = c} {t = t} {g = g} (behind lt big p x) (behind less large q y) =
-      let point = Points-same p q in same_fault x (subst (λ (x : ℕ). Fails laid chunks (c + 1) x t g) (sym point.target) y)
-  same_fault (behind lt big p x) (inside less h none y) = absurd (pointer_no_head p big h)
-  same_fault (inside lt h none x) (too_many le) = absurd (omega (arith, lt, le))
-  same_fault (inside lt h none x) (refused less bad) = absurd (fine_not_bad h none bad)
-  same_fault (inside lt h none x) (behind less big p y) = absurd (pointer_no_head p big h)
-  same_fault {laid = laid} {chunks = chunks} {c = c} {a = a} {g = g} (inside lt h none x) (inside less i fine y) =
-      same_among x (subst (λ (k : ℕ). FailAmong laid chunks (c + 1) (a + head_size laid k) (fields_at laid.table k) g) (same_con i h) y)
+same_some : (o : Option ℕ) (x y : ℕ) → o ≡ Some x → o ≡ Some y → x ≡ y
+same_some o x y p q = cc
 
-  same_among : {laid : LaidOut} {chunks : List ℕ} {c a : ℕ} {ts : List Ty} {f g : ImageFault} → FailAmong laid chunks c a ts f → FailAmong laid chunks c a ts g → f ≡ g
-  same_among (among.this x) (among.this y) = same_fault x y
-  same_among (among.this x) (among.later d y) = let r = value_late refl d x in let past = r.past in r.long ∙ sym (past_among (omega (arith, past)) y)
-  same_among (among.later d x) (among.this y) = let r = value_late refl d y in let past = r.past in past_among (omega (arith, past)) x ∙ sym r.long
-  same_among {laid = laid} {chunks = chunks} {c = c} {g = g} (among.later {ts = ts} d x) (among.later e y) =
-      same_among x (subst₂ (λ (n z : ℕ). FailAmong laid chunks (c + n) z ts g) (same_items e d) (Dec-same e d).end y)
-  same_among (among.past_whole x) (among.past_whole y) = same_among x y
-  same_among (among.past_truth x) (among.past_truth y) = same_among x y
+mutual
+  same_fault : {laid : LaidOut} {chunks : List ℕ} {c a t : ℕ} {f g : ImageFault} → length chunks < 2 ^ 64 → Fails laid chunks c a t f → Fails laid chunks c a t g → f ≡ g
+  same_fault small (too_many le) y = sym (past_bound le y)
+  same_fault small (refused lt bad) (too_many le) = absurd (omega (arith, lt, le))
+  same_fault small (refused lt bad) (refused less worse) = ap (λ (x : ℕ). Bad x) (same_bad bad worse)
+  same_fault small (refused lt bad) (behind less big p y) = absurd (pointer_not_bad p big bad)
+  same_fault small (refused lt bad) (inside less h none y) = absurd (fine_not_bad h none bad)
+  same_fault small (behind lt big p x) (too_many le) = absurd (omega (arith, lt, le))
+  same_fault small (behind lt big p x) (refused less bad) = absurd (pointer_not_bad p big bad)
+  same_fault {laid = laid} {chunks = chunks} {c = c} {t = t} {g = g} small (behind lt big p x) (behind less large q y) =
+      let point = Points-same p q in same_fault small x (subst (λ (x : ℕ). Fails laid chunks (c + 1) x t g) (sym point.target) y)
+  same_fault small (behind lt big p x) (inside less h none y) = absurd (pointer_no_head p big h)
+  same_fault small (inside lt h none x) (too_many le) = absurd (omega (arith, lt, le))
+  same_fault small (inside lt h none x) (refused less bad) = absurd (fine_not_bad h none bad)
+  same_fault small (inside lt h none x) (behind less big p y) = absurd (pointer_no_head p big h)
+  same_fault {laid = laid} {chunks = chunks} {c = c} {a = a} {g = g} small (inside lt h none x) (inside less i fine y) =
+      same_among small x (subst (λ (k : ℕ). FailAmong laid chunks (has_offsets laid k) a (c + 1) (a + head_size laid k) 0 (fields_at laid.table k) g) (same_con i h) y)
+
+  same_among : {laid : LaidOut} {chunks : List ℕ} {o : Bool} {h c a n : ℕ} {ts : List Ty} {f g : ImageFault} → length chunks < 2 ^ 64 → FailAmong laid chunks o h c a n ts f → FailAmong laid chunks o h c a n ts g → f ≡ g
+  same_among small (among.this t x) (among.this u y) = same_fault small x y
+  same_among {chunks = chunks} {o = o} {h = h} {a = a} {n = n} small (among.this t x) (among.misplaced {p = p} e ne) = absurd (not_misplaced chunks (slot_of o h n) a p t e ne)
+  same_among small (among.this t x) (among.later u d few y) = let r = value_late small refl d x in let past = r.past in absurd (omega (arith, past, few))
+  same_among {chunks = chunks} {o = o} {h = h} {a = a} {n = n} small (among.misplaced {p = p} e ne) (among.this u y) = absurd (not_misplaced chunks (slot_of o h n) a p u e ne)
+  same_among {o = o} {h = h} {n = n} small (among.misplaced {p = p} e ne) (among.misplaced {p = q} i ni) = ap (λ (x : ℕ). Bad x) (same_some (slot_of o h n) p q e i)
+  same_among {chunks = chunks} {o = o} {h = h} {a = a} {n = n} small (among.misplaced {p = p} e ne) (among.later u d few y) = absurd (not_misplaced chunks (slot_of o h n) a p u e ne)
+  same_among small (among.later t d few x) (among.this u y) = let r = value_late small refl d y in let past = r.past in absurd (omega (arith, past, few))
+  same_among {chunks = chunks} {o = o} {h = h} {a = a} {n = n} small (among.later t d few x) (among.misplaced {p = p} e ne) = absurd (not_misplaced chunks (slot_of o h n) a p t e ne)
+  same_among {laid = laid} {chunks = chunks} {o = o} {h = h} {c = c} {n = n} {g = g} small (among.later {ts = ts} t d few x) (among.later u e less y) =
+      same_among small x (subst₂ (λ (m z : ℕ). FailAmong laid chunks o h (c + m) z (n + 1) ts g) (same_items e d) (Dec-same e d).end y)
+  same_among small (among.past_whole x) (among.past_whole y) = same_among small x y
+  same_among small (among.past_truth x) (among.past_truth y) = same_among small x y
+
+-- an image is short
+chunks_small : {type : Ty} {bytes : List ℕ} → IsFormed type bytes → length (chunks_of bytes) < 2 ^ 64
+chunks_small {bytes = bytes} f = let a = f.few in let b = f.long in let c = length-drop 24 bytes in omega (arith, a, b, c)
 
 pub one_fault : {laid : LaidOut} {type : Ty} {bytes : List ℕ} {f g : ImageFault} → IsRefused laid type bytes f → IsRefused laid type bytes g → f ≡ g
 one_fault {type = ty.Whole} x y = absurd x.fails
 one_fault {type = ty.Truth} x y = absurd x.fails
-one_fault {type = ty.Tree t} x y = same_fault x.fails y.fails
+one_fault {type = ty.Tree t} x y = same_fault (chunks_small x.formed) x.fails y.fails
 
-tree_fails : {laid : LaidOut} {chunks : List ℕ} {a : ℕ} {t : TyId} {v : Datum} {f : ImageFault} (s : Stands laid (chunk_store chunks) (At a) (ty.Tree t) v) → met s ≤ 16777216 → Fails laid chunks 0 a t.0 f → ⊥
-tree_fails (a_tree d) few f = let r = value_late refl d f in let past = r.past in omega (arith, past, few)
+tree_fails : {laid : LaidOut} {chunks : List ℕ} {a : ℕ} {t : TyId} {v : Datum} {f : ImageFault} → length chunks < 2 ^ 64 → (s : Stands laid (chunk_store chunks) (At a) (ty.Tree t) v) → met s ≤ 16777216 → Fails laid chunks 0 a t.0 f → ⊥
+tree_fails small (a_tree d) few f = let r = value_late small refl d f in let past = r.past in omega (arith, past, few)
 
 pub not_refused : {laid : LaidOut} {type : Ty} {bytes : List ℕ} {v : Datum} {f : ImageFault} → IsRead laid type bytes v → IsRefused laid type bytes f → ⊥
 not_refused {type = ty.Whole} read x = x.fails
 not_refused {type = ty.Truth} read x = x.fails
-not_refused {type = ty.Tree t} read x = tree_fails read.image.stands read.few x.fails
+not_refused {type = ty.Tree t} read x = tree_fails (chunks_small x.formed) read.image.stands read.few x.fails

@@ -1,10 +1,11 @@
 -- What reading an image answers: the value, or the first fault in reading order.
-use Rattle.std.specs.Prelude.{◌≡◌, ℕ, ◌+◌, ◌<◌, ◌≤◌, List, [], ◌∷◌, length, Option, Some, None, slice_get, slice_index, nat_lt, if◌then◌else◌, Result, Ok, Err}
+use Rattle.std.specs.Prelude.{◌≡◌, ℕ, zero, suc, ◌+◌, ◌*◌, ◌<◌, ◌≤◌, List, [], ◌∷◌, length, take, drop, Bool, true, false, Option, Some, None, slice_get, slice_index, nat_lt, if◌then◌else◌, Result, Ok, Err}
+use Rattle.std.specs.Int.{w64, from_le_bytes}
 use Rattle.gib_types.specs.declared.table.Ty.{Ty}
 use Rattle.gib_types.specs.declared.table.Ty.TheVariants as ty
 use Rattle.gib_types.specs.declared.table.TyId.{TyId}
 use Rattle.gib_types.specs.Table.{con_at, fields_at}
-use Rattle.gib_types.specs.Layout.{LaidOut, layout_at, head_size}
+use Rattle.gib_types.specs.Layout.{LaidOut, layout_at, head_size, has_offsets}
 use Rattle.gib_types.specs.Tree.{Datum, Data}
 use Rattle.gib_mem.specs.Memory.{Store}
 use Rattle.gib_packed.specs.Decoding.{Dec, redirect, indirect, head, Decs, done, whole_field, truth_field, tree_field, Points}
@@ -44,6 +45,21 @@ first_bad chunks a (ty.Tree t ∷ ts) = first_bad chunks a ts
 abbrev pub scalars_at : LaidOut → ℕ → ℕ → ℕ
 scalars_at laid a k = a + 1 + (layout_at laid.table laid.with_offsets k).offsets
 
+-- The address that stands in eight bytes, the lowest first.
+abbrev pub stored_at : List ℕ → ℕ → ℕ
+stored_at chunks p = from_le_bytes w64 (take 8 (drop p chunks))
+
+-- Where the head at h stores the place of its packed field with number n (from 0), if it stores places: the first one's is not stored.
+abbrev pub slot_of : Bool → ℕ → ℕ → Option ℕ
+slot_of false h n = None
+slot_of true h zero = None
+slot_of true h (suc n) = Some (h + 1 + 8 * n)
+
+-- What is stored for a field, if anything, is this address.
+abbrev pub Tells : List ℕ → Option ℕ → ℕ → Type 0
+Tells chunks None a = Unit {0}
+Tells chunks (Some p) a = stored_at chunks p ≡ a
+
 -- At a stands the tag of a constructor of the type, and its head lies whole in the chunks.
 pub record HasHead (laid : LaidOut) (chunks : List ℕ) (a t k : ℕ) : Type 0 where
   pub tag : slice_get chunks a ≡ Some k
@@ -69,16 +85,18 @@ mutual
     refused : {c a t p : ℕ} → c < 16777216 → IsBad laid chunks a t p → Fails laid chunks c a t (Bad p)
     behind : {c a t b tag : ℕ} {fault : ImageFault} → c < 16777216 → 254 ≤ tag → Points (chunk_store chunks) a tag b → Fails laid chunks (c + 1) b t fault → Fails laid chunks c a t fault
     inside : {c a t k : ℕ} {fault : ImageFault} → c < 16777216 → HasHead laid chunks a t k → first_bad chunks (scalars_at laid a k) (fields_at laid.table k) ≡ None
-        → FailAmong laid chunks (c + 1) (a + head_size laid k) (fields_at laid.table k) fault → Fails laid chunks c a t fault
+        → FailAmong laid chunks (has_offsets laid k) a (c + 1) (a + head_size laid k) 0 (fields_at laid.table k) fault → Fails laid chunks c a t fault
 
-  -- FailAmong laid chunks c a ts fault: of fields of these types the packed ones stand one after another from a on; where c
-  -- items were met before, the first of them that fails comes to the fault.
-  pub data FailAmong (laid : LaidOut) (chunks : List ℕ) : ℕ → ℕ → List Ty → ImageFault → Type 0 where
-    this : {c a : ℕ} {t : TyId} {ts : List Ty} {fault : ImageFault} → Fails laid chunks c a t.0 fault → FailAmong laid chunks c a (ty.Tree t ∷ ts) fault
-    later : {c a y : ℕ} {t : TyId} {v : Datum} {ts : List Ty} {fault : ImageFault} → (d : Dec laid (chunk_store chunks) a t.0 v y) → FailAmong laid chunks (c + items d) y ts fault
-        → FailAmong laid chunks c a (ty.Tree t ∷ ts) fault
-    past_whole : {c a : ℕ} {ts : List Ty} {fault : ImageFault} → FailAmong laid chunks c a ts fault → FailAmong laid chunks c a (ty.Whole ∷ ts) fault
-    past_truth : {c a : ℕ} {ts : List Ty} {fault : ImageFault} → FailAmong laid chunks c a ts fault → FailAmong laid chunks c a (ty.Truth ∷ ts) fault
+  -- FailAmong laid chunks o h c a n ts fault: of the fields of these types, behind the head at h, the packed ones stand one after another
+  -- from a on, the first of them with number n; o is whether the head stores their places. Where c items were met before, reading them
+  -- comes to the fault: one of them fails, or its stored place is not where the one before ended.
+  pub data FailAmong (laid : LaidOut) (chunks : List ℕ) : Bool → ℕ → ℕ → ℕ → ℕ → List Ty → ImageFault → Type 0 where
+    this : {o : Bool} {h c a n : ℕ} {t : TyId} {ts : List Ty} {fault : ImageFault} → Tells chunks (slot_of o h n) a → Fails laid chunks c a t.0 fault → FailAmong laid chunks o h c a n (ty.Tree t ∷ ts) fault
+    misplaced : {o : Bool} {h c a n p : ℕ} {t : TyId} {ts : List Ty} → slot_of o h n ≡ Some p → (stored_at chunks p ≡ a → ⊥) → FailAmong laid chunks o h c a n (ty.Tree t ∷ ts) (Bad p)
+    later : {o : Bool} {h c a n y : ℕ} {t : TyId} {v : Datum} {ts : List Ty} {fault : ImageFault} → Tells chunks (slot_of o h n) a → (d : Dec laid (chunk_store chunks) a t.0 v y) → c + items d ≤ 16777216
+        → FailAmong laid chunks o h (c + items d) y (n + 1) ts fault → FailAmong laid chunks o h c a n (ty.Tree t ∷ ts) fault
+    past_whole : {o : Bool} {h c a n : ℕ} {ts : List Ty} {fault : ImageFault} → FailAmong laid chunks o h c a n ts fault → FailAmong laid chunks o h c a n (ty.Whole ∷ ts) fault
+    past_truth : {o : Bool} {h c a n : ℕ} {ts : List Ty} {fault : ImageFault} → FailAmong laid chunks o h c a n ts fault → FailAmong laid chunks o h c a n (ty.Truth ∷ ts) fault
 
 -- The bytes are an image of the value, in which it is read in at most 16,777,216 items.
 pub record IsRead (laid : LaidOut) (type : Ty) (bytes : List ℕ) (v : Datum) : Type 0 where
