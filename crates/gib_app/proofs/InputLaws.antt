@@ -28,6 +28,7 @@ use Rattle.gib_app.specs.declared.input_fault.PackedFault.TheVariants.{Header, S
 use Rattle.gib_app.specs.declared.plan.Job.{Job}
 use Rattle.gib_app.specs.declared.plan.Job.TheVariants.{Run, Plain, Check, Core, Code, Pack, Show}
 use Rattle.gib_app.specs.InputFaults.{IsPayloadFault, IsFileFault, IsInputFault, IsImageFault, IsShowFault, IsTextFault}
+use Rattle.gib_app.specs.Plan.{Contents}
 use Rattle.gib_app.specs.Formats.{Accepts, Refuses}
 use Rattle.gib_app.specs.Packing.{without_feed, IsPackedText}
 use Rattle.gib_app.specs.Running.{IsInput, IsShownValue}
@@ -180,15 +181,6 @@ module _ (p : ProgramTree) (names : List (List ℕ)) (laws : Laws (table_of_prog
   one_text (Text place) (Packed g) h k = absurd k
   one_text (Text a) (Text b) h k = ap Text (laws.one_place (input_type p) (without_feed bytes) a b h.1 k.1)
 
-  pub one_refusal : (job : Job) (f g : InputFault) → Refuses job p names bytes f → Refuses job p names bytes g → f ≡ g
-  one_refusal Run f g h k = one_input f g h k
-  one_refusal Plain f g h k = one_input f g h k
-  one_refusal Check f g h k = absurd h
-  one_refusal Core f g h k = absurd h
-  one_refusal Code f g h k = absurd h
-  one_refusal Pack f g h k = one_text f g h k
-  one_refusal Show f g h k = one_show f g h k
-
   -- A file that is refused is not accepted.
 
   not_input : (f : InputFault) (v : Datum) → IsInputFault p bytes f → IsInput p v bytes → ⊥
@@ -235,11 +227,22 @@ module _ (p : ProgramTree) (names : List (List ℕ)) (laws : Laws (table_of_prog
   not_text (Image f) file h is = h
   not_text (Text place) file h is = laws.no_text (input_type p) (without_feed bytes) place is.value h.1 is.is_text
 
-  pub not_accepted : (job : Job) (f : InputFault) → Refuses job p names bytes f → Accepts job p names bytes → ⊥
-  not_accepted Run f h a = not_input f a.0 h a.1
-  not_accepted Plain f h a = not_input f a.0 h a.1
+-- The inputs of a job.
+module _ (p : ProgramTree) (names : List (List ℕ)) (laws : Laws (table_of_program p) names) (given : Contents) where
+  pub one_refusal : (job : Job) (f g : InputFault) → Refuses job p names given f → Refuses job p names given g → f ≡ g
+  one_refusal Run f g h k = one_input p names laws given.second f g h k
+  one_refusal Plain f g h k = one_input p names laws given.second f g h k
+  one_refusal Check f g h k = absurd h
+  one_refusal Core f g h k = absurd h
+  one_refusal Code f g h k = absurd h
+  one_refusal Pack f g h k = one_text p names laws given.second f g h k
+  one_refusal Show f g h k = one_show p names laws given.second f g h k
+
+  pub not_accepted : (job : Job) (f : InputFault) → Refuses job p names given f → Accepts job p names given → ⊥
+  not_accepted Run f h a = not_input p names laws given.second f a.0 h a.1
+  not_accepted Plain f h a = not_input p names laws given.second f a.0 h a.1
   not_accepted Check f h a = h
   not_accepted Core f h a = h
   not_accepted Code f h a = h
-  not_accepted Pack f h a = not_text f a.0 h a.1
-  not_accepted Show f h a = not_shown f a.0 h a.1
+  not_accepted Pack f h a = not_text p names laws given.second f a.0 h a.1
+  not_accepted Show f h a = not_shown p names laws given.second f a.0 h a.1

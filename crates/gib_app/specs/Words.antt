@@ -1,6 +1,6 @@
 -- What the words of a command line ask for.
 use Rattle.std.specs.Prelude.{ℕ, Bool, true, false, if◌then◌else◌, List, [], ◌∷◌, ◌++◌, map, fold, codes}
-use Rattle.std.specs.Prelude.{Option, Some, None, is_some, option_map, option_and_then, find}
+use Rattle.std.specs.Prelude.{Option, Some, None, is_some, option_map, option_and_then, option_to_list, find}
 use Rattle.std.specs.String.{string_bytes}
 use Rattle.std.specs.declared.string.String.{String}
 use Rattle.std.specs.declared.alloc.Global.{Global}
@@ -134,7 +134,7 @@ arguments_of form = positional (codes "source") ∷ (place_of form.second ++ (ta
 -- What a command asks for.
 abbrev pub planned : Job → Option Text → Target → List Row → Option Plan
 planned job second target rows =
-    with_value (with_value (option_map (λ s t u. record { source = s; second = t; target = u; job = job; options = options_of rows }) (file_of (codes "source") rows))
+    with_value (with_value (option_map (λ s t u. record { first = []; source = s; inputs = option_to_list t; target = u; job = job; options = options_of rows }) (file_of (codes "source") rows))
     (second_in second rows)) (target_in target rows)
 
 -- `run SOURCE INPUT [--depth N] [--chunks N] [--image FILE]`.
@@ -186,9 +186,9 @@ command_set = fold (λ app form. with_subcommand app (app_for form).top) bare_pr
 
 -- The product's own program on its own input.
 abbrev pub sample : Plan
-sample = record { source = BuiltIn sample_source; second = Some (BuiltIn sample_input); target = None; job = Run; options = usual }
+sample = record { first = []; source = BuiltIn sample_source; inputs = BuiltIn sample_input ∷ []; target = None; job = Run; options = usual }
 
--- Whether words are taken, the program's name first: at most one, or those that clap takes.
+-- Whether words are taken, the program's name first: at most one, or option_to_list that clap takes.
 abbrev pub taken : List Text → Bool
 taken [] = true
 taken (program ∷ []) = true
