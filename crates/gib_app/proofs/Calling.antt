@@ -1,5 +1,5 @@
 -- Items that are added at an end, in turn.
-use Rattle.std.proofs.Common.{◌≡◌, ◌∙◌, refl, ℕ, zero, suc, List, [], ◌∷◌, ◌++◌, length, take, Option, Some, None, IfSome, Result, Ok, Err, OnOk, OnErr, subst, sym, ap, append_assoc, option_map, option_to_list}
+use Rattle.std.proofs.Common.{◌≡◌, ◌∙◌, refl, ℕ, zero, suc, List, [], ◌∷◌, ◌++◌, length, take, Option, Some, None, IfSome, Result, Ok, Err, OnOk, OnErr, subst, sym, ap, append_assoc, codes, option_map, option_to_list}
 use Rattle.gib_edge.specs.Causes.{HasCause, Appends, AppendsPart}
 use Rattle.std.specs.Option.{option_map_or}
 use Rattle.gib_edge.specs.Views.{Call, WriteOf, SinkView}
@@ -9,7 +9,7 @@ use Rattle.gib_app.specs.Kept.{document_of, input_of}
 use Rattle.gib_app.specs.Plan.{Document, Plan}
 use Rattle.gib_app.specs.Words.{asked}
 use Rattle.gib_app.specs.Calls.{read_calls, input_calls, write_calls, calls_of, calls_asked}
-use Rattle.gib_app.specs.Lines.{IsPut}
+use Rattle.gib_app.specs.Lines.{IsPut, line}
 
 take_length : {X : Type 0} (xs : List X) → take (length xs) xs ≡ xs
 take_length [] = refl
@@ -60,10 +60,17 @@ added_part {X} (Some l) b c xs ys h k =
     let m = front_after xs q.0 ys in
     (m.0, q.1 ∙ ap Some (append_assoc l xs (take q.0 ys) ∙ ap (λ zs. l ++ zs) m.1))
 
-pub is_put : {T E : Type 0} (r : Result T E) (before now : SinkView) (said : List ℕ) → OnOk r (Appends before.taken now.taken said) → OnErr r (AppendsPart before.taken now.taken said) →
-    HasCause before.faults now.faults r → IsPut before now said
-is_put (Ok x) before now said ok part cause = record { later = cause.later; whole = λ quiet. ok; part = added_whole before.taken now.taken said ok }
-is_put (Err e) before now said ok part cause = record { later = cause.later; whole = λ quiet. absurd (quiet cause.failed); part = part }
+not_empty : (xs : List ℕ) (y : ℕ) → xs ++ y ∷ [] ≡ [] → ⊥
+not_empty [] y e = cc
+not_empty (x ∷ xs) y e = cc
+
+some_said : (said : List ℕ) → line said ≡ [] → ⊥
+some_said said e = not_empty (codes "gib: " ++ said) 10 e
+
+pub is_put : {T E : Type 0} (r : Result T E) (before now : SinkView) (said : List ℕ) → OnOk r (Appends before.taken now.taken (line said)) → OnErr r (AppendsPart before.taken now.taken (line said)) →
+    HasCause before.faults now.faults r → IsPut before now (line said)
+is_put (Ok x) before now said ok part cause = record { later = cause.later; none = λ e. absurd (some_said said e); whole = λ quiet. ok; part = added_whole before.taken now.taken (line said) ok }
+is_put (Err e) before now said ok part cause = record { later = cause.later; none = λ e. absurd (some_said said e); whole = λ quiet. absurd (quiet cause.failed); part = part }
 
 -- The calls of a request, by its parts
 

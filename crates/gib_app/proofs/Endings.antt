@@ -22,7 +22,7 @@ use Rattle.gib_app.specs.declared.plan.Job.TheVariants.{Run, Plain, Check, Core,
 use Rattle.gib_app.specs.declared.plan.Options.{Options}
 use Rattle.gib_app.specs.declared.made.Reason.{Reason}
 use Rattle.gib_app.specs.declared.made.Reason.TheVariants.{Deep, Full}
-use Rattle.gib_app.specs.Plan.{Write, Plan, Files, bytes_in, Contents}
+use Rattle.gib_app.specs.Plan.{Document, Write, Plan, Files, bytes_in, Contents}
 use Rattle.gib_app.specs.Writes.{at_reading, with_write, IsStuckIn, IsNamedIn}
 use Rattle.gib_app.specs.Words.{asked}
 use Rattle.gib_app.specs.Running.{IsProgram, IsSource, IsNoProgram, IsOutput, RunsOut}

@@ -17,7 +17,7 @@ use Rattle.gib_app.specs.declared.plan.Job.TheVariants.{Run}
 use Rattle.gib_app.specs.declared.plan.Options.{Options}
 use Rattle.gib_app.specs.Plan.{Document, Plan, bytes_in}
 use Rattle.gib_app.specs.Words.{asked}
-use Rattle.gib_print.specs.Image.{IsImageOf}
+use Rattle.gib_print.specs.Image.{IsImageOf, chunk_count}
 use Rattle.gib_app.specs.Cores.{core_after, layouts_of}
 use Rattle.gib_app.specs.Causes.{IsUnread}
 
@@ -54,12 +54,13 @@ pub record IsResult (source input : List ℕ) (depth : ℕ) (output : List ℕ) 
   pub means : run given.program depth given.value ≡ Gives result
   pub is_text : output ≡ text (table_of_program given.program) given.lexed.names result ++ 10 ∷ []
 
--- The bytes are an image in whose chunks the value stands that the program means on the input within the depth.
-pub record IsResultImage (source input : List ℕ) (skips : Bool) (depth : ℕ) (bytes : List ℕ) : Type 0 where
+-- The bytes are an image of at most so many chunks, in which the value stands that the program means on the input within the depth.
+pub record IsResultImage (source input : List ℕ) (skips : Bool) (depth chunks : ℕ) (bytes : List ℕ) : Type 0 where
   pub given : Given source input
   pub result : Datum
   pub means : run given.program depth given.value ≡ Gives result
   pub image : IsImageOf (layouts_of skips given.program) (output_type given.program) bytes result
+  pub few : chunk_count bytes ≤ chunks
 
 -- The program's meaning on the input runs out of depth.
 pub record IsTooDeep (source input : List ℕ) (depth : ℕ) : Type 0 where

@@ -35,14 +35,14 @@ Means p names depth input file (NoValue Deep) = (file ≡ None) × RunsOut p dep
 Means p names depth input file (NoValue Full) = ⊥
 
 -- Where an image is asked for, it is the file that a run makes; else there is none.
-abbrev pub MakesImage : Bool → ProgramTree → (skips : Bool) → (depth : ℕ) → List ℕ → Option (List ℕ) → Type 0
-MakesImage false p skips depth input file = file ≡ None
-MakesImage true p skips depth input None = ⊥
-MakesImage true p skips depth input (Some bytes) = IsRunImage p skips depth input bytes
+abbrev pub MakesImage : Bool → ProgramTree → (skips : Bool) → (depth chunks : ℕ) → List ℕ → Option (List ℕ) → Type 0
+MakesImage false p skips depth chunks input file = file ≡ None
+MakesImage true p skips depth chunks input None = ⊥
+MakesImage true p skips depth chunks input (Some bytes) = IsRunImage p skips depth chunks input bytes
 
 -- `run`: the same, and its image, where that is asked for; or so many chunks of memory may not be enough.
 abbrev pub Runs : ProgramTree → List (List ℕ) → Options → List ℕ → Option (List ℕ) → End → Type 0
-Runs p names options input file (Prints text) = MakesImage options.image p options.skips options.depth input file × IsOutput p names options.depth input text
+Runs p names options input file (Prints text) = MakesImage options.image p options.skips options.depth options.chunks input file × IsOutput p names options.depth input text
 Runs p names options input file (NoValue Deep) = (file ≡ None) × RunsOut p options.depth input
 Runs p names options input file (NoValue Full) = (file ≡ None) × FillsUp p options.skips options.depth options.chunks input
 

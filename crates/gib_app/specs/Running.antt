@@ -6,7 +6,7 @@ use Rattle.gib_file.specs.Framed.{File}
 use Rattle.gib_value.specs.Text.{text}
 use Rattle.gib_syntax.specs.Tree.{ProgramTree}
 use Rattle.gib_syntax.specs.Source.{Spells}
-use Rattle.gib_print.specs.Image.{IsImageOf}
+use Rattle.gib_print.specs.Image.{IsImageOf, chunk_count}
 use Rattle.gib_print.specs.ImageReading.{IsRead}
 use Rattle.gib_syntax.specs.Declarations.{table_of_program, input_type, output_type}
 use Rattle.gib_syntax.specs.Typing.{IsTypedProgram}
@@ -46,13 +46,15 @@ pub record IsOutput (p : ProgramTree) (names : List (List ℕ)) (depth : ℕ) (i
   pub means : run p depth value ≡ Gives result
   pub is_text : output ≡ text_line p names result
 
--- The bytes are an image in which the value stands that the program means on the input within the depth.
-pub record IsRunImage (p : ProgramTree) (skips : Bool) (depth : ℕ) (input bytes : List ℕ) : Type 0 where
+-- The bytes are an image in which the value stands that the program means on the input within the depth, and have at most so many
+-- chunks.
+pub record IsRunImage (p : ProgramTree) (skips : Bool) (depth chunks : ℕ) (input bytes : List ℕ) : Type 0 where
   pub value : Datum
   pub result : Datum
   pub is_input : IsInput p value input
   pub means : run p depth value ≡ Gives result
   pub image : IsImageOf (layouts_of skips p) (output_type p) bytes result
+  pub few : chunk_count bytes ≤ chunks
 
 -- The program's meaning on the input runs out of depth.
 pub record RunsOut (p : ProgramTree) (depth : ℕ) (input : List ℕ) : Type 0 where

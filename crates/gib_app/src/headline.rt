@@ -21,10 +21,11 @@ pub fn run_prints_what_is_meant()
     ensures done { (tells : Bool) (words : List (List ℕ)) (before now : ShelfView) (out out_now : SinkView) (source input : List ℕ) (options : OptionValues) (front said : List ℕ)
         → IsRun words before out source input options front → IsEnding tells words before now out out_now Status.Done said
         → (output : List ℕ) × IsResult source input options.depth output × (out_now.taken ≡ Some (front ++ output)) }
-    // With an image asked for and status 0: under its name bytes were written in whose chunks that value stands.
+    // With an image asked for and status 0: under its name an image was written in whose chunks that value stands, and these are no more
+    // than there may be.
     ensures image { (tells : Bool) (words : List (List ℕ)) (before now : ShelfView) (out out_now : SinkView) (source input : List ℕ) (options : OptionValues) (front said name : List ℕ)
         → (r : IsRun words before out source input options front) → r.image ≡ Some name → IsEnding tells words before now out out_now Status.Done said
-        → (bytes : List ℕ) × (now.kept name ≡ told tells bytes) × IsResultImage source input options.skips options.depth bytes }
+        → (bytes : List ℕ) × (now.kept name ≡ told tells bytes) × IsResultImage source input options.skips options.depth options.chunks bytes }
     // Status 3: the meaning runs out of depth.
     ensures deep { (tells : Bool) (words : List (List ℕ)) (before now : ShelfView) (out out_now : SinkView) (source input : List ℕ) (options : OptionValues) (front said : List ℕ)
         → IsRun words before out source input options front → IsEnding tells words before now out out_now Status.Depth said → IsTooDeep source input options.depth }

@@ -1,12 +1,12 @@
 //! The image of what a run leaves, and its text.
 
-ghost use Rattle.std.specs.Prelude.{◌≡◌, ℕ, List, IfOk};
+ghost use Rattle.std.specs.Prelude.{◌≡◌, ℕ, List, Some, IfOk};
 ghost use Rattle.gib_mem.specs.Memory.{Memory as MemoryView};
 ghost use Rattle.gib_types.specs.declared.table.Ty.{Ty as Type_of};
 ghost use Rattle.gib_types.specs.Tree.{Datum};
 ghost use Rattle.gib_value.specs.Text.{AreHeld};
 ghost use Rattle.gib_packed.specs.Stands.{Stands};
-ghost use Rattle.gib_print.specs.Image.{IsImageOf};
+ghost use Rattle.gib_print.specs.Image.{IsImageOf, image_of as memory_image};
 ghost use Rattle.gib_syntax.specs.Tree.{ProgramTree};
 ghost use Rattle.gib_app.specs.Imaging.{IsImaged};
 ghost use Rattle.gib_app.specs.Kept.{file_of};
@@ -33,6 +33,7 @@ const MOST_CHUNKS: u32 = 65_536;
 fn image_of(alloc: Global, ran: &mut Ran) -> Result<Vec<u8>, Memory>
     ensures image { IfOk result (λ bytes. (ty : Type_of) (v : Datum)
         → Stands ran.old.lowered.code.laid (⟦<PlainMem as Mem>⟧.view ran.old.memory).cells ran.old.root ty v → IsImageOf ran.old.lowered.code.laid ty bytes.items v) }
+    ensures bytes { IfOk result (λ bytes. bytes.items ≡ memory_image (⟦<PlainMem as Mem>⟧.view ran.old.memory) ran.old.root) }
     ensures same { ⟦<PlainMem as Mem>⟧.view ran.new.memory ≡ ⟦<PlainMem as Mem>⟧.view ran.old.memory }
     ensures kept { ran.new.lowered ≡ ran.old.lowered }
     ensures root { ran.new.root ≡ ran.old.root }
@@ -72,8 +73,10 @@ fn text_of(alloc: Global, ran: &mut Ran, names: &Names) -> Result<Vec<u8>, Memor
 pub fn with_image(alloc: Global, mut value: Valued) -> Result<Made, Memory>
     requires names { AreHeld value.ran.lowered.code.laid.table value.names }
     requires stands { (p : ProgramTree) × (depth : ℕ) × (input : List ℕ) × StandsMeant p depth input value.ran.lowered.code.laid (⟦<PlainMem as Mem>⟧.view value.ran.memory).cells value.ran.root }
-    ensures { (p : ProgramTree) (depth : ℕ) (input : List ℕ) (s : StandsMeant p depth input value.ran.lowered.code.laid (⟦<PlainMem as Mem>⟧.view value.ran.memory).cells value.ran.root)
-        → IfOk result (λ made. IsImaged value.ran.lowered.code.laid p value.names s.result (file_of made) made.end) }
+    ensures made { (p : ProgramTree) (depth : ℕ) (input : List ℕ) (s : StandsMeant p depth input value.ran.lowered.code.laid (⟦<PlainMem as Mem>⟧.view value.ran.memory).cells value.ran.root)
+        → IfOk result (λ made. IsImaged value.ran.lowered.code.laid (⟦<PlainMem as Mem>⟧.view value.ran.memory).limit p value.names s.result (file_of made) made.end) }
+    // It is the image of the very memory that the run leaves.
+    ensures file { IfOk result (λ made. file_of made ≡ Some (memory_image (⟦<PlainMem as Mem>⟧.view value.ran.memory) value.ran.root)) }
 {
     let bytes = image_of(alloc, &mut value.ran)?;
     let text = text_of(alloc, &mut value.ran, &value.names)?;

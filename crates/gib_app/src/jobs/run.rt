@@ -26,7 +26,7 @@ use std::alloc::Global;
 fn finish(alloc: Global, value: Valued, image: bool) -> Result<Made, Stop<'static>>
     requires names { AreHeld value.ran.lowered.code.laid.table value.names }
     requires stands { (p : ProgramTree) × (depth : ℕ) × (input : List ℕ) × StandsMeant p depth input value.ran.lowered.code.laid (⟦<PlainMem as Mem>⟧.view value.ran.memory).cells value.ran.root }
-    ensures made { (p : ProgramTree) (options : OptionValues) (input : List ℕ) → value.ran.lowered.code.laid ≡ layouts_of options.skips p → options.image ≡ image
+    ensures made { (p : ProgramTree) (options : OptionValues) (input : List ℕ) → value.ran.lowered.code.laid ≡ layouts_of options.skips p → options.image ≡ image → (⟦<PlainMem as Mem>⟧.view value.ran.memory).limit ≡ options.chunks
         → (s : StandsMeant p options.depth input value.ran.lowered.code.laid (⟦<PlainMem as Mem>⟧.view value.ran.memory).cells value.ran.root)
         → IfOk result (λ made. EndsBy (file_of made) made.end (Runs p value.names options input)) }
     ensures memory { IfErr result (λ stop. stop ≡ Stop.Memory) }

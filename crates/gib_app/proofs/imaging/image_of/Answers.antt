@@ -20,3 +20,11 @@ returns-clause-image c =
     IfOk-weaker c.image.result _ _
     (λ bytes is. image_stands c.written_is_read.ensures c.args.ran.now.lowered.code.laid (view before) place bytes.items
     (plain_bounded before.bytes.items before.drawn before.limit before.plain) few (is ∙ ap (λ (m : Memory). image_of m place) same)) c.image.ensures.image
+
+pub returns-clause-bytes : goal.returns-clause-bytes
+returns-clause-bytes c =
+    let before : PlainMem = c.args.ran.now.memory in
+    let place = c.args.ran.now.root in
+    let drawn : c.chunks.result ≡ before.drawn = c.chunks.ensures.alone refl in
+    let same : view c.chunks.new.self ≡ view before = c.chunks.ensures.value ∙ ap (λ (n : ℕ). with_drawn (view before) n) drawn in
+    IfOk-weaker c.image.result _ _ (λ bytes is. is ∙ ap (λ (m : Memory). image_of m place) same) c.image.ensures.image

@@ -16,7 +16,7 @@ pub finish-requires-clause-stands : goal.finish-requires-clause-stands
 finish-requires-clause-stands c = (program_of c.args.compiled.typed, c.args.options.depth, c.args.input.now, c.in-Ok.ensures.stands)
 
 pub returns-in-Ok-clause-made : goal.returns-in-Ok-clause-made
-returns-in-Ok-clause-made c = c.finish.ensures.made (program_of c.args.compiled.typed) c.args.options c.args.input.now c.in-Ok.ensures.laid refl c.in-Ok.ensures.stands
+returns-in-Ok-clause-made c = c.finish.ensures.made (program_of c.args.compiled.typed) c.args.options c.args.input.now c.in-Ok.ensures.laid refl c.in-Ok.ensures.limit c.in-Ok.ensures.stands
 
 pub returns-in-Ok-clause-stop : goal.returns-in-Ok-clause-stop
 returns-in-Ok-clause-stop c = memory_stops c.finish.result (program_of c.args.compiled.typed) c.args.input.now c.finish.ensures.memory
