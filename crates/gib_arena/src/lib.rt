@@ -10,6 +10,7 @@ mod calls;
 mod law;
 mod memory;
 mod rule;
+mod sole_mem;
 #[cfg(test)]
 mod tests;
 mod view;
@@ -18,4 +19,5 @@ pub use arena_mem::ArenaMem;
 pub use calls::{arena, close};
 pub use law::{names_tell, rule_says};
 pub use memory::{Arena, Pass};
+pub use sole_mem::SoleMem;
 pub use view::{Branch, Holding, View};
