@@ -1,11 +1,11 @@
--- The law of a memory, of what a pass shows, and of what the first one shows with its arena.
+-- The law of a memory, of what a pass shows.
 use Rattle.std.specs.Prelude.{◌≡◌, ℕ, ◌+◌, ◌*◌, ◌^◌, ◌<◌}
 use Rattle.std.proofs.Common.{ap, arith}
 use Rattle.atomic_table.specs.Seated.{TableId}
 use Rattle.gib_mem.specs.Memory.{IsBounded}
 use Rattle.gib_arena.specs.declared.view.View.{View}
 use Rattle.gib_arena.specs.Steps.{IsSoundView}
-use Rattle.gib_arena.specs.Shown.{shown, shown_alone}
+use Rattle.gib_arena.specs.Shown.{shown}
 use Rattle.gib_arena.specs.CellLaws.{bounded}
 
 pub shown_bounded : (z its : TableId) (v : View) (limit : ℕ) → z ≡ its → IsSoundView v → z.words ≡ 512 * v.branch.limit + 1 → its.words ≡ 512 * limit + 1 → limit < 2 ^ 32 → IsBounded (shown z v)
@@ -14,6 +14,3 @@ shown_bounded z its v limit same s a b c = let w = ap (λ (z : TableId). z.words
   order = s.seen_in;
   small = omega arith;
 }
-
-pub alone_bounded : (z its : TableId) (v : View) (limit : ℕ) → z ≡ its → IsSoundView v → z.words ≡ 512 * v.branch.limit + 1 → its.words ≡ 512 * limit + 1 → limit < 2 ^ 32 → IsBounded (shown_alone v)
-alone_bounded z its v limit same s a b c = let m = shown_bounded z its v limit same s a b c in record { above = m.above; order = m.order; small = m.small }

@@ -44,11 +44,9 @@ impl SoleMem {
 }
 
 impl Mem for SoleMem {
-    ghost use Rattle.gib_arena.specs.Passes.{view};
-    ghost use Rattle.gib_arena.specs.Shown.{shown_alone};
-    ghost use Rattle.gib_arena.specs.ShownLaws.{alone_bounded};
+    ghost use Rattle.gib_arena.specs.Sole.{sole_memory, sole_bounded};
 
-    ghost view = { λ m. shown_alone (view m.pass) };
+    ghost view = { sole_memory };
 
     fn draw(&mut self) -> Option<u32> {
         self.pass.draw(&self.arena)
@@ -70,5 +68,5 @@ impl Mem for SoleMem {
         self.pass.chunks(&self.arena)
     }
 
-    ghost bounded = { λ m. alone_bounded m.pass.seat.table_id m.arena.table.shared.table_id (view m.pass) m.arena.limit m.of m.pass.sound m.pass.sized m.arena.sized m.arena.small };
+    ghost bounded = { sole_bounded };
 }
