@@ -2,7 +2,8 @@
 //!
 //! An arena is a table of words; whoever puts or reads has a pass of it. What a pass owns, knows and saw is its view, which
 //! is no data at run time. One rule ties the words to all views; each call is one step of the table (`join` two, `draw` some
-//! tries), keeps the rule, and tells its caller what the rule says of the pass. No call but `arena` takes memory, none waits.
+//! tries), keeps the rule, and tells its caller what the rule says of the pass. No call but `arena` and `SoleMem::make` takes
+//! memory, none waits.
 #![tactic(auto)]
 
 mod arena_mem;
