@@ -6,8 +6,6 @@ use Rattle.gib_types.specs.Loaded.{Loaded}
 use Rattle.gib_types.specs.Table.{Table}
 use Rattle.gib_types.specs.Tree.{Datum, whole, truth, con, constructors}
 use Rattle.gib_mem.specs.Memory.{Memory, Store}
-use Rattle.gib_mem.specs.Plain.{plain_cells}
-use Rattle.gib_mem.specs.declared.plain.PlainMem.{PlainMem}
 use Rattle.gib_packed.specs.declared.root.Root.{Root}
 use Rattle.gib_packed.specs.declared.root.Root.TheVariants as root
 use Rattle.gib_packed.specs.Stands.{Stands, a_whole, a_truth, a_tree}
@@ -42,7 +40,7 @@ use Rattle.gib_app.specs.declared.stop.Stop.TheVariants as stop
 use Rattle.gib_app.specs.Cores.{core_after, layouts_of}
 use Rattle.gib_app.specs.Running.{IsInput}
 use Rattle.gib_app.specs.Stops.{IsRunStop}
-use Rattle.gib_app.specs.MachineRun.{StandsMeant, LacksValue, IsMachineStop, IsRootOf, Lacks, Halts, EndsWith, program_cost}
+use Rattle.gib_app.specs.MachineRun.{cells_of, StandsMeant, LacksValue, IsMachineStop, IsRootOf, Lacks, Halts, EndsWith, program_cost}
 
 -- A value that was loaded is where a run may start.
 pub start_of : (l : LoweredParts) (laid : LaidOut) (ty : Ty) (v : Datum) (m : Memory) (place : Root) (tails : List ℕ) → laid ≡ l.code.laid → ty ≡ (core_of l.core).main.parameter
@@ -167,10 +165,6 @@ stop_meant p skips depth chunks input v l of is stop.Memory h = h
 stop_meant p skips depth chunks input v l of is (stop.Unwritten name) h = h
 stop_meant p skips depth chunks input v l of is stop.Unput h = h
 
--- The region memory of a run.
-abbrev pub store_of : PlainMem → Store
-store_of m = plain_cells m.bytes.items m.drawn
-
 -- A survey's value is the input.
 input_of : (p : ProgramTree) (input : List ℕ) (s : Surveyed) → length input ≤ 16777216 → ((v : Datum) → Packed s.table s.ty v s.bytes → File (table_of_program p) (input_type p) v input)
     → (v : Datum) → Packed s.table s.ty v s.bytes → IsInput p v input
@@ -179,10 +173,10 @@ input_of p input s short file v q = record { short = short; file = file v q }
 -- The run of a program on a survey that is of the input.
 pub survey_stands : (p : ProgramTree) (skips : Bool) (depth : ℕ) (input : List ℕ) (s : Surveyed) (l : LoweredParts) → IsOfProgram p skips l → length input ≤ 16777216 → IsPacked s.table s.ty s.bytes s.count
     → ((v : Datum) → Packed s.table s.ty v s.bytes → File (table_of_program p) (input_type p) v input) → (r : Result Ran Stop) → IfOk r (λ ran. ran.lowered ≡ l)
-    → IfOk r (λ ran. (v : Datum) → Packed s.table s.ty v s.bytes → IsRootOf l.code.laid (store_of ran.memory) (core_of l.core).main.result (core_run (core_of l.core) depth v) ran.root)
-    → IfOk r (λ ran. StandsMeant p depth input ran.lowered.code.laid (store_of ran.memory) ran.root)
+    → IfOk r (λ ran. (v : Datum) → Packed s.table s.ty v s.bytes → IsRootOf l.code.laid (cells_of ran.memory) (core_of l.core).main.result (core_run (core_of l.core) depth v) ran.root)
+    → IfOk r (λ ran. StandsMeant p depth input ran.lowered.code.laid (cells_of ran.memory) ran.root)
 survey_stands p skips depth input s l of short packed file (Ok ran) same ends =
-    root_meant p skips depth input packed.0 l ran.lowered (store_of ran.memory) ran.root of (input_of p input s short file packed.0 packed.1) same (ends packed.0 packed.1)
+    root_meant p skips depth input packed.0 l ran.lowered (cells_of ran.memory) ran.root of (input_of p input s short file packed.0 packed.1) same (ends packed.0 packed.1)
 survey_stands p skips depth input s l of short packed file (Err why) same ends = tt {0}
 
 pub survey_stops : (p : ProgramTree) (skips : Bool) (depth chunks : ℕ) (input : List ℕ) (s : Surveyed) (l : LoweredParts) → IsOfProgram p skips l → length input ≤ 16777216 → IsPacked s.table s.ty s.bytes s.count
@@ -196,10 +190,10 @@ survey_stops p skips depth chunks input s l of short packed file (Err why) ends 
 pub survey_only : (p : ProgramTree) (skips : Bool) (depth chunks : ℕ) (input : List ℕ) (s : Surveyed) (l : LoweredParts) → IsOfProgram p skips l → length input ≤ 16777216 → IsPacked s.table s.ty s.bytes s.count
     → ((v : Datum) → Packed s.table s.ty v s.bytes → File (table_of_program p) (input_type p) v input)
     → ((table : Table) (ty : Ty) (v w : Datum) (bytes : List ℕ) → File table ty v bytes → File table ty w bytes → v ≡ w) → (r : Result Ran Stop) → IfOk r (λ ran. ran.lowered ≡ l)
-    → IfOk r (λ ran. (v : Datum) → Packed s.table s.ty v s.bytes → IsRootOf l.code.laid (store_of ran.memory) (core_of l.core).main.result (core_run (core_of l.core) depth v) ran.root)
+    → IfOk r (λ ran. (v : Datum) → Packed s.table s.ty v s.bytes → IsRootOf l.code.laid (cells_of ran.memory) (core_of l.core).main.result (core_run (core_of l.core) depth v) ran.root)
     → IfErr r (λ why. (v : Datum) → Packed s.table s.ty v s.bytes → Halts (core_run (core_of l.core) depth v) chunks (run_cost (core_of l.core) depth 0 v) why)
     → (v : Datum) → IsInput p v input
-    → MatchResult r (λ ran. IsRootOf ran.lowered.code.laid (store_of ran.memory) (output_type p) (run p depth v) ran.root) (Halts (run p depth v) chunks (program_cost p skips depth v))
+    → MatchResult r (λ ran. IsRootOf ran.lowered.code.laid (cells_of ran.memory) (output_type p) (run p depth v) ran.root) (Halts (run p depth v) chunks (program_cost p skips depth v))
 survey_only p skips depth chunks input s l of short packed file one (Ok ran) same root halts v is =
     let meant = survey_stands p skips depth input s l of short packed file (Ok ran) same root in
     record {

@@ -4,8 +4,8 @@ use Rattle.gib_types.specs.declared.table.Ty.{Ty}
 use Rattle.gib_types.specs.Layout.{LaidOut}
 use Rattle.gib_types.specs.Tree.{Datum}
 use Rattle.gib_mem.specs.Memory.{Store}
-use Rattle.gib_mem.specs.Plain.{plain_cells}
-use Rattle.gib_mem.specs.declared.plain.PlainMem.{PlainMem}
+use Rattle.gib_arena.specs.Sole.{sole_memory}
+use Rattle.gib_arena.specs.declared.sole_mem.SoleMem.{SoleMem}
 use Rattle.gib_packed.specs.Stands.{Stands}
 use Rattle.gib_packed.specs.declared.root.Root.{Root}
 use Rattle.gib_syntax.specs.Tree.{ProgramTree}
@@ -25,8 +25,8 @@ use Rattle.gib_app.specs.Running.{IsInput, RunsOut, FillsUp}
 use Rattle.gib_app.specs.Stops.{StopsBy}
 
 -- The bytes of a memory.
-abbrev pub cells_of : PlainMem → Store
-cells_of m = plain_cells m.bytes.items m.drawn
+abbrev pub cells_of : SoleMem → Store
+cells_of m = (sole_memory m).cells
 
 -- The program means a value on the input within the depth, and in region memory that value stands for the root.
 pub record StandsMeant (p : ProgramTree) (depth : ℕ) (input : List ℕ) (laid : LaidOut) (s : Store) (place : Root) : Type 0 where
