@@ -1,10 +1,9 @@
 -- Events that happen one after another.
-use Rattle.std.proofs.Common.{◌≡◌, ℕ, zero, suc, ◌+◌, ◌-◌, ◌<◌, List, [], ◌∷◌, ◌++◌, length, take, drop, replicate, append_assoc, sym, ap, ◌∙◌, subst, subst₂, refl, arith, Result, Ok, Err}
+use Rattle.std.proofs.Common.{◌≡◌, ℕ, zero, suc, ◌+◌, ◌-◌, ◌<◌, List, [], ◌∷◌, ◌++◌, length, take, drop, replicate, append_assoc, sym, ap, ◌∙◌, subst, subst₂, refl, arith, Err}
 use lib.ListN.{get_or}
 use Rattle.std.proofs.lemmas.List.{length-take-le, replicate-append-replicate}
-use Rattle.std.proofs.Math.Seq.{drop-cons, take-length, take-suc}
+use Rattle.std.proofs.Math.Seq.{take-length, take-suc}
 use Rattle.gib_types.specs.Tree.{Datum}
-use Rattle.gib_code.specs.Program.{CodeTree}
 use Rattle.gib_core.specs.LoweredParts.{LoweredParts}
 use Rattle.gib_weave.specs.declared.event.Event.{Event as TaskEvent}
 use Rattle.gib_weave.specs.declared.task.WeaveFault.{WeaveFault}

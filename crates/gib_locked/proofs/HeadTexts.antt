@@ -1,5 +1,5 @@
 -- The line of what a weave was started with, and its text.
-use Rattle.std.proofs.Common.{true≢false, ◌≡◌, ℕ, ◌<◌, ◌≤◌, ◌^◌, List, [], ◌∷◌, ◌++◌, Bool, true, false, ◌&&◌, sym, refl, ap, ◌∙◌, subst, arith}
+use Rattle.std.proofs.Common.{true≢false, ◌≡◌, ℕ, ◌<◌, ◌^◌, List, ◌∷◌, ◌++◌, Bool, true, false, ◌&&◌, sym, refl, ap, ◌∙◌, subst, arith}
 use Rattle.std.specs.Prelude.{codes, nat_le}
 use Rattle.std.specs.Fmt.{decimal}
 use Rattle.std.proofs.lemmas.Fmt.{decimal_injective}

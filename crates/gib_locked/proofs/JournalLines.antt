@@ -3,14 +3,13 @@ use Rattle.std.proofs.Common.{true≢false, ◌≡◌, ◌⊎◌, inl, inr, ℕ,
 use Rattle.std.specs.Prelude.{◌==◌, codes, slice_index}
 use Rattle.std.specs.List.{flat_map}
 use Rattle.std.specs.Fmt.{decimal}
-use Rattle.std.proofs.lemmas.Grind.{flat_map-append}
 use Rattle.std.proofs.Math.Bool.{Bool-set}
 use Rattle.gib_locked.specs.Cuts.{lacks}
 use Rattle.gib_locked.specs.Limits.{are_settings}
 use Rattle.gib_locked.specs.declared.journal.Line.{Line}
 use Rattle.gib_locked.specs.declared.journal.Line.TheVariants.{Steps, Forks, Steals, Takes, Finishes, Joins}
 use Rattle.gib_locked.specs.declared.settings.Settings.{Settings}
-use Rattle.gib_locked.specs.Lines.{are_lines, first_may_follow, is_line, may_follow}
+use Rattle.gib_locked.specs.Lines.{are_lines, first_may_follow, is_line}
 use Rattle.gib_locked.specs.JournalText.{events_text, fed, flag_text, line_text, lines_text, numbers_text, settings_text, word_text}
 use Rattle.gib_locked.proofs.LineTexts.{count_fits, halves, has_lacks, line_is_one, number_lacks, steps_count, steps_task, task_fits}
 use Rattle.gib_locked.proofs.HeadTexts.{are_small, first_is, second_is, third_is}

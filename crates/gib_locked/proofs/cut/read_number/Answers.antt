@@ -1,4 +1,4 @@
-use Rattle.std.proofs.Common.{◌≡◌, ℕ, sym, ap, subst, ◌∙◌}
+use Rattle.std.proofs.Common.{sym, ap, ◌∙◌}
 use lib.ListN.{get_or}
 use Rattle.gib_locked.proofs.Numbers.{not_empty, no_plus, alone_is_zero, no_zeros, is_utf8, parses, is_written}
 use Rattle.gib_locked.proofs.cut.read_number.Goals as goal

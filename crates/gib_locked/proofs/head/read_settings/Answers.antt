@@ -1,4 +1,4 @@
-use Rattle.std.proofs.Common.{◌≡◌, sym, rules}
+use Rattle.std.proofs.Common.{rules}
 use Rattle.gib_locked.proofs.HeadTexts.{are_small, first_is, second_is, third_is, not_within}
 use Rattle.gib_locked.proofs.head.read_settings.Goals as goal
 

@@ -1,4 +1,4 @@
-use Rattle.std.proofs.Common.{sym, ap, ◌∙◌}
+use Rattle.std.proofs.Common.{sym}
 use Rattle.gib_locked.proofs.NextLines.{no_line_no_next, other_next}
 use Rattle.gib_locked.proofs.line.read_next.Goals as goal
 

@@ -1,4 +1,4 @@
-use Rattle.std.proofs.Common.{◌≡◌, [], length, rules, sym, ◌∙◌}
+use Rattle.std.proofs.Common.{◌≡◌, [], length, rules}
 use Rattle.std.specs.Prelude.{codes}
 use Rattle.gib_locked.proofs.ReadEvents.{behind_end, all_read, stuck_there, stuck_at_end}
 use Rattle.gib_locked.proofs.read.read_events.Goals as goal

@@ -1,4 +1,4 @@
-use Rattle.std.proofs.Common.{◌≡◌, rules, sym, ◌∙◌}
+use Rattle.std.proofs.Common.{◌≡◌, rules}
 use Rattle.std.specs.Prelude.{codes}
 use Rattle.gib_locked.proofs.ReadJournal.{no_first, other_first, no_second, other_second, whole_read, behind_refused}
 use Rattle.gib_locked.proofs.read.read_text.Goals as goal

@@ -1,4 +1,4 @@
-use Rattle.std.proofs.Common.{◌≡◌, ◌≤◌, ◌-◌, ◌++◌, List, replicate}
+use Rattle.std.proofs.Common.{◌≤◌, ◌-◌, ◌++◌, List, replicate}
 use Rattle.gib_weave.specs.Applied.{event_of}
 use Rattle.gib_weave.specs.Weave.{Event}
 use Rattle.gib_weave.specs.Woven.{WeaveParts}
