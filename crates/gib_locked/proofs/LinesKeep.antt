@@ -11,7 +11,7 @@ use Rattle.gib_weave.specs.Weave.{Step}
 use Rattle.gib_locked.specs.declared.journal.Line.{Line}
 use Rattle.gib_locked.specs.declared.journal.Line.TheVariants.{Steps, Forks, Steals, Takes, Finishes, Joins}
 use Rattle.std.specs.Prelude.{Some, None, if◌then◌else◌}
-use Rattle.gib_locked.specs.Lines.{longer, counted, counted_out, line_of, is_line, may_follow, next_is_other, first_may_follow, are_lines, most, IsLonger}
+use Rattle.gib_locked.specs.Lines.{longer, counted, counted_out, line_of, is_line, is_task, may_follow, first_may_follow, are_lines, most, IsLonger}
 
 pub counted_append : (ls ks : List Line) → counted_out (ls ++ ks) ≡ counted_out ls ++ counted_out ks
 counted_append [] ks = refl
@@ -47,14 +47,6 @@ and_right false b e = absurd (true≢false (sym e))
 both : (a b : Bool) → a ≡ true → b ≡ true → (a && b) ≡ true
 both a b p q = ap (λ x. x && b) p ∙ q
 
-line_is_line : (e : TaskEvent) → is_line (line_of e) ≡ true
-line_is_line (event.Step t) = refl
-line_is_line (event.Fork t) = refl
-line_is_line (event.Steal t) = refl
-line_is_line (event.Take t) = refl
-line_is_line (event.Finish t) = refl
-line_is_line (event.Join t) = refl
-
 -- The first line of a list that ends otherwise.
 first_same : (k : Line) (ls : List Line) (l m : Line) → (may_follow k l ≡ true → may_follow k m ≡ true) → first_may_follow k (ls ++ l ∷ []) ≡ true → first_may_follow k (ls ++ m ∷ []) ≡ true
 first_same k [] l m f e = f e
@@ -82,11 +74,16 @@ extended (k ∷ ls) l m is f e =
     let d = and_right (first_may_follow k (ls ++ l ∷ [])) (are_lines (ls ++ l ∷ [])) b in
     both _ _ a (both _ _ (first_longer k ls l m c) (extended ls l m is f d))
 
-pub first_line : (e : TaskEvent) → are_lines (line_of e ∷ []) ≡ true
-first_line e = both _ _ (line_is_line e) refl
+pub first_line : (e : TaskEvent) → is_line (line_of e) ≡ true → are_lines (line_of e ∷ []) ≡ true
+first_line e is = both _ _ is refl
 
-pub next_line : (ls : List Line) (l : Line) (e : TaskEvent) → may_follow l (line_of e) ≡ true → are_lines (ls ++ l ∷ []) ≡ true → are_lines ((ls ++ l ∷ []) ++ line_of e ∷ []) ≡ true
-next_line ls l e = extended ls l (line_of e) (line_is_line e)
+pub next_line : (ls : List Line) (l : Line) (e : TaskEvent) → is_line (line_of e) ≡ true → may_follow l (line_of e) ≡ true → are_lines (ls ++ l ∷ []) ≡ true → are_lines ((ls ++ l ∷ []) ++ line_of e ∷ []) ≡ true
+next_line ls l e is = extended ls l (line_of e) is
+
+-- The last line of a journal.
+last_is_line : (ls : List Line) (l : Line) → are_lines (ls ++ l ∷ []) ≡ true → is_line l ≡ true
+last_is_line [] l h = and_left (is_line l) true h
+last_is_line (k ∷ ls) l h = last_is_line ls l (and_right (first_may_follow k (ls ++ l ∷ [])) (are_lines (ls ++ l ∷ [])) (and_right (is_line k) (first_may_follow k (ls ++ l ∷ []) && are_lines (ls ++ l ∷ [])) h))
 
 -- What may stand before a line of steps may stand before a longer one.
 before_longer : (k : Line) (t n m : ℕ) → may_follow k (Steps t n) ≡ true → may_follow k (Steps t m) ≡ true
@@ -97,19 +94,19 @@ before_longer (Takes u) t n m e = refl
 before_longer (Finishes u) t n m e = refl
 before_longer (Joins u) t n m e = refl
 
-longer_is_line : (t n : ℕ) → n < most → is_line (Steps t (n + 1)) ≡ true
-longer_is_line t n room = grind (arith, nat_tests)
+longer_is_line : (t n : ℕ) → is_line (Steps t n) ≡ true → n < most → is_line (Steps t (n + 1)) ≡ true
+longer_is_line t n is room = both (is_task t) (nat_lt 0 (n + 1) && nat_le (n + 1) most) (and_left (is_task t) (nat_lt 0 n && nat_le n most) is) (grind (arith, nat_tests))
 
 pub longer_line : (ls : List Line) (last line : Line) (e : TaskEvent) → IsLonger last e line → are_lines (ls ++ last ∷ []) ≡ true → are_lines (ls ++ line ∷ []) ≡ true
 longer_line ls last line e h are = subst (λ m. are_lines (ls ++ m ∷ []) ≡ true) (sym h.line_is)
-    (replaced ls (Steps h.task h.count) (Steps h.task (h.count + 1)) (longer_is_line h.task h.count h.room) (λ k. before_longer k h.task h.count (h.count + 1)) (subst (λ m. are_lines (ls ++ m ∷ []) ≡ true) h.last_is are))
+    (replaced ls (Steps h.task h.count) (Steps h.task (h.count + 1)) (longer_is_line h.task h.count (last_is_line ls (Steps h.task h.count) (subst (λ m. are_lines (ls ++ m ∷ []) ≡ true) h.last_is are)) h.room) (λ k. before_longer k h.task h.count (h.count + 1)) (subst (λ m. are_lines (ls ++ m ∷ []) ≡ true) h.last_is are))
 
 longer_steps : (t n u : ℕ) (line : Line) (a b : Bool) → (t == u) ≡ a → nat_lt n most ≡ b → (if a && b then Some (Steps t (n + 1)) else None) ≡ Some line → IsLonger (Steps t n) (event.Step u) line
 longer_steps t n u line true true p q e = let tu : t ≡ u = grind (arith, nat_tests) in record { task = t; count = n; last_is = refl; event_is = ap event.Step (sym tu); room = grind (arith, nat_tests); line_is = (let same : Steps t (n + 1) ≡ line = cc in sym same) }
 longer_steps t n u line true false p q e = absurd (none-some _ e)
 longer_steps t n u line false b p q e = absurd (none-some _ e)
 
-other_steps : (t n u : ℕ) (a b : Bool) → (t == u) ≡ a → nat_lt n most ≡ b → n ≤ most → (if a && b then Some (Steps t (n + 1)) else None) ≡ None → next_is_other t n (Steps u 1) ≡ true
+other_steps : (t n u : ℕ) (a b : Bool) → (t == u) ≡ a → nat_lt n most ≡ b → n ≤ most → (if a && b then Some (Steps t (n + 1)) else None) ≡ None → may_follow (Steps t n) (Steps u 1) ≡ true
 other_steps t n u true true p q le e = absurd (none-some _ (sym e))
 other_steps t n u true false p q le e = grind (arith, nat_tests)
 other_steps t n u false b p q le e = ap (λ x. not x || (n == most)) p
@@ -127,13 +124,8 @@ is_longer (Takes t) e line h = absurd (none-some _ h)
 is_longer (Finishes t) e line h = absurd (none-some _ h)
 is_longer (Joins t) e line h = absurd (none-some _ h)
 
--- The last line of a journal.
-last_is_line : (ls : List Line) (l : Line) → are_lines (ls ++ l ∷ []) ≡ true → is_line l ≡ true
-last_is_line [] l h = and_left (is_line l) true h
-last_is_line (k ∷ ls) l h = last_is_line ls l (and_right (first_may_follow k (ls ++ l ∷ [])) (are_lines (ls ++ l ∷ [])) (and_right (is_line k) (first_may_follow k (ls ++ l ∷ []) && are_lines (ls ++ l ∷ [])) h))
-
 at_most : (t n : ℕ) → is_line (Steps t n) ≡ true → n ≤ most
-at_most t n h = let b = and_right (nat_lt 0 n) (nat_le n most) h in grind (arith, nat_tests)
+at_most t n h = let b = and_right (nat_lt 0 n) (nat_le n most) (and_right (is_task t) (nat_lt 0 n && nat_le n most) h) in grind (arith, nat_tests)
 
 pub is_other : (ls : List Line) (last : Line) (e : TaskEvent) → are_lines (ls ++ last ∷ []) ≡ true → longer last e ≡ None → may_follow last (line_of e) ≡ true
 is_other ls (Steps t n) (event.Step u) are h = other_steps t n u (t == u) (nat_lt n most) refl refl (at_most t n (last_is_line ls (Steps t n) are)) h

@@ -16,7 +16,7 @@ pub legal_snoc : {code : CodeTree} {w w' w'' : Weave} {e : Event} (es : List Eve
 legal_snoc [] none n = more n none
 legal_snoc (d ∷ es) (more m l) n = more m (legal_snoc es l n)
 
-still_sound : (start w w' : WeaveParts) → w.lowered ≡ start.lowered → ((depth level : ℕ) (d : Datum) → IsSoundOn w.lowered depth level d (weave_of w) → IsSoundOn w.lowered depth level d (weave_of w'))
+pub still_sound : (start w w' : WeaveParts) → w.lowered ≡ start.lowered → ((depth level : ℕ) (d : Datum) → IsSoundOn w.lowered depth level d (weave_of w) → IsSoundOn w.lowered depth level d (weave_of w'))
     → (depth level : ℕ) (d : Datum) → IsSoundOn start.lowered depth level d (weave_of w) → IsSoundOn start.lowered depth level d (weave_of w')
 still_sound start w w' same keep depth level d = subst (λ l. IsSoundOn l depth level d (weave_of w) → IsSoundOn l depth level d (weave_of w')) same (keep depth level d)
 

@@ -1,5 +1,5 @@
 -- The lines of a journal, and the events that they count out.
-use Rattle.std.specs.Prelude.{◌≡◌, ℕ, ◌+◌, ◌<◌, List, [], ◌∷◌, ◌++◌, replicate, Bool, true, not, ◌&&◌, ◌||◌, ◌==◌, nat_lt, nat_le, if◌then◌else◌, Option, Some, None}
+use Rattle.std.specs.Prelude.{◌≡◌, ℕ, ◌+◌, ◌<◌, ◌^◌, List, [], ◌∷◌, ◌++◌, replicate, Bool, true, not, ◌&&◌, ◌||◌, ◌==◌, nat_lt, nat_le, if◌then◌else◌, Option, Some, None}
 use Rattle.gib_weave.specs.declared.event.Event.{Event as TaskEvent}
 use Rattle.gib_weave.specs.declared.event.Event.TheVariants as event
 use Rattle.gib_weave.specs.Weave.{Event, Step, Fork, Steal, Take, Finish, Join}
@@ -33,40 +33,30 @@ line_of (event.Take t) = Takes t
 line_of (event.Finish t) = Finishes t
 line_of (event.Join t) = Joins t
 
--- A line of steps has one step at least, and no more than the greatest number.
+-- The number is one of a task.
+abbrev pub is_task : ℕ → Bool
+is_task t = nat_lt t (2 ^ 32)
+
+-- A line that a journal may have: one of steps has one step at least, and no more than the greatest number.
 abbrev pub is_line : Line → Bool
-is_line (Steps t n) = nat_lt 0 n && nat_le n most
-is_line (Forks t) = true
-is_line (Steals t) = true
-is_line (Takes t) = true
-is_line (Finishes t) = true
-is_line (Joins t) = true
+is_line (Steps t n) = is_task t && (nat_lt 0 n && nat_le n most)
+is_line (Forks t) = is_task t
+is_line (Steals t) = is_task t
+is_line (Takes t) = is_task t
+is_line (Finishes t) = is_task t
+is_line (Joins t) = is_task t
 
--- No line of steps of the task stands next, or this one has the greatest number.
-abbrev pub next_is_other : ℕ → ℕ → Line → Bool
-next_is_other t n (Steps u m) = not (t == u) || (n == most)
-next_is_other t n (Forks u) = true
-next_is_other t n (Steals u) = true
-next_is_other t n (Takes u) = true
-next_is_other t n (Finishes u) = true
-next_is_other t n (Joins u) = true
-
--- The second line may stand directly behind the first.
+-- The second line may stand directly behind the first: not steps of one task, unless the first has the greatest number.
 abbrev pub may_follow : Line → Line → Bool
-may_follow (Steps t n) l = next_is_other t n l
-may_follow (Forks t) l = true
-may_follow (Steals t) l = true
-may_follow (Takes t) l = true
-may_follow (Finishes t) l = true
-may_follow (Joins t) l = true
+may_follow (Steps t n) (Steps u m) = not (t == u) || (n == most)
+may_follow l k = true
 
 -- The first of the lines may stand directly behind this one.
 abbrev pub first_may_follow : Line → List Line → Bool
 first_may_follow l [] = true
 first_may_follow l (k ∷ ks) = may_follow l k
 
--- The lines that a journal may have: two lines of steps of one task follow each other directly only where the first has the greatest
--- number.
+-- The lines that a journal may have.
 abbrev pub are_lines : List Line → Bool
 are_lines [] = true
 are_lines (l ∷ ls) = is_line l && (first_may_follow l ls && are_lines ls)

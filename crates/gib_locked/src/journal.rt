@@ -3,7 +3,7 @@
 ghost use Rattle.std.specs.Prelude.{◌≡◌, ◌<◌, ◌++◌, ◌∷◌, [], OnOk, true};
 ghost use Rattle.std.specs.Vec.{vec_len, vec_capacity};
 ghost use Rattle.gib_weave.specs.Applied.{event_of};
-ghost use Rattle.gib_locked.specs.Lines.{are_lines, counted_out, line_of, longer};
+ghost use Rattle.gib_locked.specs.Lines.{are_lines, counted_out, is_line, line_of, longer};
 
 use crate::settings::Settings;
 use gib_base::Memory;
@@ -11,7 +11,7 @@ use gib_weave::Event;
 use std::alloc::Global;
 
 /// The most steps of one line.
-const MOST: u64 = 9223372036854775807;
+pub(crate) const MOST: u64 = 9223372036854775807;
 
 /// A line of a journal: steps of one task one after another, or one other event of a task.
 #[derive(Clone, Copy, Debug, PartialEq, Eq)]
@@ -41,7 +41,8 @@ pub struct Journal {
 
 /// The line of one event.
 fn line_of(event: Event) -> Line
-    ensures { result ≡ line_of event }
+    ensures value { result ≡ line_of event }
+    ensures is { is_line result ≡ true }
 {
     match event {
         Event::Step(task) => Line::Steps(task, 1),
