@@ -145,7 +145,7 @@ root_meant p skips depth input v l l' s place of is e h =
     } in
     subst (λ (x : LoweredParts). StandsMeant p depth input x.code.laid s place) (sym e) there
 
-lacks_meant : (p : ProgramTree) (depth chunks : ℕ) (input : List ℕ) (v : Datum) (l : LoweredParts) → IsOfProgram p skips l → IsInput p v input → (why : Reason)
+lacks_meant : (p : ProgramTree) (skips : Bool) (depth chunks : ℕ) (input : List ℕ) (v : Datum) (l : LoweredParts) → IsOfProgram p skips l → IsInput p v input → (why : Reason)
     → Lacks (core_run (core_of l.core) depth v) chunks (run_cost (core_of l.core) depth 0 v) why → LacksValue p skips depth chunks input why
 lacks_meant p skips depth chunks input v l of is reason.Deep h = record { value = v; is_input = is; means = sym (of.means depth v) ∙ h }
 lacks_meant p skips depth chunks input v l of is reason.Full h = record {

@@ -4,7 +4,8 @@ use crate::harness::packed;
 use crate::programs::compile;
 use gib_app::machine_run::run_packed;
 use gib_base::limits::FILE_BYTES;
-use gib_mem::{CHUNK, Mem, PlainMem};
+use gib_arena::SoleMem;
+use gib_mem::{CHUNK, Mem};
 use gib_packed::Root;
 use std::alloc::{AllocError, Global};
 use std::test::Fail;
@@ -24,7 +25,7 @@ struct Run<'a> {
 }
 
 /// Whether these bytes stand from an address on, all in chunks that are drawn.
-fn stand_at(mem: &mut PlainMem, from: u64, bytes: &[u8]) -> bool {
+fn stand_at(mem: &mut SoleMem, from: u64, bytes: &[u8]) -> bool {
     let mut at = from;
     for byte in bytes {
         if at >= CHUNK * mem.chunks() as u64 {
