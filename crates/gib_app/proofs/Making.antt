@@ -1,5 +1,5 @@
 -- From the parts of making to the whole.
-use Rattle.std.proofs.Common.{◌≡◌, Bool, refl, ap, ℕ, ◌<◌, List, [], ◌∷◌, length, Option, Some, None, option_map, option_to_list, subst, sym, inl, inr}
+use Rattle.std.proofs.Common.{◌≡◌, Bool, refl, ap, ℕ, ◌<◌, List, [], ◌∷◌, length, Option, Some, None, MatchOption, option_map, option_to_list, subst, sym, inl, inr}
 use Rattle.gib_edge.specs.Causes.{Rose}
 use Rattle.gib_edge.specs.Views.{ShelfView}
 use Rattle.gib_syntax.specs.Tree.{ProgramTree}
@@ -60,6 +60,11 @@ compile_source before now d source held (NoValue reason) h = h
 compile_source before now d source held Memory h = h
 compile_source before now d source held (Unwritten name) h = h
 compile_source before now d source held Unput h = h
+
+-- what is found where nothing is
+pub found_none : {V : Type 0} (o : Option V) (A : Type 0) (B : V → Type 0) → o ≡ None → MatchOption o A B → A
+found_none None A B e h = h
+found_none (Some x) A B e h = cc
 
 -- The one input that there is, or none
 
