@@ -24,18 +24,18 @@ planned laid s (h ∷ hs) = stored_of (has_offsets laid h.tag) (places laid (pas
 abbrev pub first_spot : Spot
 first_spot = record { at = 0; drawn = 1 }
 
--- A slot is a place in the plan, at which it is noted where a value starts; one that no head stores has none.
+-- A gap is a place in the plan, at which it is noted where a value starts; a value whose start no head stores has none.
 abbrev pub noted : List ℕ → Option ℕ → ℕ → List ℕ
 noted plan None at = plan
-noted plan (Some slot) at = set plan slot at
+noted plan (Some gap) at = set plan gap at
 
--- The slot of a head's packed field with number i (from 0), where the slots of the head begin at a place in the plan.
-abbrev pub slot_of : Bool → ℕ → ℕ → Option ℕ
-slot_of false base i = None
-slot_of true base zero = None
-slot_of true base (suc i) = Some (base + i)
+-- The gap of a head's packed field with number i (from 0), where the gaps of the head begin at a place in the plan.
+abbrev pub gap_of : Bool → ℕ → ℕ → Option ℕ
+gap_of false base i = None
+gap_of true base zero = None
+gap_of true base (suc i) = Some (base + i)
 
--- The slots of so many packed fields, from number i on.
-abbrev pub slots_from : Bool → ℕ → ℕ → ℕ → List (Option ℕ)
-slots_from stores base i zero = []
-slots_from stores base i (suc n) = slot_of stores base i ∷ slots_from stores base (i + 1) n
+-- The gaps of so many packed fields, from number i on.
+abbrev pub gaps_from : Bool → ℕ → ℕ → ℕ → List (Option ℕ)
+gaps_from stores base i zero = []
+gaps_from stores base i (suc n) = gap_of stores base i ∷ gaps_from stores base (i + 1) n

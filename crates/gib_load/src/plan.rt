@@ -7,7 +7,7 @@ ghost use Rattle.gib_types.specs.Tree.{Datum};
 ghost use Rattle.gib_file.specs.Packed.{Packed};
 ghost use Rattle.gib_load.specs.Preorder.{heads};
 ghost use Rattle.gib_load.specs.Spot.{past_item};
-ghost use Rattle.gib_load.specs.Plan.{planned, first_spot, stored_count, noted, slot_of, slots_from};
+ghost use Rattle.gib_load.specs.Plan.{planned, first_spot, stored_count, noted, gap_of, gaps_from};
 
 use gib_base::Memory;
 use gib_mem::{CHUNK, POINTER_BYTES};
@@ -22,13 +22,13 @@ struct Ahead {
     drawn: u32,
 }
 
-/// The places in the plan at which it is noted where the values that are due start, the next one first.
+/// The gaps in the plan at which it is noted where the values that are due start, the next one first.
 #[derive(Drop)]
-struct Slots {
+struct Due {
     last_first: Vec<Option<usize>>,
 }
 
-impl Model for Slots {
+impl Model for Due {
     ghost use Rattle.std.specs.Prelude.{ℕ, List, Option, reverse};
 
     ghost Value = { List (Option ℕ) };
@@ -36,10 +36,10 @@ impl Model for Slots {
     ghost view = { λ s. reverse s.last_first.items };
 }
 
-/// The slot of a packed field of a head, whose slots begin at `base`.
-fn slot_of(stores: bool, base: usize, i: u8) -> Option<usize>
+/// The gap of a packed field of a head, whose gaps begin at `base`.
+fn gap_of(stores: bool, base: usize, i: u8) -> Option<usize>
     requires { base + i < 2 ^ 64 }
-    ensures { result ≡ slot_of stores base i }
+    ensures { result ≡ gap_of stores base i }
 {
     if !stores {
         return None;
@@ -50,40 +50,40 @@ fn slot_of(stores: bool, base: usize, i: u8) -> Option<usize>
     Some(base + (i as usize - 1))
 }
 
-impl Slots {
+impl Due {
     /// None.
-    fn new(alloc: Global) -> Slots
+    fn new(alloc: Global) -> Due
         ensures { result ≡ [] }
     {
-        Slots {
+        Due {
             last_first: Vec::new(alloc),
         }
     }
 
     /// One more value is due, before the others.
-    fn put(&mut self, slot: Option<usize>) -> Result<(), Memory>
-        ensures { OnOk result (self.new ≡ slot ∷ self.old) }
+    fn put(&mut self, gap: Option<usize>) -> Result<(), Memory>
+        ensures { OnOk result (self.new ≡ gap ∷ self.old) }
     {
-        self.last_first.push(slot)?;
+        self.last_first.push(gap)?;
         Ok(())
     }
 
     /// The packed fields of a head are due, before the others.
     fn put_fields(&mut self, stores: bool, base: usize, packed: u8) -> Result<(), Memory>
         requires { base + packed < 2 ^ 64 }
-        ensures { OnOk result (self.new ≡ slots_from stores base 0 packed ++ self.old) }
+        ensures { OnOk result (self.new ≡ gaps_from stores base 0 packed ++ self.old) }
     {
         let mut i = packed;
         'fields: while i > 0 {
             i -= 1;
-            self.put(slot_of(stores, base, i))?;
+            self.put(gap_of(stores, base, i))?;
         }
         Ok(())
     }
 
     /// Takes the next one.
     fn take(&mut self) -> Option<Option<usize>>
-        ensures { MatchOption result (self.old ≡ []) (λ slot. self.old ≡ slot ∷ self.new) }
+        ensures { MatchOption result (self.old ≡ []) (λ gap. self.old ≡ gap ∷ self.new) }
     {
         self.last_first.pop()
     }
@@ -96,8 +96,8 @@ fn past_item(spot: Ahead, size: u8) -> Option<Ahead>
     ensures spot { IfSome result (λ next. record { at = next.at; drawn = next.drawn } ≡ past_item (record { at = spot.at; drawn = spot.drawn }) size) }
     ensures inside { IfSome result (λ next. next.at < 4096 * next.drawn) }
 {
-    let left = CHUNK - spot.at % CHUNK;
-    if size as u64 + POINTER_BYTES <= left {
+    let rest = CHUNK - spot.at % CHUNK;
+    if size as u64 + POINTER_BYTES <= rest {
         return Some(Ahead {
             at: spot.at + size as u64,
             drawn: spot.drawn,
@@ -113,14 +113,14 @@ fn past_item(spot: Ahead, size: u8) -> Option<Ahead>
 }
 
 /// Notes where the next value starts.
-fn note(plan: &mut Vec<u64>, slots: &mut Slots, at: u64)
-    requires { (slot : ℕ) (rest : _) → slots.old ≡ Some slot ∷ rest → slot < length plan.old.items }
-    ensures plan { (slot : Option ℕ) (rest : _) → slots.old ≡ slot ∷ rest → plan.new.items ≡ noted plan.old.items slot at }
-    ensures slots { (slot : Option ℕ) (rest : _) → slots.old ≡ slot ∷ rest → slots.new ≡ rest }
+fn note(plan: &mut Vec<u64>, due: &mut Due, at: u64)
+    requires { (gap : ℕ) (rest : _) → due.old ≡ Some gap ∷ rest → gap < length plan.old.items }
+    ensures plan { (gap : Option ℕ) (rest : _) → due.old ≡ gap ∷ rest → plan.new.items ≡ noted plan.old.items gap at }
+    ensures due { (gap : Option ℕ) (rest : _) → due.old ≡ gap ∷ rest → due.new ≡ rest }
     ensures long { length plan.new.items ≡ length plan.old.items }
 {
-    if let Some(Some(slot)) = slots.take() {
-        plan[slot] = at;
+    if let Some(Some(gap)) = due.take() {
+        plan[gap] = at;
     }
 }
 
@@ -137,7 +137,7 @@ pub(crate) fn stored_count(stores: bool, packed: u8) -> u8
     packed - 1
 }
 
-/// So many slots more, at the end of the plan.
+/// So many gaps more, at the end of the plan.
 fn open(plan: &mut Vec<u64>, count: u8) -> Result<(), Memory>
     ensures { OnOk result (plan.new.items ≡ plan.old.items ++ replicate count 0) }
 {
@@ -149,17 +149,17 @@ fn open(plan: &mut Vec<u64>, count: u8) -> Result<(), Memory>
 /// Meets a head: where it starts is noted, and its packed fields are due.
 fn meet_head(
     plan: &mut Vec<u64>,
-    slots: &mut Slots,
+    due: &mut Due,
     at: u64,
     stores: bool,
     packed: u8,
 ) -> Result<(), Memory>
-    requires { (slot : ℕ) (rest : _) → slots.old ≡ Some slot ∷ rest → slot < length plan.old.items }
-    ensures plan { OnOk result ((slot : Option ℕ) (rest : _) → slots.old ≡ slot ∷ rest → plan.new.items ≡ noted plan.old.items slot at ++ replicate (stored_count stores packed) 0) }
-    ensures slots { OnOk result ((slot : Option ℕ) (rest : _) → slots.old ≡ slot ∷ rest → slots.new ≡ slots_from stores (length plan.old.items) 0 packed ++ rest) }
+    requires { (gap : ℕ) (rest : _) → due.old ≡ Some gap ∷ rest → gap < length plan.old.items }
+    ensures plan { OnOk result ((gap : Option ℕ) (rest : _) → due.old ≡ gap ∷ rest → plan.new.items ≡ noted plan.old.items gap at ++ replicate (stored_count stores packed) 0) }
+    ensures due { OnOk result ((gap : Option ℕ) (rest : _) → due.old ≡ gap ∷ rest → due.new ≡ gaps_from stores (length plan.old.items) 0 packed ++ rest) }
 {
-    note(plan, slots, at);
-    slots.put_fields(stores, plan.len(), packed)?;
+    note(plan, due, at);
+    due.put_fields(stores, plan.len(), packed)?;
     open(plan, stored_count(stores, packed))?;
     Ok(())
 }
@@ -175,15 +175,15 @@ fn plan_heads(alloc: Global, layouts: &Layouts, payload: &[u8]) -> Result<Vec<u6
 {
     layouts.rules();
     let mut plan = Vec::new(alloc);
-    let mut slots = Slots::new(alloc);
-    slots.put(None)?;
+    let mut due = Due::new(alloc);
+    due.put(None)?;
     let mut spot = Ahead { at: 0, drawn: 1 };
     let mut at = 0;
     'heads: while at < payload.len() {
         let con = ConId(payload[at] as u32);
         let layout = layouts.layout(con);
         let stores = layouts.stores(con);
-        meet_head(&mut plan, &mut slots, spot.at, stores, layout.packed)?;
+        meet_head(&mut plan, &mut due, spot.at, stores, layout.packed)?;
         match past_item(spot, layout.head) {
             Some(next) => spot = next,
             None => return Err(AllocError),

@@ -22,7 +22,7 @@ use Rattle.gib_mem.specs.Memory as m
 use Rattle.gib_file.specs.Packed.{tree, trees, scalars}
 use Rattle.gib_packed.specs.Decoding.{redirect, indirect, head, Decs, done, whole_field, truth_field, tree_field, Points}
 use Rattle.gib_print.specs.Image.{chunk_store}
-use Rattle.gib_print.specs.ImageReading.{items, all_items, HasHead, first_bad, scalars_at, stored_at, slot_of, Tells, IsBad, cut_head, Fails, too_many, refused, behind, inside, FailAmong}
+use Rattle.gib_print.specs.ImageReading.{items, all_items, HasHead, first_bad, scalars_at, stored_at, offset_of, Tells, IsBad, cut_head, Fails, too_many, refused, behind, inside, FailAmong}
 use Rattle.gib_print.specs.ImageReading as among
 use Rattle.gib_print.specs.ImageWalk.{items_due, compare_first, Goes, Stops, Walks, Enters, turn, pass, enter, HasMet, Refuses, FailsWith, Comes}
 use Rattle.gib_print.specs.ImageWalk as w
@@ -41,12 +41,12 @@ places (Item t ∷ due) = places due
 places (From a ∷ due) = 1 + places due
 places (Stored p q ∷ due) = 1 + places due
 
-places_compare : (chunks : List ℕ) (slot : Option ℕ) (due : List Due) → places (compare_first chunks slot due) ≤ 1 + places due
+places_compare : (chunks : List ℕ) (offset : Option ℕ) (due : List Due) → places (compare_first chunks offset due) ≤ 1 + places due
 places_compare chunks None due = omega arith
 places_compare chunks (Some p) due = omega arith
 
 -- what is compared is so before others
-pub compare_append : (chunks : List ℕ) (slot : Option ℕ) (ds due : List Due) → compare_first chunks slot ds ++ due ≡ compare_first chunks slot (ds ++ due)
+pub compare_append : (chunks : List ℕ) (offset : Option ℕ) (ds due : List Due) → compare_first chunks offset ds ++ due ≡ compare_first chunks offset (ds ++ due)
 compare_append chunks None ds due = refl
 compare_append chunks (Some p) ds due = refl
 
@@ -55,8 +55,8 @@ places_fields chunks o h n [] due = omega arith
 places_fields chunks o h n (ty.Whole ∷ ts) due = places_fields chunks o h n ts due
 places_fields chunks o h n (ty.Truth ∷ ts) due = places_fields chunks o h n ts due
 places_fields chunks o h n (ty.Tree t ∷ ts) due =
-    let e = ap places (compare_append chunks (slot_of o h n) (Item t ∷ items_due chunks o h (n + 1) ts) due) in
-    let a = places_compare chunks (slot_of o h n) (Item t ∷ (items_due chunks o h (n + 1) ts ++ due)) in
+    let e = ap places (compare_append chunks (offset_of o h n) (Item t ∷ items_due chunks o h (n + 1) ts) due) in
+    let a = places_compare chunks (offset_of o h n) (Item t ∷ (items_due chunks o h (n + 1) ts ++ due)) in
     let b = places_fields chunks o h (n + 1) ts due in
     omega (arith, e, a, b)
 
@@ -142,14 +142,14 @@ pass_stops {laid = laid} {chunks = chunks} {c = c} {a = a} {due = due} {fault = 
 -- what is stored of these places, the first of them with number n
 abbrev pub AreTold : List ℕ → Bool → ℕ → ℕ → List ℕ → Type 0
 AreTold chunks o h n [] = Unit {0}
-AreTold chunks o h n (p ∷ ps) = Tells chunks (slot_of o h n) p × AreTold chunks o h (n + 1) ps
+AreTold chunks o h n (p ∷ ps) = Tells chunks (offset_of o h n) p × AreTold chunks o h (n + 1) ps
 
-goes_compared : {laid : LaidOut} {chunks : List ℕ} {c a : ℕ} {due : List Due} {rest : List ℕ} (slot : Option ℕ) → Goes laid chunks (compare_first chunks slot due) c a rest → Tells chunks slot a × Goes laid chunks due c a rest
+goes_compared : {laid : LaidOut} {chunks : List ℕ} {c a : ℕ} {due : List Due} {rest : List ℕ} (offset : Option ℕ) → Goes laid chunks (compare_first chunks offset due) c a rest → Tells chunks offset a × Goes laid chunks due c a rest
 goes_compared None g = (tt {0}, g)
 goes_compared (Some p) (w.right e g) = (e, g)
 
-stops_compared : {laid : LaidOut} {chunks : List ℕ} {c a : ℕ} {due : List Due} {fault : ImageFault} (slot : Option ℕ) → Stops laid chunks (compare_first chunks slot due) c a fault
-    → ((p : ℕ) × (slot ≡ Some p) × (stored_at chunks p ≡ a → ⊥) × (fault ≡ Bad p)) ⊎ (Tells chunks slot a × Stops laid chunks due c a fault)
+stops_compared : {laid : LaidOut} {chunks : List ℕ} {c a : ℕ} {due : List Due} {fault : ImageFault} (offset : Option ℕ) → Stops laid chunks (compare_first chunks offset due) c a fault
+    → ((p : ℕ) × (offset ≡ Some p) × (stored_at chunks p ≡ a → ⊥) × (fault ≡ Bad p)) ⊎ (Tells chunks offset a × Stops laid chunks due c a fault)
 stops_compared None s = inr (tt {0}, s)
 stops_compared (Some p) (w.right e s) = inr (e, s)
 stops_compared (Some p) (w.wrong ne) = inl (p, refl, ne, refl)
@@ -221,10 +221,10 @@ fields_go {laid = laid} {chunks = chunks} o h n (ty.Truth ∷ ts) a b c {due = d
           goes = r.goes;
         }
 fields_go {laid = laid} {chunks = chunks} o h n (ty.Tree t ∷ ts) a b c {due = due} {rest = rest} fits le none g =
-    let first = goes_compared (slot_of o h n) (subst (λ (l : List Due). Goes laid chunks l c b rest) (compare_append chunks (slot_of o h n) (Item t ∷ items_due chunks o h (n + 1) ts) due) g) in
+    let first = goes_compared (offset_of o h n) (subst (λ (l : List Due). Goes laid chunks l c b rest) (compare_append chunks (offset_of o h n) (Item t ∷ items_due chunks o h (n + 1) ts) due) g) in
     go first.0 first.1 (λ rest z e g. fields_go o h (n + 1) ts a z (c + e) fits le none g)
   where
-    go : {rest : List ℕ} → Tells chunks (slot_of o h n) b → Goes laid chunks (Item t ∷ (items_due chunks o h (n + 1) ts ++ due)) c b rest
+    go : {rest : List ℕ} → Tells chunks (offset_of o h n) b → Goes laid chunks (Item t ∷ (items_due chunks o h (n + 1) ts ++ due)) c b rest
         → ((rest : List ℕ) (z e : ℕ) → Goes laid chunks (items_due chunks o h (n + 1) ts ++ due) (c + e) z rest → Fields laid chunks o h (n + 1) ts a z (c + e) due rest)
         → Fields laid chunks o h n (ty.Tree t ∷ ts) a b c due rest
     go told (w.item {z = z} {v = v} {rest = rest} e g) on =
@@ -301,12 +301,12 @@ fields_stop {laid = laid} {chunks = chunks} o h n (ty.Truth ∷ ts) a b c {due =
           })
         ]
 fields_stop {laid = laid} {chunks = chunks} o h n (ty.Tree t ∷ ts) a b c {due = due} {fault = fault} fits le none few s =
-    elim (stops_compared (slot_of o h n) (subst (λ (l : List Due). Stops laid chunks l c b fault) (compare_append chunks (slot_of o h n) (Item t ∷ items_due chunks o h (n + 1) ts) due) s)) [
+    elim (stops_compared (offset_of o h n) (subst (λ (l : List Due). Stops laid chunks l c b fault) (compare_append chunks (offset_of o h n) (Item t ∷ items_due chunks o h (n + 1) ts) due) s)) [
       | inl x ↦ inl (subst (λ (f : ImageFault). FailAmong laid chunks o h c b n (ty.Tree t ∷ ts) f) (sym x.3) (among.misplaced x.1 x.2))
       | inr x ↦ go x.0 x.1 (λ z e few s. fields_stop o h (n + 1) ts a z (c + e) fits le none few s)
     ]
   where
-    go : {fault : ImageFault} → Tells chunks (slot_of o h n) b → Stops laid chunks (Item t ∷ (items_due chunks o h (n + 1) ts ++ due)) c b fault
+    go : {fault : ImageFault} → Tells chunks (offset_of o h n) b → Stops laid chunks (Item t ∷ (items_due chunks o h (n + 1) ts ++ due)) c b fault
         → ((z e : ℕ) → c + e ≤ 16777216 → Stops laid chunks (items_due chunks o h (n + 1) ts ++ due) (c + e) z fault → FailAmong laid chunks o h (c + e) z (n + 1) ts fault ⊎ Passed laid chunks o h (n + 1) ts a z (c + e) due fault)
         → FailAmong laid chunks o h c b n (ty.Tree t ∷ ts) fault ⊎ Passed laid chunks o h n (ty.Tree t ∷ ts) a b c due fault
     go told (w.this f) on = inl (among.this told f)

@@ -9,7 +9,7 @@ use Rattle.gib_types.specs.Tree.{Datum}
 use Rattle.gib_file.specs.Packed.{tree}
 use Rattle.gib_packed.specs.Decoding.{Dec, Points}
 use Rattle.gib_print.specs.Image.{chunk_store}
-use Rattle.gib_print.specs.ImageReading.{items, HasHead, first_bad, scalars_at, stored_at, slot_of, IsBad, Fails}
+use Rattle.gib_print.specs.ImageReading.{items, HasHead, first_bad, scalars_at, stored_at, offset_of, IsBad, Fails}
 use Rattle.gib_print.specs.declared.image_fault.ImageFault.{ImageFault}
 use Rattle.gib_print.specs.declared.image_fault.ImageFault.TheVariants.{Memory, Head, Bad, Long}
 use Rattle.gib_print.specs.declared.image_walk.Walk.{Walk}
@@ -26,7 +26,7 @@ abbrev pub items_due : List ℕ → Bool → ℕ → ℕ → List Ty → List Du
 items_due chunks o h n [] = []
 items_due chunks o h n (ty.Whole ∷ ts) = items_due chunks o h n ts
 items_due chunks o h n (ty.Truth ∷ ts) = items_due chunks o h n ts
-items_due chunks o h n (ty.Tree t ∷ ts) = compare_first chunks (slot_of o h n) (Item t ∷ items_due chunks o h (n + 1) ts)
+items_due chunks o h n (ty.Tree t ∷ ts) = compare_first chunks (offset_of o h n) (Item t ∷ items_due chunks o h (n + 1) ts)
 
 -- Goes laid chunks due c a rest: where c items were met and the last value ended at a, all that is due is read in at most
 -- 16,777,216 items, and its packed form is the rest.

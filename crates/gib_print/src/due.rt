@@ -3,7 +3,7 @@
 ghost use Rattle.std.specs.Prelude.{◌≡◌, ◌≤◌, ◌+◌, ◌*◌, ◌<◌, ◌^◌, [], ◌∷◌, ◌++◌, Some, length, take, drop, IfSome, OnOk, MatchOption};
 ghost use Rattle.std.specs.Int.{w64, from_le_bytes};
 ghost use Rattle.gib_types.specs.Layout.{packed_count, offset_size};
-ghost use Rattle.gib_print.specs.ImageReading.{slot_of};
+ghost use Rattle.gib_print.specs.ImageReading.{offset_of};
 ghost use Rattle.gib_print.specs.ImageWalk.{items_due, compare_first};
 
 use byteorder::{ByteOrder, LittleEndian};
@@ -32,9 +32,9 @@ pub(crate) fn address_at(chunks: &[u8], place: usize) -> u64
 }
 
 /// Where the head at an address stores the place of its packed field with this number, from 0.
-fn slot_of(stores: bool, head: u64, number: u8) -> Option<u64>
+fn offset_of(stores: bool, head: u64, number: u8) -> Option<u64>
     requires { head + 1 + 8 * number < 2 ^ 64 }
-    ensures { result ≡ slot_of stores head number }
+    ensures { result ≡ offset_of stores head number }
 {
     if !stores {
         return None;
@@ -79,12 +79,12 @@ impl AllDue {
     }
 
     /// A packed field is due, before the others; where its place is stored it is compared first.
-    fn put_field(&mut self, chunks: &[u8], slot: Option<u64>, ty: TyId) -> Result<(), Memory>
-        requires { IfSome slot (λ p. p + 8 ≤ length chunks.now) }
-        ensures { OnOk result (self.new ≡ compare_first chunks.now slot (Due.Item ty ∷ self.old)) }
+    fn put_field(&mut self, chunks: &[u8], offset: Option<u64>, ty: TyId) -> Result<(), Memory>
+        requires { IfSome offset (λ p. p + 8 ≤ length chunks.now) }
+        ensures { OnOk result (self.new ≡ compare_first chunks.now offset (Due.Item ty ∷ self.old)) }
     {
         self.put(Due::Item(ty))?;
-        match slot {
+        match offset {
             Some(place) => self.put(Due::Stored(place, address_at(chunks, place as usize))),
             None => Ok(()),
         }
@@ -110,7 +110,7 @@ impl AllDue {
             i -= 1;
             if let Ty::Tree(t) = fields[i] {
                 number -= 1;
-                self.put_field(chunks, slot_of(stores, head, number), t)?;
+                self.put_field(chunks, offset_of(stores, head, number), t)?;
             }
         }
         Ok(())

@@ -146,9 +146,9 @@ pub(crate) fn read_packed(
     'due: while let Some(next) = walk.due.pop() {
         match next {
             Due::From(place) => walk.at = place,
-            Due::Stored(slot, place) => {
+            Due::Stored(offset, place) => {
                 if place != walk.at {
-                    return Err(ImageFault::Bad(slot));
+                    return Err(ImageFault::Bad(offset));
                 }
             }
             Due::Item(ty) => {

@@ -11,7 +11,7 @@ abbrev pub invariant-heads : goal.invariant-heads
 invariant-heads l = record {
   within : l.at ≤ length l.payload;
   inside : l.spot.at < 4096 * l.spot.drawn;
-  going : (t : _) (v : Datum) → Packed l.layouts.table (Tree t) v l.payload → Planning l.layouts first_spot (heads v) (record { at = l.spot.at; drawn = l.spot.drawn }) (drop l.at l.payload) l.plan.items l.slots;
+  going : (t : _) (v : Datum) → Packed l.layouts.table (Tree t) v l.payload → Planning l.layouts first_spot (heads v) (record { at = l.spot.at; drawn = l.spot.drawn }) (drop l.at l.payload) l.plan.items l.due;
 }
 
 abbrev pub decreases-heads : goal.decreases-heads
