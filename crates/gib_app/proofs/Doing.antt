@@ -1,5 +1,5 @@
 -- Facts of all jobs, by cases.
-use Rattle.std.proofs.Common.{◌≡◌, refl, ℕ, ◌<◌, List, [], length, Option, Some, None, ap, ◌⊎◌, inl, inr, ◌≤◌, sym, subst, subst₂, arith}
+use Rattle.std.proofs.Common.{◌≡◌, Bool, refl, ℕ, ◌<◌, List, [], length, Option, Some, None, ap, ◌⊎◌, inl, inr, ◌≤◌, sym, subst, subst₂, arith}
 use Rattle.std.specs.Option.{option_map_or}
 use Rattle.gib_types.specs.Tree.{Datum}
 use Rattle.gib_syntax.specs.Tree.{ProgramTree}
@@ -25,7 +25,7 @@ use Rattle.gib_app.specs.declared.stop.Stop.TheVariants.{Usage, Source, Unread, 
 use Rattle.gib_app.specs.declared.stop.Stop.TheVariants.{NoValue as Stopped}
 
 -- what was made was made of a file that is accepted
-pub does_accepts : (job : Job) (o : Options) (p : ProgramTree) (names : List (List ℕ)) (given : Contents) (file : Option (List ℕ)) (e : End) → Does job o p names given file e → Accepts job p names given
+pub does_accepts : (job : Job) (o : Options) (p : ProgramTree) (names : List (List ℕ)) (given : Contents) (file : Option (List ℕ)) (e : End) → Does job o p names given file e → Accepts job o.skips p names given
 does_accepts Run o p names given file (Prints text) h = (h.1.value, h.1.is_input)
 does_accepts Run o p names given file (NoValue Deep) h = (h.1.value, h.1.is_input)
 does_accepts Run o p names given file (NoValue Full) h = (h.1.value, h.1.is_input)
@@ -44,21 +44,21 @@ does_accepts Gen o p names given file (NoValue Deep) h = (h.1.value, h.1.is_inpu
 does_accepts Gen o p names given file (NoValue Full) h = (h.1.value, h.1.is_input)
 
 -- a file whose value is shown is not too long
-pub shown_short : (p : ProgramTree) (v : Datum) (bytes : List ℕ) → IsShownValue p v bytes → length bytes ≤ 268435480
-shown_short p v bytes (inl is) = let short = is.short in omega (arith, short)
-shown_short p v bytes (inr read) = let few = read.image.formed.few in let long = read.image.formed.long in omega (arith, few, long)
+pub shown_short : (p : ProgramTree) (skips : Bool) (v : Datum) (bytes : List ℕ) → IsShownValue p skips v bytes → length bytes ≤ 268435480
+shown_short p skips v bytes (inl is) = let short = is.short in omega (arith, short)
+shown_short p skips v bytes (inr read) = let few = read.image.formed.few in let long = read.image.formed.long in omega (arith, few, long)
 
 -- what is too long is refused
-pub long_refused : (kept : Files) (job : Job) (o : List Document) (p : ProgramTree) (names : List (List ℕ)) (given : Contents) → AreGiven kept (with_limits (option_map_or limits_of (format_of job) []) o) given →
-    most_of job < length given.second → Refuses job p names given (input.Long (most_of job)) × (Accepts job p names given → ⊥)
-long_refused kept Run o p names given held many = ((refl, many), λ a. let short = a.1.short in absurd (omega (arith, many, short)))
-long_refused kept Plain o p names given held many = ((refl, many), λ a. let short = a.1.short in absurd (omega (arith, many, short)))
-long_refused kept Check o p names given held many = absurd (omega (arith, many, ap length held.0))
-long_refused kept Core o p names given held many = absurd (omega (arith, many, ap length held.0))
-long_refused kept Code o p names given held many = absurd (omega (arith, many, ap length held.0))
-long_refused kept Pack o p names given held many = ((refl, inl many), λ a. let short = a.1.short in absurd (omega (arith, many, short)))
-long_refused kept Show o p names given held many = (inl (refl, many), λ a. let short = shown_short p a.0 given.second a.1 in absurd (omega (arith, many, short)))
-long_refused kept Gen o p names given held many = ((refl, many), λ a. let short = a.1.short in absurd (omega (arith, many, short)))
+pub long_refused : (kept : Files) (job : Job) (skips : Bool) (o : List Document) (p : ProgramTree) (names : List (List ℕ)) (given : Contents) → AreGiven kept (with_limits (option_map_or limits_of (format_of job) []) o) given →
+    most_of job < length given.second → Refuses job skips p names given (input.Long (most_of job)) × (Accepts job skips p names given → ⊥)
+long_refused kept Run skips o p names given held many = ((refl, many), λ a. let short = a.1.short in absurd (omega (arith, many, short)))
+long_refused kept Plain skips o p names given held many = ((refl, many), λ a. let short = a.1.short in absurd (omega (arith, many, short)))
+long_refused kept Check skips o p names given held many = absurd (omega (arith, many, ap length held.0))
+long_refused kept Core skips o p names given held many = absurd (omega (arith, many, ap length held.0))
+long_refused kept Code skips o p names given held many = absurd (omega (arith, many, ap length held.0))
+long_refused kept Pack skips o p names given held many = ((refl, inl many), λ a. let short = a.1.short in absurd (omega (arith, many, short)))
+long_refused kept Show skips o p names given held many = (inl (refl, many), λ a. let short = shown_short p skips a.0 given.second a.1 in absurd (omega (arith, many, short)))
+long_refused kept Gen skips o p names given held many = ((refl, many), λ a. let short = a.1.short in absurd (omega (arith, many, short)))
 
 -- chunks run out in a run alone, or in one of what was made
 pub full_runs : (job : Job) (o : Options) (p : ProgramTree) (names : List (List ℕ)) (given : Contents) (file : Option (List ℕ)) → Does job o p names given file (NoValue Full) → (job ≡ Run) ⊎ (job ≡ Gen)
@@ -72,35 +72,35 @@ full_runs Show o p names given file h = absurd h
 full_runs Gen o p names given file h = inr refl
 
 -- a run that lacks a value
-pub lacks_runs : (p : ProgramTree) (names : List (List ℕ)) (o : Options) (input : List ℕ) (why : Reason) → LacksValue p o.depth o.chunks input why → Runs p names o input None (NoValue why)
+pub lacks_runs : (p : ProgramTree) (names : List (List ℕ)) (o : Options) (input : List ℕ) (why : Reason) → LacksValue p o.skips o.depth o.chunks input why → Runs p names o input None (NoValue why)
 lacks_runs p names o input Deep h = (refl, h)
 lacks_runs p names o input Full h = (refl, h)
 
-pub lacks_sums : (p : ProgramTree) (o : Options) (input : List ℕ) (why : Reason) → LacksValue p o.depth o.chunks input why → Sums p o input None (NoValue why)
+pub lacks_sums : (p : ProgramTree) (o : Options) (input : List ℕ) (why : Reason) → LacksValue p o.skips o.depth o.chunks input why → Sums p o input None (NoValue why)
 lacks_sums p o input Deep h = (refl, h)
 lacks_sums p o input Full h = (refl, h)
 
 -- a stop of a run, by whether it is for want of a value
 
-pub stop_lacks : (p : ProgramTree) (depth chunks : ℕ) (input : List ℕ) (stop : Stop) (why : Reason) → reason_of stop ≡ Some why → IsMachineStop p depth chunks input stop → LacksValue p depth chunks input why
-stop_lacks p depth chunks input Usage why e h = absurd h
-stop_lacks p depth chunks input (Source fault) why e h = absurd h
-stop_lacks p depth chunks input (Unread name) why e h = absurd h
-stop_lacks p depth chunks input (Input fault) why e h = cc
-stop_lacks p depth chunks input (Stopped other) why e h = let same : other ≡ why = cc in let P : Reason → Type 0 = LacksValue p depth chunks input in subst P same h
-stop_lacks p depth chunks input Memory why e h = cc
-stop_lacks p depth chunks input (Unwritten name) why e h = absurd h
-stop_lacks p depth chunks input Unput why e h = absurd h
+pub stop_lacks : (p : ProgramTree) (skips : Bool) (depth chunks : ℕ) (input : List ℕ) (stop : Stop) (why : Reason) → reason_of stop ≡ Some why → IsMachineStop p skips depth chunks input stop → LacksValue p skips depth chunks input why
+stop_lacks p skips depth chunks input Usage why e h = absurd h
+stop_lacks p skips depth chunks input (Source fault) why e h = absurd h
+stop_lacks p skips depth chunks input (Unread name) why e h = absurd h
+stop_lacks p skips depth chunks input (Input fault) why e h = cc
+stop_lacks p skips depth chunks input (Stopped other) why e h = let same : other ≡ why = cc in let P : Reason → Type 0 = LacksValue p skips depth chunks input in subst P same h
+stop_lacks p skips depth chunks input Memory why e h = cc
+stop_lacks p skips depth chunks input (Unwritten name) why e h = absurd h
+stop_lacks p skips depth chunks input Unput why e h = absurd h
 
-pub stop_refuses : (p : ProgramTree) (depth chunks : ℕ) (input : List ℕ) (stop : Stop) → reason_of stop ≡ None → IsMachineStop p depth chunks input stop → IsRunStop p input stop
-stop_refuses p depth chunks input Usage e h = h
-stop_refuses p depth chunks input (Source fault) e h = h
-stop_refuses p depth chunks input (Unread name) e h = h
-stop_refuses p depth chunks input (Input fault) e h = h
-stop_refuses p depth chunks input (Stopped why) e h = cc
-stop_refuses p depth chunks input Memory e h = h
-stop_refuses p depth chunks input (Unwritten name) e h = h
-stop_refuses p depth chunks input Unput e h = h
+pub stop_refuses : (p : ProgramTree) (skips : Bool) (depth chunks : ℕ) (input : List ℕ) (stop : Stop) → reason_of stop ≡ None → IsMachineStop p skips depth chunks input stop → IsRunStop p input stop
+stop_refuses p skips depth chunks input Usage e h = h
+stop_refuses p skips depth chunks input (Source fault) e h = h
+stop_refuses p skips depth chunks input (Unread name) e h = h
+stop_refuses p skips depth chunks input (Input fault) e h = h
+stop_refuses p skips depth chunks input (Stopped why) e h = cc
+stop_refuses p skips depth chunks input Memory e h = h
+stop_refuses p skips depth chunks input (Unwritten name) e h = h
+stop_refuses p skips depth chunks input Unput e h = h
 
 -- what a job made that makes no file and ends without a value
 pub ends_without : (made : Made) (why : Reason) (P : Option (List ℕ) → End → Type 0) → made.file ≡ None → made.end ≡ ends.NoValue why → P None (NoValue why) → EndsBy (file_of made) made.end P

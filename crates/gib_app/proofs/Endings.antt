@@ -62,7 +62,7 @@ IsCause tells words before now out_before out_now status.Full = AsksProgram tell
 IsCause tells words before now out_before out_now status.Memory = Unit {0}
 IsCause tells words before now out_before out_now status.ReadFault = MatchOption (asked words) ⊥ (λ plan. (name : List ℕ) × FailsToRead (at_reading tells before.kept plan) before now plan name)
 IsCause tells words before now out_before out_now status.WriteFault = IsWriteCause tells words before now out_before out_now
-IsCause tells words before now out_before out_now status.Input = AsksProgram tells words before.kept (λ plan p names given. Accepts plan.job p names given → ⊥)
+IsCause tells words before now out_before out_now status.Input = AsksProgram tells words before.kept (λ plan p names given. Accepts plan.job plan.options.skips p names given → ⊥)
 
 -- the files that a plan reads
 abbrev pub K : Bool → ShelfView → Plan → Files
@@ -70,7 +70,7 @@ K tells before r = at_reading tells before.kept r
 
 -- what holds of inputs that are refused
 abbrev Refused : Plan → InputFault → ProgramTree → List (List ℕ) → Contents → Type 0
-Refused r fault p names given = Refuses r.job p names given fault × (Accepts r.job p names given → ⊥)
+Refused r fault p names given = Refuses r.job r.options.skips p names given fault × (Accepts r.job r.options.skips p names given → ⊥)
 
 without_of : (tells : Bool) (words : List (List ℕ)) (before now : ShelfView) (why : Reason) → AsksProgram tells words before.kept (EndsWithout tells before now why) → AsksProgram tells words before.kept (HasNoValue why)
 without_of tells words before now why h =
@@ -95,8 +95,8 @@ cause_of tells words before now out_before out_now status.WriteFault said (inl h
     )
 cause_of tells words before now out_before out_now status.WriteFault said (inr h) = inr (h.0, h.1, h.2)
 cause_of tells words before now out_before out_now status.Input said h =
-    map_asked (asked words) (λ r. OnBoth (K tells before r) r (Refused r h.0)) (λ r. OnBoth (K tells before r) r (λ p names given. Accepts r.job p names given → ⊥))
-    (λ r k. map_both (K tells before r) r (Refused r h.0) (λ p names given. Accepts r.job p names given → ⊥) (λ p names given both. both.1) k) h.1
+    map_asked (asked words) (λ r. OnBoth (K tells before r) r (Refused r h.0)) (λ r. OnBoth (K tells before r) r (λ p names given. Accepts r.job r.options.skips p names given → ⊥))
+    (λ r k. map_both (K tells before r) r (Refused r h.0) (λ p names given. Accepts r.job r.options.skips p names given → ⊥) (λ p names given both. both.1) k) h.1
 
 -- From the stop of a call to its status and its line
 pub ending_of : (tells : Bool) (words : List (List ℕ)) (before now : ShelfView) (out_before out_now : SinkView) (stop : Stop) → IsCallStop tells words before now out_before out_now stop →
@@ -268,7 +268,7 @@ abbrev pub Exhausted : Plan → ProgramTree → List (List ℕ) → Contents →
 Exhausted r = HasNoValue Deep r
 
 abbrev Unfit : Plan → ProgramTree → List (List ℕ) → Contents → Type 0
-Unfit r p names given = Accepts r.job p names given → ⊥
+Unfit r p names given = Accepts r.job r.options.skips p names given → ⊥
 
 abbrev Fails : Bool → ShelfView → ShelfView → Plan → Type 0
 Fails tells before now r = (name : List ℕ) × FailsToRead (K tells before r) before now r name

@@ -137,7 +137,7 @@ asked_fits (program ∷ word ∷ further) r e = command_fits (takes command_set 
 -- ---- What was made
 
 made_none : (job : Job) (o : Options) (p : ProgramTree) (names : List (List ℕ)) (given : Contents) (text : List ℕ) → MakesFile job o → Does job o p names given None (Prints text) → ⊥
-made_none Run o p names given text on d = subst (λ (b : Bool). MakesImage b p o.depth o.chunks given.second None) on d.0
+made_none Run o p names given text on d = subst (λ (b : Bool). MakesImage b p o.skips o.depth o.chunks given.second None) on d.0
 made_none Plain o p names given text on d = on
 made_none Check o p names given text on d = on
 made_none Core o p names given text on d = on

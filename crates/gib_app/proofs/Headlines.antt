@@ -95,15 +95,15 @@ run_done tells words before now out out_now source input options front said r h 
       subst T r.front_is on.holds.2,
     )
 
-image_there : (tells : Bool) (before now : Files) (name : List ℕ) (asked_for : Bool) (p : ProgramTree) (depth chunks : ℕ) (input : List ℕ) (file : Option (List ℕ)) → IsStored (Some name) file
-    → AreMade tells before now (writes_of file (Some name)) → MakesImage asked_for p depth chunks input file → (bytes : List ℕ) × (now name ≡ told tells bytes) × IsRunImage p depth chunks input bytes
-image_there tells before now name asked_for p depth chunks input None stored written made = absurd stored
-image_there tells before now name false p depth chunks input (Some bytes) stored written made = cc
-image_there tells before now name true p depth chunks input (Some bytes) stored written made = (bytes, written_here tells before now name bytes written, made)
+image_there : (tells : Bool) (before now : Files) (name : List ℕ) (asked_for : Bool) (p : ProgramTree) (skips : Bool) (depth chunks : ℕ) (input : List ℕ) (file : Option (List ℕ)) → IsStored (Some name) file
+    → AreMade tells before now (writes_of file (Some name)) → MakesImage asked_for p skips depth chunks input file → (bytes : List ℕ) × (now name ≡ told tells bytes) × IsRunImage p skips depth chunks input bytes
+image_there tells before now name asked_for p skips depth chunks input None stored written made = absurd stored
+image_there tells before now name false p skips depth chunks input (Some bytes) stored written made = cc
+image_there tells before now name true p skips depth chunks input (Some bytes) stored written made = (bytes, written_here tells before now name bytes written, made)
 
 pub run_image : (tells : Bool) (words : List (List ℕ)) (before now : ShelfView) (out out_now : SinkView) (source input : List ℕ) (options : Options) (front said name : List ℕ) →
     (r : IsRun words before out source input options front) → r.image ≡ Some name → IsEnding tells words before now out out_now status.Done said →
-    (bytes : List ℕ) × (now.kept name ≡ told tells bytes) × IsResultImage source input options.depth options.chunks bytes
+    (bytes : List ℕ) × (now.kept name ≡ told tells bytes) × IsResultImage source input options.skips options.depth options.chunks bytes
 run_image tells words before now out out_now source input options front said name r named h =
     let plan = run_plan r.program r.packed r.image options in
     let P : Plan → Type 0 = λ q. OnBoth (at_reading tells before.kept q) q (Whole tells before now out out_now q) in
@@ -111,7 +111,7 @@ run_image tells words before now out out_now source input options front said nam
     let made = on.holds.1 in
     let S : Option (List ℕ) → Type 0 = λ t. IsStored t made.ended.file in
     let W : Option (List ℕ) → Type 0 = λ t. AreMade tells before.kept now.kept (writes_of made.ended.file t) in
-    let there = image_there tells before.kept now.kept name options.image on.program options.depth options.chunks input made.ended.file (subst S named made.stored) (subst W named made.ended.written) made.ended.does.0 in
+    let there = image_there tells before.kept now.kept name options.image on.program options.skips options.depth options.chunks input made.ended.file (subst S named made.stored) (subst W named made.ended.written) made.ended.does.0 in
     let is = there.2 in (
       there.0,
       there.1,
@@ -141,7 +141,7 @@ run_deep tells words before now out out_now source input options front said r h 
     deep_of source input options.depth (record { lexed = on.lexed; program = on.program; is_program = on.is_program; holds = on.holds.does.1 })
 
 pub run_full : (tells : Bool) (words : List (List ℕ)) (before now : ShelfView) (out out_now : SinkView) (source input : List ℕ) (options : Options) (front said : List ℕ) →
-    IsRun words before out source input options front → IsEnding tells words before now out out_now status.Full said → IsTooBig source input options.depth options.chunks
+    IsRun words before out source input options front → IsEnding tells words before now out out_now status.Full said → IsTooBig source input options.skips options.depth options.chunks
 run_full tells words before now out out_now source input options front said r h =
     let plan = run_plan r.program r.packed r.image options in
     let P : Plan → Type 0 = λ q. OnBoth (at_reading tells before.kept q) q (EndsWithout tells before now Full q) in
@@ -226,7 +226,7 @@ fits_by laws tells words before now out out_now source input options front said 
     (run_ends_deep laws tells words before now out out_now source input options front said end' r quiet (record { given = g; means = deep }) ends)
 
 pub run_fits : Laws → (tells : Bool) (words : List (List ℕ)) (before now : ShelfView) (out out_now : SinkView) (source input : List ℕ) (options : Options) (front said : List ℕ) (end' : Status) →
-    (r : IsRun words before out source input options front) → NoneFailed r.program r.packed r.image before now out out_now → Given source input → (IsTooBig source input options.depth options.chunks → ⊥) →
+    (r : IsRun words before out source input options front) → NoneFailed r.program r.packed r.image before now out out_now → Given source input → (IsTooBig source input options.skips options.depth options.chunks → ⊥) →
     IsEnding tells words before now out out_now end' said → (end' ≡ status.Done) ⊎ (end' ≡ status.Depth) ⊎ (end' ≡ status.Memory)
 run_fits laws tells words before now out out_now source input options front said end' r quiet g fits ends =
     let E : Status → Type 0 = λ s. IsEnding tells words before now out out_now s said in

@@ -1,5 +1,5 @@
 -- From the parts of making to the whole.
-use Rattle.std.proofs.Common.{◌≡◌, Bool, refl, ap, ℕ, ◌<◌, List, [], ◌∷◌, length, Option, Some, None, option_map, option_to_list, subst, sym, inl, inr}
+use Rattle.std.proofs.Common.{◌≡◌, Bool, refl, ap, ℕ, ◌<◌, List, [], ◌∷◌, length, Option, Some, None, MatchOption, option_map, option_to_list, subst, sym, inl, inr}
 use Rattle.gib_edge.specs.Causes.{Rose}
 use Rattle.gib_edge.specs.Views.{ShelfView}
 use Rattle.gib_syntax.specs.Tree.{ProgramTree}
@@ -61,6 +61,11 @@ compile_source before now d source held Memory h = h
 compile_source before now d source held (Unwritten name) h = h
 compile_source before now d source held Unput h = h
 
+-- what is found where nothing is
+pub found_none : {V : Type 0} (o : Option V) (A : Type 0) (B : V → Type 0) → o ≡ None → MatchOption o A B → A
+found_none None A B e h = h
+found_none (Some x) A B e h = cc
+
 -- The one input that there is, or none
 
 module _ (o : Option KeptInput) (r : Plan) (same : option_to_list (option_map input_of o) ≡ inputs_of r) where
@@ -101,12 +106,12 @@ module _ (o : Option KeptInput) (r : Plan) (same : option_to_list (option_map in
 
 -- what a job does not make of its inputs
 pub job_stop : (before now : ShelfView) (r : Plan) (p : ProgramTree) (names : List (List ℕ)) (given : Contents) → OnSource before.kept r.source (λ source. IsCompiled source p names) →
-    AreGiven before.kept (inputs_of r) given → (stop : Stop) → FailsTo r.job p names given stop → IsMakeStop before now r stop
+    AreGiven before.kept (inputs_of r) given → (stop : Stop) → FailsTo r.job r.options.skips p names given stop → IsMakeStop before now r stop
 job_stop before now r p names given on held Usage h = h
 job_stop before now r p names given on held (Source fault) h = absurd h
 job_stop before now r p names given on held (Unread name) h = absurd h
 job_stop before now r p names given on held (Input fault) h =
-    on_both before.kept r r.source p names given (λ q ns bytes. Refuses r.job q ns bytes fault × (Accepts r.job q ns bytes → ⊥)) refl on held h
+    on_both before.kept r r.source p names given (λ q ns bytes. Refuses r.job r.options.skips q ns bytes fault × (Accepts r.job r.options.skips q ns bytes → ⊥)) refl on held h
 job_stop before now r p names given on held (NoValue reason) h = absurd h
 job_stop before now r p names given on held Memory h = h
 job_stop before now r p names given on held (Unwritten name) h = absurd h
@@ -145,11 +150,11 @@ input_stop before mid now r d p names e same reads on (Source fault) h = absurd 
 input_stop before mid now r d p names e same reads on (Unread name) h =
     inr (inputs_unread_before before mid now (inputs_of r) name.now reads h, source_here before.kept r d p names e on)
 input_stop before mid now r d p names e same reads on (Input fault) h =
-    let P : InputFault → Type 0 = λ f. OnBoth before.kept r (λ q ns given. Refuses r.job q ns given f × (Accepts r.job q ns given → ⊥)) in
+    let P : InputFault → Type 0 = λ f. OnBoth before.kept r (λ q ns given. Refuses r.job r.options.skips q ns given f × (Accepts r.job r.options.skips q ns given → ⊥)) in
     let held = held_before before.kept mid.kept (inputs_of r) h.given same h.given_held in
     subst P (sym h.is)
-    (on_both before.kept r d p names h.given (λ q ns given. Refuses r.job q ns given (input.Long (most_of r.job)) × (Accepts r.job q ns given → ⊥)) e on held
-    (long_refused before.kept r.job r.inputs p names h.given held h.many))
+    (on_both before.kept r d p names h.given (λ q ns given. Refuses r.job r.options.skips q ns given (input.Long (most_of r.job)) × (Accepts r.job r.options.skips q ns given → ⊥)) e on held
+    (long_refused before.kept r.job r.options.skips r.inputs p names h.given held h.many))
 input_stop before mid now r d p names e same reads on (NoValue reason) h = absurd h
 input_stop before mid now r d p names e same reads on Memory h = h
 input_stop before mid now r d p names e same reads on (Unwritten name) h = absurd h
@@ -179,7 +184,7 @@ module _ (tells : Bool) (before start now : ShelfView) (r : Plan) (same : (name 
   make_stop (Source fault) h = source_from (at_reading tells before.kept r) start.kept r.source (λ bytes. IsSourceFault bytes fault × IsNoProgram bytes) same h
   make_stop (Unread name) h = fails_from name.now h
   make_stop (Input fault) h =
-      both_from (at_reading tells before.kept r) start.kept r (λ p names given. Refuses r.job p names given fault × (Accepts r.job p names given → ⊥)) same h
+      both_from (at_reading tells before.kept r) start.kept r (λ p names given. Refuses r.job r.options.skips p names given fault × (Accepts r.job r.options.skips p names given → ⊥)) same h
   make_stop (NoValue reason) h = h
   make_stop Memory h = h
   make_stop (Unwritten name) h = absurd h

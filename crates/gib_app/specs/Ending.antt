@@ -47,7 +47,7 @@ IsEnding tells words before now out_before out_now ReadFault said =
     (name : List ℕ) × MatchOption (asked words) ⊥ (λ plan. FailsToRead (at_reading tells before.kept plan) before now plan name) × (said ≡ line (codes "cannot read " ++ name))
 IsEnding tells words before now out_before out_now WriteFault said = IsWriteEnding tells words before now out_before out_now said
 IsEnding tells words before now out_before out_now Input said =
-    (fault : InputFault) × AsksProgram tells words before.kept (λ plan p names given. Refuses plan.job p names given fault × (Accepts plan.job p names given → ⊥)) × (said ≡ line (input_text fault))
+    (fault : InputFault) × AsksProgram tells words before.kept (λ plan p names given. Refuses plan.job plan.options.skips p names given fault × (Accepts plan.job plan.options.skips p names given → ⊥)) × (said ≡ line (input_text fault))
 
 -- Not the name of a file that the words ask to write.
 abbrev pub IsNoTarget : List (List ℕ) → List ℕ → Type 0
@@ -163,7 +163,7 @@ IsDue tells words before now out_before out_now Memory = ⊥
 IsDue tells words before now out_before out_now ReadFault = MatchOption (asked words) ⊥ (DueMissing tells before now)
 IsDue tells words before now out_before out_now WriteFault = ⊥
 IsDue tells words before now out_before out_now Input =
-    MatchOption (asked words) ⊥ (λ plan. DueOfFiles tells before now plan (λ p names given. Accepts plan.job p names given → ⊥))
+    MatchOption (asked words) ⊥ (λ plan. DueOfFiles tells before now plan (λ p names given. Accepts plan.job plan.options.skips p names given → ⊥))
 
 -- The words ask for `run` or `gen`: no other job uses chunks of region memory.
 abbrev pub AsksRun : List (List ℕ) → Type 0

@@ -1,5 +1,5 @@
 -- What the inputs of each job are, which are accepted as that, and why others are refused.
-use Rattle.std.specs.Prelude.{ℕ, List, [], ◌∷◌, Option, None, Some, MatchOption, ⊤}
+use Rattle.std.specs.Prelude.{Bool, ℕ, List, [], ◌∷◌, Option, None, Some, MatchOption, ⊤}
 use Rattle.std.specs.Option.{option_map_or}
 use Rattle.gib_types.specs.Tree.{Datum}
 use Rattle.gib_syntax.specs.Tree.{ProgramTree}
@@ -54,21 +54,22 @@ abbrev pub inputs_of : Plan → List Input
 inputs_of plan = with_limits (option_map_or limits_of (format_of plan.job) []) plan.inputs
 
 -- The inputs are accepted as that.
-abbrev pub IsAccepted : Format → ProgramTree → List (List ℕ) → Contents → Type 0
-IsAccepted Packed p names given = (v : Datum) × IsInput p v given.second
-IsAccepted Text p names given = (packed : List ℕ) × IsPackedText p names given.second packed
-IsAccepted Shown p names given = (v : Datum) × IsShownValue p v given.second
+-- An image is read by the layouts that the flag `--skips` chooses.
+abbrev pub IsAccepted : Format → (skips : Bool) → ProgramTree → List (List ℕ) → Contents → Type 0
+IsAccepted Packed skips p names given = (v : Datum) × IsInput p v given.second
+IsAccepted Text skips p names given = (packed : List ℕ) × IsPackedText p names given.second packed
+IsAccepted Shown skips p names given = (v : Datum) × IsShownValue p skips v given.second
 
 -- The inputs are refused as that, for this fault.
-abbrev pub IsRefused : Format → ProgramTree → List (List ℕ) → Contents → InputFault → Type 0
-IsRefused Packed p names given fault = IsInputFault p given.second fault
-IsRefused Text p names given fault = IsTextFault p names given.second fault
-IsRefused Shown p names given fault = IsShowFault p given.second fault
+abbrev pub IsRefused : Format → (skips : Bool) → ProgramTree → List (List ℕ) → Contents → InputFault → Type 0
+IsRefused Packed skips p names given fault = IsInputFault p given.second fault
+IsRefused Text skips p names given fault = IsTextFault p names given.second fault
+IsRefused Shown skips p names given fault = IsShowFault p skips given.second fault
 
 -- A job accepts its inputs, if it has some.
-abbrev pub Accepts : Job → ProgramTree → List (List ℕ) → Contents → Type 0
-Accepts job p names given = MatchOption (format_of job) ⊤ (λ format. IsAccepted format p names given)
+abbrev pub Accepts : Job → (skips : Bool) → ProgramTree → List (List ℕ) → Contents → Type 0
+Accepts job skips p names given = MatchOption (format_of job) ⊤ (λ format. IsAccepted format skips p names given)
 
 -- A job refuses its inputs for this fault.
-abbrev pub Refuses : Job → ProgramTree → List (List ℕ) → Contents → InputFault → Type 0
-Refuses job p names given fault = MatchOption (format_of job) ⊥ (λ format. IsRefused format p names given fault)
+abbrev pub Refuses : Job → (skips : Bool) → ProgramTree → List (List ℕ) → Contents → InputFault → Type 0
+Refuses job skips p names given fault = MatchOption (format_of job) ⊥ (λ format. IsRefused format skips p names given fault)

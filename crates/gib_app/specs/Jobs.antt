@@ -35,16 +35,16 @@ Means p names depth input file (NoValue Deep) = (file ≡ None) × RunsOut p dep
 Means p names depth input file (NoValue Full) = ⊥
 
 -- Where an image is asked for, it is the file that a run makes; else there is none.
-abbrev pub MakesImage : Bool → ProgramTree → (depth chunks : ℕ) → List ℕ → Option (List ℕ) → Type 0
-MakesImage false p depth chunks input file = file ≡ None
-MakesImage true p depth chunks input None = ⊥
-MakesImage true p depth chunks input (Some bytes) = IsRunImage p depth chunks input bytes
+abbrev pub MakesImage : Bool → ProgramTree → (skips : Bool) → (depth chunks : ℕ) → List ℕ → Option (List ℕ) → Type 0
+MakesImage false p skips depth chunks input file = file ≡ None
+MakesImage true p skips depth chunks input None = ⊥
+MakesImage true p skips depth chunks input (Some bytes) = IsRunImage p skips depth chunks input bytes
 
 -- `run`: the same, and its image, where that is asked for; or so many chunks of memory may not be enough.
 abbrev pub Runs : ProgramTree → List (List ℕ) → Options → List ℕ → Option (List ℕ) → End → Type 0
-Runs p names options input file (Prints text) = MakesImage options.image p options.depth options.chunks input file × IsOutput p names options.depth input text
+Runs p names options input file (Prints text) = MakesImage options.image p options.skips options.depth options.chunks input file × IsOutput p names options.depth input text
 Runs p names options input file (NoValue Deep) = (file ≡ None) × RunsOut p options.depth input
-Runs p names options input file (NoValue Full) = (file ≡ None) × FillsUp p options.depth options.chunks input
+Runs p names options input file (NoValue Full) = (file ≡ None) × FillsUp p options.skips options.depth options.chunks input
 
 -- `pack`: the packed file of the value whose text this is.
 abbrev pub Packs : ProgramTree → List (List ℕ) → List ℕ → Option (List ℕ) → End → Type 0
@@ -56,7 +56,7 @@ Packs p names bytes file (NoValue reason) = ⊥
 abbrev pub Sums : ProgramTree → Options → List ℕ → Option (List ℕ) → End → Type 0
 Sums p options input file (Prints text) = (file ≡ None) × IsSummary p options.number options.levels options.depth input text
 Sums p options input file (NoValue Deep) = (file ≡ None) × RunsOut p options.depth input
-Sums p options input file (NoValue Full) = (file ≡ None) × FillsUp p options.depth options.chunks input
+Sums p options input file (NoValue Full) = (file ≡ None) × FillsUp p options.skips options.depth options.chunks input
 
 -- What a job with these options makes, for the program with these names, of the bytes of its inputs: a file, or none, and its
 -- end.
@@ -64,10 +64,10 @@ abbrev pub Does : Job → Options → ProgramTree → List (List ℕ) → Conten
 Does Run options p names given = Runs p names options given.second
 Does Plain options p names given = Means p names options.depth given.second
 Does Check options p names given = OnlyPrints (λ text. text ≡ ok_line)
-Does Core options p names given = OnlyPrints (λ text. text ≡ core_text names (core_after options.pass p))
-Does Code options p names given = OnlyPrints (λ text. text ≡ listing_text names (lower_program (core_after 4 p)))
+Does Core options p names given = OnlyPrints (λ text. text ≡ core_text names (core_after options.skips options.pass p))
+Does Code options p names given = OnlyPrints (λ text. text ≡ listing_text names (lower_program (core_after options.skips 4 p)))
 Does Pack options p names given = Packs p names given.second
-Does Show options p names given = OnlyPrints (IsShown p names given.second)
+Does Show options p names given = OnlyPrints (IsShown p names options.skips given.second)
 Does Gen options p names given = Sums p options given.second
 
 -- The same options, without an image.

@@ -103,22 +103,22 @@ abbrev pub IsRunStop : ProgramTree → List ℕ → Stop → Type 0
 IsRunStop p input = IsRefusal (λ fault. IsInputFault p input fault × (((v : Datum) × IsInput p v input) → ⊥))
 
 -- Why a file is not shown.
-abbrev pub IsShowStop : ProgramTree → List ℕ → Stop → Type 0
-IsShowStop p file = IsRefusal (λ fault. IsShowFault p file fault × (((v : Datum) × IsShownValue p v file) → ⊥))
+abbrev pub IsShowStop : ProgramTree → (skips : Bool) → List ℕ → Stop → Type 0
+IsShowStop p skips file = IsRefusal (λ fault. IsShowFault p skips file fault × (((v : Datum) × IsShownValue p skips v file) → ⊥))
 
 -- Why a text is not packed.
 abbrev pub IsPackStop : ProgramTree → List (List ℕ) → List ℕ → Stop → Type 0
 IsPackStop p names bytes = IsRefusal (λ fault. IsTextFault p names bytes fault × (((file : List ℕ) × IsPackedText p names bytes file) → ⊥))
 
 -- Why a job makes nothing, for this program, of the bytes of its inputs.
-abbrev pub FailsTo : Job → ProgramTree → List (List ℕ) → Contents → Stop → Type 0
-FailsTo job p names given = IsRefusal (λ fault. Refuses job p names given fault × (Accepts job p names given → ⊥))
+abbrev pub FailsTo : Job → (skips : Bool) → ProgramTree → List (List ℕ) → Contents → Stop → Type 0
+FailsTo job skips p names given = IsRefusal (λ fault. Refuses job skips p names given fault × (Accepts job skips p names given → ⊥))
 
 -- Why what is asked for is not made: the source is no program, a file is not read, the inputs are refused.
 abbrev pub IsMakeStop : ShelfView → ShelfView → Plan → Stop → Type 0
 IsMakeStop before now plan =
     StopsBy (λ fault. OnSource before.kept plan.source (λ bytes. IsSourceFault bytes fault × IsNoProgram bytes)) (λ name. FailsToRead before.kept before now plan name)
-    (λ fault. OnBoth before.kept plan (λ p names given. Refuses plan.job p names given fault × (Accepts plan.job p names given → ⊥)))
+    (λ fault. OnBoth before.kept plan (λ p names given. Refuses plan.job plan.options.skips p names given fault × (Accepts plan.job plan.options.skips p names given → ⊥)))
     (λ reason. ⊥) (λ name. ⊥)
 
 -- Why what is asked for is not made, or not written.
@@ -126,6 +126,6 @@ abbrev pub IsStop : Bool → ShelfView → ShelfView → Plan → Stop → Type 
 IsStop tells before now plan =
     StopsBy (λ fault. OnSource (at_reading tells before.kept plan) plan.source (λ bytes. IsSourceFault bytes fault × IsNoProgram bytes))
     (λ name. FailsToRead (at_reading tells before.kept plan) before now plan name)
-    (λ fault. OnBoth (at_reading tells before.kept plan) plan (λ p names given. Refuses plan.job p names given fault × (Accepts plan.job p names given → ⊥)))
+    (λ fault. OnBoth (at_reading tells before.kept plan) plan (λ p names given. Refuses plan.job plan.options.skips p names given fault × (Accepts plan.job plan.options.skips p names given → ⊥)))
     (λ reason. ⊥)
     (λ name. FailsToWrite tells before now plan name)

@@ -11,6 +11,7 @@ use Rattle.clap.specs.ValueTests.{is_unsigned_in}
 use Rattle.clap.specs.Walk.{Row, Rule, Text, first_of, one_of}
 use Rattle.clap.specs.Simple.{App, new_app, new_rule, on_top, subcommand_of, with_rule, with_subcommand}
 use Rattle.clap.specs.Takes.{takes}
+use Rattle.clap.specs.declared.builder.action.ArgAction.TheVariants.{SetTrue}
 use Rattle.clap.specs.declared.builder.value_parser.ValueParser.TheVariants.{Unsigned}
 use Rattle.gib_app.specs.declared.plan.Job.{Job}
 use Rattle.gib_app.specs.declared.plan.Job.TheVariants.{Run, Plain, Check, Core, Code, Pack, Show, Gen}
@@ -54,6 +55,14 @@ image = record (new_rule (codes "image")) { long = Some (codes "image") }
 abbrev pub numeral : Text → ℕ → ℕ → Rule
 numeral id least most = record (positional id) { parser = Some (Unsigned least most) }
 
+-- `--name`, which may be left out.
+abbrev pub flag : Text → Rule
+flag name = record (new_rule name) { long = Some name; action = Some SetTrue }
+
+-- Whether fields are reached from the end of the field before them.
+abbrev pub skips : Rule
+skips = flag (codes "skips")
+
 -- ---- Their values
 
 -- The word at a place.
@@ -84,9 +93,13 @@ byte_of n = if nat_lt n 256 then Some n else None
 abbrev pub byte_or : Text → ℕ → List Row → ℕ
 byte_or id default rows = option_map_or (λ n. n) (option_and_then byte_of (number_of id rows)) default
 
+-- Whether a flag is given.
+abbrev pub flag_of : Text → List Row → Bool
+flag_of id rows = option_map_or (λ value. bytes_eq value (codes "true")) (word_of id rows) false
+
 -- The options where none is given.
 abbrev pub usual : Options
-usual = record { depth = 10000; chunks = 1024; pass = 4; image = false; number = 0; levels = 0 }
+usual = record { depth = 10000; chunks = 1024; pass = 4; image = false; skips = false; number = 0; levels = 0 }
 
 -- All options.
 abbrev pub options_of : List Row → Options
@@ -95,6 +108,7 @@ options_of rows = record {
   chunks = number_or (codes "chunks") usual.chunks rows;
   pass = number_or (codes "pass") usual.pass rows;
   image = is_some (word_of (codes "image") rows);
+  skips = flag_of (codes "skips") rows;
   number = number_or (codes "number") usual.number rows;
   levels = byte_or (codes "levels") usual.levels rows;
 }
@@ -179,9 +193,9 @@ planned job second target rows =
     with_value (with_value (option_map (λ s t u. record { first = []; source = s; inputs = option_to_list t; target = u; job = job; options = options_of rows }) (file_of (codes "source") rows))
     (second_in second rows)) (target_in target rows)
 
--- `run SOURCE INPUT [--depth N] [--chunks N] [--image FILE]`.
+-- `run SOURCE INPUT [--depth N] [--chunks N] [--image FILE] [--skips]`.
 abbrev pub run_form : Form
-run_form = record { name = codes "run"; second = Some (codes "input"); target = ByOption (codes "image"); options = depth ∷ chunks ∷ image ∷ []; job = Run }
+run_form = record { name = codes "run"; second = Some (codes "input"); target = ByOption (codes "image"); options = depth ∷ chunks ∷ image ∷ skips ∷ []; job = Run }
 
 -- `plain SOURCE INPUT [--depth N]`.
 abbrev pub plain_form : Form
@@ -191,26 +205,26 @@ plain_form = record { name = codes "plain"; second = Some (codes "input"); targe
 abbrev pub check_form : Form
 check_form = record { name = codes "check"; second = None; target = NoTarget; options = []; job = Check }
 
--- `core SOURCE [--pass P]`.
+-- `core SOURCE [--pass P] [--skips]`.
 abbrev pub core_form : Form
-core_form = record { name = codes "core"; second = None; target = NoTarget; options = pass ∷ []; job = Core }
+core_form = record { name = codes "core"; second = None; target = NoTarget; options = pass ∷ skips ∷ []; job = Core }
 
--- `code SOURCE`.
+-- `code SOURCE [--skips]`.
 abbrev pub code_form : Form
-code_form = record { name = codes "code"; second = None; target = NoTarget; options = []; job = Code }
+code_form = record { name = codes "code"; second = None; target = NoTarget; options = skips ∷ []; job = Code }
 
 -- `pack SOURCE TEXT TARGET`.
 abbrev pub pack_form : Form
 pack_form = record { name = codes "pack"; second = Some (codes "text"); target = AtPlace (codes "target"); options = []; job = Pack }
 
--- `show SOURCE FILE`.
+-- `show SOURCE FILE [--skips]`.
 abbrev pub show_form : Form
-show_form = record { name = codes "show"; second = Some (codes "file"); target = NoTarget; options = []; job = Show }
+show_form = record { name = codes "show"; second = Some (codes "file"); target = NoTarget; options = skips ∷ []; job = Show }
 
--- `gen NUMBER LEVELS SOURCE INPUT [--depth N] [--chunks N]`: both files are made.
+-- `gen NUMBER LEVELS SOURCE INPUT [--depth N] [--chunks N] [--skips]`: both files are made.
 abbrev pub gen_arguments : List Rule
 gen_arguments =
-    numeral (codes "number") 0 2147483647 ∷ numeral (codes "levels") 0 18 ∷ positional (codes "source") ∷ positional (codes "input") ∷ depth ∷ chunks ∷ []
+    numeral (codes "number") 0 2147483647 ∷ numeral (codes "levels") 0 18 ∷ positional (codes "source") ∷ positional (codes "input") ∷ depth ∷ chunks ∷ skips ∷ []
 
 -- All commands whose files are read.
 abbrev pub forms : List Form

@@ -1,6 +1,6 @@
 //! The laws of refusals. Each function does nothing: its contract is the law.
 
-ghost use Rattle.std.specs.Prelude.{◌≡◌, ℕ, List};
+ghost use Rattle.std.specs.Prelude.{◌≡◌, Bool, ℕ, List};
 ghost use Rattle.gib_syntax.specs.Parts.{program_of};
 ghost use Rattle.gib_app.specs.declared.input_fault.InputFault.{InputFault};
 ghost use Rattle.gib_app.specs.declared.plan.Job.{Job};
@@ -34,10 +34,10 @@ pub fn one_source_fault()
 /// The inputs of a job are refused for one fault, at one place, and inputs that are refused are not accepted.
 pub fn one_input_fault(compiled: &Compiled)
     requires ready { IsReady (program_of compiled.now.typed) compiled.now.names }
-    ensures one { (job : Job) (given : Contents) (f g : InputFault)
-        → Refuses job (program_of compiled.now.typed) compiled.now.names given f → Refuses job (program_of compiled.now.typed) compiled.now.names given g → f ≡ g }
-    ensures none { (job : Job) (given : Contents) (f : InputFault)
-        → Refuses job (program_of compiled.now.typed) compiled.now.names given f → Accepts job (program_of compiled.now.typed) compiled.now.names given → ⊥ }
+    ensures one { (job : Job) (skips : Bool) (given : Contents) (f g : InputFault)
+        → Refuses job skips (program_of compiled.now.typed) compiled.now.names given f → Refuses job skips (program_of compiled.now.typed) compiled.now.names given g → f ≡ g }
+    ensures none { (job : Job) (skips : Bool) (given : Contents) (f : InputFault)
+        → Refuses job skips (program_of compiled.now.typed) compiled.now.names given f → Accepts job skips (program_of compiled.now.typed) compiled.now.names given → ⊥ }
 {
     refused_header();
     refused_file();

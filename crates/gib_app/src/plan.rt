@@ -60,6 +60,8 @@ pub struct Options {
     pub pass: u32,
     /// Whether the image of region memory is written.
     pub image: bool,
+    /// Whether fields are reached from the end of the field before them, and not by offsets that heads store.
+    pub skips: bool,
     /// What a program and its input are made of.
     pub number: u32,
     /// How many levels the input that is made has below its root.

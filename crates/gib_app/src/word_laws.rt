@@ -35,6 +35,12 @@ pub fn examples()
         ≡ Some (record { first = []; source = Named (codes "a"); inputs = Named (codes "b") ∷ []; target = Some (codes "m.gbi"); job = Run; options = record usual { image = true } }) }
     // The code of a program.
     ensures code { asked (codes "gib" ∷ codes "code" ∷ codes "a.gib" ∷ []) ≡ Some (record { first = []; source = Named (codes "a.gib"); inputs = []; target = None; job = Code; options = usual }) }
+    // The flag, on the commands that take it, and on one that takes it not.
+    ensures skips { asked (codes "gib" ∷ codes "run" ∷ codes "--skips" ∷ codes "a" ∷ codes "b" ∷ [])
+        ≡ Some (record { first = []; source = Named (codes "a"); inputs = Named (codes "b") ∷ []; target = None; job = Run; options = record usual { skips = true } }) }
+    ensures code_skips { asked (codes "gib" ∷ codes "code" ∷ codes "a.gib" ∷ codes "--skips" ∷ [])
+        ≡ Some (record { first = []; source = Named (codes "a.gib"); inputs = []; target = None; job = Code; options = record usual { skips = true } }) }
+    ensures plain_skips { asked (codes "gib" ∷ codes "plain" ∷ codes "a" ∷ codes "b" ∷ codes "--skips" ∷ []) ≡ None }
     // A pass past its range.
     ensures pass { asked (codes "gib" ∷ codes "core" ∷ codes "a.gib" ∷ codes "--pass" ∷ codes "5" ∷ []) ≡ None }
     // A name too few.

@@ -4,7 +4,8 @@ use crate::harness::packed;
 use crate::programs::compile;
 use gib_app::machine_run::run_packed;
 use gib_base::limits::FILE_BYTES;
-use gib_mem::{CHUNK, Mem, PlainMem};
+use gib_arena::SoleMem;
+use gib_mem::{CHUNK, Mem};
 use gib_packed::Root;
 use std::alloc::{AllocError, Global};
 use std::test::Fail;
@@ -24,7 +25,7 @@ struct Run<'a> {
 }
 
 /// Whether these bytes stand from an address on, all in chunks that are drawn.
-fn stand_at(mem: &mut PlainMem, from: u64, bytes: &[u8]) -> bool {
+fn stand_at(mem: &mut SoleMem, from: u64, bytes: &[u8]) -> bool {
     let mut at = from;
     for byte in bytes {
         if at >= CHUNK * mem.chunks() as u64 {
@@ -39,7 +40,7 @@ fn stand_at(mem: &mut PlainMem, from: u64, bytes: &[u8]) -> bool {
     true
 }
 
-/// Whether the machine runs so, in 16 chunks.
+/// Whether the machine runs so, in 16 chunks, where heads store no offsets.
 fn leaves(alloc: Global, wanted: &Run<'_>) -> Result<bool, AllocError> {
     let file = packed(alloc, wanted.payload)?;
     if file.len() as u64 > FILE_BYTES {
@@ -48,7 +49,7 @@ fn leaves(alloc: Global, wanted: &Run<'_>) -> Result<bool, AllocError> {
     let Some(compiled) = compile(alloc, wanted.source) else {
         return Ok(false);
     };
-    let Ok(ran) = run_packed(alloc, &compiled.typed, &file, 10, 16) else {
+    let Ok(ran) = run_packed(alloc, &compiled.typed, &file, 10, 16, true) else {
         return Ok(false);
     };
     let mut ran = ran;

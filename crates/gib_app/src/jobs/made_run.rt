@@ -18,7 +18,8 @@ use crate::stop::Stop;
 use gib_base::Memory;
 use gib_base::limits::FILE_BYTES;
 use gib_gen::summary;
-use gib_mem::{Mem, PlainMem};
+use gib_arena::SoleMem;
+use gib_mem::Mem;
 use std::alloc::Global;
 
 /// The line about what a run leaves.
@@ -27,8 +28,8 @@ use std::alloc::Global;
 ///
 /// Want of memory.
 fn line_of(alloc: Global, ran: &mut Ran, options: Options) -> Result<Vec<u8>, Memory>
-    requires stands { (p : ProgramTree) × (depth : ℕ) × (input : List ℕ) × StandsMeant p depth input ran.old.lowered.code.laid (⟦<PlainMem as Mem>⟧.view ran.old.memory).cells ran.old.root }
-    ensures { (p : ProgramTree) (depth : ℕ) (input : List ℕ) (s : StandsMeant p depth input ran.old.lowered.code.laid (⟦<PlainMem as Mem>⟧.view ran.old.memory).cells ran.old.root)
+    requires stands { (p : ProgramTree) × (depth : ℕ) × (input : List ℕ) × StandsMeant p depth input ran.old.lowered.code.laid (⟦<SoleMem as Mem>⟧.view ran.old.memory).cells ran.old.root }
+    ensures { (p : ProgramTree) (depth : ℕ) (input : List ℕ) (s : StandsMeant p depth input ran.old.lowered.code.laid (⟦<SoleMem as Mem>⟧.view ran.old.memory).cells ran.old.root)
         → IfOk result (λ line. line.items ≡ summary_line options.number options.levels s.result) }
 {
     let layouts = ran.lowered.code().layouts();
@@ -57,7 +58,14 @@ pub fn made_run(
     ensures made { IfOk result (λ made. EndsBy (file_of made) made.end (Sums (program_of compiled.now.typed) options input.now)) }
     ensures stop { IfErr result (IsRunStop (program_of compiled.now.typed) input.now) }
 {
-    let mut ran = match run_packed(alloc, &compiled.typed, input, options.depth, options.chunks) {
+    let mut ran = match run_packed(
+        alloc,
+        &compiled.typed,
+        input,
+        options.depth,
+        options.chunks,
+        options.skips,
+    ) {
         Ok(ran) => ran,
         Err(stop) => {
             return match stop.reason() {

@@ -36,7 +36,7 @@ returns-clause-stop g c =
     let before = g.S.Shelf.view c.args.shelf.now in
     let r = plan_of c.args.plan in
     let p = program_of c.in-Ok.compiled.typed in
-    let P : List ℕ → Type 0 = λ bytes. FailsTo r.job p c.in-Ok.compiled.names (record { second = bytes; further = [] }) c.in-Err-do_job.stop in
+    let P : List ℕ → Type 0 = λ bytes. FailsTo r.job r.options.skips p c.in-Ok.compiled.names (record { second = bytes; further = [] }) c.in-Err-do_job.stop in
     job_stop before (g.S.Shelf.view c.read_second.new.shelf) r p c.in-Ok.compiled.names (record { second = c.in-Ok-read_second.second.items; further = [] }) c.in-Ok.ensures.compiled
     (held_before before.kept (g.S.Shelf.view c.load_program.new.shelf).kept _ (record { second = c.in-Ok-read_second.second.items; further = [] }) c.in-Ok.ensures.same c.in-Ok-read_second.ensures.bytes)
     c.in-Err-do_job.stop (subst P c.deref.ensures.value c.in-Err-do_job.ensures.stop)

@@ -1,5 +1,5 @@
 use Rattle.gib_app.specs.Kept.{plan_of}
-use Rattle.gib_app.proofs.Making.{long_input}
+use Rattle.gib_app.proofs.Making.{long_input, found_none}
 use Rattle.gib_app.proofs.make.read_second.Goals as goal
 
 pub returns-in-Ok-None-clause-stop : goal.returns-in-Ok-None-clause-stop
@@ -7,4 +7,4 @@ returns-in-Ok-None-clause-stop g c =
     long_input c.second_input.result (plan_of c.args.plan) c.second_input.ensures.input
     (g.S.Shelf.view c.args.shelf.now)
     (g.S.Shelf.view c.read_document.new.shelf)
-    c.in-Some.input c.in-Some.is c.in-Some.ensures.most c.in-Ok-None.ensures.bytes
+    c.in-Some.input c.in-Some.is c.in-Some.ensures.most (found_none c.in-Ok-None.field-0 _ _ c.in-Ok-None.field-0-is c.in-Ok-None.ensures.bytes)

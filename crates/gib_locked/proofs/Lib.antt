@@ -1,0 +1,11 @@
+pub mod LinesKeep
+pub mod CutLemmas
+pub mod Numbers
+pub mod LineTexts
+pub mod NextLines
+pub mod HeadTexts
+pub mod JournalLines
+pub mod ReadEvents
+pub mod ReadJournal
+pub mod Runs
+pub mod Happening

@@ -1,0 +1,90 @@
+//! The line of what a weave was started with, read.
+
+ghost use Rattle.std.specs.Prelude.{◌≡◌, ◌<◌, ◌^◌, ◌++◌, ◌∷◌, ℕ, List, Bool, codes, true, false, MatchOption};
+ghost use Rattle.std.specs.Fmt.{decimal};
+ghost use Rattle.gib_locked.specs.Cuts.{lacks};
+ghost use Rattle.gib_locked.specs.Limits.{are_settings};
+ghost use Rattle.gib_locked.specs.JournalText.{flag_text, settings_text};
+ghost use Rattle.gib_locked.specs.declared.settings.Settings.{Settings};
+
+use crate::cut::{cut, read_number};
+use crate::settings::Settings;
+
+/// A number that stands behind a word, and what is behind both.
+#[derive(Clone, Copy)]
+struct Named<'a> {
+    number: u64,
+    rest: &'a [u8],
+}
+
+/// The number behind the word at the front.
+fn read_named<'a>(text: &'a [u8], word: &[u8]) -> Option<Named<'a>>
+    requires { lacks 32 word.now ≡ true }
+    ensures { MatchOption result
+        ((n : ℕ) (rest : List ℕ) → n < 2 ^ 64 → text.now ≡ word.now ++ 32 ∷ (decimal n ++ 32 ∷ rest) → ⊥)
+        (λ x. text.now ≡ word.now ++ 32 ∷ (decimal x.number ++ 32 ∷ x.rest.now)) }
+{
+    let Some(parts) = cut(text, b' ') else {
+        return None;
+    };
+    if parts.front != word {
+        return None;
+    }
+    let Some(behind) = cut(parts.rest, b' ') else {
+        return None;
+    };
+    let Some(number) = read_number(behind.front) else {
+        return None;
+    };
+    Some(Named {
+        number,
+        rest: behind.rest,
+    })
+}
+
+/// Whether values are skipped.
+fn read_skips(text: &[u8]) -> Option<bool>
+    ensures { MatchOption result ((b : Bool) → text.now ≡ codes "skips " ++ flag_text b → ⊥) (λ b. text.now ≡ codes "skips " ++ flag_text b) }
+{
+    if text == b"skips 0".as_slice() {
+        Some(false)
+    } else if text == b"skips 1".as_slice() {
+        Some(true)
+    } else {
+        None
+    }
+}
+
+/// Whether so many calls may be nested, so many chunks are there, and so many forks may be nested.
+fn are_settings(depth: u64, chunks: u64, fork: u64) -> bool
+    ensures { result ≡ are_settings depth chunks fork }
+{
+    1 <= depth && depth <= 1_000_000 && 16 <= chunks && chunks <= 65_536 && fork <= 64
+}
+
+/// What a weave was started with, of which this is the text, without its line feed.
+pub(crate) fn read_settings(text: &[u8]) -> Option<Settings>
+    ensures { MatchOption result ((s : Settings) → text.now ≡ settings_text s → ⊥) (λ s. text.now ≡ settings_text s) }
+{
+    let Some(depth) = read_named(text, b"depth") else {
+        return None;
+    };
+    let Some(chunks) = read_named(depth.rest, b"chunks") else {
+        return None;
+    };
+    let Some(fork) = read_named(chunks.rest, b"fork") else {
+        return None;
+    };
+    let Some(skips) = read_skips(fork.rest) else {
+        return None;
+    };
+    if !are_settings(depth.number, chunks.number, fork.number) {
+        return None;
+    }
+    Some(Settings {
+        depth: depth.number as u32,
+        chunks: chunks.number as u32,
+        fork: fork.number as u32,
+        skips,
+    })
+}
