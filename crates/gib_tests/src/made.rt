@@ -8,7 +8,8 @@ use std::test::*;
 use std::thread::Threads;
 
 /// The source that is made of 1.
-const SOURCE: &str = "data Tree = Leaf Int | Node Tree Tree ; fun work ( t : Tree ) : Tree = case t of { Leaf n -> Leaf ( ( n * 3 ) + 1 ) ; Node l r -> let par a = work l and b = work r in Node a b } ; main ( t : Tree ) : Tree = work t ;\n";
+const SOURCE: &str =
+    "data Tree = Leaf Int | Node Tree Tree ; fun work ( t : Tree ) : Tree = case t of { Leaf n -> Leaf ( ( n * 3 ) + 1 ) ; Node l r -> let par a = work l and b = work r in Node a b } ; main ( t : Tree ) : Tree = work t ;\n";
 
 /// The input that is made of 1 and no level.
 const LEAF: &[u8] = b"GIBP\x01\0\0\0\x09\0\0\0\0\0\0\0\0\xa6\x7e\xc6\x41\0\0\0\0";
@@ -33,7 +34,10 @@ fn what_is_made_is_written_and_run(rt: HostRuntime) -> Result<(), Fail> {
     let words = ["gib", "gen", "1", "0", "s.gib", "s.gbp"];
     let ended = made(&rt, alloc, &words, Vec::new(alloc))?;
     assert_eq!(rt; ended.status, Status::Done);
-    assert_eq!(rt; ended.out.bytes(), b"gen 1 levels 0 leaves 1 sum 3310582771\n".as_slice());
+    assert_eq!(rt;
+        ended.out.bytes(),
+        b"gen 1 levels 0 leaves 1 sum 3310582771\n".as_slice()
+    );
     assert!(rt; ended.shelf.file("s.gib") == Some(SOURCE.as_bytes()));
     assert!(rt; ended.shelf.file("s.gbp") == Some(LEAF));
     Ok(())
@@ -45,7 +49,10 @@ fn of_one_name_twice_the_input_stands(rt: HostRuntime) -> Result<(), Fail> {
     let words = ["gib", "gen", "1", "1", "F", "F", "--chunks", "16"];
     let ended = made(&rt, alloc, &words, Vec::new(alloc))?;
     assert_eq!(rt; ended.status, Status::Done);
-    assert_eq!(rt; ended.out.bytes(), b"gen 1 levels 1 leaves 2 sum 4442787497\n".as_slice());
+    assert_eq!(rt;
+        ended.out.bytes(),
+        b"gen 1 levels 1 leaves 2 sum 4442787497\n".as_slice()
+    );
     assert!(rt; ended.shelf.file("F") == Some(TWO));
     Ok(())
 }

@@ -15,10 +15,10 @@ use crate::made::{End, Made};
 use crate::plan::Options;
 use crate::printing::no_value;
 use crate::stop::Stop;
+use gib_arena::SoleMem;
 use gib_base::Memory;
 use gib_base::limits::FILE_BYTES;
 use gib_gen::summary;
-use gib_arena::SoleMem;
 use gib_mem::Mem;
 use std::alloc::Global;
 
