@@ -484,7 +484,7 @@ due_ends laws tells words before now a b end' h status.Input due = input_due law
 -- chunks run out in a run alone
 scarce : (tells : Bool) (words : List (List ℕ)) (before now : ShelfView) (a b : SinkView) → IsCause tells words before now a b status.Full → AsksRun words
 scarce tells words before now a b h =
-    map_asked (asked words) (λ r. OnBoth (K tells before r) r (HasNoValue Full r)) (λ r. r.job ≡ Run)
+    map_asked (asked words) (λ r. OnBoth (K tells before r) r (HasNoValue Full r)) (λ r. (r.job ≡ Run) ⊎ (r.job ≡ Gen))
     (λ r k. full_runs r.job r.options k.holds.program k.holds.lexed.names k.given k.holds.holds.0 k.holds.holds.1) h
 
 due_or_scarce : (tells : Bool) (words : List (List ℕ)) (before now : ShelfView) (a b : SinkView) (end' due : Status) → IsCause tells words before now a b end' →
