@@ -15,7 +15,7 @@ use Rattle.clap.proofs.WalkLemmas.{both}
 use Rattle.gib_app.specs.declared.plan.Job.{Job}
 use Rattle.gib_app.specs.declared.plan.Job.TheVariants.{Run, Plain, Check, Core, Code, Pack, Show}
 use Rattle.gib_app.specs.Plan.{Named}
-use Rattle.gib_app.specs.Words.{Target, NoTarget, AtPlace, ByOption, Form, app_for, asked_by_command, command_set, file_of, planned, requested, second_in, target_in, with_value, word_of}
+use Rattle.gib_app.specs.Words.{Target, NoTarget, AtPlace, ByOption, Form, app_for, asked_by_command, command_set, file_of, gen_app, made_requested, planned, requested, second_in, target_in, with_value, word_of}
 use Rattle.gib_app.specs.Words.{check_form, code_form, core_form, pack_form, plain_form, run_form, show_form}
 use Rattle.gib_app.proofs.Filling.{AllFilled, AllKnown, AllOf, Filled, Known, is_valued, level_filled}
 
@@ -66,6 +66,10 @@ Asks s = (words : List Text) → level_passes s [] nothing_held words false ≡ 
 -- A command as it is built.
 abbrev built_form : Form → Shape
 built_form form = built_leaf (inherited (with_leaf_noted (marked_built command_set.top)) (app_for form).top)
+
+-- The command whose files are made, as it is built.
+abbrev built_gen : Shape
+built_gen = built_leaf (inherited (with_leaf_noted (marked_built command_set.top)) gen_app.top)
 
 -- What is required is given.
 required_given : (s : Shape) (words : List Text) → s.subcommand_negates_reqs ≡ false → level_passes s [] nothing_held words false ≡ true
@@ -133,6 +137,10 @@ module _ (s : Shape) (words : List Text) (is : AllOf (Known s.rules) s.rules) (s
   plan_there job second target source other written =
       joined _ (target_in target rows) (joined _ (second_in second rows) (mapped _ (file_of (codes "source") rows) (source_there (codes "source") source)) (second_there second other)) (target_there target written)
 
+  -- The same where the files are made.
+  made_there : Reads s (codes "source") → Reads s (codes "input") → is_some (made_requested rows) ≡ true
+  made_there source input = joined _ (word_of (codes "input") rows) (mapped _ (word_of (codes "source") rows) (read_there (codes "source") source)) (read_there (codes "input") input)
+
 -- ---- Commands
 
 run_asks : Asks (built_form run_form)
@@ -163,9 +171,14 @@ show_asks : Asks (built_form show_form)
 unfolding clap_on_literals
 show_asks words passes = plan_there (built_form show_form) words ((refl, refl), ((refl, refl), ((refl, refl), tt))) refl passes Show (Some (codes "file")) NoTarget (_, refl, refl, refl) (_, refl, refl, refl) tt
 
+gen_asks : Asks built_gen
+unfolding clap_on_literals
+gen_asks words passes =
+    made_there built_gen words ((refl, refl), ((refl, refl), ((refl, refl), ((refl, refl), ((refl, refl), ((refl, refl), ((refl, refl), tt))))))) refl passes (_, refl, refl, refl) (_, refl, refl, refl)
+
 all_ask : AllOf Asks (built command_set).subs
 unfolding clap_on_literals
-all_ask = (run_asks, (plain_asks, (check_asks, (core_asks, (code_asks, (pack_asks, (show_asks, tt)))))))
+all_ask = (run_asks, (plain_asks, (check_asks, (core_asks, (code_asks, (pack_asks, (show_asks, (gen_asks, tt))))))))
 
 needs_command : (built command_set).top.subcommand_required ≡ true
 unfolding clap_on_literals

@@ -1,5 +1,5 @@
 -- Facts of all jobs, by cases.
-use Rattle.std.proofs.Common.{◌≡◌, Bool, refl, ℕ, ◌<◌, List, [], length, Option, Some, None, ap, inl, inr, ◌≤◌, sym, subst, subst₂, arith}
+use Rattle.std.proofs.Common.{◌≡◌, Bool, refl, ℕ, ◌<◌, List, [], length, Option, Some, None, ap, ◌⊎◌, inl, inr, ◌≤◌, sym, subst, subst₂, arith}
 use Rattle.std.specs.Option.{option_map_or}
 use Rattle.gib_types.specs.Tree.{Datum}
 use Rattle.gib_syntax.specs.Tree.{ProgramTree}
@@ -10,13 +10,13 @@ use Rattle.gib_app.specs.declared.made.Made.{Made}
 use Rattle.gib_app.specs.declared.made.Reason.{Reason}
 use Rattle.gib_app.specs.declared.made.Reason.TheVariants.{Deep, Full}
 use Rattle.gib_app.specs.declared.plan.Job.{Job}
-use Rattle.gib_app.specs.declared.plan.Job.TheVariants.{Run, Plain, Check, Core, Code, Pack, Show}
+use Rattle.gib_app.specs.declared.plan.Job.TheVariants.{Run, Plain, Check, Core, Code, Pack, Show, Gen}
 use Rattle.gib_app.specs.declared.plan.Options.{Options}
 use Rattle.gib_app.specs.Formats.{format_of, limits_of, most_of, with_limits, Accepts, Refuses}
 use Rattle.gib_app.specs.Plan.{Document, Files, Contents}
 use Rattle.gib_app.specs.Causes.{AreGiven}
 use Rattle.gib_app.specs.Running.{IsShownValue}
-use Rattle.gib_app.specs.Jobs.{End, Prints, NoValue, Does, Runs, without_image}
+use Rattle.gib_app.specs.Jobs.{End, Prints, NoValue, Does, Runs, Sums, without_image}
 use Rattle.gib_app.specs.Kept.{EndsBy, file_of}
 use Rattle.gib_app.specs.MachineRun.{LacksValue, IsMachineStop}
 use Rattle.gib_app.specs.Stops.{reason_of, IsRunStop}
@@ -39,6 +39,9 @@ does_accepts Pack o p names given file (Prints text) h = (h.0, h.2)
 does_accepts Pack o p names given file (NoValue reason) h = absurd h
 does_accepts Show o p names given file (Prints text) h = (h.1.value, h.1.is_value)
 does_accepts Show o p names given file (NoValue reason) h = absurd h
+does_accepts Gen o p names given file (Prints text) h = (h.1.value, h.1.is_input)
+does_accepts Gen o p names given file (NoValue Deep) h = (h.1.value, h.1.is_input)
+does_accepts Gen o p names given file (NoValue Full) h = (h.1.value, h.1.is_input)
 
 -- a file whose value is shown is not too long
 pub shown_short : (p : ProgramTree) (skips : Bool) (v : Datum) (bytes : List ℕ) → IsShownValue p skips v bytes → length bytes ≤ 268435480
@@ -55,21 +58,27 @@ long_refused kept Core skips o p names given held many = absurd (omega (arith, m
 long_refused kept Code skips o p names given held many = absurd (omega (arith, many, ap length held.0))
 long_refused kept Pack skips o p names given held many = ((refl, inl many), λ a. let short = a.1.short in absurd (omega (arith, many, short)))
 long_refused kept Show skips o p names given held many = (inl (refl, many), λ a. let short = shown_short p skips a.0 given.second a.1 in absurd (omega (arith, many, short)))
+long_refused kept Gen skips o p names given held many = ((refl, many), λ a. let short = a.1.short in absurd (omega (arith, many, short)))
 
--- chunks run out in a run alone
-pub full_runs : (job : Job) (o : Options) (p : ProgramTree) (names : List (List ℕ)) (given : Contents) (file : Option (List ℕ)) → Does job o p names given file (NoValue Full) → job ≡ Run
-full_runs Run o p names given file h = refl
+-- chunks run out in a run alone, or in one of what was made
+pub full_runs : (job : Job) (o : Options) (p : ProgramTree) (names : List (List ℕ)) (given : Contents) (file : Option (List ℕ)) → Does job o p names given file (NoValue Full) → (job ≡ Run) ⊎ (job ≡ Gen)
+full_runs Run o p names given file h = inl refl
 full_runs Plain o p names given file h = absurd h
 full_runs Check o p names given file h = absurd h
 full_runs Core o p names given file h = absurd h
 full_runs Code o p names given file h = absurd h
 full_runs Pack o p names given file h = absurd h
 full_runs Show o p names given file h = absurd h
+full_runs Gen o p names given file h = inr refl
 
 -- a run that lacks a value
 pub lacks_runs : (p : ProgramTree) (names : List (List ℕ)) (o : Options) (input : List ℕ) (why : Reason) → LacksValue p o.skips o.depth o.chunks input why → Runs p names o input None (NoValue why)
 lacks_runs p names o input Deep h = (refl, h)
 lacks_runs p names o input Full h = (refl, h)
+
+pub lacks_sums : (p : ProgramTree) (o : Options) (input : List ℕ) (why : Reason) → LacksValue p o.skips o.depth o.chunks input why → Sums p o input None (NoValue why)
+lacks_sums p o input Deep h = (refl, h)
+lacks_sums p o input Full h = (refl, h)
 
 -- a stop of a run, by whether it is for want of a value
 
@@ -112,3 +121,5 @@ no_image Core o p names given file reason h = h
 no_image Code o p names given file reason h = h
 no_image Pack o p names given file reason h = h
 no_image Show o p names given file reason h = h
+no_image Gen o p names given file Deep h = h
+no_image Gen o p names given file Full h = h

@@ -18,14 +18,14 @@ use Rattle.gib_app.specs.declared.status.Status.TheVariants as status
 use Rattle.gib_app.specs.declared.stop.Stop.{Stop}
 use Rattle.gib_app.specs.declared.stop.Stop.TheVariants.{Usage, Source, Unread, Input, NoValue, Memory, Unwritten, Unput}
 use Rattle.gib_app.specs.declared.plan.Job.{Job}
-use Rattle.gib_app.specs.declared.plan.Job.TheVariants.{Run, Plain, Check, Core, Code, Pack, Show}
+use Rattle.gib_app.specs.declared.plan.Job.TheVariants.{Run, Plain, Check, Core, Code, Pack, Show, Gen}
 use Rattle.gib_app.specs.declared.plan.Options.{Options}
 use Rattle.gib_app.specs.declared.made.Reason.{Reason}
 use Rattle.gib_app.specs.declared.made.Reason.TheVariants.{Deep, Full}
 use Rattle.gib_app.specs.Plan.{Document, Write, Plan, Files, bytes_in, Contents}
 use Rattle.gib_app.specs.Writes.{at_reading, with_write, IsStuckIn, IsNamedIn}
 use Rattle.gib_app.specs.Words.{asked}
-use Rattle.gib_app.specs.Running.{IsProgram, IsSource, IsNoProgram, IsOutput, RunsOut}
+use Rattle.gib_app.specs.Running.{IsProgram, IsSource, IsNoProgram, IsOutput, IsSummary, RunsOut}
 use Rattle.gib_app.specs.SourceFaults.{IsSourceFault}
 use Rattle.gib_app.specs.Formats.{inputs_of, Accepts, Refuses}
 use Rattle.gib_app.specs.Formats.{Input as PlanInput}
@@ -208,6 +208,12 @@ runs_well laws p names depth input output o d =
     let S : Datum → Type 0 = λ x. run p depth x ≡ Stops TooDeep in
     not_both (run p depth o.value) o.result o.means (subst S v d.means)
 
+sums_well : Laws → (p : ProgramTree) (number levels depth : ℕ) (input output : List ℕ) → IsSummary p number levels depth input output → RunsOut p depth input → ⊥
+sums_well laws p number levels depth input output o d =
+    let v = laws.filed (table_of_program p) (input_type p) d.value o.value input d.is_input.file o.is_input.file in
+    let S : Datum → Type 0 = λ x. run p depth x ≡ Stops TooDeep in
+    not_both (run p depth o.value) o.result o.means (subst S v d.means)
+
 text_or_deep : Laws → (job : Job) (o : Options) (p : ProgramTree) (names : List (List ℕ)) (given : Contents) (text : List ℕ) (file other : Option (List ℕ)) →
     Does job o p names given file (Prints text) → Does job o p names given other (Without Deep) → ⊥
 text_or_deep laws Run o p names given text file other h k = runs_well laws p names o.depth given.second text h.1 k.1
@@ -217,6 +223,7 @@ text_or_deep laws Core o p names given text file other h k = k
 text_or_deep laws Code o p names given text file other h k = k
 text_or_deep laws Pack o p names given text file other h k = k
 text_or_deep laws Show o p names given text file other h k = k
+text_or_deep laws Gen o p names given text file other h k = sums_well laws p o.number o.levels o.depth given.second text h.1 k.1
 
 -- where a file is made, there is a value, or the file is one without
 file_or_deep : Laws → (job : Job) (o : Options) (p : ProgramTree) (names : List (List ℕ)) (given : Contents) (bytes : List ℕ) (e : End) (file : Option (List ℕ)) →
@@ -232,6 +239,9 @@ file_or_deep laws Core o p names given bytes e file h k = absurd k
 file_or_deep laws Code o p names given bytes e file h k = absurd k
 file_or_deep laws Pack o p names given bytes e file h k = absurd k
 file_or_deep laws Show o p names given bytes e file h k = absurd k
+file_or_deep laws Gen o p names given bytes (Prints text) file h k = let none' = h.0 in cc
+file_or_deep laws Gen o p names given bytes (Without Deep) file h k = refl
+file_or_deep laws Gen o p names given bytes (Without Full) file h k = let none' = h.0 in cc
 
 -- The status that is due
 
@@ -474,7 +484,7 @@ due_ends laws tells words before now a b end' h status.Input due = input_due law
 -- chunks run out in a run alone
 scarce : (tells : Bool) (words : List (List ℕ)) (before now : ShelfView) (a b : SinkView) → IsCause tells words before now a b status.Full → AsksRun words
 scarce tells words before now a b h =
-    map_asked (asked words) (λ r. OnBoth (K tells before r) r (HasNoValue Full r)) (λ r. r.job ≡ Run)
+    map_asked (asked words) (λ r. OnBoth (K tells before r) r (HasNoValue Full r)) (λ r. (r.job ≡ Run) ⊎ (r.job ≡ Gen))
     (λ r k. full_runs r.job r.options k.holds.program k.holds.lexed.names k.given k.holds.holds.0 k.holds.holds.1) h
 
 due_or_scarce : (tells : Bool) (words : List (List ℕ)) (before now : ShelfView) (a b : SinkView) (end' due : Status) → IsCause tells words before now a b end' →

@@ -7,11 +7,11 @@ use Rattle.clap.specs.Simple.{subcommand_of}
 use Rattle.clap.specs.Takes.{takes}
 use Rattle.gib_syntax.specs.Tree.{ProgramTree}
 use Rattle.gib_app.specs.declared.plan.Job.{Job}
-use Rattle.gib_app.specs.declared.plan.Job.TheVariants.{Run, Plain, Check, Core, Code, Pack, Show}
+use Rattle.gib_app.specs.declared.plan.Job.TheVariants.{Run, Plain, Check, Core, Code, Pack, Show, Gen}
 use Rattle.gib_app.specs.declared.plan.Options.{Options}
 use Rattle.gib_app.specs.Plan.{Document, Plan, Files, Contents}
 use Rattle.gib_app.specs.Writes.{AreWritten}
-use Rattle.gib_app.specs.Words.{Form, Target, NoTarget, AtPlace, ByOption, asked, command_set, file_of, forms, options_of, planned, requested, second_in, target_in, with_value, word_of}
+use Rattle.gib_app.specs.Words.{Form, Target, NoTarget, AtPlace, ByOption, asked, command_set, file_of, forms, made_plan, made_requested, options_of, planned, read_requested, requested, second_in, target_in, with_value, word_of}
 use Rattle.gib_app.specs.Jobs.{Prints, Does, MakesImage}
 use Rattle.gib_app.specs.Causes.{IsStored, IsMade}
 use Rattle.gib_app.proofs.Filling.{AllOf}
@@ -26,6 +26,7 @@ MakesFile Core o = ⊥
 MakesFile Code o = ⊥
 MakesFile Pack o = ⊤
 MakesFile Show o = ⊥
+MakesFile Gen o = ⊥
 
 -- Where the plan names a file, its job makes one.
 abbrev Fits : Plan → Type 0
@@ -99,12 +100,26 @@ all_fit = (
 
 -- ---- What words ask for
 
-requested_fits : (name : Text) (rows : List Row) (r : Plan) → requested name rows ≡ Some r → Fits r
-requested_fits name rows r e = go (find (λ form. bytes_eq form.name name) forms) refl e
+made_fits : (source input : Option Text) (o : Options) (r : Plan) → with_value (option_map (made_plan o) source) input ≡ Some r → Fits r
+made_fits None input o r e = none_is_some r e
+made_fits (Some source) None o r e = none_is_some r e
+made_fits (Some source) (Some input) o r e =
+    let same : made_plan o source input ≡ r = some_is (made_plan o source input) r e in
+    λ name named. none_is_some name (ap (λ (q : Plan). q.target) same ∙ named)
+
+read_fits : (name : Text) (rows : List Row) (r : Plan) → read_requested name rows ≡ Some r → Fits r
+read_fits name rows r e = go (find (λ form. bytes_eq form.name name) forms) refl e
   where
     go : (o : Option Form) → find (λ form. bytes_eq form.name name) forms ≡ o → option_and_then (λ (form : Form). planned form.job form.second form.target rows) o ≡ Some r → Fits r
     go None found is = none_is_some r is
     go (Some form) found is = (found_in FormFits (λ x. bytes_eq x.name name) forms form all_fit found).0 rows r is
+
+requested_fits : (name : Text) (rows : List Row) (r : Plan) → requested name rows ≡ Some r → Fits r
+requested_fits name rows r e = go (bytes_eq (codes "gen") name) refl e
+  where
+    go : (b : Bool) → bytes_eq (codes "gen") name ≡ b → cond b (made_requested rows) (read_requested name rows) ≡ Some r → Fits r
+    go true is e = made_fits (word_of (codes "source") rows) (word_of (codes "input") rows) (options_of rows) r e
+    go false is e = read_fits name rows r e
 
 command_fits : (taken : Bool) (entered : Option (Text × List Row)) (r : Plan) → cond taken (option_and_then (λ e. requested e.0 e.1) entered) None ≡ Some r → Fits r
 command_fits false entered r e = none_is_some r e
@@ -129,6 +144,7 @@ made_none Core o p names given text on d = on
 made_none Code o p names given text on d = on
 made_none Pack o p names given text on d = none_is_some d.0 d.1
 made_none Show o p names given text on d = on
+made_none Gen o p names given text on d = on
 
 stored : (r : Plan) (p : ProgramTree) (names : List (List ℕ)) (given : Contents) (text : List ℕ) → Fits r → (target file : Option (List ℕ)) → r.target ≡ target
     → Does r.job r.options p names given file (Prints text) → IsStored target file

@@ -26,7 +26,7 @@ use Rattle.gib_app.specs.declared.input_fault.ImageFault.TheVariants as image
 use Rattle.gib_app.specs.declared.input_fault.PackedFault.{PackedFault}
 use Rattle.gib_app.specs.declared.input_fault.PackedFault.TheVariants.{Header, Short, Tag, Truth, Trailing}
 use Rattle.gib_app.specs.declared.plan.Job.{Job}
-use Rattle.gib_app.specs.declared.plan.Job.TheVariants.{Run, Plain, Check, Core, Code, Pack, Show}
+use Rattle.gib_app.specs.declared.plan.Job.TheVariants.{Run, Plain, Check, Core, Code, Pack, Show, Gen}
 use Rattle.gib_app.specs.InputFaults.{IsPayloadFault, IsFileFault, IsInputFault, IsImageFault, IsShowFault, IsTextFault}
 use Rattle.gib_app.specs.Plan.{Contents}
 use Rattle.gib_app.specs.Formats.{Accepts, Refuses}
@@ -237,6 +237,7 @@ module _ (p : ProgramTree) (names : List (List ℕ)) (laws : Laws (table_of_prog
   one_refusal Code f g h k = absurd h
   one_refusal Pack f g h k = one_text p names laws skips given.second f g h k
   one_refusal Show f g h k = one_show p names laws skips given.second f g h k
+  one_refusal Gen f g h k = one_input p names laws skips given.second f g h k
 
   pub not_accepted : (job : Job) (f : InputFault) → Refuses job skips p names given f → Accepts job skips p names given → ⊥
   not_accepted Run f h a = not_input p names laws skips given.second f a.0 h a.1
@@ -246,3 +247,4 @@ module _ (p : ProgramTree) (names : List (List ℕ)) (laws : Laws (table_of_prog
   not_accepted Code f h a = h
   not_accepted Pack f h a = not_text p names laws skips given.second f a.0 h a.1
   not_accepted Show f h a = not_shown p names laws skips given.second f a.0 h a.1
+  not_accepted Gen f h a = not_input p names laws skips given.second f a.0 h a.1

@@ -16,9 +16,12 @@ mod Entering
 mod Signs
 mod Fitting
 mod Imaged
+mod Summed
 mod Calling
 mod Headlines
 mod Roots
 mod Refusals
 mod InputLaws
 mod Writing
+mod FirstWriting
+mod Staging

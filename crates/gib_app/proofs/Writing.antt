@@ -30,7 +30,7 @@ stays_from tells first f g now status.ReadFault e h = made_from tells f g now fi
 stays_from tells first f g now status.WriteFault e h = h
 stays_from tells first f g now status.Input e h = made_from tells f g now first e h
 
-take_all : {X : Type 0} (xs : List X) → take (length xs) xs ≡ xs
+pub take_all : {X : Type 0} (xs : List X) → take (length xs) xs ≡ xs
 take_all [] = refl
 take_all (x ∷ xs) = ap (λ ys. x ∷ ys) (take_all xs)
 

@@ -5,7 +5,7 @@ use Rattle.gib_edge.specs.Causes.{Rose}
 use Rattle.gib_edge.specs.Views.{Has, Missing, ShelfView, SinkView}
 use Rattle.gib_syntax.specs.Tree.{ProgramTree}
 use Rattle.gib_app.specs.declared.input_fault.InputFault.{InputFault}
-use Rattle.gib_app.specs.declared.plan.Job.TheVariants.{Run}
+use Rattle.gib_app.specs.declared.plan.Job.TheVariants.{Run, Gen}
 use Rattle.gib_app.specs.declared.source_fault.SourceFault.{SourceFault}
 use Rattle.gib_app.specs.declared.status.Status.{Status}
 use Rattle.gib_app.specs.declared.status.Status.TheVariants.{Done, Source, Usage, Depth, Full, Memory, ReadFault, WriteFault, Input}
@@ -165,9 +165,9 @@ IsDue tells words before now out_before out_now WriteFault = ⊥
 IsDue tells words before now out_before out_now Input =
     MatchOption (asked words) ⊥ (λ plan. DueOfFiles tells before now plan (λ p names given. Accepts plan.job plan.options.skips p names given → ⊥))
 
--- The words ask for `run`: no other job uses chunks of region memory.
+-- The words ask for `run` or `gen`: no other job uses chunks of region memory.
 abbrev pub AsksRun : List (List ℕ) → Type 0
-AsksRun words = MatchOption (asked words) ⊥ (λ plan. plan.job ≡ Run)
+AsksRun words = MatchOption (asked words) ⊥ (λ plan. (plan.job ≡ Run) ⊎ (plan.job ≡ Gen))
 
 -- The status is the one that is due; or memory ran out, or chunks of region memory did, in a run.
 abbrev pub IsDueOrScarce : List (List ℕ) → (due status : Status) → Type 0

@@ -7,7 +7,7 @@ use Rattle.gib_app.specs.declared.input_fault.InputFault.{InputFault}
 use Rattle.gib_app.specs.declared.plan.Format.{Format}
 use Rattle.gib_app.specs.declared.plan.Format.TheVariants.{Packed, Text, Shown}
 use Rattle.gib_app.specs.declared.plan.Job.{Job}
-use Rattle.gib_app.specs.declared.plan.Job.TheVariants.{Run, Plain, Check, Core, Code, Pack, Show}
+use Rattle.gib_app.specs.declared.plan.Job.TheVariants.{Run, Plain, Check, Core, Code, Pack, Show, Gen}
 use Rattle.gib_app.specs.Plan.{Document, Plan, Contents}
 use Rattle.gib_app.specs.Running.{IsInput, IsShownValue}
 use Rattle.gib_app.specs.Packing.{IsPackedText}
@@ -22,6 +22,7 @@ format_of Core = None
 format_of Code = None
 format_of Pack = Some Text
 format_of Show = Some Shown
+format_of Gen = Some Packed
 
 -- How many bytes of the first input of that format are read at most.
 abbrev pub limit_of : Format → ℕ

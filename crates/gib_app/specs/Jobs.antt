@@ -5,12 +5,12 @@ use Rattle.gib_core.specs.CoreText.{core_text}
 use Rattle.gib_code.specs.ListingText.{listing_text}
 use Rattle.gib_lower.specs.Lowering.{lower_program}
 use Rattle.gib_app.specs.declared.plan.Job.{Job}
-use Rattle.gib_app.specs.declared.plan.Job.TheVariants.{Run, Plain, Check, Core, Code, Pack, Show}
+use Rattle.gib_app.specs.declared.plan.Job.TheVariants.{Run, Plain, Check, Core, Code, Pack, Show, Gen}
 use Rattle.gib_app.specs.declared.plan.Options.{Options}
 use Rattle.gib_app.specs.declared.made.Reason.{Reason}
 use Rattle.gib_app.specs.declared.made.Reason.TheVariants.{Deep, Full}
 use Rattle.gib_app.specs.Plan.{Contents}
-use Rattle.gib_app.specs.Running.{IsOutput, IsRunImage, RunsOut, FillsUp, IsShown}
+use Rattle.gib_app.specs.Running.{IsOutput, IsSummary, IsRunImage, RunsOut, FillsUp, IsShown}
 use Rattle.gib_app.specs.Packing.{IsPackedText}
 use Rattle.gib_app.specs.Cores.{core_after}
 
@@ -51,6 +51,13 @@ abbrev pub Packs : ProgramTree → List (List ℕ) → List ℕ → Option (List
 Packs p names bytes file (Prints text) = (packed : List ℕ) × (file ≡ Some packed) × IsPackedText p names bytes packed × (text ≡ ok_line)
 Packs p names bytes file (NoValue reason) = ⊥
 
+-- `gen`: the line about the value that the program means on the input within the depth; or that is too deep; or so many chunks of
+-- memory may not be enough.
+abbrev pub Sums : ProgramTree → Options → List ℕ → Option (List ℕ) → End → Type 0
+Sums p options input file (Prints text) = (file ≡ None) × IsSummary p options.number options.levels options.depth input text
+Sums p options input file (NoValue Deep) = (file ≡ None) × RunsOut p options.depth input
+Sums p options input file (NoValue Full) = (file ≡ None) × FillsUp p options.skips options.depth options.chunks input
+
 -- What a job with these options makes, for the program with these names, of the bytes of its inputs: a file, or none, and its
 -- end.
 abbrev pub Does : Job → Options → ProgramTree → List (List ℕ) → Contents → Option (List ℕ) → End → Type 0
@@ -61,6 +68,7 @@ Does Core options p names given = OnlyPrints (λ text. text ≡ core_text names 
 Does Code options p names given = OnlyPrints (λ text. text ≡ listing_text names (lower_program (core_after options.skips 4 p)))
 Does Pack options p names given = Packs p names given.second
 Does Show options p names given = OnlyPrints (IsShown p names options.skips given.second)
+Does Gen options p names given = Sums p options given.second
 
 -- The same options, without an image.
 abbrev pub without_image : Options → Options

@@ -1,5 +1,5 @@
 -- What the code keeps of a plan, and of what a job made.
-use Rattle.std.specs.Prelude.{◌≡◌, ℕ, List, [], Option, None, option_map, option_to_list}
+use Rattle.std.specs.Prelude.{◌≡◌, ℕ, List, [], Option, None, Some, option_map, option_to_list}
 use Rattle.gib_value.specs.Text.{AreHeld}
 use Rattle.gib_syntax.specs.Tree.{ProgramTree}
 use Rattle.gib_app.specs.declared.plan.Document.{Document as KeptDocument}
@@ -11,7 +11,10 @@ use Rattle.gib_app.specs.declared.made.Made.{Made}
 use Rattle.gib_app.specs.declared.made.Valued.{Valued}
 use Rattle.gib_app.specs.declared.plan.Input.{Input as KeptInput}
 use Rattle.gib_app.specs.Formats.{Input}
-use Rattle.gib_app.specs.Plan.{Document, BuiltIn, Named, Plan}
+use Rattle.gib_app.specs.declared.plan.MadeNames.{MadeNames}
+use Rattle.gib_app.specs.declared.plan.Options.{Options}
+use Rattle.gib_app.specs.Plan.{Document, BuiltIn, Named, Write, Plan}
+use Rattle.gib_app.specs.Words.{made_source, made_input, first_writes}
 use Rattle.gib_app.specs.Jobs.{End, Prints, NoValue}
 use Rattle.gib_app.specs.MachineRun.{StandsMeant, cells_of}
 use Rattle.gib_app.specs.Running.{text_line}
@@ -20,6 +23,13 @@ use Rattle.gib_app.specs.Running.{text_line}
 abbrev pub document_of : KeptDocument → Document
 document_of (document.BuiltIn bytes) = BuiltIn bytes.now
 document_of (document.Named name) = Named name.now
+document_of (document.MadeSource number) = BuiltIn (made_source number)
+document_of (document.MadeInput number levels) = BuiltIn (made_input number levels)
+
+-- The writes of a source and an input that are made, where they have names.
+abbrev pub first_of : Options → Option MadeNames → List Write
+first_of options None = []
+first_of options (Some names) = first_writes options names.source.now names.input.now
 
 -- The input.
 abbrev pub input_of : KeptInput → Input
@@ -28,7 +38,7 @@ input_of input = record { document = document_of input.document; most = input.mo
 -- The plan.
 abbrev pub plan_of : KeptPlan → Plan
 plan_of plan = record {
-  first = [];
+  first = first_of plan.options plan.first;
   source = document_of plan.source;
   inputs = option_to_list (option_map document_of plan.second);
   target = option_map (λ name. name.now) plan.target;

@@ -21,4 +21,5 @@ pub mod Imaging
 pub mod PassFaults
 pub mod Stopping
 pub mod Performing
+pub mod FirstWrites
 pub mod Headline

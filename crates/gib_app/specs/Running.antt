@@ -11,6 +11,7 @@ use Rattle.gib_print.specs.ImageReading.{IsRead}
 use Rattle.gib_syntax.specs.Declarations.{table_of_program, input_type, output_type}
 use Rattle.gib_syntax.specs.Typing.{IsTypedProgram}
 use Rattle.gib_syntax.specs.Meaning.{Gives, Stops, Deep, run}
+use Rattle.gib_gen.specs.Summary.{summary_line}
 use Rattle.gib_core.specs.Cost.{run_cost}
 use Rattle.gib_core.specs.Tight.{Tight}
 use Rattle.gib_app.specs.Cores.{core_after, layouts_of}
@@ -45,6 +46,14 @@ pub record IsOutput (p : ProgramTree) (names : List (List ℕ)) (depth : ℕ) (i
   pub is_input : IsInput p value input
   pub means : run p depth value ≡ Gives result
   pub is_text : output ≡ text_line p names result
+
+-- The line about the value that the program means on the input within the depth, where both were made of a number and of levels.
+pub record IsSummary (p : ProgramTree) (number levels depth : ℕ) (input output : List ℕ) : Type 0 where
+  pub value : Datum
+  pub result : Datum
+  pub is_input : IsInput p value input
+  pub means : run p depth value ≡ Gives result
+  pub is_line : output ≡ summary_line number levels result
 
 -- The bytes are an image in which the value stands that the program means on the input within the depth, and have at most so many
 -- chunks.

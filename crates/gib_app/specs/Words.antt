@@ -1,5 +1,5 @@
 -- What the words of a command line ask for.
-use Rattle.std.specs.Prelude.{ℕ, Bool, true, false, if◌then◌else◌, List, [], ◌∷◌, ◌++◌, map, fold, codes}
+use Rattle.std.specs.Prelude.{ℕ, ◌%◌, nat_lt, Bool, true, false, if◌then◌else◌, List, [], ◌∷◌, ◌++◌, map, fold, codes}
 use Rattle.std.specs.Prelude.{Option, Some, None, is_some, option_map, option_and_then, option_to_list, find}
 use Rattle.std.specs.String.{string_bytes}
 use Rattle.std.specs.declared.string.String.{String}
@@ -14,9 +14,11 @@ use Rattle.clap.specs.Takes.{takes}
 use Rattle.clap.specs.declared.builder.action.ArgAction.TheVariants.{SetTrue}
 use Rattle.clap.specs.declared.builder.value_parser.ValueParser.TheVariants.{Unsigned}
 use Rattle.gib_app.specs.declared.plan.Job.{Job}
-use Rattle.gib_app.specs.declared.plan.Job.TheVariants.{Run, Plain, Check, Core, Code, Pack, Show}
+use Rattle.gib_app.specs.declared.plan.Job.TheVariants.{Run, Plain, Check, Core, Code, Pack, Show, Gen}
 use Rattle.gib_app.specs.declared.plan.Options.{Options}
-use Rattle.gib_app.specs.Plan.{Document, BuiltIn, Named, Plan}
+use Rattle.gib_app.specs.Plan.{Document, BuiltIn, Named, Write, Plan}
+use Rattle.gib_gen.specs.Made.{source_text, grown}
+use Rattle.gib_gen.specs.Made.{file_of as packed_tree_file}
 use Rattle.gib_app.specs.Sample.{sample_source, sample_input}
 
 -- The bytes of the words.
@@ -49,6 +51,10 @@ pass = number (codes "pass") 1 4
 abbrev pub image : Rule
 image = record (new_rule (codes "image")) { long = Some (codes "image") }
 
+-- A number from `least` to `most` by its place, which has to be there.
+abbrev pub numeral : Text → ℕ → ℕ → Rule
+numeral id least most = record (positional id) { parser = Some (Unsigned least most) }
+
 -- `--name`, which may be left out.
 abbrev pub flag : Text → Rule
 flag name = record (new_rule name) { long = Some name; action = Some SetTrue }
@@ -79,13 +85,21 @@ number_of id rows = option_and_then number_in (one_of id rows)
 abbrev pub number_or : Text → ℕ → List Row → ℕ
 number_or id default rows = option_map_or (λ n. n) (number_of id rows) default
 
+-- A number that 8 bits hold.
+abbrev pub byte_of : ℕ → Option ℕ
+byte_of n = if nat_lt n 256 then Some n else None
+
+-- The same where 8 bits hold it.
+abbrev pub byte_or : Text → ℕ → List Row → ℕ
+byte_or id default rows = option_map_or (λ n. n) (option_and_then byte_of (number_of id rows)) default
+
 -- Whether a flag is given.
 abbrev pub flag_of : Text → List Row → Bool
 flag_of id rows = option_map_or (λ value. bytes_eq value (codes "true")) (word_of id rows) false
 
 -- The options where none is given.
 abbrev pub usual : Options
-usual = record { depth = 10000; chunks = 1024; pass = 4; image = false; skips = false }
+usual = record { depth = 10000; chunks = 1024; pass = 4; image = false; skips = false; number = 0; levels = 0 }
 
 -- All options.
 abbrev pub options_of : List Row → Options
@@ -95,6 +109,8 @@ options_of rows = record {
   pass = number_or (codes "pass") usual.pass rows;
   image = is_some (word_of (codes "image") rows);
   skips = flag_of (codes "skips") rows;
+  number = number_or (codes "number") usual.number rows;
+  levels = byte_or (codes "levels") usual.levels rows;
 }
 
 -- One more value of a plan, where it is there.
@@ -119,6 +135,32 @@ abbrev pub target_in : Target → List Row → Option (Option Text)
 target_in NoTarget rows = Some None
 target_in (AtPlace id) rows = option_map Some (word_of id rows)
 target_in (ByOption id) rows = Some (word_of id rows)
+
+-- ---- What is made
+
+-- The text of the program that is made of a number.
+abbrev pub made_source : ℕ → List ℕ
+made_source number = source_text (number % 1000)
+
+-- The packed file of the tree of so many levels that grows from a number.
+abbrev pub made_input : ℕ → ℕ → List ℕ
+made_input number levels = packed_tree_file (grown levels number).tree
+
+-- The writes of both, under these names.
+abbrev pub first_writes : Options → Text → Text → List Write
+first_writes options source input =
+    record { name = source; bytes = made_source options.number } ∷ record { name = input; bytes = made_input options.number options.levels } ∷ []
+
+-- To make both, to write them, and to run what was made.
+abbrev pub made_plan : Options → Text → Text → Plan
+made_plan options source input = record {
+  first = first_writes options source input;
+  source = BuiltIn (made_source options.number);
+  inputs = BuiltIn (made_input options.number options.levels) ∷ [];
+  target = None;
+  job = Gen;
+  options = options;
+}
 
 -- ---- Commands
 
@@ -179,13 +221,22 @@ pack_form = record { name = codes "pack"; second = Some (codes "text"); target =
 abbrev pub show_form : Form
 show_form = record { name = codes "show"; second = Some (codes "file"); target = NoTarget; options = skips ∷ []; job = Show }
 
--- All commands.
+-- `gen NUMBER LEVELS SOURCE INPUT [--depth N] [--chunks N] [--skips]`: both files are made.
+abbrev pub gen_arguments : List Rule
+gen_arguments =
+    numeral (codes "number") 0 2147483647 ∷ numeral (codes "levels") 0 18 ∷ positional (codes "source") ∷ positional (codes "input") ∷ depth ∷ chunks ∷ skips ∷ []
+
+-- All commands whose files are read.
 abbrev pub forms : List Form
 forms = run_form ∷ plain_form ∷ check_form ∷ core_form ∷ code_form ∷ pack_form ∷ show_form ∷ []
 
 -- A command as clap sees it.
 abbrev pub app_for : Form → App
 app_for form = fold with_rule (new_app form.name) (arguments_of form)
+
+-- The command whose files are made, as clap sees it.
+abbrev pub gen_app : App
+gen_app = fold with_rule (new_app (codes "gen")) gen_arguments
 
 -- The program before its commands: one of them has to be there, and nothing asks for help.
 abbrev pub bare_program : App
@@ -194,7 +245,7 @@ bare_program = on_top (λ s. record s { disable_help_flag = true; disable_help_s
 
 -- The program with its commands.
 abbrev pub command_set : App
-command_set = fold (λ app form. with_subcommand app (app_for form).top) bare_program forms
+command_set = with_subcommand (fold (λ app form. with_subcommand app (app_for form).top) bare_program forms) gen_app.top
 
 -- ---- What words ask for
 
@@ -208,9 +259,17 @@ taken [] = true
 taken (program ∷ []) = true
 taken (program ∷ word ∷ further) = takes command_set (program ∷ word ∷ further)
 
+-- What the matches of `gen` ask for.
+abbrev pub made_requested : List Row → Option Plan
+made_requested rows = with_value (option_map (made_plan (options_of rows)) (word_of (codes "source") rows)) (word_of (codes "input") rows)
+
+-- What the matches of a command whose files are read ask for, by its name.
+abbrev pub read_requested : Text → List Row → Option Plan
+read_requested name rows = option_and_then (λ form. planned form.job form.second form.target rows) (find (λ form. bytes_eq form.name name) forms)
+
 -- What the matches of a command, by its name, ask for.
 abbrev pub requested : Text → List Row → Option Plan
-requested name rows = option_and_then (λ form. planned form.job form.second form.target rows) (find (λ form. bytes_eq form.name name) forms)
+requested name rows = if bytes_eq (codes "gen") name then made_requested rows else read_requested name rows
 
 -- What the command among the words asks for, the program's name first, where clap takes them.
 abbrev pub asked_by_command : List Text → Option Plan

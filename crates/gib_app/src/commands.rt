@@ -3,7 +3,7 @@
 ghost use Rattle.std.specs.Prelude.{◌≡◌, IfOk, codes, false};
 ghost use Rattle.clap.specs.Walk.{rule_of};
 ghost use Rattle.clap.specs.Simple.{app_of, new_app, with_rule};
-ghost use Rattle.gib_app.specs.Words.{app_for, bare_program, chunks, command_set, depth, image, pass, positional, skips};
+ghost use Rattle.gib_app.specs.Words.{app_for, bare_program, chunks, command_set, depth, gen_app, image, numeral, pass, positional, skips};
 ghost use Rattle.gib_app.specs.Words.{check_form, code_form, core_form, pack_form, plain_form, run_form, show_form};
 
 use clap::builder::ValueParser;
@@ -16,6 +16,14 @@ fn positional<'a>(alloc: Global, id: &'a str) -> Arg<'a>
     ensures local { result.global ≡ false }
 {
     Arg::new(alloc, id).required(true)
+}
+
+/// A number from `least` to `most` by its place, which has to be there.
+fn numeral<'a>(alloc: Global, id: &'a str, least: u64, most: u64) -> Arg<'a>
+    ensures rule { rule_of result ≡ numeral id.entry.now least most }
+    ensures local { result.global ≡ false }
+{
+    positional(alloc, id).value_parser(ValueParser::unsigned(least, most))
 }
 
 /// `--depth N`, how deep calls may go.
@@ -142,6 +150,20 @@ fn show_command<'a>(alloc: Global) -> Result<Command<'a>, AllocError>
         .arg(skips(alloc))
 }
 
+/// `gen NUMBER LEVELS SOURCE INPUT [--depth N] [--chunks N] [--skips]`.
+fn gen_command<'a>(alloc: Global) -> Result<Command<'a>, AllocError>
+    ensures { IfOk result (λ command. app_of command ≡ gen_app) }
+{
+    Command::new(alloc, "gen")
+        .arg(numeral(alloc, "number", 0, 2_147_483_647))?
+        .arg(numeral(alloc, "levels", 0, 18))?
+        .arg(positional(alloc, "source"))?
+        .arg(positional(alloc, "input"))?
+        .arg(depth(alloc))?
+        .arg(chunks(alloc))?
+        .arg(skips(alloc))
+}
+
 /// The program before its commands. All that `clap` refuses is one answer here, so nothing asks for help.
 fn bare_program<'a>(alloc: Global) -> Command<'a>
     ensures { app_of result ≡ bare_program }
@@ -163,5 +185,6 @@ pub fn command_set<'a>(alloc: Global) -> Result<Command<'a>, AllocError>
         .subcommand(core_command(alloc)?)?
         .subcommand(code_command(alloc)?)?
         .subcommand(pack_command(alloc)?)?
-        .subcommand(show_command(alloc)?)
+        .subcommand(show_command(alloc)?)?
+        .subcommand(gen_command(alloc)?)
 }

@@ -12,7 +12,18 @@ ghost use Rattle.gib_app.specs.Stops.{IsReadStop};
 use crate::plan::Document;
 use crate::stop::Stop;
 use gib_edge::outside::{Shelf, ShelfFault};
+use gib_gen::make;
 use std::alloc::Global;
+
+/// The bytes, where they are at most so many.
+fn at_most(bytes: Vec<u8>, most: u64) -> Option<Vec<u8>>
+    ensures { MatchOption result (most < length bytes.items) (λ found. (found.items ≡ bytes.items) × (length found.items ≤ most)) }
+{
+    if bytes.len() as u64 > most {
+        return None;
+    }
+    Some(bytes)
+}
 
 /// All bytes of a document that has at most so many; none where it has more.
 ///
@@ -56,6 +67,14 @@ pub fn read_document<'a, S: Shelf>(
             }
             Err(ShelfFault::Failed) => Err(Stop::Unread(name)),
             Err(ShelfFault::Memory) => Err(Stop::Memory),
+        },
+        Document::MadeSource(number) => match make(alloc, number, 0) {
+            Ok(made) => Ok(at_most(made.source, most)),
+            Err(_) => Err(Stop::Memory),
+        },
+        Document::MadeInput(number, levels) => match make(alloc, number, levels) {
+            Ok(made) => Ok(at_most(made.input, most)),
+            Err(_) => Err(Stop::Memory),
         },
     }
 }

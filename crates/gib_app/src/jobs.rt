@@ -10,6 +10,7 @@ ghost use Rattle.gib_app.specs.Stops.{IsReady, FailsTo};
 pub mod check;
 pub mod code_text;
 pub mod core_text;
+pub mod made_run;
 pub mod pack;
 pub mod plain;
 pub mod run;
@@ -45,6 +46,7 @@ pub fn do_job(
         Job::Code => code_text::code_text(alloc, &compiled, options.skips),
         Job::Pack => pack::pack(alloc, &compiled, second),
         Job::Show => show::show(alloc, &compiled, options.skips, second),
+        Job::Gen => made_run::made_run(alloc, &compiled, options, second),
         Job::Run => run::run(alloc, compiled, options, second),
     }
 }

@@ -6,6 +6,7 @@ mod buffer;
 mod commands;
 mod compile;
 mod documents;
+mod first;
 pub mod headline;
 mod image_file;
 mod imaging;

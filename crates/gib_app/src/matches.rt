@@ -4,11 +4,11 @@ ghost use Rattle.std.specs.Prelude.{◌≡◌, None, Some, is_some, option_map, 
 ghost use Rattle.clap.specs.Walk.{rows_of};
 ghost use Rattle.clap.specs.Simple.{subcommand_rows_of};
 ghost use Rattle.clap.specs.Matches.{found_of};
-ghost use Rattle.gib_app.specs.Words.{file_of, flag_of, number_of, number_or as number_asked, options_of, planned, requested, usual as usual_options, word_of};
+ghost use Rattle.gib_app.specs.Words.{file_of, flag_of, number_of, number_or as number_asked, byte_or as byte_asked, made_requested, options_of, planned, requested, usual as usual_options, word_of};
 ghost use Rattle.gib_app.specs.Words.{NoTarget, AtPlace, ByOption};
 ghost use Rattle.gib_app.specs.Kept.{document_of, plan_of};
 
-use crate::plan::{Document, Job, Options, Plan};
+use crate::plan::{Document, Job, MadeNames, Options, Plan};
 use clap::ArgMatches;
 
 /// The options where none is given.
@@ -21,6 +21,8 @@ pub fn usual() -> Options
         pass: 4,
         image: false,
         skips: false,
+        number: 0,
+        levels: 0,
     }
 }
 
@@ -62,6 +64,21 @@ fn number_or(matches: &ArgMatches<'_>, id: &str, default: u32) -> u32
     }
 }
 
+/// The number of an option that 8 bits hold, or what stands where there is none.
+fn byte_or(matches: &ArgMatches<'_>, id: &str, default: u8) -> u8
+    ensures { result ≡ byte_asked id.now default (rows_of (found_of matches.now)) }
+{
+    match number(matches, id) {
+        Some(number) => {
+            if number < 256 {
+                return number as u8;
+            }
+            default
+        }
+        None => default,
+    }
+}
+
 /// Whether a flag is given.
 fn flag(matches: &ArgMatches<'_>, id: &str) -> bool
     ensures { result ≡ flag_of id.now (rows_of (found_of matches.now)) }
@@ -83,6 +100,8 @@ fn options(matches: &ArgMatches<'_>) -> Options
         pass: number_or(matches, "pass", usual.pass),
         image: is_given(matches, "image"),
         skips: flag(matches, "skips"),
+        number: number_or(matches, "number", usual.number),
+        levels: byte_or(matches, "levels", usual.levels),
     }
 }
 
@@ -91,6 +110,7 @@ fn on_source<'a>(matches: &ArgMatches<'a>, job: Job) -> Option<Plan<'a>>
     ensures { option_map plan_of result ≡ planned job None NoTarget (rows_of (found_of matches.now)) }
 {
     Some(Plan {
+        first: None,
         source: file(matches, "source")?,
         second: None,
         target: None,
@@ -104,6 +124,7 @@ fn on_both<'a>(matches: &ArgMatches<'a>, job: Job, second: &str) -> Option<Plan<
     ensures { option_map plan_of result ≡ planned job (Some second.now) NoTarget (rows_of (found_of matches.now)) }
 {
     Some(Plan {
+        first: None,
         source: file(matches, "source")?,
         second: Some(file(matches, second)?),
         target: None,
@@ -117,6 +138,7 @@ fn to_target<'a>(matches: &ArgMatches<'a>, job: Job, second: &str, target: &str)
     ensures { option_map plan_of result ≡ planned job (Some second.now) (AtPlace target.now) (rows_of (found_of matches.now)) }
 {
     Some(Plan {
+        first: None,
         source: file(matches, "source")?,
         second: Some(file(matches, second)?),
         target: Some(word(matches, target)?),
@@ -130,6 +152,7 @@ fn to_option<'a>(matches: &ArgMatches<'a>, job: Job, second: &str, target: &str)
     ensures { option_map plan_of result ≡ planned job (Some second.now) (ByOption target.now) (rows_of (found_of matches.now)) }
 {
     Some(Plan {
+        first: None,
         source: file(matches, "source")?,
         second: Some(file(matches, second)?),
         target: word(matches, target),
@@ -138,11 +161,30 @@ fn to_option<'a>(matches: &ArgMatches<'a>, job: Job, second: &str, target: &str)
     })
 }
 
+/// To make a source and an input, to write both and to run what was made.
+fn to_make<'a>(matches: &ArgMatches<'a>) -> Option<Plan<'a>>
+    ensures { option_map plan_of result ≡ made_requested (rows_of (found_of matches.now)) }
+{
+    let options = options(matches);
+    Some(Plan {
+        first: Some(MadeNames {
+            source: word(matches, "source")?,
+            input: word(matches, "input")?,
+        }),
+        source: Document::MadeSource(options.number),
+        second: Some(Document::MadeInput(options.number, options.levels)),
+        target: None,
+        job: Job::Gen,
+        options,
+    })
+}
+
 /// What the matches of the command with this name ask for.
 fn command_plan<'a>(name: &str, matches: &ArgMatches<'a>) -> Option<Plan<'a>>
     ensures { option_map plan_of result ≡ requested name.now (rows_of (found_of matches.now)) }
 {
     match name {
+        "gen" => to_make(matches),
         "run" => to_option(matches, Job::Run, "input", "image"),
         "plain" => on_both(matches, Job::Plain, "input"),
         "check" => on_source(matches, Job::Check),

@@ -11,6 +11,10 @@ pub enum Document<'a> {
     BuiltIn(&'a [u8]),
     /// They stand in the file of this name.
     Named(&'a str),
+    /// They are the text of the program that is made of this number.
+    MadeSource(u32),
+    /// They are the packed file of the tree of so many levels that grows from this number.
+    MadeInput(u32, u8),
 }
 
 /// What is done with a source and a second file.
@@ -30,6 +34,8 @@ pub enum Job {
     Pack,
     /// Prints the value of a packed file.
     Show,
+    /// Prints a line about the value of a program that was made, on an input that was made.
+    Gen,
 }
 
 /// What a second file is read as.
@@ -56,6 +62,17 @@ pub struct Options {
     pub image: bool,
     /// Whether fields are reached from the end of the field before them, and not by offsets that heads store.
     pub skips: bool,
+    /// What a program and its input are made of.
+    pub number: u32,
+    /// How many levels the input that is made has below its root.
+    pub levels: u8,
+}
+
+/// The names under which a source and an input that are made are written.
+#[derive(Clone, Copy, Debug)]
+pub struct MadeNames<'a> {
+    pub source: &'a str,
+    pub input: &'a str,
 }
 
 /// An input: where it comes from, and how many bytes of it are read at most.
@@ -65,10 +82,11 @@ pub struct Input<'a> {
     pub most: u64,
 }
 
-/// What to do: the source is read, then the second file; the job is done with them; the file that it makes is written
-/// under the target's name.
+/// What to do: a source and an input are made and written, where they have names; the source is read, then the second file; the
+/// job is done with them; the file that it makes is written under the target's name.
 #[derive(Clone, Copy, Debug)]
 pub struct Plan<'a> {
+    pub first: Option<MadeNames<'a>>,
     pub source: Document<'a>,
     pub second: Option<Document<'a>>,
     pub target: Option<&'a str>,
@@ -91,6 +109,7 @@ impl Job {
             Job::Code => None,
             Job::Pack => Some(Format::Text),
             Job::Show => Some(Format::Shown),
+            Job::Gen => Some(Format::Packed),
         }
     }
 }

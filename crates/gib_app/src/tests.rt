@@ -168,7 +168,10 @@ fn commands_take_their_words(rt: HostRuntime) -> Result<(), Fail> {
         (&["check", "s", "--pass", "1"], "not taken"),
         // How fields are reached.
         (&["run", "--skips", "s", "i"], "run s i skips"),
-        (&["core", "s", "--pass", "3", "--skips"], "core s pass 3 skips"),
+        (
+            &["core", "s", "--pass", "3", "--skips"],
+            "core s pass 3 skips",
+        ),
         (&["code", "s", "--skips"], "code s skips"),
         (&["show", "s", "--skips", "f"], "show s f skips"),
         (&["show", "s", "f", "--skips", "--skips"], "not taken"),

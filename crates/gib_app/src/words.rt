@@ -18,6 +18,7 @@ fn sample() -> Plan<'static>
     ensures { plan_of result ≡ sample_plan }
 {
     Plan {
+        first: None,
         source: Document::BuiltIn(SAMPLE_SOURCE),
         second: Some(Document::BuiltIn(SAMPLE_INPUT)),
         target: None,

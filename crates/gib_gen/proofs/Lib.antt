@@ -1,4 +1,6 @@
 mod Growing
+mod TotalOfTree
+mod Works
 mod Program
 mod Feed
 mod Laws

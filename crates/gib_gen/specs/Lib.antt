@@ -1,1 +1,3 @@
 pub mod Made
+pub mod NumberTree
+pub mod Summary

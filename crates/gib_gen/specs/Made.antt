@@ -1,14 +1,16 @@
 -- What is made of a number and of levels: the text of a program, and a tree of numbers that is its input.
-use Rattle.std.specs.Prelude.{ℕ, zero, suc, pos, ◌+◌, ◌*◌, ◌%◌, ◌^◌, List, [], ◌∷◌, ◌++◌, length, codes}
+use Rattle.std.specs.Prelude.{◌≡◌, ◌<◌, ◌≤◌, ℕ, zero, suc, pos, ◌+◌, ◌*◌, ◌%◌, ◌^◌, List, [], ◌∷◌, ◌++◌, length, codes}
 use Rattle.std.specs.Fmt.{decimal}
 use Rattle.gib_base.specs.Lexed.{Lexed}
-use Rattle.gib_types.specs.Tree.{Datum, whole, con, none, more}
+use Rattle.gib_types.specs.Tree.{Datum, HasType}
 use Rattle.gib_syntax.specs.Tree.{ProgramTree}
 use Rattle.gib_syntax.specs.Source.{Spells}
-use Rattle.gib_syntax.specs.Declarations.{table_of_program, input_type}
+use Rattle.gib_syntax.specs.Declarations.{table_of_program, input_type, output_type}
 use Rattle.gib_syntax.specs.Typing.{IsTypedProgram}
+use Rattle.gib_syntax.specs.Meaning.{Gives, Stops, Deep, run}
 use Rattle.gib_file.specs.Packed.{packed}
 use Rattle.gib_file.specs.Framed.{header, File}
+use Rattle.gib_gen.specs.NumberTree.{NumberTree, Leaf, Node, value_of, tree_type, height, worked}
 
 -- The text before the literal.
 abbrev pub front : List ℕ
@@ -26,36 +28,39 @@ source_text literal = front ++ (decimal literal ++ back)
 abbrev pub next : ℕ → ℕ
 next x = (1103515245 * x + 12345) % 2 ^ 31
 
--- A leaf with a number.
-abbrev pub leaf : ℕ → Datum
-leaf x = con 0 (more (whole (pos x)) none)
-
--- A node of two trees.
-abbrev pub node : Datum → Datum → Datum
-node left right = con 1 (more left (more right none))
-
 -- A tree, and the number in its last leaf.
 pub record Grown : Type 0 where
-  pub tree : Datum
+  pub tree : NumberTree
   pub last : ℕ
 
 -- A node of a tree and of what grows from its last number.
 abbrev pub beside : Grown → (ℕ → Grown) → Grown
-beside left go = record { tree = node left.tree (go left.last).tree; last = (go left.last).last }
+beside left go = record { tree = Node left.tree (go left.last).tree; last = (go left.last).last }
 
 -- The full tree of so many levels below its root; its leaves hold the numbers that follow one another from a number on.
 abbrev pub grown : ℕ → ℕ → Grown
-grown zero x = record { tree = leaf (next x); last = next x }
+grown zero x = record { tree = Leaf (pos (next x)); last = next x }
 grown (suc levels) x = beside (grown levels x) (grown levels)
 
--- The packed file of a value.
-abbrev pub file_of : Datum → List ℕ
-file_of v = header (length (packed v)) ++ packed v
+-- The packed bytes of a tree.
+abbrev pub packed_tree : NumberTree → List ℕ
+packed_tree t = packed (value_of t)
 
--- The text is that of a typed program, and the bytes are the packed file of the value as its input.
-pub record IsProgramWith (source input : List ℕ) (v : Datum) : Type 0 where
+-- The packed file of a tree.
+abbrev pub file_of : NumberTree → List ℕ
+file_of t = header (length (packed_tree t)) ++ packed_tree t
+
+-- The text is that of a typed program, and the bytes are the packed file of the tree as its input. The values of both its types
+-- are the trees of numbers. Within a depth that is greater than the height of a tree it gives what is made of it with the literal,
+-- and within any other none.
+pub record IsProgramWith (literal : ℕ) (source input : List ℕ) (t : NumberTree) : Type 0 where
   pub lexed : Lexed
   pub program : ProgramTree
   pub spells : Spells source lexed program
   pub typed : IsTypedProgram program
-  pub file : File (table_of_program program) (input_type program) v input
+  pub file : File (table_of_program program) (input_type program) (value_of t) input
+  pub takes : input_type program ≡ tree_type
+  pub gives : output_type program ≡ tree_type
+  pub trees : (v : Datum) → HasType (table_of_program program) v tree_type → (u : NumberTree) × (v ≡ value_of u)
+  pub works : (u : NumberTree) (depth : ℕ) → height u < depth → run program depth (value_of u) ≡ Gives (value_of (worked literal u))
+  pub ends : (u : NumberTree) (depth : ℕ) → depth ≤ height u → run program depth (value_of u) ≡ Stops Deep

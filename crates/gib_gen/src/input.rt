@@ -2,9 +2,9 @@
 
 ghost use Rattle.std.specs.Prelude.{◌≡◌, ◌≤◌, ◌<◌, ◌^◌, ◌++◌, length, pos, IfOk, OnOk};
 ghost use Rattle.gib_types.specs.Bytes.{number};
-ghost use Rattle.gib_file.specs.Packed.{packed};
 ghost use Rattle.gib_file.specs.Framed.{header};
-ghost use Rattle.gib_gen.specs.Made.{next, leaf, grown, file_of};
+ghost use Rattle.gib_gen.specs.Made.{next, grown, packed_tree, file_of};
+ghost use Rattle.gib_gen.specs.NumberTree.{Leaf};
 
 use byteorder::{ByteOrder, LittleEndian};
 use gib_base::Memory;
@@ -20,7 +20,7 @@ fn next(x: u32) -> u32
 /// Writes a leaf with a number.
 fn push_leaf(out: &mut Vec<u8>, x: u32) -> Result<(), Memory>
     requires { x < 2 ^ 31 }
-    ensures { OnOk result (out.new.items ≡ out.old.items ++ packed (leaf x)) }
+    ensures { OnOk result (out.new.items ≡ out.old.items ++ packed_tree (Leaf (pos x))) }
 {
     let mut bytes = [0; 8];
     LittleEndian::write_i64(&mut bytes, i64::from(x));
@@ -33,9 +33,8 @@ fn push_leaf(out: &mut Vec<u8>, x: u32) -> Result<(), Memory>
 /// recurses once a level.
 #[cycle(trees)]
 fn push_tree(out: &mut Vec<u8>, levels: u8, x: u32) -> Result<u32, Memory>
-    requires { levels ≤ 18 }
     ensures last { IfOk result (λ last. last ≡ (grown levels x).last) }
-    ensures bytes { OnOk result (out.new.items ≡ out.old.items ++ packed (grown levels x).tree) }
+    ensures bytes { OnOk result (out.new.items ≡ out.old.items ++ packed_tree (grown levels x).tree) }
 {
     if levels == 0 {
         let number = next(x);
@@ -50,7 +49,6 @@ fn push_tree(out: &mut Vec<u8>, levels: u8, x: u32) -> Result<u32, Memory>
 
 /// The packed file of the full tree of so many levels that grows from a number.
 pub(crate) fn file(alloc: Global, number: u32, levels: u8) -> Result<Vec<u8>, Memory>
-    requires { levels ≤ 18 }
     ensures { IfOk result (λ file. file.items ≡ file_of (grown levels number).tree) }
 {
     let mut payload = Vec::new(alloc);

@@ -1,17 +1,19 @@
 //! Programs and inputs that are made of a number, to measure and to try with.
 #![tactic(auto)]
 
-ghost use Rattle.std.specs.Prelude.{◌≡◌, ◌≤◌, ◌%◌, IfOk};
+ghost use Rattle.std.specs.Prelude.{◌≡◌, ◌%◌, IfOk};
 ghost use Rattle.gib_gen.specs.Made.{source_text, grown, file_of};
 
 mod input;
 pub mod law;
+mod line;
 mod source;
 #[cfg(test)]
 mod tests;
 
 use gib_base::Memory;
 use input::file;
+pub use line::summary;
 use source::text;
 use std::alloc::Global;
 
@@ -23,14 +25,13 @@ pub struct Made {
 }
 
 /// A program that maps a tree of numbers, and a full tree of so many levels below its root as its input. That it is a
-/// typed program, and the tree an input for it, is `law::made_is_program`.
+/// typed program, and the tree an input for it, is `law::made_is_program`. Each level doubles the input's length, which is some
+/// ten bytes a leaf.
 ///
 /// # Errors
 ///
 /// Want of memory.
 pub fn make(alloc: Global, number: u32, levels: u8) -> Result<Made, Memory>
-    requires number { number ≤ 2147483647 }
-    requires levels { levels ≤ 18 }
     ensures source { IfOk result (λ made. made.source.items ≡ source_text (number % 1000)) }
     ensures input { IfOk result (λ made. made.input.items ≡ file_of (grown levels number).tree) }
 {

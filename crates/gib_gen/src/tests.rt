@@ -1,5 +1,3 @@
-ghost use Rattle.std.specs.Prelude.{◌≤◌};
-
 use crate::make;
 use std::alloc::Global;
 use std::test::*;
@@ -11,10 +9,13 @@ const BACK: &str =
     " ) ; Node l r -> let par a = work l and b = work r in Node a b } ; main ( t : Tree ) : Tree = work t ;\n";
 
 // Whether these are the literal and the packed file.
-fn makes(alloc: Global, number: u32, levels: u8, literal: &str, input: &[u8]) -> Result<bool, Fail>
-    requires number { number ≤ 2147483647 }
-    requires levels { levels ≤ 18 }
-{
+fn makes(
+    alloc: Global,
+    number: u32,
+    levels: u8,
+    literal: &str,
+    input: &[u8],
+) -> Result<bool, Fail> {
     let made = make(alloc, number, levels)?;
     let mut source = Vec::from_slice(alloc, FRONT.as_bytes())?;
     source.extend_from_slice(literal.as_bytes())?;

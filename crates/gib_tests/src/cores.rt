@@ -526,14 +526,24 @@ fn prints_each_pass<R: Threads + Wait + Sync>(
             };
             let usual = ["gib", "core", "a.gib", "--pass", word];
             let skipping = ["gib", "core", "--skips", "a.gib", "--pass", word];
-            let words = if skips { skipping.as_slice() } else { usual.as_slice() };
+            let words = if skips {
+                skipping.as_slice()
+            } else {
+                usual.as_slice()
+            };
             if !prints(rt, alloc, source, words, text.as_str())? {
                 return Ok(false);
             }
         }
     }
     let marked = text_of(alloc, pieces, 4, false)?;
-    prints(rt, alloc, source, &["gib", "core", "a.gib"], marked.as_str())
+    prints(
+        rt,
+        alloc,
+        source,
+        &["gib", "core", "a.gib"],
+        marked.as_str(),
+    )
 }
 
 #[test]

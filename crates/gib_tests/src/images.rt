@@ -280,7 +280,13 @@ fn show<R: Threads + Wait + Sync>(
     source: &str,
     bytes: &[u8],
 ) -> Result<Ended, AllocError> {
-    show_by(rt, alloc, &["gib", "show", "a.gib", "m.gbi", "--skips"], source, bytes)
+    show_by(
+        rt,
+        alloc,
+        &["gib", "show", "a.gib", "m.gbi", "--skips"],
+        source,
+        bytes,
+    )
 }
 
 /// Whether a file is refused with this line, and nothing is put.

@@ -22,6 +22,8 @@ mod locations;
 #[cfg(test)]
 mod machine_runs;
 #[cfg(test)]
+mod made;
+#[cfg(test)]
 mod meanings;
 #[cfg(test)]
 mod printed;

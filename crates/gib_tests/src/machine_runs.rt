@@ -3,8 +3,8 @@
 use crate::harness::packed;
 use crate::programs::compile;
 use gib_app::machine_run::run_packed;
-use gib_base::limits::FILE_BYTES;
 use gib_arena::SoleMem;
+use gib_base::limits::FILE_BYTES;
 use gib_mem::{CHUNK, Mem};
 use gib_packed::Root;
 use std::alloc::{AllocError, Global};

@@ -11,4 +11,5 @@ returns c =
     let four = adds_command _ _ _ _ _ c.in_ok-subcommand-4.ensures three c.in_ok-core_command.ensures refl in
     let five = adds_command _ _ _ _ _ c.in_ok-subcommand-5.ensures four c.in_ok-code_command.ensures refl in
     let six = adds_command _ _ _ _ _ c.in_ok-subcommand-6.ensures five c.in_ok-pack_command.ensures refl in
-    IfOk-weaker c.subcommand-7.result _ _ (λ command adds. adds_command _ _ _ _ _ adds six c.in_ok-show_command.ensures refl) c.subcommand-7.ensures
+    let seven = adds_command _ _ _ _ _ c.in_ok-subcommand-7.ensures six c.in_ok-show_command.ensures refl in
+    IfOk-weaker c.subcommand-8.result _ _ (λ command adds. adds_command _ _ _ _ _ adds seven c.in_ok-gen_command.ensures refl) c.subcommand-8.ensures

@@ -1,53 +1,110 @@
 use Rattle.gib_app.specs.Kept.{plan_of, file_of}
-use Rattle.gib_app.specs.Calls.{reads_of, write_calls}
-use Rattle.gib_app.proofs.Calling.{added_front, added_part}
-use Rattle.std.proofs.Common.{refl}
-use Rattle.gib_app.specs.Stopping.{answer_for}
 use Rattle.gib_app.proofs.Making.{make_stop}
-use Rattle.gib_app.proofs.Writing.{all_stay, stays_from}
-use Rattle.gib_app.proofs.Performing.{write_stop}
+use Rattle.gib_app.proofs.Staging.{stuck_stop, stuck_others, stuck_reads_later, stuck_reads, stuck_once}
+use Rattle.gib_app.proofs.Staging.{kept_others, kept_files, reads_on, reads_stay, writes_on, writes_stay, made_once}
+use Rattle.gib_app.proofs.Staging.{is_performed, value_stays, written_others, unwritten_stop, unwritten_files, all_once, all_reads, all_reads_later, all_writes, all_writes_later, unwritten_counts}
 use Rattle.gib_app.proofs.perform.perform.Goals as goal
 
+-- ---- The first writes failed
+
 pub returns-in-Err-clause-stop : goal.returns-in-Err-clause-stop
-returns-in-Err-clause-stop g c =
-    let before = g.S.Shelf.view c.args.shelf.now in
-    make_stop g.S.Shelf.tells before before (g.S.Shelf.view c.make.new.shelf) (plan_of c.args.plan) (λ name. refl) (λ name. refl) c.in-Err.stop c.in-Err.ensures.stop
+returns-in-Err-clause-stop g c = stuck_stop g.S.Shelf.tells (g.S.Shelf.view c.args.shelf.now) (g.S.Shelf.view c.write_first.new.shelf) (plan_of c.args.plan) c.in-Err.stop c.in-Err.ensures.stuck
+
+pub returns-in-Err-clause-others : goal.returns-in-Err-clause-others
+returns-in-Err-clause-others g c = stuck_others g.S.Shelf.tells (g.S.Shelf.view c.args.shelf.now) (g.S.Shelf.view c.write_first.new.shelf) (plan_of c.args.plan) c.in-Err.stop c.in-Err.ensures.stuck
 
 pub returns-in-Err-clause-same : goal.returns-in-Err-clause-same
-returns-in-Err-clause-same g c =
-    let r = plan_of c.args.plan in
-    all_stay g.S.Shelf.tells r.first (g.S.Shelf.view c.args.shelf.now).kept (g.S.Shelf.view c.make.new.shelf).kept (answer_for c.in-Err.stop).status c.in-Err.ensures.same
+returns-in-Err-clause-same g c = c.in-Err.ensures.stuck.front
 
-pub returns-clause-stop : goal.returns-clause-stop
-returns-clause-stop g c =
-    write_stop g.S.Shelf.tells
-    (g.S.Shelf.view c.args.shelf.now)
-    (g.S.Shelf.view c.make.new.shelf)
-    (g.S.Shelf.view c.write_file.new.shelf)
-    (plan_of c.args.plan) (file_of c.in-Ok.made) c.in-Ok.made.end c.in-Ok.ensures.same c.in-Ok.ensures.writes c.in-Ok.ensures.made c.in-Err-write_file.stop c.in-Err-write_file.ensures.stop
+pub returns-in-Err-clause-reads_later : goal.returns-in-Err-clause-reads_later
+returns-in-Err-clause-reads_later g c = stuck_reads_later g.S.Shelf.tells (g.S.Shelf.view c.args.shelf.now) (g.S.Shelf.view c.write_first.new.shelf) (plan_of c.args.plan) c.in-Err.stop c.in-Err.ensures.stuck
 
-pub returns-clause-same : goal.returns-clause-same
-returns-clause-same g c =
-    let r = plan_of c.args.plan in
-    stays_from g.S.Shelf.tells r.first
-    (g.S.Shelf.view c.args.shelf.now).kept
-    (g.S.Shelf.view c.make.new.shelf).kept
-    (g.S.Shelf.view c.write_file.new.shelf).kept
-    (answer_for c.in-Err-write_file.stop).status c.in-Ok.ensures.same c.in-Err-write_file.ensures.same
+pub returns-in-Err-clause-reads : goal.returns-in-Err-clause-reads
+returns-in-Err-clause-reads g c = stuck_reads g.S.Shelf.tells (g.S.Shelf.view c.args.shelf.now) (g.S.Shelf.view c.write_first.new.shelf) (plan_of c.args.plan) c.in-Err.stop c.in-Err.ensures.stuck
+
+pub returns-in-Err-clause-writes_later : goal.returns-in-Err-clause-writes_later
+returns-in-Err-clause-writes_later g c = c.in-Err.ensures.stuck.later
+
+pub returns-in-Err-clause-writes : goal.returns-in-Err-clause-writes
+returns-in-Err-clause-writes g c = c.in-Err.ensures.stuck.counts
 
 pub returns-in-Err-clause-once : goal.returns-in-Err-clause-once
-returns-in-Err-clause-once g c =
-    let r = plan_of c.args.plan in
-    added_front (g.S.Shelf.view c.args.shelf.now).calls (g.S.Shelf.view c.make.new.shelf).calls (reads_of r) (write_calls r.target) c.in-Err.ensures.once
+returns-in-Err-clause-once g c = stuck_once g.S.Shelf.tells (g.S.Shelf.view c.args.shelf.now) (g.S.Shelf.view c.write_first.new.shelf) (plan_of c.args.plan) c.in-Err.stop c.in-Err.ensures.stuck
+
+-- ---- Nothing was made
+
+pub returns-in-Err-make-clause-stop : goal.returns-in-Err-make-clause-stop
+returns-in-Err-make-clause-stop g c = make_stop g.S.Shelf.tells (g.S.Shelf.view c.args.shelf.now) (g.S.Shelf.view c.write_first.new.shelf) (g.S.Shelf.view c.make.new.shelf) (plan_of c.args.plan) c.in-Ok.ensures.written.made c.in-Ok.ensures.written.reads c.in-Err-make.stop c.in-Err-make.ensures.stop
+
+pub returns-in-Err-make-clause-others : goal.returns-in-Err-make-clause-others
+returns-in-Err-make-clause-others g c = kept_others g.S.Shelf.tells (g.S.Shelf.view c.args.shelf.now) (g.S.Shelf.view c.write_first.new.shelf) (g.S.Shelf.view c.make.new.shelf) (plan_of c.args.plan) c.in-Ok.ensures.written c.in-Err-make.ensures.same
+
+pub returns-in-Err-make-clause-same : goal.returns-in-Err-make-clause-same
+returns-in-Err-make-clause-same g c = kept_files g.S.Shelf.tells (g.S.Shelf.view c.args.shelf.now) (g.S.Shelf.view c.write_first.new.shelf) (g.S.Shelf.view c.make.new.shelf) (plan_of c.args.plan) c.in-Ok.ensures.written c.in-Err-make.ensures.same c.in-Err-make.stop
+
+pub returns-in-Err-make-clause-reads_later : goal.returns-in-Err-make-clause-reads_later
+returns-in-Err-make-clause-reads_later g c = reads_on g.S.Shelf.tells (g.S.Shelf.view c.args.shelf.now) (g.S.Shelf.view c.write_first.new.shelf) (g.S.Shelf.view c.make.new.shelf) (plan_of c.args.plan) c.in-Ok.ensures.written c.in-Err-make.ensures.same c.in-Err-make.ensures.later
+
+pub returns-in-Err-make-clause-reads : goal.returns-in-Err-make-clause-reads
+returns-in-Err-make-clause-reads g c = reads_stay g.S.Shelf.tells (g.S.Shelf.view c.args.shelf.now) (g.S.Shelf.view c.write_first.new.shelf) (g.S.Shelf.view c.make.new.shelf) (plan_of c.args.plan) c.in-Ok.ensures.written c.in-Err-make.ensures.same c.in-Err-make.stop c.in-Err-make.ensures.reads
+
+pub returns-in-Err-make-clause-writes_later : goal.returns-in-Err-make-clause-writes_later
+returns-in-Err-make-clause-writes_later g c = writes_on g.S.Shelf.tells (g.S.Shelf.view c.args.shelf.now) (g.S.Shelf.view c.write_first.new.shelf) (g.S.Shelf.view c.make.new.shelf) (plan_of c.args.plan) c.in-Ok.ensures.written c.in-Err-make.ensures.same c.in-Err-make.ensures.writes
+
+pub returns-in-Err-make-clause-writes : goal.returns-in-Err-make-clause-writes
+returns-in-Err-make-clause-writes g c = writes_stay g.S.Shelf.tells (g.S.Shelf.view c.args.shelf.now) (g.S.Shelf.view c.write_first.new.shelf) (g.S.Shelf.view c.make.new.shelf) (plan_of c.args.plan) c.in-Ok.ensures.written c.in-Err-make.ensures.same c.in-Err-make.stop c.in-Err-make.ensures.writes
+
+pub returns-in-Err-make-clause-once : goal.returns-in-Err-make-clause-once
+returns-in-Err-make-clause-once g c = made_once g.S.Shelf.tells (g.S.Shelf.view c.args.shelf.now) (g.S.Shelf.view c.write_first.new.shelf) (g.S.Shelf.view c.make.new.shelf) (plan_of c.args.plan) c.in-Ok.ensures.written c.in-Err-make.ensures.same c.in-Err-make.ensures.once
+
+-- ---- It was written
+
+pub returns-in-Ok-write_file-clause-done : goal.returns-in-Ok-write_file-clause-done
+returns-in-Ok-write_file-clause-done g c = is_performed g.S.Shelf.tells (g.S.Shelf.view c.args.shelf.now) (g.S.Shelf.view c.write_first.new.shelf) (g.S.Shelf.view c.make.new.shelf) (g.S.Shelf.view c.write_file.new.shelf) (plan_of c.args.plan) c.in-Ok.ensures.written c.in-Ok-make.ensures.same (file_of c.in-Ok-make.made) c.in-Ok-make.made.end c.in-Ok-make.ensures.made c.in-Ok-write_file.ensures.written
+
+pub returns-in-Ok-write_file-clause-value : goal.returns-in-Ok-write_file-clause-value
+returns-in-Ok-write_file-clause-value g c = λ value is. value_stays g.S.Shelf.tells (g.S.Shelf.view c.args.shelf.now) (g.S.Shelf.view c.write_first.new.shelf) (g.S.Shelf.view c.make.new.shelf) (g.S.Shelf.view c.write_file.new.shelf) (plan_of c.args.plan) c.in-Ok.ensures.written c.in-Ok-make.ensures.same (file_of c.in-Ok-make.made) c.in-Ok-make.made.end c.in-Ok-make.ensures.made value is c.in-Ok-write_file.ensures.written
+
+pub returns-in-Ok-write_file-clause-others : goal.returns-in-Ok-write_file-clause-others
+returns-in-Ok-write_file-clause-others g c = written_others g.S.Shelf.tells (g.S.Shelf.view c.args.shelf.now) (g.S.Shelf.view c.write_first.new.shelf) (g.S.Shelf.view c.make.new.shelf) (g.S.Shelf.view c.write_file.new.shelf) (plan_of c.args.plan) c.in-Ok.ensures.written c.in-Ok-make.ensures.same (file_of c.in-Ok-make.made) c.in-Ok-make.made.end c.in-Ok-make.ensures.made c.in-Ok-write_file.ensures.others
+
+pub returns-in-Ok-write_file-clause-reads_later : goal.returns-in-Ok-write_file-clause-reads_later
+returns-in-Ok-write_file-clause-reads_later g c = all_reads_later g.S.Shelf.tells (g.S.Shelf.view c.args.shelf.now) (g.S.Shelf.view c.write_first.new.shelf) (g.S.Shelf.view c.make.new.shelf) (g.S.Shelf.view c.write_file.new.shelf) (plan_of c.args.plan) c.in-Ok.ensures.written c.in-Ok-make.ensures.same (file_of c.in-Ok-make.made) c.in-Ok-make.made.end c.in-Ok-make.ensures.made c.in-Ok-make.ensures.quiet c.in-Ok-write_file.ensures.reads
+
+pub returns-in-Ok-write_file-clause-reads_quiet : goal.returns-in-Ok-write_file-clause-reads_quiet
+returns-in-Ok-write_file-clause-reads_quiet g c = all_reads g.S.Shelf.tells (g.S.Shelf.view c.args.shelf.now) (g.S.Shelf.view c.write_first.new.shelf) (g.S.Shelf.view c.make.new.shelf) (g.S.Shelf.view c.write_file.new.shelf) (plan_of c.args.plan) c.in-Ok.ensures.written c.in-Ok-make.ensures.same (file_of c.in-Ok-make.made) c.in-Ok-make.made.end c.in-Ok-make.ensures.made c.in-Ok-make.ensures.quiet c.in-Ok-write_file.ensures.reads
+
+pub returns-in-Ok-write_file-clause-writes_later : goal.returns-in-Ok-write_file-clause-writes_later
+returns-in-Ok-write_file-clause-writes_later g c = all_writes_later g.S.Shelf.tells (g.S.Shelf.view c.args.shelf.now) (g.S.Shelf.view c.write_first.new.shelf) (g.S.Shelf.view c.make.new.shelf) (g.S.Shelf.view c.write_file.new.shelf) (plan_of c.args.plan) c.in-Ok.ensures.written c.in-Ok-make.ensures.same (file_of c.in-Ok-make.made) c.in-Ok-make.made.end c.in-Ok-make.ensures.made c.in-Ok-make.ensures.writes c.in-Ok-write_file.ensures.later
+
+pub returns-in-Ok-write_file-clause-writes_quiet : goal.returns-in-Ok-write_file-clause-writes_quiet
+returns-in-Ok-write_file-clause-writes_quiet g c = all_writes g.S.Shelf.tells (g.S.Shelf.view c.args.shelf.now) (g.S.Shelf.view c.write_first.new.shelf) (g.S.Shelf.view c.make.new.shelf) (g.S.Shelf.view c.write_file.new.shelf) (plan_of c.args.plan) c.in-Ok.ensures.written c.in-Ok-make.ensures.same (file_of c.in-Ok-make.made) c.in-Ok-make.made.end c.in-Ok-make.ensures.made c.in-Ok-make.ensures.writes c.in-Ok-write_file.ensures.quiet
 
 pub returns-in-Ok-write_file-clause-once : goal.returns-in-Ok-write_file-clause-once
-returns-in-Ok-write_file-clause-once g c =
-    let r = plan_of c.args.plan in
-    added_part (g.S.Shelf.view c.args.shelf.now).calls (g.S.Shelf.view c.make.new.shelf).calls (g.S.Shelf.view c.write_file.new.shelf).calls (reads_of r) (write_calls r.target)
-    c.in-Ok.ensures.called c.write_file.ensures.once
+returns-in-Ok-write_file-clause-once g c = all_once g.S.Shelf.tells (g.S.Shelf.view c.args.shelf.now) (g.S.Shelf.view c.write_first.new.shelf) (g.S.Shelf.view c.make.new.shelf) (g.S.Shelf.view c.write_file.new.shelf) (plan_of c.args.plan) c.in-Ok.ensures.written c.in-Ok-make.ensures.same (file_of c.in-Ok-make.made) c.in-Ok-make.made.end c.in-Ok-make.ensures.made c.in-Ok-make.ensures.called c.in-Ok-write_file.ensures.once
+
+-- ---- It was not written
+
+pub returns-clause-stop : goal.returns-clause-stop
+returns-clause-stop g c = unwritten_stop g.S.Shelf.tells (g.S.Shelf.view c.args.shelf.now) (g.S.Shelf.view c.write_first.new.shelf) (g.S.Shelf.view c.make.new.shelf) (g.S.Shelf.view c.write_file.new.shelf) (plan_of c.args.plan) c.in-Ok.ensures.written c.in-Ok-make.ensures.same (file_of c.in-Ok-make.made) c.in-Ok-make.made.end c.in-Ok-make.ensures.made c.in-Ok-make.ensures.writes c.in-Err-write_file.stop c.in-Err-write_file.ensures.stop
+
+pub returns-clause-others : goal.returns-clause-others
+returns-clause-others g c = written_others g.S.Shelf.tells (g.S.Shelf.view c.args.shelf.now) (g.S.Shelf.view c.write_first.new.shelf) (g.S.Shelf.view c.make.new.shelf) (g.S.Shelf.view c.write_file.new.shelf) (plan_of c.args.plan) c.in-Ok.ensures.written c.in-Ok-make.ensures.same (file_of c.in-Ok-make.made) c.in-Ok-make.made.end c.in-Ok-make.ensures.made c.in-Err-write_file.ensures.others
+
+pub returns-clause-same : goal.returns-clause-same
+returns-clause-same g c = unwritten_files g.S.Shelf.tells (g.S.Shelf.view c.args.shelf.now) (g.S.Shelf.view c.write_first.new.shelf) (g.S.Shelf.view c.make.new.shelf) (g.S.Shelf.view c.write_file.new.shelf) (plan_of c.args.plan) c.in-Ok.ensures.written c.in-Ok-make.ensures.same (file_of c.in-Ok-make.made) c.in-Ok-make.made.end c.in-Ok-make.ensures.made c.in-Err-write_file.stop c.in-Err-write_file.ensures.same
+
+pub returns-clause-reads_later : goal.returns-clause-reads_later
+returns-clause-reads_later g c = all_reads_later g.S.Shelf.tells (g.S.Shelf.view c.args.shelf.now) (g.S.Shelf.view c.write_first.new.shelf) (g.S.Shelf.view c.make.new.shelf) (g.S.Shelf.view c.write_file.new.shelf) (plan_of c.args.plan) c.in-Ok.ensures.written c.in-Ok-make.ensures.same (file_of c.in-Ok-make.made) c.in-Ok-make.made.end c.in-Ok-make.ensures.made c.in-Ok-make.ensures.quiet c.in-Err-write_file.ensures.reads
+
+pub returns-clause-reads : goal.returns-clause-reads
+returns-clause-reads g c = λ other. all_reads g.S.Shelf.tells (g.S.Shelf.view c.args.shelf.now) (g.S.Shelf.view c.write_first.new.shelf) (g.S.Shelf.view c.make.new.shelf) (g.S.Shelf.view c.write_file.new.shelf) (plan_of c.args.plan) c.in-Ok.ensures.written c.in-Ok-make.ensures.same (file_of c.in-Ok-make.made) c.in-Ok-make.made.end c.in-Ok-make.ensures.made c.in-Ok-make.ensures.quiet c.in-Err-write_file.ensures.reads
+
+pub returns-clause-writes_later : goal.returns-clause-writes_later
+returns-clause-writes_later g c = all_writes_later g.S.Shelf.tells (g.S.Shelf.view c.args.shelf.now) (g.S.Shelf.view c.write_first.new.shelf) (g.S.Shelf.view c.make.new.shelf) (g.S.Shelf.view c.write_file.new.shelf) (plan_of c.args.plan) c.in-Ok.ensures.written c.in-Ok-make.ensures.same (file_of c.in-Ok-make.made) c.in-Ok-make.made.end c.in-Ok-make.ensures.made c.in-Ok-make.ensures.writes c.in-Err-write_file.ensures.later
+
+pub returns-clause-writes : goal.returns-clause-writes
+returns-clause-writes g c = unwritten_counts g.S.Shelf.tells (g.S.Shelf.view c.args.shelf.now) (g.S.Shelf.view c.write_first.new.shelf) (g.S.Shelf.view c.make.new.shelf) (g.S.Shelf.view c.write_file.new.shelf) (plan_of c.args.plan) c.in-Ok.ensures.written c.in-Ok-make.ensures.same (file_of c.in-Ok-make.made) c.in-Ok-make.made.end c.in-Ok-make.ensures.made c.in-Err-write_file.stop c.in-Ok-make.ensures.writes c.in-Err-write_file.ensures.writes
 
 pub returns-clause-once : goal.returns-clause-once
-returns-clause-once g c =
-    let r = plan_of c.args.plan in
-    added_part (g.S.Shelf.view c.args.shelf.now).calls (g.S.Shelf.view c.make.new.shelf).calls (g.S.Shelf.view c.write_file.new.shelf).calls (reads_of r) (write_calls r.target)
-    c.in-Ok.ensures.called c.write_file.ensures.once
+returns-clause-once g c = all_once g.S.Shelf.tells (g.S.Shelf.view c.args.shelf.now) (g.S.Shelf.view c.write_first.new.shelf) (g.S.Shelf.view c.make.new.shelf) (g.S.Shelf.view c.write_file.new.shelf) (plan_of c.args.plan) c.in-Ok.ensures.written c.in-Ok-make.ensures.same (file_of c.in-Ok-make.made) c.in-Ok-make.made.end c.in-Ok-make.ensures.made c.in-Ok-make.ensures.called c.in-Err-write_file.ensures.once

@@ -1,0 +1,147 @@
+-- A plan's first writes, and then what is made and written.
+use Rattle.std.proofs.Common.{◌≡◌, ◌∙◌, ◌≤◌, ◌++◌, refl, sym, subst, ℕ, zero, suc, List, [], length, take, Bool, inl, inr, Option, arith}
+use Rattle.gib_edge.specs.Causes.{Appends, AppendsPart}
+use Rattle.gib_edge.specs.Views.{ShelfView}
+use Rattle.gib_app.specs.declared.made.End.{End as KeptEnd}
+use Rattle.gib_app.specs.declared.made.End.TheVariants as ends
+use Rattle.gib_app.specs.declared.made.Valued.{Valued}
+use Rattle.gib_app.specs.declared.status.Status.{Status}
+use Rattle.gib_app.specs.declared.status.Status.TheVariants as status
+use Rattle.gib_app.specs.declared.stop.Stop.{Stop}
+use Rattle.gib_app.specs.declared.stop.Stop.TheVariants.{Usage, Source, Unread, Input, NoValue, Memory, Unwritten, Unput}
+use Rattle.gib_app.specs.Plan.{Plan, Write, Files}
+use Rattle.gib_app.specs.Writes.{AreMade, IsNamedIn, IsStuckIn, at_reading, writes_of}
+use Rattle.gib_app.specs.Calls.{first_calls, reads_of, write_calls, calls_of}
+use Rattle.gib_app.specs.Ending.{StaysAfter, ReadsStay, WritesStay}
+use Rattle.gib_app.specs.FirstWrites.{HasWritten, HasStuck}
+use Rattle.gib_app.specs.Jobs.{Does}
+use Rattle.gib_app.specs.Kept.{EndsBy}
+use Rattle.gib_app.specs.Performing.{IsDone, IsPerformed, IsWriteStop, OthersStay, StopFiles}
+use Rattle.gib_app.specs.Stopping.{answer_for}
+use Rattle.gib_app.specs.Stops.{IsMakeStop, IsStop, StopsBy}
+use Rattle.gib_app.proofs.Calling.{added_front, added_part}
+use Rattle.gib_app.proofs.FirstWriting.{others_after}
+use Rattle.gib_app.proofs.Making.{both_from, make_stop}
+use Rattle.gib_app.proofs.Performing.{performed, value_unwritten, write_stop}
+use Rattle.gib_app.proofs.Writing.{made_from, all_stay, take_all}
+
+-- nothing was written first
+pub none_stays : (tells : Bool) (before now : Files) (end' : Status) → ((name : List ℕ) → now name ≡ before name) → StaysAfter tells [] before now end'
+none_stays tells before now end' same = all_stay tells [] before now end' same
+
+-- what was written first, and then nothing else
+pub first_stay : (tells : Bool) (before mid now : Files) (first : List Write) (end' : Status) → AreMade tells before mid first → StaysAfter tells [] mid now end' → StaysAfter tells first before now end'
+first_stay tells before mid now first status.Done h k = tt
+first_stay tells before mid now first status.Source h k = λ name. k name ∙ h name
+first_stay tells before mid now first status.Usage h k = λ name. k name ∙ h name
+first_stay tells before mid now first status.Depth h k = tt
+first_stay tells before mid now first status.Full h k = tt
+first_stay tells before mid now first status.Memory h k =
+    let P : List Write → Type 0 = AreMade tells before now in
+    (length first, subst P (sym (take_all first)) (λ name. kept k.0 k.1 name ∙ h name))
+  where
+    kept : (n : ℕ) → AreMade tells mid now (take n []) → (name : List ℕ) → now name ≡ mid name
+    kept zero made = made
+    kept (suc n) made = made
+first_stay tells before mid now first status.ReadFault h k = λ name. k name ∙ h name
+first_stay tells before mid now first status.WriteFault h k = tt
+first_stay tells before mid now first status.Input h k = λ name. k name ∙ h name
+
+-- ---- The first writes failed
+
+module _ (tells : Bool) (before now : ShelfView) (r : Plan) (stop : Stop) (k : HasStuck tells before now r.first stop) where
+  stuck_is_stop : (why : Stop) → StopsBy (λ fault. ⊥) (λ name. ⊥) (λ fault. ⊥) (λ reason. ⊥) (λ name. IsStuckIn tells before.kept r.first before now name) why → IsStop tells before now r why
+  stuck_is_stop Usage c = c
+  stuck_is_stop (Source fault) c = absurd c
+  stuck_is_stop (Unread name) c = absurd c
+  stuck_is_stop (Input fault) c = absurd c
+  stuck_is_stop (NoValue reason) c = c
+  stuck_is_stop Memory c = c
+  stuck_is_stop (Unwritten name) c = inl c
+  stuck_is_stop Unput c = c
+
+  pub stuck_stop : IsStop tells before now r stop
+  stuck_stop = stuck_is_stop stop k.cause
+
+  pub stuck_others : OthersStay r before.kept now.kept
+  stuck_others name no' = k.others name (λ i. no' (inl i))
+
+  pub stuck_reads_later : (name : List ℕ) → before.reads name ≤ now.reads name
+  stuck_reads_later name = let e = k.reads name in omega (arith, e)
+
+  pub stuck_reads : ReadsStay before.reads now.reads (answer_for stop).status
+  stuck_reads other name = k.reads name
+
+  pub stuck_once : AppendsPart before.calls now.calls (calls_of r)
+  stuck_once = added_front before.calls now.calls (first_calls r.first) (reads_of r ++ write_calls r.target) k.once
+
+-- ---- The first writes were made
+
+module _ (tells : Bool) (before start now : ShelfView) (r : Plan) (w : HasWritten tells before start r.first) (same : (name : List ℕ) → now.kept name ≡ start.kept name) where
+  pub at_start : (name : List ℕ) → now.kept name ≡ at_reading tells before.kept r name
+  at_start name = same name ∙ w.made name
+
+  pub kept_others : OthersStay r before.kept now.kept
+  kept_others name no' = at_start name ∙ others_after tells before.kept r.first name (λ i. no' (inl i))
+
+  pub kept_files : (stop : Stop) → StopFiles tells r before.kept now.kept stop
+  kept_files stop = all_stay tells r.first before.kept now.kept (answer_for stop).status at_start
+
+  pub reads_on : ((name : List ℕ) → start.reads name ≤ now.reads name) → (name : List ℕ) → before.reads name ≤ now.reads name
+  reads_on h name = let e = w.reads name in let f = h name in omega (arith, e, f)
+
+  pub reads_stay : (stop : Stop) → ReadsStay start.reads now.reads (answer_for stop).status → ReadsStay before.reads now.reads (answer_for stop).status
+  reads_stay stop h other name = h other name ∙ w.reads name
+
+  pub writes_on : ((name : List ℕ) → now.writes name ≡ start.writes name) → (name : List ℕ) → before.writes name ≤ now.writes name
+  writes_on h name = let e = w.counts name in let f = h name in omega (arith, e, f)
+
+  pub writes_stay : (stop : Stop) → ((name : List ℕ) → now.writes name ≡ start.writes name) → WritesStay before.writes now.writes (answer_for stop).status
+  writes_stay stop h other name = h name ∙ w.counts name
+
+  pub made_once : AppendsPart start.calls now.calls (reads_of r) → AppendsPart before.calls now.calls (calls_of r)
+  made_once h =
+      added_part before.calls start.calls now.calls (first_calls r.first) (reads_of r ++ write_calls r.target) w.called (added_front start.calls now.calls (reads_of r) (write_calls r.target) h)
+
+-- ---- What was made is written, or not
+
+module _ (tells : Bool) (before start mid now : ShelfView) (r : Plan) (w : HasWritten tells before start r.first) (same : (name : List ℕ) → mid.kept name ≡ start.kept name) (file : Option (List ℕ)) (e : KeptEnd) (is : IsDone start.kept r file e) where
+  from_start : (name : List ℕ) → mid.kept name ≡ at_reading tells before.kept r name
+  from_start name = same name ∙ w.made name
+
+  pub done_at : IsDone (at_reading tells before.kept r) r file e
+  done_at = both_from (at_reading tells before.kept r) start.kept r (λ p names given. EndsBy file e (Does r.job r.options p names given)) w.made is
+
+  pub is_performed : AreMade tells mid.kept now.kept (writes_of file r.target) → IsPerformed tells before.kept now.kept r e
+  is_performed written = performed tells before.kept mid.kept now.kept r file e from_start done_at written
+
+  pub value_stays : (value : Valued) → e ≡ ends.Value value → AreMade tells mid.kept now.kept (writes_of file r.target) → AreMade tells before.kept now.kept r.first
+  value_stays value is' written = value_unwritten tells (at_reading tells before.kept r) mid.kept now.kept r file e value done_at is' from_start written
+
+  pub written_others : OthersStay r mid.kept now.kept → OthersStay r before.kept now.kept
+  written_others h name no' = h name no' ∙ from_start name ∙ others_after tells before.kept r.first name (λ i. no' (inl i))
+
+  pub unwritten_stop : ((name : List ℕ) → mid.writes name ≡ start.writes name) → (stop : Stop) → IsWriteStop mid now r file stop → IsStop tells before now r stop
+  unwritten_stop writes stop h = write_stop tells before mid now r file e from_start (λ name. writes name ∙ w.counts name) done_at stop h
+
+  pub unwritten_files : (stop : Stop) → StaysAfter tells [] mid.kept now.kept (answer_for stop).status → StopFiles tells r before.kept now.kept stop
+  unwritten_files stop h = first_stay tells before.kept mid.kept now.kept r.first (answer_for stop).status from_start h
+
+  pub all_once : Appends start.calls mid.calls (reads_of r) → AppendsPart mid.calls now.calls (write_calls r.target) → AppendsPart before.calls now.calls (calls_of r)
+  all_once h k =
+      added_part before.calls start.calls now.calls (first_calls r.first) (reads_of r ++ write_calls r.target) w.called (added_part start.calls mid.calls now.calls (reads_of r) (write_calls r.target) h k)
+
+  pub all_reads : ((name : List ℕ) → mid.reads name ≡ start.reads name) → ((name : List ℕ) → now.reads name ≡ mid.reads name) → (name : List ℕ) → now.reads name ≡ before.reads name
+  all_reads h k name = k name ∙ h name ∙ w.reads name
+
+  pub all_reads_later : ((name : List ℕ) → mid.reads name ≡ start.reads name) → ((name : List ℕ) → now.reads name ≡ mid.reads name) → (name : List ℕ) → before.reads name ≤ now.reads name
+  all_reads_later h k name = let q = all_reads h k name in omega (arith, q)
+
+  pub all_writes : ((name : List ℕ) → mid.writes name ≡ start.writes name) → ((name : List ℕ) → now.writes name ≡ mid.writes name) → (name : List ℕ) → now.writes name ≡ before.writes name
+  all_writes h k name = k name ∙ h name ∙ w.counts name
+
+  pub all_writes_later : ((name : List ℕ) → mid.writes name ≡ start.writes name) → ((name : List ℕ) → mid.writes name ≤ now.writes name) → (name : List ℕ) → before.writes name ≤ now.writes name
+  all_writes_later h k name = let p = h name in let q = w.counts name in let s = k name in omega (arith, p, q, s)
+
+  pub unwritten_counts : (stop : Stop) → ((name : List ℕ) → mid.writes name ≡ start.writes name) → WritesStay mid.writes now.writes (answer_for stop).status → WritesStay before.writes now.writes (answer_for stop).status
+  unwritten_counts stop h k other name = k other name ∙ h name ∙ w.counts name

@@ -1,0 +1,75 @@
+//! Makes and writes the files that a plan writes before it reads.
+
+ghost use Rattle.std.specs.Prelude.{◌≡◌, [], ◌∷◌, IfErr, OnOk};
+ghost use Rattle.gib_app.specs.FirstWrites.{HasWritten, HasStuck};
+ghost use Rattle.gib_app.specs.Kept.{plan_of};
+ghost use Rattle.gib_app.specs.Words.{first_writes};
+
+use crate::plan::{MadeNames, Options, Plan};
+use crate::stop::Stop;
+use gib_edge::outside::{Shelf, ShelfFault};
+use gib_gen::make;
+use std::alloc::Global;
+
+/// Writes a file.
+fn write_named<'a, S: Shelf>(
+    alloc: Global,
+    shelf: &mut S,
+    name: &'a str,
+    bytes: &[u8],
+) -> Result<(), Stop<'a>>
+    ensures written { OnOk result (HasWritten S.tells (S.view shelf.old) (S.view shelf.new) (record { name = name.entry.now; bytes = bytes.now } ∷ [])) }
+    ensures stuck { IfErr result (HasStuck S.tells (S.view shelf.old) (S.view shelf.new) (record { name = name.entry.now; bytes = bytes.now } ∷ [])) }
+{
+    match shelf.write(alloc, name, bytes) {
+        Ok(()) => Ok(()),
+        Err(ShelfFault::Failed) => Err(Stop::Unwritten(name)),
+        Err(ShelfFault::Memory) => Err(Stop::Memory),
+    }
+}
+
+/// Makes a source and an input of the numbers among the options, and writes them under these names, the source first.
+fn write_made<'a, S: Shelf>(
+    alloc: Global,
+    shelf: &mut S,
+    names: MadeNames<'a>,
+    options: Options,
+) -> Result<(), Stop<'a>>
+    ensures written { OnOk result (HasWritten S.tells (S.view shelf.old) (S.view shelf.new) (first_writes options names.entry.source.now names.entry.input.now)) }
+    ensures stuck { IfErr result (HasStuck S.tells (S.view shelf.old) (S.view shelf.new) (first_writes options names.entry.source.now names.entry.input.now)) }
+{
+    let made = match make(alloc, options.number, options.levels) {
+        Ok(made) => made,
+        Err(_) => return Err(Stop::Memory),
+    };
+    match write_named(alloc, shelf, names.source, &made.source) {
+        Ok(()) => {}
+        Err(stop) => return Err(stop),
+    }
+    match write_named(alloc, shelf, names.input, &made.input) {
+        Ok(()) => Ok(()),
+        Err(stop) => Err(stop),
+    }
+}
+
+/// Makes and writes the files that a plan writes first.
+///
+/// # Errors
+///
+/// `Unwritten` where one of them could not be written; `Memory`.
+pub fn write_first<'a, S: Shelf>(
+    alloc: Global,
+    shelf: &mut S,
+    plan: Plan<'a>,
+) -> Result<(), Stop<'a>>
+    ensures written { OnOk result (HasWritten S.tells (S.view shelf.old) (S.view shelf.new) (plan_of plan.entry).first) }
+    ensures stuck { IfErr result (HasStuck S.tells (S.view shelf.old) (S.view shelf.new) (plan_of plan.entry).first) }
+{
+    match plan.first {
+        Some(names) => match write_made(alloc, shelf, names, plan.options) {
+            Ok(()) => Ok(()),
+            Err(stop) => Err(stop),
+        },
+        None => Ok(()),
+    }
+}

@@ -1,0 +1,84 @@
+//! `gen`: prints a line about what a program that was made means on an input that was made.
+
+ghost use Rattle.std.specs.Prelude.{◌≡◌, ◌≤◌, ℕ, List, length, IfOk, IfErr};
+ghost use Rattle.gib_gen.specs.Summary.{summary_line};
+ghost use Rattle.gib_syntax.specs.Tree.{ProgramTree};
+ghost use Rattle.gib_syntax.specs.Parts.{program_of};
+ghost use Rattle.gib_app.specs.Jobs.{Sums};
+ghost use Rattle.gib_app.specs.Kept.{EndsBy, file_of};
+ghost use Rattle.gib_app.specs.MachineRun.{StandsMeant};
+ghost use Rattle.gib_app.specs.Stops.{IsRunStop};
+
+use crate::compile::Compiled;
+use crate::machine_run::{Ran, run_packed};
+use crate::made::{End, Made};
+use crate::plan::Options;
+use crate::printing::no_value;
+use crate::stop::Stop;
+use gib_arena::SoleMem;
+use gib_base::Memory;
+use gib_base::limits::FILE_BYTES;
+use gib_gen::summary;
+use gib_mem::Mem;
+use std::alloc::Global;
+
+/// The line about what a run leaves.
+///
+/// # Errors
+///
+/// Want of memory.
+fn line_of(alloc: Global, ran: &mut Ran, options: Options) -> Result<Vec<u8>, Memory>
+    requires stands { (p : ProgramTree) × (depth : ℕ) × (input : List ℕ) × StandsMeant p depth input ran.old.lowered.code.laid (⟦<SoleMem as Mem>⟧.view ran.old.memory).cells ran.old.root }
+    ensures { (p : ProgramTree) (depth : ℕ) (input : List ℕ) (s : StandsMeant p depth input ran.old.lowered.code.laid (⟦<SoleMem as Mem>⟧.view ran.old.memory).cells ran.old.root)
+        → IfOk result (λ line. line.items ≡ summary_line options.number options.levels s.result) }
+{
+    let layouts = ran.lowered.code().layouts();
+    summary(
+        alloc,
+        options.number,
+        options.levels,
+        &mut ran.memory,
+        layouts,
+        ran.root,
+    )
+}
+
+/// The line about what a program means on the bytes of an input, within the depth, by the machine in region memory of so many chunks.
+///
+/// # Errors
+///
+/// `Input` where the bytes are no packed file of a value of the type of main's parameter.
+pub fn made_run(
+    alloc: Global,
+    compiled: &Compiled,
+    options: Options,
+    input: &[u8],
+) -> Result<Made, Stop<'static>>
+    requires short { length input.now ≤ FILE_BYTES }
+    ensures made { IfOk result (λ made. EndsBy (file_of made) made.end (Sums (program_of compiled.now.typed) options input.now)) }
+    ensures stop { IfErr result (IsRunStop (program_of compiled.now.typed) input.now) }
+{
+    let mut ran = match run_packed(
+        alloc,
+        &compiled.typed,
+        input,
+        options.depth,
+        options.chunks,
+        options.skips,
+    ) {
+        Ok(ran) => ran,
+        Err(stop) => {
+            return match stop.reason() {
+                Some(reason) => Ok(no_value(reason)),
+                None => Err(stop),
+            };
+        }
+    };
+    match line_of(alloc, &mut ran, options) {
+        Ok(line) => Ok(Made {
+            file: None,
+            end: End::Prints(line),
+        }),
+        Err(_) => Err(Stop::Memory),
+    }
+}
