@@ -10,5 +10,5 @@ returns-then-not-image-clause-made c = λ p options input laid asked limit s. va
 pub returns-in-Ok-clause-made : goal.returns-in-Ok-clause-made
 returns-in-Ok-clause-made c = λ p options input laid asked limit s.
     let ran = c.args.value.ran in
-    imaged_ends p c.args.value.names options input ran.lowered.code.laid (cells_of ran.memory) ran.root s laid (asked ∙ c.if-not-image.false) ran.memory.limit limit (file_of c.in-Ok.made) c.in-Ok.made.end
+    imaged_ends p c.args.value.names options input ran.lowered.code.laid (cells_of ran.memory) ran.root s laid (asked ∙ c.if-not-image.false) _ limit (file_of c.in-Ok.made) c.in-Ok.made.end
     (c.in-Ok.ensures.made p options.depth input s)
