@@ -1,4 +1,5 @@
 pub mod Turns
+pub mod Standing
 pub mod Lending
 pub mod StackKeeps
 pub mod Settling

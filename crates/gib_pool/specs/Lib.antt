@@ -1,4 +1,5 @@
 pub mod Turn
+pub mod Going
 pub mod Lent
 pub mod Stacks
 pub mod Mine

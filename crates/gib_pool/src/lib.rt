@@ -4,10 +4,12 @@
 mod back;
 mod drain;
 mod forks;
+mod going;
 pub mod law;
 mod offer;
 
 pub use back::{Back, settle};
 pub use drain::drain_frames;
 pub use forks::{Forks, Loot, Stack, Stacking, Thief, push_fork, steal_fork, take_back};
+pub use going::go_on;
 pub use offer::offer_side;

@@ -1,0 +1,44 @@
+use Rattle.std.proofs.Common.{◌≡◌, List, Option, refl, sym, ap, subst, ◌∙◌}
+use Rattle.gib_core.specs.LoweredParts.{IsWhole}
+use Rattle.gib_machine.specs.Stepping.{with_tails}
+use Rattle.gib_machine.specs.Machine.{next}
+use Rattle.gib_pool.proofs.Standing.{stays, stays_on, turn_stays, whole, can_step, steps, stands, keeps_width}
+use Rattle.gib_pool.proofs.going.go_on.Goals as goal
+
+pub turns-init : goal.turns-init
+turns-init g c = record { works = λ d lent w. w; same = stays _; made = c.requires.made }
+
+pub step-requires : goal.step-requires
+step-requires g c =
+    let l = c.args.lowered.now in
+    let ok = whole l c.code-code.ensures.lowered c.core.ensures.fits c.code-code.ensures.runs in
+    let w = c.requires.works in
+    can_step l c.code-code.result.now c.code-code.ensures.value ok w.0 w.1 (g.M.Mem.view c.turns.mem) (with_tails c.turns.machine c.turns.tails) (g.met.M.Mem.bounded c.turns.mem) c.turns.invariant.made (c.turns.invariant.works w.0 w.1 w.2)
+
+pub turns-preserved : goal.turns-preserved
+turns-preserved g c =
+    let l = c.args.lowered.now in
+    let ok = whole l c.code-code.ensures.lowered c.core.ensures.fits c.code-code.ensures.runs in
+    let v = g.M.Mem.view c.turns.mem in
+    let v' = g.M.Mem.view c.step.new.mem in
+    let s = with_tails c.turns.machine c.turns.tails in
+    let s' = with_tails c.step.new.self c.step.new.tails in
+    record {
+      works = λ d lent w. steps l c.code-code.result.now c.code-code.ensures.value ok d lent v v' s s' c.step.result (g.met.M.Mem.bounded c.turns.mem) c.in-Went.is c.step.ensures (c.turns.invariant.works d lent w);
+      same = stays_on (g.M.Mem.view c.args.mem.now) v v' c.turns.invariant.same (turn_stays (next c.code-code.result.now s) s s' v v' c.step.result c.step.ensures);
+      made = keeps_width l c.code-code.result.now c.code-code.ensures.value ok v v' s s' c.step.result c.step.ensures ∙ c.turns.invariant.made;
+    }
+
+pub returns-in_default : goal.returns-in_default
+returns-in_default g c =
+    let l = c.args.lowered.now in
+    let ok = whole l c.code-code.ensures.lowered c.core.ensures.fits c.code-code.ensures.runs in
+    let v = g.M.Mem.view c.turns.mem in
+    let v' = g.M.Mem.view c.step.new.mem in
+    let s = with_tails c.turns.machine c.turns.tails in
+    let s' = with_tails c.step.new.self c.step.new.tails in
+    record {
+      comes = λ d lent w. stands l c.code-code.result.now c.code-code.ensures.value ok d lent v v' s s' c.step.result (g.met.M.Mem.bounded c.turns.mem) c.in_default.not-Went c.step.ensures (c.turns.invariant.works d lent w);
+      same = stays_on (g.M.Mem.view c.args.mem.now) v v' c.turns.invariant.same (turn_stays (next c.code-code.result.now s) s s' v v' c.step.result c.step.ensures);
+      made = keeps_width l c.code-code.result.now c.code-code.ensures.value ok v v' s s' c.step.result c.step.ensures ∙ (c.turns.invariant.made ∙ sym c.requires.made);
+    }
