@@ -162,7 +162,9 @@ def measure_values(bench, what, program, file, text, result, counts, texts):
     shown = [text(count) for count in counts]
     bench.case(f"show, {what}", VALUES, sizes, ["show", "@program", "@packed"], shown)
     run = [result(count) for count in counts]
-    bench.case(f"run, {what}", VALUES, sizes, ["run", "@program", "@packed", "--chunks", "#"], run)
+    for flags in ([], ["--skips"]):
+        words = ["run", "@program", "@packed", "--chunks", "#", *flags]
+        bench.case(" ".join(["run", *flags]) + f", {what}", VALUES, sizes, words, run)
     bench.case(f"plain, {what}", VALUES, sizes, ["plain", "@program", "@packed"], run)
     for place, count in enumerate(texts):
         bench.put(f"text.{place}", text(count))
@@ -192,6 +194,7 @@ def measure_beside(bench):
     bench.put("program", inputs.TREE.encode())
     ways = [
         ("run", [*bench.gib, "run", program, "@", "--chunks", "#"]),
+        ("run --skips", [*bench.gib, "run", program, "@", "--chunks", "#", "--skips"]),
         ("plain", [*bench.gib, "plain", program, "@"]),
         *((what, [*words, "@"]) for what, words in ocaml_programs(bench.folder)),
     ]

@@ -9,9 +9,8 @@ ghost use Rattle.gib_core.specs.Reaching.{packed_variables as packed_of};
 ghost use Rattle.gib_access.specs.Used.{since, before_at as at_before, skips_by, offsets_by_use, reaches_by, is_behind_used as behind_used, offset_by};
 ghost use Rattle.gib_access.specs.Made.{Fronts};
 
-use crate::offset_list::OffsetList;
 use crate::stamps::Stamps;
-use gib_base::Memory;
+use gib_base::{Memory, Reversed};
 use gib_core::{Access, AccessMode, Binding, Node, TermId, Terms, Variable};
 use gib_types::{ConId, TypeTable, items_at};
 use std::alloc::Global;
@@ -58,7 +57,7 @@ fn put_reach(
 fn put_skips(
     terms: &mut Terms,
     stamps: &Stamps,
-    start: u32,
+    start: u64,
     first: Variable,
     fields: &[Variable],
     body: TermId,
@@ -84,7 +83,7 @@ fn put_skips(
 fn put_offsets(
     terms: &mut Terms,
     stamps: &Stamps,
-    start: u32,
+    start: u64,
     fields: &[Variable],
     body: TermId,
 ) -> Result<TermId, Memory>
@@ -107,7 +106,7 @@ pub fn put_reaches(
     mode: AccessMode,
     terms: &mut Terms,
     stamps: &Stamps,
-    start: u32,
+    start: u64,
     packed: &[Variable],
     body: TermId,
 ) -> Result<TermId, Memory>
@@ -124,14 +123,14 @@ pub fn put_reaches(
 }
 
 /// Whether one of these fields is used.
-fn is_any_used(stamps: &Stamps, start: u32, fields: &[Variable]) -> bool
+fn is_any_used(stamps: &Stamps, start: u64, fields: &[Variable]) -> bool
     ensures { result ≡ list_any (since stamps.now start) fields.now }
 {
     fields.iter().any(|x| stamps.is_used_since(start, *x))
 }
 
 /// Whether a packed field behind the first one is used.
-fn is_behind_used(stamps: &Stamps, start: u32, packed: &[Variable]) -> bool
+fn is_behind_used(stamps: &Stamps, start: u64, packed: &[Variable]) -> bool
     ensures { result ≡ behind_used (since stamps.now start) packed.now }
 {
     match packed {
@@ -142,9 +141,9 @@ fn is_behind_used(stamps: &Stamps, start: u32, packed: &[Variable]) -> bool
 
 /// Lists a constructor before the others, where a packed field of its arm behind the first one is used.
 pub fn list_constructor(
-    offsets: &mut OffsetList,
+    offsets: &mut Reversed<ConId>,
     stamps: &Stamps,
-    start: u32,
+    start: u64,
     constructor: ConId,
     packed: &[Variable],
 ) -> Result<(), Memory>

@@ -16,7 +16,6 @@ ghost use Rattle.gib_access.specs.Bodies.{offsets_kept as kept};
 mod bodies;
 mod fields;
 pub mod law;
-mod offset_list;
 mod source;
 mod stamps;
 #[cfg(test)]
@@ -25,18 +24,17 @@ mod walk;
 mod work;
 
 use bodies::{reach_functions, reach_main};
-use gib_base::Memory;
+use gib_base::{Memory, Reversed};
 use gib_core::law::reaching_makes_built;
 use gib_core::{AccessMode, Core};
 use gib_types::ConId;
 use law::{reaching_keeps_numbers, reaching_keeps_the_meaning};
-use offset_list::OffsetList;
 use source::Source;
 use std::alloc::Global;
 use work::Work;
 
 /// The constructors whose heads store offsets: with skips none does.
-fn offsets_kept(alloc: Global, mode: AccessMode, offsets: OffsetList) -> Vec<ConId>
+fn offsets_kept(alloc: Global, mode: AccessMode, offsets: Reversed<ConId>) -> Vec<ConId>
     ensures { result.items ≡ kept mode offsets }
 {
     match mode {

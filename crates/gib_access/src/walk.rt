@@ -66,11 +66,11 @@ fn reach_end(source: &Source, work: &mut Work, id: TermId) -> Result<TermId, Mem
 fn reach_binding(
     source: &Source,
     work: &mut Work,
-    whole: TermId,
+    parent: TermId,
     binding: Binding,
 ) -> Result<Binding, Memory>
-    requires inside { whole.0 < length source.now.terms }
-    requires below { IsBindingBelow whole.0 binding }
+    requires inside { parent.0 < length source.now.terms }
+    requires below { IsBindingBelow parent.0 binding }
     ensures { IfOk result (λ made. ReachesBinding source.now.mode source.now.types work.old work.new made (bind_from (term_of source.now.terms) binding)) }
 {
     match binding {
@@ -108,14 +108,14 @@ fn reach_side(source: &Source, work: &mut Work, side: BoundTerm) -> Result<Bound
 fn reach_if(
     source: &Source,
     work: &mut Work,
-    whole: TermId,
+    parent: TermId,
     condition: Atom,
     then_part: TermId,
     else_part: TermId,
 ) -> Result<TermId, Memory>
-    requires inside { whole.0 < length source.now.terms }
-    requires then_part { then_part.0 < whole.0 }
-    requires else_part { else_part.0 < whole.0 }
+    requires inside { parent.0 < length source.now.terms }
+    requires then_part { then_part.0 < parent.0 }
+    requires else_part { else_part.0 < parent.0 }
     ensures { IfOk result (λ made. ReachesTerm source.now.mode source.now.types work.old work.new made (IfTerm condition (term_of source.now.terms then_part.0) (term_of source.now.terms else_part.0))) }
 {
     let else_part = reach_term(source, work, else_part)?;
@@ -134,15 +134,15 @@ fn reach_if(
 fn reach_case(
     source: &Source,
     work: &mut Work,
-    whole: TermId,
+    parent: TermId,
     subject: Atom,
     branches: &[Branch],
 ) -> Result<TermId, Memory>
-    requires inside { whole.0 < length source.now.terms }
-    requires below { AllByRecursion (IsBranchBelow whole.0) branches.now }
+    requires inside { parent.0 < length source.now.terms }
+    requires below { AllByRecursion (IsBranchBelow parent.0) branches.now }
     ensures { IfOk result (λ made. ReachesTerm source.now.mode source.now.types work.old work.new made (CaseTerm subject (branches_from (term_of source.now.terms) branches.now))) }
 {
-    let branches = reach_branches(source, work, whole, branches)?;
+    let branches = reach_branches(source, work, parent, branches)?;
     mark_atom(&mut work.stamps, subject)?;
     let made = work.terms.put(Node::Case { subject, branches })?;
     Ok(made)
@@ -153,11 +153,11 @@ fn reach_case(
 fn reach_branches(
     source: &Source,
     work: &mut Work,
-    whole: TermId,
+    parent: TermId,
     branches: &[Branch],
 ) -> Result<Vec<Branch>, Memory>
-    requires inside { whole.0 < length source.now.terms }
-    requires below { AllByRecursion (IsBranchBelow whole.0) branches.now }
+    requires inside { parent.0 < length source.now.terms }
+    requires below { AllByRecursion (IsBranchBelow parent.0) branches.now }
     ensures { IfOk result (λ made. ReachesBranches source.now.mode source.now.types work.old work.new made.items (branches_from (term_of source.now.terms) branches.now)) }
 {
     let mut reversed = Vec::new(source.alloc);

@@ -6,9 +6,8 @@ ghost use Rattle.gib_core.specs.Tree.{Write, Point, CallTerm, Give};
 ghost use Rattle.gib_core.specs.Reaching.{uses};
 ghost use Rattle.gib_access.specs.Made.{MakesTerm};
 
-use crate::offset_list::OffsetList;
 use crate::stamps::{Stamps, mark_atom, mark_atoms};
-use gib_base::{Memory, Name};
+use gib_base::{Memory, Name, Reversed};
 use gib_core::{Atom, Node, TermId, Terms, Variable};
 use gib_types::ConId;
 use std::alloc::Global;
@@ -19,7 +18,7 @@ use std::alloc::Global;
 pub struct Work {
     pub terms: Terms,
     pub stamps: Stamps,
-    pub offsets: OffsetList,
+    pub offsets: Reversed<ConId>,
 }
 
 impl Work {
@@ -31,7 +30,7 @@ impl Work {
         Work {
             terms: Terms::new(alloc),
             stamps: Stamps::new(alloc),
-            offsets: OffsetList::new(alloc),
+            offsets: Reversed::new(alloc),
         }
     }
 }

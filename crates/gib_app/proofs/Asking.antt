@@ -137,7 +137,7 @@ module _ (s : Shape) (words : List Text) (is : AllOf (Known s.rules) s.rules) (s
 
 run_asks : Asks (built_form run_form)
 unfolding clap_on_literals
-run_asks words passes = plan_there (built_form run_form) words ((refl, refl), ((refl, refl), ((refl, refl), ((refl, refl), ((refl, refl), tt))))) refl passes Run (Some (codes "input")) (ByOption (codes "image")) (_, refl, refl, refl) (_, refl, refl, refl) tt
+run_asks words passes = plan_there (built_form run_form) words ((refl, refl), ((refl, refl), ((refl, refl), ((refl, refl), ((refl, refl), ((refl, refl), tt)))))) refl passes Run (Some (codes "input")) (ByOption (codes "image")) (_, refl, refl, refl) (_, refl, refl, refl) tt
 
 plain_asks : Asks (built_form plain_form)
 unfolding clap_on_literals
@@ -149,11 +149,11 @@ check_asks words passes = plan_there (built_form check_form) words ((refl, refl)
 
 core_asks : Asks (built_form core_form)
 unfolding clap_on_literals
-core_asks words passes = plan_there (built_form core_form) words ((refl, refl), ((refl, refl), tt)) refl passes Core None NoTarget (_, refl, refl, refl) tt tt
+core_asks words passes = plan_there (built_form core_form) words ((refl, refl), ((refl, refl), ((refl, refl), tt))) refl passes Core None NoTarget (_, refl, refl, refl) tt tt
 
 code_asks : Asks (built_form code_form)
 unfolding clap_on_literals
-code_asks words passes = plan_there (built_form code_form) words ((refl, refl), tt) refl passes Code None NoTarget (_, refl, refl, refl) tt tt
+code_asks words passes = plan_there (built_form code_form) words ((refl, refl), ((refl, refl), tt)) refl passes Code None NoTarget (_, refl, refl, refl) tt tt
 
 pack_asks : Asks (built_form pack_form)
 unfolding clap_on_literals
@@ -161,7 +161,7 @@ pack_asks words passes = plan_there (built_form pack_form) words ((refl, refl), 
 
 show_asks : Asks (built_form show_form)
 unfolding clap_on_literals
-show_asks words passes = plan_there (built_form show_form) words ((refl, refl), ((refl, refl), tt)) refl passes Show (Some (codes "file")) NoTarget (_, refl, refl, refl) (_, refl, refl, refl) tt
+show_asks words passes = plan_there (built_form show_form) words ((refl, refl), ((refl, refl), ((refl, refl), tt))) refl passes Show (Some (codes "file")) NoTarget (_, refl, refl, refl) (_, refl, refl, refl) tt
 
 all_ask : AllOf Asks (built command_set).subs
 unfolding clap_on_literals

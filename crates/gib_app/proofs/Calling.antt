@@ -1,12 +1,15 @@
 -- Items that are added at an end, in turn.
-use Rattle.std.proofs.Common.{◌≡◌, ◌∙◌, refl, ℕ, zero, suc, List, [], ◌∷◌, ◌++◌, length, take, Option, Some, None, IfSome, Result, Ok, Err, OnOk, OnErr, subst, sym, ap, append_assoc}
+use Rattle.std.proofs.Common.{◌≡◌, ◌∙◌, refl, ℕ, zero, suc, List, [], ◌∷◌, ◌++◌, length, take, Option, Some, None, IfSome, Result, Ok, Err, OnOk, OnErr, subst, sym, ap, append_assoc, codes, option_map, option_to_list}
 use Rattle.gib_edge.specs.Causes.{HasCause, Appends, AppendsPart}
 use Rattle.std.specs.Option.{option_map_or}
 use Rattle.gib_edge.specs.Views.{Call, WriteOf, SinkView}
+use Rattle.gib_app.specs.declared.plan.Input.{Input as KeptInput}
+use Rattle.gib_app.specs.Formats.{Input}
+use Rattle.gib_app.specs.Kept.{document_of, input_of}
 use Rattle.gib_app.specs.Plan.{Document, Plan}
 use Rattle.gib_app.specs.Words.{asked}
-use Rattle.gib_app.specs.Calls.{read_calls, second_calls, write_calls, calls_of, calls_asked}
-use Rattle.gib_app.specs.Lines.{IsPut}
+use Rattle.gib_app.specs.Calls.{read_calls, input_calls, write_calls, calls_of, calls_asked}
+use Rattle.gib_app.specs.Lines.{IsPut, line}
 
 take_length : {X : Type 0} (xs : List X) → take (length xs) xs ≡ xs
 take_length [] = refl
@@ -57,10 +60,17 @@ added_part {X} (Some l) b c xs ys h k =
     let m = front_after xs q.0 ys in
     (m.0, q.1 ∙ ap Some (append_assoc l xs (take q.0 ys) ∙ ap (λ zs. l ++ zs) m.1))
 
-pub is_put : {T E : Type 0} (r : Result T E) (before now : SinkView) (said : List ℕ) → OnOk r (Appends before.taken now.taken said) → OnErr r (AppendsPart before.taken now.taken said) →
-    HasCause before.faults now.faults r → IsPut before now said
-is_put (Ok x) before now said ok part cause = record { later = cause.later; whole = λ quiet. ok; part = added_whole before.taken now.taken said ok }
-is_put (Err e) before now said ok part cause = record { later = cause.later; whole = λ quiet. absurd (quiet cause.failed); part = part }
+not_empty : (xs : List ℕ) (y : ℕ) → xs ++ y ∷ [] ≡ [] → ⊥
+not_empty [] y e = cc
+not_empty (x ∷ xs) y e = cc
+
+some_said : (said : List ℕ) → line said ≡ [] → ⊥
+some_said said e = not_empty (codes "gib: " ++ said) 10 e
+
+pub is_put : {T E : Type 0} (r : Result T E) (before now : SinkView) (said : List ℕ) → OnOk r (Appends before.taken now.taken (line said)) → OnErr r (AppendsPart before.taken now.taken (line said)) →
+    HasCause before.faults now.faults r → IsPut before now (line said)
+is_put (Ok x) before now said ok part cause = record { later = cause.later; none = λ e. absurd (some_said said e); whole = λ quiet. ok; part = added_whole before.taken now.taken (line said) ok }
+is_put (Err e) before now said ok part cause = record { later = cause.later; none = λ e. absurd (some_said said e); whole = λ quiet. absurd (quiet cause.failed); part = part }
 
 -- The calls of a request, by its parts
 
@@ -76,20 +86,28 @@ pub calls_both : (a b c : Option (List Call)) (d e : Document) (most : ℕ) (ys 
 calls_both a b c d e most ys same h k =
     let P : Document → Type 0 = λ x. Appends a b (read_calls x most) in added_two a b c (read_calls e most) ys (subst P same h) k
 
-pub second_none : (a : Option (List Call)) (o : Option Document) (most : ℕ) → o ≡ None → Appends a a (second_calls o most)
-second_none a o most e = let P : Option Document → Type 0 = λ x. Appends a a (second_calls x most) in subst P (sym e) (added_none a)
+-- The read of the one input that there is, or none.
 
-pub second_whole : (a b : Option (List Call)) (o : Option Document) (d : Document) (most asked_most : ℕ) → o ≡ Some d → most ≡ asked_most → Appends a b (read_calls d most) → Appends a b (second_calls o asked_most)
-second_whole a b o d most asked_most e same h =
-    let P : Option Document → Type 0 = λ x. Appends a b (second_calls x asked_most) in
-    let M : ℕ → Type 0 = λ m. Appends a b (read_calls d m) in
-    subst P (sym e) (subst M same h)
+module _ (o : Option KeptInput) (is : List Input) (same : option_to_list (option_map input_of o) ≡ is) where
+  pub inputs_none : (a : Option (List Call)) → o ≡ None → Appends a a (input_calls is)
+  inputs_none a e =
+      let P : List Input → Type 0 = λ x. Appends a a (input_calls x) in
+      let Q : Option KeptInput → Type 0 = λ x. option_to_list (option_map input_of x) ≡ is in
+      subst P (subst Q e same) (added_none a)
 
-pub second_part : (a b : Option (List Call)) (o : Option Document) (d : Document) (most asked_most : ℕ) → o ≡ Some d → most ≡ asked_most → AppendsPart a b (read_calls d most) → AppendsPart a b (second_calls o asked_most)
-second_part a b o d most asked_most e same h =
-    let P : Option Document → Type 0 = λ x. AppendsPart a b (second_calls x asked_most) in
-    let M : ℕ → Type 0 = λ m. AppendsPart a b (read_calls d m) in
-    subst P (sym e) (subst M same h)
+  pub inputs_whole : (a b : Option (List Call)) (i : KeptInput) → o ≡ Some i → Appends a b (read_calls (document_of i.document) i.most) → Appends a b (input_calls is)
+  inputs_whole a b i e h =
+      let P : List Input → Type 0 = λ x. Appends a b (input_calls x) in
+      let Q : Option KeptInput → Type 0 = λ x. option_to_list (option_map input_of x) ≡ is in
+      let L : List Call → Type 0 = λ x. Appends a b x in
+      subst P (subst Q e same) (subst L (sym (append_nil (read_calls (document_of i.document) i.most))) h)
+
+  pub inputs_part : (a b : Option (List Call)) (i : KeptInput) → o ≡ Some i → AppendsPart a b (read_calls (document_of i.document) i.most) → AppendsPart a b (input_calls is)
+  inputs_part a b i e h =
+      let P : List Input → Type 0 = λ x. AppendsPart a b (input_calls x) in
+      let Q : Option KeptInput → Type 0 = λ x. option_to_list (option_map input_of x) ≡ is in
+      let L : List Call → Type 0 = λ x. AppendsPart a b x in
+      subst P (subst Q e same) (subst L (sym (append_nil (read_calls (document_of i.document) i.most))) h)
 
 pub write_none : (a : Option (List Call)) (o : Option (List ℕ)) → AppendsPart a a (write_calls o)
 write_none a o = added_some a (write_calls o)

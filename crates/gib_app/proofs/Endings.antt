@@ -1,5 +1,5 @@
 -- From the stop of a call to its answer, and from the status that is due to the one that is answered.
-use Rattle.std.proofs.Common.{◌≡◌, ◌∙◌, refl, ℕ, List, ◌++◌, length, Option, Some, None, MatchOption, ◌⊎◌, inl, inr, subst, sym, Bool}
+use Rattle.std.proofs.Common.{◌≡◌, ◌∙◌, refl, ap₂, ℕ, List, [], ◌∷◌, ◌++◌, length, Option, Some, None, MatchOption, ◌⊎◌, inl, inr, subst, sym, Bool}
 use Rattle.gib_base.specs.Lexed.{Lexed, IsLexed}
 use Rattle.gib_base.specs.declared.token.Token.{Token}
 use Rattle.gib_types.specs.declared.table.Ty.{Ty}
@@ -20,18 +20,21 @@ use Rattle.gib_app.specs.declared.stop.Stop.TheVariants.{Usage, Source, Unread, 
 use Rattle.gib_app.specs.declared.plan.Job.{Job}
 use Rattle.gib_app.specs.declared.plan.Job.TheVariants.{Run, Plain, Check, Core, Code, Pack, Show}
 use Rattle.gib_app.specs.declared.plan.Options.{Options}
+use Rattle.gib_app.specs.declared.made.Reason.{Reason}
 use Rattle.gib_app.specs.declared.made.Reason.TheVariants.{Deep, Full}
-use Rattle.gib_app.specs.Plan.{Document, Plan, Files, bytes_in}
+use Rattle.gib_app.specs.Plan.{Document, Write, Plan, Files, bytes_in, Contents}
+use Rattle.gib_app.specs.Writes.{at_reading, with_write, IsStuckIn, IsNamedIn}
 use Rattle.gib_app.specs.Words.{asked}
 use Rattle.gib_app.specs.Running.{IsProgram, IsSource, IsNoProgram, IsOutput, RunsOut}
 use Rattle.gib_app.specs.SourceFaults.{IsSourceFault}
-use Rattle.gib_app.specs.Formats.{second_of, Accepts, Refuses}
+use Rattle.gib_app.specs.Formats.{inputs_of, Accepts, Refuses}
+use Rattle.gib_app.specs.Formats.{Input as PlanInput}
 use Rattle.gib_app.specs.Jobs.{End, Prints, Does, without_image}
 use Rattle.gib_app.specs.Jobs.{NoValue as Without}
-use Rattle.gib_app.specs.Causes.{HoldsSecond, OnProgram, OnSource, IsMade, HasNoValue, AsksSource, AsksProgram, IsPrinted, IsPrintedInPart, IsUnwritten, FailsToRead}
+use Rattle.gib_app.specs.Causes.{AreFurther, AreGiven, OnProgram, OnSource, OnBoth, IsMade, HasNoValue, EndsWithout, AsksSource, AsksProgram, IsPrinted, IsPrintedInPart, IsUnwritten, FailsToRead, FailsToWrite}
 use Rattle.gib_app.specs.Lines.{line}
-use Rattle.gib_app.specs.Ending.{IsEnding, HasText, IsTold, IsMissing, DueOfSource, DueOfFiles, DueMissing, TakesAll, IsDue, AsksRun, IsDueOrScarce}
-use Rattle.gib_app.specs.Stops.{IsStop, OnBoth}
+use Rattle.gib_app.specs.Ending.{IsEnding, HasText, AreFurtherTold, AreTold, IsMissing, FirstWritten, DueOfSource, DueOfFiles, DueMissing, DueWithout, TakesAll, IsDue, AsksRun, IsDueOrScarce}
+use Rattle.gib_app.specs.Stops.{IsStop}
 use Rattle.gib_app.specs.Stopping.{answer_for}
 use Rattle.gib_app.specs.Performing.{IsCallStop}
 use Rattle.gib_app.proofs.Performing.{map_both}
@@ -47,45 +50,53 @@ on_source kept d P Q go h = record { source = h.source; source_held = h.source_h
 -- Why a call ends with a status, without its line
 abbrev IsWriteCause : Bool → List (List ℕ) → ShelfView → ShelfView → SinkView → SinkView → Type 0
 IsWriteCause tells words before now out_before out_now =
-    (AsksProgram words before.kept (λ plan p names second. (name : List ℕ) × IsUnwritten before now plan p names second name) × (out_now ≡ out_before))
+    (MatchOption (asked words) ⊥ (λ plan. (name : List ℕ) × FailsToWrite tells before now plan name) × (out_now ≡ out_before))
     ⊎ (IsPrintedInPart tells words before now out_before out_now × Rose out_before.faults out_now.faults × ((name : List ℕ) → now.writes name ≡ before.writes name))
 
 abbrev pub IsCause : Bool → List (List ℕ) → ShelfView → ShelfView → SinkView → SinkView → Status → Type 0
 IsCause tells words before now out_before out_now status.Done = IsPrinted tells words before now out_before out_now
-IsCause tells words before now out_before out_now status.Source = AsksSource words before.kept IsNoProgram
+IsCause tells words before now out_before out_now status.Source = AsksSource tells words before.kept IsNoProgram
 IsCause tells words before now out_before out_now status.Usage = asked words ≡ None
-IsCause tells words before now out_before out_now status.Depth = AsksProgram words before.kept (HasNoValue Deep)
-IsCause tells words before now out_before out_now status.Full = AsksProgram words before.kept (HasNoValue Full)
+IsCause tells words before now out_before out_now status.Depth = AsksProgram tells words before.kept (HasNoValue Deep)
+IsCause tells words before now out_before out_now status.Full = AsksProgram tells words before.kept (HasNoValue Full)
 IsCause tells words before now out_before out_now status.Memory = Unit {0}
-IsCause tells words before now out_before out_now status.ReadFault = MatchOption (asked words) ⊥ (λ plan. (name : List ℕ) × FailsToRead before now plan name)
+IsCause tells words before now out_before out_now status.ReadFault = MatchOption (asked words) ⊥ (λ plan. (name : List ℕ) × FailsToRead (at_reading tells before.kept plan) before now plan name)
 IsCause tells words before now out_before out_now status.WriteFault = IsWriteCause tells words before now out_before out_now
-IsCause tells words before now out_before out_now status.Input = AsksProgram words before.kept (λ plan p names second. Accepts plan.job p names second → ⊥)
+IsCause tells words before now out_before out_now status.Input = AsksProgram tells words before.kept (λ plan p names given. Accepts plan.job plan.options.skips p names given → ⊥)
 
--- what holds of a second file that is refused
-abbrev Refused : Plan → InputFault → ProgramTree → List (List ℕ) → List ℕ → Type 0
-Refused r fault p names second = Refuses r.job p names second fault × (Accepts r.job p names second → ⊥)
+-- the files that a plan reads
+abbrev pub K : Bool → ShelfView → Plan → Files
+K tells before r = at_reading tells before.kept r
+
+-- what holds of inputs that are refused
+abbrev Refused : Plan → InputFault → ProgramTree → List (List ℕ) → Contents → Type 0
+Refused r fault p names given = Refuses r.job r.options.skips p names given fault × (Accepts r.job r.options.skips p names given → ⊥)
+
+without_of : (tells : Bool) (words : List (List ℕ)) (before now : ShelfView) (why : Reason) → AsksProgram tells words before.kept (EndsWithout tells before now why) → AsksProgram tells words before.kept (HasNoValue why)
+without_of tells words before now why h =
+    map_asked (asked words) (λ r. OnBoth (K tells before r) r (EndsWithout tells before now why r)) (λ r. OnBoth (K tells before r) r (HasNoValue why r))
+    (λ r k. map_both (K tells before r) r (EndsWithout tells before now why r) (HasNoValue why r) (λ p names given e. (e.file, e.does)) k) h
 
 pub cause_of : (tells : Bool) (words : List (List ℕ)) (before now : ShelfView) (out_before out_now : SinkView) (status : Status) (said : List ℕ) → IsEnding tells words before now out_before out_now status said → IsCause tells words before now out_before out_now status
 cause_of tells words before now out_before out_now status.Done said h = h.0
 cause_of tells words before now out_before out_now status.Source said h =
-    map_asked (asked words) (λ r. OnSource before.kept r.source (λ bytes. IsSourceFault bytes h.0 × IsNoProgram bytes)) (λ r. OnSource before.kept r.source IsNoProgram)
-    (λ r k. on_source before.kept r.source (λ bytes. IsSourceFault bytes h.0 × IsNoProgram bytes) IsNoProgram (λ bytes both. both.1) k) h.1
+    map_asked (asked words) (λ r. OnSource (K tells before r) r.source (λ bytes. IsSourceFault bytes h.0 × IsNoProgram bytes)) (λ r. OnSource (K tells before r) r.source IsNoProgram)
+    (λ r k. on_source (K tells before r) r.source (λ bytes. IsSourceFault bytes h.0 × IsNoProgram bytes) IsNoProgram (λ bytes both. both.1) k) h.1
 cause_of tells words before now out_before out_now status.Usage said h = h.0
-cause_of tells words before now out_before out_now status.Depth said h = h.0
-cause_of tells words before now out_before out_now status.Full said h = h.0
+cause_of tells words before now out_before out_now status.Depth said h = without_of tells words before now Deep h.0
+cause_of tells words before now out_before out_now status.Full said h = without_of tells words before now Full h.0
 cause_of tells words before now out_before out_now status.Memory said h = tt {0}
 cause_of tells words before now out_before out_now status.ReadFault said h =
-    map_asked (asked words) (λ r. FailsToRead before now r h.0) (λ r. (file : List ℕ) × FailsToRead before now r file) (λ r k. (h.0, k)) h.1
+    map_asked (asked words) (λ r. FailsToRead (K tells before r) before now r h.0) (λ r. (file : List ℕ) × FailsToRead (K tells before r) before now r file) (λ r k. (h.0, k)) h.1
 cause_of tells words before now out_before out_now status.WriteFault said (inl h) =
     inl (
-      map_asked (asked words) (λ r. OnBoth before.kept r (λ p names second. IsUnwritten before now r p names second h.0)) (λ r. OnBoth before.kept r (λ p names second. (file : List ℕ) × IsUnwritten before now r p names second file))
-          (λ r k. map_both before.kept r (λ p names second. IsUnwritten before now r p names second h.0) (λ p names second. (file : List ℕ) × IsUnwritten before now r p names second file) (λ p names second one. (h.0, one)) k) h.1,
+      map_asked (asked words) (λ r. FailsToWrite tells before now r h.0) (λ r. (file : List ℕ) × FailsToWrite tells before now r file) (λ r k. (h.0, k)) h.1,
       h.2,
     )
 cause_of tells words before now out_before out_now status.WriteFault said (inr h) = inr (h.0, h.1, h.2)
 cause_of tells words before now out_before out_now status.Input said h =
-    map_asked (asked words) (λ r. OnBoth before.kept r (Refused r h.0)) (λ r. OnBoth before.kept r (λ p names second. Accepts r.job p names second → ⊥))
-    (λ r k. map_both before.kept r (Refused r h.0) (λ p names second. Accepts r.job p names second → ⊥) (λ p names second both. both.1) k) h.1
+    map_asked (asked words) (λ r. OnBoth (K tells before r) r (Refused r h.0)) (λ r. OnBoth (K tells before r) r (λ p names given. Accepts r.job r.options.skips p names given → ⊥))
+    (λ r k. map_both (K tells before r) r (Refused r h.0) (λ p names given. Accepts r.job r.options.skips p names given → ⊥) (λ p names given both. both.1) k) h.1
 
 -- From the stop of a call to its status and its line
 pub ending_of : (tells : Bool) (words : List (List ℕ)) (before now : ShelfView) (out_before out_now : SinkView) (stop : Stop) → IsCallStop tells words before now out_before out_now stop →
@@ -129,43 +140,63 @@ together laws source P Q a b =
 pub same_bytes : (o : Held) (a b : List ℕ) → o ≡ Has a → IsAllOf o b → b ≡ a
 same_bytes o a b e h = let P : Held → Type 0 = λ x. IsAllOf x b in subst P e h
 
-same_second : (kept : Files) (o : Option Document) (a b : List ℕ) → IsTold kept o a → HoldsSecond kept o b → b ≡ a
-same_second kept None a b e h = h ∙ sym e
-same_second kept (Some d) a b e h = same_bytes (bytes_in kept d) a b e h
+same_further : (kept : Files) (is : List PlanInput) (a b : List (List ℕ)) → AreFurtherTold kept is a → AreFurther kept is b → b ≡ a
+same_further kept [] a b e h = h ∙ sym e
+same_further kept (i ∷ is) [] b e h = absurd e
+same_further kept (i ∷ is) (x ∷ a) [] e h = absurd h
+same_further kept (i ∷ is) (x ∷ a) (y ∷ b) e h = ap₂ (λ z c. z ∷ c) (same_bytes (bytes_in kept i.document) x y e.0 h.0) (same_further kept is a b e.1 h.1)
+
+same_parts : (a b : Contents) → b.second ≡ a.second → b.further ≡ a.further → b ≡ a
+same_parts a b e f = ap₂ (λ s (t : List (List ℕ)). record { second = s; further = t }) e f
+
+pub same_given : (kept : Files) (is : List PlanInput) (a b : Contents) → AreTold kept is a → AreGiven kept is b → b ≡ a
+same_given kept [] a b e h = same_parts a b (h.0 ∙ sym e.0) (h.1 ∙ sym e.1)
+same_given kept (i ∷ is) a b e h = same_parts a b (same_bytes (bytes_in kept i.document) a.second b.second e.0 h.0) (same_further kept is a.further b.further e.1 h.1)
 
 -- what is due and what is answered hold of the same files
-clash : Laws → (before now : ShelfView) (r : Plan) (P Q : ProgramTree → List (List ℕ) → List ℕ → Type 0) → DueOfFiles before now r P → OnBoth before.kept r Q →
-    (p : ProgramTree) × (names : List (List ℕ)) × (second : List ℕ) × P p names second × Q p names second
-clash laws before now r P Q due end' =
-    let es = same_bytes (bytes_in before.kept r.source) due.source end'.source due.source_told end'.source_held in
-    let eb = same_second before.kept (second_of r) due.second end'.second due.second_told end'.second_held in
-    let S : List ℕ → Type 0 = λ s. OnProgram s (λ p names. Q p names end'.second) in
-    let B : List ℕ → Type 0 = λ b. OnProgram due.source (λ p names. Q p names b) in
-    let both = together laws due.source (λ p names. P p names due.second) (λ p names. Q p names due.second) due.holds (subst B eb (subst S es end'.holds)) in
-    (both.0, both.1, due.second, both.2, both.3)
+clash : Laws → (tells : Bool) (before now : ShelfView) (r : Plan) (P Q : ProgramTree → List (List ℕ) → Contents → Type 0) → DueOfFiles tells before now r P → OnBoth (K tells before r) r Q →
+    (p : ProgramTree) × (names : List (List ℕ)) × (given : Contents) × P p names given × Q p names given
+clash laws tells before now r P Q due end' =
+    let es = same_bytes (bytes_in (K tells before r) r.source) due.source end'.source due.source_told end'.source_held in
+    let eb = same_given (K tells before r) (inputs_of r) due.given end'.given due.given_told end'.given_held in
+    let S : List ℕ → Type 0 = λ s. OnProgram s (λ p names. Q p names end'.given) in
+    let B : Contents → Type 0 = λ b. OnProgram due.source (λ p names. Q p names b) in
+    let both = together laws due.source (λ p names. P p names due.given) (λ p names. Q p names due.given) due.holds (subst B eb (subst S es end'.holds)) in
+    (both.0, both.1, due.given, both.2, both.3)
 
-no_program : (before now : ShelfView) (r : Plan) (P : ProgramTree → List (List ℕ) → List ℕ → Type 0) → DueOfFiles before now r P → OnSource before.kept r.source IsNoProgram → ⊥
-no_program before now r P due end' =
-    let es = same_bytes (bytes_in before.kept r.source) due.source end'.source due.source_told end'.source_held in
+no_program : (tells : Bool) (before now : ShelfView) (r : Plan) (P : ProgramTree → List (List ℕ) → Contents → Type 0) → DueOfFiles tells before now r P → OnSource (K tells before r) r.source IsNoProgram → ⊥
+no_program tells before now r P due end' =
+    let es = same_bytes (bytes_in (K tells before r) r.source) due.source end'.source due.source_told end'.source_held in
     subst IsNoProgram es end'.holds due.holds.lexed due.holds.program due.holds.is_program
 
-a_program : (before now : ShelfView) (r : Plan) (Q : ProgramTree → List (List ℕ) → List ℕ → Type 0) → DueOfSource before now r IsNoProgram → OnBoth before.kept r Q → ⊥
-a_program before now r Q due end' =
-    let es = same_bytes (bytes_in before.kept r.source) due.source end'.source due.source_told end'.source_held in
+a_program : (tells : Bool) (before now : ShelfView) (r : Plan) (Q : ProgramTree → List (List ℕ) → Contents → Type 0) → DueOfSource tells before now r IsNoProgram → OnBoth (K tells before r) r Q → ⊥
+a_program tells before now r Q due end' =
+    let es = same_bytes (bytes_in (K tells before r) r.source) due.source end'.source due.source_told end'.source_held in
     subst IsNoProgram (sym es) due.holds end'.holds.lexed end'.holds.program end'.holds.is_program
 
-a_source : (before now : ShelfView) (r : Plan) → DueOfSource before now r IsNoProgram → OnSource before.kept r.source IsSource → ⊥
-a_source before now r due end' =
-    let es = same_bytes (bytes_in before.kept r.source) due.source end'.source due.source_told end'.source_held in
+a_source : (tells : Bool) (before now : ShelfView) (r : Plan) → DueOfSource tells before now r IsNoProgram → OnSource (K tells before r) r.source IsSource → ⊥
+a_source tells before now r due end' =
+    let es = same_bytes (bytes_in (K tells before r) r.source) due.source end'.source due.source_told end'.source_held in
     subst IsNoProgram (sym es) due.holds end'.holds.0 end'.holds.1 end'.holds.2
 
-read_both : (before now : ShelfView) (r : Plan) (P : ProgramTree → List (List ℕ) → List ℕ → Type 0) (name : List ℕ) → DueOfFiles before now r P → FailsToRead before now r name → ⊥
-read_both before now r P name due (inl h) = due.source_read name h
-read_both before now r P name due (inr h) = due.second_read name h.0
+read_both : (tells : Bool) (before now : ShelfView) (r : Plan) (P : ProgramTree → List (List ℕ) → Contents → Type 0) (name : List ℕ) → DueOfFiles tells before now r P → FailsToRead (K tells before r) before now r name → ⊥
+read_both tells before now r P name due (inl h) = due.source_read name h
+read_both tells before now r P name due (inr h) = due.given_read name h.0
 
-read_one : (before now : ShelfView) (r : Plan) (name : List ℕ) → DueOfSource before now r IsNoProgram → FailsToRead before now r name → ⊥
-read_one before now r name due (inl h) = due.source_read name h
-read_one before now r name due (inr h) = a_source before now r due h.1
+read_one : (tells : Bool) (before now : ShelfView) (r : Plan) (name : List ℕ) → DueOfSource tells before now r IsNoProgram → FailsToRead (K tells before r) before now r name → ⊥
+read_one tells before now r name due (inl h) = due.source_read name h
+read_one tells before now r name due (inr h) = a_source tells before now r due h.1
+
+-- the first writes were made
+stuck_named : (tells : Bool) (kept : Files) (writes : List Write) (before now : ShelfView) (name : List ℕ) → IsStuckIn tells kept writes before now name → IsNamedIn writes name × Rose (before.writes name) (now.writes name)
+stuck_named tells kept [] before now name h = absurd h
+stuck_named tells kept (w ∷ ws) before now name (inl h) = (inl h.0, h.1.rose)
+stuck_named tells kept (w ∷ ws) before now name (inr h) = let k = stuck_named tells (with_write tells kept w) ws before now name h in (inr k.0, k.1)
+
+-- so it is the file of the job that is not written
+of_job : (tells : Bool) (before now : ShelfView) (r : Plan) (name : List ℕ) → FirstWritten before now r → FailsToWrite tells before now r name → OnBoth (K tells before r) r (λ p names given. IsUnwritten tells before now r p names given name)
+of_job tells before now r name wrote (inl h) = let k = stuck_named tells before.kept r.first before now name h in absurd (wrote name k.0 k.1)
+of_job tells before now r name wrote (inr h) = h
 
 not_both : (r : Outcome) (v : Datum) → r ≡ Gives v → r ≡ Stops TooDeep → ⊥
 not_both (Gives u) v e f = cc
@@ -177,30 +208,30 @@ runs_well laws p names depth input output o d =
     let S : Datum → Type 0 = λ x. run p depth x ≡ Stops TooDeep in
     not_both (run p depth o.value) o.result o.means (subst S v d.means)
 
-text_or_deep : Laws → (job : Job) (o : Options) (p : ProgramTree) (names : List (List ℕ)) (second text : List ℕ) (file other : Option (List ℕ)) →
-    Does job o p names second file (Prints text) → Does job o p names second other (Without Deep) → ⊥
-text_or_deep laws Run o p names second text file other h k = runs_well laws p names o.depth second text h.1 k.1
-text_or_deep laws Plain o p names second text file other h k = runs_well laws p names o.depth second text h.1 k.1
-text_or_deep laws Check o p names second text file other h k = k
-text_or_deep laws Core o p names second text file other h k = k
-text_or_deep laws Code o p names second text file other h k = k
-text_or_deep laws Pack o p names second text file other h k = k
-text_or_deep laws Show o p names second text file other h k = k
+text_or_deep : Laws → (job : Job) (o : Options) (p : ProgramTree) (names : List (List ℕ)) (given : Contents) (text : List ℕ) (file other : Option (List ℕ)) →
+    Does job o p names given file (Prints text) → Does job o p names given other (Without Deep) → ⊥
+text_or_deep laws Run o p names given text file other h k = runs_well laws p names o.depth given.second text h.1 k.1
+text_or_deep laws Plain o p names given text file other h k = runs_well laws p names o.depth given.second text h.1 k.1
+text_or_deep laws Check o p names given text file other h k = k
+text_or_deep laws Core o p names given text file other h k = k
+text_or_deep laws Code o p names given text file other h k = k
+text_or_deep laws Pack o p names given text file other h k = k
+text_or_deep laws Show o p names given text file other h k = k
 
--- where a file is made, there is a value
-file_or_deep : Laws → (job : Job) (o : Options) (p : ProgramTree) (names : List (List ℕ)) (second bytes : List ℕ) (e : End) (file : Option (List ℕ)) →
-    Does job o p names second (Some bytes) e → Does job o p names second file (Without Deep) → ⊥
-file_or_deep laws Run o p names second bytes (Prints text) file h k = runs_well laws p names o.depth second text h.1 k.1
-file_or_deep laws Run o p names second bytes (Without Deep) file h k = let none' = h.0 in cc
-file_or_deep laws Run o p names second bytes (Without Full) file h k = let none' = h.0 in cc
-file_or_deep laws Plain o p names second bytes (Prints text) file h k = let none' = h.0 in cc
-file_or_deep laws Plain o p names second bytes (Without Deep) file h k = let none' = h.0 in cc
-file_or_deep laws Plain o p names second bytes (Without Full) file h k = h
-file_or_deep laws Check o p names second bytes e file h k = k
-file_or_deep laws Core o p names second bytes e file h k = k
-file_or_deep laws Code o p names second bytes e file h k = k
-file_or_deep laws Pack o p names second bytes e file h k = k
-file_or_deep laws Show o p names second bytes e file h k = k
+-- where a file is made, there is a value, or the file is one without
+file_or_deep : Laws → (job : Job) (o : Options) (p : ProgramTree) (names : List (List ℕ)) (given : Contents) (bytes : List ℕ) (e : End) (file : Option (List ℕ)) →
+    Does job o p names given (Some bytes) e → Does job o p names given file (Without Deep) → e ≡ Without Deep
+file_or_deep laws Run o p names given bytes (Prints text) file h k = absurd (runs_well laws p names o.depth given.second text h.1 k.1)
+file_or_deep laws Run o p names given bytes (Without Deep) file h k = refl
+file_or_deep laws Run o p names given bytes (Without Full) file h k = let none' = h.0 in cc
+file_or_deep laws Plain o p names given bytes (Prints text) file h k = let none' = h.0 in cc
+file_or_deep laws Plain o p names given bytes (Without Deep) file h k = refl
+file_or_deep laws Plain o p names given bytes (Without Full) file h k = absurd h
+file_or_deep laws Check o p names given bytes e file h k = absurd k
+file_or_deep laws Core o p names given bytes e file h k = absurd k
+file_or_deep laws Code o p names given bytes e file h k = absurd k
+file_or_deep laws Pack o p names given bytes e file h k = absurd k
+file_or_deep laws Show o p names given bytes e file h k = absurd k
 
 -- The status that is due
 
@@ -213,153 +244,158 @@ none_asked None P e h = h
 none_asked (Some r) P e h = cc
 
 -- a text was made, and the sink took it
-abbrev pub Whole : Bool → ShelfView → SinkView → SinkView → Plan → ProgramTree → List (List ℕ) → List ℕ → Type 0
-Whole tells now a b r p names second = (text : List ℕ) × IsMade tells now.kept r p names second text × Appends a.taken b.taken text × PutsPieces a b (length text)
+abbrev pub Whole : Bool → ShelfView → ShelfView → SinkView → SinkView → Plan → ProgramTree → List (List ℕ) → Contents → Type 0
+Whole tells before now a b r p names given = (text : List ℕ) × IsMade tells before.kept now.kept r p names given text × Appends a.taken b.taken text × PutsPieces a b (length text)
 
 -- a text was made, and the sink took a front of it
-abbrev Front : Bool → ShelfView → SinkView → SinkView → Plan → ProgramTree → List (List ℕ) → List ℕ → Type 0
-Front tells now a b r p names second = (text : List ℕ) × IsMade tells now.kept r p names second text × AppendsPart a.taken b.taken text × PutsSomePieces a b (length text)
+abbrev Front : Bool → ShelfView → ShelfView → SinkView → SinkView → Plan → ProgramTree → List (List ℕ) → Contents → Type 0
+Front tells before now a b r p names given = (text : List ℕ) × IsMade tells before.kept now.kept r p names given text × AppendsPart a.taken b.taken text × PutsSomePieces a b (length text)
 
-abbrev Somewhere : ShelfView → ShelfView → Plan → ProgramTree → List (List ℕ) → List ℕ → Type 0
-Somewhere before now r p names second = (name : List ℕ) × IsUnwritten before now r p names second name
+abbrev Somewhere : Bool → ShelfView → ShelfView → Plan → Type 0
+Somewhere tells before now r = (name : List ℕ) × FailsToWrite tells before now r name
 
-abbrev pub Exhausted : Plan → ProgramTree → List (List ℕ) → List ℕ → Type 0
+abbrev pub Exhausted : Plan → ProgramTree → List (List ℕ) → Contents → Type 0
 Exhausted r = HasNoValue Deep r
 
-abbrev Unfit : Plan → ProgramTree → List (List ℕ) → List ℕ → Type 0
-Unfit r p names second = Accepts r.job p names second → ⊥
+abbrev Unfit : Plan → ProgramTree → List (List ℕ) → Contents → Type 0
+Unfit r p names given = Accepts r.job r.options.skips p names given → ⊥
 
-abbrev Fails : ShelfView → ShelfView → Plan → Type 0
-Fails before now r = (name : List ℕ) × FailsToRead before now r name
+abbrev Fails : Bool → ShelfView → ShelfView → Plan → Type 0
+Fails tells before now r = (name : List ℕ) × FailsToRead (K tells before r) before now r name
 
-abbrev pub DueAll : ShelfView → ShelfView → SinkView → SinkView → Plan → Type 0
-DueAll before now a b r = DueOfFiles before now r (HasText r) × TakesAll before now a b r
+abbrev pub DueAll : Bool → ShelfView → ShelfView → SinkView → SinkView → Plan → Type 0
+DueAll tells before now a b r = DueOfFiles tells before now r (HasText r) × TakesAll before now a b r
 
 -- the output is due
 
-done_due : Laws → (tells : Bool) (words : List (List ℕ)) (before now : ShelfView) (a b : SinkView) → MatchOption (asked words) ⊥ (DueAll before now a b) → (end' : Status) → IsCause tells words before now a b end' → (end' ≡ status.Done) ⊎ (end' ≡ status.Memory) ⊎ (end' ≡ status.Full)
+done_due : Laws → (tells : Bool) (words : List (List ℕ)) (before now : ShelfView) (a b : SinkView) → MatchOption (asked words) ⊥ (DueAll tells before now a b) → (end' : Status) → IsCause tells words before now a b end' → (end' ≡ status.Done) ⊎ (end' ≡ status.Memory) ⊎ (end' ≡ status.Full)
 done_due laws tells words before now a b due status.Done h = inl refl
 done_due laws tells words before now a b due status.Source h =
-    let k = both_asked (asked words) (DueAll before now a b) (λ r. OnSource before.kept r.source IsNoProgram) due h in
-    absurd (no_program before now k.0 (HasText k.0) k.1.0 k.2)
-done_due laws tells words before now a b due status.Usage h = absurd (none_asked (asked words) (DueAll before now a b) h due)
+    let k = both_asked (asked words) (DueAll tells before now a b) (λ r. OnSource (K tells before r) r.source IsNoProgram) due h in
+    absurd (no_program tells before now k.0 (HasText k.0) k.1.0 k.2)
+done_due laws tells words before now a b due status.Usage h = absurd (none_asked (asked words) (DueAll tells before now a b) h due)
 done_due laws tells words before now a b due status.Depth h =
-    let k = both_asked (asked words) (DueAll before now a b) (λ r. OnBoth before.kept r (Exhausted r)) due h in
-    let both = clash laws before now k.0 (HasText k.0) (Exhausted k.0) k.1.0 k.2 in
+    let k = both_asked (asked words) (DueAll tells before now a b) (λ r. OnBoth (K tells before r) r (Exhausted r)) due h in
+    let both = clash laws tells before now k.0 (HasText k.0) (Exhausted k.0) k.1.0 k.2 in
     let deep' = no_image k.0.job k.0.options both.0 both.1 both.2 both.4.0 Deep both.4.1 in
     absurd (text_or_deep laws k.0.job (without_image k.0.options) both.0 both.1 both.2 both.3.1 both.3.0 both.4.0 both.3.2 deep')
 done_due laws tells words before now a b due status.Full h = inr (inr refl)
 done_due laws tells words before now a b due status.Memory h = inr (inl refl)
 done_due laws tells words before now a b due status.ReadFault h =
-    let k = both_asked (asked words) (DueAll before now a b) (Fails before now) due h in
-    absurd (read_both before now k.0 (HasText k.0) k.2.0 k.1.0 k.2.1)
+    let k = both_asked (asked words) (DueAll tells before now a b) (Fails tells before now) due h in
+    absurd (read_both tells before now k.0 (HasText k.0) k.2.0 k.1.0 k.2.1)
 done_due laws tells words before now a b due status.WriteFault (inl h) =
-    let k = both_asked (asked words) (DueAll before now a b) (λ r. OnBoth before.kept r (Somewhere before now r)) due h.0 in
-    let found = k.2.holds.holds in
-    absurd (k.1.1.target found.0 found.1.0 found.1.3)
+    let k = both_asked (asked words) (DueAll tells before now a b) (Somewhere tells before now) due h.0 in
+    let on = of_job tells before now k.0 k.2.0 k.1.0.first_written k.2.1 in
+    let found = on.holds.holds in
+    absurd (k.1.1.target k.2.0 found.0 found.2.rose)
 done_due laws tells words before now a b due status.WriteFault (inr h) =
-    let k = both_asked (asked words) (DueAll before now a b) (λ r. OnBoth before.kept r (Front tells now a b r)) due h.0 in
+    let k = both_asked (asked words) (DueAll tells before now a b) (λ r. OnBoth (K tells before r) r (Front tells before now a b r)) due h.0 in
     absurd (k.1.1.out h.1)
 done_due laws tells words before now a b due status.Input h =
-    let k = both_asked (asked words) (DueAll before now a b) (λ r. OnBoth before.kept r (Unfit r)) due h in
-    let both = clash laws before now k.0 (HasText k.0) (Unfit k.0) k.1.0 k.2 in
+    let k = both_asked (asked words) (DueAll tells before now a b) (λ r. OnBoth (K tells before r) r (Unfit r)) due h in
+    let both = clash laws tells before now k.0 (HasText k.0) (Unfit k.0) k.1.0 k.2 in
     absurd (both.4 (does_accepts k.0.job (without_image k.0.options) both.0 both.1 both.2 both.3.0 (Prints both.3.1) both.3.2))
 
 -- a refusal of the source is due
 
-abbrev DueRefusal : ShelfView → ShelfView → Plan → Type 0
-DueRefusal before now r = DueOfSource before now r IsNoProgram
+abbrev DueRefusal : Bool → ShelfView → ShelfView → Plan → Type 0
+DueRefusal tells before now r = DueOfSource tells before now r IsNoProgram
 
-source_due : (tells : Bool) (words : List (List ℕ)) (before now : ShelfView) (a b : SinkView) → MatchOption (asked words) ⊥ (DueRefusal before now) → (end' : Status) → IsCause tells words before now a b end' → (end' ≡ status.Source) ⊎ (end' ≡ status.Memory) ⊎ (end' ≡ status.Full)
+source_due : (tells : Bool) (words : List (List ℕ)) (before now : ShelfView) (a b : SinkView) → MatchOption (asked words) ⊥ (DueRefusal tells before now) → (end' : Status) → IsCause tells words before now a b end' → (end' ≡ status.Source) ⊎ (end' ≡ status.Memory) ⊎ (end' ≡ status.Full)
 source_due tells words before now a b due status.Done h =
-    let k = both_asked (asked words) (DueRefusal before now) (λ r. OnBoth before.kept r (Whole tells now a b r)) due h in
-    absurd (a_program before now k.0 (Whole tells now a b k.0) k.1 k.2)
+    let k = both_asked (asked words) (DueRefusal tells before now) (λ r. OnBoth (K tells before r) r (Whole tells before now a b r)) due h in
+    absurd (a_program tells before now k.0 (Whole tells before now a b k.0) k.1 k.2)
 source_due tells words before now a b due status.Source h = inl refl
-source_due tells words before now a b due status.Usage h = absurd (none_asked (asked words) (DueRefusal before now) h due)
+source_due tells words before now a b due status.Usage h = absurd (none_asked (asked words) (DueRefusal tells before now) h due)
 source_due tells words before now a b due status.Depth h =
-    let k = both_asked (asked words) (DueRefusal before now) (λ r. OnBoth before.kept r (Exhausted r)) due h in
-    absurd (a_program before now k.0 (Exhausted k.0) k.1 k.2)
+    let k = both_asked (asked words) (DueRefusal tells before now) (λ r. OnBoth (K tells before r) r (Exhausted r)) due h in
+    absurd (a_program tells before now k.0 (Exhausted k.0) k.1 k.2)
 source_due tells words before now a b due status.Full h = inr (inr refl)
 source_due tells words before now a b due status.Memory h = inr (inl refl)
 source_due tells words before now a b due status.ReadFault h =
-    let k = both_asked (asked words) (DueRefusal before now) (Fails before now) due h in
-    absurd (read_one before now k.0 k.2.0 k.1 k.2.1)
+    let k = both_asked (asked words) (DueRefusal tells before now) (Fails tells before now) due h in
+    absurd (read_one tells before now k.0 k.2.0 k.1 k.2.1)
 source_due tells words before now a b due status.WriteFault (inl h) =
-    let k = both_asked (asked words) (DueRefusal before now) (λ r. OnBoth before.kept r (Somewhere before now r)) due h.0 in
-    absurd (a_program before now k.0 (Somewhere before now k.0) k.1 k.2)
+    let k = both_asked (asked words) (DueRefusal tells before now) (Somewhere tells before now) due h.0 in
+    absurd (a_program tells before now k.0 (λ p names given. IsUnwritten tells before now k.0 p names given k.2.0) k.1 (of_job tells before now k.0 k.2.0 k.1.first_written k.2.1))
 source_due tells words before now a b due status.WriteFault (inr h) =
-    let k = both_asked (asked words) (DueRefusal before now) (λ r. OnBoth before.kept r (Front tells now a b r)) due h.0 in
-    absurd (a_program before now k.0 (Front tells now a b k.0) k.1 k.2)
+    let k = both_asked (asked words) (DueRefusal tells before now) (λ r. OnBoth (K tells before r) r (Front tells before now a b r)) due h.0 in
+    absurd (a_program tells before now k.0 (Front tells before now a b k.0) k.1 k.2)
 source_due tells words before now a b due status.Input h =
-    let k = both_asked (asked words) (DueRefusal before now) (λ r. OnBoth before.kept r (Unfit r)) due h in
-    absurd (a_program before now k.0 (Unfit k.0) k.1 k.2)
+    let k = both_asked (asked words) (DueRefusal tells before now) (λ r. OnBoth (K tells before r) r (Unfit r)) due h in
+    absurd (a_program tells before now k.0 (Unfit k.0) k.1 k.2)
 
 -- want of depth is due
 
-abbrev pub DueDepth : ShelfView → ShelfView → Plan → Type 0
-DueDepth before now r = DueOfFiles before now r (Exhausted r)
+abbrev pub DueDepth : Bool → ShelfView → ShelfView → Plan → Type 0
+DueDepth tells before now r = DueOfFiles tells before now r (DueWithout before now Deep r)
 
-depth_due : Laws → (tells : Bool) (words : List (List ℕ)) (before now : ShelfView) (a b : SinkView) → MatchOption (asked words) ⊥ (DueDepth before now) → (end' : Status) → IsCause tells words before now a b end' → (end' ≡ status.Depth) ⊎ (end' ≡ status.Memory) ⊎ (end' ≡ status.Full)
+depth_due : Laws → (tells : Bool) (words : List (List ℕ)) (before now : ShelfView) (a b : SinkView) → MatchOption (asked words) ⊥ (DueDepth tells before now) → (end' : Status) → IsCause tells words before now a b end' → (end' ≡ status.Depth) ⊎ (end' ≡ status.Memory) ⊎ (end' ≡ status.Full)
 depth_due laws tells words before now a b due status.Done h =
-    let k = both_asked (asked words) (DueDepth before now) (λ r. OnBoth before.kept r (Whole tells now a b r)) due h in
-    let both = clash laws before now k.0 (Exhausted k.0) (Whole tells now a b k.0) k.1 k.2 in
-    absurd (text_or_deep laws k.0.job k.0.options both.0 both.1 both.2 both.4.0 both.4.1.file both.3.0 both.4.1.does both.3.1)
+    let k = both_asked (asked words) (DueDepth tells before now) (λ r. OnBoth (K tells before r) r (Whole tells before now a b r)) due h in
+    let both = clash laws tells before now k.0 (DueWithout before now Deep k.0) (Whole tells before now a b k.0) k.1 k.2 in
+    absurd (text_or_deep laws k.0.job k.0.options both.0 both.1 both.2 both.4.0 both.4.1.ended.file both.3.0.0 both.4.1.ended.does both.3.0.1)
 depth_due laws tells words before now a b due status.Source h =
-    let k = both_asked (asked words) (DueDepth before now) (λ r. OnSource before.kept r.source IsNoProgram) due h in
-    absurd (no_program before now k.0 (Exhausted k.0) k.1 k.2)
-depth_due laws tells words before now a b due status.Usage h = absurd (none_asked (asked words) (DueDepth before now) h due)
+    let k = both_asked (asked words) (DueDepth tells before now) (λ r. OnSource (K tells before r) r.source IsNoProgram) due h in
+    absurd (no_program tells before now k.0 (DueWithout before now Deep k.0) k.1 k.2)
+depth_due laws tells words before now a b due status.Usage h = absurd (none_asked (asked words) (DueDepth tells before now) h due)
 depth_due laws tells words before now a b due status.Depth h = inl refl
 depth_due laws tells words before now a b due status.Full h = inr (inr refl)
 depth_due laws tells words before now a b due status.Memory h = inr (inl refl)
 depth_due laws tells words before now a b due status.ReadFault h =
-    let k = both_asked (asked words) (DueDepth before now) (Fails before now) due h in
-    absurd (read_both before now k.0 (Exhausted k.0) k.2.0 k.1 k.2.1)
+    let k = both_asked (asked words) (DueDepth tells before now) (Fails tells before now) due h in
+    absurd (read_both tells before now k.0 (DueWithout before now Deep k.0) k.2.0 k.1 k.2.1)
 depth_due laws tells words before now a b due status.WriteFault (inl h) =
-    let k = both_asked (asked words) (DueDepth before now) (λ r. OnBoth before.kept r (Somewhere before now r)) due h.0 in
-    let both = clash laws before now k.0 (Exhausted k.0) (Somewhere before now k.0) k.1 k.2 in
-    let made = both.4.1.1 in
-    absurd (file_or_deep laws k.0.job k.0.options both.0 both.1 both.2 made.0 made.1 both.3.0 made.2 both.3.1)
+    let k = both_asked (asked words) (DueDepth tells before now) (Somewhere tells before now) due h.0 in
+    let on = of_job tells before now k.0 k.2.0 k.1.first_written k.2.1 in
+    let both = clash laws tells before now k.0 (DueWithout before now Deep k.0) (λ p names given. IsUnwritten tells before now k.0 p names given k.2.0) k.1 on in
+    let made = both.4.1 in
+    let D : End → Type 0 = Does k.0.job k.0.options both.0 both.1 both.2 (Some made.0) in
+    let deep' = subst D (file_or_deep laws k.0.job k.0.options both.0 both.1 both.2 made.0 made.1 both.3.0.0 made.2 both.3.0.1) made.2 in
+    absurd (both.3.1 k.2.0 made.0 both.4.0 deep' both.4.2.rose)
 depth_due laws tells words before now a b due status.WriteFault (inr h) =
-    let k = both_asked (asked words) (DueDepth before now) (λ r. OnBoth before.kept r (Front tells now a b r)) due h.0 in
-    let both = clash laws before now k.0 (Exhausted k.0) (Front tells now a b k.0) k.1 k.2 in
-    absurd (text_or_deep laws k.0.job k.0.options both.0 both.1 both.2 both.4.0 both.4.1.file both.3.0 both.4.1.does both.3.1)
+    let k = both_asked (asked words) (DueDepth tells before now) (λ r. OnBoth (K tells before r) r (Front tells before now a b r)) due h.0 in
+    let both = clash laws tells before now k.0 (DueWithout before now Deep k.0) (Front tells before now a b k.0) k.1 k.2 in
+    absurd (text_or_deep laws k.0.job k.0.options both.0 both.1 both.2 both.4.0 both.4.1.ended.file both.3.0.0 both.4.1.ended.does both.3.0.1)
 depth_due laws tells words before now a b due status.Input h =
-    let k = both_asked (asked words) (DueDepth before now) (λ r. OnBoth before.kept r (Unfit r)) due h in
-    let both = clash laws before now k.0 (Exhausted k.0) (Unfit k.0) k.1 k.2 in
-    absurd (both.4 (does_accepts k.0.job k.0.options both.0 both.1 both.2 both.3.0 (Without Deep) both.3.1))
+    let k = both_asked (asked words) (DueDepth tells before now) (λ r. OnBoth (K tells before r) r (Unfit r)) due h in
+    let both = clash laws tells before now k.0 (DueWithout before now Deep k.0) (Unfit k.0) k.1 k.2 in
+    absurd (both.4 (does_accepts k.0.job k.0.options both.0 both.1 both.2 both.3.0.0 (Without Deep) both.3.0.1))
 
 -- a refusal of the second file is due
 
-abbrev DueUnfit : ShelfView → ShelfView → Plan → Type 0
-DueUnfit before now r = DueOfFiles before now r (Unfit r)
+abbrev DueUnfit : Bool → ShelfView → ShelfView → Plan → Type 0
+DueUnfit tells before now r = DueOfFiles tells before now r (Unfit r)
 
-input_due : Laws → (tells : Bool) (words : List (List ℕ)) (before now : ShelfView) (a b : SinkView) → MatchOption (asked words) ⊥ (DueUnfit before now) → (end' : Status) → IsCause tells words before now a b end' → (end' ≡ status.Input) ⊎ (end' ≡ status.Memory) ⊎ (end' ≡ status.Full)
+input_due : Laws → (tells : Bool) (words : List (List ℕ)) (before now : ShelfView) (a b : SinkView) → MatchOption (asked words) ⊥ (DueUnfit tells before now) → (end' : Status) → IsCause tells words before now a b end' → (end' ≡ status.Input) ⊎ (end' ≡ status.Memory) ⊎ (end' ≡ status.Full)
 input_due laws tells words before now a b due status.Done h =
-    let k = both_asked (asked words) (DueUnfit before now) (λ r. OnBoth before.kept r (Whole tells now a b r)) due h in
-    let both = clash laws before now k.0 (Unfit k.0) (Whole tells now a b k.0) k.1 k.2 in
-    absurd (both.3 (does_accepts k.0.job k.0.options both.0 both.1 both.2 both.4.1.file (Prints both.4.0) both.4.1.does))
+    let k = both_asked (asked words) (DueUnfit tells before now) (λ r. OnBoth (K tells before r) r (Whole tells before now a b r)) due h in
+    let both = clash laws tells before now k.0 (Unfit k.0) (Whole tells before now a b k.0) k.1 k.2 in
+    absurd (both.3 (does_accepts k.0.job k.0.options both.0 both.1 both.2 both.4.1.ended.file (Prints both.4.0) both.4.1.ended.does))
 input_due laws tells words before now a b due status.Source h =
-    let k = both_asked (asked words) (DueUnfit before now) (λ r. OnSource before.kept r.source IsNoProgram) due h in
-    absurd (no_program before now k.0 (Unfit k.0) k.1 k.2)
-input_due laws tells words before now a b due status.Usage h = absurd (none_asked (asked words) (DueUnfit before now) h due)
+    let k = both_asked (asked words) (DueUnfit tells before now) (λ r. OnSource (K tells before r) r.source IsNoProgram) due h in
+    absurd (no_program tells before now k.0 (Unfit k.0) k.1 k.2)
+input_due laws tells words before now a b due status.Usage h = absurd (none_asked (asked words) (DueUnfit tells before now) h due)
 input_due laws tells words before now a b due status.Depth h =
-    let k = both_asked (asked words) (DueUnfit before now) (λ r. OnBoth before.kept r (Exhausted r)) due h in
-    let both = clash laws before now k.0 (Unfit k.0) (Exhausted k.0) k.1 k.2 in
+    let k = both_asked (asked words) (DueUnfit tells before now) (λ r. OnBoth (K tells before r) r (Exhausted r)) due h in
+    let both = clash laws tells before now k.0 (Unfit k.0) (Exhausted k.0) k.1 k.2 in
     absurd (both.3 (does_accepts k.0.job k.0.options both.0 both.1 both.2 both.4.0 (Without Deep) both.4.1))
 input_due laws tells words before now a b due status.Full h = inr (inr refl)
 input_due laws tells words before now a b due status.Memory h = inr (inl refl)
 input_due laws tells words before now a b due status.ReadFault h =
-    let k = both_asked (asked words) (DueUnfit before now) (Fails before now) due h in
-    absurd (read_both before now k.0 (Unfit k.0) k.2.0 k.1 k.2.1)
+    let k = both_asked (asked words) (DueUnfit tells before now) (Fails tells before now) due h in
+    absurd (read_both tells before now k.0 (Unfit k.0) k.2.0 k.1 k.2.1)
 input_due laws tells words before now a b due status.WriteFault (inl h) =
-    let k = both_asked (asked words) (DueUnfit before now) (λ r. OnBoth before.kept r (Somewhere before now r)) due h.0 in
-    let both = clash laws before now k.0 (Unfit k.0) (Somewhere before now k.0) k.1 k.2 in
-    let made = both.4.1.1 in
+    let k = both_asked (asked words) (DueUnfit tells before now) (Somewhere tells before now) due h.0 in
+    let on = of_job tells before now k.0 k.2.0 k.1.first_written k.2.1 in
+    let both = clash laws tells before now k.0 (Unfit k.0) (λ p names given. IsUnwritten tells before now k.0 p names given k.2.0) k.1 on in
+    let made = both.4.1 in
     absurd (both.3 (does_accepts k.0.job k.0.options both.0 both.1 both.2 (Some made.0) made.1 made.2))
 input_due laws tells words before now a b due status.WriteFault (inr h) =
-    let k = both_asked (asked words) (DueUnfit before now) (λ r. OnBoth before.kept r (Front tells now a b r)) due h.0 in
-    let both = clash laws before now k.0 (Unfit k.0) (Front tells now a b k.0) k.1 k.2 in
-    absurd (both.3 (does_accepts k.0.job k.0.options both.0 both.1 both.2 both.4.1.file (Prints both.4.0) both.4.1.does))
+    let k = both_asked (asked words) (DueUnfit tells before now) (λ r. OnBoth (K tells before r) r (Front tells before now a b r)) due h.0 in
+    let both = clash laws tells before now k.0 (Unfit k.0) (Front tells before now a b k.0) k.1 k.2 in
+    absurd (both.3 (does_accepts k.0.job k.0.options both.0 both.1 both.2 both.4.1.ended.file (Prints both.4.0) both.4.1.ended.does))
 input_due laws tells words before now a b due status.Input h = inl refl
 
 -- a file is not there
@@ -367,60 +403,64 @@ input_due laws tells words before now a b due status.Input h = inl refl
 not_missing : (o : Held) (bytes : List ℕ) → o ≡ Missing → IsAllOf o bytes → ⊥
 not_missing o bytes e h = let P : Held → Type 0 = λ x. IsAllOf x bytes in subst P e h
 
-second_missing : (kept : Files) (o : Option Document) (bytes : List ℕ) → IsMissing kept o → HoldsSecond kept o bytes → ⊥
-second_missing kept None bytes e h = e
-second_missing kept (Some d) bytes e h = not_missing (bytes_in kept d) bytes e h
+input_missing : (kept : Files) (is : List PlanInput) (given : Contents) → IsMissing kept is → AreGiven kept is given → ⊥
+input_missing kept [] given e h = e
+input_missing kept (i ∷ is) given e h = not_missing (bytes_in kept i.document) given.second e h.0
 
-missing_both : (before now : ShelfView) (r : Plan) (Q : ProgramTree → List (List ℕ) → List ℕ → Type 0) → DueMissing before now r → OnBoth before.kept r Q → ⊥
-missing_both before now r Q (inl e) h = not_missing (bytes_in before.kept r.source) h.source e h.source_held
-missing_both before now r Q (inr d) h = second_missing before.kept (second_of r) h.second d.1 h.second_held
+missing_both : (tells : Bool) (before now : ShelfView) (r : Plan) (Q : ProgramTree → List (List ℕ) → Contents → Type 0) → DueMissing tells before now r → OnBoth (K tells before r) r Q → ⊥
+missing_both tells before now r Q (inl e) h = not_missing (bytes_in (K tells before r) r.source) h.source e.0 h.source_held
+missing_both tells before now r Q (inr d) h = input_missing (K tells before r) (inputs_of r) h.given d.1 h.given_held
 
-missing_program : (before now : ShelfView) (r : Plan) → DueMissing before now r → OnSource before.kept r.source IsNoProgram → ⊥
-missing_program before now r (inl e) h = not_missing (bytes_in before.kept r.source) h.source e h.source_held
-missing_program before now r (inr d) h =
-    let es = same_bytes (bytes_in before.kept r.source) d.0.source h.source d.0.source_told h.source_held in
+missing_program : (tells : Bool) (before now : ShelfView) (r : Plan) → DueMissing tells before now r → OnSource (K tells before r) r.source IsNoProgram → ⊥
+missing_program tells before now r (inl e) h = not_missing (bytes_in (K tells before r) r.source) h.source e.0 h.source_held
+missing_program tells before now r (inr d) h =
+    let es = same_bytes (bytes_in (K tells before r) r.source) d.0.source h.source d.0.source_told h.source_held in
     let program : IsSource d.0.source = d.0.holds in
     subst IsNoProgram es h.holds program.0 program.1 program.2
 
-read_due : (tells : Bool) (words : List (List ℕ)) (before now : ShelfView) (a b : SinkView) → MatchOption (asked words) ⊥ (DueMissing before now) → (end' : Status) → IsCause tells words before now a b end' → (end' ≡ status.ReadFault) ⊎ (end' ≡ status.Memory) ⊎ (end' ≡ status.Full)
+missing_first : (tells : Bool) (before now : ShelfView) (r : Plan) → DueMissing tells before now r → FirstWritten before now r
+missing_first tells before now r (inl e) = e.1
+missing_first tells before now r (inr d) = d.0.first_written
+
+read_due : (tells : Bool) (words : List (List ℕ)) (before now : ShelfView) (a b : SinkView) → MatchOption (asked words) ⊥ (DueMissing tells before now) → (end' : Status) → IsCause tells words before now a b end' → (end' ≡ status.ReadFault) ⊎ (end' ≡ status.Memory) ⊎ (end' ≡ status.Full)
 read_due tells words before now a b due status.Done h =
-    let k = both_asked (asked words) (DueMissing before now) (λ r. OnBoth before.kept r (Whole tells now a b r)) due h in
-    absurd (missing_both before now k.0 (Whole tells now a b k.0) k.1 k.2)
+    let k = both_asked (asked words) (DueMissing tells before now) (λ r. OnBoth (K tells before r) r (Whole tells before now a b r)) due h in
+    absurd (missing_both tells before now k.0 (Whole tells before now a b k.0) k.1 k.2)
 read_due tells words before now a b due status.Source h =
-    let k = both_asked (asked words) (DueMissing before now) (λ r. OnSource before.kept r.source IsNoProgram) due h in
-    absurd (missing_program before now k.0 k.1 k.2)
-read_due tells words before now a b due status.Usage h = absurd (none_asked (asked words) (DueMissing before now) h due)
+    let k = both_asked (asked words) (DueMissing tells before now) (λ r. OnSource (K tells before r) r.source IsNoProgram) due h in
+    absurd (missing_program tells before now k.0 k.1 k.2)
+read_due tells words before now a b due status.Usage h = absurd (none_asked (asked words) (DueMissing tells before now) h due)
 read_due tells words before now a b due status.Depth h =
-    let k = both_asked (asked words) (DueMissing before now) (λ r. OnBoth before.kept r (Exhausted r)) due h in
-    absurd (missing_both before now k.0 (Exhausted k.0) k.1 k.2)
+    let k = both_asked (asked words) (DueMissing tells before now) (λ r. OnBoth (K tells before r) r (Exhausted r)) due h in
+    absurd (missing_both tells before now k.0 (Exhausted k.0) k.1 k.2)
 read_due tells words before now a b due status.Full h = inr (inr refl)
 read_due tells words before now a b due status.Memory h = inr (inl refl)
 read_due tells words before now a b due status.ReadFault h = inl refl
 read_due tells words before now a b due status.WriteFault (inl h) =
-    let k = both_asked (asked words) (DueMissing before now) (λ r. OnBoth before.kept r (Somewhere before now r)) due h.0 in
-    absurd (missing_both before now k.0 (Somewhere before now k.0) k.1 k.2)
+    let k = both_asked (asked words) (DueMissing tells before now) (Somewhere tells before now) due h.0 in
+    absurd (missing_both tells before now k.0 (λ p names given. IsUnwritten tells before now k.0 p names given k.2.0) k.1 (of_job tells before now k.0 k.2.0 (missing_first tells before now k.0 k.1) k.2.1))
 read_due tells words before now a b due status.WriteFault (inr h) =
-    let k = both_asked (asked words) (DueMissing before now) (λ r. OnBoth before.kept r (Front tells now a b r)) due h.0 in
-    absurd (missing_both before now k.0 (Front tells now a b k.0) k.1 k.2)
+    let k = both_asked (asked words) (DueMissing tells before now) (λ r. OnBoth (K tells before r) r (Front tells before now a b r)) due h.0 in
+    absurd (missing_both tells before now k.0 (Front tells before now a b k.0) k.1 k.2)
 read_due tells words before now a b due status.Input h =
-    let k = both_asked (asked words) (DueMissing before now) (λ r. OnBoth before.kept r (Unfit r)) due h in
-    absurd (missing_both before now k.0 (Unfit k.0) k.1 k.2)
+    let k = both_asked (asked words) (DueMissing tells before now) (λ r. OnBoth (K tells before r) r (Unfit r)) due h in
+    absurd (missing_both tells before now k.0 (Unfit k.0) k.1 k.2)
 
 -- the words are not taken
 
 usage_due : (tells : Bool) (words : List (List ℕ)) (before now : ShelfView) (a b : SinkView) → asked words ≡ None → (end' : Status) → IsCause tells words before now a b end' → (end' ≡ status.Usage) ⊎ (end' ≡ status.Memory) ⊎ (end' ≡ status.Full)
-usage_due tells words before now a b due status.Done h = absurd (none_asked (asked words) (λ r. OnBoth before.kept r (Whole tells now a b r)) due h)
-usage_due tells words before now a b due status.Source h = absurd (none_asked (asked words) (λ r. OnSource before.kept r.source IsNoProgram) due h)
+usage_due tells words before now a b due status.Done h = absurd (none_asked (asked words) (λ r. OnBoth (K tells before r) r (Whole tells before now a b r)) due h)
+usage_due tells words before now a b due status.Source h = absurd (none_asked (asked words) (λ r. OnSource (K tells before r) r.source IsNoProgram) due h)
 usage_due tells words before now a b due status.Usage h = inl refl
-usage_due tells words before now a b due status.Depth h = absurd (none_asked (asked words) (λ r. OnBoth before.kept r (Exhausted r)) due h)
+usage_due tells words before now a b due status.Depth h = absurd (none_asked (asked words) (λ r. OnBoth (K tells before r) r (Exhausted r)) due h)
 usage_due tells words before now a b due status.Full h = inr (inr refl)
 usage_due tells words before now a b due status.Memory h = inr (inl refl)
-usage_due tells words before now a b due status.ReadFault h = absurd (none_asked (asked words) (Fails before now) due h)
-usage_due tells words before now a b due status.WriteFault (inl h) = absurd (none_asked (asked words) (λ r. OnBoth before.kept r (Somewhere before now r)) due h.0)
-usage_due tells words before now a b due status.WriteFault (inr h) = absurd (none_asked (asked words) (λ r. OnBoth before.kept r (Front tells now a b r)) due h.0)
-usage_due tells words before now a b due status.Input h = absurd (none_asked (asked words) (λ r. OnBoth before.kept r (Unfit r)) due h)
+usage_due tells words before now a b due status.ReadFault h = absurd (none_asked (asked words) (Fails tells before now) due h)
+usage_due tells words before now a b due status.WriteFault (inl h) = absurd (none_asked (asked words) (Somewhere tells before now) due h.0)
+usage_due tells words before now a b due status.WriteFault (inr h) = absurd (none_asked (asked words) (λ r. OnBoth (K tells before r) r (Front tells before now a b r)) due h.0)
+usage_due tells words before now a b due status.Input h = absurd (none_asked (asked words) (λ r. OnBoth (K tells before r) r (Unfit r)) due h)
 
-pub due_ends : Laws → (tells : Bool) (words : List (List ℕ)) (before now : ShelfView) (a b : SinkView) (end' : Status) → IsCause tells words before now a b end' → (due : Status) → IsDue words before now a b due → (end' ≡ due) ⊎ (end' ≡ status.Memory) ⊎ (end' ≡ status.Full)
+pub due_ends : Laws → (tells : Bool) (words : List (List ℕ)) (before now : ShelfView) (a b : SinkView) (end' : Status) → IsCause tells words before now a b end' → (due : Status) → IsDue tells words before now a b due → (end' ≡ due) ⊎ (end' ≡ status.Memory) ⊎ (end' ≡ status.Full)
 due_ends laws tells words before now a b end' h status.Done due = done_due laws tells words before now a b due end' h
 due_ends laws tells words before now a b end' h status.Source due = source_due tells words before now a b due end' h
 due_ends laws tells words before now a b end' h status.Usage due = usage_due tells words before now a b due end' h
@@ -434,8 +474,8 @@ due_ends laws tells words before now a b end' h status.Input due = input_due law
 -- chunks run out in a run alone
 scarce : (tells : Bool) (words : List (List ℕ)) (before now : ShelfView) (a b : SinkView) → IsCause tells words before now a b status.Full → AsksRun words
 scarce tells words before now a b h =
-    map_asked (asked words) (λ r. OnBoth before.kept r (HasNoValue Full r)) (λ r. r.job ≡ Run)
-    (λ r k. full_runs r.job r.options k.holds.program k.holds.lexed.names k.second k.holds.holds.0 k.holds.holds.1) h
+    map_asked (asked words) (λ r. OnBoth (K tells before r) r (HasNoValue Full r)) (λ r. r.job ≡ Run)
+    (λ r k. full_runs r.job r.options k.holds.program k.holds.lexed.names k.given k.holds.holds.0 k.holds.holds.1) h
 
 due_or_scarce : (tells : Bool) (words : List (List ℕ)) (before now : ShelfView) (a b : SinkView) (end' due : Status) → IsCause tells words before now a b end' →
     (end' ≡ due) ⊎ (end' ≡ status.Memory) ⊎ (end' ≡ status.Full) → IsDueOrScarce words due end'
@@ -443,7 +483,7 @@ due_or_scarce tells words before now a b end' due h (inl e) = inl e
 due_or_scarce tells words before now a b end' due h (inr (inl e)) = inr (inl e)
 due_or_scarce tells words before now a b end' due h (inr (inr e)) = let P : Status → Type 0 = IsCause tells words before now a b in inr (inr (e, scarce tells words before now a b (subst P e h)))
 
-pub ends_as_due : Laws → (tells : Bool) (words : List (List ℕ)) (before now : ShelfView) (a b : SinkView) (end' : Status) (said : List ℕ) → IsEnding tells words before now a b end' said → (due : Status) → IsDue words before now a b due → IsDueOrScarce words due end'
+pub ends_as_due : Laws → (tells : Bool) (words : List (List ℕ)) (before now : ShelfView) (a b : SinkView) (end' : Status) (said : List ℕ) → IsEnding tells words before now a b end' said → (due : Status) → IsDue tells words before now a b due → IsDueOrScarce words due end'
 ends_as_due laws tells words before now a b end' said h due is =
     let cause = cause_of tells words before now a b end' said h in
     due_or_scarce tells words before now a b end' due cause (due_ends laws tells words before now a b end' cause due is)

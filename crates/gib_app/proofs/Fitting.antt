@@ -1,5 +1,5 @@
 -- Where a plan that words ask for names a file to write, its job makes one.
-use Rattle.std.proofs.Common.{◌≡◌, ◌∙◌, Bool, cond, codes, true, false, refl, sym, ap, subst, ℕ, List, [], ◌∷◌, Option, Some, None, is_some, true≢false, option_map}
+use Rattle.std.proofs.Common.{◌≡◌, ◌∙◌, Bool, cond, codes, true, false, refl, sym, ap, subst, ℕ, List, [], ◌∷◌, Option, Some, None, is_some, true≢false, option_map, option_to_list}
 use Rattle.std.specs.Prelude.{⊤, find, option_and_then}
 use Rattle.std.specs.Str.{bytes_eq}
 use Rattle.clap.specs.Walk.{Row, Text}
@@ -9,10 +9,11 @@ use Rattle.gib_syntax.specs.Tree.{ProgramTree}
 use Rattle.gib_app.specs.declared.plan.Job.{Job}
 use Rattle.gib_app.specs.declared.plan.Job.TheVariants.{Run, Plain, Check, Core, Code, Pack, Show}
 use Rattle.gib_app.specs.declared.plan.Options.{Options}
-use Rattle.gib_app.specs.Plan.{Document, Plan, Files}
+use Rattle.gib_app.specs.Plan.{Document, Plan, Files, Contents}
+use Rattle.gib_app.specs.Writes.{AreWritten}
 use Rattle.gib_app.specs.Words.{Form, Target, NoTarget, AtPlace, ByOption, asked, command_set, file_of, forms, options_of, planned, requested, second_in, target_in, with_value, word_of}
 use Rattle.gib_app.specs.Jobs.{Prints, Does, MakesImage}
-use Rattle.gib_app.specs.Causes.{IsWritten, IsStored, IsMade}
+use Rattle.gib_app.specs.Causes.{IsStored, IsMade}
 use Rattle.gib_app.proofs.Filling.{AllOf}
 use Rattle.gib_app.proofs.Asking.{found_in}
 
@@ -36,14 +37,14 @@ none_is_some : {X Y : Type 0} (x : X) → None ≡ Some x → Y
 none_is_some x e = absurd (true≢false (sym (ap is_some e)))
 
 parts : (f : Option Document) (s : Option (Option Document)) (t : Option (Option Text)) (job : Job) (o : Options) (r : Plan)
-    → with_value (with_value (option_map (λ d e u. record { source = d; second = e; target = u; job = job; options = o }) f) s) t ≡ Some r
+    → with_value (with_value (option_map (λ d e u. record { first = []; source = d; inputs = option_to_list e; target = u; job = job; options = o }) f) s) t ≡ Some r
     → (r.job ≡ job) × (r.options ≡ o) × (t ≡ Some r.target)
 parts None s t job o r e = none_is_some r e
 parts (Some d) None t job o r e = none_is_some r e
 parts (Some d) (Some x) None job o r e = none_is_some r e
 parts (Some d) (Some x) (Some u) job o r e =
     let P : Type 0 = Plan in
-    let made : Plan = record { source = d; second = x; target = u; job = job; options = o } in
+    let made : Plan = record { first = []; source = d; inputs = option_to_list x; target = u; job = job; options = o } in
     let same : r ≡ made = cc in
     (ap (λ (q : Plan). q.job) same, ap (λ (q : Plan). q.options) same, ap (λ (q : Plan). Some q.target) (sym same))
 
@@ -120,26 +121,25 @@ asked_fits (program ∷ word ∷ further) r e = command_fits (takes command_set 
 
 -- ---- What was made
 
-made_none : (job : Job) (o : Options) (p : ProgramTree) (names : List (List ℕ)) (second text : List ℕ) → MakesFile job o → Does job o p names second None (Prints text) → ⊥
-made_none Run o p names second text on d = subst (λ (b : Bool). MakesImage b p o.depth second None) on d.0
-made_none Plain o p names second text on d = on
-made_none Check o p names second text on d = on
-made_none Core o p names second text on d = on
-made_none Code o p names second text on d = on
-made_none Pack o p names second text on d = none_is_some d.0 d.1
-made_none Show o p names second text on d = on
+made_none : (job : Job) (o : Options) (p : ProgramTree) (names : List (List ℕ)) (given : Contents) (text : List ℕ) → MakesFile job o → Does job o p names given None (Prints text) → ⊥
+made_none Run o p names given text on d = subst (λ (b : Bool). MakesImage b p o.skips o.depth o.chunks given.second None) on d.0
+made_none Plain o p names given text on d = on
+made_none Check o p names given text on d = on
+made_none Core o p names given text on d = on
+made_none Code o p names given text on d = on
+made_none Pack o p names given text on d = none_is_some d.0 d.1
+made_none Show o p names given text on d = on
 
-stored : (tells : Bool) (now : Files) (r : Plan) (p : ProgramTree) (names : List (List ℕ)) (second text : List ℕ) → Fits r → (target file : Option (List ℕ)) → r.target ≡ target
-    → Does r.job r.options p names second file (Prints text) → IsWritten tells now target file → IsStored tells now target file
-stored tells now r p names second text fits None file e d w = tt {0}
-stored tells now r p names second text fits (Some name) None e d w = made_none r.job r.options p names second text (fits name e) d
-stored tells now r p names second text fits (Some name) (Some bytes) e d w = w
+stored : (r : Plan) (p : ProgramTree) (names : List (List ℕ)) (given : Contents) (text : List ℕ) → Fits r → (target file : Option (List ℕ)) → r.target ≡ target
+    → Does r.job r.options p names given file (Prints text) → IsStored target file
+stored r p names given text fits None file e d = tt {0}
+stored r p names given text fits (Some name) None e d = made_none r.job r.options p names given text (fits name e) d
+stored r p names given text fits (Some name) (Some bytes) e d = tt {0}
 
 -- A job that ends with a text made the file that is written.
-pub is_made : (tells : Bool) (words : List (List ℕ)) (now : Files) (r : Plan) (p : ProgramTree) (names : List (List ℕ)) (second text : List ℕ) (file : Option (List ℕ)) → asked words ≡ Some r
-    → Does r.job r.options p names second file (Prints text) → IsWritten tells now r.target file → IsMade tells now r p names second text
-is_made tells words now r p names second text file e d w = record {
-  file = file;
-  does = d;
-  stored = stored tells now r p names second text (asked_fits words r e) r.target file refl d w;
+pub is_made : (tells : Bool) (words : List (List ℕ)) (before now : Files) (r : Plan) (p : ProgramTree) (names : List (List ℕ)) (given : Contents) (text : List ℕ) (file : Option (List ℕ)) → asked words ≡ Some r
+    → Does r.job r.options p names given file (Prints text) → AreWritten tells before now r file → IsMade tells before now r p names given text
+is_made tells words before now r p names given text file e d w = record {
+  ended = record { file = file; does = d; written = w };
+  stored = stored r p names given text (asked_fits words r e) r.target file refl d;
 }

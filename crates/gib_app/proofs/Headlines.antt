@@ -1,5 +1,5 @@
 -- The promise of `run`, from how a call ends.
-use Rattle.std.proofs.Common.{◌≡◌, ◌∙◌, refl, ℕ, List, ◌++◌, Option, Some, None, IfSome, MatchOption, ◌⊎◌, inl, inr, subst, sym, ap, Bool, true, false}
+use Rattle.std.proofs.Common.{◌≡◌, ◌∙◌, refl, ℕ, List, [], ◌++◌, Option, Some, None, IfSome, MatchOption, ◌⊎◌, inl, inr, subst, sym, ap, Bool, true, false}
 use Rattle.gib_types.specs.Tree.{Datum}
 use Rattle.gib_syntax.specs.Tree.{ProgramTree}
 use Rattle.gib_syntax.specs.Declarations.{table_of_program, input_type}
@@ -9,29 +9,32 @@ use Rattle.gib_edge.specs.Views.{ShelfView, SinkView}
 use Rattle.gib_app.specs.declared.status.Status.{Status}
 use Rattle.gib_app.specs.declared.status.Status.TheVariants as status
 use Rattle.gib_app.specs.declared.made.Reason.TheVariants.{Full}
+use Rattle.gib_app.specs.declared.made.Reason.TheVariants.{Deep as DeepReason}
 use Rattle.gib_app.specs.declared.plan.Options.{Options}
-use Rattle.gib_app.specs.Plan.{Plan, Files, bytes_in}
+use Rattle.gib_app.specs.Plan.{Document, Plan, Files, bytes_in, Contents}
+use Rattle.gib_app.specs.Writes.{at_reading, AreMade, writes_of}
+use Rattle.gib_app.specs.Formats.{inputs_of}
 use Rattle.gib_app.specs.Words.{asked}
 use Rattle.gib_app.specs.Running.{IsOutput, IsRunImage, RunsOut, text_line}
 use Rattle.gib_app.specs.Jobs.{MakesImage}
-use Rattle.gib_app.specs.Causes.{OnProgram, HasNoValue, IsStored}
-use Rattle.gib_app.specs.Ending.{IsEnding, HasText, DueOfFiles, TakesAll}
-use Rattle.gib_app.specs.Stops.{OnBoth}
+use Rattle.gib_app.specs.Causes.{OnProgram, OnBoth, EndsWithout, IsStored, IsUnread}
+use Rattle.gib_app.specs.Ending.{IsEnding, HasText, DueOfFiles, DueWithout, TakesAll}
 use Rattle.gib_app.specs.Headline.{run_plan, IsRun, Given, IsResult, IsResultImage, IsTooDeep, IsTooBig, NoneFailed}
 use Rattle.gib_app.proofs.Performing.{asked_of}
-use Rattle.gib_app.proofs.Endings.{Laws, Whole, Exhausted, DueAll, DueDepth, same_bytes, together, runs_well, cause_of, due_ends}
+use Rattle.gib_app.proofs.Writing.{written_here}
+use Rattle.gib_app.proofs.Endings.{Laws, Whole, DueAll, DueDepth, same_bytes, same_given, together, runs_well, cause_of, due_ends}
 
 asked_is : (o : Option Plan) (r : Plan) (P : Plan → Type 0) → o ≡ Some r → MatchOption o ⊥ P → P r
 asked_is o r P e h = let Q : Option Plan → Type 0 = λ x. MatchOption x ⊥ P in subst Q e h
 
 -- what holds of the files of a run holds of their bytes
 of_files : (words : List (List ℕ)) (before : ShelfView) (out : SinkView) (source input : List ℕ) (options : Options) (front : List ℕ) (r : IsRun words before out source input options front)
-    (P : ProgramTree → List (List ℕ) → List ℕ → Type 0) → OnBoth before.kept (run_plan r.program r.packed r.image options) P → OnProgram source (λ p names. P p names input)
+    (P : ProgramTree → List (List ℕ) → Contents → Type 0) → OnBoth before.kept (run_plan r.program r.packed r.image options) P → OnProgram source (λ p names. P p names (record { second = input; further = [] }))
 of_files words before out source input options front r P h =
     let es = same_bytes (bytes_in before.kept r.program) source h.source r.source_is h.source_held in
-    let ei = same_bytes (bytes_in before.kept r.packed) input h.second r.input_is h.second_held in
-    let S : List ℕ → Type 0 = λ s. OnProgram s (λ p names. P p names h.second) in
-    let I : List ℕ → Type 0 = λ i. OnProgram source (λ p names. P p names i) in
+    let ei = same_given before.kept (inputs_of (run_plan r.program r.packed r.image options)) (record { second = input; further = [] }) h.given (r.input_is, refl) h.given_held in
+    let S : List ℕ → Type 0 = λ s. OnProgram s (λ p names. P p names h.given) in
+    let I : Contents → Type 0 = λ i. OnProgram source (λ p names. P p names i) in
     subst I ei (subst S es h.holds)
 
 result_of : (source input : List ℕ) (depth : ℕ) (output : List ℕ) (on : OnProgram source (λ p names. IsOutput p names depth input output)) → IsResult source input depth output
@@ -84,30 +87,31 @@ pub run_done : (tells : Bool) (words : List (List ℕ)) (before now : ShelfView)
     IsRun words before out source input options front → IsEnding tells words before now out out_now status.Done said → (output : List ℕ) × IsResult source input options.depth output × (out_now.taken ≡ Some (front ++ output))
 run_done tells words before now out out_now source input options front said r h =
     let plan = run_plan r.program r.packed r.image options in
-    let P : Plan → Type 0 = λ q. OnBoth before.kept q (Whole tells now out out_now q) in
-    let on = of_files words before out source input options front r (Whole tells now out out_now plan) (asked_is (asked words) plan P r.asks h.0) in
+    let P : Plan → Type 0 = λ q. OnBoth (at_reading tells before.kept q) q (Whole tells before now out out_now q) in
+    let on = of_files words before out source input options front r (Whole tells before now out out_now plan) (asked_is (asked words) plan P r.asks h.0) in
     let T : Option (List ℕ) → Type 0 = λ t. IfSome t (λ first. out_now.taken ≡ Some (first ++ on.holds.0)) in (
       on.holds.0,
-      result_of source input options.depth on.holds.0 (record { lexed = on.lexed; program = on.program; is_program = on.is_program; holds = on.holds.1.does.1 }),
+      result_of source input options.depth on.holds.0 (record { lexed = on.lexed; program = on.program; is_program = on.is_program; holds = on.holds.1.ended.does.1 }),
       subst T r.front_is on.holds.2,
     )
 
-image_there : (tells : Bool) (now : Files) (name : List ℕ) (asked_for : Bool) (p : ProgramTree) (depth : ℕ) (input : List ℕ) (file : Option (List ℕ)) → IsStored tells now (Some name) file
-    → MakesImage asked_for p depth input file → (bytes : List ℕ) × (now name ≡ told tells bytes) × IsRunImage p depth input bytes
-image_there tells now name asked_for p depth input None stored made = absurd stored
-image_there tells now name false p depth input (Some bytes) stored made = cc
-image_there tells now name true p depth input (Some bytes) stored made = (bytes, stored, made)
+image_there : (tells : Bool) (before now : Files) (name : List ℕ) (asked_for : Bool) (p : ProgramTree) (skips : Bool) (depth chunks : ℕ) (input : List ℕ) (file : Option (List ℕ)) → IsStored (Some name) file
+    → AreMade tells before now (writes_of file (Some name)) → MakesImage asked_for p skips depth chunks input file → (bytes : List ℕ) × (now name ≡ told tells bytes) × IsRunImage p skips depth chunks input bytes
+image_there tells before now name asked_for p skips depth chunks input None stored written made = absurd stored
+image_there tells before now name false p skips depth chunks input (Some bytes) stored written made = cc
+image_there tells before now name true p skips depth chunks input (Some bytes) stored written made = (bytes, written_here tells before now name bytes written, made)
 
 pub run_image : (tells : Bool) (words : List (List ℕ)) (before now : ShelfView) (out out_now : SinkView) (source input : List ℕ) (options : Options) (front said name : List ℕ) →
     (r : IsRun words before out source input options front) → r.image ≡ Some name → IsEnding tells words before now out out_now status.Done said →
-    (bytes : List ℕ) × (now.kept name ≡ told tells bytes) × IsResultImage source input options.depth bytes
+    (bytes : List ℕ) × (now.kept name ≡ told tells bytes) × IsResultImage source input options.skips options.depth options.chunks bytes
 run_image tells words before now out out_now source input options front said name r named h =
     let plan = run_plan r.program r.packed r.image options in
-    let P : Plan → Type 0 = λ q. OnBoth before.kept q (Whole tells now out out_now q) in
-    let on = of_files words before out source input options front r (Whole tells now out out_now plan) (asked_is (asked words) plan P r.asks h.0) in
+    let P : Plan → Type 0 = λ q. OnBoth (at_reading tells before.kept q) q (Whole tells before now out out_now q) in
+    let on = of_files words before out source input options front r (Whole tells before now out out_now plan) (asked_is (asked words) plan P r.asks h.0) in
     let made = on.holds.1 in
-    let S : Option (List ℕ) → Type 0 = λ t. IsStored tells now.kept t made.file in
-    let there = image_there tells now.kept name options.image on.program options.depth input made.file (subst S named made.stored) made.does.0 in
+    let S : Option (List ℕ) → Type 0 = λ t. IsStored t made.ended.file in
+    let W : Option (List ℕ) → Type 0 = λ t. AreMade tells before.kept now.kept (writes_of made.ended.file t) in
+    let there = image_there tells before.kept now.kept name options.image on.program options.skips options.depth options.chunks input made.ended.file (subst S named made.stored) (subst W named made.ended.written) made.ended.does.0 in
     let is = there.2 in (
       there.0,
       there.1,
@@ -124,6 +128,7 @@ run_image tells words before now out out_now source input options front said nam
         result = is.result;
         means = is.means;
         image = is.image;
+        few = is.few;
       },
     )
 
@@ -131,39 +136,47 @@ pub run_deep : (tells : Bool) (words : List (List ℕ)) (before now : ShelfView)
     IsRun words before out source input options front → IsEnding tells words before now out out_now status.Depth said → IsTooDeep source input options.depth
 run_deep tells words before now out out_now source input options front said r h =
     let plan = run_plan r.program r.packed r.image options in
-    let P : Plan → Type 0 = λ q. OnBoth before.kept q (Exhausted q) in
-    let on = of_files words before out source input options front r (Exhausted plan) (asked_is (asked words) plan P r.asks h.0) in
-    deep_of source input options.depth (record { lexed = on.lexed; program = on.program; is_program = on.is_program; holds = on.holds.1.1 })
+    let P : Plan → Type 0 = λ q. OnBoth (at_reading tells before.kept q) q (EndsWithout tells before now DeepReason q) in
+    let on = of_files words before out source input options front r (EndsWithout tells before now DeepReason plan) (asked_is (asked words) plan P r.asks h.0) in
+    deep_of source input options.depth (record { lexed = on.lexed; program = on.program; is_program = on.is_program; holds = on.holds.does.1 })
 
 pub run_full : (tells : Bool) (words : List (List ℕ)) (before now : ShelfView) (out out_now : SinkView) (source input : List ℕ) (options : Options) (front said : List ℕ) →
-    IsRun words before out source input options front → IsEnding tells words before now out out_now status.Full said → IsTooBig source input options.depth options.chunks
+    IsRun words before out source input options front → IsEnding tells words before now out out_now status.Full said → IsTooBig source input options.skips options.depth options.chunks
 run_full tells words before now out out_now source input options front said r h =
     let plan = run_plan r.program r.packed r.image options in
-    let P : Plan → Type 0 = λ q. OnBoth before.kept q (HasNoValue Full q) in
-    let on = of_files words before out source input options front r (HasNoValue Full plan) (asked_is (asked words) plan P r.asks h.0) in
+    let P : Plan → Type 0 = λ q. OnBoth (at_reading tells before.kept q) q (EndsWithout tells before now Full q) in
+    let on = of_files words before out source input options front r (EndsWithout tells before now Full plan) (asked_is (asked words) plan P r.asks h.0) in
     record {
       given = record {
         lexed = on.lexed;
         program = on.program;
-        value = on.holds.1.1.value;
+        value = on.holds.does.1.value;
         spelled = on.is_program.spelled;
         typed = on.is_program.typed;
-        short = on.holds.1.1.is_input.short;
-        file = on.holds.1.1.is_input.file;
+        short = on.holds.does.1.is_input.short;
+        file = on.holds.does.1.is_input.file;
       };
-      tight = on.holds.1.1.tight;
+      tight = on.holds.does.1.tight;
     }
 
-due_of : (words : List (List ℕ)) (before now : ShelfView) (out out_now : SinkView) (source input : List ℕ) (options : Options) (front : List ℕ) (r : IsRun words before out source input options front) →
-    NoneFailed r.program r.packed r.image before now out out_now → (P : ProgramTree → List (List ℕ) → List ℕ → Type 0) → OnProgram source (λ p names. P p names input) →
-    DueOfFiles before now (run_plan r.program r.packed r.image options) P
-due_of words before now out out_now source input options front r quiet P on = record {
+packed_read : (before now : ShelfView) (d : Document) → ((name : List ℕ) → IsUnread before now d name → ⊥) → (name : List ℕ) → IsUnread before now d name ⊎ ⊥ → ⊥
+packed_read before now d quiet name (inl h) = quiet name h
+packed_read before now d quiet name (inr h) = h
+
+some_none : (bytes : List ℕ) → Some bytes ≡ None → ⊥
+some_none bytes e = cc
+
+due_of : (tells : Bool) (words : List (List ℕ)) (before now : ShelfView) (out out_now : SinkView) (source input : List ℕ) (options : Options) (front : List ℕ) (r : IsRun words before out source input options front) →
+    NoneFailed r.program r.packed r.image before now out out_now → (P : ProgramTree → List (List ℕ) → Contents → Type 0) → OnProgram source (λ p names. P p names (record { second = input; further = [] })) →
+    DueOfFiles tells before now (run_plan r.program r.packed r.image options) P
+due_of tells words before now out out_now source input options front r quiet P on = record {
   source = source;
-  second = input;
+  given = record { second = input; further = [] };
   source_told = r.source_is;
-  second_told = r.input_is;
+  given_told = (r.input_is, refl);
+  first_written = λ name h. absurd h;
   source_read = quiet.program_read;
-  second_read = quiet.packed_read;
+  given_read = packed_read before now r.packed quiet.packed_read;
   holds = on;
 }
 
@@ -174,9 +187,9 @@ run_ends_done laws tells words before now out out_now source input options front
     let plan = run_plan r.program r.packed r.image options in
     let on = output_of source input options.depth output h in
     let takes : TakesAll before now out out_now plan = record { target = quiet.image_written; out = quiet.put } in
-    let due = due_of words before now out out_now source input options front r quiet (HasText plan)
+    let due = due_of tells words before now out out_now source input options front r quiet (HasText plan)
     (record { lexed = on.lexed; program = on.program; is_program = on.is_program; holds = (None, output, (refl, on.holds)) }) in
-    due_ends laws tells words before now out out_now end' (cause_of tells words before now out out_now end' said ends) status.Done (asked_of (asked words) plan (DueAll before now out out_now) r.asks (due, takes))
+    due_ends laws tells words before now out out_now end' (cause_of tells words before now out out_now end' said ends) status.Done (asked_of (asked words) plan (DueAll tells before now out out_now) r.asks (due, takes))
 
 pub run_ends_deep : Laws → (tells : Bool) (words : List (List ℕ)) (before now : ShelfView) (out out_now : SinkView) (source input : List ℕ) (options : Options) (front said : List ℕ) (end' : Status) →
     (r : IsRun words before out source input options front) → NoneFailed r.program r.packed r.image before now out out_now → IsTooDeep source input options.depth →
@@ -184,9 +197,9 @@ pub run_ends_deep : Laws → (tells : Bool) (words : List (List ℕ)) (before no
 run_ends_deep laws tells words before now out out_now source input options front said end' r quiet h ends =
     let plan = run_plan r.program r.packed r.image options in
     let on = runs_out source input options.depth h in
-    let due = due_of words before now out out_now source input options front r quiet (Exhausted plan)
-    (record { lexed = on.lexed; program = on.program; is_program = on.is_program; holds = (None, (refl, on.holds)) }) in
-    due_ends laws tells words before now out out_now end' (cause_of tells words before now out out_now end' said ends) status.Depth (asked_of (asked words) plan (DueDepth before now) r.asks due)
+    let due = due_of tells words before now out out_now source input options front r quiet (DueWithout before now DeepReason plan)
+    (record { lexed = on.lexed; program = on.program; is_program = on.is_program; holds = ((None, (refl, on.holds)), λ name bytes named does. absurd (some_none bytes does.0)) }) in
+    due_ends laws tells words before now out out_now end' (cause_of tells words before now out out_now end' said ends) status.Depth (asked_of (asked words) plan (DueDepth tells before now) r.asks due)
 
 -- Chunks that are enough do not run out
 
@@ -213,7 +226,7 @@ fits_by laws tells words before now out out_now source input options front said 
     (run_ends_deep laws tells words before now out out_now source input options front said end' r quiet (record { given = g; means = deep }) ends)
 
 pub run_fits : Laws → (tells : Bool) (words : List (List ℕ)) (before now : ShelfView) (out out_now : SinkView) (source input : List ℕ) (options : Options) (front said : List ℕ) (end' : Status) →
-    (r : IsRun words before out source input options front) → NoneFailed r.program r.packed r.image before now out out_now → Given source input → (IsTooBig source input options.depth options.chunks → ⊥) →
+    (r : IsRun words before out source input options front) → NoneFailed r.program r.packed r.image before now out out_now → Given source input → (IsTooBig source input options.skips options.depth options.chunks → ⊥) →
     IsEnding tells words before now out out_now end' said → (end' ≡ status.Done) ⊎ (end' ≡ status.Depth) ⊎ (end' ≡ status.Memory)
 run_fits laws tells words before now out out_now source input options front said end' r quiet g fits ends =
     let E : Status → Type 0 = λ s. IsEnding tells words before now out out_now s said in

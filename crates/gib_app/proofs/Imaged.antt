@@ -1,5 +1,5 @@
 -- What a run makes, with its image and without.
-use Rattle.std.proofs.Common.{◌≡◌, ◌∙◌, refl, ap, ℕ, ◌≤◌, List, [], ◌++◌, Option, Some, None, Bool, true, false, Result, Ok, Err, IfErr, subst, sym}
+use Rattle.std.proofs.Common.{◌≡◌, ◌∙◌, refl, ap, ℕ, ◌≤◌, arith, length, List, [], ◌++◌, Option, Some, None, Bool, true, false, Result, Ok, Err, IfErr, subst, sym}
 use Rattle.gib_types.specs.declared.table.Ty.{Ty}
 use Rattle.gib_types.specs.Layout.{LaidOut}
 use Rattle.gib_types.specs.Tree.{Datum}
@@ -7,7 +7,8 @@ use Rattle.gib_mem.specs.Memory.{Memory, Store, IsBounded}
 use Rattle.gib_value.specs.Text.{AreHeld}
 use Rattle.gib_packed.specs.Stands.{Stands}
 use Rattle.gib_packed.specs.declared.root.Root.{Root}
-use Rattle.gib_print.specs.Image.{image_of, IsImageOf}
+use Rattle.gib_print.specs.Image.{image_of, chunk_count, IsImageOf}
+use Rattle.gib_print.proofs.ImageLemmas.{image-long}
 use Rattle.gib_syntax.specs.Tree.{ProgramTree}
 use Rattle.gib_syntax.specs.Declarations.{output_type}
 use Rattle.gib_app.specs.declared.made.End.{End as KeptEnd}
@@ -32,28 +33,38 @@ pub image_stands : WrittenIsRead → (laid : LaidOut) (m : Memory) (place : Root
     → (ty : Ty) (v : Datum) → Stands laid m.cells place ty v → IsImageOf laid ty bytes v
 image_stands law laid m place bytes bounded few is ty v stands = subst (λ (l : List ℕ). IsImageOf laid ty l v) (sym is) (law laid m place ty v bounded few stands)
 
+-- It has as many chunks as are drawn, and these are no more than there may be.
+pub image_few : (laid : LaidOut) (m : Memory) (place : Root) (bytes : List ℕ) → IsBounded m → bytes ≡ image_of m place → (ty : Ty) (v : Datum) → IsImageOf laid ty bytes v → chunk_count bytes ≤ m.limit
+image_few laid m place bytes bounded is ty v image =
+    let long = image.formed.long in
+    let size = image-long m place in
+    let same = ap length is in
+    let order = bounded.order in
+    omega (arith, long, size, same, order)
+
 -- An image and a text end a run that is asked for an image.
 pub imaged_ends : (p : ProgramTree) (names : List (List ℕ)) (o : Options) (input : List ℕ) (laid : LaidOut) (cells : Store) (place : Root) (s : StandsMeant p o.depth input laid cells place)
-    → laid ≡ layouts_of p → o.image ≡ true → (file : Option (List ℕ)) (e : KeptEnd) → IsImaged laid p names s.result file e → EndsBy file e (Runs p names o input)
-imaged_ends p names o input laid cells place s same on None e h = absurd h
-imaged_ends p names o input laid cells place s same on (Some bytes) (ends.Prints text) h =
-    let image : IsRunImage p o.depth input bytes = record {
+    → laid ≡ layouts_of o.skips p → o.image ≡ true → (limit : ℕ) → limit ≡ o.chunks → (file : Option (List ℕ)) (e : KeptEnd) → IsImaged laid limit p names s.result file e → EndsBy file e (Runs p names o input)
+imaged_ends p names o input laid cells place s same on limit bound None e h = absurd h
+imaged_ends p names o input laid cells place s same on limit bound (Some bytes) (ends.Prints text) h =
+    let image : IsRunImage p o.skips o.depth o.chunks input bytes = record {
       value = s.value;
       result = s.result;
       is_input = s.is_input;
       means = s.means;
       image = subst (λ (l : LaidOut). IsImageOf l (output_type p) bytes s.result) same h.0;
+      few = subst (λ (n : ℕ). chunk_count bytes ≤ n) bound h.1;
     } in
-    let M : Bool → Type 0 = λ b. MakesImage b p o.depth input (Some bytes) in
-    (subst M (sym on) image, record { value = s.value; result = s.result; is_input = s.is_input; means = s.means; is_text = h.1 })
-imaged_ends p names o input laid cells place s same on (Some bytes) (ends.Value value) h = absurd h
-imaged_ends p names o input laid cells place s same on (Some bytes) (ends.NoValue reason) h = absurd h
+    let M : Bool → Type 0 = λ b. MakesImage b p o.skips o.depth o.chunks input (Some bytes) in
+    (subst M (sym on) image, record { value = s.value; result = s.result; is_input = s.is_input; means = s.means; is_text = h.2 })
+imaged_ends p names o input laid cells place s same on limit bound (Some bytes) (ends.Value value) h = absurd h
+imaged_ends p names o input laid cells place s same on limit bound (Some bytes) (ends.NoValue reason) h = absurd h
 
 -- A value in region memory ends one that is not.
 pub value_ends : (p : ProgramTree) (o : Options) (input : List ℕ) (value : Valued) → AreHeld value.ran.lowered.code.laid.table value.names → o.image ≡ false
     → StandsMeant p o.depth input value.ran.lowered.code.laid (cells_of value.ran.memory) value.ran.root → EndsBy None (ends.Value value) (Runs p value.names o input)
 value_ends p o input value held off s =
-    let M : Bool → Type 0 = λ b. MakesImage b p o.depth input None in (
+    let M : Bool → Type 0 = λ b. MakesImage b p o.skips o.depth o.chunks input None in (
       refl,
       text_line p value.names s.result,
       record { program = p; depth = o.depth; input = input; stands = s; held = held; is_text = refl },

@@ -1,5 +1,5 @@
 -- A second file is refused for one fault, and then it is not accepted.
-use Rattle.std.proofs.Common.{◌≡◌, ◌∙◌, refl, ℕ, ◌≤◌, List, length, drop, Err, inl, inr, sym, subst, ap, arith}
+use Rattle.std.proofs.Common.{◌≡◌, ◌∙◌, refl, Bool, ℕ, ◌≤◌, List, length, drop, Err, inl, inr, sym, subst, ap, arith}
 use Rattle.gib_types.specs.declared.table.Ty.{Ty}
 use Rattle.gib_types.specs.Table.{Table}
 use Rattle.gib_types.specs.Tree.{Datum, HasType}
@@ -28,6 +28,7 @@ use Rattle.gib_app.specs.declared.input_fault.PackedFault.TheVariants.{Header, S
 use Rattle.gib_app.specs.declared.plan.Job.{Job}
 use Rattle.gib_app.specs.declared.plan.Job.TheVariants.{Run, Plain, Check, Core, Code, Pack, Show}
 use Rattle.gib_app.specs.InputFaults.{IsPayloadFault, IsFileFault, IsInputFault, IsImageFault, IsShowFault, IsTextFault}
+use Rattle.gib_app.specs.Plan.{Contents}
 use Rattle.gib_app.specs.Formats.{Accepts, Refuses}
 use Rattle.gib_app.specs.Packing.{without_feed, IsPackedText}
 use Rattle.gib_app.specs.Running.{IsInput, IsShownValue}
@@ -71,20 +72,20 @@ one_file_fault : (table : Table) (ty : Ty) (bytes : List ℕ) (f g : PackedFault
 one_file_fault table ty bytes f g h k = one_stage table ty bytes f g (stage table ty bytes f h) (stage table ty bytes g k)
 
 -- What a fault of a file that is shown says: it is one of a packed file, which is not too long.
-record IsShown (p : ProgramTree) (bytes : List ℕ) (fault : PackedFault) : Type 0 where
+record IsShown (p : ProgramTree) (skips : Bool) (bytes : List ℕ) (fault : PackedFault) : Type 0 where
   file : IsFileFault (table_of_program p) (input_type p) bytes fault
   short : length bytes ≤ 268435480
   shorter : HasMagic bytes → length bytes ≤ 16777216
 
-shown : (p : ProgramTree) (bytes : List ℕ) (fault : PackedFault) → IsShowFault p bytes (Packed fault) → IsShown p bytes fault
-shown p bytes (Header header.Magic) h = record { file = h.1; short = h.0; shorter = λ m. absurd (h.1 m) }
-shown p bytes (Header (header.Version v)) h = record { file = h.1; short = let s = h.0 in omega (arith, s); shorter = λ m. h.0 }
-shown p bytes (Header header.Reserved) h = record { file = h.1; short = let s = h.0 in omega (arith, s); shorter = λ m. h.0 }
-shown p bytes (Header header.Length) h = record { file = h.1; short = let s = h.0 in omega (arith, s); shorter = λ m. h.0 }
-shown p bytes (Short place) h = record { file = h.1; short = let s = h.0 in omega (arith, s); shorter = λ m. h.0 }
-shown p bytes (Tag place) h = record { file = h.1; short = let s = h.0 in omega (arith, s); shorter = λ m. h.0 }
-shown p bytes (Truth place) h = record { file = h.1; short = let s = h.0 in omega (arith, s); shorter = λ m. h.0 }
-shown p bytes (Trailing place) h = record { file = h.1; short = let s = h.0 in omega (arith, s); shorter = λ m. h.0 }
+shown : (p : ProgramTree) (skips : Bool) (bytes : List ℕ) (fault : PackedFault) → IsShowFault p skips bytes (Packed fault) → IsShown p skips bytes fault
+shown p skips bytes (Header header.Magic) h = record { file = h.1; short = h.0; shorter = λ m. absurd (h.1 m) }
+shown p skips bytes (Header (header.Version v)) h = record { file = h.1; short = let s = h.0 in omega (arith, s); shorter = λ m. h.0 }
+shown p skips bytes (Header header.Reserved) h = record { file = h.1; short = let s = h.0 in omega (arith, s); shorter = λ m. h.0 }
+shown p skips bytes (Header header.Length) h = record { file = h.1; short = let s = h.0 in omega (arith, s); shorter = λ m. h.0 }
+shown p skips bytes (Short place) h = record { file = h.1; short = let s = h.0 in omega (arith, s); shorter = λ m. h.0 }
+shown p skips bytes (Tag place) h = record { file = h.1; short = let s = h.0 in omega (arith, s); shorter = λ m. h.0 }
+shown p skips bytes (Truth place) h = record { file = h.1; short = let s = h.0 in omega (arith, s); shorter = λ m. h.0 }
+shown p skips bytes (Trailing place) h = record { file = h.1; short = let s = h.0 in omega (arith, s); shorter = λ m. h.0 }
 
 -- The laws that these rest on, of one table and its names.
 
@@ -98,7 +99,7 @@ pub record Laws (table : Table) (names : List (List ℕ)) : Type 0 where
   pub no_image : ReadOrRefused
   pub one_place : (ty : Ty) (bytes : List ℕ) (a b : ℕ) → IsRefusedAt table names ty bytes a → IsRefusedAt table names ty bytes b → a ≡ b
 
-module _ (p : ProgramTree) (names : List (List ℕ)) (laws : Laws (table_of_program p) names) (bytes : List ℕ) where
+module _ (p : ProgramTree) (names : List (List ℕ)) (laws : Laws (table_of_program p) names) (skips : Bool) (bytes : List ℕ) where
   one_packed : (f g : PackedFault) → IsFileFault (table_of_program p) (input_type p) bytes f → IsFileFault (table_of_program p) (input_type p) bytes g → Packed f ≡ Packed g
   one_packed f g h k = ap Packed (one_file_fault (table_of_program p) (input_type p) bytes f g h k)
 
@@ -114,47 +115,47 @@ module _ (p : ProgramTree) (names : List (List ℕ)) (laws : Laws (table_of_prog
   one_input (Image f) g h k = absurd h
   one_input (Text place) g h k = absurd h
 
-  long_or_shown : (most : ℕ) (f : PackedFault) → IsShowFault p bytes (Long most) → IsShown p bytes f → ⊥
+  long_or_shown : (most : ℕ) (f : PackedFault) → IsShowFault p skips bytes (Long most) → IsShown p skips bytes f → ⊥
   long_or_shown most f (inl h) s = let many = h.1 in let short = s.short in omega (arith, many, short)
   long_or_shown most f (inr h) s = let many = h.1 in let short = s.shorter h.3 in omega (arith, many, short)
 
-  one_long : (a b : ℕ) → IsShowFault p bytes (Long a) → IsShowFault p bytes (Long b) → a ≡ b
+  one_long : (a b : ℕ) → IsShowFault p skips bytes (Long a) → IsShowFault p skips bytes (Long b) → a ≡ b
   one_long a b (inl h) (inl k) = h.0 ∙ sym k.0
   one_long a b (inl h) (inr k) = let many = h.1 in let short = k.2 in absurd (omega (arith, many, short))
   one_long a b (inr h) (inl k) = let many = k.1 in let short = h.2 in absurd (omega (arith, many, short))
   one_long a b (inr h) (inr k) = h.0 ∙ sym k.0
 
-  long_or_image : (most : ℕ) (g : ImageFault) → IsShowFault p bytes (Long most) → IsShowFault p bytes (Image g) → ⊥
+  long_or_image : (most : ℕ) (g : ImageFault) → IsShowFault p skips bytes (Long most) → IsShowFault p skips bytes (Image g) → ⊥
   long_or_image most g (inl h) k = let many = h.1 in let short = k.0 in omega (arith, many, short)
-  long_or_image most g (inr h) k = signs_differ bytes h.3 (fault_sign p bytes g k.1)
+  long_or_image most g (inr h) k = signs_differ bytes h.3 (fault_sign p skips bytes g k.1)
 
-  packed_or_image : (f : PackedFault) (g : ImageFault) → IsShowFault p bytes (Packed f) → IsShowFault p bytes (Image g) → ⊥
-  packed_or_image (Header header.Magic) g h k = h.2 (fault_sign p bytes g k.1)
-  packed_or_image (Header (header.Version v)) g h k = signs_differ bytes h.1.0 (fault_sign p bytes g k.1)
-  packed_or_image (Header header.Reserved) g h k = signs_differ bytes h.1.0 (fault_sign p bytes g k.1)
-  packed_or_image (Header header.Length) g h k = signs_differ bytes h.1.0 (fault_sign p bytes g k.1)
-  packed_or_image (Short place) g h k = signs_differ bytes (parts h.1.payload bytes h.1.framed).magic_is (fault_sign p bytes g k.1)
-  packed_or_image (Tag place) g h k = signs_differ bytes (parts h.1.payload bytes h.1.framed).magic_is (fault_sign p bytes g k.1)
-  packed_or_image (Truth place) g h k = signs_differ bytes (parts h.1.payload bytes h.1.framed).magic_is (fault_sign p bytes g k.1)
-  packed_or_image (Trailing place) g h k = signs_differ bytes (parts h.1.payload bytes h.1.framed).magic_is (fault_sign p bytes g k.1)
+  packed_or_image : (f : PackedFault) (g : ImageFault) → IsShowFault p skips bytes (Packed f) → IsShowFault p skips bytes (Image g) → ⊥
+  packed_or_image (Header header.Magic) g h k = h.2 (fault_sign p skips bytes g k.1)
+  packed_or_image (Header (header.Version v)) g h k = signs_differ bytes h.1.0 (fault_sign p skips bytes g k.1)
+  packed_or_image (Header header.Reserved) g h k = signs_differ bytes h.1.0 (fault_sign p skips bytes g k.1)
+  packed_or_image (Header header.Length) g h k = signs_differ bytes h.1.0 (fault_sign p skips bytes g k.1)
+  packed_or_image (Short place) g h k = signs_differ bytes (parts h.1.payload bytes h.1.framed).magic_is (fault_sign p skips bytes g k.1)
+  packed_or_image (Tag place) g h k = signs_differ bytes (parts h.1.payload bytes h.1.framed).magic_is (fault_sign p skips bytes g k.1)
+  packed_or_image (Truth place) g h k = signs_differ bytes (parts h.1.payload bytes h.1.framed).magic_is (fault_sign p skips bytes g k.1)
+  packed_or_image (Trailing place) g h k = signs_differ bytes (parts h.1.payload bytes h.1.framed).magic_is (fault_sign p skips bytes g k.1)
 
-  one_image : (f g : ImageFault) → IsImageFault p bytes f → IsImageFault p bytes g → f ≡ g
+  one_image : (f g : ImageFault) → IsImageFault p skips bytes f → IsImageFault p skips bytes g → f ≡ g
   one_image image.Header image.Header h k = refl
   one_image image.Header (image.Item b) h k = absurd (h.1 k.formed)
   one_image image.Header image.Long h k = absurd (h.1 k.formed)
   one_image (image.Item a) image.Header h k = absurd (k.1 h.formed)
-  one_image (image.Item a) (image.Item b) h k = let same = laws.images (layouts_of p) (output_type p) bytes (reading.Bad a) (reading.Bad b) h k in cc
-  one_image (image.Item a) image.Long h k = let same = laws.images (layouts_of p) (output_type p) bytes (reading.Bad a) reading.Long h k in cc
+  one_image (image.Item a) (image.Item b) h k = let same = laws.images (layouts_of skips p) (output_type p) bytes (reading.Bad a) (reading.Bad b) h k in cc
+  one_image (image.Item a) image.Long h k = let same = laws.images (layouts_of skips p) (output_type p) bytes (reading.Bad a) reading.Long h k in cc
   one_image image.Long image.Header h k = absurd (k.1 h.formed)
-  one_image image.Long (image.Item b) h k = let same = laws.images (layouts_of p) (output_type p) bytes reading.Long (reading.Bad b) h k in cc
+  one_image image.Long (image.Item b) h k = let same = laws.images (layouts_of skips p) (output_type p) bytes reading.Long (reading.Bad b) h k in cc
   one_image image.Long image.Long h k = refl
 
-  one_show : (f g : InputFault) → IsShowFault p bytes f → IsShowFault p bytes g → f ≡ g
+  one_show : (f g : InputFault) → IsShowFault p skips bytes f → IsShowFault p skips bytes g → f ≡ g
   one_show (Long a) (Long b) h k = ap Long (one_long a b h k)
-  one_show (Long a) (Packed g) h k = absurd (long_or_shown a g h (shown p bytes g k))
+  one_show (Long a) (Packed g) h k = absurd (long_or_shown a g h (shown p skips bytes g k))
   one_show (Long a) (Text place) h k = absurd k
-  one_show (Packed f) (Long b) h k = absurd (long_or_shown b f k (shown p bytes f h))
-  one_show (Packed f) (Packed g) h k = one_packed f g (shown p bytes f h).file (shown p bytes g k).file
+  one_show (Packed f) (Long b) h k = absurd (long_or_shown b f k (shown p skips bytes f h))
+  one_show (Packed f) (Packed g) h k = one_packed f g (shown p skips bytes f h).file (shown p skips bytes g k).file
   one_show (Packed f) (Text place) h k = absurd k
   one_show (Long a) (Image g) h k = absurd (long_or_image a g h k)
   one_show (Packed f) (Image g) h k = absurd (packed_or_image f g h k)
@@ -180,15 +181,6 @@ module _ (p : ProgramTree) (names : List (List ℕ)) (laws : Laws (table_of_prog
   one_text (Text place) (Packed g) h k = absurd k
   one_text (Text a) (Text b) h k = ap Text (laws.one_place (input_type p) (without_feed bytes) a b h.1 k.1)
 
-  pub one_refusal : (job : Job) (f g : InputFault) → Refuses job p names bytes f → Refuses job p names bytes g → f ≡ g
-  one_refusal Run f g h k = one_input f g h k
-  one_refusal Plain f g h k = one_input f g h k
-  one_refusal Check f g h k = absurd h
-  one_refusal Core f g h k = absurd h
-  one_refusal Code f g h k = absurd h
-  one_refusal Pack f g h k = one_text f g h k
-  one_refusal Show f g h k = one_show f g h k
-
   -- A file that is refused is not accepted.
 
   not_input : (f : InputFault) (v : Datum) → IsInputFault p bytes f → IsInput p v bytes → ⊥
@@ -197,28 +189,28 @@ module _ (p : ProgramTree) (names : List (List ℕ)) (laws : Laws (table_of_prog
   not_input (Image f) v h is = h
   not_input (Text place) v h is = h
 
-  not_long : (most : ℕ) (v : Datum) → IsShowFault p bytes (Long most) → IsShownValue p v bytes → ⊥
-  not_long most v (inl h) is = let many = h.1 in let short = shown_short p v bytes is in omega (arith, many, short)
+  not_long : (most : ℕ) (v : Datum) → IsShowFault p skips bytes (Long most) → IsShownValue p skips v bytes → ⊥
+  not_long most v (inl h) is = let many = h.1 in let short = shown_short p skips v bytes is in omega (arith, many, short)
   not_long most v (inr h) (inl is) = let many = h.1 in let short = is.short in omega (arith, many, short)
   not_long most v (inr h) (inr read) = signs_differ bytes h.3 (formed_sign (output_type p) bytes read.image.formed)
 
   none : (f : PackedFault) → IsFileFault (table_of_program p) (input_type p) bytes f → (v : Datum) → File (table_of_program p) (input_type p) v bytes → ⊥
   none f h = no_file laws.headers laws.payloads (table_of_program p) (input_type p) bytes f h
 
-  not_packed : (f : PackedFault) (v : Datum) → IsShowFault p bytes (Packed f) → IsShownValue p v bytes → ⊥
-  not_packed (Header header.Magic) v h is = no_sign_value p bytes h.1 h.2 (v, is)
-  not_packed (Header (header.Version n)) v h is = no_packed_value p bytes h.1.0 (none (Header (header.Version n)) h.1) (v, is)
-  not_packed (Header header.Reserved) v h is = no_packed_value p bytes h.1.0 (none (Header header.Reserved) h.1) (v, is)
-  not_packed (Header header.Length) v h is = no_packed_value p bytes h.1.0 (none (Header header.Length) h.1) (v, is)
-  not_packed (Short place) v h is = no_packed_value p bytes (parts h.1.payload bytes h.1.framed).magic_is (none (Short place) h.1) (v, is)
-  not_packed (Tag place) v h is = no_packed_value p bytes (parts h.1.payload bytes h.1.framed).magic_is (none (Tag place) h.1) (v, is)
-  not_packed (Truth place) v h is = no_packed_value p bytes (parts h.1.payload bytes h.1.framed).magic_is (none (Truth place) h.1) (v, is)
-  not_packed (Trailing place) v h is = no_packed_value p bytes (parts h.1.payload bytes h.1.framed).magic_is (none (Trailing place) h.1) (v, is)
+  not_packed : (f : PackedFault) (v : Datum) → IsShowFault p skips bytes (Packed f) → IsShownValue p skips v bytes → ⊥
+  not_packed (Header header.Magic) v h is = no_sign_value p skips bytes h.1 h.2 (v, is)
+  not_packed (Header (header.Version n)) v h is = no_packed_value p skips bytes h.1.0 (none (Header (header.Version n)) h.1) (v, is)
+  not_packed (Header header.Reserved) v h is = no_packed_value p skips bytes h.1.0 (none (Header header.Reserved) h.1) (v, is)
+  not_packed (Header header.Length) v h is = no_packed_value p skips bytes h.1.0 (none (Header header.Length) h.1) (v, is)
+  not_packed (Short place) v h is = no_packed_value p skips bytes (parts h.1.payload bytes h.1.framed).magic_is (none (Short place) h.1) (v, is)
+  not_packed (Tag place) v h is = no_packed_value p skips bytes (parts h.1.payload bytes h.1.framed).magic_is (none (Tag place) h.1) (v, is)
+  not_packed (Truth place) v h is = no_packed_value p skips bytes (parts h.1.payload bytes h.1.framed).magic_is (none (Truth place) h.1) (v, is)
+  not_packed (Trailing place) v h is = no_packed_value p skips bytes (parts h.1.payload bytes h.1.framed).magic_is (none (Trailing place) h.1) (v, is)
 
-  not_shown : (f : InputFault) (v : Datum) → IsShowFault p bytes f → IsShownValue p v bytes → ⊥
+  not_shown : (f : InputFault) (v : Datum) → IsShowFault p skips bytes f → IsShownValue p skips v bytes → ⊥
   not_shown (Long most) v h is = not_long most v h is
   not_shown (Packed f) v h is = not_packed f v h is
-  not_shown (Image f) v h is = no_image_value laws.no_image p bytes f h.1 v is
+  not_shown (Image f) v h is = no_image_value laws.no_image p skips bytes f h.1 v is
   not_shown (Text place) v h is = h
 
   not_text : (f : InputFault) (file : List ℕ) → IsTextFault p names bytes f → IsPackedText p names bytes file → ⊥
@@ -235,11 +227,22 @@ module _ (p : ProgramTree) (names : List (List ℕ)) (laws : Laws (table_of_prog
   not_text (Image f) file h is = h
   not_text (Text place) file h is = laws.no_text (input_type p) (without_feed bytes) place is.value h.1 is.is_text
 
-  pub not_accepted : (job : Job) (f : InputFault) → Refuses job p names bytes f → Accepts job p names bytes → ⊥
-  not_accepted Run f h a = not_input f a.0 h a.1
-  not_accepted Plain f h a = not_input f a.0 h a.1
+-- The inputs of a job.
+module _ (p : ProgramTree) (names : List (List ℕ)) (laws : Laws (table_of_program p) names) (skips : Bool) (given : Contents) where
+  pub one_refusal : (job : Job) (f g : InputFault) → Refuses job skips p names given f → Refuses job skips p names given g → f ≡ g
+  one_refusal Run f g h k = one_input p names laws skips given.second f g h k
+  one_refusal Plain f g h k = one_input p names laws skips given.second f g h k
+  one_refusal Check f g h k = absurd h
+  one_refusal Core f g h k = absurd h
+  one_refusal Code f g h k = absurd h
+  one_refusal Pack f g h k = one_text p names laws skips given.second f g h k
+  one_refusal Show f g h k = one_show p names laws skips given.second f g h k
+
+  pub not_accepted : (job : Job) (f : InputFault) → Refuses job skips p names given f → Accepts job skips p names given → ⊥
+  not_accepted Run f h a = not_input p names laws skips given.second f a.0 h a.1
+  not_accepted Plain f h a = not_input p names laws skips given.second f a.0 h a.1
   not_accepted Check f h a = h
   not_accepted Core f h a = h
   not_accepted Code f h a = h
-  not_accepted Pack f h a = not_text f a.0 h a.1
-  not_accepted Show f h a = not_shown f a.0 h a.1
+  not_accepted Pack f h a = not_text p names laws skips given.second f a.0 h a.1
+  not_accepted Show f h a = not_shown p names laws skips given.second f a.0 h a.1

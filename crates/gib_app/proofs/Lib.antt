@@ -21,3 +21,4 @@ mod Headlines
 mod Roots
 mod Refusals
 mod InputLaws
+mod Writing

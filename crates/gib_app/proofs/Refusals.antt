@@ -1,5 +1,5 @@
 -- A file with a fault is the packed file of no value, and a call stops at it.
-use Rattle.std.proofs.Common.{◌≡◌, ℕ, ◌≤◌, List, length, Err}
+use Rattle.std.proofs.Common.{◌≡◌, Bool, ℕ, ◌≤◌, List, length, Err}
 use Rattle.gib_types.specs.declared.table.Ty.{Ty}
 use Rattle.gib_types.specs.Table.{Table}
 use Rattle.gib_types.specs.Tree.{Datum}
@@ -70,20 +70,20 @@ module _ (p : ProgramTree) (bytes : List ℕ) (short : length bytes ≤ 16777216
   run_stop Unput h = h
 
 -- The same where a file that begins as a packed one is shown.
-module _ (p : ProgramTree) (bytes : List ℕ) (short : length bytes ≤ 16777216) (magic : HasMagic bytes) where
-  pub show_stop : (stop : Stop) → IsPackedStop (table_of_program p) (input_type p) bytes stop → IsShowStop p bytes stop
+module _ (p : ProgramTree) (skips : Bool) (bytes : List ℕ) (short : length bytes ≤ 16777216) (magic : HasMagic bytes) where
+  pub show_stop : (stop : Stop) → IsPackedStop (table_of_program p) (input_type p) bytes stop → IsShowStop p skips bytes stop
   show_stop Usage h = h
   show_stop (Source fault) h = h
   show_stop (Unread name) h = h
   show_stop (Input (input.Long most)) h = absurd h
   show_stop (Input (input.Packed (Header header.Magic))) h = absurd (h.0 magic)
-  show_stop (Input (input.Packed (Header (header.Version v)))) h = ((short, h.0), no_packed_value p bytes magic h.1)
-  show_stop (Input (input.Packed (Header header.Reserved))) h = ((short, h.0), no_packed_value p bytes magic h.1)
-  show_stop (Input (input.Packed (Header header.Length))) h = ((short, h.0), no_packed_value p bytes magic h.1)
-  show_stop (Input (input.Packed (Short place))) h = ((short, h.0), no_packed_value p bytes magic h.1)
-  show_stop (Input (input.Packed (Tag place))) h = ((short, h.0), no_packed_value p bytes magic h.1)
-  show_stop (Input (input.Packed (Truth place))) h = ((short, h.0), no_packed_value p bytes magic h.1)
-  show_stop (Input (input.Packed (Trailing place))) h = ((short, h.0), no_packed_value p bytes magic h.1)
+  show_stop (Input (input.Packed (Header (header.Version v)))) h = ((short, h.0), no_packed_value p skips bytes magic h.1)
+  show_stop (Input (input.Packed (Header header.Reserved))) h = ((short, h.0), no_packed_value p skips bytes magic h.1)
+  show_stop (Input (input.Packed (Header header.Length))) h = ((short, h.0), no_packed_value p skips bytes magic h.1)
+  show_stop (Input (input.Packed (Short place))) h = ((short, h.0), no_packed_value p skips bytes magic h.1)
+  show_stop (Input (input.Packed (Tag place))) h = ((short, h.0), no_packed_value p skips bytes magic h.1)
+  show_stop (Input (input.Packed (Truth place))) h = ((short, h.0), no_packed_value p skips bytes magic h.1)
+  show_stop (Input (input.Packed (Trailing place))) h = ((short, h.0), no_packed_value p skips bytes magic h.1)
   show_stop (Input (input.Image fault)) h = absurd h
   show_stop (Input (input.Text place)) h = absurd h
   show_stop (NoValue reason) h = h
@@ -91,12 +91,12 @@ module _ (p : ProgramTree) (bytes : List ℕ) (short : length bytes ≤ 16777216
   show_stop (Unwritten name) h = h
   show_stop Unput h = h
 
-pub machine_stop : (p : ProgramTree) (depth chunks : ℕ) (bytes : List ℕ) (stop : Stop) → IsRunStop p bytes stop → IsMachineStop p depth chunks bytes stop
-machine_stop p depth chunks bytes Usage h = h
-machine_stop p depth chunks bytes (Source fault) h = h
-machine_stop p depth chunks bytes (Unread name) h = h
-machine_stop p depth chunks bytes (Input fault) h = h
-machine_stop p depth chunks bytes (NoValue reason) h = absurd h
-machine_stop p depth chunks bytes Memory h = h
-machine_stop p depth chunks bytes (Unwritten name) h = h
-machine_stop p depth chunks bytes Unput h = h
+pub machine_stop : (p : ProgramTree) (skips : Bool) (depth chunks : ℕ) (bytes : List ℕ) (stop : Stop) → IsRunStop p bytes stop → IsMachineStop p skips depth chunks bytes stop
+machine_stop p skips depth chunks bytes Usage h = h
+machine_stop p skips depth chunks bytes (Source fault) h = h
+machine_stop p skips depth chunks bytes (Unread name) h = h
+machine_stop p skips depth chunks bytes (Input fault) h = h
+machine_stop p skips depth chunks bytes (NoValue reason) h = absurd h
+machine_stop p skips depth chunks bytes Memory h = h
+machine_stop p skips depth chunks bytes (Unwritten name) h = h
+machine_stop p skips depth chunks bytes Unput h = h

@@ -6,8 +6,6 @@ use Rattle.gib_types.specs.Loaded.{Loaded}
 use Rattle.gib_types.specs.Table.{Table}
 use Rattle.gib_types.specs.Tree.{Datum, whole, truth, con, constructors}
 use Rattle.gib_mem.specs.Memory.{Memory, Store}
-use Rattle.gib_mem.specs.Plain.{plain_cells}
-use Rattle.gib_mem.specs.declared.plain.PlainMem.{PlainMem}
 use Rattle.gib_packed.specs.declared.root.Root.{Root}
 use Rattle.gib_packed.specs.declared.root.Root.TheVariants as root
 use Rattle.gib_packed.specs.Stands.{Stands, a_whole, a_truth, a_tree}
@@ -39,10 +37,10 @@ use Rattle.gib_app.specs.declared.made.Reason.{Reason}
 use Rattle.gib_app.specs.declared.made.Reason.TheVariants as reason
 use Rattle.gib_app.specs.declared.stop.Stop.{Stop}
 use Rattle.gib_app.specs.declared.stop.Stop.TheVariants as stop
-use Rattle.gib_app.specs.Cores.{core_after}
+use Rattle.gib_app.specs.Cores.{core_after, layouts_of}
 use Rattle.gib_app.specs.Running.{IsInput}
 use Rattle.gib_app.specs.Stops.{IsRunStop}
-use Rattle.gib_app.specs.MachineRun.{StandsMeant, LacksValue, IsMachineStop, IsRootOf, Lacks, Halts, EndsWith, program_cost}
+use Rattle.gib_app.specs.MachineRun.{cells_of, StandsMeant, LacksValue, IsMachineStop, IsRootOf, Lacks, Halts, EndsWith, program_cost}
 
 -- A value that was loaded is where a run may start.
 pub start_of : (l : LoweredParts) (laid : LaidOut) (ty : Ty) (v : Datum) (m : Memory) (place : Root) (tails : List ℕ) → laid ≡ l.code.laid → ty ≡ (core_of l.core).main.parameter
@@ -119,54 +117,53 @@ load_stops l laid s depth m0 m1 same table refused spent v p =
     load_halts (core_of l.core) laid depth v m0 m1 (refused v q) (spent v q)
 
 -- A core and layouts that are a program's.
-pub record IsOfProgram (p : ProgramTree) (l : LoweredParts) : Type 0 where
-  pub core : core_of l.core ≡ core_after 3 p
+pub record IsOfProgram (p : ProgramTree) (skips : Bool) (l : LoweredParts) : Type 0 where
+  pub core : core_of l.core ≡ core_after skips 4 p
   pub means : (depth : ℕ) (v : Datum) → core_run (core_of l.core) depth v ≡ run p depth v
-  pub laid : l.code.laid ≡ record { table = table_of_program p; with_offsets = [] }
+  pub laid : l.code.laid ≡ layouts_of skips p
 
 -- The layouts of a program's code.
-pub laid_after : (p : ProgramTree) (core : CoreTree) (laid : LaidOut) → core ≡ core_after 3 p → laid ≡ laid_of core → laid ≡ record { table = table_of_program p; with_offsets = [] }
-laid_after p core laid e h = h ∙ ap laid_of e
+pub laid_after : (p : ProgramTree) (skips : Bool) (core : CoreTree) (laid : LaidOut) → core ≡ core_after skips 4 p → laid ≡ laid_of core → laid ≡ layouts_of skips p
+laid_after p skips core laid e h = h ∙ ap laid_of e
 
-pub parameter_of : (p : ProgramTree) (l : LoweredParts) → core_of l.core ≡ core_after 3 p → (core_of l.core).main.parameter ≡ input_type p
-parameter_of p l e = ap (λ (c : CoreTree). c.main.parameter) e
+pub table_laid : (p : ProgramTree) (skips : Bool) (laid : LaidOut) → laid ≡ layouts_of skips p → laid.table ≡ table_of_program p
+table_laid p skips laid e = ap (λ (x : LaidOut). x.table) e
 
-pub root_meant : (p : ProgramTree) (depth : ℕ) (input : List ℕ) (v : Datum) (l l' : LoweredParts) (s : Store) (place : Root) → IsOfProgram p l → IsInput p v input → l' ≡ l
+pub parameter_of : (p : ProgramTree) (skips : Bool) (l : LoweredParts) → core_of l.core ≡ core_after skips 4 p → (core_of l.core).main.parameter ≡ input_type p
+parameter_of p skips l e = ap (λ (c : CoreTree). c.main.parameter) e
+
+pub root_meant : (p : ProgramTree) (skips : Bool) (depth : ℕ) (input : List ℕ) (v : Datum) (l l' : LoweredParts) (s : Store) (place : Root) → IsOfProgram p skips l → IsInput p v input → l' ≡ l
     → IsRootOf l.code.laid s (core_of l.core).main.result (core_run (core_of l.core) depth v) place → StandsMeant p depth input l'.code.laid s place
-root_meant p depth input v l l' s place of is e h =
+root_meant p skips depth input v l l' s place of is e h =
     let there : StandsMeant p depth input l.code.laid s place = record {
       value = v;
       result = h.result;
       is_input = is;
       means = sym (of.means depth v) ∙ h.means;
-      table = ap (λ (x : LaidOut). x.table) of.laid;
+      table = table_laid p skips l.code.laid of.laid;
       stands = subst (λ (t : Ty). Stands l.code.laid s place t h.result) (ap (λ (c : CoreTree). c.main.result) of.core) h.stands;
     } in
     subst (λ (x : LoweredParts). StandsMeant p depth input x.code.laid s place) (sym e) there
 
-lacks_meant : (p : ProgramTree) (depth chunks : ℕ) (input : List ℕ) (v : Datum) (l : LoweredParts) → IsOfProgram p l → IsInput p v input → (why : Reason)
-    → Lacks (core_run (core_of l.core) depth v) chunks (run_cost (core_of l.core) depth 0 v) why → LacksValue p depth chunks input why
-lacks_meant p depth chunks input v l of is reason.Deep h = record { value = v; is_input = is; means = sym (of.means depth v) ∙ h }
-lacks_meant p depth chunks input v l of is reason.Full h = record {
+lacks_meant : (p : ProgramTree) (depth chunks : ℕ) (input : List ℕ) (v : Datum) (l : LoweredParts) → IsOfProgram p skips l → IsInput p v input → (why : Reason)
+    → Lacks (core_run (core_of l.core) depth v) chunks (run_cost (core_of l.core) depth 0 v) why → LacksValue p skips depth chunks input why
+lacks_meant p skips depth chunks input v l of is reason.Deep h = record { value = v; is_input = is; means = sym (of.means depth v) ∙ h }
+lacks_meant p skips depth chunks input v l of is reason.Full h = record {
   value = v;
   is_input = is;
   tight = subst (λ (c : CoreTree). Tight chunks (run_cost c depth 0 v)) of.core h;
 }
 
-pub stop_meant : (p : ProgramTree) (depth chunks : ℕ) (input : List ℕ) (v : Datum) (l : LoweredParts) → IsOfProgram p l → IsInput p v input → (why : Stop)
-    → Halts (core_run (core_of l.core) depth v) chunks (run_cost (core_of l.core) depth 0 v) why → IsMachineStop p depth chunks input why
-stop_meant p depth chunks input v l of is stop.Usage h = h
-stop_meant p depth chunks input v l of is (stop.Source fault) h = h
-stop_meant p depth chunks input v l of is (stop.Unread name) h = h
-stop_meant p depth chunks input v l of is (stop.Input fault) h = absurd h
-stop_meant p depth chunks input v l of is (stop.NoValue why) h = lacks_meant p depth chunks input v l of is why h
-stop_meant p depth chunks input v l of is stop.Memory h = h
-stop_meant p depth chunks input v l of is (stop.Unwritten name) h = h
-stop_meant p depth chunks input v l of is stop.Unput h = h
-
--- The region memory of a run.
-abbrev pub store_of : PlainMem → Store
-store_of m = plain_cells m.bytes.items m.drawn
+pub stop_meant : (p : ProgramTree) (skips : Bool) (depth chunks : ℕ) (input : List ℕ) (v : Datum) (l : LoweredParts) → IsOfProgram p skips l → IsInput p v input → (why : Stop)
+    → Halts (core_run (core_of l.core) depth v) chunks (run_cost (core_of l.core) depth 0 v) why → IsMachineStop p skips depth chunks input why
+stop_meant p skips depth chunks input v l of is stop.Usage h = h
+stop_meant p skips depth chunks input v l of is (stop.Source fault) h = h
+stop_meant p skips depth chunks input v l of is (stop.Unread name) h = h
+stop_meant p skips depth chunks input v l of is (stop.Input fault) h = absurd h
+stop_meant p skips depth chunks input v l of is (stop.NoValue why) h = lacks_meant p skips depth chunks input v l of is why h
+stop_meant p skips depth chunks input v l of is stop.Memory h = h
+stop_meant p skips depth chunks input v l of is (stop.Unwritten name) h = h
+stop_meant p skips depth chunks input v l of is stop.Unput h = h
 
 -- A survey's value is the input.
 input_of : (p : ProgramTree) (input : List ℕ) (s : Surveyed) → length input ≤ 16777216 → ((v : Datum) → Packed s.table s.ty v s.bytes → File (table_of_program p) (input_type p) v input)
@@ -174,41 +171,41 @@ input_of : (p : ProgramTree) (input : List ℕ) (s : Surveyed) → length input 
 input_of p input s short file v q = record { short = short; file = file v q }
 
 -- The run of a program on a survey that is of the input.
-pub survey_stands : (p : ProgramTree) (depth : ℕ) (input : List ℕ) (s : Surveyed) (l : LoweredParts) → IsOfProgram p l → length input ≤ 16777216 → IsPacked s.table s.ty s.bytes s.count
+pub survey_stands : (p : ProgramTree) (skips : Bool) (depth : ℕ) (input : List ℕ) (s : Surveyed) (l : LoweredParts) → IsOfProgram p skips l → length input ≤ 16777216 → IsPacked s.table s.ty s.bytes s.count
     → ((v : Datum) → Packed s.table s.ty v s.bytes → File (table_of_program p) (input_type p) v input) → (r : Result Ran Stop) → IfOk r (λ ran. ran.lowered ≡ l)
-    → IfOk r (λ ran. (v : Datum) → Packed s.table s.ty v s.bytes → IsRootOf l.code.laid (store_of ran.memory) (core_of l.core).main.result (core_run (core_of l.core) depth v) ran.root)
-    → IfOk r (λ ran. StandsMeant p depth input ran.lowered.code.laid (store_of ran.memory) ran.root)
-survey_stands p depth input s l of short packed file (Ok ran) same ends =
-    root_meant p depth input packed.0 l ran.lowered (store_of ran.memory) ran.root of (input_of p input s short file packed.0 packed.1) same (ends packed.0 packed.1)
-survey_stands p depth input s l of short packed file (Err why) same ends = tt {0}
+    → IfOk r (λ ran. (v : Datum) → Packed s.table s.ty v s.bytes → IsRootOf l.code.laid (cells_of ran.memory) (core_of l.core).main.result (core_run (core_of l.core) depth v) ran.root)
+    → IfOk r (λ ran. StandsMeant p depth input ran.lowered.code.laid (cells_of ran.memory) ran.root)
+survey_stands p skips depth input s l of short packed file (Ok ran) same ends =
+    root_meant p skips depth input packed.0 l ran.lowered (cells_of ran.memory) ran.root of (input_of p input s short file packed.0 packed.1) same (ends packed.0 packed.1)
+survey_stands p skips depth input s l of short packed file (Err why) same ends = tt {0}
 
-pub survey_stops : (p : ProgramTree) (depth chunks : ℕ) (input : List ℕ) (s : Surveyed) (l : LoweredParts) → IsOfProgram p l → length input ≤ 16777216 → IsPacked s.table s.ty s.bytes s.count
+pub survey_stops : (p : ProgramTree) (skips : Bool) (depth chunks : ℕ) (input : List ℕ) (s : Surveyed) (l : LoweredParts) → IsOfProgram p skips l → length input ≤ 16777216 → IsPacked s.table s.ty s.bytes s.count
     → ((v : Datum) → Packed s.table s.ty v s.bytes → File (table_of_program p) (input_type p) v input) → (r : Result Ran Stop)
     → IfErr r (λ why. (v : Datum) → Packed s.table s.ty v s.bytes → Halts (core_run (core_of l.core) depth v) chunks (run_cost (core_of l.core) depth 0 v) why)
-    → IfErr r (IsMachineStop p depth chunks input)
-survey_stops p depth chunks input s l of short packed file (Ok ran) ends = tt {0}
-survey_stops p depth chunks input s l of short packed file (Err why) ends = stop_meant p depth chunks input packed.0 l of (input_of p input s short file packed.0 packed.1) why (ends packed.0 packed.1)
+    → IfErr r (IsMachineStop p skips depth chunks input)
+survey_stops p skips depth chunks input s l of short packed file (Ok ran) ends = tt {0}
+survey_stops p skips depth chunks input s l of short packed file (Err why) ends = stop_meant p skips depth chunks input packed.0 l of (input_of p input s short file packed.0 packed.1) why (ends packed.0 packed.1)
 
 -- Any value that is the input is the survey's.
-pub survey_only : (p : ProgramTree) (depth chunks : ℕ) (input : List ℕ) (s : Surveyed) (l : LoweredParts) → IsOfProgram p l → length input ≤ 16777216 → IsPacked s.table s.ty s.bytes s.count
+pub survey_only : (p : ProgramTree) (skips : Bool) (depth chunks : ℕ) (input : List ℕ) (s : Surveyed) (l : LoweredParts) → IsOfProgram p skips l → length input ≤ 16777216 → IsPacked s.table s.ty s.bytes s.count
     → ((v : Datum) → Packed s.table s.ty v s.bytes → File (table_of_program p) (input_type p) v input)
     → ((table : Table) (ty : Ty) (v w : Datum) (bytes : List ℕ) → File table ty v bytes → File table ty w bytes → v ≡ w) → (r : Result Ran Stop) → IfOk r (λ ran. ran.lowered ≡ l)
-    → IfOk r (λ ran. (v : Datum) → Packed s.table s.ty v s.bytes → IsRootOf l.code.laid (store_of ran.memory) (core_of l.core).main.result (core_run (core_of l.core) depth v) ran.root)
+    → IfOk r (λ ran. (v : Datum) → Packed s.table s.ty v s.bytes → IsRootOf l.code.laid (cells_of ran.memory) (core_of l.core).main.result (core_run (core_of l.core) depth v) ran.root)
     → IfErr r (λ why. (v : Datum) → Packed s.table s.ty v s.bytes → Halts (core_run (core_of l.core) depth v) chunks (run_cost (core_of l.core) depth 0 v) why)
     → (v : Datum) → IsInput p v input
-    → MatchResult r (λ ran. IsRootOf ran.lowered.code.laid (store_of ran.memory) (output_type p) (run p depth v) ran.root) (Halts (run p depth v) chunks (program_cost p depth v))
-survey_only p depth chunks input s l of short packed file one (Ok ran) same root halts v is =
-    let meant = survey_stands p depth input s l of short packed file (Ok ran) same root in
+    → MatchResult r (λ ran. IsRootOf ran.lowered.code.laid (cells_of ran.memory) (output_type p) (run p depth v) ran.root) (Halts (run p depth v) chunks (program_cost p skips depth v))
+survey_only p skips depth chunks input s l of short packed file one (Ok ran) same root halts v is =
+    let meant = survey_stands p skips depth input s l of short packed file (Ok ran) same root in
     record {
       result = meant.result;
       means = ap (run p depth) (one (table_of_program p) (input_type p) v meant.value input is.file meant.is_input.file) ∙ meant.means;
       stands = meant.stands;
     }
-survey_only p depth chunks input s l of short packed file one (Err why) same root halts v is =
+survey_only p skips depth chunks input s l of short packed file one (Err why) same root halts v is =
     let w = packed.0 in
     let e : w ≡ v = one (table_of_program p) (input_type p) w v input (file w packed.1) is.file in
     let owed : core_run (core_of l.core) depth w ≡ run p depth v = of.means depth w ∙ ap (run p depth) e in
-    let most : run_cost (core_of l.core) depth 0 w ≡ program_cost p depth v = ap (λ (c : CoreTree). run_cost c depth 0 w) of.core ∙ ap (program_cost p depth) e in
+    let most : run_cost (core_of l.core) depth 0 w ≡ program_cost p skips depth v = ap (λ (c : CoreTree). run_cost c depth 0 w) of.core ∙ ap (program_cost p skips depth) e in
     subst₂ (λ (o : Outcome) (k : Cost). Halts o chunks k why) owed most (halts w packed.1)
 
 -- Where the file is refused, there is no value of which it is the input.

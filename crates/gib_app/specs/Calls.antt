@@ -1,33 +1,37 @@
 -- Which calls of the shelf the words ask for.
-use Rattle.std.specs.Prelude.{ℕ, ◌+◌, List, [], ◌∷◌, ◌++◌, Option, Some, None}
+use Rattle.std.specs.Prelude.{ℕ, ◌+◌, List, [], ◌∷◌, ◌++◌, map, Option, Some, None}
 use Rattle.std.specs.Option.{option_map_or}
 use Rattle.gib_edge.specs.Views.{Call, ReadOf, WriteOf}
-use Rattle.gib_app.specs.Plan.{Document, BuiltIn, Named, Plan}
+use Rattle.gib_app.specs.Plan.{Document, BuiltIn, Named, Write, Plan}
 use Rattle.gib_app.specs.Words.{asked}
-use Rattle.gib_app.specs.Formats.{second_of, most_of}
+use Rattle.gib_app.specs.Formats.{Input, inputs_of}
 
 -- The read of a document that may have so many bytes: one more is asked for, so that a longer file is seen.
 abbrev pub read_calls : Document → ℕ → List Call
 read_calls (BuiltIn bytes) most = []
 read_calls (Named name) most = ReadOf name (most + 1) ∷ []
 
--- The same of a second file.
-abbrev pub second_calls : Option Document → ℕ → List Call
-second_calls None most = []
-second_calls (Some document) most = read_calls document most
+-- The reads of inputs, in their order.
+abbrev pub input_calls : List Input → List Call
+input_calls [] = []
+input_calls (input ∷ rest) = read_calls input.document input.most ++ input_calls rest
 
 -- The write of a file.
 abbrev pub write_calls : Option (List ℕ) → List Call
 write_calls None = []
 write_calls (Some name) = WriteOf name ∷ []
 
+-- The writes that are made first.
+abbrev pub first_calls : List Write → List Call
+first_calls writes = map (λ write. WriteOf write.name) writes
+
 -- The reads of a plan.
 abbrev pub reads_of : Plan → List Call
-reads_of plan = read_calls plan.source 1048576 ++ second_calls (second_of plan) (most_of plan.job)
+reads_of plan = read_calls plan.source 1048576 ++ input_calls (inputs_of plan)
 
--- All calls of a plan: its source is read, then its second file, then its file is written.
+-- All calls of a plan: the first writes, then the read of its source and those of its inputs, then the write of its file.
 abbrev pub calls_of : Plan → List Call
-calls_of plan = reads_of plan ++ write_calls plan.target
+calls_of plan = first_calls plan.first ++ (reads_of plan ++ write_calls plan.target)
 
 -- The calls that the words ask for.
 abbrev pub calls_asked : List (List ℕ) → List Call

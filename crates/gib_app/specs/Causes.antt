@@ -1,14 +1,15 @@
 -- What the words of a call ask for, the bytes of its files, and the counts of faults.
-use Rattle.std.specs.Prelude.{◌≡◌, ℕ, ◌⊎◌, List, [], length, Option, None, Some, MatchOption, Bool}
+use Rattle.std.specs.Prelude.{◌≡◌, ℕ, ◌⊎◌, List, [], ◌∷◌, length, Option, None, Some, MatchOption, Bool}
 use Rattle.gib_base.specs.Lexed.{Lexed}
-use Rattle.gib_edge.specs.Causes.{Rose, told, IsAllOf, IsUntold, Appends, AppendsPart, PutsPieces, PutsSomePieces}
+use Rattle.gib_edge.specs.Causes.{Rose, IsAllOf, Appends, AppendsPart, PutsPieces, PutsSomePieces}
 use Rattle.gib_edge.specs.Views.{ShelfView, SinkView}
 use Rattle.gib_syntax.specs.Tree.{ProgramTree}
 use Rattle.gib_app.specs.declared.made.Reason.{Reason}
-use Rattle.gib_app.specs.Plan.{Document, BuiltIn, Named, Plan, Files, bytes_in}
+use Rattle.gib_app.specs.Plan.{Document, BuiltIn, Named, Plan, Files, bytes_in, Contents}
+use Rattle.gib_app.specs.Writes.{at_reading, AreWritten, IsStuck, IsStuckIn}
 use Rattle.gib_app.specs.Words.{asked}
 use Rattle.gib_app.specs.Running.{IsProgram, IsSource}
-use Rattle.gib_app.specs.Formats.{second_of}
+use Rattle.gib_app.specs.Formats.{Input, inputs_of}
 use Rattle.gib_app.specs.Jobs.{End, Prints, NoValue, Does}
 
 -- How often reads or writes of names have failed.
@@ -19,10 +20,16 @@ Counts = List ℕ → ℕ
 abbrev pub Holds : Files → Document → List ℕ → Type 0
 Holds kept document bytes = IsAllOf (bytes_in kept document) bytes
 
--- The same of a second file; where none is read there are no bytes.
-abbrev pub HoldsSecond : Files → Option Document → List ℕ → Type 0
-HoldsSecond kept None bytes = bytes ≡ []
-HoldsSecond kept (Some document) bytes = Holds kept document bytes
+-- The same of further inputs, in their order.
+abbrev pub AreFurther : Files → List Input → List (List ℕ) → Type 0
+AreFurther kept [] further = further ≡ []
+AreFurther kept (input ∷ rest) [] = ⊥
+AreFurther kept (input ∷ rest) (bytes ∷ further) = Holds kept input.document bytes × AreFurther kept rest further
+
+-- The same of all inputs.
+abbrev pub AreGiven : Files → List Input → Contents → Type 0
+AreGiven kept [] given = (given.second ≡ []) × (given.further ≡ [])
+AreGiven kept (input ∷ rest) given = Holds kept input.document given.second × AreFurther kept rest given.further
 
 -- The document has these bytes, of which this holds.
 pub record OnSource (kept : Files) (first : Document) (P : List ℕ → Type 0) : Type 0 where
@@ -30,13 +37,13 @@ pub record OnSource (kept : Files) (first : Document) (P : List ℕ → Type 0) 
   pub source_held : Holds kept first source
   pub holds : P source
 
--- The source and the second file have these bytes, of which this holds.
-pub record OnFiles (kept : Files) (first : Document) (other : Option Document) (P : List ℕ → List ℕ → Type 0) : Type 0 where
+-- The source and the inputs have these bytes, of which this holds.
+pub record OnFiles (kept : Files) (first : Document) (inputs : List Input) (P : List ℕ → Contents → Type 0) : Type 0 where
   pub source : List ℕ
-  pub second : List ℕ
+  pub given : Contents
   pub source_held : Holds kept first source
-  pub second_held : HoldsSecond kept other second
-  pub holds : P source second
+  pub given_held : AreGiven kept inputs given
+  pub holds : P source given
 
 -- The source is a program, of which this holds with its names.
 pub record OnProgram (source : List ℕ) (P : ProgramTree → List (List ℕ) → Type 0) : Type 0 where
@@ -46,74 +53,84 @@ pub record OnProgram (source : List ℕ) (P : ProgramTree → List (List ℕ) �
   pub holds : P program lexed.names
 
 -- The words are taken, and this holds of the bytes of the source that they name.
-abbrev pub AsksSource : List (List ℕ) → Files → (List ℕ → Type 0) → Type 0
-AsksSource words kept P = MatchOption (asked words) ⊥ (λ plan. OnSource kept plan.source P)
+abbrev pub AsksSource : Bool → List (List ℕ) → Files → (List ℕ → Type 0) → Type 0
+AsksSource tells words kept P = MatchOption (asked words) ⊥ (λ plan. OnSource (at_reading tells kept plan) plan.source P)
 
--- The words are taken, and this holds of the bytes of both files that they name.
-abbrev pub AsksFiles : List (List ℕ) → Files → (Plan → List ℕ → List ℕ → Type 0) → Type 0
-AsksFiles words kept P = MatchOption (asked words) ⊥ (λ plan. OnFiles kept plan.source (second_of plan) (P plan))
+-- The source of a plan is a program, of which this holds with its names and the bytes of the inputs.
+abbrev pub OnBoth : Files → Plan → (ProgramTree → List (List ℕ) → Contents → Type 0) → Type 0
+OnBoth kept plan P = OnFiles kept plan.source (inputs_of plan) (λ source given. OnProgram source (λ p names. P p names given))
 
--- The same where the source is a program, of which this holds with its names and the bytes of the second file.
-abbrev pub AsksProgram : List (List ℕ) → Files → (Plan → ProgramTree → List (List ℕ) → List ℕ → Type 0) → Type 0
-AsksProgram words kept P = AsksFiles words kept (λ plan source second. OnProgram source (λ p names. P plan p names second))
+-- The words are taken, and the same holds of their plan.
+abbrev pub AsksProgram : Bool → List (List ℕ) → Files → (Plan → ProgramTree → List (List ℕ) → Contents → Type 0) → Type 0
+AsksProgram tells words kept P = MatchOption (asked words) ⊥ (λ plan. OnBoth (at_reading tells kept plan) plan (P plan))
 
--- The file that a job made, if any, stands under the target's name, if there is one.
-abbrev pub IsWritten : Bool → Files → Option (List ℕ) → Option (List ℕ) → Type 0
-IsWritten tells now None file = Unit {0}
-IsWritten tells now (Some name) None = Unit {0}
-IsWritten tells now (Some name) (Some bytes) = now name ≡ told tells bytes
-
--- The same where the output was put: where there is a target, the job made a file.
-abbrev pub IsStored : Bool → Files → Option (List ℕ) → Option (List ℕ) → Type 0
-IsStored tells now None file = Unit {0}
-IsStored tells now (Some name) None = ⊥
-IsStored tells now (Some name) (Some bytes) = now name ≡ told tells bytes
-
--- The job was done, and ends with a text; the file that it made is written.
-pub record IsMade (tells : Bool) (now : Files) (plan : Plan) (p : ProgramTree) (names : List (List ℕ)) (second text : List ℕ) : Type 0 where
+-- The job was done and ends so; the file that it made, if any, was written.
+pub record IsEnded (tells : Bool) (before now : Files) (plan : Plan) (p : ProgramTree) (names : List (List ℕ)) (given : Contents) (end : End) : Type 0 where
   pub file : Option (List ℕ)
-  pub does : Does plan.job plan.options p names second file (Prints text)
-  pub stored : IsStored tells now plan.target file
+  pub does : Does plan.job plan.options p names given file end
+  pub written : AreWritten tells before now plan file
+
+-- Where there is a target, a file was made.
+abbrev pub IsStored : (target file : Option (List ℕ)) → Type 0
+IsStored None file = Unit {0}
+IsStored (Some name) None = ⊥
+IsStored (Some name) (Some bytes) = Unit {0}
+
+-- The job was done and ends with a text; the file that it made is written.
+pub record IsMade (tells : Bool) (before now : Files) (plan : Plan) (p : ProgramTree) (names : List (List ℕ)) (given : Contents) (text : List ℕ) : Type 0 where
+  pub ended : IsEnded tells before now plan p names given (Prints text)
+  pub stored : IsStored plan.target ended.file
 
 -- The job ends without a value, for this reason.
-abbrev pub HasNoValue : Reason → Plan → ProgramTree → List (List ℕ) → List ℕ → Type 0
-HasNoValue reason plan p names second = (file : Option (List ℕ)) × Does plan.job plan.options p names second file (NoValue reason)
+abbrev pub HasNoValue : Reason → Plan → ProgramTree → List (List ℕ) → Contents → Type 0
+HasNoValue reason plan p names given = (file : Option (List ℕ)) × Does plan.job plan.options p names given file (NoValue reason)
 
 -- The job makes a file.
-abbrev pub HasFile : Plan → ProgramTree → List (List ℕ) → List ℕ → Type 0
-HasFile plan p names second = (bytes : List ℕ) × (end : End) × Does plan.job plan.options p names second (Some bytes) end
+abbrev pub HasFile : Plan → ProgramTree → List (List ℕ) → Contents → Type 0
+HasFile plan p names given = (bytes : List ℕ) × (end : End) × Does plan.job plan.options p names given (Some bytes) end
 
 -- What the words ask for was made, and `out` took it, whole and nothing else, in pieces; what is to be written is written.
 abbrev pub IsPrinted : Bool → List (List ℕ) → ShelfView → ShelfView → SinkView → SinkView → Type 0
 IsPrinted tells words before now out_before out_now =
-    AsksProgram words before.kept
-    (λ plan p names second. (text : List ℕ) × IsMade tells now.kept plan p names second text
+    AsksProgram tells words before.kept
+    (λ plan p names given. (text : List ℕ) × IsMade tells before.kept now.kept plan p names given text
     × Appends out_before.taken out_now.taken text × PutsPieces out_before out_now (length text))
 
 -- The same, but `out` took a front alone, and its count rose.
 abbrev pub IsPrintedInPart : Bool → List (List ℕ) → ShelfView → ShelfView → SinkView → SinkView → Type 0
 IsPrintedInPart tells words before now out_before out_now =
-    AsksProgram words before.kept
-    (λ plan p names second. (text : List ℕ) × IsMade tells now.kept plan p names second text
+    AsksProgram tells words before.kept
+    (λ plan p names given. (text : List ℕ) × IsMade tells before.kept now.kept plan p names given text
     × AppendsPart out_before.taken out_now.taken text × PutsSomePieces out_before out_now (length text))
 
--- The job makes a file, and the count of the name under which that is to be written rose; it is not told what that holds now.
-abbrev pub IsUnwritten : ShelfView → ShelfView → Plan → ProgramTree → List (List ℕ) → List ℕ → List ℕ → Type 0
-IsUnwritten before now plan p names second name =
-    (plan.target ≡ Some name) × HasFile plan p names second × IsUntold (now.kept name) × Rose (before.writes name) (now.writes name)
+-- The job ends without a value, for this reason; the file that it made, if any, is written.
+abbrev pub EndsWithout : Bool → ShelfView → ShelfView → Reason → Plan → ProgramTree → List (List ℕ) → Contents → Type 0
+EndsWithout tells before now reason plan p names given = IsEnded tells before.kept now.kept plan p names given (NoValue reason)
+
+-- The job makes a file that is to be written under this name, and that fails.
+abbrev pub IsUnwritten : Bool → ShelfView → ShelfView → Plan → ProgramTree → List (List ℕ) → Contents → List ℕ → Type 0
+IsUnwritten tells before now plan p names given name =
+    (plan.target ≡ Some name) × HasFile plan p names given × IsStuck (at_reading tells before.kept plan) before now name
+
+-- The file of this name could not be written: it is one of the first, or that of the job.
+abbrev pub FailsToWrite : Bool → ShelfView → ShelfView → Plan → List ℕ → Type 0
+FailsToWrite tells before now plan name =
+    IsStuckIn tells before.kept plan.first before now name
+    ⊎ OnBoth (at_reading tells before.kept plan) plan (λ p names given. IsUnwritten tells before now plan p names given name)
 
 -- The count of the document's file rose, which has this name.
 abbrev pub IsUnread : ShelfView → ShelfView → Document → List ℕ → Type 0
 IsUnread before now (BuiltIn bytes) name = ⊥
 IsUnread before now (Named file) name = (file ≡ name) × Rose (before.reads name) (now.reads name)
 
--- The same of a second file.
-abbrev pub IsSecondUnread : ShelfView → ShelfView → Option Document → List ℕ → Type 0
-IsSecondUnread before now None name = ⊥
-IsSecondUnread before now (Some document) name = IsUnread before now document name
+-- The same of one of the inputs.
+abbrev pub AreUnread : ShelfView → ShelfView → List Input → List ℕ → Type 0
+AreUnread before now [] name = ⊥
+AreUnread before now (input ∷ rest) name = IsUnread before now input.document name ⊎ AreUnread before now rest name
 
--- The file of this name could not be read: it is the source, or else the second file, and the source is a program.
-abbrev pub FailsToRead : ShelfView → ShelfView → Plan → List ℕ → Type 0
-FailsToRead before now plan name =
+-- The file of this name could not be read: it is the source, or else an input, and the source is a program. These are the files
+-- that are read.
+abbrev pub FailsToRead : Files → ShelfView → ShelfView → Plan → List ℕ → Type 0
+FailsToRead kept before now plan name =
     IsUnread before now plan.source name
-    ⊎ (IsSecondUnread before now (second_of plan) name × OnSource before.kept plan.source IsSource)
+    ⊎ (AreUnread before now (inputs_of plan) name × OnSource kept plan.source IsSource)

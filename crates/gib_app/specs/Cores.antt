@@ -1,23 +1,38 @@
--- The core of a program after each pass.
-use Rattle.std.specs.Prelude.{ℕ, [], nat_lt, if◌then◌else◌}
+-- The core of a program after each pass, and how its values lie in memory. Fields are reached by offsets that heads store; with
+-- the flag `--skips`, each from the end of the field before it.
+use Rattle.std.specs.Prelude.{ℕ, nat_lt, Bool, if◌then◌else◌}
 use Rattle.gib_types.specs.Layout.{LaidOut}
 use Rattle.gib_syntax.specs.Tree.{ProgramTree}
-use Rattle.gib_syntax.specs.Declarations.{table_of_program}
-use Rattle.gib_core.specs.declared.atom.AccessMode.TheVariants.{Skips}
+use Rattle.gib_core.specs.declared.atom.AccessMode.{AccessMode}
+use Rattle.gib_core.specs.declared.atom.AccessMode.TheVariants.{Skips, Offsets}
 use Rattle.gib_core.specs.Tree.{CoreTree}
 use Rattle.gib_core.specs.Inferring.{infer_program}
+use Rattle.gib_core.specs.Low.{laid_of}
+use Rattle.gib_core.specs.Marking.{mark_core}
 use Rattle.gib_core.specs.Reaching.{reach_core}
 use Rattle.gib_place.specs.Numbering.{place_core}
+
+-- How fields are reached, by whether the flag is given.
+abbrev pub mode_of : Bool → AccessMode
+mode_of skips = if skips then Skips else Offsets
 
 -- The core of a program whose values are built where they belong.
 abbrev pub placed_program : ProgramTree → CoreTree
 placed_program p = place_core (infer_program p)
 
--- The core of a program after a pass: 1 makes it of the program, 2 builds values where they belong, 3 reaches the fields
--- of arms, 4 marks sides that may run at the same time. Marks are not there yet: 4 leaves the core as it is after 3.
-abbrev pub core_after : ℕ → ProgramTree → CoreTree
-core_after pass p = if nat_lt pass 2 then infer_program p else if nat_lt pass 3 then placed_program p else reach_core Skips (placed_program p)
+-- And with the fields of its arms reached.
+abbrev pub reached_program : Bool → ProgramTree → CoreTree
+reached_program skips p = reach_core (mode_of skips) (placed_program p)
 
--- How the heads of a program's values lie in region memory: none of them stores offsets.
-abbrev pub layouts_of : ProgramTree → LaidOut
-layouts_of p = record { table = table_of_program p; with_offsets = [] }
+-- The core of a program after a pass: 1 makes it of the program, 2 builds values where they belong, 3 reaches the fields
+-- of arms, 4 marks the `par`s whose sides may run at the same time. The core after pass 4 is the one that runs.
+abbrev pub core_after : Bool → ℕ → ProgramTree → CoreTree
+core_after skips pass p =
+    if nat_lt pass 2 then infer_program p else
+    if nat_lt pass 3 then placed_program p else
+    if nat_lt pass 4 then reached_program skips p else mark_core (reached_program skips p)
+
+-- How the heads of a program's values lie in region memory: as in the core that runs. A constructor stores offsets where an arm
+-- of it uses a packed field but the first; with the flag none does.
+abbrev pub layouts_of : Bool → ProgramTree → LaidOut
+layouts_of skips p = laid_of (core_after skips 4 p)

@@ -1,5 +1,6 @@
 -- Each status by its cause, and what stays with it.
-use Rattle.std.specs.Prelude.{◌≡◌, ◌≢◌, ◌⊎◌, ℕ, List, [], ◌++◌, codes, Option, None, Some, MatchOption, Bool, ⊤}
+use Rattle.std.specs.Prelude.{◌≡◌, ◌≢◌, ◌⊎◌, ℕ, List, [], ◌∷◌, ◌++◌, take, codes, Option, None, Some, MatchOption, Bool, ⊤}
+use Rattle.std.specs.Option.{option_map_or}
 use Rattle.gib_edge.specs.Causes.{Rose}
 use Rattle.gib_edge.specs.Views.{Has, Missing, ShelfView, SinkView}
 use Rattle.gib_syntax.specs.Tree.{ProgramTree}
@@ -8,22 +9,25 @@ use Rattle.gib_app.specs.declared.plan.Job.TheVariants.{Run}
 use Rattle.gib_app.specs.declared.source_fault.SourceFault.{SourceFault}
 use Rattle.gib_app.specs.declared.status.Status.{Status}
 use Rattle.gib_app.specs.declared.status.Status.TheVariants.{Done, Source, Usage, Depth, Full, Memory, ReadFault, WriteFault, Input}
+use Rattle.gib_app.specs.declared.made.Reason.{Reason}
 use Rattle.gib_app.specs.declared.made.Reason.TheVariants as reason
 use Rattle.gib_app.specs.declared.made.Reason.TheVariants.{Deep}
-use Rattle.gib_app.specs.Plan.{Document, Plan, Files, bytes_in}
+use Rattle.gib_app.specs.Plan.{Document, Write, Plan, Files, bytes_in, Contents}
+use Rattle.gib_app.specs.Writes.{after, at_reading, AreMade, IsNamedIn, IsTarget}
 use Rattle.gib_app.specs.Words.{asked}
 use Rattle.gib_app.specs.Running.{IsSource, IsNoProgram}
 use Rattle.gib_app.specs.SourceFaults.{IsSourceFault}
-use Rattle.gib_app.specs.Formats.{second_of, Accepts, Refuses}
+use Rattle.gib_app.specs.Formats.{inputs_of, Accepts, Refuses}
+use Rattle.gib_app.specs.Formats.{Input as PlanInput}
 use Rattle.gib_app.specs.Lines.{line, source_text, input_text}
-use Rattle.gib_app.specs.Jobs.{Prints, Does, without_image}
-use Rattle.gib_app.specs.Causes.{Counts, OnProgram, HasNoValue, AsksSource, AsksProgram, IsPrinted, IsPrintedInPart, IsUnwritten, IsUnread, IsSecondUnread, FailsToRead}
+use Rattle.gib_app.specs.Jobs.{End, Prints, NoValue, Does, without_image}
+use Rattle.gib_app.specs.Causes.{Counts, OnProgram, HasNoValue, EndsWithout, AsksSource, AsksProgram, IsPrinted, IsPrintedInPart, IsUnread, AreUnread, FailsToRead, FailsToWrite}
 
--- The file that is to be written could not be, `out` was not asked, and the line names the file; or `out` took a front of what
+-- A file that is to be written could not be, `out` was not asked, and the line names the file; or `out` took a front of what
 -- is printed, and its count rose.
 abbrev pub IsWriteEnding : Bool → List (List ℕ) → ShelfView → ShelfView → SinkView → SinkView → List ℕ → Type 0
 IsWriteEnding tells words before now out_before out_now said =
-    ((name : List ℕ) × AsksProgram words before.kept (λ plan p names second. IsUnwritten before now plan p names second name) × (out_now ≡ out_before)
+    ((name : List ℕ) × MatchOption (asked words) ⊥ (λ plan. FailsToWrite tells before now plan name) × (out_now ≡ out_before)
     × (said ≡ line (codes "cannot write " ++ name)))
     ⊎ (IsPrintedInPart tells words before now out_before out_now × Rose out_before.faults out_now.faults × ((name : List ℕ) → now.writes name ≡ before.writes name)
     × (said ≡ line (codes "cannot write")))
@@ -34,25 +38,42 @@ IsWriteEnding tells words before now out_before out_now said =
 abbrev pub IsEnding : Bool → List (List ℕ) → ShelfView → ShelfView → SinkView → SinkView → Status → List ℕ → Type 0
 IsEnding tells words before now out_before out_now Done said = IsPrinted tells words before now out_before out_now × (said ≡ [])
 IsEnding tells words before now out_before out_now Source said =
-    (fault : SourceFault) × AsksSource words before.kept (λ bytes. IsSourceFault bytes fault × IsNoProgram bytes) × (said ≡ line (source_text fault))
+    (fault : SourceFault) × AsksSource tells words before.kept (λ bytes. IsSourceFault bytes fault × IsNoProgram bytes) × (said ≡ line (source_text fault))
 IsEnding tells words before now out_before out_now Usage said = (asked words ≡ None) × (said ≡ line (codes "usage"))
-IsEnding tells words before now out_before out_now Depth said = AsksProgram words before.kept (HasNoValue Deep) × (said ≡ line (codes "depth"))
-IsEnding tells words before now out_before out_now Full said = AsksProgram words before.kept (HasNoValue reason.Full) × (said ≡ line (codes "chunks"))
+IsEnding tells words before now out_before out_now Depth said = AsksProgram tells words before.kept (EndsWithout tells before now Deep) × (said ≡ line (codes "depth"))
+IsEnding tells words before now out_before out_now Full said = AsksProgram tells words before.kept (EndsWithout tells before now reason.Full) × (said ≡ line (codes "chunks"))
 IsEnding tells words before now out_before out_now Memory said = said ≡ line (codes "memory")
 IsEnding tells words before now out_before out_now ReadFault said =
-    (name : List ℕ) × MatchOption (asked words) ⊥ (λ plan. FailsToRead before now plan name) × (said ≡ line (codes "cannot read " ++ name))
+    (name : List ℕ) × MatchOption (asked words) ⊥ (λ plan. FailsToRead (at_reading tells before.kept plan) before now plan name) × (said ≡ line (codes "cannot read " ++ name))
 IsEnding tells words before now out_before out_now WriteFault said = IsWriteEnding tells words before now out_before out_now said
 IsEnding tells words before now out_before out_now Input said =
-    (fault : InputFault) × AsksProgram words before.kept (λ plan p names second. Refuses plan.job p names second fault × (Accepts plan.job p names second → ⊥)) × (said ≡ line (input_text fault))
+    (fault : InputFault) × AsksProgram tells words before.kept (λ plan p names given. Refuses plan.job plan.options.skips p names given fault × (Accepts plan.job plan.options.skips p names given → ⊥)) × (said ≡ line (input_text fault))
 
--- Not the name of the file that the words ask to write.
+-- Not the name of a file that the words ask to write.
 abbrev pub IsNoTarget : List (List ℕ) → List ℕ → Type 0
-IsNoTarget words name = MatchOption (asked words) ⊤ (λ plan. plan.target ≡ Some name → ⊥)
+IsNoTarget words name = MatchOption (asked words) ⊤ (λ plan. IsTarget plan name → ⊥)
 
--- What names hold stays, but for the file that is to be written at `Done` and at `WriteFault`.
-pub record FilesStay (words : List (List ℕ)) (before now : Files) (status : Status) : Type 0 where
+-- The writes that the words ask for before anything is read.
+abbrev pub first_asked : List (List ℕ) → List Write
+first_asked words = option_map_or (λ plan. plan.first) (asked words) []
+
+-- What was written of the first writes where no job was done: all of them, and nothing else; where memory ran out, a front of them.
+-- At the other statuses their causes say what was written.
+abbrev pub StaysAfter : Bool → List Write → (before now : Files) → Status → Type 0
+StaysAfter tells first before now Done = ⊤
+StaysAfter tells first before now Source = AreMade tells before now first
+StaysAfter tells first before now Usage = AreMade tells before now first
+StaysAfter tells first before now Depth = ⊤
+StaysAfter tells first before now Full = ⊤
+StaysAfter tells first before now Memory = (count : ℕ) × AreMade tells before now (take count first)
+StaysAfter tells first before now ReadFault = AreMade tells before now first
+StaysAfter tells first before now WriteFault = ⊤
+StaysAfter tells first before now Input = AreMade tells before now first
+
+-- What names hold stays, but for the files that are to be written; and where no job was done, for option_to_list that are written first.
+pub record FilesStay (tells : Bool) (words : List (List ℕ)) (before now : Files) (status : Status) : Type 0 where
   pub others : (name : List ℕ) → IsNoTarget words name → now name ≡ before name
-  pub same : status ≢ Done → status ≢ WriteFault → (name : List ℕ) → now name ≡ before name
+  pub same : StaysAfter tells (first_asked words) before now status
 
 -- Counts of reads stay, but where a file could not be read.
 abbrev pub ReadsStay : Counts → Counts → Status → Type 0
@@ -68,62 +89,81 @@ pub record OutStays (before now : SinkView) (status : Status) : Type 0 where
   pub same : status ≢ Done → status ≢ WriteFault → now ≡ before
 
 -- The job ends with a text, where it may leave out an image.
-abbrev pub HasText : Plan → ProgramTree → List (List ℕ) → List ℕ → Type 0
-HasText plan p names second = (file : Option (List ℕ)) × (text : List ℕ) × Does plan.job (without_image plan.options) p names second file (Prints text)
+abbrev pub HasText : Plan → ProgramTree → List (List ℕ) → Contents → Type 0
+HasText plan p names given = (file : Option (List ℕ)) × (text : List ℕ) × Does plan.job (without_image plan.options) p names given file (Prints text)
 
--- The bytes of a second file, which are told; where none is read there are no bytes.
-abbrev pub IsTold : Files → Option Document → List ℕ → Type 0
-IsTold kept None bytes = bytes ≡ []
-IsTold kept (Some document) bytes = bytes_in kept document ≡ Has bytes
+-- The bytes of further inputs, which are told.
+abbrev pub AreFurtherTold : Files → List PlanInput → List (List ℕ) → Type 0
+AreFurtherTold kept [] further = further ≡ []
+AreFurtherTold kept (input ∷ rest) [] = ⊥
+AreFurtherTold kept (input ∷ rest) (bytes ∷ further) = (bytes_in kept input.document ≡ Has bytes) × AreFurtherTold kept rest further
 
--- The bytes of the source are told, this holds of them, and the count of its file did not rise.
-pub record DueOfSource (before now : ShelfView) (plan : Plan) (P : List ℕ → Type 0) : Type 0 where
+-- The bytes of all inputs, which are told.
+abbrev pub AreTold : Files → List PlanInput → Contents → Type 0
+AreTold kept [] given = (given.second ≡ []) × (given.further ≡ [])
+AreTold kept (input ∷ rest) given = (bytes_in kept input.document ≡ Has given.second) × AreFurtherTold kept rest given.further
+
+-- No count rose of a name under which one of the first writes is.
+abbrev pub FirstWritten : ShelfView → ShelfView → Plan → Type 0
+FirstWritten before now plan = (name : List ℕ) → IsNamedIn plan.first name → Rose (before.writes name) (now.writes name) → ⊥
+
+-- The bytes of the source are told, this holds of them, and the count of its file did not rise, nor that of a first write.
+pub record DueOfSource (tells : Bool) (before now : ShelfView) (plan : Plan) (P : List ℕ → Type 0) : Type 0 where
   pub source : List ℕ
-  pub source_told : bytes_in before.kept plan.source ≡ Has source
+  pub source_told : bytes_in (at_reading tells before.kept plan) plan.source ≡ Has source
+  pub first_written : FirstWritten before now plan
   pub source_read : (name : List ℕ) → IsUnread before now plan.source name → ⊥
   pub holds : P source
 
--- The bytes of both files are told, the source is a program, of which this holds with its names and the bytes
--- of the second file, and the counts of both files did not rise.
-pub record DueOfFiles (before now : ShelfView) (plan : Plan) (P : ProgramTree → List (List ℕ) → List ℕ → Type 0) : Type 0 where
+-- The bytes of all files are told, the source is a program, of which this holds with its names and the bytes
+-- of the inputs, and no count of these files rose, nor that of a first write.
+pub record DueOfFiles (tells : Bool) (before now : ShelfView) (plan : Plan) (P : ProgramTree → List (List ℕ) → Contents → Type 0) : Type 0 where
   pub source : List ℕ
-  pub second : List ℕ
-  pub source_told : bytes_in before.kept plan.source ≡ Has source
-  pub second_told : IsTold before.kept (second_of plan) second
+  pub given : Contents
+  pub source_told : bytes_in (at_reading tells before.kept plan) plan.source ≡ Has source
+  pub given_told : AreTold (at_reading tells before.kept plan) (inputs_of plan) given
+  pub first_written : FirstWritten before now plan
   pub source_read : (name : List ℕ) → IsUnread before now plan.source name → ⊥
-  pub second_read : (name : List ℕ) → IsSecondUnread before now (second_of plan) name → ⊥
-  pub holds : OnProgram source (λ p names. P p names second)
+  pub given_read : (name : List ℕ) → AreUnread before now (inputs_of plan) name → ⊥
+  pub holds : OnProgram source (λ p names. P p names given)
 
--- The second file is not there.
-abbrev pub IsMissing : Files → Option Document → Type 0
-IsMissing kept None = ⊥
-IsMissing kept (Some document) = bytes_in kept document ≡ Missing
+-- The first input is not there.
+abbrev pub IsMissing : Files → List PlanInput → Type 0
+IsMissing kept [] = ⊥
+IsMissing kept (input ∷ rest) = bytes_in kept input.document ≡ Missing
 
--- A file that is to be read is not there: the source, or else the second file, and the source is a program.
-abbrev pub DueMissing : ShelfView → ShelfView → Plan → Type 0
-DueMissing before now plan =
-    (bytes_in before.kept plan.source ≡ Missing)
-    ⊎ (DueOfSource before now plan IsSource × IsMissing before.kept (second_of plan))
+-- A file that is to be read is not there: the source, or else the first input, and the source is a program.
+abbrev pub DueMissing : Bool → ShelfView → ShelfView → Plan → Type 0
+DueMissing tells before now plan =
+    ((bytes_in (at_reading tells before.kept plan) plan.source ≡ Missing) × FirstWritten before now plan)
+    ⊎ (DueOfSource tells before now plan IsSource × IsMissing (at_reading tells before.kept plan) (inputs_of plan))
 
 -- The counts of `out` and of the file that is to be written did not rise.
 pub record TakesAll (before now : ShelfView) (out_before out_now : SinkView) (plan : Plan) : Type 0 where
   pub target : (name : List ℕ) → plan.target ≡ Some name → Rose (before.writes name) (now.writes name) → ⊥
   pub out : Rose out_before.faults out_now.faults → ⊥
 
+-- The job ends without a value for this reason, and where it makes a file then, the count of its name did not rise.
+abbrev pub DueWithout : ShelfView → ShelfView → Reason → Plan → ProgramTree → List (List ℕ) → Contents → Type 0
+DueWithout before now reason plan p names given =
+    HasNoValue reason plan p names given
+    × ((name bytes : List ℕ) → plan.target ≡ Some name → Does plan.job plan.options p names given (Some bytes) (NoValue reason) → Rose (before.writes name) (now.writes name) → ⊥)
+
 -- The status that is due by the words and by the bytes of the files that they name, where these are told and no
 -- count on the way rose; a file that is not there is told too.
-abbrev pub IsDue : List (List ℕ) → ShelfView → ShelfView → SinkView → SinkView → Status → Type 0
-IsDue words before now out_before out_now Done =
+abbrev pub IsDue : Bool → List (List ℕ) → ShelfView → ShelfView → SinkView → SinkView → Status → Type 0
+IsDue tells words before now out_before out_now Done =
     MatchOption (asked words) ⊥
-    (λ plan. DueOfFiles before now plan (HasText plan) × TakesAll before now out_before out_now plan)
-IsDue words before now out_before out_now Source = MatchOption (asked words) ⊥ (λ plan. DueOfSource before now plan IsNoProgram)
-IsDue words before now out_before out_now Usage = asked words ≡ None
-IsDue words before now out_before out_now Depth = MatchOption (asked words) ⊥ (λ plan. DueOfFiles before now plan (HasNoValue Deep plan))
-IsDue words before now out_before out_now Full = ⊥
-IsDue words before now out_before out_now Memory = ⊥
-IsDue words before now out_before out_now ReadFault = MatchOption (asked words) ⊥ (DueMissing before now)
-IsDue words before now out_before out_now WriteFault = ⊥
-IsDue words before now out_before out_now Input = MatchOption (asked words) ⊥ (λ plan. DueOfFiles before now plan (λ p names second. Accepts plan.job p names second → ⊥))
+    (λ plan. DueOfFiles tells before now plan (HasText plan) × TakesAll before now out_before out_now plan)
+IsDue tells words before now out_before out_now Source = MatchOption (asked words) ⊥ (λ plan. DueOfSource tells before now plan IsNoProgram)
+IsDue tells words before now out_before out_now Usage = asked words ≡ None
+IsDue tells words before now out_before out_now Depth = MatchOption (asked words) ⊥ (λ plan. DueOfFiles tells before now plan (DueWithout before now Deep plan))
+IsDue tells words before now out_before out_now Full = ⊥
+IsDue tells words before now out_before out_now Memory = ⊥
+IsDue tells words before now out_before out_now ReadFault = MatchOption (asked words) ⊥ (DueMissing tells before now)
+IsDue tells words before now out_before out_now WriteFault = ⊥
+IsDue tells words before now out_before out_now Input =
+    MatchOption (asked words) ⊥ (λ plan. DueOfFiles tells before now plan (λ p names given. Accepts plan.job plan.options.skips p names given → ⊥))
 
 -- The words ask for `run`: no other job uses chunks of region memory.
 abbrev pub AsksRun : List (List ℕ) → Type 0

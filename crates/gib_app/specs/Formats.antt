@@ -1,5 +1,5 @@
--- What the second file of each job is, which files are accepted as that, and why others are refused.
-use Rattle.std.specs.Prelude.{ℕ, List, Option, None, Some, MatchOption, option_and_then, ⊤}
+-- What the inputs of each job are, which are accepted as that, and why others are refused.
+use Rattle.std.specs.Prelude.{Bool, ℕ, List, [], ◌∷◌, Option, None, Some, MatchOption, ⊤}
 use Rattle.std.specs.Option.{option_map_or}
 use Rattle.gib_types.specs.Tree.{Datum}
 use Rattle.gib_syntax.specs.Tree.{ProgramTree}
@@ -8,12 +8,12 @@ use Rattle.gib_app.specs.declared.plan.Format.{Format}
 use Rattle.gib_app.specs.declared.plan.Format.TheVariants.{Packed, Text, Shown}
 use Rattle.gib_app.specs.declared.plan.Job.{Job}
 use Rattle.gib_app.specs.declared.plan.Job.TheVariants.{Run, Plain, Check, Core, Code, Pack, Show}
-use Rattle.gib_app.specs.Plan.{Document, Plan}
+use Rattle.gib_app.specs.Plan.{Document, Plan, Contents}
 use Rattle.gib_app.specs.Running.{IsInput, IsShownValue}
 use Rattle.gib_app.specs.Packing.{IsPackedText}
 use Rattle.gib_app.specs.InputFaults.{IsInputFault, IsShowFault, IsTextFault}
 
--- What the second file of a job is: a packed file, the text of a value, a file that is shown; or there is none.
+-- What the inputs of a job are: a packed file, the text of a value, a file that is shown; or there are none.
 abbrev pub format_of : Job → Option Format
 format_of Run = Some Packed
 format_of Plain = Some Packed
@@ -23,36 +23,52 @@ format_of Code = None
 format_of Pack = Some Text
 format_of Show = Some Shown
 
--- The second file that a plan's job has, where it has one.
-abbrev pub second_of : Plan → Option Document
-second_of plan = option_and_then (λ format. plan.second) (format_of plan.job)
-
--- How many bytes of a file are read at most.
+-- How many bytes of the first input of that format are read at most.
 abbrev pub limit_of : Format → ℕ
 limit_of Packed = 16777216
 limit_of Text = 16777216
 limit_of Shown = 268435480
 
--- The same of the second file of a job.
+-- How many bytes of each input of that format are read at most.
+abbrev pub limits_of : Format → List ℕ
+limits_of format = limit_of format ∷ []
+
+-- The same of the first input of a job.
 abbrev pub most_of : Job → ℕ
 most_of job = option_map_or limit_of (format_of job) 0
 
--- The file is accepted as that.
-abbrev pub IsAccepted : Format → ProgramTree → List (List ℕ) → List ℕ → Type 0
-IsAccepted Packed p names bytes = (v : Datum) × IsInput p v bytes
-IsAccepted Text p names bytes = (packed : List ℕ) × IsPackedText p names bytes packed
-IsAccepted Shown p names bytes = (v : Datum) × IsShownValue p v bytes
+-- An input: where it comes from, and how many bytes of it are read at most.
+pub record Input : Type 0 where
+  pub document : Document
+  pub most : ℕ
 
--- The file is refused as that, for this fault.
-abbrev pub IsRefused : Format → ProgramTree → List (List ℕ) → List ℕ → InputFault → Type 0
-IsRefused Packed p names bytes fault = IsInputFault p bytes fault
-IsRefused Text p names bytes fault = IsTextFault p names bytes fault
-IsRefused Shown p names bytes fault = IsShowFault p bytes fault
+-- As many inputs as there are limits and documents.
+abbrev pub with_limits : List ℕ → List Document → List Input
+with_limits [] documents = []
+with_limits (most ∷ limits) [] = []
+with_limits (most ∷ limits) (document ∷ documents) = record { document = document; most = most } ∷ with_limits limits documents
 
--- A job accepts the second file, if it has one.
-abbrev pub Accepts : Job → ProgramTree → List (List ℕ) → List ℕ → Type 0
-Accepts job p names second = MatchOption (format_of job) ⊤ (λ format. IsAccepted format p names second)
+-- The inputs of a plan.
+abbrev pub inputs_of : Plan → List Input
+inputs_of plan = with_limits (option_map_or limits_of (format_of plan.job) []) plan.inputs
 
--- A job refuses the second file for this fault.
-abbrev pub Refuses : Job → ProgramTree → List (List ℕ) → List ℕ → InputFault → Type 0
-Refuses job p names second fault = MatchOption (format_of job) ⊥ (λ format. IsRefused format p names second fault)
+-- The inputs are accepted as that.
+-- An image is read by the layouts that the flag `--skips` chooses.
+abbrev pub IsAccepted : Format → (skips : Bool) → ProgramTree → List (List ℕ) → Contents → Type 0
+IsAccepted Packed skips p names given = (v : Datum) × IsInput p v given.second
+IsAccepted Text skips p names given = (packed : List ℕ) × IsPackedText p names given.second packed
+IsAccepted Shown skips p names given = (v : Datum) × IsShownValue p skips v given.second
+
+-- The inputs are refused as that, for this fault.
+abbrev pub IsRefused : Format → (skips : Bool) → ProgramTree → List (List ℕ) → Contents → InputFault → Type 0
+IsRefused Packed skips p names given fault = IsInputFault p given.second fault
+IsRefused Text skips p names given fault = IsTextFault p names given.second fault
+IsRefused Shown skips p names given fault = IsShowFault p skips given.second fault
+
+-- A job accepts its inputs, if it has some.
+abbrev pub Accepts : Job → (skips : Bool) → ProgramTree → List (List ℕ) → Contents → Type 0
+Accepts job skips p names given = MatchOption (format_of job) ⊤ (λ format. IsAccepted format skips p names given)
+
+-- A job refuses its inputs for this fault.
+abbrev pub Refuses : Job → (skips : Bool) → ProgramTree → List (List ℕ) → Contents → InputFault → Type 0
+Refuses job skips p names given fault = MatchOption (format_of job) ⊥ (λ format. IsRefused format skips p names given fault)

@@ -1,5 +1,5 @@
 -- What a call of `run` promises, in the fewest words: a reader may begin here.
-use Rattle.std.specs.Prelude.{◌≡◌, ◌≤◌, ℕ, List, [], ◌∷◌, ◌++◌, length, Option, Some}
+use Rattle.std.specs.Prelude.{◌≡◌, ◌≤◌, Bool, ℕ, List, [], ◌∷◌, ◌++◌, length, Option, Some}
 use Rattle.gib_base.specs.Lexed.{Lexed}
 use Rattle.gib_types.specs.Tree.{Datum}
 use Rattle.gib_value.specs.Text.{text}
@@ -17,16 +17,16 @@ use Rattle.gib_app.specs.declared.plan.Job.TheVariants.{Run}
 use Rattle.gib_app.specs.declared.plan.Options.{Options}
 use Rattle.gib_app.specs.Plan.{Document, Plan, bytes_in}
 use Rattle.gib_app.specs.Words.{asked}
-use Rattle.gib_print.specs.Image.{IsImageOf}
+use Rattle.gib_print.specs.Image.{IsImageOf, chunk_count}
 use Rattle.gib_app.specs.Cores.{core_after, layouts_of}
 use Rattle.gib_app.specs.Causes.{IsUnread}
 
 -- To run the program of one document on the packed value of another, and to write the image of region memory under a name.
 abbrev pub run_plan : Document → Document → Option (List ℕ) → Options → Plan
-run_plan program packed image options = record { source = program; second = Some packed; target = image; job = Run; options = options }
+run_plan program packed image options = record { first = []; source = program; inputs = packed ∷ []; target = image; job = Run; options = options }
 
 -- The words ask for that, within a depth of calls and a number of chunks. These are the bytes of both documents, and
--- those that `out` has taken so far. A document is a file by its name; where there are no words, both are built in. An image may
+-- option_to_list that `out` has taken so far. A document is a file by its name; where there are no words, both are built in. An image may
 -- be asked for.
 pub record IsRun (words : List (List ℕ)) (files : ShelfView) (out : SinkView) (source input : List ℕ) (options : Options) (front : List ℕ) : Type 0 where
   pub program : Document
@@ -54,12 +54,13 @@ pub record IsResult (source input : List ℕ) (depth : ℕ) (output : List ℕ) 
   pub means : run given.program depth given.value ≡ Gives result
   pub is_text : output ≡ text (table_of_program given.program) given.lexed.names result ++ 10 ∷ []
 
--- The bytes are an image in whose chunks the value stands that the program means on the input within the depth.
-pub record IsResultImage (source input : List ℕ) (depth : ℕ) (bytes : List ℕ) : Type 0 where
+-- The bytes are an image of at most so many chunks, in which the value stands that the program means on the input within the depth.
+pub record IsResultImage (source input : List ℕ) (skips : Bool) (depth chunks : ℕ) (bytes : List ℕ) : Type 0 where
   pub given : Given source input
   pub result : Datum
   pub means : run given.program depth given.value ≡ Gives result
-  pub image : IsImageOf (layouts_of given.program) (output_type given.program) bytes result
+  pub image : IsImageOf (layouts_of skips given.program) (output_type given.program) bytes result
+  pub few : chunk_count bytes ≤ chunks
 
 -- The program's meaning on the input runs out of depth.
 pub record IsTooDeep (source input : List ℕ) (depth : ℕ) : Type 0 where
@@ -67,9 +68,9 @@ pub record IsTooDeep (source input : List ℕ) (depth : ℕ) : Type 0 where
   pub means : run given.program depth given.value ≡ Stops Deep
 
 -- So many chunks may not be enough for what the run costs.
-pub record IsTooBig (source input : List ℕ) (depth chunks : ℕ) : Type 0 where
+pub record IsTooBig (source input : List ℕ) (skips : Bool) (depth chunks : ℕ) : Type 0 where
   pub given : Given source input
-  pub tight : Tight chunks (run_cost (core_after 4 given.program) depth 0 given.value)
+  pub tight : Tight chunks (run_cost (core_after skips 4 given.program) depth 0 given.value)
 
 -- No read of the two documents failed in the call, nor the write of an image, nor a put on `out`.
 pub record NoneFailed (program packed : Document) (image : Option (List ℕ)) (before now : ShelfView) (out_before out_now : SinkView) : Type 0 where

@@ -1,5 +1,5 @@
 -- Why the second file of a command is refused. Places count from 0: in a packed file from its payload's start.
-use Rattle.std.specs.Prelude.{◌≡◌, ◌≤◌, ◌<◌, ◌⊎◌, ℕ, List, [], ◌∷◌, length, take, Err}
+use Rattle.std.specs.Prelude.{◌≡◌, ◌≤◌, ◌<◌, ◌⊎◌, Bool, ℕ, List, [], ◌∷◌, length, take, Err}
 use Rattle.gib_types.specs.declared.table.Ty.{Ty}
 use Rattle.gib_types.specs.Table.{Table}
 use Rattle.gib_types.specs.Tree.{Datum}
@@ -60,19 +60,19 @@ abbrev pub HasImageSign : List ℕ → Type 0
 HasImageSign bytes = take 4 bytes ≡ 71 ∷ 73 ∷ 66 ∷ 73 ∷ []
 
 -- The first fault, in reading order, of bytes that are to be an image of a value of the type of main's result.
-abbrev pub IsImageFault : ProgramTree → List ℕ → ImageFault → Type 0
-IsImageFault p bytes image.Header = HasImageSign bytes × (IsFormed (output_type p) bytes → ⊥)
-IsImageFault p bytes (image.Item at) = IsRefused (layouts_of p) (output_type p) bytes (reading.Bad at)
-IsImageFault p bytes image.Long = IsRefused (layouts_of p) (output_type p) bytes reading.Long
+abbrev pub IsImageFault : ProgramTree → (skips : Bool) → List ℕ → ImageFault → Type 0
+IsImageFault p skips bytes image.Header = HasImageSign bytes × (IsFormed (output_type p) bytes → ⊥)
+IsImageFault p skips bytes (image.Item at) = IsRefused (layouts_of skips p) (output_type p) bytes (reading.Bad at)
+IsImageFault p skips bytes image.Long = IsRefused (layouts_of skips p) (output_type p) bytes reading.Long
 
 -- The file that is to be shown is refused for this fault: it is too long, begins neither as a packed file nor as an image, or
 -- is none.
-abbrev pub IsShowFault : ProgramTree → List ℕ → InputFault → Type 0
-IsShowFault p bytes (Long most) = IsTooLong bytes most
-IsShowFault p bytes (Packed (Header header.Magic)) = (length bytes ≤ 268435480) × IsFirstFault bytes header.Magic × (HasImageSign bytes → ⊥)
-IsShowFault p bytes (Packed fault) = IsPackedFault p bytes fault
-IsShowFault p bytes (Image fault) = (length bytes ≤ 268435480) × IsImageFault p bytes fault
-IsShowFault p bytes (Text place) = ⊥
+abbrev pub IsShowFault : ProgramTree → (skips : Bool) → List ℕ → InputFault → Type 0
+IsShowFault p skips bytes (Long most) = IsTooLong bytes most
+IsShowFault p skips bytes (Packed (Header header.Magic)) = (length bytes ≤ 268435480) × IsFirstFault bytes header.Magic × (HasImageSign bytes → ⊥)
+IsShowFault p skips bytes (Packed fault) = IsPackedFault p bytes fault
+IsShowFault p skips bytes (Image fault) = (length bytes ≤ 268435480) × IsImageFault p skips bytes fault
+IsShowFault p skips bytes (Text place) = ⊥
 
 -- The bytes are the text of a value whose packed file has more than 16,777,216 bytes.
 pub record HasLongFile (p : ProgramTree) (names : List (List ℕ)) (bytes : List ℕ) : Type 0 where

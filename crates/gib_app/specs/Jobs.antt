@@ -9,6 +9,7 @@ use Rattle.gib_app.specs.declared.plan.Job.TheVariants.{Run, Plain, Check, Core,
 use Rattle.gib_app.specs.declared.plan.Options.{Options}
 use Rattle.gib_app.specs.declared.made.Reason.{Reason}
 use Rattle.gib_app.specs.declared.made.Reason.TheVariants.{Deep, Full}
+use Rattle.gib_app.specs.Plan.{Contents}
 use Rattle.gib_app.specs.Running.{IsOutput, IsRunImage, RunsOut, FillsUp, IsShown}
 use Rattle.gib_app.specs.Packing.{IsPackedText}
 use Rattle.gib_app.specs.Cores.{core_after}
@@ -34,32 +35,32 @@ Means p names depth input file (NoValue Deep) = (file ≡ None) × RunsOut p dep
 Means p names depth input file (NoValue Full) = ⊥
 
 -- Where an image is asked for, it is the file that a run makes; else there is none.
-abbrev pub MakesImage : Bool → ProgramTree → ℕ → List ℕ → Option (List ℕ) → Type 0
-MakesImage false p depth input file = file ≡ None
-MakesImage true p depth input None = ⊥
-MakesImage true p depth input (Some bytes) = IsRunImage p depth input bytes
+abbrev pub MakesImage : Bool → ProgramTree → (skips : Bool) → (depth chunks : ℕ) → List ℕ → Option (List ℕ) → Type 0
+MakesImage false p skips depth chunks input file = file ≡ None
+MakesImage true p skips depth chunks input None = ⊥
+MakesImage true p skips depth chunks input (Some bytes) = IsRunImage p skips depth chunks input bytes
 
 -- `run`: the same, and its image, where that is asked for; or so many chunks of memory may not be enough.
 abbrev pub Runs : ProgramTree → List (List ℕ) → Options → List ℕ → Option (List ℕ) → End → Type 0
-Runs p names options input file (Prints text) = MakesImage options.image p options.depth input file × IsOutput p names options.depth input text
+Runs p names options input file (Prints text) = MakesImage options.image p options.skips options.depth options.chunks input file × IsOutput p names options.depth input text
 Runs p names options input file (NoValue Deep) = (file ≡ None) × RunsOut p options.depth input
-Runs p names options input file (NoValue Full) = (file ≡ None) × FillsUp p options.depth options.chunks input
+Runs p names options input file (NoValue Full) = (file ≡ None) × FillsUp p options.skips options.depth options.chunks input
 
 -- `pack`: the packed file of the value whose text this is.
 abbrev pub Packs : ProgramTree → List (List ℕ) → List ℕ → Option (List ℕ) → End → Type 0
 Packs p names bytes file (Prints text) = (packed : List ℕ) × (file ≡ Some packed) × IsPackedText p names bytes packed × (text ≡ ok_line)
 Packs p names bytes file (NoValue reason) = ⊥
 
--- What a job with these options makes, for the program with these names, of the bytes of the second file: a file, or none,
--- and its end.
-abbrev pub Does : Job → Options → ProgramTree → List (List ℕ) → List ℕ → Option (List ℕ) → End → Type 0
-Does Run options p names second = Runs p names options second
-Does Plain options p names second = Means p names options.depth second
-Does Check options p names second = OnlyPrints (λ text. text ≡ ok_line)
-Does Core options p names second = OnlyPrints (λ text. text ≡ core_text names (core_after options.pass p))
-Does Code options p names second = OnlyPrints (λ text. text ≡ listing_text names (lower_program (core_after 4 p)))
-Does Pack options p names second = Packs p names second
-Does Show options p names second = OnlyPrints (IsShown p names second)
+-- What a job with these options makes, for the program with these names, of the bytes of its inputs: a file, or none, and its
+-- end.
+abbrev pub Does : Job → Options → ProgramTree → List (List ℕ) → Contents → Option (List ℕ) → End → Type 0
+Does Run options p names given = Runs p names options given.second
+Does Plain options p names given = Means p names options.depth given.second
+Does Check options p names given = OnlyPrints (λ text. text ≡ ok_line)
+Does Core options p names given = OnlyPrints (λ text. text ≡ core_text names (core_after options.skips options.pass p))
+Does Code options p names given = OnlyPrints (λ text. text ≡ listing_text names (lower_program (core_after options.skips 4 p)))
+Does Pack options p names given = Packs p names given.second
+Does Show options p names given = OnlyPrints (IsShown p names options.skips given.second)
 
 -- The same options, without an image.
 abbrev pub without_image : Options → Options

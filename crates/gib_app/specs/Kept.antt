@@ -1,5 +1,5 @@
 -- What the code keeps of a plan, and of what a job made.
-use Rattle.std.specs.Prelude.{◌≡◌, ℕ, List, Option, None, option_map}
+use Rattle.std.specs.Prelude.{◌≡◌, ℕ, List, [], Option, None, option_map, option_to_list}
 use Rattle.gib_value.specs.Text.{AreHeld}
 use Rattle.gib_syntax.specs.Tree.{ProgramTree}
 use Rattle.gib_app.specs.declared.plan.Document.{Document as KeptDocument}
@@ -9,6 +9,8 @@ use Rattle.gib_app.specs.declared.made.End.{End as KeptEnd}
 use Rattle.gib_app.specs.declared.made.End.TheVariants as ends
 use Rattle.gib_app.specs.declared.made.Made.{Made}
 use Rattle.gib_app.specs.declared.made.Valued.{Valued}
+use Rattle.gib_app.specs.declared.plan.Input.{Input as KeptInput}
+use Rattle.gib_app.specs.Formats.{Input}
 use Rattle.gib_app.specs.Plan.{Document, BuiltIn, Named, Plan}
 use Rattle.gib_app.specs.Jobs.{End, Prints, NoValue}
 use Rattle.gib_app.specs.MachineRun.{StandsMeant, cells_of}
@@ -19,11 +21,16 @@ abbrev pub document_of : KeptDocument → Document
 document_of (document.BuiltIn bytes) = BuiltIn bytes.now
 document_of (document.Named name) = Named name.now
 
+-- The input.
+abbrev pub input_of : KeptInput → Input
+input_of input = record { document = document_of input.document; most = input.most }
+
 -- The plan.
 abbrev pub plan_of : KeptPlan → Plan
 plan_of plan = record {
+  first = [];
   source = document_of plan.source;
-  second = option_map document_of plan.second;
+  inputs = option_to_list (option_map document_of plan.second);
   target = option_map (λ name. name.now) plan.target;
   job = plan.job;
   options = plan.options;

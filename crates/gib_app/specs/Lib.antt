@@ -1,5 +1,6 @@
 pub mod Sample
 pub mod Plan
+pub mod Writes
 pub mod Words
 pub mod Running
 pub mod Packing

@@ -1,5 +1,5 @@
 -- What the line of a call says.
-use Rattle.std.specs.Prelude.{ℕ, ◌≤◌, List, [], ◌∷◌, ◌++◌, codes}
+use Rattle.std.specs.Prelude.{◌≡◌, ℕ, ◌≤◌, List, [], ◌∷◌, ◌++◌, codes}
 use Rattle.std.specs.Fmt.{decimal}
 use Rattle.gib_edge.specs.Causes.{Rose, Appends, AppendsPart}
 use Rattle.gib_edge.specs.Views.{SinkView}
@@ -23,9 +23,11 @@ use Rattle.gib_app.specs.declared.input_fault.PackedFault.TheVariants as packed
 abbrev pub line : List ℕ → List ℕ
 line said = codes "gib: " ++ said ++ 10 ∷ []
 
--- These bytes were put on a sink, or a front of them where its count rose. The count never falls.
+-- These bytes were put on a sink, or a front of them where its count rose. The count never falls. Where there are no bytes, nothing
+-- was put, and no empty piece either.
 pub record IsPut (before now : SinkView) (said : List ℕ) : Type 0 where
   pub later : before.faults ≤ now.faults
+  pub none : said ≡ [] → now ≡ before
   pub whole : (Rose before.faults now.faults → ⊥) → Appends before.taken now.taken said
   pub part : AppendsPart before.taken now.taken said
 

@@ -1,11 +1,11 @@
 -- What a run of the machine on a packed file leaves: a root in region memory, or why there is none.
-use Rattle.std.specs.Prelude.{◌≡◌, ℕ, List, Result, MatchResult}
+use Rattle.std.specs.Prelude.{◌≡◌, Bool, ℕ, List, Result, MatchResult}
 use Rattle.gib_types.specs.declared.table.Ty.{Ty}
 use Rattle.gib_types.specs.Layout.{LaidOut}
 use Rattle.gib_types.specs.Tree.{Datum}
 use Rattle.gib_mem.specs.Memory.{Store}
-use Rattle.gib_mem.specs.Plain.{plain_cells}
-use Rattle.gib_mem.specs.declared.plain.PlainMem.{PlainMem}
+use Rattle.gib_arena.specs.Sole.{sole_memory}
+use Rattle.gib_arena.specs.declared.sole_mem.SoleMem.{SoleMem}
 use Rattle.gib_packed.specs.Stands.{Stands}
 use Rattle.gib_packed.specs.declared.root.Root.{Root}
 use Rattle.gib_syntax.specs.Tree.{ProgramTree}
@@ -25,8 +25,8 @@ use Rattle.gib_app.specs.Running.{IsInput, RunsOut, FillsUp}
 use Rattle.gib_app.specs.Stops.{StopsBy}
 
 -- The bytes of a memory.
-abbrev pub cells_of : PlainMem → Store
-cells_of m = plain_cells m.bytes.items m.drawn
+abbrev pub cells_of : SoleMem → Store
+cells_of m = (sole_memory m).cells
 
 -- The program means a value on the input within the depth, and in region memory that value stands for the root.
 pub record StandsMeant (p : ProgramTree) (depth : ℕ) (input : List ℕ) (laid : LaidOut) (s : Store) (place : Root) : Type 0 where
@@ -37,19 +37,19 @@ pub record StandsMeant (p : ProgramTree) (depth : ℕ) (input : List ℕ) (laid 
   pub table : laid.table ≡ table_of_program p
   pub stands : Stands laid s place (output_type p) result
 
--- What a run of a program on a value costs at most: that of its core, with each `par` in place.
-abbrev pub program_cost : ProgramTree → (depth : ℕ) → Datum → Cost
-program_cost p depth v = run_cost (core_after 3 p) depth 0 v
+-- What a run of a program on a value costs at most: that of the core that runs, with each `par` in place, marked or not.
+abbrev pub program_cost : ProgramTree → (skips : Bool) → (depth : ℕ) → Datum → Cost
+program_cost p skips depth v = run_cost (core_after skips 4 p) depth 0 v
 
 -- Why a program has no value on an input: its meaning runs out of depth, or so many chunks may not be enough.
-abbrev pub LacksValue : ProgramTree → (depth chunks : ℕ) → (input : List ℕ) → Reason → Type 0
-LacksValue p depth chunks input reason.Deep = RunsOut p depth input
-LacksValue p depth chunks input reason.Full = FillsUp p depth chunks input
+abbrev pub LacksValue : ProgramTree → (skips : Bool) → (depth chunks : ℕ) → (input : List ℕ) → Reason → Type 0
+LacksValue p skips depth chunks input reason.Deep = RunsOut p depth input
+LacksValue p skips depth chunks input reason.Full = FillsUp p skips depth chunks input
 
 -- Why a run leaves no root.
-abbrev pub IsMachineStop : ProgramTree → (depth chunks : ℕ) → (input : List ℕ) → Stop → Type 0
-IsMachineStop p depth chunks input =
-    StopsBy (λ fault. ⊥) (λ name. ⊥) (λ fault. IsInputFault p input fault × (((v : Datum) × IsInput p v input) → ⊥)) (LacksValue p depth chunks input) (λ name. ⊥)
+abbrev pub IsMachineStop : ProgramTree → (skips : Bool) → (depth chunks : ℕ) → (input : List ℕ) → Stop → Type 0
+IsMachineStop p skips depth chunks input =
+    StopsBy (λ fault. ⊥) (λ name. ⊥) (λ fault. IsInputFault p input fault × (((v : Datum) × IsInput p v input) → ⊥)) (LacksValue p skips depth chunks input) (λ name. ⊥)
 
 -- A value was owed, and in region memory it stands for the root.
 pub record IsRootOf (laid : LaidOut) (s : Store) (ty : Ty) (owed : Outcome) (place : Root) : Type 0 where

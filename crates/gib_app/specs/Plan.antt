@@ -1,5 +1,5 @@
 -- What the words of a command line ask to do.
-use Rattle.std.specs.Prelude.{ℕ, List, Option}
+use Rattle.std.specs.Prelude.{ℕ, List, [], ◌∷◌, Option}
 use Rattle.gib_edge.specs.Views.{Held, Has}
 use Rattle.gib_app.specs.declared.plan.Job.{Job}
 use Rattle.gib_app.specs.declared.plan.Options.{Options}
@@ -9,11 +9,17 @@ pub data Document : Type 0 where
   BuiltIn : List ℕ → Document
   Named : List ℕ → Document
 
--- The source is read, then the second file, where there is one; a job is done with them; the file that it makes is
--- written under the target's name.
+-- The write of a file: its name, and the bytes that stand there then.
+pub record Write : Type 0 where
+  pub name : List ℕ
+  pub bytes : List ℕ
+
+-- The first writes are made, one after another; the source is read, then the inputs in their order; a job is done with them; the
+-- file that it makes is written under the target's name.
 pub record Plan : Type 0 where
+  pub first : List Write
   pub source : Document
-  pub second : Option Document
+  pub inputs : List Document
   pub target : Option (List ℕ)
   pub job : Job
   pub options : Options
@@ -26,3 +32,8 @@ Files = List ℕ → Held
 abbrev pub bytes_in : Files → Document → Held
 bytes_in kept (BuiltIn bytes) = Has bytes
 bytes_in kept (Named name) = kept name
+
+-- The bytes of the inputs: those of the second file, of which there are none where no file is read, and those of further files.
+pub record Contents : Type 0 where
+  pub second : List ℕ
+  pub further : List (List ℕ)

@@ -1,12 +1,12 @@
 -- What a source and a packed file are, and what a program means on a file.
-use Rattle.std.specs.Prelude.{◌≡◌, ◌⊎◌, ℕ, ◌≤◌, List, [], ◌∷◌, ◌++◌, length}
+use Rattle.std.specs.Prelude.{◌≡◌, ◌⊎◌, Bool, ℕ, ◌≤◌, List, [], ◌∷◌, ◌++◌, length}
 use Rattle.gib_base.specs.Lexed.{Lexed}
 use Rattle.gib_types.specs.Tree.{Datum}
 use Rattle.gib_file.specs.Framed.{File}
 use Rattle.gib_value.specs.Text.{text}
 use Rattle.gib_syntax.specs.Tree.{ProgramTree}
 use Rattle.gib_syntax.specs.Source.{Spells}
-use Rattle.gib_print.specs.Image.{IsImageOf}
+use Rattle.gib_print.specs.Image.{IsImageOf, chunk_count}
 use Rattle.gib_print.specs.ImageReading.{IsRead}
 use Rattle.gib_syntax.specs.Declarations.{table_of_program, input_type, output_type}
 use Rattle.gib_syntax.specs.Typing.{IsTypedProgram}
@@ -46,13 +46,15 @@ pub record IsOutput (p : ProgramTree) (names : List (List ℕ)) (depth : ℕ) (i
   pub means : run p depth value ≡ Gives result
   pub is_text : output ≡ text_line p names result
 
--- The bytes are an image in which the value stands that the program means on the input within the depth.
-pub record IsRunImage (p : ProgramTree) (depth : ℕ) (input bytes : List ℕ) : Type 0 where
+-- The bytes are an image in which the value stands that the program means on the input within the depth, and have at most so many
+-- chunks.
+pub record IsRunImage (p : ProgramTree) (skips : Bool) (depth chunks : ℕ) (input bytes : List ℕ) : Type 0 where
   pub value : Datum
   pub result : Datum
   pub is_input : IsInput p value input
   pub means : run p depth value ≡ Gives result
-  pub image : IsImageOf (layouts_of p) (output_type p) bytes result
+  pub image : IsImageOf (layouts_of skips p) (output_type p) bytes result
+  pub few : chunk_count bytes ≤ chunks
 
 -- The program's meaning on the input runs out of depth.
 pub record RunsOut (p : ProgramTree) (depth : ℕ) (input : List ℕ) : Type 0 where
@@ -61,18 +63,18 @@ pub record RunsOut (p : ProgramTree) (depth : ℕ) (input : List ℕ) : Type 0 w
   pub means : run p depth value ≡ Stops Deep
 
 -- So many chunks may not be enough for what the run of the program on the input costs, within the depth and without forks.
-pub record FillsUp (p : ProgramTree) (depth chunks : ℕ) (input : List ℕ) : Type 0 where
+pub record FillsUp (p : ProgramTree) (skips : Bool) (depth chunks : ℕ) (input : List ℕ) : Type 0 where
   pub value : Datum
   pub is_input : IsInput p value input
-  pub tight : Tight chunks (run_cost (core_after 4 p) depth 0 value)
+  pub tight : Tight chunks (run_cost (core_after skips 4 p) depth 0 value)
 
 -- A file whose value is shown: the packed file of a value of the type of main's parameter; or an image of one of the type of
 -- main's result, in which it is read in at most 16,777,216 items.
-abbrev pub IsShownValue : ProgramTree → Datum → List ℕ → Type 0
-IsShownValue p v file = IsInput p v file ⊎ IsRead (layouts_of p) (output_type p) file v
+abbrev pub IsShownValue : ProgramTree → (skips : Bool) → Datum → List ℕ → Type 0
+IsShownValue p skips v file = IsInput p v file ⊎ IsRead (layouts_of skips p) (output_type p) file v
 
 -- The text of the value of such a file, with a line feed.
-pub record IsShown (p : ProgramTree) (names : List (List ℕ)) (file output : List ℕ) : Type 0 where
+pub record IsShown (p : ProgramTree) (names : List (List ℕ)) (skips : Bool) (file output : List ℕ) : Type 0 where
   pub value : Datum
-  pub is_value : IsShownValue p value file
+  pub is_value : IsShownValue p skips value file
   pub is_text : output ≡ text_line p names value

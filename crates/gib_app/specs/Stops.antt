@@ -10,6 +10,7 @@ use Rattle.gib_value.specs.Reading.{AreWords}
 use Rattle.gib_syntax.specs.Tree.{ProgramTree}
 use Rattle.gib_syntax.specs.Spelling.{IsFineProgram}
 use Rattle.gib_syntax.specs.Declarations.{table_of_program}
+use Rattle.std.specs.Prelude.{Bool}
 use Rattle.gib_edge.specs.Views.{ShelfView}
 use Rattle.gib_app.specs.declared.input_fault.InputFault.{InputFault}
 use Rattle.gib_app.specs.declared.input_fault.InputFault.TheVariants as input
@@ -19,13 +20,14 @@ use Rattle.gib_app.specs.declared.plan.Job.{Job}
 use Rattle.gib_app.specs.declared.source_fault.SourceFault.{SourceFault}
 use Rattle.gib_app.specs.declared.stop.Stop.{Stop}
 use Rattle.gib_app.specs.declared.stop.Stop.TheVariants.{Usage, Source, Unread, Input, NoValue, Memory, Unwritten, Unput}
-use Rattle.gib_app.specs.Plan.{Document, Plan, Files}
+use Rattle.gib_app.specs.Plan.{Document, Plan, Files, Contents}
+use Rattle.gib_app.specs.Writes.{at_reading}
 use Rattle.gib_app.specs.Running.{IsProgram, IsNoProgram, IsInput, IsShownValue}
 use Rattle.gib_app.specs.Packing.{IsPackedText}
 use Rattle.gib_app.specs.SourceFaults.{IsSourceFault}
 use Rattle.gib_app.specs.InputFaults.{IsFileFault, IsInputFault, IsShowFault, IsTextFault}
-use Rattle.gib_app.specs.Formats.{second_of, most_of, Accepts, Refuses}
-use Rattle.gib_app.specs.Causes.{HoldsSecond, OnSource, OnFiles, OnProgram, HasNoValue, IsUnread, IsSecondUnread, FailsToRead, IsUnwritten}
+use Rattle.gib_app.specs.Formats.{inputs_of, most_of, Accepts, Refuses}
+use Rattle.gib_app.specs.Causes.{AreGiven, OnSource, OnBoth, IsUnread, AreUnread, FailsToRead, FailsToWrite}
 
 -- The source spells this program with these names, and it is typed.
 pub record IsCompiled (source : List ℕ) (p : ProgramTree) (names : List (List ℕ)) : Type 0 where
@@ -70,16 +72,16 @@ abbrev pub IsSourceStop : ShelfView → ShelfView → Document → Stop → Type
 IsSourceStop before now d =
     StopsBy (λ fault. OnSource before.kept d (λ bytes. IsSourceFault bytes fault × IsNoProgram bytes)) (λ name. IsUnread before now d name) (λ fault. ⊥) (λ reason. ⊥) (λ name. ⊥)
 
--- A second file of more bytes than a plan reads.
-pub record IsLongSecond (before : ShelfView) (plan : Plan) (fault : InputFault) : Type 0 where
+-- A first input of more bytes than a plan reads.
+pub record IsLongInput (kept : Files) (plan : Plan) (fault : InputFault) : Type 0 where
   pub is : fault ≡ input.Long (most_of plan.job)
-  pub second : List ℕ
-  pub second_held : HoldsSecond before.kept (second_of plan) second
-  pub many : most_of plan.job < length second
+  pub given : Contents
+  pub given_held : AreGiven kept (inputs_of plan) given
+  pub many : most_of plan.job < length given.second
 
--- Why the bytes of the second file are not read.
-abbrev pub IsSecondStop : ShelfView → ShelfView → Plan → Stop → Type 0
-IsSecondStop before now plan = StopsBy (λ fault. ⊥) (λ name. IsSecondUnread before now (second_of plan) name) (IsLongSecond before plan) (λ reason. ⊥) (λ name. ⊥)
+-- Why the bytes of the inputs are not read.
+abbrev pub IsInputStop : ShelfView → ShelfView → Plan → Stop → Type 0
+IsInputStop before now plan = StopsBy (λ fault. ⊥) (λ name. AreUnread before now (inputs_of plan) name) (IsLongInput before.kept plan) (λ reason. ⊥) (λ name. ⊥)
 
 -- Why nothing is made of a second file: it is refused so.
 abbrev pub IsRefusal : (InputFault → Type 0) → Stop → Type 0
@@ -101,25 +103,29 @@ abbrev pub IsRunStop : ProgramTree → List ℕ → Stop → Type 0
 IsRunStop p input = IsRefusal (λ fault. IsInputFault p input fault × (((v : Datum) × IsInput p v input) → ⊥))
 
 -- Why a file is not shown.
-abbrev pub IsShowStop : ProgramTree → List ℕ → Stop → Type 0
-IsShowStop p file = IsRefusal (λ fault. IsShowFault p file fault × (((v : Datum) × IsShownValue p v file) → ⊥))
+abbrev pub IsShowStop : ProgramTree → (skips : Bool) → List ℕ → Stop → Type 0
+IsShowStop p skips file = IsRefusal (λ fault. IsShowFault p skips file fault × (((v : Datum) × IsShownValue p skips v file) → ⊥))
 
 -- Why a text is not packed.
 abbrev pub IsPackStop : ProgramTree → List (List ℕ) → List ℕ → Stop → Type 0
 IsPackStop p names bytes = IsRefusal (λ fault. IsTextFault p names bytes fault × (((file : List ℕ) × IsPackedText p names bytes file) → ⊥))
 
--- Why a job makes nothing, for this program, of the bytes of the second file.
-abbrev pub FailsTo : Job → ProgramTree → List (List ℕ) → List ℕ → Stop → Type 0
-FailsTo job p names second = IsRefusal (λ fault. Refuses job p names second fault × (Accepts job p names second → ⊥))
+-- Why a job makes nothing, for this program, of the bytes of its inputs.
+abbrev pub FailsTo : Job → (skips : Bool) → ProgramTree → List (List ℕ) → Contents → Stop → Type 0
+FailsTo job skips p names given = IsRefusal (λ fault. Refuses job skips p names given fault × (Accepts job skips p names given → ⊥))
 
--- The source is a program, of which this holds with its names and the bytes of the second file.
-abbrev pub OnBoth : Files → Plan → (ProgramTree → List (List ℕ) → List ℕ → Type 0) → Type 0
-OnBoth kept plan P = OnFiles kept plan.source (second_of plan) (λ source second. OnProgram source (λ p names. P p names second))
+-- Why what is asked for is not made: the source is no program, a file is not read, the inputs are refused.
+abbrev pub IsMakeStop : ShelfView → ShelfView → Plan → Stop → Type 0
+IsMakeStop before now plan =
+    StopsBy (λ fault. OnSource before.kept plan.source (λ bytes. IsSourceFault bytes fault × IsNoProgram bytes)) (λ name. FailsToRead before.kept before now plan name)
+    (λ fault. OnBoth before.kept plan (λ p names given. Refuses plan.job plan.options.skips p names given fault × (Accepts plan.job plan.options.skips p names given → ⊥)))
+    (λ reason. ⊥) (λ name. ⊥)
 
 -- Why what is asked for is not made, or not written.
-abbrev pub IsStop : ShelfView → ShelfView → Plan → Stop → Type 0
-IsStop before now plan =
-    StopsBy (λ fault. OnSource before.kept plan.source (λ bytes. IsSourceFault bytes fault × IsNoProgram bytes)) (λ name. FailsToRead before now plan name)
-    (λ fault. OnBoth before.kept plan (λ p names second. Refuses plan.job p names second fault × (Accepts plan.job p names second → ⊥)))
-    (λ reason. OnBoth before.kept plan (HasNoValue reason plan))
-    (λ name. OnBoth before.kept plan (λ p names second. IsUnwritten before now plan p names second name))
+abbrev pub IsStop : Bool → ShelfView → ShelfView → Plan → Stop → Type 0
+IsStop tells before now plan =
+    StopsBy (λ fault. OnSource (at_reading tells before.kept plan) plan.source (λ bytes. IsSourceFault bytes fault × IsNoProgram bytes))
+    (λ name. FailsToRead (at_reading tells before.kept plan) before now plan name)
+    (λ fault. OnBoth (at_reading tells before.kept plan) plan (λ p names given. Refuses plan.job plan.options.skips p names given fault × (Accepts plan.job plan.options.skips p names given → ⊥)))
+    (λ reason. ⊥)
+    (λ name. FailsToWrite tells before now plan name)

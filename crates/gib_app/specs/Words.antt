@@ -1,6 +1,6 @@
 -- What the words of a command line ask for.
 use Rattle.std.specs.Prelude.{ℕ, Bool, true, false, if◌then◌else◌, List, [], ◌∷◌, ◌++◌, map, fold, codes}
-use Rattle.std.specs.Prelude.{Option, Some, None, is_some, option_map, option_and_then, find}
+use Rattle.std.specs.Prelude.{Option, Some, None, is_some, option_map, option_and_then, option_to_list, find}
 use Rattle.std.specs.String.{string_bytes}
 use Rattle.std.specs.declared.string.String.{String}
 use Rattle.std.specs.declared.alloc.Global.{Global}
@@ -11,6 +11,7 @@ use Rattle.clap.specs.ValueTests.{is_unsigned_in}
 use Rattle.clap.specs.Walk.{Row, Rule, Text, first_of, one_of}
 use Rattle.clap.specs.Simple.{App, new_app, new_rule, on_top, subcommand_of, with_rule, with_subcommand}
 use Rattle.clap.specs.Takes.{takes}
+use Rattle.clap.specs.declared.builder.action.ArgAction.TheVariants.{SetTrue}
 use Rattle.clap.specs.declared.builder.value_parser.ValueParser.TheVariants.{Unsigned}
 use Rattle.gib_app.specs.declared.plan.Job.{Job}
 use Rattle.gib_app.specs.declared.plan.Job.TheVariants.{Run, Plain, Check, Core, Code, Pack, Show}
@@ -48,6 +49,14 @@ pass = number (codes "pass") 1 4
 abbrev pub image : Rule
 image = record (new_rule (codes "image")) { long = Some (codes "image") }
 
+-- `--name`, which may be left out.
+abbrev pub flag : Text → Rule
+flag name = record (new_rule name) { long = Some name; action = Some SetTrue }
+
+-- Whether fields are reached from the end of the field before them.
+abbrev pub skips : Rule
+skips = flag (codes "skips")
+
 -- ---- Their values
 
 -- The word at a place.
@@ -70,9 +79,13 @@ number_of id rows = option_and_then number_in (one_of id rows)
 abbrev pub number_or : Text → ℕ → List Row → ℕ
 number_or id default rows = option_map_or (λ n. n) (number_of id rows) default
 
+-- Whether a flag is given.
+abbrev pub flag_of : Text → List Row → Bool
+flag_of id rows = option_map_or (λ value. bytes_eq value (codes "true")) (word_of id rows) false
+
 -- The options where none is given.
 abbrev pub usual : Options
-usual = record { depth = 10000; chunks = 1024; pass = 4; image = false }
+usual = record { depth = 10000; chunks = 1024; pass = 4; image = false; skips = false }
 
 -- All options.
 abbrev pub options_of : List Row → Options
@@ -81,6 +94,7 @@ options_of rows = record {
   chunks = number_or (codes "chunks") usual.chunks rows;
   pass = number_or (codes "pass") usual.pass rows;
   image = is_some (word_of (codes "image") rows);
+  skips = flag_of (codes "skips") rows;
 }
 
 -- One more value of a plan, where it is there.
@@ -134,12 +148,12 @@ arguments_of form = positional (codes "source") ∷ (place_of form.second ++ (ta
 -- What a command asks for.
 abbrev pub planned : Job → Option Text → Target → List Row → Option Plan
 planned job second target rows =
-    with_value (with_value (option_map (λ s t u. record { source = s; second = t; target = u; job = job; options = options_of rows }) (file_of (codes "source") rows))
+    with_value (with_value (option_map (λ s t u. record { first = []; source = s; inputs = option_to_list t; target = u; job = job; options = options_of rows }) (file_of (codes "source") rows))
     (second_in second rows)) (target_in target rows)
 
--- `run SOURCE INPUT [--depth N] [--chunks N] [--image FILE]`.
+-- `run SOURCE INPUT [--depth N] [--chunks N] [--image FILE] [--skips]`.
 abbrev pub run_form : Form
-run_form = record { name = codes "run"; second = Some (codes "input"); target = ByOption (codes "image"); options = depth ∷ chunks ∷ image ∷ []; job = Run }
+run_form = record { name = codes "run"; second = Some (codes "input"); target = ByOption (codes "image"); options = depth ∷ chunks ∷ image ∷ skips ∷ []; job = Run }
 
 -- `plain SOURCE INPUT [--depth N]`.
 abbrev pub plain_form : Form
@@ -149,21 +163,21 @@ plain_form = record { name = codes "plain"; second = Some (codes "input"); targe
 abbrev pub check_form : Form
 check_form = record { name = codes "check"; second = None; target = NoTarget; options = []; job = Check }
 
--- `core SOURCE [--pass P]`.
+-- `core SOURCE [--pass P] [--skips]`.
 abbrev pub core_form : Form
-core_form = record { name = codes "core"; second = None; target = NoTarget; options = pass ∷ []; job = Core }
+core_form = record { name = codes "core"; second = None; target = NoTarget; options = pass ∷ skips ∷ []; job = Core }
 
--- `code SOURCE`.
+-- `code SOURCE [--skips]`.
 abbrev pub code_form : Form
-code_form = record { name = codes "code"; second = None; target = NoTarget; options = []; job = Code }
+code_form = record { name = codes "code"; second = None; target = NoTarget; options = skips ∷ []; job = Code }
 
 -- `pack SOURCE TEXT TARGET`.
 abbrev pub pack_form : Form
 pack_form = record { name = codes "pack"; second = Some (codes "text"); target = AtPlace (codes "target"); options = []; job = Pack }
 
--- `show SOURCE FILE`.
+-- `show SOURCE FILE [--skips]`.
 abbrev pub show_form : Form
-show_form = record { name = codes "show"; second = Some (codes "file"); target = NoTarget; options = []; job = Show }
+show_form = record { name = codes "show"; second = Some (codes "file"); target = NoTarget; options = skips ∷ []; job = Show }
 
 -- All commands.
 abbrev pub forms : List Form
@@ -186,9 +200,9 @@ command_set = fold (λ app form. with_subcommand app (app_for form).top) bare_pr
 
 -- The product's own program on its own input.
 abbrev pub sample : Plan
-sample = record { source = BuiltIn sample_source; second = Some (BuiltIn sample_input); target = None; job = Run; options = usual }
+sample = record { first = []; source = BuiltIn sample_source; inputs = BuiltIn sample_input ∷ []; target = None; job = Run; options = usual }
 
--- Whether words are taken, the program's name first: at most one, or those that clap takes.
+-- Whether words are taken, the program's name first: at most one, or option_to_list that clap takes.
 abbrev pub taken : List Text → Bool
 taken [] = true
 taken (program ∷ []) = true

@@ -3,11 +3,11 @@
 ghost use Rattle.std.specs.Prelude.{◌≡◌, IfOk, codes, false};
 ghost use Rattle.clap.specs.Walk.{rule_of};
 ghost use Rattle.clap.specs.Simple.{app_of, new_app, with_rule};
-ghost use Rattle.gib_app.specs.Words.{app_for, bare_program, chunks, command_set, depth, image, pass, positional};
+ghost use Rattle.gib_app.specs.Words.{app_for, bare_program, chunks, command_set, depth, image, pass, positional, skips};
 ghost use Rattle.gib_app.specs.Words.{check_form, code_form, core_form, pack_form, plain_form, run_form, show_form};
 
 use clap::builder::ValueParser;
-use clap::{Arg, Command};
+use clap::{Arg, ArgAction, Command};
 use std::alloc::{AllocError, Global};
 
 /// A word by its place, which has to be there.
@@ -56,6 +56,16 @@ fn image<'a>(alloc: Global) -> Arg<'a>
     Arg::new(alloc, "image").long("image")
 }
 
+/// `--skips`, whether fields are reached from the end of the field before them.
+fn skips<'a>(alloc: Global) -> Arg<'a>
+    ensures rule { rule_of result ≡ skips }
+    ensures local { result.global ≡ false }
+{
+    Arg::new(alloc, "skips")
+        .long("skips")
+        .action(ArgAction::SetTrue)
+}
+
 /// A command of this name on a source and a second file.
 fn on_both<'a>(alloc: Global, name: &'a str, second: &'a str) -> Result<Command<'a>, AllocError>
     ensures { IfOk result (λ command. app_of command ≡ with_rule (with_rule (new_app name.entry.now) (positional (codes "source"))) (positional second.entry.now)) }
@@ -65,14 +75,15 @@ fn on_both<'a>(alloc: Global, name: &'a str, second: &'a str) -> Result<Command<
         .arg(positional(alloc, second))
 }
 
-/// `run SOURCE INPUT [--depth N] [--chunks N] [--image FILE]`.
+/// `run SOURCE INPUT [--depth N] [--chunks N] [--image FILE] [--skips]`.
 fn run_command<'a>(alloc: Global) -> Result<Command<'a>, AllocError>
     ensures { IfOk result (λ command. app_of command ≡ app_for run_form) }
 {
     on_both(alloc, "run", "input")?
         .arg(depth(alloc))?
         .arg(chunks(alloc))?
-        .arg(image(alloc))
+        .arg(image(alloc))?
+        .arg(skips(alloc))
 }
 
 /// `plain SOURCE INPUT [--depth N]`.
@@ -92,20 +103,23 @@ fn check_command<'a>(alloc: Global) -> Result<Command<'a>, AllocError>
     Command::new(alloc, "check").arg(positional(alloc, "source"))
 }
 
-/// `core SOURCE [--pass P]`.
+/// `core SOURCE [--pass P] [--skips]`.
 fn core_command<'a>(alloc: Global) -> Result<Command<'a>, AllocError>
     ensures { IfOk result (λ command. app_of command ≡ app_for core_form) }
 {
     Command::new(alloc, "core")
         .arg(positional(alloc, "source"))?
-        .arg(pass(alloc))
+        .arg(pass(alloc))?
+        .arg(skips(alloc))
 }
 
-/// `code SOURCE`.
+/// `code SOURCE [--skips]`.
 fn code_command<'a>(alloc: Global) -> Result<Command<'a>, AllocError>
     ensures { IfOk result (λ command. app_of command ≡ app_for code_form) }
 {
-    Command::new(alloc, "code").arg(positional(alloc, "source"))
+    Command::new(alloc, "code")
+        .arg(positional(alloc, "source"))?
+        .arg(skips(alloc))
 }
 
 /// `pack SOURCE TEXT TARGET`.
@@ -118,13 +132,14 @@ fn pack_command<'a>(alloc: Global) -> Result<Command<'a>, AllocError>
         .arg(positional(alloc, "target"))
 }
 
-/// `show SOURCE FILE`.
+/// `show SOURCE FILE [--skips]`.
 fn show_command<'a>(alloc: Global) -> Result<Command<'a>, AllocError>
     ensures { IfOk result (λ command. app_of command ≡ app_for show_form) }
 {
     Command::new(alloc, "show")
         .arg(positional(alloc, "source"))?
-        .arg(positional(alloc, "file"))
+        .arg(positional(alloc, "file"))?
+        .arg(skips(alloc))
 }
 
 /// The program before its commands. All that `clap` refuses is one answer here, so nothing asks for help.

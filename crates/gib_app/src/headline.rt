@@ -21,16 +21,17 @@ pub fn run_prints_what_is_meant()
     ensures done { (tells : Bool) (words : List (List ℕ)) (before now : ShelfView) (out out_now : SinkView) (source input : List ℕ) (options : OptionValues) (front said : List ℕ)
         → IsRun words before out source input options front → IsEnding tells words before now out out_now Status.Done said
         → (output : List ℕ) × IsResult source input options.depth output × (out_now.taken ≡ Some (front ++ output)) }
-    // With an image asked for and status 0: under its name bytes were written in whose chunks that value stands.
+    // With an image asked for and status 0: under its name an image was written in whose chunks that value stands, and these are no more
+    // than there may be.
     ensures image { (tells : Bool) (words : List (List ℕ)) (before now : ShelfView) (out out_now : SinkView) (source input : List ℕ) (options : OptionValues) (front said name : List ℕ)
         → (r : IsRun words before out source input options front) → r.image ≡ Some name → IsEnding tells words before now out out_now Status.Done said
-        → (bytes : List ℕ) × (now.kept name ≡ told tells bytes) × IsResultImage source input options.depth bytes }
+        → (bytes : List ℕ) × (now.kept name ≡ told tells bytes) × IsResultImage source input options.skips options.depth options.chunks bytes }
     // Status 3: the meaning runs out of depth.
     ensures deep { (tells : Bool) (words : List (List ℕ)) (before now : ShelfView) (out out_now : SinkView) (source input : List ℕ) (options : OptionValues) (front said : List ℕ)
         → IsRun words before out source input options front → IsEnding tells words before now out out_now Status.Depth said → IsTooDeep source input options.depth }
     // Status 4: the chunks of memory may not be enough for what the run costs.
     ensures full { (tells : Bool) (words : List (List ℕ)) (before now : ShelfView) (out out_now : SinkView) (source input : List ℕ) (options : OptionValues) (front said : List ℕ)
-        → IsRun words before out source input options front → IsEnding tells words before now out out_now Status.Full said → IsTooBig source input options.depth options.chunks }
+        → IsRun words before out source input options front → IsEnding tells words before now out out_now Status.Full said → IsTooBig source input options.skips options.depth options.chunks }
 
     // The other way round: where the program means a value, the status is 0 and no other, and where its meaning runs out of
     // depth it is 3; unless memory or its chunks run out, or a file or `out` failed.
@@ -43,7 +44,7 @@ pub fn run_prints_what_is_meant()
     // Where so many chunks are enough for what the run costs, they do not run out: the status is 0 or 3, and never 4.
     ensures fits { (tells : Bool) (words : List (List ℕ)) (before now : ShelfView) (out out_now : SinkView) (source input : List ℕ) (options : OptionValues) (front said : List ℕ) (status : Statuses)
         → (r : IsRun words before out source input options front) → NoneFailed r.program r.packed r.image before now out out_now → Given source input
-        → (IsTooBig source input options.depth options.chunks → ⊥)
+        → (IsTooBig source input options.skips options.depth options.chunks → ⊥)
         → IsEnding tells words before now out out_now status said → (status ≡ Status.Done) ⊎ (status ≡ Status.Depth) ⊎ (status ≡ Status.Memory) }
 
     // There is one result at most, and none where the meaning runs out of depth.

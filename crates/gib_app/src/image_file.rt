@@ -10,11 +10,11 @@ ghost use Rattle.gib_app.specs.PassFaults.{image_stop};
 ghost use Rattle.gib_app.specs.Stops.{IsShowStop};
 
 use crate::input_fault::{ImageFault, InputFault};
+use crate::lowering::lowered;
 use crate::stop::Stop;
 use gib_check::Typed;
 use gib_print::law::a_value_is_not_refused;
 use gib_print::{ImageFault as ReadFault, read_image};
-use gib_types::Layouts;
 use gib_value::Value;
 use std::alloc::Global;
 
@@ -37,24 +37,29 @@ fn of_image(fault: ReadFault) -> Stop<'static>
     }
 }
 
-/// The value of the type of main's result of which the bytes are an image.
+/// The value of the type of main's result of which the bytes are an image, written where fields are reached by offsets, or by skips.
 ///
 /// # Errors
 ///
 /// `Input` with the first fault in reading order; `Memory`.
-pub fn read_image_of(alloc: Global, typed: &Typed, bytes: &[u8]) -> Result<Value, Stop<'static>>
+pub fn read_image_of(
+    alloc: Global,
+    typed: &Typed,
+    skips: bool,
+    bytes: &[u8],
+) -> Result<Value, Stop<'static>>
     requires sign { HasImageSign bytes.now }
     requires short { length bytes.now ≤ 268435480 }
-    ensures read { IfOk result (λ v. IsRead (layouts_of (program_of typed.now)) (output_type (program_of typed.now)) bytes.now v) }
-    ensures stop { IfErr result (IsShowStop (program_of typed.now) bytes.now) }
+    ensures read { IfOk result (λ v. IsRead (layouts_of skips (program_of typed.now)) (output_type (program_of typed.now)) bytes.now v) }
+    ensures stop { IfErr result (IsShowStop (program_of typed.now) skips bytes.now) }
 {
     a_value_is_not_refused();
-    let types = typed.types();
-    let layouts = match Layouts::make(alloc, types, &[]) {
-        Ok(layouts) => layouts,
+    let lowered = match lowered(alloc, typed, skips) {
+        Ok(lowered) => lowered,
         Err(_) => return Err(Stop::Memory),
     };
-    match read_image(alloc, types, &layouts, typed.output_type(), bytes) {
+    let layouts = lowered.code().layouts();
+    match read_image(alloc, layouts.types(), layouts, typed.output_type(), bytes) {
         Ok(value) => Ok(value),
         Err(fault) => Err(of_image(fault)),
     }

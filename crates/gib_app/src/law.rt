@@ -1,11 +1,12 @@
 //! The laws of refusals. Each function does nothing: its contract is the law.
 
-ghost use Rattle.std.specs.Prelude.{◌≡◌, ℕ, List};
+ghost use Rattle.std.specs.Prelude.{◌≡◌, Bool, ℕ, List};
 ghost use Rattle.gib_syntax.specs.Parts.{program_of};
 ghost use Rattle.gib_app.specs.declared.input_fault.InputFault.{InputFault};
 ghost use Rattle.gib_app.specs.declared.plan.Job.{Job};
 ghost use Rattle.gib_app.specs.declared.source_fault.SourceFault.{SourceFault};
 ghost use Rattle.gib_app.specs.Formats.{Accepts, Refuses};
+ghost use Rattle.gib_app.specs.Plan.{Contents};
 ghost use Rattle.gib_app.specs.Running.{IsNoProgram};
 ghost use Rattle.gib_app.specs.SourceFaults.{IsSourceFault};
 ghost use Rattle.gib_app.specs.Stops.{IsReady};
@@ -30,13 +31,13 @@ pub fn one_source_fault()
     faults_are_exact();
 }
 
-/// The second file of a job is refused for one fault, at one place, and a file that is refused is not accepted.
+/// The inputs of a job are refused for one fault, at one place, and inputs that are refused are not accepted.
 pub fn one_input_fault(compiled: &Compiled)
     requires ready { IsReady (program_of compiled.now.typed) compiled.now.names }
-    ensures one { (job : Job) (bytes : List ℕ) (f g : InputFault)
-        → Refuses job (program_of compiled.now.typed) compiled.now.names bytes f → Refuses job (program_of compiled.now.typed) compiled.now.names bytes g → f ≡ g }
-    ensures none { (job : Job) (bytes : List ℕ) (f : InputFault)
-        → Refuses job (program_of compiled.now.typed) compiled.now.names bytes f → Accepts job (program_of compiled.now.typed) compiled.now.names bytes → ⊥ }
+    ensures one { (job : Job) (skips : Bool) (given : Contents) (f g : InputFault)
+        → Refuses job skips (program_of compiled.now.typed) compiled.now.names given f → Refuses job skips (program_of compiled.now.typed) compiled.now.names given g → f ≡ g }
+    ensures none { (job : Job) (skips : Bool) (given : Contents) (f : InputFault)
+        → Refuses job skips (program_of compiled.now.typed) compiled.now.names given f → Accepts job skips (program_of compiled.now.typed) compiled.now.names given → ⊥ }
 {
     refused_header();
     refused_file();

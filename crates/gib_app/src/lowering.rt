@@ -1,21 +1,22 @@
 //! A typed program to code.
 
-ghost use Rattle.std.specs.Prelude.{◌≡◌, ℕ, [], IfOk};
+ghost use Rattle.std.specs.Prelude.{◌≡◌, ℕ, IfOk};
 ghost use Rattle.gib_types.specs.Tree.{Datum};
 ghost use Rattle.gib_syntax.specs.Parts.{program_of};
-ghost use Rattle.gib_syntax.specs.Declarations.{table_of_program};
 ghost use Rattle.gib_syntax.specs.Meaning.{run};
 ghost use Rattle.gib_core.specs.Meaning.{core_run};
 ghost use Rattle.gib_core.specs.Numbering.{AreNumbered};
 ghost use Rattle.gib_core.specs.Parts.{core_of};
 ghost use Rattle.gib_core.specs.Reachable.{AreReachable};
 ghost use Rattle.gib_lower.specs.Lowering.{lower_program};
-ghost use Rattle.gib_app.specs.Cores.{core_after};
+ghost use Rattle.gib_app.specs.Cores.{core_after, layouts_of, placed_program};
+ghost use Rattle.gib_app.specs.Cores as spec;
 
 use gib_access::reach;
 use gib_base::Memory;
 use gib_check::Typed;
 use gib_core::{AccessMode, Checked, Core, Lowered};
+use gib_forks::forks;
 use gib_infer::infer;
 use gib_lower::lower;
 use gib_place::place;
@@ -27,7 +28,7 @@ use std::alloc::Global;
 ///
 /// Want of memory.
 pub fn placed_core(alloc: Global, typed: &Typed) -> Result<Core, Memory>
-    ensures core { IfOk result (λ core. core_of core ≡ core_after 2 (program_of typed.now)) }
+    ensures core { IfOk result (λ core. core_of core ≡ placed_program (program_of typed.now)) }
     ensures reachable { IfOk result (λ core. AreReachable (core_of core)) }
     ensures numbered { IfOk result (λ core. AreNumbered (core_of core)) }
     ensures means { IfOk result (λ core. (depth : ℕ) (v : Datum) → core_run (core_of core) depth v ≡ run (program_of typed.now) depth v) }
@@ -39,36 +40,63 @@ pub fn placed_core(alloc: Global, typed: &Typed) -> Result<Core, Memory>
     }
 }
 
+/// How fields are reached, by whether the flag `--skips` is given.
+fn mode_of(skips: bool) -> AccessMode
+    ensures { result ≡ spec.mode_of skips }
+{
+    if skips {
+        AccessMode::Skips
+    } else {
+        AccessMode::Offsets
+    }
+}
+
 /// The core of a program whose values are built where they belong, with its fields reached. It meets the build rules.
 ///
 /// # Errors
 ///
 /// Want of memory.
-pub fn checked_core(alloc: Global, typed: &Typed) -> Result<Checked, Memory>
-    ensures core { IfOk result (λ core. core_of core ≡ core_after 3 (program_of typed.now)) }
+pub fn checked_core(alloc: Global, typed: &Typed, skips: bool) -> Result<Checked, Memory>
+    ensures core { IfOk result (λ core. core_of core ≡ core_after skips 3 (program_of typed.now)) }
     ensures numbered { IfOk result (λ core. AreNumbered (core_of core)) }
     ensures means { IfOk result (λ core. (depth : ℕ) (v : Datum) → core_run (core_of core) depth v ≡ run (program_of typed.now) depth v) }
 {
     let core = placed_core(alloc, typed)?;
-    match reach(alloc, core, AccessMode::Skips) {
+    match reach(alloc, core, mode_of(skips)) {
         Ok(reached) => Ok(Checked::make(reached)),
         Err(memory) => Err(memory),
     }
 }
 
-/// The core of a program after all passes, and its code. It means what the program means, and no head stores offsets.
+/// The core of a program with each `par` marked whose sides may run at the same time. It meets the build rules.
 ///
 /// # Errors
 ///
 /// Want of memory.
-pub fn lowered(alloc: Global, typed: &Typed) -> Result<Lowered, Memory>
-    ensures core { IfOk result (λ made. core_of made.core ≡ core_after 3 (program_of typed.now)) }
-    ensures means { IfOk result (λ made. (depth : ℕ) (v : Datum) → core_run (core_of made.core) depth v ≡ run (program_of typed.now) depth v) }
-    ensures code { IfOk result (λ made. made.code ≡ lower_program (core_after 3 (program_of typed.now))) }
-    ensures laid { IfOk result (λ made. made.code.laid ≡ record { table = table_of_program (program_of typed.now); with_offsets = [] }) }
+pub fn marked_core(alloc: Global, typed: &Typed, skips: bool) -> Result<Checked, Memory>
+    ensures core { IfOk result (λ core. core_of core ≡ core_after skips 4 (program_of typed.now)) }
+    ensures numbered { IfOk result (λ core. AreNumbered (core_of core)) }
+    ensures means { IfOk result (λ core. (depth : ℕ) (v : Datum) → core_run (core_of core) depth v ≡ run (program_of typed.now) depth v) }
 {
-    let checked = checked_core(alloc, typed)?;
-    match lower(alloc, checked) {
+    match checked_core(alloc, typed, skips) {
+        Ok(checked) => Ok(forks(checked)),
+        Err(memory) => Err(memory),
+    }
+}
+
+/// The core of a program after all passes, and its code. It means what the program means.
+///
+/// # Errors
+///
+/// Want of memory.
+pub fn lowered(alloc: Global, typed: &Typed, skips: bool) -> Result<Lowered, Memory>
+    ensures core { IfOk result (λ made. core_of made.core ≡ core_after skips 4 (program_of typed.now)) }
+    ensures means { IfOk result (λ made. (depth : ℕ) (v : Datum) → core_run (core_of made.core) depth v ≡ run (program_of typed.now) depth v) }
+    ensures code { IfOk result (λ made. made.code ≡ lower_program (core_after skips 4 (program_of typed.now))) }
+    ensures laid { IfOk result (λ made. made.code.laid ≡ layouts_of skips (program_of typed.now)) }
+{
+    let marked = marked_core(alloc, typed, skips)?;
+    match lower(alloc, marked) {
         Ok(made) => {
             let _code = made.code();
             Ok(made)

@@ -1,6 +1,6 @@
 //! Runs a program by the machine, from the bytes of a packed file to a root in region memory, and prints from there.
 
-ghost use Rattle.std.specs.Prelude.{◌≡◌, ◌≤◌, ◌+◌, ◌++◌, ◌∷◌, [], ℕ, List, length, IfOk, IfErr, OnOk, OnErr, IsErrOf, MatchResult};
+ghost use Rattle.std.specs.Prelude.{◌≡◌, ◌≤◌, ◌+◌, ◌++◌, ◌∷◌, ℕ, List, length, IfOk, IfErr, OnOk, OnErr, IsErrOf, MatchResult};
 ghost use Rattle.gib_edge.specs.Causes.{Rose, Appends, AppendsPart, PutsPieces, PutsSomePieces};
 ghost use Rattle.gib_types.specs.declared.table.Ty.{Ty as Type_of};
 ghost use Rattle.gib_types.specs.Layout.{LaidOut};
@@ -13,14 +13,13 @@ ghost use Rattle.gib_syntax.specs.Meaning.{Outcome, Stops, Deep, run};
 ghost use Rattle.gib_syntax.specs.Parts.{program_of};
 ghost use Rattle.gib_syntax.specs.Tree.{ProgramTree};
 ghost use Rattle.gib_core.specs.Cost.{run_cost};
-ghost use Rattle.gib_core.specs.Low.{laid_of};
 ghost use Rattle.gib_core.specs.LoweredParts.{LoweredParts};
 ghost use Rattle.gib_core.specs.Meaning.{core_run};
 ghost use Rattle.gib_core.specs.Parts.{core_of};
 ghost use Rattle.gib_lower.specs.Lowering.{lower_program};
 ghost use Rattle.gib_weave.specs.Running.{RunEnds};
 ghost use Rattle.gib_weave.specs.Sound.{IsAnswer};
-ghost use Rattle.gib_app.specs.Cores.{core_after};
+ghost use Rattle.gib_app.specs.Cores.{core_after, layouts_of};
 ghost use Rattle.gib_app.specs.Running.{IsInput, text_line};
 ghost use Rattle.gib_app.specs.MachineRun.{StandsMeant, IsMachineStop, IsRootOf, Halts, EndsWith, program_cost};
 
@@ -28,6 +27,7 @@ use crate::lowering::lowered;
 use crate::made::Reason;
 use crate::packed::survey_input;
 use crate::stop::Stop;
+use gib_arena::SoleMem;
 use gib_base::Names;
 use gib_base::limits::FILE_BYTES;
 use gib_check::Typed;
@@ -36,7 +36,7 @@ use gib_core::Lowered;
 use gib_edge::outside::Sink;
 use gib_file::{Survey, one_file};
 use gib_load::{LoadFault, load};
-use gib_mem::{Mem, PlainMem};
+use gib_mem::Mem;
 use gib_packed::Root;
 use gib_print::{PrintFault, print_at};
 use gib_region::Tails;
@@ -48,7 +48,7 @@ use std::alloc::Global;
 #[derive(Drop)]
 pub struct Ran {
     pub lowered: Lowered,
-    pub memory: PlainMem,
+    pub memory: SoleMem,
     pub root: Root,
 }
 
@@ -81,16 +81,15 @@ fn run_loaded(
     alloc: Global,
     lowered: &Lowered,
     survey: Survey<'_>,
-    memory: &mut PlainMem,
+    memory: &mut SoleMem,
     depth: u32,
 ) -> Result<Root, Stop<'static>>
     requires table { survey.table ≡ lowered.now.code.laid.table }
     requires ty { survey.ty ≡ (core_of lowered.now.core).main.parameter }
-    requires plain { lowered.now.code.laid.with_offsets ≡ [] }
-    requires undrawn { (⟦<PlainMem as Mem>⟧.view memory.old).drawn ≡ 0 }
+    requires undrawn { (⟦<SoleMem as Mem>⟧.view memory.old).drawn ≡ 0 }
     ensures ends { (v : Datum) → Packed survey.entry.table survey.entry.ty v survey.entry.bytes
-        → EndsWith lowered.now depth (⟦<PlainMem as Mem>⟧.view memory.old).limit v (⟦<PlainMem as Mem>⟧.view memory.new).cells result }
-    ensures limit { IfOk result (λ _. (⟦<PlainMem as Mem>⟧.view memory.new).limit ≡ (⟦<PlainMem as Mem>⟧.view memory.old).limit) }
+        → EndsWith lowered.now depth (⟦<SoleMem as Mem>⟧.view memory.old).limit v (⟦<SoleMem as Mem>⟧.view memory.new).cells result }
+    ensures limit { IfOk result (λ _. (⟦<SoleMem as Mem>⟧.view memory.new).limit ≡ (⟦<SoleMem as Mem>⟧.view memory.old).limit) }
 {
     let _packed = survey.payload();
     let mut tails = Tails::new();
@@ -112,14 +111,13 @@ fn run_survey(
 ) -> Result<Ran, Stop<'static>>
     requires table { survey.table ≡ lowered.code.laid.table }
     requires ty { survey.ty ≡ (core_of lowered.core).main.parameter }
-    requires plain { lowered.code.laid.with_offsets ≡ [] }
     ensures same { IfOk result (λ ran. ran.lowered ≡ lowered) }
-    ensures limit { IfOk result (λ ran. (⟦<PlainMem as Mem>⟧.view ran.memory).limit ≡ chunks) }
+    ensures limit { IfOk result (λ ran. (⟦<SoleMem as Mem>⟧.view ran.memory).limit ≡ chunks) }
     ensures root { IfOk result (λ ran. (v : Datum) → Packed survey.entry.table survey.entry.ty v survey.entry.bytes
-        → IsRootOf lowered.code.laid (⟦<PlainMem as Mem>⟧.view ran.memory).cells (core_of lowered.core).main.result (core_run (core_of lowered.core) depth v) ran.root) }
+        → IsRootOf lowered.code.laid (⟦<SoleMem as Mem>⟧.view ran.memory).cells (core_of lowered.core).main.result (core_run (core_of lowered.core) depth v) ran.root) }
     ensures halts { IfErr result (λ why. (v : Datum) → Packed survey.entry.table survey.entry.ty v survey.entry.bytes → Halts (core_run (core_of lowered.core) depth v) chunks (run_cost (core_of lowered.core) depth 0 v) why) }
 {
-    let mut memory = match PlainMem::make(alloc, chunks) {
+    let mut memory = match SoleMem::make(alloc, chunks) {
         Ok(memory) => memory,
         Err(_) => return Err(Stop::Memory),
     };
@@ -134,7 +132,7 @@ fn run_survey(
 }
 
 /// Runs a program on the bytes of a packed file, with at most `depth` calls nested, in region memory of so many chunks of 4,096
-/// bytes. What the program means stands for the root, in the memory that is handed back.
+/// bytes; fields are reached by offsets, or by skips. What the program means stands for the root, in the memory that is handed back.
 ///
 /// # Errors
 ///
@@ -146,19 +144,20 @@ pub fn run_packed(
     file: &[u8],
     depth: u32,
     chunks: u32,
+    skips: bool,
 ) -> Result<Ran, Stop<'static>>
     requires short { length file.now ≤ FILE_BYTES }
-    ensures stands { IfOk result (λ ran. StandsMeant (program_of typed.now) depth file.now ran.lowered.code.laid (⟦<PlainMem as Mem>⟧.view ran.memory).cells ran.root) }
+    ensures stands { IfOk result (λ ran. StandsMeant (program_of typed.now) depth file.now ran.lowered.code.laid (⟦<SoleMem as Mem>⟧.view ran.memory).cells ran.root) }
     // It is the code of the program's core that ran, in a memory of so many chunks.
-    ensures code { IfOk result (λ ran. ran.lowered.code ≡ lower_program (core_after 3 (program_of typed.now))) }
-    ensures limit { IfOk result (λ ran. (⟦<PlainMem as Mem>⟧.view ran.memory).limit ≡ chunks) }
+    ensures code { IfOk result (λ ran. ran.lowered.code ≡ lower_program (core_after skips 4 (program_of typed.now))) }
+    ensures limit { IfOk result (λ ran. (⟦<SoleMem as Mem>⟧.view ran.memory).limit ≡ chunks) }
     // The heads lie as those of the program's core.
-    ensures laid { IfOk result (λ ran. ran.lowered.code.laid ≡ laid_of (core_after 3 (program_of typed.now))) }
-    ensures stop { IfErr result (IsMachineStop (program_of typed.now) depth chunks file.now) }
+    ensures laid { IfOk result (λ ran. ran.lowered.code.laid ≡ layouts_of skips (program_of typed.now)) }
+    ensures stop { IfErr result (IsMachineStop (program_of typed.now) skips depth chunks file.now) }
     // The other way round: of which value the file is, and what the program means on it, tells how the run ends.
     ensures only { (v : Datum) → IsInput (program_of typed.now) v file.now
-        → MatchResult result (λ ran. IsRootOf ran.lowered.code.laid (⟦<PlainMem as Mem>⟧.view ran.memory).cells (output_type (program_of typed.now)) (run (program_of typed.now) depth v) ran.root)
-        (Halts (run (program_of typed.now) depth v) chunks (program_cost (program_of typed.now) depth v)) }
+        → MatchResult result (λ ran. IsRootOf ran.lowered.code.laid (⟦<SoleMem as Mem>⟧.view ran.memory).cells (output_type (program_of typed.now)) (run (program_of typed.now) depth v) ran.root)
+        (Halts (run (program_of typed.now) depth v) chunks (program_cost (program_of typed.now) skips depth v)) }
 {
     one_file();
     let survey = match survey_input(alloc, typed, file) {
@@ -166,7 +165,7 @@ pub fn run_packed(
         Err(stop) => return Err(stop),
     };
     let _packed = survey.payload();
-    match lowered(alloc, typed) {
+    match lowered(alloc, typed, skips) {
         Ok(lowered) => run_survey(alloc, lowered, survey, depth, chunks),
         Err(_) => Err(Stop::Memory),
     }
@@ -185,20 +184,20 @@ pub fn print_ran<O: Sink>(
     out: &mut O,
 ) -> Result<(), PrintFault>
     requires names { AreHeld ran.old.lowered.code.laid.table names.now }
-    requires stands { (p : ProgramTree) × (depth : ℕ) × (input : List ℕ) × StandsMeant p depth input ran.old.lowered.code.laid (⟦<PlainMem as Mem>⟧.view ran.old.memory).cells ran.old.root }
-    ensures done { (p : ProgramTree) (depth : ℕ) (input : List ℕ) (s : StandsMeant p depth input ran.old.lowered.code.laid (⟦<PlainMem as Mem>⟧.view ran.old.memory).cells ran.old.root)
+    requires stands { (p : ProgramTree) × (depth : ℕ) × (input : List ℕ) × StandsMeant p depth input ran.old.lowered.code.laid (⟦<SoleMem as Mem>⟧.view ran.old.memory).cells ran.old.root }
+    ensures done { (p : ProgramTree) (depth : ℕ) (input : List ℕ) (s : StandsMeant p depth input ran.old.lowered.code.laid (⟦<SoleMem as Mem>⟧.view ran.old.memory).cells ran.old.root)
         → OnOk result (Appends (O.view out.old).taken (O.view out.new).taken (text_line p names.now s.result)) }
-    ensures part { (p : ProgramTree) (depth : ℕ) (input : List ℕ) (s : StandsMeant p depth input ran.old.lowered.code.laid (⟦<PlainMem as Mem>⟧.view ran.old.memory).cells ran.old.root)
+    ensures part { (p : ProgramTree) (depth : ℕ) (input : List ℕ) (s : StandsMeant p depth input ran.old.lowered.code.laid (⟦<SoleMem as Mem>⟧.view ran.old.memory).cells ran.old.root)
         → IsErrOf result PrintFault.Write → AppendsPart (O.view out.old).taken (O.view out.new).taken (text_line p names.now s.result) }
     ensures cause { IsErrOf result PrintFault.Write → Rose (O.view out.old).faults (O.view out.new).faults }
     ensures later { (O.view out.old).faults ≤ (O.view out.new).faults }
     ensures quiet { (IsErrOf result PrintFault.Write → ⊥) → (O.view out.new).faults ≡ (O.view out.old).faults }
-    ensures pieces { (p : ProgramTree) (depth : ℕ) (input : List ℕ) (s : StandsMeant p depth input ran.old.lowered.code.laid (⟦<PlainMem as Mem>⟧.view ran.old.memory).cells ran.old.root)
+    ensures pieces { (p : ProgramTree) (depth : ℕ) (input : List ℕ) (s : StandsMeant p depth input ran.old.lowered.code.laid (⟦<SoleMem as Mem>⟧.view ran.old.memory).cells ran.old.root)
         → OnOk result (PutsPieces (O.view out.old) (O.view out.new) (length (text_line p names.now s.result))) }
-    ensures some { (p : ProgramTree) (depth : ℕ) (input : List ℕ) (s : StandsMeant p depth input ran.old.lowered.code.laid (⟦<PlainMem as Mem>⟧.view ran.old.memory).cells ran.old.root)
+    ensures some { (p : ProgramTree) (depth : ℕ) (input : List ℕ) (s : StandsMeant p depth input ran.old.lowered.code.laid (⟦<SoleMem as Mem>⟧.view ran.old.memory).cells ran.old.root)
         → IsErrOf result PrintFault.Write → PutsSomePieces (O.view out.old) (O.view out.new) (length (text_line p names.now s.result)) }
     ensures still { IsErrOf result PrintFault.Memory → O.view out.new ≡ O.view out.old }
-    ensures same { ⟦<PlainMem as Mem>⟧.view ran.new.memory ≡ ⟦<PlainMem as Mem>⟧.view ran.old.memory }
+    ensures same { ⟦<SoleMem as Mem>⟧.view ran.new.memory ≡ ⟦<SoleMem as Mem>⟧.view ran.old.memory }
     ensures kept { ran.new.lowered ≡ ran.old.lowered }
     ensures root { ran.new.root ≡ ran.old.root }
 {

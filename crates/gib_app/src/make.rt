@@ -1,15 +1,15 @@
 //! What a plan's job makes of its files.
 
-ghost use Rattle.std.specs.Prelude.{◌≡◌, ◌≤◌, ℕ, List, length, option_map, IfOk, IfErr, OnOk, OnErr};
+ghost use Rattle.std.specs.Prelude.{◌≡◌, ◌≤◌, [], ℕ, List, length, IfOk, IfErr, OnOk, OnErr};
 ghost use Rattle.gib_syntax.specs.Parts.{program_of};
-ghost use Rattle.gib_app.specs.Formats.{most_of, second_of as second_asked};
-ghost use Rattle.gib_app.specs.Causes.{HoldsSecond, OnSource};
+ghost use Rattle.gib_app.specs.Formats.{most_of, inputs_of};
+ghost use Rattle.gib_app.specs.Causes.{AreGiven, OnSource};
 ghost use Rattle.gib_edge.specs.Causes.{Appends, AppendsPart};
-ghost use Rattle.gib_app.specs.Calls.{read_calls, second_calls, reads_of};
+ghost use Rattle.gib_app.specs.Calls.{read_calls, input_calls, reads_of};
 ghost use Rattle.gib_app.specs.Ending.{ReadsStay};
 ghost use Rattle.gib_app.specs.Stopping.{answer_for};
 ghost use Rattle.gib_app.specs.Kept.{document_of, plan_of, file_of};
-ghost use Rattle.gib_app.specs.Stops.{IsCompiled, IsReady, IsSourceStop, IsSecondStop, IsStop};
+ghost use Rattle.gib_app.specs.Stops.{IsCompiled, IsReady, IsSourceStop, IsInputStop, IsMakeStop};
 ghost use Rattle.gib_app.specs.Performing.{IsDone};
 
 use crate::compile::{Compiled, compile};
@@ -52,40 +52,29 @@ fn load_program<'a, S: Shelf>(
     }
 }
 
-/// The second file, where the job has one.
-fn second_of(plan: Plan<'_>) -> Option<Document<'_>>
-    ensures { option_map document_of result ≡ second_asked (plan_of plan.entry) }
-{
-    match plan.job.format() {
-        Some(_) => plan.second,
-        None => None,
-    }
-}
-
 /// The bytes of the second file; none where a plan has one file alone.
 fn read_second<'a, S: Shelf>(
     alloc: Global,
     shelf: &mut S,
     plan: Plan<'a>,
 ) -> Result<Vec<u8>, Stop<'a>>
-    ensures bytes { IfOk result (λ bytes. HoldsSecond (S.view shelf.old).kept (second_asked (plan_of plan.entry)) bytes.items) }
+    ensures bytes { IfOk result (λ bytes. AreGiven (S.view shelf.old).kept (inputs_of (plan_of plan.entry)) (record { second = bytes.items; further = [] })) }
     ensures most { IfOk result (λ bytes. length bytes.items ≤ most_of plan.entry.job) }
-    ensures stop { IfErr result (IsSecondStop (S.view shelf.old) (S.view shelf.new) (plan_of plan.entry)) }
+    ensures stop { IfErr result (IsInputStop (S.view shelf.old) (S.view shelf.new) (plan_of plan.entry)) }
     ensures same { (name : List ℕ) → (S.view shelf.new).kept name ≡ (S.view shelf.old).kept name }
     ensures later { (name : List ℕ) → (S.view shelf.old).reads name ≤ (S.view shelf.new).reads name }
     ensures writes { (name : List ℕ) → (S.view shelf.new).writes name ≡ (S.view shelf.old).writes name }
     ensures quiet { IfOk result (λ _. (name : List ℕ) → (S.view shelf.new).reads name ≡ (S.view shelf.old).reads name) }
     ensures reads { IfErr result (λ stop. ReadsStay (S.view shelf.old).reads (S.view shelf.new).reads (answer_for stop).status) }
-    ensures called { OnOk result (Appends (S.view shelf.old).calls (S.view shelf.new).calls (second_calls (second_asked (plan_of plan.entry)) (most_of plan.entry.job))) }
-    ensures once { OnErr result (AppendsPart (S.view shelf.old).calls (S.view shelf.new).calls (second_calls (second_asked (plan_of plan.entry)) (most_of plan.entry.job))) }
+    ensures called { OnOk result (Appends (S.view shelf.old).calls (S.view shelf.new).calls (input_calls (inputs_of (plan_of plan.entry)))) }
+    ensures once { OnErr result (AppendsPart (S.view shelf.old).calls (S.view shelf.new).calls (input_calls (inputs_of (plan_of plan.entry)))) }
 {
-    let Some(document) = second_of(plan) else {
+    let Some(input) = plan.second_input() else {
         return Ok(Vec::new(alloc));
     };
-    let most = plan.job.most();
-    match read_document(shelf, alloc, document, most) {
+    match read_document(shelf, alloc, input.document, input.most) {
         Ok(Some(bytes)) => Ok(bytes),
-        Ok(None) => Err(Stop::Input(InputFault::Long(most))),
+        Ok(None) => Err(Stop::Input(InputFault::Long(input.most))),
         Err(stop) => Err(stop),
     }
 }
@@ -98,7 +87,7 @@ fn read_second<'a, S: Shelf>(
 /// refused.
 pub fn make<'a, S: Shelf>(alloc: Global, shelf: &mut S, plan: Plan<'a>) -> Result<Made, Stop<'a>>
     ensures made { IfOk result (λ made. IsDone (S.view shelf.old).kept (plan_of plan.entry) (file_of made) made.end) }
-    ensures stop { IfErr result (IsStop (S.view shelf.old) (S.view shelf.new) (plan_of plan.entry)) }
+    ensures stop { IfErr result (IsMakeStop (S.view shelf.old) (S.view shelf.new) (plan_of plan.entry)) }
     ensures same { (name : List ℕ) → (S.view shelf.new).kept name ≡ (S.view shelf.old).kept name }
     ensures later { (name : List ℕ) → (S.view shelf.old).reads name ≤ (S.view shelf.new).reads name }
     ensures writes { (name : List ℕ) → (S.view shelf.new).writes name ≡ (S.view shelf.old).writes name }

@@ -4,7 +4,7 @@ ghost use Rattle.std.specs.Prelude.{◌≡◌, None, Some, is_some, option_map, 
 ghost use Rattle.clap.specs.Walk.{rows_of};
 ghost use Rattle.clap.specs.Simple.{subcommand_rows_of};
 ghost use Rattle.clap.specs.Matches.{found_of};
-ghost use Rattle.gib_app.specs.Words.{file_of, number_of, number_or as number_asked, options_of, planned, requested, usual as usual_options, word_of};
+ghost use Rattle.gib_app.specs.Words.{file_of, flag_of, number_of, number_or as number_asked, options_of, planned, requested, usual as usual_options, word_of};
 ghost use Rattle.gib_app.specs.Words.{NoTarget, AtPlace, ByOption};
 ghost use Rattle.gib_app.specs.Kept.{document_of, plan_of};
 
@@ -20,6 +20,7 @@ pub fn usual() -> Options
         chunks: 1_024,
         pass: 4,
         image: false,
+        skips: false,
     }
 }
 
@@ -61,6 +62,16 @@ fn number_or(matches: &ArgMatches<'_>, id: &str, default: u32) -> u32
     }
 }
 
+/// Whether a flag is given.
+fn flag(matches: &ArgMatches<'_>, id: &str) -> bool
+    ensures { result ≡ flag_of id.now (rows_of (found_of matches.now)) }
+{
+    match word(matches, id) {
+        Some(value) => value == "true",
+        None => false,
+    }
+}
+
 /// All options.
 fn options(matches: &ArgMatches<'_>) -> Options
     ensures { result ≡ options_of (rows_of (found_of matches.now)) }
@@ -71,6 +82,7 @@ fn options(matches: &ArgMatches<'_>) -> Options
         chunks: number_or(matches, "chunks", usual.chunks),
         pass: number_or(matches, "pass", usual.pass),
         image: is_given(matches, "image"),
+        skips: flag(matches, "skips"),
     }
 }
 

@@ -1,13 +1,12 @@
 //! Does a plan, up to what is printed.
 
-ghost use Rattle.std.specs.Prelude.{◌≡◌, ◌≤◌, ℕ, List, None, IfOk, IfErr, OnOk, OnErr};
-ghost use Rattle.gib_app.specs.Causes.{IsWritten};
+ghost use Rattle.std.specs.Prelude.{◌≡◌, ◌≤◌, ℕ, List, IfOk, IfErr, OnOk, OnErr};
+ghost use Rattle.gib_app.specs.Writes.{AreMade, writes_of};
 ghost use Rattle.gib_app.specs.Ending.{ReadsStay, WritesStay};
 ghost use Rattle.gib_app.specs.Performing.{IsPerformed, IsWriteStop, OthersStay, StopFiles};
 ghost use Rattle.gib_edge.specs.Causes.{AppendsPart};
 ghost use Rattle.gib_app.specs.Calls.{write_calls, calls_of};
 ghost use Rattle.gib_app.specs.Kept.{plan_of, file_of};
-ghost use Rattle.gib_app.specs.declared.made.Reason.{Reason as Reasons};
 ghost use Rattle.gib_app.specs.declared.made.Valued.{Valued as Values};
 ghost use Rattle.gib_app.specs.Stopping.{answer_for};
 ghost use Rattle.gib_app.specs.Stops.{IsStop};
@@ -26,11 +25,10 @@ fn write_file<'a, S: Shelf>(
     plan: Plan<'a>,
     made: &Made,
 ) -> Result<(), Stop<'a>>
-    ensures written { OnOk result (IsWritten S.tells (S.view shelf.new).kept (plan_of plan.entry).target (file_of made.now)) }
+    ensures written { OnOk result (AreMade S.tells (S.view shelf.old).kept (S.view shelf.new).kept (writes_of (file_of made.now) (plan_of plan.entry).target)) }
     ensures stop { IfErr result (IsWriteStop (S.view shelf.old) (S.view shelf.new) (plan_of plan.entry) (file_of made.now)) }
-    ensures none { file_of made.now ≡ None → (name : List ℕ) → (S.view shelf.new).kept name ≡ (S.view shelf.old).kept name }
     ensures others { OthersStay (plan_of plan.entry) (S.view shelf.old).kept (S.view shelf.new).kept }
-    ensures same { IfErr result (StopFiles (S.view shelf.old).kept (S.view shelf.new).kept) }
+    ensures same { IfErr result (StopFiles S.tells (plan_of plan.entry) (S.view shelf.old).kept (S.view shelf.new).kept) }
     ensures reads { (name : List ℕ) → (S.view shelf.new).reads name ≡ (S.view shelf.old).reads name }
     ensures later { (name : List ℕ) → (S.view shelf.old).writes name ≤ (S.view shelf.new).writes name }
     ensures quiet { OnOk result ((name : List ℕ) → (S.view shelf.new).writes name ≡ (S.view shelf.old).writes name) }
@@ -58,11 +56,10 @@ fn write_file<'a, S: Shelf>(
 /// refused; a file is not written.
 pub fn perform<'a, S: Shelf>(alloc: Global, shelf: &mut S, plan: Plan<'a>) -> Result<End, Stop<'a>>
     ensures done { IfOk result (λ end. IsPerformed S.tells (S.view shelf.old).kept (S.view shelf.new).kept (plan_of plan.entry) end) }
-    ensures none { IfOk result (λ end. (reason : Reasons) → end ≡ End.NoValue reason → (name : List ℕ) → (S.view shelf.new).kept name ≡ (S.view shelf.old).kept name) }
-    ensures value { IfOk result (λ end. (value : Values) → end ≡ End.Value value → (name : List ℕ) → (S.view shelf.new).kept name ≡ (S.view shelf.old).kept name) }
-    ensures stop { IfErr result (IsStop (S.view shelf.old) (S.view shelf.new) (plan_of plan.entry)) }
+    ensures value { IfOk result (λ end. (value : Values) → end ≡ End.Value value → AreMade S.tells (S.view shelf.old).kept (S.view shelf.new).kept (plan_of plan.entry).first) }
+    ensures stop { IfErr result (IsStop S.tells (S.view shelf.old) (S.view shelf.new) (plan_of plan.entry)) }
     ensures others { OthersStay (plan_of plan.entry) (S.view shelf.old).kept (S.view shelf.new).kept }
-    ensures same { IfErr result (StopFiles (S.view shelf.old).kept (S.view shelf.new).kept) }
+    ensures same { IfErr result (StopFiles S.tells (plan_of plan.entry) (S.view shelf.old).kept (S.view shelf.new).kept) }
     ensures reads_later { (name : List ℕ) → (S.view shelf.old).reads name ≤ (S.view shelf.new).reads name }
     ensures reads_quiet { IfOk result (λ _. (name : List ℕ) → (S.view shelf.new).reads name ≡ (S.view shelf.old).reads name) }
     ensures reads { IfErr result (λ stop. ReadsStay (S.view shelf.old).reads (S.view shelf.new).reads (answer_for stop).status) }

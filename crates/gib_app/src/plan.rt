@@ -54,6 +54,15 @@ pub struct Options {
     pub pass: u32,
     /// Whether the image of region memory is written.
     pub image: bool,
+    /// Whether fields are reached from the end of the field before them, and not by offsets that heads store.
+    pub skips: bool,
+}
+
+/// An input: where it comes from, and how many bytes of it are read at most.
+#[derive(Clone, Copy, Debug)]
+pub struct Input<'a> {
+    pub document: Document<'a>,
+    pub most: u64,
 }
 
 /// What to do: the source is read, then the second file; the job is done with them; the file that it makes is written
@@ -68,8 +77,7 @@ pub struct Plan<'a> {
 }
 
 impl Job {
-    ghost use Rattle.std.specs.Prelude.{◌<◌, ◌^◌};
-    ghost use Rattle.gib_app.specs.Formats.{format_of, most_of};
+    ghost use Rattle.gib_app.specs.Formats.{format_of};
 
     /// What the second file is read as, where there is one.
     pub fn format(self) -> Option<Format>
@@ -83,17 +91,6 @@ impl Job {
             Job::Code => None,
             Job::Pack => Some(Format::Text),
             Job::Show => Some(Format::Shown),
-        }
-    }
-
-    /// How many bytes of the second file are read at most.
-    pub fn most(self) -> u64
-        ensures most { result ≡ most_of self }
-        ensures bound { result < 2 ^ 40 }
-    {
-        match self.format() {
-            Some(format) => format.limit(),
-            None => 0,
         }
     }
 }
@@ -111,6 +108,30 @@ impl Format {
             Format::Packed => FILE_BYTES,
             Format::Text => FILE_BYTES,
             Format::Shown => 268_435_480,
+        }
+    }
+}
+
+impl<'a> Plan<'a> {
+    ghost use Rattle.std.specs.Prelude.{◌<◌, ◌^◌, IfSome, option_map, option_to_list};
+    ghost use Rattle.gib_app.specs.Formats.{inputs_of, most_of};
+    ghost use Rattle.gib_app.specs.Kept.{input_of, plan_of};
+
+    /// The second file with its limit, where the job has one.
+    pub fn second_input(self) -> Option<Input<'a>>
+        ensures input { option_to_list (option_map input_of result) ≡ inputs_of (plan_of self.entry) }
+        ensures most { IfSome result (λ i. i.most ≡ most_of self.entry.job) }
+        ensures bound { IfSome result (λ i. i.most < 2 ^ 40) }
+    {
+        let Some(format) = self.job.format() else {
+            return None;
+        };
+        match self.second {
+            Some(document) => Some(Input {
+                document,
+                most: format.limit(),
+            }),
+            None => None,
         }
     }
 }

@@ -52,6 +52,9 @@ fn shown(alloc: Global, plan: Option<Plan<'_>>) -> Result<String, AllocError> {
     if plan.options.image {
         line = format!(in alloc; "{line} image")?;
     }
+    if plan.options.skips {
+        line = format!(in alloc; "{line} skips")?;
+    }
     Ok(line)
 }
 
@@ -95,7 +98,7 @@ fn no_words_ask_for_the_sample(rt: HostRuntime) -> Result<(), Fail> {
 #[test]
 fn commands_take_their_words(rt: HostRuntime) -> Result<(), Fail> {
     let alloc = rt.alloc();
-    let cases: [(&[&str], &str); 48] = [
+    let cases: [(&[&str], &str); 57] = [
         (&["run", "s", "i"], "run s i"),
         (&["plain", "s", "i"], "plain s i"),
         (&["check", "s"], "check s"),
@@ -163,6 +166,16 @@ fn commands_take_their_words(rt: HostRuntime) -> Result<(), Fail> {
         (&["core", "s", "--pass", "5"], "not taken"),
         (&["core", "s", "--pass", "1", "--pass", "1"], "not taken"),
         (&["check", "s", "--pass", "1"], "not taken"),
+        // How fields are reached.
+        (&["run", "--skips", "s", "i"], "run s i skips"),
+        (&["core", "s", "--pass", "3", "--skips"], "core s pass 3 skips"),
+        (&["code", "s", "--skips"], "code s skips"),
+        (&["show", "s", "--skips", "f"], "show s f skips"),
+        (&["show", "s", "f", "--skips", "--skips"], "not taken"),
+        (&["run", "s", "i", "--skips=1"], "not taken"),
+        (&["plain", "s", "i", "--skips"], "not taken"),
+        (&["check", "s", "--skips"], "not taken"),
+        (&["pack", "s", "t", "o", "--skips"], "not taken"),
     ];
     for (texts, expected) in cases {
         let line = asked(alloc, texts)?;

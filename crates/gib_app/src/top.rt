@@ -38,7 +38,7 @@ fn call<'a, S: Shelf, O: Sink>(
     ensures done { OnOk result (IsPrinted S.tells (bytes_of words.now) (S.view shelf.old) (S.view shelf.new) (O.view out.old) (O.view out.new)) }
     ensures stop { IfErr result (IsCallStop S.tells (bytes_of words.now) (S.view shelf.old) (S.view shelf.new) (O.view out.old) (O.view out.new)) }
     ensures others { (name : List ℕ) → IsNoTarget (bytes_of words.now) name → (S.view shelf.new).kept name ≡ (S.view shelf.old).kept name }
-    ensures same { IfErr result (λ stop. FilesStay (bytes_of words.now) (S.view shelf.old).kept (S.view shelf.new).kept (answer_for stop).status) }
+    ensures same { IfErr result (λ stop. FilesStay S.tells (bytes_of words.now) (S.view shelf.old).kept (S.view shelf.new).kept (answer_for stop).status) }
     ensures reads_later { (name : List ℕ) → (S.view shelf.old).reads name ≤ (S.view shelf.new).reads name }
     ensures reads_quiet { OnOk result ((name : List ℕ) → (S.view shelf.new).reads name ≡ (S.view shelf.old).reads name) }
     ensures reads { IfErr result (λ stop. ReadsStay (S.view shelf.old).reads (S.view shelf.new).reads (answer_for stop).status) }
@@ -92,11 +92,11 @@ pub fn gib<R: Threads + Wait + Sync, S: Shelf, O: Sink, E: Sink, G: Gate + Sync>
 
     // Where the files are told and no count on the way rises, the status that is due is answered, unless memory runs out, or in a run
     // chunks of region memory do, which has its cause.
-    ensures complete { (due : Statuses) → IsDue (bytes_of words.now) (S.view shelf.old) (S.view shelf.new) (O.view out.old) (O.view out.new) due → IsDueOrScarce (bytes_of words.now) due result }
+    ensures complete { (due : Statuses) → IsDue S.tells (bytes_of words.now) (S.view shelf.old) (S.view shelf.new) (O.view out.old) (O.view out.new) due → IsDueOrScarce (bytes_of words.now) due result }
 
-    // What files hold stays, but for the one that is written; counts of faults never fall, and rise only with
-    // the status that tells of them; but at `Done` and `WriteFault` nothing is put.
-    ensures same { FilesStay (bytes_of words.now) (S.view shelf.old).kept (S.view shelf.new).kept result }
+    // What files hold stays, but for those that are written, whose writes `ends` tells in their order; counts of faults never
+    // fall, and rise only with the status that tells of them; but at `Done` and `WriteFault` nothing is put.
+    ensures same { FilesStay S.tells (bytes_of words.now) (S.view shelf.old).kept (S.view shelf.new).kept result }
     ensures reads_later { (name : List ℕ) → (S.view shelf.old).reads name ≤ (S.view shelf.new).reads name }
     ensures reads { ReadsStay (S.view shelf.old).reads (S.view shelf.new).reads result }
     ensures writes_later { (name : List ℕ) → (S.view shelf.old).writes name ≤ (S.view shelf.new).writes name }

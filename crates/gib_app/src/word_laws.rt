@@ -14,27 +14,33 @@ pub fn words_ask_where_taken()
 pub fn examples()
     // The depth that stands where none is given.
     ensures run { asked (codes "gib" ∷ codes "run" ∷ codes "a.gib" ∷ codes "t.gbp" ∷ [])
-        ≡ Some (record { source = Named (codes "a.gib"); second = Some (Named (codes "t.gbp")); target = None; job = Run; options = usual }) }
+        ≡ Some (record { first = []; source = Named (codes "a.gib"); inputs = Named (codes "t.gbp") ∷ []; target = None; job = Run; options = usual }) }
     // A depth before the names of the files, with a plus and zeros.
     ensures depth { asked (codes "gib" ∷ codes "plain" ∷ codes "--depth=+007" ∷ codes "a.gib" ∷ codes "t.gbp" ∷ [])
-        ≡ Some (record { source = Named (codes "a.gib"); second = Some (Named (codes "t.gbp")); target = None; job = Plain; options = record usual { depth = 7 } }) }
+        ≡ Some (record { first = []; source = Named (codes "a.gib"); inputs = Named (codes "t.gbp") ∷ []; target = None; job = Plain; options = record usual { depth = 7 } }) }
     // After `--` each word is a name.
     ensures names { asked (codes "gib" ∷ codes "pack" ∷ codes "--" ∷ codes "a" ∷ codes "--depth" ∷ codes "-" ∷ [])
-        ≡ Some (record { source = Named (codes "a"); second = Some (Named (codes "--depth")); target = Some (codes "-"); job = Pack; options = usual }) }
+        ≡ Some (record { first = []; source = Named (codes "a"); inputs = Named (codes "--depth") ∷ []; target = Some (codes "-"); job = Pack; options = usual }) }
     // A depth past its range.
     ensures deep { asked (codes "gib" ∷ codes "run" ∷ codes "a" ∷ codes "b" ∷ codes "--depth" ∷ codes "1000001" ∷ []) ≡ None }
     // The pass that stands where none is given.
-    ensures core { asked (codes "gib" ∷ codes "core" ∷ codes "a.gib" ∷ []) ≡ Some (record { source = Named (codes "a.gib"); second = None; target = None; job = Core; options = usual }) }
+    ensures core { asked (codes "gib" ∷ codes "core" ∷ codes "a.gib" ∷ []) ≡ Some (record { first = []; source = Named (codes "a.gib"); inputs = []; target = None; job = Core; options = usual }) }
     // Chunks.
     ensures chunks { asked (codes "gib" ∷ codes "run" ∷ codes "a" ∷ codes "b" ∷ codes "--chunks" ∷ codes "16" ∷ [])
-        ≡ Some (record { source = Named (codes "a"); second = Some (Named (codes "b")); target = None; job = Run; options = record usual { chunks = 16 } }) }
+        ≡ Some (record { first = []; source = Named (codes "a"); inputs = Named (codes "b") ∷ []; target = None; job = Run; options = record usual { chunks = 16 } }) }
     // Chunks below their range.
     ensures few_chunks { asked (codes "gib" ∷ codes "run" ∷ codes "a" ∷ codes "b" ∷ codes "--chunks" ∷ codes "15" ∷ []) ≡ None }
     // An image.
     ensures image { asked (codes "gib" ∷ codes "run" ∷ codes "a" ∷ codes "b" ∷ codes "--image" ∷ codes "m.gbi" ∷ [])
-        ≡ Some (record { source = Named (codes "a"); second = Some (Named (codes "b")); target = Some (codes "m.gbi"); job = Run; options = record usual { image = true } }) }
+        ≡ Some (record { first = []; source = Named (codes "a"); inputs = Named (codes "b") ∷ []; target = Some (codes "m.gbi"); job = Run; options = record usual { image = true } }) }
     // The code of a program.
-    ensures code { asked (codes "gib" ∷ codes "code" ∷ codes "a.gib" ∷ []) ≡ Some (record { source = Named (codes "a.gib"); second = None; target = None; job = Code; options = usual }) }
+    ensures code { asked (codes "gib" ∷ codes "code" ∷ codes "a.gib" ∷ []) ≡ Some (record { first = []; source = Named (codes "a.gib"); inputs = []; target = None; job = Code; options = usual }) }
+    // The flag, on the commands that take it, and on one that takes it not.
+    ensures skips { asked (codes "gib" ∷ codes "run" ∷ codes "--skips" ∷ codes "a" ∷ codes "b" ∷ [])
+        ≡ Some (record { first = []; source = Named (codes "a"); inputs = Named (codes "b") ∷ []; target = None; job = Run; options = record usual { skips = true } }) }
+    ensures code_skips { asked (codes "gib" ∷ codes "code" ∷ codes "a.gib" ∷ codes "--skips" ∷ [])
+        ≡ Some (record { first = []; source = Named (codes "a.gib"); inputs = []; target = None; job = Code; options = record usual { skips = true } }) }
+    ensures plain_skips { asked (codes "gib" ∷ codes "plain" ∷ codes "a" ∷ codes "b" ∷ codes "--skips" ∷ []) ≡ None }
     // A pass past its range.
     ensures pass { asked (codes "gib" ∷ codes "core" ∷ codes "a.gib" ∷ codes "--pass" ∷ codes "5" ∷ []) ≡ None }
     // A name too few.

@@ -4,7 +4,7 @@ use Rattle.std.specs.Prelude.{Option, Some, None, IfSome, ltb}
 use mathlib.Core.Logic.{dite}
 use native.Mathlib.Decide.{dec_le, ℕ_discrete}
 use Rattle.atomic_table.specs.Seated.{TableId}
-use Rattle.gib_mem.specs.Memory.{Store, absent, fresh, byte, open_chunk, set_cell, after_put, after_draw, IsThere}
+use Rattle.gib_mem.specs.Memory.{Memory, Store, absent, fresh, byte, open_chunk, set_cell, after_put, after_draw, sole, IsThere}
 use Rattle.gib_mem.proofs.Puts.{set_same, set_other, open_before, open_past, open_in}
 use Rattle.gib_arena.specs.declared.view.Branch.{Branch}
 use Rattle.gib_arena.specs.declared.view.Holding.{Holding}
@@ -14,7 +14,7 @@ use Rattle.gib_arena.specs.Bytes.{chunk_of, byte_at, share, IsOwned, IsSound}
 use Rattle.gib_arena.specs.Cells.{byte_or, cells_of}
 use Rattle.gib_arena.specs.Tree.{IsAlone}
 use Rattle.gib_arena.specs.Steps.{drew, put_at, IsSoundView, IsWhole}
-use Rattle.gib_arena.specs.Shown.{is_alone, is_empty, shown}
+use Rattle.gib_arena.specs.Shown.{is_alone, is_empty, shown, shown_alone}
 use Rattle.gib_arena.proofs.Ones.{once_yes}
 use Rattle.gib_arena.proofs.BytesKeep.{drew_h}
 use Rattle.gib_arena.proofs.Paths.{both_left, both_right}
@@ -72,3 +72,8 @@ pub drew_shown : (z z' its : TableId) (v w : View) (o : Option ℕ) → IsSoundV
     → IfSome o (λ c. w ≡ drew v c) → IfSome o (λ c. (v.holding.seen ≤ c) × (c < v.branch.limit)) → IfSome o (λ c. shown z' w ≡ after_draw (shown z v) c)
 drew_shown z z' its v w None s a b h l = tt {0}
 drew_shown z z' its v w (Some c) s a b h l = let e : z' ≡ z = a ∙ sym b in ap (λ (y : TableId). shown y w) e ∙ (ap (shown z) h ∙ shown_drew z v c s l.0)
+
+-- the same of the memory of one owner
+pub drew_alone : (z : TableId) (v w : View) (o : Option ℕ) → IsSoundView v → IfSome o (λ c. w ≡ drew v c) → IfSome o (λ c. (v.holding.seen ≤ c) × (c < v.branch.limit)) → IfSome o (λ c. shown_alone w ≡ after_draw (shown_alone v) c)
+drew_alone z v w None s h l = tt {0}
+drew_alone z v w (Some c) s h l = ap shown_alone h ∙ ap (λ (m : Memory). record m { alone = true; holder = sole }) (shown_drew z v c s l.0)

@@ -1,7 +1,7 @@
 -- The memory that a pass shows.
 use Rattle.std.specs.Prelude.{ℕ, ◌&&◌, Bool, true, false, List, [], ◌∷◌}
 use Rattle.atomic_table.specs.Seated.{TableId}
-use Rattle.gib_mem.specs.Memory.{Memory}
+use Rattle.gib_mem.specs.Memory.{Memory, sole}
 use Rattle.gib_arena.specs.declared.view.Branch.{Branch}
 use Rattle.gib_arena.specs.declared.view.View.{View}
 use Rattle.gib_arena.specs.Bytes.{share}
@@ -29,4 +29,15 @@ shown z v = record {
   limit = v.branch.limit;
   alone = is_alone v.branch;
   holder = record { arena = name_of z; path = v.branch.path; splits = v.branch.next; out = v.branch.out };
+}
+
+-- What the first pass of an arena is as a memory together with that arena, where no other pass is out: memory of one owner.
+abbrev pub shown_alone : View → Memory
+shown_alone v = record {
+  cells = cells_of v.holding;
+  drawn = v.holding.seen;
+  share = share v.holding;
+  limit = v.branch.limit;
+  alone = true;
+  holder = sole;
 }

@@ -139,11 +139,23 @@ fn sends<T: Send>(_: &T) {}
 
 #[test]
 fn two_threads_read_each_others_bytes(rt: HostRuntime) -> Result<(), Fail> {
-    for byte in 0..40u8 {
+    for round in 0..1_000u32 {
+        let byte = (round % 256) as u8;
         let (shared, pass) = arena(rt.alloc(), 2)?;
         sends(&pass);
         let read = exchange(&rt, shared, pass, byte, 255 - byte);
         assert!(rt; read == Some((byte, 255 - byte, 7, 2)));
     }
+    Ok(())
+}
+
+#[test]
+fn one_owner_draws_and_puts(rt: HostRuntime) -> Result<(), Fail> {
+    let mut mem = SoleMem::make(rt.alloc(), 2)?;
+    assert!(rt; write(&mut mem, 7) == Some(2));
+    assert!(rt; write(&mut mem, 8) == Some(4098));
+    mem.owns_all();
+    assert!(rt; write(&mut mem, 9) == None);
+    assert_eq!(rt; mem.chunks(), 2);
     Ok(())
 }

@@ -35,6 +35,15 @@ struct Bound {
     value: ExprId,
 }
 
+impl Bound {
+    /// A variable with its expression.
+    fn new(name: Ident, value: ExprId) -> Bound
+        ensures { result ≡ record { name = name; value = value } }
+    {
+        Bound { name, value }
+    }
+}
+
 /// The type of an expression.
 #[cycle(infer)]
 pub fn infer(declared: &Declared, state: &mut State, id: ExprId) -> Result<Ty, TypeFault>
@@ -87,11 +96,7 @@ fn infer_worded(
             body,
         } => {
             let at = At { id, span: *span };
-            let bound = Bound {
-                name: *name,
-                value: *bound,
-            };
-            let_in(declared, state, at, bound, *body)
+            let_in(declared, state, at, Bound::new(*name, *bound), *body)
         }
         Node::LetPar {
             span,
@@ -102,14 +107,8 @@ fn infer_worded(
             body,
         } => {
             let at = At { id, span: *span };
-            let left = Bound {
-                name: *left_name,
-                value: *left,
-            };
-            let right = Bound {
-                name: *right_name,
-                value: *right,
-            };
+            let left = Bound::new(*left_name, *left);
+            let right = Bound::new(*right_name, *right);
             let_par(declared, state, at, left, right, *body)
         }
         Node::If {

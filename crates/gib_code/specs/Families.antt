@@ -2,6 +2,7 @@
 use Rattle.gib_code.specs.Instruction as i
 use Rattle.gib_code.specs.Instruction.{Instruction}
 
+-- What an instruction is for.
 pub data Family : Type 0 where
   -- a slot is set from others, from a head or from an address
   Setting : Family

@@ -16,6 +16,14 @@ use gib_base::{Memory, Name, Names, push_decimal, push_signed};
 use gib_types::{ConId, TypeTable};
 use std::alloc::Global;
 
+/// What the lines of a listing are written with.
+#[derive(Clone, Copy, Drop)]
+struct Given<'a> {
+    alloc: Global,
+    names: &'a Names,
+    code: &'a Code,
+}
+
 /// The name of a function; of a number that no function has, main.
 fn called(functions: &[Entry], function: u32) -> Option<Name>
     ensures { result ≡ called (slice_get functions.now function) }
@@ -211,23 +219,17 @@ fn push_setting(alloc: Global, out: &mut Vec<u8>, instr: &Instr) -> Result<(), M
 }
 
 /// Writes an instruction that puts a value.
-fn push_putting(
-    alloc: Global,
-    out: &mut Vec<u8>,
-    names: &Names,
-    code: &Code,
-    instr: &Instr,
-) -> Result<(), Memory>
+fn push_putting(given: &Given<'_>, out: &mut Vec<u8>, instr: &Instr) -> Result<(), Memory>
     requires { family_of (instruction_of instr.now) ≡ Putting }
-    ensures { OnOk result (out.new.items ≡ out.old.items ++ instruction_text names.now code.now (instruction_of instr.now)) }
+    ensures { OnOk result (out.new.items ≡ out.old.items ++ instruction_text given.now.names.now given.now.code.now (instruction_of instr.now)) }
 {
     match instr {
-        Instr::Begin(slot) => push_one(alloc, out, b" begin", *slot),
+        Instr::Begin(slot) => push_one(given.alloc, out, b" begin", *slot),
         Instr::Done => push_bytes(out, b" done"),
-        Instr::Here(slot) => push_one(alloc, out, b" here", *slot),
+        Instr::Here(slot) => push_one(given.alloc, out, b" here", *slot),
         Instr::Past { head, constructor } => {
-            push_one(alloc, out, b" past", *head)?;
-            push_constructor(out, names, code.layouts().types(), *constructor)
+            push_one(given.alloc, out, b" past", *head)?;
+            push_constructor(out, given.names, given.code.layouts().types(), *constructor)
         }
         Instr::Fill {
             head,
@@ -235,12 +237,12 @@ fn push_putting(
             scalars,
             packed,
         } => {
-            push_one(alloc, out, b" fill", *head)?;
-            push_constructor(out, names, code.layouts().types(), *constructor)?;
-            push_operands(alloc, out, scalars)?;
-            push_slots(alloc, out, packed)
+            push_one(given.alloc, out, b" fill", *head)?;
+            push_constructor(out, given.names, given.code.layouts().types(), *constructor)?;
+            push_operands(given.alloc, out, scalars)?;
+            push_slots(given.alloc, out, packed)
         }
-        Instr::Point(slot) => push_one(alloc, out, b" point", *slot),
+        Instr::Point(slot) => push_one(given.alloc, out, b" point", *slot),
         _ => unreachable!(),
     }
 }
@@ -269,15 +271,9 @@ fn push_jumping(alloc: Global, out: &mut Vec<u8>, instr: &Instr) -> Result<(), M
 }
 
 /// Writes an instruction that begins or ends a call.
-fn push_calling(
-    alloc: Global,
-    out: &mut Vec<u8>,
-    names: &Names,
-    code: &Code,
-    instr: &Instr,
-) -> Result<(), Memory>
+fn push_calling(given: &Given<'_>, out: &mut Vec<u8>, instr: &Instr) -> Result<(), Memory>
     requires { family_of (instruction_of instr.now) ≡ Calling }
-    ensures { OnOk result (out.new.items ≡ out.old.items ++ instruction_text names.now code.now (instruction_of instr.now)) }
+    ensures { OnOk result (out.new.items ≡ out.old.items ++ instruction_text given.now.names.now given.now.code.now (instruction_of instr.now)) }
 {
     match instr {
         Instr::Call {
@@ -285,22 +281,22 @@ fn push_calling(
             arguments,
         } => {
             push_bytes(out, b" call")?;
-            push_function(out, names, code.functions(), *function)?;
-            push_operands(alloc, out, arguments)
+            push_function(out, given.names, given.code.functions(), *function)?;
+            push_operands(given.alloc, out, arguments)
         }
         Instr::CallScalar {
             to,
             function,
             arguments,
         } => {
-            push_one(alloc, out, b" callv", *to)?;
-            push_function(out, names, code.functions(), *function)?;
-            push_operands(alloc, out, arguments)
+            push_one(given.alloc, out, b" callv", *to)?;
+            push_function(out, given.names, given.code.functions(), *function)?;
+            push_operands(given.alloc, out, arguments)
         }
         Instr::Return => push_bytes(out, b" ret"),
         Instr::Give(operand) => {
             push_bytes(out, b" give")?;
-            push_operand(alloc, out, *operand)
+            push_operand(given.alloc, out, *operand)
         }
         _ => unreachable!(),
     }
@@ -331,53 +327,38 @@ fn push_forking(alloc: Global, out: &mut Vec<u8>, instr: &Instr) -> Result<(), M
 }
 
 /// Writes an instruction.
-fn push_instruction(
-    alloc: Global,
-    out: &mut Vec<u8>,
-    names: &Names,
-    code: &Code,
-    instr: &Instr,
-) -> Result<(), Memory>
-    ensures { OnOk result (out.new.items ≡ out.old.items ++ instruction_text names.now code.now (instruction_of instr.now)) }
+fn push_instruction(given: &Given<'_>, out: &mut Vec<u8>, instr: &Instr) -> Result<(), Memory>
+    ensures { OnOk result (out.new.items ≡ out.old.items ++ instruction_text given.now.names.now given.now.code.now (instruction_of instr.now)) }
 {
     match instr {
-        Instr::Move { .. }
-        | Instr::Operate { .. }
-        | Instr::Whole { .. }
-        | Instr::Truth { .. }
-        | Instr::First { .. }
-        | Instr::Offset { .. }
-        | Instr::Skip { .. } => push_setting(alloc, out, instr),
         Instr::Begin(_)
         | Instr::Done
         | Instr::Here(_)
         | Instr::Past { .. }
         | Instr::Fill { .. }
-        | Instr::Point(_) => push_putting(alloc, out, names, code, instr),
+        | Instr::Point(_) => push_putting(given, out, instr),
         Instr::Jump(_) | Instr::Unless { .. } | Instr::Switch { .. } => {
-            push_jumping(alloc, out, instr)
+            push_jumping(given.alloc, out, instr)
         }
         Instr::Call { .. } | Instr::CallScalar { .. } | Instr::Return | Instr::Give(_) => {
-            push_calling(alloc, out, names, code, instr)
+            push_calling(given, out, instr)
         }
-        Instr::Fork { .. } | Instr::Join | Instr::Back => { push_forking(alloc, out, instr) }
+        Instr::Fork { .. } | Instr::Join | Instr::Back => push_forking(given.alloc, out, instr),
+        _ => push_setting(given.alloc, out, instr),
     }
 }
 
 /// Writes the line of an instruction.
 fn push_line(
-    alloc: Global,
+    given: &Given<'_>,
     out: &mut Vec<u8>,
-    names: &Names,
-    code: &Code,
     number: usize,
     instr: &Instr,
 ) -> Result<(), Memory>
-    ensures { OnOk result (out.new.items ≡ out.old.items ++ line_text names.now code.now number (instruction_of instr.now)) }
+    ensures { OnOk result (out.new.items ≡ out.old.items ++ line_text given.now.names.now given.now.code.now number (instruction_of instr.now)) }
 {
-    let digits = format!(in alloc; "{number}")?;
-    out.extend_from_slice(digits.as_bytes())?;
-    push_instruction(alloc, out, names, code, instr)?;
+    push_decimal(given.alloc, out, number as u64)?;
+    push_instruction(given, out, instr)?;
     out.push(b'\n')?;
     Ok(())
 }
@@ -443,13 +424,14 @@ fn later_than(functions: &[Entry], number: usize) -> &[Entry]
 pub fn listing(alloc: Global, code: &Code, names: &Names) -> Result<Vec<u8>, Memory>
     ensures { IfOk result (λ out. out.items ≡ listing_text names.now code.now) }
 {
+    let given = Given { alloc, names, code };
     let mut out = Vec::new(alloc);
     let instructions = code.instructions();
     let mut functions = code.functions();
     let mut number = 0;
     'instructions: while number < instructions.len() {
         push_head_at(alloc, &mut out, names, functions, number)?;
-        push_line(alloc, &mut out, names, code, number, &instructions[number])?;
+        push_line(&given, &mut out, number, &instructions[number])?;
         functions = later_than(functions, number);
         number += 1;
     }

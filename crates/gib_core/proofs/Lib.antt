@@ -1,5 +1,6 @@
 pub mod Layers
 mod Lining
+pub mod NumberSet
 mod Spelling
 pub mod Unbroken
 pub mod Indented

@@ -5,6 +5,7 @@ use Rattle.std.specs.Fmt.{decimal, signed_decimal}
 use Rattle.gib_types.specs.declared.table.Ty.{Ty}
 use Rattle.gib_types.specs.declared.table.Ty.TheVariants as ty
 use Rattle.gib_types.specs.Table.{Table, name_at}
+pub use Rattle.gib_code.specs.ListingText.{name_text}
 use Rattle.gib_syntax.specs.declared.tree.Operator.{Operator}
 use Rattle.gib_syntax.specs.declared.tree.Operator.TheVariants as o
 use Rattle.gib_core.specs.declared.atom.Variable.{Variable}
@@ -131,10 +132,6 @@ operator_text o.Less = codes "<"
 abbrev pub indent : ℕ → List ℕ
 indent zero = []
 indent (suc d) = 32 ∷ 32 ∷ indent d
-
--- The text of a name, by its number.
-abbrev pub name_text : List (List ℕ) → ℕ → List ℕ
-name_text names n = unwrap_or (slice_get names n) []
 
 -- A variable is `%` (37) with its number.
 abbrev pub variable_text : Variable → List ℕ

@@ -5,9 +5,8 @@ use Rattle.std.specs.List.{AllByRecursion}
 use Rattle.gib_base.specs.declared.name.Name.{Name}
 use Rattle.gib_types.specs.declared.table.Ty.{Ty}
 use Rattle.gib_types.specs.declared.table.Ty.TheVariants.{Whole, Truth, Tree}
-use Rattle.gib_types.specs.Table.{fields_at, con_at, scalar_types, IsTable}
+use Rattle.gib_types.specs.Table.{fields_at, con_at, scalar_types, IsTable, is_scalar}
 use Rattle.gib_types.specs.Layout.{is_among}
-use Rattle.gib_syntax.specs.Meaning.{is_scalar}
 use Rattle.gib_syntax.specs.Typing.{operator_type}
 use Rattle.gib_core.specs.declared.atom.Variable.{Variable}
 use Rattle.gib_core.specs.declared.atom.Atom.{Atom}

@@ -1,4 +1,5 @@
 pub mod Tree
+pub mod ByVariable
 pub mod Arena
 pub mod Parts
 pub mod Meaning

@@ -5,7 +5,7 @@ use Rattle.gib_types.specs.declared.table.Ty.{Ty}
 use Rattle.gib_types.specs.declared.table.Ty.TheVariants as ty
 use Rattle.gib_types.specs.declared.table.ConId.{ConId}
 use Rattle.gib_types.specs.Table.{fields_at}
-use Rattle.gib_types.specs.Layout.{LaidOut, layout_at, numbers_of}
+use Rattle.gib_types.specs.Layout.{LaidOut, layout_at, head_size, numbers_of}
 use Rattle.gib_syntax.specs.declared.tree.Operator.{Operator}
 use Rattle.gib_syntax.specs.declared.tree.Operator.TheVariants as o
 use Rattle.gib_core.specs.declared.atom.Variable.{Variable}
@@ -125,7 +125,7 @@ first_reach x size (ty.Tree t ∷ ts) (y ∷ ys) = First y.0 x size ∷ []
 abbrev pub arm_opening : LaidOut → ℕ → ℕ → List Variable → List Instruction
 arm_opening laid x k ys =
     scalar_reads x (1 + (layout_at laid.table laid.with_offsets k).offsets) (fields_at laid.table k) ys
-    ++ first_reach x (layout_at laid.table laid.with_offsets k).head (fields_at laid.table k) ys
+    ++ first_reach x (head_size laid k) (fields_at laid.table k) ys
 
 -- What follows a term: a return, or the code at a label; a scalar goes to a slot.
 pub data End : Type 0 where

@@ -4,7 +4,7 @@ use Rattle.gib_base.specs.declared.name.Name.{Name}
 use Rattle.gib_types.specs.declared.table.Ty.{Ty}
 use Rattle.gib_types.specs.declared.table.Ty.TheVariants.{Whole, Truth, Tree}
 use Rattle.gib_types.specs.declared.table.ConId.{ConId}
-use Rattle.gib_types.specs.Table.{Table, fields_at, tree_types}
+use Rattle.gib_types.specs.Table.{Table, fields_at, tree_types, first_type, further_types}
 use Rattle.gib_syntax.specs.declared.tree.Operator.{Operator}
 use Rattle.gib_core.specs.declared.atom.Variable.{Variable}
 use Rattle.gib_core.specs.declared.atom.Atom.{Atom}
@@ -12,7 +12,6 @@ use Rattle.gib_core.specs.declared.atom.Kind.{Kind}
 use Rattle.gib_core.specs.declared.atom.Kind.TheVariants.{Here, Region, Scalar}
 use Rattle.gib_core.specs.declared.atom.Access.{Access}
 use Rattle.gib_core.specs.Tree.{Term, Then, Write, Point, CallTerm, Give, CaseTerm, IfTerm, Bind, Past, One, Both, Prim, Reach, Side, On, Branches, NoBranch, BranchThen, variable_of, FunctionTerm, CoreTree}
-use Rattle.gib_core.specs.Inferring.{first_type, further_types}
 pub use Rattle.gib_core.specs.declared.scope.Known.{Known}
 
 -- Where a value is put: nowhere, since it is a scalar; at an empty place; or behind the fields of an open

@@ -3,7 +3,7 @@ use Rattle.std.specs.Prelude.{◌≡◌, ℕ, List, [], ◌∷◌, ◌++◌, map
 use Rattle.std.specs.List.{AllByRecursion}
 use Rattle.gib_core.specs.declared.atom.Variable.{Variable}
 use Rattle.gib_core.specs.Tree.{Term, Then, Write, Point, CallTerm, Give, CaseTerm, IfTerm, Bind, Past, One, Both, Prim, Reach, Side, On, Branches, NoBranch, BranchThen, CoreTree}
-use Rattle.gib_core.specs.Inferring.{numbers_from}
+use Rattle.gib_types.specs.Table.{numbers_from}
 use Rattle.gib_core.specs.Met.{Body, bodies}
 
 abbrev mutual

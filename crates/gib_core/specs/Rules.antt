@@ -4,10 +4,9 @@ use Rattle.std.specs.List.{AllByRecursion}
 use Rattle.gib_types.specs.declared.table.Ty.{Ty}
 use Rattle.gib_types.specs.declared.table.Ty.TheVariants.{Whole, Truth, Tree}
 use Rattle.gib_types.specs.declared.table.ConId.{ConId}
-use Rattle.gib_types.specs.Table.{Table, fields_at, con_at, scalar_types}
+use Rattle.gib_types.specs.Table.{Table, fields_at, con_at, scalar_types, is_scalar, first_type, further_types, constructors_of}
 pub use Rattle.gib_types.specs.Table.{same_type, type_made}
 use Rattle.gib_syntax.specs.Typing.{operator_type}
-use Rattle.gib_syntax.specs.Meaning.{is_scalar}
 use Rattle.gib_core.specs.declared.atom.Variable.{Variable}
 use Rattle.gib_core.specs.declared.atom.Atom.{Atom}
 use Rattle.gib_core.specs.declared.atom.Atom.TheVariants as a
@@ -18,7 +17,6 @@ use Rattle.gib_core.specs.declared.atom.Access.TheVariants.{Offset, Skip}
 use Rattle.gib_core.specs.declared.scope.Behind.{Behind}
 use Rattle.gib_core.specs.Tree.{FunctionTerm, CoreTree}
 use Rattle.gib_core.specs.Meaning.{function_at}
-use Rattle.gib_core.specs.Inferring.{first_type, further_types, constructors_of}
 use Rattle.gib_core.specs.Met.{Known, Destination, Nowhere, Empty, Open, Setting, Line, PastLine, SideLine, ParLine, PrimLine, ReachLine, WriteLine, PointLine, CallLine, GiveLine, CaseLine, IfLine, Met, known, packed_types, field_due, Body, bodies, met_body}
 pub use Rattle.gib_core.specs.declared.scope.Bound.{Bound}
 

@@ -2,6 +2,7 @@
 #![tactic(auto)]
 
 pub mod atom;
+mod by_variable;
 pub mod checked;
 mod cost_examples;
 pub mod examples;
@@ -21,6 +22,7 @@ mod text;
 mod written;
 
 pub use atom::{Access, AccessMode, Atom, Kind, Variable};
+pub use by_variable::{number_of, set_number};
 pub use checked::Checked;
 pub use lowered::Lowered;
 pub use node::{Binding, BoundTerm, Branch, Node, TermId, Terms};

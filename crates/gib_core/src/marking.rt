@@ -50,9 +50,9 @@ fn end_has_call(terms: &Terms, id: TermId) -> bool
 
 /// A binding of the term of a number, whose terms stand below it.
 #[cycle(calls)]
-fn binding_has_call(terms: &Terms, whole: TermId, binding: Binding) -> bool
-    requires inside { whole.0 < length terms.now }
-    requires below { IsBindingBelow whole.0 binding }
+fn binding_has_call(terms: &Terms, parent: TermId, binding: Binding) -> bool
+    requires inside { parent.0 < length terms.now }
+    requires below { IsBindingBelow parent.0 binding }
     ensures { result ≡ bind_has_call (bind_from (term_of terms.now) binding) }
 {
     match binding {
@@ -68,9 +68,9 @@ fn binding_has_call(terms: &Terms, whole: TermId, binding: Binding) -> bool
 
 /// The branches of the case of a number, whose terms stand below it.
 #[cycle(calls)]
-fn branches_have_call(terms: &Terms, whole: TermId, branches: &[Branch]) -> bool
-    requires inside { whole.0 < length terms.now }
-    requires below { AllByRecursion (IsBranchBelow whole.0) branches.now }
+fn branches_have_call(terms: &Terms, parent: TermId, branches: &[Branch]) -> bool
+    requires inside { parent.0 < length terms.now }
+    requires below { AllByRecursion (IsBranchBelow parent.0) branches.now }
     ensures { result ≡ branches_have_call (branches_from (term_of terms.now) branches.now) }
 {
     let mut i = 0;
@@ -84,9 +84,9 @@ fn branches_have_call(terms: &Terms, whole: TermId, branches: &[Branch]) -> bool
 }
 
 /// Whether a binding of the term of a number is a par that is to be marked.
-fn binding_may_fork(terms: &Terms, whole: usize, binding: Binding) -> bool
-    requires inside { whole < length terms.now }
-    requires below { IsBindingBelow whole binding }
+fn binding_may_fork(terms: &Terms, parent: usize, binding: Binding) -> bool
+    requires inside { parent < length terms.now }
+    requires below { IsBindingBelow parent binding }
     ensures { result ≡ bind_may_fork (bind_from (term_of terms.now) binding) }
 {
     match binding {

@@ -13,7 +13,7 @@ use crate::node::{Binding, BoundTerm, Branch, Node, TermId, Terms};
 use crate::piece::{Keyword, Piece};
 use crate::program::{Core, CoreFunction, CoreMain};
 use crate::text::text_of;
-use crate::written::Written;
+use crate::written::{Written, put_line};
 use gib_base::{Memory, Name, Names};
 use gib_types::Ty;
 use std::alloc::{AllocError, Global};
@@ -46,7 +46,7 @@ fn put_atom_line(level: u64, word: Keyword, atom: Atom, out: &mut Written) -> Re
 {
     out.put(Piece::End)?;
     out.put(Piece::Atom(atom))?;
-    out.put_line(level, word)
+    put_line(level, word, out)
 }
 
 /// What a head is filled with, up to the end of the line.
@@ -65,7 +65,7 @@ fn put_call(level: u64, name: Name, arguments: &[Atom], out: &mut Written) -> Re
     out.put(Piece::End)?;
     put_atoms(arguments, out)?;
     out.put(Piece::Function(name))?;
-    out.put_line(level, Keyword::Call)
+    put_line(level, Keyword::Call, out)
 }
 
 /// The word for how a term is bound.
@@ -141,7 +141,7 @@ fn put_end(
         } => {
             put_fields(scalars, packed, out)?;
             out.put(Piece::Variable(*head))?;
-            out.put_line(level, Keyword::Write)
+            put_line(level, Keyword::Write, out)
         }
         Node::Point(atom) => put_atom_line(level, Keyword::Point, *atom, out),
         Node::Call(name, arguments) => put_call(level, *name, arguments, out),
@@ -157,7 +157,7 @@ fn put_end(
         } => {
             put_term(alloc, terms, level + 1, *else_part, out)?;
             out.put(Piece::End)?;
-            out.put_line(level, Keyword::Else)?;
+            put_line(level, Keyword::Else, out)?;
             put_term(alloc, terms, level + 1, *then_part, out)?;
             put_atom_line(level, Keyword::If, *condition, out)
         }
@@ -170,13 +170,13 @@ fn put_binding(
     alloc: Global,
     terms: &Terms,
     level: u64,
-    whole: TermId,
+    parent: TermId,
     binding: Binding,
     out: &mut Written,
 ) -> Result<(), Memory>
-    requires inside { whole.0 < length terms.now }
-    requires level { level + 2 * whole.0 < 2 ^ 40 }
-    requires below { IsBindingBelow whole.0 binding }
+    requires inside { parent.0 < length terms.now }
+    requires level { level + 2 * parent.0 < 2 ^ 40 }
+    requires below { IsBindingBelow parent.0 binding }
     ensures { OnOk result (out.new ≡ spell_bind level (bind_from (term_of terms.now) binding) out.old) }
 {
     match binding {
@@ -184,7 +184,7 @@ fn put_binding(
             out.put(Piece::End)?;
             out.put(Piece::Constructor(constructor))?;
             out.put(Piece::Variable(head))?;
-            out.put_line(level, Keyword::Past)
+            put_line(level, Keyword::Past, out)
         }
         Binding::One(side) => put_side(alloc, terms, level, side, out),
         Binding::Par { fork, left, right } => {
@@ -192,7 +192,7 @@ fn put_binding(
             put_side(alloc, terms, level + 1, left, out)?;
             out.put(Piece::End)?;
             put_fork(fork, out)?;
-            out.put_line(level, Keyword::Par)
+            put_line(level, Keyword::Par, out)
         }
         Binding::Prim {
             variable,
@@ -206,13 +206,13 @@ fn put_binding(
             out.put(Piece::Atom(left))?;
             out.put(Piece::Equals)?;
             out.put(Piece::Variable(variable))?;
-            out.put_line(level, Keyword::Prim)
+            put_line(level, Keyword::Prim, out)
         }
         Binding::Reach { field, access } => {
             out.put(Piece::End)?;
             put_access(access, out)?;
             out.put(Piece::Variable(field))?;
-            out.put_line(level, Keyword::Reach)
+            put_line(level, Keyword::Reach, out)
         }
     }
 }
@@ -233,7 +233,7 @@ fn put_side(
     put_term(alloc, terms, level + 1, side.term, out)?;
     out.put(Piece::End)?;
     out.put(Piece::Variable(side.variable))?;
-    out.put_line(level, kind_word(side.kind))
+    put_line(level, kind_word(side.kind), out)
 }
 
 /// The branches of the case of a number, whose terms stand below it.
@@ -242,13 +242,13 @@ fn put_branches(
     alloc: Global,
     terms: &Terms,
     level: u64,
-    whole: TermId,
+    parent: TermId,
     branches: &[Branch],
     out: &mut Written,
 ) -> Result<(), Memory>
-    requires inside { whole.0 < length terms.now }
-    requires level { level + 2 * whole.0 < 2 ^ 40 + 1 }
-    requires below { AllByRecursion (IsBranchBelow whole.0) branches.now }
+    requires inside { parent.0 < length terms.now }
+    requires level { level + 2 * parent.0 < 2 ^ 40 + 1 }
+    requires below { AllByRecursion (IsBranchBelow parent.0) branches.now }
     ensures { OnOk result (out.new ≡ spell_branches level (branches_from (term_of terms.now) branches.now) out.old) }
 {
     let mut i = branches.len();
@@ -304,7 +304,7 @@ fn put_function(
     put_body(alloc, terms, function.result, function.body, out)?;
     put_parameters(&function.parameters, out)?;
     out.put(Piece::Function(function.name))?;
-    out.put_line(0, Keyword::Fun)
+    put_line(0, Keyword::Fun, out)
 }
 
 fn put_functions(
@@ -330,7 +330,7 @@ fn put_main(alloc: Global, terms: &Terms, main: CoreMain, out: &mut Written) -> 
 {
     put_body(alloc, terms, main.result, main.body, out)?;
     out.put(Piece::Parameter(Variable(0), main.parameter))?;
-    out.put_line(0, Keyword::Main)
+    put_line(0, Keyword::Main, out)
 }
 
 /// The pieces of a core's text.
@@ -340,7 +340,7 @@ fn pieces_of(alloc: Global, core: &Core) -> Result<Vec<Piece>, Memory>
     let mut out = Written::new(alloc);
     put_main(alloc, core.terms(), core.main(), &mut out)?;
     put_functions(alloc, core.terms(), core.functions(), &mut out)?;
-    Ok(out.into_pieces())
+    Ok(out.into_vec())
 }
 
 /// The text of a core, with the names of its program.

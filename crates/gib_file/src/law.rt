@@ -9,7 +9,7 @@ ghost use Rattle.gib_file.specs.declared.fault.PackFault.{PackFault};
 ghost use Rattle.gib_file.specs.declared.fault.PackFault.TheVariants.{Trailing};
 ghost use Rattle.gib_file.specs.Packed.{packed, Packed, IsPacked};
 ghost use Rattle.gib_file.specs.Framed.{Framed, File, IsFirstFault};
-ghost use Rattle.gib_file.specs.Reading.{read_all, IsBadAt};
+ghost use Rattle.gib_file.specs.Reading.{Fails, read_all, IsBadAt};
 ghost use Rattle.gib_file.specs.Front.{IsFault};
 ghost use Rattle.gib_file.specs.Surveyed.{IsBytes};
 
@@ -44,6 +44,11 @@ pub fn refused_byte()
 /// too few bytes are left, the byte is no tag or truth value, or nothing is due.
 pub fn fault_stands()
     ensures { (table : Table) (ty : Ty) (bytes : List ℕ) (fault : PackFault) → IsBytes bytes → read_all table ty bytes ≡ Err fault → IsFault table ty bytes fault }
+{}
+
+/// Only one fault stands, of one kind and at one place: what reading meets. Want of memory is none of these.
+pub fn one_fault()
+    ensures { (table : Table) (ty : Ty) (bytes : List ℕ) (fault : PackFault) → IsFault table ty bytes fault → Fails fault (read_all table ty bytes) }
 {}
 
 /// A payload in which reading meets a fault, of whatever kind, is no packed value of the type.

@@ -12,8 +12,8 @@ use Rattle.gib_syntax.specs.declared.exprs.Arm.{Arm}
 use Rattle.gib_syntax.specs.declared.exprs.Node.{Node as Expr}
 use Rattle.gib_syntax.specs.declared.tree.Ident.{Ident}
 use Rattle.gib_syntax.specs.Arena.{tree_of}
-use Rattle.gib_syntax.specs.Parts.{Parts, program_of}
-use Rattle.gib_syntax.specs.Typing.{Globals, globals_of}
+use Rattle.gib_syntax.specs.Parts.{Parts}
+pub use Rattle.gib_check.specs.Views.{globals_in}
 use Rattle.gib_core.specs.declared.atom.Atom.{Atom}
 use Rattle.gib_core.specs.declared.atom.Variable.{Variable}
 use Rattle.gib_core.specs.declared.node.Node.{Node}
@@ -31,10 +31,6 @@ use Rattle.gib_infer.specs.declared.work.Work.{Work}
 -- The names in scope, kept with the newest last.
 abbrev pub scope_of : List Slot → Scope
 scope_of slots = reverse slots
-
--- The constructors and functions of a program.
-abbrev pub globals_in : Parts → Globals
-globals_in parts = globals_of (program_of parts)
 
 -- What the expression of a number becomes.
 abbrev pub code_at : Parts → List Expr → ℕ → Code

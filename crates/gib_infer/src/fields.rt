@@ -1,7 +1,7 @@
 //! The types of fields, and what stands at scalar or packed ones.
 
 ghost use Rattle.std.specs.Prelude.{◌≡◌, false, IfOk};
-ghost use Rattle.gib_syntax.specs.Meaning.{at_fields};
+ghost use Rattle.gib_types.specs.Table.{at_fields};
 ghost use Rattle.gib_infer.specs.Made.{Binds, BindsFields};
 
 use crate::work::{Work, new_variable};

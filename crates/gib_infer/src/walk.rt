@@ -166,18 +166,13 @@ fn right_side(
         Node::Whole(_, _) => bound_line(typed, work, bindings, id),
         Node::Truth(_, _) => bound_line(typed, work, bindings, id),
         Node::Paren(_, inner) => right_side(typed, work, bindings, *inner),
-        Node::Operation {
-            operator,
-            left,
-            right,
-            ..
-        } => operation(typed, work, bindings, *operator, *left, *right),
+        Node::Operation { .. } => atom(typed, work, bindings, id),
         Node::Call(f, ids) => call_atom(typed, work, bindings, id, *f, ids),
-        Node::Make(_, _) => bound_line(typed, work, bindings, id),
-        Node::Let { .. } => bound_line(typed, work, bindings, id),
-        Node::LetPar { .. } => bound_line(typed, work, bindings, id),
-        Node::If { .. } => bound_line(typed, work, bindings, id),
-        Node::Case { .. } => bound_line(typed, work, bindings, id),
+        Node::Make(_, _) => atom(typed, work, bindings, id),
+        Node::Let { .. } => atom(typed, work, bindings, id),
+        Node::LetPar { .. } => atom(typed, work, bindings, id),
+        Node::If { .. } => atom(typed, work, bindings, id),
+        Node::Case { .. } => atom(typed, work, bindings, id),
     }
 }
 

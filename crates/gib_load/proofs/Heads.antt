@@ -1,13 +1,12 @@
 -- The heads of a value: their bytes and types, and where they go.
-use Rattle.std.proofs.Common.{◌≡◌, ℕ, ◌+◌, List, [], ◌∷◌, ◌++◌, length, refl, sym, ap, ◌∙◌, arith, append_assoc, length-append, true, false, Some}
+use Rattle.std.proofs.Common.{◌≡◌, ℕ, List, [], ◌∷◌, ◌++◌, length, refl, sym, ap, ◌∙◌, arith, append_assoc, length-append, true, false, Some}
 use Rattle.gib_types.specs.declared.table.Ty.{Ty}
 use Rattle.gib_types.specs.declared.table.Ty.TheVariants as ty
 use Rattle.gib_types.specs.Table.{Table, con_at, fields_at}
-use Rattle.gib_types.specs.Layout.{LaidOut, scalar_size, layout_at, is_among}
+use Rattle.gib_types.specs.Layout.{LaidOut, scalar_size}
 use Rattle.gib_types.specs.Tree.{Datum, whole, truth, con, Data, none, more, HasType, HaveTypes, constructors, all_constructors}
 use Rattle.gib_file.specs.Packed.{tree, trees, scalar as scalar_in_file, scalars as scalars_in_file}
 use Rattle.gib_packed.specs.Scalars.{scalar, scalars}
-use Rattle.gib_packed.specs.Head.{head_bytes, offset_bytes}
 use Rattle.gib_load.specs.Preorder.{Head, heads, all_heads}
 use Rattle.gib_load.specs.Placement.{Open, place_head, place_heads}
 
@@ -99,10 +98,3 @@ scalars-length table (more (con k ws) vs) (ty.Truth ∷ ts) h = absurd h.0
 pub place-append : (laid : LaidOut) (r : Open) (hs gs : List Head) → place_heads laid r (hs ++ gs) ≡ place_heads laid (place_heads laid r hs) gs
 place-append laid r [] gs = refl
 place-append laid r (h ∷ hs) gs = place-append laid (place_head laid r h) hs gs
-
--- without offsets a head is its tag and its scalars
-pub plain_bytes : (laid : LaidOut) (k : ℕ) (ps : List ℕ) (vs : Data) → laid.with_offsets ≡ [] → head_bytes laid k ps vs ≡ k ∷ scalars vs
-plain_bytes laid k ps vs e = ap (λ (o : List ℕ). k ∷ (offset_bytes (is_among o k) ps ++ scalars vs)) e
-
-pub plain_size : (laid : LaidOut) (k : ℕ) → laid.with_offsets ≡ [] → (layout_at laid.table laid.with_offsets k).head ≡ 1 + scalar_size (fields_at laid.table k)
-plain_size laid k e = ap (λ (o : List ℕ). (layout_at laid.table o k).head) e

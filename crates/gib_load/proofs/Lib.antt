@@ -5,3 +5,4 @@ pub mod Ends
 pub mod Rooms
 pub mod Spots
 pub mod Sound
+pub mod Planning

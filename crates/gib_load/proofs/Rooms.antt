@@ -1,27 +1,21 @@
 -- A head that is placed in an open region.
-use Rattle.std.proofs.Common.{◌≡◌, ℕ, ◌+◌, ◌*◌, ◌<◌, ◌≤◌, ◌^◌, List, [], ◌∷◌, length, refl, sym, ap, subst, ◌∙◌, arith, length-append, Bool, cond, inl, inr}
+use Rattle.std.proofs.Common.{◌≡◌, ℕ, ◌+◌, ◌*◌, ◌<◌, ◌≤◌, ◌^◌, List, length, refl, sym, ap, subst, ◌∙◌, arith, Bool, cond, inl, inr}
 use Rattle.std.specs.Prelude.{◌⊎◌}
 use Rattle.std.proofs.lemmas.Bool.Decides.{leb_tells}
 use Rattle.gib_mem.specs.Memory.{Store, absent, fresh, after_puts, after_draw, Holds, Owned, Grows}
 use Rattle.gib_mem.proofs.Puts.{puts_past, puts_hold, puts_grow, open_past}
-use Rattle.gib_types.specs.declared.table.Ty.{Ty}
-use Rattle.gib_types.specs.declared.table.Ty.TheVariants as ty
-use Rattle.gib_types.specs.Table.{fields_at}
-use Rattle.gib_types.specs.Layout.{LaidOut, is_among, offset_size, packed_count, head_size}
-use Rattle.gib_types.specs.Tree.{whole, truth, con, Data, none, more, HaveTypes}
-use Rattle.gib_packed.specs.Scalars.{scalars}
-use Rattle.gib_packed.specs.Head.{head_bytes, offset_bytes}
-use Rattle.gib_packed.proofs.HeadLemmas.{offset_bytes-length}
+use Rattle.gib_types.specs.Layout.{LaidOut, head_size}
+use Rattle.gib_packed.specs.Head.{head_bytes}
 use Rattle.gib_region.specs.Region.{rest, Behind, pointer, Placed, here, turned, redirected}
 use Rattle.gib_region.specs.Leaving.{IsBounded, Leaves}
 use Rattle.gib_region.proofs.Bounds.{there_below, fresh_there}
 use Rattle.gib_region.proofs.Placing.{leaves}
 use Rattle.gib_load.specs.Preorder.{Head}
-use Rattle.gib_load.specs.Spot.{Spot, further, past_item, past_value, places}
+use Rattle.gib_load.specs.Spot.{Spot, further, past_item, places}
 use Rattle.gib_load.specs.Placement.{Open, spot_of, with_room, place_head}
-use Rattle.gib_load.proofs.Heads.{IsHead, scalars-length}
+use Rattle.gib_load.proofs.Heads.{IsHead}
 use Rattle.gib_load.proofs.Steps.{behind_item}
-use Rattle.gib_load.proofs.Spots.{room_spot, head_spot, head_limit}
+use Rattle.gib_load.proofs.Spots.{room_spot, head_spot, head_limit, head-length}
 
 -- a region in which items may be placed
 pub record Ready (r : Open) : Type 0 where
@@ -65,30 +59,6 @@ room_made r w ready few small = elim (leb_tells (w + 9) (rest r.at)) [
         ends = omega (arith, few);
       }))
 ]
-
--- packed fields have a place each
-pub places-length : (laid : LaidOut) (s : Spot) (vs : Data) (ts : List Ty) → HaveTypes laid.table vs ts → length (places laid s vs) ≡ packed_count ts
-places-length laid s none [] h = refl
-places-length laid s none (t ∷ ts) h = absurd h
-places-length laid s (more v vs) [] h = absurd h
-places-length laid s (more (whole z) vs) (ty.Whole ∷ ts) h = places-length laid s vs ts h.1
-places-length laid s (more (truth b) vs) (ty.Truth ∷ ts) h = places-length laid s vs ts h.1
-places-length laid s (more (con k ws) vs) (ty.Tree t ∷ ts) h = let n = places-length laid (past_value laid s (con k ws)) vs ts h.1 in omega (arith, n)
-places-length laid s (more (whole z) vs) (ty.Truth ∷ ts) h = absurd h.0
-places-length laid s (more (whole z) vs) (ty.Tree t ∷ ts) h = absurd h.0
-places-length laid s (more (truth b) vs) (ty.Whole ∷ ts) h = absurd h.0
-places-length laid s (more (truth b) vs) (ty.Tree t ∷ ts) h = absurd h.0
-places-length laid s (more (con k ws) vs) (ty.Whole ∷ ts) h = absurd h.0
-places-length laid s (more (con k ws) vs) (ty.Truth ∷ ts) h = absurd h.0
-
--- a head is as long as its layout says
-pub head-length : (laid : LaidOut) (s : Spot) (h : Head) → IsHead laid.table h → length (head_bytes laid h.tag (places laid s h.fields) h.fields) ≡ head_size laid h.tag
-head-length laid s h is =
-    let ps = places laid s h.fields in
-    let n = offset_bytes-length (is_among laid.with_offsets h.tag) ps ∙ ap (offset_size (is_among laid.with_offsets h.tag)) (places-length laid s h.fields (fields_at laid.table h.tag) is.typed) in
-    let m = scalars-length laid.table h.fields (fields_at laid.table h.tag) is.typed in
-    let l = length-append (offset_bytes (is_among laid.with_offsets h.tag) ps) (scalars h.fields) in
-    omega (arith, n, m, l)
 
 -- once a head is placed
 pub record HeadPlaced (laid : LaidOut) (r : Open) (h : Head) (a : ℕ) (bytes : List ℕ) (r' : Open) : Type 0 where

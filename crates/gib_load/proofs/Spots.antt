@@ -3,16 +3,20 @@ use Rattle.std.proofs.Common.{◌≡◌, ℕ, ◌+◌, ◌-◌, ◌*◌, ◌≤�
 use Rattle.std.proofs.lemmas.Bool.Decides.{leb_tells}
 use Rattle.gib_mem.specs.Memory.{Memory, after_draw}
 use Rattle.gib_mem.proofs.Puts.{puts_drawn, puts_limit}
-use Rattle.gib_types.specs.Table.{IsTable}
-use Rattle.gib_types.specs.Layout.{LaidOut, head_size}
-use Rattle.gib_types.specs.Tree.{Datum, whole, truth, con, Data, none, more}
-use Rattle.gib_packed.specs.Head.{head_bytes}
+use Rattle.gib_types.specs.declared.table.Ty.{Ty}
+use Rattle.gib_types.specs.declared.table.Ty.TheVariants as ty
+use Rattle.gib_types.specs.Table.{IsTable, fields_at}
+use Rattle.gib_types.specs.Layout.{LaidOut, head_size, packed_count, is_among, offset_size}
+use Rattle.gib_types.specs.Tree.{Datum, whole, truth, con, Data, none, more, HaveTypes}
+use Rattle.gib_packed.specs.Scalars.{scalars}
+use Rattle.gib_packed.specs.Head.{head_bytes, offset_bytes}
+use Rattle.gib_packed.proofs.HeadLemmas.{offset_bytes-length}
 use Rattle.gib_region.specs.Region.{rest, pointer, redirected, has_room}
 use Rattle.gib_load.specs.Preorder.{Head, heads, all_heads}
 use Rattle.gib_load.specs.Spot.{Spot, room_for, further, past_item, past_value, past_fields, places}
 use Rattle.gib_load.specs.Placement.{Open, spot_of, with_room, with_bytes, place_head, place_heads, begun}
 use Rattle.gib_load.specs.Refusal.{Refused, at_start, at_head, Spent}
-use Rattle.gib_load.proofs.Heads.{place-append, heads-count}
+use Rattle.gib_load.proofs.Heads.{place-append, heads-count, IsHead, scalars-length}
 
 -- what holds of every table and its layouts
 pub record Sizes (laid : LaidOut) : Type 0 where
@@ -138,3 +142,27 @@ refused_spent laid sizes m v m' e (at_head stuck) =
     let d : m'.drawn ≡ (place_heads laid (begun m) stuck.front).memory.drawn = ap (λ (x : Memory). x.drawn) stuck.same in
     let a = stuck.all in
     record { all = a; loaded = omega (arith, f, n, p, l, d, a) }
+
+-- packed fields have a place each
+pub places-length : (laid : LaidOut) (s : Spot) (vs : Data) (ts : List Ty) → HaveTypes laid.table vs ts → length (places laid s vs) ≡ packed_count ts
+places-length laid s none [] h = refl
+places-length laid s none (t ∷ ts) h = absurd h
+places-length laid s (more v vs) [] h = absurd h
+places-length laid s (more (whole z) vs) (ty.Whole ∷ ts) h = places-length laid s vs ts h.1
+places-length laid s (more (truth b) vs) (ty.Truth ∷ ts) h = places-length laid s vs ts h.1
+places-length laid s (more (con k ws) vs) (ty.Tree t ∷ ts) h = let n = places-length laid (past_value laid s (con k ws)) vs ts h.1 in omega (arith, n)
+places-length laid s (more (whole z) vs) (ty.Truth ∷ ts) h = absurd h.0
+places-length laid s (more (whole z) vs) (ty.Tree t ∷ ts) h = absurd h.0
+places-length laid s (more (truth b) vs) (ty.Whole ∷ ts) h = absurd h.0
+places-length laid s (more (truth b) vs) (ty.Tree t ∷ ts) h = absurd h.0
+places-length laid s (more (con k ws) vs) (ty.Whole ∷ ts) h = absurd h.0
+places-length laid s (more (con k ws) vs) (ty.Truth ∷ ts) h = absurd h.0
+
+-- a head is as long as its layout says
+pub head-length : (laid : LaidOut) (s : Spot) (h : Head) → IsHead laid.table h → length (head_bytes laid h.tag (places laid s h.fields) h.fields) ≡ head_size laid h.tag
+head-length laid s h is =
+    let ps = places laid s h.fields in
+    let n = offset_bytes-length (is_among laid.with_offsets h.tag) ps ∙ ap (offset_size (is_among laid.with_offsets h.tag)) (places-length laid s h.fields (fields_at laid.table h.tag) is.typed) in
+    let m = scalars-length laid.table h.fields (fields_at laid.table h.tag) is.typed in
+    let l = length-append (offset_bytes (is_among laid.with_offsets h.tag) ps) (scalars h.fields) in
+    omega (arith, n, m, l)

@@ -3,6 +3,7 @@
 
 pub mod law;
 pub mod loading;
+pub(crate) mod plan;
 
 pub use loading::{LoadFault, load};
 

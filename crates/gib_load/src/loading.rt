@@ -1,16 +1,20 @@
 //! The heads of a value, placed in preorder.
 
-ghost use Rattle.std.specs.Prelude.{◌≡◌, ◌<◌, ◌≤◌, ◌+◌, [], ◌∷◌, ℕ, List, true, length, take, IfOk, OnOk, OnErr, IsErrOf, FitsSigned};
+ghost use Rattle.std.specs.Prelude.{◌≡◌, ◌<◌, ◌≤◌, ◌+◌, ◌*◌, [], ◌∷◌, ◌++◌, true, length, take, drop, IfOk, OnOk, OnErr, IsErrOf, FitsSigned};
 ghost use Rattle.std.specs.Int.{w64};
-ghost use Rattle.gib_types.specs.declared.table.Ty.TheVariants.{Tree, Whole as WholeType};
+ghost use Rattle.gib_mem.specs.Memory.{Owned, after_puts};
+ghost use Rattle.gib_types.specs.declared.table.Ty.TheVariants.{Tree};
 ghost use Rattle.gib_types.specs.Tree.{Datum};
 ghost use Rattle.gib_file.specs.Packed.{Packed, number, bit};
 ghost use Rattle.gib_load.specs.Holding.{Holding};
 ghost use Rattle.gib_region.specs.Region.{Behind};
 ghost use Rattle.gib_load.specs.Preorder.{heads};
-ghost use Rattle.gib_load.specs.Placement.{Open, place_heads as heads_placed, placed_in, begun, finished_at};
+ghost use Rattle.gib_packed.specs.Head.{addresses};
+ghost use Rattle.gib_load.specs.Plan.{planned, first_spot};
+ghost use Rattle.gib_load.specs.Placement.{place_heads as heads_placed, placed_in};
 ghost use Rattle.gib_load.specs.Refusal.{Stuck, Refused, Spent};
 
+use crate::plan::{plan_value, stored_count};
 use byteorder::{ByteOrder, LittleEndian};
 use gib_file::Survey;
 use gib_mem::Mem;
@@ -31,15 +35,40 @@ pub enum LoadFault {
     Full,
 }
 
-/// Places the heads of a payload one after another, from the cursor on.
+/// Puts addresses one after another, from a place on.
+fn put_addresses<M: Mem>(mem: &mut M, at: u64, stored: &[u64])
+    requires { Owned (M.view mem.old).cells at (8 * length stored.now) }
+    ensures { M.view mem.new ≡ after_puts (M.view mem.old) at (addresses stored.now) }
+{
+    let mut i = 0;
+    'addresses: while i < stored.len() {
+        fill(mem, at + 8 * i as u64, &stored[i].to_le_bytes());
+        i += 1;
+    }
+}
+
+/// Puts a head: its tag, what it stores, its scalars. The item is the tag and the scalars.
+fn put_head<M: Mem>(mem: &mut M, at: u64, item: &[u8], stored: &[u64])
+    requires tag { 0 < length item.now }
+    requires owned { Owned (M.view mem.old).cells at (length item.now + 8 * length stored.now) }
+    ensures { M.view mem.new ≡ after_puts (M.view mem.old) at (take 1 item.now ++ (addresses stored.now ++ drop 1 item.now)) }
+{
+    let (tag, scalars) = item.split_at(1);
+    fill(mem, at, tag);
+    put_addresses(mem, at + 1, stored);
+    fill(mem, at + 1 + 8 * stored.len() as u64, scalars);
+}
+
+/// Places the heads of a payload one after another, from the cursor on. What they store is planned.
 fn place_heads<M: Mem>(
     layouts: &Layouts,
     payload: &[u8],
+    plan: &[u64],
     cursor: &mut Cursor,
     mem: &mut M,
 ) -> Result<(), Full>
     requires packed { (t : _) × (v : Datum) × Packed layouts.now.table (Tree t) v payload.now }
-    requires plain { layouts.now.with_offsets ≡ [] }
+    requires plan { (t : _) (v : Datum) → Packed layouts.now.table (Tree t) v payload.now → plan.now ≡ planned layouts.now (record { at = cursor.old.at; drawn = (M.view mem.old).drawn }) (heads v) }
     requires alone { (M.view mem.old).alone ≡ true }
     requires owned { Behind (M.view mem.old).cells cursor.old.at }
     ensures placed { OnOk result ((t : _) (v : Datum) → Packed layouts.now.table (Tree t) v payload.now → record { memory = M.view mem.new; at = cursor.new.at } ≡ heads_placed layouts.now (record { memory = M.view mem.old; at = cursor.old.at }) (heads v)) }
@@ -48,14 +77,24 @@ fn place_heads<M: Mem>(
 {
     layouts.rules();
     let mut at = 0;
+    let mut used = 0;
     'heads: while at < payload.len() {
-        let head = layouts.layout(ConId(payload[at] as u32)).head;
-        let place = match reserve(cursor, mem, head) {
+        let con = ConId(payload[at] as u32);
+        let layout = layouts.layout(con);
+        let count = stored_count(layouts.stores(con), layout.packed) as usize;
+        let place = match reserve(cursor, mem, layout.head) {
             Ok(place) => place,
             Err(full) => return Err(full),
         };
-        fill(mem, place, &payload[at..at + head as usize]);
-        at += head as usize;
+        let item = 1 + layout.scalars as usize;
+        put_head(
+            mem,
+            place,
+            &payload[at..at + item],
+            &plan[used..used + count],
+        );
+        at += item;
+        used += count;
     }
     Ok(())
 }
@@ -64,12 +103,14 @@ fn place_heads<M: Mem>(
 fn place_tree<M: Mem>(
     layouts: &Layouts,
     payload: &[u8],
+    plan: &[u64],
     mem: &mut M,
     tails: &mut Tails,
 ) -> Result<u64, Full>
     requires packed { (t : _) × (v : Datum) × Packed layouts.now.table (Tree t) v payload.now }
-    requires plain { layouts.now.with_offsets ≡ [] }
+    requires plan { (t : _) (v : Datum) → Packed layouts.now.table (Tree t) v payload.now → plan.now ≡ planned layouts.now first_spot (heads v) }
     requires alone { (M.view mem.old).alone ≡ true }
+    requires undrawn { (M.view mem.old).drawn ≡ 0 }
     requires tails { tails.old ≡ [] }
     ensures placed { IfOk result (λ root. (t : _) (v : Datum) → Packed layouts.now.table (Tree t) v payload.now → record { memory = M.view mem.new; root = Root.At root; tails = tails.new } ≡ placed_in layouts.now (M.view mem.old) v) }
     ensures full { OnErr result ((t : _) (v : Datum) → Packed layouts.now.table (Tree t) v payload.now → Refused layouts.now (M.view mem.old) v (M.view mem.new)) }
@@ -80,7 +121,7 @@ fn place_tree<M: Mem>(
         Err(full) => return Err(full),
     };
     let root = cursor.place();
-    match place_heads(layouts, payload, &mut cursor, mem) {
+    match place_heads(layouts, payload, plan, &mut cursor, mem) {
         Ok(()) => {
             finish(cursor, tails);
             Ok(root)
@@ -110,12 +151,14 @@ fn place_value<M: Mem>(
     layouts: &Layouts,
     ty: Ty,
     payload: &[u8],
+    plan: &[u64],
     mem: &mut M,
     tails: &mut Tails,
 ) -> Result<Root, Full>
     requires packed { (v : Datum) × Packed layouts.now.table ty v payload.now }
-    requires plain { layouts.now.with_offsets ≡ [] }
+    requires plan { (v : Datum) → Packed layouts.now.table ty v payload.now → plan.now ≡ planned layouts.now first_spot (heads v) }
     requires alone { (M.view mem.old).alone ≡ true }
+    requires undrawn { (M.view mem.old).drawn ≡ 0 }
     requires tails { tails.old ≡ [] }
     ensures placed { IfOk result (λ root. (v : Datum) → Packed layouts.now.table ty v payload.now → record { memory = M.view mem.new; root = root; tails = tails.new } ≡ placed_in layouts.now (M.view mem.old) v) }
     ensures full { OnErr result ((v : Datum) → Packed layouts.now.table ty v payload.now → Refused layouts.now (M.view mem.old) v (M.view mem.new)) }
@@ -124,7 +167,7 @@ fn place_value<M: Mem>(
     match ty {
         Ty::Whole => Ok(Root::Whole(number_of(payload))),
         Ty::Truth => Ok(Root::Truth(truth_of(payload))),
-        Ty::Tree(_) => match place_tree(layouts, payload, mem, tails) {
+        Ty::Tree(_) => match place_tree(layouts, payload, plan, mem, tails) {
             Ok(root) => Ok(Root::At(root)),
             Err(full) => Err(full),
         },
@@ -132,22 +175,22 @@ fn place_value<M: Mem>(
 }
 
 /// Loads the value of a checked payload into a memory in which nothing is drawn: a scalar is its own root; else a
-/// region is begun, the heads are placed in preorder, and the region is finished.
+/// region is begun, the heads are placed in preorder, and the region is finished. What heads store is told from the lengths
+/// of items before the first one is placed, eight bytes for each place.
 ///
 /// # Errors
 ///
 /// `Full` exactly where all chunks are drawn and the next head needs one. The memory then holds the heads that were
-/// placed before, and their redirects, and no other byte. `Memory`, and nothing was drawn or put; this cannot come where
-/// no constructor has offsets, since then nothing is allocated.
+/// placed before, whole, and their redirects, and no other byte. `Memory`, and nothing was drawn or put; this cannot come
+/// where no constructor has offsets, since then nothing is allocated.
 pub fn load<M: Mem>(
-    _alloc: Global,
+    alloc: Global,
     layouts: &Layouts,
     survey: Survey<'_>,
     mem: &mut M,
     tails: &mut Tails,
 ) -> Result<Root, LoadFault>
     requires table { survey.table ≡ layouts.now.table }
-    requires plain { layouts.now.with_offsets ≡ [] }
     requires alone { (M.view mem.old).alone ≡ true }
     requires undrawn { (M.view mem.old).drawn ≡ 0 }
     requires tails { tails.old ≡ [] }
@@ -160,7 +203,11 @@ pub fn load<M: Mem>(
     ensures ample { layouts.now.with_offsets ≡ [] → IsErrOf result LoadFault.Memory → ⊥ }
 {
     layouts.rules();
-    match place_value(layouts, survey.ty(), survey.payload(), mem, tails) {
+    let plan = match plan_value(alloc, layouts, survey.ty(), survey.payload()) {
+        Ok(plan) => plan,
+        Err(_) => return Err(LoadFault::Memory),
+    };
+    match place_value(layouts, survey.ty(), survey.payload(), &plan, mem, tails) {
         Ok(root) => Ok(root),
         Err(_) => Err(LoadFault::Full),
     }

@@ -7,7 +7,7 @@ use gib_mem::{Mem, PlainMem};
 use gib_packed::Root;
 use gib_region::Tails;
 use gib_types::sample::mixed;
-use gib_types::{Layouts, Ty, TyId, TypeTable};
+use gib_types::{ConId, Layouts, Ty, TyId, TypeTable};
 use std::alloc::Global;
 use std::test::*;
 
@@ -43,6 +43,25 @@ fn list(alloc: Global, count: usize) -> Result<Vec<u8>, Memory> {
     Ok(payload)
 }
 
+// What loading a payload into so many chunks answers, where these constructors have offsets, and the memory then.
+fn load_storing(
+    alloc: Global,
+    types: &TypeTable,
+    with_offsets: &[ConId],
+    ty: Ty,
+    payload: &[u8],
+    chunks: u32,
+) -> Result<(Result<Root, LoadFault>, PlainMem), Fail> {
+    let file = framed(alloc, payload)?;
+    let header = read_header(&file).map_err(|_| "header")?;
+    let survey = survey(alloc, types, ty, header).map_err(|_| "payload")?;
+    let layouts = Layouts::make(alloc, types, with_offsets)?;
+    let mut mem = PlainMem::make(alloc, chunks)?;
+    let mut tails = Tails::new();
+    let loaded = load(alloc, &layouts, survey, &mut mem, &mut tails);
+    Ok((loaded, mem))
+}
+
 // What loading a payload into so many chunks answers, and the memory then.
 fn load_payload(
     alloc: Global,
@@ -51,14 +70,7 @@ fn load_payload(
     payload: &[u8],
     chunks: u32,
 ) -> Result<(Result<Root, LoadFault>, PlainMem), Fail> {
-    let file = framed(alloc, payload)?;
-    let header = read_header(&file).map_err(|_| "header")?;
-    let survey = survey(alloc, types, ty, header).map_err(|_| "payload")?;
-    let layouts = Layouts::make(alloc, types, &[])?;
-    let mut mem = PlainMem::make(alloc, chunks)?;
-    let mut tails = Tails::new();
-    let loaded = load(alloc, &layouts, survey, &mut mem, &mut tails);
-    Ok((loaded, mem))
+    load_storing(alloc, types, &[], ty, payload, chunks)
 }
 
 // The bytes of drawn chunks from a place on, at most so many.
@@ -167,5 +179,23 @@ fn loading_ends_where_all_chunks_are_drawn(rt: HostRuntime) -> Result<(), Fail> 
     let (loaded, mut mem) = load_payload(alloc, &types, TRUTH, b"\x03\x01", 0)?;
     assert!(rt; loaded == Err(LoadFault::Full));
     assert_eq!(rt; mem.chunks(), 0);
+    Ok(())
+}
+
+// (Node (Node (Leaf 1) (Leaf 2)) (Leaf 3)), where Node stores the place of its second field.
+#[test]
+fn heads_store_places(rt: HostRuntime) -> Result<(), Fail> {
+    let alloc = rt.alloc();
+    let types = mixed(alloc)?;
+    let payload =
+        b"\x01\x01\x00\x01\0\0\0\0\0\0\0\x00\x02\0\0\0\0\0\0\0\x00\x03\0\0\0\0\0\0\0".as_slice();
+    let (loaded, mut mem) = load_storing(alloc, &types, &[ConId(1)], TREE, payload, 16)?;
+    assert!(rt; loaded == Ok(Root::At(0)));
+    assert_eq!(rt; mem.chunks(), 1);
+    let bytes = look_at(alloc, &mut mem, 0, 46)?;
+    assert_eq!(rt;
+        bytes.as_slice(),
+        b"\x01\x24\0\0\0\0\0\0\0\x01\x1b\0\0\0\0\0\0\0\x00\x01\0\0\0\0\0\0\0\x00\x02\0\0\0\0\0\0\0\x00\x03\0\0\0\0\0\0\0\0".as_slice()
+    );
     Ok(())
 }

@@ -53,8 +53,8 @@ pub fn behind_field(target: &Target, kind: Kind, variable: Variable) -> Result<T
     })
 }
 
-/// The same is due, where a scalar call may not stand.
-pub fn not_whole(target: &Target) -> Result<Target, Memory>
+/// What is due where the same is due, and no scalar call may stand.
+pub fn without_call(target: &Target) -> Result<Target, Memory>
     ensures { IfOk result (λ t. (w : State) → setting_of w t ≡ record (setting_of w target.now) { whole = false }) }
 {
     let destination = target.destination.clone()?;
@@ -65,8 +65,8 @@ pub fn not_whole(target: &Target) -> Result<Target, Memory>
     })
 }
 
-/// The variable of a side comes into scope; what is due behind it.
-pub fn stand(
+/// The variable of a side comes into scope. What is due behind the side.
+pub fn enter_side(
     walk: &mut Walk,
     target: &Target,
     kind: Kind,
@@ -108,8 +108,8 @@ pub fn open_head(
     })
 }
 
-/// Judges an operation, whose variable comes into scope; what is due behind it.
-pub fn operate(
+/// Judges an operation, whose variable comes into scope. What is due behind it.
+pub fn behind_operation(
     walk: &mut Walk,
     target: &Target,
     variable: Variable,
@@ -123,7 +123,7 @@ pub fn operate(
 {
     judge_prim(walk, variable, operator, left, right)?;
     enter(walk, variable)?;
-    let next = not_whole(target)?;
+    let next = without_call(target)?;
     Ok(next)
 }
 
@@ -155,7 +155,7 @@ pub fn reach_field(
 {
     judge_reach(core, walk, field, access)?;
     enter_field(walk, field)?;
-    let next = not_whole(target)?;
+    let next = without_call(target)?;
     Ok(next)
 }
 
@@ -167,8 +167,8 @@ pub fn add_other(walk: &mut Walk, variable: Variable) -> Result<(), Memory>
     Ok(())
 }
 
-/// The variables of two sides come into scope; what is due behind them.
-pub fn stand_both(
+/// The variables of two sides come into scope. What is due behind both.
+pub fn enter_sides(
     walk: &mut Walk,
     target: &Target,
     left: BoundTerm,
@@ -177,8 +177,8 @@ pub fn stand_both(
     ensures binds { (f : ℕ → Term) → IfOk result (λ t. Binds walk.old walk.new t (behind (setting_of walk.old target.now) (Both false (side_from f left) (side_from f right)))) }
     ensures stays { IfOk result (λ _. Stays walk.old walk.new) }
 {
-    let inner = stand(walk, target, left.kind, left.variable)?;
-    let next = stand(walk, &inner, right.kind, right.variable)?;
+    let inner = enter_side(walk, target, left.kind, left.variable)?;
+    let next = enter_side(walk, &inner, right.kind, right.variable)?;
     Ok(next)
 }
 
@@ -199,6 +199,6 @@ pub fn open_arm(
         &branch.variables,
         types,
     )?;
-    let inner = not_whole(target)?;
+    let inner = without_call(target)?;
     Ok(inner)
 }

@@ -1,7 +1,7 @@
 //! The build rules of a call.
 
 ghost use Rattle.std.specs.Prelude.{◌≡◌, ◌||◌, not, [], None, Some};
-ghost use Rattle.gib_syntax.specs.Meaning.{is_scalar as scalar};
+ghost use Rattle.gib_types.specs.Table.{is_scalar as scalar};
 ghost use Rattle.gib_core.specs.Arena.{term_of};
 ghost use Rattle.gib_core.specs.Parts.{core_of, function_term};
 ghost use Rattle.gib_core.specs.Met.{CallLine};

@@ -1,10 +1,9 @@
 //! The build rules of a `case`, and what its arms bind.
 
 ghost use Rattle.std.specs.Prelude.{◌≡◌, ◌==◌, ◌&&◌, [], length, reverse, IfOk, OnOk, None};
-ghost use Rattle.gib_types.specs.Table.{fields_at};
+ghost use Rattle.gib_types.specs.Table.{fields_at, constructors_of as all_of};
 ghost use Rattle.gib_core.specs.Parts.{core_of};
 ghost use Rattle.gib_core.specs.Met.{CaseLine, with_arm, field as field_of_arm, packed_before as packed_before_next};
-ghost use Rattle.gib_core.specs.Inferring.{constructors_of as all_of};
 ghost use Rattle.gib_core.specs.Rules.{least, rules, cover, are_arms as arms_are, arm_variables, any_bound as bound_again, bind_fields as fields_bound, bind_arms as arms_bound};
 ghost use Rattle.gib_loccheck.specs.Views.{setting_of, before_of, arms_in};
 ghost use Rattle.gib_loccheck.specs.Judging.{Extends};
@@ -19,11 +18,11 @@ use gib_types::{ConId, Ty, TyId, TypeTable, first_type, further_types};
 use std::alloc::Global;
 
 /// Whether a branch is one of this constructor, with a variable for each field.
-fn is_arm(types: &TypeTable, constructor: u32, branch: &Branch) -> bool
-    ensures { result ≡ (constructor == branch.now.constructor.0 && length (fields_at types.now constructor) == length branch.now.variables.items) }
+fn is_arm(types: &TypeTable, constructor: ConId, branch: &Branch) -> bool
+    ensures { result ≡ (constructor.0 == branch.now.constructor.0 && length (fields_at types.now constructor.0) == length branch.now.variables.items) }
 {
-    constructor == branch.constructor.0
-        && types.fields(ConId(constructor)).len() == branch.variables.len()
+    constructor.0 == branch.constructor.0
+        && types.fields(constructor).len() == branch.variables.len()
 }
 
 /// Whether branches are those of a type, in its order, each with a variable for each field.
@@ -38,7 +37,7 @@ fn are_arms(types: &TypeTable, ty: TyId, branches: &[Branch]) -> bool
         if more == 0 {
             return false;
         }
-        if !is_arm(types, next, branch) {
+        if !is_arm(types, ConId(next), branch) {
             return false;
         }
         next += 1;

@@ -10,8 +10,8 @@ ghost use Rattle.gib_loccheck.specs.Views.{setting_of};
 ghost use Rattle.gib_loccheck.specs.Judging.{Passes, Blames, Kept, Binds, with_other};
 
 use crate::bindings::{
-    add_other, behind_field, leave, not_whole, open_arm, open_head, operate, reach_field, stand,
-    stand_both,
+    add_other, behind_field, behind_operation, enter_side, enter_sides, leave, open_arm, open_head,
+    reach_field, without_call,
 };
 use crate::fault::LocFault;
 use crate::indexed::IndexedCore;
@@ -109,25 +109,25 @@ fn check_binding(
     core: &IndexedCore,
     walk: &mut Walk,
     target: &Target,
-    whole: TermId,
+    parent: TermId,
     binding: Binding,
 ) -> Result<Target, LocFault>
-    requires inside { whole.0 < length core.now.terms }
-    requires below { IsBindingBelow whole.0 binding }
+    requires inside { parent.0 < length core.now.terms }
+    requires below { IsBindingBelow parent.0 binding }
     ensures passes { IfOk result (λ _. Passes (core_of core.now) walk.old walk.new (met_bind core.now.table (setting_of walk.old target.now) (bind_from (term_of core.now.terms) binding))) }
     ensures binds { IfOk result (λ t. Binds walk.old walk.new t (behind (setting_of walk.old target.now) (bind_from (term_of core.now.terms) binding))) }
     ensures broken { IfErr result (Blames (core_of core.now) walk.old (met_bind core.now.table (setting_of walk.old target.now) (bind_from (term_of core.now.terms) binding))) }
 {
     match binding {
         Binding::Past { head, constructor } => { open_head(core, walk, target, head, constructor) }
-        Binding::One(bound) => bind_side(core, walk, target, whole, bound),
-        Binding::Par { left, right, .. } => { bind_sides(core, walk, target, whole, left, right) }
+        Binding::One(bound) => bind_side(core, walk, target, parent, bound),
+        Binding::Par { left, right, .. } => { bind_sides(core, walk, target, parent, left, right) }
         Binding::Prim {
             variable,
             operator,
             left,
             right,
-        } => operate(walk, target, variable, operator, left, right),
+        } => behind_operation(walk, target, variable, operator, left, right),
         Binding::Reach { field, access } => reach_field(core, walk, target, field, access),
     }
 }
@@ -138,11 +138,11 @@ fn check_side(
     core: &IndexedCore,
     walk: &mut Walk,
     target: &Target,
-    whole: TermId,
+    parent: TermId,
     bound: BoundTerm,
 ) -> Result<(), LocFault>
-    requires inside { whole.0 < length core.now.terms }
-    requires below { bound.term.0 < whole.0 }
+    requires inside { parent.0 < length core.now.terms }
+    requires below { bound.term.0 < parent.0 }
     ensures passes { IfOk result (λ _. Passes (core_of core.now) walk.old walk.new (met_side core.now.table (setting_of walk.old target.now) (side_from (term_of core.now.terms) bound))) }
     ensures kept { IfOk result (λ _. Kept walk.old walk.new) }
     ensures broken { IfErr result (Blames (core_of core.now) walk.old (met_side core.now.table (setting_of walk.old target.now) (side_from (term_of core.now.terms) bound))) }
@@ -158,17 +158,17 @@ fn bind_side(
     core: &IndexedCore,
     walk: &mut Walk,
     target: &Target,
-    whole: TermId,
+    parent: TermId,
     bound: BoundTerm,
 ) -> Result<Target, LocFault>
-    requires inside { whole.0 < length core.now.terms }
-    requires below { bound.term.0 < whole.0 }
+    requires inside { parent.0 < length core.now.terms }
+    requires below { bound.term.0 < parent.0 }
     ensures passes { IfOk result (λ _. Passes (core_of core.now) walk.old walk.new (met_bind core.now.table (setting_of walk.old target.now) (One (side_from (term_of core.now.terms) bound)))) }
     ensures binds { IfOk result (λ t. Binds walk.old walk.new t (behind (setting_of walk.old target.now) (One (side_from (term_of core.now.terms) bound)))) }
     ensures broken { IfErr result (Blames (core_of core.now) walk.old (met_bind core.now.table (setting_of walk.old target.now) (One (side_from (term_of core.now.terms) bound)))) }
 {
-    check_side(core, walk, target, whole, bound)?;
-    let next = stand(walk, target, bound.kind, bound.variable)?;
+    check_side(core, walk, target, parent, bound)?;
+    let next = enter_side(walk, target, bound.kind, bound.variable)?;
     Ok(next)
 }
 
@@ -178,19 +178,19 @@ fn check_beside(
     core: &IndexedCore,
     walk: &mut Walk,
     target: &Target,
-    whole: TermId,
+    parent: TermId,
     bound: BoundTerm,
     other: Variable,
 ) -> Result<(), LocFault>
-    requires inside { whole.0 < length core.now.terms }
-    requires below { bound.term.0 < whole.0 }
+    requires inside { parent.0 < length core.now.terms }
+    requires below { bound.term.0 < parent.0 }
     ensures passes { IfOk result (λ _. Passes (core_of core.now) walk.old walk.new (met_side core.now.table (with_other other (setting_of walk.old target.now)) (side_from (term_of core.now.terms) bound))) }
     ensures kept { IfOk result (λ _. Kept walk.old walk.new) }
     ensures broken { IfErr result (Blames (core_of core.now) walk.old (met_side core.now.table (with_other other (setting_of walk.old target.now)) (side_from (term_of core.now.terms) bound))) }
 {
     let outer = walk.others.len();
     add_other(walk, other)?;
-    check_side(core, walk, target, whole, bound)?;
+    check_side(core, walk, target, parent, bound)?;
     walk.others.truncate(outer);
     Ok(())
 }
@@ -201,21 +201,21 @@ fn check_sides(
     core: &IndexedCore,
     walk: &mut Walk,
     target: &Target,
-    whole: TermId,
+    parent: TermId,
     left: BoundTerm,
     right: BoundTerm,
 ) -> Result<(), LocFault>
-    requires inside { whole.0 < length core.now.terms }
-    requires left { left.term.0 < whole.0 }
-    requires right { right.term.0 < whole.0 }
+    requires inside { parent.0 < length core.now.terms }
+    requires left { left.term.0 < parent.0 }
+    requires right { right.term.0 < parent.0 }
     ensures passes { IfOk result (λ _. Passes (core_of core.now) walk.old walk.new (met_bind core.now.table (setting_of walk.old target.now) (Both false (side_from (term_of core.now.terms) left) (side_from (term_of core.now.terms) right)))) }
     ensures kept { IfOk result (λ _. Kept walk.old walk.new) }
     ensures broken { IfErr result (Blames (core_of core.now) walk.old (met_bind core.now.table (setting_of walk.old target.now) (Both false (side_from (term_of core.now.terms) left) (side_from (term_of core.now.terms) right)))) }
 {
     judge_par(walk)?;
-    check_beside(core, walk, target, whole, left, right.variable)?;
+    check_beside(core, walk, target, parent, left, right.variable)?;
     let next = behind_field(target, left.kind, left.variable)?;
-    check_beside(core, walk, &next, whole, right, left.variable)
+    check_beside(core, walk, &next, parent, right, left.variable)
 }
 
 /// Checks two sides, whose variables come into scope; what is due behind them.
@@ -224,19 +224,19 @@ fn bind_sides(
     core: &IndexedCore,
     walk: &mut Walk,
     target: &Target,
-    whole: TermId,
+    parent: TermId,
     left: BoundTerm,
     right: BoundTerm,
 ) -> Result<Target, LocFault>
-    requires inside { whole.0 < length core.now.terms }
-    requires left { left.term.0 < whole.0 }
-    requires right { right.term.0 < whole.0 }
+    requires inside { parent.0 < length core.now.terms }
+    requires left { left.term.0 < parent.0 }
+    requires right { right.term.0 < parent.0 }
     ensures passes { IfOk result (λ _. Passes (core_of core.now) walk.old walk.new (met_bind core.now.table (setting_of walk.old target.now) (Both false (side_from (term_of core.now.terms) left) (side_from (term_of core.now.terms) right)))) }
     ensures binds { IfOk result (λ t. Binds walk.old walk.new t (behind (setting_of walk.old target.now) (Both false (side_from (term_of core.now.terms) left) (side_from (term_of core.now.terms) right)))) }
     ensures broken { IfErr result (Blames (core_of core.now) walk.old (met_bind core.now.table (setting_of walk.old target.now) (Both false (side_from (term_of core.now.terms) left) (side_from (term_of core.now.terms) right)))) }
 {
-    check_sides(core, walk, target, whole, left, right)?;
-    let next = stand_both(walk, target, left, right)?;
+    check_sides(core, walk, target, parent, left, right)?;
+    let next = enter_sides(walk, target, left, right)?;
     Ok(next)
 }
 
@@ -246,18 +246,18 @@ fn check_case(
     core: &IndexedCore,
     walk: &mut Walk,
     target: &Target,
-    whole: TermId,
+    parent: TermId,
     atom: Atom,
     branches: &[Branch],
 ) -> Result<(), LocFault>
-    requires inside { whole.0 < length core.now.terms }
-    requires below { AllByRecursion (IsBranchBelow whole.0) branches.now }
+    requires inside { parent.0 < length core.now.terms }
+    requires below { AllByRecursion (IsBranchBelow parent.0) branches.now }
     ensures passes { IfOk result (λ _. Passes (core_of core.now) walk.old walk.new (met core.now.table (setting_of walk.old target.now) (CaseTerm atom (branches_from (term_of core.now.terms) branches.now)))) }
     ensures kept { IfOk result (λ _. Kept walk.old walk.new) }
     ensures broken { IfErr result (Blames (core_of core.now) walk.old (met core.now.table (setting_of walk.old target.now) (CaseTerm atom (branches_from (term_of core.now.terms) branches.now)))) }
 {
     judge_case(core, walk, target, atom, branches)?;
-    check_branches(core, walk, target, whole, branches)
+    check_branches(core, walk, target, parent, branches)
 }
 
 /// Checks the branches of a case, one after another.
@@ -266,18 +266,18 @@ fn check_branches(
     core: &IndexedCore,
     walk: &mut Walk,
     target: &Target,
-    whole: TermId,
+    parent: TermId,
     branches: &[Branch],
 ) -> Result<(), LocFault>
-    requires inside { whole.0 < length core.now.terms }
-    requires below { AllByRecursion (IsBranchBelow whole.0) branches.now }
+    requires inside { parent.0 < length core.now.terms }
+    requires below { AllByRecursion (IsBranchBelow parent.0) branches.now }
     ensures passes { IfOk result (λ _. Passes (core_of core.now) walk.old walk.new (met_branches core.now.table (setting_of walk.old target.now) (branches_from (term_of core.now.terms) branches.now))) }
     ensures kept { IfOk result (λ _. Kept walk.old walk.new) }
     ensures broken { IfErr result (Blames (core_of core.now) walk.old (met_branches core.now.table (setting_of walk.old target.now) (branches_from (term_of core.now.terms) branches.now))) }
 {
     let mut left = branches;
     'branches: while let [branch, after @ ..] = left {
-        check_branch(core, walk, target, whole, branch)?;
+        check_branch(core, walk, target, parent, branch)?;
         left = after;
     }
     Ok(())
@@ -289,11 +289,11 @@ fn check_branch(
     core: &IndexedCore,
     walk: &mut Walk,
     target: &Target,
-    whole: TermId,
+    parent: TermId,
     branch: &Branch,
 ) -> Result<(), LocFault>
-    requires inside { whole.0 < length core.now.terms }
-    requires below { branch.now.term.0 < whole.0 }
+    requires inside { parent.0 < length core.now.terms }
+    requires below { branch.now.term.0 < parent.0 }
     ensures passes { IfOk result (λ _. Passes (core_of core.now) walk.old walk.new (met core.now.table (in_arm core.now.table (setting_of walk.old target.now) branch.now.constructor branch.now.variables.items) (term_of core.now.terms branch.now.term.0))) }
     ensures kept { IfOk result (λ _. Kept walk.old walk.new) }
     ensures broken { IfErr result (Blames (core_of core.now) walk.old (met core.now.table (in_arm core.now.table (setting_of walk.old target.now) branch.now.constructor branch.now.variables.items) (term_of core.now.terms branch.now.term.0))) }
@@ -322,8 +322,8 @@ fn check_if(
     ensures broken { IfErr result (Blames (core_of core.now) walk.old (met core.now.table (setting_of walk.old target.now) (IfTerm atom (term_of core.now.terms then_part.0) (term_of core.now.terms else_part.0)))) }
 {
     judge_if(core, walk, atom)?;
-    let first = not_whole(target)?;
+    let first = without_call(target)?;
     check_term(core, walk, first, then_part)?;
-    let second = not_whole(target)?;
+    let second = without_call(target)?;
     check_term(core, walk, second, else_part)
 }

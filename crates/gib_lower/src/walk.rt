@@ -216,12 +216,12 @@ fn lower_end(source: &Source, id: TermId, end: Ending, out: &mut Lowering) -> Re
 #[cycle(lower)]
 fn lower_binding(
     source: &Source,
-    whole: TermId,
+    parent: TermId,
     binding: Binding,
     out: &mut Lowering,
 ) -> Result<(), Memory>
-    requires inside { whole.0 < length source.now.terms }
-    requires below { IsBindingBelow whole.0 binding }
+    requires inside { parent.0 < length source.now.terms }
+    requires below { IsBindingBelow parent.0 binding }
     ensures code { OnOk result (out.new.code ≡ lowered_bind (core_of source.now) out.old.fields (bind_from (term_of source.now.terms) binding) out.old.code) }
     ensures fields { OnOk result (out.new.fields ≡ out.old.fields) }
 {
@@ -233,7 +233,7 @@ fn lower_binding(
         Binding::One(side) => lower_side(source, side, out),
         Binding::Par { fork, left, right } => {
             if fork {
-                lower_fork(source, whole, left, right, out)
+                lower_fork(source, parent, left, right, out)
             } else {
                 lower_side(source, right, out)?;
                 lower_side(source, left, out)
@@ -258,14 +258,14 @@ fn lower_binding(
 #[cycle(lower)]
 fn lower_fork(
     source: &Source,
-    whole: TermId,
+    parent: TermId,
     left: BoundTerm,
     right: BoundTerm,
     out: &mut Lowering,
 ) -> Result<(), Memory>
-    requires inside { whole.0 < length source.now.terms }
-    requires left { left.term.0 < whole.0 }
-    requires right { right.term.0 < whole.0 }
+    requires inside { parent.0 < length source.now.terms }
+    requires left { left.term.0 < parent.0 }
+    requires right { right.term.0 < parent.0 }
     ensures code { OnOk result (out.new.code ≡ lowered_bind (core_of source.now) out.old.fields (Both true (side_from (term_of source.now.terms) left) (side_from (term_of source.now.terms) right)) out.old.code) }
     ensures fields { OnOk result (out.new.fields ≡ out.old.fields) }
 {
@@ -336,14 +336,14 @@ fn lower_scalar(
 #[cycle(lower)]
 fn lower_case(
     source: &Source,
-    whole: TermId,
+    parent: TermId,
     tree: u32,
     branches: &[Branch],
     end: Ending,
     out: &mut Lowering,
 ) -> Result<(), Memory>
-    requires inside { whole.0 < length source.now.terms }
-    requires below { AllByRecursion (IsBranchBelow whole.0) branches.now }
+    requires inside { parent.0 < length source.now.terms }
+    requires below { AllByRecursion (IsBranchBelow parent.0) branches.now }
     ensures code { OnOk result (out.new.code ≡ switch tree (lowered_branches (core_of source.now) out.old.fields tree (branches_from (term_of source.now.terms) branches.now) (end_of end) out.old.code)) }
     ensures fields { OnOk result (out.new.fields ≡ out.old.fields) }
 {

@@ -1,8 +1,8 @@
 -- The packed fields of a value, one by one.
-use Rattle.std.proofs.Common.{◌≡◌, ℕ, zero, suc, ◌<◌, List, [], ◌∷◌, length, refl, sym, ap, subst, ◌∙◌, arith}
+use Rattle.std.proofs.Common.{◌≡◌, ℕ, zero, suc, ◌<◌, List, length, refl, subst, arith}
 use Rattle.std.specs.Prelude.{slice_get, Option, Some}
 use Rattle.gib_types.specs.declared.table.Ty.{Ty}
-use Rattle.gib_types.specs.Layout.{LaidOut, packed_count}
+use Rattle.gib_types.specs.Layout.{LaidOut}
 use Rattle.gib_types.specs.Tree.{Datum, Data}
 use Rattle.gib_mem.specs.Memory.{Store, Grows}
 use Rattle.gib_packed.specs.Decoding.{Dec, Decs, done, whole_field, truth_field, tree_field}

@@ -12,4 +12,5 @@ pub mod Typed
 pub mod Examples
 pub mod WalkLaws
 pub mod FieldLemmas
+pub mod StoredLemmas
 pub mod Sets

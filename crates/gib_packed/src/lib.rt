@@ -6,7 +6,9 @@ pub mod read;
 pub mod root;
 
 pub use gib_mem::{INDIRECTION, POINTER_BYTES, REDIRECT};
-pub use read::{follow, pass_redirects, skip, tag_at, truth_at, whole_at, word_at};
+pub use read::{
+    field_by_offset, follow, pass_redirects, skip, tag_at, truth_at, whole_at, word_at,
+};
 pub use root::Root;
 
 #[cfg(test)]

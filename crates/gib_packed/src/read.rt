@@ -1,14 +1,15 @@
 //! Reads values in region memory. No call takes memory, refuses or changes anything.
 
-ghost use Rattle.std.specs.Prelude.{◌≡◌, ◌<◌, ◌≤◌, ◌^◌, ◌+◌, ℕ, ℤ, Bool, FitsSigned};
+ghost use Rattle.std.specs.Prelude.{◌≡◌, ◌<◌, ◌≤◌, ◌^◌, ◌+◌, ◌-◌, ℕ, ℤ, Bool, FitsSigned};
 ghost use Rattle.std.specs.Int.{w64};
 ghost use Rattle.gib_mem.specs.Memory.{Holds, byte};
-ghost use Rattle.gib_types.specs.Layout.{LaidOut};
-ghost use Rattle.gib_types.specs.Tree.{Datum};
+ghost use Rattle.gib_types.specs.Layout.{LaidOut, head_size, field_types};
+ghost use Rattle.gib_types.specs.Tree.{Datum, Data, con};
 ghost use Rattle.gib_packed.specs.Scalars.{number, bit};
 ghost use Rattle.gib_packed.specs.Head.{address};
 ghost use Rattle.gib_packed.specs.Decoding.{Dec, Decodes};
 ghost use Rattle.gib_packed.specs.Reaching.{Leads, Turns};
+ghost use Rattle.gib_packed.specs.Fields.{Field, IsStored};
 
 use gib_mem::{INDIRECTION, Mem, POINTER_BYTES, REDIRECT};
 use gib_types::{ConId, Layouts};
@@ -110,4 +111,16 @@ pub fn skip<M: Mem>(mem: &mut M, layouts: &Layouts, at: u64) -> u64
         }
     }
     place
+}
+
+/// Where a packed field of the value whose head stands at the address starts: the head stores it. Packed fields are counted
+/// from 1; the first one starts behind the head, and is not stored.
+pub fn field_by_offset<M: Mem>(mem: &mut M, layouts: &Layouts, at: u64, field: u8) -> u64
+    requires value { Decodes layouts.now (M.view mem.old).cells at }
+    requires stored { IsStored layouts.now (M.view mem.old).cells at field }
+    ensures place { (t k : ℕ) (vs : Data) (z : ℕ) (v : Datum) (p y : ℕ) → Dec layouts.now (M.view mem.old).cells at t (con k vs) z
+        → Field layouts.now (M.view mem.old).cells (at + head_size layouts.now k) (field_types layouts.now k) vs (field - 1) v p y → result ≡ p }
+    ensures same { M.view mem.new ≡ M.view mem.old }
+{
+    word_at(mem, at + 1 + 8 * (field as u64 - 2))
 }

@@ -1,15 +1,7 @@
 -- What stands at variables, by their numbers: numbers, or the places of the variables in an order.
 use Rattle.std.specs.Prelude.{◌≡◌, ℕ, suc, ◌==◌, if◌then◌else◌, List, [], ◌∷◌, Option, Some, None}
 use Rattle.gib_base.specs.Entries.{entry_at}
-
--- A number, 0 where there is none.
-abbrev pub or_zero : Option ℕ → ℕ
-or_zero None = 0
-or_zero (Some n) = n
-
--- The number that stands at a variable's number, 0 where none does.
-abbrev pub number_at : List (Option ℕ) → ℕ → ℕ
-number_at entries x = or_zero (entry_at entries x)
+pub use Rattle.gib_core.specs.ByVariable.{number_at}
 
 -- The place of a number in a list whose first one has this place, where it is there.
 abbrev pub place_from : ℕ → List ℕ → ℕ → Option ℕ

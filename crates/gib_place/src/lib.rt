@@ -13,7 +13,6 @@ ghost use Rattle.gib_place.specs.Numbering.{place_core};
 ghost use Rattle.gib_place.specs.SameSource.{IsSameProgram};
 
 mod bodies;
-mod by_variable;
 mod copying;
 mod examples;
 pub mod field;

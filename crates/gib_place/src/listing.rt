@@ -111,11 +111,11 @@ fn list_binding(
     alloc: Global,
     mentions: &mut Vec<Mention>,
     terms: &Terms,
-    whole: TermId,
+    parent: TermId,
     binding: Binding,
 ) -> Result<(), Memory>
-    requires inside { whole.0 < length terms.now }
-    requires below { IsBindingBelow whole.0 binding }
+    requires inside { parent.0 < length terms.now }
+    requires below { IsBindingBelow parent.0 binding }
     ensures { OnOk result (mentions.new.items ≡ mentions.old.items ++ bind_mentions (bind_from (term_of terms.now) binding)) }
 {
     match binding {
@@ -164,11 +164,11 @@ fn list_branches(
     alloc: Global,
     mentions: &mut Vec<Mention>,
     terms: &Terms,
-    whole: TermId,
+    parent: TermId,
     branches: &[Branch],
 ) -> Result<(), Memory>
-    requires inside { whole.0 < length terms.now }
-    requires below { AllByRecursion (IsBranchBelow whole.0) branches.now }
+    requires inside { parent.0 < length terms.now }
+    requires below { AllByRecursion (IsBranchBelow parent.0) branches.now }
     ensures { OnOk result (mentions.new.items ≡ mentions.old.items ++ branch_mentions (branches_from (term_of terms.now) branches.now)) }
 {
     let mut i = 0;

@@ -3,9 +3,8 @@
 //! A clock goes up at each binding of a run, and each variable keeps the time at which it was bound last. So whether a
 //! variable is bound later in a run is told by one look, and not by a search of the run.
 
-use crate::by_variable::{number_of, set_number};
 use gib_base::{ByNumber, Memory};
-use gib_core::{Binding, Variable};
+use gib_core::{Binding, Variable, number_of, set_number};
 use std::alloc::{AllocError, Global};
 use std::marker::Model;
 

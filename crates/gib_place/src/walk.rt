@@ -40,17 +40,17 @@ fn place_bindings(
     once: &Tally,
     terms: &Terms,
     scratch: &mut Scratch,
-    whole: TermId,
+    parent: TermId,
     bindings: &[Binding],
 ) -> Result<Vec<Binding>, Memory>
-    requires inside { whole.0 < length terms.now }
-    requires below { AllByRecursion (IsBindingBelow whole.0) bindings.now }
+    requires inside { parent.0 < length terms.now }
+    requires below { AllByRecursion (IsBindingBelow parent.0) bindings.now }
     ensures { IfOk result (λ made. MakesBindings scratch.old.terms scratch.new.terms made.items (map (inner_bind (once_by once.now)) (binds_from (term_of terms.now) bindings.now))) }
 {
     let mut placed = Vec::new(alloc);
     let mut i = 0;
     'bindings: while i < bindings.len() {
-        let binding = place_binding(alloc, once, terms, scratch, whole, bindings[i])?;
+        let binding = place_binding(alloc, once, terms, scratch, parent, bindings[i])?;
         placed.push(binding)?;
         i += 1;
     }
@@ -64,11 +64,11 @@ fn place_binding(
     once: &Tally,
     terms: &Terms,
     scratch: &mut Scratch,
-    whole: TermId,
+    parent: TermId,
     binding: Binding,
 ) -> Result<Binding, Memory>
-    requires inside { whole.0 < length terms.now }
-    requires below { IsBindingBelow whole.0 binding }
+    requires inside { parent.0 < length terms.now }
+    requires below { IsBindingBelow parent.0 binding }
     ensures { IfOk result (λ made. MakesBinding scratch.old.terms scratch.new.terms made (inner_bind (once_by once.now) (bind_from (term_of terms.now) binding))) }
 {
     match binding {
@@ -175,11 +175,11 @@ fn place_branches(
     once: &Tally,
     terms: &Terms,
     scratch: &mut Scratch,
-    whole: TermId,
+    parent: TermId,
     branches: &[Branch],
 ) -> Result<Vec<Branch>, Memory>
-    requires inside { whole.0 < length terms.now }
-    requires below { AllByRecursion (IsBranchBelow whole.0) branches.now }
+    requires inside { parent.0 < length terms.now }
+    requires below { AllByRecursion (IsBranchBelow parent.0) branches.now }
     ensures { IfOk result (λ made. MakesBranches scratch.old.terms scratch.new.terms made.items (inner_branches (once_by once.now) (branches_from (term_of terms.now) branches.now))) }
 {
     let mut reversed = Vec::new(alloc);

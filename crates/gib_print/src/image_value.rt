@@ -52,7 +52,6 @@ fn read_tree(
     chunks: &[u8],
     at: u64,
 ) -> Result<Value, ImageFault>
-    requires plain { layouts.now.with_offsets ≡ [] }
     ensures value { IfOk result (λ value. StandsAt layouts.now chunks.now at ty.0 value) }
     ensures fault { IfErr result (λ fault. FailsWith layouts.now chunks.now at ty.0 fault) }
 {
@@ -71,7 +70,8 @@ fn read_tree(
 ///
 /// Want of memory; `Head` exactly where the bytes have not the form of an image with a root of the type; else the first fault
 /// in reading order: `Bad` with the address at which the item begins that is cut or has no tag of the type, or at which the
-/// truth value stands that is past 1; or `Long` at the 16,777,217th item, whatever it is.
+/// truth value stands that is past 1, or at which a head stores another place of a field than the one where the field before
+/// it ended; or `Long` at the 16,777,217th item, whatever it is.
 pub fn read_image(
     alloc: Global,
     types: &TypeTable,
@@ -80,7 +80,6 @@ pub fn read_image(
     bytes: &[u8],
 ) -> Result<Value, ImageFault>
     requires types { types.now ≡ layouts.now.table }
-    requires plain { layouts.now.with_offsets ≡ [] }
     ensures reads { ReadsTo layouts.now ty bytes.now result }
 {
     let answer = match read_answer(ty, bytes) {

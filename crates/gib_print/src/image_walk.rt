@@ -1,14 +1,12 @@
 //! The walk over an image, in reading order.
 
-ghost use Rattle.std.specs.Prelude.{◌≡◌, ◌<◌, ◌≤◌, ◌+◌, [], length, take, drop, slice_get, Some, IfOk, OnOk, IfErr};
-ghost use Rattle.std.specs.Int.{w64, from_le_bytes};
+ghost use Rattle.std.specs.Prelude.{◌≡◌, ◌<◌, ◌≤◌, ◌+◌, [], length, slice_get, Some, IfOk, OnOk, IfErr};
 ghost use Rattle.gib_types.specs.Layout.{LaidOut, scalar_size};
 ghost use Rattle.gib_print.specs.ImageReading.{first_bad};
 ghost use Rattle.gib_print.specs.ImageWalk.{HasMet, Refuses, Comes, FailsWith};
 
-use crate::due::{AllDue, Due};
+use crate::due::{AllDue, Due, address_at};
 use crate::image_fault::ImageFault;
-use byteorder::{ByteOrder, LittleEndian};
 use gib_mem::{INDIRECTION, POINTER_BYTES};
 use gib_types::{Layouts, Ty, TyId};
 use std::alloc::Global;
@@ -37,14 +35,6 @@ fn first_bad(chunks: &[u8], scalars: usize, fields: &[Ty]) -> Option<u64>
         i += 1;
     }
     None
-}
-
-/// The address that stands in eight bytes, the lowest first.
-fn address_at(chunks: &[u8], place: usize) -> u64
-    requires { place + 8 ≤ length chunks.now }
-    ensures { result ≡ from_le_bytes w64 (take 8 (drop place chunks.now)) }
-{
-    LittleEndian::read_u64(&chunks[place..])
 }
 
 /// The walk over the chunks of an image: what is due, where the last value ended, and the packed form of what was read.
@@ -105,7 +95,9 @@ impl Walk {
         self.packed.push(tag)?;
         self.packed
             .extend_from_slice(&chunks[scalars..scalars + layout.scalars as usize])?;
-        self.due.put_fields(fields)?;
+        let stores = layouts.stores(con);
+        self.due
+            .put_fields(chunks, stores, self.at, layout.packed, fields)?;
         self.at += layout.head as u64;
         Ok(())
     }
@@ -139,10 +131,10 @@ pub(crate) fn read_packed(
     ty: TyId,
     at: u64,
 ) -> Result<Vec<u8>, ImageFault>
-    requires plain { layouts.now.with_offsets ≡ [] }
     ensures value { IfOk result (λ packed. Comes layouts.now chunks.now at ty.0 packed.items) }
     ensures fault { IfErr result (λ fault. FailsWith layouts.now chunks.now at ty.0 fault) }
 {
+    layouts.rules();
     let mut due = AllDue::new(alloc);
     due.put(Due::Item(ty))?;
     let mut walk = Walk {
@@ -154,6 +146,11 @@ pub(crate) fn read_packed(
     'due: while let Some(next) = walk.due.pop() {
         match next {
             Due::From(place) => walk.at = place,
+            Due::Stored(slot, place) => {
+                if place != walk.at {
+                    return Err(ImageFault::Bad(slot));
+                }
+            }
             Due::Item(ty) => {
                 if met == MOST_ITEMS {
                     return Err(ImageFault::Long);

@@ -12,7 +12,7 @@ use gib_base::{Memory, Name, NameFault, Names};
 use gib_edge::mem_sink::MemSink;
 use gib_mem::{Mem, PlainMem};
 use gib_packed::Root;
-use gib_types::{Constructor, Layouts, Ty, TyId, TypeTable};
+use gib_types::{ConId, Constructor, Layouts, Ty, TyId, TypeTable};
 use gib_value::write_text;
 use std::alloc::Global;
 use std::test::*;
@@ -214,13 +214,18 @@ fn changed(alloc: Global, root: Root, changes: &[(usize, u8)]) -> Result<Vec<u8>
     Ok(bytes)
 }
 
-// The text of the value that is read, or why there is none.
-fn read(alloc: Global, ty: Ty, bytes: &[u8]) -> Result<Result<Vec<u8>, ImageFault>, Fail> {
+// The text of the value that is read, or why there is none, where these constructors have offsets.
+fn read_storing(
+    alloc: Global,
+    with_offsets: &[ConId],
+    ty: Ty,
+    bytes: &[u8],
+) -> Result<Result<Vec<u8>, ImageFault>, Fail> {
     let types = make_types(alloc)?;
     let Ok(names) = make_names(alloc) else {
         return Err("names".into());
     };
-    let layouts = Layouts::make(alloc, &types, &[])?;
+    let layouts = Layouts::make(alloc, &types, with_offsets)?;
     match read_image(alloc, &types, &layouts, ty, bytes) {
         Ok(value) => {
             let text = write_text(alloc, &types, &names, &value)?;
@@ -228,6 +233,11 @@ fn read(alloc: Global, ty: Ty, bytes: &[u8]) -> Result<Result<Vec<u8>, ImageFaul
         }
         Err(fault) => Ok(Err(fault)),
     }
+}
+
+// The same where no constructor has offsets.
+fn read(alloc: Global, ty: Ty, bytes: &[u8]) -> Result<Result<Vec<u8>, ImageFault>, Fail> {
+    read_storing(alloc, &[], ty, bytes)
 }
 
 // Whether this text is read.
@@ -355,6 +365,48 @@ fn the_first_fault_is_named(rt: HostRuntime) -> Result<(), Fail> {
     for (root, changes, at) in cases {
         let bytes = changed(alloc, root, changes)?;
         assert!(rt; fails_with(alloc, T, &bytes, ImageFault::Bad(at))?, "{at}");
+    }
+    Ok(())
+}
+
+// An image of one chunk, in which (Node True Nil -2 Nil) stands at 0 with the place 19 of its second packed field, with other
+// bytes at some addresses.
+fn storing(alloc: Global, changes: &[(usize, u8)]) -> Result<Vec<u8>, Fail> {
+    let mut bytes = Vec::from_slice(alloc, b"GIBI\x01\x02\0\0\0\0\0\0\0\0\0\0\x01\0\0\0\0\0\0\0")?;
+    bytes.extend_from_slice(b"\x02\x13\0\0\0\0\0\0\0\x01\xfe\xff\xff\xff\xff\xff\xff\xff")?;
+    bytes.resize(24 + 4096, 0)?;
+    'changes: for (at, byte) in changes {
+        if *at < 4096 {
+            bytes[24 + *at] = *byte;
+        }
+    }
+    Ok(bytes)
+}
+
+#[test]
+fn stored_places_are_compared(rt: HostRuntime) -> Result<(), Fail> {
+    let alloc = rt.alloc();
+    let right = read_storing(alloc, &[ConId(2)], T, &storing(alloc, &[])?)?;
+    match right {
+        Ok(text) => assert!(rt; text.as_slice() == b"(Node True Nil -2 Nil)".as_slice()),
+        Err(_) => return Err("refused".into()),
+    }
+    let cases: [(&[(usize, u8)], u64); 6] = [
+        // one less, one more, another high byte
+        (&[(1, 18)], 1),
+        (&[(1, 20)], 1),
+        (&[(8, 1)], 1),
+        // the field before is read first, and the truth value before that
+        (&[(1, 20), (18, 9)], 18),
+        (&[(1, 20), (9, 2)], 9),
+        // the field behind is read later
+        (&[(1, 20), (19, 9)], 1),
+    ];
+    for (changes, at) in cases {
+        match read_storing(alloc, &[ConId(2)], T, &storing(alloc, changes)?)? {
+            Ok(_) => return Err("read".into()),
+            Err(fault) => assert!(rt; fault == ImageFault::Bad(at), "{at}"),
+        }
     }
     Ok(())
 }

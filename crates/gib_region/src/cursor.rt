@@ -5,9 +5,11 @@ ghost use Rattle.gib_mem.specs.Memory.{Owned, after_puts};
 ghost use Rattle.gib_region.specs.Region.{Behind, pointer, HasRoom, has_room, Placed, Pointed, IsFull, rest, Draws, redirected};
 
 use gib_mem::{CHUNK, INDIRECTION, Mem, POINTER_BYTES, REDIRECT};
+use thiserror::Error;
 
 /// All chunks are drawn.
-#[derive(Clone, Copy, Debug, PartialEq, Eq)]
+#[derive(Clone, Copy, Debug, PartialEq, Eq, Error)]
+#[error("all chunks are drawn")]
 pub struct Full;
 
 /// Where the next item of a region goes, if there is room for it. Nine bytes are always left in its chunk, so that a

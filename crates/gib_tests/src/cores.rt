@@ -33,8 +33,9 @@ main %0:Tree : Tree
   call add1 %0
 ";
 
-/// Its core, with values built where they belong: lines, and a line that stands behind them where fields are reached.
-const ADD_ONE_PLACED: [(&str, &str); 2] = [
+/// Its core, with values built where they belong: pieces, each with when it is there: always, where fields are reached by offsets or
+/// by skips, or where sides are marked.
+const ADD_ONE_PLACED: [(&str, &str); 6] = [
     (
         "fun add1 %0:Tree : Tree
   case %0
@@ -44,11 +45,18 @@ const ADD_ONE_PLACED: [(&str, &str); 2] = [
       write %3 %2
     Node %4 %5
 ",
-        "      reach %5 by skip %4\n",
+        "",
     ),
+    ("      reach %5 by offset\n", "offsets"),
+    ("      reach %5 by skip %4\n", "skips"),
     (
         "      past %6 Node
-      par
+      par",
+        "",
+    ),
+    (" fork", "mark"),
+    (
+        "
         here %7
           call add1 %4
         here %8
@@ -61,29 +69,51 @@ main %0:Tree : Tree
     ),
 ];
 
-/// Its code.
-const ADD_ONE_CODE: &str = "add1 9
+/// Its code, in the same way.
+const ADD_ONE_CODE: [(&str, &str); 4] = [
+    (
+        "add1 9
 0 switch %0 1 6
 1 whole %1 %0 1
 2 add %2 %1 1
 3 past %3 Leaf
 4 fill %3 Leaf %2
 5 ret
-6 first %4 %0 1
+",
+        "",
+    ),
+    (
+        "6 first %4 %0 9
+7 offset %5 %0 1
+",
+        "offsets",
+    ),
+    (
+        "6 first %4 %0 1
 7 skip %5 %4
-8 past %6 Node
-9 here %7
-10 call add1 %4
-11 jump 12
-12 here %8
-13 call add1 %5
-14 jump 15
-15 fill %6 Node %7 %8
-16 ret
+",
+        "skips",
+    ),
+    (
+        "8 past %6 Node
+9 fork 14 18 here %8
+10 here %7
+11 call add1 %4
+12 jump 13
+13 join
+14 here %8
+15 call add1 %5
+16 jump 17
+17 back
+18 fill %6 Node %7 %8
+19 ret
 main 1
-17 call add1 %0
-18 ret
-";
+20 call add1 %0
+21 ret
+",
+        "",
+    ),
+];
 
 pub const RIGHT: &str =
     "data Tree = Leaf Int | Node Tree Tree ; fun right (t : Tree) : Int = case t of { Leaf n -> n ; Node l r -> right r } ; main (t : Tree) : Int = right t ;";
@@ -103,8 +133,8 @@ main %0:Tree : Int
   give %1
 ";
 
-/// Its core with values built where they belong, in the same way.
-const RIGHT_PLACED: [(&str, &str); 2] = [
+/// Its core, with values built where they belong, in the same way.
+const RIGHT_PLACED: [(&str, &str); 4] = [
     (
         "fun right %0:Tree : Int
   case %0
@@ -112,8 +142,10 @@ const RIGHT_PLACED: [(&str, &str); 2] = [
       give %1
     Node %2 %3
 ",
-        "      reach %3 by skip %2\n",
+        "",
     ),
+    ("      reach %3 by offset\n", "offsets"),
+    ("      reach %3 by skip %2\n", "skips"),
     (
         "      scalar %4
         call right %3
@@ -287,8 +319,8 @@ main %0:Mark : Mark
   write %7 %4 %6 %8
 ";
 
-/// Its core with values built where they belong, in the same way.
-const EACH_PLACED: [(&str, &str); 4] = [
+/// Its core, with values built where they belong, in the same way.
+const EACH_PLACED: [(&str, &str); 14] = [
     (
         "fun sum %0:Row %1:Int %2:Bool : Int
   if %2
@@ -297,10 +329,14 @@ const EACH_PLACED: [(&str, &str); 4] = [
         give %1
       Cell %3 %4 %5
 ",
-        "        reach %5 by skip %4\n",
+        "",
     ),
+    ("        reach %5 by offset\n", "offsets"),
+    ("        reach %5 by skip %4\n", "skips"),
+    ("        par", ""),
+    (" fork", "mark"),
     (
-        "        par
+        "
           scalar %6
             prim %7 = %1 + %3
             scalar %8
@@ -348,11 +384,18 @@ fun turn %0:Row %1:Bool : Row
       write %2 %5 %3 %6
     Cell %7 %8 %9
 ",
-        "      reach %9 by skip %8\n",
+        "",
     ),
+    ("      reach %9 by offset\n", "offsets"),
+    ("      reach %9 by skip %8\n", "skips"),
     (
         "      past %10 Cell
-      par
+      par",
+        "",
+    ),
+    (" fork", "mark"),
+    (
+        "
         here %11
           call turn %9 True
         scalar %12
@@ -389,8 +432,10 @@ fun deep %0:Mark : Row
             point %2
           Cell %9 %10 %11
 ",
-        "            reach %11 by skip %10\n",
+        "",
     ),
+    ("            reach %11 by offset\n", "offsets"),
+    ("            reach %11 by skip %10\n", "skips"),
     (
         "            prim %12 = %9 == %3
             call turn %11 %12
@@ -425,13 +470,23 @@ main %0:Mark : Mark
     ),
 ];
 
-/// The text of a core, with the lines that reach fields or without them.
-fn core_text(alloc: Global, pieces: &[(&str, &str)], reached: bool) -> Result<String, AllocError> {
+/// The text of a core after a pass, from 2 on, or of code: of its pieces those that are there.
+fn text_of(
+    alloc: Global,
+    pieces: &[(&str, &str)],
+    pass: u32,
+    skips: bool,
+) -> Result<String, AllocError> {
     let mut text = String::new(alloc);
-    for (lines, reach) in pieces {
-        text.push_str(lines)?;
-        if reached {
-            text.push_str(reach)?;
+    for (piece, when) in pieces {
+        let there = match *when {
+            "offsets" => pass >= 3 && !skips,
+            "skips" => pass >= 3 && skips,
+            "mark" => pass >= 4,
+            _ => true,
+        };
+        if there {
+            text.push_str(piece)?;
         }
     }
     Ok(text)
@@ -454,7 +509,7 @@ fn prints<R: Threads + Wait + Sync>(
     )
 }
 
-/// Whether `core` prints these cores of a source after each pass.
+/// Whether `core` prints these cores of a source after each pass, with fields reached by offsets and by skips.
 fn prints_each_pass<R: Threads + Wait + Sync>(
     rt: &R,
     alloc: Global,
@@ -462,27 +517,23 @@ fn prints_each_pass<R: Threads + Wait + Sync>(
     inferred: &str,
     pieces: &[(&str, &str)],
 ) -> Result<bool, AllocError> {
-    let inferred = String::from_str(alloc, inferred)?;
-    let placed = core_text(alloc, pieces, false)?;
-    let reached = core_text(alloc, pieces, true)?;
-    for (pass, text) in [
-        ("1", &inferred),
-        ("2", &placed),
-        ("3", &reached),
-        ("4", &reached),
-    ] {
-        let words = ["gib", "core", "a.gib", "--pass", pass];
-        if !prints(rt, alloc, source, &words, text.as_str())? {
-            return Ok(false);
+    for (pass, word) in [(1, "1"), (2, "2"), (3, "3"), (4, "4")] {
+        for skips in [false, true] {
+            let text = if pass == 1 {
+                String::from_str(alloc, inferred)?
+            } else {
+                text_of(alloc, pieces, pass, skips)?
+            };
+            let usual = ["gib", "core", "a.gib", "--pass", word];
+            let skipping = ["gib", "core", "--skips", "a.gib", "--pass", word];
+            let words = if skips { skipping.as_slice() } else { usual.as_slice() };
+            if !prints(rt, alloc, source, words, text.as_str())? {
+                return Ok(false);
+            }
         }
     }
-    prints(
-        rt,
-        alloc,
-        source,
-        &["gib", "core", "a.gib"],
-        reached.as_str(),
-    )
+    let marked = text_of(alloc, pieces, 4, false)?;
+    prints(rt, alloc, source, &["gib", "core", "a.gib"], marked.as_str())
 }
 
 #[test]
@@ -497,8 +548,12 @@ fn a_core_is_printed_after_each_pass(rt: HostRuntime) -> Result<(), Fail> {
 #[test]
 fn code_is_printed_with_its_labels(rt: HostRuntime) -> Result<(), Fail> {
     let alloc = rt.alloc();
+    let offsets = text_of(alloc, &ADD_ONE_CODE, 4, false)?;
+    let skips = text_of(alloc, &ADD_ONE_CODE, 4, true)?;
     let words = ["gib", "code", "a.gib"];
-    assert!(rt; prints(&rt, alloc, ADD_ONE, &words, ADD_ONE_CODE)?);
+    assert!(rt; prints(&rt, alloc, ADD_ONE, &words, offsets.as_str())?);
+    let words = ["gib", "code", "--skips", "a.gib"];
+    assert!(rt; prints(&rt, alloc, ADD_ONE, &words, skips.as_str())?);
     Ok(())
 }
 
@@ -517,6 +572,9 @@ fn words_of_core_and_code_that_are_not_taken_are_usage(rt: HostRuntime) -> Resul
         ["gib", "code"].as_slice(),
         ["gib", "code", "a.gib", "b.gib"].as_slice(),
         ["gib", "code", "a.gib", "--pass", "1"].as_slice(),
+        ["gib", "code", "a.gib", "--skips", "--skips"].as_slice(),
+        ["gib", "core", "a.gib", "--skips=1"].as_slice(),
+        ["gib", "check", "a.gib", "--skips"].as_slice(),
     ] {
         let files = vec![in alloc; file(alloc, "a.gib", ADD_ONE.as_bytes())?]?;
         let ended = call(&rt, alloc, words, files, Vec::new(alloc))?;

@@ -42,9 +42,9 @@ fn image(alloc: Global, row: &Row<'_>) -> Result<Vec<u8>, AllocError> {
     Ok(bytes)
 }
 
-/// The words of a run whose image is written.
-const WORDS: [&str; 8] = [
-    "gib", "run", "a.gib", "a.gbp", "--image", "m.gbi", "--chunks", "16",
+/// The words of a run whose image is written, where heads store no offsets.
+const WORDS: [&str; 9] = [
+    "gib", "run", "--skips", "a.gib", "a.gbp", "--image", "m.gbi", "--chunks", "16",
 ];
 
 /// The files of a program and of its packed input.
@@ -247,7 +247,7 @@ fn an_image_may_be_written_over_a_file_that_was_read(rt: HostRuntime) -> Result<
     let want = image(alloc, &ROWS[3])?;
     for name in ["a.gib", "a.gbp"] {
         let words = [
-            "gib", "run", "a.gib", "a.gbp", "--image", name, "--chunks", "16",
+            "gib", "run", "--skips", "a.gib", "a.gbp", "--image", name, "--chunks", "16",
         ];
         let files = files(alloc, ADD_ONE, TWO_LEAVES)?;
         let ended = call(&rt, alloc, &words, files, Vec::new(alloc))?;
@@ -259,9 +259,10 @@ fn an_image_may_be_written_over_a_file_that_was_read(rt: HostRuntime) -> Result<
 }
 
 /// Shows a file by a program.
-fn show<R: Threads + Wait + Sync>(
+fn show_by<R: Threads + Wait + Sync>(
     rt: &R,
     alloc: Global,
+    words: &[&str],
     source: &str,
     bytes: &[u8],
 ) -> Result<Ended, AllocError> {
@@ -269,8 +270,17 @@ fn show<R: Threads + Wait + Sync>(
         file(alloc, "a.gib", source.as_bytes())?,
         file(alloc, "m.gbi", bytes)?,
     ]?;
-    let words = ["gib", "show", "a.gib", "m.gbi"];
-    call(rt, alloc, &words, files, Vec::new(alloc))
+    call(rt, alloc, words, files, Vec::new(alloc))
+}
+
+/// The same where heads store no offsets.
+fn show<R: Threads + Wait + Sync>(
+    rt: &R,
+    alloc: Global,
+    source: &str,
+    bytes: &[u8],
+) -> Result<Ended, AllocError> {
+    show_by(rt, alloc, &["gib", "show", "a.gib", "m.gbi", "--skips"], source, bytes)
 }
 
 /// Whether a file is refused with this line, and nothing is put.
@@ -435,5 +445,76 @@ fn the_first_bad_item_is_named(rt: HostRuntime) -> Result<(), Fail> {
     };
     let bytes = image(alloc, &row)?;
     assert!(rt; refuses(&rt, alloc, source, &bytes, "gib: input: bad image at 1\n")?);
+    Ok(())
+}
+
+/// A node's head stores where its second tree stands, in the input and in the answer.
+const OFFSETS: Row<'static> = Row {
+    source: ADD_ONE,
+    payload: TWO_LEAVES,
+    kind: 2,
+    root: 27,
+    chunks: &[
+        b"\x01\x12\0\0\0\0\0\0\0\x00\x01\0\0\0\0\0\0\0\x00\x02\0\0\0\0\0\0\0\x01\x2d\0\0\0\0\0\0\0\x00\x02\0\0\0\0\0\0\0\x00\x03\0\0\0\0\0\0\0",
+    ],
+    text: "(Node (Leaf 2) (Leaf 3))\n",
+};
+
+#[test]
+fn a_run_writes_offsets_where_a_field_is_reached_by_one(rt: HostRuntime) -> Result<(), Fail> {
+    let alloc = rt.alloc();
+    let files = files(alloc, ADD_ONE, TWO_LEAVES)?;
+    let words = ["gib", "run", "a.gib", "a.gbp", "--image", "m.gbi"];
+    let ended = call(&rt, alloc, &words, files, Vec::new(alloc))?;
+    let want = image(alloc, &OFFSETS)?;
+    assert_eq!(rt; ended.status, Status::Done);
+    assert_eq!(rt; ended.out.bytes(), OFFSETS.text.as_bytes());
+    assert!(rt; ended.shelf.file("m.gbi") == Some(want.as_slice()));
+    let words = ["gib", "show", "a.gib", "m.gbi"];
+    let ended = show_by(&rt, alloc, &words, ADD_ONE, &want)?;
+    assert_eq!(rt; ended.status, Status::Done);
+    assert_eq!(rt; ended.out.bytes(), OFFSETS.text.as_bytes());
+    Ok(())
+}
+
+#[test]
+fn an_image_is_read_by_the_layouts_of_the_words(rt: HostRuntime) -> Result<(), Fail> {
+    let alloc = rt.alloc();
+    let usual = ["gib", "show", "a.gib", "m.gbi"];
+    let skips = ["gib", "show", "a.gib", "m.gbi", "--skips"];
+    for (words, row, changes, line) in [
+        // One that has offsets as one that has none, and the other way round.
+        (
+            skips.as_slice(),
+            &OFFSETS,
+            [].as_slice(),
+            "gib: input: bad image at 28\n",
+        ),
+        (
+            usual.as_slice(),
+            &ROWS[3],
+            [].as_slice(),
+            "gib: input: bad image at 20\n",
+        ),
+        // An offset that is not the end of the first tree, and behind it a tree that is bad.
+        (
+            usual.as_slice(),
+            &OFFSETS,
+            [(24 + 28, 46)].as_slice(),
+            "gib: input: bad image at 28\n",
+        ),
+        (
+            usual.as_slice(),
+            &OFFSETS,
+            [(24 + 28, 46), (24 + 36, 3)].as_slice(),
+            "gib: input: bad image at 36\n",
+        ),
+    ] {
+        let bytes = changed(alloc, row, changes)?;
+        let ended = show_by(&rt, alloc, words, ADD_ONE, &bytes)?;
+        assert_eq!(rt; ended.status, Status::Input, "{line}");
+        assert!(rt; ended.out.bytes().is_empty(), "{line}");
+        assert_eq!(rt; ended.err.bytes(), line.as_bytes(), "{line}");
+    }
     Ok(())
 }

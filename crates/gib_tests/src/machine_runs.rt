@@ -39,7 +39,7 @@ fn stand_at(mem: &mut PlainMem, from: u64, bytes: &[u8]) -> bool {
     true
 }
 
-/// Whether the machine runs so, in 16 chunks.
+/// Whether the machine runs so, in 16 chunks, where heads store no offsets.
 fn leaves(alloc: Global, wanted: &Run<'_>) -> Result<bool, AllocError> {
     let file = packed(alloc, wanted.payload)?;
     if file.len() as u64 > FILE_BYTES {
@@ -48,7 +48,7 @@ fn leaves(alloc: Global, wanted: &Run<'_>) -> Result<bool, AllocError> {
     let Some(compiled) = compile(alloc, wanted.source) else {
         return Ok(false);
     };
-    let Ok(ran) = run_packed(alloc, &compiled.typed, &file, 10, 16) else {
+    let Ok(ran) = run_packed(alloc, &compiled.typed, &file, 10, 16, true) else {
         return Ok(false);
     };
     let mut ran = ran;

@@ -11,4 +11,4 @@ pub mod Complete
 pub mod Agree
 pub mod OneText
 pub mod ReadText
-pub mod Examples
+pub mod MadeTables

@@ -2,6 +2,7 @@
 #![tactic(auto)]
 
 mod context;
+pub mod examples;
 mod fault;
 pub mod heap;
 pub mod law;
@@ -9,7 +10,6 @@ pub mod node;
 pub mod read;
 mod todo;
 pub mod value;
-pub mod worked_examples;
 pub mod write;
 
 pub use fault::TextFault;

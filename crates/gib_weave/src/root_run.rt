@@ -19,13 +19,16 @@ use gib_mem::Mem;
 use gib_packed::Root;
 use gib_region::Tails;
 use std::alloc::Global;
+use thiserror::Error;
 
 /// Why a run has no answer.
-#[derive(Clone, Copy, Debug, PartialEq, Eq)]
+#[derive(Clone, Copy, Debug, PartialEq, Eq, Error)]
 pub enum RunFault {
     /// Want of memory.
+    #[error("out of memory")]
     Memory,
     /// It draws a chunk, and all are drawn.
+    #[error("all chunks are drawn")]
     Full,
 }
 

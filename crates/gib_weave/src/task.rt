@@ -15,15 +15,19 @@ use gib_mem::Mem;
 use gib_region::Tails;
 use std::alloc::Global;
 use std::marker::Model;
+use thiserror::Error;
 
 /// Why an event is refused.
-#[derive(Clone, Copy, Debug, PartialEq, Eq)]
+#[derive(Clone, Copy, Debug, PartialEq, Eq, Error)]
 pub enum WeaveFault {
     /// Want of memory.
+    #[error("out of memory")]
     Memory,
     /// The event is not enabled.
+    #[error("the event is not enabled")]
     NotNow,
     /// The task draws, and all chunks are drawn.
+    #[error("all chunks are drawn")]
     Full,
 }
 

@@ -9,7 +9,7 @@ ghost use Rattle.gib_app.specs.Jobs.{OnlyPrints};
 ghost use Rattle.gib_app.specs.Kept.{EndsBy, file_of};
 
 use crate::compile::Compiled;
-use crate::lowering::{checked_core, placed_core};
+use crate::lowering::{checked_core, marked_core, placed_core};
 use crate::made::Made;
 use crate::printing::only_prints;
 use crate::stop::Stop;
@@ -19,9 +19,9 @@ use gib_core::{Core, print_core};
 use gib_infer::infer;
 use std::alloc::Global;
 
-/// The core of a program after a pass. Sides are not marked yet.
-fn core_after(alloc: Global, typed: &Typed, pass: u32) -> Result<Core, Memory>
-    ensures { IfOk result (λ core. core_of core ≡ core_after pass (program_of typed.now)) }
+/// The core of a program after a pass.
+fn core_after(alloc: Global, typed: &Typed, skips: bool, pass: u32) -> Result<Core, Memory>
+    ensures { IfOk result (λ core. core_of core ≡ core_after skips pass (program_of typed.now)) }
 {
     if pass < 2 {
         return infer(alloc, typed);
@@ -29,17 +29,27 @@ fn core_after(alloc: Global, typed: &Typed, pass: u32) -> Result<Core, Memory>
     if pass < 3 {
         return placed_core(alloc, typed);
     }
-    match checked_core(alloc, typed) {
+    let made = if pass < 4 {
+        checked_core(alloc, typed, skips)
+    } else {
+        marked_core(alloc, typed, skips)
+    };
+    match made {
         Ok(checked) => Ok(checked.into_core()),
         Err(memory) => Err(memory),
     }
 }
 
 /// The text of the core of a program after a pass.
-fn print_after(alloc: Global, compiled: &Compiled, pass: u32) -> Result<Vec<u8>, Memory>
-    ensures { IfOk result (λ text. text.items ≡ text_of_core compiled.now.names (core_after pass (program_of compiled.now.typed))) }
+fn print_after(
+    alloc: Global,
+    compiled: &Compiled,
+    skips: bool,
+    pass: u32,
+) -> Result<Vec<u8>, Memory>
+    ensures { IfOk result (λ text. text.items ≡ text_of_core compiled.now.names (core_after skips pass (program_of compiled.now.typed))) }
 {
-    let core = core_after(alloc, &compiled.typed, pass)?;
+    let core = core_after(alloc, &compiled.typed, skips, pass)?;
     print_core(alloc, &core, &compiled.names)
 }
 
@@ -48,11 +58,16 @@ fn print_after(alloc: Global, compiled: &Compiled, pass: u32) -> Result<Vec<u8>,
 /// # Errors
 ///
 /// Want of memory alone.
-pub fn core_text(alloc: Global, compiled: &Compiled, pass: u32) -> Result<Made, Stop<'static>>
-    ensures made { IfOk result (λ made. EndsBy (file_of made) made.end (OnlyPrints (λ text. text ≡ text_of_core compiled.now.names (core_after pass (program_of compiled.now.typed))))) }
+pub fn core_text(
+    alloc: Global,
+    compiled: &Compiled,
+    skips: bool,
+    pass: u32,
+) -> Result<Made, Stop<'static>>
+    ensures made { IfOk result (λ made. EndsBy (file_of made) made.end (OnlyPrints (λ text. text ≡ text_of_core compiled.now.names (core_after skips pass (program_of compiled.now.typed))))) }
     ensures memory { IfErr result (λ e. e ≡ Stop.Memory) }
 {
-    match print_after(alloc, compiled, pass) {
+    match print_after(alloc, compiled, skips, pass) {
         Ok(text) => Ok(only_prints(text)),
         Err(_) => Err(Stop::Memory),
     }

@@ -18,16 +18,17 @@ use crate::made::{End, Made, Valued};
 use crate::plan::Options;
 use crate::printing::no_value;
 use crate::stop::Stop;
+use gib_arena::SoleMem;
 use gib_base::limits::FILE_BYTES;
-use gib_mem::{Mem, PlainMem};
+use gib_mem::Mem;
 use std::alloc::Global;
 
 /// What a run makes that leaves a value: its image too, where that is asked for.
 fn finish(alloc: Global, value: Valued, image: bool) -> Result<Made, Stop<'static>>
     requires names { AreHeld value.ran.lowered.code.laid.table value.names }
-    requires stands { (p : ProgramTree) × (depth : ℕ) × (input : List ℕ) × StandsMeant p depth input value.ran.lowered.code.laid (⟦<PlainMem as Mem>⟧.view value.ran.memory).cells value.ran.root }
-    ensures made { (p : ProgramTree) (options : OptionValues) (input : List ℕ) → value.ran.lowered.code.laid ≡ layouts_of p → options.image ≡ image
-        → (s : StandsMeant p options.depth input value.ran.lowered.code.laid (⟦<PlainMem as Mem>⟧.view value.ran.memory).cells value.ran.root)
+    requires stands { (p : ProgramTree) × (depth : ℕ) × (input : List ℕ) × StandsMeant p depth input value.ran.lowered.code.laid (⟦<SoleMem as Mem>⟧.view value.ran.memory).cells value.ran.root }
+    ensures made { (p : ProgramTree) (options : OptionValues) (input : List ℕ) → value.ran.lowered.code.laid ≡ layouts_of options.skips p → options.image ≡ image → (⟦<SoleMem as Mem>⟧.view value.ran.memory).limit ≡ options.chunks
+        → (s : StandsMeant p options.depth input value.ran.lowered.code.laid (⟦<SoleMem as Mem>⟧.view value.ran.memory).cells value.ran.root)
         → IfOk result (λ made. EndsBy (file_of made) made.end (Runs p value.names options input)) }
     ensures memory { IfErr result (λ stop. stop ≡ Stop.Memory) }
 {
@@ -60,7 +61,14 @@ pub fn run(
     ensures stop { IfErr result (IsRunStop (program_of compiled.typed) input.now) }
 {
     let Compiled { typed, names } = compiled;
-    match run_packed(alloc, &typed, input, options.depth, options.chunks) {
+    match run_packed(
+        alloc,
+        &typed,
+        input,
+        options.depth,
+        options.chunks,
+        options.skips,
+    ) {
         Ok(ran) => finish(alloc, Valued { ran, names }, options.image),
         Err(stop) => match stop.reason() {
             Some(reason) => Ok(no_value(reason)),

@@ -21,13 +21,18 @@ use gib_value::Value;
 use std::alloc::Global;
 
 /// The value of a packed file, or of an image: the first four bytes tell which.
-fn read_shown(alloc: Global, typed: &Typed, file: &[u8]) -> Result<Value, Stop<'static>>
+fn read_shown(
+    alloc: Global,
+    typed: &Typed,
+    skips: bool,
+    file: &[u8],
+) -> Result<Value, Stop<'static>>
     requires short { length file.now ≤ 268435480 }
-    ensures value { IfOk result (λ v. IsShownValue (program_of typed.now) v file.now) }
-    ensures stop { IfErr result (IsShowStop (program_of typed.now) file.now) }
+    ensures value { IfOk result (λ v. IsShownValue (program_of typed.now) skips v file.now) }
+    ensures stop { IfErr result (IsShowStop (program_of typed.now) skips file.now) }
 {
     if has_image_sign(file) {
-        return match read_image_of(alloc, typed, file) {
+        return match read_image_of(alloc, typed, skips, file) {
             Ok(value) => Ok(value),
             Err(stop) => Err(stop),
         };
@@ -51,13 +56,18 @@ fn read_shown(alloc: Global, typed: &Typed, file: &[u8]) -> Result<Value, Stop<'
 ///
 /// `Input` where the bytes are neither a packed file of a value of the type of main's parameter nor an image of one of the type
 /// of its result.
-fn show_file(alloc: Global, compiled: &Compiled, file: &[u8]) -> Result<Vec<u8>, Stop<'static>>
+fn show_file(
+    alloc: Global,
+    compiled: &Compiled,
+    skips: bool,
+    file: &[u8],
+) -> Result<Vec<u8>, Stop<'static>>
     requires ready { IsReady (program_of compiled.now.typed) compiled.now.names }
     requires short { length file.now ≤ 268435480 }
-    ensures output { IfOk result (λ output. IsShown (program_of compiled.now.typed) compiled.now.names file.now output.items) }
-    ensures stop { IfErr result (IsShowStop (program_of compiled.now.typed) file.now) }
+    ensures output { IfOk result (λ output. IsShown (program_of compiled.now.typed) compiled.now.names skips file.now output.items) }
+    ensures stop { IfErr result (IsShowStop (program_of compiled.now.typed) skips file.now) }
 {
-    let value = match read_shown(alloc, &compiled.typed, file) {
+    let value = match read_shown(alloc, &compiled.typed, skips, file) {
         Ok(value) => value,
         Err(stop) => return Err(stop),
     };
@@ -73,13 +83,18 @@ fn show_file(alloc: Global, compiled: &Compiled, file: &[u8]) -> Result<Vec<u8>,
 ///
 /// `Input` where the bytes are neither a packed file of a value of the type of main's parameter nor an image of one of the type
 /// of its result.
-pub fn show(alloc: Global, compiled: &Compiled, file: &[u8]) -> Result<Made, Stop<'static>>
+pub fn show(
+    alloc: Global,
+    compiled: &Compiled,
+    skips: bool,
+    file: &[u8],
+) -> Result<Made, Stop<'static>>
     requires ready { IsReady (program_of compiled.now.typed) compiled.now.names }
     requires short { length file.now ≤ 268435480 }
-    ensures made { IfOk result (λ made. EndsBy (file_of made) made.end (OnlyPrints (IsShown (program_of compiled.now.typed) compiled.now.names file.now))) }
-    ensures stop { IfErr result (IsShowStop (program_of compiled.now.typed) file.now) }
+    ensures made { IfOk result (λ made. EndsBy (file_of made) made.end (OnlyPrints (IsShown (program_of compiled.now.typed) compiled.now.names skips file.now))) }
+    ensures stop { IfErr result (IsShowStop (program_of compiled.now.typed) skips file.now) }
 {
-    match show_file(alloc, compiled, file) {
+    match show_file(alloc, compiled, skips, file) {
         Ok(text) => Ok(only_prints(text)),
         Err(stop) => Err(stop),
     }

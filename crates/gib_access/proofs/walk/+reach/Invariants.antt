@@ -11,19 +11,19 @@ abbrev pub decreases-reach_end : goal.decreases-reach_end
 decreases-reach_end l = 5 * l.id.0 + 3
 
 abbrev pub decreases-reach_binding : goal.decreases-reach_binding
-decreases-reach_binding l = 5 * l.whole.0 + 2
+decreases-reach_binding l = 5 * l.parent.0 + 2
 
 abbrev pub decreases-reach_side : goal.decreases-reach_side
 decreases-reach_side l = 5 * l.side.term.0 + 5
 
 abbrev pub decreases-reach_if : goal.decreases-reach_if
-decreases-reach_if l = 5 * l.whole.0 + 2
+decreases-reach_if l = 5 * l.parent.0 + 2
 
 abbrev pub decreases-reach_case : goal.decreases-reach_case
-decreases-reach_case l = 5 * l.whole.0 + 2
+decreases-reach_case l = 5 * l.parent.0 + 2
 
 abbrev pub decreases-reach_branches : goal.decreases-reach_branches
-decreases-reach_branches l = 5 * l.whole.0 + 1
+decreases-reach_branches l = 5 * l.parent.0 + 1
 
 abbrev pub decreases-reach_branch : goal.decreases-reach_branch
 decreases-reach_branch l = 5 * l.branch.now.term.0 + 5

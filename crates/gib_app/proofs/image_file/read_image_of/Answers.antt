@@ -1,8 +1,8 @@
-use Rattle.std.proofs.Common.{◌≡◌, ◌∙◌, [], Err, ap₂, subst, sym, List, ℕ}
+use Rattle.std.proofs.Common.{◌≡◌, ◌∙◌, Err, ap, subst, sym}
 use Rattle.gib_types.specs.declared.table.Ty.{Ty}
 use Rattle.gib_types.specs.Layout.{LaidOut}
-use Rattle.gib_types.specs.Table.{Table}
 use Rattle.gib_print.specs.ImageReading.{ReadsTo}
+use Rattle.gib_code.specs.Program.{CodeTree}
 use Rattle.gib_syntax.specs.Parts.{program_of}
 use Rattle.gib_syntax.specs.Declarations.{output_type}
 use Rattle.gib_app.specs.declared.stop.Stop.{Stop}
@@ -14,11 +14,12 @@ use Rattle.gib_app.proofs.image_file.read_image_of.Goals as goal
 pub returns-clause-stop : goal.returns-clause-stop
 returns-clause-stop c =
     let p = program_of c.args.typed.now in
+    let skips = c.args.skips in
     let bytes = c.args.bytes.now in
     let fault = c.in-Err-read_image.fault in
-    let laid : c.in-Ok.layouts ≡ layouts_of p = ap₂ (λ (t : Table) (o : List ℕ). record { table = t; with_offsets = o }) (c.in-Ok.ensures.table ∙ c.types-types.ensures) c.in-Ok.ensures.listed in
+    let laid : c.layouts-layouts.result.now ≡ layouts_of skips p = c.layouts-layouts.ensures ∙ ap (λ (x : CodeTree). x.laid) c.code.ensures.value ∙ c.in-Ok.ensures.laid in
     let L : LaidOut → Type 0 = λ l. ReadsTo l c.output_type.result bytes (Err fault) in
-    let T : Ty → Type 0 = λ t. ReadsTo (layouts_of p) t bytes (Err fault) in
+    let T : Ty → Type 0 = λ t. ReadsTo (layouts_of skips p) t bytes (Err fault) in
     let read = subst T c.output_type.ensures (subst L laid c.in-Err-read_image.ensures.reads) in
-    let S : Stop → Type 0 = IsShowStop p bytes in
-    subst S (sym c.of_image.ensures) (image_stops c.a_value_is_not_refused.ensures p bytes c.requires.sign c.requires.short fault read)
+    let S : Stop → Type 0 = IsShowStop p skips bytes in
+    subst S (sym c.of_image.ensures) (image_stops c.a_value_is_not_refused.ensures p skips bytes c.requires.sign c.requires.short fault read)

@@ -6,7 +6,7 @@ use Rattle.gib_app.proofs.InputLaws.{Laws, one_refusal, not_accepted}
 use Rattle.gib_app.proofs.law.one_input_fault.Goals as goal
 
 pub returns-clause-one : goal.returns-clause-one
-returns-clause-one c = λ job bytes f g h k.
+returns-clause-one c = λ job skips given f g h k.
     let p = program_of c.args.compiled.now.typed in
     let names = c.args.compiled.now.names in
     let L : Table → Type 0 = λ t. Laws t names in
@@ -20,10 +20,10 @@ returns-clause-one c = λ job bytes f g h k.
       no_image = c.a_value_is_not_refused.ensures;
       one_place = c.refusals_hold.ensures.one_place;
     }) in
-    one_refusal p names laws bytes job f g h k
+    one_refusal p names laws skips given job f g h k
 
 pub returns-clause-none : goal.returns-clause-none
-returns-clause-none c = λ job bytes f h a.
+returns-clause-none c = λ job skips given f h a.
     let p = program_of c.args.compiled.now.typed in
     let names = c.args.compiled.now.names in
     let L : Table → Type 0 = λ t. Laws t names in
@@ -37,4 +37,4 @@ returns-clause-none c = λ job bytes f h a.
       no_image = c.a_value_is_not_refused.ensures;
       one_place = c.refusals_hold.ensures.one_place;
     }) in
-    not_accepted p names laws bytes job f h a
+    not_accepted p names laws skips given job f h a

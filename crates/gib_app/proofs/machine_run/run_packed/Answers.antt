@@ -9,28 +9,28 @@ pub returns-in-Err-clause-stop : goal.returns-in-Err-clause-stop
 returns-in-Err-clause-stop c =
     let p = program_of c.args.typed.now in
     let file = c.args.file.now in
-    machine_stop p c.args.depth c.args.chunks file c.in-Err.stop (run_stop p file c.requires.short c.in-Err.stop c.in-Err.ensures.refused)
+    machine_stop p c.args.skips c.args.depth c.args.chunks file c.in-Err.stop (run_stop p file c.requires.short c.in-Err.stop c.in-Err.ensures.refused)
 
 pub returns-in-Err-clause-only : goal.returns-in-Err-clause-only
 returns-in-Err-clause-only c = λ v is.
     let p = program_of c.args.typed.now in
     let file = c.args.file.now in
-    refused_halts p c.args.depth c.args.chunks file v (run p c.args.depth v) (program_cost p c.args.depth v) is c.in-Err.stop (run_stop p file c.requires.short c.in-Err.stop c.in-Err.ensures.refused)
+    refused_halts p c.args.depth c.args.chunks file v (run p c.args.depth v) (program_cost p c.args.skips c.args.depth v) is c.in-Err.stop (run_stop p file c.requires.short c.in-Err.stop c.in-Err.ensures.refused)
 
 pub returns-in-Ok-lowered-clause-stands : goal.returns-in-Ok-lowered-clause-stands
 returns-in-Ok-lowered-clause-stands c =
     let made = c.in-Ok-lowered.ensures in
-    survey_stands (program_of c.args.typed.now) c.args.depth c.args.file.now c.in-Ok.survey c.in-Ok-lowered.lowered (record { core = made.core; means = made.means; laid = made.laid }) c.requires.short
+    survey_stands (program_of c.args.typed.now) c.args.skips c.args.depth c.args.file.now c.in-Ok.survey c.in-Ok-lowered.lowered (record { core = made.core; means = made.means; laid = made.laid }) c.requires.short
     c.payload-packed.ensures.packed c.in-Ok.ensures.file c.run_survey.result c.run_survey.ensures.same c.run_survey.ensures.root
 
 pub returns-in-Ok-lowered-clause-stop : goal.returns-in-Ok-lowered-clause-stop
 returns-in-Ok-lowered-clause-stop c =
     let made = c.in-Ok-lowered.ensures in
-    survey_stops (program_of c.args.typed.now) c.args.depth c.args.chunks c.args.file.now c.in-Ok.survey c.in-Ok-lowered.lowered (record { core = made.core; means = made.means; laid = made.laid }) c.requires.short
+    survey_stops (program_of c.args.typed.now) c.args.skips c.args.depth c.args.chunks c.args.file.now c.in-Ok.survey c.in-Ok-lowered.lowered (record { core = made.core; means = made.means; laid = made.laid }) c.requires.short
     c.payload-packed.ensures.packed c.in-Ok.ensures.file c.run_survey.result c.run_survey.ensures.halts
 
 pub returns-in-Ok-lowered-clause-only : goal.returns-in-Ok-lowered-clause-only
 returns-in-Ok-lowered-clause-only c =
     let made = c.in-Ok-lowered.ensures in
-    survey_only (program_of c.args.typed.now) c.args.depth c.args.chunks c.args.file.now c.in-Ok.survey c.in-Ok-lowered.lowered (record { core = made.core; means = made.means; laid = made.laid }) c.requires.short
+    survey_only (program_of c.args.typed.now) c.args.skips c.args.depth c.args.chunks c.args.file.now c.in-Ok.survey c.in-Ok-lowered.lowered (record { core = made.core; means = made.means; laid = made.laid }) c.requires.short
     c.payload-packed.ensures.packed c.in-Ok.ensures.file c.one_file.ensures.value c.run_survey.result c.run_survey.ensures.same c.run_survey.ensures.root c.run_survey.ensures.halts

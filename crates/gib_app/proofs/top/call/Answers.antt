@@ -6,7 +6,8 @@ use Rattle.gib_app.specs.declared.plan.Plan.{Plan as KeptPlan}
 use Rattle.gib_app.specs.Words.{asked, bytes_of}
 use Rattle.gib_app.specs.Kept.{plan_of}
 use Rattle.gib_app.specs.Performing.{IsPerformed}
-use Rattle.gib_app.proofs.Performing.{others_stay, unput_files, prints, prints_part, prints_value, prints_value_part}
+use Rattle.gib_app.specs.declared.status.Status.TheVariants as status
+use Rattle.gib_app.proofs.Performing.{others_stay, unput_files, value_files, valueless_files, prints, prints_part, prints_value, prints_value_part}
 use Rattle.gib_app.proofs.top.call.Goals as goal
 
 pub returns-in-Ok-put_all-clause-done : goal.returns-in-Ok-put_all-clause-done
@@ -88,24 +89,19 @@ returns-in-Err-Write-clause-same g c =
     let words = bytes_of c.args.words.now in
     let M : Option KeptPlan → Type 0 = λ o. MatchOption o (asked words ≡ None) (λ r. asked words ≡ Some (plan_of r)) in
     let e = subst M c.in-Some.is c.in-Ok.ensures in
-    unput_files words (plan_of c.in-Some.plan) (g.S.Shelf.view c.args.shelf.now).kept (g.S.Shelf.view c.perform.new.shelf).kept e c.in-Ok-Value.ensures.others
+    unput_files g.S.Shelf.tells words (plan_of c.in-Some.plan) (g.S.Shelf.view c.args.shelf.now).kept (g.S.Shelf.view c.perform.new.shelf).kept e c.in-Ok-Value.ensures.others
 
 pub returns-in-Ok-Value-clause-same : goal.returns-in-Ok-Value-clause-same
 returns-in-Ok-Value-clause-same g c =
     let words = bytes_of c.args.words.now in
     let M : Option KeptPlan → Type 0 = λ o. MatchOption o (asked words ≡ None) (λ r. asked words ≡ Some (plan_of r)) in
     let e = subst M c.in-Some.is c.in-Ok.ensures in
-    record {
-      others = others_stay words (plan_of c.in-Some.plan) (g.S.Shelf.view c.args.shelf.now).kept (g.S.Shelf.view c.perform.new.shelf).kept e c.in-Ok-Value.ensures.others;
-      same = λ done' unwritten. c.in-Ok-Value.ensures.value c.in-Ok-Value.value c.in-Ok-Value.field-0-is;
-    }
+    value_files g.S.Shelf.tells words (plan_of c.in-Some.plan) (g.S.Shelf.view c.args.shelf.now).kept (g.S.Shelf.view c.perform.new.shelf).kept status.Memory e c.in-Ok-Value.ensures.others
+    (c.in-Ok-Value.ensures.value c.in-Ok-Value.value c.in-Ok-Value.field-0-is)
 
 pub returns-in-Ok-NoValue-clause-same : goal.returns-in-Ok-NoValue-clause-same
 returns-in-Ok-NoValue-clause-same g c =
     let words = bytes_of c.args.words.now in
     let M : Option KeptPlan → Type 0 = λ o. MatchOption o (asked words ≡ None) (λ r. asked words ≡ Some (plan_of r)) in
     let e = subst M c.in-Some.is c.in-Ok.ensures in
-    record {
-      others = others_stay words (plan_of c.in-Some.plan) (g.S.Shelf.view c.args.shelf.now).kept (g.S.Shelf.view c.perform.new.shelf).kept e c.in-Ok-NoValue.ensures.others;
-      same = λ done' unwritten. c.in-Ok-NoValue.ensures.none c.in-Ok-NoValue.reason c.in-Ok-NoValue.field-0-is;
-    }
+    valueless_files g.S.Shelf.tells words (plan_of c.in-Some.plan) (g.S.Shelf.view c.args.shelf.now).kept (g.S.Shelf.view c.perform.new.shelf).kept c.in-Ok-NoValue.reason e c.in-Ok-NoValue.ensures.others

@@ -12,7 +12,7 @@ use Rattle.gib_app.proofs.top.gib.Goals as goal
 pub returns-in-Ok-clause-ends : goal.returns-in-Ok-clause-ends
 returns-in-Ok-clause-ends g c =
     let e : SinkView = g.E.Sink.view c.args.err.now in
-    ([], (c.in-Ok.ensures.done, refl), record { later = omega arith; whole = λ quiet. added_none e.taken; part = added_whole e.taken e.taken [] (added_none e.taken) })
+    ([], (c.in-Ok.ensures.done, refl), record { later = omega arith; none = λ said. refl; whole = λ quiet. added_none e.taken; part = added_whole e.taken e.taken [] (added_none e.taken) })
 
 pub returns-in-Ok-clause-complete : goal.returns-in-Ok-clause-complete
 returns-in-Ok-clause-complete g c = λ due h.
@@ -35,7 +35,7 @@ returns-clause-ends g c =
     let P : Answer → Type 0 = λ x. IsEnding g.S.Shelf.tells words before now a b x.status (line x.said) in (
       said,
       subst P (sym c.answer_to-answer.ensures.answer) (ending_of g.S.Shelf.tells words before now a b c.in-Err.stop c.in-Err.ensures.stop),
-      is_put c.put_line.result (g.E.Sink.view c.args.err.now) (g.E.Sink.view c.put_line.new.err) said c.put_line.ensures.ok c.put_line.ensures.part c.put_line.ensures.cause,
+      is_put c.put_line.result (g.E.Sink.view c.args.err.now) (g.E.Sink.view c.put_line.new.err) (said_text c.answer_to-answer.result.said) c.put_line.ensures.ok c.put_line.ensures.part c.put_line.ensures.cause,
     )
 
 pub returns-clause-complete : goal.returns-clause-complete

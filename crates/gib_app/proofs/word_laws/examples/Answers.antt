@@ -45,3 +45,15 @@ returns-clause-image c = refl
 pub returns-clause-code : goal.returns-clause-code
 unfolding clap_on_literals
 returns-clause-code c = refl
+
+pub returns-clause-skips : goal.returns-clause-skips
+unfolding clap_on_literals
+returns-clause-skips c = refl
+
+pub returns-clause-code_skips : goal.returns-clause-code_skips
+unfolding clap_on_literals
+returns-clause-code_skips c = refl
+
+pub returns-clause-plain_skips : goal.returns-clause-plain_skips
+unfolding clap_on_literals
+returns-clause-plain_skips c = refl

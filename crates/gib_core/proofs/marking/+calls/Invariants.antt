@@ -11,10 +11,10 @@ abbrev pub decreases-end_has_call : goal.decreases-end_has_call
 decreases-end_has_call l = 4 * l.id.0 + 2
 
 abbrev pub decreases-binding_has_call : goal.decreases-binding_has_call
-decreases-binding_has_call l = 4 * l.whole.0 + 2
+decreases-binding_has_call l = 4 * l.parent.0 + 2
 
 abbrev pub decreases-branches_have_call : goal.decreases-branches_have_call
-decreases-branches_have_call l = 4 * l.whole.0 + 1
+decreases-branches_have_call l = 4 * l.parent.0 + 1
 
 abbrev pub invariant-branches_have_call-branches : goal.invariant-branches_have_call-branches
 invariant-branches_have_call-branches l =

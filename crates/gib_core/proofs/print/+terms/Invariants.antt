@@ -11,13 +11,13 @@ abbrev pub decreases-put_end : goal.decreases-put_end
 decreases-put_end l = 4 * l.id.0 + 2
 
 abbrev pub decreases-put_binding : goal.decreases-put_binding
-decreases-put_binding l = 4 * l.whole.0 + 2
+decreases-put_binding l = 4 * l.parent.0 + 2
 
 abbrev pub decreases-put_side : goal.decreases-put_side
 decreases-put_side l = 4 * l.side.term.0 + 4
 
 abbrev pub decreases-put_branches : goal.decreases-put_branches
-decreases-put_branches l = 4 * l.whole.0 + 1
+decreases-put_branches l = 4 * l.parent.0 + 1
 
 abbrev pub invariant-put_branches-branches : goal.invariant-put_branches-branches
 invariant-put_branches-branches l = (l.i ≤ length l.branches) × (l.out ≡ spell_branches l.level (branches_from (term_of l.terms) (drop l.i l.branches)) l.fn.out)

@@ -31,7 +31,7 @@ abbrev pub decreases-make : goal.decreases-make
 decreases-make l = 8 * l.id.0 + 1
 
 abbrev pub decreases-let_in : goal.decreases-let_in
-decreases-let_in l = 8 * max l.bound.value.0 l.body.0 + 6
+decreases-let_in l = 8 * max l.bound.value.0 l.body.0 + 7
 
 abbrev pub decreases-let_par : goal.decreases-let_par
 decreases-let_par l = 8 * max (max l.left.value.0 l.right.value.0) l.body.0 + 6
@@ -58,7 +58,7 @@ abbrev pub decreases-atom : goal.decreases-atom
 decreases-atom l = 8 * l.id.0 + 5
 
 abbrev pub decreases-right_side : goal.decreases-right_side
-decreases-right_side l = 8 * l.id.0 + 5
+decreases-right_side l = 8 * l.id.0 + 6
 
 abbrev pub invariant-arguments-arguments : goal.invariant-arguments-arguments
 invariant-arguments-arguments l = ArgumentsSoFar l.typed l.typed.exprs l.fn.id.0 l.fn.work l.work l.fn.bindings.items l.bindings.items l.ids l.left l.atoms.items

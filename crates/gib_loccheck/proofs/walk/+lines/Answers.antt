@@ -9,15 +9,15 @@ use Rattle.gib_loccheck.proofs.walk.+lines.Goals as goal
 
 pub check_branches-returns-in_err-check_branch-clause-broken : goal.check_branches-returns-in_err-check_branch-clause-broken
 check_branches-returns-in_err-check_branch-clause-broken t c =
-    let h = arms_blame (core_of c.args.core.now) c.in_err-check_branch.field-0.0 c.args.walk.now c.branches.walk c.args.target.now (term_of c.args.core.now.terms) c.args.branches.now c.branches.left.now c.args.whole.0 c.branch-item.result c.in-len1-up.len_at_least c.branch-item.is c.branches.invariant c.in_err-check_branch.ensures.broken in search rules
+    let h = arms_blame (core_of c.args.core.now) c.in_err-check_branch.field-0.0 c.args.walk.now c.branches.walk c.args.target.now (term_of c.args.core.now.terms) c.args.branches.now c.branches.left.now c.args.parent.0 c.branch-item.result c.in-len1-up.len_at_least c.branch-item.is c.branches.invariant c.in_err-check_branch.ensures.broken in search rules
 
 pub check_branches-branches-preserved : goal.check_branches-branches-preserved
 check_branches-branches-preserved t c =
-    arms_next (core_of c.args.core.now) c.args.walk.now c.branches.walk c.check_branch.new.walk c.args.target.now (term_of c.args.core.now.terms) c.args.branches.now c.branches.left.now c.args.whole.0 c.branch-item.result c.in-len1-up.len_at_least c.branch-item.is c.branches.invariant c.in_ok-check_branch.ensures.passes c.in_ok-check_branch.ensures.kept
+    arms_next (core_of c.args.core.now) c.args.walk.now c.branches.walk c.check_branch.new.walk c.args.target.now (term_of c.args.core.now.terms) c.args.branches.now c.branches.left.now c.args.parent.0 c.branch-item.result c.in-len1-up.len_at_least c.branch-item.is c.branches.invariant c.in_ok-check_branch.ensures.passes c.in_ok-check_branch.ensures.kept
 
 pub bind_sides-returns-clause-binds : goal.bind_sides-returns-clause-binds
 bind_sides-returns-clause-binds t c =
-    kept_binds c.args.walk.now c.check_sides.new.walk c.stand_both.new.walk c.in_ok-next.next c.args.target.now (Both false (side_from (term_of c.args.core.now.terms) c.args.left) (side_from (term_of c.args.core.now.terms) c.args.right)) c.in_ok-check_sides.ensures.kept (c.in_ok-next.ensures.binds (term_of c.args.core.now.terms))
+    kept_binds c.args.walk.now c.check_sides.new.walk c.enter_sides.new.walk c.in_ok-next.next c.args.target.now (Both false (side_from (term_of c.args.core.now.terms) c.args.left) (side_from (term_of c.args.core.now.terms) c.args.right)) c.in_ok-check_sides.ensures.kept (c.in_ok-next.ensures.binds (term_of c.args.core.now.terms))
 
 pub check_case-returns-in_err-judge_case-clause-broken : goal.check_case-returns-in_err-judge_case-clause-broken
 check_case-returns-in_err-judge_case-clause-broken t c =
@@ -45,7 +45,7 @@ check_if-returns-clause-broken t c =
 
 pub bind_side-returns-clause-binds : goal.bind_side-returns-clause-binds
 bind_side-returns-clause-binds t c =
-    kept_binds c.args.walk.now c.check_side.new.walk c.stand.new.walk c.in_ok-next.next c.args.target.now (One (side_from (term_of c.args.core.now.terms) c.args.bound)) c.in_ok-check_side.ensures.kept (c.in_ok-next.ensures.binds c.args.bound.ty (term_of c.args.core.now.terms c.args.bound.term.0))
+    kept_binds c.args.walk.now c.check_side.new.walk c.enter_side.new.walk c.in_ok-next.next c.args.target.now (One (side_from (term_of c.args.core.now.terms) c.args.bound)) c.in_ok-check_side.ensures.kept (c.in_ok-next.ensures.binds c.args.bound.ty (term_of c.args.core.now.terms c.args.bound.term.0))
 
 pub check_sides-returns-in_err-judge_par-clause-broken : goal.check_sides-returns-in_err-judge_par-clause-broken
 check_sides-returns-in_err-judge_par-clause-broken t c =

@@ -12,37 +12,37 @@ abbrev pub decreases-check_end : goal.decreases-check_end
 decreases-check_end l = 8 * l.id.0 + 6
 
 abbrev pub decreases-check_binding : goal.decreases-check_binding
-decreases-check_binding l = 8 * l.whole.0 + 5
+decreases-check_binding l = 8 * l.parent.0 + 5
 
 abbrev pub decreases-bind_sides : goal.decreases-bind_sides
-decreases-bind_sides l = 8 * l.whole.0 + 4
+decreases-bind_sides l = 8 * l.parent.0 + 4
 
 abbrev pub decreases-check_sides : goal.decreases-check_sides
-decreases-check_sides l = 8 * l.whole.0 + 3
+decreases-check_sides l = 8 * l.parent.0 + 3
 
 abbrev pub decreases-check_beside : goal.decreases-check_beside
-decreases-check_beside l = 8 * l.whole.0 + 2
+decreases-check_beside l = 8 * l.parent.0 + 2
 
 abbrev pub decreases-bind_side : goal.decreases-bind_side
-decreases-bind_side l = 8 * l.whole.0 + 2
+decreases-bind_side l = 8 * l.parent.0 + 2
 
 abbrev pub decreases-check_side : goal.decreases-check_side
-decreases-check_side l = 8 * l.whole.0 + 1
+decreases-check_side l = 8 * l.parent.0 + 1
 
 abbrev pub decreases-check_case : goal.decreases-check_case
-decreases-check_case l = 8 * l.whole.0 + 5
+decreases-check_case l = 8 * l.parent.0 + 5
 
 abbrev pub decreases-check_branches : goal.decreases-check_branches
-decreases-check_branches l = 8 * l.whole.0 + 4
+decreases-check_branches l = 8 * l.parent.0 + 4
 
 abbrev pub decreases-check_branch : goal.decreases-check_branch
-decreases-check_branch l = 8 * l.whole.0 + 3
+decreases-check_branch l = 8 * l.parent.0 + 3
 
 abbrev pub decreases-check_if : goal.decreases-check_if
 decreases-check_if l = 8 * max l.then_part.0 l.else_part.0 + 8
 
 abbrev pub invariant-check_branches-branches : goal.invariant-check_branches-branches
-invariant-check_branches-branches l = ArmsSoFar (core_of l.core) l.fn.walk l.walk l.target (term_of l.core.terms) l.branches l.left l.fn.whole.0
+invariant-check_branches-branches l = ArmsSoFar (core_of l.core) l.fn.walk l.walk l.target (term_of l.core.terms) l.branches l.left l.fn.parent.0
 
 abbrev pub decreases-check_branches-branches : goal.decreases-check_branches-branches
 decreases-check_branches-branches l = length l.left

@@ -13,10 +13,10 @@ abbrev pub decreases-lower_end : goal.decreases-lower_end
 decreases-lower_end l = 5 * l.id.0 + 3
 
 abbrev pub decreases-lower_binding : goal.decreases-lower_binding
-decreases-lower_binding l = 5 * l.whole.0 + 3
+decreases-lower_binding l = 5 * l.parent.0 + 3
 
 abbrev pub decreases-lower_fork : goal.decreases-lower_fork
-decreases-lower_fork l = 5 * l.whole.0 + 2
+decreases-lower_fork l = 5 * l.parent.0 + 2
 
 abbrev pub decreases-lower_side : goal.decreases-lower_side
 decreases-lower_side l = 5 * l.side.term.0 + 6
@@ -25,7 +25,7 @@ abbrev pub decreases-lower_scalar : goal.decreases-lower_scalar
 decreases-lower_scalar l = 5 * l.term.0 + 5
 
 abbrev pub decreases-lower_case : goal.decreases-lower_case
-decreases-lower_case l = 5 * l.whole.0 + 2
+decreases-lower_case l = 5 * l.parent.0 + 2
 
 abbrev pub decreases-lower_branch : goal.decreases-lower_branch
 decreases-lower_branch l = 5 * l.branch.now.term.0 + 5

@@ -10,10 +10,10 @@ abbrev pub decreases-place_term : goal.decreases-place_term
 decreases-place_term l = 6 * l.id.0 + 5
 
 abbrev pub decreases-place_bindings : goal.decreases-place_bindings
-decreases-place_bindings l = 6 * l.whole.0 + 3
+decreases-place_bindings l = 6 * l.parent.0 + 3
 
 abbrev pub decreases-place_binding : goal.decreases-place_binding
-decreases-place_binding l = 6 * l.whole.0 + 2
+decreases-place_binding l = 6 * l.parent.0 + 2
 
 abbrev pub decreases-place_side : goal.decreases-place_side
 decreases-place_side l = 6 * l.side.term.0 + 6
@@ -22,7 +22,7 @@ abbrev pub decreases-place_end : goal.decreases-place_end
 decreases-place_end l = 6 * l.id.0 + 4
 
 abbrev pub decreases-place_branches : goal.decreases-place_branches
-decreases-place_branches l = 6 * l.whole.0 + 1
+decreases-place_branches l = 6 * l.parent.0 + 1
 
 abbrev pub decreases-place_branch : goal.decreases-place_branch
 decreases-place_branch l = 6 * l.branch.now.term.0 + 6

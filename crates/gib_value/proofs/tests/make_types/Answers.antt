@@ -1,4 +1,4 @@
-use Rattle.gib_value.proofs.Examples.{made_rules}
+use Rattle.gib_value.proofs.MadeTables.{made_rules}
 use Rattle.gib_value.proofs.tests.make_types.Goals as goal
 
 pub make-requires : goal.make-requires

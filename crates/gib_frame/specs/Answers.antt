@@ -1,0 +1,36 @@
+-- What a frame's answer is.
+use Rattle.std.specs.Prelude.{◌≡◌, [], Option, IfSome, IfNone}
+use Rattle.gib_mem.specs.Memory.{Store}
+use Rattle.gib_code.specs.declared.answer.Side.{Side}
+use Rattle.gib_code.specs.declared.answer.Answer.{Answer}
+use Rattle.gib_code.specs.Program.{CodeTree}
+use Rattle.gib_core.specs.Tree.{CoreTree}
+use Rattle.gib_core.specs.Parts.{core_of}
+use Rattle.gib_core.specs.LoweredParts.{LoweredParts}
+use Rattle.gib_machine.specs.Machine.{Waiting}
+use Rattle.gib_machine.specs.Starting.{waiting_of}
+use Rattle.gib_weave.specs.Owing.{Debt}
+use Rattle.gib_weave.specs.Sound.{SideSafe, IsAnswer}
+use Rattle.gib_arena.specs.declared.memory.Pass.{Pass}
+use Rattle.gib_arena.specs.Passes.{view, cells}
+use Rattle.gib_frame.specs.declared.due.Due.{Due}
+
+-- There is something that the side owes, in a store.
+abbrev pub Owes : LoweredParts → Store → Side → Type 0
+Owes l s side = (d : Debt) × SideSafe (core_of l.core) l.code d s (waiting_of side)
+
+-- Whatever the side owes in the store that it was split with, this is its answer in another one.
+abbrev pub Answers : CoreTree → CodeTree → Store → Waiting → Store → Answer → Type 0
+Answers core code s w r a = (d : Debt) → SideSafe core code d s w → IsAnswer code.laid r d.ty d.owed a
+
+-- It is the pass that was split for this, with all that was split off it back.
+pub record IsHis (was pass : Pass) : Type 0 where
+  pub arena : pass.seat.table_id ≡ was.seat.table_id
+  pub path : (view pass).branch.path ≡ (view was).branch.path
+  pub none_out : (view pass).branch.out ≡ []
+
+-- What comes to a frame: its task's pass, with the answer of its side; without an answer it has seen that all chunks are drawn.
+pub record Delivers (due : Due) (a : Option Answer) (p : Pass) : Type 0 where
+  pub his : IsHis due.pass.value p
+  pub full : IfNone a ((view p).holding.seen ≡ (view p).branch.limit)
+  pub answers : IfSome a (Answers (core_of due.lowered.value.core) due.lowered.value.code (cells due.pass.value) (waiting_of due.side.value) (cells p))

@@ -1,0 +1,4 @@
+pub mod Answers
+pub mod Slot
+pub mod Dues
+pub mod TaskParts

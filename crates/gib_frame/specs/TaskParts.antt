@@ -1,0 +1,26 @@
+-- A task.
+use Rattle.std.specs.Prelude.{◌≡◌, []}
+use Rattle.gib_code.specs.declared.answer.Side.{Side}
+use Rattle.gib_core.specs.LoweredParts.{LoweredParts}
+use Rattle.gib_arena.specs.declared.memory.Arena.{Arena}
+use Rattle.gib_arena.specs.declared.memory.Pass.{Pass}
+use Rattle.gib_arena.specs.Passes.{view, cells, IsOf}
+use Rattle.gib_frame.specs.declared.due.Due.{Due}
+use Rattle.gib_frame.specs.Answers.{Owes}
+
+-- What its frame was made for, the arena and the code, the side and the pass.
+pub record TaskParts : Type 0 where
+  pub due : Due
+  pub arena : Arena
+  pub lowered : LoweredParts
+  pub side : Side
+  pub pass : Pass
+
+-- They are those of the frame, nothing is split off the pass, and the side owes something.
+pub record IsTask (t : TaskParts) : Type 0 where
+  pub own : IsOf t.arena t.pass
+  pub none_out : (view t.pass).branch.out ≡ []
+  pub lowered : t.due.lowered.value ≡ t.lowered
+  pub side : t.due.side.value ≡ t.side
+  pub pass : t.due.pass.value ≡ t.pass
+  pub owes : Owes t.lowered (cells t.pass) t.side

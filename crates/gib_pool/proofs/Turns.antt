@@ -1,0 +1,152 @@
+-- A worker's turns.
+use Rattle.std.proofs.Common.{rules, ◌≡◌, ℕ, ◌*◌, ◌<◌, ◌≤◌, inl, inr, List, [], ◌∷◌, refl, sym, ap, subst, ◌∙◌, arith, cond}
+use Rattle.std.specs.Prelude.{Option, Some, None, slice_get}
+use Rattle.gib_mem.specs.Memory.{Memory, Cell, Store, absent, fresh, byte, set_cell, open_chunk, Grows, after_put, after_draw, IsBounded}
+use Rattle.gib_region.specs.Region.{Draws}
+use Rattle.gib_region.specs.Count.{Balanced, nothing_done}
+use Rattle.gib_core.specs.Tree.{CoreTree}
+use Rattle.gib_core.specs.Parts.{core_of}
+use Rattle.gib_core.specs.LoweredParts.{LoweredParts, IsWhole}
+use Rattle.gib_code.specs.declared.answer.Answer.{Answer}
+use Rattle.gib_code.specs.Program.{CodeTree}
+use Rattle.gib_machine.specs.Machine.{State, Waiting, Ask, Silent, Get, Put, Draw, AtFork, AtJoin, Ended, next, left_starts, right_of, side_start, takes, joins}
+use Rattle.gib_machine.specs.Starting.{waiting_of}
+use Rattle.gib_weave.specs.Owing.{Owed, Debt}
+use Rattle.gib_weave.specs.Paying.{Share, new_share, with_count}
+use Rattle.gib_weave.specs.Places.{within, Owned, with_chunk, IsNew, IsSmall}
+use Rattle.gib_weave.specs.Sound.{Safe, SideSafe, IsAnswer, After, Forks, Meets, Others}
+use Rattle.gib_weave.proofs.Basics.{by_test}
+use Rattle.gib_weave.proofs.Places.{IsSided, zero_or_one, open-outside, open-inside}
+use Rattle.gib_weave.proofs.Memories.{bounded_small, draws_new}
+use Rattle.gib_weave.proofs.Others.{safe-others, answer-grows}
+use Rattle.gib_weave.proofs.Step.{step_keeps}
+use Rattle.gib_weave.proofs.Starts.{lowered_bodies}
+use Rattle.gib_arena.specs.Passes.{cells}
+use Rattle.gib_frame.specs.declared.due.Due.{Due}
+use Rattle.gib_frame.specs.Answers.{Answers}
+use Rattle.gib_pool.specs.Turn.{AreThere, IsLent, AreLent, Works, Wider, IsFor, WorksOn, Tells, WorksBack, WorksAfter}
+
+fresh_absent : fresh ≡ absent → ⊥
+fresh_absent e = absurd cc
+
+byte_absent : {b : ℕ} → byte b ≡ absent → ⊥
+byte_absent e = absurd cc
+
+grows_same : (s : Store) → Grows s s
+grows_same s = record { kept = λ q b h. h }
+
+grows_on : (s r t : Store) → Grows s r → Grows r t → Grows s t
+grows_on s r t g h = record { kept = λ q b e. h.kept q b (g.kept q b e) }
+
+pub side_grows : (core : CoreTree) (code : CodeTree) (d : Debt) (s r : Store) (w : Waiting) → Grows s r → SideSafe core code d s w → SideSafe core code d r w
+side_grows core code d s r w g h = record { safe = λ t k sm. h.safe t (grows_on s r t g k) sm }
+
+pub begins : (l : LoweredParts) (d : Debt) (s : Store) (w : Waiting) → IsSmall s → SideSafe (core_of l.core) l.code d s w → Works l d s (side_start l.code w) []
+begins l d s w sm h = record { own = λ q. 0; bill = new_share d.most; sides = []; safe = h.safe s (grows_same s) sm; there = record { there = λ q z e. absurd (omega (arith, z)) }; debts = tt }
+
+data Seen (c : Cell) : Type 0 where
+  is_absent : c ≡ absent → Seen c
+  is_fresh : c ≡ fresh → Seen c
+  is_byte : (b : ℕ) → c ≡ byte b → Seen c
+
+seen : (c : Cell) → Seen c
+seen absent = is_absent refl
+seen fresh = is_fresh refl
+seen (byte b) = is_byte b refl
+
+-- To a machine a wider pass is what others do.
+pub wider_others : (own : Owned) (s r : Store) → AreThere own s → Wider s r → Others own s r
+wider_others own s r t w = record { grows = w.known; mine = λ q h. mine q h (seen (s q)); drawn = λ q e. drawn q e (seen (s q)); small = w.small }
+  where
+    mine : (q : ℕ) → 0 < own q → Seen (s q) → r q ≡ s q
+    mine q h (is_absent e) = absurd (t.there q h e)
+    mine q h (is_fresh e) = w.free q e ∙ sym e
+    mine q h (is_byte b e) = w.known.kept q b e ∙ sym e
+
+    drawn : (q : ℕ) → r q ≡ absent → Seen (s q) → s q ≡ absent
+    drawn q z (is_absent e) = e
+    drawn q z (is_fresh e) = absurd (fresh_absent (sym (w.free q e) ∙ z))
+    drawn q z (is_byte b e) = absurd (byte_absent (sym (w.known.kept q b e) ∙ z))
+
+there_wider : (own : Owned) (s r : Store) → AreThere own s → Wider s r → AreThere own r
+there_wider own s r t w = let o = wider_others own s r t w in record { there = λ q h e. t.there q h (o.drawn q e) }
+
+pub wider_keeps : (l : LoweredParts) (d : Debt) (s r : Store) (m : State) (lent : List (Option Due)) → Wider s r → Works l d s m lent → Works l d r m lent
+wider_keeps l d s r m lent w h = record {
+  own = h.own;
+  bill = h.bill;
+  sides = h.sides;
+  safe = safe-others (core_of l.core) l.code (record { ty = d.ty; all = d.owed; sides = h.sides }) h.own h.bill s r m h.safe (wider_others h.own s r h.there w);
+  there = there_wider h.own s r h.there w;
+  debts = h.debts;
+}
+
+there_put : (own : Owned) (s : Store) (a b : ℕ) → AreThere own s → AreThere own (set_cell s a (byte b))
+there_put own s a b t = record { there = λ q h. by_test q a (λ c. cond c (byte b) (s q) ≡ absent → ⊥) (λ e z. byte_absent z) (λ e z. t.there q h z) }
+
+there_draw : (own : Owned) (s : Store) (c : ℕ) → AreThere own s → AreThere (with_chunk own c) (open_chunk s c)
+there_draw own s c t = record { there = λ q h e. go q h e (zero_or_one (4096 * c) 4096 q) }
+  where
+    go : (q : ℕ) → 0 < with_chunk own c q → open_chunk s c q ≡ absent → IsSided (4096 * c) 4096 q → ⊥
+    go q h e (inl z) = t.there q (omega (arith, h, z)) (sym (open-outside s c q z) ∙ e)
+    go q h e (inr i) = fresh_absent (sym (open-inside s c q i.1 i.2) ∙ e)
+
+module _ (l : LoweredParts) (d : Debt) where
+  abbrev owing : List Debt → Owed
+  owing ds = record { ty = d.ty; all = d.owed; sides = ds }
+
+  forked : (s : Store) (m : State) (lent : List (Option Due)) (h : Works l d s m lent) (sh : Share) → Forks (core_of l.core) l.code (owing h.sides) h.own sh s m
+      → WorksOn l d s lent m (left_starts m (slice_get l.code.instructions m.ip)) (right_of m (slice_get l.code.instructions m.ip))
+  forked s m lent h sh f = record {
+    room = f.room;
+    refused = record { own = h.own; bill = _; sides = f.debt ∷ h.sides; safe = f.left; there = h.there; debts = (tt, h.debts) };
+    made = λ e i. record {
+      own = h.own;
+      bill = _;
+      sides = f.debt ∷ h.sides;
+      safe = f.left;
+      there = h.there;
+      debts = ((i.lowered, side_grows (core_of l.core) l.code f.debt s (cells e.pass.value) (waiting_of e.side.value) i.knows (subst (SideSafe (core_of l.core) l.code f.debt s) (sym i.side) f.right)), h.debts);
+    };
+  }
+
+  meets : (s : Store) (m : State) (own : Owned) (sh : Share) (ds : List Debt) (lent : List (Option Due)) → AreThere own s → AreLent l ds lent → (f : Meets (core_of l.core) l.code (owing ds) own sh s m) → ds ≡ f.debt ∷ f.others → WorksBack l d s lent m
+  meets s m own sh [] lent t a f e = absurd cc
+  meets s m own sh (x ∷ xs) [] t a f e = absurd a
+  meets s m own sh (x ∷ xs) (n ∷ ns) t a f e = record {
+    newest = n;
+    others = ns;
+    are = refl;
+    take = back (takes m) _ f.take;
+    join = λ u y is k. back (joins m y) _ (f.join y nothing_done (told u y (subst (IsLent l f.debt) is owes.0) k) balanced);
+  }
+    where
+      balanced : Balanced nothing_done
+      balanced = search rules
+
+      owes : AreLent l (f.debt ∷ f.others) (n ∷ ns)
+      owes = subst (λ (z : List Debt). AreLent l z (n ∷ ns)) e a
+
+      back : (m' : State) (bill : Share) → Safe (core_of l.core) l.code (owing f.others) own bill s m' → Works l d s m' ns
+      back m' bill h = record { own = own; bill = bill; sides = f.others; safe = h; there = t; debts = owes.1 }
+
+      told : (u : Due) (y : Answer) → IsLent l f.debt (Some u) → Tells u s y → IsAnswer l.code.laid s f.debt.ty f.debt.owed y
+      told u y x k = answer-grows l.code.laid k.from s f.debt.ty f.debt.owed y k.knows
+          (subst (λ (z : LoweredParts). Answers (core_of z.core) z.code (cells u.pass.value) (waiting_of u.side.value) k.from y) x.0 k.answers f.debt x.1)
+
+  ended : (ds : List Debt) (lent : List (Option Due)) → AreLent l ds lent → ds ≡ [] → lent ≡ []
+  ended [] [] a e = refl
+  ended [] (x ∷ xs) a e = absurd a
+  ended (x ∷ xs) lent a e = absurd cc
+
+  after : (v : Memory) (m : State) (lent : List (Option Due)) (a : Ask) → IsBounded v → (h : Works l d v.cells m lent) → After (core_of l.core) l.code (owing h.sides) h.own h.bill v.cells m a → WorksAfter l d v lent m a
+  after v m lent (Silent m') b h k = record { own = h.own; bill = k.0; sides = h.sides; safe = k.2; there = h.there; debts = h.debts }
+  after v m lent (Get a f) b h k = (k.0, k.1, record { own = h.own; bill = k.2.0; sides = h.sides; safe = k.2.2; there = h.there; debts = h.debts })
+  after v m lent (Put a x m') b h k = (k.0, record { own = h.own; bill = k.2.0; sides = h.sides; safe = k.2.2; there = there_put h.own v.cells a x h.there; debts = h.debts })
+  after v m lent (Draw f) b h k = λ c dr. let t = k c (draws_new v c b dr) in record { own = with_chunk h.own c; bill = t.0; sides = h.sides; safe = t.2; there = there_draw h.own v.cells c h.there; debts = h.debts }
+  after v m lent AtFork b h k = forked v.cells m lent h k.0 k.2
+  after v m lent AtJoin b h k = meets v.cells m h.own k.0 h.sides lent h.there h.debts k.2 k.2.sides
+  after v m lent (Ended a) b h k = (ended h.sides lent h.debts k.0, k.1)
+
+  pub turn : IsWhole l.core l.code → (v : Memory) (m : State) (lent : List (Option Due)) → IsBounded v → Works l d v.cells m lent → WorksAfter l d v lent m (next l.code m)
+  turn ok v m lent b h = after v m lent (next l.code m) b h (step_keeps (core_of l.core) l.code (lowered_bodies (core_of l.core) l.code ok.lowered ok.fits) (owing h.sides) h.own h.safe)

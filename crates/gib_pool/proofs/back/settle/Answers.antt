@@ -1,0 +1,28 @@
+use Rattle.std.proofs.Common.{◌≡◌, refl, sym, ap, ◌∙◌}
+use Rattle.gib_arena.specs.Passes.{view}
+use Rattle.gib_arena.specs.declared.memory.Pass.{Pass}
+use Rattle.gib_frame.specs.declared.due.Due.{Due}
+use Rattle.gib_frame.specs.Dues.{frame_due}
+use Rattle.gib_pool.proofs.Lending.{lends_less}
+use Rattle.gib_pool.proofs.Settling.{latest}
+use Rattle.gib_pool.proofs.back.settle.Goals as goal
+
+pub returns-in-Some-clause-lends : goal.returns-in-Some-clause-lends
+returns-in-Some-clause-lends g c = λ lent h.
+    let v = c.join.ensures.both in
+    let o = c.requires.latest c.if-here-gt0.true in
+    let due : c.in-Some.task.due ≡ frame_due c.args.frame.now = latest _ _ _ _ (sym c.in-Some.ensures.some ∙ o.1) in
+    let t = c.open-reply.ensures in
+    let is : c.open-reply.result.4 ≡ (frame_due c.args.frame.now).pass.value = t.parts.1 ∙ (sym t.task.pass ∙ ap (λ (d : Due). d.pass.value) due) in
+    let none = ap (λ (p : Pass). (view p).branch.out) t.parts.1 ∙ t.task.none_out in
+    lends_less c.args.pass.now c.open-reply.result.4 c.join.new.self v.0 (frame_due c.args.frame.now) lent (c.join.ensures.of ∙ sym c.requires.own.0) v.1 (ap (λ (p : Pass). (view p).branch.path) is) none h
+
+pub returns-in-Some-answer-clause-lends : goal.returns-in-Some-answer-clause-lends
+returns-in-Some-answer-clause-lends g c = λ lent h.
+    let v = c.join-2.ensures.both in let d = c.wait_answer-answer.ensures in
+    lends_less c.args.pass.now c.wait_answer-answer.result.1 c.join-2.new.self v.0 (frame_due c.args.frame.now) lent (c.join-2.ensures.of ∙ sym c.requires.own.0) v.1 d.his.path d.his.none_out h
+
+pub returns-in-None-clause-lends : goal.returns-in-None-clause-lends
+returns-in-None-clause-lends g c = λ lent h.
+    let v = c.join-2.ensures.both in let d = c.wait_answer-answer.ensures in
+    lends_less c.args.pass.now c.wait_answer-answer.result.1 c.join-2.new.self v.0 (frame_due c.args.frame.now) lent (c.join-2.ensures.of ∙ sym c.requires.own.0) v.1 d.his.path d.his.none_out h

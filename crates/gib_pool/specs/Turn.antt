@@ -1,0 +1,83 @@
+-- A worker at a task: what it knows over the bytes of its own pass, and after each turn.
+use Rattle.std.specs.Prelude.{◌≡◌, ℕ, ◌<◌, List, [], ◌∷◌, Option, Some, None, slice_get}
+use Rattle.gib_mem.specs.Memory.{Memory, Store, absent, fresh, byte, Grows, after_put, after_draw}
+use Rattle.gib_region.specs.Region.{Draws}
+use Rattle.gib_code.specs.declared.answer.Answer.{Answer}
+use Rattle.gib_core.specs.Parts.{core_of}
+use Rattle.gib_core.specs.LoweredParts.{LoweredParts}
+use Rattle.gib_machine.specs.Machine.{State, Waiting, Ask, Silent, Get, Put, Draw, AtFork, AtJoin, Ended, left_starts, right_of, takes, joins}
+use Rattle.gib_machine.specs.Starting.{waiting_of}
+use Rattle.gib_weave.specs.Owing.{Debt}
+use Rattle.gib_weave.specs.Paying.{Share}
+use Rattle.gib_weave.specs.Places.{Owned, IsSmall}
+use Rattle.gib_weave.specs.Sound.{Safe, SideSafe, IsAnswer}
+use Rattle.gib_arena.specs.Passes.{cells}
+use Rattle.gib_frame.specs.declared.due.Due.{Due}
+use Rattle.gib_frame.specs.Answers.{Answers}
+
+-- What a machine owns is there.
+pub record AreThere (own : Owned) (s : Store) : Type 0 where
+  pub there : (q : ℕ) → 0 < own q → s q ≡ absent → ⊥
+
+-- A right side that was not joined: its frame was refused, so it is taken in place; or its frame was made for it.
+abbrev pub IsLent : LoweredParts → Debt → Option Due → Type 0
+IsLent l d None = Unit {0}
+IsLent l d (Some e) = (e.lowered.value ≡ l) × SideSafe (core_of l.core) l.code d (cells e.pass.value) (waiting_of e.side.value)
+
+-- The right sides that were not joined, the newest first.
+abbrev pub AreLent : LoweredParts → List Debt → List (Option Due) → Type 0
+AreLent l [] [] = Unit {0}
+AreLent l [] (e ∷ es) = ⊥
+AreLent l (d ∷ ds) [] = ⊥
+AreLent l (d ∷ ds) (e ∷ es) = IsLent l d e × AreLent l ds es
+
+-- A worker's machine owes this, over the bytes of its pass, with these right sides.
+pub record Works (l : LoweredParts) (d : Debt) (s : Store) (m : State) (lent : List (Option Due)) : Type 0 where
+  pub own : Owned
+  pub bill : Share
+  pub sides : List Debt
+  pub safe : Safe (core_of l.core) l.code (record { ty = d.ty; all = d.owed; sides = sides }) own bill s m
+  pub there : AreThere own s
+  pub debts : AreLent l sides lent
+
+-- The store went from s to r by a split or a join of its pass: what is known stays, what is fresh stays fresh.
+pub record Wider (s r : Store) : Type 0 where
+  pub known : Grows s r
+  pub free : (q : ℕ) → s q ≡ fresh → r q ≡ fresh
+  pub small : IsSmall r
+
+-- The frame is for the right side of the fork, and its pass knows what this one knows.
+pub record IsFor (l : LoweredParts) (s : Store) (w : Waiting) (e : Due) : Type 0 where
+  pub lowered : e.lowered.value ≡ l
+  pub side : waiting_of e.side.value ≡ w
+  pub knows : Grows s (cells e.pass.value)
+
+-- At a fork, whether a frame was made or refused.
+pub record WorksOn (l : LoweredParts) (d : Debt) (s : Store) (lent : List (Option Due)) (m left : State) (right : Waiting) : Type 0 where
+  pub room : 0 < m.room
+  pub refused : Works l d s left (None ∷ lent)
+  pub made : (e : Due) → IsFor l s right e → Works l d s left (Some e ∷ lent)
+
+-- The answer of a side, in a store that knows what its pass knew when the answer was put.
+pub record Tells (e : Due) (r : Store) (a : Answer) : Type 0 where
+  pub from : Store
+  pub answers : Answers (core_of e.lowered.value.core) e.lowered.value.code (cells e.pass.value) (waiting_of e.side.value) from a
+  pub knows : Grows from r
+
+-- At a join some right side is the newest one. It can be taken, and its answer can be, where the pass has joined that side's.
+pub record WorksBack (l : LoweredParts) (d : Debt) (s : Store) (lent : List (Option Due)) (m : State) : Type 0 where
+  pub newest : Option Due
+  pub others : List (Option Due)
+  pub are : lent ≡ newest ∷ others
+  pub take : Works l d s (takes m) others
+  pub join : (e : Due) (a : Answer) → newest ≡ Some e → Tells e s a → Works l d s (joins m a) others
+
+-- What a worker has after one turn over a memory, by what its machine asks.
+abbrev pub WorksAfter : LoweredParts → Debt → Memory → List (Option Due) → State → Ask → Type 0
+WorksAfter l d v lent old (Silent m) = Works l d v.cells m lent
+WorksAfter l d v lent old (Get a k) = (b : ℕ) × (v.cells a ≡ byte b) × Works l d v.cells (k b) lent
+WorksAfter l d v lent old (Put a b m) = (v.cells a ≡ fresh) × Works l d (after_put v a b).cells m lent
+WorksAfter l d v lent old (Draw k) = (c : ℕ) → Draws v c → Works l d (after_draw v c).cells (k c) lent
+WorksAfter l d v lent old AtFork = WorksOn l d v.cells lent old (left_starts old (slice_get l.code.instructions old.ip)) (right_of old (slice_get l.code.instructions old.ip))
+WorksAfter l d v lent old AtJoin = WorksBack l d v.cells lent old
+WorksAfter l d v lent old (Ended a) = (lent ≡ []) × IsAnswer l.code.laid v.cells d.ty d.owed a

@@ -1,0 +1,43 @@
+//! The end of a task that found all chunks drawn.
+
+ghost use Rattle.std.specs.Prelude.{◌≡◌, ◌≤◌, []};
+ghost use Rattle.crossbeam_deque.specs.Handles.{worker_deque, worker_view};
+ghost use Rattle.gib_arena.specs.Passes.{view, IsOf};
+ghost use Rattle.gib_pool.specs.Lent.{Lends};
+ghost use Rattle.gib_pool.specs.Mine.{IsMine};
+ghost use Rattle.gib_pool.specs.Frames.{lent_of, AreHere};
+
+use crate::back::settle;
+use crate::forks::Forks;
+use gib_arena::{Arena, Pass};
+use gib_frame::Frame;
+use std::sync::Wait;
+
+/// Takes the passes of all frames back, the newest first, so that none is out; what their sides answered is dropped.
+pub fn drain_frames<'a, R: Wait>(
+    rt: &R,
+    arena: &'a Arena,
+    pass: &mut Pass,
+    frames: &mut Vec<Option<Frame>>,
+    forks: &mut Forks<'a>,
+    here: &mut u32,
+)
+    requires own { IsOf arena.now pass.old }
+    requires lends { Lends pass.old (lent_of frames.old.items) }
+    requires mine { IsMine forks.old }
+    requires here { AreHere (lent_of frames.old.items) here.old (worker_view forks.old).mine }
+    ensures own { IsOf arena.entry.now pass.new }
+    ensures lends { Lends pass.new [] }
+    ensures path { (view pass.new).branch.path ≡ (view pass.old).branch.path }
+    ensures seen { ((view pass.old).holding.seen ≤ (view pass.new).holding.seen) × ((view pass.new).branch.limit ≡ (view pass.old).branch.limit) }
+    ensures mine { IsMine forks.new × (worker_deque forks.new ≡ worker_deque forks.old) }
+{
+    'frames: while let Some(held) = frames.pop() {
+        match held {
+            None => {}
+            Some(frame) => {
+                let _ = settle(rt, arena, pass, &frame, forks, here);
+            }
+        }
+    }
+}

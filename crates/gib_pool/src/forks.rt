@@ -1,0 +1,100 @@
+//! The forks of one worker, which others may steal.
+
+ghost use Rattle.std.specs.Prelude.{◌≡◌, true, false, [], ◌∷◌, ◌++◌, List, map, IfOk, IfErr, IfSome, IfNone};
+ghost use Rattle.crossbeam_deque.specs.Handles.{IsPassOf, stealer_deque, worker_deque, worker_view, view};
+ghost use Rattle.gib_pool.specs.Mine.{IsMine};
+ghost use Rattle.gib_pool.specs.Stacks.{own, guest, due_of};
+
+use crossbeam_deque::protocol::{Outcome, Protocol};
+use crossbeam_deque::{Pass, Steal, Stealer, Worker};
+use gib_frame::{Due, Task};
+use std::alloc::Global;
+use std::collections::LinkedList;
+
+/// What a worker has pushed and not popped, the oldest first. Contracts speak of it; no value of it is made.
+pub struct Stack {
+    pub owner: bool,
+    pub mine: LinkedList<Due>,
+}
+
+/// The rule of a deque of forks: its owner knows what it pushed and did not pop.
+pub struct Stacking;
+
+impl<'a> Protocol<Task<'a>, Stack> for Stacking {
+    ghost use Rattle.std.specs.Prelude.{[]};
+    ghost use Rattle.gib_pool.specs.Stacks.{own, guest, Stacked};
+
+    ghost holds = { Stacked };
+
+    ghost first = { own [] };
+
+    ghost guest = { guest };
+}
+
+/// What the owner knows after a push.
+pub struct Push;
+
+impl<'a> Outcome<Task<'a>, Stack> for Push {
+    ghost use Rattle.gib_pool.specs.Stacks.{Pushed};
+
+    ghost then = { Pushed };
+}
+
+/// What the owner knows after a pop.
+pub struct Pop;
+
+impl<'a> Outcome<Task<'a>, Stack> for Pop {
+    ghost use Rattle.gib_pool.specs.Stacks.{Popped};
+
+    ghost then = { Popped };
+}
+
+/// What another worker knows after a steal.
+pub struct Take;
+
+impl<'a> Outcome<Task<'a>, Stack> for Take {
+    ghost use Rattle.gib_pool.specs.Stacks.{Stole};
+
+    ghost then = { Stole };
+}
+
+/// The forks of a worker, in its own hands.
+pub type Forks<'a> = Worker<Task<'a>, Global, Stack, Stacking>;
+
+/// The forks of a worker, for others to steal.
+pub type Thief<'a> = Stealer<Task<'a>, Global, Stack, Stacking>;
+
+/// What a thief takes to a deque.
+pub type Loot<'a> = Pass<Task<'a>, Stack>;
+
+/// Offers a task to whoever steals it.
+///
+/// # Errors
+///
+/// Want of memory; the task comes back.
+pub fn push_fork<'a>(forks: &mut Forks<'a>, task: Task<'a>) -> Result<(), Task<'a>>
+    requires { IsMine forks.old }
+    ensures same { IsMine forks.new × (worker_deque forks.new ≡ worker_deque forks.old) }
+    ensures ok { IfOk result (λ _. worker_view forks.new ≡ own ((worker_view forks.old).mine ++ due_of task.entry ∷ [])) }
+    ensures err { IfErr result (λ t. (t ≡ task.entry) × (worker_view forks.new ≡ worker_view forks.old)) }
+{
+    forks.push_as::<Push>(task)
+}
+
+/// The task that was pushed last and not popped, where none was stolen since.
+pub fn take_back<'a>(forks: &mut Forks<'a>) -> Option<Task<'a>>
+    requires { IsMine forks.old }
+    ensures same { IsMine forks.new × (worker_deque forks.new ≡ worker_deque forks.old) }
+    ensures some { IfSome result (λ t. (worker_view forks.old).mine ≡ (worker_view forks.new).mine ++ due_of t ∷ []) }
+    ensures none { IfNone result (worker_view forks.new ≡ worker_view forks.old) }
+{
+    forks.pop_as::<Pop>()
+}
+
+/// The oldest task of another worker, where there is one.
+pub fn steal_fork<'a>(thief: &Thief<'a>, pass: &mut Loot<'a>) -> Steal<Task<'a>>
+    requires { IsPassOf (stealer_deque thief.now) pass.old × (view pass.old ≡ guest) }
+    ensures { IsPassOf (stealer_deque thief.now) pass.new × (view pass.new ≡ guest) }
+{
+    thief.steal_as::<Take>(pass)
+}

@@ -1,0 +1,43 @@
+//! A worker's task keeps the law of a task over the bytes of the worker's own pass: functions whose contracts are the laws.
+
+ghost use Rattle.std.specs.Prelude.{◌≡◌, ◌<◌, ◌∷◌, ℕ, List, [], Option, Some};
+ghost use Rattle.gib_mem.specs.Memory.{IsBounded, Memory, Store};
+ghost use Rattle.gib_core.specs.LoweredParts.{IsWhole, LoweredParts};
+ghost use Rattle.gib_core.specs.Parts.{core_of};
+ghost use Rattle.gib_machine.specs.Machine.{State, Waiting, next, side_start};
+ghost use Rattle.gib_weave.specs.Owing.{Debt};
+ghost use Rattle.gib_weave.specs.Places.{IsSmall};
+ghost use Rattle.gib_weave.specs.Sound.{SideSafe};
+ghost use Rattle.gib_arena.specs.declared.memory.Pass.{Pass};
+ghost use Rattle.gib_arena.specs.Passes.{view};
+ghost use Rattle.gib_arena.specs.Steps.{split_left, split_right, joined_view, saw};
+ghost use Rattle.gib_arena.specs.Sums.{times_path};
+ghost use Rattle.gib_frame.specs.declared.due.Due.{Due};
+ghost use Rattle.gib_pool.specs.Lent.{Lends, path};
+ghost use Rattle.gib_pool.specs.Turn.{Works, WorksAfter, Wider};
+
+/// Who begins a right side owes what it owes, with no right sides of its own.
+pub fn a_side_begins()
+    ensures { (l : LoweredParts) (d : Debt) (s : Store) (w : Waiting) → IsSmall s → SideSafe (core_of l.core) l.code d s w → Works l d s (side_start l.code w) [] }
+{}
+
+/// A split and a join of its pass leave a worker as it was.
+pub fn a_wider_pass_keeps()
+    ensures { (l : LoweredParts) (d : Debt) (s r : Store) (m : State) (lent : List (Option Due)) → Wider s r → Works l d s m lent → Works l d r m lent }
+{}
+
+/// Each turn keeps a worker: what it gets is known, what it puts is fresh, each right side that it leaves is safe in the pass that
+/// was split for it, and its answer is what it owed.
+pub fn each_turn_keeps()
+    ensures { (l : LoweredParts) (d : Debt) (v : Memory) (m : State) (lent : List (Option Due)) → IsWhole l.core l.code → IsBounded v → Works l d v.cells m lent → WorksAfter l d v lent m (next l.code m) }
+{}
+
+/// A split lends a pass; a join with the newest takes it back; where none is lent, none is out.
+pub fn passes_come_back()
+    ensures more { (p p' : Pass) (e : Due) (lent : List (Option Due)) → p'.seat.table_id ≡ p.seat.table_id → view p' ≡ split_left (view p) → view e.pass.value ≡ split_right (view p)
+        → e.pass.value.seat.table_id ≡ p.seat.table_id → Lends p lent → Lends p' (Some e ∷ lent) }
+    ensures it { (p : Pass) (e : Due) (lent : List (Option Due)) → Lends p (Some e ∷ lent) → 0 < times_path (path e) (view p).branch.out }
+    ensures less { (p q p' : Pass) (n : ℕ) (e : Due) (lent : List (Option Due)) → p'.seat.table_id ≡ p.seat.table_id → view p' ≡ saw (joined_view (view p) (view q)) n
+        → (view q).branch.path ≡ path e → (view q).branch.out ≡ [] → Lends p (Some e ∷ lent) → Lends p' lent }
+    ensures none { (p : Pass) → Lends p [] → (view p).branch.out ≡ [] }
+{}

@@ -1,9 +1,0 @@
-use Rattle.std.proofs.Common.{sym}
-use Rattle.gib_print.proofs.Examples.{read_typed, names_held}
-use Rattle.gib_print.proofs.tests.read.Goals as goal
-
-pub write_text-requires-clause-typed : goal.write_text-requires-clause-typed
-write_text-requires-clause-typed c = read_typed c.in_ok-layouts.layouts c.in_ok-types.types c.args.ty c.args.bytes.now c.in-Ok-read_image.value (sym c.in_ok-layouts.ensures.table) c.in-Ok-read_image.ensures.reads
-
-pub write_text-requires-clause-names : goal.write_text-requires-clause-names
-write_text-requires-clause-names c = names_held c.in_ok-types.types c.in-Ok.names c.in_ok-types.ensures c.in-Ok.ensures
