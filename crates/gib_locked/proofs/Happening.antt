@@ -4,17 +4,24 @@ use lib.ListN.{get_or}
 use Rattle.std.proofs.lemmas.List.{length-take-le, replicate-append-replicate}
 use Rattle.std.proofs.Math.Seq.{take-length, take-suc}
 use Rattle.gib_types.specs.Tree.{Datum}
+use Rattle.gib_code.specs.Program.{CodeTree}
 use Rattle.gib_core.specs.LoweredParts.{LoweredParts}
+use Rattle.gib_core.specs.Meaning.{core_run}
+use Rattle.gib_core.specs.Parts.{core_of}
+use Rattle.gib_mem.specs.Memory.{Memory}
+use Rattle.gib_code.specs.declared.answer.Answer.{Answer}
 use Rattle.gib_weave.specs.declared.event.Event.{Event as TaskEvent}
 use Rattle.gib_weave.specs.declared.task.WeaveFault.{WeaveFault}
 use Rattle.gib_weave.specs.declared.task.WeaveFault.TheVariants as fault
 use Rattle.gib_weave.specs.Applied.{Applied, DrawsNow, event_of}
-use Rattle.gib_weave.specs.Weave.{Enabled, Event, Legal, Next, Weave, none}
-use Rattle.gib_weave.specs.Woven.{IsSoundOn, WeaveParts, weave_of}
+use Rattle.gib_weave.specs.Sound.{IsAnswer}
+use Rattle.gib_weave.specs.Weave.{Enabled, Event, Finished, Legal, Next, Weave, none, task}
+use Rattle.gib_weave.specs.Woven.{IsMeant, IsSoundOn, WeaveParts, weave_of}
 use Rattle.gib_locked.specs.Lines.{counted, counted_out}
-use Rattle.gib_locked.specs.Replays.{Goes, IsRefused, StopsAmong, StopsAt}
-use Rattle.gib_locked.specs.Run.{Leads}
+use Rattle.gib_locked.specs.Replays.{Goes, IsAnswered, IsLeftOpen, IsNoEnd, IsRefused, StopsAmong, StopsAt}
+use Rattle.gib_locked.specs.Run.{HasEnded, Leads}
 use Rattle.gib_locked.specs.declared.journal.Line.{Line}
+use Rattle.gib_locked.specs.declared.replay_fault.ReplayFault.{ReplayFault}
 use Rattle.gib_locked.proofs.LinesKeep.{counted_append}
 use Rattle.gib_locked.proofs.Runs.{legal_snoc, refused, still_sound}
 
@@ -43,7 +50,7 @@ pub goes_again : (start w w' : WeaveParts) (es : List Event) (k : ℕ) (e : Even
     → Goes start (es ++ replicate k e) w → Goes start (es ++ replicate (k + 1) e) w'
 goes_again start w w' es k e next same keep h = subst (λ xs. Goes start xs w') (sym (again es k e)) (goes_on start w w' (es ++ replicate k e) e next same keep h)
 
-is_refused : (w w' : WeaveParts) (e : Event) (f : WeaveFault) → Applied w.lowered.code (weave_of w) e (weave_of w') (Err f) → w'.lowered ≡ w.lowered → IsRefused w' e f
+is_refused : (w w' : WeaveParts) (e : Event) (f : WeaveFault) → Applied w.lowered.code (weave_of w) e (weave_of w') (Err f) → w'.lowered ≡ w.lowered → IsRefused w'.lowered.code (weave_of w') e f
 is_refused w w' e fault.Memory h same = tt
 is_refused w w' e fault.NotNow h same = λ on. h.1 (subst₂ (λ (l : LoweredParts) v. Enabled l.code v e) same h.0 on)
 is_refused w w' e fault.Full h same = (
@@ -83,7 +90,7 @@ pub leads_all : (start w : WeaveParts) (ls : List Line) (k : ℕ) → k ≡ leng
 leads_all start w ls k all h = subst (λ xs. Leads start xs w) (ap (λ n. take n ls) all ∙ take-length ls) h
 
 pub stops_at : (start w w' : WeaveParts) (ls : List Line) (k count : ℕ) (line : Line) (e : TaskEvent) (f : WeaveFault) → k < length ls → line ≡ get_or ls k line → counted line ≡ replicate count (event_of e) → Leads start (take k ls) w
-    → ((st : WeaveParts) (es : List Event) → Goes st es w → StopsAmong st es (event_of e) count w' f) → StopsAt start ls (k + 3) f
+    → ((st : WeaveParts) (es : List Event) → Goes st es w → StopsAmong st es (event_of e) count w' f) → StopsAt start.lowered.code (weave_of start) ls (k + 3) f
 stops_at start w w' ls k count line e f lt is times h go =
     let s = go start (counted_out (take k ls)) (goes_of start w (take k ls) h) in
     record {
@@ -94,11 +101,11 @@ stops_at start w w' ls k count line e f lt is times h go =
       number_is = ap (λ n. n + 3) (sym (length-take-le k ls (omega (arith, lt))));
       made = replicate s.made (event_of e);
       event = event_of e;
-      left = replicate (count - s.made - 1) (event_of e);
-      events_are = times ∙ parts s.made (s.fewer);
-      weave = w';
-      goes = s.goes;
-      refused = s.refused;
+      rest = replicate (count - s.made - 1) (event_of e);
+      events_are = times ∙ parts s.made s.fewer;
+      weave = weave_of w';
+      legal = s.goes.legal;
+      refused = subst (λ (l : LoweredParts). IsRefused l.code (weave_of w') (event_of e) f) s.goes.lowered s.refused;
     }
   where
     cut : (ls : List Line) (k : ℕ) (d : Line) → k < length ls → ls ≡ take k ls ++ get_or ls k d ∷ drop (suc k) ls
@@ -111,3 +118,22 @@ stops_at start w w' ls k count line e f lt is times h go =
       where
         sum : (m : ℕ) → m < count → count ≡ m + suc (count - m - 1)
         sum m less = omega (arith, less)
+
+pub left_open : (start w : WeaveParts) (ls : List Line) → Leads start ls w → (HasEnded w → ⊥) → IsLeftOpen start.lowered.code (weave_of start) ls
+left_open start w ls h on = record { weave = weave_of w; legal = h.legal; goes_on = on }
+
+-- From a weave that is the start of a root.
+pub no_end : (start : WeaveParts) (code : CodeTree) (v : Weave) (ls : List Line) (f : ReplayFault) → start.lowered.code ≡ code → weave_of start ≡ v → IsNoEnd start.lowered.code (weave_of start) ls f → IsNoEnd code v ls f
+no_end start code v ls f a b h = subst₂ (λ c w. IsNoEnd c w ls f) a b h
+
+pub answered : (start w : WeaveParts) (code : CodeTree) (v : Weave) (ls : List Line) (memory : Memory) (a : Answer) → start.lowered.code ≡ code → weave_of start ≡ v → Leads start ls w → (task w.tasks 0).stage ≡ Finished a → memory ≡ (weave_of w).memory
+    → IsAnswered code v ls memory a
+answered start w code v ls memory a same is h ends left = record { weave = weave_of w; legal = subst₂ (λ c x. Legal c x (counted_out ls) (weave_of w)) same is h.legal; memory_is = sym left; root = ends }
+
+pub meant : (start w : WeaveParts) (lowered : LoweredParts) (ls : List Line) (depth level : ℕ) (d : Datum) (memory : Memory) (a : Answer) → start.lowered ≡ lowered → Leads start ls w → IsSoundOn lowered depth level d (weave_of start)
+    → ((depth level : ℕ) (d : Datum) → IsSoundOn w.lowered depth level d (weave_of w) → IsMeant w.lowered depth d (weave_of w) a) → memory ≡ (weave_of w).memory
+    → IsAnswer lowered.code.laid memory.cells (core_of lowered.core).main.result (core_run (core_of lowered.core) depth d) a
+meant start w lowered ls depth level d memory a same h s means left =
+    let kept = h.sound depth level d (subst (λ l. IsSoundOn l depth level d (weave_of start)) (sym same) s) in
+    let m : IsMeant lowered depth d (weave_of w) a = subst (λ l. IsMeant l depth d (weave_of w) a) (h.lowered ∙ same) (means depth level d (subst (λ l. IsSoundOn l depth level d (weave_of w)) (sym h.lowered) kept)) in
+    subst (λ (v : Memory). IsAnswer lowered.code.laid v.cells (core_of lowered.core).main.result (core_run (core_of lowered.core) depth d) a) (sym left) m

@@ -8,6 +8,7 @@ mod held;
 mod journal;
 mod journal_fault;
 mod line;
+mod loaded;
 mod read;
 mod replay_fault;
 mod replaying;
@@ -17,6 +18,7 @@ mod write;
 
 pub use journal::{Journal, Line, Lines};
 pub use journal_fault::JournalFault;
+pub use loaded::{Replayed, replay_loaded};
 pub use read::read_journal;
 pub use replay_fault::ReplayFault;
 pub use replaying::replay;
