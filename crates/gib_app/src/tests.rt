@@ -12,6 +12,8 @@ fn name<'a>(document: Document<'a>) -> &'a str {
     match document {
         Document::BuiltIn(_) => "(built in)",
         Document::Named(name) => name,
+        Document::MadeSource(_) => "(a source)",
+        Document::MadeInput(_, _) => "(an input)",
     }
 }
 
@@ -25,6 +27,7 @@ fn command(job: Job) -> &'static str {
         Job::Code => "code",
         Job::Pack => "pack",
         Job::Show => "show",
+        Job::Gen => "gen",
     }
 }
 
