@@ -150,15 +150,22 @@ fn show_command<'a>(alloc: Global) -> Result<Command<'a>, AllocError>
         .arg(skips(alloc))
 }
 
-/// `gen NUMBER LEVELS SOURCE INPUT [--depth N] [--chunks N] [--skips]`.
-fn gen_command<'a>(alloc: Global) -> Result<Command<'a>, AllocError>
-    ensures { IfOk result (λ command. app_of command ≡ gen_app) }
+/// `gen` on what has to be there: a number, levels, and the names of a source and an input.
+fn on_made<'a>(alloc: Global) -> Result<Command<'a>, AllocError>
+    ensures { IfOk result (λ command. app_of command ≡ with_rule (with_rule (with_rule (with_rule (new_app (codes "gen")) (numeral (codes "number") 0 2147483647)) (numeral (codes "levels") 0 18)) (positional (codes "source"))) (positional (codes "input"))) }
 {
     Command::new(alloc, "gen")
         .arg(numeral(alloc, "number", 0, 2_147_483_647))?
         .arg(numeral(alloc, "levels", 0, 18))?
         .arg(positional(alloc, "source"))?
-        .arg(positional(alloc, "input"))?
+        .arg(positional(alloc, "input"))
+}
+
+/// `gen NUMBER LEVELS SOURCE INPUT [--depth N] [--chunks N] [--skips]`.
+fn gen_command<'a>(alloc: Global) -> Result<Command<'a>, AllocError>
+    ensures { IfOk result (λ command. app_of command ≡ gen_app) }
+{
+    on_made(alloc)?
         .arg(depth(alloc))?
         .arg(chunks(alloc))?
         .arg(skips(alloc))

@@ -4,7 +4,7 @@ ghost use Rattle.std.specs.Prelude.{◌≡◌, None, Some, is_some, option_map, 
 ghost use Rattle.clap.specs.Walk.{rows_of};
 ghost use Rattle.clap.specs.Simple.{subcommand_rows_of};
 ghost use Rattle.clap.specs.Matches.{found_of};
-ghost use Rattle.gib_app.specs.Words.{file_of, flag_of, number_of, number_or as number_asked, byte_or as byte_asked, made_requested, options_of, planned, requested, usual as usual_options, word_of};
+ghost use Rattle.gib_app.specs.Words.{file_of, flag_of, number_of, number_or as number_asked, byte_or as byte_asked, made_requested, options_of, planned, read_requested, requested, usual as usual_options, word_of};
 ghost use Rattle.gib_app.specs.Words.{NoTarget, AtPlace, ByOption};
 ghost use Rattle.gib_app.specs.Kept.{document_of, plan_of};
 
@@ -179,12 +179,11 @@ fn to_make<'a>(matches: &ArgMatches<'a>) -> Option<Plan<'a>>
     })
 }
 
-/// What the matches of the command with this name ask for.
-fn command_plan<'a>(name: &str, matches: &ArgMatches<'a>) -> Option<Plan<'a>>
-    ensures { option_map plan_of result ≡ requested name.now (rows_of (found_of matches.now)) }
+/// What the matches of a command whose files are read ask for, by its name.
+fn read_plan<'a>(name: &str, matches: &ArgMatches<'a>) -> Option<Plan<'a>>
+    ensures { option_map plan_of result ≡ read_requested name.now (rows_of (found_of matches.now)) }
 {
     match name {
-        "gen" => to_make(matches),
         "run" => to_option(matches, Job::Run, "input", "image"),
         "plain" => on_both(matches, Job::Plain, "input"),
         "check" => on_source(matches, Job::Check),
@@ -193,6 +192,16 @@ fn command_plan<'a>(name: &str, matches: &ArgMatches<'a>) -> Option<Plan<'a>>
         "pack" => to_target(matches, Job::Pack, "text", "target"),
         "show" => on_both(matches, Job::Show, "file"),
         _ => None,
+    }
+}
+
+/// What the matches of the command with this name ask for.
+fn command_plan<'a>(name: &str, matches: &ArgMatches<'a>) -> Option<Plan<'a>>
+    ensures { option_map plan_of result ≡ requested name.now (rows_of (found_of matches.now)) }
+{
+    match name {
+        "gen" => to_make(matches),
+        _ => read_plan(name, matches),
     }
 }
 
