@@ -13,10 +13,10 @@ use Rattle.clap.specs.Takes.{built_takes, default_passes, entered_passes, is_giv
 use Rattle.clap.proofs.OnLiterals.{clap_on_literals}
 use Rattle.clap.proofs.WalkLemmas.{both}
 use Rattle.gib_app.specs.declared.plan.Job.{Job}
-use Rattle.gib_app.specs.declared.plan.Job.TheVariants.{Run, Plain, Check, Core, Code, Pack, Show}
+use Rattle.gib_app.specs.declared.plan.Job.TheVariants.{Run, Plain, Check, Core, Code, Pack, Show, Trace, Replay}
 use Rattle.gib_app.specs.Plan.{Named}
-use Rattle.gib_app.specs.Words.{Target, NoTarget, AtPlace, ByOption, Form, app_for, asked_by_command, command_set, file_of, gen_app, made_requested, planned, requested, second_in, target_in, with_value, word_of}
-use Rattle.gib_app.specs.Words.{check_form, code_form, core_form, pack_form, plain_form, run_form, show_form}
+use Rattle.gib_app.specs.Words.{Target, NoTarget, AtPlace, ByOption, Form, app_for, asked_by_command, command_set, file_of, gen_app, made_requested, planned, requested, file_in, target_in, with_value, word_of}
+use Rattle.gib_app.specs.Words.{check_form, code_form, core_form, pack_form, plain_form, replay_form, run_form, show_form, trace_form}
 use Rattle.gib_app.proofs.Filling.{AllFilled, AllKnown, AllOf, Filled, Known, is_valued, level_filled}
 
 -- ---- Rows
@@ -123,9 +123,9 @@ module _ (s : Shape) (words : List Text) (is : AllOf (Known s.rules) s.rules) (s
   source_there : (id : Text) → Reads s id → is_some (file_of id rows) ≡ true
   source_there id reads = mapped Named (word_of id rows) (read_there id reads)
 
-  second_there : (o : Option Text) → MayRead s o → is_some (second_in o rows) ≡ true
-  second_there None reads = refl
-  second_there (Some id) reads = mapped Some (file_of id rows) (source_there id reads)
+  file_there : (o : Option Text) → MayRead s o → is_some (file_in o rows) ≡ true
+  file_there None reads = refl
+  file_there (Some id) reads = mapped Some (file_of id rows) (source_there id reads)
 
   target_there : (t : Target) → MayWrite s t → is_some (target_in t rows) ≡ true
   target_there NoTarget reads = refl
@@ -133,9 +133,11 @@ module _ (s : Shape) (words : List Text) (is : AllOf (Known s.rules) s.rules) (s
   target_there (ByOption id) reads = refl
 
   -- One lemma for all forms.
-  plan_there : (job : Job) (second : Option Text) (target : Target) → Reads s (codes "source") → MayRead s second → MayWrite s target → is_some (planned job second target rows) ≡ true
-  plan_there job second target source other written =
-      joined _ (target_in target rows) (joined _ (second_in second rows) (mapped _ (file_of (codes "source") rows) (source_there (codes "source") source)) (second_there second other)) (target_there target written)
+  plan_there : (job : Job) (second third : Option Text) (target : Target) → Reads s (codes "source") → MayRead s second → MayRead s third → MayWrite s target → is_some (planned job second third target rows) ≡ true
+  plan_there job second third target source other further written =
+      let first = mapped _ (file_of (codes "source") rows) (source_there (codes "source") source) in
+      let both = joined _ (file_in second rows) first (file_there second other) in
+      joined _ (target_in target rows) (joined _ (file_in third rows) both (file_there third further)) (target_there target written)
 
   -- The same where the files are made.
   made_there : Reads s (codes "source") → Reads s (codes "input") → is_some (made_requested rows) ≡ true
@@ -145,40 +147,48 @@ module _ (s : Shape) (words : List Text) (is : AllOf (Known s.rules) s.rules) (s
 
 run_asks : Asks (built_form run_form)
 unfolding clap_on_literals
-run_asks words passes = plan_there (built_form run_form) words ((refl, refl), ((refl, refl), ((refl, refl), ((refl, refl), ((refl, refl), ((refl, refl), tt)))))) refl passes Run (Some (codes "input")) (ByOption (codes "image")) (_, refl, refl, refl) (_, refl, refl, refl) tt
+run_asks words passes = plan_there (built_form run_form) words ((refl, refl), ((refl, refl), ((refl, refl), ((refl, refl), ((refl, refl), ((refl, refl), ((refl, refl), ((refl, refl), tt)))))))) refl passes Run (Some (codes "input")) None (ByOption (codes "image")) (_, refl, refl, refl) (_, refl, refl, refl) tt tt
 
 plain_asks : Asks (built_form plain_form)
 unfolding clap_on_literals
-plain_asks words passes = plan_there (built_form plain_form) words ((refl, refl), ((refl, refl), ((refl, refl), tt))) refl passes Plain (Some (codes "input")) NoTarget (_, refl, refl, refl) (_, refl, refl, refl) tt
+plain_asks words passes = plan_there (built_form plain_form) words ((refl, refl), ((refl, refl), ((refl, refl), tt))) refl passes Plain (Some (codes "input")) None NoTarget (_, refl, refl, refl) (_, refl, refl, refl) tt tt
 
 check_asks : Asks (built_form check_form)
 unfolding clap_on_literals
-check_asks words passes = plan_there (built_form check_form) words ((refl, refl), tt) refl passes Check None NoTarget (_, refl, refl, refl) tt tt
+check_asks words passes = plan_there (built_form check_form) words ((refl, refl), tt) refl passes Check None None NoTarget (_, refl, refl, refl) tt tt tt
 
 core_asks : Asks (built_form core_form)
 unfolding clap_on_literals
-core_asks words passes = plan_there (built_form core_form) words ((refl, refl), ((refl, refl), ((refl, refl), tt))) refl passes Core None NoTarget (_, refl, refl, refl) tt tt
+core_asks words passes = plan_there (built_form core_form) words ((refl, refl), ((refl, refl), ((refl, refl), tt))) refl passes Core None None NoTarget (_, refl, refl, refl) tt tt tt
 
 code_asks : Asks (built_form code_form)
 unfolding clap_on_literals
-code_asks words passes = plan_there (built_form code_form) words ((refl, refl), ((refl, refl), tt)) refl passes Code None NoTarget (_, refl, refl, refl) tt tt
+code_asks words passes = plan_there (built_form code_form) words ((refl, refl), ((refl, refl), tt)) refl passes Code None None NoTarget (_, refl, refl, refl) tt tt tt
 
 pack_asks : Asks (built_form pack_form)
 unfolding clap_on_literals
-pack_asks words passes = plan_there (built_form pack_form) words ((refl, refl), ((refl, refl), ((refl, refl), tt))) refl passes Pack (Some (codes "text")) (AtPlace (codes "target")) (_, refl, refl, refl) (_, refl, refl, refl) (_, refl, refl, refl)
+pack_asks words passes = plan_there (built_form pack_form) words ((refl, refl), ((refl, refl), ((refl, refl), tt))) refl passes Pack (Some (codes "text")) None (AtPlace (codes "target")) (_, refl, refl, refl) (_, refl, refl, refl) tt (_, refl, refl, refl)
 
 show_asks : Asks (built_form show_form)
 unfolding clap_on_literals
-show_asks words passes = plan_there (built_form show_form) words ((refl, refl), ((refl, refl), ((refl, refl), tt))) refl passes Show (Some (codes "file")) NoTarget (_, refl, refl, refl) (_, refl, refl, refl) tt
+show_asks words passes = plan_there (built_form show_form) words ((refl, refl), ((refl, refl), ((refl, refl), tt))) refl passes Show (Some (codes "file")) None NoTarget (_, refl, refl, refl) (_, refl, refl, refl) tt tt
+
+trace_asks : Asks (built_form trace_form)
+unfolding clap_on_literals
+trace_asks words passes = plan_there (built_form trace_form) words ((refl, refl), ((refl, refl), ((refl, refl), ((refl, refl), ((refl, refl), ((refl, refl), ((refl, refl), ((refl, refl), tt)))))))) refl passes Trace (Some (codes "input")) None (AtPlace (codes "journal")) (_, refl, refl, refl) (_, refl, refl, refl) tt (_, refl, refl, refl)
+
+replay_asks : Asks (built_form replay_form)
+unfolding clap_on_literals
+replay_asks words passes = plan_there (built_form replay_form) words ((refl, refl), ((refl, refl), ((refl, refl), ((refl, refl), tt)))) refl passes Replay (Some (codes "input")) (Some (codes "journal")) (ByOption (codes "image")) (_, refl, refl, refl) (_, refl, refl, refl) (_, refl, refl, refl) tt
 
 gen_asks : Asks built_gen
 unfolding clap_on_literals
 gen_asks words passes =
-    made_there built_gen words ((refl, refl), ((refl, refl), ((refl, refl), ((refl, refl), ((refl, refl), ((refl, refl), ((refl, refl), tt))))))) refl passes (_, refl, refl, refl) (_, refl, refl, refl)
+    made_there built_gen words ((refl, refl), ((refl, refl), ((refl, refl), ((refl, refl), ((refl, refl), ((refl, refl), ((refl, refl), ((refl, refl), ((refl, refl), tt))))))))) refl passes (_, refl, refl, refl) (_, refl, refl, refl)
 
 all_ask : AllOf Asks (built command_set).subs
 unfolding clap_on_literals
-all_ask = (run_asks, (plain_asks, (check_asks, (core_asks, (code_asks, (pack_asks, (show_asks, (gen_asks, tt))))))))
+all_ask = (run_asks, (plain_asks, (check_asks, (core_asks, (code_asks, (pack_asks, (show_asks, (trace_asks, (replay_asks, (gen_asks, tt))))))))))
 
 needs_command : (built command_set).top.subcommand_required ≡ true
 unfolding clap_on_literals

@@ -1,21 +1,18 @@
 -- Items that are added at an end, in turn.
-use Rattle.std.proofs.Common.{◌≡◌, ◌∙◌, refl, ℕ, zero, suc, List, [], ◌∷◌, ◌++◌, length, take, Option, Some, None, IfSome, Result, Ok, Err, OnOk, OnErr, subst, sym, ap, append_assoc, codes, option_map, option_to_list}
+use Rattle.std.proofs.Common.{◌≡◌, ◌∙◌, refl, ℕ, zero, suc, List, [], ◌∷◌, ◌++◌, length, take, Option, Some, None, IfSome, Result, Ok, Err, OnOk, OnErr, subst, sym, ap, append_assoc, codes}
 use Rattle.gib_edge.specs.Causes.{HasCause, Appends, AppendsPart}
 use Rattle.std.specs.Option.{option_map_or}
 use Rattle.gib_edge.specs.Views.{Call, WriteOf, SinkView}
-use Rattle.gib_app.specs.declared.plan.Input.{Input as KeptInput}
-use Rattle.gib_app.specs.Formats.{Input}
-use Rattle.gib_app.specs.Kept.{document_of, input_of}
-use Rattle.gib_app.specs.Plan.{Document, Plan}
+use Rattle.gib_app.specs.Plan.{Plan}
 use Rattle.gib_app.specs.Words.{asked}
-use Rattle.gib_app.specs.Calls.{read_calls, input_calls, write_calls, calls_of, calls_asked}
+use Rattle.gib_app.specs.Calls.{write_calls, calls_of, calls_asked}
 use Rattle.gib_app.specs.Lines.{IsPut, line}
 
 take_length : {X : Type 0} (xs : List X) → take (length xs) xs ≡ xs
 take_length [] = refl
 take_length (x ∷ xs) = ap (λ ys. x ∷ ys) (take_length xs)
 
-append_nil : {X : Type 0} (xs : List X) → xs ++ [] ≡ xs
+pub append_nil : {X : Type 0} (xs : List X) → xs ++ [] ≡ xs
 append_nil [] = refl
 append_nil (x ∷ xs) = ap (λ ys. x ∷ ys) (append_nil xs)
 
@@ -73,41 +70,6 @@ is_put (Ok x) before now said ok part cause = record { later = cause.later; none
 is_put (Err e) before now said ok part cause = record { later = cause.later; none = λ e. absurd (some_said said e); whole = λ quiet. absurd (quiet cause.failed); part = part }
 
 -- The calls of a request, by its parts
-
-pub calls_first : (a b : Option (List Call)) (d e : Document) (most : ℕ) (ys : List Call) → d ≡ e → AppendsPart a b (read_calls d most) → AppendsPart a b (read_calls e most ++ ys)
-calls_first a b d e most ys same h =
-    let P : Document → Type 0 = λ x. AppendsPart a b (read_calls x most) in added_front a b (read_calls e most) ys (subst P same h)
-
-pub calls_then : (a b c : Option (List Call)) (d e : Document) (most : ℕ) (ys : List Call) → d ≡ e → Appends a b (read_calls d most) → AppendsPart b c ys → AppendsPart a c (read_calls e most ++ ys)
-calls_then a b c d e most ys same h k =
-    let P : Document → Type 0 = λ x. Appends a b (read_calls x most) in added_part a b c (read_calls e most) ys (subst P same h) k
-
-pub calls_both : (a b c : Option (List Call)) (d e : Document) (most : ℕ) (ys : List Call) → d ≡ e → Appends a b (read_calls d most) → Appends b c ys → Appends a c (read_calls e most ++ ys)
-calls_both a b c d e most ys same h k =
-    let P : Document → Type 0 = λ x. Appends a b (read_calls x most) in added_two a b c (read_calls e most) ys (subst P same h) k
-
--- The read of the one input that there is, or none.
-
-module _ (o : Option KeptInput) (is : List Input) (same : option_to_list (option_map input_of o) ≡ is) where
-  pub inputs_none : (a : Option (List Call)) → o ≡ None → Appends a a (input_calls is)
-  inputs_none a e =
-      let P : List Input → Type 0 = λ x. Appends a a (input_calls x) in
-      let Q : Option KeptInput → Type 0 = λ x. option_to_list (option_map input_of x) ≡ is in
-      subst P (subst Q e same) (added_none a)
-
-  pub inputs_whole : (a b : Option (List Call)) (i : KeptInput) → o ≡ Some i → Appends a b (read_calls (document_of i.document) i.most) → Appends a b (input_calls is)
-  inputs_whole a b i e h =
-      let P : List Input → Type 0 = λ x. Appends a b (input_calls x) in
-      let Q : Option KeptInput → Type 0 = λ x. option_to_list (option_map input_of x) ≡ is in
-      let L : List Call → Type 0 = λ x. Appends a b x in
-      subst P (subst Q e same) (subst L (sym (append_nil (read_calls (document_of i.document) i.most))) h)
-
-  pub inputs_part : (a b : Option (List Call)) (i : KeptInput) → o ≡ Some i → AppendsPart a b (read_calls (document_of i.document) i.most) → AppendsPart a b (input_calls is)
-  inputs_part a b i e h =
-      let P : List Input → Type 0 = λ x. AppendsPart a b (input_calls x) in
-      let Q : Option KeptInput → Type 0 = λ x. option_to_list (option_map input_of x) ≡ is in
-      let L : List Call → Type 0 = λ x. AppendsPart a b x in
-      subst P (subst Q e same) (subst L (sym (append_nil (read_calls (document_of i.document) i.most))) h)
 
 pub write_none : (a : Option (List Call)) (o : Option (List ℕ)) → AppendsPart a a (write_calls o)
 write_none a o = added_some a (write_calls o)

@@ -1,28 +1,40 @@
 -- Facts of all jobs, by cases.
-use Rattle.std.proofs.Common.{◌≡◌, Bool, refl, ℕ, ◌<◌, List, [], length, Option, Some, None, ap, ◌⊎◌, inl, inr, ◌≤◌, sym, subst, subst₂, arith}
-use Rattle.std.specs.Option.{option_map_or}
+use Rattle.std.proofs.Common.{◌≡◌, Bool, true, false, cond, refl, ℕ, ◌<◌, List, [], ◌∷◌, length, Option, Some, None, ap, ◌⊎◌, inl, inr, ◌≤◌, sym, subst, subst₂, arith}
+use Rattle.std.specs.Prelude.{nat_lt}
+use Rattle.std.proofs.lemmas.Bool.Decides.{nat_tests}
 use Rattle.gib_types.specs.Tree.{Datum}
 use Rattle.gib_syntax.specs.Tree.{ProgramTree}
-use Rattle.gib_app.specs.declared.input_fault.InputFault.TheVariants as input
+use Rattle.gib_code.specs.declared.answer.Answer.TheVariants as answer
+use Rattle.gib_locked.specs.declared.journal.Line.{Line}
+use Rattle.gib_locked.specs.declared.settings.Settings.{Settings}
 use Rattle.gib_app.specs.declared.made.End.{End as KeptEnd}
 use Rattle.gib_app.specs.declared.made.End.TheVariants as ends
 use Rattle.gib_app.specs.declared.made.Made.{Made}
 use Rattle.gib_app.specs.declared.made.Reason.{Reason}
 use Rattle.gib_app.specs.declared.made.Reason.TheVariants.{Deep, Full}
 use Rattle.gib_app.specs.declared.plan.Job.{Job}
-use Rattle.gib_app.specs.declared.plan.Job.TheVariants.{Run, Plain, Check, Core, Code, Pack, Show, Gen}
+use Rattle.gib_app.specs.declared.plan.Job.TheVariants.{Run, Plain, Check, Core, Code, Pack, Show, Gen, Trace, Replay}
 use Rattle.gib_app.specs.declared.plan.Options.{Options}
-use Rattle.gib_app.specs.Formats.{format_of, limits_of, most_of, with_limits, Accepts, Refuses}
-use Rattle.gib_app.specs.Plan.{Document, Files, Contents}
-use Rattle.gib_app.specs.Causes.{AreGiven}
-use Rattle.gib_app.specs.Running.{IsShownValue}
-use Rattle.gib_app.specs.Jobs.{End, Prints, NoValue, Does, Runs, Sums, without_image}
+use Rattle.gib_app.specs.Formats.{Accepts}
+use Rattle.gib_app.specs.Plan.{Contents}
+use Rattle.gib_app.specs.Replaying.{Happens, IsDeepEnd, IsShownEnd, IsTrace, LacksChunks, OnJournal, journal_in}
+use Rattle.gib_app.specs.Running.{FillsUp, IsShownValue}
+use Rattle.gib_app.specs.Jobs.{End, Prints, NoValue, Does, Replays, Runs, Sums, Traces, run_forks, without_image}
 use Rattle.gib_app.specs.Kept.{EndsBy, file_of}
-use Rattle.gib_app.specs.MachineRun.{LacksValue, IsMachineStop}
-use Rattle.gib_app.specs.Stops.{reason_of, IsRunStop}
-use Rattle.gib_app.specs.declared.stop.Stop.{Stop}
-use Rattle.gib_app.specs.declared.stop.Stop.TheVariants.{Usage, Source, Unread, Input, Memory, Unwritten, Unput}
-use Rattle.gib_app.specs.declared.stop.Stop.TheVariants.{NoValue as Stopped}
+use Rattle.gib_app.specs.MachineRun.{LacksValue}
+use Rattle.gib_app.specs.Workers.{OnlyFull}
+
+-- what the events of a journal lead to, they lead to
+on_happens : (p : ProgramTree) (input bytes : List ℕ) (P : Datum → Settings → List Line → Type 0) → ((v : Datum) (settings : Settings) (lines : List Line) → P v settings lines → Happens p v settings lines) → OnJournal p input bytes P
+    → OnJournal p input bytes (Happens p)
+on_happens p input bytes P f j = record {
+  value = j.value;
+  settings = j.settings;
+  lines = j.lines;
+  is_input = j.is_input;
+  is_journal = j.is_journal;
+  holds = f j.value j.settings j.lines j.holds;
+}
 
 -- what was made was made of a file that is accepted
 pub does_accepts : (job : Job) (o : Options) (p : ProgramTree) (names : List (List ℕ)) (given : Contents) (file : Option (List ℕ)) (e : End) → Does job o p names given file e → Accepts job o.skips p names given
@@ -42,65 +54,72 @@ does_accepts Show o p names given file (NoValue reason) h = absurd h
 does_accepts Gen o p names given file (Prints text) h = (h.1.value, h.1.is_input)
 does_accepts Gen o p names given file (NoValue Deep) h = (h.1.value, h.1.is_input)
 does_accepts Gen o p names given file (NoValue Full) h = (h.1.value, h.1.is_input)
+does_accepts Trace o p names given file (Prints text) h = (h.1.value, h.1.is_input)
+does_accepts Trace o p names given file (NoValue Deep) h = (h.1.value, h.1.is_input)
+does_accepts Trace o p names given file (NoValue Full) h = (h.1.value, h.1.is_input)
+does_accepts Replay o p names given file (Prints text) h = on_happens p given.second (journal_in given) (IsShownEnd p names o.image file text) (λ v settings lines e. inl (e.memory, e.ends_with, e.ended)) h
+does_accepts Replay o p names given file (NoValue Deep) h = on_happens p given.second (journal_in given) (IsDeepEnd p) (λ v settings lines e. inl (e.memory, answer.Deep, e.ended)) h.1
+does_accepts Replay o p names given file (NoValue Full) h = on_happens p given.second (journal_in given) (LacksChunks p) (λ v settings lines e. inr e) h.1
 
 -- a file whose value is shown is not too long
 pub shown_short : (p : ProgramTree) (skips : Bool) (v : Datum) (bytes : List ℕ) → IsShownValue p skips v bytes → length bytes ≤ 268435480
 shown_short p skips v bytes (inl is) = let short = is.short in omega (arith, short)
 shown_short p skips v bytes (inr read) = let few = read.image.formed.few in let long = read.image.formed.long in omega (arith, few, long)
 
--- what is too long is refused
-pub long_refused : (kept : Files) (job : Job) (skips : Bool) (o : List Document) (p : ProgramTree) (names : List (List ℕ)) (given : Contents) → AreGiven kept (with_limits (option_map_or limits_of (format_of job) []) o) given →
-    most_of job < length given.second → Refuses job skips p names given (input.Long (most_of job)) × (Accepts job skips p names given → ⊥)
-long_refused kept Run skips o p names given held many = ((refl, many), λ a. let short = a.1.short in absurd (omega (arith, many, short)))
-long_refused kept Plain skips o p names given held many = ((refl, many), λ a. let short = a.1.short in absurd (omega (arith, many, short)))
-long_refused kept Check skips o p names given held many = absurd (omega (arith, many, ap length held.0))
-long_refused kept Core skips o p names given held many = absurd (omega (arith, many, ap length held.0))
-long_refused kept Code skips o p names given held many = absurd (omega (arith, many, ap length held.0))
-long_refused kept Pack skips o p names given held many = ((refl, inl many), λ a. let short = a.1.short in absurd (omega (arith, many, short)))
-long_refused kept Show skips o p names given held many = (inl (refl, many), λ a. let short = shown_short p skips a.0 given.second a.1 in absurd (omega (arith, many, short)))
-long_refused kept Gen skips o p names given held many = ((refl, many), λ a. let short = a.1.short in absurd (omega (arith, many, short)))
-
--- chunks run out in a run alone, or in one of what was made
-pub full_runs : (job : Job) (o : Options) (p : ProgramTree) (names : List (List ℕ)) (given : Contents) (file : Option (List ℕ)) → Does job o p names given file (NoValue Full) → (job ≡ Run) ⊎ (job ≡ Gen)
-full_runs Run o p names given file h = inl refl
+-- chunks run out in a run, or where a journal leads
+pub full_runs : (job : Job) (o : Options) (p : ProgramTree) (names : List (List ℕ)) (given : Contents) (file : Option (List ℕ)) → Does job o p names given file (NoValue Full) →
+    ((job ≡ Run) ⊎ (job ≡ Gen) ⊎ (job ≡ Trace)) ⊎ (job ≡ Replay)
+full_runs Run o p names given file h = inl (inl refl)
 full_runs Plain o p names given file h = absurd h
 full_runs Check o p names given file h = absurd h
 full_runs Core o p names given file h = absurd h
 full_runs Code o p names given file h = absurd h
 full_runs Pack o p names given file h = absurd h
 full_runs Show o p names given file h = absurd h
-full_runs Gen o p names given file h = inr refl
+full_runs Gen o p names given file h = inl (inr (inl refl))
+full_runs Trace o p names given file h = inl (inr (inr refl))
+full_runs Replay o p names given file h = inr refl
+
+-- with one worker each `par` runs in place
+pub alone_forks : (o : Options) → o.workers ≤ 1 → run_forks o ≡ 0
+alone_forks o one = let few : nat_lt 1 o.workers ≡ false = grind (arith, nat_tests) in ap (λ (b : Bool). cond b o.fork 0) few
+
+-- with more workers forks may be nested
+pub more_forks : (o : Options) → 1 < o.workers → run_forks o ≡ o.fork
+more_forks o more' = let many : nat_lt 1 o.workers ≡ true = grind (arith, nat_tests) in ap (λ (b : Bool). cond b o.fork 0) many
 
 -- a run that lacks a value
-pub lacks_runs : (p : ProgramTree) (names : List (List ℕ)) (o : Options) (input : List ℕ) (why : Reason) → LacksValue p o.skips o.depth o.chunks input why → Runs p names o input None (NoValue why)
-lacks_runs p names o input Deep h = (refl, h)
-lacks_runs p names o input Full h = (refl, h)
 
-pub lacks_sums : (p : ProgramTree) (o : Options) (input : List ℕ) (why : Reason) → LacksValue p o.skips o.depth o.chunks input why → Sums p o input None (NoValue why)
-lacks_sums p o input Deep h = (refl, h)
-lacks_sums p o input Full h = (refl, h)
+at_forks : (p : ProgramTree) (o : Options) (input : List ℕ) (forks : ℕ) → run_forks o ≡ forks → FillsUp p o.skips o.depth forks o.chunks input → FillsUp p o.skips o.depth (run_forks o) o.chunks input
+at_forks p o input forks e h = subst (λ (n : ℕ). FillsUp p o.skips o.depth n o.chunks input) (sym e) h
 
--- a stop of a run, by whether it is for want of a value
+pub lacks_runs : (p : ProgramTree) (names : List (List ℕ)) (o : Options) (input : List ℕ) → run_forks o ≡ 0 → (why : Reason) → LacksValue p o.skips o.depth 0 o.chunks input why → Runs p names o input None (NoValue why)
+lacks_runs p names o input e Deep h = (refl, h)
+lacks_runs p names o input e Full h = (refl, at_forks p o input 0 e h)
 
-pub stop_lacks : (p : ProgramTree) (skips : Bool) (depth chunks : ℕ) (input : List ℕ) (stop : Stop) (why : Reason) → reason_of stop ≡ Some why → IsMachineStop p skips depth chunks input stop → LacksValue p skips depth chunks input why
-stop_lacks p skips depth chunks input Usage why e h = absurd h
-stop_lacks p skips depth chunks input (Source fault) why e h = absurd h
-stop_lacks p skips depth chunks input (Unread name) why e h = absurd h
-stop_lacks p skips depth chunks input (Input fault) why e h = cc
-stop_lacks p skips depth chunks input (Stopped other) why e h = let same : other ≡ why = cc in let P : Reason → Type 0 = LacksValue p skips depth chunks input in subst P same h
-stop_lacks p skips depth chunks input Memory why e h = cc
-stop_lacks p skips depth chunks input (Unwritten name) why e h = absurd h
-stop_lacks p skips depth chunks input Unput why e h = absurd h
+pub lacks_sums : (p : ProgramTree) (o : Options) (input : List ℕ) → run_forks o ≡ 0 → (why : Reason) → LacksValue p o.skips o.depth 0 o.chunks input why → Sums p o input None (NoValue why)
+lacks_sums p o input e Deep h = (refl, h)
+lacks_sums p o input e Full h = (refl, at_forks p o input 0 e h)
 
-pub stop_refuses : (p : ProgramTree) (skips : Bool) (depth chunks : ℕ) (input : List ℕ) (stop : Stop) → reason_of stop ≡ None → IsMachineStop p skips depth chunks input stop → IsRunStop p input stop
-stop_refuses p skips depth chunks input Usage e h = h
-stop_refuses p skips depth chunks input (Source fault) e h = h
-stop_refuses p skips depth chunks input (Unread name) e h = h
-stop_refuses p skips depth chunks input (Input fault) e h = h
-stop_refuses p skips depth chunks input (Stopped why) e h = cc
-stop_refuses p skips depth chunks input Memory e h = h
-stop_refuses p skips depth chunks input (Unwritten name) e h = h
-stop_refuses p skips depth chunks input Unput e h = h
+-- a run by workers whose chunks run out
+
+pub fills_runs : (p : ProgramTree) (names : List (List ℕ)) (o : Options) (input : List ℕ) → run_forks o ≡ o.fork → (why : Reason) → OnlyFull (FillsUp p o.skips o.depth o.fork o.chunks input) why → Runs p names o input None (NoValue why)
+fills_runs p names o input e Deep h = absurd h
+fills_runs p names o input e Full h = (refl, at_forks p o input o.fork e h)
+
+pub fills_sums : (p : ProgramTree) (o : Options) (input : List ℕ) → run_forks o ≡ o.fork → (why : Reason) → OnlyFull (FillsUp p o.skips o.depth o.fork o.chunks input) why → Sums p o input None (NoValue why)
+fills_sums p o input e Deep h = absurd h
+fills_sums p o input e Full h = (refl, at_forks p o input o.fork e h)
+
+pub fills_traces : (p : ProgramTree) (names : List (List ℕ)) (o : Options) (input : List ℕ) (why : Reason) → OnlyFull (FillsUp p o.skips o.depth o.fork o.chunks input) why → Traces p names o input None (NoValue why)
+fills_traces p names o input Deep h = absurd h
+fills_traces p names o input Full h = (refl, h)
+
+-- a replay whose journal leads to where chunks run out
+pub fills_replays : (p : ProgramTree) (names : List (List ℕ)) (image : Bool) (input bytes : List ℕ) (why : Reason) → OnlyFull (OnJournal p input bytes (LacksChunks p)) why →
+    Replays p names image (record { second = input; further = bytes ∷ [] }) None (NoValue why)
+fills_replays p names image input bytes Deep h = absurd h
+fills_replays p names image input bytes Full h = (refl, h)
 
 -- what a job made that makes no file and ends without a value
 pub ends_without : (made : Made) (why : Reason) (P : Option (List ℕ) → End → Type 0) → made.file ≡ None → made.end ≡ ends.NoValue why → P None (NoValue why) → EndsBy (file_of made) made.end P
@@ -108,6 +127,21 @@ ends_without made why P file end' h =
     let none : file_of made ≡ None = cc in
     let E : Option (List ℕ) → KeptEnd → Type 0 = λ f e. EndsBy f e P in
     subst₂ E (sym none) (sym end') h
+
+-- the options of a trace are its settings alone
+trace_without : (p : ProgramTree) (o : Options) (input bytes : List ℕ) → IsTrace p o input bytes → IsTrace p (without_image o) input bytes
+trace_without p o input bytes h = record {
+  value = h.value;
+  settings = h.settings;
+  lines = h.lines;
+  memory = h.memory;
+  ends_with = h.ends_with;
+  is_input = h.is_input;
+  set = record { depth = h.set.depth; chunks = h.set.chunks; fork = h.set.fork; skips = h.set.skips };
+  are = h.are;
+  text_is = h.text_is;
+  ended = h.ended;
+}
 
 -- without a value, an image makes no difference
 pub no_image : (job : Job) (o : Options) (p : ProgramTree) (names : List (List ℕ)) (given : Contents) (file : Option (List ℕ)) (reason : Reason) → Does job o p names given file (NoValue reason) →
@@ -123,3 +157,8 @@ no_image Pack o p names given file reason h = h
 no_image Show o p names given file reason h = h
 no_image Gen o p names given file Deep h = h
 no_image Gen o p names given file Full h = h
+no_image Trace o p names given None Deep h = absurd h.0
+no_image Trace o p names given (Some bytes) Deep h = (trace_without p o given.second bytes h.0, h.1)
+no_image Trace o p names given file Full h = h
+no_image Replay o p names given file Deep h = h
+no_image Replay o p names given file Full h = h

@@ -1,15 +1,12 @@
 -- From the stop of a call to its answer, and from the status that is due to the one that is answered.
-use Rattle.std.proofs.Common.{◌≡◌, ◌∙◌, refl, ap₂, ℕ, List, [], ◌∷◌, ◌++◌, length, Option, Some, None, MatchOption, ◌⊎◌, inl, inr, subst, sym, Bool}
+use Rattle.std.proofs.Common.{◌≡◌, ◌∙◌, refl, ap₂, ℕ, List, [], ◌∷◌, length, Option, Some, None, MatchOption, ◌⊎◌, inl, inr, subst, sym, Bool, false}
 use Rattle.gib_base.specs.Lexed.{Lexed, IsLexed}
 use Rattle.gib_base.specs.declared.token.Token.{Token}
-use Rattle.gib_types.specs.declared.table.Ty.{Ty}
-use Rattle.gib_types.specs.Table.{Table}
 use Rattle.gib_types.specs.Tree.{Datum}
-use Rattle.gib_file.specs.Framed.{File}
 use Rattle.gib_syntax.specs.Tree.{ProgramTree}
 use Rattle.gib_syntax.specs.Spelling.{Places, Derives, IsPlacedProgram, places_of}
 use Rattle.gib_syntax.specs.Declarations.{table_of_program, input_type}
-use Rattle.gib_syntax.specs.Meaning.{Outcome, Gives, Stops, Deep as TooDeep, run}
+use Rattle.gib_syntax.specs.Meaning.{Gives, Stops, Deep as TooDeep, run}
 use Rattle.gib_edge.specs.Causes.{Rose, IsAllOf, Appends, AppendsPart, PutsPieces, PutsSomePieces}
 use Rattle.gib_edge.specs.Views.{Held, Has, Missing, ShelfView, SinkView}
 use Rattle.gib_app.specs.declared.input_fault.InputFault.{InputFault}
@@ -18,27 +15,30 @@ use Rattle.gib_app.specs.declared.status.Status.TheVariants as status
 use Rattle.gib_app.specs.declared.stop.Stop.{Stop}
 use Rattle.gib_app.specs.declared.stop.Stop.TheVariants.{Usage, Source, Unread, Input, NoValue, Memory, Unwritten, Unput}
 use Rattle.gib_app.specs.declared.plan.Job.{Job}
-use Rattle.gib_app.specs.declared.plan.Job.TheVariants.{Run, Plain, Check, Core, Code, Pack, Show, Gen}
+use Rattle.gib_app.specs.declared.plan.Job.TheVariants.{Run, Plain, Check, Core, Code, Pack, Show, Gen, Trace, Replay}
 use Rattle.gib_app.specs.declared.plan.Options.{Options}
 use Rattle.gib_app.specs.declared.made.Reason.{Reason}
 use Rattle.gib_app.specs.declared.made.Reason.TheVariants.{Deep, Full}
 use Rattle.gib_app.specs.Plan.{Document, Write, Plan, Files, bytes_in, Contents}
 use Rattle.gib_app.specs.Writes.{at_reading, with_write, IsStuckIn, IsNamedIn}
 use Rattle.gib_app.specs.Words.{asked}
-use Rattle.gib_app.specs.Running.{IsProgram, IsSource, IsNoProgram, IsOutput, IsSummary, RunsOut}
+use Rattle.gib_app.specs.Running.{IsInput, IsProgram, IsSource, IsNoProgram, IsOutput, IsSummary, RunsOut, IsShownValue}
+use Rattle.gib_app.specs.Replaying.{journal_in}
+use Rattle.gib_app.specs.Packing.{IsPackedText}
 use Rattle.gib_app.specs.SourceFaults.{IsSourceFault}
 use Rattle.gib_app.specs.Formats.{inputs_of, Accepts, Refuses}
 use Rattle.gib_app.specs.Formats.{Input as PlanInput}
 use Rattle.gib_app.specs.Jobs.{End, Prints, Does, without_image}
 use Rattle.gib_app.specs.Jobs.{NoValue as Without}
-use Rattle.gib_app.specs.Causes.{AreFurther, AreGiven, OnProgram, OnSource, OnBoth, IsMade, HasNoValue, EndsWithout, AsksSource, AsksProgram, IsPrinted, IsPrintedInPart, IsUnwritten, FailsToRead, FailsToWrite}
+use Rattle.gib_app.specs.Causes.{AreFurther, AreGiven, AreReached, AreUnread, first_of, further_of, OnProgram, OnSource, OnBoth, OnReached, IsMade, HasNoValue, EndsWithout, AsksSource, AsksProgram, IsPrinted, IsPrintedInPart, IsUnwritten, FailsToRead, FailsToWrite}
 use Rattle.gib_app.specs.Lines.{line}
-use Rattle.gib_app.specs.Ending.{IsEnding, HasText, AreFurtherTold, AreTold, IsMissing, FirstWritten, DueOfSource, DueOfFiles, DueMissing, DueWithout, TakesAll, IsDue, AsksRun, IsDueOrScarce}
-use Rattle.gib_app.specs.Stops.{IsStop}
+use Rattle.gib_app.specs.Ending.{IsEnding, ends_as, HasText, AreFurtherTold, AreTold, IsMissing, FirstWritten, DueOfSource, DueOfFiles, DueOfFirst, DueMissing, DueRefused, RefusesFirst, DueWithout, TakesAll, IsDue, AsksRun, IsDueOrScarce}
 use Rattle.gib_app.specs.Stopping.{answer_for}
 use Rattle.gib_app.specs.Performing.{IsCallStop}
 use Rattle.gib_app.proofs.Performing.{map_both}
-use Rattle.gib_app.proofs.Doing.{does_accepts, full_runs, no_image}
+use Rattle.gib_app.proofs.Replays.{OneValue, gives_or_stops, some_or_none, shown_or_deep, shown_or_full, deep_or_full}
+use Rattle.gib_app.proofs.Doing.{does_accepts, full_runs}
+use Rattle.gib_app.proofs.Making.{reached_all}
 
 map_asked : (o : Option Plan) (P Q : Plan → Type 0) → ((r : Plan) → P r → Q r) → MatchOption o ⊥ P → MatchOption o ⊥ Q
 map_asked None P Q go h = h
@@ -46,6 +46,20 @@ map_asked (Some r) P Q go h = go r h
 
 on_source : (kept : Files) (d : Document) (P Q : List ℕ → Type 0) → ((source : List ℕ) → P source → Q source) → OnSource kept d P → OnSource kept d Q
 on_source kept d P Q go h = record { source = h.source; source_held = h.source_held; holds = go h.source h.holds }
+
+map_reached : (kept : Files) (r : Plan) (P Q : ProgramTree → List (List ℕ) → Contents → Type 0) → ((p : ProgramTree) (names : List (List ℕ)) (given : Contents) → P p names given → Q p names given) →
+    OnReached kept r P → OnReached kept r Q
+map_reached kept r P Q go h = record {
+  source = h.source;
+  given = h.given;
+  source_held = h.source_held;
+  holds = record {
+    lexed = h.holds.lexed;
+    program = h.holds.program;
+    is_program = h.holds.is_program;
+    holds = (h.holds.holds.0, go h.holds.program h.holds.lexed.names h.given h.holds.holds.1);
+  };
+}
 
 -- Why a call ends with a status, without its line
 abbrev IsWriteCause : Bool → List (List ℕ) → ShelfView → ShelfView → SinkView → SinkView → Type 0
@@ -62,7 +76,8 @@ IsCause tells words before now out_before out_now status.Full = AsksProgram tell
 IsCause tells words before now out_before out_now status.Memory = Unit {0}
 IsCause tells words before now out_before out_now status.ReadFault = MatchOption (asked words) ⊥ (λ plan. (name : List ℕ) × FailsToRead (at_reading tells before.kept plan) before now plan name)
 IsCause tells words before now out_before out_now status.WriteFault = IsWriteCause tells words before now out_before out_now
-IsCause tells words before now out_before out_now status.Input = AsksProgram tells words before.kept (λ plan p names given. Accepts plan.job plan.options.skips p names given → ⊥)
+IsCause tells words before now out_before out_now status.Input =
+    MatchOption (asked words) ⊥ (λ plan. OnReached (at_reading tells before.kept plan) plan (λ p names given. Accepts plan.job plan.options.skips p names given → ⊥))
 
 -- the files that a plan reads
 abbrev pub K : Bool → ShelfView → Plan → Files
@@ -95,8 +110,8 @@ cause_of tells words before now out_before out_now status.WriteFault said (inl h
     )
 cause_of tells words before now out_before out_now status.WriteFault said (inr h) = inr (h.0, h.1, h.2)
 cause_of tells words before now out_before out_now status.Input said h =
-    map_asked (asked words) (λ r. OnBoth (K tells before r) r (Refused r h.0)) (λ r. OnBoth (K tells before r) r (λ p names given. Accepts r.job r.options.skips p names given → ⊥))
-    (λ r k. map_both (K tells before r) r (Refused r h.0) (λ p names given. Accepts r.job r.options.skips p names given → ⊥) (λ p names given both. both.1) k) h.1
+    map_asked (asked words) (λ r. OnReached (K tells before r) r (Refused r h.0)) (λ r. OnReached (K tells before r) r (λ p names given. Accepts r.job r.options.skips p names given → ⊥))
+    (λ r k. map_reached (K tells before r) r (Refused r h.0) (λ p names given. Accepts r.job r.options.skips p names given → ⊥) (λ p names given both. both.1) k) h.1
 
 -- From the stop of a call to its status and its line
 pub ending_of : (tells : Bool) (words : List (List ℕ)) (before now : ShelfView) (out_before out_now : SinkView) (stop : Stop) → IsCallStop tells words before now out_before out_now stop →
@@ -116,7 +131,7 @@ ending_of tells words before now out_before out_now Unput h = inr (h.0, h.1, h.2
 pub record Laws : Type 0 where
   pub lexed : (bytes : List ℕ) (l m : Lexed) → IsLexed bytes l → IsLexed bytes m → l ≡ m
   pub parsed : (at : Places) (tokens : List Token) (p q : ProgramTree) → Derives tokens p → Derives tokens q → IsPlacedProgram at p → IsPlacedProgram at q → p ≡ q
-  pub filed : (table : Table) (ty : Ty) (v w : Datum) (bytes : List ℕ) → File table ty v bytes → File table ty w bytes → v ≡ w
+  pub filed : OneValue
 
 same_lexed : Laws → (source : List ℕ) (l m : Lexed) (p q : ProgramTree) → IsProgram source l p → IsProgram source m q → l ≡ m
 same_lexed laws source l m p q h k = laws.lexed source l m h.spelled.is_lexed k.spelled.is_lexed
@@ -164,6 +179,52 @@ clash laws tells before now r P Q due end' =
     let both = together laws due.source (λ p names. P p names due.given) (λ p names. Q p names due.given) due.holds (subst B eb (subst S es end'.holds)) in
     (both.0, both.1, due.given, both.2, both.3)
 
+-- Inputs that are told, and inputs as far as they were read
+
+same_second : (kept : Files) (p : ProgramTree) (is : List PlanInput) (a b : Contents) → AreTold kept is a → AreReached kept p is b → b.second ≡ a.second
+same_second kept p [] a b e h = h.0 ∙ sym e.0
+same_second kept p (i ∷ is) a b e h = same_bytes (bytes_in kept i.document) a.second b.second e.0 h.0
+
+same_behind : (kept : Files) (p : ProgramTree) (is : List PlanInput) (a b : Contents) → AreTold kept is a → AreReached kept p is b → ((v : Datum) × IsInput p v b.second) → b.further ≡ a.further
+same_behind kept p [] a b e h taken = h.1 ∙ sym e.1
+same_behind kept p (i ∷ is) a b e h taken = same_further kept is a.further b.further e.1 (h.1 taken)
+
+-- what is accepted of all of them, is accepted of those that were read
+module _ (skips : Bool) (p : ProgramTree) (names : List (List ℕ)) (a b : Contents) (second : b.second ≡ a.second) (behind : ((v : Datum) × IsInput p v b.second) → b.further ≡ a.further) where
+  packed_again : ((v : Datum) × IsInput p v a.second) → (v : Datum) × IsInput p v b.second
+  packed_again h = let P : List ℕ → Type 0 = λ bytes. (v : Datum) × IsInput p v bytes in subst P (sym second) h
+
+  accepted_again : (job : Job) → Accepts job skips p names a → Accepts job skips p names b
+  accepted_again Run h = packed_again h
+  accepted_again Plain h = packed_again h
+  accepted_again Check h = h
+  accepted_again Core h = h
+  accepted_again Code h = h
+  accepted_again Pack h = let P : List ℕ → Type 0 = λ bytes. (packed : List ℕ) × IsPackedText p names bytes packed in subst P (sym second) h
+  accepted_again Show h = let P : List ℕ → Type 0 = λ bytes. (v : Datum) × IsShownValue p skips v bytes in subst P (sym second) h
+  accepted_again Gen h = packed_again h
+  accepted_again Trace h = packed_again h
+  accepted_again Replay h =
+      let same : b ≡ a = same_parts a b second (behind (packed_again (h.value, h.is_input))) in
+      let P : Contents → Type 0 = Accepts Replay skips p names in
+      subst P (sym same) h
+
+-- what is due is accepted, and what was read is not
+fit_or_unfit : Laws → (tells : Bool) (before now : ShelfView) (r : Plan) (P : ProgramTree → List (List ℕ) → Contents → Type 0) →
+    ((p : ProgramTree) (names : List (List ℕ)) (given : Contents) → P p names given → Accepts r.job r.options.skips p names given) → DueOfFiles tells before now r P →
+    OnReached (K tells before r) r (λ p names given. Accepts r.job r.options.skips p names given → ⊥) → ⊥
+fit_or_unfit laws tells before now r P accepts due end' =
+    let kept = K tells before r in
+    let Q : ProgramTree → List (List ℕ) → Type 0 = λ p names. AreReached kept p (inputs_of r) end'.given × (Accepts r.job r.options.skips p names end'.given → ⊥) in
+    let S : List ℕ → Type 0 = λ s. OnProgram s Q in
+    let es = same_bytes (bytes_in kept r.source) due.source end'.source due.source_told end'.source_held in
+    let both = together laws due.source (λ p names. P p names due.given) Q due.holds (subst S es end'.holds) in
+    let p = both.0 in
+    let reached = both.3.0 in
+    let second = same_second kept p (inputs_of r) due.given end'.given due.given_told reached in
+    let behind = same_behind kept p (inputs_of r) due.given end'.given due.given_told reached in
+    both.3.1 (accepted_again r.options.skips p both.1 due.given end'.given second behind r.job (accepts p both.1 due.given both.2))
+
 no_program : (tells : Bool) (before now : ShelfView) (r : Plan) (P : ProgramTree → List (List ℕ) → Contents → Type 0) → DueOfFiles tells before now r P → OnSource (K tells before r) r.source IsNoProgram → ⊥
 no_program tells before now r P due end' =
     let es = same_bytes (bytes_in (K tells before r) r.source) due.source end'.source due.source_told end'.source_held in
@@ -174,18 +235,35 @@ a_program tells before now r Q due end' =
     let es = same_bytes (bytes_in (K tells before r) r.source) due.source end'.source due.source_told end'.source_held in
     subst IsNoProgram (sym es) due.holds end'.holds.lexed end'.holds.program end'.holds.is_program
 
+reached_program : (tells : Bool) (before now : ShelfView) (r : Plan) (Q : ProgramTree → List (List ℕ) → Contents → Type 0) → DueOfSource tells before now r IsNoProgram → OnReached (K tells before r) r Q → ⊥
+reached_program tells before now r Q due end' =
+    let es = same_bytes (bytes_in (K tells before r) r.source) due.source end'.source due.source_told end'.source_held in
+    subst IsNoProgram (sym es) due.holds end'.holds.lexed end'.holds.program end'.holds.is_program
+
 a_source : (tells : Bool) (before now : ShelfView) (r : Plan) → DueOfSource tells before now r IsNoProgram → OnSource (K tells before r) r.source IsSource → ⊥
 a_source tells before now r due end' =
     let es = same_bytes (bytes_in (K tells before r) r.source) due.source end'.source due.source_told end'.source_held in
     subst IsNoProgram (sym es) due.holds end'.holds.0 end'.holds.1 end'.holds.2
 
+first_unread : (before now : ShelfView) (is : List PlanInput) (name : List ℕ) → AreUnread before now (first_of is) name → AreUnread before now is name
+first_unread before now [] name h = h
+first_unread before now (i ∷ is) name (inl h) = inl h
+first_unread before now (i ∷ is) name (inr h) = absurd h
+
+further_unread : (before now : ShelfView) (is : List PlanInput) (name : List ℕ) → AreUnread before now (further_of is) name → AreUnread before now is name
+further_unread before now [] name h = h
+further_unread before now (i ∷ is) name h = inr h
+
 read_both : (tells : Bool) (before now : ShelfView) (r : Plan) (P : ProgramTree → List (List ℕ) → Contents → Type 0) (name : List ℕ) → DueOfFiles tells before now r P → FailsToRead (K tells before r) before now r name → ⊥
 read_both tells before now r P name due (inl h) = due.source_read name h
-read_both tells before now r P name due (inr h) = due.given_read name h.0
+read_both tells before now r P name due (inr (inl h)) = due.given_read name (first_unread before now (inputs_of r) name h.0)
+read_both tells before now r P name due (inr (inr h)) = due.given_read name (further_unread before now (inputs_of r) name h.0)
 
 read_one : (tells : Bool) (before now : ShelfView) (r : Plan) (name : List ℕ) → DueOfSource tells before now r IsNoProgram → FailsToRead (K tells before r) before now r name → ⊥
 read_one tells before now r name due (inl h) = due.source_read name h
-read_one tells before now r name due (inr h) = a_source tells before now r due h.1
+read_one tells before now r name due (inr (inl h)) = a_source tells before now r due h.1
+read_one tells before now r name due (inr (inr h)) =
+    a_source tells before now r due (record { source = h.1.source; source_held = h.1.source_held; holds = (h.1.holds.lexed, h.1.holds.program, h.1.holds.is_program) })
 
 -- the first writes were made
 stuck_named : (tells : Bool) (kept : Files) (writes : List Write) (before now : ShelfView) (name : List ℕ) → IsStuckIn tells kept writes before now name → IsNamedIn writes name × Rose (before.writes name) (now.writes name)
@@ -198,50 +276,89 @@ of_job : (tells : Bool) (before now : ShelfView) (r : Plan) (name : List ℕ) �
 of_job tells before now r name wrote (inl h) = let k = stuck_named tells before.kept r.first before now name h in absurd (wrote name k.0 k.1)
 of_job tells before now r name wrote (inr h) = h
 
-not_both : (r : Outcome) (v : Datum) → r ≡ Gives v → r ≡ Stops TooDeep → ⊥
-not_both (Gives u) v e f = cc
-not_both (Stops why) v e f = cc
-
 pub runs_well : Laws → (p : ProgramTree) (names : List (List ℕ)) (depth : ℕ) (input output : List ℕ) → IsOutput p names depth input output → RunsOut p depth input → ⊥
 runs_well laws p names depth input output o d =
     let v = laws.filed (table_of_program p) (input_type p) d.value o.value input d.is_input.file o.is_input.file in
     let S : Datum → Type 0 = λ x. run p depth x ≡ Stops TooDeep in
-    not_both (run p depth o.value) o.result o.means (subst S v d.means)
+    gives_or_stops (run p depth o.value) o.result o.means (subst S v d.means)
 
 sums_well : Laws → (p : ProgramTree) (number levels depth : ℕ) (input output : List ℕ) → IsSummary p number levels depth input output → RunsOut p depth input → ⊥
 sums_well laws p number levels depth input output o d =
     let v = laws.filed (table_of_program p) (input_type p) d.value o.value input d.is_input.file o.is_input.file in
     let S : Datum → Type 0 = λ x. run p depth x ≡ Stops TooDeep in
-    not_both (run p depth o.value) o.result o.means (subst S v d.means)
+    gives_or_stops (run p depth o.value) o.result o.means (subst S v d.means)
 
-text_or_deep : Laws → (job : Job) (o : Options) (p : ProgramTree) (names : List (List ℕ)) (given : Contents) (text : List ℕ) (file other : Option (List ℕ)) →
-    Does job o p names given file (Prints text) → Does job o p names given other (Without Deep) → ⊥
-text_or_deep laws Run o p names given text file other h k = runs_well laws p names o.depth given.second text h.1 k.1
-text_or_deep laws Plain o p names given text file other h k = runs_well laws p names o.depth given.second text h.1 k.1
-text_or_deep laws Check o p names given text file other h k = k
-text_or_deep laws Core o p names given text file other h k = k
-text_or_deep laws Code o p names given text file other h k = k
-text_or_deep laws Pack o p names given text file other h k = k
-text_or_deep laws Show o p names given text file other h k = k
-text_or_deep laws Gen o p names given text file other h k = sums_well laws p o.number o.levels o.depth given.second text h.1 k.1
+-- without chunks no file is made
+full_no_file : (job : Job) (o : Options) (p : ProgramTree) (names : List (List ℕ)) (given : Contents) (bytes : List ℕ) → Does job o p names given (Some bytes) (Without Full) → ⊥
+full_no_file Run o p names given bytes h = some_or_none bytes h.0
+full_no_file Plain o p names given bytes h = h
+full_no_file Check o p names given bytes h = h
+full_no_file Core o p names given bytes h = h
+full_no_file Code o p names given bytes h = h
+full_no_file Pack o p names given bytes h = h
+full_no_file Show o p names given bytes h = h
+full_no_file Gen o p names given bytes h = some_or_none bytes h.0
+full_no_file Trace o p names given bytes h = some_or_none bytes h.0
+full_no_file Replay o p names given bytes h = some_or_none bytes h.0
 
--- where a file is made, there is a value, or the file is one without
-file_or_deep : Laws → (job : Job) (o : Options) (p : ProgramTree) (names : List (List ℕ)) (given : Contents) (bytes : List ℕ) (e : End) (file : Option (List ℕ)) →
-    Does job o p names given (Some bytes) e → Does job o p names given file (Without Deep) → e ≡ Without Deep
-file_or_deep laws Run o p names given bytes (Prints text) file h k = absurd (runs_well laws p names o.depth given.second text h.1 k.1)
-file_or_deep laws Run o p names given bytes (Without Deep) file h k = refl
-file_or_deep laws Run o p names given bytes (Without Full) file h k = let none' = h.0 in cc
-file_or_deep laws Plain o p names given bytes (Prints text) file h k = let none' = h.0 in cc
-file_or_deep laws Plain o p names given bytes (Without Deep) file h k = refl
-file_or_deep laws Plain o p names given bytes (Without Full) file h k = absurd h
-file_or_deep laws Check o p names given bytes e file h k = absurd k
-file_or_deep laws Core o p names given bytes e file h k = absurd k
-file_or_deep laws Code o p names given bytes e file h k = absurd k
-file_or_deep laws Pack o p names given bytes e file h k = absurd k
-file_or_deep laws Show o p names given bytes e file h k = absurd k
-file_or_deep laws Gen o p names given bytes (Prints text) file h k = let none' = h.0 in cc
-file_or_deep laws Gen o p names given bytes (Without Deep) file h k = refl
-file_or_deep laws Gen o p names given bytes (Without Full) file h k = let none' = h.0 in cc
+-- how a job ends and how it is due to end: of text, want of depth and want of chunks only one
+
+module _ (laws : Laws) (o : Options) (p : ProgramTree) (names : List (List ℕ)) (given : Contents) where
+  text_or_deep : (job : Job) (text : List ℕ) (file other : Option (List ℕ)) → Does (ends_as job) (without_image o) p names given file (Prints text) → Does job o p names given other (Without Deep) → ⊥
+  text_or_deep Run text file other h k = runs_well laws p names o.depth given.second text h.1 k.1
+  text_or_deep Plain text file other h k = runs_well laws p names o.depth given.second text h.1 k.1
+  text_or_deep Check text file other h k = k
+  text_or_deep Core text file other h k = k
+  text_or_deep Code text file other h k = k
+  text_or_deep Pack text file other h k = k
+  text_or_deep Show text file other h k = k
+  text_or_deep Gen text file other h k = sums_well laws p o.number o.levels o.depth given.second text h.1 k.1
+  text_or_deep Trace text file other h k = runs_well laws p names o.depth given.second text h.1 k.1
+  text_or_deep Replay text file other h k = shown_or_deep laws.filed p names given.second (journal_in given) false file text h k.1
+
+  deep_or_text : (job : Job) (text : List ℕ) (file other : Option (List ℕ)) → Does (ends_as job) o p names given file (Without Deep) → Does job o p names given other (Prints text) → ⊥
+  deep_or_text Run text file other h k = runs_well laws p names o.depth given.second text k.1 h.1
+  deep_or_text Plain text file other h k = runs_well laws p names o.depth given.second text k.1 h.1
+  deep_or_text Check text file other h k = h
+  deep_or_text Core text file other h k = h
+  deep_or_text Code text file other h k = h
+  deep_or_text Pack text file other h k = h
+  deep_or_text Show text file other h k = h
+  deep_or_text Gen text file other h k = sums_well laws p o.number o.levels o.depth given.second text k.1 h.1
+  deep_or_text Trace text file other h k = runs_well laws p names o.depth given.second text k.1 h.1
+  deep_or_text Replay text file other h k = shown_or_deep laws.filed p names given.second (journal_in given) o.image other text k h.1
+
+  -- where a file is made, there is a value, or the file is one without
+  file_or_deep : (job : Job) (bytes : List ℕ) (e : End) (file : Option (List ℕ)) → Does job o p names given (Some bytes) e → Does (ends_as job) o p names given file (Without Deep) → e ≡ Without Deep
+  file_or_deep job bytes (Prints text) file h k = absurd (deep_or_text job text file (Some bytes) k h)
+  file_or_deep job bytes (Without Deep) file h k = refl
+  file_or_deep job bytes (Without Full) file h k = absurd (full_no_file job o p names given bytes h)
+
+  -- a replay that prints, or whose depth runs out, has its chunks
+  text_or_full : (any : Options) (text : List ℕ) (file other : Option (List ℕ)) → Does Replay any p names given file (Prints text) → Does Replay o p names given other (Without Full) → ⊥
+  text_or_full any text file other h k = shown_or_full laws.filed p names given.second (journal_in given) any.image file text h k.1
+
+  depth_or_full : (file other : Option (List ℕ)) → Does Replay o p names given file (Without Deep) → Does Replay o p names given other (Without Full) → ⊥
+  depth_or_full file other h k = deep_or_full laws.filed p names given.second (journal_in given) h.1 k.1
+
+  -- where chunks run out, no file is made
+  file_or_full : (bytes : List ℕ) (e : End) (other : Option (List ℕ)) → Does Replay o p names given (Some bytes) e → Does Replay o p names given other (Without Full) → ⊥
+  file_or_full bytes (Prints text) other h k = text_or_full o text (Some bytes) other h k
+  file_or_full bytes (Without Deep) other h k = some_or_none bytes h.0
+  file_or_full bytes (Without Full) other h k = some_or_none bytes h.0
+
+-- a job accepts what it is due to end with
+ends_accept : (job : Job) (o : Options) (p : ProgramTree) (names : List (List ℕ)) (given : Contents) (file : Option (List ℕ)) (e : End) → Does (ends_as job) o p names given file e → Accepts job o.skips p names given
+ends_accept Run o p names given file e h = does_accepts Run o p names given file e h
+ends_accept Plain o p names given file e h = does_accepts Plain o p names given file e h
+ends_accept Check o p names given file e h = does_accepts Check o p names given file e h
+ends_accept Core o p names given file e h = does_accepts Core o p names given file e h
+ends_accept Code o p names given file e h = does_accepts Code o p names given file e h
+ends_accept Pack o p names given file e h = does_accepts Pack o p names given file e h
+ends_accept Show o p names given file e h = does_accepts Show o p names given file e h
+ends_accept Gen o p names given file e h = does_accepts Gen o p names given file e h
+ends_accept Trace o p names given file e h = does_accepts Run o p names given file e h
+ends_accept Replay o p names given file e h = does_accepts Replay o p names given file e h
 
 -- The status that is due
 
@@ -287,8 +404,7 @@ done_due laws tells words before now a b due status.Usage h = absurd (none_asked
 done_due laws tells words before now a b due status.Depth h =
     let k = both_asked (asked words) (DueAll tells before now a b) (λ r. OnBoth (K tells before r) r (Exhausted r)) due h in
     let both = clash laws tells before now k.0 (HasText k.0) (Exhausted k.0) k.1.0 k.2 in
-    let deep' = no_image k.0.job k.0.options both.0 both.1 both.2 both.4.0 Deep both.4.1 in
-    absurd (text_or_deep laws k.0.job (without_image k.0.options) both.0 both.1 both.2 both.3.1 both.3.0 both.4.0 both.3.2 deep')
+    absurd (text_or_deep laws k.0.options both.0 both.1 both.2 k.0.job both.3.1 both.3.0 both.4.0 both.3.2 both.4.1)
 done_due laws tells words before now a b due status.Full h = inr (inr refl)
 done_due laws tells words before now a b due status.Memory h = inr (inl refl)
 done_due laws tells words before now a b due status.ReadFault h =
@@ -303,9 +419,8 @@ done_due laws tells words before now a b due status.WriteFault (inr h) =
     let k = both_asked (asked words) (DueAll tells before now a b) (λ r. OnBoth (K tells before r) r (Front tells before now a b r)) due h.0 in
     absurd (k.1.1.out h.1)
 done_due laws tells words before now a b due status.Input h =
-    let k = both_asked (asked words) (DueAll tells before now a b) (λ r. OnBoth (K tells before r) r (Unfit r)) due h in
-    let both = clash laws tells before now k.0 (HasText k.0) (Unfit k.0) k.1.0 k.2 in
-    absurd (both.4 (does_accepts k.0.job (without_image k.0.options) both.0 both.1 both.2 both.3.0 (Prints both.3.1) both.3.2))
+    let k = both_asked (asked words) (DueAll tells before now a b) (λ r. OnReached (K tells before r) r (Unfit r)) due h in
+    absurd (fit_or_unfit laws tells before now k.0 (HasText k.0) (λ p names given d. ends_accept k.0.job (without_image k.0.options) p names given d.0 (Prints d.1) d.2) k.1.0 k.2)
 
 -- a refusal of the source is due
 
@@ -333,8 +448,8 @@ source_due tells words before now a b due status.WriteFault (inr h) =
     let k = both_asked (asked words) (DueRefusal tells before now) (λ r. OnBoth (K tells before r) r (Front tells before now a b r)) due h.0 in
     absurd (a_program tells before now k.0 (Front tells before now a b k.0) k.1 k.2)
 source_due tells words before now a b due status.Input h =
-    let k = both_asked (asked words) (DueRefusal tells before now) (λ r. OnBoth (K tells before r) r (Unfit r)) due h in
-    absurd (a_program tells before now k.0 (Unfit k.0) k.1 k.2)
+    let k = both_asked (asked words) (DueRefusal tells before now) (λ r. OnReached (K tells before r) r (Unfit r)) due h in
+    absurd (reached_program tells before now k.0 (Unfit k.0) k.1 k.2)
 
 -- want of depth is due
 
@@ -345,7 +460,7 @@ depth_due : Laws → (tells : Bool) (words : List (List ℕ)) (before now : Shel
 depth_due laws tells words before now a b due status.Done h =
     let k = both_asked (asked words) (DueDepth tells before now) (λ r. OnBoth (K tells before r) r (Whole tells before now a b r)) due h in
     let both = clash laws tells before now k.0 (DueWithout before now Deep k.0) (Whole tells before now a b k.0) k.1 k.2 in
-    absurd (text_or_deep laws k.0.job k.0.options both.0 both.1 both.2 both.4.0 both.4.1.ended.file both.3.0.0 both.4.1.ended.does both.3.0.1)
+    absurd (deep_or_text laws k.0.options both.0 both.1 both.2 k.0.job both.4.0 both.3.0.0 both.4.1.ended.file both.3.0.1 both.4.1.ended.does)
 depth_due laws tells words before now a b due status.Source h =
     let k = both_asked (asked words) (DueDepth tells before now) (λ r. OnSource (K tells before r) r.source IsNoProgram) due h in
     absurd (no_program tells before now k.0 (DueWithout before now Deep k.0) k.1 k.2)
@@ -362,50 +477,169 @@ depth_due laws tells words before now a b due status.WriteFault (inl h) =
     let both = clash laws tells before now k.0 (DueWithout before now Deep k.0) (λ p names given. IsUnwritten tells before now k.0 p names given k.2.0) k.1 on in
     let made = both.4.1 in
     let D : End → Type 0 = Does k.0.job k.0.options both.0 both.1 both.2 (Some made.0) in
-    let deep' = subst D (file_or_deep laws k.0.job k.0.options both.0 both.1 both.2 made.0 made.1 both.3.0.0 made.2 both.3.0.1) made.2 in
+    let deep' = subst D (file_or_deep laws k.0.options both.0 both.1 both.2 k.0.job made.0 made.1 both.3.0.0 made.2 both.3.0.1) made.2 in
     absurd (both.3.1 k.2.0 made.0 both.4.0 deep' both.4.2.rose)
 depth_due laws tells words before now a b due status.WriteFault (inr h) =
     let k = both_asked (asked words) (DueDepth tells before now) (λ r. OnBoth (K tells before r) r (Front tells before now a b r)) due h.0 in
     let both = clash laws tells before now k.0 (DueWithout before now Deep k.0) (Front tells before now a b k.0) k.1 k.2 in
-    absurd (text_or_deep laws k.0.job k.0.options both.0 both.1 both.2 both.4.0 both.4.1.ended.file both.3.0.0 both.4.1.ended.does both.3.0.1)
+    absurd (deep_or_text laws k.0.options both.0 both.1 both.2 k.0.job both.4.0 both.3.0.0 both.4.1.ended.file both.3.0.1 both.4.1.ended.does)
 depth_due laws tells words before now a b due status.Input h =
-    let k = both_asked (asked words) (DueDepth tells before now) (λ r. OnBoth (K tells before r) r (Unfit r)) due h in
-    let both = clash laws tells before now k.0 (DueWithout before now Deep k.0) (Unfit k.0) k.1 k.2 in
-    absurd (both.4 (does_accepts k.0.job k.0.options both.0 both.1 both.2 both.3.0.0 (Without Deep) both.3.0.1))
+    let k = both_asked (asked words) (DueDepth tells before now) (λ r. OnReached (K tells before r) r (Unfit r)) due h in
+    absurd (fit_or_unfit laws tells before now k.0 (DueWithout before now Deep k.0) (λ p names given d. ends_accept k.0.job k.0.options p names given d.0.0 (Without Deep) d.0.1) k.1 k.2)
 
--- a refusal of the second file is due
+-- want of chunks is due, which a replay tells
 
-abbrev DueUnfit : Bool → ShelfView → ShelfView → Plan → Type 0
-DueUnfit tells before now r = DueOfFiles tells before now r (Unfit r)
+abbrev DueFull : Bool → ShelfView → ShelfView → Plan → Type 0
+DueFull tells before now r = (r.job ≡ Replay) × DueOfFiles tells before now r (DueWithout before now Full r)
 
-input_due : Laws → (tells : Bool) (words : List (List ℕ)) (before now : ShelfView) (a b : SinkView) → MatchOption (asked words) ⊥ (DueUnfit tells before now) → (end' : Status) → IsCause tells words before now a b end' → (end' ≡ status.Input) ⊎ (end' ≡ status.Memory) ⊎ (end' ≡ status.Full)
+-- what a job does, where it is a replay
+as_replay : (job : Job) (o : Options) (p : ProgramTree) (names : List (List ℕ)) (given : Contents) (file : Option (List ℕ)) (e : End) → job ≡ Replay → Does job o p names given file e → Does Replay o p names given file e
+as_replay job o p names given file e is h = let P : Job → Type 0 = λ j. Does j o p names given file e in subst P is h
+
+ends_replay : (job : Job) (o : Options) (p : ProgramTree) (names : List (List ℕ)) (given : Contents) (file : Option (List ℕ)) (e : End) → job ≡ Replay → Does (ends_as job) o p names given file e → Does Replay o p names given file e
+ends_replay job o p names given file e is h = let P : Job → Type 0 = λ j. Does (ends_as j) o p names given file e in subst P is h
+
+full_due : Laws → (tells : Bool) (words : List (List ℕ)) (before now : ShelfView) (a b : SinkView) → MatchOption (asked words) ⊥ (DueFull tells before now) → (end' : Status) → IsCause tells words before now a b end' → (end' ≡ status.Full) ⊎ (end' ≡ status.Memory) ⊎ (end' ≡ status.Full)
+full_due laws tells words before now a b due status.Done h =
+    let k = both_asked (asked words) (DueFull tells before now) (λ r. OnBoth (K tells before r) r (Whole tells before now a b r)) due h in
+    let r = k.0 in
+    let both = clash laws tells before now r (DueWithout before now Full r) (Whole tells before now a b r) k.1.1 k.2 in
+    let full = ends_replay r.job r.options both.0 both.1 both.2 both.3.0.0 (Without Full) k.1.0 both.3.0.1 in
+    let text = as_replay r.job r.options both.0 both.1 both.2 both.4.1.ended.file (Prints both.4.0) k.1.0 both.4.1.ended.does in
+    absurd (text_or_full laws r.options both.0 both.1 both.2 r.options both.4.0 both.4.1.ended.file both.3.0.0 text full)
+full_due laws tells words before now a b due status.Source h =
+    let k = both_asked (asked words) (DueFull tells before now) (λ r. OnSource (K tells before r) r.source IsNoProgram) due h in
+    absurd (no_program tells before now k.0 (DueWithout before now Full k.0) k.1.1 k.2)
+full_due laws tells words before now a b due status.Usage h = absurd (none_asked (asked words) (DueFull tells before now) h due)
+full_due laws tells words before now a b due status.Depth h =
+    let k = both_asked (asked words) (DueFull tells before now) (λ r. OnBoth (K tells before r) r (Exhausted r)) due h in
+    let r = k.0 in
+    let both = clash laws tells before now r (DueWithout before now Full r) (Exhausted r) k.1.1 k.2 in
+    let full = ends_replay r.job r.options both.0 both.1 both.2 both.3.0.0 (Without Full) k.1.0 both.3.0.1 in
+    let deep' = as_replay r.job r.options both.0 both.1 both.2 both.4.0 (Without Deep) k.1.0 both.4.1 in
+    absurd (depth_or_full laws r.options both.0 both.1 both.2 both.4.0 both.3.0.0 deep' full)
+full_due laws tells words before now a b due status.Full h = inl refl
+full_due laws tells words before now a b due status.Memory h = inr (inl refl)
+full_due laws tells words before now a b due status.ReadFault h =
+    let k = both_asked (asked words) (DueFull tells before now) (Fails tells before now) due h in
+    absurd (read_both tells before now k.0 (DueWithout before now Full k.0) k.2.0 k.1.1 k.2.1)
+full_due laws tells words before now a b due status.WriteFault (inl h) =
+    let k = both_asked (asked words) (DueFull tells before now) (Somewhere tells before now) due h.0 in
+    let r = k.0 in
+    let on = of_job tells before now r k.2.0 k.1.1.first_written k.2.1 in
+    let both = clash laws tells before now r (DueWithout before now Full r) (λ p names given. IsUnwritten tells before now r p names given k.2.0) k.1.1 on in
+    let made = both.4.1 in
+    let full = ends_replay r.job r.options both.0 both.1 both.2 both.3.0.0 (Without Full) k.1.0 both.3.0.1 in
+    absurd (file_or_full laws r.options both.0 both.1 both.2 made.0 made.1 both.3.0.0 (as_replay r.job r.options both.0 both.1 both.2 (Some made.0) made.1 k.1.0 made.2) full)
+full_due laws tells words before now a b due status.WriteFault (inr h) =
+    let k = both_asked (asked words) (DueFull tells before now) (λ r. OnBoth (K tells before r) r (Front tells before now a b r)) due h.0 in
+    let r = k.0 in
+    let both = clash laws tells before now r (DueWithout before now Full r) (Front tells before now a b r) k.1.1 k.2 in
+    let full = ends_replay r.job r.options both.0 both.1 both.2 both.3.0.0 (Without Full) k.1.0 both.3.0.1 in
+    let text = as_replay r.job r.options both.0 both.1 both.2 both.4.1.ended.file (Prints both.4.0) k.1.0 both.4.1.ended.does in
+    absurd (text_or_full laws r.options both.0 both.1 both.2 r.options both.4.0 both.4.1.ended.file both.3.0.0 text full)
+full_due laws tells words before now a b due status.Input h =
+    let k = both_asked (asked words) (DueFull tells before now) (λ r. OnReached (K tells before r) r (Unfit r)) due h in
+    absurd (fit_or_unfit laws tells before now k.0 (DueWithout before now Full k.0) (λ p names given d. ends_accept k.0.job k.0.options p names given d.0.0 (Without Full) d.0.1) k.1.1 k.2)
+
+-- a refusal of the inputs is due
+
+-- the first one, which is told, is that which is given
+same_reached : (kept : Files) (p : ProgramTree) (is : List PlanInput) (first : List ℕ) (given : Contents) → AreTold kept (first_of is) (record { second = first; further = [] }) → AreReached kept p is given → given.second ≡ first
+same_reached kept p [] first given e h = h.0 ∙ sym e.0
+same_reached kept p (i ∷ is) first given e h = same_bytes (bytes_in kept i.document) first given.second e.0 h.0
+
+same_alone : (kept : Files) (is : List PlanInput) (first : List ℕ) (given : Contents) → AreTold kept (first_of is) (record { second = first; further = [] }) → AreGiven kept (first_of is) given → given.second ≡ first
+same_alone kept [] first given e h = h.0 ∙ sym e.0
+same_alone kept (i ∷ is) first given e h = same_bytes (bytes_in kept i.document) first given.second e.0 h.0
+
+-- what a replay accepts begins with a packed file
+accepts_packed : (job : Job) (skips : Bool) (p : ProgramTree) (names : List (List ℕ)) (given : Contents) → job ≡ Replay → Accepts job skips p names given → (v : Datum) × IsInput p v given.second
+accepts_packed job skips p names given is h = let P : Job → Type 0 = λ j. Accepts j skips p names given in let a : Accepts Replay skips p names given = subst P is h in (a.value, a.is_input)
+
+-- the first is no packed file, and is one
+module _ (laws : Laws) (tells : Bool) (before now : ShelfView) (r : Plan) (due : DueOfSource tells before now r (RefusesFirst tells before now r)) where
+  refused_and_taken : (source : List ℕ) (given : Contents) → IsAllOf (bytes_in (K tells before r) r.source) source → given.second ≡ due.holds.holds.first → OnProgram source (λ p names. (v : Datum) × IsInput p v given.second) → ⊥
+  refused_and_taken source given held second on =
+      let es = same_bytes (bytes_in (K tells before r) r.source) due.source source due.source_told held in
+      let Q : ProgramTree → List (List ℕ) → Type 0 = λ p names. (v : Datum) × IsInput p v given.second in
+      let S : List ℕ → Type 0 = λ s. OnProgram s Q in
+      let F : ProgramTree → List (List ℕ) → Type 0 = λ p names. ((v : Datum) × IsInput p v due.holds.holds.first) → ⊥ in
+      let first : OnProgram due.source F = record { lexed = due.holds.lexed; program = due.holds.program; is_program = due.holds.is_program; holds = due.holds.holds.holds } in
+      let both = together laws due.source F Q first (subst S es on) in
+      let I : List ℕ → Type 0 = λ bytes. (v : Datum) × IsInput both.0 v bytes in
+      both.2 (subst I second both.3)
+
+  refused_read : (name : List ℕ) → FailsToRead (K tells before r) before now r name → ⊥
+  refused_read name (inl h) = due.source_read name h
+  refused_read name (inr (inl h)) = due.holds.holds.first_read name h.0
+  refused_read name (inr (inr h)) =
+      refused_and_taken h.1.source h.1.given h.1.source_held (same_alone (K tells before r) (inputs_of r) due.holds.holds.first h.1.given due.holds.holds.first_told h.1.given_held) h.1.holds
+
+  refused_both : (Q : ProgramTree → List (List ℕ) → Contents → Type 0) → r.job ≡ Replay → ((p : ProgramTree) (names : List (List ℕ)) (given : Contents) → Q p names given → Accepts r.job r.options.skips p names given) →
+      OnBoth (K tells before r) r Q → ⊥
+  refused_both Q is accepts end' =
+      let given = end'.given in
+      let on : OnProgram end'.source (λ p names. (v : Datum) × IsInput p v given.second) = record {
+        lexed = end'.holds.lexed;
+        program = end'.holds.program;
+        is_program = end'.holds.is_program;
+        holds = accepts_packed r.job r.options.skips end'.holds.program end'.holds.lexed.names given is (accepts end'.holds.program end'.holds.lexed.names given end'.holds.holds);
+      } in
+      refused_and_taken end'.source given end'.source_held (same_reached (K tells before r) end'.holds.program (inputs_of r) due.holds.holds.first given due.holds.holds.first_told (reached_all (K tells before r) end'.holds.program (inputs_of r) given end'.given_held)) on
+
+  refused_program : OnSource (K tells before r) r.source IsNoProgram → ⊥
+  refused_program end' =
+      let es = same_bytes (bytes_in (K tells before r) r.source) due.source end'.source due.source_told end'.source_held in
+      subst IsNoProgram es end'.holds due.holds.lexed due.holds.program due.holds.is_program
+
+-- so the inputs are not accepted, and their source is a program
+module _ (laws : Laws) (tells : Bool) (before now : ShelfView) (r : Plan) where
+  unfit_both : (Q : ProgramTree → List (List ℕ) → Contents → Type 0) → ((p : ProgramTree) (names : List (List ℕ)) (given : Contents) → Q p names given → Accepts r.job r.options.skips p names given) →
+      DueRefused tells before now r → OnBoth (K tells before r) r Q → ⊥
+  unfit_both Q accepts (inl due) end' = let both = clash laws tells before now r (Unfit r) Q due end' in both.3 (accepts both.0 both.1 both.2 both.4)
+  unfit_both Q accepts (inr due) end' = refused_both laws tells before now r due.1 Q due.0 accepts end'
+
+  unfit_program : DueRefused tells before now r → OnSource (K tells before r) r.source IsNoProgram → ⊥
+  unfit_program (inl due) end' = no_program tells before now r (Unfit r) due end'
+  unfit_program (inr due) end' = refused_program laws tells before now r due.1 end'
+
+  unfit_read : (name : List ℕ) → DueRefused tells before now r → FailsToRead (K tells before r) before now r name → ⊥
+  unfit_read name (inl due) h = read_both tells before now r (Unfit r) name due h
+  unfit_read name (inr due) h = refused_read laws tells before now r due.1 name h
+
+  unfit_first : DueRefused tells before now r → FirstWritten before now r
+  unfit_first (inl due) = due.first_written
+  unfit_first (inr due) = due.1.first_written
+
+input_due : Laws → (tells : Bool) (words : List (List ℕ)) (before now : ShelfView) (a b : SinkView) → MatchOption (asked words) ⊥ (DueRefused tells before now) → (end' : Status) → IsCause tells words before now a b end' → (end' ≡ status.Input) ⊎ (end' ≡ status.Memory) ⊎ (end' ≡ status.Full)
 input_due laws tells words before now a b due status.Done h =
-    let k = both_asked (asked words) (DueUnfit tells before now) (λ r. OnBoth (K tells before r) r (Whole tells before now a b r)) due h in
-    let both = clash laws tells before now k.0 (Unfit k.0) (Whole tells before now a b k.0) k.1 k.2 in
-    absurd (both.3 (does_accepts k.0.job k.0.options both.0 both.1 both.2 both.4.1.ended.file (Prints both.4.0) both.4.1.ended.does))
+    let k = both_asked (asked words) (DueRefused tells before now) (λ r. OnBoth (K tells before r) r (Whole tells before now a b r)) due h in
+    let r = k.0 in
+    absurd (unfit_both laws tells before now r (Whole tells before now a b r) (λ p names given w. does_accepts r.job r.options p names given w.1.ended.file (Prints w.0) w.1.ended.does) k.1 k.2)
 input_due laws tells words before now a b due status.Source h =
-    let k = both_asked (asked words) (DueUnfit tells before now) (λ r. OnSource (K tells before r) r.source IsNoProgram) due h in
-    absurd (no_program tells before now k.0 (Unfit k.0) k.1 k.2)
-input_due laws tells words before now a b due status.Usage h = absurd (none_asked (asked words) (DueUnfit tells before now) h due)
+    let k = both_asked (asked words) (DueRefused tells before now) (λ r. OnSource (K tells before r) r.source IsNoProgram) due h in
+    absurd (unfit_program laws tells before now k.0 k.1 k.2)
+input_due laws tells words before now a b due status.Usage h = absurd (none_asked (asked words) (DueRefused tells before now) h due)
 input_due laws tells words before now a b due status.Depth h =
-    let k = both_asked (asked words) (DueUnfit tells before now) (λ r. OnBoth (K tells before r) r (Exhausted r)) due h in
-    let both = clash laws tells before now k.0 (Unfit k.0) (Exhausted k.0) k.1 k.2 in
-    absurd (both.3 (does_accepts k.0.job k.0.options both.0 both.1 both.2 both.4.0 (Without Deep) both.4.1))
+    let k = both_asked (asked words) (DueRefused tells before now) (λ r. OnBoth (K tells before r) r (Exhausted r)) due h in
+    let r = k.0 in
+    absurd (unfit_both laws tells before now r (Exhausted r) (λ p names given d. does_accepts r.job r.options p names given d.0 (Without Deep) d.1) k.1 k.2)
 input_due laws tells words before now a b due status.Full h = inr (inr refl)
 input_due laws tells words before now a b due status.Memory h = inr (inl refl)
 input_due laws tells words before now a b due status.ReadFault h =
-    let k = both_asked (asked words) (DueUnfit tells before now) (Fails tells before now) due h in
-    absurd (read_both tells before now k.0 (Unfit k.0) k.2.0 k.1 k.2.1)
+    let k = both_asked (asked words) (DueRefused tells before now) (Fails tells before now) due h in
+    absurd (unfit_read laws tells before now k.0 k.2.0 k.1 k.2.1)
 input_due laws tells words before now a b due status.WriteFault (inl h) =
-    let k = both_asked (asked words) (DueUnfit tells before now) (Somewhere tells before now) due h.0 in
-    let on = of_job tells before now k.0 k.2.0 k.1.first_written k.2.1 in
-    let both = clash laws tells before now k.0 (Unfit k.0) (λ p names given. IsUnwritten tells before now k.0 p names given k.2.0) k.1 on in
-    let made = both.4.1 in
-    absurd (both.3 (does_accepts k.0.job k.0.options both.0 both.1 both.2 (Some made.0) made.1 made.2))
+    let k = both_asked (asked words) (DueRefused tells before now) (Somewhere tells before now) due h.0 in
+    let r = k.0 in
+    let on = of_job tells before now r k.2.0 (unfit_first laws tells before now r k.1) k.2.1 in
+    absurd (unfit_both laws tells before now r (λ p names given. IsUnwritten tells before now r p names given k.2.0)
+    (λ p names given u. does_accepts r.job r.options p names given (Some u.1.0) u.1.1 u.1.2) k.1 on)
 input_due laws tells words before now a b due status.WriteFault (inr h) =
-    let k = both_asked (asked words) (DueUnfit tells before now) (λ r. OnBoth (K tells before r) r (Front tells before now a b r)) due h.0 in
-    let both = clash laws tells before now k.0 (Unfit k.0) (Front tells before now a b k.0) k.1 k.2 in
-    absurd (both.3 (does_accepts k.0.job k.0.options both.0 both.1 both.2 both.4.1.ended.file (Prints both.4.0) both.4.1.ended.does))
+    let k = both_asked (asked words) (DueRefused tells before now) (λ r. OnBoth (K tells before r) r (Front tells before now a b r)) due h.0 in
+    let r = k.0 in
+    absurd (unfit_both laws tells before now r (Front tells before now a b r) (λ p names given w. does_accepts r.job r.options p names given w.1.ended.file (Prints w.0) w.1.ended.does) k.1 k.2)
 input_due laws tells words before now a b due status.Input h = inl refl
 
 -- a file is not there
@@ -413,48 +647,83 @@ input_due laws tells words before now a b due status.Input h = inl refl
 not_missing : (o : Held) (bytes : List ℕ) → o ≡ Missing → IsAllOf o bytes → ⊥
 not_missing o bytes e h = let P : Held → Type 0 = λ x. IsAllOf x bytes in subst P e h
 
-input_missing : (kept : Files) (is : List PlanInput) (given : Contents) → IsMissing kept is → AreGiven kept is given → ⊥
-input_missing kept [] given e h = e
-input_missing kept (i ∷ is) given e h = not_missing (bytes_in kept i.document) given.second e h.0
+first_missing : (kept : Files) (p : ProgramTree) (is : List PlanInput) (given : Contents) → IsMissing kept is → AreReached kept p is given → ⊥
+first_missing kept p [] given e h = e
+first_missing kept p (i ∷ is) given e h = not_missing (bytes_in kept i.document) given.second e h.0
+
+behind_missing : (kept : Files) (is : List PlanInput) (further : List (List ℕ)) → IsMissing kept is → AreFurther kept is further → ⊥
+behind_missing kept [] further e h = e
+behind_missing kept (i ∷ is) [] e h = h
+behind_missing kept (i ∷ is) (bytes ∷ further) e h = not_missing (bytes_in kept i.document) bytes e h.0
+
+further_missing : (kept : Files) (is : List PlanInput) (given : Contents) → IsMissing kept (further_of is) → AreGiven kept is given → ⊥
+further_missing kept [] given e h = e
+further_missing kept (i ∷ is) given e h = behind_missing kept is given.further e h.1
+
+-- where the first is taken, what is behind it is reached
+taken_missing : (kept : Files) (p : ProgramTree) (is : List PlanInput) (given : Contents) → IsMissing kept (further_of is) → ((v : Datum) × IsInput p v given.second) → AreReached kept p is given → ⊥
+taken_missing kept p [] given e taken h = e
+taken_missing kept p (i ∷ is) given e taken h = behind_missing kept is given.further e (h.1 taken)
 
 missing_both : (tells : Bool) (before now : ShelfView) (r : Plan) (Q : ProgramTree → List (List ℕ) → Contents → Type 0) → DueMissing tells before now r → OnBoth (K tells before r) r Q → ⊥
 missing_both tells before now r Q (inl e) h = not_missing (bytes_in (K tells before r) r.source) h.source e.0 h.source_held
-missing_both tells before now r Q (inr d) h = input_missing (K tells before r) (inputs_of r) h.given d.1 h.given_held
+missing_both tells before now r Q (inr (inl d)) h = first_missing (K tells before r) h.holds.program (inputs_of r) h.given d.1 (reached_all (K tells before r) h.holds.program (inputs_of r) h.given h.given_held)
+missing_both tells before now r Q (inr (inr d)) h = further_missing (K tells before r) (inputs_of r) h.given d.holds.1 h.given_held
+
+missing_reached : Laws → (tells : Bool) (before now : ShelfView) (r : Plan) (Q : ProgramTree → List (List ℕ) → Contents → Type 0) → DueMissing tells before now r → OnReached (K tells before r) r Q → ⊥
+missing_reached laws tells before now r Q (inl e) h = not_missing (bytes_in (K tells before r) r.source) h.source e.0 h.source_held
+missing_reached laws tells before now r Q (inr (inl d)) h = first_missing (K tells before r) h.holds.program (inputs_of r) h.given d.1 h.holds.holds.0
+missing_reached laws tells before now r Q (inr (inr d)) h =
+    let kept = K tells before r in
+    let es = same_bytes (bytes_in kept r.source) d.source h.source d.source_told h.source_held in
+    let R : ProgramTree → List (List ℕ) → Type 0 = λ p names. AreReached kept p (inputs_of r) h.given × Q p names h.given in
+    let S : List ℕ → Type 0 = λ s. OnProgram s R in
+    let F : ProgramTree → List (List ℕ) → Type 0 = λ p names. DueOfFirst tells before now r (λ bytes. (v : Datum) × IsInput p v bytes) in
+    let both = together laws d.source F R d.holds.0 (subst S es h.holds) in
+    let p = both.0 in
+    let first = both.2 in
+    let second = same_reached kept p (inputs_of r) first.first h.given first.first_told both.3.0 in
+    let I : List ℕ → Type 0 = λ bytes. (v : Datum) × IsInput p v bytes in
+    taken_missing kept p (inputs_of r) h.given d.holds.1 (subst I (sym second) first.holds) both.3.0
 
 missing_program : (tells : Bool) (before now : ShelfView) (r : Plan) → DueMissing tells before now r → OnSource (K tells before r) r.source IsNoProgram → ⊥
 missing_program tells before now r (inl e) h = not_missing (bytes_in (K tells before r) r.source) h.source e.0 h.source_held
-missing_program tells before now r (inr d) h =
+missing_program tells before now r (inr (inl d)) h =
     let es = same_bytes (bytes_in (K tells before r) r.source) d.0.source h.source d.0.source_told h.source_held in
     let program : IsSource d.0.source = d.0.holds in
     subst IsNoProgram es h.holds program.0 program.1 program.2
+missing_program tells before now r (inr (inr d)) h =
+    let es = same_bytes (bytes_in (K tells before r) r.source) d.source h.source d.source_told h.source_held in
+    subst IsNoProgram es h.holds d.holds.0.lexed d.holds.0.program d.holds.0.is_program
 
 missing_first : (tells : Bool) (before now : ShelfView) (r : Plan) → DueMissing tells before now r → FirstWritten before now r
 missing_first tells before now r (inl e) = e.1
-missing_first tells before now r (inr d) = d.0.first_written
+missing_first tells before now r (inr (inl d)) = d.0.first_written
+missing_first tells before now r (inr (inr d)) = d.first_written
 
-read_due : (tells : Bool) (words : List (List ℕ)) (before now : ShelfView) (a b : SinkView) → MatchOption (asked words) ⊥ (DueMissing tells before now) → (end' : Status) → IsCause tells words before now a b end' → (end' ≡ status.ReadFault) ⊎ (end' ≡ status.Memory) ⊎ (end' ≡ status.Full)
-read_due tells words before now a b due status.Done h =
+read_due : Laws → (tells : Bool) (words : List (List ℕ)) (before now : ShelfView) (a b : SinkView) → MatchOption (asked words) ⊥ (DueMissing tells before now) → (end' : Status) → IsCause tells words before now a b end' → (end' ≡ status.ReadFault) ⊎ (end' ≡ status.Memory) ⊎ (end' ≡ status.Full)
+read_due laws tells words before now a b due status.Done h =
     let k = both_asked (asked words) (DueMissing tells before now) (λ r. OnBoth (K tells before r) r (Whole tells before now a b r)) due h in
     absurd (missing_both tells before now k.0 (Whole tells before now a b k.0) k.1 k.2)
-read_due tells words before now a b due status.Source h =
+read_due laws tells words before now a b due status.Source h =
     let k = both_asked (asked words) (DueMissing tells before now) (λ r. OnSource (K tells before r) r.source IsNoProgram) due h in
     absurd (missing_program tells before now k.0 k.1 k.2)
-read_due tells words before now a b due status.Usage h = absurd (none_asked (asked words) (DueMissing tells before now) h due)
-read_due tells words before now a b due status.Depth h =
+read_due laws tells words before now a b due status.Usage h = absurd (none_asked (asked words) (DueMissing tells before now) h due)
+read_due laws tells words before now a b due status.Depth h =
     let k = both_asked (asked words) (DueMissing tells before now) (λ r. OnBoth (K tells before r) r (Exhausted r)) due h in
     absurd (missing_both tells before now k.0 (Exhausted k.0) k.1 k.2)
-read_due tells words before now a b due status.Full h = inr (inr refl)
-read_due tells words before now a b due status.Memory h = inr (inl refl)
-read_due tells words before now a b due status.ReadFault h = inl refl
-read_due tells words before now a b due status.WriteFault (inl h) =
+read_due laws tells words before now a b due status.Full h = inr (inr refl)
+read_due laws tells words before now a b due status.Memory h = inr (inl refl)
+read_due laws tells words before now a b due status.ReadFault h = inl refl
+read_due laws tells words before now a b due status.WriteFault (inl h) =
     let k = both_asked (asked words) (DueMissing tells before now) (Somewhere tells before now) due h.0 in
     absurd (missing_both tells before now k.0 (λ p names given. IsUnwritten tells before now k.0 p names given k.2.0) k.1 (of_job tells before now k.0 k.2.0 (missing_first tells before now k.0 k.1) k.2.1))
-read_due tells words before now a b due status.WriteFault (inr h) =
+read_due laws tells words before now a b due status.WriteFault (inr h) =
     let k = both_asked (asked words) (DueMissing tells before now) (λ r. OnBoth (K tells before r) r (Front tells before now a b r)) due h.0 in
     absurd (missing_both tells before now k.0 (Front tells before now a b k.0) k.1 k.2)
-read_due tells words before now a b due status.Input h =
-    let k = both_asked (asked words) (DueMissing tells before now) (λ r. OnBoth (K tells before r) r (Unfit r)) due h in
-    absurd (missing_both tells before now k.0 (Unfit k.0) k.1 k.2)
+read_due laws tells words before now a b due status.Input h =
+    let k = both_asked (asked words) (DueMissing tells before now) (λ r. OnReached (K tells before r) r (Unfit r)) due h in
+    absurd (missing_reached laws tells before now k.0 (Unfit k.0) k.1 k.2)
 
 -- the words are not taken
 
@@ -468,32 +737,95 @@ usage_due tells words before now a b due status.Memory h = inr (inl refl)
 usage_due tells words before now a b due status.ReadFault h = absurd (none_asked (asked words) (Fails tells before now) due h)
 usage_due tells words before now a b due status.WriteFault (inl h) = absurd (none_asked (asked words) (Somewhere tells before now) due h.0)
 usage_due tells words before now a b due status.WriteFault (inr h) = absurd (none_asked (asked words) (λ r. OnBoth (K tells before r) r (Front tells before now a b r)) due h.0)
-usage_due tells words before now a b due status.Input h = absurd (none_asked (asked words) (λ r. OnBoth (K tells before r) r (Unfit r)) due h)
+usage_due tells words before now a b due status.Input h = absurd (none_asked (asked words) (λ r. OnReached (K tells before r) r (Unfit r)) due h)
 
 pub due_ends : Laws → (tells : Bool) (words : List (List ℕ)) (before now : ShelfView) (a b : SinkView) (end' : Status) → IsCause tells words before now a b end' → (due : Status) → IsDue tells words before now a b due → (end' ≡ due) ⊎ (end' ≡ status.Memory) ⊎ (end' ≡ status.Full)
 due_ends laws tells words before now a b end' h status.Done due = done_due laws tells words before now a b due end' h
 due_ends laws tells words before now a b end' h status.Source due = source_due tells words before now a b due end' h
 due_ends laws tells words before now a b end' h status.Usage due = usage_due tells words before now a b due end' h
 due_ends laws tells words before now a b end' h status.Depth due = depth_due laws tells words before now a b due end' h
-due_ends laws tells words before now a b end' h status.Full due = absurd due
+due_ends laws tells words before now a b end' h status.Full due = full_due laws tells words before now a b due end' h
 due_ends laws tells words before now a b end' h status.Memory due = absurd due
-due_ends laws tells words before now a b end' h status.ReadFault due = read_due tells words before now a b due end' h
+due_ends laws tells words before now a b end' h status.ReadFault due = read_due laws tells words before now a b due end' h
 due_ends laws tells words before now a b end' h status.WriteFault due = absurd due
 due_ends laws tells words before now a b end' h status.Input due = input_due laws tells words before now a b due end' h
 
--- chunks run out in a run alone
-scarce : (tells : Bool) (words : List (List ℕ)) (before now : ShelfView) (a b : SinkView) → IsCause tells words before now a b status.Full → AsksRun words
-scarce tells words before now a b h =
-    map_asked (asked words) (λ r. OnBoth (K tells before r) r (HasNoValue Full r)) (λ r. (r.job ≡ Run) ⊎ (r.job ≡ Gen))
-    (λ r k. full_runs r.job r.options k.holds.program k.holds.lexed.names k.given k.holds.holds.0 k.holds.holds.1) h
+-- chunks run out in a run alone, or where that is due
 
-due_or_scarce : (tells : Bool) (words : List (List ℕ)) (before now : ShelfView) (a b : SinkView) (end' due : Status) → IsCause tells words before now a b end' →
+abbrev Scarce : Plan → Type 0
+Scarce r = (r.job ≡ Run) ⊎ (r.job ≡ Gen) ⊎ (r.job ≡ Trace)
+
+abbrev Drained : Bool → ShelfView → Plan → Type 0
+Drained tells before r = OnBoth (K tells before r) r (HasNoValue Full r)
+
+-- what holds of two, holds of one
+map_two : (o : Option Plan) (P Q R : Plan → Type 0) → ((r : Plan) → P r → Q r → R r) → MatchOption o ⊥ P → MatchOption o ⊥ Q → MatchOption o ⊥ R
+map_two None P Q R go h k = absurd h
+map_two (Some r) P Q R go h k = go r h k
+
+run_or_replay : (r : Plan) (p : ProgramTree) (names : List (List ℕ)) (given : Contents) (file : Option (List ℕ)) → Does r.job r.options p names given file (Without Full) → Scarce r ⊎ (r.job ≡ Replay)
+run_or_replay r p names given file h = full_runs r.job r.options p names given file h
+
+module _ (laws : Laws) (tells : Bool) (before now : ShelfView) where
+  done_or_scarce : (a b : SinkView) (r : Plan) → DueAll tells before now a b r → Drained tells before r → Scarce r
+  done_or_scarce a b r due end' =
+      let both = clash laws tells before now r (HasText r) (HasNoValue Full r) due.0 end' in
+      let p = both.0 in
+      let names = both.1 in
+      let given = both.2 in
+      let text = both.3 in
+      let full = both.4 in
+      elim (run_or_replay r p names given full.0 full.1) [
+        | inl run ↦ run
+        | inr is ↦ absurd (text_or_full laws r.options p names given (without_image r.options) text.1 text.0 full.0 (ends_replay r.job (without_image r.options) p names given text.0 (Prints text.1) is text.2)
+            (as_replay r.job r.options p names given full.0 (Without Full) is full.1))
+      ]
+
+  depth_or_scarce : (r : Plan) → DueDepth tells before now r → Drained tells before r → Scarce r
+  depth_or_scarce r due end' =
+      let both = clash laws tells before now r (DueWithout before now Deep r) (HasNoValue Full r) due end' in
+      let p = both.0 in
+      let names = both.1 in
+      let given = both.2 in
+      let deep' = both.3.0 in
+      let full = both.4 in
+      elim (run_or_replay r p names given full.0 full.1) [
+        | inl run ↦ run
+        | inr is ↦ absurd (depth_or_full laws r.options p names given deep'.0 full.0 (ends_replay r.job r.options p names given deep'.0 (Without Deep) is deep'.1)
+            (as_replay r.job r.options p names given full.0 (Without Full) is full.1))
+      ]
+
+-- chunks ran out: that is due, or it is a run
+scarce : Laws → (tells : Bool) (words : List (List ℕ)) (before now : ShelfView) (a b : SinkView) (due : Status) → IsDue tells words before now a b due → IsCause tells words before now a b status.Full → (status.Full ≡ due) ⊎ AsksRun words
+scarce laws tells words before now a b status.Done due h = inr (map_two (asked words) (DueAll tells before now a b) (Drained tells before) Scarce (done_or_scarce laws tells before now a b) due h)
+scarce laws tells words before now a b status.Source due h =
+    let k = both_asked (asked words) (DueRefusal tells before now) (Drained tells before) due h in
+    absurd (a_program tells before now k.0 (HasNoValue Full k.0) k.1 k.2)
+scarce laws tells words before now a b status.Usage due h = absurd (none_asked (asked words) (Drained tells before) due h)
+scarce laws tells words before now a b status.Depth due h = inr (map_two (asked words) (DueDepth tells before now) (Drained tells before) Scarce (depth_or_scarce laws tells before now) due h)
+scarce laws tells words before now a b status.Full due h = inl refl
+scarce laws tells words before now a b status.Memory due h = absurd due
+scarce laws tells words before now a b status.ReadFault due h =
+    let k = both_asked (asked words) (DueMissing tells before now) (Drained tells before) due h in
+    absurd (missing_both tells before now k.0 (HasNoValue Full k.0) k.1 k.2)
+scarce laws tells words before now a b status.WriteFault due h = absurd due
+scarce laws tells words before now a b status.Input due h =
+    let k = both_asked (asked words) (DueRefused tells before now) (Drained tells before) due h in
+    let r = k.0 in
+    absurd (unfit_both laws tells before now r (HasNoValue Full r) (λ p names given f. does_accepts r.job r.options p names given f.0 (Without Full) f.1) k.1 k.2)
+
+due_or_scarce : Laws → (tells : Bool) (words : List (List ℕ)) (before now : ShelfView) (a b : SinkView) (end' due : Status) → IsDue tells words before now a b due → IsCause tells words before now a b end' →
     (end' ≡ due) ⊎ (end' ≡ status.Memory) ⊎ (end' ≡ status.Full) → IsDueOrScarce words due end'
-due_or_scarce tells words before now a b end' due h (inl e) = inl e
-due_or_scarce tells words before now a b end' due h (inr (inl e)) = inr (inl e)
-due_or_scarce tells words before now a b end' due h (inr (inr e)) = let P : Status → Type 0 = IsCause tells words before now a b in inr (inr (e, scarce tells words before now a b (subst P e h)))
+due_or_scarce laws tells words before now a b end' due is h (inl e) = inl e
+due_or_scarce laws tells words before now a b end' due is h (inr (inl e)) = inr (inl e)
+due_or_scarce laws tells words before now a b end' due is h (inr (inr e)) =
+    let P : Status → Type 0 = IsCause tells words before now a b in
+    elim (scarce laws tells words before now a b due is (subst P e h)) [
+      | inl same ↦ inl (e ∙ same)
+      | inr run ↦ inr (inr (e, run))
+    ]
 
 pub ends_as_due : Laws → (tells : Bool) (words : List (List ℕ)) (before now : ShelfView) (a b : SinkView) (end' : Status) (said : List ℕ) → IsEnding tells words before now a b end' said → (due : Status) → IsDue tells words before now a b due → IsDueOrScarce words due end'
 ends_as_due laws tells words before now a b end' said h due is =
     let cause = cause_of tells words before now a b end' said h in
-    due_or_scarce tells words before now a b end' due cause (due_ends laws tells words before now a b end' cause due is)
+    due_or_scarce laws tells words before now a b end' due is cause (due_ends laws tells words before now a b end' cause due is)

@@ -16,12 +16,13 @@ use Rattle.gib_app.specs.Writes.{at_reading, AreMade, writes_of}
 use Rattle.gib_app.specs.Formats.{inputs_of}
 use Rattle.gib_app.specs.Words.{asked}
 use Rattle.gib_app.specs.Running.{IsOutput, IsRunImage, RunsOut, text_line}
-use Rattle.gib_app.specs.Jobs.{MakesImage}
+use Rattle.gib_app.specs.Jobs.{MakesImage, run_forks}
 use Rattle.gib_app.specs.Causes.{OnProgram, OnBoth, EndsWithout, IsStored, IsUnread}
 use Rattle.gib_app.specs.Ending.{IsEnding, HasText, DueOfFiles, DueWithout, TakesAll}
 use Rattle.gib_app.specs.Headline.{run_plan, IsRun, Given, IsResult, IsResultImage, IsTooDeep, IsTooBig, NoneFailed}
 use Rattle.gib_app.proofs.Performing.{asked_of}
 use Rattle.gib_app.proofs.Writing.{written_here}
+use Rattle.gib_app.proofs.Replays.{some_or_none}
 use Rattle.gib_app.proofs.Endings.{Laws, Whole, DueAll, DueDepth, same_bytes, same_given, together, runs_well, cause_of, due_ends}
 
 asked_is : (o : Option Plan) (r : Plan) (P : Plan → Type 0) → o ≡ Some r → MatchOption o ⊥ P → P r
@@ -141,7 +142,7 @@ run_deep tells words before now out out_now source input options front said r h 
     deep_of source input options.depth (record { lexed = on.lexed; program = on.program; is_program = on.is_program; holds = on.holds.does.1 })
 
 pub run_full : (tells : Bool) (words : List (List ℕ)) (before now : ShelfView) (out out_now : SinkView) (source input : List ℕ) (options : Options) (front said : List ℕ) →
-    IsRun words before out source input options front → IsEnding tells words before now out out_now status.Full said → IsTooBig source input options.skips options.depth options.chunks
+    IsRun words before out source input options front → IsEnding tells words before now out out_now status.Full said → IsTooBig source input options.skips options.depth (run_forks options) options.chunks
 run_full tells words before now out out_now source input options front said r h =
     let plan = run_plan r.program r.packed r.image options in
     let P : Plan → Type 0 = λ q. OnBoth (at_reading tells before.kept q) q (EndsWithout tells before now Full q) in
@@ -162,9 +163,6 @@ run_full tells words before now out out_now source input options front said r h 
 packed_read : (before now : ShelfView) (d : Document) → ((name : List ℕ) → IsUnread before now d name → ⊥) → (name : List ℕ) → IsUnread before now d name ⊎ ⊥ → ⊥
 packed_read before now d quiet name (inl h) = quiet name h
 packed_read before now d quiet name (inr h) = h
-
-some_none : (bytes : List ℕ) → Some bytes ≡ None → ⊥
-some_none bytes e = cc
 
 due_of : (tells : Bool) (words : List (List ℕ)) (before now : ShelfView) (out out_now : SinkView) (source input : List ℕ) (options : Options) (front : List ℕ) (r : IsRun words before out source input options front) →
     NoneFailed r.program r.packed r.image before now out out_now → (P : ProgramTree → List (List ℕ) → Contents → Type 0) → OnProgram source (λ p names. P p names (record { second = input; further = [] })) →
@@ -198,7 +196,7 @@ run_ends_deep laws tells words before now out out_now source input options front
     let plan = run_plan r.program r.packed r.image options in
     let on = runs_out source input options.depth h in
     let due = due_of tells words before now out out_now source input options front r quiet (DueWithout before now DeepReason plan)
-    (record { lexed = on.lexed; program = on.program; is_program = on.is_program; holds = ((None, (refl, on.holds)), λ name bytes named does. absurd (some_none bytes does.0)) }) in
+    (record { lexed = on.lexed; program = on.program; is_program = on.is_program; holds = ((None, (refl, on.holds)), λ name bytes named does. absurd (some_or_none bytes does.0)) }) in
     due_ends laws tells words before now out out_now end' (cause_of tells words before now out out_now end' said ends) status.Depth (asked_of (asked words) plan (DueDepth tells before now) r.asks due)
 
 -- Chunks that are enough do not run out
@@ -226,7 +224,7 @@ fits_by laws tells words before now out out_now source input options front said 
     (run_ends_deep laws tells words before now out out_now source input options front said end' r quiet (record { given = g; means = deep }) ends)
 
 pub run_fits : Laws → (tells : Bool) (words : List (List ℕ)) (before now : ShelfView) (out out_now : SinkView) (source input : List ℕ) (options : Options) (front said : List ℕ) (end' : Status) →
-    (r : IsRun words before out source input options front) → NoneFailed r.program r.packed r.image before now out out_now → Given source input → (IsTooBig source input options.skips options.depth options.chunks → ⊥) →
+    (r : IsRun words before out source input options front) → NoneFailed r.program r.packed r.image before now out out_now → Given source input → (IsTooBig source input options.skips options.depth (run_forks options) options.chunks → ⊥) →
     IsEnding tells words before now out out_now end' said → (end' ≡ status.Done) ⊎ (end' ≡ status.Depth) ⊎ (end' ≡ status.Memory)
 run_fits laws tells words before now out out_now source input options front said end' r quiet g fits ends =
     let E : Status → Type 0 = λ s. IsEnding tells words before now out out_now s said in

@@ -4,7 +4,7 @@ use Rattle.gib_types.specs.declared.table.Ty.{Ty}
 use Rattle.gib_types.specs.Layout.{LaidOut}
 use Rattle.gib_types.specs.Tree.{Datum}
 use Rattle.std.specs.Int.{w64, to_le_bytes}
-use Rattle.gib_mem.specs.Memory.{Memory, Store, look_of, IsBounded}
+use Rattle.gib_mem.specs.Memory.{Memory, Store, look_of, with_drawn, IsBounded}
 use Rattle.gib_value.specs.Text.{AreHeld}
 use Rattle.gib_packed.specs.Stands.{Stands}
 use Rattle.gib_packed.specs.declared.root.Root.{Root}
@@ -17,10 +17,11 @@ use Rattle.gib_app.specs.declared.made.End.TheVariants as ends
 use Rattle.gib_app.specs.declared.made.Valued.{Valued}
 use Rattle.gib_app.specs.declared.plan.Options.{Options}
 use Rattle.gib_app.specs.Cores.{layouts_of}
-use Rattle.gib_app.specs.Imaging.{IsImaged}
+use Rattle.gib_app.specs.Imaging.{IsShownWith}
 use Rattle.gib_app.specs.Jobs.{MakesImage, Runs}
 use Rattle.gib_app.specs.Kept.{EndsBy}
 use Rattle.gib_app.specs.MachineRun.{StandsMeant, cells_of}
+use Rattle.gib_app.specs.Replaying.{IsImageFile}
 use Rattle.gib_app.specs.Running.{IsRunImage, text_line}
 use Rattle.gib_app.specs.declared.stop.Stop.{Stop}
 use Rattle.gib_app.specs.declared.stop.Stop.TheVariants.{Memory as NoMemory}
@@ -33,6 +34,13 @@ WrittenIsRead = (laid : LaidOut) (m : Memory) (place : Root) (ty : Ty) (v : Datu
 pub image_stands : WrittenIsRead → (laid : LaidOut) (m : Memory) (place : Root) (bytes : List ℕ) → IsBounded m → m.drawn ≤ 65536 → bytes ≡ image_of m place
     → (ty : Ty) (v : Datum) → Stands laid m.cells place ty v → IsImageOf laid ty bytes v
 image_stands law laid m place bytes bounded few is ty v stands = subst (λ (l : List ℕ). IsImageOf laid ty l v) (sym is) (law laid m place ty v bounded few stands)
+
+-- The chunks of a memory of one owner are counted, and all stays.
+pub counted : (a b : Memory) (n : ℕ) → b ≡ with_drawn a n → n ≡ a.drawn → b ≡ a
+counted a b n e f = e ∙ ap (with_drawn a) f
+
+pub file_shown : (laid : LaidOut) (m : Memory) (place : Root) (bytes : List ℕ) (ty : Ty) (v : Datum) → bytes ≡ image_of m place → IsImageOf laid ty bytes v → IsImageOf laid ty (image_of m place) v
+file_shown laid m place bytes ty v is h = subst (λ (l : List ℕ). IsImageOf laid ty l v) is h
 
 -- How long the image of a memory is.
 
@@ -64,23 +72,34 @@ image_few laid m place bytes bounded is ty v image =
     let order = bounded.order in
     omega (arith, long, size, same, order)
 
--- An image and a text end a run that is asked for an image.
-pub imaged_ends : (p : ProgramTree) (names : List (List ℕ)) (o : Options) (input : List ℕ) (laid : LaidOut) (cells : Store) (place : Root) (s : StandsMeant p o.depth input laid cells place)
-    → laid ≡ layouts_of o.skips p → o.image ≡ true → (limit : ℕ) → limit ≡ o.chunks → (file : Option (List ℕ)) (e : KeptEnd) → IsImaged laid limit p names s.result file e → EndsBy file e (Runs p names o input)
-imaged_ends p names o input laid cells place s same on limit bound None e h = absurd h
-imaged_ends p names o input laid cells place s same on limit bound (Some bytes) (ends.Prints text) h =
-    let image : IsRunImage p o.skips o.depth o.chunks input bytes = record {
+-- The image of the memory that a run leaves, where one is asked for.
+image_made : (b : Bool) (p : ProgramTree) (o : Options) (input : List ℕ) (laid : LaidOut) (m : Memory) (place : Root) (s : StandsMeant p o.depth input laid m.cells place)
+    → IsBounded m → laid ≡ layouts_of o.skips p → m.limit ≡ o.chunks → (file : Option (List ℕ)) → IsImageFile b laid (output_type p) m place s.result file
+    → MakesImage b p o.skips o.depth o.chunks input file
+image_made false p o input laid m place s bounded same limit file h = h
+image_made true p o input laid m place s bounded same limit None h = let other : None ≡ Some (image_of m place) = h.0 in absurd cc
+image_made true p o input laid m place s bounded same limit (Some bytes) h =
+    let is : bytes ≡ image_of m place = let e = h.0 in cc in
+    let image : IsImageOf laid (output_type p) bytes s.result = subst (λ (l : List ℕ). IsImageOf laid (output_type p) l s.result) (sym is) h.1 in
+    record {
       value = s.value;
       result = s.result;
       is_input = s.is_input;
       means = s.means;
-      image = subst (λ (l : LaidOut). IsImageOf l (output_type p) bytes s.result) same h.0;
-      few = subst (λ (n : ℕ). chunk_count bytes ≤ n) bound h.1;
-    } in
-    let M : Bool → Type 0 = λ b. MakesImage b p o.skips o.depth o.chunks input (Some bytes) in
-    (subst M (sym on) image, record { value = s.value; result = s.result; is_input = s.is_input; means = s.means; is_text = h.2 })
-imaged_ends p names o input laid cells place s same on limit bound (Some bytes) (ends.Value value) h = absurd h
-imaged_ends p names o input laid cells place s same on limit bound (Some bytes) (ends.NoValue reason) h = absurd h
+      image = subst (λ (l : LaidOut). IsImageOf l (output_type p) bytes s.result) same image;
+      few = subst (λ (n : ℕ). chunk_count bytes ≤ n) limit (image_few laid m place bytes bounded is (output_type p) s.result image);
+    }
+
+-- A text, and an image where one is asked for, end a run.
+pub shown_runs : (p : ProgramTree) (names : List (List ℕ)) (o : Options) (input : List ℕ) (laid : LaidOut) (m : Memory) (place : Root) (s : StandsMeant p o.depth input laid m.cells place)
+    → IsBounded m → laid ≡ layouts_of o.skips p → m.limit ≡ o.chunks → (b : Bool) → o.image ≡ b → (file : Option (List ℕ)) (e : KeptEnd) → IsShownWith b laid m place p names s.result file e → EndsBy file e (Runs p names o input)
+shown_runs p names o input laid m place s bounded same limit b asked file (ends.Prints text) h =
+    let M : Bool → Type 0 = λ x. MakesImage x p o.skips o.depth o.chunks input file in (
+      subst M (sym asked) (image_made b p o input laid m place s bounded same limit file h.0),
+      record { value = s.value; result = s.result; is_input = s.is_input; means = s.means; is_text = h.1 },
+    )
+shown_runs p names o input laid m place s bounded same limit b asked file (ends.Value value) h = absurd h
+shown_runs p names o input laid m place s bounded same limit b asked file (ends.NoValue reason) h = absurd h
 
 -- A value in region memory ends one that is not.
 pub value_ends : (p : ProgramTree) (o : Options) (input : List ℕ) (value : Valued) → AreHeld value.ran.lowered.code.laid.table value.names → o.image ≡ false
@@ -104,19 +123,23 @@ text_kept old new got text e put g =
     let is : new ≡ old ++ text = cc in
     g ∙ is ∙ ap (λ (l : List ℕ). l ++ text) e
 
--- What is printed of a memory is what is printed of the same memory.
-pub text_moved : (p : ProgramTree) (depth : ℕ) (input : List ℕ) (names : List (List ℕ)) (text : List ℕ) (laid other : LaidOut) (m n : Memory) (place spot : Root) → other ≡ laid → n ≡ m → spot ≡ place
-    → ((q : ProgramTree) (d : ℕ) (i : List ℕ) (s : StandsMeant q d i other n.cells spot) → text ≡ text_line q names s.result)
-    → (s : StandsMeant p depth input laid m.cells place) → text ≡ text_line p names s.result
-text_moved p depth input names text laid other m n place spot e f g printed s =
+-- What stands in a memory stands in the same one.
+abbrev pub stands_again : (p : ProgramTree) (depth : ℕ) (input : List ℕ) (laid other : LaidOut) (m n : Memory) (place spot : Root) → other ≡ laid → n ≡ m → spot ≡ place
+    → StandsMeant p depth input laid m.cells place → StandsMeant p depth input other n.cells spot
+stands_again p depth input laid other m n place spot e f g s =
     let one = subst (λ (l : LaidOut). Stands l m.cells place (output_type p) s.result) (sym e) s.stands in
     let two = subst (λ (x : Memory). Stands other x.cells place (output_type p) s.result) (sym f) one in
-    let three = subst (λ (r : Root). Stands other n.cells r (output_type p) s.result) (sym g) two in
-    printed p depth input (record {
+    record {
       value = s.value;
       result = s.result;
       is_input = s.is_input;
       means = s.means;
       table = ap (λ (l : LaidOut). l.table) e ∙ s.table;
-      stands = three;
-    })
+      stands = subst (λ (r : Root). Stands other n.cells r (output_type p) s.result) (sym g) two;
+    }
+
+-- What is printed of a memory is what is printed of the same memory.
+pub text_moved : (p : ProgramTree) (depth : ℕ) (input : List ℕ) (names : List (List ℕ)) (text : List ℕ) (laid other : LaidOut) (m n : Memory) (place spot : Root) → other ≡ laid → n ≡ m → spot ≡ place
+    → ((q : ProgramTree) (d : ℕ) (i : List ℕ) (s : StandsMeant q d i other n.cells spot) → text ≡ text_line q names s.result)
+    → (s : StandsMeant p depth input laid m.cells place) → text ≡ text_line p names s.result
+text_moved p depth input names text laid other m n place spot e f g printed s = printed p depth input (stands_again p depth input laid other m n place spot e f g s)

@@ -1,5 +1,5 @@
--- A second file is refused for one fault, and then it is not accepted.
-use Rattle.std.proofs.Common.{◌≡◌, ◌∙◌, refl, Bool, ℕ, ◌≤◌, List, length, drop, Err, inl, inr, sym, subst, ap, arith}
+-- Inputs are refused for one fault, and then they are not accepted.
+use Rattle.std.proofs.Common.{◌≡◌, ◌∙◌, refl, Bool, ℕ, ◌≤◌, List, length, Err, inl, inr, sym, subst, ap, arith}
 use Rattle.gib_types.specs.declared.table.Ty.{Ty}
 use Rattle.gib_types.specs.Table.{Table}
 use Rattle.gib_types.specs.Tree.{Datum, HasType}
@@ -9,7 +9,7 @@ use Rattle.gib_file.specs.declared.fault.HeadFault.{HeadFault}
 use Rattle.gib_file.specs.declared.fault.HeadFault.TheVariants as header
 use Rattle.gib_file.specs.declared.fault.PackFault.{PackFault}
 use Rattle.gib_file.specs.declared.fault.PackFault.TheVariants as payload
-use Rattle.gib_file.specs.Framed.{File, Framed, HasMagic, IsFirstFault}
+use Rattle.gib_file.specs.Framed.{File, HasMagic, IsFirstFault}
 use Rattle.gib_file.specs.Reading.{read_all}
 use Rattle.gib_file.proofs.HeadLemmas.{parts, no_file as no_fault, one_fault as one_header_fault}
 use Rattle.gib_syntax.specs.Tree.{ProgramTree}
@@ -20,21 +20,32 @@ use Rattle.gib_print.specs.declared.image_fault.ImageFault.TheVariants as readin
 use Rattle.gib_print.specs.ImageReading.{IsRefused as IsRefusedImage}
 use Rattle.gib_app.specs.Cores.{layouts_of}
 use Rattle.gib_app.specs.declared.input_fault.InputFault.{InputFault}
-use Rattle.gib_app.specs.declared.input_fault.InputFault.TheVariants.{Long, Packed, Image, Text}
+use Rattle.gib_app.specs.declared.input_fault.InputFault.TheVariants.{Long, Packed, Image, Text, Journal}
 use Rattle.gib_app.specs.declared.input_fault.ImageFault.{ImageFault}
 use Rattle.gib_app.specs.declared.input_fault.ImageFault.TheVariants as image
 use Rattle.gib_app.specs.declared.input_fault.PackedFault.{PackedFault}
 use Rattle.gib_app.specs.declared.input_fault.PackedFault.TheVariants.{Header, Short, Tag, Truth, Trailing}
 use Rattle.gib_app.specs.declared.plan.Job.{Job}
-use Rattle.gib_app.specs.declared.plan.Job.TheVariants.{Run, Plain, Check, Core, Code, Pack, Show, Gen}
-use Rattle.gib_app.specs.InputFaults.{IsPayloadFault, IsFileFault, IsInputFault, IsImageFault, IsShowFault, IsTextFault}
+use Rattle.gib_app.specs.declared.input_fault.JournalFault.{JournalFault}
+use Rattle.gib_app.specs.declared.input_fault.JournalFault.TheVariants as journal
+use Rattle.gib_app.specs.declared.plan.Job.TheVariants.{Run, Plain, Check, Core, Code, Pack, Show, Gen, Trace, Replay}
+use Rattle.gib_app.specs.InputFaults.{IsPayloadFault, IsFileFault, IsInputFault, IsImageFault, IsJournalFault, IsReplayFault, IsShowFault, IsTextFault}
 use Rattle.gib_app.specs.Plan.{Contents}
+use Rattle.gib_app.specs.Replaying.{Happens, IsJournal, IsNotEnabled, IsNotEnded, OnJournal, code_for, journal_in, start_for}
 use Rattle.gib_app.specs.Formats.{Accepts, Refuses}
 use Rattle.gib_app.specs.Packing.{without_feed, IsPackedText}
 use Rattle.gib_app.specs.Running.{IsInput, IsShownValue}
 use Rattle.gib_app.proofs.Doing.{shown_short}
 use Rattle.gib_app.proofs.Signs.{signs_differ, formed_sign, fault_sign, no_packed_value, no_sign_value, ReadOrRefused, no_image_value}
 use Rattle.gib_app.proofs.Refusals.{HeaderRefuses, PayloadRefuses, no_file}
+use Rattle.gib_app.proofs.Replays.{OneValue, both_on, start_alone}
+use Rattle.gib_mem.specs.Memory.{Memory}
+use Rattle.gib_weave.specs.declared.task.WeaveFault.TheVariants as event
+use Rattle.gib_locked.specs.declared.journal.Line.{Line}
+use Rattle.gib_locked.specs.declared.settings.Settings.{Settings}
+use Rattle.gib_locked.proofs.OneEnd.{not_answered, not_both, not_open, not_open_and_answered, one_number}
+use Rattle.gib_locked.proofs.OneRefusal.{one_refusal as one_line}
+use Rattle.gib_locked.proofs.ReadJournal.{never}
 
 -- The fault of a packed file is that of its header, or of its payload.
 
@@ -93,6 +104,7 @@ pub record Laws (table : Table) (names : List (List ℕ)) : Type 0 where
   pub headers : HeaderRefuses
   pub payloads : PayloadRefuses
   pub files : (t : Table) (ty : Ty) (v : Datum) (a b : List ℕ) → File t ty v a → File t ty v b → a ≡ b
+  pub values : OneValue
   pub texts : (ty : Ty) (v w : Datum) → HasType table v ty → HasType table w ty → text table names v ≡ text table names w → v ≡ w
   pub no_text : (ty : Ty) (bytes : List ℕ) (place : ℕ) (v : Datum) → IsRefusedAt table names ty bytes place → IsTextOf table names ty v bytes → ⊥
   pub images : (laid : LaidOut) (type : Ty) (bytes : List ℕ) (f g : ReadFault) → IsRefusedImage laid type bytes f → IsRefusedImage laid type bytes g → f ≡ g
@@ -110,10 +122,13 @@ module _ (p : ProgramTree) (names : List (List ℕ)) (laws : Laws (table_of_prog
   one_input (Packed f) (Long b) h k = let many = k.1 in let short = h.0 in absurd (omega (arith, many, short))
   one_input (Packed f) (Packed g) h k = one_packed f g h.1 k.1
   one_input (Packed f) (Text place) h k = absurd k
+  one_input (Long a) (Journal g) h k = absurd k
+  one_input (Packed f) (Journal g) h k = absurd k
   one_input (Long a) (Image g) h k = absurd k
   one_input (Packed f) (Image g) h k = absurd k
   one_input (Image f) g h k = absurd h
   one_input (Text place) g h k = absurd h
+  one_input (Journal f) g h k = absurd h
 
   long_or_shown : (most : ℕ) (f : PackedFault) → IsShowFault p skips bytes (Long most) → IsShown p skips bytes f → ⊥
   long_or_shown most f (inl h) s = let many = h.1 in let short = s.short in omega (arith, many, short)
@@ -163,7 +178,11 @@ module _ (p : ProgramTree) (names : List (List ℕ)) (laws : Laws (table_of_prog
   one_show (Image f) (Packed g) h k = absurd (packed_or_image g f k h)
   one_show (Image f) (Image g) h k = ap Image (one_image f g h.1 k.1)
   one_show (Image f) (Text place) h k = absurd k
+  one_show (Long a) (Journal g) h k = absurd k
+  one_show (Packed f) (Journal g) h k = absurd k
+  one_show (Image f) (Journal g) h k = absurd k
   one_show (Text place) g h k = absurd h
+  one_show (Journal f) g h k = absurd h
 
   long_or_text : (most place : ℕ) → IsTextFault p names bytes (Long most) → IsTextFault p names bytes (Text place) → ⊥
   long_or_text most place (e, inl many) k = let short = k.0 in omega (arith, many, short)
@@ -179,6 +198,9 @@ module _ (p : ProgramTree) (names : List (List ℕ)) (laws : Laws (table_of_prog
   one_text (Packed f) g h k = absurd h
   one_text (Text place) (Long b) h k = absurd (long_or_text b place k h)
   one_text (Text place) (Packed g) h k = absurd k
+  one_text (Long a) (Journal g) h k = absurd k
+  one_text (Text place) (Journal g) h k = absurd k
+  one_text (Journal f) g h k = absurd h
   one_text (Text a) (Text b) h k = ap Text (laws.one_place (input_type p) (without_feed bytes) a b h.1 k.1)
 
   -- A file that is refused is not accepted.
@@ -188,6 +210,7 @@ module _ (p : ProgramTree) (names : List (List ℕ)) (laws : Laws (table_of_prog
   not_input (Packed f) v h is = no_file laws.headers laws.payloads (table_of_program p) (input_type p) bytes f h.1 v is.file
   not_input (Image f) v h is = h
   not_input (Text place) v h is = h
+  not_input (Journal f) v h is = h
 
   not_long : (most : ℕ) (v : Datum) → IsShowFault p skips bytes (Long most) → IsShownValue p skips v bytes → ⊥
   not_long most v (inl h) is = let many = h.1 in let short = shown_short p skips v bytes is in omega (arith, many, short)
@@ -212,6 +235,7 @@ module _ (p : ProgramTree) (names : List (List ℕ)) (laws : Laws (table_of_prog
   not_shown (Packed f) v h is = not_packed f v h is
   not_shown (Image f) v h is = no_image_value laws.no_image p skips bytes f h.1 v is
   not_shown (Text place) v h is = h
+  not_shown (Journal f) v h is = h
 
   not_text : (f : InputFault) (file : List ℕ) → IsTextFault p names bytes f → IsPackedText p names bytes file → ⊥
   not_text (Long most) file (e, inl many) is = let short = is.short in omega (arith, many, short)
@@ -225,7 +249,107 @@ module _ (p : ProgramTree) (names : List (List ℕ)) (laws : Laws (table_of_prog
       omega (arith, one, many, few)
   not_text (Packed f) file h is = h
   not_text (Image f) file h is = h
+  not_text (Journal f) file h is = h
   not_text (Text place) file h is = laws.no_text (input_type p) (without_feed bytes) place is.value h.1 is.is_text
+
+-- A packed file and a journal.
+
+abbrev NotEnabled : ProgramTree → ℕ → Datum → Settings → List Line → Type 0
+NotEnabled p n v settings lines = IsNotEnabled p v settings lines n
+
+module _ (p : ProgramTree) (names : List (List ℕ)) (laws : Laws (table_of_program p) names) (skips : Bool) (input bytes : List ℕ) where
+  no_packed : (f : InputFault) (v : Datum) → IsInputFault p input f → IsInput p v input → ⊥
+  no_packed f v h is = not_input p names laws skips input f v h is
+
+  -- a journal with a fault has no more bytes than are read
+  journal_short : (v : Datum) (f : JournalFault) → IsJournalFault p v bytes f → length bytes ≤ 16777216
+  journal_short v (journal.Line n) h = h.0
+  journal_short v (journal.NotEnabled n) h = h.2.short
+  journal_short v journal.NotEnded h = h.2.short
+
+  on_journal : (P : Datum → Settings → List Line → Type 0) (v : Datum) → IsInput p v input → ((settings : Settings) × (lines : List Line) × IsJournal settings lines bytes × P v settings lines) → OnJournal p input bytes P
+  on_journal P v is h = record { value = v; settings = h.0; lines = h.1; is_input = is; is_journal = h.2; holds = h.3 }
+
+  one_place' : (n m : ℕ) → OnJournal p input bytes (NotEnabled p n) → OnJournal p input bytes (NotEnabled p m) → n ≡ m
+  one_place' n m h k =
+      let both = both_on laws.values p input bytes (NotEnabled p n) (NotEnabled p m) h k in
+      one_number (code_for p both.1) (start_for p both.1 both.0) both.2 (start_alone p both.1 both.0) n m event.NotNow event.NotNow tt tt both.3.1 both.4.1
+
+  enabled_or_ended : (n : ℕ) → OnJournal p input bytes (NotEnabled p n) → OnJournal p input bytes (IsNotEnded p) → ⊥
+  enabled_or_ended n h k =
+      let both = both_on laws.values p input bytes (NotEnabled p n) (IsNotEnded p) h k in
+      not_open (code_for p both.1) (start_for p both.1 both.0) both.2 (start_alone p both.1 both.0) n event.NotNow tt both.3.1 both.4.1
+
+  one_journal : (v w : Datum) → IsInput p v input → IsInput p w input → (f g : JournalFault) → IsJournalFault p v bytes f → IsJournalFault p w bytes g → f ≡ g
+  one_journal v w is also (journal.Line n) (journal.Line m) h k = ap journal.Line (one_line bytes n m h.1 k.1)
+  one_journal v w is also (journal.Line n) (journal.NotEnabled m) h k = absurd (never bytes n k.0 k.1 k.2.are k.2.text_is h.1)
+  one_journal v w is also (journal.Line n) journal.NotEnded h k = absurd (never bytes n k.0 k.1 k.2.are k.2.text_is h.1)
+  one_journal v w is also (journal.NotEnabled n) (journal.Line m) h k = absurd (never bytes m h.0 h.1 h.2.are h.2.text_is k.1)
+  one_journal v w is also (journal.NotEnabled n) (journal.NotEnabled m) h k = ap journal.NotEnabled (one_place' n m (on_journal (NotEnabled p n) v is h) (on_journal (NotEnabled p m) w also k))
+  one_journal v w is also (journal.NotEnabled n) journal.NotEnded h k = absurd (enabled_or_ended n (on_journal (NotEnabled p n) v is h) (on_journal (IsNotEnded p) w also k))
+  one_journal v w is also journal.NotEnded (journal.Line m) h k = absurd (never bytes m h.0 h.1 h.2.are h.2.text_is k.1)
+  one_journal v w is also journal.NotEnded (journal.NotEnabled m) h k = absurd (enabled_or_ended m (on_journal (NotEnabled p m) w also k) (on_journal (IsNotEnded p) v is h))
+  one_journal v w is also journal.NotEnded journal.NotEnded h k = refl
+
+  long_or_packed : (a : ℕ) (f : PackedFault) → IsReplayFault p input bytes (Long a) → IsReplayFault p input bytes (Packed f) → ⊥
+  long_or_packed a f (inl h) k = let many = h.1 in let short = k.0 in omega (arith, many, short)
+  long_or_packed a f (inr h) k = no_packed (Packed f) h.0.0 k h.0.1
+
+  long_or_journal : (a : ℕ) (f : JournalFault) → IsReplayFault p input bytes (Long a) → IsReplayFault p input bytes (Journal f) → ⊥
+  long_or_journal a f (inl h) k = no_packed (Long a) k.0 h k.1
+  long_or_journal a f (inr h) k = let many = h.2 in let short = journal_short k.0 f k.2 in omega (arith, many, short)
+
+  both_long : (a b : ℕ) → IsReplayFault p input bytes (Long a) → IsReplayFault p input bytes (Long b) → a ≡ b
+  both_long a b (inl h) (inl k) = h.0 ∙ sym k.0
+  both_long a b (inl h) (inr k) = absurd (no_packed (Long a) k.0.0 h k.0.1)
+  both_long a b (inr h) (inl k) = absurd (no_packed (Long b) h.0.0 k h.0.1)
+  both_long a b (inr h) (inr k) = h.1 ∙ sym k.1
+
+  one_replay : (f g : InputFault) → IsReplayFault p input bytes f → IsReplayFault p input bytes g → f ≡ g
+  one_replay (Long a) (Long b) h k = ap Long (both_long a b h k)
+  one_replay (Long a) (Packed g) h k = absurd (long_or_packed a g h k)
+  one_replay (Long a) (Image g) h k = absurd k
+  one_replay (Long a) (Text place) h k = absurd k
+  one_replay (Long a) (Journal g) h k = absurd (long_or_journal a g h k)
+  one_replay (Packed f) (Long b) h k = absurd (long_or_packed b f k h)
+  one_replay (Packed f) (Packed g) h k = one_packed p names laws skips input f g h.1 k.1
+  one_replay (Packed f) (Image g) h k = absurd k
+  one_replay (Packed f) (Text place) h k = absurd k
+  one_replay (Packed f) (Journal g) h k = absurd (no_packed (Packed f) k.0 h k.1)
+  one_replay (Image f) g h k = absurd h
+  one_replay (Text place) g h k = absurd h
+  one_replay (Journal f) (Long b) h k = absurd (long_or_journal b f k h)
+  one_replay (Journal f) (Packed g) h k = absurd (no_packed (Packed g) h.0 k h.1)
+  one_replay (Journal f) (Image g) h k = absurd k
+  one_replay (Journal f) (Text place) h k = absurd k
+  one_replay (Journal f) (Journal g) h k = ap Journal (one_journal h.0 k.0 h.1 k.1 f g h.2 k.2)
+
+  -- Where events lead to an end, or chunks run out, no event is refused, and the root does not go on.
+
+  enabled_or_happens : (n : ℕ) (v : Datum) (settings : Settings) (lines : List Line) → IsNotEnabled p v settings lines n → Happens p v settings lines → ⊥
+  enabled_or_happens n v settings lines h (inl e) = not_answered (code_for p settings) (start_for p settings v) lines (start_alone p settings v) n event.NotNow tt h.1 e.0 e.1 e.2.answered
+  enabled_or_happens n v settings lines h (inr (inl no')) = no' h.0
+  enabled_or_happens n v settings lines h (inr (inr k)) = not_both (code_for p settings) (start_for p settings v) lines (start_alone p settings v) n k.1 h.1 k.2
+
+  ended_or_happens : (v : Datum) (settings : Settings) (lines : List Line) → IsNotEnded p v settings lines → Happens p v settings lines → ⊥
+  ended_or_happens v settings lines h (inl e) = not_open_and_answered (code_for p settings) (start_for p settings v) lines (start_alone p settings v) h.1 e.0 e.1 e.2.answered
+  ended_or_happens v settings lines h (inr (inl no')) = no' h.0
+  ended_or_happens v settings lines h (inr (inr k)) = not_open (code_for p settings) (start_for p settings v) lines (start_alone p settings v) k.1 event.Full tt k.2 h.1
+
+  no_journal : (v : Datum) (f : JournalFault) → IsInput p v input → IsJournalFault p v bytes f → OnJournal p input bytes (Happens p) → ⊥
+  no_journal v (journal.Line n) is h k = never bytes n k.settings k.lines k.is_journal.are k.is_journal.text_is h.1
+  no_journal v (journal.NotEnabled n) is h k =
+      let both = both_on laws.values p input bytes (NotEnabled p n) (Happens p) (on_journal (NotEnabled p n) v is h) k in enabled_or_happens n both.0 both.1 both.2 both.3 both.4
+  no_journal v journal.NotEnded is h k =
+      let both = both_on laws.values p input bytes (IsNotEnded p) (Happens p) (on_journal (IsNotEnded p) v is h) k in ended_or_happens both.0 both.1 both.2 both.3 both.4
+
+  not_replayed : (f : InputFault) → IsReplayFault p input bytes f → OnJournal p input bytes (Happens p) → ⊥
+  not_replayed (Long most) (inl h) k = no_packed (Long most) k.value h k.is_input
+  not_replayed (Long most) (inr h) k = let many = h.2 in let short = k.is_journal.short in omega (arith, many, short)
+  not_replayed (Packed f) h k = no_packed (Packed f) k.value h k.is_input
+  not_replayed (Image f) h k = h
+  not_replayed (Text place) h k = h
+  not_replayed (Journal f) h k = no_journal h.0 f h.1 h.2 k
 
 -- The inputs of a job.
 module _ (p : ProgramTree) (names : List (List ℕ)) (laws : Laws (table_of_program p) names) (skips : Bool) (given : Contents) where
@@ -238,6 +362,8 @@ module _ (p : ProgramTree) (names : List (List ℕ)) (laws : Laws (table_of_prog
   one_refusal Pack f g h k = one_text p names laws skips given.second f g h k
   one_refusal Show f g h k = one_show p names laws skips given.second f g h k
   one_refusal Gen f g h k = one_input p names laws skips given.second f g h k
+  one_refusal Trace f g h k = one_input p names laws skips given.second f g h k
+  one_refusal Replay f g h k = one_replay p names laws skips given.second (journal_in given) f g h k
 
   pub not_accepted : (job : Job) (f : InputFault) → Refuses job skips p names given f → Accepts job skips p names given → ⊥
   not_accepted Run f h a = not_input p names laws skips given.second f a.0 h a.1
@@ -248,3 +374,5 @@ module _ (p : ProgramTree) (names : List (List ℕ)) (laws : Laws (table_of_prog
   not_accepted Pack f h a = not_text p names laws skips given.second f a.0 h a.1
   not_accepted Show f h a = not_shown p names laws skips given.second f a.0 h a.1
   not_accepted Gen f h a = not_input p names laws skips given.second f a.0 h a.1
+  not_accepted Trace f h a = not_input p names laws skips given.second f a.0 h a.1
+  not_accepted Replay f h a = not_replayed p names laws skips given.second (journal_in given) f h a

@@ -1,6 +1,9 @@
 mod Held
 mod Told
 mod Doing
+mod AfterReads
+mod Replays
+mod Repeats
 mod Making
 mod Decimals
 mod Performing
@@ -25,3 +28,7 @@ mod InputLaws
 mod Writing
 mod FirstWriting
 mod Staging
+mod Stopped
+mod Leading
+mod JournalEnds
+mod Loads

@@ -1,7 +1,14 @@
 -- From the parts of making to the whole.
-use Rattle.std.proofs.Common.{◌≡◌, Bool, refl, ap, ℕ, ◌<◌, List, [], ◌∷◌, length, Option, Some, None, MatchOption, option_map, option_to_list, subst, sym, inl, inr}
+use Rattle.std.proofs.Common.{◌≡◌, ◌∙◌, Bool, refl, ap, ℕ, ◌<◌, ◌≤◌, List, [], ◌∷◌, length, Option, Some, None, MatchOption, option_map, option_to_list, subst, sym, inl, inr, arith}
+use Rattle.std.specs.Option.{option_map_or}
 use Rattle.gib_edge.specs.Causes.{Rose}
 use Rattle.gib_edge.specs.Views.{ShelfView}
+use Rattle.gib_types.specs.declared.table.Ty.{Ty}
+use Rattle.gib_types.specs.Table.{Table}
+use Rattle.gib_types.specs.Tree.{Datum}
+use Rattle.gib_file.specs.Framed.{File}
+use Rattle.gib_file.specs.Packed.{Packed}
+use Rattle.gib_syntax.specs.Declarations.{table_of_program, input_type}
 use Rattle.gib_syntax.specs.Tree.{ProgramTree}
 use Rattle.gib_app.specs.declared.input_fault.InputFault.{InputFault}
 use Rattle.gib_app.specs.declared.input_fault.InputFault.TheVariants as input
@@ -9,16 +16,20 @@ use Rattle.gib_app.specs.declared.stop.Stop.{Stop}
 use Rattle.gib_app.specs.declared.stop.Stop.TheVariants.{Usage, Source, Unread, Input, NoValue, Memory, Unwritten, Unput}
 use Rattle.gib_app.specs.declared.plan.Input.{Input as KeptInput}
 use Rattle.gib_app.specs.Kept.{document_of, input_of}
+use Rattle.gib_app.specs.declared.plan.Job.{Job}
+use Rattle.gib_app.specs.declared.plan.Job.TheVariants.{Run, Plain, Check, Core, Code, Pack, Show, Gen, Trace, Replay}
 use Rattle.gib_app.specs.Plan.{Document, BuiltIn, Named, Plan, Files, Contents}
-use Rattle.gib_app.specs.Running.{IsSource, IsNoProgram}
+use Rattle.gib_app.specs.Running.{IsInput, IsSource, IsNoProgram}
 use Rattle.gib_app.specs.SourceFaults.{IsSourceFault}
-use Rattle.gib_app.specs.Formats.{inputs_of, most_of, Accepts, Refuses}
+use Rattle.gib_app.specs.InputFaults.{IsInputFault, IsReplayFault}
+use Rattle.gib_app.specs.Formats.{format_of, inputs_of, limits_of, most_of, with_limits, Accepts, Refuses}
 use Rattle.gib_app.specs.Formats.{Input as PlanInput}
-use Rattle.gib_app.specs.Causes.{Holds, AreGiven, OnSource, OnBoth, IsUnread, AreUnread, FailsToRead}
-use Rattle.gib_app.specs.Stops.{IsCompiled, IsCompileStop, IsReadStop, IsSourceStop, IsInputStop, FailsTo, IsMakeStop, IsStop}
+use Rattle.gib_app.specs.Causes.{Holds, AreFurther, AreGiven, AreReached, OnSource, OnBoth, OnReached, IsUnread, AreUnread, FailsToRead, TakesFirst, first_of, further_of}
+use Rattle.gib_app.specs.Stops.{IsCompiled, IsCompileStop, IsReadStop, IsSourceStop, IsInputStop, IsLongFurther, IsFurtherStop, IsInputsStop, IsPackedStop, IsRunStop, FailsTo, IsMakeStop, IsStop}
 use Rattle.gib_app.specs.Writes.{at_reading}
-use Rattle.gib_app.proofs.Told.{document_before, held_before}
-use Rattle.gib_app.proofs.Doing.{long_refused}
+use Rattle.gib_app.proofs.Told.{document_before, further_before, held_before}
+use Rattle.gib_app.proofs.Doing.{shown_short}
+use Rattle.gib_app.proofs.Refusals.{run_stop}
 
 -- what holds of the compiled program and the inputs holds of the plan's files
 pub on_both : (kept : Files) (r : Plan) (d : Document) (p : ProgramTree) (names : List (List ℕ)) (given : Contents) (P : ProgramTree → List (List ℕ) → Contents → Type 0) → d ≡ r.source →
@@ -38,6 +49,40 @@ source_here : (kept : Files) (r : Plan) (d : Document) (p : ProgramTree) (names 
 source_here kept r d p names e on =
     let H : Document → Type 0 = λ x. Holds kept x on.source in
     record { source = on.source; source_held = subst H e on.source_held; holds = (on.holds.lexed, p, on.holds.is_program) }
+
+-- inputs that are given are reached
+pub reached_all : (kept : Files) (p : ProgramTree) (is : List PlanInput) (given : Contents) → AreGiven kept is given → AreReached kept p is given
+reached_all kept p [] given h = h
+reached_all kept p (i ∷ is) given h = (h.0, λ taken. h.1)
+
+-- the first one is, where it is refused
+reached_first : (kept : Files) (p : ProgramTree) (is : List PlanInput) (first : List ℕ) → (((v : Datum) × IsInput p v first) → ⊥) → AreGiven kept (first_of is) (record { second = first; further = [] }) →
+    AreReached kept p is (record { second = first; further = [] })
+reached_first kept p [] first not' h = h
+reached_first kept p (i ∷ is) first not' h = (h.0, λ taken. absurd (not' taken))
+
+-- the first one and those behind it
+joined : (kept : Files) (is : List PlanInput) (first : List ℕ) (further : List (List ℕ)) → AreGiven kept (first_of is) (record { second = first; further = [] }) → AreFurther kept (further_of is) further →
+    AreGiven kept is (record { second = first; further = further })
+joined kept [] first further h k = (h.0, k)
+joined kept (i ∷ is) first further h k = (h.0, k)
+
+-- they are read one after the other
+pub inputs_given : (kept mid : Files) (is : List PlanInput) (first : List ℕ) (further : List (List ℕ)) → ((name : List ℕ) → mid name ≡ kept name) → AreGiven kept (first_of is) (record { second = first; further = [] }) →
+    AreFurther mid (further_of is) further → AreGiven kept is (record { second = first; further = further })
+inputs_given kept mid is first further same h k = joined kept is first further h (further_before kept mid (further_of is) further same k)
+
+pub on_reached : (kept : Files) (r : Plan) (d : Document) (p : ProgramTree) (names : List (List ℕ)) (given : Contents) (P : ProgramTree → List (List ℕ) → Contents → Type 0) → d ≡ r.source →
+    OnSource kept d (λ source. IsCompiled source p names) → AreReached kept p (inputs_of r) given → P p names given → OnReached kept r P
+on_reached kept r d p names given P e on reached h =
+    let H : Document → Type 0 = λ x. Holds kept x on.source in
+    let N : List (List ℕ) → Type 0 = λ ns. P p ns given in
+    record {
+      source = on.source;
+      given = given;
+      source_held = subst H e on.source_held;
+      holds = record { lexed = on.holds.lexed; program = p; is_program = on.holds.is_program; holds = (reached, subst N on.holds.same h) };
+    }
 
 -- why a source is not read, or not compiled
 
@@ -66,19 +111,23 @@ pub found_none : {V : Type 0} (o : Option V) (A : Type 0) (B : V → Type 0) →
 found_none None A B e h = h
 found_none (Some x) A B e h = cc
 
--- The one input that there is, or none
+pub found_some : {V : Type 0} (o : Option V) (x : V) (A : Type 0) (B : V → Type 0) → o ≡ Some x → MatchOption o A B → B x
+found_some None x A B e h = cc
+found_some {V} (Some y) x A B e h = let same : y ≡ x = cc in subst B same h
 
-module _ (o : Option KeptInput) (r : Plan) (same : option_to_list (option_map input_of o) ≡ inputs_of r) where
-  one_input : (i : KeptInput) → o ≡ Some i → input_of i ∷ [] ≡ inputs_of r
-  one_input i e = let Q : Option KeptInput → Type 0 = λ x. option_to_list (option_map input_of x) ≡ inputs_of r in subst Q e same
+-- The first input, or none
 
-  pub held_none : (kept : Files) (bytes : List ℕ) → o ≡ None → bytes ≡ [] → AreGiven kept (inputs_of r) (record { second = bytes; further = [] })
+module _ (o : Option KeptInput) (r : Plan) (same : option_to_list (option_map input_of o) ≡ first_of (inputs_of r)) where
+  one_input : (i : KeptInput) → o ≡ Some i → input_of i ∷ [] ≡ first_of (inputs_of r)
+  one_input i e = let Q : Option KeptInput → Type 0 = λ x. option_to_list (option_map input_of x) ≡ first_of (inputs_of r) in subst Q e same
+
+  pub held_none : (kept : Files) (bytes : List ℕ) → o ≡ None → bytes ≡ [] → AreGiven kept (first_of (inputs_of r)) (record { second = bytes; further = [] })
   held_none kept bytes e empty =
-      let Q : Option KeptInput → Type 0 = λ x. option_to_list (option_map input_of x) ≡ inputs_of r in
+      let Q : Option KeptInput → Type 0 = λ x. option_to_list (option_map input_of x) ≡ first_of (inputs_of r) in
       let P : List PlanInput → Type 0 = λ is. AreGiven kept is (record { second = bytes; further = [] }) in
       subst P (subst Q e same) (empty, refl)
 
-  pub held_one : (kept : Files) (i : KeptInput) (bytes : List ℕ) → o ≡ Some i → Holds kept (document_of i.document) bytes → AreGiven kept (inputs_of r) (record { second = bytes; further = [] })
+  pub held_one : (kept : Files) (i : KeptInput) (bytes : List ℕ) → o ≡ Some i → Holds kept (document_of i.document) bytes → AreGiven kept (first_of (inputs_of r)) (record { second = bytes; further = [] })
   held_one kept i bytes e h =
       let P : List PlanInput → Type 0 = λ is. AreGiven kept is (record { second = bytes; further = [] }) in
       subst P (one_input i e) (h, refl)
@@ -92,7 +141,7 @@ module _ (o : Option KeptInput) (r : Plan) (same : option_to_list (option_map in
     many = let M : ℕ → Type 0 = λ n. n < length on.source in subst M most on.holds;
   }
 
-  -- why an input is not read
+  -- why it is not read
   pub read_input_stop : (before now : ShelfView) (i : KeptInput) → o ≡ Some i → (stop : Stop) → IsReadStop before now (document_of i.document) stop → IsInputStop before now r stop
   read_input_stop before now i e Usage h = h
   read_input_stop before now i e (Source fault) h = h
@@ -104,6 +153,216 @@ module _ (o : Option KeptInput) (r : Plan) (same : option_to_list (option_map in
   read_input_stop before now i e (Unwritten name) h = h
   read_input_stop before now i e Unput h = h
 
+-- The input behind it, or none
+
+-- a replay alone has one
+only_first : (most : ℕ) (documents : List Document) → further_of (with_limits (most ∷ []) documents) ≡ []
+only_first most [] = refl
+only_first most (d ∷ documents) = refl
+
+is_replay : (job : Job) (documents : List Document) → (further_of (with_limits (option_map_or limits_of (format_of job) []) documents) ≡ [] → ⊥) → job ≡ Replay
+is_replay Run documents some = absurd (some (only_first 16777216 documents))
+is_replay Plain documents some = absurd (some (only_first 16777216 documents))
+is_replay Check documents some = absurd (some refl)
+is_replay Core documents some = absurd (some refl)
+is_replay Code documents some = absurd (some refl)
+is_replay Pack documents some = absurd (some (only_first 16777216 documents))
+is_replay Show documents some = absurd (some (only_first 268435480 documents))
+is_replay Gen documents some = absurd (some (only_first 16777216 documents))
+is_replay Trace documents some = absurd (some (only_first 16777216 documents))
+is_replay Replay documents some = refl
+
+not_none : {X : Type 0} (x : X) (xs : List X) → x ∷ xs ≡ [] → ⊥
+not_none x xs e = cc
+
+module _ (o : Option KeptInput) (r : Plan) (same : option_to_list (option_map input_of o) ≡ further_of (inputs_of r)) where
+  one_further : (i : KeptInput) → o ≡ Some i → input_of i ∷ [] ≡ further_of (inputs_of r)
+  one_further i e = let Q : Option KeptInput → Type 0 = λ x. option_to_list (option_map input_of x) ≡ further_of (inputs_of r) in subst Q e same
+
+  replays : (i : KeptInput) → o ≡ Some i → r.job ≡ Replay
+  replays i e = is_replay r.job r.inputs (λ none'. not_none (input_of i) [] (one_further i e ∙ none'))
+
+  pub further_none : (kept : Files) → o ≡ None → AreFurther kept (further_of (inputs_of r)) []
+  further_none kept e =
+      let Q : Option KeptInput → Type 0 = λ x. option_to_list (option_map input_of x) ≡ further_of (inputs_of r) in
+      let P : List PlanInput → Type 0 = λ is. AreFurther kept is [] in
+      subst P (subst Q e same) refl
+
+  pub further_one : (kept : Files) (i : KeptInput) (bytes : List ℕ) → o ≡ Some i → Holds kept (document_of i.document) bytes → AreFurther kept (further_of (inputs_of r)) (bytes ∷ [])
+  further_one kept i bytes e h = let P : List PlanInput → Type 0 = λ is. AreFurther kept is (bytes ∷ []) in subst P (one_further i e) (h, refl)
+
+  -- the first one has no more bytes than a packed file
+  first_short : (i : KeptInput) → o ≡ Some i → (first : List ℕ) → length first ≤ most_of r.job → length first ≤ 16777216
+  first_short i e first few = let P : Job → Type 0 = λ job. length first ≤ most_of job in subst P (replays i e) few
+
+  -- it was looked over, and is a packed file
+  pub first_taken : (i : KeptInput) → o ≡ Some i → (p : ProgramTree) (first : List ℕ) (table : Table) (ty : Ty) (payload : List ℕ) → length first ≤ most_of r.job → ((v : Datum) × Packed table ty v payload) →
+      ((v : Datum) → Packed table ty v payload → File (table_of_program p) (input_type p) v first) → (v : Datum) × IsInput p v first
+  first_taken i e p first table ty payload few packed file = (packed.0, record { short = first_short i e first few; file = file packed.0 packed.1 })
+
+  pub long_further : (before now : ShelfView) (i : KeptInput) → o ≡ Some i → i.most ≡ 16777216 → (p : ProgramTree) (first : List ℕ) → ((v : Datum) × IsInput p v first) →
+      OnSource before.kept (document_of i.document) (λ bytes. i.most < length bytes) → IsFurtherStop before now r p first (Input (input.Long i.most))
+  long_further before now i e most p first taken on = inr (record {
+    is = ap (λ n. input.Long n) most;
+    taken = taken;
+    bytes = on.source;
+    held = further_one before.kept i on.source e on.source_held;
+    many = let M : ℕ → Type 0 = λ n. n < length on.source in subst M most on.holds;
+  })
+
+  -- why it is not read: the first one is refused
+  refused_first : (before now : ShelfView) (i : KeptInput) → o ≡ Some i → (p : ProgramTree) (first : List ℕ) (stop : Stop) → IsRunStop p first stop → IsFurtherStop before now r p first stop
+  refused_first before now i e p first Usage h = h
+  refused_first before now i e p first (Source fault) h = h
+  refused_first before now i e p first (Unread name) h = absurd h
+  refused_first before now i e p first (Input fault) h = inl (replays i e, h.0, h.1)
+  refused_first before now i e p first (NoValue reason) h = h
+  refused_first before now i e p first Memory h = h
+  refused_first before now i e p first (Unwritten name) h = h
+  refused_first before now i e p first Unput h = h
+
+  pub unsurveyed : (before now : ShelfView) (i : KeptInput) → o ≡ Some i → (p : ProgramTree) (first : List ℕ) (stop : Stop) → length first ≤ most_of r.job →
+      IsPackedStop (table_of_program p) (input_type p) first stop → IsFurtherStop before now r p first stop
+  unsurveyed before now i e p first stop few h = refused_first before now i e p first stop (run_stop p first (first_short i e first few) stop h)
+
+  -- or its own file is not read
+  pub read_further_stop : (before now : ShelfView) (i : KeptInput) → o ≡ Some i → (p : ProgramTree) (first : List ℕ) → ((v : Datum) × IsInput p v first) → (stop : Stop) →
+      IsReadStop before now (document_of i.document) stop → IsFurtherStop before now r p first stop
+  read_further_stop before now i e p first taken Usage h = h
+  read_further_stop before now i e p first taken (Source fault) h = h
+  read_further_stop before now i e p first taken (Unread name) h =
+      let P : List PlanInput → Type 0 = λ is. AreUnread before now is name.now in (subst P (one_further i e) (inl h), taken)
+  read_further_stop before now i e p first taken (Input fault) h = absurd h
+  read_further_stop before now i e p first taken (NoValue reason) h = h
+  read_further_stop before now i e p first taken Memory h = h
+  read_further_stop before now i e p first taken (Unwritten name) h = h
+  read_further_stop before now i e p first taken Unput h = h
+
+-- counts that stayed in the first part
+
+unread_before : (before mid now : ShelfView) (d : Document) (name : List ℕ) → ((file : List ℕ) → mid.reads file ≡ before.reads file) → IsUnread mid now d name → IsUnread before now d name
+unread_before before mid now (BuiltIn bytes) name e h = h
+unread_before before mid now (Named file) name e h =
+    let P : ℕ → Type 0 = λ n. Rose n (now.reads name) in (h.0, subst P (e name) h.1)
+
+inputs_unread_before : (before mid now : ShelfView) (is : List PlanInput) (name : List ℕ) → ((file : List ℕ) → mid.reads file ≡ before.reads file) → AreUnread mid now is name → AreUnread before now is name
+inputs_unread_before before mid now [] name e h = h
+inputs_unread_before before mid now (i ∷ is) name e (inl h) = inl (unread_before before mid now i.document name e h)
+inputs_unread_before before mid now (i ∷ is) name e (inr h) = inr (inputs_unread_before before mid now is name e h)
+
+-- Why inputs are not read
+
+-- a first input that is too long is refused, and what is behind it is not reached
+
+record IsLongFirst (kept : Files) (job : Job) (skips : Bool) (documents : List Document) (p : ProgramTree) (names : List (List ℕ)) (given : Contents) : Type 0 where
+  reached : AreReached kept p (with_limits (option_map_or limits_of (format_of job) []) documents) given
+  refused : Refuses job skips p names given (input.Long (most_of job))
+  not_accepted : Accepts job skips p names given → ⊥
+
+long_reached : (kept : Files) (p : ProgramTree) (most : ℕ) (limits : List ℕ) (documents : List Document) (given : Contents) → 16777216 ≤ most → most < length given.second →
+    AreGiven kept (first_of (with_limits (most ∷ limits) documents)) given → AreReached kept p (with_limits (most ∷ limits) documents) given
+long_reached kept p most limits [] given room many h = h
+long_reached kept p most limits (d ∷ documents) given room many h = (h.0, λ taken. let short = taken.1.short in absurd (omega (arith, room, many, short)))
+
+module _ (kept : Files) (skips : Bool) (documents : List Document) (p : ProgramTree) (names : List (List ℕ)) (given : Contents) where
+  long_packed : (most : ℕ) → 16777216 ≤ most → most < length given.second → (v : Datum) → IsInput p v given.second → ⊥
+  long_packed most room many v is = let short = is.short in omega (arith, room, many, short)
+
+  long_first : (job : Job) → AreGiven kept (first_of (with_limits (option_map_or limits_of (format_of job) []) documents)) given → most_of job < length given.second →
+      IsLongFirst kept job skips documents p names given
+  long_first Run h many = record {
+    reached = long_reached kept p 16777216 [] documents given (omega arith) many h;
+    refused = (refl, many);
+    not_accepted = λ a. long_packed 16777216 (omega arith) many a.0 a.1;
+  }
+  long_first Plain h many = record {
+    reached = long_reached kept p 16777216 [] documents given (omega arith) many h;
+    refused = (refl, many);
+    not_accepted = λ a. long_packed 16777216 (omega arith) many a.0 a.1;
+  }
+  long_first Check h many = absurd (omega (arith, many, ap length h.0))
+  long_first Core h many = absurd (omega (arith, many, ap length h.0))
+  long_first Code h many = absurd (omega (arith, many, ap length h.0))
+  long_first Pack h many = record {
+    reached = long_reached kept p 16777216 [] documents given (omega arith) many h;
+    refused = (refl, inl many);
+    not_accepted = λ a. let short = a.1.short in absurd (omega (arith, many, short));
+  }
+  long_first Show h many = record {
+    reached = long_reached kept p 268435480 [] documents given (omega arith) many h;
+    refused = inl (refl, many);
+    not_accepted = λ a. let short = shown_short p skips a.0 given.second a.1 in absurd (omega (arith, many, short));
+  }
+  long_first Gen h many = record {
+    reached = long_reached kept p 16777216 [] documents given (omega arith) many h;
+    refused = (refl, many);
+    not_accepted = λ a. long_packed 16777216 (omega arith) many a.0 a.1;
+  }
+  long_first Trace h many = record {
+    reached = long_reached kept p 16777216 [] documents given (omega arith) many h;
+    refused = (refl, many);
+    not_accepted = λ a. long_packed 16777216 (omega arith) many a.0 a.1;
+  }
+  long_first Replay h many = record {
+    reached = long_reached kept p 16777216 (16777216 ∷ []) documents given (omega arith) many h;
+    refused = inl (refl, many);
+    not_accepted = λ a. long_packed 16777216 (omega arith) many a.value a.is_input;
+  }
+
+pub first_stops : (before now : ShelfView) (r : Plan) (p : ProgramTree) (names : List (List ℕ)) (stop : Stop) → IsInputStop before now r stop → IsInputsStop before now r p names stop
+first_stops before now r p names Usage h = h
+first_stops before now r p names (Source fault) h = h
+first_stops before now r p names (Unread name) h = inl h
+first_stops before now r p names (Input fault) h =
+    let long = long_first before.kept r.options.skips r.inputs p names h.given r.job h.given_held h.many in
+    let P : InputFault → Type 0 = λ f. Refuses r.job r.options.skips p names h.given f in
+    (h.given, long.reached, subst P (sym h.is) long.refused, long.not_accepted)
+first_stops before now r p names (NoValue reason) h = h
+first_stops before now r p names Memory h = h
+first_stops before now r p names (Unwritten name) h = h
+first_stops before now r p names Unput h = h
+
+-- a replay whose first input is refused
+replay_fault : (p : ProgramTree) (first journal : List ℕ) (fault : InputFault) → IsInputFault p first fault → IsReplayFault p first journal fault
+replay_fault p first journal (input.Long most) h = inl h
+replay_fault p first journal (input.Packed fault) h = h
+replay_fault p first journal (input.Image fault) h = h
+replay_fault p first journal (input.Text place) h = h
+replay_fault p first journal (input.Journal fault) h = absurd h
+
+module _ (before mid now : ShelfView) (r : Plan) (p : ProgramTree) (names : List (List ℕ)) (first : List ℕ)
+    (same : (name : List ℕ) → mid.kept name ≡ before.kept name) (reads : (name : List ℕ) → mid.reads name ≡ before.reads name)
+    (held : AreGiven before.kept (first_of (inputs_of r)) (record { second = first; further = [] })) where
+  refused_there : (fault : InputFault) → (r.job ≡ Replay) × IsInputFault p first fault × (((v : Datum) × IsInput p v first) → ⊥) → IsInputsStop before now r p names (Input fault)
+  refused_there fault h =
+      let given : Contents = record { second = first; further = [] } in
+      let R : Job → Type 0 = λ job. Refuses job r.options.skips p names given fault × (Accepts job r.options.skips p names given → ⊥) in
+      let refused = subst R (sym h.0) (replay_fault p first [] fault h.1, λ a. h.2 (a.value, a.is_input)) in
+      (given, reached_first before.kept p (inputs_of r) first h.2 held, refused.0, refused.1)
+
+  long_there : (fault : InputFault) → IsLongFurther mid.kept r p first fault → IsInputsStop before now r p names (Input fault)
+  long_there fault h =
+      let given : Contents = record { second = first; further = h.bytes ∷ [] } in
+      let behind = further_before before.kept mid.kept (further_of (inputs_of r)) (h.bytes ∷ []) same h.held in
+      let F : List PlanInput → Type 0 = λ is. AreFurther before.kept is (h.bytes ∷ []) in
+      let replay = is_replay r.job r.inputs (λ none'. not_none h.bytes [] (subst F none' behind)) in
+      let R : Job → Type 0 = λ job. Refuses job r.options.skips p names given fault × (Accepts job r.options.skips p names given → ⊥) in
+      let L : InputFault → Type 0 = λ f. IsReplayFault p first h.bytes f in
+      let many = h.many in
+      let refused = subst R (sym replay) (subst L (sym h.is) (inr (h.taken, refl, many)), λ a. let short = a.is_journal.short in absurd (omega (arith, many, short))) in
+      (given, reached_all before.kept p (inputs_of r) given (joined before.kept (inputs_of r) first (h.bytes ∷ []) held behind), refused.0, refused.1)
+
+  pub further_stops : (stop : Stop) → IsFurtherStop mid now r p first stop → IsInputsStop before now r p names stop
+  further_stops Usage h = h
+  further_stops (Source fault) h = h
+  further_stops (Unread name) h = inr (inputs_unread_before before mid now (further_of (inputs_of r)) name.now reads h.0, (record { second = first; further = [] }, held, h.1))
+  further_stops (Input fault) (inl h) = refused_there fault h
+  further_stops (Input fault) (inr h) = long_there fault h
+  further_stops (NoValue reason) h = h
+  further_stops Memory h = h
+  further_stops (Unwritten name) h = h
+  further_stops Unput h = h
+
 -- what a job does not make of its inputs
 pub job_stop : (before now : ShelfView) (r : Plan) (p : ProgramTree) (names : List (List ℕ)) (given : Contents) → OnSource before.kept r.source (λ source. IsCompiled source p names) →
     AreGiven before.kept (inputs_of r) given → (stop : Stop) → FailsTo r.job r.options.skips p names given stop → IsMakeStop before now r stop
@@ -111,7 +370,8 @@ job_stop before now r p names given on held Usage h = h
 job_stop before now r p names given on held (Source fault) h = absurd h
 job_stop before now r p names given on held (Unread name) h = absurd h
 job_stop before now r p names given on held (Input fault) h =
-    on_both before.kept r r.source p names given (λ q ns bytes. Refuses r.job r.options.skips q ns bytes fault × (Accepts r.job r.options.skips q ns bytes → ⊥)) refl on held h
+    on_reached before.kept r r.source p names given (λ q ns bytes. Refuses r.job r.options.skips q ns bytes fault × (Accepts r.job r.options.skips q ns bytes → ⊥)) refl on
+    (reached_all before.kept p (inputs_of r) given held) h
 job_stop before now r p names given on held (NoValue reason) h = absurd h
 job_stop before now r p names given on held Memory h = h
 job_stop before now r p names given on held (Unwritten name) h = absurd h
@@ -130,35 +390,37 @@ source_stop before now r d e Memory h = h
 source_stop before now r d e (Unwritten name) h = absurd h
 source_stop before now r d e Unput h = h
 
--- counts that stayed in the first part
+-- what the inputs are in a later view, they are in the one before
+reached_before : (kept now : Files) (p : ProgramTree) (is : List PlanInput) (given : Contents) → ((name : List ℕ) → now name ≡ kept name) → AreReached now p is given → AreReached kept p is given
+reached_before kept now p [] given e h = h
+reached_before kept now p (i ∷ is) given e h = (document_before kept now i.document given.second e h.0, λ taken. further_before kept now is given.further e (h.1 taken))
 
-unread_before : (before mid now : ShelfView) (d : Document) (name : List ℕ) → ((file : List ℕ) → mid.reads file ≡ before.reads file) → IsUnread mid now d name → IsUnread before now d name
-unread_before before mid now (BuiltIn bytes) name e h = h
-unread_before before mid now (Named file) name e h =
-    let P : ℕ → Type 0 = λ n. Rose n (now.reads name) in (h.0, subst P (e name) h.1)
+takes_first : (kept mid : Files) (r : Plan) (d : Document) (p : ProgramTree) (names : List (List ℕ)) → d ≡ r.source → ((name : List ℕ) → mid name ≡ kept name) → OnSource kept d (λ source. IsCompiled source p names) →
+    ((given : Contents) × AreGiven mid (first_of (inputs_of r)) given × ((v : Datum) × IsInput p v given.second)) → TakesFirst kept r
+takes_first kept mid r d p names e same on h =
+    let H : Document → Type 0 = λ x. Holds kept x on.source in
+    record {
+      source = on.source;
+      given = h.0;
+      source_held = subst H e on.source_held;
+      given_held = held_before kept mid (first_of (inputs_of r)) h.0 same h.1;
+      holds = record { lexed = on.holds.lexed; program = p; is_program = on.holds.is_program; holds = h.2 };
+    }
 
-inputs_unread_before : (before mid now : ShelfView) (is : List PlanInput) (name : List ℕ) → ((file : List ℕ) → mid.reads file ≡ before.reads file) → AreUnread mid now is name → AreUnread before now is name
-inputs_unread_before before mid now [] name e h = h
-inputs_unread_before before mid now (i ∷ is) name e (inl h) = inl (unread_before before mid now i.document name e h)
-inputs_unread_before before mid now (i ∷ is) name e (inr h) = inr (inputs_unread_before before mid now is name e h)
-
-pub input_stop : (before mid now : ShelfView) (r : Plan) (d : Document) (p : ProgramTree) (names : List (List ℕ)) → d ≡ r.source →
-    ((name : List ℕ) → mid.kept name ≡ before.kept name) → ((name : List ℕ) → mid.reads name ≡ before.reads name) →
-    OnSource before.kept d (λ source. IsCompiled source p names) → (stop : Stop) → IsInputStop mid now r stop → IsMakeStop before now r stop
-input_stop before mid now r d p names e same reads on Usage h = h
-input_stop before mid now r d p names e same reads on (Source fault) h = absurd h
-input_stop before mid now r d p names e same reads on (Unread name) h =
-    inr (inputs_unread_before before mid now (inputs_of r) name.now reads h, source_here before.kept r d p names e on)
-input_stop before mid now r d p names e same reads on (Input fault) h =
-    let P : InputFault → Type 0 = λ f. OnBoth before.kept r (λ q ns given. Refuses r.job r.options.skips q ns given f × (Accepts r.job r.options.skips q ns given → ⊥)) in
-    let held = held_before before.kept mid.kept (inputs_of r) h.given same h.given_held in
-    subst P (sym h.is)
-    (on_both before.kept r d p names h.given (λ q ns given. Refuses r.job r.options.skips q ns given (input.Long (most_of r.job)) × (Accepts r.job r.options.skips q ns given → ⊥)) e on held
-    (long_refused before.kept r.job r.options.skips r.inputs p names h.given held h.many))
-input_stop before mid now r d p names e same reads on (NoValue reason) h = absurd h
-input_stop before mid now r d p names e same reads on Memory h = h
-input_stop before mid now r d p names e same reads on (Unwritten name) h = absurd h
-input_stop before mid now r d p names e same reads on Unput h = h
+module _ (before mid now : ShelfView) (r : Plan) (d : Document) (p : ProgramTree) (names : List (List ℕ)) (e : d ≡ r.source)
+    (same : (name : List ℕ) → mid.kept name ≡ before.kept name) (reads : (name : List ℕ) → mid.reads name ≡ before.reads name) (on : OnSource before.kept d (λ source. IsCompiled source p names)) where
+  pub inputs_stop : (stop : Stop) → IsInputsStop mid now r p names stop → IsMakeStop before now r stop
+  inputs_stop Usage h = h
+  inputs_stop (Source fault) h = absurd h
+  inputs_stop (Unread name) (inl h) = inr (inl (inputs_unread_before before mid now (first_of (inputs_of r)) name.now reads h, source_here before.kept r d p names e on))
+  inputs_stop (Unread name) (inr h) = inr (inr (inputs_unread_before before mid now (further_of (inputs_of r)) name.now reads h.0, takes_first before.kept mid.kept r d p names e same on h.1))
+  inputs_stop (Input fault) h =
+      on_reached before.kept r d p names h.0 (λ q ns given. Refuses r.job r.options.skips q ns given fault × (Accepts r.job r.options.skips q ns given → ⊥)) e on
+      (reached_before before.kept mid.kept p (inputs_of r) h.0 same h.1) (h.2, h.3)
+  inputs_stop (NoValue reason) h = absurd h
+  inputs_stop Memory h = h
+  inputs_stop (Unwritten name) h = absurd h
+  inputs_stop Unput h = h
 
 -- What is made of files, and why it is not, after the first writes
 
@@ -174,17 +436,40 @@ both_from kept start r P e on = record {
   holds = on.holds;
 }
 
+reached_from : (kept start : Files) (r : Plan) (P : ProgramTree → List (List ℕ) → Contents → Type 0) → ((name : List ℕ) → start name ≡ kept name) → OnReached start r P → OnReached kept r P
+reached_from kept start r P e on = record {
+  source = on.source;
+  given = on.given;
+  source_held = document_before kept start r.source on.source e on.source_held;
+  holds = record {
+    lexed = on.holds.lexed;
+    program = on.holds.program;
+    is_program = on.holds.is_program;
+    holds = (reached_before kept start on.holds.program (inputs_of r) on.given e on.holds.holds.0, on.holds.holds.1);
+  };
+}
+
+takes_from : (kept start : Files) (r : Plan) → ((name : List ℕ) → start name ≡ kept name) → TakesFirst start r → TakesFirst kept r
+takes_from kept start r e on = record {
+  source = on.source;
+  given = on.given;
+  source_held = document_before kept start r.source on.source e on.source_held;
+  given_held = held_before kept start (first_of (inputs_of r)) on.given e on.given_held;
+  holds = on.holds;
+}
+
 module _ (tells : Bool) (before start now : ShelfView) (r : Plan) (same : (name : List ℕ) → start.kept name ≡ at_reading tells before.kept r name) (reads : (name : List ℕ) → start.reads name ≡ before.reads name) where
   fails_from : (name : List ℕ) → FailsToRead start.kept start now r name → FailsToRead (at_reading tells before.kept r) before now r name
   fails_from name (inl h) = inl (unread_before before start now r.source name reads h)
-  fails_from name (inr h) = inr (inputs_unread_before before start now (inputs_of r) name reads h.0, source_from (at_reading tells before.kept r) start.kept r.source IsSource same h.1)
+  fails_from name (inr (inl h)) = inr (inl (inputs_unread_before before start now (first_of (inputs_of r)) name reads h.0, source_from (at_reading tells before.kept r) start.kept r.source IsSource same h.1))
+  fails_from name (inr (inr h)) = inr (inr (inputs_unread_before before start now (further_of (inputs_of r)) name reads h.0, takes_from (at_reading tells before.kept r) start.kept r same h.1))
 
   pub make_stop : (stop : Stop) → IsMakeStop start now r stop → IsStop tells before now r stop
   make_stop Usage h = h
   make_stop (Source fault) h = source_from (at_reading tells before.kept r) start.kept r.source (λ bytes. IsSourceFault bytes fault × IsNoProgram bytes) same h
   make_stop (Unread name) h = fails_from name.now h
   make_stop (Input fault) h =
-      both_from (at_reading tells before.kept r) start.kept r (λ p names given. Refuses r.job r.options.skips p names given fault × (Accepts r.job r.options.skips p names given → ⊥)) same h
+      reached_from (at_reading tells before.kept r) start.kept r (λ p names given. Refuses r.job r.options.skips p names given fault × (Accepts r.job r.options.skips p names given → ⊥)) same h
   make_stop (NoValue reason) h = h
   make_stop Memory h = h
   make_stop (Unwritten name) h = absurd h

@@ -19,7 +19,6 @@ use Rattle.gib_app.specs.declared.stop.Stop.TheVariants.{Usage, Source, Unread, 
 use Rattle.gib_app.specs.InputFaults.{IsFileFault, IsPayloadFault}
 use Rattle.gib_app.specs.PassFaults.{packed_stop, payload_stop}
 use Rattle.gib_app.specs.MachineRun.{IsMachineStop}
-use Rattle.gib_app.specs.Running.{IsInput}
 use Rattle.gib_app.specs.Stops.{IsPackedStop, IsRunStop, IsShowStop}
 use Rattle.gib_app.proofs.Signs.{no_packed_value}
 
@@ -64,6 +63,7 @@ module _ (p : ProgramTree) (bytes : List ℕ) (short : length bytes ≤ 16777216
   run_stop (Input (input.Packed fault)) h = ((short, h.0), λ a. h.1 a.0 a.1.file)
   run_stop (Input (input.Image fault)) h = absurd h
   run_stop (Input (input.Text place)) h = absurd h
+  run_stop (Input (input.Journal fault)) h = absurd h
   run_stop (NoValue reason) h = h
   run_stop Memory h = h
   run_stop (Unwritten name) h = h
@@ -86,17 +86,18 @@ module _ (p : ProgramTree) (skips : Bool) (bytes : List ℕ) (short : length byt
   show_stop (Input (input.Packed (Trailing place))) h = ((short, h.0), no_packed_value p skips bytes magic h.1)
   show_stop (Input (input.Image fault)) h = absurd h
   show_stop (Input (input.Text place)) h = absurd h
+  show_stop (Input (input.Journal fault)) h = absurd h
   show_stop (NoValue reason) h = h
   show_stop Memory h = h
   show_stop (Unwritten name) h = h
   show_stop Unput h = h
 
-pub machine_stop : (p : ProgramTree) (skips : Bool) (depth chunks : ℕ) (bytes : List ℕ) (stop : Stop) → IsRunStop p bytes stop → IsMachineStop p skips depth chunks bytes stop
-machine_stop p skips depth chunks bytes Usage h = h
-machine_stop p skips depth chunks bytes (Source fault) h = h
-machine_stop p skips depth chunks bytes (Unread name) h = h
-machine_stop p skips depth chunks bytes (Input fault) h = h
-machine_stop p skips depth chunks bytes (NoValue reason) h = absurd h
-machine_stop p skips depth chunks bytes Memory h = h
-machine_stop p skips depth chunks bytes (Unwritten name) h = h
-machine_stop p skips depth chunks bytes Unput h = h
+pub machine_stop : (p : ProgramTree) (skips : Bool) (depth forks chunks : ℕ) (bytes : List ℕ) (stop : Stop) → IsRunStop p bytes stop → IsMachineStop p skips depth forks chunks bytes stop
+machine_stop p skips depth forks chunks bytes Usage h = h
+machine_stop p skips depth forks chunks bytes (Source fault) h = h
+machine_stop p skips depth forks chunks bytes (Unread name) h = h
+machine_stop p skips depth forks chunks bytes (Input fault) h = h
+machine_stop p skips depth forks chunks bytes (NoValue reason) h = absurd h
+machine_stop p skips depth forks chunks bytes Memory h = h
+machine_stop p skips depth forks chunks bytes (Unwritten name) h = h
+machine_stop p skips depth forks chunks bytes Unput h = h

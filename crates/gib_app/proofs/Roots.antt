@@ -1,5 +1,5 @@
 -- From the end of a run over region memory to what the program means.
-use Rattle.std.proofs.Common.{◌≡◌, ◌∙◌, refl, Bool, ℤ, ℕ, ◌+◌, ◌-◌, ◌*◌, ◌≤◌, List, [], length, Result, Ok, Err, IfOk, IfErr, MatchResult, sym, ap, subst, subst₂, arith}
+use Rattle.std.proofs.Common.{◌≡◌, ◌∙◌, refl, Bool, ℤ, ℕ, ◌+◌, ◌-◌, ◌*◌, ◌≤◌, List, [], length, Option, Result, Ok, Err, IfOk, IfErr, MatchResult, MatchOption, sym, ap, subst, subst₂, arith}
 use Rattle.gib_types.specs.declared.table.Ty.{Ty}
 use Rattle.gib_types.specs.Layout.{LaidOut}
 use Rattle.gib_types.specs.Loaded.{Loaded}
@@ -19,7 +19,7 @@ use Rattle.gib_load.specs.Refusal.{Refused, at_start, at_head, Spent}
 use Rattle.gib_load.proofs.Spots.{heads_limit}
 use Rattle.gib_syntax.specs.Tree.{ProgramTree}
 use Rattle.gib_syntax.specs.Declarations.{table_of_program, input_type, output_type}
-use Rattle.gib_syntax.specs.Meaning.{Outcome, run}
+use Rattle.gib_syntax.specs.Meaning.{Outcome, Stops, Deep, run}
 use Rattle.gib_core.specs.Cost.{Cost, run_cost, body_cost}
 use Rattle.gib_core.specs.Low.{laid_of}
 use Rattle.gib_core.specs.LoweredParts.{LoweredParts}
@@ -32,12 +32,14 @@ use Rattle.gib_code.specs.declared.answer.Answer.TheVariants as answer
 use Rattle.gib_weave.specs.declared.root_run.RunFault.{RunFault}
 use Rattle.gib_weave.specs.Running.{IsStart, RunEnds}
 use Rattle.gib_weave.specs.Sound.{IsAnswer}
+use Rattle.gib_arena.specs.declared.sole_mem.SoleMem.{SoleMem}
 use Rattle.gib_app.specs.declared.machine_run.Ran.{Ran}
 use Rattle.gib_app.specs.declared.made.Reason.{Reason}
 use Rattle.gib_app.specs.declared.made.Reason.TheVariants as reason
 use Rattle.gib_app.specs.declared.stop.Stop.{Stop}
 use Rattle.gib_app.specs.declared.stop.Stop.TheVariants as stop
 use Rattle.gib_app.specs.Cores.{core_after, layouts_of}
+use Rattle.gib_app.specs.Replaying.{root_in}
 use Rattle.gib_app.specs.Running.{IsInput}
 use Rattle.gib_app.specs.Stops.{IsRunStop}
 use Rattle.gib_app.specs.MachineRun.{cells_of, StandsMeant, LacksValue, IsMachineStop, IsRootOf, Lacks, Halts, EndsWith, program_cost}
@@ -65,12 +67,12 @@ refused_limit laid m m' v (at_head st) = ap (λ (x : Memory). x.limit) st.same �
 enough : (chunks r i k : ℕ) → 4023 * (chunks - 1) ≤ 65 * k → 32 * chunks ≤ 32 * ((r + 0) + 3) + (i + k)
 enough chunks r i k h = omega (arith, h)
 
-pub loading_is_tight : (core : CoreTree) (depth chunks : ℕ) (v : Datum) → Loaded chunks v → Tight chunks (run_cost core depth 0 v)
-loading_is_tight core depth chunks v h = enough chunks (body_cost core depth 0 v).regions (body_cost core depth 0 v).items (constructors v) h
+pub loading_is_tight : (core : CoreTree) (depth forks chunks : ℕ) (v : Datum) → Loaded chunks v → Tight chunks (run_cost core depth forks v)
+loading_is_tight core depth forks chunks v h = enough chunks (body_cost core depth forks v).regions (body_cost core depth forks v).items (constructors v) h
 
 pub load_halts : (core : CoreTree) (laid : LaidOut) (depth : ℕ) (v : Datum) (m m' : Memory) → Refused laid m v m' → Spent v m' → Tight m.limit (run_cost core depth 0 v)
 load_halts core laid depth v m m' refused spent =
-    subst (λ (n : ℕ). Tight n (run_cost core depth 0 v)) (refused_limit laid m m' v refused) (loading_is_tight core depth m'.limit v spent.loaded)
+    subst (λ (n : ℕ). Tight n (run_cost core depth 0 v)) (refused_limit laid m m' v refused) (loading_is_tight core depth 0 m'.limit v spent.loaded)
 
 -- An answer of the machine is a root for what was owed.
 module _ (laid : LaidOut) (s : Store) (ty : Ty) (owed : Outcome) where
@@ -83,8 +85,24 @@ module _ (laid : LaidOut) (s : Store) (ty : Ty) (owed : Outcome) where
   pub tree_stands : (a : ℕ) → IsAnswer laid s ty owed (answer.At a) → IsRootOf laid s ty owed (root.At a)
   tree_stands a h = record { result = h.1; means = h.3; stands = subst (λ (t : Ty). Stands laid s (root.At a) t h.1) (sym h.2) (a_tree {t = record { 0 = h.0 }} h.4.dec) }
 
+-- An answer is a root for what was owed, or none, where depth ran out.
+pub answered : (laid : LaidOut) (s : Store) (ty : Ty) (owed : Outcome) (a : Answer) → IsAnswer laid s ty owed a → MatchOption (root_in a) (owed ≡ Stops Deep) (IsRootOf laid s ty owed)
+answered laid s ty owed (answer.Whole z) h = whole_stands laid s ty owed z h
+answered laid s ty owed (answer.Truth b) h = truth_stands laid s ty owed b h
+answered laid s ty owed (answer.At a) h = tree_stands laid s ty owed a h
+answered laid s ty owed answer.Deep h = h
+
+-- The answer with which a run ends is such a root, or none.
+pub answer_ends : (l : LoweredParts) (depth : ℕ) (v : Datum) (m m' : Memory) (end' : Result Answer RunFault) (a : Answer) (found : Option Root) → end' ≡ Ok a → found ≡ root_in a → RunEnds l depth v m m' end'
+    → MatchOption found (core_run (core_of l.core) depth v ≡ Stops Deep) (IsRootOf l.code.laid m'.cells (core_of l.core).main.result (core_run (core_of l.core) depth v))
+answer_ends l depth v m m' end' a found is there ends =
+    let owed = core_run (core_of l.core) depth v in
+    let ty = (core_of l.core).main.result in
+    let ended = subst (λ (e : Result Answer RunFault). RunEnds l depth v m m' e) is ends in
+    subst (λ (o : Option Root). MatchOption o (owed ≡ Stops Deep) (IsRootOf l.code.laid m'.cells ty owed)) (sym there) (answered l.code.laid m'.cells ty owed a ended)
+
 -- What is packed by the survey's table is so by that of the layouts.
-packed_in : (l : LoweredParts) (laid : LaidOut) (s : Surveyed) (v : Datum) → laid ≡ l.code.laid → s.table ≡ l.code.laid.table → Packed s.table s.ty v s.bytes → Packed laid.table s.ty v s.bytes
+pub packed_in : (l : LoweredParts) (laid : LaidOut) (s : Surveyed) (v : Datum) → laid ≡ l.code.laid → s.table ≡ l.code.laid.table → Packed s.table s.ty v s.bytes → Packed laid.table s.ty v s.bytes
 packed_in l laid s v e f p = subst (λ (t : Table). Packed t s.ty v s.bytes) (f ∙ sym (ap (λ (x : LaidOut). x.table) e)) p
 
 -- Loading and then running.
@@ -146,7 +164,7 @@ root_meant p skips depth input v l l' s place of is e h =
     subst (λ (x : LoweredParts). StandsMeant p depth input x.code.laid s place) (sym e) there
 
 lacks_meant : (p : ProgramTree) (skips : Bool) (depth chunks : ℕ) (input : List ℕ) (v : Datum) (l : LoweredParts) → IsOfProgram p skips l → IsInput p v input → (why : Reason)
-    → Lacks (core_run (core_of l.core) depth v) chunks (run_cost (core_of l.core) depth 0 v) why → LacksValue p skips depth chunks input why
+    → Lacks (core_run (core_of l.core) depth v) chunks (run_cost (core_of l.core) depth 0 v) why → LacksValue p skips depth 0 chunks input why
 lacks_meant p skips depth chunks input v l of is reason.Deep h = record { value = v; is_input = is; means = sym (of.means depth v) ∙ h }
 lacks_meant p skips depth chunks input v l of is reason.Full h = record {
   value = v;
@@ -155,7 +173,7 @@ lacks_meant p skips depth chunks input v l of is reason.Full h = record {
 }
 
 pub stop_meant : (p : ProgramTree) (skips : Bool) (depth chunks : ℕ) (input : List ℕ) (v : Datum) (l : LoweredParts) → IsOfProgram p skips l → IsInput p v input → (why : Stop)
-    → Halts (core_run (core_of l.core) depth v) chunks (run_cost (core_of l.core) depth 0 v) why → IsMachineStop p skips depth chunks input why
+    → Halts (core_run (core_of l.core) depth v) chunks (run_cost (core_of l.core) depth 0 v) why → IsMachineStop p skips depth 0 chunks input why
 stop_meant p skips depth chunks input v l of is stop.Usage h = h
 stop_meant p skips depth chunks input v l of is (stop.Source fault) h = h
 stop_meant p skips depth chunks input v l of is (stop.Unread name) h = h
@@ -166,13 +184,13 @@ stop_meant p skips depth chunks input v l of is (stop.Unwritten name) h = h
 stop_meant p skips depth chunks input v l of is stop.Unput h = h
 
 -- A survey's value is the input.
-input_of : (p : ProgramTree) (input : List ℕ) (s : Surveyed) → length input ≤ 16777216 → ((v : Datum) → Packed s.table s.ty v s.bytes → File (table_of_program p) (input_type p) v input)
+pub input_of : (p : ProgramTree) (input : List ℕ) (s : Surveyed) → length input ≤ 16777216 → ((v : Datum) → Packed s.table s.ty v s.bytes → File (table_of_program p) (input_type p) v input)
     → (v : Datum) → Packed s.table s.ty v s.bytes → IsInput p v input
 input_of p input s short file v q = record { short = short; file = file v q }
 
 -- The run of a program on a survey that is of the input.
 pub survey_stands : (p : ProgramTree) (skips : Bool) (depth : ℕ) (input : List ℕ) (s : Surveyed) (l : LoweredParts) → IsOfProgram p skips l → length input ≤ 16777216 → IsPacked s.table s.ty s.bytes s.count
-    → ((v : Datum) → Packed s.table s.ty v s.bytes → File (table_of_program p) (input_type p) v input) → (r : Result Ran Stop) → IfOk r (λ ran. ran.lowered ≡ l)
+    → ((v : Datum) → Packed s.table s.ty v s.bytes → File (table_of_program p) (input_type p) v input) → (r : Result (Ran SoleMem) Stop) → IfOk r (λ ran. ran.lowered ≡ l)
     → IfOk r (λ ran. (v : Datum) → Packed s.table s.ty v s.bytes → IsRootOf l.code.laid (cells_of ran.memory) (core_of l.core).main.result (core_run (core_of l.core) depth v) ran.root)
     → IfOk r (λ ran. StandsMeant p depth input ran.lowered.code.laid (cells_of ran.memory) ran.root)
 survey_stands p skips depth input s l of short packed file (Ok ran) same ends =
@@ -180,20 +198,20 @@ survey_stands p skips depth input s l of short packed file (Ok ran) same ends =
 survey_stands p skips depth input s l of short packed file (Err why) same ends = tt {0}
 
 pub survey_stops : (p : ProgramTree) (skips : Bool) (depth chunks : ℕ) (input : List ℕ) (s : Surveyed) (l : LoweredParts) → IsOfProgram p skips l → length input ≤ 16777216 → IsPacked s.table s.ty s.bytes s.count
-    → ((v : Datum) → Packed s.table s.ty v s.bytes → File (table_of_program p) (input_type p) v input) → (r : Result Ran Stop)
+    → ((v : Datum) → Packed s.table s.ty v s.bytes → File (table_of_program p) (input_type p) v input) → (r : Result (Ran SoleMem) Stop)
     → IfErr r (λ why. (v : Datum) → Packed s.table s.ty v s.bytes → Halts (core_run (core_of l.core) depth v) chunks (run_cost (core_of l.core) depth 0 v) why)
-    → IfErr r (IsMachineStop p skips depth chunks input)
+    → IfErr r (IsMachineStop p skips depth 0 chunks input)
 survey_stops p skips depth chunks input s l of short packed file (Ok ran) ends = tt {0}
 survey_stops p skips depth chunks input s l of short packed file (Err why) ends = stop_meant p skips depth chunks input packed.0 l of (input_of p input s short file packed.0 packed.1) why (ends packed.0 packed.1)
 
 -- Any value that is the input is the survey's.
 pub survey_only : (p : ProgramTree) (skips : Bool) (depth chunks : ℕ) (input : List ℕ) (s : Surveyed) (l : LoweredParts) → IsOfProgram p skips l → length input ≤ 16777216 → IsPacked s.table s.ty s.bytes s.count
     → ((v : Datum) → Packed s.table s.ty v s.bytes → File (table_of_program p) (input_type p) v input)
-    → ((table : Table) (ty : Ty) (v w : Datum) (bytes : List ℕ) → File table ty v bytes → File table ty w bytes → v ≡ w) → (r : Result Ran Stop) → IfOk r (λ ran. ran.lowered ≡ l)
+    → ((table : Table) (ty : Ty) (v w : Datum) (bytes : List ℕ) → File table ty v bytes → File table ty w bytes → v ≡ w) → (r : Result (Ran SoleMem) Stop) → IfOk r (λ ran. ran.lowered ≡ l)
     → IfOk r (λ ran. (v : Datum) → Packed s.table s.ty v s.bytes → IsRootOf l.code.laid (cells_of ran.memory) (core_of l.core).main.result (core_run (core_of l.core) depth v) ran.root)
     → IfErr r (λ why. (v : Datum) → Packed s.table s.ty v s.bytes → Halts (core_run (core_of l.core) depth v) chunks (run_cost (core_of l.core) depth 0 v) why)
     → (v : Datum) → IsInput p v input
-    → MatchResult r (λ ran. IsRootOf ran.lowered.code.laid (cells_of ran.memory) (output_type p) (run p depth v) ran.root) (Halts (run p depth v) chunks (program_cost p skips depth v))
+    → MatchResult r (λ ran. IsRootOf ran.lowered.code.laid (cells_of ran.memory) (output_type p) (run p depth v) ran.root) (Halts (run p depth v) chunks (program_cost p skips depth 0 v))
 survey_only p skips depth chunks input s l of short packed file one (Ok ran) same root halts v is =
     let meant = survey_stands p skips depth input s l of short packed file (Ok ran) same root in
     record {
@@ -205,7 +223,7 @@ survey_only p skips depth chunks input s l of short packed file one (Err why) sa
     let w = packed.0 in
     let e : w ≡ v = one (table_of_program p) (input_type p) w v input (file w packed.1) is.file in
     let owed : core_run (core_of l.core) depth w ≡ run p depth v = of.means depth w ∙ ap (run p depth) e in
-    let most : run_cost (core_of l.core) depth 0 w ≡ program_cost p skips depth v = ap (λ (c : CoreTree). run_cost c depth 0 w) of.core ∙ ap (program_cost p skips depth) e in
+    let most : run_cost (core_of l.core) depth 0 w ≡ program_cost p skips depth 0 v = ap (λ (c : CoreTree). run_cost c depth 0 w) of.core ∙ ap (program_cost p skips depth 0) e in
     subst₂ (λ (o : Outcome) (k : Cost). Halts o chunks k why) owed most (halts w packed.1)
 
 -- Where the file is refused, there is no value of which it is the input.

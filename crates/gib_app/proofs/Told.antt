@@ -14,7 +14,7 @@ same_bytes kept now (Named name) e = e name
 pub document_before : (kept now : Files) (d : Document) (bytes : List ℕ) → ((name : List ℕ) → now name ≡ kept name) → Holds now d bytes → Holds kept d bytes
 document_before kept now d bytes e h = let P : Held → Type 0 = λ o. IsAllOf o bytes in subst P (same_bytes kept now d e) h
 
-further_before : (kept now : Files) (inputs : List Input) (further : List (List ℕ)) → ((name : List ℕ) → now name ≡ kept name) → AreFurther now inputs further → AreFurther kept inputs further
+pub further_before : (kept now : Files) (inputs : List Input) (further : List (List ℕ)) → ((name : List ℕ) → now name ≡ kept name) → AreFurther now inputs further → AreFurther kept inputs further
 further_before kept now [] further e h = h
 further_before kept now (i ∷ is) [] e h = h
 further_before kept now (i ∷ is) (bytes ∷ further) e h = (document_before kept now i.document bytes e h.0, further_before kept now is further e h.1)

@@ -3,12 +3,13 @@ use Rattle.std.specs.Prelude.{◌≡◌, ℕ, ◌⊎◌, List, [], ◌∷◌, le
 use Rattle.gib_base.specs.Lexed.{Lexed}
 use Rattle.gib_edge.specs.Causes.{Rose, IsAllOf, Appends, AppendsPart, PutsPieces, PutsSomePieces}
 use Rattle.gib_edge.specs.Views.{ShelfView, SinkView}
+use Rattle.gib_types.specs.Tree.{Datum}
 use Rattle.gib_syntax.specs.Tree.{ProgramTree}
 use Rattle.gib_app.specs.declared.made.Reason.{Reason}
 use Rattle.gib_app.specs.Plan.{Document, BuiltIn, Named, Plan, Files, bytes_in, Contents}
 use Rattle.gib_app.specs.Writes.{at_reading, AreWritten, IsStuck, IsStuckIn}
 use Rattle.gib_app.specs.Words.{asked}
-use Rattle.gib_app.specs.Running.{IsProgram, IsSource}
+use Rattle.gib_app.specs.Running.{IsInput, IsProgram, IsSource}
 use Rattle.gib_app.specs.Formats.{Input, inputs_of}
 use Rattle.gib_app.specs.Jobs.{End, Prints, NoValue, Does}
 
@@ -51,6 +52,19 @@ pub record OnProgram (source : List ℕ) (P : ProgramTree → List (List ℕ) �
   pub program : ProgramTree
   pub is_program : IsProgram source lexed program
   pub holds : P program lexed.names
+
+-- The first input has these bytes; where they are a packed file of a value that the program takes, so have the further ones: else
+-- these are not read.
+abbrev pub AreReached : Files → ProgramTree → List Input → Contents → Type 0
+AreReached kept p [] given = (given.second ≡ []) × (given.further ≡ [])
+AreReached kept p (input ∷ rest) given = Holds kept input.document given.second × (((v : Datum) × IsInput p v given.second) → AreFurther kept rest given.further)
+
+-- The source of a plan is a program, of which this holds with its names and the bytes of the inputs, as far as these are read.
+pub record OnReached (kept : Files) (plan : Plan) (P : ProgramTree → List (List ℕ) → Contents → Type 0) : Type 0 where
+  pub source : List ℕ
+  pub given : Contents
+  pub source_held : Holds kept plan.source source
+  pub holds : OnProgram source (λ p names. AreReached kept p (inputs_of plan) given × P p names given)
 
 -- The words are taken, and this holds of the bytes of the source that they name.
 abbrev pub AsksSource : Bool → List (List ℕ) → Files → (List ℕ → Type 0) → Type 0
@@ -123,14 +137,29 @@ abbrev pub IsUnread : ShelfView → ShelfView → Document → List ℕ → Type
 IsUnread before now (BuiltIn bytes) name = ⊥
 IsUnread before now (Named file) name = (file ≡ name) × Rose (before.reads name) (now.reads name)
 
--- The same of one of the inputs.
+-- The same of one of these inputs.
 abbrev pub AreUnread : ShelfView → ShelfView → List Input → List ℕ → Type 0
 AreUnread before now [] name = ⊥
 AreUnread before now (input ∷ rest) name = IsUnread before now input.document name ⊎ AreUnread before now rest name
 
--- The file of this name could not be read: it is the source, or else an input, and the source is a program. These are the files
--- that are read.
+-- The first of the inputs.
+abbrev pub first_of : List Input → List Input
+first_of [] = []
+first_of (input ∷ rest) = input ∷ []
+
+-- Those behind it.
+abbrev pub further_of : List Input → List Input
+further_of [] = []
+further_of (input ∷ rest) = rest
+
+-- The source of a plan is a program, and the first input a packed file of a value that it takes.
+abbrev pub TakesFirst : Files → Plan → Type 0
+TakesFirst kept plan = OnFiles kept plan.source (first_of (inputs_of plan)) (λ source given. OnProgram source (λ p names. (v : Datum) × IsInput p v given.second))
+
+-- The file of this name could not be read: it is the source; or else the first input, and the source is a program; or else a further
+-- one, and the first is a packed file of a value that the program takes. These are the files that are read.
 abbrev pub FailsToRead : Files → ShelfView → ShelfView → Plan → List ℕ → Type 0
 FailsToRead kept before now plan name =
     IsUnread before now plan.source name
-    ⊎ (AreUnread before now (inputs_of plan) name × OnSource kept plan.source IsSource)
+    ⊎ (AreUnread before now (first_of (inputs_of plan)) name × OnSource kept plan.source IsSource)
+    ⊎ (AreUnread before now (further_of (inputs_of plan)) name × TakesFirst kept plan)

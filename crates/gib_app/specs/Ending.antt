@@ -3,9 +3,11 @@ use Rattle.std.specs.Prelude.{◌≡◌, ◌≢◌, ◌⊎◌, ℕ, List, [], �
 use Rattle.std.specs.Option.{option_map_or}
 use Rattle.gib_edge.specs.Causes.{Rose}
 use Rattle.gib_edge.specs.Views.{Has, Missing, ShelfView, SinkView}
+use Rattle.gib_types.specs.Tree.{Datum}
 use Rattle.gib_syntax.specs.Tree.{ProgramTree}
 use Rattle.gib_app.specs.declared.input_fault.InputFault.{InputFault}
-use Rattle.gib_app.specs.declared.plan.Job.TheVariants.{Run, Gen}
+use Rattle.gib_app.specs.declared.plan.Job.{Job}
+use Rattle.gib_app.specs.declared.plan.Job.TheVariants.{Run, Gen, Trace, Replay}
 use Rattle.gib_app.specs.declared.source_fault.SourceFault.{SourceFault}
 use Rattle.gib_app.specs.declared.status.Status.{Status}
 use Rattle.gib_app.specs.declared.status.Status.TheVariants.{Done, Source, Usage, Depth, Full, Memory, ReadFault, WriteFault, Input}
@@ -15,13 +17,13 @@ use Rattle.gib_app.specs.declared.made.Reason.TheVariants.{Deep}
 use Rattle.gib_app.specs.Plan.{Document, Write, Plan, Files, bytes_in, Contents}
 use Rattle.gib_app.specs.Writes.{after, at_reading, AreMade, IsNamedIn, IsTarget}
 use Rattle.gib_app.specs.Words.{asked}
-use Rattle.gib_app.specs.Running.{IsSource, IsNoProgram}
+use Rattle.gib_app.specs.Running.{IsInput, IsSource, IsNoProgram}
 use Rattle.gib_app.specs.SourceFaults.{IsSourceFault}
 use Rattle.gib_app.specs.Formats.{inputs_of, Accepts, Refuses}
 use Rattle.gib_app.specs.Formats.{Input as PlanInput}
 use Rattle.gib_app.specs.Lines.{line, source_text, input_text}
 use Rattle.gib_app.specs.Jobs.{End, Prints, NoValue, Does, without_image}
-use Rattle.gib_app.specs.Causes.{Counts, OnProgram, HasNoValue, EndsWithout, AsksSource, AsksProgram, IsPrinted, IsPrintedInPart, IsUnread, AreUnread, FailsToRead, FailsToWrite}
+use Rattle.gib_app.specs.Causes.{Counts, OnProgram, OnReached, EndsWithout, AsksSource, AsksProgram, IsPrinted, IsPrintedInPart, IsUnread, AreUnread, first_of, further_of, FailsToRead, FailsToWrite}
 
 -- A file that is to be written could not be, `out` was not asked, and the line names the file; or `out` took a front of what
 -- is printed, and its count rose.
@@ -34,7 +36,7 @@ IsWriteEnding tells words before now out_before out_now said =
 
 -- Why a call ends with a status, and the line that tells it: what is asked for was made, put and written; the source is no
 -- program, by this fault; the words are not taken; the meaning runs out of depth; chunks may run out; this file could not be read,
--- or not be written; the second file is none that the job accepts, by this fault. Want of memory is free.
+-- or not be written; the inputs are none that the job accepts, by this fault. Want of memory is free.
 abbrev pub IsEnding : Bool → List (List ℕ) → ShelfView → ShelfView → SinkView → SinkView → Status → List ℕ → Type 0
 IsEnding tells words before now out_before out_now Done said = IsPrinted tells words before now out_before out_now × (said ≡ [])
 IsEnding tells words before now out_before out_now Source said =
@@ -47,7 +49,10 @@ IsEnding tells words before now out_before out_now ReadFault said =
     (name : List ℕ) × MatchOption (asked words) ⊥ (λ plan. FailsToRead (at_reading tells before.kept plan) before now plan name) × (said ≡ line (codes "cannot read " ++ name))
 IsEnding tells words before now out_before out_now WriteFault said = IsWriteEnding tells words before now out_before out_now said
 IsEnding tells words before now out_before out_now Input said =
-    (fault : InputFault) × AsksProgram tells words before.kept (λ plan p names given. Refuses plan.job plan.options.skips p names given fault × (Accepts plan.job plan.options.skips p names given → ⊥)) × (said ≡ line (input_text fault))
+    (fault : InputFault)
+    × MatchOption (asked words) ⊥
+    (λ plan. OnReached (at_reading tells before.kept plan) plan (λ p names given. Refuses plan.job plan.options.skips p names given fault × (Accepts plan.job plan.options.skips p names given → ⊥)))
+    × (said ≡ line (input_text fault))
 
 -- Not the name of a file that the words ask to write.
 abbrev pub IsNoTarget : List (List ℕ) → List ℕ → Type 0
@@ -70,7 +75,7 @@ StaysAfter tells first before now ReadFault = AreMade tells before now first
 StaysAfter tells first before now WriteFault = ⊤
 StaysAfter tells first before now Input = AreMade tells before now first
 
--- What names hold stays, but for the files that are to be written; and where no job was done, for option_to_list that are written first.
+-- What names hold stays, but for the files that are to be written; and where no job was done, for those that are written first.
 pub record FilesStay (tells : Bool) (words : List (List ℕ)) (before now : Files) (status : Status) : Type 0 where
   pub others : (name : List ℕ) → IsNoTarget words name → now name ≡ before name
   pub same : StaysAfter tells (first_asked words) before now status
@@ -88,9 +93,14 @@ pub record OutStays (before now : SinkView) (status : Status) : Type 0 where
   pub quiet : status ≢ WriteFault → now.faults ≡ before.faults
   pub same : status ≢ Done → status ≢ WriteFault → now ≡ before
 
+-- The job whose end tells how a job ends: a `trace` ends as a `run` does, whichever events happen.
+abbrev pub ends_as : Job → Job
+ends_as Trace = Run
+ends_as job = job
+
 -- The job ends with a text, where it may leave out an image.
 abbrev pub HasText : Plan → ProgramTree → List (List ℕ) → Contents → Type 0
-HasText plan p names given = (file : Option (List ℕ)) × (text : List ℕ) × Does plan.job (without_image plan.options) p names given file (Prints text)
+HasText plan p names given = (file : Option (List ℕ)) × (text : List ℕ) × Does (ends_as plan.job) (without_image plan.options) p names given file (Prints text)
 
 -- The bytes of further inputs, which are told.
 abbrev pub AreFurtherTold : Files → List PlanInput → List (List ℕ) → Type 0
@@ -132,11 +142,29 @@ abbrev pub IsMissing : Files → List PlanInput → Type 0
 IsMissing kept [] = ⊥
 IsMissing kept (input ∷ rest) = bytes_in kept input.document ≡ Missing
 
--- A file that is to be read is not there: the source, or else the first input, and the source is a program.
+-- The bytes of the first input are told, this holds of them, and the count of its file did not rise.
+pub record DueOfFirst (tells : Bool) (before now : ShelfView) (plan : Plan) (P : List ℕ → Type 0) : Type 0 where
+  pub first : List ℕ
+  pub first_told : AreTold (at_reading tells before.kept plan) (first_of (inputs_of plan)) (record { second = first; further = [] })
+  pub first_read : (name : List ℕ) → AreUnread before now (first_of (inputs_of plan)) name → ⊥
+  pub holds : P first
+
+-- The first input is the packed file of a value that the program of the source takes, and the one behind it is not there.
+abbrev pub LacksFurther : Bool → ShelfView → ShelfView → Plan → List ℕ → Type 0
+LacksFurther tells before now plan source =
+    OnProgram source (λ p names. DueOfFirst tells before now plan (λ bytes. (v : Datum) × IsInput p v bytes)) × IsMissing (at_reading tells before.kept plan) (further_of (inputs_of plan))
+
+-- The first input is no packed file of a value that the program of the source takes.
+abbrev pub RefusesFirst : Bool → ShelfView → ShelfView → Plan → List ℕ → Type 0
+RefusesFirst tells before now plan source = OnProgram source (λ p names. DueOfFirst tells before now plan (λ bytes. ((v : Datum) × IsInput p v bytes) → ⊥))
+
+-- A file that is to be read is not there: the source; or else the first input, and the source is a program; or else the one behind
+-- it.
 abbrev pub DueMissing : Bool → ShelfView → ShelfView → Plan → Type 0
 DueMissing tells before now plan =
     ((bytes_in (at_reading tells before.kept plan) plan.source ≡ Missing) × FirstWritten before now plan)
     ⊎ (DueOfSource tells before now plan IsSource × IsMissing (at_reading tells before.kept plan) (inputs_of plan))
+    ⊎ DueOfSource tells before now plan (LacksFurther tells before now plan)
 
 -- The counts of `out` and of the file that is to be written did not rise.
 pub record TakesAll (before now : ShelfView) (out_before out_now : SinkView) (plan : Plan) : Type 0 where
@@ -146,8 +174,14 @@ pub record TakesAll (before now : ShelfView) (out_before out_now : SinkView) (pl
 -- The job ends without a value for this reason, and where it makes a file then, the count of its name did not rise.
 abbrev pub DueWithout : ShelfView → ShelfView → Reason → Plan → ProgramTree → List (List ℕ) → Contents → Type 0
 DueWithout before now reason plan p names given =
-    HasNoValue reason plan p names given
+    ((file : Option (List ℕ)) × Does (ends_as plan.job) plan.options p names given file (NoValue reason))
     × ((name bytes : List ℕ) → plan.target ≡ Some name → Does plan.job plan.options p names given (Some bytes) (NoValue reason) → Rose (before.writes name) (now.writes name) → ⊥)
+
+-- The inputs are none that the job accepts; or the first is none for a replay, whatever the journal is.
+abbrev pub DueRefused : Bool → ShelfView → ShelfView → Plan → Type 0
+DueRefused tells before now plan =
+    DueOfFiles tells before now plan (λ p names given. Accepts plan.job plan.options.skips p names given → ⊥)
+    ⊎ ((plan.job ≡ Replay) × DueOfSource tells before now plan (RefusesFirst tells before now plan))
 
 -- The status that is due by the words and by the bytes of the files that they name, where these are told and no
 -- count on the way rose; a file that is not there is told too.
@@ -158,16 +192,17 @@ IsDue tells words before now out_before out_now Done =
 IsDue tells words before now out_before out_now Source = MatchOption (asked words) ⊥ (λ plan. DueOfSource tells before now plan IsNoProgram)
 IsDue tells words before now out_before out_now Usage = asked words ≡ None
 IsDue tells words before now out_before out_now Depth = MatchOption (asked words) ⊥ (λ plan. DueOfFiles tells before now plan (DueWithout before now Deep plan))
-IsDue tells words before now out_before out_now Full = ⊥
+IsDue tells words before now out_before out_now Full =
+    MatchOption (asked words) ⊥ (λ plan. (plan.job ≡ Replay) × DueOfFiles tells before now plan (DueWithout before now reason.Full plan))
 IsDue tells words before now out_before out_now Memory = ⊥
 IsDue tells words before now out_before out_now ReadFault = MatchOption (asked words) ⊥ (DueMissing tells before now)
 IsDue tells words before now out_before out_now WriteFault = ⊥
-IsDue tells words before now out_before out_now Input =
-    MatchOption (asked words) ⊥ (λ plan. DueOfFiles tells before now plan (λ p names given. Accepts plan.job plan.options.skips p names given → ⊥))
+IsDue tells words before now out_before out_now Input = MatchOption (asked words) ⊥ (DueRefused tells before now)
 
--- The words ask for `run` or `gen`: no other job uses chunks of region memory.
+-- The words ask for `run`, `gen` or `trace`: of the other jobs `replay` alone uses chunks of region memory, and its journal tells
+-- whether these run out.
 abbrev pub AsksRun : List (List ℕ) → Type 0
-AsksRun words = MatchOption (asked words) ⊥ (λ plan. (plan.job ≡ Run) ⊎ (plan.job ≡ Gen))
+AsksRun words = MatchOption (asked words) ⊥ (λ plan. (plan.job ≡ Run) ⊎ (plan.job ≡ Gen) ⊎ (plan.job ≡ Trace))
 
 -- The status is the one that is due; or memory ran out, or chunks of region memory did, in a run.
 abbrev pub IsDueOrScarce : List (List ℕ) → (due status : Status) → Type 0

@@ -5,15 +5,17 @@ use Rattle.gib_types.specs.Tree.{Datum}
 use Rattle.gib_syntax.specs.Tree.{ProgramTree}
 use Rattle.gib_app.specs.declared.input_fault.InputFault.{InputFault}
 use Rattle.gib_app.specs.declared.plan.Format.{Format}
-use Rattle.gib_app.specs.declared.plan.Format.TheVariants.{Packed, Text, Shown}
+use Rattle.gib_app.specs.declared.plan.Format.TheVariants.{Packed, Text, Shown, Journaled}
 use Rattle.gib_app.specs.declared.plan.Job.{Job}
-use Rattle.gib_app.specs.declared.plan.Job.TheVariants.{Run, Plain, Check, Core, Code, Pack, Show, Gen}
+use Rattle.gib_app.specs.declared.plan.Job.TheVariants.{Run, Plain, Check, Core, Code, Pack, Show, Gen, Trace, Replay}
 use Rattle.gib_app.specs.Plan.{Document, Plan, Contents}
 use Rattle.gib_app.specs.Running.{IsInput, IsShownValue}
+use Rattle.gib_app.specs.Replaying.{journal_in, OnJournal, Happens}
 use Rattle.gib_app.specs.Packing.{IsPackedText}
-use Rattle.gib_app.specs.InputFaults.{IsInputFault, IsShowFault, IsTextFault}
+use Rattle.gib_app.specs.InputFaults.{IsInputFault, IsReplayFault, IsShowFault, IsTextFault}
 
--- What the inputs of a job are: a packed file, the text of a value, a file that is shown; or there are none.
+-- What the inputs of a job are: a packed file, the text of a value, a file that is shown, a packed file and a journal; or there are
+-- none.
 abbrev pub format_of : Job → Option Format
 format_of Run = Some Packed
 format_of Plain = Some Packed
@@ -23,16 +25,26 @@ format_of Code = None
 format_of Pack = Some Text
 format_of Show = Some Shown
 format_of Gen = Some Packed
+format_of Trace = Some Packed
+format_of Replay = Some Journaled
 
 -- How many bytes of the first input of that format are read at most.
 abbrev pub limit_of : Format → ℕ
 limit_of Packed = 16777216
 limit_of Text = 16777216
 limit_of Shown = 268435480
+limit_of Journaled = 16777216
+
+-- The same of the inputs behind it.
+abbrev pub further_limits : Format → List ℕ
+further_limits Packed = []
+further_limits Text = []
+further_limits Shown = []
+further_limits Journaled = 16777216 ∷ []
 
 -- How many bytes of each input of that format are read at most.
 abbrev pub limits_of : Format → List ℕ
-limits_of format = limit_of format ∷ []
+limits_of format = limit_of format ∷ further_limits format
 
 -- The same of the first input of a job.
 abbrev pub most_of : Job → ℕ
@@ -59,12 +71,14 @@ abbrev pub IsAccepted : Format → (skips : Bool) → ProgramTree → List (List
 IsAccepted Packed skips p names given = (v : Datum) × IsInput p v given.second
 IsAccepted Text skips p names given = (packed : List ℕ) × IsPackedText p names given.second packed
 IsAccepted Shown skips p names given = (v : Datum) × IsShownValue p skips v given.second
+IsAccepted Journaled skips p names given = OnJournal p given.second (journal_in given) (Happens p)
 
 -- The inputs are refused as that, for this fault.
 abbrev pub IsRefused : Format → (skips : Bool) → ProgramTree → List (List ℕ) → Contents → InputFault → Type 0
 IsRefused Packed skips p names given fault = IsInputFault p given.second fault
 IsRefused Text skips p names given fault = IsTextFault p names given.second fault
 IsRefused Shown skips p names given fault = IsShowFault p skips given.second fault
+IsRefused Journaled skips p names given fault = IsReplayFault p given.second (journal_in given) fault
 
 -- A job accepts its inputs, if it has some.
 abbrev pub Accepts : Job → (skips : Bool) → ProgramTree → List (List ℕ) → Contents → Type 0

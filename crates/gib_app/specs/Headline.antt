@@ -26,7 +26,7 @@ abbrev pub run_plan : Document → Document → Option (List ℕ) → Options �
 run_plan program packed image options = record { first = []; source = program; inputs = packed ∷ []; target = image; job = Run; options = options }
 
 -- The words ask for that, within a depth of calls and a number of chunks. These are the bytes of both documents, and
--- option_to_list that `out` has taken so far. A document is a file by its name; where there are no words, both are built in. An image may
+-- those that `out` has taken so far. A document is a file by its name; where there are no words, both are built in. An image may
 -- be asked for.
 pub record IsRun (words : List (List ℕ)) (files : ShelfView) (out : SinkView) (source input : List ℕ) (options : Options) (front : List ℕ) : Type 0 where
   pub program : Document
@@ -67,10 +67,10 @@ pub record IsTooDeep (source input : List ℕ) (depth : ℕ) : Type 0 where
   pub given : Given source input
   pub means : run given.program depth given.value ≡ Stops Deep
 
--- So many chunks may not be enough for what the run costs.
-pub record IsTooBig (source input : List ℕ) (skips : Bool) (depth chunks : ℕ) : Type 0 where
+-- So many chunks may not be enough for what the run costs, where so many calls and forks may be nested.
+pub record IsTooBig (source input : List ℕ) (skips : Bool) (depth forks chunks : ℕ) : Type 0 where
   pub given : Given source input
-  pub tight : Tight chunks (run_cost (core_after skips 4 given.program) depth 0 given.value)
+  pub tight : Tight chunks (run_cost (core_after skips 4 given.program) depth forks given.value)
 
 -- No read of the two documents failed in the call, nor the write of an image, nor a put on `out`.
 pub record NoneFailed (program packed : Document) (image : Option (List ℕ)) (before now : ShelfView) (out_before out_now : SinkView) : Type 0 where

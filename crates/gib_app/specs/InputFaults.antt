@@ -1,4 +1,4 @@
--- Why the second file of a command is refused. Places count from 0: in a packed file from its payload's start.
+-- Why the inputs of a command are refused. Places count from 0: in a packed file from its payload's start.
 use Rattle.std.specs.Prelude.{◌≡◌, ◌≤◌, ◌<◌, ◌⊎◌, Bool, ℕ, List, [], ◌∷◌, length, take, Err}
 use Rattle.gib_types.specs.declared.table.Ty.{Ty}
 use Rattle.gib_types.specs.Table.{Table}
@@ -12,7 +12,9 @@ use Rattle.gib_value.specs.Reading.{IsRefusedAt}
 use Rattle.gib_syntax.specs.Tree.{ProgramTree}
 use Rattle.gib_syntax.specs.Declarations.{table_of_program, input_type, output_type}
 use Rattle.gib_app.specs.declared.input_fault.InputFault.{InputFault}
-use Rattle.gib_app.specs.declared.input_fault.InputFault.TheVariants.{Long, Packed, Image, Text}
+use Rattle.gib_app.specs.declared.input_fault.InputFault.TheVariants.{Long, Packed, Image, Text, Journal}
+use Rattle.gib_app.specs.declared.input_fault.JournalFault.{JournalFault}
+use Rattle.gib_app.specs.declared.input_fault.JournalFault.TheVariants as journal
 use Rattle.gib_app.specs.declared.input_fault.PackedFault.{PackedFault}
 use Rattle.gib_app.specs.declared.input_fault.PackedFault.TheVariants.{Header, Short, Tag, Truth, Trailing}
 use Rattle.gib_print.specs.declared.image_fault.ImageFault.TheVariants as reading
@@ -22,6 +24,11 @@ use Rattle.gib_app.specs.declared.input_fault.ImageFault.{ImageFault}
 use Rattle.gib_app.specs.declared.input_fault.ImageFault.TheVariants as image
 use Rattle.gib_app.specs.Cores.{layouts_of}
 use Rattle.gib_app.specs.Packing.{without_feed, IsTextLine}
+use Rattle.gib_app.specs.Running.{IsInput}
+use Rattle.gib_app.specs.Replaying.{IsJournal, IsNotEnabled, IsNotEnded}
+use Rattle.gib_locked.specs.declared.journal.Line.{Line}
+use Rattle.gib_locked.specs.declared.settings.Settings.{Settings}
+use Rattle.gib_locked.specs.JournalReading.{IsRefusedAt as IsRefusedLine}
 
 -- The header has no fault, and this is the first one that reading meets in the payload.
 pub record IsPayloadFault (table : Table) (ty : Ty) (bytes : List ℕ) (fault : PackFault) : Type 0 where
@@ -48,6 +55,7 @@ IsInputFault p bytes (Long most) = (most ≡ 16777216) × (16777216 < length byt
 IsInputFault p bytes (Packed fault) = IsPackedFault p bytes fault
 IsInputFault p bytes (Image fault) = ⊥
 IsInputFault p bytes (Text place) = ⊥
+IsInputFault p bytes (Journal fault) = ⊥
 
 -- The file has more than 268,435,480 bytes; or it begins as a packed file and has more than 16,777,216.
 abbrev pub IsTooLong : List ℕ → ℕ → Type 0
@@ -73,6 +81,7 @@ IsShowFault p skips bytes (Packed (Header header.Magic)) = (length bytes ≤ 268
 IsShowFault p skips bytes (Packed fault) = IsPackedFault p bytes fault
 IsShowFault p skips bytes (Image fault) = (length bytes ≤ 268435480) × IsImageFault p skips bytes fault
 IsShowFault p skips bytes (Text place) = ⊥
+IsShowFault p skips bytes (Journal fault) = ⊥
 
 -- The bytes are the text of a value whose packed file has more than 16,777,216 bytes.
 pub record HasLongFile (p : ProgramTree) (names : List (List ℕ)) (bytes : List ℕ) : Type 0 where
@@ -89,3 +98,21 @@ IsTextFault p names bytes (Long most) = (most ≡ 16777216) × ((16777216 < leng
 IsTextFault p names bytes (Packed fault) = ⊥
 IsTextFault p names bytes (Image fault) = ⊥
 IsTextFault p names bytes (Text place) = (length bytes ≤ 16777216) × IsRefusedAt (table_of_program p) names (input_type p) (without_feed bytes) place
+IsTextFault p names bytes (Journal fault) = ⊥
+
+-- Why no journal is replayed on a value: the line of this number is the first that cannot stand in a journal; an event of the line of
+-- this number is not enabled; or all events happen, and the root has not ended.
+abbrev pub IsJournalFault : ProgramTree → Datum → List ℕ → JournalFault → Type 0
+IsJournalFault p v bytes (journal.Line n) = (length bytes ≤ 16777216) × IsRefusedLine bytes n
+IsJournalFault p v bytes (journal.NotEnabled n) = (settings : Settings) × (lines : List Line) × IsJournal settings lines bytes × IsNotEnabled p v settings lines n
+IsJournalFault p v bytes journal.NotEnded = (settings : Settings) × (lines : List Line) × IsJournal settings lines bytes × IsNotEnded p v settings lines
+
+-- The inputs of a replay are refused for this fault: the first is no packed file; or else the journal has more than 16,777,216 bytes, is
+-- none, or its events do not lead on.
+abbrev pub IsReplayFault : ProgramTree → (input bytes : List ℕ) → InputFault → Type 0
+IsReplayFault p input bytes (Long most) =
+    IsInputFault p input (Long most) ⊎ (((v : Datum) × IsInput p v input) × (most ≡ 16777216) × (16777216 < length bytes))
+IsReplayFault p input bytes (Packed fault) = IsPackedFault p input fault
+IsReplayFault p input bytes (Image fault) = ⊥
+IsReplayFault p input bytes (Text place) = ⊥
+IsReplayFault p input bytes (Journal fault) = (v : Datum) × IsInput p v input × IsJournalFault p v bytes fault

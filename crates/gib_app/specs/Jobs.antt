@@ -1,11 +1,11 @@
 -- What each job makes.
-use Rattle.std.specs.Prelude.{◌≡◌, ℕ, List, [], ◌∷◌, ◌++◌, codes, Bool, true, false, Option, None, Some}
+use Rattle.std.specs.Prelude.{◌≡◌, ℕ, List, [], ◌∷◌, ◌++◌, codes, Bool, true, false, nat_lt, if◌then◌else◌, Option, None, Some}
 use Rattle.gib_syntax.specs.Tree.{ProgramTree}
 use Rattle.gib_core.specs.CoreText.{core_text}
 use Rattle.gib_code.specs.ListingText.{listing_text}
 use Rattle.gib_lower.specs.Lowering.{lower_program}
 use Rattle.gib_app.specs.declared.plan.Job.{Job}
-use Rattle.gib_app.specs.declared.plan.Job.TheVariants.{Run, Plain, Check, Core, Code, Pack, Show, Gen}
+use Rattle.gib_app.specs.declared.plan.Job.TheVariants.{Run, Plain, Check, Core, Code, Pack, Show, Gen, Trace, Replay}
 use Rattle.gib_app.specs.declared.plan.Options.{Options}
 use Rattle.gib_app.specs.declared.made.Reason.{Reason}
 use Rattle.gib_app.specs.declared.made.Reason.TheVariants.{Deep, Full}
@@ -13,6 +13,7 @@ use Rattle.gib_app.specs.Plan.{Contents}
 use Rattle.gib_app.specs.Running.{IsOutput, IsSummary, IsRunImage, RunsOut, FillsUp, IsShown}
 use Rattle.gib_app.specs.Packing.{IsPackedText}
 use Rattle.gib_app.specs.Cores.{core_after}
+use Rattle.gib_app.specs.Replaying.{journal_in, IsTrace, OnJournal, IsShownEnd, IsDeepEnd, LacksChunks}
 
 -- How a job ends: with a text that is printed, or with no value to print.
 pub data End : Type 0 where
@@ -40,11 +41,15 @@ MakesImage false p skips depth chunks input file = file ≡ None
 MakesImage true p skips depth chunks input None = ⊥
 MakesImage true p skips depth chunks input (Some bytes) = IsRunImage p skips depth chunks input bytes
 
+-- How many forks a run may nest: with one worker each `par` runs in place.
+abbrev pub run_forks : Options → ℕ
+run_forks options = if nat_lt 1 options.workers then options.fork else 0
+
 -- `run`: the same, and its image, where that is asked for; or so many chunks of memory may not be enough.
 abbrev pub Runs : ProgramTree → List (List ℕ) → Options → List ℕ → Option (List ℕ) → End → Type 0
 Runs p names options input file (Prints text) = MakesImage options.image p options.skips options.depth options.chunks input file × IsOutput p names options.depth input text
 Runs p names options input file (NoValue Deep) = (file ≡ None) × RunsOut p options.depth input
-Runs p names options input file (NoValue Full) = (file ≡ None) × FillsUp p options.skips options.depth options.chunks input
+Runs p names options input file (NoValue Full) = (file ≡ None) × FillsUp p options.skips options.depth (run_forks options) options.chunks input
 
 -- `pack`: the packed file of the value whose text this is.
 abbrev pub Packs : ProgramTree → List (List ℕ) → List ℕ → Option (List ℕ) → End → Type 0
@@ -56,7 +61,25 @@ Packs p names bytes file (NoValue reason) = ⊥
 abbrev pub Sums : ProgramTree → Options → List ℕ → Option (List ℕ) → End → Type 0
 Sums p options input file (Prints text) = (file ≡ None) × IsSummary p options.number options.levels options.depth input text
 Sums p options input file (NoValue Deep) = (file ≡ None) × RunsOut p options.depth input
-Sums p options input file (NoValue Full) = (file ≡ None) × FillsUp p options.skips options.depth options.chunks input
+Sums p options input file (NoValue Full) = (file ≡ None) × FillsUp p options.skips options.depth (run_forks options) options.chunks input
+
+-- The journal of a run on the input, where there is a file.
+abbrev pub MakesTrace : ProgramTree → Options → List ℕ → Option (List ℕ) → Type 0
+MakesTrace p options input None = ⊥
+MakesTrace p options input (Some bytes) = IsTrace p options input bytes
+
+-- `trace`: as `run`, with the journal of the run also where that is too deep; or so many chunks of memory may not be enough.
+abbrev pub Traces : ProgramTree → List (List ℕ) → Options → List ℕ → Option (List ℕ) → End → Type 0
+Traces p names options input file (Prints text) = MakesTrace p options input file × IsOutput p names options.depth input text
+Traces p names options input file (NoValue Deep) = MakesTrace p options input file × RunsOut p options.depth input
+Traces p names options input file (NoValue Full) = (file ≡ None) × FillsUp p options.skips options.depth options.fork options.chunks input
+
+-- `replay`: the text of the value to which the events of the journal lead, and its image, where that is asked for; or they lead to a
+-- root whose depth ran out; or to where chunks run out.
+abbrev pub Replays : ProgramTree → List (List ℕ) → (image : Bool) → Contents → Option (List ℕ) → End → Type 0
+Replays p names image given file (Prints text) = OnJournal p given.second (journal_in given) (IsShownEnd p names image file text)
+Replays p names image given file (NoValue Deep) = (file ≡ None) × OnJournal p given.second (journal_in given) (IsDeepEnd p)
+Replays p names image given file (NoValue Full) = (file ≡ None) × OnJournal p given.second (journal_in given) (LacksChunks p)
 
 -- What a job with these options makes, for the program with these names, of the bytes of its inputs: a file, or none, and its
 -- end.
@@ -69,6 +92,8 @@ Does Code options p names given = OnlyPrints (λ text. text ≡ listing_text nam
 Does Pack options p names given = Packs p names given.second
 Does Show options p names given = OnlyPrints (IsShown p names options.skips given.second)
 Does Gen options p names given = Sums p options given.second
+Does Trace options p names given = Traces p names options given.second
+Does Replay options p names given = Replays p names options.image given
 
 -- The same options, without an image.
 abbrev pub without_image : Options → Options

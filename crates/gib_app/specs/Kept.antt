@@ -1,5 +1,5 @@
 -- What the code keeps of a plan, and of what a job made.
-use Rattle.std.specs.Prelude.{◌≡◌, ℕ, List, [], Option, None, Some, option_map, option_to_list}
+use Rattle.std.specs.Prelude.{◌≡◌, ℕ, List, [], ◌∷◌, Option, None, Some, option_map, option_to_list}
 use Rattle.gib_value.specs.Text.{AreHeld}
 use Rattle.gib_syntax.specs.Tree.{ProgramTree}
 use Rattle.gib_app.specs.declared.plan.Document.{Document as KeptDocument}
@@ -7,13 +7,14 @@ use Rattle.gib_app.specs.declared.plan.Document.TheVariants as document
 use Rattle.gib_app.specs.declared.plan.Plan.{Plan as KeptPlan}
 use Rattle.gib_app.specs.declared.made.End.{End as KeptEnd}
 use Rattle.gib_app.specs.declared.made.End.TheVariants as ends
+use Rattle.gib_app.specs.declared.jobs.Given.{Given}
 use Rattle.gib_app.specs.declared.made.Made.{Made}
 use Rattle.gib_app.specs.declared.made.Valued.{Valued}
 use Rattle.gib_app.specs.declared.plan.Input.{Input as KeptInput}
 use Rattle.gib_app.specs.Formats.{Input}
 use Rattle.gib_app.specs.declared.plan.MadeNames.{MadeNames}
 use Rattle.gib_app.specs.declared.plan.Options.{Options}
-use Rattle.gib_app.specs.Plan.{Document, BuiltIn, Named, Write, Plan}
+use Rattle.gib_app.specs.Plan.{Document, BuiltIn, Named, Write, Plan, Contents}
 use Rattle.gib_app.specs.Words.{made_source, made_input, first_writes}
 use Rattle.gib_app.specs.Jobs.{End, Prints, NoValue}
 use Rattle.gib_app.specs.MachineRun.{StandsMeant, cells_of}
@@ -35,16 +36,25 @@ first_of options (Some names) = first_writes options names.source.now names.inpu
 abbrev pub input_of : KeptInput → Input
 input_of input = record { document = document_of input.document; most = input.most }
 
+-- The inputs that are read: a third file only behind a second one.
+abbrev pub inputs_with : (second third : Option Document) → List Document
+inputs_with None third = []
+inputs_with (Some document) third = document ∷ option_to_list third
+
 -- The plan.
 abbrev pub plan_of : KeptPlan → Plan
 plan_of plan = record {
   first = first_of plan.options plan.first;
   source = document_of plan.source;
-  inputs = option_to_list (option_map document_of plan.second);
+  inputs = inputs_with (option_map document_of plan.second) (option_map document_of plan.third);
   target = option_map (λ name. name.now) plan.target;
   job = plan.job;
   options = plan.options;
 }
+
+-- The bytes of the inputs.
+abbrev pub contents_of : Given → Contents
+contents_of given = record { second = given.second.now; further = option_to_list (option_map (λ bytes. bytes.now) given.journal) }
 
 -- The file that a job made.
 abbrev pub file_of : Made → Option (List ℕ)

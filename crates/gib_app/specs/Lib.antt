@@ -5,6 +5,7 @@ pub mod Words
 pub mod Running
 pub mod Packing
 pub mod Cores
+pub mod Replaying
 pub mod Jobs
 pub mod SourceFaults
 pub mod InputFaults
@@ -16,10 +17,12 @@ pub mod Ending
 pub mod Codes
 pub mod Stops
 pub mod MachineRun
+pub mod Workers
 pub mod Kept
 pub mod Imaging
 pub mod PassFaults
 pub mod Stopping
+pub mod Readings
 pub mod Performing
 pub mod FirstWrites
 pub mod Headline

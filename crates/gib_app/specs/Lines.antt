@@ -16,6 +16,8 @@ use Rattle.gib_app.specs.declared.input_fault.InputFault.{InputFault}
 use Rattle.gib_app.specs.declared.input_fault.InputFault.TheVariants as input
 use Rattle.gib_app.specs.declared.input_fault.ImageFault.{ImageFault}
 use Rattle.gib_app.specs.declared.input_fault.ImageFault.TheVariants as image
+use Rattle.gib_app.specs.declared.input_fault.JournalFault.{JournalFault}
+use Rattle.gib_app.specs.declared.input_fault.JournalFault.TheVariants as journal
 use Rattle.gib_app.specs.declared.input_fault.PackedFault.{PackedFault}
 use Rattle.gib_app.specs.declared.input_fault.PackedFault.TheVariants as packed
 
@@ -71,12 +73,19 @@ image_text image.Header = codes "bad image header"
 image_text (image.Item at) = codes "bad image at " ++ decimal at
 image_text image.Long = codes "image too long"
 
--- What is said of a second file that is refused.
+-- What is said of a journal that is refused.
+abbrev pub journal_text : JournalFault → List ℕ
+journal_text (journal.Line n) = codes "bad journal at line " ++ decimal n
+journal_text (journal.NotEnabled n) = codes "event not enabled at line " ++ decimal n
+journal_text journal.NotEnded = codes "journal not ended"
+
+-- What is said of inputs that are refused.
 abbrev pub input_text : InputFault → List ℕ
 input_text (input.Long most) = codes "input: longer than " ++ decimal most ++ codes " bytes"
 input_text (input.Packed fault) = codes "input: " ++ packed_text fault
 input_text (input.Image fault) = codes "input: " ++ image_text fault
 input_text (input.Text place) = codes "input: bad text at " ++ decimal place
+input_text (input.Journal fault) = codes "input: " ++ journal_text fault
 
 -- Words, and what stands behind them.
 abbrev pub with_detail : List ℕ → Detail → List ℕ

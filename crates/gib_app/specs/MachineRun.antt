@@ -37,19 +37,19 @@ pub record StandsMeant (p : ProgramTree) (depth : ℕ) (input : List ℕ) (laid 
   pub table : laid.table ≡ table_of_program p
   pub stands : Stands laid s place (output_type p) result
 
--- What a run of a program on a value costs at most: that of the core that runs, with each `par` in place, marked or not.
-abbrev pub program_cost : ProgramTree → (skips : Bool) → (depth : ℕ) → Datum → Cost
-program_cost p skips depth v = run_cost (core_after skips 4 p) depth 0 v
+-- What a run of a program on a value costs at most, where so many calls and forks may be nested: that of the core that runs.
+abbrev pub program_cost : ProgramTree → (skips : Bool) → (depth forks : ℕ) → Datum → Cost
+program_cost p skips depth forks v = run_cost (core_after skips 4 p) depth forks v
 
 -- Why a program has no value on an input: its meaning runs out of depth, or so many chunks may not be enough.
-abbrev pub LacksValue : ProgramTree → (skips : Bool) → (depth chunks : ℕ) → (input : List ℕ) → Reason → Type 0
-LacksValue p skips depth chunks input reason.Deep = RunsOut p depth input
-LacksValue p skips depth chunks input reason.Full = FillsUp p skips depth chunks input
+abbrev pub LacksValue : ProgramTree → (skips : Bool) → (depth forks chunks : ℕ) → (input : List ℕ) → Reason → Type 0
+LacksValue p skips depth forks chunks input reason.Deep = RunsOut p depth input
+LacksValue p skips depth forks chunks input reason.Full = FillsUp p skips depth forks chunks input
 
 -- Why a run leaves no root.
-abbrev pub IsMachineStop : ProgramTree → (skips : Bool) → (depth chunks : ℕ) → (input : List ℕ) → Stop → Type 0
-IsMachineStop p skips depth chunks input =
-    StopsBy (λ fault. ⊥) (λ name. ⊥) (λ fault. IsInputFault p input fault × (((v : Datum) × IsInput p v input) → ⊥)) (LacksValue p skips depth chunks input) (λ name. ⊥)
+abbrev pub IsMachineStop : ProgramTree → (skips : Bool) → (depth forks chunks : ℕ) → (input : List ℕ) → Stop → Type 0
+IsMachineStop p skips depth forks chunks input =
+    StopsBy (λ fault. ⊥) (λ name. ⊥) (λ fault. IsInputFault p input fault × (((v : Datum) × IsInput p v input) → ⊥)) (LacksValue p skips depth forks chunks input) (λ name. ⊥)
 
 -- A value was owed, and in region memory it stands for the root.
 pub record IsRootOf (laid : LaidOut) (s : Store) (ty : Ty) (owed : Outcome) (place : Root) : Type 0 where

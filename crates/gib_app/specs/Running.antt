@@ -71,11 +71,11 @@ pub record RunsOut (p : ProgramTree) (depth : ℕ) (input : List ℕ) : Type 0 w
   pub is_input : IsInput p value input
   pub means : run p depth value ≡ Stops Deep
 
--- So many chunks may not be enough for what the run of the program on the input costs, within the depth and without forks.
-pub record FillsUp (p : ProgramTree) (skips : Bool) (depth chunks : ℕ) (input : List ℕ) : Type 0 where
+-- So many chunks may not be enough for what the run of the program on the input costs, where so many calls and forks may be nested.
+pub record FillsUp (p : ProgramTree) (skips : Bool) (depth forks chunks : ℕ) (input : List ℕ) : Type 0 where
   pub value : Datum
   pub is_input : IsInput p value input
-  pub tight : Tight chunks (run_cost (core_after skips 4 p) depth 0 value)
+  pub tight : Tight chunks (run_cost (core_after skips 4 p) depth forks value)
 
 -- A file whose value is shown: the packed file of a value of the type of main's parameter; or an image of one of the type of
 -- main's result, in which it is read in at most 16,777,216 items.

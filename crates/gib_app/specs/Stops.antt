@@ -1,5 +1,5 @@
 -- What the parts of a call answer, and why they stop.
-use Rattle.std.specs.Prelude.{◌≡◌, ◌<◌, ℕ, List, length, Option, Some, None}
+use Rattle.std.specs.Prelude.{◌≡◌, ◌<◌, ◌⊎◌, ℕ, List, [], ◌∷◌, length, Option, Some, None}
 use Rattle.gib_base.specs.Lexed.{Lexed}
 use Rattle.gib_types.specs.declared.table.Ty.{Ty}
 use Rattle.gib_types.specs.Table.{Table}
@@ -17,6 +17,7 @@ use Rattle.gib_app.specs.declared.input_fault.InputFault.TheVariants as input
 use Rattle.gib_app.specs.declared.input_fault.PackedFault.{PackedFault}
 use Rattle.gib_app.specs.declared.made.Reason.{Reason}
 use Rattle.gib_app.specs.declared.plan.Job.{Job}
+use Rattle.gib_app.specs.declared.plan.Job.TheVariants.{Replay}
 use Rattle.gib_app.specs.declared.source_fault.SourceFault.{SourceFault}
 use Rattle.gib_app.specs.declared.stop.Stop.{Stop}
 use Rattle.gib_app.specs.declared.stop.Stop.TheVariants.{Usage, Source, Unread, Input, NoValue, Memory, Unwritten, Unput}
@@ -25,9 +26,10 @@ use Rattle.gib_app.specs.Writes.{at_reading}
 use Rattle.gib_app.specs.Running.{IsProgram, IsNoProgram, IsInput, IsShownValue}
 use Rattle.gib_app.specs.Packing.{IsPackedText}
 use Rattle.gib_app.specs.SourceFaults.{IsSourceFault}
-use Rattle.gib_app.specs.InputFaults.{IsFileFault, IsInputFault, IsShowFault, IsTextFault}
+use Rattle.gib_app.specs.InputFaults.{IsFileFault, IsInputFault, IsReplayFault, IsShowFault, IsTextFault}
 use Rattle.gib_app.specs.Formats.{inputs_of, most_of, Accepts, Refuses}
-use Rattle.gib_app.specs.Causes.{AreGiven, OnSource, OnBoth, IsUnread, AreUnread, FailsToRead, FailsToWrite}
+use Rattle.gib_app.specs.Causes.{AreFurther, AreGiven, AreReached, OnSource, OnReached, IsUnread, AreUnread, first_of, further_of, FailsToRead, FailsToWrite}
+use Rattle.gib_app.specs.Replaying.{journal_in, OnJournal, Happens}
 
 -- The source spells this program with these names, and it is typed.
 pub record IsCompiled (source : List ℕ) (p : ProgramTree) (names : List (List ℕ)) : Type 0 where
@@ -72,16 +74,43 @@ abbrev pub IsSourceStop : ShelfView → ShelfView → Document → Stop → Type
 IsSourceStop before now d =
     StopsBy (λ fault. OnSource before.kept d (λ bytes. IsSourceFault bytes fault × IsNoProgram bytes)) (λ name. IsUnread before now d name) (λ fault. ⊥) (λ reason. ⊥) (λ name. ⊥)
 
--- A first input of more bytes than a plan reads.
+-- The first input has more bytes than a plan reads.
 pub record IsLongInput (kept : Files) (plan : Plan) (fault : InputFault) : Type 0 where
   pub is : fault ≡ input.Long (most_of plan.job)
   pub given : Contents
-  pub given_held : AreGiven kept (inputs_of plan) given
+  pub given_held : AreGiven kept (first_of (inputs_of plan)) given
   pub many : most_of plan.job < length given.second
 
--- Why the bytes of the inputs are not read.
+-- Why the bytes of the first input are not read.
 abbrev pub IsInputStop : ShelfView → ShelfView → Plan → Stop → Type 0
-IsInputStop before now plan = StopsBy (λ fault. ⊥) (λ name. AreUnread before now (inputs_of plan) name) (IsLongInput before.kept plan) (λ reason. ⊥) (λ name. ⊥)
+IsInputStop before now plan = StopsBy (λ fault. ⊥) (λ name. AreUnread before now (first_of (inputs_of plan)) name) (IsLongInput before.kept plan) (λ reason. ⊥) (λ name. ⊥)
+
+-- The input behind the first has more bytes than a plan reads, and the first is a packed file of a value that the program takes.
+pub record IsLongFurther (kept : Files) (plan : Plan) (p : ProgramTree) (first : List ℕ) (fault : InputFault) : Type 0 where
+  pub is : fault ≡ input.Long 16777216
+  pub taken : (v : Datum) × IsInput p v first
+  pub bytes : List ℕ
+  pub held : AreFurther kept (further_of (inputs_of plan)) (bytes ∷ [])
+  pub many : 16777216 < length bytes
+
+-- Why the bytes of the input behind the first are not read: the first is no packed file of a value that the program takes; or it is,
+-- and the count of the other one's file rose, or that one has more bytes than a plan reads.
+abbrev pub IsFurtherStop : ShelfView → ShelfView → Plan → ProgramTree → (first : List ℕ) → Stop → Type 0
+IsFurtherStop before now plan p first =
+    StopsBy (λ fault. ⊥) (λ name. AreUnread before now (further_of (inputs_of plan)) name × ((v : Datum) × IsInput p v first))
+    (λ fault. ((plan.job ≡ Replay) × IsInputFault p first fault × (((v : Datum) × IsInput p v first) → ⊥)) ⊎ IsLongFurther before.kept plan p first fault)
+    (λ reason. ⊥) (λ name. ⊥)
+
+-- Why the bytes of the inputs are not read: the count of a file rose, for a further one where the first is a packed file of a value
+-- that the program takes; or they are refused.
+abbrev pub IsInputsStop : ShelfView → ShelfView → Plan → ProgramTree → (names : List (List ℕ)) → Stop → Type 0
+IsInputsStop before now plan p names =
+    StopsBy (λ fault. ⊥)
+    (λ name. AreUnread before now (first_of (inputs_of plan)) name
+    ⊎ (AreUnread before now (further_of (inputs_of plan)) name × ((given : Contents) × AreGiven before.kept (first_of (inputs_of plan)) given × ((v : Datum) × IsInput p v given.second))))
+    (λ fault. (given : Contents) × AreReached before.kept p (inputs_of plan) given
+    × Refuses plan.job plan.options.skips p names given fault × (Accepts plan.job plan.options.skips p names given → ⊥))
+    (λ reason. ⊥) (λ name. ⊥)
 
 -- Why nothing is made of a second file: it is refused so.
 abbrev pub IsRefusal : (InputFault → Type 0) → Stop → Type 0
@@ -93,6 +122,7 @@ IsPacked P (input.Long most) = ⊥
 IsPacked P (input.Packed fault) = P fault
 IsPacked P (input.Image fault) = ⊥
 IsPacked P (input.Text place) = ⊥
+IsPacked P (input.Journal fault) = ⊥
 
 -- Why a file is not read as a packed one: it is that of no value.
 abbrev pub IsPackedStop : Table → Ty → List ℕ → Stop → Type 0
@@ -110,6 +140,10 @@ IsShowStop p skips file = IsRefusal (λ fault. IsShowFault p skips file fault ×
 abbrev pub IsPackStop : ProgramTree → List (List ℕ) → List ℕ → Stop → Type 0
 IsPackStop p names bytes = IsRefusal (λ fault. IsTextFault p names bytes fault × (((file : List ℕ) × IsPackedText p names bytes file) → ⊥))
 
+-- Why no journal is replayed.
+abbrev pub IsReplayStop : ProgramTree → Contents → Stop → Type 0
+IsReplayStop p given = IsRefusal (λ fault. IsReplayFault p given.second (journal_in given) fault × (OnJournal p given.second (journal_in given) (Happens p) → ⊥))
+
 -- Why a job makes nothing, for this program, of the bytes of its inputs.
 abbrev pub FailsTo : Job → (skips : Bool) → ProgramTree → List (List ℕ) → Contents → Stop → Type 0
 FailsTo job skips p names given = IsRefusal (λ fault. Refuses job skips p names given fault × (Accepts job skips p names given → ⊥))
@@ -118,7 +152,7 @@ FailsTo job skips p names given = IsRefusal (λ fault. Refuses job skips p names
 abbrev pub IsMakeStop : ShelfView → ShelfView → Plan → Stop → Type 0
 IsMakeStop before now plan =
     StopsBy (λ fault. OnSource before.kept plan.source (λ bytes. IsSourceFault bytes fault × IsNoProgram bytes)) (λ name. FailsToRead before.kept before now plan name)
-    (λ fault. OnBoth before.kept plan (λ p names given. Refuses plan.job plan.options.skips p names given fault × (Accepts plan.job plan.options.skips p names given → ⊥)))
+    (λ fault. OnReached before.kept plan (λ p names given. Refuses plan.job plan.options.skips p names given fault × (Accepts plan.job plan.options.skips p names given → ⊥)))
     (λ reason. ⊥) (λ name. ⊥)
 
 -- Why what is asked for is not made, or not written.
@@ -126,6 +160,6 @@ abbrev pub IsStop : Bool → ShelfView → ShelfView → Plan → Stop → Type 
 IsStop tells before now plan =
     StopsBy (λ fault. OnSource (at_reading tells before.kept plan) plan.source (λ bytes. IsSourceFault bytes fault × IsNoProgram bytes))
     (λ name. FailsToRead (at_reading tells before.kept plan) before now plan name)
-    (λ fault. OnBoth (at_reading tells before.kept plan) plan (λ p names given. Refuses plan.job plan.options.skips p names given fault × (Accepts plan.job plan.options.skips p names given → ⊥)))
+    (λ fault. OnReached (at_reading tells before.kept plan) plan (λ p names given. Refuses plan.job plan.options.skips p names given fault × (Accepts plan.job plan.options.skips p names given → ⊥)))
     (λ reason. ⊥)
     (λ name. FailsToWrite tells before now plan name)

@@ -14,7 +14,7 @@ use Rattle.clap.specs.Takes.{takes}
 use Rattle.clap.specs.declared.builder.action.ArgAction.TheVariants.{SetTrue}
 use Rattle.clap.specs.declared.builder.value_parser.ValueParser.TheVariants.{Unsigned}
 use Rattle.gib_app.specs.declared.plan.Job.{Job}
-use Rattle.gib_app.specs.declared.plan.Job.TheVariants.{Run, Plain, Check, Core, Code, Pack, Show, Gen}
+use Rattle.gib_app.specs.declared.plan.Job.TheVariants.{Run, Plain, Check, Core, Code, Pack, Show, Gen, Trace, Replay}
 use Rattle.gib_app.specs.declared.plan.Options.{Options}
 use Rattle.gib_app.specs.Plan.{Document, BuiltIn, Named, Write, Plan}
 use Rattle.gib_gen.specs.Made.{source_text, grown}
@@ -42,6 +42,14 @@ depth = number (codes "depth") 1 1000000
 -- How many chunks of memory a run may draw.
 abbrev pub chunks : Rule
 chunks = number (codes "chunks") 16 65536
+
+-- How many workers run.
+abbrev pub workers : Rule
+workers = number (codes "workers") 1 64
+
+-- How many forks may be nested.
+abbrev pub fork : Rule
+fork = number (codes "fork") 0 64
 
 -- After which pass.
 abbrev pub pass : Rule
@@ -99,13 +107,15 @@ flag_of id rows = option_map_or (λ value. bytes_eq value (codes "true")) (word_
 
 -- The options where none is given.
 abbrev pub usual : Options
-usual = record { depth = 10000; chunks = 1024; pass = 4; image = false; skips = false; number = 0; levels = 0 }
+usual = record { workers = 1; depth = 10000; chunks = 1024; fork = 4; pass = 4; image = false; skips = false; number = 0; levels = 0 }
 
 -- All options.
 abbrev pub options_of : List Row → Options
 options_of rows = record {
+  workers = number_or (codes "workers") usual.workers rows;
   depth = number_or (codes "depth") usual.depth rows;
   chunks = number_or (codes "chunks") usual.chunks rows;
+  fork = number_or (codes "fork") usual.fork rows;
   pass = number_or (codes "pass") usual.pass rows;
   image = is_some (word_of (codes "image") rows);
   skips = flag_of (codes "skips") rows;
@@ -118,10 +128,10 @@ abbrev pub with_value : {X Y : Type 0} → Option (X → Y) → Option X → Opt
 with_value None value = None
 with_value (Some rest) value = option_map rest value
 
--- The second file, where a command has one.
-abbrev pub second_in : Option Text → List Row → Option (Option Document)
-second_in None rows = Some None
-second_in (Some id) rows = option_map Some (file_of id rows)
+-- The file at a place, where a command has one there.
+abbrev pub file_in : Option Text → List Row → Option (Option Document)
+file_in None rows = Some None
+file_in (Some id) rows = option_map Some (file_of id rows)
 
 -- What names the file that a command writes: nothing, since there is none; the word of a place; or an option, which may be
 -- left out.
@@ -164,10 +174,11 @@ made_plan options source input = record {
 
 -- ---- Commands
 
--- A command: its name, its arguments behind the source (the second file, the file that is written, options), and its job.
+-- A command: its name, its arguments behind the source (the second file, the third, the file that is written, options), and its job.
 pub record Form : Type 0 where
   pub name : Text
   pub second : Option Text
+  pub third : Option Text
   pub target : Target
   pub options : List Rule
   pub job : Job
@@ -185,50 +196,59 @@ target_place (ByOption id) = []
 
 -- All arguments of a command.
 abbrev pub arguments_of : Form → List Rule
-arguments_of form = positional (codes "source") ∷ (place_of form.second ++ (target_place form.target ++ form.options))
+arguments_of form = positional (codes "source") ∷ (place_of form.second ++ (place_of form.third ++ (target_place form.target ++ form.options)))
 
 -- What a command asks for.
-abbrev pub planned : Job → Option Text → Target → List Row → Option Plan
-planned job second target rows =
-    with_value (with_value (option_map (λ s t u. record { first = []; source = s; inputs = option_to_list t; target = u; job = job; options = options_of rows }) (file_of (codes "source") rows))
-    (second_in second rows)) (target_in target rows)
+abbrev pub planned : Job → (second third : Option Text) → Target → List Row → Option Plan
+planned job second third target rows =
+    with_value (with_value (with_value
+    (option_map (λ s t w u. record { first = []; source = s; inputs = option_to_list t ++ option_to_list w; target = u; job = job; options = options_of rows }) (file_of (codes "source") rows))
+    (file_in second rows)) (file_in third rows)) (target_in target rows)
 
--- `run SOURCE INPUT [--depth N] [--chunks N] [--image FILE] [--skips]`.
+-- `run SOURCE INPUT [--workers N] [--depth N] [--chunks N] [--fork N] [--skips] [--image FILE]`.
 abbrev pub run_form : Form
-run_form = record { name = codes "run"; second = Some (codes "input"); target = ByOption (codes "image"); options = depth ∷ chunks ∷ image ∷ skips ∷ []; job = Run }
+run_form = record { name = codes "run"; second = Some (codes "input"); third = None; target = ByOption (codes "image"); options = workers ∷ depth ∷ chunks ∷ fork ∷ skips ∷ image ∷ []; job = Run }
 
 -- `plain SOURCE INPUT [--depth N]`.
 abbrev pub plain_form : Form
-plain_form = record { name = codes "plain"; second = Some (codes "input"); target = NoTarget; options = depth ∷ []; job = Plain }
+plain_form = record { name = codes "plain"; second = Some (codes "input"); third = None; target = NoTarget; options = depth ∷ []; job = Plain }
 
 -- `check SOURCE`.
 abbrev pub check_form : Form
-check_form = record { name = codes "check"; second = None; target = NoTarget; options = []; job = Check }
+check_form = record { name = codes "check"; second = None; third = None; target = NoTarget; options = []; job = Check }
 
 -- `core SOURCE [--pass P] [--skips]`.
 abbrev pub core_form : Form
-core_form = record { name = codes "core"; second = None; target = NoTarget; options = pass ∷ skips ∷ []; job = Core }
+core_form = record { name = codes "core"; second = None; third = None; target = NoTarget; options = pass ∷ skips ∷ []; job = Core }
 
 -- `code SOURCE [--skips]`.
 abbrev pub code_form : Form
-code_form = record { name = codes "code"; second = None; target = NoTarget; options = skips ∷ []; job = Code }
+code_form = record { name = codes "code"; second = None; third = None; target = NoTarget; options = skips ∷ []; job = Code }
 
 -- `pack SOURCE TEXT TARGET`.
 abbrev pub pack_form : Form
-pack_form = record { name = codes "pack"; second = Some (codes "text"); target = AtPlace (codes "target"); options = []; job = Pack }
+pack_form = record { name = codes "pack"; second = Some (codes "text"); third = None; target = AtPlace (codes "target"); options = []; job = Pack }
 
 -- `show SOURCE FILE [--skips]`.
 abbrev pub show_form : Form
-show_form = record { name = codes "show"; second = Some (codes "file"); target = NoTarget; options = skips ∷ []; job = Show }
+show_form = record { name = codes "show"; second = Some (codes "file"); third = None; target = NoTarget; options = skips ∷ []; job = Show }
 
--- `gen NUMBER LEVELS SOURCE INPUT [--depth N] [--chunks N] [--skips]`: both files are made.
+-- `trace SOURCE INPUT JOURNAL [--workers N] [--depth N] [--chunks N] [--fork N] [--skips]`: the journal is written.
+abbrev pub trace_form : Form
+trace_form = record { name = codes "trace"; second = Some (codes "input"); third = None; target = AtPlace (codes "journal"); options = workers ∷ depth ∷ chunks ∷ fork ∷ skips ∷ []; job = Trace }
+
+-- `replay SOURCE INPUT JOURNAL [--image FILE]`.
+abbrev pub replay_form : Form
+replay_form = record { name = codes "replay"; second = Some (codes "input"); third = Some (codes "journal"); target = ByOption (codes "image"); options = image ∷ []; job = Replay }
+
+-- `gen NUMBER LEVELS SOURCE INPUT [--workers N] [--depth N] [--chunks N] [--fork N] [--skips]`: both files are made.
 abbrev pub gen_arguments : List Rule
 gen_arguments =
-    numeral (codes "number") 0 2147483647 ∷ numeral (codes "levels") 0 18 ∷ positional (codes "source") ∷ positional (codes "input") ∷ depth ∷ chunks ∷ skips ∷ []
+    numeral (codes "number") 0 2147483647 ∷ numeral (codes "levels") 0 18 ∷ positional (codes "source") ∷ positional (codes "input") ∷ workers ∷ depth ∷ chunks ∷ fork ∷ skips ∷ []
 
 -- All commands whose files are read.
 abbrev pub forms : List Form
-forms = run_form ∷ plain_form ∷ check_form ∷ core_form ∷ code_form ∷ pack_form ∷ show_form ∷ []
+forms = run_form ∷ plain_form ∷ check_form ∷ core_form ∷ code_form ∷ pack_form ∷ show_form ∷ trace_form ∷ replay_form ∷ []
 
 -- A command as clap sees it.
 abbrev pub app_for : Form → App
@@ -253,7 +273,7 @@ command_set = with_subcommand (fold (λ app form. with_subcommand app (app_for f
 abbrev pub sample : Plan
 sample = record { first = []; source = BuiltIn sample_source; inputs = BuiltIn sample_input ∷ []; target = None; job = Run; options = usual }
 
--- Whether words are taken, the program's name first: at most one, or option_to_list that clap takes.
+-- Whether words are taken, the program's name first: at most one, or those that clap takes.
 abbrev pub taken : List Text → Bool
 taken [] = true
 taken (program ∷ []) = true
@@ -265,7 +285,7 @@ made_requested rows = with_value (option_map (made_plan (options_of rows)) (word
 
 -- What the matches of a command whose files are read ask for, by its name.
 abbrev pub read_requested : Text → List Row → Option Plan
-read_requested name rows = option_and_then (λ form. planned form.job form.second form.target rows) (find (λ form. bytes_eq form.name name) forms)
+read_requested name rows = option_and_then (λ form. planned form.job form.second form.third form.target rows) (find (λ form. bytes_eq form.name name) forms)
 
 -- What the matches of a command, by its name, ask for.
 abbrev pub requested : Text → List Row → Option Plan

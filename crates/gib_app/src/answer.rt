@@ -2,10 +2,10 @@
 
 ghost use Rattle.std.specs.Prelude.{◌≡◌, ◌++◌, codes};
 ghost use Rattle.std.specs.Fmt.{decimal};
-ghost use Rattle.gib_app.specs.Lines.{rule_text, source_text, header_text, packed_text, image_text, input_text, said_text};
+ghost use Rattle.gib_app.specs.Lines.{rule_text, source_text, header_text, packed_text, image_text, journal_text, input_text, said_text};
 ghost use Rattle.gib_app.specs.Stopping.{answer_for, answer_of};
 
-use crate::input_fault::{ImageFault, InputFault, PackedFault};
+use crate::input_fault::{ImageFault, InputFault, JournalFault, PackedFault};
 use crate::made::Reason;
 use crate::source_fault::SourceFault;
 use crate::status::Status;
@@ -143,7 +143,20 @@ fn of_image(fault: ImageFault) -> Said<'static>
     }
 }
 
-/// What is said of a second file that is refused.
+/// What is said of a journal that is refused.
+fn of_journal(fault: JournalFault) -> Said<'static>
+    ensures { said_text result ≡ codes "input: " ++ journal_text fault }
+{
+    match fault {
+        JournalFault::Line(number) => numbered(b"input: bad journal at line ", number),
+        JournalFault::NotEnabled(number) => {
+            numbered(b"input: event not enabled at line ", number)
+        }
+        JournalFault::NotEnded => only(b"input: journal not ended"),
+    }
+}
+
+/// What is said of inputs that are refused.
 fn of_input(fault: InputFault) -> Said<'static>
     ensures { said_text result ≡ input_text fault }
 {
@@ -155,6 +168,7 @@ fn of_input(fault: InputFault) -> Said<'static>
         InputFault::Packed(fault) => of_packed(fault),
         InputFault::Image(fault) => of_image(fault),
         InputFault::Text(place) => numbered(b"input: bad text at ", place),
+        InputFault::Journal(fault) => of_journal(fault),
     }
 }
 

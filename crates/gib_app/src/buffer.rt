@@ -3,14 +3,14 @@
 ghost use Rattle.std.specs.Prelude.{◌≡◌, []};
 
 use gib_edge::outside::{Failed, Sink};
+use gib_edge::piece_counts::PieceCounts;
 use std::alloc::Global;
 
 /// A sink that keeps what it takes. Want of memory alone makes it fail.
 #[derive(Drop)]
 pub struct Buffer {
     bytes: Vec<u8>,
-    puts: u64,
-    longest: usize,
+    pieces: PieceCounts,
     faults: u64,
 }
 
@@ -21,8 +21,7 @@ impl Buffer {
     {
         Buffer {
             bytes: Vec::new(alloc),
-            puts: 0,
-            longest: 0,
+            pieces: PieceCounts::new(),
             faults: 0,
         }
     }
@@ -41,8 +40,7 @@ impl Sink for Buffer {
     ghost view = { buffered };
 
     fn put(&mut self, bytes: &[u8]) -> Result<(), Failed> {
-        self.puts = self.puts.saturating_add(1);
-        self.longest = self.longest.max(bytes.len());
+        self.pieces.add(bytes.len());
         match self.bytes.extend_from_slice(bytes) {
             Ok(()) => Ok(()),
             Err(_) => {

@@ -1,10 +1,10 @@
 //! The commands of the program with their arguments, as `clap` takes them.
 
-ghost use Rattle.std.specs.Prelude.{◌≡◌, IfOk, codes, false};
+ghost use Rattle.std.specs.Prelude.{◌≡◌, [], ◌∷◌, IfOk, codes, false, fold};
 ghost use Rattle.clap.specs.Walk.{rule_of};
 ghost use Rattle.clap.specs.Simple.{app_of, new_app, with_rule};
-ghost use Rattle.gib_app.specs.Words.{app_for, bare_program, chunks, command_set, depth, gen_app, image, numeral, pass, positional, skips};
-ghost use Rattle.gib_app.specs.Words.{check_form, code_form, core_form, pack_form, plain_form, run_form, show_form};
+ghost use Rattle.gib_app.specs.Words.{app_for, bare_program, chunks, command_set, depth, fork, gen_app, image, numeral, pass, positional, skips, workers};
+ghost use Rattle.gib_app.specs.Words.{check_form, code_form, core_form, pack_form, plain_form, replay_form, run_form, show_form, trace_form};
 
 use clap::builder::ValueParser;
 use clap::{Arg, ArgAction, Command};
@@ -46,6 +46,26 @@ fn chunks<'a>(alloc: Global) -> Arg<'a>
         .value_parser(ValueParser::unsigned(16, 65_536))
 }
 
+/// `--workers N`, how many workers run.
+fn workers<'a>(alloc: Global) -> Arg<'a>
+    ensures rule { rule_of result ≡ workers }
+    ensures local { result.global ≡ false }
+{
+    Arg::new(alloc, "workers")
+        .long("workers")
+        .value_parser(ValueParser::unsigned(1, 64))
+}
+
+/// `--fork N`, how many forks may be nested.
+fn fork<'a>(alloc: Global) -> Arg<'a>
+    ensures rule { rule_of result ≡ fork }
+    ensures local { result.global ≡ false }
+{
+    Arg::new(alloc, "fork")
+        .long("fork")
+        .value_parser(ValueParser::unsigned(0, 64))
+}
+
 /// `--pass P`, after which pass.
 fn pass<'a>(alloc: Global) -> Arg<'a>
     ensures rule { rule_of result ≡ pass }
@@ -83,15 +103,23 @@ fn on_both<'a>(alloc: Global, name: &'a str, second: &'a str) -> Result<Command<
         .arg(positional(alloc, second))
 }
 
-/// `run SOURCE INPUT [--depth N] [--chunks N] [--image FILE] [--skips]`.
+/// A command with the options of a run.
+fn with_run_options<'a>(alloc: Global, command: Command<'a>) -> Result<Command<'a>, AllocError>
+    ensures { IfOk result (λ c. app_of c ≡ fold with_rule (app_of command.entry) (workers ∷ depth ∷ chunks ∷ fork ∷ skips ∷ [])) }
+{
+    command
+        .arg(workers(alloc))?
+        .arg(depth(alloc))?
+        .arg(chunks(alloc))?
+        .arg(fork(alloc))?
+        .arg(skips(alloc))
+}
+
+/// `run SOURCE INPUT [--workers N] [--depth N] [--chunks N] [--fork N] [--skips] [--image FILE]`.
 fn run_command<'a>(alloc: Global) -> Result<Command<'a>, AllocError>
     ensures { IfOk result (λ command. app_of command ≡ app_for run_form) }
 {
-    on_both(alloc, "run", "input")?
-        .arg(depth(alloc))?
-        .arg(chunks(alloc))?
-        .arg(image(alloc))?
-        .arg(skips(alloc))
+    with_run_options(alloc, on_both(alloc, "run", "input")?)?.arg(image(alloc))
 }
 
 /// `plain SOURCE INPUT [--depth N]`.
@@ -150,6 +178,25 @@ fn show_command<'a>(alloc: Global) -> Result<Command<'a>, AllocError>
         .arg(skips(alloc))
 }
 
+/// `trace SOURCE INPUT JOURNAL [--workers N] [--depth N] [--chunks N] [--fork N] [--skips]`.
+fn trace_command<'a>(alloc: Global) -> Result<Command<'a>, AllocError>
+    ensures { IfOk result (λ command. app_of command ≡ app_for trace_form) }
+{
+    with_run_options(
+        alloc,
+        on_both(alloc, "trace", "input")?.arg(positional(alloc, "journal"))?,
+    )
+}
+
+/// `replay SOURCE INPUT JOURNAL [--image FILE]`.
+fn replay_command<'a>(alloc: Global) -> Result<Command<'a>, AllocError>
+    ensures { IfOk result (λ command. app_of command ≡ app_for replay_form) }
+{
+    on_both(alloc, "replay", "input")?
+        .arg(positional(alloc, "journal"))?
+        .arg(image(alloc))
+}
+
 /// `gen` on what has to be there: a number, levels, and the names of a source and an input.
 fn on_made<'a>(alloc: Global) -> Result<Command<'a>, AllocError>
     ensures { IfOk result (λ command. app_of command ≡ with_rule (with_rule (with_rule (with_rule (new_app (codes "gen")) (numeral (codes "number") 0 2147483647)) (numeral (codes "levels") 0 18)) (positional (codes "source"))) (positional (codes "input"))) }
@@ -161,14 +208,11 @@ fn on_made<'a>(alloc: Global) -> Result<Command<'a>, AllocError>
         .arg(positional(alloc, "input"))
 }
 
-/// `gen NUMBER LEVELS SOURCE INPUT [--depth N] [--chunks N] [--skips]`.
+/// `gen NUMBER LEVELS SOURCE INPUT [--workers N] [--depth N] [--chunks N] [--fork N] [--skips]`.
 fn gen_command<'a>(alloc: Global) -> Result<Command<'a>, AllocError>
     ensures { IfOk result (λ command. app_of command ≡ gen_app) }
 {
-    on_made(alloc)?
-        .arg(depth(alloc))?
-        .arg(chunks(alloc))?
-        .arg(skips(alloc))
+    with_run_options(alloc, on_made(alloc)?)
 }
 
 /// The program before its commands. All that `clap` refuses is one answer here, so nothing asks for help.
@@ -193,5 +237,7 @@ pub fn command_set<'a>(alloc: Global) -> Result<Command<'a>, AllocError>
         .subcommand(code_command(alloc)?)?
         .subcommand(pack_command(alloc)?)?
         .subcommand(show_command(alloc)?)?
+        .subcommand(trace_command(alloc)?)?
+        .subcommand(replay_command(alloc)?)?
         .subcommand(gen_command(alloc)?)
 }

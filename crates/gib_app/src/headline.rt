@@ -6,6 +6,7 @@ ghost use Rattle.gib_edge.specs.Views.{ShelfView, SinkView};
 ghost use Rattle.gib_app.specs.declared.plan.Options.{Options as OptionValues};
 ghost use Rattle.gib_app.specs.declared.status.Status.{Status as Statuses};
 ghost use Rattle.gib_app.specs.Ending.{IsEnding};
+ghost use Rattle.gib_app.specs.Jobs.{run_forks};
 ghost use Rattle.gib_app.specs.Headline.{IsRun, Given, IsResult, IsResultImage, IsTooDeep, IsTooBig, NoneFailed};
 
 use crate::status::Status;
@@ -31,7 +32,7 @@ pub fn run_prints_what_is_meant()
         → IsRun words before out source input options front → IsEnding tells words before now out out_now Status.Depth said → IsTooDeep source input options.depth }
     // Status 4: the chunks of memory may not be enough for what the run costs.
     ensures full { (tells : Bool) (words : List (List ℕ)) (before now : ShelfView) (out out_now : SinkView) (source input : List ℕ) (options : OptionValues) (front said : List ℕ)
-        → IsRun words before out source input options front → IsEnding tells words before now out out_now Status.Full said → IsTooBig source input options.skips options.depth options.chunks }
+        → IsRun words before out source input options front → IsEnding tells words before now out out_now Status.Full said → IsTooBig source input options.skips options.depth (run_forks options) options.chunks }
 
     // The other way round: where the program means a value, the status is 0 and no other, and where its meaning runs out of
     // depth it is 3; unless memory or its chunks run out, or a file or `out` failed.
@@ -44,7 +45,7 @@ pub fn run_prints_what_is_meant()
     // Where so many chunks are enough for what the run costs, they do not run out: the status is 0 or 3, and never 4.
     ensures fits { (tells : Bool) (words : List (List ℕ)) (before now : ShelfView) (out out_now : SinkView) (source input : List ℕ) (options : OptionValues) (front said : List ℕ) (status : Statuses)
         → (r : IsRun words before out source input options front) → NoneFailed r.program r.packed r.image before now out out_now → Given source input
-        → (IsTooBig source input options.skips options.depth options.chunks → ⊥)
+        → (IsTooBig source input options.skips options.depth (run_forks options) options.chunks → ⊥)
         → IsEnding tells words before now out out_now status said → (status ≡ Status.Done) ⊎ (status ≡ Status.Depth) ⊎ (status ≡ Status.Memory) }
 
     // There is one result at most, and none where the meaning runs out of depth.

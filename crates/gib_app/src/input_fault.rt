@@ -1,9 +1,9 @@
-//! Why the second file of a command is refused.
+//! Why the inputs of a command are refused.
 
 use gib_file::HeadFault;
 use thiserror::Error;
 
-/// Why the second file of a command is refused.
+/// Why the inputs of a command are refused.
 #[derive(Clone, Copy, Debug, PartialEq, Eq, Error)]
 pub enum InputFault {
     /// It, or the file that would be made of it, has more bytes than this.
@@ -18,6 +18,9 @@ pub enum InputFault {
     /// The token at this place of a text, in bytes from 0, cannot stand there.
     #[error("the token at byte {0} cannot stand there")]
     Text(u64),
+    /// It is no journal whose events lead to an end.
+    #[error("no journal that leads to an end")]
+    Journal(JournalFault),
 }
 
 /// Why bytes are no packed file of a value of a type: the first fault of the header, else of the payload, whose bytes a
@@ -53,4 +56,18 @@ pub enum ImageFault {
     /// Reading meets more than 16,777,216 items.
     #[error("more than 16777216 items")]
     Long,
+}
+
+/// Why a journal is not replayed. Lines are counted from 1.
+#[derive(Clone, Copy, Debug, PartialEq, Eq, Error)]
+pub enum JournalFault {
+    /// The line of this number is the first that cannot stand in a journal.
+    #[error("bad journal at line {0}")]
+    Line(u64),
+    /// An event of the line of this number is not enabled.
+    #[error("event not enabled at line {0}")]
+    NotEnabled(u64),
+    /// All events happened, and the root has not ended.
+    #[error("journal not ended")]
+    NotEnded,
 }

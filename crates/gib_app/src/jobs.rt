@@ -1,11 +1,11 @@
 //! The jobs, one file each.
 
-ghost use Rattle.std.specs.Prelude.{◌≤◌, [], length, IfOk, IfErr};
+ghost use Rattle.std.specs.Prelude.{◌≤◌, length, IfOk, IfErr, IfSome};
 ghost use Rattle.gib_syntax.specs.Parts.{program_of};
 ghost use Rattle.gib_app.specs.Formats.{most_of};
-ghost use Rattle.gib_app.specs.Jobs.{Does};
-ghost use Rattle.gib_app.specs.Kept.{EndsBy, file_of};
-ghost use Rattle.gib_app.specs.Stops.{IsReady, FailsTo};
+ghost use Rattle.gib_app.specs.Jobs.{Does, Replays};
+ghost use Rattle.gib_app.specs.Kept.{EndsBy, contents_of, file_of};
+ghost use Rattle.gib_app.specs.Stops.{IsReady, IsReplayStop, FailsTo};
 
 pub mod check;
 pub mod code_text;
@@ -13,40 +13,77 @@ pub mod core_text;
 pub mod made_run;
 pub mod pack;
 pub mod plain;
+pub mod replay;
 pub mod run;
 pub mod show;
+pub mod trace;
 
 use crate::compile::Compiled;
 use crate::made::Made;
 use crate::plan::{Job, Options};
+use crate::runtime::Runtime;
 use crate::stop::Stop;
+use gib_base::limits::FILE_BYTES;
+use gib_edge::outside::Gate;
 use std::alloc::Global;
+use std::sync::Wait;
+use std::thread::Threads;
 
-/// What a job makes, for a program, of the bytes of the second file.
+/// The bytes of the inputs of a job.
+#[derive(Clone, Copy)]
+pub struct Given<'a> {
+    pub second: &'a [u8],
+    pub journal: Option<&'a [u8]>,
+}
+
+/// What a journal and an input are replayed to.
+fn do_replay(
+    alloc: Global,
+    compiled: &Compiled,
+    image: bool,
+    given: Given<'_>,
+) -> Result<Made, Stop<'static>>
+    requires ready { IsReady (program_of compiled.now.typed) compiled.now.names }
+    requires most { length given.second.now ≤ FILE_BYTES }
+    requires short { IfSome given.journal (λ j. length j.now ≤ FILE_BYTES) }
+    ensures made { IfOk result (λ made. EndsBy (file_of made) made.end (Replays (program_of compiled.now.typed) compiled.now.names image (contents_of given.entry))) }
+    ensures stop { IfErr result (IsReplayStop (program_of compiled.now.typed) (contents_of given.entry)) }
+{
+    match given.journal {
+        Some(journal) => replay::replay(alloc, compiled, image, given.second, journal),
+        None => replay::replay(alloc, compiled, image, given.second, &[]),
+    }
+}
+
+/// What a job makes, for a program, of the bytes of its inputs.
 ///
 /// # Errors
 ///
-/// `Input` where the second file is none that the job accepts; `Memory`.
-pub fn do_job(
+/// `Input` where the inputs are none that the job accepts; `Memory`.
+pub fn do_job<R: Threads + Wait + Sync, G: Gate + Sync>(
     alloc: Global,
+    runtime: Runtime<'_, R, G>,
     compiled: Compiled,
     job: Job,
     options: Options,
-    second: &[u8],
+    given: Given<'_>,
 ) -> Result<Made, Stop<'static>>
     requires ready { IsReady (program_of compiled.typed) compiled.names }
-    requires most { length second.now ≤ most_of job }
-    ensures made { IfOk result (λ made. EndsBy (file_of made) made.end (Does job options (program_of compiled.typed) compiled.names (record { second = second.now; further = [] }))) }
-    ensures stop { IfErr result (FailsTo job options.skips (program_of compiled.typed) compiled.names (record { second = second.now; further = [] })) }
+    requires most { length given.second.now ≤ most_of job }
+    requires short { IfSome given.journal (λ j. length j.now ≤ 16777216) }
+    ensures made { IfOk result (λ made. EndsBy (file_of made) made.end (Does job options (program_of compiled.typed) compiled.names (contents_of given.entry))) }
+    ensures stop { IfErr result (FailsTo job options.skips (program_of compiled.typed) compiled.names (contents_of given.entry)) }
 {
     match job {
-        Job::Plain => plain::plain(alloc, &compiled, options.depth, second),
+        Job::Plain => plain::plain(alloc, &compiled, options.depth, given.second),
         Job::Check => check::check(alloc),
         Job::Core => core_text::core_text(alloc, &compiled, options.skips, options.pass),
         Job::Code => code_text::code_text(alloc, &compiled, options.skips),
-        Job::Pack => pack::pack(alloc, &compiled, second),
-        Job::Show => show::show(alloc, &compiled, options.skips, second),
-        Job::Gen => made_run::made_run(alloc, &compiled, options, second),
-        Job::Run => run::run(alloc, compiled, options, second),
+        Job::Pack => pack::pack(alloc, &compiled, given.second),
+        Job::Show => show::show(alloc, &compiled, options.skips, given.second),
+        Job::Gen => made_run::made_run(alloc, runtime, &compiled, options, given.second),
+        Job::Run => run::run(alloc, runtime, compiled, options, given.second),
+        Job::Trace => trace::trace(alloc, runtime, &compiled, options, given.second),
+        Job::Replay => do_replay(alloc, &compiled, options.image, given),
     }
 }

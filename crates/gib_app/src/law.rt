@@ -1,11 +1,15 @@
-//! The laws of refusals. Each function does nothing: its contract is the law.
+//! The laws of refusals, and of replays. Each function does nothing: its contract is the law.
 
-ghost use Rattle.std.specs.Prelude.{◌≡◌, Bool, ℕ, List};
+ghost use Rattle.std.specs.Prelude.{◌≡◌, ◌≤◌, Bool, ℕ, List, [], ◌∷◌, length, Option, None, Some};
 ghost use Rattle.gib_syntax.specs.Parts.{program_of};
+ghost use Rattle.gib_syntax.specs.Tree.{ProgramTree};
 ghost use Rattle.gib_app.specs.declared.input_fault.InputFault.{InputFault};
 ghost use Rattle.gib_app.specs.declared.plan.Job.{Job};
+ghost use Rattle.gib_app.specs.declared.plan.Job.TheVariants.{Replay, Trace};
+ghost use Rattle.gib_app.specs.declared.plan.Options.{Options};
 ghost use Rattle.gib_app.specs.declared.source_fault.SourceFault.{SourceFault};
 ghost use Rattle.gib_app.specs.Formats.{Accepts, Refuses};
+ghost use Rattle.gib_app.specs.Jobs.{Does, End, without_image};
 ghost use Rattle.gib_app.specs.Plan.{Contents};
 ghost use Rattle.gib_app.specs.Running.{IsNoProgram};
 ghost use Rattle.gib_app.specs.SourceFaults.{IsSourceFault};
@@ -47,4 +51,15 @@ pub fn one_input_fault(compiled: &Compiled)
     refusals_hold(types, &compiled.names);
     one_fault();
     a_value_is_not_refused();
+}
+
+/// A replay repeats its trace: the journal that a trace writes, where it is not too long, is accepted by a replay on the same input,
+/// which ends with the same text, or runs out of depth as the trace did.
+pub fn a_replay_repeats_its_trace()
+    ensures same { (options others : Options) (p : ProgramTree) (names : List (List ℕ)) (given : Contents) (journal : List ℕ) (file : Option (List ℕ)) (ended again : End) → length journal ≤ 16777216
+        → Does Trace options p names given (Some journal) ended → Does Replay others p names (record { second = given.second; further = journal ∷ [] }) file again → ended ≡ again }
+    ensures accepted { (options others : Options) (p : ProgramTree) (names : List (List ℕ)) (given : Contents) (journal : List ℕ) (ended : End) → length journal ≤ 16777216
+        → Does Trace options p names given (Some journal) ended → Does Replay (without_image others) p names (record { second = given.second; further = journal ∷ [] }) None ended }
+{
+    one_file();
 }

@@ -3,6 +3,7 @@
 
 mod answer;
 mod buffer;
+pub mod by_workers;
 mod commands;
 mod compile;
 mod documents;
@@ -14,25 +15,25 @@ pub mod input_fault;
 mod jobs;
 pub mod law;
 mod lines;
+mod loading;
 pub mod lowering;
 pub mod machine_run;
 mod made;
 mod make;
-mod matches;
+pub mod matches;
 mod packed;
 mod perform;
-mod plan;
+pub mod plan;
 mod printing;
-mod sample;
+pub mod replaying;
+pub mod runtime;
+pub mod sample;
 pub mod source_fault;
 pub mod status;
 mod stop;
 pub mod top;
 pub mod word_laws;
-mod words;
+pub mod words;
 
 pub use status::Status;
 pub use top::gib;
-
-#[cfg(test)]
-mod tests;

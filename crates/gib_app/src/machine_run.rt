@@ -1,15 +1,13 @@
 //! Runs a program by the machine, from the bytes of a packed file to a root in region memory, and prints from there.
 
-ghost use Rattle.std.specs.Prelude.{◌≡◌, ◌≤◌, ◌+◌, ◌++◌, ◌∷◌, ℕ, List, length, IfOk, IfErr, OnOk, OnErr, IsErrOf, MatchResult};
+ghost use Rattle.std.specs.Prelude.{◌≡◌, ◌≤◌, ◌+◌, ◌++◌, ◌∷◌, ℕ, List, length, IfOk, IfErr, OnOk, OnErr, IsErrOf, MatchResult, IfNone, IfSome, None, Some};
 ghost use Rattle.gib_edge.specs.Causes.{Rose, Appends, AppendsPart, PutsPieces, PutsSomePieces};
-ghost use Rattle.gib_types.specs.declared.table.Ty.{Ty as Type_of};
-ghost use Rattle.gib_types.specs.Layout.{LaidOut};
 ghost use Rattle.gib_types.specs.Tree.{Datum};
-ghost use Rattle.gib_mem.specs.Memory.{Memory, Store};
+ghost use Rattle.gib_mem.specs.Memory.{Memory};
 ghost use Rattle.gib_value.specs.Text.{AreHeld};
 ghost use Rattle.gib_file.specs.Packed.{Packed};
 ghost use Rattle.gib_syntax.specs.Declarations.{output_type};
-ghost use Rattle.gib_syntax.specs.Meaning.{Outcome, Stops, Deep, run};
+ghost use Rattle.gib_syntax.specs.Meaning.{run};
 ghost use Rattle.gib_syntax.specs.Parts.{program_of};
 ghost use Rattle.gib_syntax.specs.Tree.{ProgramTree};
 ghost use Rattle.gib_core.specs.Cost.{run_cost};
@@ -18,9 +16,9 @@ ghost use Rattle.gib_core.specs.Meaning.{core_run};
 ghost use Rattle.gib_core.specs.Parts.{core_of};
 ghost use Rattle.gib_lower.specs.Lowering.{lower_program};
 ghost use Rattle.gib_weave.specs.Running.{RunEnds};
-ghost use Rattle.gib_weave.specs.Sound.{IsAnswer};
 ghost use Rattle.gib_app.specs.Cores.{core_after, layouts_of};
 ghost use Rattle.gib_app.specs.Running.{IsInput, text_line};
+ghost use Rattle.gib_app.specs.Replaying.{root_in};
 ghost use Rattle.gib_app.specs.MachineRun.{StandsMeant, IsMachineStop, IsRootOf, Halts, EndsWith, program_cost};
 
 use crate::lowering::lowered;
@@ -46,22 +44,36 @@ use std::alloc::Global;
 /// What a run leaves: the code with the layouts of its heads, the region memory, and the root in it for which the result
 /// stands.
 #[derive(Drop)]
-pub struct Ran {
+pub struct Ran<M> {
     pub lowered: Lowered,
-    pub memory: SoleMem,
+    pub memory: M,
     pub root: Root,
 }
 
 /// The root that an answer of the machine is; the one that is none says that depth ran out.
-fn root_of(answer: Answer) -> Result<Root, Stop<'static>>
-    ensures { (laid : LaidOut) (s : Store) (ty : Type_of) (owed : Outcome) → IsAnswer laid s ty owed answer
-        → MatchResult result (IsRootOf laid s ty owed) (λ why. (why ≡ Stop.NoValue Reason.Deep) × (owed ≡ Stops Deep)) }
+fn root_in(answer: Answer) -> Option<Root>
+    ensures { result ≡ root_in answer }
 {
     match answer {
-        Answer::Whole(value) => Ok(Root::Whole(value)),
-        Answer::Truth(value) => Ok(Root::Truth(value)),
-        Answer::At(address) => Ok(Root::At(address)),
-        Answer::Deep => Err(Stop::NoValue(Reason::Deep)),
+        Answer::Whole(value) => Some(Root::Whole(value)),
+        Answer::Truth(value) => Some(Root::Truth(value)),
+        Answer::At(address) => Some(Root::At(address)),
+        Answer::Deep => None,
+    }
+}
+
+/// What a run leaves that ended with this answer; none where depth ran out.
+pub fn ran_of<M: Drop>(lowered: Lowered, memory: M, answer: Answer) -> Option<Ran<M>>
+    ensures none { IfNone result (root_in answer ≡ None) }
+    ensures some { IfSome result (λ ran. (root_in answer ≡ Some ran.root) × (ran.memory ≡ memory) × (ran.lowered ≡ lowered)) }
+{
+    match root_in(answer) {
+        Some(root) => Some(Ran {
+            lowered,
+            memory,
+            root,
+        }),
+        None => None,
     }
 }
 
@@ -70,7 +82,10 @@ fn end_of(end: Result<Answer, RunFault>) -> Result<Root, Stop<'static>>
     ensures { (l : LoweredParts) (depth : ℕ) (v : Datum) (m m' : Memory) → RunEnds l depth v m m' end → EndsWith l depth m.limit v m'.cells result }
 {
     match end {
-        Ok(answer) => root_of(answer),
+        Ok(answer) => match root_in(answer) {
+            Some(root) => Ok(root),
+            None => Err(Stop::NoValue(Reason::Deep)),
+        },
         Err(RunFault::Memory) => Err(Stop::Memory),
         Err(RunFault::Full) => Err(Stop::NoValue(Reason::Full)),
     }
@@ -108,7 +123,7 @@ fn run_survey(
     survey: Survey<'_>,
     depth: u32,
     chunks: u32,
-) -> Result<Ran, Stop<'static>>
+) -> Result<Ran<SoleMem>, Stop<'static>>
     requires table { survey.table ≡ lowered.code.laid.table }
     requires ty { survey.ty ≡ (core_of lowered.core).main.parameter }
     ensures same { IfOk result (λ ran. ran.lowered ≡ lowered) }
@@ -145,7 +160,7 @@ pub fn run_packed(
     depth: u32,
     chunks: u32,
     skips: bool,
-) -> Result<Ran, Stop<'static>>
+) -> Result<Ran<SoleMem>, Stop<'static>>
     requires short { length file.now ≤ FILE_BYTES }
     ensures stands { IfOk result (λ ran. StandsMeant (program_of typed.now) depth file.now ran.lowered.code.laid (⟦<SoleMem as Mem>⟧.view ran.memory).cells ran.root) }
     // It is the code of the program's core that ran, in a memory of so many chunks.
@@ -153,11 +168,11 @@ pub fn run_packed(
     ensures limit { IfOk result (λ ran. (⟦<SoleMem as Mem>⟧.view ran.memory).limit ≡ chunks) }
     // The heads lie as those of the program's core.
     ensures laid { IfOk result (λ ran. ran.lowered.code.laid ≡ layouts_of skips (program_of typed.now)) }
-    ensures stop { IfErr result (IsMachineStop (program_of typed.now) skips depth chunks file.now) }
+    ensures stop { IfErr result (IsMachineStop (program_of typed.now) skips depth 0 chunks file.now) }
     // The other way round: of which value the file is, and what the program means on it, tells how the run ends.
     ensures only { (v : Datum) → IsInput (program_of typed.now) v file.now
         → MatchResult result (λ ran. IsRootOf ran.lowered.code.laid (⟦<SoleMem as Mem>⟧.view ran.memory).cells (output_type (program_of typed.now)) (run (program_of typed.now) depth v) ran.root)
-        (Halts (run (program_of typed.now) depth v) chunks (program_cost (program_of typed.now) skips depth v)) }
+        (Halts (run (program_of typed.now) depth v) chunks (program_cost (program_of typed.now) skips depth 0 v)) }
 {
     one_file();
     let survey = match survey_input(alloc, typed, file) {
@@ -177,27 +192,27 @@ pub fn run_packed(
 /// # Errors
 ///
 /// `Memory`, and the sink was not called; `Write` where the sink failed, which took a front of the bytes.
-pub fn print_ran<O: Sink>(
+pub fn print_ran<M: Mem, O: Sink>(
     alloc: Global,
-    ran: &mut Ran,
+    ran: &mut Ran<M>,
     names: &Names,
     out: &mut O,
 ) -> Result<(), PrintFault>
     requires names { AreHeld ran.old.lowered.code.laid.table names.now }
-    requires stands { (p : ProgramTree) × (depth : ℕ) × (input : List ℕ) × StandsMeant p depth input ran.old.lowered.code.laid (⟦<SoleMem as Mem>⟧.view ran.old.memory).cells ran.old.root }
-    ensures done { (p : ProgramTree) (depth : ℕ) (input : List ℕ) (s : StandsMeant p depth input ran.old.lowered.code.laid (⟦<SoleMem as Mem>⟧.view ran.old.memory).cells ran.old.root)
+    requires stands { (p : ProgramTree) × (depth : ℕ) × (input : List ℕ) × StandsMeant p depth input ran.old.lowered.code.laid (M.view ran.old.memory).cells ran.old.root }
+    ensures done { (p : ProgramTree) (depth : ℕ) (input : List ℕ) (s : StandsMeant p depth input ran.old.lowered.code.laid (M.view ran.old.memory).cells ran.old.root)
         → OnOk result (Appends (O.view out.old).taken (O.view out.new).taken (text_line p names.now s.result)) }
-    ensures part { (p : ProgramTree) (depth : ℕ) (input : List ℕ) (s : StandsMeant p depth input ran.old.lowered.code.laid (⟦<SoleMem as Mem>⟧.view ran.old.memory).cells ran.old.root)
+    ensures part { (p : ProgramTree) (depth : ℕ) (input : List ℕ) (s : StandsMeant p depth input ran.old.lowered.code.laid (M.view ran.old.memory).cells ran.old.root)
         → IsErrOf result PrintFault.Write → AppendsPart (O.view out.old).taken (O.view out.new).taken (text_line p names.now s.result) }
     ensures cause { IsErrOf result PrintFault.Write → Rose (O.view out.old).faults (O.view out.new).faults }
     ensures later { (O.view out.old).faults ≤ (O.view out.new).faults }
     ensures quiet { (IsErrOf result PrintFault.Write → ⊥) → (O.view out.new).faults ≡ (O.view out.old).faults }
-    ensures pieces { (p : ProgramTree) (depth : ℕ) (input : List ℕ) (s : StandsMeant p depth input ran.old.lowered.code.laid (⟦<SoleMem as Mem>⟧.view ran.old.memory).cells ran.old.root)
+    ensures pieces { (p : ProgramTree) (depth : ℕ) (input : List ℕ) (s : StandsMeant p depth input ran.old.lowered.code.laid (M.view ran.old.memory).cells ran.old.root)
         → OnOk result (PutsPieces (O.view out.old) (O.view out.new) (length (text_line p names.now s.result))) }
-    ensures some { (p : ProgramTree) (depth : ℕ) (input : List ℕ) (s : StandsMeant p depth input ran.old.lowered.code.laid (⟦<SoleMem as Mem>⟧.view ran.old.memory).cells ran.old.root)
+    ensures some { (p : ProgramTree) (depth : ℕ) (input : List ℕ) (s : StandsMeant p depth input ran.old.lowered.code.laid (M.view ran.old.memory).cells ran.old.root)
         → IsErrOf result PrintFault.Write → PutsSomePieces (O.view out.old) (O.view out.new) (length (text_line p names.now s.result)) }
     ensures still { IsErrOf result PrintFault.Memory → O.view out.new ≡ O.view out.old }
-    ensures same { ⟦<SoleMem as Mem>⟧.view ran.new.memory ≡ ⟦<SoleMem as Mem>⟧.view ran.old.memory }
+    ensures same { M.view ran.new.memory ≡ M.view ran.old.memory }
     ensures kept { ran.new.lowered ≡ ran.old.lowered }
     ensures root { ran.new.root ≡ ran.old.root }
 {

@@ -1,6 +1,7 @@
 //! What a job makes.
 
 use crate::machine_run::Ran;
+use gib_arena::SoleMem;
 use gib_base::Names;
 
 /// Why a job ends without a value.
@@ -8,14 +9,14 @@ use gib_base::Names;
 pub enum Reason {
     /// The program's meaning runs out of depth.
     Deep,
-    /// So many chunks of region memory may not be enough for what the run costs.
+    /// So many chunks of region memory may not be enough for what the run costs; in a replay they are not.
     Full,
 }
 
 /// A value in region memory, with the names of its program.
 #[derive(Drop)]
 pub struct Valued {
-    pub ran: Ran,
+    pub ran: Ran<SoleMem>,
     pub names: Names,
 }
 

@@ -16,8 +16,10 @@ pub fn usual() -> Options
     ensures { result ≡ usual_options }
 {
     Options {
+        workers: 1,
         depth: 10_000,
         chunks: 1_024,
+        fork: 4,
         pass: 4,
         image: false,
         skips: false,
@@ -95,8 +97,10 @@ fn options(matches: &ArgMatches<'_>) -> Options
 {
     let usual = usual();
     Options {
+        workers: number_or(matches, "workers", usual.workers),
         depth: number_or(matches, "depth", usual.depth),
         chunks: number_or(matches, "chunks", usual.chunks),
+        fork: number_or(matches, "fork", usual.fork),
         pass: number_or(matches, "pass", usual.pass),
         image: is_given(matches, "image"),
         skips: flag(matches, "skips"),
@@ -107,12 +111,13 @@ fn options(matches: &ArgMatches<'_>) -> Options
 
 /// A job on a source alone.
 fn on_source<'a>(matches: &ArgMatches<'a>, job: Job) -> Option<Plan<'a>>
-    ensures { option_map plan_of result ≡ planned job None NoTarget (rows_of (found_of matches.now)) }
+    ensures { option_map plan_of result ≡ planned job None None NoTarget (rows_of (found_of matches.now)) }
 {
     Some(Plan {
         first: None,
         source: file(matches, "source")?,
         second: None,
+        third: None,
         target: None,
         job,
         options: options(matches),
@@ -121,12 +126,13 @@ fn on_source<'a>(matches: &ArgMatches<'a>, job: Job) -> Option<Plan<'a>>
 
 /// A job on a source and a second file.
 fn on_both<'a>(matches: &ArgMatches<'a>, job: Job, second: &str) -> Option<Plan<'a>>
-    ensures { option_map plan_of result ≡ planned job (Some second.now) NoTarget (rows_of (found_of matches.now)) }
+    ensures { option_map plan_of result ≡ planned job (Some second.now) None NoTarget (rows_of (found_of matches.now)) }
 {
     Some(Plan {
         first: None,
         source: file(matches, "source")?,
         second: Some(file(matches, second)?),
+        third: None,
         target: None,
         job,
         options: options(matches),
@@ -135,12 +141,13 @@ fn on_both<'a>(matches: &ArgMatches<'a>, job: Job, second: &str) -> Option<Plan<
 
 /// A job on a source and a second file, that makes a file.
 fn to_target<'a>(matches: &ArgMatches<'a>, job: Job, second: &str, target: &str) -> Option<Plan<'a>>
-    ensures { option_map plan_of result ≡ planned job (Some second.now) (AtPlace target.now) (rows_of (found_of matches.now)) }
+    ensures { option_map plan_of result ≡ planned job (Some second.now) None (AtPlace target.now) (rows_of (found_of matches.now)) }
 {
     Some(Plan {
         first: None,
         source: file(matches, "source")?,
         second: Some(file(matches, second)?),
+        third: None,
         target: Some(word(matches, target)?),
         job,
         options: options(matches),
@@ -149,12 +156,28 @@ fn to_target<'a>(matches: &ArgMatches<'a>, job: Job, second: &str, target: &str)
 
 /// A job on a source and a second file, that makes a file where an option names one.
 fn to_option<'a>(matches: &ArgMatches<'a>, job: Job, second: &str, target: &str) -> Option<Plan<'a>>
-    ensures { option_map plan_of result ≡ planned job (Some second.now) (ByOption target.now) (rows_of (found_of matches.now)) }
+    ensures { option_map plan_of result ≡ planned job (Some second.now) None (ByOption target.now) (rows_of (found_of matches.now)) }
 {
     Some(Plan {
         first: None,
         source: file(matches, "source")?,
         second: Some(file(matches, second)?),
+        third: None,
+        target: word(matches, target),
+        job,
+        options: options(matches),
+    })
+}
+
+/// A job on a source and two files, that makes a file where an option names one.
+fn on_three<'a>(matches: &ArgMatches<'a>, job: Job, second: &str, third: &str, target: &str) -> Option<Plan<'a>>
+    ensures { option_map plan_of result ≡ planned job (Some second.now) (Some third.now) (ByOption target.now) (rows_of (found_of matches.now)) }
+{
+    Some(Plan {
+        first: None,
+        source: file(matches, "source")?,
+        second: Some(file(matches, second)?),
+        third: Some(file(matches, third)?),
         target: word(matches, target),
         job,
         options: options(matches),
@@ -173,6 +196,7 @@ fn to_make<'a>(matches: &ArgMatches<'a>) -> Option<Plan<'a>>
         }),
         source: Document::MadeSource(options.number),
         second: Some(Document::MadeInput(options.number, options.levels)),
+        third: None,
         target: None,
         job: Job::Gen,
         options,
@@ -191,6 +215,8 @@ fn read_plan<'a>(name: &str, matches: &ArgMatches<'a>) -> Option<Plan<'a>>
         "code" => on_source(matches, Job::Code),
         "pack" => to_target(matches, Job::Pack, "text", "target"),
         "show" => on_both(matches, Job::Show, "file"),
+        "trace" => to_target(matches, Job::Trace, "input", "journal"),
+        "replay" => on_three(matches, Job::Replay, "input", "journal", "image"),
         _ => None,
     }
 }

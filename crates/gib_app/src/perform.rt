@@ -15,9 +15,12 @@ use crate::first::write_first;
 use crate::made::{End, Made};
 use crate::make::make;
 use crate::plan::Plan;
+use crate::runtime::Runtime;
 use crate::stop::Stop;
-use gib_edge::outside::{Shelf, ShelfFault};
+use gib_edge::outside::{Gate, Shelf, ShelfFault};
 use std::alloc::Global;
+use std::sync::Wait;
+use std::thread::Threads;
 
 /// Writes the file that a job made, where there is one.
 fn write_file<'a, S: Shelf>(
@@ -54,9 +57,14 @@ fn write_file<'a, S: Shelf>(
 ///
 /// # Errors
 ///
-/// The first cause in this order: a file that is written first is not written; the source is not read, or is no program; the second file is not read, or is
-/// refused; a file is not written.
-pub fn perform<'a, S: Shelf>(alloc: Global, shelf: &mut S, plan: Plan<'a>) -> Result<End, Stop<'a>>
+/// The first cause in this order: a file that is written first is not written; the source is not read, or is no program; the inputs
+/// are not read, or are refused; a file is not written.
+pub fn perform<'a, R: Threads + Wait + Sync, S: Shelf, G: Gate + Sync>(
+    alloc: Global,
+    runtime: Runtime<'_, R, G>,
+    shelf: &mut S,
+    plan: Plan<'a>,
+) -> Result<End, Stop<'a>>
     ensures done { IfOk result (λ end. IsPerformed S.tells (S.view shelf.old).kept (S.view shelf.new).kept (plan_of plan.entry) end) }
     ensures value { IfOk result (λ end. (value : Values) → end ≡ End.Value value → AreMade S.tells (S.view shelf.old).kept (S.view shelf.new).kept (plan_of plan.entry).first) }
     ensures stop { IfErr result (IsStop S.tells (S.view shelf.old) (S.view shelf.new) (plan_of plan.entry)) }
@@ -74,7 +82,7 @@ pub fn perform<'a, S: Shelf>(alloc: Global, shelf: &mut S, plan: Plan<'a>) -> Re
         Ok(()) => {}
         Err(stop) => return Err(stop),
     }
-    let made = match make(alloc, shelf, plan) {
+    let made = match make(alloc, runtime, shelf, plan) {
         Ok(made) => made,
         Err(stop) => return Err(stop),
     };

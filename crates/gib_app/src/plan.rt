@@ -36,9 +36,13 @@ pub enum Job {
     Show,
     /// Prints a line about the value of a program that was made, on an input that was made.
     Gen,
+    /// Prints the value of a program on a packed input by workers over one lock, and writes the journal of what happened.
+    Trace,
+    /// Prints the value to which the events of a journal lead.
+    Replay,
 }
 
-/// What a second file is read as.
+/// What inputs are read as.
 #[derive(Clone, Copy, Debug, PartialEq, Eq)]
 pub enum Format {
     /// The packed file of a value.
@@ -47,15 +51,21 @@ pub enum Format {
     Text,
     /// A file whose value is shown.
     Shown,
+    /// The packed file of a value, and a journal.
+    Journaled,
 }
 
 /// The options of all jobs; a job looks at its own.
 #[derive(Clone, Copy, Debug, PartialEq, Eq)]
 pub struct Options {
+    /// How many workers run.
+    pub workers: u32,
     /// How deep calls may go.
     pub depth: u32,
     /// How many chunks of memory a run may draw.
     pub chunks: u32,
+    /// How many forks may be nested, where there is more than one worker or a journal.
+    pub fork: u32,
     /// After which pass the core is printed, from 1 to 4.
     pub pass: u32,
     /// Whether the image of region memory is written.
@@ -82,13 +92,14 @@ pub struct Input<'a> {
     pub most: u64,
 }
 
-/// What to do: a source and an input are made and written, where they have names; the source is read, then the second file; the
-/// job is done with them; the file that it makes is written under the target's name.
+/// What to do: a source and an input are made and written, where they have names; the source is read, then the second file and the
+/// third; the job is done with them; the file that it makes is written under the target's name.
 #[derive(Clone, Copy, Debug)]
 pub struct Plan<'a> {
     pub first: Option<MadeNames<'a>>,
     pub source: Document<'a>,
     pub second: Option<Document<'a>>,
+    pub third: Option<Document<'a>>,
     pub target: Option<&'a str>,
     pub job: Job,
     pub options: Options,
@@ -110,6 +121,8 @@ impl Job {
             Job::Pack => Some(Format::Text),
             Job::Show => Some(Format::Shown),
             Job::Gen => Some(Format::Packed),
+            Job::Trace => Some(Format::Packed),
+            Job::Replay => Some(Format::Journaled),
         }
     }
 }
@@ -127,18 +140,20 @@ impl Format {
             Format::Packed => FILE_BYTES,
             Format::Text => FILE_BYTES,
             Format::Shown => 268_435_480,
+            Format::Journaled => FILE_BYTES,
         }
     }
 }
 
 impl<'a> Plan<'a> {
     ghost use Rattle.std.specs.Prelude.{◌<◌, ◌^◌, IfSome, option_map, option_to_list};
+    ghost use Rattle.gib_app.specs.Causes.{first_of, further_of};
     ghost use Rattle.gib_app.specs.Formats.{inputs_of, most_of};
     ghost use Rattle.gib_app.specs.Kept.{input_of, plan_of};
 
     /// The second file with its limit, where the job has one.
     pub fn second_input(self) -> Option<Input<'a>>
-        ensures input { option_to_list (option_map input_of result) ≡ inputs_of (plan_of self.entry) }
+        ensures input { option_to_list (option_map input_of result) ≡ first_of (inputs_of (plan_of self.entry)) }
         ensures most { IfSome result (λ i. i.most ≡ most_of self.entry.job) }
         ensures bound { IfSome result (λ i. i.most < 2 ^ 40) }
     {
@@ -149,6 +164,26 @@ impl<'a> Plan<'a> {
             Some(document) => Some(Input {
                 document,
                 most: format.limit(),
+            }),
+            None => None,
+        }
+    }
+
+    /// The third file with its limit, where the job has one.
+    pub fn third_input(self) -> Option<Input<'a>>
+        ensures input { option_to_list (option_map input_of result) ≡ further_of (inputs_of (plan_of self.entry)) }
+        ensures most { IfSome result (λ i. i.most ≡ 16777216) }
+    {
+        let Some(Format::Journaled) = self.job.format() else {
+            return None;
+        };
+        if self.second.is_none() {
+            return None;
+        }
+        match self.third {
+            Some(document) => Some(Input {
+                document,
+                most: FILE_BYTES,
             }),
             None => None,
         }

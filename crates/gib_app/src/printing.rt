@@ -1,6 +1,6 @@
 //! The bytes that are printed.
 
-ghost use Rattle.std.specs.Prelude.{◌≡◌, ℕ, List, length, None, IfOk, OnOk, IsErrOf};
+ghost use Rattle.std.specs.Prelude.{◌≡◌, ℕ, List, length, None, Some, IfOk, IfErr, OnOk, IsErrOf};
 ghost use Rattle.gib_types.specs.Tree.{IsTyped};
 ghost use Rattle.gib_syntax.specs.Parts.{program_of};
 ghost use Rattle.gib_syntax.specs.Declarations.{table_of_program};
@@ -8,11 +8,13 @@ ghost use Rattle.gib_app.specs.Jobs.{ok_line};
 ghost use Rattle.gib_app.specs.Kept.{IsTextOf};
 ghost use Rattle.gib_edge.specs.Causes.{Rose, Appends, AppendsPart, PutsPieces, PutsSomePieces};
 ghost use Rattle.gib_app.specs.Running.{text_line};
-ghost use Rattle.gib_app.specs.Stops.{IsReady};
+ghost use Rattle.gib_app.specs.declared.made.Reason.{Reason as Reasons};
+ghost use Rattle.gib_app.specs.Stops.{IsReady, reason_of};
 
 use crate::compile::Compiled;
 use crate::machine_run::print_ran;
 use crate::made::{End, Made, Reason, Valued};
+use crate::stop::Stop;
 use gib_base::Memory;
 use gib_edge::outside::Sink;
 use gib_print::PrintFault;
@@ -49,6 +51,21 @@ pub fn no_value(reason: Reason) -> Made
     Made {
         file: None,
         end: End::NoValue(reason),
+    }
+}
+
+/// What a job makes that stopped: there is no value, where that is why.
+///
+/// # Errors
+///
+/// The stop, where there is another cause.
+pub fn of_stop(stop: Stop<'static>) -> Result<Made, Stop<'static>>
+    ensures made { IfOk result (λ made. (reason : Reasons) × (reason_of stop.entry ≡ Some reason) × (made.file ≡ None) × (made.end ≡ End.NoValue reason)) }
+    ensures stop { IfErr result (λ other. (other ≡ stop.entry) × (reason_of stop.entry ≡ None)) }
+{
+    match stop.reason() {
+        Some(reason) => Ok(no_value(reason)),
+        None => Err(stop),
     }
 }
 

@@ -13,7 +13,7 @@ pub enum Status {
     Usage,
     /// The program's meaning runs out of depth.
     Depth,
-    /// So many chunks of region memory may not be enough for what the run costs.
+    /// So many chunks of region memory may not be enough for what the run costs; in a replay they are not.
     Full,
     /// Want of memory.
     Memory,

@@ -15,7 +15,7 @@ pub enum Stop<'a> {
     Source(SourceFault),
     /// The file of this name could not be read.
     Unread(&'a str),
-    /// The second file is refused.
+    /// The inputs are refused.
     Input(InputFault),
     /// There is no value to print.
     NoValue(Reason),

@@ -16,6 +16,7 @@ use crate::lines::put_line;
 use crate::made::End;
 use crate::perform::perform;
 use crate::printing::put_value;
+use crate::runtime::Runtime;
 use crate::status::Status;
 use crate::stop::Stop;
 use crate::words::read_words;
@@ -29,8 +30,9 @@ use std::sync::Wait;
 use std::thread::Threads;
 
 /// Does what the words ask for, and puts what is printed.
-fn call<'a, S: Shelf, O: Sink>(
+fn call<'a, R: Threads + Wait + Sync, S: Shelf, O: Sink, G: Gate + Sync>(
     alloc: Global,
+    runtime: Runtime<'_, R, G>,
     words: &'a [String],
     shelf: &mut S,
     out: &mut O,
@@ -56,7 +58,7 @@ fn call<'a, S: Shelf, O: Sink>(
     let Some(plan) = plan else {
         return Err(Stop::Usage);
     };
-    match perform(alloc, shelf, plan) {
+    match perform(alloc, runtime, shelf, plan) {
         Ok(End::Prints(text)) => match put_all(out, &text) {
             Ok(()) => Ok(()),
             Err(_) => Err(Stop::Unput),
@@ -86,7 +88,7 @@ pub fn gib<R: Threads + Wait + Sync, S: Shelf, O: Sink, E: Sink, G: Gate + Sync>
 ) -> Status
     // Each status comes only by its cause, and one line about it is put on `err`, or a front of the line where the count of `err` rose.
     // `Done` comes only where what the words ask for was made and put: for `run` the text of the value that the program means on the
-    // input within the depth, for `pack` also its file was written.
+    // input within the depth, for `pack` also its file was written, for `trace` the journal of its run.
     ensures ends { (said : List ℕ) × IsEnding S.tells (bytes_of words.now) (S.view shelf.old) (S.view shelf.new) (O.view out.old) (O.view out.new) result said
         × IsPut (E.view err.old) (E.view err.new) said }
 
@@ -110,7 +112,8 @@ pub fn gib<R: Threads + Wait + Sync, S: Shelf, O: Sink, E: Sink, G: Gate + Sync>
     one_reading();
     one_program();
     one_file();
-    let answer = match call(alloc, words, shelf, out) {
+    let runtime = Runtime { threads: rt, gate };
+    let answer = match call(alloc, runtime, words, shelf, out) {
         Ok(()) => return Status::Done,
         Err(stop) => answer_to(stop),
     };

@@ -1,7 +1,7 @@
 //! What holds of the definitions: each law is the clause of a function that does nothing.
 
 ghost use Rattle.std.specs.Prelude.{◌≡◌, ◌∷◌, [], ℕ, List, None, Some, codes, is_some, true};
-ghost use Rattle.gib_app.specs.declared.plan.Job.TheVariants.{Run, Plain, Core, Code, Pack};
+ghost use Rattle.gib_app.specs.declared.plan.Job.TheVariants.{Run, Plain, Core, Code, Pack, Trace, Replay};
 ghost use Rattle.gib_app.specs.Plan.{Named};
 ghost use Rattle.gib_app.specs.Words.{asked, taken, usual};
 
@@ -41,6 +41,17 @@ pub fn examples()
     ensures code_skips { asked (codes "gib" ∷ codes "code" ∷ codes "a.gib" ∷ codes "--skips" ∷ [])
         ≡ Some (record { first = []; source = Named (codes "a.gib"); inputs = []; target = None; job = Code; options = record usual { skips = true } }) }
     ensures plain_skips { asked (codes "gib" ∷ codes "plain" ∷ codes "a" ∷ codes "b" ∷ codes "--skips" ∷ []) ≡ None }
+    // Workers and forks, of a run and of one that is traced.
+    ensures workers { asked (codes "gib" ∷ codes "run" ∷ codes "a" ∷ codes "b" ∷ codes "--workers" ∷ codes "64" ∷ codes "--fork=0" ∷ [])
+        ≡ Some (record { first = []; source = Named (codes "a"); inputs = Named (codes "b") ∷ []; target = None; job = Run; options = record usual { workers = 64; fork = 0 } }) }
+    ensures no_workers { asked (codes "gib" ∷ codes "run" ∷ codes "a" ∷ codes "b" ∷ codes "--workers" ∷ codes "0" ∷ []) ≡ None }
+    ensures forks { asked (codes "gib" ∷ codes "run" ∷ codes "a" ∷ codes "b" ∷ codes "--fork" ∷ codes "65" ∷ []) ≡ None }
+    ensures trace { asked (codes "gib" ∷ codes "trace" ∷ codes "a" ∷ codes "b" ∷ codes "j" ∷ codes "--fork" ∷ codes "64" ∷ [])
+        ≡ Some (record { first = []; source = Named (codes "a"); inputs = Named (codes "b") ∷ []; target = Some (codes "j"); job = Trace; options = record usual { fork = 64 } }) }
+    // A journal is read third, and its settings are its own.
+    ensures replay { asked (codes "gib" ∷ codes "replay" ∷ codes "a" ∷ codes "b" ∷ codes "j" ∷ codes "--image=m" ∷ [])
+        ≡ Some (record { first = []; source = Named (codes "a"); inputs = Named (codes "b") ∷ Named (codes "j") ∷ []; target = Some (codes "m"); job = Replay; options = record usual { image = true } }) }
+    ensures replay_depth { asked (codes "gib" ∷ codes "replay" ∷ codes "a" ∷ codes "b" ∷ codes "j" ∷ codes "--depth" ∷ codes "7" ∷ []) ≡ None }
     // A pass past its range.
     ensures pass { asked (codes "gib" ∷ codes "core" ∷ codes "a.gib" ∷ codes "--pass" ∷ codes "5" ∷ []) ≡ None }
     // A name too few.

@@ -21,6 +21,7 @@ fn sample() -> Plan<'static>
         first: None,
         source: Document::BuiltIn(SAMPLE_SOURCE),
         second: Some(Document::BuiltIn(SAMPLE_INPUT)),
+        third: None,
         target: None,
         job: Job::Run,
         options: usual(),

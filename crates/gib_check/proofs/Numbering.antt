@@ -8,7 +8,7 @@ use Rattle.gib_syntax.specs.Parts.{Parts, function_tree}
 use Rattle.gib_syntax.specs.Declarations.{place_of, next_place, function_named}
 use Rattle.gib_check.specs.declared.functions.FunctionHead.{FunctionHead}
 use Rattle.gib_check.specs.Functions.{Head, head_of, head_in, IsNumberOf, IsHeadOf}
-use Rattle.gib_check.specs.Views.{function_number, functions_in, table_in, types_in}
+use Rattle.gib_check.specs.Views.{function_name, functions_in, table_in, types_in}
 use Rattle.gib_check.proofs.Different.{place_within}
 
 -- What a place among functions says of the function of the name.
@@ -21,22 +21,22 @@ at_more f true d ds o p h = refl
 at_more f false d ds None p h = h
 at_more f false d ds (Some i) p h = h
 
-at_all : (f : ℕ → Expression) (ds : List FunctionDecl) (x : ℕ) → At f ds (place_of (map function_number ds) x) (function_named (map (function_tree f) ds) x)
+at_all : (f : ℕ → Expression) (ds : List FunctionDecl) (x : ℕ) → At f ds (place_of (map function_name ds) x) (function_named (map (function_tree f) ds) x)
 at_all f [] x = refl
-at_all f (d ∷ ds) x = at_more f (eqb (function_number d) x) d ds (place_of (map function_number ds) x) (function_named (map (function_tree f) ds) x) (at_all f ds x)
+at_all f (d ∷ ds) x = at_more f (eqb (function_name d) x) d ds (place_of (map function_name ds) x) (function_named (map (function_tree f) ds) x) (at_all f ds x)
 
 -- The function at the first place of its name.
-pub number_found : (parts : Parts) (names : List ℕ) (x i : ℕ) (o : Option ℕ) → names ≡ map function_number parts.functions → o ≡ place_of names x → o ≡ Some i → IsNumberOf (functions_in parts) x i
+pub number_found : (parts : Parts) (names : List ℕ) (x i : ℕ) (o : Option ℕ) → names ≡ map function_name parts.functions → o ≡ place_of names x → o ≡ Some i → IsNumberOf (functions_in parts) x i
 number_found parts names x i o en eo e =
-    let at : place_of (map function_number parts.functions) x ≡ Some i = ap (λ z. place_of z x) (sym en) ∙ sym eo ∙ e in
-    let lt = place_within (map function_number parts.functions) x i at in
+    let at : place_of (map function_name parts.functions) x ≡ Some i = ap (λ z. place_of z x) (sym en) ∙ sym eo ∙ e in
+    let lt = place_within (map function_name parts.functions) x i at in
     record {
-      within = omega (arith, lt, length-map parts.functions function_number, length-map parts.functions (function_tree (tree_of parts.exprs)));
+      within = omega (arith, lt, length-map parts.functions function_name, length-map parts.functions (function_tree (tree_of parts.exprs)));
       is = subst (λ z. At (tree_of parts.exprs) parts.functions z (function_named (functions_in parts) x)) at (at_all (tree_of parts.exprs) parts.functions x);
     }
 
 -- No function has the name.
-pub number_none : (parts : Parts) (names : List ℕ) (x : ℕ) (o : Option ℕ) → names ≡ map function_number parts.functions → o ≡ place_of names x → o ≡ None → function_named (functions_in parts) x ≡ None
+pub number_none : (parts : Parts) (names : List ℕ) (x : ℕ) (o : Option ℕ) → names ≡ map function_name parts.functions → o ≡ place_of names x → o ≡ None → function_named (functions_in parts) x ≡ None
 number_none parts names x o en eo e =
     subst (λ z. At (tree_of parts.exprs) parts.functions z (function_named (functions_in parts) x)) (ap (λ z. place_of z x) (sym en) ∙ sym eo ∙ e) (at_all (tree_of parts.exprs) parts.functions x)
 

@@ -7,7 +7,7 @@ use Rattle.gib_syntax.specs.Tree.{Expression, FunctionTree}
 use Rattle.gib_syntax.specs.Parts.{function_tree}
 use Rattle.gib_syntax.specs.Declarations.{place_of, next_place, function_named}
 use Rattle.gib_check.specs.Answers.{number}
-use Rattle.gib_check.specs.Views.{function_number}
+use Rattle.gib_check.specs.Views.{function_name}
 use Rattle.gib_check.specs.Faults.{found, function}
 use Rattle.gib_check.specs.declared.fault.Kind.TheVariants as kind
 
@@ -52,19 +52,19 @@ at_more f true d ds o p h = λ e. refl
 at_more f false d ds None p h = h
 at_more f false d ds (Some i) p h = h
 
-at_all : (f : ℕ → Expression) (ds : List FunctionDecl) (x : ℕ) → At f ds (place_of (map function_number ds) x) (function_named (map (function_tree f) ds) x)
+at_all : (f : ℕ → Expression) (ds : List FunctionDecl) (x : ℕ) → At f ds (place_of (map function_name ds) x) (function_named (map (function_tree f) ds) x)
 at_all f [] x = refl
-at_all f (d ∷ ds) x = at_more f (eqb (function_number d) x) d ds (place_of (map function_number ds) x) (function_named (map (function_tree f) ds) x) (at_all f ds x)
+at_all f (d ∷ ds) x = at_more f (eqb (function_name d) x) d ds (place_of (map function_name ds) x) (function_named (map (function_tree f) ds) x) (at_all f ds x)
 
 -- The function at the first place of its name.
-pub function_at : (f : ℕ → Expression) (ds es fs : List FunctionDecl) (names : List ℕ) (x : Ident) (i : ℕ) (o : Option ℕ) (d : FunctionDecl) → ds ≡ es → names ≡ map function_number ds → fs ≡ ds → o ≡ place_of names x.name.0 → o ≡ Some i → d ≡ get_or fs i d → function (map (function_tree f) es) x ≡ Ok (function_tree f d)
+pub function_at : (f : ℕ → Expression) (ds es fs : List FunctionDecl) (names : List ℕ) (x : Ident) (i : ℕ) (o : Option ℕ) (d : FunctionDecl) → ds ≡ es → names ≡ map function_name ds → fs ≡ ds → o ≡ place_of names x.name.0 → o ≡ Some i → d ≡ get_or fs i d → function (map (function_tree f) es) x ≡ Ok (function_tree f d)
 function_at f ds es fs names x i o d same en ef eo e ed =
-    let at : place_of (map function_number es) x.name.0 ≡ Some i = ap (λ z. place_of z x.name.0) (ap (map function_number) (sym same) ∙ sym en) ∙ sym eo ∙ e in
+    let at : place_of (map function_name es) x.name.0 ≡ Some i = ap (λ z. place_of z x.name.0) (ap (map function_name) (sym same) ∙ sym en) ∙ sym eo ∙ e in
     let is : d ≡ get_or es i d = ed ∙ ap (λ z. get_or z i d) (ef ∙ same) in
     ap (λ z. found z kind.Unknown x.span) ((subst (λ z. At f es z (function_named (map (function_tree f) es) x.name.0)) at (at_all f es x.name.0)) d ∙ ap (λ z. Some (function_tree f z)) (sym is))
 
 -- No function has the name.
-pub function_none : (f : ℕ → Expression) (ds es : List FunctionDecl) (names : List ℕ) (x : Ident) (o : Option ℕ) → ds ≡ es → names ≡ map function_number ds → o ≡ place_of names x.name.0 → o ≡ None → function (map (function_tree f) es) x ≡ Err (record { kind = kind.Unknown; span = x.span })
+pub function_none : (f : ℕ → Expression) (ds es : List FunctionDecl) (names : List ℕ) (x : Ident) (o : Option ℕ) → ds ≡ es → names ≡ map function_name ds → o ≡ place_of names x.name.0 → o ≡ None → function (map (function_tree f) es) x ≡ Err (record { kind = kind.Unknown; span = x.span })
 function_none f ds es names x o same en eo e =
-    let at : place_of (map function_number es) x.name.0 ≡ None = ap (λ z. place_of z x.name.0) (ap (map function_number) (sym same) ∙ sym en) ∙ sym eo ∙ e in
+    let at : place_of (map function_name es) x.name.0 ≡ None = ap (λ z. place_of z x.name.0) (ap (map function_name) (sym same) ∙ sym en) ∙ sym eo ∙ e in
     ap (λ z. found z kind.Unknown x.span) (subst (λ z. At f es z (function_named (map (function_tree f) es) x.name.0)) at (at_all f es x.name.0))

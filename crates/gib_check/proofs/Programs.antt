@@ -32,8 +32,8 @@ constructor_number c = number_of c.name
 abbrev pub data_number : DataTree → ℕ
 data_number d = number_of d.name
 
-abbrev pub function_number : FunctionTree → ℕ
-function_number f = number_of f.name
+abbrev pub function_name : FunctionTree → ℕ
+function_name f = number_of f.name
 
 -- The names of all constructors.
 abbrev pub names_in : List DataTree → List ℕ
@@ -300,8 +300,8 @@ abbrev HasHead : List ℕ → FunctionTree → Type 0
 HasHead types f = HeadHolds types f.parameters f.result
 
 pub record HeadsHold (types names : List ℕ) (fs : List FunctionTree) : Type 0 where
-  pub differ : AreDifferent names → AreDifferent (names ++ map function_number fs)
-  pub few : length names ≤ 1000 → length (names ++ map function_number fs) ≤ 1000
+  pub differ : AreDifferent names → AreDifferent (names ++ map function_name fs)
+  pub few : length names ≤ 1000 → length (names ++ map function_name fs) ≤ 1000
   pub heads : AllByRecursion (HasHead types) fs
 
 heads_hold : (types names : List ℕ) (fs : List FunctionTree) → Holds (check_heads types names fs) (λ _. HeadsHold types names fs)
@@ -315,7 +315,7 @@ heads_hold types names (f ∷ fs) =
     then_holds (fewer_holds 1000 names f.name) (λ _ l. then_holds (new_name_holds names f.name) (λ _ p. then_holds (head_holds types f.parameters f.result) (λ _ h.
     record {
       by = λ u e. (let o = (heads_hold types (names ++ number_of f.name ∷ []) fs).by u e in
-          let same = sym (snoc names (map function_number fs) (number_of f.name)) in
+          let same = sym (snoc names (map function_name fs) (number_of f.name)) in
           record {
             differ = λ d. subst AreDifferent same (o.differ (different_push names (number_of f.name) d p));
             few = λ d. subst (λ (z : List ℕ). length z ≤ 1000) same (o.few (let g = long_push names (number_of f.name) in omega (arith, g, l)));
@@ -390,7 +390,7 @@ program_holds p =
     then_holds (declarations_hold p) (λ _ d. then_holds (bodies_hold (globals_of p) p.functions) (λ _ b.
     record {
       by = λ u e. (let w = (body_holds (globals_of p) (p.main.parameter ∷ []) p.main.result p.main.body).by u e in
-          let few = d.heads.few (omega arith) in let long = length-map p.functions function_number in
+          let few = d.heads.few (omega arith) in let long = length-map p.functions function_name in
           record {
             types_differ = d.datas.types_differ;
             constructors_differ = d.datas.constructors_differ;
@@ -412,14 +412,14 @@ head_ok g qs result body h =
     ap (λ z. and_then z (λ _. and_then (known g.table.types result) (λ _. Ok (tt {0})))) (parameters_ok g.table.types [] nothing_met qs h.scope h.known h.bound (omega (arith, few)))
     ∙ ap (λ (z : Checked Ty). and_then z (λ _. Ok (tt {0}))) (found_ok (type_written g.table.types result) kind.Unknown (type_place result) h.known_result.0 h.known_result.1)
 
-heads_ok : (g : Globals) (names : List ℕ) (fs : List FunctionTree) → AreDifferent (names ++ map function_number fs) → length (names ++ map function_number fs) ≤ 1000 → AllByRecursion (IsTypedHere g) fs → check_heads g.table.types names fs ≡ Ok (tt {0})
+heads_ok : (g : Globals) (names : List ℕ) (fs : List FunctionTree) → AreDifferent (names ++ map function_name fs) → length (names ++ map function_name fs) ≤ 1000 → AllByRecursion (IsTypedHere g) fs → check_heads g.table.types names fs ≡ Ok (tt {0})
 heads_ok g names [] d l h = refl
 heads_ok g names (f ∷ fs) d l h =
-    let k = length-append names (number_of f.name ∷ map function_number fs) in
-    let e = snoc names (map function_number fs) (number_of f.name) in
+    let k = length-append names (number_of f.name ∷ map function_name fs) in
+    let e = snoc names (map function_name fs) (number_of f.name) in
     let all : Yields (check_heads g.table.types names (f ∷ fs)) (λ _. Unit {0}) =
     then_yields (yields (tt {0}) (fewer_ok 1000 names f.name (omega (arith, k, l)))) (λ _ _.
-    then_yields (yields (tt {0}) (new_name_ok names f.name (new_of names (map function_number fs) (number_of f.name) d))) (λ _ _.
+    then_yields (yields (tt {0}) (new_name_ok names f.name (new_of names (map function_name fs) (number_of f.name) d))) (λ _ _.
     then_yields (yields (tt {0}) (head_ok g f.parameters f.result f.body h.0)) (λ _ _.
     record { value = tt {0}; is = heads_ok g (names ++ number_of f.name ∷ []) fs (subst AreDifferent e d) (subst (λ (z : List ℕ). length z ≤ 1000) e l) h.1; so = tt }))) in
     all.is
@@ -445,7 +445,7 @@ declarations_yield p h =
     let types = type_names p in
     let g = globals_of p in
     let few = h.few_constructors in let long = rows_long types p.datas in
-    let fewf = h.few_functions in let longf = length-map p.functions function_number in
+    let fewf = h.few_functions in let longf = length-map p.functions function_name in
     then_yields (yields (tt {0}) (datas_ok [] [] p.datas h.types_differ (subst AreDifferent (names_rows types 0 p.datas) h.constructors_differ) (omega (arith, few, long)) (shorts_of types p.datas h.fields))) (λ _ _.
     then_yields (yields (tt {0}) (fields_ok types p.datas h.fields)) (λ _ _.
     then_yields (yields (tt {0}) (heads_ok g [] p.functions h.functions_differ (omega (arith, fewf, longf)) h.functions)) (λ _ _.

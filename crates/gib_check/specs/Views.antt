@@ -35,8 +35,8 @@ abbrev pub tree_in : Parts → ℕ → Expression
 tree_in parts id = tree_of parts.exprs id
 
 -- The number of a function's name.
-abbrev pub function_number : FunctionDecl → ℕ
-function_number d = number_of d.name
+abbrev pub function_name : FunctionDecl → ℕ
+function_name d = number_of d.name
 
 -- The number of a declared type's name.
 abbrev pub tree_number : DataTree → ℕ
@@ -56,7 +56,7 @@ pub record IsDeclared (parts : Parts) (table : Table) (types constructors functi
   pub is_table : table ≡ table_in parts
   pub are_types : types ≡ types_in parts
   pub are_constructors : constructors ≡ constructor_names (table_in parts)
-  pub are_functions : functions ≡ map function_number parts.functions
+  pub are_functions : functions ≡ map function_name parts.functions
   pub are_heads : map head_of heads ≡ map (head_in (types_in parts)) parts.functions
 
 -- An arm without its expression.

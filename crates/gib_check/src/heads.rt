@@ -5,7 +5,7 @@ ghost use Rattle.gib_syntax.specs.Parts.{function_tree};
 ghost use Rattle.gib_syntax.specs.Tree.{Expression};
 ghost use Rattle.gib_check.specs.Answers.{Gives};
 ghost use Rattle.gib_check.specs.FirstFault as rule;
-ghost use Rattle.gib_check.specs.Views.{function_number};
+ghost use Rattle.gib_check.specs.Views.{function_name};
 
 use crate::counts::Counts;
 use crate::datas::{fewer, known, new_name};
@@ -77,7 +77,7 @@ pub fn check_heads(
 
 /// The names of the functions, in the order of the text.
 pub fn list_functions(alloc: Global, functions: &[FunctionDecl]) -> Result<NameList, Memory>
-    ensures { IfOk result (λ names. names ≡ map function_number functions.now) }
+    ensures { IfOk result (λ names. names ≡ map function_name functions.now) }
 {
     let mut names = NameList::new(alloc);
     let mut rest = functions;

@@ -30,8 +30,6 @@ mod parts;
 mod rules;
 mod state;
 mod tables;
-#[cfg(test)]
-mod tests;
 pub mod typed;
 pub mod variables;
 mod walk;

@@ -18,7 +18,7 @@ use crate::rules::{
 };
 use crate::state::{State, bind, bind_all, literal, variable};
 use gib_base::Span;
-use gib_syntax::{Arm, ExprId, Ident, Node, Operator};
+use gib_syntax::{Arm, Bound, ExprId, Ident, Node, Operator};
 use gib_types::Ty;
 
 /// An expression's number, and where it stands.
@@ -26,22 +26,6 @@ use gib_types::Ty;
 struct At {
     id: ExprId,
     span: Span,
-}
-
-/// A variable, and the expression that it is bound to.
-#[derive(Clone, Copy)]
-struct Bound {
-    name: Ident,
-    value: ExprId,
-}
-
-impl Bound {
-    /// A variable with its expression.
-    fn new(name: Ident, value: ExprId) -> Bound
-        ensures { result ≡ record { name = name; value = value } }
-    {
-        Bound { name, value }
-    }
 }
 
 /// The type of an expression.

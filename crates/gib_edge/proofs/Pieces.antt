@@ -1,9 +1,11 @@
 -- Bytes that are put piece by piece.
-use Rattle.std.proofs.Common.{inl, inr, ◌*◌, ◌<◌, ◌≡◌, ℕ, zero, suc, ◌+◌, ◌-◌, ◌≤◌, List, [], ◌∷◌, ◌++◌, Option, Some, None, Result, Ok, Err, take, drop, length, refl, sym, ap, ◌∙◌, arith, append_assoc, subst}
+use Rattle.std.proofs.Common.{inl, inr, ◌*◌, ◌/◌, ◌%◌, ◌<◌, ◌≡◌, ℕ, zero, suc, ◌+◌, ◌-◌, ◌≤◌, List, [], ◌∷◌, ◌++◌, Option, Some, None, Result, Ok, Err, take, drop, length, refl, sym, ap, ◌∙◌, arith, append_assoc, subst}
 use Rattle.std.specs.Prelude.{OnErr, ◌⊎◌}
+use Rattle.std.proofs.Math.Logic.{⊎_elim}
+use Rattle.std.proofs.Math.Nat.{eq-or-lt_of_le}
 use Rattle.std.proofs.lemmas.List.{take_all, length-drop}
 use Rattle.std.specs.Io.KnownBytes as known
-use Rattle.gib_edge.specs.Causes.{Appends, AppendsPart, Rose, raised, pieces}
+use Rattle.gib_edge.specs.Causes.{Appends, AppendsPart, Rose, HasPut, PutsWhole, PutsPieces}
 use Rattle.gib_edge.specs.Views.{SinkView}
 
 pub take-split : (n m : ℕ) (bs : List ℕ) → n ≤ m → take n bs ++ take (m - n) (drop n bs) ≡ take m bs
@@ -54,31 +56,52 @@ pub rose_since : (a b c : ℕ) → a ≤ b → Rose b c → Rose a c
 rose_since a b c le (inl r) = inl (omega arith)
 rose_since a b c le (inr r) = inr r
 
--- the number of pieces of at most 4,096 bytes, by its bounds
-pub pieces_are : (n k : ℕ) → n ≤ 4096 * k → 4096 * k < n + 4096 → pieces n ≡ k
-pieces_are n k enough least = omega arith
+-- a whole piece more
+pub whole_more : (before now next : SinkView) (count : ℕ) → PutsWhole before now count → HasPut now next 4096 → PutsWhole before next (count + 1)
+whole_more before now next count so_far more =
+    let one = more.whole refl in
+    record { puts = omega (arith, so_far.puts, more.puts); whole = omega (arith, so_far.whole, one) }
 
--- How many pieces were put up to a place: all but the last are of 4,096 bytes.
-pub record Put (at len before now : ℕ) : Type 0 where
-  pub count : ℕ
-  pub raised_by : now ≡ raised before count
-  pub enough : at ≤ 4096 * count
-  pub least : 4096 * count < at + 4096
-  pub aligned : (at ≡ 4096 * count) ⊎ (at ≡ len)
+-- behind whole pieces a last one, which may be whole too
+pub last_more : (before now next : SinkView) (count bytes : ℕ) → PutsWhole before now count → 0 < bytes → bytes ≤ 4096 → HasPut now next bytes → PutsPieces before next (4096 * count + bytes)
+last_more before now next count bytes so_far some few more = record {
+  puts = omega (arith, so_far.puts, more.puts, some, few);
+  whole = ⊎_elim
+      (λ (full : bytes ≡ 4096). let one = more.whole full in omega (arith, so_far.whole, one, full))
+      (λ (short : bytes < 4096). let same = more.other (λ e. omega arith) in omega (arith, so_far.whole, same, short))
+      (eq-or-lt_of_le few);
+  last = λ any. more.last ∙ (omega (arith, some, few));
+}
 
-pub put_none : (len before : ℕ) → Put 0 len before before
-put_none len before = record { count = 0; raised_by = omega arith; enough = omega arith; least = omega arith; aligned = inl (omega arith) }
+-- What was put up to a place: all but the last piece are whole, and the last one is, or it ends all.
+pub record Put (at len : ℕ) (before now : SinkView) : Type 0 where
+  pub pieces : PutsPieces before now at
+  pub aligned : (at % 4096 ≡ 0) ⊎ (at ≡ len)
 
-pub put_more : (at end' len before now next : ℕ) → at < len → (end' ≡ len) × (len - at < 4096) ⊎ (end' ≡ at + 4096) → end' ≤ len → Put at len before now → next ≡ raised now 1 → Put end' len before next
-put_more at end' len before now next lt to within p e = go p.aligned to
+pub put_none : (len : ℕ) (sink : SinkView) → Put 0 len sink sink
+put_none len sink = record { pieces = record { puts = omega arith; whole = omega arith; last = λ none. omega arith }; aligned = inl refl }
+
+-- where whole pieces end
+whole_of : (before now : SinkView) (at : ℕ) → at % 4096 ≡ 0 → PutsPieces before now at → PutsWhole before now (at / 4096)
+whole_of before now at even put = record { puts = omega (arith, even, put.puts); whole = put.whole }
+
+-- the next piece, whether it fails or not
+pub put_next : (at end' len : ℕ) (before now next : SinkView) → at < len → at < end' → end' ≤ at + 4096 → Put at len before now → HasPut now next (end' - at) → PutsPieces before next end'
+put_next at end' len before now next lt some few put more = go put.aligned
   where
-    go : (at ≡ 4096 * p.count) ⊎ (at ≡ len) → (end' ≡ len) × (len - at < 4096) ⊎ (end' ≡ at + 4096) → Put end' len before next
-    go (inr all) to = absurd (omega arith)
-    go (inl whole) (inl last) = record { count = p.count + 1; raised_by = omega (arith, p.raised_by); enough = omega (arith, last.0, last.1); least = omega (arith, last.0); aligned = inr last.0 }
-    go (inl whole) (inr full) = record { count = p.count + 1; raised_by = omega (arith, p.raised_by); enough = omega arith; least = omega arith; aligned = inl (omega arith) }
+    go : (at % 4096 ≡ 0) ⊎ (at ≡ len) → PutsPieces before next end'
+    go (inr all) = absurd (omega arith)
+    go (inl even) =
+        let e : 4096 * (at / 4096) + (end' - at) ≡ end' = omega (arith, even, some) in
+        subst (PutsPieces before next) e (last_more before now next (at / 4096) (end' - at) (whole_of before now at even put.pieces) (omega arith) (omega arith) more)
 
-pub put_whole : (len : ℕ) (before now : SinkView) → Put len len before.puts now.puts → now.puts ≡ raised before.puts (pieces len)
-put_whole len before now p = p.raised_by ∙ ap (raised before.puts) (sym (pieces_are len p.count p.enough p.least))
+pub put_more : (at end' len : ℕ) (before now next : SinkView) → at < len → (end' ≡ len) × (len - at < 4096) ⊎ (end' ≡ at + 4096) → Put at len before now → HasPut now next (end' - at) → Put end' len before next
+put_more at end' len before now next lt to put more = go to put.aligned
+  where
+    go : (end' ≡ len) × (len - at < 4096) ⊎ (end' ≡ at + 4096) → (at % 4096 ≡ 0) ⊎ (at ≡ len) → Put end' len before next
+    go (inl last) even = record { pieces = put_next at end' len before now next lt (omega (arith, last.0)) (omega (arith, last.0, last.1)) put more; aligned = inr last.0 }
+    go (inr full) (inr all) = absurd (omega arith)
+    go (inr full) (inl even) = record { pieces = put_next at end' len before now next lt (omega arith) (omega arith) put more; aligned = inl (omega (arith, full, even)) }
 
 pub on_err : {T E X : Type 0} (r : Result T E) → X → OnErr r X
 on_err (Ok t) x = tt

@@ -1,5 +1,5 @@
 -- When a fault may be told, and what a shelf or a sink tells of its bytes and its calls.
-use Rattle.std.specs.Prelude.{◌≡◌, ◌⊎◌, ℕ, ◌+◌, ◌-◌, ◌^◌, ◌/◌, ◌<◌, ◌≤◌, min, max, Bool, List, ◌++◌, take, Option, Some, if◌then◌else◌, Result, IfSome, OnOk, OnErr}
+use Rattle.std.specs.Prelude.{◌≡◌, ◌≢◌, ◌⊎◌, ℕ, ◌+◌, ◌-◌, ◌^◌, ◌/◌, ◌%◌, ◌<◌, ◌≤◌, min, max, Bool, List, ◌++◌, take, Option, Some, if◌then◌else◌, Result, IfSome, OnOk, OnErr}
 use Rattle.gib_edge.specs.Views.{Held, Hidden, Missing, Has, SinkView}
 
 -- The count went up, or stands at 2^64 - 1, where a 64-bit counter stays.
@@ -49,18 +49,32 @@ AppendsPart old new items = IfSome old (λ before. (n : ℕ) × (new ≡ Some (b
 -- One more piece was put, of so many bytes.
 pub record HasPut (before now : SinkView) (bytes : ℕ) : Type 0 where
   pub puts : now.puts ≡ raised before.puts 1
-  pub longest : now.longest ≡ max before.longest bytes
+  pub whole : bytes ≡ 4096 → now.whole ≡ raised before.whole 1
+  pub other : bytes ≢ 4096 → now.whole ≡ before.whole
+  pub last : now.last ≡ bytes
+
+-- So many more pieces were put, all of 4,096 bytes.
+pub record PutsWhole (before now : SinkView) (count : ℕ) : Type 0 where
+  pub puts : now.puts ≡ raised before.puts count
+  pub whole : now.whole ≡ raised before.whole count
 
 -- In how many pieces of at most 4,096 bytes, none of them empty, so many bytes can be put at best.
 abbrev pub pieces : ℕ → ℕ
 pieces bytes = (bytes + 4095) / 4096
 
--- So many bytes were put in as few pieces as can be, each of at most 4,096 bytes.
+-- The length of the last of these pieces, where all others are of 4,096 bytes.
+abbrev pub last_piece : ℕ → ℕ
+last_piece bytes = (bytes + 4095) % 4096 + 1
+
+-- So many bytes were put in as few pieces as can be: all but the last are of 4,096 bytes, and the last is of the bytes that
+-- are left, which are no more.
 pub record PutsPieces (before now : SinkView) (bytes : ℕ) : Type 0 where
   pub puts : now.puts ≡ raised before.puts (pieces bytes)
-  pub longest : now.longest ≤ max before.longest 4096
+  pub whole : now.whole ≡ raised before.whole (bytes / 4096)
+  pub last : 0 < bytes → now.last ≡ last_piece bytes
 
 -- A front of so many bytes was put in such pieces.
 pub record PutsSomePieces (before now : SinkView) (bytes : ℕ) : Type 0 where
-  pub puts : now.puts ≤ raised before.puts (pieces bytes)
-  pub longest : now.longest ≤ max before.longest 4096
+  pub front : ℕ
+  pub within : front ≤ bytes
+  pub puts : PutsPieces before now front

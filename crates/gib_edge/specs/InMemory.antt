@@ -67,17 +67,18 @@ failed_puts sink = sink.faults
 
 -- What is told of a sink.
 abbrev pub sink_view : MemSink → SinkView
-sink_view sink = record { taken = Some (taken_by sink); faults = failed_puts sink; puts = sink.calls; longest = sink.longest }
+sink_view sink = record { taken = Some (taken_by sink); faults = failed_puts sink; puts = sink.pieces.puts; whole = sink.pieces.whole; last = sink.pieces.last }
 
 -- After how many bytes the next put fails, if it is one that fails.
 abbrev pub part_due : MemSink → Option ℕ
-part_due sink = part_at sink.fails.items sink.calls
+part_due sink = part_at sink.fails.items sink.pieces.puts
 
 -- A sink that took nothing yet, with this room, which fails at these puts.
 pub record IsNewSink (room : ℕ) (parts : List (ℕ × ℕ)) (sink : MemSink) : Type 0 where
   pub bytes : sink.bytes.items ≡ []
   pub left : sink.left ≡ room
   pub fails : sink.fails.items ≡ parts
-  pub calls : sink.calls ≡ 0
-  pub longest : sink.longest ≡ 0
+  pub puts : sink.pieces.puts ≡ 0
+  pub whole : sink.pieces.whole ≡ 0
+  pub last : sink.pieces.last ≡ 0
   pub faults : sink.faults ≡ 0

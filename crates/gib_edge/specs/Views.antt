@@ -21,9 +21,10 @@ pub record ShelfView : Type 0 where
   pub calls : Option (List Call)
 
 -- What is told of a sink: all bytes that it took, where they are told, how often it has failed, how often it was
--- called, and the length of the longest piece that it was given.
+-- called, how many of the pieces that it was given were of 4,096 bytes, and the length of the last one.
 pub record SinkView : Type 0 where
   pub taken : Option (List ℕ)
   pub faults : ℕ
   pub puts : ℕ
-  pub longest : ℕ
+  pub whole : ℕ
+  pub last : ℕ

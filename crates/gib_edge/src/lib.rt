@@ -5,6 +5,7 @@ pub mod dir_shelf;
 pub mod mem_shelf;
 pub mod mem_sink;
 pub mod outside;
+pub mod piece_counts;
 pub mod std_sink;
 mod streams;
 

@@ -6,6 +6,7 @@ ghost use Rattle.gib_edge.specs.Fails.{part_at};
 
 use crate::Memory;
 use crate::outside::{Failed, Sink};
+use crate::piece_counts::PieceCounts;
 use std::alloc::Global;
 
 /// A sink that keeps what it takes.
@@ -15,8 +16,7 @@ pub struct MemSink {
     // how many bytes it still has room for
     left: usize,
     fails: Vec<(u64, u64)>,
-    calls: u64,
-    longest: usize,
+    pieces: PieceCounts,
     faults: u64,
     ghost room: { vec_len bytes + left ≤ vec_capacity bytes },
 }
@@ -34,8 +34,7 @@ impl MemSink {
             bytes: Vec::with_capacity(alloc, left)?,
             left,
             fails,
-            calls: 0,
-            longest: 0,
+            pieces: PieceCounts::new(),
             faults: 0,
         })
     }
@@ -60,8 +59,7 @@ impl MemSink {
         ensures bytes { self.new.bytes.items ≡ self.old.bytes.items ++ piece.now }
         ensures left { self.new.left + length piece.now ≡ self.old.left }
         ensures fails { self.new.fails ≡ self.old.fails }
-        ensures calls { self.new.calls ≡ self.old.calls }
-        ensures longest { self.new.longest ≡ self.old.longest }
+        ensures pieces { self.new.pieces ≡ self.old.pieces }
         ensures faults { self.new.faults ≡ self.old.faults }
     {
         let _ = self.bytes.extend_from_slice(piece);
@@ -88,9 +86,8 @@ impl Sink for MemSink {
         ensures counted { OnErr result (failed_puts self.new ≡ raised (failed_puts self.old) 1) }
         ensures fails { self.new.fails ≡ self.old.fails }
     {
-        let call = self.calls;
-        self.calls = call.saturating_add(1);
-        self.longest = self.longest.max(bytes.len());
+        let call = self.pieces.puts;
+        self.pieces.add(bytes.len());
         if bytes.len() <= self.left {
             match part_of(&self.fails, call) {
                 Some(count) => self.append(prefix(bytes, count)),

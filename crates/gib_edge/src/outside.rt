@@ -72,9 +72,8 @@ pub trait Sink {
 /// The size of the pieces of `put_all`, in bytes.
 pub const PIECE_BYTES: usize = 4096;
 
-/// Puts these bytes, or a front of them and fails: in as few pieces of at most `PIECE_BYTES` bytes as can be.
-///
-/// A test shows that all but the last have that size.
+/// Puts these bytes, or a front of them and fails: in pieces of `PIECE_BYTES` bytes and a last one that may be shorter, none
+/// of them empty.
 pub fn put_all<O: Sink>(out: &mut O, bytes: &[u8]) -> Result<(), Failed>
     ensures ok { OnOk result (Appends (O.view out.old).taken (O.view out.new).taken bytes.now) }
     ensures part { OnErr result (AppendsPart (O.view out.old).taken (O.view out.new).taken bytes.now) }

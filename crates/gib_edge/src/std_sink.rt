@@ -4,6 +4,7 @@ ghost use Rattle.std.specs.Prelude.{◌≡◌, ℕ, List, OnOk, OnErr, length};
 ghost use Rattle.gib_edge.specs.Causes.{Appends, AppendsPart, HasCause, HasPut, raised};
 
 use crate::outside::{Failed, Sink};
+use crate::piece_counts::PieceCounts;
 use crate::streams::write_whole;
 use std::io::Write;
 
@@ -13,8 +14,7 @@ use std::io::Write;
 pub struct StdSink<W: Write> {
     stream: W,
     faults: u64,
-    puts: u64,
-    longest: usize,
+    pieces: PieceCounts,
 }
 
 impl<W: Write> StdSink<W> {
@@ -23,19 +23,19 @@ impl<W: Write> StdSink<W> {
         ensures taken { (⟦<StdSink<W> as Sink>⟧.view result).taken ≡ W.contents stream }
         ensures faults { (⟦<StdSink<W> as Sink>⟧.view result).faults ≡ 0 }
         ensures puts { (⟦<StdSink<W> as Sink>⟧.view result).puts ≡ 0 }
-        ensures longest { (⟦<StdSink<W> as Sink>⟧.view result).longest ≡ 0 }
+        ensures whole { (⟦<StdSink<W> as Sink>⟧.view result).whole ≡ 0 }
+        ensures last { (⟦<StdSink<W> as Sink>⟧.view result).last ≡ 0 }
     {
         StdSink {
             stream,
             faults: 0,
-            puts: 0,
-            longest: 0,
+            pieces: PieceCounts::new(),
         }
     }
 }
 
 impl<W: Write> Sink for StdSink<W> {
-    ghost view = { λ sink. record { taken = W.contents sink.stream; faults = sink.faults; puts = sink.puts; longest = sink.longest } };
+    ghost view = { λ sink. record { taken = W.contents sink.stream; faults = sink.faults; puts = sink.pieces.puts; whole = sink.pieces.whole; last = sink.pieces.last } };
 
     fn put(&mut self, bytes: &[u8]) -> Result<(), Failed>
         ensures ok { OnOk result (Appends (W.contents self.old.stream) (W.contents self.new.stream) bytes.now) }
@@ -44,8 +44,7 @@ impl<W: Write> Sink for StdSink<W> {
         ensures called { HasPut (⟦<StdSink<W> as Sink>⟧.view self.old) (⟦<StdSink<W> as Sink>⟧.view self.new) (length bytes.now) }
         ensures counted { OnErr result (self.new.faults ≡ raised self.old.faults 1) }
     {
-        self.puts = self.puts.saturating_add(1);
-        self.longest = self.longest.max(bytes.len());
+        self.pieces.add(bytes.len());
         let result = write_whole(&mut self.stream, bytes);
         if result.is_err() {
             self.faults = self.faults.saturating_add(1);

@@ -1,5 +1,5 @@
 -- What a frame's answer is.
-use Rattle.std.specs.Prelude.{◌≡◌, [], Option, IfSome, IfNone}
+use Rattle.std.specs.Prelude.{◌≡◌, []}
 use Rattle.gib_mem.specs.Memory.{Store}
 use Rattle.gib_code.specs.declared.answer.Side.{Side}
 use Rattle.gib_code.specs.declared.answer.Answer.{Answer}
@@ -14,6 +14,8 @@ use Rattle.gib_weave.specs.Sound.{SideSafe, IsAnswer}
 use Rattle.gib_arena.specs.declared.memory.Pass.{Pass}
 use Rattle.gib_arena.specs.Passes.{view, cells}
 use Rattle.gib_frame.specs.declared.due.Due.{Due}
+use Rattle.gib_frame.specs.declared.due.Ending.{Ending}
+use Rattle.gib_frame.specs.declared.due.Ending.TheVariants as ending
 
 -- There is something that the side owes, in a store.
 abbrev pub Owes : LoweredParts → Store → Side → Type 0
@@ -29,8 +31,14 @@ pub record IsHis (was pass : Pass) : Type 0 where
   pub path : (view pass).branch.path ≡ (view was).branch.path
   pub none_out : (view pass).branch.out ≡ []
 
--- What comes to a frame: its task's pass, with the answer of its side; without an answer it has seen that all chunks are drawn.
-pub record Delivers (due : Due) (a : Option Answer) (p : Pass) : Type 0 where
+-- The side has this answer in what the pass knows, or the pass saw that all chunks are drawn; of a side that was not run nothing is
+-- said.
+abbrev pub IsEnding : Due → Pass → Ending → Type 0
+IsEnding due p (ending.Answer a) = Answers (core_of due.lowered.value.core) due.lowered.value.code (cells due.pass.value) (waiting_of due.side.value) (cells p) a
+IsEnding due p ending.Full = (view p).holding.seen ≡ (view p).branch.limit
+IsEnding due p ending.NotRun = Unit {0}
+
+-- What comes to a frame: its task's pass, and how that task ended.
+pub record Delivers (due : Due) (e : Ending) (p : Pass) : Type 0 where
   pub his : IsHis due.pass.value p
-  pub full : IfNone a ((view p).holding.seen ≡ (view p).branch.limit)
-  pub answers : IfSome a (Answers (core_of due.lowered.value.core) due.lowered.value.code (cells due.pass.value) (waiting_of due.side.value) (cells p))
+  pub ends : IsEnding due p e

@@ -9,7 +9,7 @@ use Rattle.gib_frame.specs.Answers.{Delivers}
 
 -- What lies in the slot, if anything, is what the frame was made for.
 abbrev pub Fits : Due → Option Given → Type 0
-Fits due x = IfSome x (λ g. Delivers due g.answer g.pass)
+Fits due x = IfSome x (λ g. Delivers due g.ending g.pass)
 
 -- The rule of the slot: there is one word; unless a thread has the slot, something or nothing lies in it, and it fits; every
 -- thread knows what the frame was made for.

@@ -1,7 +1,8 @@
 -- A task.
-use Rattle.std.specs.Prelude.{◌≡◌, []}
+use Rattle.std.specs.Prelude.{◌≡◌, ◌≤◌, [], length}
 use Rattle.gib_code.specs.declared.answer.Side.{Side}
 use Rattle.gib_core.specs.LoweredParts.{LoweredParts}
+use Rattle.gib_machine.specs.Machine.{widest}
 use Rattle.gib_arena.specs.declared.memory.Arena.{Arena}
 use Rattle.gib_arena.specs.declared.memory.Pass.{Pass}
 use Rattle.gib_arena.specs.Passes.{view, cells, IsOf}
@@ -16,11 +17,13 @@ pub record TaskParts : Type 0 where
   pub side : Side
   pub pass : Pass
 
--- They are those of the frame, nothing is split off the pass, and the side owes something.
+-- They are those of the frame, nothing is split off the pass, a machine for the code has room for the side's words, and the side owes
+-- something.
 pub record IsTask (t : TaskParts) : Type 0 where
   pub own : IsOf t.arena t.pass
   pub none_out : (view t.pass).branch.out ≡ []
   pub lowered : t.due.lowered.value ≡ t.lowered
   pub side : t.due.side.value ≡ t.side
   pub pass : t.due.pass.value ≡ t.pass
+  pub fits : length t.side.words.items ≤ widest t.lowered.code.functions
   pub owes : Owes t.lowered (cells t.pass) t.side

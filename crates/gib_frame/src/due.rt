@@ -16,10 +16,21 @@ pub struct Due {
     pub pass: Snapshot<Pass>,
 }
 
-/// What comes to a frame: the answer of its side, or none where all chunks were drawn, and the pass of the task that ran it.
+/// How a task ended.
+#[derive(Clone, Copy, Debug, PartialEq, Eq)]
+pub enum Ending {
+    /// Its side has this answer.
+    Answer(Answer),
+    /// All chunks were drawn.
+    Full,
+    /// Memory was wanted to run it: its side is still to be run, by whoever waits.
+    NotRun,
+}
+
+/// What comes to a frame: how its task ended, and the pass of that task.
 #[derive(Drop)]
 pub struct Given {
-    pub answer: Option<Answer>,
+    pub ending: Ending,
     pub pass: Pass,
 }
 

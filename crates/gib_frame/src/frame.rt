@@ -1,16 +1,17 @@
 //! A frame and its task; the answer is given, and waited for.
 
-ghost use Rattle.std.specs.Prelude.{◌≡◌, [], IfOk, IfErr};
+ghost use Rattle.std.specs.Prelude.{◌≡◌, ◌≤◌, [], length, IfOk, IfErr};
 ghost use Rattle.std.specs.Arc.{arc_value};
 ghost use Rattle.gib_arena.specs.Passes.{view, cells, IsOf};
+ghost use Rattle.gib_machine.specs.Machine.{widest};
 ghost use Rattle.gib_frame.specs.Answers.{Delivers, Owes};
 ghost use Rattle.gib_frame.specs.Dues.{frame_due, reply_due};
 
-use crate::due::{Due, Give, Given, Sit, Take};
+use crate::due::{Due, Ending, Give, Given, Sit, Take};
 use crate::ends::{Cell, Frame, Reply, Task};
 use atomic_table::Table;
 use gib_arena::{Arena, Pass};
-use gib_code::{Answer, Side};
+use gib_code::Side;
 use gib_core::Lowered;
 use std::alloc::Global;
 use std::snapshot::Snapshot;
@@ -38,6 +39,7 @@ pub fn make<'a>(
     pass: Pass,
 ) -> Result<(Frame, Task<'a>), Pass>
     requires pass { IsOf arena.now pass × ((view pass).branch.out ≡ []) }
+    requires fits { length side.words.items ≤ widest lowered.now.code.functions }
     requires owes { Owes lowered.now (cells pass) side }
     ensures due { IfOk result (λ r. (frame_due r.0).lowered.value ≡ lowered.entry.now) }
     ensures side { IfOk result (λ r. ((frame_due r.0).side.value ≡ side) × ((frame_due r.0).pass.value ≡ pass)) }
@@ -69,17 +71,16 @@ pub fn make<'a>(
     ))
 }
 
-/// Ends a task with its answer and its pass; none stands for a run that found all chunks drawn. It takes no memory, and waits only
-/// while the other end looks at the slot.
-pub fn put_answer<R: Wait>(rt: &R, reply: Reply, answer: Option<Answer>, pass: Pass)
-    requires { Delivers (reply_due reply) answer pass }
+/// Tells how a task ended, and hands its pass over. It takes no memory, and waits only while the other end looks at the slot.
+pub fn put_answer<R: Wait>(rt: &R, reply: Reply, ending: Ending, pass: Pass)
+    requires { Delivers (reply_due reply) ending pass }
 {
     let Reply { cell } = reply;
     let shared = &cell.table.shared;
     let (_word, mut seat) = shared.load_new_seat::<Sit>(0);
     'turns: for _ in rt.forever() {
         if shared.compare_exchange::<Take>(&mut seat, 0, FREE, TAKEN) == FREE {
-            let _ = shared.exchange(&mut seat, 0, Some(Given { answer, pass }));
+            let _ = shared.exchange(&mut seat, 0, Some(Given { ending, pass }));
             shared.store::<Give>(&mut seat, 0, PRESENT);
             let _told = cell.gate.lock(rt);
             cell.came.notify_all();
@@ -89,8 +90,8 @@ pub fn put_answer<R: Wait>(rt: &R, reply: Reply, answer: Option<Answer>, pass: P
     unreachable!()
 }
 
-/// Waits for the answer, and for the pass of the task that gave it. It sleeps until they are there.
-pub fn wait_answer<R: Wait>(rt: &R, frame: &Frame) -> (Option<Answer>, Pass)
+/// Waits until the task has ended, and takes its pass. It sleeps until they are there.
+pub fn wait_answer<R: Wait>(rt: &R, frame: &Frame) -> (Ending, Pass)
     ensures { Delivers (frame_due frame.now) result.0 result.1 }
 {
     let shared = &frame.cell.table.shared;
@@ -100,7 +101,7 @@ pub fn wait_answer<R: Wait>(rt: &R, frame: &Frame) -> (Option<Answer>, Pass)
             let old = shared.exchange(&mut seat, 0, None);
             shared.store::<Give>(&mut seat, 0, FREE);
             if let Some(given) = old {
-                return (given.answer, given.pass);
+                return (given.ending, given.pass);
             }
         } else {
             let gate = frame.cell.gate.lock(rt);

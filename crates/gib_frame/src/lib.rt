@@ -7,6 +7,6 @@ mod ends;
 mod frame;
 pub mod sends;
 
-pub use due::{Due, Given};
+pub use due::{Due, Ending, Given};
 pub use ends::{Frame, Reply, Task};
 pub use frame::{make, put_answer, wait_answer};

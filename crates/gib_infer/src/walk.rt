@@ -20,24 +20,8 @@ use crate::work::{Work, find, kind, new_variable, push_bound, put_before, put_li
 use gib_base::Memory;
 use gib_check::Typed;
 use gib_core::{Atom, Binding, BoundTerm, Branch, Node as TermNode, TermId};
-use gib_syntax::{Arm, ExprId, Ident, Node, Operator};
+use gib_syntax::{Arm, Bound, ExprId, Ident, Node, Operator};
 use gib_types::{ConId, Ty, items_at};
-
-/// A name, with the expression that it is bound to.
-#[derive(Clone, Copy)]
-struct Named {
-    name: Ident,
-    value: ExprId,
-}
-
-impl Named {
-    /// A name with its expression.
-    fn new(name: Ident, value: ExprId) -> Named
-        ensures { result ≡ record { name = name; value = value } }
-    {
-        Named { name, value }
-    }
-}
 
 /// The expression of a number.
 fn node_at(typed: &Typed, id: ExprId) -> &Node
@@ -71,7 +55,7 @@ pub fn line(typed: &Typed, work: &mut Work, id: ExprId) -> Result<(TermId, Ty), 
             bound,
             body,
             ..
-        } => let_in(typed, work, Named::new(*name, *bound), *body),
+        } => let_in(typed, work, Bound::new(*name, *bound), *body),
         Node::LetPar {
             left_name,
             left,
@@ -82,8 +66,8 @@ pub fn line(typed: &Typed, work: &mut Work, id: ExprId) -> Result<(TermId, Ty), 
         } => let_par(
             typed,
             work,
-            Named::new(*left_name, *left),
-            Named::new(*right_name, *right),
+            Bound::new(*left_name, *left),
+            Bound::new(*right_name, *right),
             *body,
         ),
         Node::If {
@@ -370,7 +354,7 @@ fn make(
 fn let_in(
     typed: &Typed,
     work: &mut Work,
-    bound: Named,
+    bound: Bound,
     body: ExprId,
 ) -> Result<(TermId, Ty), Memory>
     requires bound { bound.value.0 < length typed.now.exprs }
@@ -392,8 +376,8 @@ fn let_in(
 fn let_par(
     typed: &Typed,
     work: &mut Work,
-    left: Named,
-    right: Named,
+    left: Bound,
+    right: Bound,
     body: ExprId,
 ) -> Result<(TermId, Ty), Memory>
     requires left { left.value.0 < length typed.now.exprs }

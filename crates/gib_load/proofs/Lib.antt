@@ -6,3 +6,4 @@ pub mod Rooms
 pub mod Spots
 pub mod Sound
 pub mod Planning
+pub mod Overflow

@@ -22,3 +22,8 @@ pub fn what_is_placed_stands()
 pub fn refused_loads_need_all()
     ensures { (laid : LaidOut) (m m' : Memory) (v : Datum) → IsTable laid.table → ((k : ℕ) → head_size laid k ≤ 65) → m.drawn ≡ 0 → Refused laid m v m' → Spent v m' }
 {}
+
+/// A value whose loading is refused needs more chunks than there are.
+pub fn refused_loads_do_not_go_in()
+    ensures { (laid : LaidOut) (m m' : Memory) (v : Datum) → Refused laid m v m' → (placed_in laid m v).memory.drawn ≤ m.limit → ⊥ }
+{}

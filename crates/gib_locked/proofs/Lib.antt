@@ -9,3 +9,5 @@ pub mod ReadEvents
 pub mod ReadJournal
 pub mod Runs
 pub mod Happening
+pub mod OneRefusal
+pub mod OneEnd

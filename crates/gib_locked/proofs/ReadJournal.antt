@@ -151,7 +151,7 @@ behind_refused text front rest line more s (fault.Line n) c e d is (inl h) = stu
 behind_refused text front rest line more s (fault.Line n) c e d is (inr h) = behind_last text more s n (both_cut text front rest line more s c e d is) h
 
 -- A text that is a journal's is not refused.
-never : (text : List ℕ) (n : ℕ) (s : Settings) (ls : List Line) → are_lines ls ≡ true → text ≡ journal_text s ls → IsRefusedAt text n → ⊥
+pub never : (text : List ℕ) (n : ℕ) (s : Settings) (ls : List Line) → are_lines ls ≡ true → text ≡ journal_text s ls → IsRefusedAt text n → ⊥
 never text n s ls are is h = go (rest_of h.before (lines_text s ls) h.rest (front_are h.before h.can.more (subst AreLines h.can.begin (journal_are h.can.settings h.can.lines h.can.are))) (journal_are s ls are) (sym h.cut ∙ is))
   where
     go : Rattle.gib_locked.proofs.JournalLines.Rest h.before (lines_text s ls) h.rest → ⊥

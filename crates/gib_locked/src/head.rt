@@ -3,12 +3,11 @@
 ghost use Rattle.std.specs.Prelude.{◌≡◌, ◌<◌, ◌^◌, ◌++◌, ◌∷◌, ℕ, List, Bool, codes, true, false, MatchOption};
 ghost use Rattle.std.specs.Fmt.{decimal};
 ghost use Rattle.gib_locked.specs.Cuts.{lacks};
-ghost use Rattle.gib_locked.specs.Limits.{are_settings};
 ghost use Rattle.gib_locked.specs.JournalText.{flag_text, settings_text};
 ghost use Rattle.gib_locked.specs.declared.settings.Settings.{Settings};
 
 use crate::cut::{cut, read_number};
-use crate::settings::Settings;
+use crate::settings::{Settings, are_settings};
 
 /// A number that stands behind a word, and what is behind both.
 #[derive(Clone, Copy)]
@@ -53,13 +52,6 @@ fn read_skips(text: &[u8]) -> Option<bool>
     } else {
         None
     }
-}
-
-/// Whether so many calls may be nested, so many chunks are there, and so many forks may be nested.
-fn are_settings(depth: u64, chunks: u64, fork: u64) -> bool
-    ensures { result ≡ are_settings depth chunks fork }
-{
-    1 <= depth && depth <= 1_000_000 && 16 <= chunks && chunks <= 65_536 && fork <= 64
 }
 
 /// What a weave was started with, of which this is the text, without its line feed.

@@ -52,14 +52,13 @@ pub(crate) enum Did {
     Over,
 }
 
-// The next event of a worker with these tasks: of one of its own, from the last on, which then stands last; or else a steal.
-fn choose(weave: &Weave<'_>, mine: &mut Vec<u32>) -> Option<Event> {
-    let count = mine.len();
-    for k in 0..count {
-        let place = count - 1 - k;
-        let found = weave.pick_of(mine[place]);
+// The next event of a worker with these tasks: one of the task that it began last, or else a steal. Its older tasks wait for that one.
+// No run stands still by this: who waits for a side waits for a task that was begun later, so the worker that began one last of all
+// has an event.
+fn choose(weave: &Weave<'_>, mine: &Vec<u32>) -> Option<Event> {
+    if let Some(task) = mine.last() {
+        let found = weave.pick_of(*task);
         if found.is_some() {
-            mine.swap(place, count - 1);
             return found;
         }
     }

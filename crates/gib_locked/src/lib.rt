@@ -7,6 +7,7 @@ mod head;
 mod held;
 mod journal;
 mod journal_fault;
+pub mod law;
 mod line;
 mod loaded;
 mod read;
@@ -18,10 +19,13 @@ mod write;
 
 pub use journal::{Journal, Line, Lines};
 pub use journal_fault::JournalFault;
-pub use loaded::{Replayed, replay_loaded};
+pub use loaded::{Loaded, Replayed, Traced, replay_loaded, run_loaded};
 pub use read::read_journal;
 pub use replay_fault::ReplayFault;
 pub use replaying::replay;
 pub use runner::{Locked, run_locked};
 pub use settings::Settings;
 pub use write::write_journal;
+
+#[cfg(test)]
+mod tests;

@@ -20,6 +20,15 @@ struct Times {
     count: u64,
 }
 
+/// An event, once.
+fn once(event: Event) -> Times
+    ensures event { result.event ≡ event }
+    ensures count { result.count ≡ 1 }
+{
+    Times { event, count: 1 }
+}
+
+/// The events of a line.
 fn times_of(line: Line) -> Times
     ensures { counted line ≡ replicate result.count (event_of result.event) }
 {
@@ -28,26 +37,11 @@ fn times_of(line: Line) -> Times
             event: Event::Step(task),
             count,
         },
-        Line::Forks(task) => Times {
-            event: Event::Fork(task),
-            count: 1,
-        },
-        Line::Steals(task) => Times {
-            event: Event::Steal(task),
-            count: 1,
-        },
-        Line::Takes(task) => Times {
-            event: Event::Take(task),
-            count: 1,
-        },
-        Line::Finishes(task) => Times {
-            event: Event::Finish(task),
-            count: 1,
-        },
-        Line::Joins(task) => Times {
-            event: Event::Join(task),
-            count: 1,
-        },
+        Line::Forks(task) => once(Event::Fork(task)),
+        Line::Steals(task) => once(Event::Steal(task)),
+        Line::Takes(task) => once(Event::Take(task)),
+        Line::Finishes(task) => once(Event::Finish(task)),
+        Line::Joins(task) => once(Event::Join(task)),
     }
 }
 

@@ -1,6 +1,6 @@
 //! What a weave is started with.
 
-ghost use Rattle.std.specs.Prelude.{◌≡◌, true};
+ghost use Rattle.std.specs.Prelude.{◌≡◌, true, false, MatchOption};
 ghost use Rattle.gib_locked.specs.Limits.{are_settings};
 
 /// What a weave is started with, beside its program and input: how many calls may be nested (1 to 1,000,000), how many chunks there are
@@ -12,4 +12,29 @@ pub struct Settings {
     pub fork: u32,
     pub skips: bool,
     pub ghost within: { are_settings depth chunks fork ≡ true },
+}
+
+/// Whether so many calls may be nested, so many chunks are there, and so many forks may be nested.
+pub(crate) fn are_settings(depth: u64, chunks: u64, fork: u64) -> bool
+    ensures { result ≡ are_settings depth chunks fork }
+{
+    1 <= depth && depth <= 1_000_000 && 16 <= chunks && chunks <= 65_536 && fork <= 64
+}
+
+impl Settings {
+    /// These settings; none where a number is past its limits.
+    pub fn make(depth: u32, chunks: u32, fork: u32, skips: bool) -> Option<Settings>
+        ensures { MatchOption result (are_settings depth chunks fork ≡ false)
+            (λ s. (s.depth ≡ depth) × (s.chunks ≡ chunks) × (s.fork ≡ fork) × (s.skips ≡ skips)) }
+    {
+        if !are_settings(depth as u64, chunks as u64, fork as u64) {
+            return None;
+        }
+        Some(Settings {
+            depth,
+            chunks,
+            fork,
+            skips,
+        })
+    }
 }

@@ -107,7 +107,7 @@ impl Machine {
     }
 
     /// Whether a left side had no depth left.
-    fn is_unwinding(&self) -> bool
+    pub fn is_unwinding(&self) -> bool
         ensures { result ≡ is_unwinding self.now.doing }
     {
         match self.doing {

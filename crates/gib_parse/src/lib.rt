@@ -11,6 +11,3 @@ mod stop;
 
 pub use fault::ParseFault;
 pub use parsing::parse;
-
-#[cfg(test)]
-mod tests;

@@ -5,6 +5,7 @@ use Rattle.gib_core.specs.declared.node.BoundTerm.{BoundTerm}
 use Rattle.gib_core.specs.declared.node.Binding.{Binding}
 use Rattle.gib_core.specs.declared.node.Branch.{Branch}
 use Rattle.gib_core.specs.declared.node.Node.{Node}
+use Rattle.gib_core.specs.declared.node.Node.TheVariants as n
 use Rattle.gib_core.specs.Tree.{Term}
 use Rattle.gib_core.specs.Arena.{Grows, IsBindingBelow, IsBranchBelow, PartsBelow, term_of, bind_from, branches_from, layer}
 use Rattle.gib_place.specs.Renaming.{Renaming, rename, rename_variable, rename_bind, rename_branches}
@@ -41,6 +42,16 @@ pub record BranchesShifted (r : Renaming) (base : ℕ) (old new : List Branch) :
 pub record NodeShifted (r : Renaming) (base : ℕ) (old new : Node) : Type 0 where
   pub below : (id : ℕ) → PartsBelow old id → PartsBelow new (base + id)
   pub is : (id : ℕ) (f g : ℕ → Term) → PartsBelow old id → Shifts r base id f g → layer g (Some new) ≡ rename r (layer f (Some old))
+
+-- A node that goes on in one of several terms.
+abbrev pub IsBranching : Node → Type 0
+IsBranching (n.Then binding rest) = ⊥
+IsBranching (n.Write head constructor scalars packed) = ⊥
+IsBranching (n.Point atom) = ⊥
+IsBranching (n.Call name arguments) = ⊥
+IsBranching (n.Give atom) = ⊥
+IsBranching (n.Case subject branches) = Unit {0}
+IsBranching (n.If condition then' else') = Unit {0}
 
 -- The first terms with other numbers, behind those that were there.
 pub record Copies (xs : List ℕ) (terms : List Node) (count : ℕ) (old new : List Node) : Type 0 where

@@ -7,7 +7,7 @@ ghost use Rattle.gib_core.specs.Arena.{term_of};
 ghost use Rattle.gib_place.specs.Made.{MakesTerm};
 ghost use Rattle.gib_place.specs.Renaming.{rename, rename_variable, rename_atom, rename_access};
 ghost use Rattle.gib_place.specs.Numbering.{place_in};
-ghost use Rattle.gib_place.specs.Shifting.{SideShifted, BindingShifted, BranchShifted, BranchesShifted, NodeShifted, Copies};
+ghost use Rattle.gib_place.specs.Shifting.{SideShifted, BindingShifted, BranchShifted, BranchesShifted, IsBranching, NodeShifted, Copies};
 
 use crate::numbers::Numbers;
 use gib_base::Memory;
@@ -163,6 +163,40 @@ fn renamed_branches(
     Ok(reversed)
 }
 
+/// A node that goes on in one of several terms.
+fn renamed_branching(
+    alloc: Global,
+    numbers: &Numbers,
+    base: u32,
+    node: &Node,
+) -> Result<Node, Memory>
+    requires { IsBranching node.now }
+    ensures { IfOk result (λ new. NodeShifted (place_in numbers.now) base node.now new) }
+{
+    match node {
+        Node::Case { subject, branches } => {
+            let subject = numbers.number_atom(*subject)?;
+            let branches = renamed_branches(alloc, numbers, base, branches)?;
+            Ok(Node::Case { subject, branches })
+        }
+        Node::If {
+            condition,
+            then_part,
+            else_part,
+        } => {
+            let condition = numbers.number_atom(*condition)?;
+            let then_part = shifted(base, *then_part)?;
+            let else_part = shifted(base, *else_part)?;
+            Ok(Node::If {
+                condition,
+                then_part,
+                else_part,
+            })
+        }
+        _ => unreachable!(),
+    }
+}
+
 /// A node.
 fn renamed_node(alloc: Global, numbers: &Numbers, base: u32, node: &Node) -> Result<Node, Memory>
     ensures { IfOk result (λ new. NodeShifted (place_in numbers.now) base node.now new) }
@@ -201,25 +235,7 @@ fn renamed_node(alloc: Global, numbers: &Numbers, base: u32, node: &Node) -> Res
             let atom = numbers.number_atom(*atom)?;
             Ok(Node::Give(atom))
         }
-        Node::Case { subject, branches } => {
-            let subject = numbers.number_atom(*subject)?;
-            let branches = renamed_branches(alloc, numbers, base, branches)?;
-            Ok(Node::Case { subject, branches })
-        }
-        Node::If {
-            condition,
-            then_part,
-            else_part,
-        } => {
-            let condition = numbers.number_atom(*condition)?;
-            let then_part = shifted(base, *then_part)?;
-            let else_part = shifted(base, *else_part)?;
-            Ok(Node::If {
-                condition,
-                then_part,
-                else_part,
-            })
-        }
+        Node::Case { .. } | Node::If { .. } => renamed_branching(alloc, numbers, base, node),
     }
 }
 

@@ -48,7 +48,7 @@ fn placed(alloc: Global, core: Core) -> Result<Core, Memory>
 
 /// A core in which each packed value that will stand in a field of a head is built at that field's place, where its region
 /// can begin there; its variables are then numbered in the order of the text. A line of another form than infer gives is
-/// left as it is. This is linear in the core.
+/// left as it is. No clause says how long this takes.
 ///
 /// # Errors
 ///

@@ -1,8 +1,12 @@
 //! Lines that fill a head, and what becomes of them.
 
+ghost use Rattle.std.specs.Prelude.{◌≡◌, IfOk};
+
 use crate::field::Field;
+use gib_base::Memory;
 use gib_core::{Atom, Binding, Variable};
 use gib_types::ConId;
+use std::alloc::Global;
 
 /// A line that fills a head: a run of bindings, the room for the head of a constructor, and the packed fields, which
 /// point to values, each beside the binding that it is.
@@ -22,6 +26,31 @@ pub struct Head {
     pub constructor: ConId,
     pub scalars: Vec<Atom>,
     pub packed: Vec<Atom>,
+}
+
+impl Head {
+    /// The end of such a line, with copies of these fields.
+    pub fn copied(
+        alloc: Global,
+        variable: Variable,
+        constructor: ConId,
+        scalars: &[Atom],
+        packed: &[Atom],
+    ) -> Result<Head, Memory>
+        ensures variable { IfOk result (λ head. head.variable ≡ variable) }
+        ensures constructor { IfOk result (λ head. head.constructor ≡ constructor) }
+        ensures scalars { IfOk result (λ head. head.scalars.items ≡ scalars.now) }
+        ensures packed { IfOk result (λ head. head.packed.items ≡ packed.now) }
+    {
+        let scalars = Vec::from_slice(alloc, scalars)?;
+        let packed = Vec::from_slice(alloc, packed)?;
+        Ok(Head {
+            variable,
+            constructor,
+            scalars,
+            packed,
+        })
+    }
 }
 
 /// How a binding is placed: how many of the fields that are left are put before it, what it becomes, the variables that

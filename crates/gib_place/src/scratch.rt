@@ -84,16 +84,13 @@ fn put_write(terms: &mut Terms, bindings: Vec<Binding>, head: Head) -> Result<Te
     requires { AllByRecursion (IsBindingBelow (length terms.old)) bindings.items }
     ensures { IfOk result (λ made. MakesTerm terms.old terms.new made (prepend (binds_from (term_of terms.old) bindings.items) (Write head.variable head.constructor head.scalars.items head.packed.items))) }
 {
-    put_line(
-        terms,
-        bindings,
-        Node::Write {
-            head: head.variable,
-            constructor: head.constructor,
-            scalars: head.scalars,
-            packed: head.packed,
-        },
-    )
+    let end = Node::Write {
+        head: head.variable,
+        constructor: head.constructor,
+        scalars: head.scalars,
+        packed: head.packed,
+    };
+    put_line(terms, bindings, end)
 }
 
 /// A line that fills a head, laid anew.

@@ -126,14 +126,7 @@ fn place_end(
             scalars,
             packed,
         } => {
-            let scalars = Vec::from_slice(alloc, scalars)?;
-            let packed = Vec::from_slice(alloc, packed)?;
-            let head = Head {
-                variable: *head,
-                constructor: *constructor,
-                scalars,
-                packed,
-            };
+            let head = Head::copied(alloc, *head, *constructor, scalars, packed)?;
             fill(alloc, once, scratch, bindings, head)
         }
         Node::Point(atom) => put_other_line(scratch, bindings, Node::Point(*atom)),

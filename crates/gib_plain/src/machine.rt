@@ -365,19 +365,13 @@ impl Machine {
             }
             Syntax::Call(name, _) => self.finish_call(typed, name.name),
             Syntax::Make(name, _) => self.finish_make(typed, name.name),
-            Syntax::Let { name, body, .. } => {
-                let names = [*name];
-                self.bind(&names, *body)
-            }
+            Syntax::Let { name, body, .. } => self.bind(&[*name], *body),
             Syntax::LetPar {
                 left_name,
                 right_name,
                 body,
                 ..
-            } => {
-                let names = [*left_name, *right_name];
-                self.bind(&names, *body)
-            }
+            } => self.bind(&[*left_name, *right_name], *body),
             Syntax::If {
                 then_part,
                 else_part,

@@ -1,5 +1,5 @@
 -- The newest frame is gone, and the others are as they were.
-use Rattle.std.proofs.Common.{◌≡◌, ℕ, zero, suc, ◌+◌, ◌<◌, List, [], ◌∷◌, ◌++◌, length, length-append, refl, sym, ap, subst, ◌∙◌, arith}
+use Rattle.std.proofs.Common.{◌≡◌, ℕ, zero, suc, ◌+◌, ◌<◌, List, [], ◌∷◌, ◌++◌, length, length-append, inl, inr, refl, sym, ap, subst, ◌∙◌, arith}
 use Rattle.std.specs.Prelude.{Option, Some, None}
 use Rattle.gib_arena.specs.declared.view.View.{View}
 use Rattle.gib_frame.specs.declared.due.Due.{Due}
@@ -36,7 +36,8 @@ took e es zero k mine more s p a = absurd (omega (arith, s))
 took e es (suc n) k mine more s p a = let same : n ≡ k = omega (arith, s) in subst (λ i. AreHere es i more) same (subst (AreHere es n) (init_is a.0 more e (sym a.1 ∙ p)) a.2)
 
 pub here_after : (e : Due) (es : List (Option Due)) (v : View) (n k : ℕ) (mine more : List Due) (r : Back) → IsBack e v mine more n k r → AreHere (Some e ∷ es) n mine → AreHere es k more
-here_after e es v n k mine more Take b a = took e es n k mine more b.0 b.1 a
+here_after e es v n k mine more Take (inl b) a = took e es n k mine more b.0 b.1 a
+here_after e es v n k mine more Take (inr b) a = zero_here es k more b.0
 here_after e es v n k mine more (Answer x) b a = zero_here es k more b.0
 here_after e es v n k mine more Full b a = zero_here es k more b.0
 

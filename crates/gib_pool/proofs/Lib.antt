@@ -5,3 +5,6 @@ pub mod StackKeeps
 pub mod Settling
 pub mod Offering
 pub mod Draining
+pub mod Passing
+pub mod Standings
+pub mod Beginnings

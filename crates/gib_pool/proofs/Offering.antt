@@ -1,13 +1,13 @@
 -- A pass that was split and is joined back at once lends what it lent.
-use Rattle.std.proofs.Common.{◌≡◌, ℕ, ◌+◌, ◌<◌, ◌≤◌, List, [], ◌∷◌, ◌++◌, refl, sym, ap, subst, ◌∙◌, arith}
-use Rattle.std.specs.Prelude.{Option, Some, None}
+use Rattle.std.proofs.Common.{◌≡◌, ℕ, ◌+◌, ◌<◌, List, ◌∷◌, sym, ap, subst, ◌∙◌, arith}
+use Rattle.std.specs.Prelude.{Option}
 use Rattle.gib_arena.specs.declared.memory.Pass.{Pass}
 use Rattle.gib_arena.specs.Passes.{view}
-use Rattle.gib_arena.specs.Sums.{one_if, same_path, times_path, without, keep_unless}
+use Rattle.gib_arena.specs.Sums.{one_if, times_path, without}
 use Rattle.gib_arena.specs.Steps.{split_path, split_left, split_right, joined_view, saw}
 use Rattle.gib_arena.proofs.Paths.{same_self}
 use Rattle.gib_frame.specs.declared.due.Due.{Due}
-use Rattle.gib_pool.specs.Lent.{path, lent_paths, AreSplits, Lends}
+use Rattle.gib_pool.specs.Lent.{lent_paths, AreSplits, Lends}
 use Rattle.gib_pool.proofs.Lending.{others_stay, drops_it, more, append_none}
 
 pub has_it : (p q p1 : Pass) → view p1 ≡ split_left (view p) → view q ≡ split_right (view p) → 0 < times_path (view q).branch.path (view p1).branch.out

@@ -1,5 +1,5 @@
 -- What a turn of a machine leaves a worker with.
-use Rattle.std.proofs.Common.{◌≡◌, ℕ, inl, inr, List, [], refl, sym, ap, subst, ◌∙◌}
+use Rattle.std.proofs.Common.{◌≡◌, ℕ, inl, inr, List, refl, sym, ap, subst, ◌∙◌}
 use Rattle.std.specs.Prelude.{Option}
 use Rattle.gib_mem.specs.Memory.{Memory, byte, after_put, after_draw, with_drawn, IsBounded}
 use Rattle.gib_core.specs.Fits.{AllFit}

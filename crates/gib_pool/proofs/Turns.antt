@@ -1,8 +1,7 @@
 -- A worker's turns.
-use Rattle.std.proofs.Common.{rules, ◌≡◌, ℕ, ◌*◌, ◌<◌, ◌≤◌, inl, inr, List, [], ◌∷◌, refl, sym, ap, subst, ◌∙◌, arith, cond}
-use Rattle.std.specs.Prelude.{Option, Some, None, slice_get}
-use Rattle.gib_mem.specs.Memory.{Memory, Cell, Store, absent, fresh, byte, set_cell, open_chunk, Grows, after_put, after_draw, IsBounded}
-use Rattle.gib_region.specs.Region.{Draws}
+use Rattle.std.proofs.Common.{rules, ◌≡◌, ℕ, ◌*◌, ◌<◌, inl, inr, List, [], ◌∷◌, refl, sym, subst, ◌∙◌, arith, cond}
+use Rattle.std.specs.Prelude.{Option, Some, slice_get}
+use Rattle.gib_mem.specs.Memory.{Memory, Cell, Store, absent, fresh, byte, set_cell, open_chunk, Grows, IsBounded}
 use Rattle.gib_region.specs.Count.{Balanced, nothing_done}
 use Rattle.gib_core.specs.Tree.{CoreTree}
 use Rattle.gib_core.specs.Parts.{core_of}
@@ -12,19 +11,19 @@ use Rattle.gib_code.specs.Program.{CodeTree}
 use Rattle.gib_machine.specs.Machine.{State, Waiting, Ask, Silent, Get, Put, Draw, AtFork, AtJoin, Ended, next, left_starts, right_of, side_start, takes, joins}
 use Rattle.gib_machine.specs.Starting.{waiting_of}
 use Rattle.gib_weave.specs.Owing.{Owed, Debt}
-use Rattle.gib_weave.specs.Paying.{Share, new_share, with_count}
-use Rattle.gib_weave.specs.Places.{within, Owned, with_chunk, IsNew, IsSmall}
+use Rattle.gib_weave.specs.Paying.{Share, new_share}
+use Rattle.gib_weave.specs.Places.{Owned, with_chunk, IsSmall}
 use Rattle.gib_weave.specs.Sound.{Safe, SideSafe, IsAnswer, After, Forks, Meets, Others}
 use Rattle.gib_weave.proofs.Basics.{by_test}
 use Rattle.gib_weave.proofs.Places.{IsSided, zero_or_one, open-outside, open-inside}
-use Rattle.gib_weave.proofs.Memories.{bounded_small, draws_new}
+use Rattle.gib_weave.proofs.Memories.{draws_new}
 use Rattle.gib_weave.proofs.Others.{safe-others, answer-grows}
 use Rattle.gib_weave.proofs.Step.{step_keeps}
 use Rattle.gib_weave.proofs.Starts.{lowered_bodies}
 use Rattle.gib_arena.specs.Passes.{cells}
 use Rattle.gib_frame.specs.declared.due.Due.{Due}
 use Rattle.gib_frame.specs.Answers.{Answers}
-use Rattle.gib_pool.specs.Turn.{AreThere, IsLent, AreLent, Works, Wider, IsFor, WorksOn, Tells, WorksBack, WorksAfter}
+use Rattle.gib_pool.specs.Turn.{AreThere, IsLent, AreLent, Works, Wider, WorksOn, Tells, WorksBack, WorksAfter}
 
 fresh_absent : fresh ≡ absent → ⊥
 fresh_absent e = absurd cc
@@ -99,6 +98,7 @@ module _ (l : LoweredParts) (d : Debt) where
       → WorksOn l d s lent m (left_starts m (slice_get l.code.instructions m.ip)) (right_of m (slice_get l.code.instructions m.ip))
   forked s m lent h sh f = record {
     room = f.room;
+    owes = (f.debt, f.right);
     refused = record { own = h.own; bill = _; sides = f.debt ∷ h.sides; safe = f.left; there = h.there; debts = (tt, h.debts) };
     made = λ e i. record {
       own = h.own;
@@ -139,14 +139,21 @@ module _ (l : LoweredParts) (d : Debt) where
   ended [] (x ∷ xs) a e = absurd a
   ended (x ∷ xs) lent a e = absurd cc
 
-  after : (v : Memory) (m : State) (lent : List (Option Due)) (a : Ask) → IsBounded v → (h : Works l d v.cells m lent) → After (core_of l.core) l.code (owing h.sides) h.own h.bill v.cells m a → WorksAfter l d v lent m a
-  after v m lent (Silent m') b h k = record { own = h.own; bill = k.0; sides = h.sides; safe = k.2; there = h.there; debts = h.debts }
-  after v m lent (Get a f) b h k = (k.0, k.1, record { own = h.own; bill = k.2.0; sides = h.sides; safe = k.2.2; there = h.there; debts = h.debts })
-  after v m lent (Put a x m') b h k = (k.0, record { own = h.own; bill = k.2.0; sides = h.sides; safe = k.2.2; there = there_put h.own v.cells a x h.there; debts = h.debts })
-  after v m lent (Draw f) b h k = λ c dr. let t = k c (draws_new v c b dr) in record { own = with_chunk h.own c; bill = t.0; sides = h.sides; safe = t.2; there = there_draw h.own v.cells c h.there; debts = h.debts }
-  after v m lent AtFork b h k = forked v.cells m lent h k.0 k.2
-  after v m lent AtJoin b h k = meets v.cells m h.own k.0 h.sides lent h.there h.debts k.2 k.2.sides
-  after v m lent (Ended a) b h k = (ended h.sides lent h.debts k.0, k.1)
+  -- At a join, whatever the pass learned since.
+  pub met : IsWhole l.core l.code → (s r : Store) (m : State) (lent : List (Option Due)) → next l.code m ≡ AtJoin → Works l d s m lent → Wider s r → WorksBack l d r lent m
+  met ok s r m lent at h w =
+      let o = wider_keeps l d s r m lent w h in
+      let k = subst (After (core_of l.core) l.code (owing o.sides) o.own o.bill r m) at (step_keeps (core_of l.core) l.code (lowered_bodies (core_of l.core) l.code ok.lowered ok.fits) (owing o.sides) o.own o.safe) in
+      meets r m o.own k.0 o.sides lent o.there o.debts k.2 k.2.sides
+
+  after : IsWhole l.core l.code → (v : Memory) (m : State) (lent : List (Option Due)) (a : Ask) → next l.code m ≡ a → IsBounded v → (h : Works l d v.cells m lent) → After (core_of l.core) l.code (owing h.sides) h.own h.bill v.cells m a → WorksAfter l d v lent m a
+  after ok v m lent (Silent m') is b h k = record { own = h.own; bill = k.0; sides = h.sides; safe = k.2; there = h.there; debts = h.debts }
+  after ok v m lent (Get a f) is b h k = (k.0, k.1, record { own = h.own; bill = k.2.0; sides = h.sides; safe = k.2.2; there = h.there; debts = h.debts })
+  after ok v m lent (Put a x m') is b h k = (k.0, record { own = h.own; bill = k.2.0; sides = h.sides; safe = k.2.2; there = there_put h.own v.cells a x h.there; debts = h.debts })
+  after ok v m lent (Draw f) is b h k = λ c dr. let t = k c (draws_new v c b dr) in record { own = with_chunk h.own c; bill = t.0; sides = h.sides; safe = t.2; there = there_draw h.own v.cells c h.there; debts = h.debts }
+  after ok v m lent AtFork is b h k = forked v.cells m lent h k.0 k.2
+  after ok v m lent AtJoin is b h k = λ r w. met ok v.cells r m lent is h w
+  after ok v m lent (Ended a) is b h k = (ended h.sides lent h.debts k.0, k.1)
 
   pub turn : IsWhole l.core l.code → (v : Memory) (m : State) (lent : List (Option Due)) → IsBounded v → Works l d v.cells m lent → WorksAfter l d v lent m (next l.code m)
-  turn ok v m lent b h = after v m lent (next l.code m) b h (step_keeps (core_of l.core) l.code (lowered_bodies (core_of l.core) l.code ok.lowered ok.fits) (owing h.sides) h.own h.safe)
+  turn ok v m lent b h = after ok v m lent (next l.code m) refl b h (step_keeps (core_of l.core) l.code (lowered_bodies (core_of l.core) l.code ok.lowered ok.fits) (owing h.sides) h.own h.safe)

@@ -5,3 +5,5 @@ pub mod Stacks
 pub mod Mine
 pub mod Backs
 pub mod Frames
+pub mod Jobs
+pub mod Runs

@@ -52,9 +52,10 @@ pub record IsFor (l : LoweredParts) (s : Store) (w : Waiting) (e : Due) : Type 0
   pub side : waiting_of e.side.value ≡ w
   pub knows : Grows s (cells e.pass.value)
 
--- At a fork, whether a frame was made or refused.
+-- At a fork the right side owes something, and the left side starts whether a frame was made or refused.
 pub record WorksOn (l : LoweredParts) (d : Debt) (s : Store) (lent : List (Option Due)) (m left : State) (right : Waiting) : Type 0 where
   pub room : 0 < m.room
+  pub owes : (e : Debt) × SideSafe (core_of l.core) l.code e s right
   pub refused : Works l d s left (None ∷ lent)
   pub made : (e : Due) → IsFor l s right e → Works l d s left (Some e ∷ lent)
 
@@ -72,12 +73,12 @@ pub record WorksBack (l : LoweredParts) (d : Debt) (s : Store) (lent : List (Opt
   pub take : Works l d s (takes m) others
   pub join : (e : Due) (a : Answer) → newest ≡ Some e → Tells e s a → Works l d s (joins m a) others
 
--- What a worker has after one turn over a memory, by what its machine asks.
+-- What a worker has after one turn over a memory, by what its machine asks; at a join, whatever the pass learns before.
 abbrev pub WorksAfter : LoweredParts → Debt → Memory → List (Option Due) → State → Ask → Type 0
 WorksAfter l d v lent old (Silent m) = Works l d v.cells m lent
 WorksAfter l d v lent old (Get a k) = (b : ℕ) × (v.cells a ≡ byte b) × Works l d v.cells (k b) lent
 WorksAfter l d v lent old (Put a b m) = (v.cells a ≡ fresh) × Works l d (after_put v a b).cells m lent
 WorksAfter l d v lent old (Draw k) = (c : ℕ) → Draws v c → Works l d (after_draw v c).cells (k c) lent
 WorksAfter l d v lent old AtFork = WorksOn l d v.cells lent old (left_starts old (slice_get l.code.instructions old.ip)) (right_of old (slice_get l.code.instructions old.ip))
-WorksAfter l d v lent old AtJoin = WorksBack l d v.cells lent old
+WorksAfter l d v lent old AtJoin = (r : Store) → Wider v.cells r → WorksBack l d r lent old
 WorksAfter l d v lent old (Ended a) = (lent ≡ []) × IsAnswer l.code.laid v.cells d.ty d.owed a

@@ -14,13 +14,13 @@ ghost use Rattle.gib_pool.specs.Backs.{IsBack, IsLatest};
 use crate::forks::{Forks, take_back};
 use gib_arena::{Arena, Pass};
 use gib_code::Answer;
-use gib_frame::{Frame, wait_answer};
+use gib_frame::{Ending, Frame, wait_answer};
 use std::sync::Wait;
 
 /// What a join goes on with.
 #[derive(Drop)]
 pub enum Back {
-    /// Nobody began the side: it is taken in place.
+    /// Nobody ran the side: it is taken in place.
     Take,
     /// Another worker ran the side, and this is its answer.
     Answer(Answer),
@@ -36,7 +36,7 @@ pub fn settle<'a, R: Wait>(
     pass: &mut Pass,
     frame: &Frame,
     forks: &mut Forks<'a>,
-    here: &mut u32,
+    here: &mut usize,
 ) -> Back
     requires own { IsOf arena.now pass.old × ((frame_due frame.now).pass.value.seat.table_id ≡ arena.now.table.shared.table_id) }
     requires out { 0 < times_path (path (frame_due frame.now)) (view pass.old).branch.out }
@@ -60,10 +60,11 @@ pub fn settle<'a, R: Wait>(
         }
         *here = 0;
     }
-    let (answer, his) = wait_answer(rt, frame);
+    let (ending, his) = wait_answer(rt, frame);
     pass.join(arena, his);
-    match answer {
-        Some(answer) => Back::Answer(answer),
-        None => Back::Full,
+    match ending {
+        Ending::Answer(answer) => Back::Answer(answer),
+        Ending::Full => Back::Full,
+        Ending::NotRun => Back::Take,
     }
 }

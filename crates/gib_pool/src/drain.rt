@@ -20,7 +20,7 @@ pub fn drain_frames<'a, R: Wait>(
     pass: &mut Pass,
     frames: &mut Vec<Option<Frame>>,
     forks: &mut Forks<'a>,
-    here: &mut u32,
+    here: &mut usize,
 )
     requires own { IsOf arena.now pass.old }
     requires lends { Lends pass.old (lent_of frames.old.items) }

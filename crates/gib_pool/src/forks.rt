@@ -1,6 +1,6 @@
 //! The forks of one worker, which others may steal.
 
-ghost use Rattle.std.specs.Prelude.{◌≡◌, true, false, [], ◌∷◌, ◌++◌, List, map, IfOk, IfErr, IfSome, IfNone};
+ghost use Rattle.std.specs.Prelude.{◌≡◌, [], ◌∷◌, ◌++◌, IfOk, IfErr, IfSome, IfNone};
 ghost use Rattle.crossbeam_deque.specs.Handles.{IsPassOf, stealer_deque, worker_deque, worker_view, view};
 ghost use Rattle.gib_pool.specs.Mine.{IsMine};
 ghost use Rattle.gib_pool.specs.Stacks.{own, guest, due_of};
@@ -8,7 +8,7 @@ ghost use Rattle.gib_pool.specs.Stacks.{own, guest, due_of};
 use crossbeam_deque::protocol::{Outcome, Protocol};
 use crossbeam_deque::{Pass, Steal, Stealer, Worker};
 use gib_frame::{Due, Task};
-use std::alloc::Global;
+use std::alloc::{AllocError, Global};
 use std::collections::LinkedList;
 
 /// What a worker has pushed and not popped, the oldest first. Contracts speak of it; no value of it is made.
@@ -66,6 +66,20 @@ pub type Thief<'a> = Stealer<Task<'a>, Global, Stack, Stacking>;
 
 /// What a thief takes to a deque.
 pub type Loot<'a> = Pass<Task<'a>, Stack>;
+
+/// The slots for forks that are taken at first.
+const SLOTS: usize = 64;
+
+/// No forks, in the hands of their worker.
+///
+/// # Errors
+///
+/// Want of memory.
+pub fn new_forks<'a>(alloc: Global) -> Result<Forks<'a>, AllocError>
+    ensures { IfOk result (λ forks. IsMine forks) }
+{
+    Forks::lifo_as(alloc, SLOTS)
+}
 
 /// Offers a task to whoever steals it.
 ///

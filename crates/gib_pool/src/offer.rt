@@ -1,6 +1,7 @@
 //! The start of a fork.
 
-ghost use Rattle.std.specs.Prelude.{◌≡◌, ◌≤◌, ◌++◌, ◌∷◌, [], ℕ, List, Option, Some, IfSome, IfNone};
+ghost use Rattle.std.specs.Prelude.{◌≡◌, ◌≤◌, ◌++◌, ◌∷◌, [], ℕ, length, List, Option, Some, IfSome, IfNone};
+ghost use Rattle.gib_machine.specs.Machine.{widest};
 ghost use Rattle.crossbeam_deque.specs.Handles.{worker_deque, worker_view};
 ghost use Rattle.gib_mem.specs.Memory.{Grows, fresh};
 ghost use Rattle.gib_arena.specs.Passes.{view, cells, IsOf};
@@ -27,6 +28,7 @@ pub fn offer_side<'a>(
     forks: &mut Forks<'a>,
 ) -> Option<Frame>
     requires own { IsOf arena.now pass.old }
+    requires fits { length side.words.items ≤ widest lowered.now.code.functions }
     requires owes { Owes lowered.now (cells pass.old) side }
     requires mine { IsMine forks.old }
     ensures own { IsOf arena.entry.now pass.new }

@@ -5,16 +5,13 @@ ghost use Rattle.gib_edge.specs.Causes.{HasCause, AppendsPart, HasPut, PutsSomeP
 ghost use Rattle.gib_edge.specs.Views.{SinkView};
 ghost use Rattle.gib_print.specs.Waiting.{IsPut, IsPutWhole};
 
-use gib_edge::outside::{Failed, Sink};
+use gib_edge::outside::{Failed, PIECE_BYTES, Sink};
 use std::marker::Model;
-
-/// How many bytes are put at once.
-const PIECE: usize = 4096;
 
 /// Bytes that wait to be put, a piece at most.
 #[derive(Drop)]
 pub(crate) struct Waiting {
-    bytes: [u8; PIECE],
+    bytes: [u8; PIECE_BYTES],
     count: usize,
 }
 
@@ -34,7 +31,7 @@ impl Waiting {
         ensures { result ≡ [] }
     {
         Waiting {
-            bytes: [0; PIECE],
+            bytes: [0; PIECE_BYTES],
             count: 0,
         }
     }
@@ -86,7 +83,7 @@ impl Waiting {
         ensures not { IsFalse result → length self.now < 4096 }
         ensures full { IsTrue result → length self.now ≡ 4096 }
     {
-        self.count == PIECE
+        self.count == PIECE_BYTES
     }
 
     /// One byte more; what waits is put where it is a whole piece.

@@ -1,5 +1,7 @@
 //! Expressions as nodes in a vector, each behind its parts.
 
+ghost use Rattle.std.specs.Prelude.{◌≡◌};
+
 use crate::tree::{Ident, Operator};
 use gib_base::{Memory, Span};
 use std::alloc::{AllocError, Global};
@@ -8,6 +10,22 @@ use std::marker::Model;
 /// The number of an expression.
 #[derive(Clone, Copy, Debug, PartialEq, Eq)]
 pub struct ExprId(pub u32);
+
+/// A variable, and the expression that it is bound to.
+#[derive(Clone, Copy)]
+pub struct Bound {
+    pub name: Ident,
+    pub value: ExprId,
+}
+
+impl Bound {
+    /// A variable with its expression.
+    pub fn new(name: Ident, value: ExprId) -> Bound
+        ensures { result ≡ record { name = name; value = value } }
+    {
+        Bound { name, value }
+    }
+}
 
 /// An arm of a case: a constructor, the variables of its fields, and what the case is there.
 #[derive(Debug, Drop)]

@@ -9,7 +9,7 @@ mod spelled;
 mod text;
 pub mod tree;
 
-pub use exprs::{Arm, ExprId, Exprs, Node};
+pub use exprs::{Arm, Bound, ExprId, Exprs, Node};
 pub use print::print_program;
 pub use tree::{
     ConstructorDecl, DataDecl, FunctionDecl, Ident, MainDecl, Operator, Parameter, Program,

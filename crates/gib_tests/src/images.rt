@@ -1,6 +1,6 @@
 //! Images that runs write, byte by byte. The bytes are those of a second implementation.
 
-use crate::harness::{Ended, call, call_failing, file, packed};
+use crate::harness::{CHUNK, Ended, call, call_failing, file, image_of, packed};
 use gib_app::Status;
 use std::alloc::{AllocError, Global};
 use std::sync::Wait;
@@ -12,9 +12,6 @@ const TWO_LEAVES: &[u8] = &[1, 0, 1, 0, 0, 0, 0, 0, 0, 0, 0, 2, 0, 0, 0, 0, 0, 0
 
 const ADD_ONE: &str =
     "data Tree = Leaf Int | Node Tree Tree ; fun add1 (t : Tree) : Tree = case t of { Leaf n -> Leaf (n + 1) ; Node l r -> let par a = add1 l and b = add1 r in Node a b } ; main (t : Tree) : Tree = add1 t ;";
-
-/// How many bytes a chunk has.
-const CHUNK: usize = 4096;
 
 /// A run and its image: the kind of the root, the root, and the first bytes of each chunk, which is all zeros behind them.
 #[derive(Drop)]
@@ -29,17 +26,7 @@ struct Row<'a> {
 
 /// The bytes of an image.
 fn image(alloc: Global, row: &Row<'_>) -> Result<Vec<u8>, AllocError> {
-    let mut bytes = Vec::from_slice(alloc, b"GIBI\x01")?;
-    bytes.push(row.kind)?;
-    bytes.extend_from_slice(&[0, 0])?;
-    bytes.extend_from_slice(&row.root.to_le_bytes())?;
-    bytes.extend_from_slice(&(row.chunks.len() as u64).to_le_bytes())?;
-    for front in row.chunks {
-        bytes.extend_from_slice(front)?;
-        let behind = vec![in alloc; 0u8; CHUNK.saturating_sub(front.len())]?;
-        bytes.extend_from_slice(&behind)?;
-    }
-    Ok(bytes)
+    image_of(alloc, row.kind, row.root, row.chunks)
 }
 
 /// The words of a run whose image is written, where heads store no offsets.

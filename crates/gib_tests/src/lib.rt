@@ -2,6 +2,8 @@
 #![tactic(auto)]
 
 #[cfg(test)]
+mod checking;
+#[cfg(test)]
 mod checks;
 #[cfg(test)]
 mod chunks;
@@ -16,6 +18,8 @@ mod harness;
 #[cfg(test)]
 mod images;
 #[cfg(test)]
+mod journals;
+#[cfg(test)]
 mod limits;
 #[cfg(test)]
 mod locations;
@@ -26,6 +30,10 @@ mod made;
 #[cfg(test)]
 mod meanings;
 #[cfg(test)]
+mod parsing;
+#[cfg(test)]
+mod placing;
+#[cfg(test)]
 mod printed;
 #[cfg(test)]
 mod programs;
@@ -33,3 +41,7 @@ mod programs;
 mod rows;
 #[cfg(test)]
 mod texts;
+#[cfg(test)]
+mod words;
+#[cfg(test)]
+mod workers;

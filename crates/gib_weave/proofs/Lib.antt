@@ -12,6 +12,7 @@ pub mod Readings
 pub mod Scalars
 pub mod Writes
 pub mod Opens
+pub mod Opening
 pub mod Binds
 pub mod Indirects
 pub mod Arms

@@ -1,6 +1,6 @@
 -- What is said of a frame's slots is kept when slots change that are not relied on, and when a line knows more.
 use Rattle.std.proofs.Common.{◌≡◌, ℕ, ◌+◌, ◌<◌, Bool, true, false, cond, eqb, List, [], ◌∷◌, ◌++◌, length, Some, append_assoc, refl, sym, ap, subst, ◌∙◌}
-use Rattle.gib_types.specs.Layout.{LaidOut}
+use Rattle.gib_types.specs.Layout.{LaidOut, head_size}
 use Rattle.gib_types.specs.Tree.{Datum}
 use Rattle.gib_syntax.specs.Meaning.{Environment, value_in}
 use Rattle.gib_mem.specs.Memory.{Store, Holds}
@@ -9,7 +9,7 @@ use Rattle.gib_packed.specs.Decoding.{Dec}
 use Rattle.gib_core.specs.Tree.{Term, CoreTree}
 use Rattle.gib_code.specs.Program.{CodeTree}
 use Rattle.gib_core.specs.Low.{End, Field as StoredField, field_of}
-use Rattle.gib_machine.specs.Machine.{Slots, slot, set, Frame, Open as OpenRegion, size}
+use Rattle.gib_machine.specs.Machine.{Slots, slot, set, Frame, Open as OpenRegion}
 use Rattle.gib_core.specs.Fits.{put, Sort, Outside, Absent, Scalar, Held, Placed, Loose, AtHead, Field, Scope, is_there, has_slot, tree_type, loosen_one, loosen, Dest, Nowhere, Empty, Open, IsDue, more, dest_type}
 use Rattle.gib_weave.specs.Environment.{Ctx, IsScalar, StandsAt, Has, HasAll, Fields, none, field, IsDest, Matches}
 use Rattle.gib_weave.specs.Continuing.{Rest, Plain, Part, Meet, Leave, Last, KSide, KLast, RestCode, Kont, KEnd, KHere, KRegion, KScalar, KCall, KCallScalar, Goes, Under, AllUnder, Agrees, IsCode}
@@ -299,7 +299,7 @@ IsDest-more laid s sl c a z x t v (Open u y k xs []) n o e h = absurd o
 IsDest-more laid s sl c a z x t v (Open u y k xs (q ∷ dues)) n o e h =
     let c1 = with_var c x (Placed t) v a in
     let c2 = with_dest c1 (Open u y k (xs ++ x ∷ []) dues) in
-    let f : Fields laid s c2 (c.head + size laid k) xs h.types a = Fields-keeps (keeps_dest c1 (Open u y k (xs ++ x ∷ []) dues)) (Fields-keeps (keeps_var c x (Placed t) v a n) h.fields) in
+    let f : Fields laid s c2 (c.head + head_size laid k) xs h.types a = Fields-keeps (keeps_dest c1 (Open u y k (xs ++ x ∷ []) dues)) (Fields-keeps (keeps_var c x (Placed t) v a n) h.fields) in
     record {
       con = h.con;
       slot = h.slot;
@@ -320,13 +320,13 @@ type_more (Open t h k xs (q ∷ dues)) x = refl
 pub covers_more : (laid : LaidOut) (c c' : Ctx) (d : Dest) (x q : ℕ) → c'.head ≡ c.head → head_covers laid c' (more d x) q ≡ head_covers laid c d q
 covers_more laid c c' (Nowhere ty) x q e = refl
 covers_more laid c c' (Empty t) x q e = refl
-covers_more laid c c' (Open t h k xs []) x q e = ap (λ (a : ℕ). within a (size laid k) q) e
-covers_more laid c c' (Open t h k xs (u ∷ dues)) x q e = ap (λ (a : ℕ). within a (size laid k) q) e
+covers_more laid c c' (Open t h k xs []) x q e = ap (λ (a : ℕ). within a (head_size laid k) q) e
+covers_more laid c c' (Open t h k xs (u ∷ dues)) x q e = ap (λ (a : ℕ). within a (head_size laid k) q) e
 
 pub covers_head : (laid : LaidOut) (c c' : Ctx) (d : Dest) (q : ℕ) → c'.head ≡ c.head → head_covers laid c' d q ≡ head_covers laid c d q
 covers_head laid c c' (Nowhere ty) q e = refl
 covers_head laid c c' (Empty t) q e = refl
-covers_head laid c c' (Open t h k xs dues) q e = ap (λ (a : ℕ). within a (size laid k) q) e
+covers_head laid c c' (Open t h k xs dues) q e = ap (λ (a : ℕ). within a (head_size laid k) q) e
 
 -- Sorts within a line.
 

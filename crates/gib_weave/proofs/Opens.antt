@@ -5,7 +5,7 @@ use Rattle.gib_types.specs.declared.table.Ty.{Ty}
 use Rattle.gib_types.specs.declared.table.Ty.TheVariants.{Whole, Truth, Tree}
 use Rattle.gib_types.specs.declared.table.ConId.{ConId}
 use Rattle.gib_types.specs.Table.{Table, Row, fields_at, fields_of, con_at, IsTable}
-use Rattle.gib_types.specs.Layout.{LaidOut, is_among, layout_of, packed_count, scalar_size, offset_size}
+use Rattle.gib_types.specs.Layout.{LaidOut, is_among, layout_of, packed_count, scalar_size, offset_size, head_size}
 use Rattle.gib_syntax.specs.Meaning.{is_scalar}
 use Rattle.gib_mem.specs.Memory.{Store, byte, set_cell, open_chunk, Grows}
 use Rattle.gib_types.proofs.LayoutLemmas.{head_long}
@@ -19,7 +19,7 @@ use Rattle.gib_code.specs.Instruction.{Instruction, Here, Begin, Done}
 use Rattle.gib_code.specs.Instruction as i
 use Rattle.gib_code.specs.Program.{CodeTree, IsAt}
 use Rattle.gib_core.specs.Low.{To}
-use Rattle.gib_machine.specs.Machine.{Slots, set, Frame, Open as OpenRegion, State, Turning, next, begins, sets, cursor, size, latest, places, turn_on, placed, Item, HeadOf, ToTree, doing}
+use Rattle.gib_machine.specs.Machine.{Slots, set, Frame, Open as OpenRegion, State, Turning, next, begins, sets, cursor, latest, places, turn_on, placed, Item, HeadOf, ToTree, doing}
 use Rattle.gib_weave.proofs.Counts.{goes_on_counted, Paid, item_counted, turn_counted, turned_counted, tail_counted, chunk_counted}
 use Rattle.gib_core.specs.Fits.{Held, Placed, Dest, Empty, Open, dest_type, more, packed_due, cased}
 use Rattle.gib_weave.specs.Environment.{Ctx, Fields, none, IsDest}
@@ -183,10 +183,10 @@ few_fields table t k = go (slice_get table.rows k) refl
     go None e = omega arith
     go (Some row) e = (t.rows k row e).few
 
-pub size_few : (laid : LaidOut) → IsTable laid.table → (k : ℕ) → size laid k ≤ 65
+pub size_few : (laid : LaidOut) → IsTable laid.table → (k : ℕ) → head_size laid k ≤ 65
 size_few laid t k = head_long (is_among laid.with_offsets k) (fields_at laid.table k) (few_fields laid.table t k)
 
-pub size_small : (laid : LaidOut) → IsTable laid.table → (k : ℕ) → size laid k + 9 ≤ 4096
+pub size_small : (laid : LaidOut) → IsTable laid.table → (k : ℕ) → head_size laid k + 9 ≤ 4096
 size_small laid t k = small_layout (is_among laid.with_offsets k) (fields_at laid.table k) (few_fields laid.table t k)
 
 module _ (core : CoreTree) (code : CodeTree) (owed : Owed) (own : Owned) (sh : Share) where
@@ -200,8 +200,8 @@ module _ (core : CoreTree) (code : CodeTree) (owed : Owed) (own : Owned) (sh : S
 
 module _ (core : CoreTree) (code : CodeTree) (ok : AreBodies core code) (owed : Owed) (own : Owned) (sh : Share) (lv : Levels) (ty : Ty) (rm : ℕ) where
   head_at : (s s' : Store) (ip : ℕ) (sl : Slots) (fs : List Frame) (n : ℕ) (r r' : OpenRegion) (rs : List OpenRegion) (ts : List ℕ) (h : Variable) (kk : ConId) (a : ℕ) (t : Term) (c : Ctx) (k : Kont) (sh' : Share) → IsCode core code c.scope (ip + 1) t (end_of k)
-      → AtTerm core code owed own sh s (at_rest lv ty rm ip sl fs n (r ∷ rs) ts) (Then (Past h kk) t) c k → Grows s s' → IsSmall s' → r'.start ≡ r.start → r'.cur ≡ a + size code.laid kk.0 → 9 ≤ rest r'.cur → Turns s' r.cur a
-      → Apart own s' (λ q. within a (size code.laid kk.0) q + (kont_covers code.laid k q + (rest_covers (r' ∷ rs) q + tail_covers ts q)))
+      → AtTerm core code owed own sh s (at_rest lv ty rm ip sl fs n (r ∷ rs) ts) (Then (Past h kk) t) c k → Grows s s' → IsSmall s' → r'.start ≡ r.start → r'.cur ≡ a + head_size code.laid kk.0 → 9 ≤ rest r'.cur → Turns s' r.cur a
+      → Apart own s' (λ q. within a (head_size code.laid kk.0) q + (kont_covers code.laid k q + (rest_covers (r' ∷ rs) q + tail_covers ts q)))
       → Counted (r' ∷ rs) (left_costs core n lv.level (Plain t) c.env k) sh'
       → Safe core code owed own sh' s' (at_rest lv ty rm (ip + 1) (set sl h.0 a) fs n (r' ∷ rs) ts)
   head_at s s' ip sl fs n r r' rs ts h kk a t c k sh' lt at g sm es ec room9 ld ap9 counted =
@@ -224,7 +224,7 @@ module _ (core : CoreTree) (code : CodeTree) (ok : AreBodies core code) (owed : 
             leads = subst (λ (z : ℕ). Turns s' z a) (sym front) ld;
             types = [];
             all = ap (λ (z : LaidOut). packed_due (fields_at z.table kk.0)) (sym ok.laid);
-            fields = subst (λ (z : ℕ). Fields code.laid s' (holding c h.0 (Open st h.0 kk.0 [] dues) c.front a) (a + size code.laid kk.0) [] [] z) (sym ec) none;
+            fields = subst (λ (z : ℕ). Fields code.laid s' (holding c h.0 (Open st h.0 kk.0 [] dues) c.front a) (a + head_size code.laid kk.0) [] [] z) (sym ec) none;
           };
         };
         stack = Stack-turn core code s' k (set sl h.0 a) fs c.front r r' rs es packed (Stack-moved core code s' k sl (set sl h.0 a) fs c.front (r ∷ rs) (all_moved_set code.laid s' sl c.scope c.env k h.0 a at.under (not_there c.scope h.0 new)) (Stack-grows core code k sl fs c.front (r ∷ rs) g at.stack));
@@ -251,15 +251,15 @@ module _ (core : CoreTree) (code : CodeTree) (ok : AreBodies core code) (owed : 
   pub does_past : (s : Store) (ip : ℕ) (sl : Slots) (fs : List Frame) (n : ℕ) (rs : List OpenRegion) (ts : List ℕ) (h : Variable) (kk : ConId) (t : Term) (c : Ctx) (k : Kont) → IsAt code ip (i.Past h.0 kk.0) → IsCode core code c.scope (ip + 1) t (end_of k)
       → AtTerm core code owed own sh s (at_rest lv ty rm ip sl fs n rs ts) (Then (Past h kk) t) c k → Moves core code owed own sh s (at_rest lv ty rm ip sl fs n rs ts)
   does_past s ip sl fs n [] ts h kk t c k e lt at = absurd (some_region core code s k sl fs c.front (sym (ap is_scalar at.kind) ∙ ap (λ (z : Dest). is_scalar (dest_type z)) at.fits.1) at.stack)
-  does_past s ip sl fs n (r ∷ rs) ts h kk t c k e lt at = go (nat_le (size code.laid kk.0 + 9) (rest r.cur)) refl
+  does_past s ip sl fs n (r ∷ rs) ts h kk t c k e lt at = go (nat_le (head_size code.laid kk.0 + 9) (rest r.cur)) refl
     where
       sz : ℕ
-      sz = size code.laid kk.0
+      sz = head_size code.laid kk.0
 
-      asks : (b : Bool) → nat_le (size code.laid kk.0 + 9) (rest r.cur) ≡ b → next code (at_rest lv ty rm ip sl fs n (r ∷ rs) ts) ≡ places code.laid (at_rest lv ty rm ip sl fs n (r ∷ rs) ts) h.0 kk.0 b
+      asks : (b : Bool) → nat_le (head_size code.laid kk.0 + 9) (rest r.cur) ≡ b → next code (at_rest lv ty rm ip sl fs n (r ∷ rs) ts) ≡ places code.laid (at_rest lv ty rm ip sl fs n (r ∷ rs) ts) h.0 kk.0 b
       asks b q = step_is core code owed own sh lv ty rm (at_rest lv ty rm ip sl fs n (r ∷ rs) ts) (i.Past h.0 kk.0) refl e ∙ ap (places code.laid (at_rest lv ty rm ip sl fs n (r ∷ rs) ts) h.0 kk.0) q
 
-      few : size code.laid kk.0 ≤ 65
+      few : head_size code.laid kk.0 ≤ 65
       few = size_few code.laid ok.table kk.0
 
       before : Cost
@@ -271,27 +271,27 @@ module _ (core : CoreTree) (code : CodeTree) (ok : AreBodies core code) (owed : 
       start : ℕ → OpenRegion
       start d = record { start = r.start; cur = 4096 * d }
 
-      here : HasRoom r.cur (size code.laid kk.0) → Paid (record { start = r.start; cur = r.cur + size code.laid kk.0 } ∷ rs) (left_costs core n lv.level (Plain t) c.env k) sh 0
-      here room = item_counted r (record { start = r.start; cur = r.cur + size code.laid kk.0 }) rs before left sh (size code.laid kk.0) few room refl (record { regions = omega arith; items = omega arith }) at.counted
+      here : HasRoom r.cur (head_size code.laid kk.0) → Paid (record { start = r.start; cur = r.cur + head_size code.laid kk.0 } ∷ rs) (left_costs core n lv.level (Plain t) c.env k) sh 0
+      here room = item_counted r (record { start = r.start; cur = r.cur + head_size code.laid kk.0 }) rs before left sh (head_size code.laid kk.0) few room refl (record { regions = omega arith; items = omega arith }) at.counted
 
-      turn_first : (d : ℕ) → (HasRoom r.cur (size code.laid kk.0) → ⊥) → Paid (start d ∷ rs) before sh 1
-      turn_first d full = turn_counted r (start d) rs before sh (size code.laid kk.0) d few full refl at.counted
+      turn_first : (d : ℕ) → (HasRoom r.cur (head_size code.laid kk.0) → ⊥) → Paid (start d ∷ rs) before sh 1
+      turn_first d full = turn_counted r (start d) rs before sh (head_size code.laid kk.0) d few full refl at.counted
 
-      then_here : (d : ℕ) (full : HasRoom r.cur (size code.laid kk.0) → ⊥) → Paid (record { start = r.start; cur = 4096 * d + size code.laid kk.0 } ∷ rs) (left_costs core n lv.level (Plain t) c.env k) (turn_counted r (start d) rs before sh (size code.laid kk.0) d few full refl at.counted).share 0
-      then_here d full = turned_counted r (start d) (record { start = r.start; cur = 4096 * d + size code.laid kk.0 }) rs before left sh (size code.laid kk.0) d few full refl refl (record { regions = omega arith; items = omega arith }) at.counted
+      then_here : (d : ℕ) (full : HasRoom r.cur (head_size code.laid kk.0) → ⊥) → Paid (record { start = r.start; cur = 4096 * d + head_size code.laid kk.0 } ∷ rs) (left_costs core n lv.level (Plain t) c.env k) (turn_counted r (start d) rs before sh (head_size code.laid kk.0) d few full refl at.counted).share 0
+      then_here d full = turned_counted r (start d) (record { start = r.start; cur = 4096 * d + head_size code.laid kk.0 }) rs before left sh (head_size code.laid kk.0) d few full refl refl (record { regions = omega arith; items = omega arith }) at.counted
 
       no_head : (q : ℕ) → head_covers code.laid c c.dest q ≡ 0
       no_head q = ap (λ (z : Dest). head_covers code.laid c z q) at.fits.1
 
-      go : (b : Bool) → nat_le (size code.laid kk.0 + 9) (rest r.cur) ≡ b → Moves core code owed own sh s (at_rest lv ty rm ip sl fs n (r ∷ rs) ts)
+      go : (b : Bool) → nat_le (head_size code.laid kk.0 + 9) (rest r.cur) ≡ b → Moves core code owed own sh s (at_rest lv ty rm ip sl fs n (r ∷ rs) ts)
       go true e' =
-          let fits9 : size code.laid kk.0 + 9 ≤ rest r.cur = grind (arith, nat_tests) in
+          let fits9 : head_size code.laid kk.0 + 9 ≤ rest r.cur = grind (arith, nat_tests) in
           silent (asks true e')
-          (counts (here fits9).spends (head_at core code ok owed own sh lv ty rm s s ip sl fs n r (record { start = r.start; cur = r.cur + size code.laid kk.0 }) rs ts h kk r.cur t c k (here fits9).share lt at (record { kept = λ q b h. h }) at.small refl refl (rest_room r.cur (size code.laid kk.0) fits9) there
-          (Apart-less at.places (λ q. let i = within_front r.cur (size code.laid kk.0) q fits9 in omega (arith, i)))
+          (counts (here fits9).spends (head_at core code ok owed own sh lv ty rm s s ip sl fs n r (record { start = r.start; cur = r.cur + head_size code.laid kk.0 }) rs ts h kk r.cur t c k (here fits9).share lt at (record { kept = λ q b h. h }) at.small refl refl (rest_room r.cur (head_size code.laid kk.0) fits9) there
+          (Apart-less at.places (λ q. let i = within_front r.cur (head_size code.laid kk.0) q fits9 in omega (arith, i)))
           (here fits9).counted))
       go false e' =
-          let full9 : HasRoom r.cur (size code.laid kk.0) → ⊥ = λ room. absurd (no_room (size code.laid kk.0 + 9) (rest r.cur) e' room) in
+          let full9 : HasRoom r.cur (head_size code.laid kk.0) → ⊥ = λ room. absurd (no_room (head_size code.laid kk.0 + 9) (rest r.cur) e' room) in
           draws (λ d. (turn_first d full9).share) (asks false e') (λ d new. (turn_first d full9).spends) (λ d new.
           let o = open_chunk s d in
           let bs = pointer 255 (4096 * d) in
@@ -306,11 +306,11 @@ module _ (core : CoreTree) (code : CodeTree) (ok : AreBodies core code) (owed : 
           let pt : Points s' r.cur 255 (4096 * d) = record { bytes = put_all-holds o r.cur bs; fits = let k = new.small in omega (arith, k) } in
           let small9 = size_small code.laid ok.table kk.0 in
           safe_turning core code owed own' (turn_first d full9).share bs o (at_rest lv ty rm ip sl fs n (r ∷ rs) ts) (HeadOf h.0 kk.0) d r.cur f
-          (counts (then_here d full9).spends (head_at core code ok owed own' sh lv ty rm s s' ip sl fs n r (record { start = r.start; cur = 4096 * d + size code.laid kk.0 }) rs ts h kk (4096 * d) t c k (then_here d full9).share lt (widen (λ q. omega arith) at)
-          (record { kept = λ q b h. g2.kept q b (g1.kept q b h) }) (put_all-small o r.cur bs f (open-small s d new at.small)) refl refl (chunk_room d (size code.laid kk.0) small9) (redirected pt there)
+          (counts (then_here d full9).spends (head_at core code ok owed own' sh lv ty rm s s' ip sl fs n r (record { start = r.start; cur = 4096 * d + head_size code.laid kk.0 }) rs ts h kk (4096 * d) t c k (then_here d full9).share lt (widen (λ q. omega arith) at)
+          (record { kept = λ q b h. g2.kept q b (g1.kept q b h) }) (put_all-small o r.cur bs f (open-small s d new at.small)) refl refl (chunk_room d (head_size code.laid kk.0) small9) (redirected pt there)
           (Apart-put_all r.cur bs a1 (λ q.
           let i = within_redirect r.cur q room9 in
-          let j = within_chunk d (size code.laid kk.0) q small9 in
+          let j = within_chunk d (head_size code.laid kk.0) q small9 in
           let z = no_head q in
           omega (arith, i, j, z)))
           (then_here d full9).counted)))

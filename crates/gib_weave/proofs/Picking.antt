@@ -1,5 +1,6 @@
 -- What calls that pick an event answer.
-use Rattle.std.proofs.Common.{◌≡◌, ℕ, zero, suc, ◌-◌, ◌<◌, ◌≤◌, ◌^◌, List, [], ◌∷◌, Bool, true, false, cond, ◌&&◌, length, refl, sym, ap, ◌∙◌, arith}
+use Rattle.std.proofs.lemmas.Bool.{cases_lt}
+use Rattle.std.proofs.Common.{◌≡◌, ◌⊎◌, inl, inr, ℕ, zero, suc, ◌-◌, ◌<◌, ◌≤◌, ◌^◌, List, [], ◌∷◌, Bool, true, false, cond, ◌&&◌, length, refl, sym, ap, ◌∙◌, arith}
 use Rattle.std.specs.Prelude.{Option, Some, None, nat_lt, IsTrue, ◌↔◌}
 use Rattle.gib_code.specs.declared.answer.Answer.{Answer}
 use Rattle.gib_code.specs.Program.{CodeTree}
@@ -11,6 +12,7 @@ use Rattle.gib_weave.specs.declared.event.Event.{Event as TaskEvent}
 use Rattle.gib_weave.specs.Applied.{can_steal_from, event_of, newest_of, picked_of}
 use Rattle.gib_weave.specs.Weave.{Weave, Task, Stage, Status, Waits, Running, Finished, Joined, Event, IsFinished, IsOn, HasWaiting, asks, has_waiting, is_running, or_else, pick, pick_at_join, pick_at_stage, pick_below, pick_by, pick_of, pick_on, pick_running, pick_steal, steal_below, task}
 use Rattle.gib_weave.specs.Weave as w
+use Rattle.gib_weave.proofs.Weaves.{past_end}
 
 -- A task that does not run, or in a run that has ended, has no event.
 pub none_off : (code : CodeTree) (v : Weave) (i : ℕ) → (IsOn v i → ⊥) → None ≡ pick_of code v i
@@ -108,13 +110,21 @@ not_this code v (suc n) o l h f = ap (pick_below code v) (before n) ∙ ap (λ (
 
 -- Steals.
 
-pub steal_here : (v : Weave) (n : ℕ) → 0 < n → can_steal_from (task v.tasks (n - 1)) ≡ true → Some (w.Steal (n - 1)) ≡ steal_below v n
-steal_here v zero l h = absurd (omega (arith, l))
-steal_here v (suc n) l h = ap (λ (k : ℕ). Some (w.Steal k)) (before n) ∙ sym (ap (λ (b : Bool). cond b (Some (w.Steal n)) (steal_below v n)) (ap (λ (k : ℕ). can_steal_from (task v.tasks k)) (sym (before n)) ∙ h))
+-- None, where no task is open.
+pub none_open : (v : Weave) → ((i : ℕ) → can_steal_from (task v.tasks i) ≡ false) → (n : ℕ) → None ≡ steal_below v n
+none_open v h zero = refl
+none_open v h (suc n) = none_open v h n ∙ sym (ap (λ (b : Bool). cond b (Some (w.Steal n)) (steal_below v n)) (h n))
 
-pub steal_later : (v : Weave) (n : ℕ) → 0 < n → can_steal_from (task v.tasks (n - 1)) ≡ false → steal_below v (n - 1) ≡ steal_below v n
-steal_later v zero l h = absurd (omega (arith, l))
-steal_later v (suc n) l h = ap (steal_below v) (before n) ∙ sym (ap (λ (b : Bool). cond b (Some (w.Steal n)) (steal_below v n)) (ap (λ (k : ℕ). can_steal_from (task v.tasks k)) (sym (before n)) ∙ h))
+-- That of the newest that is open.
+pub newest_open : (v : Weave) (k : ℕ) → can_steal_from (task v.tasks k) ≡ true → ((i : ℕ) → k < i → can_steal_from (task v.tasks i) ≡ false) → (n : ℕ) → k < n → Some (w.Steal k) ≡ steal_below v n
+newest_open v k c h zero l = absurd (omega (arith, l))
+newest_open v k c h (suc n) l = go (cases_lt k n) (newest_open v k c h n)
+  where
+    go : (k < n) ⊎ (n ≤ k) → (k < n → Some (w.Steal k) ≡ steal_below v n) → Some (w.Steal k) ≡ steal_below v (suc n)
+    go (inl m) rec = rec m ∙ sym (ap (λ (b : Bool). cond b (Some (w.Steal n)) (steal_below v n)) (h n m))
+    go (inr m) rec =
+        let e : k ≡ n = omega (arith, l, m) in
+        ap (λ (i : ℕ). Some (w.Steal i)) e ∙ sym (ap (λ (b : Bool). cond b (Some (w.Steal n)) (steal_below v n)) (ap (λ (i : ℕ). can_steal_from (task v.tasks i)) (sym e) ∙ c))
 
 pub steal_ended : (v : Weave) → (IsOn v 0 → ⊥) → None ≡ pick_steal v
 steal_ended v h = go (task v.tasks 0).stage refl
@@ -126,6 +136,9 @@ steal_ended v h = go (task v.tasks 0).stage refl
 
 few : (n : ℕ) → n < 2 ^ 32 → nat_lt n (2 ^ 32) ≡ true
 few n h = grind (arith, Rattle.std.proofs.lemmas.Bool.Decides.nat_tests)
+
+pub fewer : (n : ℕ) → IsTrue (nat_lt n (2 ^ 32)) → n < 2 ^ 32
+fewer n h = grind (arith, Rattle.std.proofs.lemmas.Bool.Decides.nat_tests)
 
 many : (n : ℕ) → 2 ^ 32 ≤ n → nat_lt n (2 ^ 32) ≡ false
 many n h = grind (arith, Rattle.std.proofs.lemmas.Bool.Decides.nat_tests)
@@ -140,7 +153,7 @@ steal_many v h = sym (ap (λ (b : Bool). cond b (steal_below v (length v.tasks))
 pub steal_few : (v : Weave) → IsOn v 0 → length v.tasks < 2 ^ 32 → steal_below v (length v.tasks) ≡ pick_steal v
 steal_few v on h = sym (ap (λ (b : Bool). cond b (steal_below v (length v.tasks)) None) (ap (λ (g : Stage). is_running g && nat_lt (length v.tasks) (2 ^ 32)) on.root ∙ few (length v.tasks) h))
 
--- Whether a task may be stolen from.
+-- Whether a task is open.
 pub not_running : (t : Task) → (t.stage ≡ Running → ⊥) → false ≡ can_steal_from t
 not_running t h = go t.stage h
   where
@@ -160,3 +173,7 @@ waiting_as b (w.Runs n ∷ sts) h = waiting_as b sts h
 
 pub running_waits : (t : Task) (b : Bool) → t.stage ≡ Running → (IsTrue b ↔ HasWaiting t.sides) → b ≡ can_steal_from t
 running_waits t b e h = waiting_as b t.sides h ∙ sym (ap (λ (g : Stage). is_running g && has_waiting t.sides) e)
+
+-- A number that no task has is that of none that is open.
+pub past_is_shut : (ts : List Task) (i : ℕ) → length ts ≤ i → false ≡ can_steal_from (task ts i)
+past_is_shut ts i h = sym (ap can_steal_from (past_end ts i h))

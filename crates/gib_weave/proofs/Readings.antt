@@ -4,7 +4,7 @@ use Rattle.std.specs.Int.{w64, from_le_bytes}
 use Rattle.std.proofs.lemmas.Nat.{from_le_bytes-to_le_bytes_8}
 use Rattle.std.proofs.lemmas.Bool.Decides.{nat_tests}
 use Rattle.gib_types.specs.Table.{fields_at, con_at}
-use Rattle.gib_types.specs.Layout.{LaidOut, packed_count}
+use Rattle.gib_types.specs.Layout.{LaidOut, packed_count, head_size}
 use Rattle.gib_types.specs.Tree.{Datum, con, Data}
 use Rattle.gib_mem.specs.Memory.{Store, absent, byte, Holds, more}
 use Rattle.gib_packed.specs.Head.{address, head_bytes}
@@ -16,7 +16,7 @@ use Rattle.gib_packed.proofs.SpanLemmas.{Dec-span, Span-height}
 use Rattle.gib_core.specs.Tree.{CoreTree}
 use Rattle.gib_code.specs.declared.instruction.Arm.{Arm}
 use Rattle.gib_code.specs.Program.{CodeTree}
-use Rattle.gib_machine.specs.Machine.{State, Get, next, Ready, Looking, Following, Reading, SkipTurn, doing, looked, read_on, sets, skip_on, skipped, set, label_of, size, arms_of}
+use Rattle.gib_machine.specs.Machine.{State, Get, next, Ready, Looking, Following, Reading, SkipTurn, doing, looked, read_on, sets, skip_on, skipped, set, label_of, arms_of}
 use Rattle.gib_weave.specs.Owing.{Owed}
 use Rattle.gib_weave.specs.Paying.{Share}
 use Rattle.gib_weave.specs.Places.{Owned, IsSmall}
@@ -81,7 +81,7 @@ module _ (core : CoreTree) (code : CodeTree) (owed : Owed) (own : Owned) (sh : S
   -- what comes at a head: it may be where the look began, or that is no head
   pub record Heads (s : Store) (m : State) (x : ℕ) (arms : List Arm) (t start : ℕ) (v : Datum) : Type 0 where
     pub at_head : (a k z : ℕ) (vs : Data) (places : List ℕ) → v ≡ con k vs → k < 254 → con_at code.laid.table t k ≡ Some k → Holds s a (head_bytes code.laid k places vs)
-        → Decs code.laid s (a + size code.laid k) (fields_at code.laid.table k) vs places z → ((tag : ℕ) → s start ≡ byte tag → tag < 254 → a ≡ start)
+        → Decs code.laid s (a + head_size code.laid k) (fields_at code.laid.table k) vs places z → ((tag : ℕ) → s start ≡ byte tag → tag < 254 → a ≡ start)
         → Safe core code owed own sh s (record m { words = set m.words x a; ip = label_of arms k; doing = Ready })
 
   -- the tag at a place, and what follows it
@@ -121,15 +121,15 @@ module _ (core : CoreTree) (code : CodeTree) (owed : Owed) (own : Owned) (sh : S
   skip_get : (s : Store) (m : State) (y a n : ℕ) → SkipLooks s m y a n → Safe core code owed own sh s (skip_on m y a (suc n))
   skip_get s m y a n l = moves (get refl l.known l.goes)
 
-  skipped_head : (s : Store) (m : State) (y a n k : ℕ) → k < 254 → packed_count (fields_at code.laid.table k) + n < 2 ^ 64 → Safe core code owed own sh s (skip_on m y (a + size code.laid k) (packed_count (fields_at code.laid.table k) + n)) → Safe core code owed own sh s (skipped code.laid m y a n k)
+  skipped_head : (s : Store) (m : State) (y a n k : ℕ) → k < 254 → packed_count (fields_at code.laid.table k) + n < 2 ^ 64 → Safe core code owed own sh s (skip_on m y (a + head_size code.laid k) (packed_count (fields_at code.laid.table k) + n)) → Safe core code owed own sh s (skipped code.laid m y a n k)
   skipped_head s m y a n k lt fits g =
       let c = packed_count (fields_at code.laid.table k) + n in
       let e : eqb k 255 ≡ false = grind (arith, nat_tests) in
       let f : eqb k 254 ≡ false = grind (arith, nat_tests) in
       let q : c % 2 ^ 64 ≡ c = omega (arith, fits) in
-      subst (λ (b : Bool). Safe core code owed own sh s (cond b (doing m (SkipTurn y n (a + 1) [] 7)) (cond (eqb k 254) (skip_on m y (a + 9) n) (skip_on m y (a + size code.laid k) (c % 2 ^ 64))))) (sym e)
-      (subst (λ (b : Bool). Safe core code owed own sh s (cond b (skip_on m y (a + 9) n) (skip_on m y (a + size code.laid k) (c % 2 ^ 64)))) (sym f)
-      (subst (λ (r : ℕ). Safe core code owed own sh s (skip_on m y (a + size code.laid k) r)) (sym q) g))
+      subst (λ (b : Bool). Safe core code owed own sh s (cond b (doing m (SkipTurn y n (a + 1) [] 7)) (cond (eqb k 254) (skip_on m y (a + 9) n) (skip_on m y (a + head_size code.laid k) (c % 2 ^ 64))))) (sym e)
+      (subst (λ (b : Bool). Safe core code owed own sh s (cond b (skip_on m y (a + 9) n) (skip_on m y (a + head_size code.laid k) (c % 2 ^ 64)))) (sym f)
+      (subst (λ (r : ℕ). Safe core code owed own sh s (skip_on m y (a + head_size code.laid k) r)) (sym q) g))
 
   module _ (few : (k : ℕ) → packed_count (fields_at code.laid.table k) ≤ 8) where
     mutual
@@ -143,7 +143,7 @@ module _ (core : CoreTree) (code : CodeTree) (owed : Owed) (own : Owned) (sh : S
       skip_span s m y _ a z n (sp.indirect pt dec e) lt g = record { tag = 254; known = first pt.bytes; goes = subst (λ (q : ℕ). Safe core code owed own sh s (skip_on m y q n)) e g }
       skip_span s m y _ a z n (sp.head {h = h} {k = k} sm kc known ds) lt g =
           let i = few k in
-          record { tag = k; known = known; goes = skipped_head s m y a n k sm (omega (arith, i, lt)) (skip_spans s m y h (a + size code.laid k) (packed_count (fields_at code.laid.table k)) z n ds (omega (arith, i, lt)) g) }
+          record { tag = k; known = known; goes = skipped_head s m y a n k sm (omega (arith, i, lt)) (skip_spans s m y h (a + head_size code.laid k) (packed_count (fields_at code.laid.table k)) z n ds (omega (arith, i, lt)) g) }
 
       skip_spans : (s : Store) (m : State) (y h a c z n : ℕ) → Spans code.laid s h a c z → (c + n) + 8 * h < 2 ^ 64 → Safe core code owed own sh s (skip_on m y z n) → Safe core code owed own sh s (skip_on m y a (c + n))
       skip_spans s m y _ a _ z n sp.done lt g = let e : 0 + n ≡ n = omega arith in subst (λ (q : ℕ). Safe core code owed own sh s (skip_on m y a q)) (sym e) g

@@ -3,7 +3,7 @@ use Rattle.std.proofs.Common.{◌≡◌, ℕ, ◌+◌, ◌<◌, Bool, true, fals
 use Rattle.std.proofs.lemmas.Bool.{eq-eqb}
 use Rattle.gib_types.specs.declared.table.Ty.{Ty}
 use Rattle.gib_types.specs.Table.{fields_at, con_at}
-use Rattle.gib_types.specs.Layout.{LaidOut, is_among, layout_at}
+use Rattle.gib_types.specs.Layout.{LaidOut, is_among, layout_at, head_size}
 use Rattle.gib_types.specs.Tree.{list_of, Datum, con, Data}
 use Rattle.gib_syntax.specs.Meaning.{Environment, value_in, Outcome}
 use Rattle.gib_mem.specs.Memory.{Store, byte, Holds}
@@ -21,7 +21,7 @@ use Rattle.gib_code.specs.declared.instruction.Arm.{Arm}
 use Rattle.gib_code.specs.Instruction as i
 use Rattle.gib_code.specs.Program.{CodeTree, IsAt, AreAt}
 use Rattle.gib_core.specs.Low.{LowArms, End, laid_of, slot_of, Field as StoredField, scalar_reads, first_reach, arm_opening}
-use Rattle.gib_machine.specs.Machine.{Slots, slot, set, Frame, Open as OpenRegion, label_of, size, arms_of}
+use Rattle.gib_machine.specs.Machine.{Slots, slot, set, Frame, Open as OpenRegion, label_of, arms_of}
 use Rattle.gib_core.specs.Cost.{Cost, plus, cost_branches, call_costs}
 use Rattle.gib_core.specs.Fits.{put, Sort, Outside, Absent, Scalar, Held, Placed, Loose, AtHead, Field, Scope, is_there, has_slot, tree_type, Dest, Fits, BranchesFit, cased, branches_cased, is_of, AreNew, arm_scope}
 use Rattle.gib_weave.specs.Environment.{Ctx, StandsAt, IsAtHead, Has}
@@ -155,7 +155,7 @@ module _ (core : CoreTree) (code : CodeTree) (ok : AreBodies core code) (owed : 
       head_of u h = subst (λ (so : Sort). Has code.laid s c so (slot sl x.0) (value_in c.env x.0) (c.pl x.0) (c.hd x.0)) h (at.matches.vars.has x.0)
 
       at_head : (a kk z : ℕ) (vs : Data) (places : List ℕ) → value_in c.env x.0 ≡ con kk vs → kk < 254 → con_at code.laid.table at.fits.0 kk ≡ Some kk → Holds s a (head_bytes code.laid kk places vs)
-          → Decs code.laid s (a + size code.laid kk) (fields_at code.laid.table kk) vs places z → ((tag : ℕ) → s (slot sl x.0) ≡ byte tag → tag < 254 → a ≡ slot sl x.0)
+          → Decs code.laid s (a + head_size code.laid kk) (fields_at code.laid.table kk) vs places z → ((tag : ℕ) → s (slot sl x.0) ≡ byte tag → tag < 254 → a ≡ slot sl x.0)
           → Safe core code owed own sh s (at_rest lv ty rm (label_of arms kk) (set sl x.0 a) fs n rs tls)
       at_head a kk z vs places ev sm kc hb ds start =
           let here : StandsAt code.laid s t a (value_in c.env x.0) = subst (λ (v : Datum). StandsAt code.laid s t a v) (sym ev) (record { end = z; dec = d.head sm kc hb ds }) in
@@ -174,7 +174,7 @@ module _ (core : CoreTree) (code : CodeTree) (ok : AreBodies core code) (owed : 
           let nw : AreNew c1.scope ts ys = subst (λ (q : LaidOut). AreNew c1.scope (fields_at q.table kk) ys) (sym ok.laid) found.new in
           let op : AreAt code (label_of arms kk) (arm_opening code.laid x.0 kk ys) found.start = subst (λ (q : LaidOut). AreAt code (label_of arms kk) (arm_opening q x.0 kk ys) found.start) (sym ok.laid) found.opening in
           let p0 = 1 + (layout_at code.laid.table code.laid.with_offsets kk).offsets in
-          let w = a + size code.laid kk in
+          let w = a + head_size code.laid kk in
           let slS = scalar_slots ts ys vs sl1 in
           let F = first_slots w ts ys slS in
           let not_x : c1.scope x.0 ≡ Absent → ⊥ = λ h. there_bound (c1.scope x.0) (ap is_there (put-same c.scope x.0 (AtHead t))) h in
@@ -222,11 +222,11 @@ module _ (core : CoreTree) (code : CodeTree) (ok : AreBodies core code) (owed : 
           (subst (λ (q : Outcome). Counted rs (plus (cost_branches core.table (core_calls core n) (call_costs core n) lv.level bs (con kk vs) c.env) (later_costs core n lv.level k q)) sh) found.meaning
           (subst (λ (q : Datum). Counted rs (plus (cost_branches core.table (core_calls core n) (call_costs core n) lv.level bs q c.env) (later_costs core n lv.level k (mean_branches core.table (core_calls core n) bs q c.env))) sh) ev at.counted))) in
           let done : Safe core code owed own sh s (at_rest lv ty rm found.start F fs n rs tls) = rests (at_term (term_at core code owed own sh lv ty rm s found.start F fs n rs tls found.term al.ctx k (cased whole) al.line is_code fit found.calm owes at.sides (let h = at.nests in let g = found.nests in omega (arith, h, g)) (let h = at.narrow in let g = found.nests in omega (arith, h, g)) at.all_room counted)) in
-          let split = parts (label_of arms kk) (scalar_reads x.0 p0 ts ys) (first_reach x.0 (size code.laid kk) ts ys) found.start op in
+          let split = parts (label_of arms kk) (scalar_reads x.0 p0 ts ys) (first_reach x.0 (head_size code.laid kk) ts ys) found.start op in
           let q0 : a + 1 + length (offset_bytes (is_among code.laid.with_offsets kk) places) ≡ a + p0 = let g = offsets-length {laid = code.laid} {s = s} kk ds in omega (arith, g) in
           let sbytes : Holds s (a + p0) (scalars vs) = subst (λ (q : ℕ). Holds s q (scalars vs)) q0 (Holds-right (a + 1) (offset_bytes (is_among code.laid.with_offsets kk) places) (scalars vs) behind_tag) in
           run_scalars core code owed own sh lv ty rm s fs n rs tls c1.scope x.0 a ts ys vs places w z p0 (label_of arms kk) split.middle sl1 nw not_x ds sbytes at_x split.left
-          (run_first core code owed own sh lv ty rm s fs n rs tls x.0 a (size code.laid kk) ts ys split.middle found.start slS (let i = known_below at.small (first hb) in let j = size_small code.laid ok.table kk in omega (arith, i, j)) (scalar_kept c1.scope ts ys vs sl1 x.0 nw not_x ∙ at_x) split.right done)
+          (run_first core code owed own sh lv ty rm s fs n rs tls x.0 a (head_size code.laid kk) ts ys split.middle found.start slS (let i = known_below at.small (first hb) in let j = size_small code.laid ok.table kk in omega (arith, i, j)) (scalar_kept c1.scope ts ys vs sl1 x.0 nw not_x ∙ at_x) split.right done)
 
   pub does_case : (s : Store) (ip until : ℕ) (sl : Slots) (fs : List Frame) (n : ℕ) (rs : List OpenRegion) (tls : List ℕ) (x : Atom) (bs : Branches) (arms : List Arm) (c : Ctx) (k : Kont) (stored : List StoredField) → Agrees stored c.scope
       → IsAt code ip (i.Switch (slot_of x) arms) → LowArms core code stored (slot_of x) (ip + 1) arms bs (end_of k) until

@@ -1,5 +1,7 @@
 -- What a call of a weave leaves, by its answer.
-use Rattle.std.specs.Prelude.{◌≡◌, ℕ, zero, suc, ◌<◌, ◌≤◌, List, [], ◌∷◌, ◌++◌, length, Bool, ◌&&◌, true, Option, Some, None, Result, Ok, Err}
+use Rattle.std.specs.Prelude.{◌≡◌, ℕ, zero, suc, ◌<◌, ◌≤◌, List, [], ◌∷◌, ◌++◌, length, Bool, ◌&&◌, true, false, nat_eq, Option, Some, None, Result, Ok, Err}
+use Rattle.std.specs.Ordering.{nat_cmp}
+use Rattle.std.specs.BTreeSet.{BTreeSet, contains}
 use Rattle.gib_mem.specs.Memory.{Memory}
 use Rattle.gib_code.specs.Instruction.{Instruction}
 use Rattle.gib_code.specs.Program.{CodeTree, Runs}
@@ -96,9 +98,31 @@ abbrev pub picked_of : Option TaskEvent → Option Event
 picked_of None = None
 picked_of (Some e) = Some (event_of e)
 
--- A task that runs, and has a side that waits.
+-- Whether a task is open: it runs, and has a side that waits.
 abbrev pub can_steal_from : Task → Bool
 can_steal_from t = is_running t.stage && has_waiting t.sides
+
+-- The task to which an event happens.
+abbrev pub number_of : Event → ℕ
+number_of (Step i) = i
+number_of (Fork i) = i
+number_of (Steal i) = i
+number_of (Take i) = i
+number_of (Finish i) = i
+number_of (Join i) = i
+
+-- Whether the event may leave task j open that was not: with its left side a fork starts a side that waits.
+abbrev pub opens : Event → (j : ℕ) → Bool
+opens (Step i) j = false
+opens (Fork i) j = nat_eq i j
+opens (Steal i) j = false
+opens (Take i) j = false
+opens (Finish i) j = false
+opens (Join i) j = false
+
+-- The numbers are those of the tasks that are open.
+abbrev pub AreOpen : BTreeSet ℕ → List Task → Type 0
+AreOpen numbers ts = (i : ℕ) → contains nat_cmp numbers i ≡ can_steal_from (task ts i)
 
 -- A turn as the answer of a step: a machine that stands cannot make one.
 abbrev pub stepped : Turn → Result (Unit {0}) WeaveFault

@@ -4,7 +4,7 @@ use Rattle.std.specs.Int.{w64, cast_unsigned}
 use Rattle.gib_types.specs.declared.table.Ty.{Ty}
 use Rattle.gib_types.specs.declared.table.Ty.TheVariants.{Whole, Truth, Tree}
 use Rattle.gib_types.specs.Table.{fields_at, con_at}
-use Rattle.gib_types.specs.Layout.{LaidOut, is_among}
+use Rattle.gib_types.specs.Layout.{LaidOut, is_among, head_size}
 use Rattle.gib_types.specs.Tree.{Datum, whole, truth}
 use Rattle.gib_syntax.specs.Meaning.{value_in, Environment}
 use Rattle.gib_mem.specs.Memory.{Store, byte, Holds}
@@ -13,7 +13,7 @@ use Rattle.gib_packed.specs.Head.{address}
 use Rattle.gib_packed.specs.Decoding.{Dec}
 use Rattle.gib_packed.specs.Reaching.{Turns}
 use Rattle.gib_core.specs.Fits.{Absent, AtHead, Dest, Empty, Field, Held, Loose, Nowhere, Open, Outside, Placed, Scalar, Scope, Sort, has_slot, is_there, packed_due}
-use Rattle.gib_machine.specs.Machine.{Slots, slot, size}
+use Rattle.gib_machine.specs.Machine.{Slots, slot}
 
 -- Where a line of a frame stands: what is known of its variables, their values, the places that they were bound to, the
 -- places of their heads, the destination, where its value is to stand, and the place of its open head.
@@ -91,7 +91,7 @@ pub record IsHead (laid : LaidOut) (s : Store) (sl : Slots) (c : Ctx) (t h k : �
   pub leads : Turns s c.front c.head
   pub types : List ℕ
   pub all : types ++ dues ≡ packed_due (fields_at laid.table k)
-  pub fields : Fields laid s c (c.head + size laid k) xs types cur
+  pub fields : Fields laid s c (c.head + head_size laid k) xs types cur
 
 -- The destination, with what comes next at cur.
 abbrev pub IsDest : LaidOut → Store → Slots → Ctx → Dest → ℕ → Type 0

@@ -1,10 +1,10 @@
 -- The places that are a task's own: open heads, the rests behind its cursors, its tails; and the room that it has.
 use Rattle.std.specs.Prelude.{◌≡◌, ℕ, suc, ◌+◌, ◌*◌, ◌<◌, ◌≤◌, ◌^◌, List, [], ◌∷◌, if◌then◌else◌, nat_lt, nat_le}
-use Rattle.gib_types.specs.Layout.{LaidOut}
+use Rattle.gib_types.specs.Layout.{LaidOut, head_size}
 use Rattle.gib_mem.specs.Memory.{Store, absent, fresh}
 use Rattle.gib_region.specs.Region.{rest}
 use Rattle.gib_core.specs.Fits.{Dest, Empty, Nowhere, Open}
-use Rattle.gib_machine.specs.Machine.{Open as OpenRegion, State, times, size}
+use Rattle.gib_machine.specs.Machine.{Open as OpenRegion, State, times}
 use Rattle.gib_weave.specs.Environment.{Ctx}
 use Rattle.gib_weave.specs.Continuing.{KCall, KCallScalar, KEnd, KHere, KLast, KRegion, KScalar, KSide, Kont, Last, Leave, Meet, Part, Plain, Rest, nest, side_nest}
 
@@ -16,7 +16,7 @@ within a n q = if nat_le a q then (if nat_lt q (a + n) then 1 else 0) else 0
 abbrev pub head_covers : LaidOut → Ctx → Dest → ℕ → ℕ
 head_covers laid c (Nowhere ty) q = 0
 head_covers laid c (Empty t) q = 0
-head_covers laid c (Open t h k xs dues) q = within c.head (size laid k) q
+head_covers laid c (Open t h k xs dues) q = within c.head (head_size laid k) q
 
 -- The open heads of the lines that wait.
 abbrev pub kont_covers : LaidOut → Kont → ℕ → ℕ

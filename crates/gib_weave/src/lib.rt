@@ -5,6 +5,7 @@
 pub mod call_law;
 mod event;
 pub mod law;
+mod open_tasks;
 mod root_run;
 mod sides;
 mod steps;
@@ -14,8 +15,8 @@ mod weave;
 pub mod weave_law;
 
 pub use event::Event;
-pub use root_run::{RunFault, run};
+pub use open_tasks::OpenTasks;
+pub use root_run::{RunFault, root_machine, run};
 pub use steps::run_for;
 pub use task::WeaveFault;
-pub use tasks::Tasks;
 pub use weave::{Nesting, Weave};

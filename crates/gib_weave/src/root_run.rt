@@ -66,7 +66,11 @@ fn outcome_of(turn: Option<Turn>) -> Result<Answer, RunFault>
 }
 
 /// The machine of main, with the word of its parameter. It may nest so many calls, and so many forks.
-pub(crate) fn root_machine(
+///
+/// # Errors
+///
+/// Want of memory.
+pub fn root_machine(
     alloc: Global,
     lowered: &Lowered,
     root: Root,

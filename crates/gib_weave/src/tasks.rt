@@ -1,11 +1,11 @@
 //! The tasks of a weave, and what becomes of them by events.
 
-ghost use Rattle.std.specs.Prelude.{◌≡◌, ◌<◌, ◌^◌, ◌++◌, ◌∷◌, [], length, OnOk, OnErr, IsTrue, ◌↔◌, IfOk, IfSome, IfNone};
+ghost use Rattle.std.specs.Prelude.{◌≡◌, ◌<◌, ◌^◌, ◌++◌, ◌∷◌, [], length, OnOk, OnErr, IsTrue, ◌↔◌, IfOk, IfSome, IfNone, false, None};
 ghost use Rattle.gib_mem.specs.Memory as M;
 ghost use Rattle.gib_core.specs.Parts.{core_of};
 ghost use Rattle.gib_code.specs.Program.{Runs};
 ghost use Rattle.gib_weave.specs.Applied.{Applied, CanGo, HaveWidth, can_steal_from, event_of, over, picked_of, stepped};
-ghost use Rattle.gib_weave.specs.Weave.{Finished, IsFinished, IsOn, task, weave_start};
+ghost use Rattle.gib_weave.specs.Weave.{Finished, IsFinished, IsOn, pick_steal, steal_below, task, weave_start};
 ghost use Rattle.gib_weave.specs.Running.{word_of};
 ghost use Rattle.gib_weave.specs.Weave as w;
 
@@ -352,12 +352,15 @@ impl Tasks {
         None
     }
 
-    /// Whether a task runs, and has a right side that waits.
-    #[tactic(auto, using(crate::proofs::Picking::not_running))]
-    fn may_be_stolen_from(&self, place: usize) -> bool
-        requires { place < length self.now }
-        ensures { result ≡ can_steal_from (task self.now place) }
+    /// Whether the task of a number is open: it runs, and has a right side that waits.
+    #[tactic(auto, using(crate::proofs::Picking::not_running, crate::proofs::Picking::past_is_shut))]
+    pub(crate) fn is_open(&self, number: u32) -> bool
+        ensures { result ≡ can_steal_from (task self.now number) }
     {
+        let place = number as usize;
+        if place >= self.items.len() {
+            return false;
+        }
         let task = self.at(place);
         if !task.is_running() {
             return false;
@@ -365,25 +368,16 @@ impl Tasks {
         task.has_waiting()
     }
 
-    /// A steal, from the newest task that has a right side that waits; None where there is none, or 2^32 tasks were made.
-    #[tactic(auto, using(crate::proofs::Picking::steal_here, crate::proofs::Picking::steal_later, crate::proofs::Picking::steal_ended, crate::proofs::Picking::steal_many, crate::proofs::Picking::steal_few))]
-    pub fn pick_steal(&self) -> Option<Event>
-        ensures { (v : M.Memory) → picked_of result ≡ w.pick_steal (over v self.now) }
+    /// Whether the run goes on and one more task has a number, so that whatever task is open can be stolen from.
+    #[tactic(auto, using(crate::proofs::Picking::steal_ended, crate::proofs::Picking::steal_many, crate::proofs::Picking::steal_few))]
+    pub(crate) fn has_steals(&self) -> bool
+        ensures yes { (v : M.Memory) → IsTrue result → steal_below (over v self.now) (length self.now) ≡ pick_steal (over v self.now) }
+        ensures no { (v : M.Memory) → result ≡ false → None ≡ pick_steal (over v self.now) }
     {
         if !self.is_on(0) {
-            return None;
+            return false;
         }
-        if self.items.len() >= TASKS {
-            return None;
-        }
-        let mut rest = self.items.len();
-        'tasks: while rest > 0 {
-            rest -= 1;
-            if self.may_be_stolen_from(rest) {
-                return Some(Event::Steal(rest as u32));
-            }
-        }
-        None
+        self.items.len() < TASKS
     }
 
     /// The answer of the root; None until it has ended.

@@ -10,8 +10,8 @@ ghost use Rattle.gib_weave.specs.Weave.{Enabled, Finished, IsFinished, IsOf, IsS
 ghost use Rattle.gib_weave.specs.Woven.{IsMeant, IsSoundOn, weave_of};
 
 use crate::event::Event;
+use crate::open_tasks::OpenTasks;
 use crate::task::WeaveFault;
-use crate::tasks::Tasks;
 use gib_base::Memory;
 use gib_code::Answer;
 use gib_core::Lowered;
@@ -34,7 +34,7 @@ pub struct Nesting {
 pub struct Weave<'a> {
     lowered: &'a Lowered,
     memory: PlainMem,
-    tasks: Tasks,
+    tasks: OpenTasks,
 }
 
 impl<'a> Model for Weave<'a> {
@@ -70,7 +70,7 @@ impl<'a> Weave<'a> {
     {
         lowered.core();
         lowered.code();
-        let tasks = Tasks::start(alloc, lowered, tails, root, nesting.calls, nesting.forks)?;
+        let tasks = OpenTasks::start(alloc, lowered, tails, root, nesting.calls, nesting.forks)?;
         Ok(Weave {
             lowered,
             memory,

@@ -12,4 +12,6 @@ returns c =
     let five = adds_command _ _ _ _ _ c.in_ok-subcommand-5.ensures four c.in_ok-code_command.ensures refl in
     let six = adds_command _ _ _ _ _ c.in_ok-subcommand-6.ensures five c.in_ok-pack_command.ensures refl in
     let seven = adds_command _ _ _ _ _ c.in_ok-subcommand-7.ensures six c.in_ok-show_command.ensures refl in
-    IfOk-weaker c.subcommand-8.result _ _ (λ command adds. adds_command _ _ _ _ _ adds seven c.in_ok-gen_command.ensures refl) c.subcommand-8.ensures
+    let eight = adds_command _ _ _ _ _ c.in_ok-subcommand-8.ensures seven c.in_ok-trace_command.ensures refl in
+    let nine = adds_command _ _ _ _ _ c.in_ok-subcommand-9.ensures eight c.in_ok-replay_command.ensures refl in
+    IfOk-weaker c.subcommand-10.result _ _ (λ command adds. adds_command _ _ _ _ _ adds nine c.in_ok-gen_command.ensures refl) c.subcommand-10.ensures

@@ -1,23 +1,16 @@
-use Rattle.std.proofs.Common.{ap, Some}
-use Rattle.gib_arena.specs.Sole.{sole_memory, sole_bounded}
-use Rattle.gib_core.specs.LoweredParts.{LoweredParts}
-use Rattle.gib_syntax.specs.Declarations.{output_type}
-use Rattle.gib_app.proofs.Imaged.{image_few, text_moved}
+use Rattle.std.proofs.Common.{refl, subst, IfOk}
+use Rattle.gib_arena.specs.Sole.{sole_memory}
+use Rattle.gib_mem.specs.Memory.{Memory}
+use Rattle.gib_app.specs.Imaging.{IsShownWith}
+use Rattle.gib_app.specs.Kept.{file_of}
+use Rattle.gib_app.proofs.Imaged.{stands_again}
 use Rattle.gib_app.proofs.imaging.with_image.Goals as goal
 
-pub returns-clause-made : goal.returns-clause-made
-returns-clause-made c = λ p depth input s.
-    let before = c.args.value.ran in
-    let after = c.image_of.new.ran in
-    let made = c.in_ok-bytes.ensures in
-    let laid = before.lowered.code.laid in
-    let image = made.image (output_type p) s.result s.stands in
-    let bounded = sole_bounded before.memory in (
-      image,
-      image_few laid (sole_memory before.memory) before.root c.in_ok-bytes.bytes.items bounded made.bytes (output_type p) s.result image,
-      text_moved p depth input c.args.value.names c.in_ok-text.text.items laid after.lowered.code.laid (sole_memory before.memory) (sole_memory after.memory) before.root after.root
-          (ap (λ (l : LoweredParts). l.code.laid) made.kept) made.same made.root c.in_ok-text.ensures s,
-    )
-
-pub returns-clause-file : goal.returns-clause-file
-returns-clause-file c = ap Some c.in_ok-bytes.ensures.bytes
+pub returns : goal.returns
+returns c = λ p depth input s.
+    let ran = c.args.value.ran in
+    let laid = ran.lowered.code.laid in
+    let before = sole_memory ran.memory in
+    let after = sole_memory c.owns_all.new.self in
+    let there = stands_again p depth input laid laid before after ran.root ran.root refl c.owns_all.ensures.same refl s in
+    subst (λ (m : Memory). IfOk c.imaged.result (λ made. IsShownWith Rattle.std.specs.Prelude.true laid m ran.root p c.args.value.names s.result (file_of made) made.end)) c.owns_all.ensures.same (c.imaged.ensures p depth input there)

@@ -9,13 +9,13 @@ pub returns-in-Err-clause-stop : goal.returns-in-Err-clause-stop
 returns-in-Err-clause-stop c =
     let p = program_of c.args.typed.now in
     let file = c.args.file.now in
-    machine_stop p c.args.skips c.args.depth c.args.chunks file c.in-Err.stop (run_stop p file c.requires.short c.in-Err.stop c.in-Err.ensures.refused)
+    machine_stop p c.args.skips c.args.depth 0 c.args.chunks file c.in-Err.stop (run_stop p file c.requires.short c.in-Err.stop c.in-Err.ensures.refused)
 
 pub returns-in-Err-clause-only : goal.returns-in-Err-clause-only
 returns-in-Err-clause-only c = λ v is.
     let p = program_of c.args.typed.now in
     let file = c.args.file.now in
-    refused_halts p c.args.depth c.args.chunks file v (run p c.args.depth v) (program_cost p c.args.skips c.args.depth v) is c.in-Err.stop (run_stop p file c.requires.short c.in-Err.stop c.in-Err.ensures.refused)
+    refused_halts p c.args.depth c.args.chunks file v (run p c.args.depth v) (program_cost p c.args.skips c.args.depth 0 v) is c.in-Err.stop (run_stop p file c.requires.short c.in-Err.stop c.in-Err.ensures.refused)
 
 pub returns-in-Ok-lowered-clause-stands : goal.returns-in-Ok-lowered-clause-stands
 returns-in-Ok-lowered-clause-stands c =

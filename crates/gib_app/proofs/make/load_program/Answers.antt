@@ -1,8 +1,27 @@
 use Rattle.gib_app.specs.Calls.{read_calls}
 use Rattle.gib_app.specs.Kept.{document_of}
-use Rattle.gib_app.proofs.Calling.{added_whole}
+use Rattle.gib_app.proofs.AfterReads.{stopped_behind}
 use Rattle.gib_app.proofs.make.load_program.Goals as goal
 
-pub returns-clause-once : goal.returns-clause-once
-returns-clause-once g c =
-    added_whole (g.S.Shelf.view c.args.shelf.now).calls (g.S.Shelf.view c.read_document.new.shelf).calls (read_calls (document_of c.args.document) 1048576) c.in-Ok-Some.ensures.called
+-- src/make.rt
+pub returns-in-Ok-None-clause-stopped : goal.returns-in-Ok-None-clause-stopped
+returns-in-Ok-None-clause-stopped g c =
+    let all = c.in-Ok-None.ensures in
+    stopped_behind (g.S.Shelf.view c.args.shelf.now) (g.S.Shelf.view c.read_document.new.shelf) (read_calls (document_of c.args.document) 1048576) _
+    (record { same = all.same; reads = all.quiet; writes = all.writes; called = all.called })
+
+pub returns-in-Err-clause-stopped : goal.returns-in-Err-clause-stopped
+returns-in-Err-clause-stopped g c =
+    let all = c.in-Err.ensures in
+    record { same = all.same; later = all.later; reads = all.reads; writes = all.writes; once = all.once }
+
+pub returns-in-Ok-clause-read : goal.returns-in-Ok-clause-read
+returns-in-Ok-clause-read g c =
+    let all = c.in-Ok-Some.ensures in
+    record { same = all.same; reads = all.quiet; writes = all.writes; called = all.called }
+
+pub returns-clause-stopped : goal.returns-clause-stopped
+returns-clause-stopped g c =
+    let all = c.in-Ok-Some.ensures in
+    stopped_behind (g.S.Shelf.view c.args.shelf.now) (g.S.Shelf.view c.read_document.new.shelf) (read_calls (document_of c.args.document) 1048576) c.in-Err-compile.stop
+    (record { same = all.same; reads = all.quiet; writes = all.writes; called = all.called })

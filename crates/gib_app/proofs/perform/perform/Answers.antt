@@ -37,74 +37,74 @@ pub returns-in-Err-make-clause-stop : goal.returns-in-Err-make-clause-stop
 returns-in-Err-make-clause-stop g c = make_stop g.S.Shelf.tells (g.S.Shelf.view c.args.shelf.now) (g.S.Shelf.view c.write_first.new.shelf) (g.S.Shelf.view c.make.new.shelf) (plan_of c.args.plan) c.in-Ok.ensures.written.made c.in-Ok.ensures.written.reads c.in-Err-make.stop c.in-Err-make.ensures.stop
 
 pub returns-in-Err-make-clause-others : goal.returns-in-Err-make-clause-others
-returns-in-Err-make-clause-others g c = kept_others g.S.Shelf.tells (g.S.Shelf.view c.args.shelf.now) (g.S.Shelf.view c.write_first.new.shelf) (g.S.Shelf.view c.make.new.shelf) (plan_of c.args.plan) c.in-Ok.ensures.written c.in-Err-make.ensures.same
+returns-in-Err-make-clause-others g c = kept_others g.S.Shelf.tells (g.S.Shelf.view c.args.shelf.now) (g.S.Shelf.view c.write_first.new.shelf) (g.S.Shelf.view c.make.new.shelf) (plan_of c.args.plan) c.in-Ok.ensures.written c.in-Err-make.ensures.stopped.same
 
 pub returns-in-Err-make-clause-same : goal.returns-in-Err-make-clause-same
-returns-in-Err-make-clause-same g c = kept_files g.S.Shelf.tells (g.S.Shelf.view c.args.shelf.now) (g.S.Shelf.view c.write_first.new.shelf) (g.S.Shelf.view c.make.new.shelf) (plan_of c.args.plan) c.in-Ok.ensures.written c.in-Err-make.ensures.same c.in-Err-make.stop
+returns-in-Err-make-clause-same g c = kept_files g.S.Shelf.tells (g.S.Shelf.view c.args.shelf.now) (g.S.Shelf.view c.write_first.new.shelf) (g.S.Shelf.view c.make.new.shelf) (plan_of c.args.plan) c.in-Ok.ensures.written c.in-Err-make.ensures.stopped.same c.in-Err-make.stop
 
 pub returns-in-Err-make-clause-reads_later : goal.returns-in-Err-make-clause-reads_later
-returns-in-Err-make-clause-reads_later g c = reads_on g.S.Shelf.tells (g.S.Shelf.view c.args.shelf.now) (g.S.Shelf.view c.write_first.new.shelf) (g.S.Shelf.view c.make.new.shelf) (plan_of c.args.plan) c.in-Ok.ensures.written c.in-Err-make.ensures.same c.in-Err-make.ensures.later
+returns-in-Err-make-clause-reads_later g c = reads_on g.S.Shelf.tells (g.S.Shelf.view c.args.shelf.now) (g.S.Shelf.view c.write_first.new.shelf) (g.S.Shelf.view c.make.new.shelf) (plan_of c.args.plan) c.in-Ok.ensures.written c.in-Err-make.ensures.stopped.same c.in-Err-make.ensures.stopped.later
 
 pub returns-in-Err-make-clause-reads : goal.returns-in-Err-make-clause-reads
-returns-in-Err-make-clause-reads g c = reads_stay g.S.Shelf.tells (g.S.Shelf.view c.args.shelf.now) (g.S.Shelf.view c.write_first.new.shelf) (g.S.Shelf.view c.make.new.shelf) (plan_of c.args.plan) c.in-Ok.ensures.written c.in-Err-make.ensures.same c.in-Err-make.stop c.in-Err-make.ensures.reads
+returns-in-Err-make-clause-reads g c = reads_stay g.S.Shelf.tells (g.S.Shelf.view c.args.shelf.now) (g.S.Shelf.view c.write_first.new.shelf) (g.S.Shelf.view c.make.new.shelf) (plan_of c.args.plan) c.in-Ok.ensures.written c.in-Err-make.ensures.stopped.same c.in-Err-make.stop c.in-Err-make.ensures.stopped.reads
 
 pub returns-in-Err-make-clause-writes_later : goal.returns-in-Err-make-clause-writes_later
-returns-in-Err-make-clause-writes_later g c = writes_on g.S.Shelf.tells (g.S.Shelf.view c.args.shelf.now) (g.S.Shelf.view c.write_first.new.shelf) (g.S.Shelf.view c.make.new.shelf) (plan_of c.args.plan) c.in-Ok.ensures.written c.in-Err-make.ensures.same c.in-Err-make.ensures.writes
+returns-in-Err-make-clause-writes_later g c = writes_on g.S.Shelf.tells (g.S.Shelf.view c.args.shelf.now) (g.S.Shelf.view c.write_first.new.shelf) (g.S.Shelf.view c.make.new.shelf) (plan_of c.args.plan) c.in-Ok.ensures.written c.in-Err-make.ensures.stopped.same c.in-Err-make.ensures.stopped.writes
 
 pub returns-in-Err-make-clause-writes : goal.returns-in-Err-make-clause-writes
-returns-in-Err-make-clause-writes g c = writes_stay g.S.Shelf.tells (g.S.Shelf.view c.args.shelf.now) (g.S.Shelf.view c.write_first.new.shelf) (g.S.Shelf.view c.make.new.shelf) (plan_of c.args.plan) c.in-Ok.ensures.written c.in-Err-make.ensures.same c.in-Err-make.stop c.in-Err-make.ensures.writes
+returns-in-Err-make-clause-writes g c = writes_stay g.S.Shelf.tells (g.S.Shelf.view c.args.shelf.now) (g.S.Shelf.view c.write_first.new.shelf) (g.S.Shelf.view c.make.new.shelf) (plan_of c.args.plan) c.in-Ok.ensures.written c.in-Err-make.ensures.stopped.same c.in-Err-make.stop c.in-Err-make.ensures.stopped.writes
 
 pub returns-in-Err-make-clause-once : goal.returns-in-Err-make-clause-once
-returns-in-Err-make-clause-once g c = made_once g.S.Shelf.tells (g.S.Shelf.view c.args.shelf.now) (g.S.Shelf.view c.write_first.new.shelf) (g.S.Shelf.view c.make.new.shelf) (plan_of c.args.plan) c.in-Ok.ensures.written c.in-Err-make.ensures.same c.in-Err-make.ensures.once
+returns-in-Err-make-clause-once g c = made_once g.S.Shelf.tells (g.S.Shelf.view c.args.shelf.now) (g.S.Shelf.view c.write_first.new.shelf) (g.S.Shelf.view c.make.new.shelf) (plan_of c.args.plan) c.in-Ok.ensures.written c.in-Err-make.ensures.stopped.same c.in-Err-make.ensures.stopped.once
 
 -- ---- It was written
 
 pub returns-in-Ok-write_file-clause-done : goal.returns-in-Ok-write_file-clause-done
-returns-in-Ok-write_file-clause-done g c = is_performed g.S.Shelf.tells (g.S.Shelf.view c.args.shelf.now) (g.S.Shelf.view c.write_first.new.shelf) (g.S.Shelf.view c.make.new.shelf) (g.S.Shelf.view c.write_file.new.shelf) (plan_of c.args.plan) c.in-Ok.ensures.written c.in-Ok-make.ensures.same (file_of c.in-Ok-make.made) c.in-Ok-make.made.end c.in-Ok-make.ensures.made c.in-Ok-write_file.ensures.written
+returns-in-Ok-write_file-clause-done g c = is_performed g.S.Shelf.tells (g.S.Shelf.view c.args.shelf.now) (g.S.Shelf.view c.write_first.new.shelf) (g.S.Shelf.view c.make.new.shelf) (g.S.Shelf.view c.write_file.new.shelf) (plan_of c.args.plan) c.in-Ok.ensures.written c.in-Ok-make.ensures.read.same (file_of c.in-Ok-make.made) c.in-Ok-make.made.end c.in-Ok-make.ensures.made c.in-Ok-write_file.ensures.written
 
 pub returns-in-Ok-write_file-clause-value : goal.returns-in-Ok-write_file-clause-value
-returns-in-Ok-write_file-clause-value g c = λ value is. value_stays g.S.Shelf.tells (g.S.Shelf.view c.args.shelf.now) (g.S.Shelf.view c.write_first.new.shelf) (g.S.Shelf.view c.make.new.shelf) (g.S.Shelf.view c.write_file.new.shelf) (plan_of c.args.plan) c.in-Ok.ensures.written c.in-Ok-make.ensures.same (file_of c.in-Ok-make.made) c.in-Ok-make.made.end c.in-Ok-make.ensures.made value is c.in-Ok-write_file.ensures.written
+returns-in-Ok-write_file-clause-value g c = λ value is. value_stays g.S.Shelf.tells (g.S.Shelf.view c.args.shelf.now) (g.S.Shelf.view c.write_first.new.shelf) (g.S.Shelf.view c.make.new.shelf) (g.S.Shelf.view c.write_file.new.shelf) (plan_of c.args.plan) c.in-Ok.ensures.written c.in-Ok-make.ensures.read.same (file_of c.in-Ok-make.made) c.in-Ok-make.made.end c.in-Ok-make.ensures.made value is c.in-Ok-write_file.ensures.written
 
 pub returns-in-Ok-write_file-clause-others : goal.returns-in-Ok-write_file-clause-others
-returns-in-Ok-write_file-clause-others g c = written_others g.S.Shelf.tells (g.S.Shelf.view c.args.shelf.now) (g.S.Shelf.view c.write_first.new.shelf) (g.S.Shelf.view c.make.new.shelf) (g.S.Shelf.view c.write_file.new.shelf) (plan_of c.args.plan) c.in-Ok.ensures.written c.in-Ok-make.ensures.same (file_of c.in-Ok-make.made) c.in-Ok-make.made.end c.in-Ok-make.ensures.made c.in-Ok-write_file.ensures.others
+returns-in-Ok-write_file-clause-others g c = written_others g.S.Shelf.tells (g.S.Shelf.view c.args.shelf.now) (g.S.Shelf.view c.write_first.new.shelf) (g.S.Shelf.view c.make.new.shelf) (g.S.Shelf.view c.write_file.new.shelf) (plan_of c.args.plan) c.in-Ok.ensures.written c.in-Ok-make.ensures.read.same (file_of c.in-Ok-make.made) c.in-Ok-make.made.end c.in-Ok-make.ensures.made c.in-Ok-write_file.ensures.others
 
 pub returns-in-Ok-write_file-clause-reads_later : goal.returns-in-Ok-write_file-clause-reads_later
-returns-in-Ok-write_file-clause-reads_later g c = all_reads_later g.S.Shelf.tells (g.S.Shelf.view c.args.shelf.now) (g.S.Shelf.view c.write_first.new.shelf) (g.S.Shelf.view c.make.new.shelf) (g.S.Shelf.view c.write_file.new.shelf) (plan_of c.args.plan) c.in-Ok.ensures.written c.in-Ok-make.ensures.same (file_of c.in-Ok-make.made) c.in-Ok-make.made.end c.in-Ok-make.ensures.made c.in-Ok-make.ensures.quiet c.in-Ok-write_file.ensures.reads
+returns-in-Ok-write_file-clause-reads_later g c = all_reads_later g.S.Shelf.tells (g.S.Shelf.view c.args.shelf.now) (g.S.Shelf.view c.write_first.new.shelf) (g.S.Shelf.view c.make.new.shelf) (g.S.Shelf.view c.write_file.new.shelf) (plan_of c.args.plan) c.in-Ok.ensures.written c.in-Ok-make.ensures.read.same (file_of c.in-Ok-make.made) c.in-Ok-make.made.end c.in-Ok-make.ensures.made c.in-Ok-make.ensures.read.reads c.in-Ok-write_file.ensures.reads
 
 pub returns-in-Ok-write_file-clause-reads_quiet : goal.returns-in-Ok-write_file-clause-reads_quiet
-returns-in-Ok-write_file-clause-reads_quiet g c = all_reads g.S.Shelf.tells (g.S.Shelf.view c.args.shelf.now) (g.S.Shelf.view c.write_first.new.shelf) (g.S.Shelf.view c.make.new.shelf) (g.S.Shelf.view c.write_file.new.shelf) (plan_of c.args.plan) c.in-Ok.ensures.written c.in-Ok-make.ensures.same (file_of c.in-Ok-make.made) c.in-Ok-make.made.end c.in-Ok-make.ensures.made c.in-Ok-make.ensures.quiet c.in-Ok-write_file.ensures.reads
+returns-in-Ok-write_file-clause-reads_quiet g c = all_reads g.S.Shelf.tells (g.S.Shelf.view c.args.shelf.now) (g.S.Shelf.view c.write_first.new.shelf) (g.S.Shelf.view c.make.new.shelf) (g.S.Shelf.view c.write_file.new.shelf) (plan_of c.args.plan) c.in-Ok.ensures.written c.in-Ok-make.ensures.read.same (file_of c.in-Ok-make.made) c.in-Ok-make.made.end c.in-Ok-make.ensures.made c.in-Ok-make.ensures.read.reads c.in-Ok-write_file.ensures.reads
 
 pub returns-in-Ok-write_file-clause-writes_later : goal.returns-in-Ok-write_file-clause-writes_later
-returns-in-Ok-write_file-clause-writes_later g c = all_writes_later g.S.Shelf.tells (g.S.Shelf.view c.args.shelf.now) (g.S.Shelf.view c.write_first.new.shelf) (g.S.Shelf.view c.make.new.shelf) (g.S.Shelf.view c.write_file.new.shelf) (plan_of c.args.plan) c.in-Ok.ensures.written c.in-Ok-make.ensures.same (file_of c.in-Ok-make.made) c.in-Ok-make.made.end c.in-Ok-make.ensures.made c.in-Ok-make.ensures.writes c.in-Ok-write_file.ensures.later
+returns-in-Ok-write_file-clause-writes_later g c = all_writes_later g.S.Shelf.tells (g.S.Shelf.view c.args.shelf.now) (g.S.Shelf.view c.write_first.new.shelf) (g.S.Shelf.view c.make.new.shelf) (g.S.Shelf.view c.write_file.new.shelf) (plan_of c.args.plan) c.in-Ok.ensures.written c.in-Ok-make.ensures.read.same (file_of c.in-Ok-make.made) c.in-Ok-make.made.end c.in-Ok-make.ensures.made c.in-Ok-make.ensures.read.writes c.in-Ok-write_file.ensures.later
 
 pub returns-in-Ok-write_file-clause-writes_quiet : goal.returns-in-Ok-write_file-clause-writes_quiet
-returns-in-Ok-write_file-clause-writes_quiet g c = all_writes g.S.Shelf.tells (g.S.Shelf.view c.args.shelf.now) (g.S.Shelf.view c.write_first.new.shelf) (g.S.Shelf.view c.make.new.shelf) (g.S.Shelf.view c.write_file.new.shelf) (plan_of c.args.plan) c.in-Ok.ensures.written c.in-Ok-make.ensures.same (file_of c.in-Ok-make.made) c.in-Ok-make.made.end c.in-Ok-make.ensures.made c.in-Ok-make.ensures.writes c.in-Ok-write_file.ensures.quiet
+returns-in-Ok-write_file-clause-writes_quiet g c = all_writes g.S.Shelf.tells (g.S.Shelf.view c.args.shelf.now) (g.S.Shelf.view c.write_first.new.shelf) (g.S.Shelf.view c.make.new.shelf) (g.S.Shelf.view c.write_file.new.shelf) (plan_of c.args.plan) c.in-Ok.ensures.written c.in-Ok-make.ensures.read.same (file_of c.in-Ok-make.made) c.in-Ok-make.made.end c.in-Ok-make.ensures.made c.in-Ok-make.ensures.read.writes c.in-Ok-write_file.ensures.quiet
 
 pub returns-in-Ok-write_file-clause-once : goal.returns-in-Ok-write_file-clause-once
-returns-in-Ok-write_file-clause-once g c = all_once g.S.Shelf.tells (g.S.Shelf.view c.args.shelf.now) (g.S.Shelf.view c.write_first.new.shelf) (g.S.Shelf.view c.make.new.shelf) (g.S.Shelf.view c.write_file.new.shelf) (plan_of c.args.plan) c.in-Ok.ensures.written c.in-Ok-make.ensures.same (file_of c.in-Ok-make.made) c.in-Ok-make.made.end c.in-Ok-make.ensures.made c.in-Ok-make.ensures.called c.in-Ok-write_file.ensures.once
+returns-in-Ok-write_file-clause-once g c = all_once g.S.Shelf.tells (g.S.Shelf.view c.args.shelf.now) (g.S.Shelf.view c.write_first.new.shelf) (g.S.Shelf.view c.make.new.shelf) (g.S.Shelf.view c.write_file.new.shelf) (plan_of c.args.plan) c.in-Ok.ensures.written c.in-Ok-make.ensures.read.same (file_of c.in-Ok-make.made) c.in-Ok-make.made.end c.in-Ok-make.ensures.made c.in-Ok-make.ensures.read.called c.in-Ok-write_file.ensures.once
 
 -- ---- It was not written
 
 pub returns-clause-stop : goal.returns-clause-stop
-returns-clause-stop g c = unwritten_stop g.S.Shelf.tells (g.S.Shelf.view c.args.shelf.now) (g.S.Shelf.view c.write_first.new.shelf) (g.S.Shelf.view c.make.new.shelf) (g.S.Shelf.view c.write_file.new.shelf) (plan_of c.args.plan) c.in-Ok.ensures.written c.in-Ok-make.ensures.same (file_of c.in-Ok-make.made) c.in-Ok-make.made.end c.in-Ok-make.ensures.made c.in-Ok-make.ensures.writes c.in-Err-write_file.stop c.in-Err-write_file.ensures.stop
+returns-clause-stop g c = unwritten_stop g.S.Shelf.tells (g.S.Shelf.view c.args.shelf.now) (g.S.Shelf.view c.write_first.new.shelf) (g.S.Shelf.view c.make.new.shelf) (g.S.Shelf.view c.write_file.new.shelf) (plan_of c.args.plan) c.in-Ok.ensures.written c.in-Ok-make.ensures.read.same (file_of c.in-Ok-make.made) c.in-Ok-make.made.end c.in-Ok-make.ensures.made c.in-Ok-make.ensures.read.writes c.in-Err-write_file.stop c.in-Err-write_file.ensures.stop
 
 pub returns-clause-others : goal.returns-clause-others
-returns-clause-others g c = written_others g.S.Shelf.tells (g.S.Shelf.view c.args.shelf.now) (g.S.Shelf.view c.write_first.new.shelf) (g.S.Shelf.view c.make.new.shelf) (g.S.Shelf.view c.write_file.new.shelf) (plan_of c.args.plan) c.in-Ok.ensures.written c.in-Ok-make.ensures.same (file_of c.in-Ok-make.made) c.in-Ok-make.made.end c.in-Ok-make.ensures.made c.in-Err-write_file.ensures.others
+returns-clause-others g c = written_others g.S.Shelf.tells (g.S.Shelf.view c.args.shelf.now) (g.S.Shelf.view c.write_first.new.shelf) (g.S.Shelf.view c.make.new.shelf) (g.S.Shelf.view c.write_file.new.shelf) (plan_of c.args.plan) c.in-Ok.ensures.written c.in-Ok-make.ensures.read.same (file_of c.in-Ok-make.made) c.in-Ok-make.made.end c.in-Ok-make.ensures.made c.in-Err-write_file.ensures.others
 
 pub returns-clause-same : goal.returns-clause-same
-returns-clause-same g c = unwritten_files g.S.Shelf.tells (g.S.Shelf.view c.args.shelf.now) (g.S.Shelf.view c.write_first.new.shelf) (g.S.Shelf.view c.make.new.shelf) (g.S.Shelf.view c.write_file.new.shelf) (plan_of c.args.plan) c.in-Ok.ensures.written c.in-Ok-make.ensures.same (file_of c.in-Ok-make.made) c.in-Ok-make.made.end c.in-Ok-make.ensures.made c.in-Err-write_file.stop c.in-Err-write_file.ensures.same
+returns-clause-same g c = unwritten_files g.S.Shelf.tells (g.S.Shelf.view c.args.shelf.now) (g.S.Shelf.view c.write_first.new.shelf) (g.S.Shelf.view c.make.new.shelf) (g.S.Shelf.view c.write_file.new.shelf) (plan_of c.args.plan) c.in-Ok.ensures.written c.in-Ok-make.ensures.read.same (file_of c.in-Ok-make.made) c.in-Ok-make.made.end c.in-Ok-make.ensures.made c.in-Err-write_file.stop c.in-Err-write_file.ensures.same
 
 pub returns-clause-reads_later : goal.returns-clause-reads_later
-returns-clause-reads_later g c = all_reads_later g.S.Shelf.tells (g.S.Shelf.view c.args.shelf.now) (g.S.Shelf.view c.write_first.new.shelf) (g.S.Shelf.view c.make.new.shelf) (g.S.Shelf.view c.write_file.new.shelf) (plan_of c.args.plan) c.in-Ok.ensures.written c.in-Ok-make.ensures.same (file_of c.in-Ok-make.made) c.in-Ok-make.made.end c.in-Ok-make.ensures.made c.in-Ok-make.ensures.quiet c.in-Err-write_file.ensures.reads
+returns-clause-reads_later g c = all_reads_later g.S.Shelf.tells (g.S.Shelf.view c.args.shelf.now) (g.S.Shelf.view c.write_first.new.shelf) (g.S.Shelf.view c.make.new.shelf) (g.S.Shelf.view c.write_file.new.shelf) (plan_of c.args.plan) c.in-Ok.ensures.written c.in-Ok-make.ensures.read.same (file_of c.in-Ok-make.made) c.in-Ok-make.made.end c.in-Ok-make.ensures.made c.in-Ok-make.ensures.read.reads c.in-Err-write_file.ensures.reads
 
 pub returns-clause-reads : goal.returns-clause-reads
-returns-clause-reads g c = λ other. all_reads g.S.Shelf.tells (g.S.Shelf.view c.args.shelf.now) (g.S.Shelf.view c.write_first.new.shelf) (g.S.Shelf.view c.make.new.shelf) (g.S.Shelf.view c.write_file.new.shelf) (plan_of c.args.plan) c.in-Ok.ensures.written c.in-Ok-make.ensures.same (file_of c.in-Ok-make.made) c.in-Ok-make.made.end c.in-Ok-make.ensures.made c.in-Ok-make.ensures.quiet c.in-Err-write_file.ensures.reads
+returns-clause-reads g c = λ other. all_reads g.S.Shelf.tells (g.S.Shelf.view c.args.shelf.now) (g.S.Shelf.view c.write_first.new.shelf) (g.S.Shelf.view c.make.new.shelf) (g.S.Shelf.view c.write_file.new.shelf) (plan_of c.args.plan) c.in-Ok.ensures.written c.in-Ok-make.ensures.read.same (file_of c.in-Ok-make.made) c.in-Ok-make.made.end c.in-Ok-make.ensures.made c.in-Ok-make.ensures.read.reads c.in-Err-write_file.ensures.reads
 
 pub returns-clause-writes_later : goal.returns-clause-writes_later
-returns-clause-writes_later g c = all_writes_later g.S.Shelf.tells (g.S.Shelf.view c.args.shelf.now) (g.S.Shelf.view c.write_first.new.shelf) (g.S.Shelf.view c.make.new.shelf) (g.S.Shelf.view c.write_file.new.shelf) (plan_of c.args.plan) c.in-Ok.ensures.written c.in-Ok-make.ensures.same (file_of c.in-Ok-make.made) c.in-Ok-make.made.end c.in-Ok-make.ensures.made c.in-Ok-make.ensures.writes c.in-Err-write_file.ensures.later
+returns-clause-writes_later g c = all_writes_later g.S.Shelf.tells (g.S.Shelf.view c.args.shelf.now) (g.S.Shelf.view c.write_first.new.shelf) (g.S.Shelf.view c.make.new.shelf) (g.S.Shelf.view c.write_file.new.shelf) (plan_of c.args.plan) c.in-Ok.ensures.written c.in-Ok-make.ensures.read.same (file_of c.in-Ok-make.made) c.in-Ok-make.made.end c.in-Ok-make.ensures.made c.in-Ok-make.ensures.read.writes c.in-Err-write_file.ensures.later
 
 pub returns-clause-writes : goal.returns-clause-writes
-returns-clause-writes g c = unwritten_counts g.S.Shelf.tells (g.S.Shelf.view c.args.shelf.now) (g.S.Shelf.view c.write_first.new.shelf) (g.S.Shelf.view c.make.new.shelf) (g.S.Shelf.view c.write_file.new.shelf) (plan_of c.args.plan) c.in-Ok.ensures.written c.in-Ok-make.ensures.same (file_of c.in-Ok-make.made) c.in-Ok-make.made.end c.in-Ok-make.ensures.made c.in-Err-write_file.stop c.in-Ok-make.ensures.writes c.in-Err-write_file.ensures.writes
+returns-clause-writes g c = unwritten_counts g.S.Shelf.tells (g.S.Shelf.view c.args.shelf.now) (g.S.Shelf.view c.write_first.new.shelf) (g.S.Shelf.view c.make.new.shelf) (g.S.Shelf.view c.write_file.new.shelf) (plan_of c.args.plan) c.in-Ok.ensures.written c.in-Ok-make.ensures.read.same (file_of c.in-Ok-make.made) c.in-Ok-make.made.end c.in-Ok-make.ensures.made c.in-Err-write_file.stop c.in-Ok-make.ensures.read.writes c.in-Err-write_file.ensures.writes
 
 pub returns-clause-once : goal.returns-clause-once
-returns-clause-once g c = all_once g.S.Shelf.tells (g.S.Shelf.view c.args.shelf.now) (g.S.Shelf.view c.write_first.new.shelf) (g.S.Shelf.view c.make.new.shelf) (g.S.Shelf.view c.write_file.new.shelf) (plan_of c.args.plan) c.in-Ok.ensures.written c.in-Ok-make.ensures.same (file_of c.in-Ok-make.made) c.in-Ok-make.made.end c.in-Ok-make.ensures.made c.in-Ok-make.ensures.called c.in-Err-write_file.ensures.once
+returns-clause-once g c = all_once g.S.Shelf.tells (g.S.Shelf.view c.args.shelf.now) (g.S.Shelf.view c.write_first.new.shelf) (g.S.Shelf.view c.make.new.shelf) (g.S.Shelf.view c.write_file.new.shelf) (plan_of c.args.plan) c.in-Ok.ensures.written c.in-Ok-make.ensures.read.same (file_of c.in-Ok-make.made) c.in-Ok-make.made.end c.in-Ok-make.ensures.made c.in-Ok-make.ensures.read.called c.in-Err-write_file.ensures.once

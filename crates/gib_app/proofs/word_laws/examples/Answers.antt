@@ -57,3 +57,27 @@ returns-clause-code_skips c = refl
 pub returns-clause-plain_skips : goal.returns-clause-plain_skips
 unfolding clap_on_literals
 returns-clause-plain_skips c = refl
+
+pub returns-clause-workers : goal.returns-clause-workers
+unfolding clap_on_literals
+returns-clause-workers c = refl
+
+pub returns-clause-no_workers : goal.returns-clause-no_workers
+unfolding clap_on_literals
+returns-clause-no_workers c = refl
+
+pub returns-clause-forks : goal.returns-clause-forks
+unfolding clap_on_literals
+returns-clause-forks c = refl
+
+pub returns-clause-trace : goal.returns-clause-trace
+unfolding clap_on_literals
+returns-clause-trace c = refl
+
+pub returns-clause-replay : goal.returns-clause-replay
+unfolding clap_on_literals
+returns-clause-replay c = refl
+
+pub returns-clause-replay_depth : goal.returns-clause-replay_depth
+unfolding clap_on_literals
+returns-clause-replay_depth c = refl

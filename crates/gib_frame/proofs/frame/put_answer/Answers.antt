@@ -17,7 +17,7 @@ compare_exchange-requires g c = (search rules, search rules, takes_it _ _ _ _ _ 
 
 pub store-requires : goal.store-requires
 store-requires g c = let x = c.compare_exchange.ensures.2 in let t = x.1 c.if-compare_exchange-eq-FREE.true in let e = c.exchange.ensures in
-    let y : Option Given = Some (record { answer = c.args.answer; pass = c.args.pass }) in
+    let y : Option Given = Some (record { ending = c.args.ending; pass = c.args.pass }) in
     let v = ap (λ m. m.0) e.3 ∙ (x.0 ∙ (ap (λ m. m.0) c.turns.invariant.1 ∙ c.load_new_seat-word.ensures.2)) in
     let held = ap (λ m. m.1) e.3 ∙ ap (λ l. (0, y) ∷ rest l) t.1 in
     let k = c.deref.ensures in

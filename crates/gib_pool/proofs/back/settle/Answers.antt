@@ -1,4 +1,4 @@
-use Rattle.std.proofs.Common.{◌≡◌, refl, sym, ap, ◌∙◌}
+use Rattle.std.proofs.Common.{◌≡◌, sym, ap, ◌∙◌}
 use Rattle.gib_arena.specs.Passes.{view}
 use Rattle.gib_arena.specs.declared.memory.Pass.{Pass}
 use Rattle.gib_frame.specs.declared.due.Due.{Due}
@@ -17,12 +17,17 @@ returns-in-Some-clause-lends g c = λ lent h.
     let none = ap (λ (p : Pass). (view p).branch.out) t.parts.1 ∙ t.task.none_out in
     lends_less c.args.pass.now c.open-reply.result.4 c.join.new.self v.0 (frame_due c.args.frame.now) lent (c.join.ensures.of ∙ sym c.requires.own.0) v.1 (ap (λ (p : Pass). (view p).branch.path) is) none h
 
-pub returns-in-Some-answer-clause-lends : goal.returns-in-Some-answer-clause-lends
-returns-in-Some-answer-clause-lends g c = λ lent h.
-    let v = c.join-2.ensures.both in let d = c.wait_answer-answer.ensures in
-    lends_less c.args.pass.now c.wait_answer-answer.result.1 c.join-2.new.self v.0 (frame_due c.args.frame.now) lent (c.join-2.ensures.of ∙ sym c.requires.own.0) v.1 d.his.path d.his.none_out h
+pub returns-in-Answer-clause-lends : goal.returns-in-Answer-clause-lends
+returns-in-Answer-clause-lends g c = λ lent h.
+    let v = c.join-2.ensures.both in let d = c.wait_answer-ending.ensures in
+    lends_less c.args.pass.now c.wait_answer-ending.result.1 c.join-2.new.self v.0 (frame_due c.args.frame.now) lent (c.join-2.ensures.of ∙ sym c.requires.own.0) v.1 d.his.path d.his.none_out h
 
-pub returns-in-None-clause-lends : goal.returns-in-None-clause-lends
-returns-in-None-clause-lends g c = λ lent h.
-    let v = c.join-2.ensures.both in let d = c.wait_answer-answer.ensures in
-    lends_less c.args.pass.now c.wait_answer-answer.result.1 c.join-2.new.self v.0 (frame_due c.args.frame.now) lent (c.join-2.ensures.of ∙ sym c.requires.own.0) v.1 d.his.path d.his.none_out h
+pub returns-in-Full-clause-lends : goal.returns-in-Full-clause-lends
+returns-in-Full-clause-lends g c = λ lent h.
+    let v = c.join-2.ensures.both in let d = c.wait_answer-ending.ensures in
+    lends_less c.args.pass.now c.wait_answer-ending.result.1 c.join-2.new.self v.0 (frame_due c.args.frame.now) lent (c.join-2.ensures.of ∙ sym c.requires.own.0) v.1 d.his.path d.his.none_out h
+
+pub returns-in-NotRun-clause-lends : goal.returns-in-NotRun-clause-lends
+returns-in-NotRun-clause-lends g c = λ lent h.
+    let v = c.join-2.ensures.both in let d = c.wait_answer-ending.ensures in
+    lends_less c.args.pass.now c.wait_answer-ending.result.1 c.join-2.new.self v.0 (frame_due c.args.frame.now) lent (c.join-2.ensures.of ∙ sym c.requires.own.0) v.1 d.his.path d.his.none_out h

@@ -1,14 +1,13 @@
-use Rattle.std.proofs.Common.{◌≡◌, ◌∷◌, [], List, refl, sym, ap, subst, ◌∙◌, arith}
+use Rattle.std.proofs.Common.{◌∷◌, List, subst, ◌∙◌, arith}
 use Rattle.std.specs.Prelude.{Option, Some, None}
 use Rattle.crossbeam_deque.specs.Handles.{worker_view}
 use Rattle.gib_arena.specs.Passes.{view}
 use Rattle.gib_frame.specs.declared.due.Due.{Due}
-use Rattle.gib_frame.specs.declared.ends.Frame.{Frame}
 use Rattle.gib_frame.specs.Dues.{frame_due}
 use Rattle.gib_pool.specs.Lent.{Lends}
 use Rattle.gib_pool.proofs.Lending.{lends_it}
-use Rattle.gib_pool.specs.Frames.{due_maybe, lent_of, AreHere}
-use Rattle.gib_pool.proofs.Draining.{last_first, here_latest, here_after, now_lent}
+use Rattle.gib_pool.specs.Frames.{lent_of, AreHere}
+use Rattle.gib_pool.proofs.Draining.{here_latest, here_after, now_lent}
 use Rattle.gib_pool.proofs.drain.drain_frames.Goals as goal
 
 pub settle-requires-clause-own : goal.settle-requires-clause-own

@@ -1,5 +1,4 @@
-use Rattle.std.proofs.Common.{◌≡◌, List, Option, refl, sym, ap, subst, ◌∙◌}
-use Rattle.gib_core.specs.LoweredParts.{IsWhole}
+use Rattle.std.proofs.Common.{sym, ◌∙◌}
 use Rattle.gib_machine.specs.Stepping.{with_tails}
 use Rattle.gib_machine.specs.Machine.{next}
 use Rattle.gib_pool.proofs.Standing.{stays, stays_on, turn_stays, whole, can_step, steps, stands, keeps_width}

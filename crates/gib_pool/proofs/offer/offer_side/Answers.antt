@@ -1,4 +1,4 @@
-use Rattle.std.proofs.Common.{◌≡◌, refl, sym, ap, ◌∙◌}
+use Rattle.std.proofs.Common.{◌≡◌, sym, ap, ◌∙◌}
 use Rattle.gib_arena.specs.Passes.{view, cells}
 use Rattle.gib_arena.specs.declared.memory.Pass.{Pass}
 use Rattle.gib_core.specs.Parts.{core_of}

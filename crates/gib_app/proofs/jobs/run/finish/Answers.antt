@@ -1,7 +1,7 @@
-use Rattle.std.proofs.Common.{◌∙◌}
+use Rattle.std.proofs.Common.{◌∙◌, true}
+use Rattle.gib_arena.specs.Sole.{sole_memory, sole_bounded}
 use Rattle.gib_app.specs.Kept.{file_of}
-use Rattle.gib_app.specs.MachineRun.{cells_of}
-use Rattle.gib_app.proofs.Imaged.{imaged_ends, value_ends}
+use Rattle.gib_app.proofs.Imaged.{shown_runs, value_ends}
 use Rattle.gib_app.proofs.jobs.run.finish.Goals as goal
 
 pub returns-then-not-image-clause-made : goal.returns-then-not-image-clause-made
@@ -10,5 +10,5 @@ returns-then-not-image-clause-made c = λ p options input laid asked limit s. va
 pub returns-in-Ok-clause-made : goal.returns-in-Ok-clause-made
 returns-in-Ok-clause-made c = λ p options input laid asked limit s.
     let ran = c.args.value.ran in
-    imaged_ends p c.args.value.names options input ran.lowered.code.laid (cells_of ran.memory) ran.root s laid (asked ∙ c.if-not-image.false) _ limit (file_of c.in-Ok.made) c.in-Ok.made.end
-    (c.in-Ok.ensures.made p options.depth input s)
+    shown_runs p c.args.value.names options input ran.lowered.code.laid (sole_memory ran.memory) ran.root s (sole_bounded ran.memory) laid limit true (asked ∙ c.if-not-image.false) (file_of c.in-Ok.made) c.in-Ok.made.end
+    (c.in-Ok.ensures p options.depth input s)

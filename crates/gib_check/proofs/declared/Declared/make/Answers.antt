@@ -1,5 +1,5 @@
 use Rattle.std.proofs.Common.{ap, ◌∙◌, map}
-use Rattle.gib_check.specs.Views.{function_number}
+use Rattle.gib_check.specs.Views.{function_name}
 use Rattle.gib_check.specs.Functions.{head_in}
 use Rattle.gib_check.proofs.Making.{made_table, declared_is}
 use Rattle.gib_check.proofs.declared.Declared.make.Goals as goal
@@ -10,5 +10,5 @@ make_table-requires c = made_table c.args.program c.args.types c.data_decls.resu
 pub invariant_of-result : goal.invariant_of-result
 invariant_of-result c =
     declared_is c.args.program c.args.types c.data_decls.result.now c.in_ok-table.table c.in_ok-table.constructors c.in_ok-functions.functions c.in_ok-heads.heads.items c.data_decls.ensures c.requires.types c.in_ok-table.ensures.table c.in_ok-table.ensures.names
-    (c.in_ok-functions.ensures ∙ ap (map function_number) c.functions.ensures.value)
+    (c.in_ok-functions.ensures ∙ ap (map function_name) c.functions.ensures.value)
     (c.in_ok-heads.ensures ∙ ap (map (head_in c.args.types)) c.functions-2.ensures.value)

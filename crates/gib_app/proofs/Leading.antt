@@ -1,0 +1,180 @@
+-- From what workers or a journal leave to what the program means.
+use Rattle.std.proofs.Common.{◌≡◌, ◌∙◌, refl, Bool, ℕ, ◌≤◌, List, [], ◌∷◌, length, Option, Some, None, true, inl, inr, ap, sym, subst, subst₂}
+use Rattle.gib_types.specs.declared.table.Ty.{Ty}
+use Rattle.gib_types.specs.Layout.{LaidOut}
+use Rattle.gib_types.specs.Table.{Table}
+use Rattle.gib_types.specs.Tree.{Datum}
+use Rattle.gib_mem.specs.Memory.{Memory, Store}
+use Rattle.gib_packed.specs.declared.root.Root.{Root}
+use Rattle.gib_file.specs.Framed.{File}
+use Rattle.gib_file.specs.Packed.{Packed, IsPacked}
+use Rattle.gib_file.specs.Surveyed.{Surveyed}
+use Rattle.gib_syntax.specs.Tree.{ProgramTree}
+use Rattle.gib_syntax.specs.Declarations.{table_of_program, input_type, output_type}
+use Rattle.gib_syntax.specs.Meaning.{Outcome, Stops, Deep, run}
+use Rattle.gib_core.specs.Cost.{run_cost}
+use Rattle.gib_core.specs.LoweredParts.{LoweredParts}
+use Rattle.gib_core.specs.Meaning.{core_run}
+use Rattle.gib_core.specs.Parts.{core_of}
+use Rattle.gib_core.specs.Tight.{Tight}
+use Rattle.gib_core.specs.Tree.{CoreTree}
+use Rattle.gib_code.specs.declared.answer.Answer.{Answer}
+use Rattle.gib_code.specs.declared.answer.Answer.TheVariants as answer
+use Rattle.gib_code.specs.Program.{CodeTree}
+use Rattle.gib_lower.specs.Lowering.{lower_program}
+use Rattle.gib_load.specs.Placement.{Placement}
+use Rattle.gib_weave.specs.Running.{word_of}
+use Rattle.gib_weave.specs.Sound.{IsAnswer}
+use Rattle.gib_weave.specs.Weave.{weave_start}
+use Rattle.gib_locked.specs.JournalText.{journal_text}
+use Rattle.gib_locked.specs.Lines.{are_lines}
+use Rattle.gib_locked.specs.Replays.{IsAnswered}
+use Rattle.gib_locked.specs.declared.journal.Line.{Line}
+use Rattle.gib_locked.specs.declared.settings.Settings.{Settings}
+use Rattle.gib_app.specs.declared.input_fault.InputFault.{InputFault}
+use Rattle.gib_app.specs.declared.made.Reason.{Reason}
+use Rattle.gib_app.specs.declared.made.Reason.TheVariants as reason
+use Rattle.gib_app.specs.declared.plan.Options.{Options}
+use Rattle.gib_app.specs.declared.stop.Stop.{Stop}
+use Rattle.gib_app.specs.Cores.{core_after, layouts_of}
+use Rattle.gib_app.specs.InputFaults.{IsInputFault}
+use Rattle.gib_app.specs.MachineRun.{StandsMeant, IsRootOf}
+use Rattle.gib_app.specs.Replaying.{IsEndOf, IsSetBy, IsTrace, root_in}
+use Rattle.gib_app.specs.Running.{FillsUp, IsInput, RunsOut}
+use Rattle.gib_app.specs.Stops.{IsRunStop}
+use Rattle.gib_app.specs.Workers.{Engine, engine_for, engine_of, start_by, IsEndBy, IsLoaded, IsTraced, IsTraceStop, IsWorkersStop, OnlyFull}
+use Rattle.gib_app.proofs.Imaged.{stands_again}
+use Rattle.gib_app.proofs.Roots.{answered, input_of, table_laid}
+use Rattle.gib_app.proofs.Stopped.{stops_with}
+
+-- What was lowered is what runs for the program, and means what the program means.
+pub record IsEngineOf (p : ProgramTree) (skips : Bool) (l : LoweredParts) : Type 0 where
+  pub core : core_of l.core ≡ core_after skips 4 p
+  pub code : l.code ≡ lower_program (core_after skips 4 p)
+  pub laid : l.code.laid ≡ layouts_of skips p
+  pub means : (depth : ℕ) (v : Datum) → core_run (core_of l.core) depth v ≡ run p depth v
+
+abbrev engine : CoreTree → CodeTree → LaidOut → Engine
+engine core code laid = record { core = core; code = code; laid = laid }
+
+pub same_engine : (p : ProgramTree) (skips : Bool) (l : LoweredParts) → IsEngineOf p skips l → engine_of l ≡ engine_for p skips
+same_engine p skips l of =
+    ap (λ (c : CoreTree). engine c l.code l.code.laid) of.core ∙ (ap (λ (c : CodeTree). engine (core_after skips 4 p) c l.code.laid) of.code
+    ∙ ap (λ (x : LaidOut). engine (core_after skips 4 p) (lower_program (core_after skips 4 p)) x) of.laid)
+
+core_means : (p : ProgramTree) (skips : Bool) (l : LoweredParts) → IsEngineOf p skips l → (depth : ℕ) (v : Datum) → core_run (core_after skips 4 p) depth v ≡ run p depth v
+core_means p skips l of depth v = sym (ap (λ (c : CoreTree). core_run c depth v) of.core) ∙ of.means depth v
+
+-- An end of what was lowered is one for the program.
+pub end_meant : (p : ProgramTree) (l : LoweredParts) (v : Datum) (settings : Settings) (lines : List Line) (m : Memory) (a : Answer) → IsEngineOf p settings.skips l
+    → IsEndBy (engine_of l) v settings lines m a → IsEndOf p v settings lines m a
+end_meant p l v settings lines m a of h =
+    let there : IsEndBy (engine_for p settings.skips) v settings lines m a = subst (λ (e : Engine). IsEndBy e v settings lines m a) (same_engine p settings.skips l of) h in
+    record {
+      goes_in = there.goes_in;
+      answered = there.answered;
+      means = subst (λ (o : Outcome). IsAnswer (layouts_of settings.skips p) m.cells (output_type p) o a) (core_means p settings.skips l of settings.depth v) there.means;
+    }
+
+-- The root that is the answer stands for what the program means.
+abbrev pub end_stands : (p : ProgramTree) (input : List ℕ) (v : Datum) (settings : Settings) (lines : List Line) (m : Memory) (a : Answer) (place : Root) → IsInput p v input
+    → IsEndOf p v settings lines m a → root_in a ≡ Some place → StandsMeant p settings.depth input (layouts_of settings.skips p) m.cells place
+end_stands p input v settings lines m a place is ended there =
+    let laid = layouts_of settings.skips p in
+    let owed = run p settings.depth v in
+    let P : Option Root → Type 0 = λ found. Rattle.std.specs.Prelude.MatchOption found (owed ≡ Stops Deep) (IsRootOf laid m.cells (output_type p) owed) in
+    let root : IsRootOf laid m.cells (output_type p) owed place = subst P there (answered laid m.cells (output_type p) owed a ended.means) in
+    record { value = v; result = root.result; is_input = is; means = root.means; table = table_laid p settings.skips laid refl; stands = root.stands }
+
+-- Where there is none, depth ran out.
+pub end_deep : (p : ProgramTree) (v : Datum) (settings : Settings) (lines : List Line) (m : Memory) (a : Answer) → IsEndOf p v settings lines m a → root_in a ≡ None → (a ≡ answer.Deep) × (run p settings.depth v ≡ Stops Deep)
+end_deep p v settings lines m (answer.Whole z) ended nowhere = absurd cc
+end_deep p v settings lines m (answer.Truth b) ended nowhere = absurd cc
+end_deep p v settings lines m (answer.At a) ended nowhere = absurd cc
+end_deep p v settings lines m answer.Deep ended nowhere = (refl, ended.means)
+
+-- What becomes of a value that was loaded.
+pub loaded_end : (l : LoweredParts) (v : Datum) (settings js : Settings) (chunks : ℕ) (lines : List Line) (m1 m2 : Memory) (place : Root) (tails : List ℕ) (a : Answer) → js ≡ settings → settings.chunks ≡ chunks
+    → IsLoaded l chunks v m1 place tails
+    → IsAnswered l.code (weave_start (core_of l.core) l.code m1 (word_of place) settings.depth settings.fork tails) lines m2 a
+    → IsAnswer l.code.laid m2.cells (core_of l.core).main.result (core_run (core_of l.core) settings.depth v) a → IsEndBy (engine_of l) v js lines m2 a
+loaded_end l v settings js chunks lines m1 m2 place tails a same enough loaded answered means =
+    let here : IsLoaded l settings.chunks v m1 place tails = subst (λ (n : ℕ). IsLoaded l n v m1 place tails) (sym enough) loaded in
+    let there : IsEndBy (engine_of l) v settings lines m2 a = record {
+      goes_in = here.few;
+      answered = subst (λ (x : Placement). IsAnswered l.code (start_by (engine_of l) settings x) lines m2 a) here.placed answered;
+      means = means;
+    } in
+    subst (λ (s : Settings). IsEndBy (engine_of l) v s lines m2 a) (sym same) there
+
+-- ---- Runs by workers
+
+-- Where chunks run out, so many may not be enough.
+pub full_tight : (core : CoreTree) (v : Datum) (o : Options) (settings : Settings) (limit : ℕ) → IsSetBy o settings → limit ≡ o.chunks → Tight limit (run_cost core settings.depth settings.fork v)
+    → Tight o.chunks (run_cost core o.depth o.fork v)
+full_tight core v o settings limit set enough h =
+    let one = subst (λ (n : ℕ). Tight n (run_cost core settings.depth settings.fork v)) enough h in
+    subst₂ (λ (d f : ℕ). Tight o.chunks (run_cost core d f v)) set.depth set.fork one
+
+pub traced_run : (p : ProgramTree) (o : Options) (input : List ℕ) (s : Surveyed) (l : LoweredParts) (settings : Settings) (lines : List Line) (m : Memory) (a : Answer) → IsEngineOf p o.skips l
+    → length input ≤ 16777216 → IsPacked s.table s.ty s.bytes s.count → ((v : Datum) → Packed s.table s.ty v s.bytes → File (table_of_program p) (input_type p) v input) → IsSetBy o settings
+    → ((v : Datum) → Packed s.table s.ty v s.bytes → IsEndBy (engine_of l) v settings lines m a) → IsTraced p o input settings lines m a
+traced_run p o input s l settings lines m a of short packed file set ends =
+    let there : IsEngineOf p settings.skips l = subst (λ (b : Bool). IsEngineOf p b l) (sym set.skips) of in
+    record {
+      value = packed.0;
+      is_input = input_of p input s short file packed.0 packed.1;
+      set = set;
+      ended = end_meant p l packed.0 settings lines m a there (ends packed.0 packed.1);
+    }
+
+pub traced_stops : (p : ProgramTree) (o : Options) (input : List ℕ) (s : Surveyed) (l : LoweredParts) → IsEngineOf p o.skips l
+    → length input ≤ 16777216 → IsPacked s.table s.ty s.bytes s.count → ((v : Datum) → Packed s.table s.ty v s.bytes → File (table_of_program p) (input_type p) v input) → (stop : Stop)
+    → ((v : Datum) → Packed s.table s.ty v s.bytes → IsWorkersStop (Tight o.chunks (run_cost (core_of l.core) o.depth o.fork v)) stop) → IsTraceStop p o input stop
+traced_stops p o input s l of short packed file stop ends = stops_with _ _ _ _ (λ fault h. absurd h) fills stop (ends packed.0 packed.1)
+  where
+    fills : (why : Reason) → OnlyFull (Tight o.chunks (run_cost (core_of l.core) o.depth o.fork packed.0)) why → OnlyFull (FillsUp p o.skips o.depth o.fork o.chunks input) why
+    fills reason.Deep h = h
+    fills reason.Full h = record {
+      value = packed.0;
+      is_input = input_of p input s short file packed.0 packed.1;
+      tight = subst (λ (c : CoreTree). Tight o.chunks (run_cost c o.depth o.fork packed.0)) of.core h;
+    }
+
+-- Where the input is refused, no worker runs.
+pub refused_trace : (p : ProgramTree) (o : Options) (input : List ℕ) (stop : Stop) → IsRunStop p input stop → IsTraceStop p o input stop
+refused_trace p o input stop h = stops_with _ _ _ _ (λ fault h. h) (λ why h. absurd h) stop h
+
+pub traced_stands : (p : ProgramTree) (o : Options) (input : List ℕ) (settings : Settings) (lines : List Line) (m : Memory) (a : Answer) (place : Root) → IsTraced p o input settings lines m a
+    → root_in a ≡ Some place → StandsMeant p o.depth input (layouts_of o.skips p) m.cells place
+traced_stands p o input settings lines m a place h there =
+    subst₂ (λ (d : ℕ) (b : Bool). StandsMeant p d input (layouts_of b p) m.cells place) h.set.depth h.set.skips (end_stands p input h.value settings lines m a place h.is_input h.ended there)
+
+-- So it is where the code and the memory were handed on.
+pub ran_stands : (p : ProgramTree) (o : Options) (input : List ℕ) (settings : Settings) (lines : List Line) (m n : Memory) (a : Answer) (other : LaidOut) (place : Root) → IsTraced p o input settings lines m a
+    → other ≡ layouts_of o.skips p → n ≡ m → root_in a ≡ Some place → StandsMeant p o.depth input other n.cells place
+ran_stands p o input settings lines m n a other place h e f there =
+    stands_again p o.depth input (layouts_of o.skips p) other m n place place e f refl (traced_stands p o input settings lines m a place h there)
+
+pub traced_deep : (p : ProgramTree) (o : Options) (input : List ℕ) (settings : Settings) (lines : List Line) (m : Memory) (a : Answer) → IsTraced p o input settings lines m a → root_in a ≡ None → RunsOut p o.depth input
+traced_deep p o input settings lines m a h nowhere = record {
+  value = h.value;
+  is_input = h.is_input;
+  means = subst (λ (d : ℕ). run p d h.value ≡ Stops Deep) h.set.depth (end_deep p h.value settings lines m a h.ended nowhere).1;
+}
+
+-- The text of the journal of such a run is a trace.
+pub trace_of : (p : ProgramTree) (o : Options) (input bytes : List ℕ) (settings : Settings) (lines : List Line) (m : Memory) (a : Answer) → IsTraced p o input settings lines m a → are_lines lines ≡ true
+    → bytes ≡ journal_text settings lines → IsTrace p o input bytes
+trace_of p o input bytes settings lines m a h are is = record {
+  value = h.value;
+  settings = settings;
+  lines = lines;
+  memory = m;
+  ends_with = a;
+  is_input = h.is_input;
+  set = h.set;
+  are = are;
+  text_is = is;
+  ended = h.ended;
+}

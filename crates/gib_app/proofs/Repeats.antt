@@ -1,0 +1,119 @@
+-- A replay of the journal of a trace ends as the trace did.
+use Rattle.std.proofs.Common.{◌≡◌, ◌∙◌, ◌≤◌, refl, sym, ap, subst, false, ℕ, List, [], ◌∷◌, length, Option, Some, None}
+use Rattle.gib_types.specs.declared.table.Ty.{Ty}
+use Rattle.gib_types.specs.Layout.{LaidOut}
+use Rattle.gib_types.specs.Tree.{Datum}
+use Rattle.gib_mem.specs.Memory.{Store}
+use Rattle.gib_packed.specs.declared.root.Root.{Root}
+use Rattle.gib_packed.specs.declared.root.Root.TheVariants as place
+use Rattle.gib_code.specs.declared.answer.Answer.{Answer}
+use Rattle.gib_code.specs.declared.answer.Answer.TheVariants as answer
+use Rattle.gib_weave.specs.Sound.{IsAnswer}
+use Rattle.gib_syntax.specs.Tree.{ProgramTree}
+use Rattle.gib_syntax.specs.Declarations.{table_of_program, input_type, output_type}
+use Rattle.gib_syntax.specs.Meaning.{Outcome, Gives, Stops, run}
+use Rattle.gib_syntax.specs.Meaning.{Deep as TooDeep}
+use Rattle.gib_app.specs.declared.made.Reason.TheVariants.{Deep, Full}
+use Rattle.gib_app.specs.declared.plan.Job.TheVariants.{Replay, Trace}
+use Rattle.gib_app.specs.declared.plan.Options.{Options}
+use Rattle.gib_app.specs.Cores.{layouts_of}
+use Rattle.gib_app.specs.Jobs.{End, Prints, NoValue, Does, without_image}
+use Rattle.gib_app.specs.Plan.{Contents}
+use Rattle.gib_app.specs.Replaying.{IsDeepEnd, IsEndOf, IsShownEnd, IsTrace, OnJournal, journal_in, root_in}
+use Rattle.gib_app.specs.Running.{IsOutput, RunsOut, text_line}
+use Rattle.gib_app.proofs.Replays.{OneValue, both_on, some_or_none, shown_or_deep, shown_or_full, deep_or_full}
+
+-- An answer where a value is owed is a root, and one where depth runs out is none.
+
+module _ (laid : LaidOut) (s : Store) (type : Ty) (owed : Outcome) where
+  root_there : (a : Answer) (v : Datum) → IsAnswer laid s type owed a → owed ≡ Gives v → (root : Root) × (root_in a ≡ Some root)
+  root_there (answer.Whole z) v h e = (place.Whole z, refl)
+  root_there (answer.Truth b) v h e = (place.Truth b, refl)
+  root_there (answer.At x) v h e = (place.At x, refl)
+  root_there answer.Deep v h e = let both = sym h ∙ e in cc
+
+  is_deep : (a : Answer) → IsAnswer laid s type owed a → owed ≡ Stops TooDeep → a ≡ answer.Deep
+  is_deep (answer.Whole z) h e = let both = sym h.2 ∙ e in cc
+  is_deep (answer.Truth b) h e = let both = sym h.1 ∙ e in cc
+  is_deep (answer.At x) h e = let both = sym h.3 ∙ e in cc
+  is_deep answer.Deep h e = refl
+
+module _ (one : OneValue) (p : ProgramTree) (names : List (List ℕ)) (options : Options) (input bytes : List ℕ) (short : length bytes ≤ 16777216) (t : IsTrace p options input bytes) where
+  -- what the program means on the value within the depth of the options, it means within that of the journal
+  means_there : (v : Datum) (o : Outcome) → v ≡ t.value → run p options.depth v ≡ o → run p t.settings.depth t.value ≡ o
+  means_there v o same means =
+      let V : Datum → Type 0 = λ x. run p options.depth x ≡ o in
+      let D : ℕ → Type 0 = λ d. run p d t.value ≡ o in
+      subst D (sym t.set.depth) (subst V same means)
+
+  pub shown_again : (text : List ℕ) → IsOutput p names options.depth input text → OnJournal p input bytes (IsShownEnd p names false None text)
+  shown_again text h =
+      let same = one (table_of_program p) (input_type p) h.value t.value input h.is_input.file t.is_input.file in
+      let means = means_there h.value (Gives h.result) same h.means in
+      let root = root_there (layouts_of t.settings.skips p) t.memory.cells (output_type p) (run p t.settings.depth t.value) t.ends_with h.result t.ended.means means in
+      record {
+        value = t.value;
+        settings = t.settings;
+        lines = t.lines;
+        is_input = t.is_input;
+        is_journal = record { short = short; are = t.are; text_is = t.text_is };
+        holds = record {
+          memory = t.memory;
+          ends_with = t.ends_with;
+          place = root.0;
+          result = h.result;
+          ended = t.ended;
+          is_place = root.1;
+          means = means;
+          is_text = h.is_text;
+          is_file = refl;
+        };
+      }
+
+  pub deep_again : RunsOut p options.depth input → OnJournal p input bytes (IsDeepEnd p)
+  deep_again h =
+      let same = one (table_of_program p) (input_type p) h.value t.value input h.is_input.file t.is_input.file in
+      let means = means_there h.value (Stops TooDeep) same h.means in
+      let deep' = is_deep (layouts_of t.settings.skips p) t.memory.cells (output_type p) (run p t.settings.depth t.value) t.ends_with t.ended.means means in
+      let E : Answer → Type 0 = IsEndOf p t.value t.settings t.lines t.memory in
+      record {
+        value = t.value;
+        settings = t.settings;
+        lines = t.lines;
+        is_input = t.is_input;
+        is_journal = record { short = short; are = t.are; text_is = t.text_is };
+        holds = record { memory = t.memory; ended = subst E deep' t.ended; means = means };
+      }
+
+one_outcome : (o : Outcome) (u v : Datum) → o ≡ Gives u → o ≡ Gives v → u ≡ v
+one_outcome o u v e f = let both = sym e ∙ f in cc
+
+module _ (one : OneValue) (p : ProgramTree) (names : List (List ℕ)) where
+  -- the journal is replayed to the same end
+  pub replays_again : (o a : Options) (given : Contents) (bytes : List ℕ) (e : End) → length bytes ≤ 16777216 → Does Trace o p names given (Some bytes) e →
+      Does Replay (without_image a) p names (record { second = given.second; further = bytes ∷ [] }) None e
+  replays_again o a given bytes (Prints text) short h = shown_again one p names o given.second bytes short h.0 text h.1
+  replays_again o a given bytes (NoValue Deep) short h = (refl, deep_again one p names o given.second bytes short h.0 h.1)
+  replays_again o a given bytes (NoValue Full) short h = absurd (some_or_none bytes h.0)
+
+  -- and to no other one
+  one_end : (o a : Options) (given : Contents) (file other : Option (List ℕ)) (e f : End) → Does Replay o p names given file e → Does Replay a p names given other f → e ≡ f
+  one_end o a given file other (Prints x) (Prints y) h k =
+      let both = both_on one p given.second (journal_in given) (IsShownEnd p names o.image file x) (IsShownEnd p names a.image other y) h k in
+      let shown = both.3 in
+      let again = both.4 in
+      let same = one_outcome (run p both.1.depth both.0) shown.result again.result shown.means again.means in
+      ap Prints (shown.is_text ∙ ap (text_line p names) same ∙ sym again.is_text)
+  one_end o a given file other (Prints x) (NoValue Deep) h k = absurd (shown_or_deep one p names given.second (journal_in given) o.image file x h k.1)
+  one_end o a given file other (Prints x) (NoValue Full) h k = absurd (shown_or_full one p names given.second (journal_in given) o.image file x h k.1)
+  one_end o a given file other (NoValue Deep) (Prints y) h k = absurd (shown_or_deep one p names given.second (journal_in given) a.image other y k h.1)
+  one_end o a given file other (NoValue Deep) (NoValue Deep) h k = refl
+  one_end o a given file other (NoValue Deep) (NoValue Full) h k = absurd (deep_or_full one p names given.second (journal_in given) h.1 k.1)
+  one_end o a given file other (NoValue Full) (Prints y) h k = absurd (shown_or_full one p names given.second (journal_in given) a.image other y k h.1)
+  one_end o a given file other (NoValue Full) (NoValue Deep) h k = absurd (deep_or_full one p names given.second (journal_in given) k.1 h.1)
+  one_end o a given file other (NoValue Full) (NoValue Full) h k = refl
+
+  pub same_end : (o a : Options) (given : Contents) (bytes : List ℕ) (file : Option (List ℕ)) (e f : End) → length bytes ≤ 16777216 → Does Trace o p names given (Some bytes) e →
+      Does Replay a p names (record { second = given.second; further = bytes ∷ [] }) file f → e ≡ f
+  same_end o a given bytes file e f short h k =
+      one_end (without_image a) a (record { second = given.second; further = bytes ∷ [] }) None file e f (replays_again o a given bytes e short h) k

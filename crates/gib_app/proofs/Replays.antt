@@ -1,0 +1,93 @@
+-- What the events of one journal lead to is one.
+use Rattle.std.proofs.Common.{◌≡◌, ◌∙◌, refl, sym, subst, Bool, true, false, cond, ℕ, ◌*◌, List, [], ◌∷◌, Option, Some, None, inl, inr}
+use Rattle.gib_types.specs.declared.table.Ty.{Ty}
+use Rattle.gib_types.specs.Layout.{LaidOut, head_size}
+use Rattle.gib_types.specs.Table.{Table}
+use Rattle.gib_types.specs.Tree.{Datum, whole, truth, con}
+use Rattle.gib_file.specs.Framed.{File}
+use Rattle.gib_mem.specs.Memory.{Memory, after_draw}
+use Rattle.gib_mem.specs.Plain.{nothing}
+use Rattle.gib_mem.proofs.Puts.{puts_alone}
+use Rattle.gib_mem.specs.Pointer.{pointer}
+use Rattle.gib_packed.specs.Head.{head_bytes}
+use Rattle.gib_region.specs.Region.{has_room, redirected}
+use Rattle.gib_load.specs.Placement.{Open, begun, place_head, place_heads, placed_in, spot_of, with_room}
+use Rattle.gib_load.specs.Preorder.{Head, heads}
+use Rattle.gib_load.specs.Spot.{further, places}
+use Rattle.gib_code.specs.declared.answer.Answer.{Answer}
+use Rattle.gib_code.specs.declared.answer.Answer.TheVariants as answer
+use Rattle.gib_weave.specs.declared.task.WeaveFault.TheVariants as event
+use Rattle.gib_locked.specs.declared.journal.Line.{Line}
+use Rattle.gib_locked.specs.declared.settings.Settings.{Settings}
+use Rattle.gib_locked.proofs.OneEnd.{not_answered}
+use Rattle.gib_locked.proofs.ReadJournal.{text_is_one}
+use Rattle.gib_syntax.specs.Tree.{ProgramTree}
+use Rattle.gib_syntax.specs.Declarations.{table_of_program, input_type}
+use Rattle.gib_syntax.specs.Meaning.{Outcome, Gives, Stops, Deep, run}
+use Rattle.gib_app.specs.Cores.{layouts_of}
+use Rattle.gib_app.specs.Replaying.{IsDeepEnd, IsEndOf, IsShownEnd, LacksChunks, OnJournal, code_for, start_for}
+
+-- A file is that of one value.
+abbrev pub OneValue : Type 0
+OneValue = (table : Table) (ty : Ty) (v w : Datum) (bytes : List ℕ) → File table ty v bytes → File table ty w bytes → v ≡ w
+
+-- what holds of one input and one journal, holds of one value, of one start and of the same lines
+pub both_on : OneValue → (p : ProgramTree) (input bytes : List ℕ) (P Q : Datum → Settings → List Line → Type 0) → OnJournal p input bytes P → OnJournal p input bytes Q →
+    (v : Datum) × (settings : Settings) × (lines : List Line) × P v settings lines × Q v settings lines
+both_on one p input bytes P Q a b =
+    let same = text_is_one b.settings a.settings b.lines a.lines b.is_journal.are a.is_journal.are (sym b.is_journal.text_is ∙ a.is_journal.text_is) in
+    let V : Datum → Type 0 = λ v. Q v b.settings b.lines in
+    let S : Settings → Type 0 = λ s. Q a.value s b.lines in
+    let L : List Line → Type 0 = λ ls. Q a.value a.settings ls in
+    let value = one (table_of_program p) (input_type p) b.value a.value input b.is_input.file a.is_input.file in
+    (a.value, a.settings, a.lines, a.holds, subst L same.1 (subst S same.0 (subst V value b.holds)))
+
+-- Nobody else draws where a replay starts.
+
+room_alone : (r : Open) (room : Bool) → (cond {A = Open} room r (record { memory = redirected r.memory r.at r.memory.drawn; at = 4096 * r.memory.drawn })).memory.alone ≡ r.memory.alone
+room_alone r true = refl
+room_alone r false = puts_alone (after_draw r.memory r.memory.drawn) r.at (pointer 255 (4096 * r.memory.drawn))
+
+heads_alone : (laid : LaidOut) (r : Open) (hs : List Head) → (place_heads laid r hs).memory.alone ≡ r.memory.alone
+heads_alone laid r [] = refl
+heads_alone laid r (h ∷ hs) =
+    let size = head_size laid h.tag in
+    let open' : Open = with_room r size in
+    let bytes = head_bytes laid h.tag (places laid (further (spot_of open') size) h.fields) h.fields in
+    heads_alone laid (place_head laid r h) hs ∙ (puts_alone open'.memory open'.at bytes ∙ room_alone r (has_room r.at size))
+
+placed_alone : (laid : LaidOut) (m : Memory) (v : Datum) → (placed_in laid m v).memory.alone ≡ m.alone
+placed_alone laid m (whole z) = refl
+placed_alone laid m (truth b) = refl
+placed_alone laid m (con k vs) = heads_alone laid (begun m) (heads (con k vs))
+
+pub start_alone : (p : ProgramTree) (settings : Settings) (v : Datum) → (start_for p settings v).memory.alone ≡ true
+start_alone p settings v = placed_alone (layouts_of settings.skips p) (nothing settings.chunks) v
+
+-- Where all events happen, none of them lacks chunks.
+pub ends_or_lacks : (p : ProgramTree) (v : Datum) (settings : Settings) (lines : List Line) (m : Memory) (a : Answer) → IsEndOf p v settings lines m a → LacksChunks p v settings lines → ⊥
+ends_or_lacks p v settings lines m a e (inl no') = no' e.goes_in
+ends_or_lacks p v settings lines m a e (inr h) = not_answered (code_for p settings) (start_for p settings v) lines (start_alone p settings v) h.1 event.Full tt h.2 m a e.answered
+
+pub gives_or_stops : (o : Outcome) (v : Datum) → o ≡ Gives v → o ≡ Stops Deep → ⊥
+gives_or_stops (Gives u) v e f = cc
+gives_or_stops (Stops why) v e f = cc
+
+pub some_or_none : (bytes : List ℕ) → Some bytes ≡ None → ⊥
+some_or_none bytes e = cc
+
+module _ (one : OneValue) (p : ProgramTree) (names : List (List ℕ)) (input bytes : List ℕ) where
+  pub shown_or_deep : (image : Bool) (file : Option (List ℕ)) (text : List ℕ) → OnJournal p input bytes (IsShownEnd p names image file text) → OnJournal p input bytes (IsDeepEnd p) → ⊥
+  shown_or_deep image file text h k =
+      let both = both_on one p input bytes (IsShownEnd p names image file text) (IsDeepEnd p) h k in
+      gives_or_stops (run p both.1.depth both.0) both.3.result both.3.means both.4.means
+
+  pub shown_or_full : (image : Bool) (file : Option (List ℕ)) (text : List ℕ) → OnJournal p input bytes (IsShownEnd p names image file text) → OnJournal p input bytes (LacksChunks p) → ⊥
+  shown_or_full image file text h k =
+      let both = both_on one p input bytes (IsShownEnd p names image file text) (LacksChunks p) h k in
+      ends_or_lacks p both.0 both.1 both.2 both.3.memory both.3.ends_with both.3.ended both.4
+
+  pub deep_or_full : OnJournal p input bytes (IsDeepEnd p) → OnJournal p input bytes (LacksChunks p) → ⊥
+  deep_or_full h k =
+      let both = both_on one p input bytes (IsDeepEnd p) (LacksChunks p) h k in
+      ends_or_lacks p both.0 both.1 both.2 both.3.memory answer.Deep both.3.ended both.4

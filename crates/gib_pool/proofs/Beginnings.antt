@@ -1,0 +1,116 @@
+-- How a job begins, and what its end is to whoever began it.
+use Rattle.std.proofs.Common.{◌≡◌, ℕ, List, [], sym, ap, subst, ◌∙◌}
+use Rattle.std.specs.Prelude.{Option}
+use Rattle.gib_types.specs.Tree.{Datum}
+use Rattle.gib_mem.specs.Memory.{Memory, absent, fresh, IsBounded}
+use Rattle.gib_code.specs.declared.answer.Side.{Side}
+use Rattle.gib_code.specs.Program.{CodeTree}
+use Rattle.gib_packed.specs.declared.root.Root.{Root}
+use Rattle.gib_core.specs.LoweredParts.{LoweredParts, IsWhole}
+use Rattle.gib_core.specs.Cost.{nothing}
+use Rattle.gib_core.specs.Meaning.{core_run}
+use Rattle.gib_core.specs.Parts.{core_of}
+use Rattle.gib_machine.specs.Machine.{State, side_start, widest}
+use Rattle.gib_machine.specs.Starting.{waiting_of}
+use Rattle.gib_machine.specs.Stepping.{with_tails}
+use Rattle.gib_weave.specs.Owing.{Debt}
+use Rattle.gib_weave.specs.Paying.{root_share}
+use Rattle.gib_weave.specs.Places.{IsSmall, tail_covers}
+use Rattle.gib_weave.specs.Running.{IsStart, word_of}
+use Rattle.gib_weave.specs.Starting.{root_start}
+use Rattle.gib_weave.specs.Sound.{SideSafe, IsAnswer}
+use Rattle.gib_arena.specs.declared.memory.Pass.{Pass}
+use Rattle.gib_arena.specs.declared.memory.Arena.{Arena}
+use Rattle.gib_arena.specs.Passes.{view, cells, IsOf}
+use Rattle.gib_frame.specs.declared.due.Due.{Due}
+use Rattle.gib_frame.specs.declared.due.Ending.{Ending}
+use Rattle.gib_frame.specs.declared.due.Ending.TheVariants as ending
+use Rattle.gib_frame.specs.declared.ends.Frame.{Frame}
+use Rattle.gib_frame.specs.Answers.{IsEnding}
+use Rattle.gib_frame.specs.TaskParts.{TaskParts, IsTask}
+use Rattle.gib_pool.specs.declared.job.Job.{Job}
+use Rattle.gib_pool.specs.Frames.{lent_of, AreHere}
+use Rattle.gib_pool.specs.Jobs.{Holds, IsHere, OwesStill, Settles}
+use Rattle.gib_pool.specs.Lent.{Lends}
+use Rattle.gib_pool.specs.Runs.{IsRun, outcome}
+use Rattle.gib_pool.specs.Turn.{Works}
+use Rattle.gib_weave.proofs.Bills.{root_counted}
+use Rattle.gib_weave.proofs.Memories.{bounded_small, tails_apart, tails_have_room}
+use Rattle.gib_weave.proofs.RootEnds.{argument}
+use Rattle.gib_weave.proofs.Starts.{lowered_main, root_starts}
+use Rattle.gib_pool.proofs.Turns.{begins}
+
+-- A job as it is made.
+pub record IsMade (j : Job) (m : State) (ts : List ℕ) (p : Pass) : Type 0 where
+  pub machine : j.machine ≡ m
+  pub tails : j.tails ≡ ts
+  pub pass : j.pass ≡ p
+  pub frames : j.frames.items ≡ []
+
+pub job_owes : (l : LoweredParts) (d : Debt) (j : Job) (m : State) (ts : List ℕ) (p : Pass) → IsMade j m ts p → Works l d (cells p) (with_tails m ts) [] → OwesStill l d j
+job_owes l d j m ts p is w =
+    let state : with_tails j.machine j.tails ≡ with_tails m ts = ap (λ (s : State). with_tails s j.tails) is.machine ∙ ap (with_tails m) is.tails in
+    subst (λ (x : Pass). Works l d (cells x) (with_tails j.machine j.tails) (lent_of j.frames.items)) (sym is.pass)
+    (subst (λ (xs : List (Option Frame)). Works l d (cells p) (with_tails j.machine j.tails) (lent_of xs)) (sym is.frames)
+    (subst (λ (s : State). Works l d (cells p) s []) (sym state) w))
+
+-- A side that is begun owes what it owed when it was split.
+pub side_owes : (l : LoweredParts) (d : Debt) (due : Due) (code : CodeTree) (side : Side) (p : Pass) (m : State) (j : Job) → due.lowered.value ≡ l → code ≡ l.code → due.side.value ≡ side → due.pass.value ≡ p
+    → m ≡ side_start code (waiting_of side) → IsMade j m [] p → IsSmall (cells p) → SideSafe (core_of due.lowered.value.core) due.lowered.value.code d (cells due.pass.value) (waiting_of due.side.value) → OwesStill l d j
+side_owes l d due code side p m j el ec es ep em is small safe =
+    let a = subst (λ (x : LoweredParts). SideSafe (core_of x.core) x.code d (cells due.pass.value) (waiting_of due.side.value)) el safe in
+    let b = subst (λ (x : Pass). SideSafe (core_of l.core) l.code d (cells x) (waiting_of due.side.value)) ep a in
+    let s = subst (λ (x : Side). SideSafe (core_of l.core) l.code d (cells p) (waiting_of x)) es b in
+    let state : m ≡ side_start l.code (waiting_of side) = em ∙ ap (λ (x : CodeTree). side_start x (waiting_of side)) ec in
+    job_owes l d j m [] p is (subst (λ (x : State). Works l d (cells p) (with_tails x []) []) (sym state) (begins l d (cells p) (waiting_of side) small s))
+
+-- The side of a task that was opened owes something.
+pub task_debt : (t : TaskParts) (due : Due) → IsTask t → due ≡ t.due → (d : Debt) × SideSafe (core_of due.lowered.value.core) due.lowered.value.code d (cells due.pass.value) (waiting_of due.side.value)
+task_debt t due is e =
+    let SafeIn : Due → Debt → Type 0 = λ u d. SideSafe (core_of u.lowered.value.core) u.lowered.value.code d (cells u.pass.value) (waiting_of u.side.value) in
+    let d = is.owes.0 in
+    let a = subst (λ (x : LoweredParts). SideSafe (core_of x.core) x.code d (cells t.pass) (waiting_of t.side)) (sym is.lowered) is.owes.1 in
+    let b = subst (λ (x : Pass). SideSafe (core_of t.due.lowered.value.core) t.due.lowered.value.code d (cells x) (waiting_of t.side)) (sym is.pass) a in
+    let s = subst (λ (x : Side). SideSafe (core_of t.due.lowered.value.core) t.due.lowered.value.code d (cells t.due.pass.value) (waiting_of x)) (sym is.side) b in
+    (d, subst (λ (u : Due). SafeIn u d) (sym e) s)
+
+pub side_ends : (due : Due) (l : LoweredParts) (j : Job) (e : Ending) (p : Pass) → due.lowered.value ≡ l
+    → ((d : Debt) → SideSafe (core_of due.lowered.value.core) due.lowered.value.code d (cells due.pass.value) (waiting_of due.side.value) → OwesStill l d j) → Settles l j e p → IsEnding due p e
+side_ends due l j (ending.Answer a) p is owes s = λ d safe. subst (λ (x : LoweredParts). IsAnswer x.code.laid (cells p) d.ty d.owed a) (sym is) (s d (owes d safe))
+side_ends due l j ending.Full p is owes s = s
+side_ends due l j ending.NotRun p is owes s = tt
+
+pub made_holds : (a : Arena) (l : LoweredParts) (j : Job) (m : State) (ts : List ℕ) (p : Pass) → IsMade j m ts p → IsOf a p → (view p).branch.out ≡ [] → m.width ≡ widest l.code.functions → Holds a l j
+made_holds a l j m ts p is of none made = record {
+  own = subst (IsOf a) (sym is.pass) of;
+  lends = subst (λ (x : Pass). Lends x (lent_of j.frames.items)) (sym is.pass) (subst (λ (xs : List (Option Frame)). Lends p (lent_of xs)) (sym is.frames) record { splits = tt; out = none });
+  made = ap (λ (s : State). s.width) is.machine ∙ made;
+}
+
+pub made_here : (j : Job) (mine : List Due) → j.frames.items ≡ [] → j.here ≡ 0 → IsHere j mine
+made_here j mine e z = subst (λ (xs : List (Option Frame)). AreHere (lent_of xs) j.here mine) (sym e) (subst (λ n. AreHere [] n mine) (sym z) tt)
+
+-- What the root owes.
+abbrev pub root_debt : LoweredParts → ℕ → Datum → Debt
+root_debt l depth d = record { ty = (core_of l.core).main.result; owed = core_run (core_of l.core) depth d; most = nothing }
+
+pub root_owes : (l : LoweredParts) (v : Memory) (place : Root) (tails : List ℕ) (depth level : ℕ) (d : Datum) → IsWhole l.core l.code → IsBounded v → IsStart l place tails v d
+    → Works l (root_debt l depth d) v.cells (root_start (core_of l.core) l.code (word_of place) depth level tails) []
+root_owes l v place tails depth level d ok bd st = record {
+  own = tail_covers tails;
+  bill = root_share (core_of l.core) depth level d v.drawn;
+  sides = [];
+  safe = root_starts (core_of l.core) l.code (lowered_main (core_of l.core) l.code ok.lowered ok.fits) (tail_covers tails) v.cells (word_of place) depth level d tails
+      (argument l.code.laid v.cells place (core_of l.core).main.parameter d st.stands) (tails_have_room v.cells tails st.owned) (tails_apart v.cells tails st.owned) (bounded_small v bd)
+      (root_share (core_of l.core) depth level d v.drawn) (root_counted (core_of l.core) depth level d v.drawn st.loaded);
+  there = record { there = λ q z e. other (sym ((tails_apart v.cells tails st.owned).fresh q z) ∙ e) };
+  debts = tt;
+}
+  where
+    other : fresh ≡ absent → ⊥
+    other e = absurd cc
+
+pub root_ends : (l : LoweredParts) (depth : ℕ) (d : Datum) (j : Job) (e : Ending) (p : Pass) → OwesStill l (root_debt l depth d) j → Settles l j e p → IsRun l depth d (outcome e) p
+root_ends l depth d j (ending.Answer a) p owes s = s (root_debt l depth d) owes
+root_ends l depth d j ending.Full p owes s = s
+root_ends l depth d j ending.NotRun p owes s = tt

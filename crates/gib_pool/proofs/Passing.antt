@@ -1,0 +1,76 @@
+-- What becomes of the pass of a task.
+use Rattle.std.proofs.Common.{◌≡◌, ℕ, zero, suc, ◌+◌, ◌≤◌, List, [], ◌∷◌, ◌++◌, length, refl, sym, ap, subst, ◌∙◌, arith}
+use Rattle.std.specs.Prelude.{Option, Some, None}
+use Rattle.gib_mem.specs.Memory.{Holder, Grows, fresh, IsBounded}
+use Rattle.gib_weave.specs.Places.{IsSmall}
+use Rattle.gib_weave.proofs.Memories.{bounded_small}
+use Rattle.gib_arena.specs.declared.memory.Arena.{Arena}
+use Rattle.gib_arena.specs.declared.memory.Pass.{Pass}
+use Rattle.gib_arena.specs.Passes.{view, cells, IsOf}
+use Rattle.gib_arena.specs.Shown.{shown}
+use Rattle.gib_arena.specs.ShownLaws.{shown_bounded}
+use Rattle.gib_frame.specs.declared.due.Due.{Due}
+use Rattle.gib_frame.specs.declared.ends.Frame.{Frame}
+use Rattle.gib_pool.specs.Turn.{Wider}
+use Rattle.gib_pool.specs.Lent.{AreSplits, Lends}
+use Rattle.gib_pool.specs.Frames.{before, lent_of, due_maybe, AreHere}
+use Rattle.gib_pool.specs.Jobs.{IsSamePass}
+
+-- What a pass shows keeps what every memory keeps.
+pub pass_bounded : (a : Arena) (p : Pass) → IsOf a p → IsBounded (shown p.seat.table_id (view p))
+pass_bounded a p of = shown_bounded p.seat.table_id a.table.shared.table_id (view p) a.limit of p.sound p.sized a.sized a.small
+
+pub pass_small : (a : Arena) (p : Pass) → IsOf a p → IsSmall (cells p)
+pass_small a p of = bounded_small (shown p.seat.table_id (view p)) (pass_bounded a p of)
+
+pub wider : (a : Arena) (p q : Pass) → IsOf a q → Grows (cells p) (cells q) → ((x : ℕ) → cells p x ≡ fresh → cells q x ≡ fresh) → Wider (cells p) (cells q)
+wider a p q of g f = record { known = g; free = f; small = pass_small a q of }
+
+pub no_wider : (a : Arena) (p : Pass) → IsOf a p → Wider (cells p) (cells p)
+no_wider a p of = record { known = record { kept = λ q b e. e }; free = λ q e. e; small = pass_small a p of }
+
+-- A pass that works on lends what it lent.
+pub lends_on : (p q : Pass) (lent : List (Option Due)) → q.seat.table_id ≡ p.seat.table_id → (shown q.seat.table_id (view q)).holder ≡ (shown p.seat.table_id (view p)).holder → Lends p lent → Lends q lent
+lends_on p q lent same e h =
+    let path = ap (λ (x : Holder). x.path) e in
+    let splits = ap (λ (x : Holder). x.splits) e in
+    record {
+      splits = subst (λ z. AreSplits z (view q).branch.path (view q).branch.next lent) (sym same)
+          (subst (λ x. AreSplits p.seat.table_id x (view q).branch.next lent) (sym path) (subst (λ x. AreSplits p.seat.table_id (view p).branch.path x lent) (sym splits) h.splits));
+      out = ap (λ (x : Holder). x.out) e ∙ h.out;
+    }
+
+pub same_on : (p q r : Pass) → IsSamePass p q → IsSamePass q r → IsSamePass p r
+same_on p q r a b = record { path = b.path ∙ a.path; limit = b.limit ∙ a.limit }
+
+pub same_still : (p : Pass) → IsSamePass p p
+same_still p = record { path = refl; limit = refl }
+
+-- A refused frame lends nothing.
+pub lends_none_more : (p : Pass) (lent : List (Option Due)) → Lends p lent → Lends p (None ∷ lent)
+lends_none_more p lent h = record { splits = h.splits; out = h.out }
+
+pub lends_none_less : (p : Pass) (lent : List (Option Due)) → Lends p (None ∷ lent) → Lends p lent
+lends_none_less p lent h = record { splits = h.splits; out = h.out }
+
+-- No more are here than there are.
+pub here_few : (es : List (Option Due)) (n : ℕ) (mine : List Due) → AreHere es n mine → n ≤ length es
+here_few [] zero mine a = omega arith
+here_few [] (suc n) mine a = absurd a
+here_few (None ∷ es) n mine a = let r = here_few es n mine a in omega (arith, r)
+here_few (Some e ∷ es) zero mine a = omega arith
+here_few (Some e ∷ es) (suc n) mine a = let r = here_few es n a.0 a.2 in omega (arith, r)
+
+before_long : (xs : List (Option Frame)) (es : List (Option Due)) → length (before xs es) ≡ length xs + length es
+before_long [] es = omega arith
+before_long (x ∷ xs) es = let r = before_long xs (due_maybe x ∷ es) in omega (arith, r)
+
+pub lent_long : (xs : List (Option Frame)) → length (lent_of xs) ≡ length xs
+lent_long xs = let r = before_long xs [] in omega (arith, r)
+
+pub one_more : (e : Due) (es : List (Option Due)) (n : ℕ) (mine more : List Due) → more ≡ mine ++ e ∷ [] → AreHere es n mine → AreHere (Some e ∷ es) (n + 1) more
+one_more e es n mine more is a = let next : suc n ≡ n + 1 = omega arith in subst (λ (k : ℕ). AreHere (Some e ∷ es) k more) next (mine, is, a)
+
+-- Where all chunks were seen drawn they still are.
+pub full_still : (p q : Pass) → (view p).holding.seen ≡ (view p).branch.limit → IsSamePass p q → (view p).holding.seen ≤ (view q).holding.seen → (view q).holding.seen ≡ (view q).branch.limit
+full_still p q full same more = let most = q.sound.seen_in in let limit = same.limit in omega (arith, full, limit, more, most)

@@ -1,0 +1,52 @@
+use Rattle.std.proofs.Common.{ℕ, List, [], ◌∷◌, ◌++◌, refl, sym, ap, subst, ◌∙◌, arith}
+use Rattle.std.specs.Prelude.{Option, slice_get}
+use Rattle.crossbeam_deque.specs.Handles.{worker_view}
+use Rattle.gib_code.specs.Program.{CodeTree}
+use Rattle.gib_machine.specs.Machine.{State, left_starts, right_of}
+use Rattle.gib_machine.specs.Stepping.{with_tails}
+use Rattle.gib_machine.proofs.Widths.{left_keeps_width}
+use Rattle.gib_arena.specs.Passes.{cells}
+use Rattle.gib_frame.specs.declared.due.Due.{Due}
+use Rattle.gib_frame.specs.declared.ends.Frame.{Frame}
+use Rattle.gib_frame.specs.Dues.{frame_due}
+use Rattle.gib_pool.specs.Frames.{AreHere}
+use Rattle.gib_pool.specs.Jobs.{job_state, job_lent}
+use Rattle.gib_pool.specs.Lent.{Lends}
+use Rattle.gib_pool.specs.Turn.{Works, IsFor}
+use Rattle.gib_pool.proofs.Draining.{now_lent}
+use Rattle.gib_pool.proofs.Passing.{wider, here_few, lent_long}
+use Rattle.gib_pool.proofs.Standings.{goes_left, some_at}
+use Rattle.gib_pool.proofs.forking.fork_here.Goals as goal
+
+pub offer_here-frame-requires-clause-few : goal.offer_here-frame-requires-clause-few
+offer_here-frame-requires-clause-few c =
+    let few = here_few (job_lent c.args.job) c.args.job.here (worker_view c.args.forks.now).mine c.requires.here in
+    let long = lent_long c.args.job.frames.items in
+    omega (arith, few, long, c.args.job.frames.ok)
+
+pub returns-clause-holds : goal.returns-clause-holds
+returns-clause-holds c =
+    let are = now_lent c.push_reserved.new.self.items c.args.job.frames.items c.offer_here-frame.result c.offer_here-frame.result (c.push_reserved.ensures.items ∙ ap (λ xs. xs ++ c.offer_here-frame.result ∷ []) c.reserve.ensures.items) refl in
+    record {
+      own = c.offer_here-frame.ensures.own;
+      lends = subst (Lends c.offer_here-frame.new.pass) (sym are) (c.offer_here-frame.ensures.lends (job_lent c.args.job) c.requires.holds.lends);
+      made = ap (λ (s : State). s.width) (c.left.ensures c.args.job.tails) ∙ (left_keeps_width (job_state c.args.job) (slice_get c.code.result.now.instructions c.args.job.machine.ip) ∙ c.requires.holds.made);
+    }
+
+pub returns-clause-here : goal.returns-clause-here
+returns-clause-here c =
+    let are = now_lent c.push_reserved.new.self.items c.args.job.frames.items c.offer_here-frame.result c.offer_here-frame.result (c.push_reserved.ensures.items ∙ ap (λ xs. xs ++ c.offer_here-frame.result ∷ []) c.reserve.ensures.items) refl in
+    subst (λ (es : List (Option Due)). AreHere es c.offer_here-frame.new.here (worker_view c.offer_here-frame.new.forks).mine) (sym are) (c.offer_here-frame.ensures.here (job_lent c.args.job) c.requires.here)
+
+pub returns-clause-owes : goal.returns-clause-owes
+returns-clause-owes c = λ d w.
+    let l = c.args.lowered.now in
+    let are = now_lent c.push_reserved.new.self.items c.args.job.frames.items c.offer_here-frame.result c.offer_here-frame.result (c.push_reserved.ensures.items ∙ ap (λ xs. xs ++ c.offer_here-frame.result ∷ []) c.reserve.ensures.items) refl in
+    let m = job_state c.args.job in
+    let o = c.offer_here-frame.ensures in
+    let left = c.left.ensures c.args.job.tails ∙ ap (λ (x : CodeTree). left_starts m (slice_get x.instructions m.ip)) c.code.ensures.value in
+    let right = right_of m (slice_get l.code.instructions m.ip) in
+    let side = some_at l d c.offer_here-frame.result (λ (ts : List ℕ) (f : Frame). IsFor l (cells c.args.job.pass) (right_of (with_tails c.args.job.machine ts) (slice_get l.code.instructions m.ip)) (frame_due f)) c.args.job.tails o.side in
+    subst (Works l d (cells c.offer_here-frame.new.pass) (with_tails c.left.new.self c.args.job.tails)) (sym are)
+    (goes_left l d (cells c.args.job.pass) (cells c.offer_here-frame.new.pass) (job_lent c.args.job) m (left_starts m (slice_get l.code.instructions m.ip)) (with_tails c.left.new.self c.args.job.tails) right c.offer_here-frame.result w.1 side left
+    (wider c.args.arena.now c.args.job.pass c.offer_here-frame.new.pass o.own o.knows o.free))

@@ -1,0 +1,51 @@
+use Rattle.std.proofs.Common.{◌≡◌, [], sym, ap, ◌∙◌}
+use Rattle.gib_weave.specs.Owing.{Debt}
+use Rattle.gib_arena.specs.declared.memory.Arena.{Arena}
+use Rattle.gib_arena.specs.declared.memory.Pass.{Pass}
+use Rattle.gib_arena.specs.Passes.{view, IsOf}
+use Rattle.gib_frame.specs.declared.due.Due.{Due}
+use Rattle.gib_frame.specs.Dues.{reply_due}
+use Rattle.gib_pool.proofs.Beginnings.{IsMade, side_owes, side_ends, task_debt}
+use Rattle.gib_pool.proofs.Passing.{pass_small}
+use Rattle.gib_pool.proofs.helping.run_task.Goals as goal
+
+pub work-ending-requires-clause-owes : goal.work-ending-requires-clause-owes
+work-ending-requires-clause-owes g c =
+    let t = c.open-reply.ensures in
+    let is = t.task in
+    let due = reply_due c.open-reply.result.0 in
+    let l = c.open-reply.result.2.now in
+    let p = c.open-reply.result.4 in
+    let of : IsOf c.open-reply.result.1.now p = ap (λ (x : Pass). x.seat.table_id) t.parts.1 ∙ (is.own ∙ sym (ap (λ (x : Arena). x.table.shared.table_id) t.code.0)) in
+    let made : IsMade c.make-job.result c.in-Ok.machine [] p = record { machine = c.make-job.ensures.machine.0; tails = c.make-job.ensures.machine.1 ∙ c.new.ensures; pass = c.make-job.ensures.pass; frames = c.make-job.ensures.frames.0 } in
+    let lowered : due.lowered.value ≡ l = ap (λ (x : Due). x.lowered.value) t.due ∙ (is.lowered ∙ sym t.code.1) in
+    let pass : due.pass.value ≡ p = ap (λ (x : Due). x.pass.value) t.due ∙ (is.pass ∙ sym t.parts.1) in
+    let side = ap (λ (x : Due). x.side.value) t.due ∙ (is.side ∙ sym t.parts.0) in
+    let owes = λ (d : Debt). side_owes l d due c.code.result.now c.open-reply.result.3 p c.in-Ok.machine c.make-job.result lowered c.code.ensures.value side pass c.in-Ok.ensures made (pass_small c.open-reply.result.1.now p of) in
+    let debt = task_debt c.args.task due is t.due in
+    (debt.0, owes debt.0 debt.1)
+
+pub put_answer-requires-in-Ok : goal.put_answer-requires-in-Ok
+put_answer-requires-in-Ok g c =
+    let t = c.open-reply.ensures in
+    let is = t.task in
+    let due = reply_due c.open-reply.result.0 in
+    let l = c.open-reply.result.2.now in
+    let p = c.open-reply.result.4 in
+    let of : IsOf c.open-reply.result.1.now p = ap (λ (x : Pass). x.seat.table_id) t.parts.1 ∙ (is.own ∙ sym (ap (λ (x : Arena). x.table.shared.table_id) t.code.0)) in
+    let made : IsMade c.make-job.result c.in-Ok.machine [] p = record { machine = c.make-job.ensures.machine.0; tails = c.make-job.ensures.machine.1 ∙ c.new.ensures; pass = c.make-job.ensures.pass; frames = c.make-job.ensures.frames.0 } in
+    let lowered : due.lowered.value ≡ l = ap (λ (x : Due). x.lowered.value) t.due ∙ (is.lowered ∙ sym t.code.1) in
+    let pass : due.pass.value ≡ p = ap (λ (x : Due). x.pass.value) t.due ∙ (is.pass ∙ sym t.parts.1) in
+    let side = ap (λ (x : Due). x.side.value) t.due ∙ (is.side ∙ sym t.parts.0) in
+    let owes = λ (d : Debt). side_owes l d due c.code.result.now c.open-reply.result.3 p c.in-Ok.machine c.make-job.result lowered c.code.ensures.value side pass c.in-Ok.ensures made (pass_small c.open-reply.result.1.now p of) in
+    let w = c.work-ending.ensures in
+    let b = w.back in
+    let q = c.work-ending.result.1 in
+    record {
+      his = record {
+        arena = b.own ∙ sym (ap (λ (x : Pass). x.seat.table_id) pass ∙ of);
+        path = b.same.path ∙ (ap (λ (x : Pass). (view x).branch.path) made.pass ∙ sym (ap (λ (x : Pass). (view x).branch.path) pass));
+        none_out = b.none_out;
+      };
+      ends = side_ends due l c.make-job.result c.work-ending.result.0 q lowered owes w.settles;
+    }

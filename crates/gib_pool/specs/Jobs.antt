@@ -1,0 +1,68 @@
+-- What a worker holds and owes at a task.
+use Rattle.std.specs.Prelude.{◌≡◌, [], List, Option}
+use Rattle.gib_mem.specs.Memory.{Memory}
+use Rattle.gib_core.specs.LoweredParts.{LoweredParts}
+use Rattle.gib_machine.specs.Machine.{State, widest}
+use Rattle.gib_machine.specs.Stepping.{with_tails}
+use Rattle.gib_machine.specs.declared.turn.Turn.{Turn}
+use Rattle.gib_weave.specs.Owing.{Debt}
+use Rattle.gib_weave.specs.Sound.{IsAnswer}
+use Rattle.gib_arena.specs.declared.memory.Arena.{Arena}
+use Rattle.gib_arena.specs.declared.memory.Pass.{Pass}
+use Rattle.gib_arena.specs.Passes.{view, cells, IsOf}
+use Rattle.gib_arena.specs.Shown.{shown}
+use Rattle.gib_frame.specs.declared.due.Due.{Due}
+use Rattle.gib_frame.specs.declared.due.Ending.{Ending}
+use Rattle.gib_frame.specs.declared.due.Ending.TheVariants as ending
+use Rattle.gib_pool.specs.declared.job.Job.{Job}
+use Rattle.gib_pool.specs.Turn.{Works}
+use Rattle.gib_pool.specs.Going.{Comes}
+use Rattle.gib_pool.specs.Lent.{Lends}
+use Rattle.gib_pool.specs.Frames.{lent_of, AreHere}
+
+-- The state of its machine, with the tails of its task.
+abbrev pub job_state : Job → State
+job_state j = with_tails j.machine j.tails
+
+-- What its frames were made for, the newest first.
+abbrev pub job_lent : Job → List (Option Due)
+job_lent j = lent_of j.frames.items
+
+-- Its pass as a memory.
+abbrev pub job_memory : Job → Memory
+job_memory j = shown j.pass.seat.table_id (view j.pass)
+
+-- It owes this, in what its pass knows.
+abbrev pub OwesStill : LoweredParts → Debt → Job → Type 0
+OwesStill l d j = Works l d (cells j.pass) (job_state j) (job_lent j)
+
+-- It owes this, and its machine stands.
+abbrev pub StandsAt : LoweredParts → Debt → Job → Turn → Type 0
+StandsAt l d j turn = Comes l d (job_lent j) (job_memory j) (job_state j) turn
+
+-- Its pass is of the arena, and no pass is split off it but those of its frames; its machine was made for the code.
+pub record Holds (a : Arena) (l : LoweredParts) (j : Job) : Type 0 where
+  pub own : IsOf a j.pass
+  pub lends : Lends j.pass (job_lent j)
+  pub made : j.machine.width ≡ widest l.code.functions
+
+-- So many of its newest forks may still be among those of its worker.
+abbrev pub IsHere : Job → List Due → Type 0
+IsHere j mine = AreHere (job_lent j) j.here mine
+
+-- The pass is the same one of an arena with as many chunks.
+pub record IsSamePass (old new : Pass) : Type 0 where
+  pub path : (view new).branch.path ≡ (view old).branch.path
+  pub limit : (view new).branch.limit ≡ (view old).branch.limit
+
+-- The pass comes back: the same one, with all that was split off it back.
+pub record IsBackWhole (a : Arena) (old new : Pass) : Type 0 where
+  pub own : IsOf a new
+  pub same : IsSamePass old new
+  pub none_out : (view new).branch.out ≡ []
+
+-- How a task ends: its answer is what the job owed; or its pass saw that all chunks are drawn; or memory was wanted.
+abbrev pub Settles : LoweredParts → Job → Ending → Pass → Type 0
+Settles l j (ending.Answer a) p = (d : Debt) → OwesStill l d j → IsAnswer l.code.laid (cells p) d.ty d.owed a
+Settles l j ending.Full p = (view p).holding.seen ≡ (view p).branch.limit
+Settles l j ending.NotRun p = Unit {0}

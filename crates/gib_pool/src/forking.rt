@@ -1,0 +1,103 @@
+//! A worker at a fork.
+
+ghost use Rattle.std.specs.Prelude.{◌≡◌, ◌<◌, ◌+◌, ◌^◌, ◌∷◌, ℕ, List, Option, IfOk, IfErr, IfSome, slice_get};
+ghost use Rattle.crossbeam_deque.specs.Handles.{worker_deque, worker_view};
+ghost use Rattle.gib_mem.specs.Memory.{Grows, fresh};
+ghost use Rattle.gib_core.specs.Parts.{core_of};
+ghost use Rattle.gib_machine.specs.Machine.{next, right_of, widest};
+ghost use Rattle.gib_machine.specs.Machine as asks;
+ghost use Rattle.gib_machine.specs.Stepping.{with_tails};
+ghost use Rattle.gib_machine.specs.declared.turn.Turn.TheVariants.{AtFork};
+ghost use Rattle.gib_weave.specs.Owing.{Debt};
+ghost use Rattle.gib_weave.specs.Sound.{SideSafe};
+ghost use Rattle.gib_arena.specs.Passes.{cells, IsOf};
+ghost use Rattle.gib_frame.specs.declared.due.Due.{Due};
+ghost use Rattle.gib_frame.specs.Dues.{frame_due};
+ghost use Rattle.gib_pool.specs.Frames.{due_maybe, AreHere};
+ghost use Rattle.gib_pool.specs.Jobs.{Holds, IsHere, IsSamePass, OwesStill, StandsAt};
+ghost use Rattle.gib_pool.specs.Lent.{Lends};
+ghost use Rattle.gib_pool.specs.Mine.{IsMine};
+ghost use Rattle.gib_pool.specs.Turn.{IsFor};
+
+use crate::forks::Forks;
+use crate::job::Job;
+use crate::offer::offer_side;
+use gib_arena::{Arena, Pass};
+use gib_core::Lowered;
+use gib_frame::Frame;
+use gib_machine::Machine;
+use std::alloc::Global;
+
+/// Offers the right side of the fork at which the machine stands; none where memory refuses the side or its frame.
+fn offer_here<'a>(
+    alloc: Global,
+    arena: &'a Arena,
+    lowered: &'a Lowered,
+    machine: &Machine,
+    pass: &mut Pass,
+    forks: &mut Forks<'a>,
+    here: &mut usize,
+) -> Option<Frame>
+    requires own { IsOf arena.now pass.old }
+    requires made { machine.now.width ≡ widest lowered.now.code.functions }
+    requires fork { (tails : List ℕ) × (next lowered.now.code (with_tails machine.now tails) ≡ asks.AtFork) }
+    requires owes { (tails : List ℕ) × (e : Debt) × SideSafe (core_of lowered.now.core) lowered.now.code e (cells pass.old) (right_of (with_tails machine.now tails) (slice_get lowered.now.code.instructions machine.now.ip)) }
+    requires mine { IsMine forks.old }
+    requires few { here.old + 1 < 2 ^ 64 }
+    ensures own { IsOf arena.entry.now pass.new }
+    ensures same { IsSamePass pass.old pass.new }
+    ensures knows { Grows (cells pass.old) (cells pass.new) }
+    ensures free { (q : ℕ) → cells pass.old q ≡ fresh → cells pass.new q ≡ fresh }
+    ensures side { IfSome result (λ f. (tails : List ℕ) → IsFor lowered.entry.now (cells pass.old) (right_of (with_tails machine.entry.now tails) (slice_get lowered.entry.now.code.instructions machine.entry.now.ip)) (frame_due f)) }
+    ensures lends { (lent : List (Option Due)) → Lends pass.old lent → Lends pass.new (due_maybe result ∷ lent) }
+    ensures here { (lent : List (Option Due)) → AreHere lent here.old (worker_view forks.old).mine → AreHere (due_maybe result ∷ lent) here.new (worker_view forks.new).mine }
+    ensures mine { IsMine forks.new × (worker_deque forks.new ≡ worker_deque forks.old) }
+{
+    let Ok(side) = machine.side(alloc, lowered.code()) else {
+        return None;
+    };
+    let frame = offer_side(alloc, arena, lowered, pass, side, forks)?;
+    *here += 1;
+    Some(frame)
+}
+
+/// Offers the right side of the fork to whoever steals it, and begins the left side. Where memory refuses the side or its frame, the
+/// right side is left to be taken in place.
+///
+/// # Errors
+///
+/// Want of memory to keep a frame; the task is where it was.
+pub(crate) fn fork_here<'a>(
+    alloc: Global,
+    arena: &'a Arena,
+    lowered: &'a Lowered,
+    mut job: Job,
+    forks: &mut Forks<'a>,
+) -> Result<Job, Job>
+    requires holds { Holds arena.now lowered.now job }
+    requires stands { (d : Debt) × StandsAt lowered.now d job AtFork }
+    requires mine { IsMine forks.old }
+    requires here { IsHere job (worker_view forks.old).mine }
+    ensures mine { IsMine forks.new × (worker_deque forks.new ≡ worker_deque forks.old) }
+    ensures holds { IfOk result (λ j. Holds arena.entry.now lowered.entry.now j) }
+    ensures owes { IfOk result (λ j. (d : Debt) → StandsAt lowered.entry.now d job AtFork → OwesStill lowered.entry.now d j) }
+    ensures here { IfOk result (λ j. IsHere j (worker_view forks.new).mine) }
+    ensures same { IfOk result (λ j. IsSamePass job.pass j.pass) }
+    ensures err { IfErr result (λ j. Holds arena.entry.now lowered.entry.now j × IsHere j (worker_view forks.new).mine × IsSamePass job.pass j.pass) }
+{
+    if job.frames.reserve(1).is_err() {
+        return Err(job);
+    }
+    let frame = offer_here(
+        alloc,
+        arena,
+        lowered,
+        &job.machine,
+        &mut job.pass,
+        forks,
+        &mut job.here,
+    );
+    job.machine.left(lowered.code());
+    job.frames.push_reserved(frame);
+    Ok(job)
+}

@@ -1,0 +1,38 @@
+//! What a worker holds of the task that it is at.
+
+ghost use Rattle.std.specs.Prelude.{◌≡◌, []};
+
+use gib_arena::Pass;
+use gib_frame::Frame;
+use gib_machine::Machine;
+use gib_region::Tails;
+use std::alloc::Global;
+
+/// A task that a worker is at: its machine with its tails, and the pass over whose bytes it works.
+#[derive(Drop)]
+pub struct Job {
+    pub(crate) machine: Machine,
+    pub(crate) tails: Tails,
+    pub(crate) pass: Pass,
+    /// For each right side that was not joined its frame, or none where it was refused; the newest last.
+    pub(crate) frames: Vec<Option<Frame>>,
+    /// How many of the newest frames' tasks may still be in the worker's deque.
+    pub(crate) here: usize,
+}
+
+impl Job {
+    /// A task at its begin, with no right sides.
+    pub fn make(alloc: Global, machine: Machine, tails: Tails, pass: Pass) -> Job
+        ensures machine { (result.machine ≡ machine) × (result.tails ≡ tails) }
+        ensures pass { result.pass ≡ pass }
+        ensures frames { (result.frames.items ≡ []) × (result.here ≡ 0) }
+    {
+        Job {
+            machine,
+            tails,
+            pass,
+            frames: Vec::new(alloc),
+            here: 0,
+        }
+    }
+}

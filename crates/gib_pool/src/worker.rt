@@ -1,0 +1,15 @@
+//! A worker of a run.
+
+ghost use Rattle.gib_pool.specs.Mine.{IsMine};
+
+use crate::forks::Forks;
+use crate::raid::Raid;
+
+/// A worker: its number, its own forks, and a thief at those of each other worker.
+#[derive(Drop)]
+pub struct Member<'a> {
+    pub number: u32,
+    pub forks: Forks<'a>,
+    pub raids: Vec<Raid<'a>>,
+    ghost mine: { IsMine forks },
+}

@@ -1,0 +1,146 @@
+//! Cores that are built by hand, and what placing makes of them.
+
+ghost use Rattle.std.specs.Prelude.{◌≡◌, ◌<◌, ◌≤◌, length, IfOk};
+ghost use Rattle.gib_core.specs.Arena.{PartsBelow};
+
+use gib_base::{Memory, Name, Names};
+use gib_core::*;
+use gib_place::place;
+use gib_types::sample::trees;
+use gib_types::{ConId, Ty, TyId};
+use std::alloc::Global;
+use std::test::*;
+
+const TREE: Ty = Ty::Tree(TyId(0));
+
+const NODE: ConId = ConId(1);
+
+const WORK: Name = Name(3);
+
+fn put(terms: &mut Terms, node: Node) -> Result<TermId, Memory>
+    requires { PartsBelow node (length terms.old) }
+    ensures { IfOk result (λ id. (id.0 < length terms.new) × (length terms.old ≤ length terms.new)) }
+{
+    terms.put(node)
+}
+
+fn bound(kind: Kind, number: u32, term: TermId) -> BoundTerm
+    ensures { result.term ≡ term }
+{
+    BoundTerm {
+        kind,
+        variable: Variable(number),
+        ty: TREE,
+        term,
+    }
+}
+
+// call work %0
+fn call(alloc: Global, terms: &mut Terms) -> Result<TermId, Memory>
+    ensures { IfOk result (λ id. (id.0 < length terms.new) × (length terms.old ≤ length terms.new)) }
+{
+    let arguments = Vec::from_slice(alloc, &[Atom::Variable(Variable(0))])?;
+    put(terms, Node::Call(WORK, arguments))
+}
+
+// A field, which points to a variable, and the rest of its line.
+fn field(terms: &mut Terms, number: u32, target: u32, rest: TermId) -> Result<TermId, Memory>
+    requires { rest.0 < length terms.old }
+    ensures { IfOk result (λ id. (id.0 < length terms.new) × (length terms.old ≤ length terms.new)) }
+{
+    let point = put(terms, Node::Point(Atom::Variable(Variable(target))))?;
+    let bound = bound(Kind::Here, number, point);
+    put(terms, Node::Then(Binding::One(bound), rest))
+}
+
+// Node %l %r, with its fields in %4 and %5.
+fn node(alloc: Global, terms: &mut Terms, fields: (u32, u32)) -> Result<TermId, Memory>
+    ensures { IfOk result (λ id. (id.0 < length terms.new) × (length terms.old ≤ length terms.new)) }
+{
+    let head = Variable(3);
+    let packed = [Atom::Variable(Variable(4)), Atom::Variable(Variable(5))];
+    let write = Node::Write {
+        head,
+        constructor: NODE,
+        scalars: Vec::new(alloc),
+        packed: Vec::from_slice(alloc, &packed)?,
+    };
+    let write = put(terms, write)?;
+    let right = field(terms, 5, fields.1, write)?;
+    let left = field(terms, 4, fields.0, right)?;
+    let constructor = NODE;
+    put(terms, Node::Then(Binding::Past { head, constructor }, left))
+}
+
+// main, which binds two calls, %1 and %2, side by side or one after the other, and then makes a node.
+fn program(alloc: Global, is_par: bool, fields: (u32, u32)) -> Result<Core, Memory> {
+    let mut terms = Terms::new(alloc);
+    let node = node(alloc, &mut terms, fields)?;
+    let left = call(alloc, &mut terms)?;
+    let right = call(alloc, &mut terms)?;
+    let left = bound(Kind::Region, 1, left);
+    let right = bound(Kind::Region, 2, right);
+    let body = if is_par {
+        let fork = false;
+        put(
+            &mut terms,
+            Node::Then(Binding::Par { fork, left, right }, node),
+        )?
+    } else {
+        let rest = put(&mut terms, Node::Then(Binding::One(right), node))?;
+        put(&mut terms, Node::Then(Binding::One(left), rest))?
+    };
+    let main = CoreMain {
+        parameter: TREE,
+        result: TREE,
+        body,
+    };
+    let types = trees(alloc)?;
+    Ok(Core::new(types, terms, Vec::new(alloc), main, Vec::new(alloc)))
+}
+
+fn names(alloc: Global) -> Result<Names, Fail> {
+    let mut names = Names::make(alloc)?;
+    for text in ["Tree", "Leaf", "Node", "work"] {
+        names.intern(alloc, text.as_bytes()).map_err(|_| "a name")?;
+    }
+    Ok(names)
+}
+
+const BOTH: &str =
+    "main %0:Tree : Tree\n  past %1 Node\n  here %2\n    call work %0\n  here %3\n    call work %0\n  write %1 %2 %3\n";
+
+const USED_TWICE: &str =
+    "main %0:Tree : Tree\n  region %1\n    call work %0\n  region %2\n    call work %0\n  past %3 Node\n  here %4\n    point %1\n  here %5\n    point %1\n  write %3 %4 %5\n";
+
+const BEHIND_A_POINTED: &str =
+    "main %0:Tree : Tree\n  region %1\n    call work %0\n  past %2 Node\n  here %3\n    point %0\n  here %4\n    call work %0\n  write %2 %3 %4\n";
+
+const EXCHANGED: &str =
+    "main %0:Tree : Tree\n  region %1\n    call work %0\n  past %2 Node\n  here %3\n    call work %0\n  here %4\n    point %1\n  write %2 %3 %4\n";
+
+const BOTH_SIDES: &str =
+    "main %0:Tree : Tree\n  past %1 Node\n  par\n    here %2\n      call work %0\n    here %3\n      call work %0\n  write %1 %2 %3\n";
+
+const RIGHT_SIDE: &str =
+    "main %0:Tree : Tree\n  past %1 Node\n  here %2\n    point %0\n  par\n    region %3\n      call work %0\n    here %4\n      call work %0\n  write %1 %2 %4\n";
+
+#[test]
+fn places_what_stands_in_a_field(rt: HostRuntime) -> Result<(), Fail> {
+    let alloc = rt.alloc();
+    let names = names(alloc)?;
+    let cases = [
+        (false, (1, 2), BOTH),
+        (false, (1, 1), USED_TWICE),
+        (false, (0, 2), BEHIND_A_POINTED),
+        (false, (2, 1), EXCHANGED),
+        (true, (1, 2), BOTH_SIDES),
+        (true, (0, 2), RIGHT_SIDE),
+    ];
+    for (is_par, fields, want) in cases {
+        let core = place(alloc, program(alloc, is_par, fields)?)?;
+        let text = print_core(alloc, &core, &names)?;
+        assert!(rt; text.as_slice() == want.as_bytes(), "{want}");
+    }
+    Ok(())
+}
