@@ -2,7 +2,8 @@
 ghost use Rattle.std.specs.Prelude.{◌≡◌, ℕ, ◌*◌, ◌<◌, IfOk};
 ghost use Rattle.gib_mem.specs.Memory.{IsThere};
 ghost use Rattle.gib_mem.specs.Plain.{nothing};
-ghost use Rattle.gib_arena.specs.Passes.{IsOf};
+ghost use Rattle.gib_arena.specs.Passes.{view, IsOf};
+ghost use Rattle.gib_arena.specs.Shown.{shown_alone};
 ghost use Rattle.gib_arena.specs.Tree.{IsAlone};
 
 use crate::calls::arena;
@@ -32,6 +33,25 @@ impl SoleMem {
             Ok((arena, pass)) => Ok(SoleMem { arena, pass }),
             Err(fault) => Err(fault),
         }
+    }
+
+    /// The memory of an arena and its first pass, where no other pass is out.
+    pub fn of_parts(arena: Arena, pass: Pass) -> SoleMem
+        requires of { IsOf arena pass }
+        requires alone { IsAlone (view pass).branch }
+        ensures { ⟦<SoleMem as Mem>⟧.view result ≡ shown_alone (view pass) }
+    {
+        SoleMem { arena, pass }
+    }
+
+    /// The arena and its first pass.
+    pub fn into_parts(self) -> (Arena, Pass)
+        ensures of { IsOf result.0 result.1 }
+        ensures alone { IsAlone (view result.1).branch }
+        ensures shows { shown_alone (view result.1) ≡ ⟦<SoleMem as Mem>⟧.view self }
+    {
+        let SoleMem { arena, pass } = self;
+        (arena, pass)
     }
 
     /// Every address of a drawn chunk is fresh or known. One load tells it.
