@@ -32,7 +32,6 @@ use Rattle.gib_pool.specs.declared.job.Job.{Job}
 use Rattle.gib_pool.specs.Frames.{lent_of, AreHere}
 use Rattle.gib_pool.specs.Jobs.{Holds, IsHere, OwesStill, Settles}
 use Rattle.gib_pool.specs.Lent.{Lends}
-use Rattle.gib_pool.specs.Runs.{IsRun, outcome}
 use Rattle.gib_pool.specs.Turn.{Works}
 use Rattle.gib_weave.proofs.Bills.{root_counted}
 use Rattle.gib_weave.proofs.Memories.{bounded_small, tails_apart, tails_have_room}
@@ -109,8 +108,3 @@ root_owes l v place tails depth level d ok bd st = record {
   where
     other : fresh ≡ absent → ⊥
     other e = absurd cc
-
-pub root_ends : (l : LoweredParts) (depth : ℕ) (d : Datum) (j : Job) (e : Ending) (p : Pass) → OwesStill l (root_debt l depth d) j → Settles l j e p → IsRun l depth d (outcome e) p
-root_ends l depth d j (ending.Answer a) p owes s = s (root_debt l depth d) owes
-root_ends l depth d j ending.Full p owes s = s
-root_ends l depth d j ending.NotRun p owes s = tt
