@@ -52,6 +52,8 @@ fn gives<R: Threads + Wait + Sync>(
         workers,
         "--fork",
         fork,
+        "--chunks",
+        "64",
     ];
     let traced = call(
         rt,
