@@ -100,7 +100,7 @@ fn end_of(end: Result<Answer, RunFault>) -> Result<Root, Stop<'static>>
 
 /// Runs the code on a value that was loaded: by workers that steal sides from one another; or, where no more than one is asked for, by the
 /// machine in place, without a runtime's handle.
-fn run_started<R: Threads + Wait + Sync, G: Gate + Sync>(
+fn run_code<R: Threads + Wait + Sync, G: Gate + Sync>(
     alloc: Global,
     runtime: Runtime<'_, R, G>,
     lowered: &Lowered,
@@ -159,7 +159,7 @@ fn run_loaded<R: Threads + Wait + Sync, G: Gate + Sync>(
     let layouts = lowered.code().layouts();
     match load(alloc, layouts, survey, &mut memory, &mut tails) {
         Ok(root) => {
-            let (end, memory) = run_started(alloc, runtime, lowered, memory, tails, root, options);
+            let (end, memory) = run_code(alloc, runtime, lowered, memory, tails, root, options);
             (end_of(end), memory)
         }
         Err(LoadFault::Full) => (Err(Stop::NoValue(Reason::Full)), memory),
