@@ -10,9 +10,9 @@ pub returns-in-Ok-clause-ends : goal.returns-in-Ok-clause-ends
 returns-in-Ok-clause-ends g c =
     let o = c.args.options in
     let laid = c.layouts-layouts.ensures ∙ ap (λ (x : CodeTree). x.laid) c.code.ensures.value in
-    loaded_ran c.args.lowered.now c.layouts-layouts.result.now c.args.survey o.depth (run_forks o) (sole_memory c.args.memory) (sole_memory c.load.new.mem) (sole_memory c.run_code.result.1) c.in-Ok.root c.load.new.tails c.run_code.result.0 c.end_of.result
-    laid c.requires.table c.requires.ty c.in-Ok.ensures.placed c.in-Ok.ensures.holds c.run_code.ensures.ends
-    (λ v h. c.end_of.ensures c.args.lowered.now o.depth (run_forks o) v (sole_memory c.load.new.mem) (sole_memory c.run_code.result.1) h)
+    loaded_ran c.args.lowered.now c.layouts-layouts.result.now c.args.survey o.depth (run_forks o) (sole_memory c.args.memory) (sole_memory c.load.new.mem) (sole_memory c.run_code-end.result.1) c.in-Ok.root c.load.new.tails c.run_code-end.result.0 c.end_of.result
+    laid c.requires.table c.requires.ty c.in-Ok.ensures.placed c.in-Ok.ensures.holds c.run_code-end.ensures.ends
+    (λ v h. c.end_of.ensures c.args.lowered.now o.depth (run_forks o) v (sole_memory c.load.new.mem) (sole_memory c.run_code-end.result.1) h)
 
 pub returns-in-Err-Full-clause-ends : goal.returns-in-Err-Full-clause-ends
 returns-in-Err-Full-clause-ends g c =
@@ -25,5 +25,5 @@ pub returns-in-Ok-clause-limit : goal.returns-in-Ok-clause-limit
 returns-in-Ok-clause-limit g c =
     let laid = c.layouts-layouts.ensures ∙ ap (λ (x : CodeTree). x.laid) c.code.ensures.value in
     let packed = c.payload-packed.ensures.packed in
-    loaded_limit c.args.lowered.now c.layouts-layouts.result.now c.args.survey (sole_memory c.args.memory) (sole_memory c.load.new.mem) (sole_memory c.run_code.result.1) c.in-Ok.root c.load.new.tails c.end_of.result
-    laid c.requires.table c.in-Ok.ensures.placed packed.0 packed.1 c.run_code.ensures.kept.limit
+    loaded_limit c.args.lowered.now c.layouts-layouts.result.now c.args.survey (sole_memory c.args.memory) (sole_memory c.load.new.mem) (sole_memory c.run_code-end.result.1) c.in-Ok.root c.load.new.tails c.end_of.result
+    laid c.requires.table c.in-Ok.ensures.placed packed.0 packed.1 c.run_code-end.ensures.kept.limit
