@@ -1,7 +1,5 @@
 -- Facts of all jobs, by cases.
-use Rattle.std.proofs.Common.{◌≡◌, Bool, true, false, cond, refl, ℕ, ◌<◌, List, [], ◌∷◌, length, Option, Some, None, ap, ◌⊎◌, inl, inr, ◌≤◌, sym, subst₂, arith}
-use Rattle.std.specs.Prelude.{nat_lt}
-use Rattle.std.proofs.lemmas.Bool.Decides.{nat_tests}
+use Rattle.std.proofs.Common.{◌≡◌, Bool, refl, ℕ, List, [], ◌∷◌, length, Option, Some, None, ◌⊎◌, inl, inr, ◌≤◌, sym, subst₂, arith}
 use Rattle.gib_types.specs.Tree.{Datum}
 use Rattle.gib_syntax.specs.Tree.{ProgramTree}
 use Rattle.gib_code.specs.declared.answer.Answer.TheVariants as answer
@@ -79,14 +77,6 @@ full_runs Show o p names given file h = absurd h
 full_runs Gen o p names given file h = inl (inr (inl refl))
 full_runs Trace o p names given file h = inl (inr (inr refl))
 full_runs Replay o p names given file h = inr refl
-
--- with one worker each `par` runs in place
-pub alone_forks : (o : Options) → o.workers ≤ 1 → run_forks o ≡ 0
-alone_forks o one = let few : nat_lt 1 o.workers ≡ false = grind (arith, nat_tests) in ap (λ (b : Bool). cond b o.fork 0) few
-
--- with more workers forks may be nested
-pub more_forks : (o : Options) → 1 < o.workers → run_forks o ≡ o.fork
-more_forks o more' = let many : nat_lt 1 o.workers ≡ true = grind (arith, nat_tests) in ap (λ (b : Bool). cond b o.fork 0) many
 
 -- a run that lacks a value
 

@@ -100,6 +100,7 @@ fn end_of(end: Result<Answer, RunFault>) -> Result<Root, Stop<'static>>
 
 /// Runs the code on a value that was loaded: by workers that steal sides from one another; or, where no more than one is asked for, by the
 /// machine in place, without a runtime's handle.
+#[tactic(auto, using(crate::proofs::Roots::alone_is_run))]
 fn run_code<R: Threads + Wait + Sync, G: Gate + Sync>(
     alloc: Global,
     runtime: Runtime<'_, R, G>,
