@@ -1,16 +1,20 @@
 -- What becomes of the pass of a task.
-use Rattle.std.proofs.Common.{◌≡◌, ℕ, zero, suc, ◌+◌, ◌≤◌, List, [], ◌∷◌, ◌++◌, length, refl, sym, ap, subst, ◌∙◌, arith}
+use Rattle.std.proofs.Common.{◌≡◌, ℕ, zero, suc, ◌+◌, ◌≤◌, List, [], ◌∷◌, ◌++◌, length, length-append, refl, sym, ap, subst, ◌∙◌, arith}
 use Rattle.std.specs.Prelude.{Option, Some, None}
 use Rattle.gib_mem.specs.Memory.{Holder, Grows, fresh, IsBounded}
 use Rattle.gib_weave.specs.Places.{IsSmall}
 use Rattle.gib_weave.proofs.Memories.{bounded_small}
 use Rattle.gib_arena.specs.declared.memory.Arena.{Arena}
 use Rattle.gib_arena.specs.declared.memory.Pass.{Pass}
+use Rattle.gib_arena.specs.declared.view.View.{View}
+use Rattle.gib_arena.specs.Bytes.{share}
+use Rattle.gib_arena.specs.Steps.{joined_view, saw}
 use Rattle.gib_arena.specs.Passes.{view, cells, IsOf}
 use Rattle.gib_arena.specs.Shown.{shown}
 use Rattle.gib_arena.specs.ShownLaws.{shown_bounded}
 use Rattle.gib_frame.specs.declared.due.Due.{Due}
 use Rattle.gib_frame.specs.declared.ends.Frame.{Frame}
+use Rattle.gib_frame.specs.Answers.{drawn_by}
 use Rattle.gib_pool.specs.Turn.{Wider}
 use Rattle.gib_pool.specs.Lent.{AreSplits, Lends}
 use Rattle.gib_pool.specs.Frames.{before, lent_of, due_maybe, AreHere}
@@ -41,10 +45,10 @@ lends_on p q lent same e h =
     }
 
 pub same_on : (p q r : Pass) → IsSamePass p q → IsSamePass q r → IsSamePass p r
-same_on p q r a b = record { path = b.path ∙ a.path; limit = b.limit ∙ a.limit }
+same_on p q r a b = record { path = b.path ∙ a.path; limit = b.limit ∙ a.limit; known = record { kept = λ x y e. b.known.kept x y (a.known.kept x y e) } }
 
 pub same_still : (p : Pass) → IsSamePass p p
-same_still p = record { path = refl; limit = refl }
+same_still p = record { path = refl; limit = refl; known = record { kept = λ q b e. e } }
 
 -- A refused frame lends nothing.
 pub lends_none_more : (p : Pass) (lent : List (Option Due)) → Lends p lent → Lends p (None ∷ lent)
@@ -74,3 +78,10 @@ one_more e es n mine more is a = let next : suc n ≡ n + 1 = omega arith in sub
 -- Where all chunks were seen drawn they still are.
 pub full_still : (p q : Pass) → (view p).holding.seen ≡ (view p).branch.limit → IsSamePass p q → (view p).holding.seen ≤ (view q).holding.seen → (view q).holding.seen ≡ (view q).branch.limit
 full_still p q full same more = let most = q.sound.seen_in in let limit = same.limit in omega (arith, full, limit, more, most)
+
+-- What a pass drew that took in another, with what the other one drew.
+pub joined_drawn : (p q p' : Pass) (n : ℕ) → view p' ≡ saw (joined_view (view p) (view q)) n → drawn_by p' ≡ drawn_by p + drawn_by q
+joined_drawn p q p' n e = ap (λ (v : View). share v.holding) e ∙ length-append (view p).holding.chunks (view q).holding.chunks
+
+pub joined_none : (p q p' : Pass) (n : ℕ) → view p' ≡ saw (joined_view (view p) (view q)) n → drawn_by q ≡ 0 → drawn_by p' ≡ drawn_by p
+joined_none p q p' n e z = let j = joined_drawn p q p' n e in omega (arith, j, z)

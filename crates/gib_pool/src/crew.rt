@@ -55,7 +55,7 @@ pub fn make_members<'a>(alloc: Global, workers: u32) -> Result<Vec<Member<'a>>, 
 }
 
 /// Runs a task by the first of these workers, which is the caller's thread, while the others run what it and they fork. A worker whose
-/// thread cannot be started is missing. Without workers the task is not run.
+/// thread cannot be started is missing. Without workers it ends for want of memory.
 pub fn work_together<'a, R: Threads + Wait + Sync, G: Gate + Sync>(
     rt: &R,
     alloc: Global,
@@ -70,10 +70,10 @@ pub fn work_together<'a, R: Threads + Wait + Sync, G: Gate + Sync>(
     requires owes { (d : Debt) × OwesStill lowered.now d job }
     requires begins { (job.frames.items ≡ []) × (job.here ≡ 0) }
     ensures back { IsBackWhole arena.entry.now job.pass result.1 }
-    ensures settles { Settles lowered.entry.now job result.0 result.1 }
+    ensures settles { Settles lowered.entry.now (λ (d : Debt). OwesStill lowered.entry.now d job) result.0 result.1 }
 {
     let Some(member) = members.pop() else {
-        return (Ending::NotRun, job.pass);
+        return (Ending::Memory, job.pass);
     };
     let post = Post {
         bell,
@@ -98,7 +98,7 @@ pub fn work_together<'a, R: Threads + Wait + Sync, G: Gate + Sync>(
             requires owes { (d : Debt) × OwesStill lowered.now d job }
             requires begins { (job.frames.items ≡ []) × (job.here ≡ 0) }
             ensures back { IsBackWhole arena.entry.now job.pass result.1 }
-            ensures settles { Settles lowered.entry.now job result.0 result.1 }
+            ensures settles { Settles lowered.entry.now (λ (d : Debt). OwesStill lowered.entry.now d job) result.0 result.1 }
         { work_together(rt, alloc, arena, lowered, job, members, bell, gate) },
     );
     end

@@ -12,6 +12,7 @@ mod helping;
 mod job;
 mod joining;
 pub mod law;
+mod leaving;
 mod offer;
 mod post;
 mod raid;
