@@ -1,11 +1,12 @@
 //! The frames of a task that ends before its time.
 
-ghost use Rattle.std.specs.Prelude.{◌≡◌, ◌≤◌, [], true};
+ghost use Rattle.std.specs.Prelude.{◌≡◌, ◌≢◌, ◌≤◌, [], true};
 ghost use Rattle.crossbeam_deque.specs.Handles.{worker_deque, worker_view};
 ghost use Rattle.gib_core.specs.Cost.{Cost};
 ghost use Rattle.gib_core.specs.LoweredParts.{LoweredParts};
 ghost use Rattle.gib_arena.specs.Passes.{view, IsOf};
 ghost use Rattle.gib_frame.specs.Answers.{IsPaid, drawn_by};
+ghost use Rattle.gib_pool.specs.declared.back.Back.TheVariants.{Memory};
 ghost use Rattle.gib_pool.specs.Jobs.{IsSamePass};
 ghost use Rattle.gib_pool.specs.Lent.{Lends};
 ghost use Rattle.gib_pool.specs.Mine.{IsMine};
@@ -17,6 +18,16 @@ use crate::forks::Forks;
 use gib_arena::{Arena, Pass};
 use gib_frame::Frame;
 use std::sync::Wait;
+
+/// Whether it was known what was drawn, and is for one more side.
+fn still_known(known: bool, back: &Back) -> bool
+    ensures { result ≡ true → (known ≡ true) × (back.now ≢ Memory) }
+{
+    match back {
+        Back::Memory => false,
+        _ => known,
+    }
+}
 
 /// Takes the passes of all frames back, the newest first, so that none is out; what their sides answered is dropped. Whether what each
 /// side drew is known: it is not, where one was left for want of memory.
@@ -45,10 +56,7 @@ pub fn drain_frames<'a, R: Wait>(
             None => {}
             Some(frame) => {
                 let back = settle(rt, arena, pass, &frame, forks, here);
-                match back {
-                    Back::Memory => known = false,
-                    _ => {}
-                }
+                known = still_known(known, &back);
             }
         }
     }

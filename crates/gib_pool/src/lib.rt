@@ -18,6 +18,7 @@ mod post;
 mod raid;
 mod run;
 mod running;
+mod shared;
 mod worker;
 mod working;
 
@@ -33,5 +34,6 @@ pub use offer::offer_side;
 pub use post::Post;
 pub use raid::Raid;
 pub use run::{Crew, run_by};
+pub use shared::Shared;
 pub use worker::Member;
 pub use working::work;

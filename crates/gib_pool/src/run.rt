@@ -12,6 +12,7 @@ ghost use Rattle.gib_pool.specs.Runs.{pass_memory, outcome, IsRun};
 use crate::bell::Bell;
 use crate::crew::{make_members, work_together};
 use crate::job::Job;
+use crate::shared::Shared;
 use gib_arena::{Arena, Pass, SoleMem};
 use gib_code::Answer;
 use gib_core::Lowered;
@@ -67,34 +68,32 @@ fn count_all(arena: &Arena, pass: &mut Pass)
 fn run_in<'a, R: Threads + Wait + Sync, G: Gate + Sync>(
     rt: &R,
     alloc: Global,
-    arena: &'a Arena,
-    lowered: &'a Lowered,
-    mut pass: Pass,
+    shared: &Shared<'a, G>,
+    first: Pass,
     tails: Tails,
     root: Root,
     crew: Crew,
-    gate: &G,
 ) -> (Result<Answer, RunFault>, Pass)
-    requires own { IsOf arena.now pass }
-    requires alone { IsAlone (view pass).branch }
-    requires starts { (d : Datum) × IsStart lowered.now root tails (pass_memory pass) d }
-    ensures back { IsBackWhole arena.entry.now pass result.1 }
-    ensures ends { (d : Datum) → IsStart lowered.entry.now root tails (pass_memory pass) d
-        → IsRun lowered.entry.now crew.depth crew.level d (pass_memory pass) (pass_memory result.1) result.0 }
+    requires own { IsOf shared.now.arena.now first }
+    requires alone { IsAlone (view first).branch }
+    requires starts { (d : Datum) × IsStart shared.now.lowered.now root tails (pass_memory first) d }
+    ensures back { IsBackWhole shared.entry.now.arena.now first result.1 }
+    ensures ends { (d : Datum) → IsStart shared.entry.now.lowered.now root tails (pass_memory first) d
+        → IsRun shared.entry.now.lowered.now crew.depth crew.level d (pass_memory first) (pass_memory result.1) result.0 }
 {
-    lowered.core();
-    let _code = lowered.code();
-    let Ok(machine) = root_machine(alloc, lowered, root, crew.depth, crew.level) else {
-        return (Err(RunFault::Memory), pass);
+    shared.lowered.core();
+    let _code = shared.lowered.code();
+    let Ok(machine) = root_machine(alloc, shared.lowered, root, crew.depth, crew.level) else {
+        return (Err(RunFault::Memory), first);
     };
     let Ok(members) = make_members(alloc, crew.workers) else {
-        return (Err(RunFault::Memory), pass);
+        return (Err(RunFault::Memory), first);
     };
-    count_all(arena, &mut pass);
+    let mut pass = first;
+    count_all(shared.arena, &mut pass);
     let job = Job::make(alloc, machine, tails, pass);
-    let bell = Bell::new();
-    let (ending, mut last) = work_together(rt, alloc, arena, lowered, job, members, &bell, gate);
-    count_all(arena, &mut last);
+    let (ending, mut last) = work_together(rt, alloc, shared, job, members);
+    count_all(shared.arena, &mut last);
     (outcome_of(ending), last)
 }
 
@@ -120,6 +119,13 @@ pub fn run_by<R: Threads + Wait + Sync, G: Gate + Sync>(
     ensures kept { Kept (⟦<SoleMem as Mem>⟧.view memory) (⟦<SoleMem as Mem>⟧.view result.1) }
 {
     let (arena, first) = memory.into_parts();
-    let (end, last) = run_in(rt, alloc, &arena, lowered, first, tails, root, crew, gate);
+    let bell = Bell::new();
+    let shared = Shared {
+        arena: &arena,
+        lowered,
+        bell: &bell,
+        gate,
+    };
+    let (end, last) = run_in(rt, alloc, &shared, first, tails, root, crew);
     (end, SoleMem::of_parts(arena, last))
 }
