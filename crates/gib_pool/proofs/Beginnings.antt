@@ -68,7 +68,7 @@ side_owes l d due code side p m j el ec es ep em is small none safe =
     let s = subst (λ (x : Side). SideSafe (core_of l.core) l.code d (cells p) (waiting_of x)) es b in
     let state : m ≡ side_start l.code (waiting_of side) = em ∙ ap (λ (x : CodeTree). side_start x (waiting_of side)) ec in
     job_owes l d j m [] p is (subst (λ (x : State). Works l d (cells p) (drawn_by p) (with_tails x []) []) (sym state)
-        (subst (λ (n : ℕ). Works l d (cells p) n (side_start l.code (waiting_of side)) []) (sym none) (begins l d (cells p) (waiting_of side) small s)))
+    (subst (λ (n : ℕ). Works l d (cells p) n (side_start l.code (waiting_of side)) []) (sym none) (begins l d (cells p) (waiting_of side) small s)))
 
 -- The side of a task that was opened owes something.
 pub task_debt : (t : TaskParts) (due : Due) → IsTask t → due ≡ t.due → (d : Debt) × SideSafe (core_of due.lowered.value.core) due.lowered.value.code d (cells due.pass.value) (waiting_of due.side.value)

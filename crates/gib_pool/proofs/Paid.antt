@@ -1,8 +1,8 @@
 -- What a pass drew is paid for, whatever becomes of the right sides.
-use Rattle.std.proofs.Common.{◌≡◌, ℕ, ◌+◌, inl, inr, ◌⊎◌, Bool, true, false, cond, List, [], ◌∷◌, refl, sym, ap, subst, ◌∙◌, arith}
-use Rattle.std.specs.Prelude.{Option, Some, None}
+use Rattle.std.proofs.Common.{◌≡◌, ℕ, ◌+◌, inl, inr, ◌⊎◌, Bool, true, false, cond, List, [], ◌∷◌, refl, sym, ap, subst, arith}
+use Rattle.std.specs.Prelude.{Option, Some}
 use Rattle.gib_mem.specs.Memory.{Store}
-use Rattle.gib_core.specs.Cost.{Cost, plus}
+use Rattle.gib_core.specs.Cost.{Cost}
 use Rattle.gib_core.specs.Tree.{CoreTree}
 use Rattle.gib_core.specs.Parts.{core_of}
 use Rattle.gib_core.specs.LoweredParts.{LoweredParts}

@@ -1,7 +1,7 @@
 -- What a turn of a machine leaves a worker with.
 use Rattle.std.proofs.Common.{◌≡◌, ℕ, inl, inr, List, cond, refl, sym, ap, subst, ◌∙◌}
 use Rattle.std.specs.Prelude.{Option}
-use Rattle.gib_mem.specs.Memory.{Memory, Grows, byte, fresh, after_put, after_draw, with_drawn, IsBounded}
+use Rattle.gib_mem.specs.Memory.{Memory, byte, fresh, after_put, after_draw, with_drawn, IsBounded}
 use Rattle.gib_core.specs.Fits.{AllFit}
 use Rattle.gib_core.specs.Low.{IsLowered}
 use Rattle.gib_core.specs.LoweredParts.{LoweredParts, IsWhole}

@@ -1,5 +1,5 @@
 -- A worker's turns.
-use Rattle.std.proofs.Common.{rules, ◌≡◌, ℕ, ◌+◌, ◌*◌, ◌<◌, true, inl, inr, List, [], ◌∷◌, refl, sym, subst, ◌∙◌, arith, cond}
+use Rattle.std.proofs.Common.{◌≡◌, ℕ, ◌+◌, ◌*◌, ◌<◌, inl, inr, List, [], ◌∷◌, refl, sym, subst, ◌∙◌, arith, cond}
 use Rattle.std.specs.Prelude.{Option, Some, slice_get}
 use Rattle.gib_mem.specs.Memory.{Memory, Cell, Store, absent, fresh, byte, set_cell, open_chunk, Grows, IsBounded}
 use Rattle.gib_core.specs.Tree.{CoreTree}
@@ -7,9 +7,9 @@ use Rattle.gib_core.specs.Parts.{core_of}
 use Rattle.gib_core.specs.LoweredParts.{LoweredParts, IsWhole}
 use Rattle.gib_code.specs.declared.answer.Answer.{Answer}
 use Rattle.gib_code.specs.Program.{CodeTree}
-use Rattle.gib_machine.specs.Machine.{State, Waiting, Ask, Silent, Get, Put, Draw, AtFork, AtJoin, Ended, next, left_starts, right_of, side_start, is_unwinding, takes, joins}
+use Rattle.gib_machine.specs.Machine.{State, Waiting, Ask, Silent, Get, Put, Draw, AtFork, AtJoin, Ended, next, left_starts, right_of, side_start, takes, joins}
 use Rattle.gib_machine.specs.Starting.{waiting_of}
-use Rattle.gib_weave.specs.Owing.{Owed, Debt}
+use Rattle.gib_weave.specs.Owing.{Debt}
 use Rattle.gib_weave.specs.Paying.{Share, Bill, new_share, with_rest, with_count}
 use Rattle.gib_weave.specs.Places.{Owned, with_chunk, IsSmall}
 use Rattle.gib_weave.specs.Sound.{Safe, SideSafe, IsAnswer, After, Forks, Meets, Others}

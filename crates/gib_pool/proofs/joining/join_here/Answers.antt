@@ -193,5 +193,5 @@ returns-then-not-is_unwinding-clause-settles g c =
     let b = subst (λ (r : Back). IsBack due (view c.args.job.pass) (view c.settle.new.pass) (worker_view c.args.forks.now).mine (worker_view c.settle.new.forks).mine c.args.job.here c.settle.new.here r) c.in-Full.is c.settle.ensures.back in
     settles_for l (λ (d : Debt). Pays l d.most (drawn_by c.settle.new.pass) rest) (λ (d : Debt). StandsAt l d c.args.job AtJoin) c.leave.result.0 c.leave.result.1
     (λ d w. pays_back l d (cells c.settle.new.pass) (drawn_by c.args.job.pass) (drawn_by c.settle.new.pass) b.0 (job_lent c.args.job) rest due (job_state c.args.job)
-        (w.1 (cells c.settle.new.pass) (wider c.args.arena.now c.args.job.pass c.settle.new.pass c.settle.ensures.own c.settle.ensures.knows c.settle.ensures.free)) e b.3 b.5)
+    (w.1 (cells c.settle.new.pass) (wider c.args.arena.now c.args.job.pass c.settle.new.pass c.settle.ensures.own c.settle.ensures.knows c.settle.ensures.free)) e b.3 b.5)
     (c.leave.ensures.settles l b.4)

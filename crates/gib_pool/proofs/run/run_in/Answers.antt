@@ -1,4 +1,4 @@
-use Rattle.std.proofs.Common.{◌≡◌, ℕ, [], sym, ap, subst, ◌∙◌}
+use Rattle.std.proofs.Common.{ℕ, [], sym, ap, subst, ◌∙◌}
 use Rattle.std.specs.Prelude.{Result}
 use Rattle.gib_types.specs.Tree.{Datum}
 use Rattle.gib_core.specs.Parts.{core_of}
@@ -52,7 +52,7 @@ work_together-ending-requires-clause-owes g c κs within =
     (subst (λ (s : State). Works l (root_debt l depth level d) (cells pass) (drawn_by pass) s []) (sym start)
     (subst (λ (n : ℕ). Works l (root_debt l depth level d) (cells pass) n (root_start (core_of l.core) l.code (word_of c.args.root) depth level tails) []) (sym counted.all)
     (root_owes l (pass_memory pass) c.args.root tails depth level d ok (root_bounded a pass counted.own)
-        (subst (λ (v : View). IsStart l c.args.root tails (shown_alone v) d) (sym counted.same) st))))
+    (subst (λ (v : View). IsStart l c.args.root tails (shown_alone v) d) (sym counted.same) st))))
     in
     let st = c.requires.starts in
     (root_debt l depth level st.0, owes st.0 st.1)
@@ -75,7 +75,7 @@ returns-clause-ends g c = λ d st.
     (subst (λ (s : State). Works l (root_debt l depth level d) (cells pass) (drawn_by pass) s []) (sym start)
     (subst (λ (n : ℕ). Works l (root_debt l depth level d) (cells pass) n (root_start (core_of l.core) l.code (word_of c.args.root) depth level tails) []) (sym counted.all)
     (root_owes l (pass_memory pass) c.args.root tails depth level d ok (root_bounded a pass counted.own)
-        (subst (λ (v : View). IsStart l c.args.root tails (shown_alone v) d) (sym counted.same) st))))
+    (subst (λ (v : View). IsStart l c.args.root tails (shown_alone v) d) (sym counted.same) st))))
     in
     let last = c.count_all-2 in
     let limit = ap (λ (v : View). v.branch.limit) last.ensures.same ∙ (c.work_together-ending.ensures.back.same.limit ∙ (ap (λ (p : Pass). (view p).branch.limit) job.pass ∙ ap (λ (v : View). v.branch.limit) counted.same)) in

@@ -66,5 +66,5 @@ returns-in-AtJoin-clause-settles g c =
     let l = c.args.lowered.now in
     err_then c.join_here.result (λ (r : Ending × Pass). Settles l (λ (d : Debt). StandsAt l d c.run_on-job.result.0 AtJoin) r.0 r.1) (λ (r : Ending × Pass). Settles l (λ (d : Debt). OwesStill l d c.args.job) r.0 r.1)
     (λ r s. settles_for l (λ (d : Debt). StandsAt l d c.run_on-job.result.0 AtJoin) (λ (d : Debt). OwesStill l d c.args.job) r.0 r.1
-        (λ d w. subst (StandsAt l d c.run_on-job.result.0) c.in-AtJoin.is (c.run_on-job.ensures.stands d w)) s)
+    (λ d w. subst (StandsAt l d c.run_on-job.result.0) c.in-AtJoin.is (c.run_on-job.ensures.stands d w)) s)
     c.join_here.ensures.settles
