@@ -5,6 +5,7 @@
 mod due;
 mod ends;
 mod frame;
+pub mod law;
 pub mod sends;
 
 pub use due::{Due, Ending, Given};

@@ -1,3 +1,4 @@
+pub mod Paid
 pub mod Turns
 pub mod Standing
 pub mod Lending

@@ -16,20 +16,20 @@ ghost use Rattle.gib_frame.specs.declared.due.Due.{Due};
 ghost use Rattle.gib_pool.specs.Lent.{Lends, path};
 ghost use Rattle.gib_pool.specs.Turn.{Works, WorksAfter, Wider};
 
-/// Who begins a right side owes what it owes, with no right sides of its own.
+/// Who begins a right side owes what it owes, with no right sides of its own, and drew nothing.
 pub fn a_side_begins()
-    ensures { (l : LoweredParts) (d : Debt) (s : Store) (w : Waiting) → IsSmall s → SideSafe (core_of l.core) l.code d s w → Works l d s (side_start l.code w) [] }
+    ensures { (l : LoweredParts) (d : Debt) (s : Store) (w : Waiting) → IsSmall s → SideSafe (core_of l.core) l.code d s w → Works l d s 0 (side_start l.code w) [] }
 {}
 
 /// A split and a join of its pass leave a worker as it was.
 pub fn a_wider_pass_keeps()
-    ensures { (l : LoweredParts) (d : Debt) (s r : Store) (m : State) (lent : List (Option Due)) → Wider s r → Works l d s m lent → Works l d r m lent }
+    ensures { (l : LoweredParts) (d : Debt) (s r : Store) (n : ℕ) (m : State) (lent : List (Option Due)) → Wider s r → Works l d s n m lent → Works l d r n m lent }
 {}
 
 /// Each turn keeps a worker: what it gets is known, what it puts is fresh, each right side that it leaves is safe in the pass that
-/// was split for it, and its answer is what it owed.
+/// was split for it, its answer is what it owed, and what it drew is paid for.
 pub fn each_turn_keeps()
-    ensures { (l : LoweredParts) (d : Debt) (v : Memory) (m : State) (lent : List (Option Due)) → IsWhole l.core l.code → IsBounded v → Works l d v.cells m lent → WorksAfter l d v lent m (next l.code m) }
+    ensures { (l : LoweredParts) (d : Debt) (v : Memory) (m : State) (lent : List (Option Due)) → IsWhole l.core l.code → IsBounded v → Works l d v.cells v.share m lent → WorksAfter l d v lent m (next l.code m) }
 {}
 
 /// A split lends a pass; a join with the newest takes it back; where none is lent, none is out.

@@ -1,20 +1,24 @@
 //! A run of a core on a value that was loaded, by several workers.
 
-ghost use Rattle.std.specs.Prelude.{◌≡◌, []};
+ghost use Rattle.std.specs.Prelude.{◌≡◌};
 ghost use Rattle.gib_types.specs.Tree.{Datum};
-ghost use Rattle.gib_weave.specs.Running.{IsStart};
+ghost use Rattle.gib_weave.specs.Running.{IsStart, Kept};
 ghost use Rattle.gib_arena.specs.Passes.{view, IsOf};
+ghost use Rattle.gib_arena.specs.Tree.{IsAlone};
+ghost use Rattle.gib_frame.specs.Answers.{drawn_by};
 ghost use Rattle.gib_pool.specs.Jobs.{IsBackWhole};
 ghost use Rattle.gib_pool.specs.Runs.{pass_memory, outcome, IsRun};
 
 use crate::bell::Bell;
 use crate::crew::{make_members, work_together};
 use crate::job::Job;
-use gib_arena::{Arena, Pass};
+use crate::shared::Shared;
+use gib_arena::{Arena, Pass, SoleMem};
 use gib_code::Answer;
 use gib_core::Lowered;
 use gib_edge::outside::Gate;
 use gib_frame::Ending;
+use gib_mem::Mem;
 use gib_packed::Root;
 use gib_region::Tails;
 use gib_weave::{RunFault, root_machine};
@@ -40,42 +44,88 @@ fn outcome_of(ending: Ending) -> Result<Answer, RunFault>
     match ending {
         Ending::Answer(answer) => Ok(answer),
         Ending::Full => Err(RunFault::Full),
-        Ending::NotRun => Err(RunFault::Memory),
+        Ending::NotRun | Ending::Memory => Err(RunFault::Memory),
     }
 }
 
-/// Runs a core on the value of the root by so many workers, with at most `depth` calls and `level` forks nested. The answer is what the
-/// core means. However the run ends, its pass comes back with all that was split off it.
+/// Counts the chunks by the first pass, where no other one is out: it drew all that are drawn. The pass is as it was.
+fn count_all(arena: &Arena, pass: &mut Pass)
+    requires own { IsOf arena.now pass.old }
+    requires alone { IsAlone (view pass.old).branch }
+    ensures own { IsOf arena.now pass.new }
+    ensures same { view pass.new ≡ view pass.old }
+    ensures all { drawn_by pass.new ≡ (view pass.new).holding.seen }
+{
+    pass.chunks(arena);
+}
+
+/// Runs a core on the value of the root over the first pass of an arena, by so many workers, with at most `depth` calls and `level` forks
+/// nested. However the run ends, the pass comes back with all that was split off it.
 ///
 /// # Errors
 ///
-/// `Full`: it draws a chunk, and all are drawn. `Memory`: want of memory.
-pub fn run_by<'a, R: Threads + Wait + Sync, G: Gate + Sync>(
+/// `Full`: it draws a chunk, and all are drawn, so so many may not be enough. `Memory`: want of memory.
+fn run_in<'a, R: Threads + Wait + Sync, G: Gate + Sync>(
     rt: &R,
     alloc: Global,
-    arena: &'a Arena,
-    lowered: &'a Lowered,
-    pass: Pass,
+    shared: &Shared<'a, G>,
+    first: Pass,
+    tails: Tails,
+    root: Root,
+    crew: Crew,
+) -> (Result<Answer, RunFault>, Pass)
+    requires own { IsOf shared.now.arena.now first }
+    requires alone { IsAlone (view first).branch }
+    requires starts { (d : Datum) × IsStart shared.now.lowered.now root tails (pass_memory first) d }
+    ensures back { IsBackWhole shared.entry.now.arena.now first result.1 }
+    ensures ends { (d : Datum) → IsStart shared.entry.now.lowered.now root tails (pass_memory first) d
+        → IsRun shared.entry.now.lowered.now crew.depth crew.level d (pass_memory first) (pass_memory result.1) result.0 }
+{
+    shared.lowered.core();
+    let _code = shared.lowered.code();
+    let Ok(machine) = root_machine(alloc, shared.lowered, root, crew.depth, crew.level) else {
+        return (Err(RunFault::Memory), first);
+    };
+    let Ok(members) = make_members(alloc, crew.workers) else {
+        return (Err(RunFault::Memory), first);
+    };
+    let mut pass = first;
+    count_all(shared.arena, &mut pass);
+    let job = Job::make(alloc, machine, tails, pass);
+    let (ending, mut last) = work_together(rt, alloc, shared, job, members);
+    count_all(shared.arena, &mut last);
+    (outcome_of(ending), last)
+}
+
+/// Runs a core on a value that was loaded by so many workers, with at most `depth` calls and `level` forks nested. The answer is what the
+/// core means. However the run ends, the memory comes back, and no other pass of it is out.
+///
+/// # Errors
+///
+/// `Full`: it draws a chunk, and all are drawn, so so many may not be enough. `Memory`: want of memory.
+pub fn run_by<R: Threads + Wait + Sync, G: Gate + Sync>(
+    rt: &R,
+    alloc: Global,
+    lowered: &Lowered,
+    memory: SoleMem,
     tails: Tails,
     root: Root,
     crew: Crew,
     gate: &G,
-) -> (Result<Answer, RunFault>, Pass)
-    requires own { IsOf arena.now pass × ((view pass).branch.out ≡ []) }
-    requires starts { (d : Datum) × IsStart lowered.now root tails (pass_memory pass) d }
-    ensures back { IsBackWhole arena.entry.now pass result.1 }
-    ensures ends { (d : Datum) → IsStart lowered.entry.now root tails (pass_memory pass) d → IsRun lowered.entry.now crew.depth d result.0 result.1 }
+) -> (Result<Answer, RunFault>, SoleMem)
+    requires starts { (d : Datum) × IsStart lowered.now root tails (⟦<SoleMem as Mem>⟧.view memory) d }
+    ensures ends { (d : Datum) → IsStart lowered.entry.now root tails (⟦<SoleMem as Mem>⟧.view memory) d
+        → IsRun lowered.entry.now crew.depth crew.level d (⟦<SoleMem as Mem>⟧.view memory) (⟦<SoleMem as Mem>⟧.view result.1) result.0 }
+    ensures kept { Kept (⟦<SoleMem as Mem>⟧.view memory) (⟦<SoleMem as Mem>⟧.view result.1) }
 {
-    lowered.core();
-    let _code = lowered.code();
-    let Ok(machine) = root_machine(alloc, lowered, root, crew.depth, crew.level) else {
-        return (Err(RunFault::Memory), pass);
-    };
-    let Ok(members) = make_members(alloc, crew.workers) else {
-        return (Err(RunFault::Memory), pass);
-    };
-    let job = Job::make(alloc, machine, tails, pass);
+    let (arena, first) = memory.into_parts();
     let bell = Bell::new();
-    let (ending, pass) = work_together(rt, alloc, arena, lowered, job, members, &bell, gate);
-    (outcome_of(ending), pass)
+    let shared = Shared {
+        arena: &arena,
+        lowered,
+        bell: &bell,
+        gate,
+    };
+    let (end, last) = run_in(rt, alloc, &shared, first, tails, root, crew);
+    (end, SoleMem::of_parts(arena, last))
 }

@@ -1,18 +1,16 @@
 //! A worker runs a task to its end.
 
-ghost use Rattle.std.specs.Prelude.{◌≡◌, ◌≤◌, IfOk, IfErr};
+ghost use Rattle.std.specs.Prelude.{◌≡◌, IfOk, IfErr};
 ghost use Rattle.crossbeam_deque.specs.Handles.{worker_deque, worker_view};
-ghost use Rattle.gib_arena.specs.Passes.{view};
-ghost use Rattle.gib_core.specs.LoweredParts.{LoweredParts};
 ghost use Rattle.gib_weave.specs.Owing.{Debt};
 ghost use Rattle.gib_pool.specs.Jobs.{Holds, IsHere, IsSamePass, IsBackWhole, OwesStill, Settles};
 ghost use Rattle.gib_pool.specs.Mine.{IsMine};
 
-use crate::drain::drain_frames;
 use crate::forking::fork_here;
 use crate::forks::Forks;
 use crate::job::Job;
 use crate::joining::join_here;
+use crate::leaving::leave;
 use crate::post::Post;
 use crate::running::run_on;
 use gib_arena::{Arena, Pass};
@@ -22,26 +20,6 @@ use gib_frame::Ending;
 use gib_machine::Turn;
 use std::alloc::Global;
 use std::sync::Wait;
-
-/// Leaves a task before its end. All that was split off its pass comes back.
-fn leave<'a, R: Wait>(rt: &R, arena: &'a Arena, job: Job, forks: &mut Forks<'a>) -> Pass
-    requires holds { (l : LoweredParts) × Holds arena.now l job }
-    requires mine { IsMine forks.old }
-    requires here { IsHere job (worker_view forks.old).mine }
-    ensures mine { IsMine forks.new × (worker_deque forks.new ≡ worker_deque forks.old) }
-    ensures back { IsBackWhole arena.entry.now job.pass result }
-    ensures seen { (view job.pass).holding.seen ≤ (view result).holding.seen }
-{
-    let Job {
-        machine: _,
-        tails: _,
-        mut pass,
-        mut frames,
-        mut here,
-    } = job;
-    drain_frames(rt, arena, &mut pass, &mut frames, forks, &mut here);
-    pass
-}
 
 /// Goes on until the task's machine stood once. Where the task has ended, how it did and its pass come back.
 fn stand_once<'a, R: Wait, G: Gate>(
@@ -63,24 +41,21 @@ fn stand_once<'a, R: Wait, G: Gate>(
     ensures here { IfOk result (λ j. IsHere j (worker_view forks.new).mine) }
     ensures same { IfOk result (λ j. IsSamePass job.pass j.pass) }
     ensures back { IfErr result (λ r. IsBackWhole arena.entry.now job.pass r.1) }
-    ensures settles { IfErr result (λ r. Settles lowered.entry.now job r.0 r.1) }
+    ensures settles { IfErr result (λ r. Settles lowered.entry.now (λ (d : Debt). OwesStill lowered.entry.now d job) r.0 r.1) }
 {
     let (job, turn) = run_on(rt, arena, lowered, job);
     match turn {
         Turn::Went => unreachable!(),
         Turn::Ended(answer) => Err((Ending::Answer(answer), job.pass)),
-        Turn::Full => Err((Ending::Full, leave(rt, arena, job, forks))),
-        Turn::AtFork => match fork_here(alloc, arena, lowered, job, forks) {
+        Turn::Full => Err(leave(rt, arena, job, forks)),
+        Turn::AtFork => match fork_here(rt, alloc, arena, lowered, job, forks) {
             Ok(job) => {
                 post.forked(rt);
                 Ok(job)
             }
-            Err(job) => Err((Ending::NotRun, leave(rt, arena, job, forks))),
+            Err(end) => Err(end),
         },
-        Turn::AtJoin => match join_here(rt, arena, lowered, job, forks) {
-            Ok(job) => Ok(job),
-            Err(job) => Err((Ending::Full, leave(rt, arena, job, forks))),
-        },
+        Turn::AtJoin => join_here(rt, arena, lowered, job, forks),
     }
 }
 
@@ -101,7 +76,7 @@ pub fn work<'a, R: Wait, G: Gate>(
     requires here { IsHere job (worker_view forks.old).mine }
     ensures mine { IsMine forks.new × (worker_deque forks.new ≡ worker_deque forks.old) }
     ensures back { IsBackWhole arena.entry.now job.pass result.1 }
-    ensures settles { Settles lowered.entry.now job result.0 result.1 }
+    ensures settles { Settles lowered.entry.now (λ (d : Debt). OwesStill lowered.entry.now d job) result.0 result.1 }
 {
     let mut current = job;
     'turns: for _ in rt.forever() {

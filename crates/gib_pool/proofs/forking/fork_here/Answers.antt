@@ -8,6 +8,7 @@ use Rattle.gib_machine.proofs.Widths.{left_keeps_width}
 use Rattle.gib_arena.specs.Passes.{cells}
 use Rattle.gib_frame.specs.declared.due.Due.{Due}
 use Rattle.gib_frame.specs.declared.ends.Frame.{Frame}
+use Rattle.gib_frame.specs.Answers.{drawn_by}
 use Rattle.gib_frame.specs.Dues.{frame_due}
 use Rattle.gib_pool.specs.Frames.{AreHere}
 use Rattle.gib_pool.specs.Jobs.{job_state, job_lent}
@@ -19,13 +20,13 @@ use Rattle.gib_pool.proofs.Standings.{goes_left, some_at}
 use Rattle.gib_pool.proofs.forking.fork_here.Goals as goal
 
 pub offer_here-frame-requires-clause-few : goal.offer_here-frame-requires-clause-few
-offer_here-frame-requires-clause-few c =
+offer_here-frame-requires-clause-few g c =
     let few = here_few (job_lent c.args.job) c.args.job.here (worker_view c.args.forks.now).mine c.requires.here in
     let long = lent_long c.args.job.frames.items in
     omega (arith, few, long, c.args.job.frames.ok)
 
 pub returns-clause-holds : goal.returns-clause-holds
-returns-clause-holds c =
+returns-clause-holds g c =
     let are = now_lent c.push_reserved.new.self.items c.args.job.frames.items c.offer_here-frame.result c.offer_here-frame.result (c.push_reserved.ensures.items ∙ ap (λ xs. xs ++ c.offer_here-frame.result ∷ []) c.reserve.ensures.items) refl in
     record {
       own = c.offer_here-frame.ensures.own;
@@ -34,12 +35,12 @@ returns-clause-holds c =
     }
 
 pub returns-clause-here : goal.returns-clause-here
-returns-clause-here c =
+returns-clause-here g c =
     let are = now_lent c.push_reserved.new.self.items c.args.job.frames.items c.offer_here-frame.result c.offer_here-frame.result (c.push_reserved.ensures.items ∙ ap (λ xs. xs ++ c.offer_here-frame.result ∷ []) c.reserve.ensures.items) refl in
     subst (λ (es : List (Option Due)). AreHere es c.offer_here-frame.new.here (worker_view c.offer_here-frame.new.forks).mine) (sym are) (c.offer_here-frame.ensures.here (job_lent c.args.job) c.requires.here)
 
 pub returns-clause-owes : goal.returns-clause-owes
-returns-clause-owes c = λ d w.
+returns-clause-owes g c = λ d w.
     let l = c.args.lowered.now in
     let are = now_lent c.push_reserved.new.self.items c.args.job.frames.items c.offer_here-frame.result c.offer_here-frame.result (c.push_reserved.ensures.items ∙ ap (λ xs. xs ++ c.offer_here-frame.result ∷ []) c.reserve.ensures.items) refl in
     let m = job_state c.args.job in
@@ -47,6 +48,6 @@ returns-clause-owes c = λ d w.
     let left = c.left.ensures c.args.job.tails ∙ ap (λ (x : CodeTree). left_starts m (slice_get x.instructions m.ip)) c.code.ensures.value in
     let right = right_of m (slice_get l.code.instructions m.ip) in
     let side = some_at l d c.offer_here-frame.result (λ (ts : List ℕ) (f : Frame). IsFor l (cells c.args.job.pass) (right_of (with_tails c.args.job.machine ts) (slice_get l.code.instructions m.ip)) (frame_due f)) c.args.job.tails o.side in
-    subst (Works l d (cells c.offer_here-frame.new.pass) (with_tails c.left.new.self c.args.job.tails)) (sym are)
-    (goes_left l d (cells c.args.job.pass) (cells c.offer_here-frame.new.pass) (job_lent c.args.job) m (left_starts m (slice_get l.code.instructions m.ip)) (with_tails c.left.new.self c.args.job.tails) right c.offer_here-frame.result w.1 side left
-    (wider c.args.arena.now c.args.job.pass c.offer_here-frame.new.pass o.own o.knows o.free))
+    subst (Works l d (cells c.offer_here-frame.new.pass) (drawn_by c.offer_here-frame.new.pass) (with_tails c.left.new.self c.args.job.tails)) (sym are)
+    (goes_left l d (cells c.args.job.pass) (cells c.offer_here-frame.new.pass) (drawn_by c.args.job.pass) (drawn_by c.offer_here-frame.new.pass) (job_lent c.args.job) m (left_starts m (slice_get l.code.instructions m.ip)) (with_tails c.left.new.self c.args.job.tails) right c.offer_here-frame.result w.1 side left o.drawn
+    (wider c.args.arena.now c.args.job.pass c.offer_here-frame.new.pass o.own o.same.known o.free))
