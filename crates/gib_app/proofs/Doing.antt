@@ -1,5 +1,5 @@
 -- Facts of all jobs, by cases.
-use Rattle.std.proofs.Common.{◌≡◌, Bool, true, false, cond, refl, ℕ, ◌<◌, List, [], ◌∷◌, length, Option, Some, None, ap, ◌⊎◌, inl, inr, ◌≤◌, sym, subst, subst₂, arith}
+use Rattle.std.proofs.Common.{◌≡◌, Bool, true, false, cond, refl, ℕ, ◌<◌, List, [], ◌∷◌, length, Option, Some, None, ap, ◌⊎◌, inl, inr, ◌≤◌, sym, subst₂, arith}
 use Rattle.std.specs.Prelude.{nat_lt}
 use Rattle.std.proofs.lemmas.Bool.Decides.{nat_tests}
 use Rattle.gib_types.specs.Tree.{Datum}
@@ -90,26 +90,15 @@ more_forks o more' = let many : nat_lt 1 o.workers ≡ true = grind (arith, nat_
 
 -- a run that lacks a value
 
-at_forks : (p : ProgramTree) (o : Options) (input : List ℕ) (forks : ℕ) → run_forks o ≡ forks → FillsUp p o.skips o.depth forks o.chunks input → FillsUp p o.skips o.depth (run_forks o) o.chunks input
-at_forks p o input forks e h = subst (λ (n : ℕ). FillsUp p o.skips o.depth n o.chunks input) (sym e) h
+pub lacks_runs : (p : ProgramTree) (names : List (List ℕ)) (o : Options) (input : List ℕ) (why : Reason) → LacksValue p o.skips o.depth (run_forks o) o.chunks input why → Runs p names o input None (NoValue why)
+lacks_runs p names o input Deep h = (refl, h)
+lacks_runs p names o input Full h = (refl, h)
 
-pub lacks_runs : (p : ProgramTree) (names : List (List ℕ)) (o : Options) (input : List ℕ) → run_forks o ≡ 0 → (why : Reason) → LacksValue p o.skips o.depth 0 o.chunks input why → Runs p names o input None (NoValue why)
-lacks_runs p names o input e Deep h = (refl, h)
-lacks_runs p names o input e Full h = (refl, at_forks p o input 0 e h)
+pub lacks_sums : (p : ProgramTree) (o : Options) (input : List ℕ) (why : Reason) → LacksValue p o.skips o.depth (run_forks o) o.chunks input why → Sums p o input None (NoValue why)
+lacks_sums p o input Deep h = (refl, h)
+lacks_sums p o input Full h = (refl, h)
 
-pub lacks_sums : (p : ProgramTree) (o : Options) (input : List ℕ) → run_forks o ≡ 0 → (why : Reason) → LacksValue p o.skips o.depth 0 o.chunks input why → Sums p o input None (NoValue why)
-lacks_sums p o input e Deep h = (refl, h)
-lacks_sums p o input e Full h = (refl, at_forks p o input 0 e h)
-
--- a run by workers whose chunks run out
-
-pub fills_runs : (p : ProgramTree) (names : List (List ℕ)) (o : Options) (input : List ℕ) → run_forks o ≡ o.fork → (why : Reason) → OnlyFull (FillsUp p o.skips o.depth o.fork o.chunks input) why → Runs p names o input None (NoValue why)
-fills_runs p names o input e Deep h = absurd h
-fills_runs p names o input e Full h = (refl, at_forks p o input o.fork e h)
-
-pub fills_sums : (p : ProgramTree) (o : Options) (input : List ℕ) → run_forks o ≡ o.fork → (why : Reason) → OnlyFull (FillsUp p o.skips o.depth o.fork o.chunks input) why → Sums p o input None (NoValue why)
-fills_sums p o input e Deep h = absurd h
-fills_sums p o input e Full h = (refl, at_forks p o input o.fork e h)
+-- a trace whose chunks run out
 
 pub fills_traces : (p : ProgramTree) (names : List (List ℕ)) (o : Options) (input : List ℕ) (why : Reason) → OnlyFull (FillsUp p o.skips o.depth o.fork o.chunks input) why → Traces p names o input None (NoValue why)
 fills_traces p names o input Deep h = absurd h

@@ -30,7 +30,9 @@ use Rattle.gib_core.specs.Tree.{CoreTree}
 use Rattle.gib_code.specs.declared.answer.Answer.{Answer}
 use Rattle.gib_code.specs.declared.answer.Answer.TheVariants as answer
 use Rattle.gib_weave.specs.declared.root_run.RunFault.{RunFault}
+use Rattle.gib_weave.specs.declared.root_run.RunFault.TheVariants as fault
 use Rattle.gib_weave.specs.Running.{IsStart, RunEnds}
+use Rattle.gib_pool.specs.Runs.{IsRun}
 use Rattle.gib_weave.specs.Sound.{IsAnswer}
 use Rattle.gib_arena.specs.declared.sole_mem.SoleMem.{SoleMem}
 use Rattle.gib_app.specs.declared.machine_run.Ran.{Ran}
@@ -70,9 +72,9 @@ enough chunks r i k h = omega (arith, h)
 pub loading_is_tight : (core : CoreTree) (depth forks chunks : ℕ) (v : Datum) → Loaded chunks v → Tight chunks (run_cost core depth forks v)
 loading_is_tight core depth forks chunks v h = enough chunks (body_cost core depth forks v).regions (body_cost core depth forks v).items (constructors v) h
 
-pub load_halts : (core : CoreTree) (laid : LaidOut) (depth : ℕ) (v : Datum) (m m' : Memory) → Refused laid m v m' → Spent v m' → Tight m.limit (run_cost core depth 0 v)
-load_halts core laid depth v m m' refused spent =
-    subst (λ (n : ℕ). Tight n (run_cost core depth 0 v)) (refused_limit laid m m' v refused) (loading_is_tight core depth 0 m'.limit v spent.loaded)
+pub load_halts : (core : CoreTree) (laid : LaidOut) (depth forks : ℕ) (v : Datum) (m m' : Memory) → Refused laid m v m' → Spent v m' → Tight m.limit (run_cost core depth forks v)
+load_halts core laid depth forks v m m' refused spent =
+    subst (λ (n : ℕ). Tight n (run_cost core depth forks v)) (refused_limit laid m m' v refused) (loading_is_tight core depth forks m'.limit v spent.loaded)
 
 -- An answer of the machine is a root for what was owed.
 module _ (laid : LaidOut) (s : Store) (ty : Ty) (owed : Outcome) where
@@ -92,13 +94,19 @@ answered laid s ty owed (answer.Truth b) h = truth_stands laid s ty owed b h
 answered laid s ty owed (answer.At a) h = tree_stands laid s ty owed a h
 answered laid s ty owed answer.Deep h = h
 
+-- The run of one worker is one that may nest no forks.
+pub alone_is_run : (l : LoweredParts) (depth : ℕ) (v : Datum) (m m' : Memory) (end' : Result Answer RunFault) → RunEnds l depth v m m' end' → IsRun l depth 0 v m m' end'
+alone_is_run l depth v m m' (Ok a) h = h
+alone_is_run l depth v m m' (Err fault.Full) h = h
+alone_is_run l depth v m m' (Err fault.Memory) h = h
+
 -- The answer with which a run ends is such a root, or none.
-pub answer_ends : (l : LoweredParts) (depth : ℕ) (v : Datum) (m m' : Memory) (end' : Result Answer RunFault) (a : Answer) (found : Option Root) → end' ≡ Ok a → found ≡ root_in a → RunEnds l depth v m m' end'
+pub answer_ends : (l : LoweredParts) (depth forks : ℕ) (v : Datum) (m m' : Memory) (end' : Result Answer RunFault) (a : Answer) (found : Option Root) → end' ≡ Ok a → found ≡ root_in a → IsRun l depth forks v m m' end'
     → MatchOption found (core_run (core_of l.core) depth v ≡ Stops Deep) (IsRootOf l.code.laid m'.cells (core_of l.core).main.result (core_run (core_of l.core) depth v))
-answer_ends l depth v m m' end' a found is there ends =
+answer_ends l depth forks v m m' end' a found is there ends =
     let owed = core_run (core_of l.core) depth v in
     let ty = (core_of l.core).main.result in
-    let ended = subst (λ (e : Result Answer RunFault). RunEnds l depth v m m' e) is ends in
+    let ended = subst (λ (e : Result Answer RunFault). IsRun l depth forks v m m' e) is ends in
     subst (λ (o : Option Root). MatchOption o (owed ≡ Stops Deep) (IsRootOf l.code.laid m'.cells ty owed)) (sym there) (answered l.code.laid m'.cells ty owed a ended)
 
 -- What is packed by the survey's table is so by that of the layouts.
@@ -106,17 +114,17 @@ pub packed_in : (l : LoweredParts) (laid : LaidOut) (s : Surveyed) (v : Datum) �
 packed_in l laid s v e f p = subst (λ (t : Table). Packed t s.ty v s.bytes) (f ∙ sym (ap (λ (x : LaidOut). x.table) e)) p
 
 -- Loading and then running.
-pub loaded_ran : (l : LoweredParts) (laid : LaidOut) (s : Surveyed) (depth : ℕ) (m0 m1 m2 : Memory) (place : Root) (tails : List ℕ) (r : Result Answer RunFault) (e : Result Root Stop)
+pub loaded_ran : (l : LoweredParts) (laid : LaidOut) (s : Surveyed) (depth forks : ℕ) (m0 m1 m2 : Memory) (place : Root) (tails : List ℕ) (r : Result Answer RunFault) (e : Result Root Stop)
     → laid ≡ l.code.laid → s.table ≡ l.code.laid.table → s.ty ≡ (core_of l.core).main.parameter
     → ((v : Datum) → Packed laid.table s.ty v s.bytes → record { memory = m1; root = place; tails = tails } ≡ placed_in laid m0 v)
     → ((v : Datum) → Packed laid.table s.ty v s.bytes → Holding laid s.ty v (record { memory = m1; root = place; tails = tails }))
-    → ((v : Datum) → IsStart l place tails m1 v → RunEnds l depth v m1 m2 r) → ((v : Datum) → RunEnds l depth v m1 m2 r → EndsWith l depth m1.limit v m2.cells e)
-    → (v : Datum) → Packed s.table s.ty v s.bytes → EndsWith l depth m0.limit v m2.cells e
-loaded_ran l laid s depth m0 m1 m2 place tails r e same table ty placed holds ran ends v p =
+    → ((v : Datum) → IsStart l place tails m1 v → IsRun l depth forks v m1 m2 r) → ((v : Datum) → IsRun l depth forks v m1 m2 r → EndsWith l depth forks m1.limit v m2.cells e)
+    → (v : Datum) → Packed s.table s.ty v s.bytes → EndsWith l depth forks m0.limit v m2.cells e
+loaded_ran l laid s depth forks m0 m1 m2 place tails r e same table ty placed holds ran ends v p =
     let q = packed_in l laid s v same table p in
     let limit : m1.limit ≡ m0.limit = ap (λ (x : Placement). x.memory.limit) (placed v q) ∙ placed_limit laid m0 v in
     let start = start_of l laid s.ty v m1 place tails same ty (holds v q) in
-    subst (λ (n : ℕ). EndsWith l depth n v m2.cells e) limit (ends v (ran v start))
+    subst (λ (n : ℕ). EndsWith l depth forks n v m2.cells e) limit (ends v (ran v start))
 
 -- The run has as many chunks as there were before.
 pub loaded_limit : {X E : Type 0} (l : LoweredParts) (laid : LaidOut) (s : Surveyed) (m0 m1 m2 : Memory) (place : Root) (tails : List ℕ) (r : Result X E) → laid ≡ l.code.laid → s.table ≡ l.code.laid.table
@@ -127,12 +135,12 @@ loaded_limit l laid s m0 m1 m2 place tails (Ok value) same table placed v p kept
 loaded_limit l laid s m0 m1 m2 place tails (Err e) same table placed v p kept = tt {0}
 
 -- Loading that stops.
-pub load_stops : (l : LoweredParts) (laid : LaidOut) (s : Surveyed) (depth : ℕ) (m0 m1 : Memory) → laid ≡ l.code.laid → s.table ≡ l.code.laid.table
+pub load_stops : (l : LoweredParts) (laid : LaidOut) (s : Surveyed) (depth forks : ℕ) (m0 m1 : Memory) → laid ≡ l.code.laid → s.table ≡ l.code.laid.table
     → ((v : Datum) → Packed laid.table s.ty v s.bytes → Refused laid m0 v m1) → ((v : Datum) → Packed laid.table s.ty v s.bytes → Spent v m1)
-    → (v : Datum) → Packed s.table s.ty v s.bytes → Tight m0.limit (run_cost (core_of l.core) depth 0 v)
-load_stops l laid s depth m0 m1 same table refused spent v p =
+    → (v : Datum) → Packed s.table s.ty v s.bytes → Tight m0.limit (run_cost (core_of l.core) depth forks v)
+load_stops l laid s depth forks m0 m1 same table refused spent v p =
     let q = packed_in l laid s v same table p in
-    load_halts (core_of l.core) laid depth v m0 m1 (refused v q) (spent v q)
+    load_halts (core_of l.core) laid depth forks v m0 m1 (refused v q) (spent v q)
 
 -- A core and layouts that are a program's.
 pub record IsOfProgram (p : ProgramTree) (skips : Bool) (l : LoweredParts) : Type 0 where
@@ -163,25 +171,25 @@ root_meant p skips depth input v l l' s place of is e h =
     } in
     subst (λ (x : LoweredParts). StandsMeant p depth input x.code.laid s place) (sym e) there
 
-lacks_meant : (p : ProgramTree) (skips : Bool) (depth chunks : ℕ) (input : List ℕ) (v : Datum) (l : LoweredParts) → IsOfProgram p skips l → IsInput p v input → (why : Reason)
-    → Lacks (core_run (core_of l.core) depth v) chunks (run_cost (core_of l.core) depth 0 v) why → LacksValue p skips depth 0 chunks input why
-lacks_meant p skips depth chunks input v l of is reason.Deep h = record { value = v; is_input = is; means = sym (of.means depth v) ∙ h }
-lacks_meant p skips depth chunks input v l of is reason.Full h = record {
+lacks_meant : (p : ProgramTree) (skips : Bool) (depth forks chunks : ℕ) (input : List ℕ) (v : Datum) (l : LoweredParts) → IsOfProgram p skips l → IsInput p v input → (why : Reason)
+    → Lacks (core_run (core_of l.core) depth v) chunks (run_cost (core_of l.core) depth forks v) why → LacksValue p skips depth forks chunks input why
+lacks_meant p skips depth forks chunks input v l of is reason.Deep h = record { value = v; is_input = is; means = sym (of.means depth v) ∙ h }
+lacks_meant p skips depth forks chunks input v l of is reason.Full h = record {
   value = v;
   is_input = is;
-  tight = subst (λ (c : CoreTree). Tight chunks (run_cost c depth 0 v)) of.core h;
+  tight = subst (λ (c : CoreTree). Tight chunks (run_cost c depth forks v)) of.core h;
 }
 
-pub stop_meant : (p : ProgramTree) (skips : Bool) (depth chunks : ℕ) (input : List ℕ) (v : Datum) (l : LoweredParts) → IsOfProgram p skips l → IsInput p v input → (why : Stop)
-    → Halts (core_run (core_of l.core) depth v) chunks (run_cost (core_of l.core) depth 0 v) why → IsMachineStop p skips depth 0 chunks input why
-stop_meant p skips depth chunks input v l of is stop.Usage h = h
-stop_meant p skips depth chunks input v l of is (stop.Source fault) h = h
-stop_meant p skips depth chunks input v l of is (stop.Unread name) h = h
-stop_meant p skips depth chunks input v l of is (stop.Input fault) h = absurd h
-stop_meant p skips depth chunks input v l of is (stop.NoValue why) h = lacks_meant p skips depth chunks input v l of is why h
-stop_meant p skips depth chunks input v l of is stop.Memory h = h
-stop_meant p skips depth chunks input v l of is (stop.Unwritten name) h = h
-stop_meant p skips depth chunks input v l of is stop.Unput h = h
+pub stop_meant : (p : ProgramTree) (skips : Bool) (depth forks chunks : ℕ) (input : List ℕ) (v : Datum) (l : LoweredParts) → IsOfProgram p skips l → IsInput p v input → (why : Stop)
+    → Halts (core_run (core_of l.core) depth v) chunks (run_cost (core_of l.core) depth forks v) why → IsMachineStop p skips depth forks chunks input why
+stop_meant p skips depth forks chunks input v l of is stop.Usage h = h
+stop_meant p skips depth forks chunks input v l of is (stop.Source fault) h = h
+stop_meant p skips depth forks chunks input v l of is (stop.Unread name) h = h
+stop_meant p skips depth forks chunks input v l of is (stop.Input fault) h = absurd h
+stop_meant p skips depth forks chunks input v l of is (stop.NoValue why) h = lacks_meant p skips depth forks chunks input v l of is why h
+stop_meant p skips depth forks chunks input v l of is stop.Memory h = h
+stop_meant p skips depth forks chunks input v l of is (stop.Unwritten name) h = h
+stop_meant p skips depth forks chunks input v l of is stop.Unput h = h
 
 -- A survey's value is the input.
 pub input_of : (p : ProgramTree) (input : List ℕ) (s : Surveyed) → length input ≤ 16777216 → ((v : Datum) → Packed s.table s.ty v s.bytes → File (table_of_program p) (input_type p) v input)
@@ -197,33 +205,33 @@ survey_stands p skips depth input s l of short packed file (Ok ran) same ends =
     root_meant p skips depth input packed.0 l ran.lowered (cells_of ran.memory) ran.root of (input_of p input s short file packed.0 packed.1) same (ends packed.0 packed.1)
 survey_stands p skips depth input s l of short packed file (Err why) same ends = tt {0}
 
-pub survey_stops : (p : ProgramTree) (skips : Bool) (depth chunks : ℕ) (input : List ℕ) (s : Surveyed) (l : LoweredParts) → IsOfProgram p skips l → length input ≤ 16777216 → IsPacked s.table s.ty s.bytes s.count
+pub survey_stops : (p : ProgramTree) (skips : Bool) (depth forks chunks : ℕ) (input : List ℕ) (s : Surveyed) (l : LoweredParts) → IsOfProgram p skips l → length input ≤ 16777216 → IsPacked s.table s.ty s.bytes s.count
     → ((v : Datum) → Packed s.table s.ty v s.bytes → File (table_of_program p) (input_type p) v input) → (r : Result (Ran SoleMem) Stop)
-    → IfErr r (λ why. (v : Datum) → Packed s.table s.ty v s.bytes → Halts (core_run (core_of l.core) depth v) chunks (run_cost (core_of l.core) depth 0 v) why)
-    → IfErr r (IsMachineStop p skips depth 0 chunks input)
-survey_stops p skips depth chunks input s l of short packed file (Ok ran) ends = tt {0}
-survey_stops p skips depth chunks input s l of short packed file (Err why) ends = stop_meant p skips depth chunks input packed.0 l of (input_of p input s short file packed.0 packed.1) why (ends packed.0 packed.1)
+    → IfErr r (λ why. (v : Datum) → Packed s.table s.ty v s.bytes → Halts (core_run (core_of l.core) depth v) chunks (run_cost (core_of l.core) depth forks v) why)
+    → IfErr r (IsMachineStop p skips depth forks chunks input)
+survey_stops p skips depth forks chunks input s l of short packed file (Ok ran) ends = tt {0}
+survey_stops p skips depth forks chunks input s l of short packed file (Err why) ends = stop_meant p skips depth forks chunks input packed.0 l of (input_of p input s short file packed.0 packed.1) why (ends packed.0 packed.1)
 
 -- Any value that is the input is the survey's.
-pub survey_only : (p : ProgramTree) (skips : Bool) (depth chunks : ℕ) (input : List ℕ) (s : Surveyed) (l : LoweredParts) → IsOfProgram p skips l → length input ≤ 16777216 → IsPacked s.table s.ty s.bytes s.count
+pub survey_only : (p : ProgramTree) (skips : Bool) (depth forks chunks : ℕ) (input : List ℕ) (s : Surveyed) (l : LoweredParts) → IsOfProgram p skips l → length input ≤ 16777216 → IsPacked s.table s.ty s.bytes s.count
     → ((v : Datum) → Packed s.table s.ty v s.bytes → File (table_of_program p) (input_type p) v input)
     → ((table : Table) (ty : Ty) (v w : Datum) (bytes : List ℕ) → File table ty v bytes → File table ty w bytes → v ≡ w) → (r : Result (Ran SoleMem) Stop) → IfOk r (λ ran. ran.lowered ≡ l)
     → IfOk r (λ ran. (v : Datum) → Packed s.table s.ty v s.bytes → IsRootOf l.code.laid (cells_of ran.memory) (core_of l.core).main.result (core_run (core_of l.core) depth v) ran.root)
-    → IfErr r (λ why. (v : Datum) → Packed s.table s.ty v s.bytes → Halts (core_run (core_of l.core) depth v) chunks (run_cost (core_of l.core) depth 0 v) why)
+    → IfErr r (λ why. (v : Datum) → Packed s.table s.ty v s.bytes → Halts (core_run (core_of l.core) depth v) chunks (run_cost (core_of l.core) depth forks v) why)
     → (v : Datum) → IsInput p v input
-    → MatchResult r (λ ran. IsRootOf ran.lowered.code.laid (cells_of ran.memory) (output_type p) (run p depth v) ran.root) (Halts (run p depth v) chunks (program_cost p skips depth 0 v))
-survey_only p skips depth chunks input s l of short packed file one (Ok ran) same root halts v is =
+    → MatchResult r (λ ran. IsRootOf ran.lowered.code.laid (cells_of ran.memory) (output_type p) (run p depth v) ran.root) (Halts (run p depth v) chunks (program_cost p skips depth forks v))
+survey_only p skips depth forks chunks input s l of short packed file one (Ok ran) same root halts v is =
     let meant = survey_stands p skips depth input s l of short packed file (Ok ran) same root in
     record {
       result = meant.result;
       means = ap (run p depth) (one (table_of_program p) (input_type p) v meant.value input is.file meant.is_input.file) ∙ meant.means;
       stands = meant.stands;
     }
-survey_only p skips depth chunks input s l of short packed file one (Err why) same root halts v is =
+survey_only p skips depth forks chunks input s l of short packed file one (Err why) same root halts v is =
     let w = packed.0 in
     let e : w ≡ v = one (table_of_program p) (input_type p) w v input (file w packed.1) is.file in
     let owed : core_run (core_of l.core) depth w ≡ run p depth v = of.means depth w ∙ ap (run p depth) e in
-    let most : run_cost (core_of l.core) depth 0 w ≡ program_cost p skips depth 0 v = ap (λ (c : CoreTree). run_cost c depth 0 w) of.core ∙ ap (program_cost p skips depth 0) e in
+    let most : run_cost (core_of l.core) depth forks w ≡ program_cost p skips depth forks v = ap (λ (c : CoreTree). run_cost c depth forks w) of.core ∙ ap (program_cost p skips depth forks) e in
     subst₂ (λ (o : Outcome) (k : Cost). Halts o chunks k why) owed most (halts w packed.1)
 
 -- Where the file is refused, there is no value of which it is the input.

@@ -68,7 +68,7 @@ Halts owed chunks most = StopsBy (λ fault. ⊥) (λ name. ⊥) (λ fault. ⊥) 
 
 -- How a run of code on a value ends, where there are so many chunks: with a root in region memory for what its core means, or
 -- with why there is none.
-abbrev pub EndsWith : LoweredParts → (depth chunks : ℕ) → Datum → Store → Result Root Stop → Type 0
-EndsWith l depth chunks v s end =
+abbrev pub EndsWith : LoweredParts → (depth forks chunks : ℕ) → Datum → Store → Result Root Stop → Type 0
+EndsWith l depth forks chunks v s end =
     MatchResult end (IsRootOf l.code.laid s (core_of l.core).main.result (core_run (core_of l.core) depth v))
-    (Halts (core_run (core_of l.core) depth v) chunks (run_cost (core_of l.core) depth 0 v))
+    (Halts (core_run (core_of l.core) depth v) chunks (run_cost (core_of l.core) depth forks v))

@@ -100,7 +100,7 @@ pub fn with_image(alloc: Global, mut value: Valued) -> Result<Made, Memory>
     imaged(alloc, value.ran, &value.names)
 }
 
-/// What a run by workers, or by the events of a journal, makes that leaves a value: its text, and its image, where that is asked for.
+/// What a run by the events of a journal makes that leaves a value: its text, and its image, where that is asked for.
 ///
 /// # Errors
 ///

@@ -3,7 +3,6 @@
 
 mod answer;
 mod buffer;
-pub mod by_workers;
 mod commands;
 mod compile;
 mod documents;
@@ -32,6 +31,7 @@ pub mod source_fault;
 pub mod status;
 mod stop;
 pub mod top;
+pub mod tracing;
 pub mod word_laws;
 pub mod words;
 

@@ -1,4 +1,4 @@
-//! Runs a program by the machine, from the bytes of a packed file to a root in region memory, and prints from there.
+//! Runs a program by one worker or more, from the bytes of a packed file to a root in region memory, and prints from there.
 
 ghost use Rattle.std.specs.Prelude.{◌≡◌, ◌≤◌, ◌+◌, ◌++◌, ◌∷◌, ℕ, List, length, IfOk, IfErr, OnOk, OnErr, IsErrOf, MatchResult, IfNone, IfSome, None, Some};
 ghost use Rattle.gib_edge.specs.Causes.{Rose, Appends, AppendsPart, PutsPieces, PutsSomePieces};
@@ -15,8 +15,10 @@ ghost use Rattle.gib_core.specs.LoweredParts.{LoweredParts};
 ghost use Rattle.gib_core.specs.Meaning.{core_run};
 ghost use Rattle.gib_core.specs.Parts.{core_of};
 ghost use Rattle.gib_lower.specs.Lowering.{lower_program};
-ghost use Rattle.gib_weave.specs.Running.{RunEnds};
+ghost use Rattle.gib_weave.specs.Running.{IsStart, Kept};
+ghost use Rattle.gib_pool.specs.Runs.{IsRun};
 ghost use Rattle.gib_app.specs.Cores.{core_after, layouts_of};
+ghost use Rattle.gib_app.specs.Jobs.{run_forks};
 ghost use Rattle.gib_app.specs.Running.{IsInput, text_line};
 ghost use Rattle.gib_app.specs.Replaying.{root_in};
 ghost use Rattle.gib_app.specs.MachineRun.{StandsMeant, IsMachineStop, IsRootOf, Halts, EndsWith, program_cost};
@@ -24,6 +26,8 @@ ghost use Rattle.gib_app.specs.MachineRun.{StandsMeant, IsMachineStop, IsRootOf,
 use crate::lowering::lowered;
 use crate::made::Reason;
 use crate::packed::survey_input;
+use crate::plan::Options;
+use crate::runtime::Runtime;
 use crate::stop::Stop;
 use gib_arena::SoleMem;
 use gib_base::Names;
@@ -31,15 +35,18 @@ use gib_base::limits::FILE_BYTES;
 use gib_check::Typed;
 use gib_code::Answer;
 use gib_core::Lowered;
-use gib_edge::outside::Sink;
+use gib_edge::outside::{Gate, Sink};
 use gib_file::{Survey, one_file};
 use gib_load::{LoadFault, load};
 use gib_mem::Mem;
 use gib_packed::Root;
+use gib_pool::{Crew, run_by};
 use gib_print::{PrintFault, print_at};
 use gib_region::Tails;
 use gib_weave::{RunFault, run};
 use std::alloc::Global;
+use std::sync::Wait;
+use std::thread::Threads;
 
 /// What a run leaves: the code with the layouts of its heads, the region memory, and the root in it for which the result
 /// stands.
@@ -77,9 +84,9 @@ pub fn ran_of<M: Drop>(lowered: Lowered, memory: M, answer: Answer) -> Option<Ra
     }
 }
 
-/// What the end of the machine's run is to a run.
+/// What the end of a run of the code is to a run.
 fn end_of(end: Result<Answer, RunFault>) -> Result<Root, Stop<'static>>
-    ensures { (l : LoweredParts) (depth : ℕ) (v : Datum) (m m' : Memory) → RunEnds l depth v m m' end → EndsWith l depth m.limit v m'.cells result }
+    ensures { (l : LoweredParts) (depth forks : ℕ) (v : Datum) (m m' : Memory) → IsRun l depth forks v m m' end → EndsWith l depth forks m.limit v m'.cells result }
 {
     match end {
         Ok(answer) => match root_in(answer) {
@@ -91,52 +98,98 @@ fn end_of(end: Result<Answer, RunFault>) -> Result<Root, Stop<'static>>
     }
 }
 
-/// Loads the value of a survey into a memory in which nothing is drawn, and runs the code on it.
-fn run_loaded(
+/// Runs the code on a value that was loaded: by workers that steal sides from one another; or, where no more than one is asked for, by the
+/// machine in place, without a runtime's handle.
+fn run_code<R: Threads + Wait + Sync, G: Gate + Sync>(
     alloc: Global,
+    runtime: Runtime<'_, R, G>,
     lowered: &Lowered,
-    survey: Survey<'_>,
-    memory: &mut SoleMem,
-    depth: u32,
-) -> Result<Root, Stop<'static>>
-    requires table { survey.table ≡ lowered.now.code.laid.table }
-    requires ty { survey.ty ≡ (core_of lowered.now.core).main.parameter }
-    requires undrawn { (⟦<SoleMem as Mem>⟧.view memory.old).drawn ≡ 0 }
-    ensures ends { (v : Datum) → Packed survey.entry.table survey.entry.ty v survey.entry.bytes
-        → EndsWith lowered.now depth (⟦<SoleMem as Mem>⟧.view memory.old).limit v (⟦<SoleMem as Mem>⟧.view memory.new).cells result }
-    ensures limit { IfOk result (λ _. (⟦<SoleMem as Mem>⟧.view memory.new).limit ≡ (⟦<SoleMem as Mem>⟧.view memory.old).limit) }
+    memory: SoleMem,
+    tails: Tails,
+    root: Root,
+    options: Options,
+) -> (Result<Answer, RunFault>, SoleMem)
+    requires starts { (v : Datum) × IsStart lowered.now root tails (⟦<SoleMem as Mem>⟧.view memory) v }
+    ensures ends { (v : Datum) → IsStart lowered.now root tails (⟦<SoleMem as Mem>⟧.view memory) v
+        → IsRun lowered.now options.depth (run_forks options) v (⟦<SoleMem as Mem>⟧.view memory) (⟦<SoleMem as Mem>⟧.view result.1) result.0 }
+    ensures kept { Kept (⟦<SoleMem as Mem>⟧.view memory) (⟦<SoleMem as Mem>⟧.view result.1) }
 {
-    let _packed = survey.payload();
-    let mut tails = Tails::new();
-    let layouts = lowered.code().layouts();
-    match load(alloc, layouts, survey, memory, &mut tails) {
-        Ok(root) => end_of(run(alloc, lowered, memory, tails, root, depth)),
-        Err(LoadFault::Full) => Err(Stop::NoValue(Reason::Full)),
-        Err(LoadFault::Memory) => Err(Stop::Memory),
+    if options.workers > 1 {
+        let crew = Crew {
+            workers: options.workers,
+            depth: options.depth,
+            level: options.fork,
+        };
+        run_by(
+            runtime.threads,
+            alloc,
+            lowered,
+            memory,
+            tails,
+            root,
+            crew,
+            runtime.gate,
+        )
+    } else {
+        let mut memory = memory;
+        let end = run(alloc, lowered, &mut memory, tails, root, options.depth);
+        (end, memory)
     }
 }
 
-/// Runs the code on the value of a survey, in a memory of its own of so many chunks.
-fn run_survey(
+/// Loads the value of a survey into a memory in which nothing is drawn, and runs the code on it. The memory comes back.
+fn run_loaded<R: Threads + Wait + Sync, G: Gate + Sync>(
     alloc: Global,
+    runtime: Runtime<'_, R, G>,
+    lowered: &Lowered,
+    survey: Survey<'_>,
+    memory: SoleMem,
+    options: Options,
+) -> (Result<Root, Stop<'static>>, SoleMem)
+    requires table { survey.table ≡ lowered.now.code.laid.table }
+    requires ty { survey.ty ≡ (core_of lowered.now.core).main.parameter }
+    requires undrawn { (⟦<SoleMem as Mem>⟧.view memory).drawn ≡ 0 }
+    ensures ends { (v : Datum) → Packed survey.entry.table survey.entry.ty v survey.entry.bytes
+        → EndsWith lowered.now options.depth (run_forks options) (⟦<SoleMem as Mem>⟧.view memory).limit v (⟦<SoleMem as Mem>⟧.view result.1).cells result.0 }
+    ensures limit { IfOk result.0 (λ _. (⟦<SoleMem as Mem>⟧.view result.1).limit ≡ (⟦<SoleMem as Mem>⟧.view memory).limit) }
+{
+    let _packed = survey.payload();
+    let mut memory = memory;
+    let mut tails = Tails::new();
+    let layouts = lowered.code().layouts();
+    match load(alloc, layouts, survey, &mut memory, &mut tails) {
+        Ok(root) => {
+            let (end, memory) = run_code(alloc, runtime, lowered, memory, tails, root, options);
+            (end_of(end), memory)
+        }
+        Err(LoadFault::Full) => (Err(Stop::NoValue(Reason::Full)), memory),
+        Err(LoadFault::Memory) => (Err(Stop::Memory), memory),
+    }
+}
+
+/// Runs the code on the value of a survey, in a memory of its own.
+fn run_survey<R: Threads + Wait + Sync, G: Gate + Sync>(
+    alloc: Global,
+    runtime: Runtime<'_, R, G>,
     lowered: Lowered,
     survey: Survey<'_>,
-    depth: u32,
-    chunks: u32,
+    options: Options,
 ) -> Result<Ran<SoleMem>, Stop<'static>>
     requires table { survey.table ≡ lowered.code.laid.table }
     requires ty { survey.ty ≡ (core_of lowered.core).main.parameter }
     ensures same { IfOk result (λ ran. ran.lowered ≡ lowered) }
-    ensures limit { IfOk result (λ ran. (⟦<SoleMem as Mem>⟧.view ran.memory).limit ≡ chunks) }
+    ensures limit { IfOk result (λ ran. (⟦<SoleMem as Mem>⟧.view ran.memory).limit ≡ options.chunks) }
     ensures root { IfOk result (λ ran. (v : Datum) → Packed survey.entry.table survey.entry.ty v survey.entry.bytes
-        → IsRootOf lowered.code.laid (⟦<SoleMem as Mem>⟧.view ran.memory).cells (core_of lowered.core).main.result (core_run (core_of lowered.core) depth v) ran.root) }
-    ensures halts { IfErr result (λ why. (v : Datum) → Packed survey.entry.table survey.entry.ty v survey.entry.bytes → Halts (core_run (core_of lowered.core) depth v) chunks (run_cost (core_of lowered.core) depth 0 v) why) }
+        → IsRootOf lowered.code.laid (⟦<SoleMem as Mem>⟧.view ran.memory).cells (core_of lowered.core).main.result (core_run (core_of lowered.core) options.depth v) ran.root) }
+    ensures halts { IfErr result (λ why. (v : Datum) → Packed survey.entry.table survey.entry.ty v survey.entry.bytes
+        → Halts (core_run (core_of lowered.core) options.depth v) options.chunks (run_cost (core_of lowered.core) options.depth (run_forks options) v) why) }
 {
-    let mut memory = match SoleMem::make(alloc, chunks) {
+    let memory = match SoleMem::make(alloc, options.chunks) {
         Ok(memory) => memory,
         Err(_) => return Err(Stop::Memory),
     };
-    match run_loaded(alloc, &lowered, survey, &mut memory, depth) {
+    let (end, memory) = run_loaded(alloc, runtime, &lowered, survey, memory, options);
+    match end {
         Ok(root) => Ok(Ran {
             lowered,
             memory,
@@ -146,33 +199,32 @@ fn run_survey(
     }
 }
 
-/// Runs a program on the bytes of a packed file, with at most `depth` calls nested, in region memory of so many chunks of 4,096
-/// bytes; fields are reached by offsets, or by skips. What the program means stands for the root, in the memory that is handed back.
+/// Runs a program on the bytes of a packed file with the depth, the chunks of 4,096 bytes, the workers and the forks of the options; fields are
+/// reached by offsets, or by skips. What the program means stands for the root, in the memory that is handed back, whatever the workers do.
 ///
 /// # Errors
 ///
 /// `Input` where the bytes are no packed file of a value of the type of main's parameter; else `NoValue`: `Deep` where the
 /// meaning runs out of depth, and `Full` where so many chunks may not be enough. `Memory`: want of memory.
-pub fn run_packed(
+pub fn run_packed<R: Threads + Wait + Sync, G: Gate + Sync>(
     alloc: Global,
+    runtime: Runtime<'_, R, G>,
     typed: &Typed,
     file: &[u8],
-    depth: u32,
-    chunks: u32,
-    skips: bool,
+    options: Options,
 ) -> Result<Ran<SoleMem>, Stop<'static>>
     requires short { length file.now ≤ FILE_BYTES }
-    ensures stands { IfOk result (λ ran. StandsMeant (program_of typed.now) depth file.now ran.lowered.code.laid (⟦<SoleMem as Mem>⟧.view ran.memory).cells ran.root) }
+    ensures stands { IfOk result (λ ran. StandsMeant (program_of typed.now) options.depth file.now ran.lowered.code.laid (⟦<SoleMem as Mem>⟧.view ran.memory).cells ran.root) }
     // It is the code of the program's core that ran, in a memory of so many chunks.
-    ensures code { IfOk result (λ ran. ran.lowered.code ≡ lower_program (core_after skips 4 (program_of typed.now))) }
-    ensures limit { IfOk result (λ ran. (⟦<SoleMem as Mem>⟧.view ran.memory).limit ≡ chunks) }
+    ensures code { IfOk result (λ ran. ran.lowered.code ≡ lower_program (core_after options.skips 4 (program_of typed.now))) }
+    ensures limit { IfOk result (λ ran. (⟦<SoleMem as Mem>⟧.view ran.memory).limit ≡ options.chunks) }
     // The heads lie as those of the program's core.
-    ensures laid { IfOk result (λ ran. ran.lowered.code.laid ≡ layouts_of skips (program_of typed.now)) }
-    ensures stop { IfErr result (IsMachineStop (program_of typed.now) skips depth 0 chunks file.now) }
+    ensures laid { IfOk result (λ ran. ran.lowered.code.laid ≡ layouts_of options.skips (program_of typed.now)) }
+    ensures stop { IfErr result (IsMachineStop (program_of typed.now) options.skips options.depth (run_forks options) options.chunks file.now) }
     // The other way round: of which value the file is, and what the program means on it, tells how the run ends.
     ensures only { (v : Datum) → IsInput (program_of typed.now) v file.now
-        → MatchResult result (λ ran. IsRootOf ran.lowered.code.laid (⟦<SoleMem as Mem>⟧.view ran.memory).cells (output_type (program_of typed.now)) (run (program_of typed.now) depth v) ran.root)
-        (Halts (run (program_of typed.now) depth v) chunks (program_cost (program_of typed.now) skips depth 0 v)) }
+        → MatchResult result (λ ran. IsRootOf ran.lowered.code.laid (⟦<SoleMem as Mem>⟧.view ran.memory).cells (output_type (program_of typed.now)) (run (program_of typed.now) options.depth v) ran.root)
+        (Halts (run (program_of typed.now) options.depth v) options.chunks (program_cost (program_of typed.now) options.skips options.depth (run_forks options) v)) }
 {
     one_file();
     let survey = match survey_input(alloc, typed, file) {
@@ -180,8 +232,8 @@ pub fn run_packed(
         Err(stop) => return Err(stop),
     };
     let _packed = survey.payload();
-    match lowered(alloc, typed, skips) {
-        Ok(lowered) => run_survey(alloc, lowered, survey, depth, chunks),
+    match lowered(alloc, typed, options.skips) {
+        Ok(lowered) => run_survey(alloc, runtime, lowered, survey, options),
         Err(_) => Err(Stop::Memory),
     }
 }

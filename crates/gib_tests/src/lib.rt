@@ -14,6 +14,8 @@ mod cores;
 #[cfg(test)]
 mod deep;
 #[cfg(test)]
+mod forking;
+#[cfg(test)]
 mod harness;
 #[cfg(test)]
 mod images;
@@ -39,6 +41,8 @@ mod printed;
 mod programs;
 #[cfg(test)]
 mod rows;
+#[cfg(test)]
+mod stealing;
 #[cfg(test)]
 mod texts;
 #[cfg(test)]

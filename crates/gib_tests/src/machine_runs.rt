@@ -3,12 +3,17 @@
 use crate::harness::packed;
 use crate::programs::compile;
 use gib_app::machine_run::run_packed;
+use gib_app::plan::Options;
+use gib_app::runtime::Runtime;
 use gib_arena::SoleMem;
 use gib_base::limits::FILE_BYTES;
+use gib_edge::outside::FreeGate;
 use gib_mem::{CHUNK, Mem};
 use gib_packed::Root;
 use std::alloc::{AllocError, Global};
+use std::sync::Wait;
 use std::test::Fail;
+use std::thread::Threads;
 
 /// (Node (Leaf 1) (Leaf 2))
 const TWO_LEAVES: &[u8] = &[1, 0, 1, 0, 0, 0, 0, 0, 0, 0, 0, 2, 0, 0, 0, 0, 0, 0, 0];
@@ -40,8 +45,25 @@ fn stand_at(mem: &mut SoleMem, from: u64, bytes: &[u8]) -> bool {
     true
 }
 
-/// Whether the machine runs so, in 16 chunks, where heads store no offsets.
-fn leaves(alloc: Global, wanted: &Run<'_>) -> Result<bool, AllocError> {
+/// One worker, and 16 chunks, where heads store no offsets.
+const ALONE: Options = Options {
+    workers: 1,
+    depth: 10,
+    chunks: 16,
+    fork: 4,
+    pass: 4,
+    image: false,
+    skips: true,
+    number: 0,
+    levels: 0,
+};
+
+/// Whether the machine runs so.
+fn leaves<R: Threads + Wait + Sync>(
+    rt: &R,
+    alloc: Global,
+    wanted: &Run<'_>,
+) -> Result<bool, AllocError> {
     let file = packed(alloc, wanted.payload)?;
     if file.len() as u64 > FILE_BYTES {
         return Ok(false);
@@ -49,7 +71,11 @@ fn leaves(alloc: Global, wanted: &Run<'_>) -> Result<bool, AllocError> {
     let Some(compiled) = compile(alloc, wanted.source) else {
         return Ok(false);
     };
-    let Ok(ran) = run_packed(alloc, &compiled.typed, &file, 10, 16, true) else {
+    let runtime = Runtime {
+        threads: rt,
+        gate: &FreeGate,
+    };
+    let Ok(ran) = run_packed(alloc, runtime, &compiled.typed, &file, ALONE) else {
         return Ok(false);
     };
     let mut ran = ran;
@@ -145,7 +171,7 @@ fn the_machine_runs_programs(rt: HostRuntime) -> Result<(), Fail> {
             high: (4096, b"\x01\x01\0\0\0\0\0\0\0\x00"),
         },
     ] {
-        assert!(rt; leaves(alloc, &wanted)?, "{}", wanted.source);
+        assert!(rt; leaves(&rt, alloc, &wanted)?, "{}", wanted.source);
     }
     Ok(())
 }
@@ -221,7 +247,7 @@ fn the_machine_builds_lists_and_trees(rt: HostRuntime) -> Result<(), Fail> {
             high: (0, b""),
         },
     ] {
-        assert!(rt; leaves(alloc, &wanted)?, "{}", wanted.source);
+        assert!(rt; leaves(&rt, alloc, &wanted)?, "{}", wanted.source);
     }
     Ok(())
 }
@@ -288,7 +314,7 @@ fn the_machine_reads_and_shares(rt: HostRuntime) -> Result<(), Fail> {
             high: (0, b""),
         },
     ] {
-        assert!(rt; leaves(alloc, &wanted)?, "{}", wanted.source);
+        assert!(rt; leaves(&rt, alloc, &wanted)?, "{}", wanted.source);
     }
     Ok(())
 }
@@ -320,7 +346,7 @@ fn the_machine_passes_the_ends_of_chunks(rt: HostRuntime) -> Result<(), Fail> {
             high: (4096, b"\x01\x01\0\0\0\0\0\0\0\0\x01\x09\0\0\0\0\0\0\0\0"),
         },
     ] {
-        assert!(rt; leaves(alloc, &wanted)?, "{}", wanted.source);
+        assert!(rt; leaves(&rt, alloc, &wanted)?, "{}", wanted.source);
     }
     Ok(())
 }

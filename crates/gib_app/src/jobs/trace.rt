@@ -6,7 +6,6 @@ ghost use Rattle.gib_app.specs.Jobs.{Traces};
 ghost use Rattle.gib_app.specs.Kept.{EndsBy, file_of};
 ghost use Rattle.gib_app.specs.Stops.{IsReady, IsRunStop};
 
-use crate::by_workers::{TracedRun, run_by_workers};
 use crate::compile::Compiled;
 use crate::imaging::text_of;
 use crate::machine_run::ran_of;
@@ -15,6 +14,7 @@ use crate::plan::Options;
 use crate::printing::of_stop;
 use crate::runtime::Runtime;
 use crate::stop::Stop;
+use crate::tracing::{TracedRun, trace_packed};
 use gib_base::limits::FILE_BYTES;
 use gib_edge::outside::Gate;
 use gib_locked::{Traced, write_journal};
@@ -40,7 +40,7 @@ pub fn trace<R: Threads + Wait + Sync, G: Gate + Sync>(
     ensures made { IfOk result (λ made. EndsBy (file_of made) made.end (Traces (program_of compiled.now.typed) compiled.now.names options input.now)) }
     ensures stop { IfErr result (IsRunStop (program_of compiled.now.typed) input.now) }
 {
-    let TracedRun { lowered, traced } = match run_by_workers(
+    let TracedRun { lowered, traced } = match trace_packed(
         alloc,
         runtime,
         &compiled.typed,

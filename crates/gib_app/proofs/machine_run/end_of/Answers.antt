@@ -15,7 +15,7 @@ Ends l depth v m found =
     MatchOption found (core_run (core_of l.core) depth v ≡ Stops Deep) (IsRootOf l.code.laid m.cells (core_of l.core).main.result (core_run (core_of l.core) depth v))
 
 pub returns-in-Some : goal.returns-in-Some
-returns-in-Some c = λ l depth v m m' h. subst (Ends l depth v m') c.in-Some.is (answer_ends l depth v m m' c.args.end c.in-Ok.answer c.root_in.result c.in-Ok.is c.root_in.ensures h)
+returns-in-Some c = λ l depth forks v m m' h. subst (Ends l depth v m') c.in-Some.is (answer_ends l depth forks v m m' c.args.end c.in-Ok.answer c.root_in.result c.in-Ok.is c.root_in.ensures h)
 
 pub returns-in-None : goal.returns-in-None
-returns-in-None c = λ l depth v m m' h. subst (Ends l depth v m') c.in-None.is (answer_ends l depth v m m' c.args.end c.in-Ok.answer c.root_in.result c.in-Ok.is c.root_in.ensures h)
+returns-in-None c = λ l depth forks v m m' h. subst (Ends l depth v m') c.in-None.is (answer_ends l depth forks v m m' c.args.end c.in-Ok.answer c.root_in.result c.in-Ok.is c.root_in.ensures h)

@@ -47,7 +47,7 @@ fn settings_of(options: Options) -> Option<Settings>
 }
 
 /// Runs the code on the value of a survey by workers, in a memory of its own.
-fn run_survey<R: Threads + Wait + Sync, G: Gate + Sync>(
+fn trace_survey<R: Threads + Wait + Sync, G: Gate + Sync>(
     alloc: Global,
     runtime: Runtime<'_, R, G>,
     lowered: &Lowered,
@@ -98,7 +98,7 @@ fn run_survey<R: Threads + Wait + Sync, G: Gate + Sync>(
 ///
 /// `Input` where the bytes are no packed file of a value of the type of main's parameter; else `NoValue(Full)` where so many chunks may
 /// not be enough. `Memory`: want of memory; also where an option is past its limits, which no words ask for.
-pub fn run_by_workers<R: Threads + Wait + Sync, G: Gate + Sync>(
+pub fn trace_packed<R: Threads + Wait + Sync, G: Gate + Sync>(
     alloc: Global,
     runtime: Runtime<'_, R, G>,
     typed: &Typed,
@@ -124,7 +124,7 @@ pub fn run_by_workers<R: Threads + Wait + Sync, G: Gate + Sync>(
         Ok(lowered) => lowered,
         Err(_) => return Err(Stop::Memory),
     };
-    match run_survey(alloc, runtime, &lowered, survey, options) {
+    match trace_survey(alloc, runtime, &lowered, survey, options) {
         Ok(traced) => Ok(TracedRun { lowered, traced }),
         Err(stop) => Err(stop),
     }

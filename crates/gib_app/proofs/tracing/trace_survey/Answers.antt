@@ -1,6 +1,6 @@
 use Rattle.gib_mem.specs.Plain.{plain_memory}
 use Rattle.gib_app.proofs.Leading.{loaded_end}
-use Rattle.gib_app.proofs.by_workers.run_survey.Goals as goal
+use Rattle.gib_app.proofs.tracing.trace_survey.Goals as goal
 
 pub returns-in-Ok-run_loaded-clause-ends : goal.returns-in-Ok-run_loaded-clause-ends
 returns-in-Ok-run_loaded-clause-ends g c = λ v p.
