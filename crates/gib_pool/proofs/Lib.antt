@@ -6,6 +6,7 @@ pub mod StackKeeps
 pub mod Settling
 pub mod Offering
 pub mod Draining
+pub mod Joinings
 pub mod Passing
 pub mod Standings
 pub mod Beginnings

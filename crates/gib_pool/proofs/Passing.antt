@@ -1,6 +1,6 @@
 -- What becomes of the pass of a task.
 use Rattle.std.proofs.Common.{◌≡◌, ℕ, zero, suc, ◌+◌, ◌≤◌, List, [], ◌∷◌, ◌++◌, length, length-append, refl, sym, ap, subst, ◌∙◌, arith}
-use Rattle.std.specs.Prelude.{Option, Some, None, Result, Ok, Err, IfOk, IfErr}
+use Rattle.std.specs.Prelude.{Option, Some, None, Result, Ok, Err}
 use Rattle.gib_mem.specs.Memory.{Holder, Grows, fresh, IsBounded}
 use Rattle.gib_core.specs.LoweredParts.{LoweredParts}
 use Rattle.gib_weave.specs.Owing.{Debt}
@@ -19,10 +19,11 @@ use Rattle.gib_frame.specs.declared.due.Ending.{Ending}
 use Rattle.gib_frame.specs.declared.due.Ending.TheVariants as ending
 use Rattle.gib_frame.specs.declared.ends.Frame.{Frame}
 use Rattle.gib_frame.specs.Answers.{drawn_by}
+use Rattle.gib_pool.specs.declared.job.Job.{Job}
 use Rattle.gib_pool.specs.Turn.{Wider}
 use Rattle.gib_pool.specs.Lent.{AreSplits, Lends}
 use Rattle.gib_pool.specs.Frames.{before, lent_of, due_maybe, AreHere}
-use Rattle.gib_pool.specs.Jobs.{IsSamePass, IsBackWhole, Settles}
+use Rattle.gib_pool.specs.Jobs.{Goes, IsSamePass, IsBackWhole, Settles}
 
 -- What a pass shows keeps what every memory keeps.
 pub pass_bounded : (a : Arena) (p : Pass) → IsOf a p → IsBounded (shown p.seat.table_id (view p))
@@ -101,14 +102,10 @@ settles_for l Has Had ending.Full p f s = (s.0, λ d h. s.1 d (f d h))
 settles_for l Has Had ending.NotRun p f s = s
 settles_for l Has Had ending.Memory p f s = tt
 
--- What holds of an `Ok` or an `Err`, from what does.
-pub ok_then : {A B : Type 0} (r : Result A B) (P Q : A → Type 0) → ((a : A) → P a → Q a) → IfOk r P → IfOk r Q
-ok_then (Ok a) P Q f h = f a h
-ok_then (Err b) P Q f h = tt
-
-pub err_then : {A B : Type 0} (r : Result A B) (P Q : B → Type 0) → ((b : B) → P b → Q b) → IfErr r P → IfErr r Q
-err_then (Ok a) P Q f h = tt
-err_then (Err b) P Q f h = f b h
+-- A task that stood again behind this goes on, or ends, from where it stood first.
+pub goes_for : (a : Arena) (l : LoweredParts) (Has Had : Debt → Type 0) (j k : Job) (mine : List Due) (r : Result Job (Ending × Pass)) → IsSamePass j.pass k.pass → ((d : Debt) → Had d → Has d) → Goes a l Has k mine r → Goes a l Had j mine r
+goes_for a l Has Had j k mine (Ok n) same f g = record { holds = g.holds; owes = λ d h. g.owes d (f d h); here = g.here; same = same_on j.pass k.pass n.pass same g.same }
+goes_for a l Has Had j k mine (Err r) same f g = record { back = back_on a j.pass k.pass r.1 same g.back; settles = settles_for l Has Had r.0 r.1 f g.settles }
 
 -- What the first pass shows, where no other one is out, keeps what every memory keeps.
 pub root_bounded : (a : Arena) (p : Pass) → IsOf a p → IsBounded (shown_alone (view p))

@@ -1,5 +1,5 @@
 -- What a worker holds and owes at a task.
-use Rattle.std.specs.Prelude.{◌≡◌, [], List, Option}
+use Rattle.std.specs.Prelude.{◌≡◌, [], List, Option, Result, Ok, Err}
 use Rattle.gib_mem.specs.Memory.{Memory, Grows}
 use Rattle.gib_core.specs.LoweredParts.{LoweredParts}
 use Rattle.gib_machine.specs.Machine.{State, widest}
@@ -74,3 +74,20 @@ Settles l Has (ending.Answer a) p = (d : Debt) → Has d → IsAnswer l.code.lai
 Settles l Has ending.Full p = ((view p).holding.seen ≡ (view p).branch.limit) × ((d : Debt) → Has d → IsPaid d.most (drawn_by p))
 Settles l Has ending.NotRun p = ⊥
 Settles l Has ending.Memory p = Unit {0}
+
+-- A task that stood goes on: the worker holds and owes what it should, its forks are these, and the pass is the same one.
+pub record IsOn (a : Arena) (l : LoweredParts) (Has : Debt → Type 0) (old : Job) (mine : List Due) (new : Job) : Type 0 where
+  pub holds : Holds a l new
+  pub owes : (d : Debt) → Has d → OwesStill l d new
+  pub here : IsHere new mine
+  pub same : IsSamePass old.pass new.pass
+
+-- A task has come to its end: its pass is back, and how it ended is settled.
+pub record IsOver (a : Arena) (l : LoweredParts) (Has : Debt → Type 0) (old : Job) (e : Ending) (p : Pass) : Type 0 where
+  pub back : IsBackWhole a old.pass p
+  pub settles : Settles l Has e p
+
+-- A task that stood goes on, or has come to its end.
+abbrev pub Goes : Arena → LoweredParts → (Debt → Type 0) → Job → List Due → Result Job (Ending × Pass) → Type 0
+Goes a l Has old mine (Ok j) = IsOn a l Has old mine j
+Goes a l Has old mine (Err r) = IsOver a l Has old r.0 r.1

@@ -2,7 +2,7 @@
 
 ghost use Rattle.std.specs.Prelude.{◌≡◌, ◌<◌, [], length};
 ghost use Rattle.gib_weave.specs.Owing.{Debt};
-ghost use Rattle.gib_pool.specs.Jobs.{Holds, IsBackWhole, OwesStill, Settles};
+ghost use Rattle.gib_pool.specs.Jobs.{Holds, IsOver, OwesStill};
 
 use crate::forks::new_forks;
 use crate::helping::help;
@@ -72,8 +72,7 @@ pub fn work_together<'a, R: Threads + Wait + Sync, G: Gate + Sync>(
     requires holds { Holds shared.now.arena.now shared.now.lowered.now job }
     requires owes { (d : Debt) × OwesStill shared.now.lowered.now d job }
     requires begins { (job.frames.items ≡ []) × (job.here ≡ 0) }
-    ensures back { IsBackWhole shared.entry.now.arena.now job.pass result.1 }
-    ensures settles { Settles shared.entry.now.lowered.now (λ (d : Debt). OwesStill shared.entry.now.lowered.now d job) result.0 result.1 }
+    ensures over { IsOver shared.entry.now.arena.now shared.entry.now.lowered.now (λ (d : Debt). OwesStill shared.entry.now.lowered.now d job) job result.0 result.1 }
 {
     let Some(padded) = members.pop() else {
         return (Ending::Memory, job.pass);
@@ -109,8 +108,7 @@ pub fn work_together<'a, R: Threads + Wait + Sync, G: Gate + Sync>(
             requires holds { Holds shared.now.arena.now shared.now.lowered.now job }
             requires owes { (d : Debt) × OwesStill shared.now.lowered.now d job }
             requires begins { (job.frames.items ≡ []) × (job.here ≡ 0) }
-            ensures back { IsBackWhole shared.entry.now.arena.now job.pass result.1 }
-            ensures settles { Settles shared.entry.now.lowered.now (λ (d : Debt). OwesStill shared.entry.now.lowered.now d job) result.0 result.1 }
+            ensures over { IsOver shared.entry.now.arena.now shared.entry.now.lowered.now (λ (d : Debt). OwesStill shared.entry.now.lowered.now d job) job result.0 result.1 }
         { work_together(rt, alloc, shared, job, members) },
     );
     end

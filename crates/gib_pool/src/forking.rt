@@ -1,6 +1,6 @@
 //! A worker at a fork.
 
-ghost use Rattle.std.specs.Prelude.{◌≡◌, ◌<◌, ◌+◌, ◌^◌, ◌∷◌, ℕ, List, Option, IfOk, IfErr, IfSome, slice_get};
+ghost use Rattle.std.specs.Prelude.{◌≡◌, ◌<◌, ◌+◌, ◌^◌, ◌∷◌, ℕ, List, Option, IfSome, slice_get};
 ghost use Rattle.crossbeam_deque.specs.Handles.{worker_deque, worker_view};
 ghost use Rattle.gib_mem.specs.Memory.{fresh};
 ghost use Rattle.gib_core.specs.Parts.{core_of};
@@ -15,7 +15,7 @@ ghost use Rattle.gib_frame.specs.declared.due.Due.{Due};
 ghost use Rattle.gib_frame.specs.Answers.{drawn_by};
 ghost use Rattle.gib_frame.specs.Dues.{frame_due};
 ghost use Rattle.gib_pool.specs.Frames.{due_maybe, AreHere};
-ghost use Rattle.gib_pool.specs.Jobs.{Holds, IsBackWhole, IsHere, IsSamePass, OwesStill, Settles, StandsAt};
+ghost use Rattle.gib_pool.specs.Jobs.{Goes, Holds, IsHere, IsSamePass, StandsAt};
 ghost use Rattle.gib_pool.specs.Lent.{Lends};
 ghost use Rattle.gib_pool.specs.Mine.{IsMine};
 ghost use Rattle.gib_pool.specs.Turn.{IsFor};
@@ -83,12 +83,7 @@ pub(crate) fn fork_here<'a, R: Wait>(
     requires mine { IsMine forks.old }
     requires here { IsHere job (worker_view forks.old).mine }
     ensures mine { IsMine forks.new × (worker_deque forks.new ≡ worker_deque forks.old) }
-    ensures holds { IfOk result (λ j. Holds arena.entry.now lowered.entry.now j) }
-    ensures owes { IfOk result (λ j. (d : Debt) → StandsAt lowered.entry.now d job AtFork → OwesStill lowered.entry.now d j) }
-    ensures here { IfOk result (λ j. IsHere j (worker_view forks.new).mine) }
-    ensures same { IfOk result (λ j. IsSamePass job.pass j.pass) }
-    ensures back { IfErr result (λ r. IsBackWhole arena.entry.now job.pass r.1) }
-    ensures settles { IfErr result (λ r. Settles lowered.entry.now (λ (d : Debt). StandsAt lowered.entry.now d job AtFork) r.0 r.1) }
+    ensures goes { Goes arena.entry.now lowered.entry.now (λ (d : Debt). StandsAt lowered.entry.now d job AtFork) job (worker_view forks.new).mine result }
 {
     if job.frames.reserve(1).is_err() {
         return Err(give_up(rt, arena, job, forks));

@@ -1,10 +1,10 @@
 //! A worker at a join.
 
-ghost use Rattle.std.specs.Prelude.{◌≡◌, IfOk, IfErr};
+ghost use Rattle.std.specs.Prelude.{◌≡◌};
 ghost use Rattle.crossbeam_deque.specs.Handles.{worker_deque, worker_view};
 ghost use Rattle.gib_machine.specs.declared.turn.Turn.TheVariants.{AtJoin};
 ghost use Rattle.gib_weave.specs.Owing.{Debt};
-ghost use Rattle.gib_pool.specs.Jobs.{Holds, IsBackWhole, IsHere, IsSamePass, OwesStill, Settles, StandsAt};
+ghost use Rattle.gib_pool.specs.Jobs.{Goes, Holds, IsHere, StandsAt};
 ghost use Rattle.gib_pool.specs.Mine.{IsMine};
 
 use crate::back::{Back, settle};
@@ -34,12 +34,7 @@ pub(crate) fn join_here<'a, R: Wait>(
     requires mine { IsMine forks.old }
     requires here { IsHere job (worker_view forks.old).mine }
     ensures mine { IsMine forks.new × (worker_deque forks.new ≡ worker_deque forks.old) }
-    ensures holds { IfOk result (λ j. Holds arena.entry.now lowered.entry.now j) }
-    ensures owes { IfOk result (λ j. (d : Debt) → StandsAt lowered.entry.now d job AtJoin → OwesStill lowered.entry.now d j) }
-    ensures here { IfOk result (λ j. IsHere j (worker_view forks.new).mine) }
-    ensures same { IfOk result (λ j. IsSamePass job.pass j.pass) }
-    ensures back { IfErr result (λ r. IsBackWhole arena.entry.now job.pass r.1) }
-    ensures settles { IfErr result (λ r. Settles lowered.entry.now (λ (d : Debt). StandsAt lowered.entry.now d job AtJoin) r.0 r.1) }
+    ensures goes { Goes arena.entry.now lowered.entry.now (λ (d : Debt). StandsAt lowered.entry.now d job AtJoin) job (worker_view forks.new).mine result }
 {
     let code = lowered.code();
     let Some(newest) = job.frames.pop() else {

@@ -1,9 +1,9 @@
 //! A worker runs a task to its end.
 
-ghost use Rattle.std.specs.Prelude.{◌≡◌, IfOk, IfErr};
+ghost use Rattle.std.specs.Prelude.{◌≡◌};
 ghost use Rattle.crossbeam_deque.specs.Handles.{worker_deque, worker_view};
 ghost use Rattle.gib_weave.specs.Owing.{Debt};
-ghost use Rattle.gib_pool.specs.Jobs.{Holds, IsHere, IsSamePass, IsBackWhole, OwesStill, Settles};
+ghost use Rattle.gib_pool.specs.Jobs.{Goes, Holds, IsHere, IsOver, OwesStill};
 ghost use Rattle.gib_pool.specs.Mine.{IsMine};
 
 use crate::forking::fork_here;
@@ -36,12 +36,7 @@ fn stand_once<'a, R: Wait, G: Gate>(
     requires mine { IsMine forks.old }
     requires here { IsHere job (worker_view forks.old).mine }
     ensures mine { IsMine forks.new × (worker_deque forks.new ≡ worker_deque forks.old) }
-    ensures holds { IfOk result (λ j. Holds arena.entry.now lowered.entry.now j) }
-    ensures owes { IfOk result (λ j. (d : Debt) → OwesStill lowered.entry.now d job → OwesStill lowered.entry.now d j) }
-    ensures here { IfOk result (λ j. IsHere j (worker_view forks.new).mine) }
-    ensures same { IfOk result (λ j. IsSamePass job.pass j.pass) }
-    ensures back { IfErr result (λ r. IsBackWhole arena.entry.now job.pass r.1) }
-    ensures settles { IfErr result (λ r. Settles lowered.entry.now (λ (d : Debt). OwesStill lowered.entry.now d job) r.0 r.1) }
+    ensures goes { Goes arena.entry.now lowered.entry.now (λ (d : Debt). OwesStill lowered.entry.now d job) job (worker_view forks.new).mine result }
 {
     let (job, turn) = run_on(rt, arena, lowered, job);
     match turn {
@@ -75,8 +70,7 @@ pub fn work<'a, R: Wait, G: Gate>(
     requires mine { IsMine forks.old }
     requires here { IsHere job (worker_view forks.old).mine }
     ensures mine { IsMine forks.new × (worker_deque forks.new ≡ worker_deque forks.old) }
-    ensures back { IsBackWhole arena.entry.now job.pass result.1 }
-    ensures settles { Settles lowered.entry.now (λ (d : Debt). OwesStill lowered.entry.now d job) result.0 result.1 }
+    ensures over { IsOver arena.entry.now lowered.entry.now (λ (d : Debt). OwesStill lowered.entry.now d job) job result.0 result.1 }
 {
     let mut current = job;
     'turns: for _ in rt.forever() {

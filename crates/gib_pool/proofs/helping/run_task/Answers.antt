@@ -39,7 +39,7 @@ put_answer-requires-in-Ok g c =
     let pass : due.pass.value ≡ p = ap (λ (x : Due). x.pass.value) t.due ∙ (is.pass ∙ sym t.parts.1) in
     let side = ap (λ (x : Due). x.side.value) t.due ∙ (is.side ∙ sym t.parts.0) in
     let owes = λ (d : Debt). side_owes l d due c.code.result.now c.open-reply.result.3 p c.in-Ok.machine c.make-job.result lowered c.code.ensures.value side pass c.in-Ok.ensures made (pass_small c.open-reply.result.1.now p of) (ap drawn_by t.parts.1 ∙ is.none_drawn) in
-    let w = c.work-ending.ensures in
+    let w = c.work-ending.ensures.over in
     let b = w.back in
     let q = c.work-ending.result.1 in
     record {

@@ -78,6 +78,6 @@ returns-clause-ends g c = λ d st.
     (subst (λ (v : View). IsStart l c.args.root tails (shown_alone v) d) (sym counted.same) st))))
     in
     let last = c.count_all-2 in
-    let limit = ap (λ (v : View). v.branch.limit) last.ensures.same ∙ (c.work_together-ending.ensures.back.same.limit ∙ (ap (λ (p : Pass). (view p).branch.limit) job.pass ∙ ap (λ (v : View). v.branch.limit) counted.same)) in
+    let limit = ap (λ (v : View). v.branch.limit) last.ensures.same ∙ (c.work_together-ending.ensures.over.back.same.limit ∙ (ap (λ (p : Pass). (view p).branch.limit) job.pass ∙ ap (λ (v : View). v.branch.limit) counted.same)) in
     subst (λ (o : Result Answer RunFault). IsRun l depth level d (pass_memory c.args.first) (pass_memory last.new.pass) o) (sym c.outcome_of.ensures)
-    (root_ends l depth level d c.make-job.result c.work_together-ending.result.0 (pass_memory c.args.first) c.work_together-ending.result.1 last.new.pass (owes d st) c.work_together-ending.ensures.settles (sym limit) last.ensures.same last.ensures.all)
+    (root_ends l depth level d c.make-job.result c.work_together-ending.result.0 (pass_memory c.args.first) c.work_together-ending.result.1 last.new.pass (owes d st) c.work_together-ending.ensures.over.settles (sym limit) last.ensures.same last.ensures.all)
