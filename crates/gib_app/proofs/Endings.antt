@@ -6,7 +6,7 @@ use Rattle.gib_types.specs.Tree.{Datum}
 use Rattle.gib_syntax.specs.Tree.{ProgramTree}
 use Rattle.gib_syntax.specs.Spelling.{Places, Derives, IsPlacedProgram, places_of}
 use Rattle.gib_syntax.specs.Declarations.{table_of_program, input_type}
-use Rattle.gib_syntax.specs.Meaning.{Gives, Stops, Deep as TooDeep, run}
+use Rattle.gib_syntax.specs.Meaning.{Stops, Deep as TooDeep, run}
 use Rattle.gib_edge.specs.Causes.{Rose, IsAllOf, Appends, AppendsPart, PutsPieces, PutsSomePieces}
 use Rattle.gib_edge.specs.Views.{Held, Has, Missing, ShelfView, SinkView}
 use Rattle.gib_app.specs.declared.input_fault.InputFault.{InputFault}

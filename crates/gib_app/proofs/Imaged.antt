@@ -22,7 +22,7 @@ use Rattle.gib_app.specs.Jobs.{MakesImage, Runs}
 use Rattle.gib_app.specs.Kept.{EndsBy}
 use Rattle.gib_app.specs.MachineRun.{StandsMeant, cells_of}
 use Rattle.gib_app.specs.Replaying.{IsImageFile}
-use Rattle.gib_app.specs.Running.{IsRunImage, text_line}
+use Rattle.gib_app.specs.Running.{text_line}
 use Rattle.gib_app.specs.declared.stop.Stop.{Stop}
 use Rattle.gib_app.specs.declared.stop.Stop.TheVariants.{Memory as NoMemory}
 use Rattle.gib_app.specs.Stops.{IsRunStop}

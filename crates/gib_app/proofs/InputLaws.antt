@@ -39,7 +39,6 @@ use Rattle.gib_app.proofs.Doing.{shown_short}
 use Rattle.gib_app.proofs.Signs.{signs_differ, formed_sign, fault_sign, no_packed_value, no_sign_value, ReadOrRefused, no_image_value}
 use Rattle.gib_app.proofs.Refusals.{HeaderRefuses, PayloadRefuses, no_file}
 use Rattle.gib_app.proofs.Replays.{OneValue, both_on, start_alone}
-use Rattle.gib_mem.specs.Memory.{Memory}
 use Rattle.gib_weave.specs.declared.task.WeaveFault.TheVariants as event
 use Rattle.gib_locked.specs.declared.journal.Line.{Line}
 use Rattle.gib_locked.specs.declared.settings.Settings.{Settings}

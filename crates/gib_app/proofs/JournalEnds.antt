@@ -1,5 +1,5 @@
 -- What the events of a journal leave, and why they leave nothing.
-use Rattle.std.proofs.Common.{◌≡◌, ◌∙◌, refl, Bool, ℕ, ◌≤◌, List, [], ◌∷◌, length, Option, Some, None, true, ◌⊎◌, inl, inr, ap, sym, subst, subst₂}
+use Rattle.std.proofs.Common.{◌≡◌, refl, Bool, ℕ, ◌≤◌, List, [], ◌∷◌, length, Option, Some, None, inl, inr, sym, subst, subst₂}
 use Rattle.gib_types.specs.Layout.{LaidOut}
 use Rattle.gib_types.specs.Tree.{Datum}
 use Rattle.gib_mem.specs.Memory.{Memory}
@@ -15,7 +15,6 @@ use Rattle.gib_load.specs.Placement.{Placement}
 use Rattle.gib_weave.specs.Running.{word_of}
 use Rattle.gib_weave.specs.Weave.{weave_start}
 use Rattle.gib_code.specs.declared.answer.Answer.{Answer}
-use Rattle.gib_code.specs.declared.answer.Answer.TheVariants as answer
 use Rattle.gib_weave.specs.declared.task.WeaveFault.TheVariants as event
 use Rattle.gib_locked.specs.Replays.{StopsAt}
 use Rattle.gib_locked.specs.declared.journal.Line.{Line}
@@ -36,8 +35,7 @@ use Rattle.gib_app.specs.InputFaults.{IsInputFault, IsReplayFault}
 use Rattle.gib_app.specs.Jobs.{NoValue, Replays}
 use Rattle.gib_app.specs.Kept.{EndsBy}
 use Rattle.gib_app.specs.MachineRun.{StandsMeant}
-use Rattle.gib_app.specs.Plan.{Contents}
-use Rattle.gib_app.specs.Replaying.{Happens, IsEndOf, IsImageFile, IsJournal, IsNotEnabled, IsNotEnded, LacksChunks, OnJournal, code_for, journal_in, root_in, start_for}
+use Rattle.gib_app.specs.Replaying.{Happens, IsEndOf, IsImageFile, IsJournal, IsNotEnabled, IsNotEnded, LacksChunks, OnJournal, code_for, root_in, start_for}
 use Rattle.gib_app.specs.Running.{IsInput}
 use Rattle.gib_app.specs.Stops.{IsRunStop}
 use Rattle.gib_app.specs.Workers.{Engine, engine_for, engine_of, loaded_by, start_by, GoesInto, IsBadLine, IsEndBy, IsFaultBy, IsLoaded, IsNoJournal, LeavesOpen, IsNotReplayed, IsReplayed, LacksBy, OnlyFull, StopsTo}

@@ -1,10 +1,8 @@
 -- From what workers or a journal leave to what the program means.
-use Rattle.std.proofs.Common.{◌≡◌, ◌∙◌, refl, Bool, ℕ, ◌≤◌, List, [], ◌∷◌, length, Option, Some, None, true, inl, inr, ap, sym, subst, subst₂}
-use Rattle.gib_types.specs.declared.table.Ty.{Ty}
+use Rattle.std.proofs.Common.{◌≡◌, ◌∙◌, refl, Bool, ℕ, ◌≤◌, List, length, Option, Some, None, true, ap, sym, subst, subst₂}
 use Rattle.gib_types.specs.Layout.{LaidOut}
-use Rattle.gib_types.specs.Table.{Table}
 use Rattle.gib_types.specs.Tree.{Datum}
-use Rattle.gib_mem.specs.Memory.{Memory, Store}
+use Rattle.gib_mem.specs.Memory.{Memory}
 use Rattle.gib_packed.specs.declared.root.Root.{Root}
 use Rattle.gib_file.specs.Framed.{File}
 use Rattle.gib_file.specs.Packed.{Packed, IsPacked}
@@ -31,13 +29,11 @@ use Rattle.gib_locked.specs.Lines.{are_lines}
 use Rattle.gib_locked.specs.Replays.{IsAnswered}
 use Rattle.gib_locked.specs.declared.journal.Line.{Line}
 use Rattle.gib_locked.specs.declared.settings.Settings.{Settings}
-use Rattle.gib_app.specs.declared.input_fault.InputFault.{InputFault}
 use Rattle.gib_app.specs.declared.made.Reason.{Reason}
 use Rattle.gib_app.specs.declared.made.Reason.TheVariants as reason
 use Rattle.gib_app.specs.declared.plan.Options.{Options}
 use Rattle.gib_app.specs.declared.stop.Stop.{Stop}
 use Rattle.gib_app.specs.Cores.{core_after, layouts_of}
-use Rattle.gib_app.specs.InputFaults.{IsInputFault}
 use Rattle.gib_app.specs.MachineRun.{StandsMeant, IsRootOf}
 use Rattle.gib_app.specs.Replaying.{IsEndOf, IsSetBy, IsTrace, root_in}
 use Rattle.gib_app.specs.Running.{FillsUp, IsInput, RunsOut}

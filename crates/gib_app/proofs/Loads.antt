@@ -1,5 +1,5 @@
 -- A value that was loaded into a memory of its own, or was not.
-use Rattle.std.proofs.Common.{◌≡◌, ◌∙◌, ℕ, ◌≤◌, List, Err, IsErrOf, sym, ap, subst, subst₂, arith}
+use Rattle.std.proofs.Common.{◌≡◌, ◌∙◌, ℕ, ◌≤◌, List, Err, IsErrOf, ap, subst, subst₂, arith}
 use Rattle.gib_types.specs.Layout.{LaidOut}
 use Rattle.gib_types.specs.Loaded.{Loaded}
 use Rattle.gib_types.specs.Tree.{Datum}

@@ -1,5 +1,5 @@
 -- From the end of a run over region memory to what the program means.
-use Rattle.std.proofs.Common.{◌≡◌, ◌∙◌, refl, Bool, ℤ, ℕ, ◌+◌, ◌-◌, ◌*◌, ◌≤◌, List, [], length, Option, Result, Ok, Err, IfOk, IfErr, MatchResult, MatchOption, sym, ap, subst, subst₂, arith}
+use Rattle.std.proofs.Common.{◌≡◌, ◌∙◌, refl, Bool, ℤ, ℕ, ◌+◌, ◌-◌, ◌*◌, ◌≤◌, List, length, Option, Result, Ok, Err, IfOk, IfErr, MatchResult, MatchOption, sym, ap, subst, subst₂, arith}
 use Rattle.gib_types.specs.declared.table.Ty.{Ty}
 use Rattle.gib_types.specs.Layout.{LaidOut}
 use Rattle.gib_types.specs.Loaded.{Loaded}

@@ -1,5 +1,5 @@
 -- A packed file and an image begin with other bytes, and a file that is refused as one of them is not the other.
-use Rattle.std.proofs.Common.{◌≡◌, ◌∙◌, Bool, ℕ, ◌≤◌, List, [], ◌∷◌, length, take, Err, inl, inr, sym, ap, arith}
+use Rattle.std.proofs.Common.{◌≡◌, ◌∙◌, Bool, ℕ, ◌≤◌, List, ◌∷◌, length, take, Err, inl, inr, sym, ap, arith}
 use Rattle.std.proofs.lemmas.List.{take-take}
 use Rattle.gib_types.specs.declared.table.Ty.{Ty}
 use Rattle.gib_types.specs.Layout.{LaidOut}
@@ -10,7 +10,7 @@ use Rattle.gib_file.proofs.HeadLemmas.{parts}
 use Rattle.gib_file.specs.Packed.{packed}
 use Rattle.gib_print.specs.declared.image_fault.ImageFault.{ImageFault as ReadFault}
 use Rattle.gib_print.specs.declared.image_fault.ImageFault.TheVariants as reading
-use Rattle.gib_print.specs.Image.{IsFormed, front, kind_of}
+use Rattle.gib_print.specs.Image.{IsFormed}
 use Rattle.gib_print.specs.ImageReading.{IsRead, IsRefused, ReadsTo}
 use Rattle.gib_syntax.specs.Tree.{ProgramTree}
 use Rattle.gib_syntax.specs.Declarations.{table_of_program, input_type, output_type}

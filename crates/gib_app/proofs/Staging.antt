@@ -1,5 +1,5 @@
 -- A plan's first writes, and then what is made and written.
-use Rattle.std.proofs.Common.{◌≡◌, ◌∙◌, ◌≤◌, ◌++◌, refl, sym, subst, ℕ, zero, suc, List, [], length, take, Bool, inl, inr, Option, arith}
+use Rattle.std.proofs.Common.{◌≡◌, ◌∙◌, ◌≤◌, ◌++◌, sym, subst, ℕ, zero, suc, List, [], length, take, Bool, inl, Option, arith}
 use Rattle.gib_edge.specs.Causes.{Appends, AppendsPart}
 use Rattle.gib_edge.specs.Views.{ShelfView}
 use Rattle.gib_app.specs.declared.made.End.{End as KeptEnd}
@@ -10,7 +10,7 @@ use Rattle.gib_app.specs.declared.status.Status.TheVariants as status
 use Rattle.gib_app.specs.declared.stop.Stop.{Stop}
 use Rattle.gib_app.specs.declared.stop.Stop.TheVariants.{Usage, Source, Unread, Input, NoValue, Memory, Unwritten, Unput}
 use Rattle.gib_app.specs.Plan.{Plan, Write, Files}
-use Rattle.gib_app.specs.Writes.{AreMade, IsNamedIn, IsStuckIn, at_reading, writes_of}
+use Rattle.gib_app.specs.Writes.{AreMade, IsStuckIn, at_reading, writes_of}
 use Rattle.gib_app.specs.Calls.{first_calls, reads_of, write_calls, calls_of}
 use Rattle.gib_app.specs.Ending.{StaysAfter, ReadsStay, WritesStay}
 use Rattle.gib_app.specs.FirstWrites.{HasWritten, HasStuck}
@@ -18,12 +18,12 @@ use Rattle.gib_app.specs.Jobs.{Does}
 use Rattle.gib_app.specs.Kept.{EndsBy}
 use Rattle.gib_app.specs.Performing.{IsDone, IsPerformed, IsWriteStop, OthersStay, StopFiles}
 use Rattle.gib_app.specs.Stopping.{answer_for}
-use Rattle.gib_app.specs.Stops.{IsMakeStop, IsStop, StopsBy}
+use Rattle.gib_app.specs.Stops.{IsStop, StopsBy}
 use Rattle.gib_app.proofs.Calling.{added_front, added_part}
 use Rattle.gib_app.proofs.FirstWriting.{others_after}
-use Rattle.gib_app.proofs.Making.{both_from, make_stop}
+use Rattle.gib_app.proofs.Making.{both_from}
 use Rattle.gib_app.proofs.Performing.{performed, value_unwritten, write_stop}
-use Rattle.gib_app.proofs.Writing.{made_from, all_stay, take_all}
+use Rattle.gib_app.proofs.Writing.{all_stay, take_all}
 
 -- nothing was written first
 pub none_stays : (tells : Bool) (before now : Files) (end' : Status) → ((name : List ℕ) → now name ≡ before name) → StaysAfter tells [] before now end'

@@ -1,5 +1,5 @@
 -- The line about what a run leaves.
-use Rattle.std.proofs.Common.{◌≡◌, refl, ap, ℕ, List, Option, None, sym, subst}
+use Rattle.std.proofs.Common.{◌≡◌, refl, ℕ, List, None}
 use Rattle.gib_types.specs.Layout.{LaidOut}
 use Rattle.gib_mem.specs.Memory.{Store}
 use Rattle.gib_packed.specs.declared.root.Root.{Root}

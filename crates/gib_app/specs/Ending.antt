@@ -14,15 +14,15 @@ use Rattle.gib_app.specs.declared.status.Status.TheVariants.{Done, Source, Usage
 use Rattle.gib_app.specs.declared.made.Reason.{Reason}
 use Rattle.gib_app.specs.declared.made.Reason.TheVariants as reason
 use Rattle.gib_app.specs.declared.made.Reason.TheVariants.{Deep}
-use Rattle.gib_app.specs.Plan.{Document, Write, Plan, Files, bytes_in, Contents}
-use Rattle.gib_app.specs.Writes.{after, at_reading, AreMade, IsNamedIn, IsTarget}
+use Rattle.gib_app.specs.Plan.{Write, Plan, Files, bytes_in, Contents}
+use Rattle.gib_app.specs.Writes.{at_reading, AreMade, IsNamedIn, IsTarget}
 use Rattle.gib_app.specs.Words.{asked}
 use Rattle.gib_app.specs.Running.{IsInput, IsSource, IsNoProgram}
 use Rattle.gib_app.specs.SourceFaults.{IsSourceFault}
 use Rattle.gib_app.specs.Formats.{inputs_of, Accepts, Refuses}
 use Rattle.gib_app.specs.Formats.{Input as PlanInput}
 use Rattle.gib_app.specs.Lines.{line, source_text, input_text}
-use Rattle.gib_app.specs.Jobs.{End, Prints, NoValue, Does, without_image}
+use Rattle.gib_app.specs.Jobs.{Prints, NoValue, Does, without_image}
 use Rattle.gib_app.specs.Causes.{Counts, OnProgram, OnReached, EndsWithout, AsksSource, AsksProgram, IsPrinted, IsPrintedInPart, IsUnread, AreUnread, first_of, further_of, FailsToRead, FailsToWrite}
 
 -- A file that is to be written could not be, `out` was not asked, and the line names the file; or `out` took a front of what

@@ -1,5 +1,5 @@
 -- What the words of a command line ask to do.
-use Rattle.std.specs.Prelude.{ℕ, List, [], ◌∷◌, Option}
+use Rattle.std.specs.Prelude.{ℕ, List, Option}
 use Rattle.gib_edge.specs.Views.{Held, Has}
 use Rattle.gib_app.specs.declared.plan.Job.{Job}
 use Rattle.gib_app.specs.declared.plan.Options.{Options}

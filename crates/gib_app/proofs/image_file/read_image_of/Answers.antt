@@ -4,7 +4,6 @@ use Rattle.gib_types.specs.Layout.{LaidOut}
 use Rattle.gib_print.specs.ImageReading.{ReadsTo}
 use Rattle.gib_code.specs.Program.{CodeTree}
 use Rattle.gib_syntax.specs.Parts.{program_of}
-use Rattle.gib_syntax.specs.Declarations.{output_type}
 use Rattle.gib_app.specs.declared.stop.Stop.{Stop}
 use Rattle.gib_app.specs.Cores.{layouts_of}
 use Rattle.gib_app.specs.Stops.{IsShowStop}

@@ -1,4 +1,4 @@
-use Rattle.std.proofs.Common.{◌≡◌, ◌∙◌, Err, sym, subst}
+use Rattle.std.proofs.Common.{◌∙◌, Err, sym, subst}
 use Rattle.gib_locked.specs.declared.journal_fault.JournalFault.{JournalFault}
 use Rattle.gib_locked.specs.JournalReading.{ReadsTo}
 use Rattle.gib_app.specs.declared.stop.Stop.{Stop}

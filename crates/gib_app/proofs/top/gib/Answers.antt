@@ -1,10 +1,10 @@
-use Rattle.std.proofs.Common.{◌≡◌, [], refl, sym, subst, arith}
+use Rattle.std.proofs.Common.{[], refl, sym, subst, arith}
 use Rattle.gib_app.specs.declared.status.Status.TheVariants as status
 use Rattle.gib_app.specs.Words.{bytes_of}
 use Rattle.gib_edge.specs.Views.{ShelfView, SinkView}
 use Rattle.gib_app.specs.Lines.{line, said_text}
-use Rattle.gib_app.specs.Ending.{IsEnding, IsDue, IsDueOrScarce}
-use Rattle.gib_app.specs.Stopping.{Answer, answer_for, answer_of}
+use Rattle.gib_app.specs.Ending.{IsEnding, IsDueOrScarce}
+use Rattle.gib_app.specs.Stopping.{Answer, answer_for}
 use Rattle.gib_app.proofs.Calling.{added_none, added_whole, is_put}
 use Rattle.gib_app.proofs.Endings.{Laws, ending_of, ends_as_due}
 use Rattle.gib_app.proofs.top.gib.Goals as goal

@@ -1,19 +1,14 @@
-use Rattle.std.proofs.Common.{◌≡◌, ◌∙◌, [], ◌∷◌, refl, sym, subst, ap}
-use Rattle.gib_types.specs.Table.{Table}
+use Rattle.std.proofs.Common.{[], ◌∷◌, ap}
 use Rattle.gib_mem.specs.Memory.{Memory}
 use Rattle.gib_mem.specs.Plain.{plain_memory}
 use Rattle.gib_mem.specs.declared.plain.PlainMem.{PlainMem}
 use Rattle.gib_core.specs.LoweredParts.{LoweredParts}
-use Rattle.gib_value.specs.Text.{AreHeld}
 use Rattle.gib_syntax.specs.Parts.{program_of}
 use Rattle.gib_app.specs.declared.made.Reason.TheVariants as reason
 use Rattle.gib_app.specs.Jobs.{Replays}
 use Rattle.gib_app.specs.Kept.{file_of}
-use Rattle.gib_app.specs.Replaying.{LacksChunks, OnJournal}
-use Rattle.gib_app.specs.Workers.{OnlyFull}
-use Rattle.gib_app.proofs.Doing.{ends_without, fills_replays}
+use Rattle.gib_app.proofs.Doing.{ends_without}
 use Rattle.gib_app.proofs.JournalEnds.{replayed_deep, replayed_on, replayed_stands, shown_replays}
-use Rattle.gib_app.proofs.Stopped.{ReplayRefused, stopped_made, stopped_stop}
 use Rattle.gib_app.proofs.jobs.replay.replay.Goals as goal
 
 abbrev view : PlainMem → Memory

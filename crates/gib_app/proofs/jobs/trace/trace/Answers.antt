@@ -1,18 +1,10 @@
-use Rattle.std.proofs.Common.{◌≡◌, ◌∙◌, sym, subst, ap}
-use Rattle.gib_types.specs.Layout.{LaidOut}
-use Rattle.gib_types.specs.Table.{Table}
+use Rattle.std.proofs.Common.{◌∙◌, ap}
 use Rattle.gib_mem.specs.Memory.{Memory}
 use Rattle.gib_mem.specs.Plain.{plain_memory}
 use Rattle.gib_mem.specs.declared.plain.PlainMem.{PlainMem}
 use Rattle.gib_core.specs.LoweredParts.{LoweredParts}
-use Rattle.gib_value.specs.Text.{AreHeld}
 use Rattle.gib_syntax.specs.Parts.{program_of}
-use Rattle.gib_app.specs.Jobs.{Traces}
-use Rattle.gib_app.specs.Running.{FillsUp}
-use Rattle.gib_app.specs.Workers.{OnlyFull}
-use Rattle.gib_app.proofs.Doing.{fills_traces}
 use Rattle.gib_app.proofs.Leading.{ran_stands, trace_of, traced_deep}
-use Rattle.gib_app.proofs.Stopped.{RunRefused, stopped_made, stopped_stop}
 use Rattle.gib_app.proofs.jobs.trace.trace.Goals as goal
 
 abbrev view : PlainMem → Memory
