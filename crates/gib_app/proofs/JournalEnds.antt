@@ -192,15 +192,15 @@ module _ (one : OneValue) (p : ProgramTree) (input bytes : List ℕ) (v : Datum)
   never (refusal.Journal (journal.NotEnabled n)) h = (
     (v, is, (settings, lines, is_journal, h)),
     λ j.
-      let Q : Datum → Settings → List Line → Type 0 = λ w s ls. IsNotEnabled p w s ls n in
-      let both = both_on one p input bytes (Happens p) Q j (on Q h) in
-      happens_or_not p both.0 both.1 both.2 n both.3 both.4,
+        let Q : Datum → Settings → List Line → Type 0 = λ w s ls. IsNotEnabled p w s ls n in
+        let both = both_on one p input bytes (Happens p) Q j (on Q h) in
+        happens_or_not p both.0 both.1 both.2 n both.3 both.4,
   )
   never (refusal.Journal journal.NotEnded) h = (
     (v, is, (settings, lines, is_journal, h)),
     λ j.
-      let both = both_on one p input bytes (Happens p) (IsNotEnded p) j (on (IsNotEnded p) h) in
-      happens_or_open p both.0 both.1 both.2 both.3 both.4,
+        let both = both_on one p input bytes (Happens p) (IsNotEnded p) j (on (IsNotEnded p) h) in
+        happens_or_open p both.0 both.1 both.2 both.3 both.4,
   )
 
   full : (why : Reason) → OnlyFull (LacksBy (engine_for p settings.skips) v settings lines) why → OnlyFull (OnJournal p input bytes (LacksChunks p)) why

@@ -54,11 +54,7 @@ fn image_of<M: Mem>(alloc: Global, ran: &mut Ran<M>) -> Result<Vec<u8>, Memory>
 /// # Errors
 ///
 /// Want of memory.
-pub fn text_of<M: Mem>(
-    alloc: Global,
-    ran: &mut Ran<M>,
-    names: &Names,
-) -> Result<Vec<u8>, Memory>
+pub fn text_of<M: Mem>(alloc: Global, ran: &mut Ran<M>, names: &Names) -> Result<Vec<u8>, Memory>
     requires names { AreHeld ran.old.lowered.code.laid.table names.now }
     requires stands { (p : ProgramTree) × (depth : ℕ) × (input : List ℕ) × StandsMeant p depth input ran.old.lowered.code.laid (M.view ran.old.memory).cells ran.old.root }
     ensures { (p : ProgramTree) (depth : ℕ) (input : List ℕ) (s : StandsMeant p depth input ran.old.lowered.code.laid (M.view ran.old.memory).cells ran.old.root)

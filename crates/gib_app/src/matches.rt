@@ -170,7 +170,13 @@ fn to_option<'a>(matches: &ArgMatches<'a>, job: Job, second: &str, target: &str)
 }
 
 /// A job on a source and two files, that makes a file where an option names one.
-fn on_three<'a>(matches: &ArgMatches<'a>, job: Job, second: &str, third: &str, target: &str) -> Option<Plan<'a>>
+fn on_three<'a>(
+    matches: &ArgMatches<'a>,
+    job: Job,
+    second: &str,
+    third: &str,
+    target: &str,
+) -> Option<Plan<'a>>
     ensures { option_map plan_of result ≡ planned job (Some second.now) (Some third.now) (ByOption target.now) (rows_of (found_of matches.now)) }
 {
     Some(Plan {

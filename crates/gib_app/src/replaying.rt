@@ -24,7 +24,7 @@ use gib_check::Typed;
 use gib_core::Lowered;
 use gib_file::{Survey, one_file};
 use gib_load::LoadFault;
-use gib_locked::{Journal, Replayed, ReplayFault, read_journal, replay_loaded};
+use gib_locked::{Journal, ReplayFault, Replayed, read_journal, replay_loaded};
 use gib_mem::{Mem, PlainMem};
 use std::alloc::Global;
 

@@ -32,11 +32,7 @@ use std::thread::Threads;
 /// # Errors
 ///
 /// Want of memory.
-fn line_of<M: Mem>(
-    alloc: Global,
-    ran: &mut Ran<M>,
-    options: Options,
-) -> Result<Vec<u8>, Memory>
+fn line_of<M: Mem>(alloc: Global, ran: &mut Ran<M>, options: Options) -> Result<Vec<u8>, Memory>
     requires stands { (p : ProgramTree) × (depth : ℕ) × (input : List ℕ) × StandsMeant p depth input ran.old.lowered.code.laid (M.view ran.old.memory).cells ran.old.root }
     ensures { (p : ProgramTree) (depth : ℕ) (input : List ℕ) (s : StandsMeant p depth input ran.old.lowered.code.laid (M.view ran.old.memory).cells ran.old.root)
         → IfOk result (λ line. line.items ≡ summary_line options.number options.levels s.result) }
@@ -110,11 +106,16 @@ fn sum_by_more<R: Threads + Wait + Sync, G: Gate + Sync>(
     ensures made { IfOk result (λ made. EndsBy (file_of made) made.end (Sums (program_of compiled.now.typed) options input.now)) }
     ensures stop { IfErr result (IsRunStop (program_of compiled.now.typed) input.now) }
 {
-    let TracedRun { lowered, traced } =
-        match run_by_workers(alloc, runtime, &compiled.typed, input, options) {
-            Ok(run) => run,
-            Err(stop) => return of_stop(stop),
-        };
+    let TracedRun { lowered, traced } = match run_by_workers(
+        alloc,
+        runtime,
+        &compiled.typed,
+        input,
+        options,
+    ) {
+        Ok(run) => run,
+        Err(stop) => return of_stop(stop),
+    };
     let Traced {
         answer,
         memory,

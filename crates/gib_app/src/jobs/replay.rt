@@ -35,7 +35,12 @@ pub fn replay(
     ensures made { IfOk result (λ made. EndsBy (file_of made) made.end (Replays (program_of compiled.now.typed) compiled.now.names image (record { second = file.now; further = journal.now ∷ [] }))) }
     ensures stop { IfErr result (IsReplayStop (program_of compiled.now.typed) (record { second = file.now; further = journal.now ∷ [] })) }
 {
-    let ReplayedRun { lowered, replayed } = match replay_packed(alloc, &compiled.typed, file, journal) {
+    let ReplayedRun { lowered, replayed } = match replay_packed(
+        alloc,
+        &compiled.typed,
+        file,
+        journal,
+    ) {
         Ok(run) => run,
         Err(stop) => return of_stop(stop),
     };

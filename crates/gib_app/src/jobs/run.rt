@@ -91,11 +91,16 @@ fn run_by_more<R: Threads + Wait + Sync, G: Gate + Sync>(
     ensures made { IfOk result (λ made. EndsBy (file_of made) made.end (Runs (program_of compiled.now.typed) compiled.now.names options input.now)) }
     ensures stop { IfErr result (IsRunStop (program_of compiled.now.typed) input.now) }
 {
-    let TracedRun { lowered, traced } =
-        match run_by_workers(alloc, runtime, &compiled.typed, input, options) {
-            Ok(run) => run,
-            Err(stop) => return of_stop(stop),
-        };
+    let TracedRun { lowered, traced } = match run_by_workers(
+        alloc,
+        runtime,
+        &compiled.typed,
+        input,
+        options,
+    ) {
+        Ok(run) => run,
+        Err(stop) => return of_stop(stop),
+    };
     let Traced {
         answer,
         memory,

@@ -25,8 +25,14 @@ line_made-requires g c =
     let traced = c.in-Ok.run'.traced in
     let ran = c.in-Some.ran in
     let laid = ap (λ (l : LoweredParts). l.code.laid) c.in-Some.ensures.some.2 ∙ c.in-Ok.ensures.laid in
-    record { stands = (p, input, ran_stands p o input traced.journal.settings traced.journal.lines.all.items (view traced.memory) (view ran.memory) traced.answer ran.lowered.code.laid ran.root
-    c.in-Ok.ensures.ends laid (ap view c.in-Some.ensures.some.1) c.in-Some.ensures.some.0) }
+    record {
+      stands = (
+        p,
+        input,
+        ran_stands p o input traced.journal.settings traced.journal.lines.all.items (view traced.memory) (view ran.memory) traced.answer ran.lowered.code.laid ran.root
+            c.in-Ok.ensures.ends laid (ap view c.in-Some.ensures.some.1) c.in-Some.ensures.some.0,
+      );
+    }
 
 pub returns-in-Some-clause-made : goal.returns-in-Some-clause-made
 returns-in-Some-clause-made g c =

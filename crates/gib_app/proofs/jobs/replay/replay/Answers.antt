@@ -35,7 +35,7 @@ shown-requires-clause-stands c =
     let run = c.in-Ok.run' in
     let ran = c.in-Some.ran in
     let on = replayed_on p c.args.file.now c.args.journal.now run.lowered.code.laid ran.lowered.code.laid (view run.replayed.memory) (view ran.memory) run.replayed.answer
-        (ap (λ (l : LoweredParts). l.code.laid) c.in-Some.ensures.some.2) (ap view c.in-Some.ensures.some.1) c.in-Ok.ensures.ends in
+    (ap (λ (l : LoweredParts). l.code.laid) c.in-Some.ensures.some.2) (ap view c.in-Some.ensures.some.1) c.in-Ok.ensures.ends in
     (p, on.settings.depth, c.args.file.now, replayed_stands p c.args.file.now c.args.journal.now ran.lowered.code.laid (view ran.memory) run.replayed.answer ran.root on c.in-Some.ensures.some.0)
 
 pub returns-in-Ok-shown-clause-made : goal.returns-in-Ok-shown-clause-made
@@ -45,7 +45,7 @@ returns-in-Ok-shown-clause-made c =
     let ran = c.in-Some.ran in
     let made = c.in-Ok-shown.made in
     let on = replayed_on p c.args.file.now c.args.journal.now run.lowered.code.laid ran.lowered.code.laid (view run.replayed.memory) (view ran.memory) run.replayed.answer
-        (ap (λ (l : LoweredParts). l.code.laid) c.in-Some.ensures.some.2) (ap view c.in-Some.ensures.some.1) c.in-Ok.ensures.ends in
+    (ap (λ (l : LoweredParts). l.code.laid) c.in-Some.ensures.some.2) (ap view c.in-Some.ensures.some.1) c.in-Ok.ensures.ends in
     let there = c.in-Some.ensures.some.0 in
     shown_replays p c.args.compiled.now.names c.args.image c.args.file.now c.args.journal.now ran.lowered.code.laid (view ran.memory) run.replayed.answer ran.root on there (file_of made) made.end
     (c.in-Ok-shown.ensures p on.settings.depth c.args.file.now (replayed_stands p c.args.file.now c.args.journal.now ran.lowered.code.laid (view ran.memory) run.replayed.answer ran.root on there))

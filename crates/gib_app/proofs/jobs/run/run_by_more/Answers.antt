@@ -37,9 +37,13 @@ shown-requires-clause-stands g c =
     let input = c.args.input.now in
     let traced = c.in-Ok.run'.traced in
     let ran = c.in-Some.ran in
-    let laid = ap (λ (l : LoweredParts). l.code.laid) c.in-Some.ensures.some.2 ∙ c.in-Ok.ensures.laid in
-    (p, o.depth, input, ran_stands p o input traced.journal.settings traced.journal.lines.all.items (view traced.memory) (view ran.memory) traced.answer ran.lowered.code.laid ran.root
-    c.in-Ok.ensures.ends laid (ap view c.in-Some.ensures.some.1) c.in-Some.ensures.some.0)
+    let laid = ap (λ (l : LoweredParts). l.code.laid) c.in-Some.ensures.some.2 ∙ c.in-Ok.ensures.laid in (
+      p,
+      o.depth,
+      input,
+      ran_stands p o input traced.journal.settings traced.journal.lines.all.items (view traced.memory) (view ran.memory) traced.answer ran.lowered.code.laid ran.root
+          c.in-Ok.ensures.ends laid (ap view c.in-Some.ensures.some.1) c.in-Some.ensures.some.0,
+    )
 
 pub returns-in-Ok-shown-clause-made : goal.returns-in-Ok-shown-clause-made
 returns-in-Ok-shown-clause-made g c =
@@ -51,7 +55,7 @@ returns-in-Ok-shown-clause-made g c =
     let laid = ap (λ (l : LoweredParts). l.code.laid) c.in-Some.ensures.some.2 ∙ c.in-Ok.ensures.laid in
     let limit = ap (λ (m : PlainMem). m.limit) c.in-Some.ensures.some.1 ∙ c.in-Ok.ensures.limit in
     let stands = ran_stands p o input traced.journal.settings traced.journal.lines.all.items (view traced.memory) (view ran.memory) traced.answer ran.lowered.code.laid ran.root
-        c.in-Ok.ensures.ends laid (ap view c.in-Some.ensures.some.1) c.in-Some.ensures.some.0 in
+    c.in-Ok.ensures.ends laid (ap view c.in-Some.ensures.some.1) c.in-Some.ensures.some.0 in
     let made = c.in-Ok-shown.made in
     shown_runs p c.args.compiled.now.names o input ran.lowered.code.laid (view ran.memory) ran.root stands (plain_bounded ran.memory.bytes.items ran.memory.drawn ran.memory.limit ran.memory.plain) laid limit o.image refl
     (file_of made) made.end (c.in-Ok-shown.ensures p o.depth input stands)

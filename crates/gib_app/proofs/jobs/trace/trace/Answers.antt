@@ -25,8 +25,7 @@ returns-in_default-ran_of-clause-made g c =
     let input = c.args.input.now in
     let traced = c.in-Ok.run'.traced in
     let settings = traced.journal.settings in
-    let lines = traced.journal.lines.all.items in
-    (
+    let lines = traced.journal.lines.all.items in (
       trace_of p o input c.in-Ok-write_journal.file.items settings lines (view traced.memory) traced.answer c.in-Ok.ensures.ends traced.journal.lines.are c.in-Ok-write_journal.ensures,
       traced_deep p o input settings lines (view traced.memory) traced.answer c.in-Ok.ensures.ends c.in_default-ran_of.ensures.none,
     )
@@ -38,9 +37,13 @@ text_of-requires-clause-stands g c =
     let input = c.args.input.now in
     let traced = c.in-Ok.run'.traced in
     let ran = c.in-Some.ran in
-    let laid = ap (λ (l : LoweredParts). l.code.laid) c.in-Some.ensures.some.2 ∙ c.in-Ok.ensures.laid in
-    (p, o.depth, input, ran_stands p o input traced.journal.settings traced.journal.lines.all.items (view traced.memory) (view ran.memory) traced.answer ran.lowered.code.laid ran.root
-    c.in-Ok.ensures.ends laid (ap view c.in-Some.ensures.some.1) c.in-Some.ensures.some.0)
+    let laid = ap (λ (l : LoweredParts). l.code.laid) c.in-Some.ensures.some.2 ∙ c.in-Ok.ensures.laid in (
+      p,
+      o.depth,
+      input,
+      ran_stands p o input traced.journal.settings traced.journal.lines.all.items (view traced.memory) (view ran.memory) traced.answer ran.lowered.code.laid ran.root
+          c.in-Ok.ensures.ends laid (ap view c.in-Some.ensures.some.1) c.in-Some.ensures.some.0,
+    )
 
 pub returns-in-Ok-text_of-clause-made : goal.returns-in-Ok-text_of-clause-made
 returns-in-Ok-text_of-clause-made g c =
@@ -53,8 +56,7 @@ returns-in-Ok-text_of-clause-made g c =
     let ran = c.in-Some.ran in
     let laid = ap (λ (l : LoweredParts). l.code.laid) c.in-Some.ensures.some.2 ∙ c.in-Ok.ensures.laid in
     let stands = ran_stands p o input settings lines (view traced.memory) (view ran.memory) traced.answer ran.lowered.code.laid ran.root
-        c.in-Ok.ensures.ends laid (ap view c.in-Some.ensures.some.1) c.in-Some.ensures.some.0 in
-    (
+    c.in-Ok.ensures.ends laid (ap view c.in-Some.ensures.some.1) c.in-Some.ensures.some.0 in (
       trace_of p o input c.in-Ok-write_journal.file.items settings lines (view traced.memory) traced.answer c.in-Ok.ensures.ends traced.journal.lines.are c.in-Ok-write_journal.ensures,
       record { value = stands.value; result = stands.result; is_input = stands.is_input; means = stands.means; is_text = c.in-Ok-text_of.ensures p o.depth input stands },
     )
