@@ -80,15 +80,15 @@ module _ (l : LoweredParts) (d : Debt) (lent : List (Option Due)) where
   comes_so : (v v' : Memory) (m m' : State) (r r' : Turn) → r ≡ r' → m' ≡ m → v' ≡ v → Comes l d lent v m r' → Comes l d lent v' m' r
   comes_so v v' m m' r r' er em ev c = subst (λ (x : Turn). Comes l d lent v' m' x) (sym er) (subst (λ (x : Memory). Comes l d lent x m' r') (sym ev) (subst (λ (x : State). Comes l d lent v x r') (sym em) c))
 
-  full_so : (v v' : Memory) (m' : State) (r : Turn) → r ≡ turn.Full → v' ≡ with_drawn v v.limit → Pays l d.most v.share lent → Comes l d lent v' m' r
-  full_so v v' m' r er ev p = subst (λ (x : Turn). Comes l d lent v' m' x) (sym er) (subst (λ (x : Memory). Comes l d lent x m' turn.Full) (sym ev) (refl, p))
+  full_so : (v v' : Memory) (m m' : State) (r : Turn) (k : ℕ → State) → next l.code m ≡ Draw k → r ≡ turn.Full → m' ≡ m → v' ≡ with_drawn v v.limit → Pays l d.most v.share lent → Comes l d lent v' m' r
+  full_so v v' m m' r k is er em ev p = comes_so (with_drawn v v.limit) v' m m' r turn.Full er em ev (k, is, refl, p)
 
   pub comes : (v v' : Memory) (m m' : State) (r : Turn) (a : Ask) → next l.code m ≡ a → Pays l d.most v.share lent → WorksAfter l d v lent m a → Made a m m' v v' r → (r ≡ turn.Went → ⊥) → Comes l d lent v' m' r
   comes v v' m m' r (Silent n) is p k e other = absurd (other e.0)
   comes v v' m m' r (Get q f) is p k e other = absurd (other e.2)
   comes v v' m m' r (Put q b n) is p k e other = absurd (other e.0)
   comes v v' m m' r (Draw f) is p k (inl e) other = absurd (other e.2)
-  comes v v' m m' r (Draw f) is p k (inr e) other = full_so v v' m' r e.0 e.2.same p
+  comes v v' m m' r (Draw f) is p k (inr e) other = full_so v v' m m' r f is e.0 e.1 e.2.same p
   comes v v' m m' r AtFork is p k e other = comes_so v v' m m' r turn.AtFork e.0 e.1 e.2 (is, k)
   comes v v' m m' r AtJoin is p k e other = comes_so v v' m m' r turn.AtJoin e.0 e.1 e.2 (is, k)
   comes v v' m m' r (Ended a) is p k e other = comes_so v v' m m' r (turn.Ended a) e.0 e.1 e.2 k

@@ -1,6 +1,7 @@
 //! What a worker holds of the task that it is at.
 
 ghost use Rattle.std.specs.Prelude.{◌≡◌, []};
+ghost use Rattle.gib_pool.specs.Frames.{newest_made};
 
 use gib_arena::Pass;
 use gib_frame::Frame;
@@ -33,6 +34,16 @@ impl Job {
             pass,
             frames: Vec::new(alloc),
             here: 0,
+        }
+    }
+
+    /// Whether the newest right side was offered to others: its frame was made, and not refused.
+    pub(crate) fn is_offered(&self) -> bool
+        ensures { result ≡ newest_made self.now.frames.items }
+    {
+        match self.frames.last() {
+            None => false,
+            Some(newest) => newest.is_some(),
         }
     }
 }

@@ -45,7 +45,9 @@ fn stand_once<'a, R: Wait, G: Gate>(
         Turn::Full => Err(leave(rt, arena, job, forks)),
         Turn::AtFork => match fork_here(rt, alloc, arena, lowered, job, forks) {
             Ok(job) => {
-                post.forked(rt);
+                if job.is_offered() {
+                    post.forked(rt);
+                }
                 Ok(job)
             }
             Err(end) => Err(end),

@@ -34,11 +34,11 @@ returns-in-Full-clause-goes g c =
     let w = c.requires.owes in
     record {
       back = back_on c.args.arena.now c.args.job.pass c.run_on-job.result.0.pass c.leave.result.1 c.run_on-job.ensures.same c.leave.ensures.back;
-      settles = settles_for l (λ (d : Debt). PaysStill l d c.run_on-job.result.0) (λ (d : Debt). OwesStill l d c.args.job) c.leave.result.0 c.leave.result.1 (λ d h. (full d h).1) (c.leave.ensures.settles l (full w.0 w.1).0);
+      settles = settles_for l (λ (d : Debt). PaysStill l d c.run_on-job.result.0) (λ (d : Debt). OwesStill l d c.args.job) c.leave.result.0 c.leave.result.1 (λ d h. (full d h).3) (c.leave.ensures.settles l (full w.0 w.1).2);
     }
 
-pub returns-in-Ok-clause-goes : goal.returns-in-Ok-clause-goes
-returns-in-Ok-clause-goes g c =
+pub returns-after-is_offered-clause-goes : goal.returns-after-is_offered-clause-goes
+returns-after-is_offered-clause-goes g c =
     let l = c.args.lowered.now in
     goes_for c.args.arena.now l (λ (d : Debt). StandsAt l d c.run_on-job.result.0 AtFork) (λ (d : Debt). OwesStill l d c.args.job) c.args.job c.run_on-job.result.0 (worker_view c.fork_here.new.forks).mine (Ok c.in-Ok.job) c.run_on-job.ensures.same
     (λ d w. subst (StandsAt l d c.run_on-job.result.0) c.in-AtFork.is (c.run_on-job.ensures.stands d w)) c.in-Ok.ensures.goes
