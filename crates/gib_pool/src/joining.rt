@@ -1,9 +1,11 @@
 //! A worker at a join.
 
-ghost use Rattle.std.specs.Prelude.{◌≡◌};
+ghost use Rattle.std.specs.Prelude.{◌≡◌, true, IfErr};
 ghost use Rattle.crossbeam_deque.specs.Handles.{worker_deque, worker_view};
+ghost use Rattle.gib_machine.specs.Machine.{is_unwinding};
 ghost use Rattle.gib_machine.specs.declared.turn.Turn.TheVariants.{AtJoin};
 ghost use Rattle.gib_weave.specs.Owing.{Debt};
+ghost use Rattle.gib_frame.specs.declared.due.Ending.TheVariants.{Memory};
 ghost use Rattle.gib_pool.specs.Jobs.{Goes, Holds, IsHere, StandsAt};
 ghost use Rattle.gib_pool.specs.Mine.{IsMine};
 
@@ -35,6 +37,7 @@ pub(crate) fn join_here<'a, R: Wait>(
     requires here { IsHere job (worker_view forks.old).mine }
     ensures mine { IsMine forks.new × (worker_deque forks.new ≡ worker_deque forks.old) }
     ensures goes { Goes arena.entry.now lowered.entry.now (λ (d : Debt). StandsAt lowered.entry.now d job AtJoin) job (worker_view forks.new).mine result }
+    ensures unwinds { is_unwinding job.machine.doing ≡ true → IfErr result (λ end. end.0 ≡ Memory) }
 {
     let code = lowered.code();
     let Some(newest) = job.frames.pop() else {
