@@ -1,6 +1,6 @@
 -- How a job begins, and what its end is to whoever began it.
 use Rattle.std.proofs.Common.{◌≡◌, ℕ, List, [], refl, sym, ap, subst, ◌∙◌}
-use Rattle.std.specs.Prelude.{Option}
+use Rattle.std.specs.Prelude.{Option, Err}
 use Rattle.gib_types.specs.Tree.{Datum}
 use Rattle.gib_mem.specs.Memory.{Memory, absent, fresh, IsBounded}
 use Rattle.gib_code.specs.declared.answer.Side.{Side}
@@ -16,6 +16,7 @@ use Rattle.gib_machine.specs.Machine.{State, side_start, widest}
 use Rattle.gib_machine.specs.Starting.{waiting_of}
 use Rattle.gib_machine.specs.Stepping.{with_tails}
 use Rattle.gib_weave.specs.Owing.{Debt}
+use Rattle.gib_weave.specs.declared.root_run.RunFault.TheVariants as fault
 use Rattle.gib_weave.specs.Paying.{Bill, root_share, whole_of}
 use Rattle.gib_weave.specs.Places.{IsSmall, tail_covers}
 use Rattle.gib_weave.specs.Running.{IsStart, word_of}
@@ -121,6 +122,13 @@ root_owes l v place tails depth level d ok bd st = record {
 -- Where all chunks were drawn, and by the root, so many may not be enough.
 tight : (core : CoreTree) (depth level : ℕ) (d : Datum) (n limit : ℕ) → n ≡ limit → IsPaid (whole_of core depth level d) n → Tight limit (run_cost core depth level d)
 tight core depth level d n limit e p = bill_tight core depth level d limit p.owed p.bill (subst (λ (k : ℕ). Bill (whole_of core depth level d) k p.owed p.bill) e p.paid)
+
+-- Where a run says that all chunks are drawn, its first pass drew them.
+pub full_drawn : (l : LoweredParts) (Has : Debt → Type 0) (e : Ending) (p p' : Pass) → outcome e ≡ Err fault.Full → Settles l Has e p → view p' ≡ view p → drawn_by p' ≡ (view p').holding.seen → drawn_by p' ≡ (view p').branch.limit
+full_drawn l Has (ending.Answer a) p p' is s same all = absurd cc
+full_drawn l Has ending.Full p p' is s same all = all ∙ (ap (λ (w : View). w.holding.seen) same ∙ (s.0 ∙ sym (ap (λ (w : View). w.branch.limit) same)))
+full_drawn l Has ending.NotRun p p' is s same all = absurd s
+full_drawn l Has ending.Memory p p' is s same all = absurd cc
 
 pub root_ends : (l : LoweredParts) (depth level : ℕ) (d : Datum) (j : Job) (e : Ending) (v : Memory) (p p' : Pass) → OwesStill l (root_debt l depth level d) j → Settles l (λ (z : Debt). OwesStill l z j) e p
     → v.limit ≡ (view p').branch.limit → view p' ≡ view p → drawn_by p' ≡ (view p').holding.seen → IsRun l depth level d v (pass_memory p') (outcome e)

@@ -1,6 +1,6 @@
 //! The workers of a run.
 
-ghost use Rattle.std.specs.Prelude.{◌≡◌, ◌<◌, [], length};
+ghost use Rattle.std.specs.Prelude.{◌≡◌, ◌<◌, [], length, IfOk};
 ghost use Rattle.gib_weave.specs.Owing.{Debt};
 ghost use Rattle.gib_pool.specs.Jobs.{Holds, IsOver, OwesStill};
 
@@ -12,7 +12,6 @@ use crate::raid::Raid;
 use crate::shared::Shared;
 use crate::worker::Member;
 use crate::working::work;
-use crossbeam_utils::CachePadded;
 use gib_arena::Pass;
 use gib_edge::outside::Gate;
 use gib_frame::Ending;
@@ -21,10 +20,7 @@ use std::sync::Wait;
 use std::thread::{Threads, join};
 
 /// Sets a worker on the forks of all others, first those of the next one.
-fn set_on_others<'a>(
-    members: &mut Vec<CachePadded<Member<'a>>>,
-    thief: usize,
-) -> Result<(), AllocError>
+fn set_on_others<'a>(members: &mut Vec<Member<'a>>, thief: usize) -> Result<(), AllocError>
     requires { thief < length members.old.items }
     ensures { length members.new.items ≡ length members.old.items }
 {
@@ -36,22 +32,21 @@ fn set_on_others<'a>(
     Ok(())
 }
 
-/// So many workers without forks, each of which may steal from all others. No two of them share a line of the cache.
+/// So many workers without forks, each of which may steal from all others.
 ///
 /// # Errors
 ///
 /// Want of memory.
-pub fn make_members<'a>(
-    alloc: Global,
-    workers: u32,
-) -> Result<Vec<CachePadded<Member<'a>>>, AllocError> {
+pub fn make_members<'a>(alloc: Global, workers: u32) -> Result<Vec<Member<'a>>, AllocError>
+    ensures { IfOk result (λ members. length members.items ≡ workers) }
+{
     let mut members = Vec::new(alloc);
-    for number in 0..workers {
-        members.push(CachePadded::new(Member {
+    'made: for number in 0..workers {
+        members.push(Member {
             number,
             forks: new_forks(alloc)?,
             raids: Vec::new(alloc),
-        }))?;
+        })?;
     }
     let count = members.len();
     'thieves: for thief in 0..count {
@@ -67,17 +62,16 @@ pub fn work_together<'a, R: Threads + Wait + Sync, G: Gate + Sync>(
     alloc: Global,
     shared: &Shared<'a, G>,
     job: Job,
-    mut members: Vec<CachePadded<Member<'a>>>,
+    mut members: Vec<Member<'a>>,
 ) -> (Ending, Pass)
     requires holds { Holds shared.now.arena.now shared.now.lowered.now job }
     requires owes { (d : Debt) × OwesStill shared.now.lowered.now d job }
     requires begins { (job.frames.items ≡ []) × (job.here ≡ 0) }
     ensures over { IsOver shared.entry.now.arena.now shared.entry.now.lowered.now (λ (d : Debt). OwesStill shared.entry.now.lowered.now d job) job result.0 result.1 }
 {
-    let Some(padded) = members.pop() else {
+    let Some(member) = members.pop() else {
         return (Ending::Memory, job.pass);
     };
-    let member = padded.into_inner();
     let post = Post {
         bell: shared.bell,
         gate: shared.gate,

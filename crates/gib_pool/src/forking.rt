@@ -1,6 +1,6 @@
 //! A worker at a fork.
 
-ghost use Rattle.std.specs.Prelude.{◌≡◌, ◌<◌, ◌+◌, ◌^◌, ◌∷◌, ℕ, List, Option, IfSome, slice_get};
+ghost use Rattle.std.specs.Prelude.{◌≡◌, ◌<◌, ◌+◌, ◌^◌, ◌∷◌, ℕ, List, Option, IfNone, IfSome, slice_get};
 ghost use Rattle.crossbeam_deque.specs.Handles.{worker_deque, worker_view};
 ghost use Rattle.gib_mem.specs.Memory.{fresh};
 ghost use Rattle.gib_core.specs.Parts.{core_of};
@@ -53,6 +53,8 @@ fn offer_here<'a>(
     ensures free { (q : ℕ) → cells pass.old q ≡ fresh → cells pass.new q ≡ fresh }
     ensures side { IfSome result (λ f. (tails : List ℕ) → IsFor lowered.entry.now (cells pass.old) (right_of (with_tails machine.entry.now tails) (slice_get lowered.entry.now.code.instructions machine.entry.now.ip)) (frame_due f)) }
     ensures lends { (lent : List (Option Due)) → Lends pass.old lent → Lends pass.new (due_maybe result ∷ lent) }
+    ensures more { IfSome result (λ _. here.new ≡ here.old + 1) }
+    ensures no_more { IfNone result (here.new ≡ here.old) }
     ensures here { (lent : List (Option Due)) → AreHere lent here.old (worker_view forks.old).mine → AreHere (due_maybe result ∷ lent) here.new (worker_view forks.new).mine }
     ensures mine { IsMine forks.new × (worker_deque forks.new ≡ worker_deque forks.old) }
 {

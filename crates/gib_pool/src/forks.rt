@@ -50,9 +50,9 @@ impl<'a> Outcome<Task<'a>, Stack> for Pop {
 }
 
 /// What another worker knows after a steal.
-pub struct Take;
+pub struct Rob;
 
-impl<'a> Outcome<Task<'a>, Stack> for Take {
+impl<'a> Outcome<Task<'a>, Stack> for Rob {
     ghost use Rattle.gib_pool.specs.Stacks.{Stole};
 
     ghost then = { Stole };
@@ -110,5 +110,5 @@ pub fn steal_fork<'a>(thief: &Thief<'a>, pass: &mut Loot<'a>) -> Steal<Task<'a>>
     requires { IsPassOf (stealer_deque thief.now) pass.old × (view pass.old ≡ guest) }
     ensures { IsPassOf (stealer_deque thief.now) pass.new × (view pass.new ≡ guest) }
 {
-    thief.steal_as::<Take>(pass)
+    thief.steal_as::<Rob>(pass)
 }

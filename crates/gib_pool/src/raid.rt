@@ -1,7 +1,7 @@
 //! A thief at the forks of another worker.
 
-ghost use Rattle.std.specs.Prelude.{◌≡◌};
-ghost use Rattle.crossbeam_deque.specs.Handles.{IsPassOf, stealer_deque, view};
+ghost use Rattle.std.specs.Prelude.{◌≡◌, IfOk};
+ghost use Rattle.crossbeam_deque.specs.Handles.{IsPassOf, stealer_deque, worker_deque, view};
 ghost use Rattle.gib_pool.specs.Stacks.{guest};
 
 use crate::forks::{Forks, Loot, Thief, steal_fork};
@@ -24,7 +24,9 @@ impl<'a> Raid<'a> {
     /// # Errors
     ///
     /// Want of memory.
-    pub fn make(forks: &Forks<'a>) -> Result<Raid<'a>, AllocError> {
+    pub fn make(forks: &Forks<'a>) -> Result<Raid<'a>, AllocError>
+        ensures { IfOk result (λ raid. stealer_deque raid.thief ≡ worker_deque forks.now) }
+    {
         let thief = forks.stealer()?;
         let loot = thief.pass();
         Ok(Raid { thief, loot })

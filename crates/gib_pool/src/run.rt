@@ -1,8 +1,9 @@
 //! A run of a core on a value that was loaded, by several workers.
 
-ghost use Rattle.std.specs.Prelude.{◌≡◌};
+ghost use Rattle.std.specs.Prelude.{◌≡◌, IsErrOf};
 ghost use Rattle.gib_types.specs.Tree.{Datum};
 ghost use Rattle.gib_weave.specs.Running.{IsStart, Kept};
+ghost use Rattle.gib_weave.specs.declared.root_run.RunFault.TheVariants.{Full};
 ghost use Rattle.gib_arena.specs.Passes.{view, IsOf};
 ghost use Rattle.gib_arena.specs.Tree.{IsAlone};
 ghost use Rattle.gib_frame.specs.Answers.{drawn_by};
@@ -29,7 +30,7 @@ use std::thread::Threads;
 /// How a run is made.
 #[derive(Clone, Copy, Debug)]
 pub struct Crew {
-    /// How many threads work, with the caller's.
+    /// How many threads work, with the caller's: at least 1; with none the run ends for want of memory.
     pub workers: u32,
     /// How many calls may nest.
     pub depth: u32,
@@ -80,6 +81,7 @@ fn run_in<'a, R: Threads + Wait + Sync, G: Gate + Sync>(
     ensures back { IsBackWhole shared.entry.now.arena.now first result.1 }
     ensures ends { (d : Datum) → IsStart shared.entry.now.lowered.now root tails (pass_memory first) d
         → IsRun shared.entry.now.lowered.now crew.depth crew.level d (pass_memory first) (pass_memory result.1) result.0 }
+    ensures full { IsErrOf result.0 Full → (pass_memory result.1).share ≡ (pass_memory result.1).limit }
 {
     shared.lowered.core();
     let _code = shared.lowered.code();
@@ -117,6 +119,7 @@ pub fn run_by<R: Threads + Wait + Sync, G: Gate + Sync>(
     ensures ends { (d : Datum) → IsStart lowered.entry.now root tails (⟦<SoleMem as Mem>⟧.view memory) d
         → IsRun lowered.entry.now crew.depth crew.level d (⟦<SoleMem as Mem>⟧.view memory) (⟦<SoleMem as Mem>⟧.view result.1) result.0 }
     ensures kept { Kept (⟦<SoleMem as Mem>⟧.view memory) (⟦<SoleMem as Mem>⟧.view result.1) }
+    ensures full { IsErrOf result.0 Full → (⟦<SoleMem as Mem>⟧.view result.1).share ≡ (⟦<SoleMem as Mem>⟧.view result.1).limit }
 {
     let (arena, first) = memory.into_parts();
     let bell = Bell::new();

@@ -12,10 +12,11 @@ use Rattle.gib_arena.specs.declared.view.View.{View}
 use Rattle.gib_arena.specs.Passes.{view, cells}
 use Rattle.gib_arena.specs.Shown.{shown_alone}
 use Rattle.gib_frame.specs.Answers.{drawn_by}
+use Rattle.gib_weave.specs.Owing.{Debt}
 use Rattle.gib_pool.specs.Jobs.{OwesStill}
 use Rattle.gib_pool.specs.Runs.{pass_memory, IsRun}
 use Rattle.gib_pool.specs.Turn.{Works}
-use Rattle.gib_pool.proofs.Beginnings.{IsMade, job_owes, made_holds, root_debt, root_owes, root_ends}
+use Rattle.gib_pool.proofs.Beginnings.{IsMade, job_owes, made_holds, root_debt, root_owes, root_ends, full_drawn}
 use Rattle.gib_pool.proofs.Passing.{root_bounded}
 use Rattle.gib_pool.proofs.Standing.{whole}
 use Rattle.gib_pool.proofs.run.run_in.Goals as goal
@@ -81,3 +82,9 @@ returns-clause-ends g c = λ d st.
     let limit = ap (λ (v : View). v.branch.limit) last.ensures.same ∙ (c.work_together-ending.ensures.over.back.same.limit ∙ (ap (λ (p : Pass). (view p).branch.limit) job.pass ∙ ap (λ (v : View). v.branch.limit) counted.same)) in
     subst (λ (o : Result Answer RunFault). IsRun l depth level d (pass_memory c.args.first) (pass_memory last.new.pass) o) (sym c.outcome_of.ensures)
     (root_ends l depth level d c.make-job.result c.work_together-ending.result.0 (pass_memory c.args.first) c.work_together-ending.result.1 last.new.pass (owes d st) c.work_together-ending.ensures.over.settles (sym limit) last.ensures.same last.ensures.all)
+
+pub returns-clause-full : goal.returns-clause-full
+returns-clause-full g c = λ e.
+    let l = c.args.shared.now.lowered.now in
+    let last = c.count_all-2 in
+    full_drawn l (λ (d : Debt). OwesStill l d c.make-job.result) c.work_together-ending.result.0 c.work_together-ending.result.1 last.new.pass (sym c.outcome_of.ensures ∙ e) c.work_together-ending.ensures.over.settles last.ensures.same last.ensures.all
