@@ -19,7 +19,7 @@ use std::sync::Wait;
 
 /// What a join goes on with.
 #[derive(Drop)]
-pub enum Back {
+pub(crate) enum Back {
     /// Nobody ran the side: it is taken in place.
     Take,
     /// Another worker ran the side, and this is its answer.
@@ -32,7 +32,7 @@ pub enum Back {
 
 /// Takes the latest fork back, or waits for who stole it. The pass then knows both sides. `here` is how many of the newest forks
 /// may still be in the deque: once one is gone all older ones are, so that none of them is looked for.
-pub fn settle<'a, R: Wait>(
+pub(crate) fn settle<'a, R: Wait>(
     rt: &R,
     arena: &'a Arena,
     pass: &mut Pass,

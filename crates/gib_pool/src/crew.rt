@@ -37,7 +37,7 @@ fn set_on_others<'a>(members: &mut Vec<Member<'a>>, thief: usize) -> Result<(), 
 /// # Errors
 ///
 /// Want of memory.
-pub fn make_members<'a>(alloc: Global, workers: u32) -> Result<Vec<Member<'a>>, AllocError>
+pub(crate) fn make_members<'a>(alloc: Global, workers: u32) -> Result<Vec<Member<'a>>, AllocError>
     ensures { IfOk result (λ members. length members.items ≡ workers) }
 {
     let mut members = Vec::new(alloc);
@@ -57,7 +57,7 @@ pub fn make_members<'a>(alloc: Global, workers: u32) -> Result<Vec<Member<'a>>, 
 
 /// Runs a task by the first of these workers, which is the caller's thread, while the others run what it and they fork. A worker whose
 /// thread cannot be started is missing. Without workers it ends for want of memory.
-pub fn work_together<'a, R: Threads + Wait + Sync, G: Gate + Sync>(
+pub(crate) fn work_together<'a, R: Threads + Wait + Sync, G: Gate + Sync>(
     rt: &R,
     alloc: Global,
     shared: &Shared<'a, G>,

@@ -31,7 +31,7 @@ fn still_known(known: bool, back: &Back) -> bool
 
 /// Takes the passes of all frames back, the newest first, so that none is out; what their sides answered is dropped. Whether what each
 /// side drew is known: it is not, where one was left for want of memory.
-pub fn drain_frames<'a, R: Wait>(
+pub(crate) fn drain_frames<'a, R: Wait>(
     rt: &R,
     arena: &'a Arena,
     pass: &mut Pass,

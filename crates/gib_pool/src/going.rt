@@ -15,7 +15,7 @@ use gib_region::Tails;
 use std::sync::Wait;
 
 /// Makes a worker's turns until its machine stands at a fork, at a join or at its end, or draws where all chunks are drawn.
-pub fn go_on<R: Wait, M: Mem>(
+pub(crate) fn go_on<R: Wait, M: Mem>(
     rt: &R,
     lowered: &Lowered,
     machine: &mut Machine,

@@ -11,7 +11,7 @@ use std::alloc::Global;
 
 /// A task that a worker is at: its machine with its tails, and the pass over whose bytes it works.
 #[derive(Drop)]
-pub struct Job {
+pub(crate) struct Job {
     pub(crate) machine: Machine,
     pub(crate) tails: Tails,
     pub(crate) pass: Pass,
@@ -23,7 +23,7 @@ pub struct Job {
 
 impl Job {
     /// A task at its begin, with no right sides.
-    pub fn make(alloc: Global, machine: Machine, tails: Tails, pass: Pass) -> Job
+    pub(crate) fn make(alloc: Global, machine: Machine, tails: Tails, pass: Pass) -> Job
         ensures machine { (result.machine ≡ machine) × (result.tails ≡ tails) }
         ensures pass { result.pass ≡ pass }
         ensures frames { (result.frames.items ≡ []) × (result.here ≡ 0) }

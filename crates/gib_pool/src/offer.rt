@@ -19,7 +19,7 @@ use gib_frame::{Frame, make};
 use std::alloc::Global;
 
 /// Offers a right side to whoever steals it. Where memory refuses its frame or the push, nothing more is split off the pass.
-pub fn offer_side<'a>(
+pub(crate) fn offer_side<'a>(
     alloc: Global,
     arena: &'a Arena,
     lowered: &'a Lowered,

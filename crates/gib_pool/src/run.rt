@@ -38,6 +38,14 @@ pub struct Crew {
     pub level: u32,
 }
 
+/// A value that was loaded: its root in a memory, and the tails that are kept for what is placed next.
+#[derive(Drop)]
+pub struct Loaded {
+    pub memory: SoleMem,
+    pub tails: Tails,
+    pub root: Root,
+}
+
 /// What a run answers whose root ended so.
 fn outcome_of(ending: Ending) -> Result<Answer, RunFault>
     ensures { result ≡ outcome ending }

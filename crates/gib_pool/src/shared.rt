@@ -7,9 +7,9 @@ use gib_edge::outside::Gate;
 
 /// What all workers of a run share: the arena of their passes, the code, the bell that they hear, and the gate.
 #[derive(Drop)]
-pub struct Shared<'a, G: Gate> {
-    pub arena: &'a Arena,
-    pub lowered: &'a Lowered,
-    pub bell: &'a Bell,
-    pub gate: &'a G,
+pub(crate) struct Shared<'a, G: Gate> {
+    pub(crate) arena: &'a Arena,
+    pub(crate) lowered: &'a Lowered,
+    pub(crate) bell: &'a Bell,
+    pub(crate) gate: &'a G,
 }

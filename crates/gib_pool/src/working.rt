@@ -58,7 +58,7 @@ fn stand_once<'a, R: Wait, G: Gate>(
 
 /// Runs a task to its end: its forks are offered to others, and those that nobody stole are run here. Its pass comes back with all
 /// that was split off it.
-pub fn work<'a, R: Wait, G: Gate>(
+pub(crate) fn work<'a, R: Wait, G: Gate>(
     rt: &R,
     alloc: Global,
     arena: &'a Arena,
