@@ -8,6 +8,6 @@ mod frame;
 pub mod law;
 pub mod sends;
 
-pub use due::{Due, Ending, Given};
+pub use due::{Due, Ending};
 pub use ends::{Frame, Reply, Task};
 pub use frame::{make, put_answer, wait_answer};

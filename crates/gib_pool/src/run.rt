@@ -117,18 +117,21 @@ pub fn run_by<R: Threads + Wait + Sync, G: Gate + Sync>(
     rt: &R,
     alloc: Global,
     lowered: &Lowered,
-    memory: SoleMem,
-    tails: Tails,
-    root: Root,
+    loaded: Loaded,
     crew: Crew,
     gate: &G,
 ) -> (Result<Answer, RunFault>, SoleMem)
-    requires starts { (d : Datum) × IsStart lowered.now root tails (⟦<SoleMem as Mem>⟧.view memory) d }
-    ensures ends { (d : Datum) → IsStart lowered.entry.now root tails (⟦<SoleMem as Mem>⟧.view memory) d
-        → IsRun lowered.entry.now crew.depth crew.level d (⟦<SoleMem as Mem>⟧.view memory) (⟦<SoleMem as Mem>⟧.view result.1) result.0 }
-    ensures kept { Kept (⟦<SoleMem as Mem>⟧.view memory) (⟦<SoleMem as Mem>⟧.view result.1) }
+    requires starts { (d : Datum) × IsStart lowered.now loaded.root loaded.tails (⟦<SoleMem as Mem>⟧.view loaded.memory) d }
+    ensures ends { (d : Datum) → IsStart lowered.entry.now loaded.root loaded.tails (⟦<SoleMem as Mem>⟧.view loaded.memory) d
+        → IsRun lowered.entry.now crew.depth crew.level d (⟦<SoleMem as Mem>⟧.view loaded.memory) (⟦<SoleMem as Mem>⟧.view result.1) result.0 }
+    ensures kept { Kept (⟦<SoleMem as Mem>⟧.view loaded.memory) (⟦<SoleMem as Mem>⟧.view result.1) }
     ensures full { IsErrOf result.0 Full → (⟦<SoleMem as Mem>⟧.view result.1).share ≡ (⟦<SoleMem as Mem>⟧.view result.1).limit }
 {
+    let Loaded {
+        memory,
+        tails,
+        root,
+    } = loaded;
     let (arena, first) = memory.into_parts();
     let bell = Bell::new();
     let shared = Shared {
