@@ -1,11 +1,10 @@
 -- A worker goes on from a join whose right side's frame was settled.
-use Rattle.std.proofs.Common.{◌≡◌, List, ◌∷◌, sym, ap, subst, ◌∙◌}
+use Rattle.std.proofs.Common.{◌≡◌, List, ◌∷◌, subst, ◌∙◌}
 use Rattle.std.specs.Prelude.{Option, Some}
 use Rattle.gib_core.specs.LoweredParts.{LoweredParts}
 use Rattle.gib_machine.specs.declared.turn.Turn.TheVariants.{AtJoin}
 use Rattle.gib_weave.specs.Owing.{Debt}
 use Rattle.gib_arena.specs.declared.memory.Arena.{Arena}
-use Rattle.gib_arena.specs.declared.memory.Pass.{Pass}
 use Rattle.gib_arena.specs.Passes.{view, IsOf}
 use Rattle.gib_frame.specs.declared.due.Due.{Due}
 use Rattle.gib_pool.specs.declared.back.Back.{Back}
