@@ -1,5 +1,5 @@
 -- One store of all the words, and the tasks over it.
-use Rattle.std.proofs.Common.{◌≡◌, ℕ, ◌+◌, ◌*◌, ◌/◌, ◌^◌, ◌<◌, ◌≤◌, ltb, cond, Bool, true, false, ⊎_elim, List, refl, sym, ap, subst, ◌∙◌, arith}
+use Rattle.std.proofs.Common.{◌≡◌, ℕ, ◌*◌, ◌/◌, ◌^◌, ◌<◌, ◌≤◌, ltb, cond, Bool, true, false, ⊎_elim, List, refl, sym, ap, subst, ◌∙◌, arith}
 use Rattle.std.specs.Prelude.{Option, Some, None, slice_index}
 use Rattle.std.proofs.lemmas.Bool.{lt-ltb, le-ltb}
 use mathlib.Core.Logic.{dite}
@@ -10,10 +10,9 @@ use Rattle.gib_core.specs.Parts.{core_of}
 use Rattle.gib_core.specs.LoweredParts.{LoweredParts}
 use Rattle.gib_machine.specs.Machine.{State}
 use Rattle.gib_weave.specs.Owing.{Debt}
-use Rattle.gib_weave.specs.Places.{Owned}
 use Rattle.gib_weave.proofs.Others.{safe-others}
 use Rattle.gib_arena.specs.declared.view.View.{View}
-use Rattle.gib_arena.specs.Bytes.{byte_in, byte_or_zero, Fits}
+use Rattle.gib_arena.specs.Bytes.{byte_or_zero, Fits}
 use Rattle.gib_arena.specs.Cells.{byte_or, cells_of}
 use Rattle.gib_arena.specs.CellLaws.{option_cases}
 use Rattle.gib_arena.specs.Rule.{ArenaRule}
@@ -26,17 +25,13 @@ use Rattle.gib_frame.specs.declared.due.Due.{Due}
 use Rattle.gib_pool.specs.Turn.{AreThere, Works, Wider}
 use Rattle.gib_pool.specs.Together.{free, fresh_to, Together}
 use Rattle.gib_pool.proofs.Turns.{wider_others}
-use Rattle.gib_pool.proofs.TogetherOwned.{Keeps, safe_owned}
+use Rattle.gib_pool.proofs.TogetherOwned.{safe_owned}
 
-data Seen (c : Cell) : Type 0 where
-  is_absent : c ≡ absent → Seen c
-  is_fresh : c ≡ fresh → Seen c
-  is_byte : (b : ℕ) → c ≡ byte b → Seen c
-
-seen : (c : Cell) → Seen c
-seen absent = is_absent refl
-seen fresh = is_fresh refl
-seen (byte b) = is_byte b refl
+-- What stands at an address is fresh or a byte.
+by_cell : (c : Cell) (P : Type 0) → IsThere c → (c ≡ fresh → P) → ((b : ℕ) → c ≡ byte b → P) → P
+by_cell absent P t f k = absurd t
+by_cell fresh P t f k = f refl
+by_cell (byte b) P t f k = k b refl
 
 -- What stands in a chunk that was drawn where no byte was put, and elsewhere.
 abbrev empty_cell : Bool → Cell
@@ -84,10 +79,8 @@ module _ (limit : ℕ) (s : TableState (Unit {0}) View) (small : limit < 2 ^ 32)
       fits : Fits put n v.holding
       fits = holds_it limit s rule j v p
 
-  same_cell : (j : ℕ) (v : View) → IsPass s.views j v → (a : ℕ) → IsThere (cells_of v.holding a) → Seen (cells_of v.holding a) → cells_of v.holding a ≡ all a
-  same_cell j v p a t (is_absent e) = absurd (not_there (subst IsThere e t))
-  same_cell j v p a t (is_fresh e) = e ∙ sym ((wide j v p).free a e)
-  same_cell j v p a t (is_byte b e) = e ∙ sym ((wide j v p).known.kept a b e)
+  same_cell : (j : ℕ) (v : View) → IsPass s.views j v → (a : ℕ) → IsThere (cells_of v.holding a) → cells_of v.holding a ≡ all a
+  same_cell j v p a t = let w = wide j v p in by_cell (cells_of v.holding a) (cells_of v.holding a ≡ all a) t (λ e. e ∙ sym (w.free a e)) (λ b e. e ∙ sym (w.known.kept a b e))
 
   told : Says limit s.words s.views
   told = says limit s rule
@@ -95,19 +88,14 @@ module _ (limit : ℕ) (s : TableState (Unit {0}) View) (small : limit < 2 ^ 32)
   is_drawn : (a : ℕ) → IsThere (all a) → a < 4096 * n
   is_drawn a t = dite (dec_le (4096 * n) a) (λ l. absurd (not_there (subst IsThere (all_above a l) t))) (λ l. omega (arith, l))
 
-  fresh_apart : (i j : ℕ) (v w : View) → IsPass s.views i v → IsPass s.views j w → (a : ℕ) → cells_of v.holding a ≡ fresh → IsThere (cells_of w.holding a) → Seen (cells_of w.holding a) → i ≡ j
-  fresh_apart i j v w p q a f t (is_absent e) = absurd (not_there (subst IsThere e t))
-  fresh_apart i j v w p q a f t (is_fresh e) = told.fresh_once i j v w p q a f e
-  fresh_apart i j v w p q a f t (is_byte b e) = absurd (told.fresh_is_unknown i j v w p q a b f e)
-
   pub together : Together s.words s.views all
   together = record {
     each = wide;
-    held = λ a t. let h = told.drawn_is_held a (is_drawn a t) in (h.0, h.1, h.2, h.3, same_cell h.0 h.1 h.2 a h.4 (seen (cells_of h.1.holding a)));
+    held = λ a t. let h = told.drawn_is_held a (is_drawn a t) in (h.0, h.1, h.2, h.3, same_cell h.0 h.1 h.2 a h.4);
     bytes = λ a. found limit s rule (a / 8) a refl ∙ sym (looks (ltb a (4096 * n)) (put a));
     drawn = λ a l. subst IsThere (sym (all_drawn a l)) (there (put a));
     above = all_above;
-    apart = λ i j v w p q a f t. fresh_apart i j v w p q a f t (seen (cells_of w.holding a));
+    apart = λ i j v w p q a f t. by_cell (cells_of w.holding a) (i ≡ j) t (λ e. told.fresh_once i j v w p q a f e) (λ b e. absurd (told.fresh_is_unknown i j v w p q a b f e));
   }
 
   pub one_store : (r : Store) × Together s.words s.views r
@@ -150,6 +138,12 @@ module _ (words : List ℕ) (views : List View) (r : Store) (t : Together words 
       },
       refl,
     )
+
+  pub one_together : (r' : Store) → Together words views r' → (a : ℕ) → r' a ≡ r a
+  one_together r' t' a = dite (dec_le (4096 * slice_index words 0) a) (λ l. t'.above a l ∙ sym (t.above a l)) (λ l. same (t.drawn a (omega (arith, l))))
+    where
+      same : IsThere (r a) → r' a ≡ r a
+      same i = let h = t.held a i in let c = cells_of h.1.holding a in let w = t'.each h.0 h.1 h.2 in by_cell c (r' a ≡ r a) (subst IsThere (sym h.4) i) (λ e. w.free a e ∙ sym e ∙ h.4) (λ b e. w.known.kept a b e ∙ sym e ∙ h.4)
 
   pub owned_apart : (i j : ℕ) (v w : View) → IsPass views i v → IsPass views j w → (q : ℕ) → 0 < fresh_to v q → 0 < fresh_to w q → i ≡ j
   owned_apart i j v w a b q x y = t.apart i j v w a b q (free_fresh (cells_of v.holding q) x) (subst IsThere (sym (free_fresh (cells_of w.holding q) y)) (tt {0}))

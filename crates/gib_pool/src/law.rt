@@ -52,11 +52,12 @@ pub fn passes_come_back()
     ensures none { (p : Pass) → Lends p [] → (view p).branch.out ≡ [] }
 {}
 
-/// Tasks that are each sound over the bytes of their own pass are so at once over one store, that of all the words, where each of
-/// them puts none but the addresses that are fresh to its pass, and no address is fresh to two. So are right sides that are not
-/// begun, and answers stand there too.
+/// Whatever the words and the passes are under the arena's rule, there is one store of all the words. Tasks that are each sound over
+/// the bytes of their own pass are so over it, all at once: each puts none but addresses that are fresh to its pass, and no address is
+/// fresh to two. So are right sides that are not begun, and answers stand there too.
 pub fn tasks_are_sound_together()
     ensures store { (limit : ℕ) (s : TableState (Unit {0}) View) → limit < 2 ^ 32 → ArenaRule limit s → (r : Store) × Together s.words s.views r }
+    ensures one { (words : List ℕ) (views : List View) (r r' : Store) → Together words views r → Together words views r' → (a : ℕ) → r' a ≡ r a }
     ensures task { (words : List ℕ) (views : List View) (r : Store) → Together words views r → (j : ℕ) (v : View) → IsPass views j v
         → (l : LoweredParts) (d : Debt) (n : ℕ) (m : State) (lent : List (Option Due)) → Works l d (cells_of v.holding) n m lent → (w : Works l d r n m lent) × (w.own ≡ fresh_to v) }
     ensures apart { (words : List ℕ) (views : List View) (r : Store) → Together words views r → (i j : ℕ) (v w : View) → IsPass views i v → IsPass views j w

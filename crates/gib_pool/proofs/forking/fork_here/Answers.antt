@@ -45,7 +45,7 @@ returns-clause-goes g c =
           let side = some_at l d c.offer_here-frame.result (λ (ts : List ℕ) (f : Frame). IsFor l (cells old) (right_of (with_tails c.args.job.machine ts) (slice_get l.code.instructions m.ip)) (frame_due f)) c.args.job.tails o.side in
           subst (Works l d (cells new) (drawn_by new) (with_tails c.left.new.self c.args.job.tails)) (sym are)
           (goes_left l d (cells old) (cells new) (drawn_by old) (drawn_by new) (job_lent c.args.job) m (left_starts m (slice_get l.code.instructions m.ip)) (with_tails c.left.new.self c.args.job.tails) right c.offer_here-frame.result w.1 side left o.drawn
-          (wider c.args.arena.now old new o.own o.same.known o.free));
+              (wider c.args.arena.now old new o.own o.same.known o.free));
       here = subst (λ (es : List (Option Due)). AreHere es c.offer_here-frame.new.here (worker_view c.offer_here-frame.new.forks).mine) (sym are) (o.here (job_lent c.args.job) c.requires.here);
       same = o.same;
     }

@@ -2,11 +2,14 @@ use Rattle.gib_arena.specs.Cells.{cells_of}
 use Rattle.gib_core.specs.Parts.{core_of}
 use Rattle.gib_weave.proofs.Others.{answer-grows}
 use Rattle.gib_pool.proofs.Turns.{side_grows}
-use Rattle.gib_pool.proofs.Together.{one_store, owned_apart, works_together}
+use Rattle.gib_pool.proofs.Together.{one_store, one_together, owned_apart, works_together}
 use Rattle.gib_pool.proofs.law.tasks_are_sound_together.Goals as goal
 
 pub returns-clause-store : goal.returns-clause-store
 returns-clause-store c = λ limit s small rule. one_store limit s small rule
+
+pub returns-clause-one : goal.returns-clause-one
+returns-clause-one c = λ words views r r' t t' a. one_together words views r t r' t' a
 
 pub returns-clause-task : goal.returns-clause-task
 returns-clause-task c = λ words views r t j v p l d n m lent h. works_together words views r t j v p l d n m lent h
