@@ -10,3 +10,5 @@ pub mod Joinings
 pub mod Passing
 pub mod Standings
 pub mod Beginnings
+pub mod TogetherOwned
+pub mod Together
