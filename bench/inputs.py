@@ -21,6 +21,24 @@ main (tree : Tree) : Tree = add_one tree ;
 """
 
 
+# A tree is summed as often as the number beside it says.
+SUMS = """data Tree = Leaf Int | Node Tree Tree ;
+
+data Work = Work Int Tree ;
+
+fun sum (tree : Tree) : Int =
+  case tree of {
+    Leaf n -> n ;
+    Node left right -> let par a = sum left and b = sum right in (a + b)
+  } ;
+
+fun sums (passes : Int) (tree : Tree) : Int =
+  if (passes == 0) then 0 else (sum tree + sums (passes - 1) tree) ;
+
+main (work : Work) : Int = case work of { Work passes tree -> sums passes tree } ;
+"""
+
+
 def packed(payload):
     return HEADER + len(payload).to_bytes(8, "little") + payload
 
@@ -49,8 +67,17 @@ def full_tree(leaves, leaf, node):
     return tree(leaves)
 
 
+def tree_bytes(leaves):
+    return full_tree(leaves, b"\x00" + number(1), lambda left, right: b"\x01" + left + right)
+
+
 def tree_file(leaves):
-    return packed(full_tree(leaves, b"\x00" + number(1), lambda left, right: b"\x01" + left + right))
+    return packed(tree_bytes(leaves))
+
+
+def work_file(passes, leaves):
+    """The input of SUMS: so many passes over a full tree."""
+    return packed(b"\x02" + number(passes) + tree_bytes(leaves))
 
 
 def tree_text(leaves, value=1):

@@ -50,21 +50,21 @@ class Missed(Exception):
 
 
 def run_once(words, out):
-    """Runs a command with its output in a file. Answers processor seconds and the peak memory in bytes."""
+    """Runs a command with its output in a file. Answers processor seconds, the peak memory in bytes, and the seconds that passed."""
     ran = subprocess.run([sys.executable, "-I", "-S", LAUNCH, out, *words], capture_output=True, text=True)
     if ran.returncode:
         raise Missed(ran.stderr.strip().split("\n")[-1])
-    status, seconds, peak = ran.stdout.split()
+    status, seconds, peak, passed = ran.stdout.split()
     if status != "0":
         raise Missed(f"status {status} {ran.stderr.strip()}")
-    return float(seconds), int(peak)
+    return float(seconds), int(peak), float(passed)
 
 
 def measure(words, out, result, due):
     """The least time and the greatest peak of some runs, each of which has to leave what is due in `result`."""
     seconds, peaks = [], []
     for _ in range(RUNS):
-        time, peak = run_once(words, out)
+        time, peak, _ = run_once(words, out)
         with open(result, "rb") as made:
             if not due(made.read()) if callable(due) else made.read() != due:
                 raise Missed("another result than is due")
@@ -173,9 +173,9 @@ def measure_values(bench, what, program, file, text, result, counts, texts):
     bench.case(f"pack, {what}", VALUES, sizes, words, [file(count) for count in texts], "made")
 
 
-def ocaml_programs(folder):
-    """The same pass on trees in OCaml, as bytecode and as native code, where its compilers are installed."""
-    source = os.path.join(os.path.dirname(LAUNCH), "next_tree.ml")
+def ocaml_programs(folder, name):
+    """A program of this folder in OCaml, as bytecode and as native code, where its compilers are installed."""
+    source = os.path.join(os.path.dirname(LAUNCH), name)
     made = []
     for what, compiler in (("OCaml bytecode", "ocamlc"), ("OCaml native", "ocamlopt")):
         if shutil.which(compiler) is None:
@@ -196,7 +196,7 @@ def measure_beside(bench):
         ("run", [*bench.gib, "run", program, "@", "--chunks", "#"]),
         ("run --skips", [*bench.gib, "run", program, "@", "--chunks", "#", "--skips"]),
         ("plain", [*bench.gib, "plain", program, "@"]),
-        *((what, [*words, "@"]) for what, words in ocaml_programs(bench.folder)),
+        *((what, [*words, "@"]) for what, words in ocaml_programs(bench.folder, "next_tree.ml")),
     ]
     for leaves in BESIDE_LEAVES:
         file = inputs.tree_file(leaves)

@@ -1,8 +1,8 @@
 //! The commands of the program with their arguments, as `clap` takes them.
 
-ghost use Rattle.std.specs.Prelude.{◌≡◌, [], ◌∷◌, IfOk, codes, false, fold};
+ghost use Rattle.std.specs.Prelude.{◌≡◌, [], ◌∷◌, IfOk, codes, false, true, fold};
 ghost use Rattle.clap.specs.Walk.{rule_of};
-ghost use Rattle.clap.specs.Simple.{app_of, new_app, with_rule};
+ghost use Rattle.clap.specs.Simple.{App, app_of, new_app, with_rule, with_subcommand};
 ghost use Rattle.gib_app.specs.Words.{app_for, bare_program, chunks, command_set, depth, fork, gen_app, image, numeral, pass, positional, skips, workers};
 ghost use Rattle.gib_app.specs.Words.{check_form, code_form, core_form, pack_form, plain_form, replay_form, run_form, show_form, trace_form};
 
@@ -225,19 +225,29 @@ fn bare_program<'a>(alloc: Global) -> Command<'a>
         .subcommand_required(true)
 }
 
+/// A program with one more command, where there are both. Each step is a call, since a way out at each would drop all that was made.
+fn add_command<'a>(
+    program: Result<Command<'a>, AllocError>,
+    command: Result<Command<'a>, AllocError>,
+) -> Result<Command<'a>, AllocError>
+    ensures { (old added : App) → IfOk program.entry (λ p. app_of p ≡ old) → IfOk command.entry (λ c. app_of c ≡ added) → added.top.is_plain ≡ true
+        → IfOk result (λ p. app_of p ≡ with_subcommand old added.top) }
+{
+    program?.subcommand(command?)
+}
+
 /// The program with its commands.
 pub fn command_set<'a>(alloc: Global) -> Result<Command<'a>, AllocError>
     ensures { IfOk result (λ command. app_of command ≡ command_set) }
 {
-    bare_program(alloc)
-        .subcommand(run_command(alloc)?)?
-        .subcommand(plain_command(alloc)?)?
-        .subcommand(check_command(alloc)?)?
-        .subcommand(core_command(alloc)?)?
-        .subcommand(code_command(alloc)?)?
-        .subcommand(pack_command(alloc)?)?
-        .subcommand(show_command(alloc)?)?
-        .subcommand(trace_command(alloc)?)?
-        .subcommand(replay_command(alloc)?)?
-        .subcommand(gen_command(alloc)?)
+    let program = add_command(Ok(bare_program(alloc)), run_command(alloc));
+    let program = add_command(program, plain_command(alloc));
+    let program = add_command(program, check_command(alloc));
+    let program = add_command(program, core_command(alloc));
+    let program = add_command(program, code_command(alloc));
+    let program = add_command(program, pack_command(alloc));
+    let program = add_command(program, show_command(alloc));
+    let program = add_command(program, trace_command(alloc));
+    let program = add_command(program, replay_command(alloc));
+    add_command(program, gen_command(alloc))
 }

@@ -1,6 +1,6 @@
 //! The jobs, one file each.
 
-ghost use Rattle.std.specs.Prelude.{◌≤◌, length, IfOk, IfErr, IfSome};
+ghost use Rattle.std.specs.Prelude.{◌≡◌, ◌≤◌, length, IfOk, IfErr, IfSome};
 ghost use Rattle.gib_syntax.specs.Parts.{program_of};
 ghost use Rattle.gib_app.specs.Formats.{most_of};
 ghost use Rattle.gib_app.specs.Jobs.{Does, Replays};
@@ -55,6 +55,36 @@ fn do_replay(
     }
 }
 
+/// What a job other than `run`, which takes the program apart, makes of the bytes of its inputs.
+fn do_beside<R: Threads + Wait + Sync, G: Gate + Sync>(
+    alloc: Global,
+    runtime: Runtime<'_, R, G>,
+    compiled: &Compiled,
+    job: Job,
+    options: Options,
+    given: Given<'_>,
+) -> Result<Made, Stop<'static>>
+    requires other { job ≡ Job.Run → ⊥ }
+    requires ready { IsReady (program_of compiled.now.typed) compiled.now.names }
+    requires most { length given.second.now ≤ most_of job }
+    requires short { IfSome given.journal (λ j. length j.now ≤ 16777216) }
+    ensures made { IfOk result (λ made. EndsBy (file_of made) made.end (Does job options (program_of compiled.now.typed) compiled.now.names (contents_of given.entry))) }
+    ensures stop { IfErr result (FailsTo job options.skips (program_of compiled.now.typed) compiled.now.names (contents_of given.entry)) }
+{
+    match job {
+        Job::Run => unreachable!(),
+        Job::Plain => plain::plain(alloc, compiled, options.depth, given.second),
+        Job::Check => check::check(alloc),
+        Job::Core => core_text::core_text(alloc, compiled, options.skips, options.pass),
+        Job::Code => code_text::code_text(alloc, compiled, options.skips),
+        Job::Pack => pack::pack(alloc, compiled, given.second),
+        Job::Show => show::show(alloc, compiled, options.skips, given.second),
+        Job::Gen => made_run::made_run(alloc, runtime, compiled, options, given.second),
+        Job::Trace => trace::trace(alloc, runtime, compiled, options, given.second),
+        Job::Replay => do_replay(alloc, compiled, options.image, given),
+    }
+}
+
 /// What a job makes, for a program, of the bytes of its inputs.
 ///
 /// # Errors
@@ -75,15 +105,7 @@ pub fn do_job<R: Threads + Wait + Sync, G: Gate + Sync>(
     ensures stop { IfErr result (FailsTo job options.skips (program_of compiled.typed) compiled.names (contents_of given.entry)) }
 {
     match job {
-        Job::Plain => plain::plain(alloc, &compiled, options.depth, given.second),
-        Job::Check => check::check(alloc),
-        Job::Core => core_text::core_text(alloc, &compiled, options.skips, options.pass),
-        Job::Code => code_text::code_text(alloc, &compiled, options.skips),
-        Job::Pack => pack::pack(alloc, &compiled, given.second),
-        Job::Show => show::show(alloc, &compiled, options.skips, given.second),
-        Job::Gen => made_run::made_run(alloc, runtime, &compiled, options, given.second),
         Job::Run => run::run(alloc, runtime, compiled, options, given.second),
-        Job::Trace => trace::trace(alloc, runtime, &compiled, options, given.second),
-        Job::Replay => do_replay(alloc, &compiled, options.image, given),
+        _ => do_beside(alloc, runtime, &compiled, job, options, given),
     }
 }

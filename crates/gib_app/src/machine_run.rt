@@ -40,7 +40,7 @@ use gib_file::{Survey, one_file};
 use gib_load::{LoadFault, load};
 use gib_mem::Mem;
 use gib_packed::Root;
-use gib_pool::{Crew, run_by};
+use gib_pool::{Crew, Loaded, run_by};
 use gib_print::{PrintFault, print_at};
 use gib_region::Tails;
 use gib_weave::{RunFault, run};
@@ -125,9 +125,11 @@ fn run_code<R: Threads + Wait + Sync, G: Gate + Sync>(
             runtime.threads,
             alloc,
             lowered,
-            memory,
-            tails,
-            root,
+            Loaded {
+                memory,
+                tails,
+                root,
+            },
             crew,
             runtime.gate,
         )

@@ -89,8 +89,5 @@ pub fn put_value<O: Sink>(alloc: Global, mut value: Valued, out: &mut O) -> Resu
     ensures quiet { (IsErrOf result PrintFault.Write → ⊥) → (O.view out.new).faults ≡ (O.view out.old).faults }
     ensures still { IsErrOf result PrintFault.Memory → O.view out.new ≡ O.view out.old }
 {
-    match print_ran(alloc, &mut value.ran, &value.names, out) {
-        Ok(()) => Ok(()),
-        Err(fault) => Err(fault),
-    }
+    print_ran(alloc, &mut value.ran, &value.names, out)
 }

@@ -1,5 +1,5 @@
 -- Each step on the slot of an answer keeps its rule.
-use Rattle.std.proofs.Common.{◌≡◌, ◌≢◌, ℕ, zero, suc, ◌+◌, ◌<◌, eqb, eq-eqb, ne_eqb, List, [], ◌∷◌, ◌++◌, length, get_or, set, refl, sym, ap, ◌∙◌, subst, arith, ◌⊎◌, ⊎_elim, length-set, get_or-set_same}
+use Rattle.std.proofs.Common.{◌≡◌, ◌≢◌, ℕ, zero, suc, eqb, eq-eqb, ne_eqb, List, [], ◌∷◌, get_or, set, refl, sym, ap, ◌∙◌, subst, arith, ⊎_elim, length-set, get_or-set_same}
 use Rattle.std.specs.Prelude.{Option, None}
 use mathlib.Core.Logic.{dite}
 use mathlib.Core.Option.{none, some, some-injective, some-ne-none}
@@ -8,7 +8,7 @@ use prog.Atomic.{either}
 use lib.ListN.{get_elem?}
 use lib.Seq.{set-get_or}
 use Rattle.atomic_table.specs.Table.{State, Me, step, keeps, takes, gives, stepped, Allows, Enters, opening}
-use Rattle.atomic_table.proofs.Lists.{at_set, at_snoc, set_again, set_here}
+use Rattle.atomic_table.proofs.Lists.{at_set, at_snoc, set_here}
 use Rattle.gib_frame.specs.declared.due.Due.{Due}
 use Rattle.gib_frame.specs.declared.due.Given.{Given}
 use Rattle.gib_frame.specs.Slot.{Fits, OneSlot, Took, Gave}

@@ -7,7 +7,7 @@ use Rattle.gib_arena.specs.declared.memory.Arena.{Arena}
 use Rattle.gib_arena.specs.declared.memory.Pass.{Pass}
 use Rattle.gib_arena.specs.Passes.{view, cells, IsOf}
 use Rattle.gib_frame.specs.declared.due.Due.{Due}
-use Rattle.gib_frame.specs.Answers.{Owes}
+use Rattle.gib_frame.specs.Answers.{Owes, drawn_by}
 
 -- What its frame was made for, the arena and the code, the side and the pass.
 pub record TaskParts : Type 0 where
@@ -17,11 +17,12 @@ pub record TaskParts : Type 0 where
   pub side : Side
   pub pass : Pass
 
--- They are those of the frame, nothing is split off the pass, a machine for the code has room for the side's words, and the side owes
--- something.
+-- They are those of the frame, the pass drew nothing and nothing is split off it, a machine for the code has room for the side's words,
+-- and the side owes something.
 pub record IsTask (t : TaskParts) : Type 0 where
   pub own : IsOf t.arena t.pass
   pub none_out : (view t.pass).branch.out ≡ []
+  pub none_drawn : drawn_by t.pass ≡ 0
   pub lowered : t.due.lowered.value ≡ t.lowered
   pub side : t.due.side.value ≡ t.side
   pub pass : t.due.pass.value ≡ t.pass

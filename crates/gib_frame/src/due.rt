@@ -23,8 +23,10 @@ pub enum Ending {
     Answer(Answer),
     /// All chunks were drawn.
     Full,
-    /// Memory was wanted to run it: its side is still to be run, by whoever waits.
+    /// No machine could be made for it: its side is still to be run, by whoever waits.
     NotRun,
+    /// Memory was wanted midway, and the task was left. Its side is not run again, since what it drew would count twice.
+    Memory,
 }
 
 /// What comes to a frame: how its task ended, and the pass of that task.

@@ -4,7 +4,7 @@ ghost use Rattle.std.specs.Prelude.{◌≡◌, ◌≤◌, [], length, IfOk, IfEr
 ghost use Rattle.std.specs.Arc.{arc_value};
 ghost use Rattle.gib_arena.specs.Passes.{view, cells, IsOf};
 ghost use Rattle.gib_machine.specs.Machine.{widest};
-ghost use Rattle.gib_frame.specs.Answers.{Delivers, Owes};
+ghost use Rattle.gib_frame.specs.Answers.{Delivers, Owes, drawn_by};
 ghost use Rattle.gib_frame.specs.Dues.{frame_due, reply_due};
 
 use crate::due::{Due, Ending, Give, Given, Sit, Take};
@@ -38,7 +38,7 @@ pub fn make<'a>(
     side: Side,
     pass: Pass,
 ) -> Result<(Frame, Task<'a>), Pass>
-    requires pass { IsOf arena.now pass × ((view pass).branch.out ≡ []) }
+    requires pass { IsOf arena.now pass × ((view pass).branch.out ≡ []) × (drawn_by pass ≡ 0) }
     requires fits { length side.words.items ≤ widest lowered.now.code.functions }
     requires owes { Owes lowered.now (cells pass) side }
     ensures due { IfOk result (λ r. (frame_due r.0).lowered.value ≡ lowered.entry.now) }

@@ -5,8 +5,9 @@
 mod due;
 mod ends;
 mod frame;
+pub mod law;
 pub mod sends;
 
-pub use due::{Due, Ending, Given};
+pub use due::{Due, Ending};
 pub use ends::{Frame, Reply, Task};
 pub use frame::{make, put_answer, wait_answer};

@@ -1,39 +1,46 @@
 -- How a job begins, and what its end is to whoever began it.
-use Rattle.std.proofs.Common.{◌≡◌, ℕ, List, [], sym, ap, subst, ◌∙◌}
-use Rattle.std.specs.Prelude.{Option}
+use Rattle.std.proofs.Common.{◌≡◌, ℕ, List, [], refl, sym, ap, subst, ◌∙◌}
+use Rattle.std.specs.Prelude.{Option, Err}
 use Rattle.gib_types.specs.Tree.{Datum}
 use Rattle.gib_mem.specs.Memory.{Memory, absent, fresh, IsBounded}
 use Rattle.gib_code.specs.declared.answer.Side.{Side}
 use Rattle.gib_code.specs.Program.{CodeTree}
 use Rattle.gib_packed.specs.declared.root.Root.{Root}
 use Rattle.gib_core.specs.LoweredParts.{LoweredParts, IsWhole}
-use Rattle.gib_core.specs.Cost.{nothing}
+use Rattle.gib_core.specs.Cost.{run_cost}
 use Rattle.gib_core.specs.Meaning.{core_run}
 use Rattle.gib_core.specs.Parts.{core_of}
+use Rattle.gib_core.specs.Tight.{Tight}
+use Rattle.gib_core.specs.Tree.{CoreTree}
 use Rattle.gib_machine.specs.Machine.{State, side_start, widest}
 use Rattle.gib_machine.specs.Starting.{waiting_of}
 use Rattle.gib_machine.specs.Stepping.{with_tails}
 use Rattle.gib_weave.specs.Owing.{Debt}
-use Rattle.gib_weave.specs.Paying.{root_share}
+use Rattle.gib_weave.specs.declared.root_run.RunFault.TheVariants as fault
+use Rattle.gib_weave.specs.Paying.{Bill, root_share, whole_of}
 use Rattle.gib_weave.specs.Places.{IsSmall, tail_covers}
 use Rattle.gib_weave.specs.Running.{IsStart, word_of}
 use Rattle.gib_weave.specs.Starting.{root_start}
 use Rattle.gib_weave.specs.Sound.{SideSafe, IsAnswer}
 use Rattle.gib_arena.specs.declared.memory.Pass.{Pass}
 use Rattle.gib_arena.specs.declared.memory.Arena.{Arena}
+use Rattle.gib_arena.specs.declared.view.View.{View}
+use Rattle.gib_arena.specs.Bytes.{share}
+use Rattle.gib_arena.specs.Cells.{cells_of}
 use Rattle.gib_arena.specs.Passes.{view, cells, IsOf}
 use Rattle.gib_frame.specs.declared.due.Due.{Due}
 use Rattle.gib_frame.specs.declared.due.Ending.{Ending}
 use Rattle.gib_frame.specs.declared.due.Ending.TheVariants as ending
 use Rattle.gib_frame.specs.declared.ends.Frame.{Frame}
-use Rattle.gib_frame.specs.Answers.{IsEnding}
+use Rattle.gib_frame.specs.Answers.{IsEnding, IsPaid, drawn_by}
 use Rattle.gib_frame.specs.TaskParts.{TaskParts, IsTask}
 use Rattle.gib_pool.specs.declared.job.Job.{Job}
 use Rattle.gib_pool.specs.Frames.{lent_of, AreHere}
 use Rattle.gib_pool.specs.Jobs.{Holds, IsHere, OwesStill, Settles}
 use Rattle.gib_pool.specs.Lent.{Lends}
-use Rattle.gib_pool.specs.Turn.{Works}
-use Rattle.gib_weave.proofs.Bills.{root_counted}
+use Rattle.gib_pool.specs.Runs.{IsRun, outcome, pass_memory}
+use Rattle.gib_pool.specs.Turn.{owing, Works}
+use Rattle.gib_weave.proofs.Bills.{bill_tight, root_bill, root_counted}
 use Rattle.gib_weave.proofs.Memories.{bounded_small, tails_apart, tails_have_room}
 use Rattle.gib_weave.proofs.RootEnds.{argument}
 use Rattle.gib_weave.proofs.Starts.{lowered_main, root_starts}
@@ -46,22 +53,23 @@ pub record IsMade (j : Job) (m : State) (ts : List ℕ) (p : Pass) : Type 0 wher
   pub pass : j.pass ≡ p
   pub frames : j.frames.items ≡ []
 
-pub job_owes : (l : LoweredParts) (d : Debt) (j : Job) (m : State) (ts : List ℕ) (p : Pass) → IsMade j m ts p → Works l d (cells p) (with_tails m ts) [] → OwesStill l d j
+pub job_owes : (l : LoweredParts) (d : Debt) (j : Job) (m : State) (ts : List ℕ) (p : Pass) → IsMade j m ts p → Works l d (cells p) (drawn_by p) (with_tails m ts) [] → OwesStill l d j
 job_owes l d j m ts p is w =
     let state : with_tails j.machine j.tails ≡ with_tails m ts = ap (λ (s : State). with_tails s j.tails) is.machine ∙ ap (with_tails m) is.tails in
-    subst (λ (x : Pass). Works l d (cells x) (with_tails j.machine j.tails) (lent_of j.frames.items)) (sym is.pass)
-    (subst (λ (xs : List (Option Frame)). Works l d (cells p) (with_tails j.machine j.tails) (lent_of xs)) (sym is.frames)
-    (subst (λ (s : State). Works l d (cells p) s []) (sym state) w))
+    subst (λ (x : Pass). Works l d (cells x) (drawn_by x) (with_tails j.machine j.tails) (lent_of j.frames.items)) (sym is.pass)
+    (subst (λ (xs : List (Option Frame)). Works l d (cells p) (drawn_by p) (with_tails j.machine j.tails) (lent_of xs)) (sym is.frames)
+    (subst (λ (s : State). Works l d (cells p) (drawn_by p) s []) (sym state) w))
 
 -- A side that is begun owes what it owed when it was split.
 pub side_owes : (l : LoweredParts) (d : Debt) (due : Due) (code : CodeTree) (side : Side) (p : Pass) (m : State) (j : Job) → due.lowered.value ≡ l → code ≡ l.code → due.side.value ≡ side → due.pass.value ≡ p
-    → m ≡ side_start code (waiting_of side) → IsMade j m [] p → IsSmall (cells p) → SideSafe (core_of due.lowered.value.core) due.lowered.value.code d (cells due.pass.value) (waiting_of due.side.value) → OwesStill l d j
-side_owes l d due code side p m j el ec es ep em is small safe =
+    → m ≡ side_start code (waiting_of side) → IsMade j m [] p → IsSmall (cells p) → drawn_by p ≡ 0 → SideSafe (core_of due.lowered.value.core) due.lowered.value.code d (cells due.pass.value) (waiting_of due.side.value) → OwesStill l d j
+side_owes l d due code side p m j el ec es ep em is small none safe =
     let a = subst (λ (x : LoweredParts). SideSafe (core_of x.core) x.code d (cells due.pass.value) (waiting_of due.side.value)) el safe in
     let b = subst (λ (x : Pass). SideSafe (core_of l.core) l.code d (cells x) (waiting_of due.side.value)) ep a in
     let s = subst (λ (x : Side). SideSafe (core_of l.core) l.code d (cells p) (waiting_of x)) es b in
     let state : m ≡ side_start l.code (waiting_of side) = em ∙ ap (λ (x : CodeTree). side_start x (waiting_of side)) ec in
-    job_owes l d j m [] p is (subst (λ (x : State). Works l d (cells p) (with_tails x []) []) (sym state) (begins l d (cells p) (waiting_of side) small s))
+    job_owes l d j m [] p is (subst (λ (x : State). Works l d (cells p) (drawn_by p) (with_tails x []) []) (sym state)
+    (subst (λ (n : ℕ). Works l d (cells p) n (side_start l.code (waiting_of side)) []) (sym none) (begins l d (cells p) (waiting_of side) small s)))
 
 -- The side of a task that was opened owes something.
 pub task_debt : (t : TaskParts) (due : Due) → IsTask t → due ≡ t.due → (d : Debt) × SideSafe (core_of due.lowered.value.core) due.lowered.value.code d (cells due.pass.value) (waiting_of due.side.value)
@@ -74,10 +82,11 @@ task_debt t due is e =
     (d, subst (λ (u : Due). SafeIn u d) (sym e) s)
 
 pub side_ends : (due : Due) (l : LoweredParts) (j : Job) (e : Ending) (p : Pass) → due.lowered.value ≡ l
-    → ((d : Debt) → SideSafe (core_of due.lowered.value.core) due.lowered.value.code d (cells due.pass.value) (waiting_of due.side.value) → OwesStill l d j) → Settles l j e p → IsEnding due p e
-side_ends due l j (ending.Answer a) p is owes s = λ d safe. subst (λ (x : LoweredParts). IsAnswer x.code.laid (cells p) d.ty d.owed a) (sym is) (s d (owes d safe))
-side_ends due l j ending.Full p is owes s = s
-side_ends due l j ending.NotRun p is owes s = tt
+    → ((d : Debt) → SideSafe (core_of due.lowered.value.core) due.lowered.value.code d (cells due.pass.value) (waiting_of due.side.value) → OwesStill l d j) → Settles l (λ (d : Debt). OwesStill l d j) e p → IsEnding due p e
+side_ends due l j (ending.Answer a) p is owes s = ((λ d safe. subst (λ (x : LoweredParts). IsAnswer x.code.laid (cells p) d.ty d.owed a) (sym is) (s d (owes d safe)).0), λ d safe. (s d (owes d safe)).1)
+side_ends due l j ending.Full p is owes s = (s.0, λ d safe. s.1 d (owes d safe))
+side_ends due l j ending.NotRun p is owes s = absurd s
+side_ends due l j ending.Memory p is owes s = tt
 
 pub made_holds : (a : Arena) (l : LoweredParts) (j : Job) (m : State) (ts : List ℕ) (p : Pass) → IsMade j m ts p → IsOf a p → (view p).branch.out ≡ [] → m.width ≡ widest l.code.functions → Holds a l j
 made_holds a l j m ts p is of none made = record {
@@ -90,11 +99,11 @@ pub made_here : (j : Job) (mine : List Due) → j.frames.items ≡ [] → j.here
 made_here j mine e z = subst (λ (xs : List (Option Frame)). AreHere (lent_of xs) j.here mine) (sym e) (subst (λ n. AreHere [] n mine) (sym z) tt)
 
 -- What the root owes.
-abbrev pub root_debt : LoweredParts → ℕ → Datum → Debt
-root_debt l depth d = record { ty = (core_of l.core).main.result; owed = core_run (core_of l.core) depth d; most = nothing }
+abbrev pub root_debt : LoweredParts → (depth level : ℕ) → Datum → Debt
+root_debt l depth level d = record { ty = (core_of l.core).main.result; owed = core_run (core_of l.core) depth d; most = whole_of (core_of l.core) depth level d }
 
 pub root_owes : (l : LoweredParts) (v : Memory) (place : Root) (tails : List ℕ) (depth level : ℕ) (d : Datum) → IsWhole l.core l.code → IsBounded v → IsStart l place tails v d
-    → Works l (root_debt l depth d) v.cells (root_start (core_of l.core) l.code (word_of place) depth level tails) []
+    → Works l (root_debt l depth level d) v.cells v.drawn (root_start (core_of l.core) l.code (word_of place) depth level tails) []
 root_owes l v place tails depth level d ok bd st = record {
   own = tail_covers tails;
   bill = root_share (core_of l.core) depth level d v.drawn;
@@ -104,7 +113,30 @@ root_owes l v place tails depth level d ok bd st = record {
       (root_share (core_of l.core) depth level d v.drawn) (root_counted (core_of l.core) depth level d v.drawn st.loaded);
   there = record { there = λ q z e. other (sym ((tails_apart v.cells tails st.owned).fresh q z) ∙ e) };
   debts = tt;
+  paid = root_bill (core_of l.core) depth level d v.drawn (owing (root_debt l depth level d) []) st.loaded refl;
 }
   where
     other : fresh ≡ absent → ⊥
     other e = absurd cc
+
+-- Where all chunks were drawn, and by the root, so many may not be enough.
+tight : (core : CoreTree) (depth level : ℕ) (d : Datum) (n limit : ℕ) → n ≡ limit → IsPaid (whole_of core depth level d) n → Tight limit (run_cost core depth level d)
+tight core depth level d n limit e p = bill_tight core depth level d limit p.owed p.bill (subst (λ (k : ℕ). Bill (whole_of core depth level d) k p.owed p.bill) e p.paid)
+
+-- Where a run says that all chunks are drawn, its first pass drew them.
+pub full_drawn : (l : LoweredParts) (Has : Debt → Type 0) (e : Ending) (p p' : Pass) → outcome e ≡ Err fault.Full → Settles l Has e p → view p' ≡ view p → drawn_by p' ≡ (view p').holding.seen → drawn_by p' ≡ (view p').branch.limit
+full_drawn l Has (ending.Answer a) p p' is s same all = absurd cc
+full_drawn l Has ending.Full p p' is s same all = all ∙ (ap (λ (w : View). w.holding.seen) same ∙ (s.0 ∙ sym (ap (λ (w : View). w.branch.limit) same)))
+full_drawn l Has ending.NotRun p p' is s same all = absurd s
+full_drawn l Has ending.Memory p p' is s same all = absurd cc
+
+pub root_ends : (l : LoweredParts) (depth level : ℕ) (d : Datum) (j : Job) (e : Ending) (v : Memory) (p p' : Pass) → OwesStill l (root_debt l depth level d) j → Settles l (λ (z : Debt). OwesStill l z j) e p
+    → v.limit ≡ (view p').branch.limit → view p' ≡ view p → drawn_by p' ≡ (view p').holding.seen → IsRun l depth level d v (pass_memory p') (outcome e)
+root_ends l depth level d j (ending.Answer a) v p p' owes s limit same all =
+    subst (λ (w : View). IsAnswer l.code.laid (cells_of w.holding) (core_of l.core).main.result (core_run (core_of l.core) depth d) a) (sym same) (s (root_debt l depth level d) owes).0
+root_ends l depth level d j ending.Full v p p' owes s limit same all =
+    let seen : (view p').holding.seen ≡ (view p').branch.limit = ap (λ (w : View). w.holding.seen) same ∙ (s.0 ∙ sym (ap (λ (w : View). w.branch.limit) same)) in
+    let drawn : drawn_by p ≡ v.limit = sym (ap (λ (w : View). share w.holding) same) ∙ (all ∙ (seen ∙ sym limit)) in
+    (tight (core_of l.core) depth level d (drawn_by p) v.limit drawn (s.1 (root_debt l depth level d) owes), seen)
+root_ends l depth level d j ending.NotRun v p p' owes s limit same all = absurd s
+root_ends l depth level d j ending.Memory v p p' owes s limit same all = tt

@@ -1,3 +1,4 @@
+pub mod Paid
 pub mod Turns
 pub mod Standing
 pub mod Lending
@@ -5,6 +6,9 @@ pub mod StackKeeps
 pub mod Settling
 pub mod Offering
 pub mod Draining
+pub mod Joinings
 pub mod Passing
 pub mod Standings
 pub mod Beginnings
+pub mod TogetherOwned
+pub mod Together

@@ -1,20 +1,29 @@
 -- What becomes of the pass of a task.
-use Rattle.std.proofs.Common.{◌≡◌, ℕ, zero, suc, ◌+◌, ◌≤◌, List, [], ◌∷◌, ◌++◌, length, refl, sym, ap, subst, ◌∙◌, arith}
-use Rattle.std.specs.Prelude.{Option, Some, None}
+use Rattle.std.proofs.Common.{◌≡◌, ℕ, zero, suc, ◌+◌, ◌≤◌, List, [], ◌∷◌, ◌++◌, length, length-append, refl, sym, ap, subst, ◌∙◌, arith}
+use Rattle.std.specs.Prelude.{Option, Some, None, Result, Ok, Err}
 use Rattle.gib_mem.specs.Memory.{Holder, Grows, fresh, IsBounded}
+use Rattle.gib_core.specs.LoweredParts.{LoweredParts}
+use Rattle.gib_weave.specs.Owing.{Debt}
 use Rattle.gib_weave.specs.Places.{IsSmall}
 use Rattle.gib_weave.proofs.Memories.{bounded_small}
 use Rattle.gib_arena.specs.declared.memory.Arena.{Arena}
 use Rattle.gib_arena.specs.declared.memory.Pass.{Pass}
+use Rattle.gib_arena.specs.declared.view.View.{View}
+use Rattle.gib_arena.specs.Bytes.{share}
+use Rattle.gib_arena.specs.Steps.{joined_view, saw}
 use Rattle.gib_arena.specs.Passes.{view, cells, IsOf}
-use Rattle.gib_arena.specs.Shown.{shown}
+use Rattle.gib_arena.specs.Shown.{shown, shown_alone}
 use Rattle.gib_arena.specs.ShownLaws.{shown_bounded}
 use Rattle.gib_frame.specs.declared.due.Due.{Due}
+use Rattle.gib_frame.specs.declared.due.Ending.{Ending}
+use Rattle.gib_frame.specs.declared.due.Ending.TheVariants as ending
 use Rattle.gib_frame.specs.declared.ends.Frame.{Frame}
+use Rattle.gib_frame.specs.Answers.{drawn_by}
+use Rattle.gib_pool.specs.declared.job.Job.{Job}
 use Rattle.gib_pool.specs.Turn.{Wider}
 use Rattle.gib_pool.specs.Lent.{AreSplits, Lends}
 use Rattle.gib_pool.specs.Frames.{before, lent_of, due_maybe, AreHere}
-use Rattle.gib_pool.specs.Jobs.{IsSamePass}
+use Rattle.gib_pool.specs.Jobs.{Goes, IsSamePass, IsBackWhole, Settles}
 
 -- What a pass shows keeps what every memory keeps.
 pub pass_bounded : (a : Arena) (p : Pass) → IsOf a p → IsBounded (shown p.seat.table_id (view p))
@@ -41,10 +50,10 @@ lends_on p q lent same e h =
     }
 
 pub same_on : (p q r : Pass) → IsSamePass p q → IsSamePass q r → IsSamePass p r
-same_on p q r a b = record { path = b.path ∙ a.path; limit = b.limit ∙ a.limit }
+same_on p q r a b = record { path = b.path ∙ a.path; limit = b.limit ∙ a.limit; known = record { kept = λ x y e. b.known.kept x y (a.known.kept x y e) } }
 
 pub same_still : (p : Pass) → IsSamePass p p
-same_still p = record { path = refl; limit = refl }
+same_still p = record { path = refl; limit = refl; known = record { kept = λ q b e. e } }
 
 -- A refused frame lends nothing.
 pub lends_none_more : (p : Pass) (lent : List (Option Due)) → Lends p lent → Lends p (None ∷ lent)
@@ -74,3 +83,30 @@ one_more e es n mine more is a = let next : suc n ≡ n + 1 = omega arith in sub
 -- Where all chunks were seen drawn they still are.
 pub full_still : (p q : Pass) → (view p).holding.seen ≡ (view p).branch.limit → IsSamePass p q → (view p).holding.seen ≤ (view q).holding.seen → (view q).holding.seen ≡ (view q).branch.limit
 full_still p q full same more = let most = q.sound.seen_in in let limit = same.limit in omega (arith, full, limit, more, most)
+
+-- What a pass drew that took in another, with what the other one drew.
+pub joined_drawn : (p q p' : Pass) (n : ℕ) → view p' ≡ saw (joined_view (view p) (view q)) n → drawn_by p' ≡ drawn_by p + drawn_by q
+joined_drawn p q p' n e = ap (λ (v : View). share v.holding) e ∙ length-append (view p).holding.chunks (view q).holding.chunks
+
+pub joined_none : (p q p' : Pass) (n : ℕ) → view p' ≡ saw (joined_view (view p) (view q)) n → drawn_by q ≡ 0 → drawn_by p' ≡ drawn_by p
+joined_none p q p' n e z = let j = joined_drawn p q p' n e in omega (arith, j, z)
+
+-- What comes back whole of a pass that is the same one.
+pub back_on : (a : Arena) (p q r : Pass) → IsSamePass p q → IsBackWhole a q r → IsBackWhole a p r
+back_on a p q r same b = record { own = b.own; same = same_on p q r same b.same; none_out = b.none_out }
+
+-- Who has fewer debts settles them too.
+pub settles_for : (l : LoweredParts) (Has Had : Debt → Type 0) (e : Ending) (p : Pass) → ((d : Debt) → Had d → Has d) → Settles l Has e p → Settles l Had e p
+settles_for l Has Had (ending.Answer a) p f s = λ d h. s d (f d h)
+settles_for l Has Had ending.Full p f s = (s.0, λ d h. s.1 d (f d h))
+settles_for l Has Had ending.NotRun p f s = s
+settles_for l Has Had ending.Memory p f s = tt
+
+-- A task that stood again behind this goes on, or ends, from where it stood first.
+pub goes_for : (a : Arena) (l : LoweredParts) (Has Had : Debt → Type 0) (j k : Job) (mine : List Due) (r : Result Job (Ending × Pass)) → IsSamePass j.pass k.pass → ((d : Debt) → Had d → Has d) → Goes a l Has k mine r → Goes a l Had j mine r
+goes_for a l Has Had j k mine (Ok n) same f g = record { holds = g.holds; owes = λ d h. g.owes d (f d h); here = g.here; same = same_on j.pass k.pass n.pass same g.same }
+goes_for a l Has Had j k mine (Err r) same f g = record { back = back_on a j.pass k.pass r.1 same g.back; settles = settles_for l Has Had r.0 r.1 f g.settles }
+
+-- What the first pass shows, where no other one is out, keeps what every memory keeps.
+pub root_bounded : (a : Arena) (p : Pass) → IsOf a p → IsBounded (shown_alone (view p))
+root_bounded a p of = let b = pass_bounded a p of in record { above = b.above; order = b.order; small = b.small }

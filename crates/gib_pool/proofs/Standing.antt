@@ -1,7 +1,7 @@
 -- What a turn of a machine leaves a worker with.
-use Rattle.std.proofs.Common.{◌≡◌, ℕ, inl, inr, List, refl, sym, ap, subst, ◌∙◌}
+use Rattle.std.proofs.Common.{◌≡◌, ℕ, inl, inr, List, cond, refl, sym, ap, subst, ◌∙◌}
 use Rattle.std.specs.Prelude.{Option}
-use Rattle.gib_mem.specs.Memory.{Memory, byte, after_put, after_draw, with_drawn, IsBounded}
+use Rattle.gib_mem.specs.Memory.{Memory, byte, fresh, after_put, after_draw, with_drawn, IsBounded}
 use Rattle.gib_core.specs.Fits.{AllFit}
 use Rattle.gib_core.specs.Low.{IsLowered}
 use Rattle.gib_core.specs.LoweredParts.{LoweredParts, IsWhole}
@@ -10,36 +10,49 @@ use Rattle.gib_code.specs.Program.{CodeTree, Runs}
 use Rattle.gib_machine.specs.Machine.{State, Ask, Silent, Get, Put, Draw, AtFork, AtJoin, Ended, next, widest}
 use Rattle.gib_machine.specs.Stepping.{Can, CanStep, Made}
 use Rattle.gib_machine.proofs.Widths.{step_keeps_width}
+use Rattle.gib_weave.proofs.Basics.{by_test}
 use Rattle.gib_weave.proofs.Calls.{width_kept}
+use Rattle.gib_weave.proofs.Memories.{draws_new}
+use Rattle.gib_weave.proofs.Places.{open-grows}
 use Rattle.gib_machine.specs.declared.turn.Turn.{Turn}
 use Rattle.gib_machine.specs.declared.turn.Turn.TheVariants as turn
 use Rattle.gib_weave.specs.Owing.{Debt}
 use Rattle.gib_frame.specs.declared.due.Due.{Due}
 use Rattle.gib_pool.specs.Going.{Comes, IsSame}
-use Rattle.gib_pool.specs.Turn.{Works, WorksAfter}
-use Rattle.gib_pool.proofs.Turns.{turn}
+use Rattle.gib_pool.specs.Turn.{Works, Pays, WorksAfter}
+use Rattle.gib_pool.proofs.Turns.{pays, turn}
+
+fresh_byte : {b : ℕ} → fresh ≡ byte b → ⊥
+fresh_byte e = absurd cc
 
 same_byte : {b c : ℕ} → byte b ≡ byte c → b ≡ c
 same_byte e = cc
 
 pub stays : (v : Memory) → IsSame v v
-stays v = record { holder = refl; limit = refl }
+stays v = record { holder = refl; limit = refl; known = record { kept = λ q b e. e } }
 
 pub stays_on : (u v w : Memory) → IsSame u v → IsSame v w → IsSame u w
-stays_on u v w e f = record { holder = f.holder ∙ e.holder; limit = f.limit ∙ e.limit }
+stays_on u v w e f = record { holder = f.holder ∙ e.holder; limit = f.limit ∙ e.limit; known = record { kept = λ q b k. f.known.kept q b (e.known.kept q b k) } }
 
 is_same : (v v' w : Memory) → v' ≡ w → IsSame v w → IsSame v v'
-is_same v v' w e s = record { holder = ap (λ (m : Memory). m.holder) e ∙ s.holder; limit = ap (λ (m : Memory). m.limit) e ∙ s.limit }
+is_same v v' w e s = subst (IsSame v) (sym e) s
 
-pub turn_stays : (a : Ask) (m m' : State) (v v' : Memory) (r : Turn) → Made a m m' v v' r → IsSame v v'
-turn_stays (Silent n) m m' v v' r e = is_same v v' v e.2 (stays v)
-turn_stays (Get q k) m m' v v' r e = is_same v v' v e.4 (stays v)
-turn_stays (Put q b n) m m' v v' r e = is_same v v' (after_put v q b) e.2 (record { holder = refl; limit = refl })
-turn_stays (Draw k) m m' v v' r (inl e) = is_same v v' (after_draw v e.0) e.4 (record { holder = refl; limit = refl })
-turn_stays (Draw k) m m' v v' r (inr e) = is_same v v' (with_drawn v v.limit) e.2.same (record { holder = refl; limit = refl })
-turn_stays AtFork m m' v v' r e = is_same v v' v e.2 (stays v)
-turn_stays AtJoin m m' v v' r e = is_same v v' v e.2 (stays v)
-turn_stays (Ended a) m m' v v' r e = is_same v v' v e.2 (stays v)
+put_stays : (v : Memory) (a b : ℕ) → v.cells a ≡ fresh → IsSame v (after_put v a b)
+put_stays v a b f = record {
+  holder = refl;
+  limit = refl;
+  known = record { kept = λ q x e. by_test q a (λ t. cond t (byte b) (v.cells q) ≡ byte x) (λ h. absurd (fresh_byte (sym f ∙ ap v.cells (sym h) ∙ e))) (λ h. e) };
+}
+
+pub turn_stays : (a : Ask) (m m' : State) (v v' : Memory) (r : Turn) → IsBounded v → Can a v → Made a m m' v v' r → IsSame v v'
+turn_stays (Silent n) m m' v v' r bd can e = is_same v v' v e.2 (stays v)
+turn_stays (Get q k) m m' v v' r bd can e = is_same v v' v e.4 (stays v)
+turn_stays (Put q b n) m m' v v' r bd can e = is_same v v' (after_put v q b) e.2 (put_stays v q b can)
+turn_stays (Draw k) m m' v v' r bd can (inl e) = is_same v v' (after_draw v e.0) e.4 (record { holder = refl; limit = refl; known = open-grows v.cells e.0 (draws_new v e.0 bd e.1) })
+turn_stays (Draw k) m m' v v' r bd can (inr e) = is_same v v' (with_drawn v v.limit) e.2.same (record { holder = refl; limit = refl; known = record { kept = λ q b k. k } })
+turn_stays AtFork m m' v v' r bd can e = is_same v v' v e.2 (stays v)
+turn_stays AtJoin m m' v v' r bd can e = is_same v v' v e.2 (stays v)
+turn_stays (Ended a) m m' v v' r bd can e = is_same v v' v e.2 (stays v)
 
 module _ (l : LoweredParts) (d : Debt) (lent : List (Option Due)) where
   pub can : (v : Memory) (m : State) (a : Ask) → WorksAfter l d v lent m a → Can a v
@@ -51,10 +64,10 @@ module _ (l : LoweredParts) (d : Debt) (lent : List (Option Due)) where
   can v m AtJoin k = tt
   can v m (Ended a) k = tt
 
-  moved : (v v' : Memory) (m m' : State) → m' ≡ m → v' ≡ v → Works l d v.cells m lent → Works l d v'.cells m' lent
-  moved v v' m m' e f w = subst (λ (x : Memory). Works l d x.cells m' lent) (sym f) (subst (λ (x : State). Works l d v.cells x lent) (sym e) w)
+  moved : (v v' : Memory) (m m' : State) → m' ≡ m → v' ≡ v → Works l d v.cells v.share m lent → Works l d v'.cells v'.share m' lent
+  moved v v' m m' e f w = subst (λ (x : Memory). Works l d x.cells x.share m' lent) (sym f) (subst (λ (x : State). Works l d v.cells v.share x lent) (sym e) w)
 
-  pub went : (v v' : Memory) (m m' : State) (a : Ask) → WorksAfter l d v lent m a → Made a m m' v v' turn.Went → Works l d v'.cells m' lent
+  pub went : (v v' : Memory) (m m' : State) (a : Ask) → WorksAfter l d v lent m a → Made a m m' v v' turn.Went → Works l d v'.cells v'.share m' lent
   went v v' m m' (Silent n) k e = moved v v' n m' e.1 e.2 k
   went v v' m m' (Get q f) k e = moved v v' (f k.0) m' (e.3 ∙ ap f (same_byte (sym e.1 ∙ k.1))) e.4 k.2
   went v v' m m' (Put q b n) k e = moved (after_put v q b) v' n m' e.1 e.2 k.1
@@ -67,15 +80,18 @@ module _ (l : LoweredParts) (d : Debt) (lent : List (Option Due)) where
   comes_so : (v v' : Memory) (m m' : State) (r r' : Turn) → r ≡ r' → m' ≡ m → v' ≡ v → Comes l d lent v m r' → Comes l d lent v' m' r
   comes_so v v' m m' r r' er em ev c = subst (λ (x : Turn). Comes l d lent v' m' x) (sym er) (subst (λ (x : Memory). Comes l d lent x m' r') (sym ev) (subst (λ (x : State). Comes l d lent v x r') (sym em) c))
 
-  pub comes : (v v' : Memory) (m m' : State) (r : Turn) (a : Ask) → next l.code m ≡ a → WorksAfter l d v lent m a → Made a m m' v v' r → (r ≡ turn.Went → ⊥) → Comes l d lent v' m' r
-  comes v v' m m' r (Silent n) is k e other = absurd (other e.0)
-  comes v v' m m' r (Get q f) is k e other = absurd (other e.2)
-  comes v v' m m' r (Put q b n) is k e other = absurd (other e.0)
-  comes v v' m m' r (Draw f) is k (inl e) other = absurd (other e.2)
-  comes v v' m m' r (Draw f) is k (inr e) other = subst (λ (x : Turn). Comes l d lent v' m' x) (sym e.0) (ap (λ (x : Memory). x.drawn) e.2.same ∙ sym (ap (λ (x : Memory). x.limit) e.2.same))
-  comes v v' m m' r AtFork is k e other = comes_so v v' m m' r turn.AtFork e.0 e.1 e.2 (is, k)
-  comes v v' m m' r AtJoin is k e other = comes_so v v' m m' r turn.AtJoin e.0 e.1 e.2 (is, k)
-  comes v v' m m' r (Ended a) is k e other = comes_so v v' m m' r (turn.Ended a) e.0 e.1 e.2 k
+  full_so : (v v' : Memory) (m m' : State) (r : Turn) (k : ℕ → State) → next l.code m ≡ Draw k → r ≡ turn.Full → m' ≡ m → v' ≡ with_drawn v v.limit → Pays l d.most v.share lent → Comes l d lent v' m' r
+  full_so v v' m m' r k is er em ev p = comes_so (with_drawn v v.limit) v' m m' r turn.Full er em ev (k, is, refl, p)
+
+  pub comes : (v v' : Memory) (m m' : State) (r : Turn) (a : Ask) → next l.code m ≡ a → Pays l d.most v.share lent → WorksAfter l d v lent m a → Made a m m' v v' r → (r ≡ turn.Went → ⊥) → Comes l d lent v' m' r
+  comes v v' m m' r (Silent n) is p k e other = absurd (other e.0)
+  comes v v' m m' r (Get q f) is p k e other = absurd (other e.2)
+  comes v v' m m' r (Put q b n) is p k e other = absurd (other e.0)
+  comes v v' m m' r (Draw f) is p k (inl e) other = absurd (other e.2)
+  comes v v' m m' r (Draw f) is p k (inr e) other = full_so v v' m m' r f is e.0 e.1 e.2.same p
+  comes v v' m m' r AtFork is p k e other = comes_so v v' m m' r turn.AtFork e.0 e.1 e.2 (is, k)
+  comes v v' m m' r AtJoin is p k e other = comes_so v v' m m' r turn.AtJoin e.0 e.1 e.2 (is, k)
+  comes v v' m m' r (Ended a) is p k e other = comes_so v v' m m' r (turn.Ended a) e.0 e.1 e.2 k
 
 -- What a lowered core tells of itself.
 pub whole : (l : LoweredParts) → IsLowered (core_of l.core) l.code → AllFit (core_of l.core) → Runs l.code → IsWhole l.core l.code
@@ -83,15 +99,18 @@ whole l low fits runs = record { lowered = low; fits = fits; runs = runs }
 
 -- The code that a lowered core hands out, as each turn sees it.
 module _ (l : LoweredParts) (code : CodeTree) (is : code ≡ l.code) (ok : IsWhole l.core l.code) where
-  pub can_step : (d : Debt) (lent : List (Option Due)) (v : Memory) (m : State) → IsBounded v → m.width ≡ widest l.code.functions → Works l d v.cells m lent → CanStep code m v
+  pub can_step : (d : Debt) (lent : List (Option Due)) (v : Memory) (m : State) → IsBounded v → m.width ≡ widest l.code.functions → Works l d v.cells v.share m lent → CanStep code m v
   can_step d lent v m b made w = subst (λ (x : CodeTree). CanStep x m v) (sym is) (record { runs = ok.runs; made = made; can = can l d lent v m (next l.code m) (turn l d ok v m lent b w) })
 
-  pub steps : (d : Debt) (lent : List (Option Due)) (v v' : Memory) (m m' : State) (r : Turn) → IsBounded v → r ≡ turn.Went → Made (next code m) m m' v v' r → Works l d v.cells m lent → Works l d v'.cells m' lent
+  pub same : (d : Debt) (lent : List (Option Due)) (v v' : Memory) (m m' : State) (r : Turn) → IsBounded v → Made (next code m) m m' v v' r → Works l d v.cells v.share m lent → IsSame v v'
+  same d lent v v' m m' r b made w = turn_stays (next l.code m) m m' v v' r b (can l d lent v m (next l.code m) (turn l d ok v m lent b w)) (subst (λ (x : CodeTree). Made (next x m) m m' v v' r) is made)
+
+  pub steps : (d : Debt) (lent : List (Option Due)) (v v' : Memory) (m m' : State) (r : Turn) → IsBounded v → r ≡ turn.Went → Made (next code m) m m' v v' r → Works l d v.cells v.share m lent → Works l d v'.cells v'.share m' lent
   steps d lent v v' m m' r b e made w = went l d lent v v' m m' (next l.code m) (turn l d ok v m lent b w)
       (subst (λ (x : CodeTree). Made (next x m) m m' v v' turn.Went) is (subst (λ (x : Turn). Made (next code m) m m' v v' x) e made))
 
-  pub stands : (d : Debt) (lent : List (Option Due)) (v v' : Memory) (m m' : State) (r : Turn) → IsBounded v → (r ≡ turn.Went → ⊥) → Made (next code m) m m' v v' r → Works l d v.cells m lent → Comes l d lent v' m' r
-  stands d lent v v' m m' r b other made w = comes l d lent v v' m m' r (next l.code m) refl (turn l d ok v m lent b w) (subst (λ (x : CodeTree). Made (next x m) m m' v v' r) is made) other
+  pub stands : (d : Debt) (lent : List (Option Due)) (v v' : Memory) (m m' : State) (r : Turn) → IsBounded v → (r ≡ turn.Went → ⊥) → Made (next code m) m m' v v' r → Works l d v.cells v.share m lent → Comes l d lent v' m' r
+  stands d lent v v' m m' r b other made w = comes l d lent v v' m m' r (next l.code m) refl (pays l d v.cells v.share m lent w) (turn l d ok v m lent b w) (subst (λ (x : CodeTree). Made (next x m) m m' v v' r) is made) other
 
   pub keeps_width : (v v' : Memory) (m m' : State) (r : Turn) → Made (next code m) m m' v v' r → m'.width ≡ m.width
   keeps_width v v' m m' r made = width_kept m.width (next code m) m m' v v' r (step_keeps_width code m) refl made

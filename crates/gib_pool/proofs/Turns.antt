@@ -1,8 +1,7 @@
 -- A worker's turns.
-use Rattle.std.proofs.Common.{rules, ◌≡◌, ℕ, ◌*◌, ◌<◌, inl, inr, List, [], ◌∷◌, refl, sym, subst, ◌∙◌, arith, cond}
+use Rattle.std.proofs.Common.{◌≡◌, ℕ, ◌+◌, ◌*◌, ◌<◌, inl, inr, List, [], ◌∷◌, refl, sym, subst, ◌∙◌, arith, cond}
 use Rattle.std.specs.Prelude.{Option, Some, slice_get}
 use Rattle.gib_mem.specs.Memory.{Memory, Cell, Store, absent, fresh, byte, set_cell, open_chunk, Grows, IsBounded}
-use Rattle.gib_region.specs.Count.{Balanced, nothing_done}
 use Rattle.gib_core.specs.Tree.{CoreTree}
 use Rattle.gib_core.specs.Parts.{core_of}
 use Rattle.gib_core.specs.LoweredParts.{LoweredParts, IsWhole}
@@ -10,11 +9,12 @@ use Rattle.gib_code.specs.declared.answer.Answer.{Answer}
 use Rattle.gib_code.specs.Program.{CodeTree}
 use Rattle.gib_machine.specs.Machine.{State, Waiting, Ask, Silent, Get, Put, Draw, AtFork, AtJoin, Ended, next, left_starts, right_of, side_start, takes, joins}
 use Rattle.gib_machine.specs.Starting.{waiting_of}
-use Rattle.gib_weave.specs.Owing.{Owed, Debt}
-use Rattle.gib_weave.specs.Paying.{Share, new_share}
+use Rattle.gib_weave.specs.Owing.{Debt}
+use Rattle.gib_weave.specs.Paying.{Share, Bill, new_share, with_rest, with_count}
 use Rattle.gib_weave.specs.Places.{Owned, with_chunk, IsSmall}
 use Rattle.gib_weave.specs.Sound.{Safe, SideSafe, IsAnswer, After, Forks, Meets, Others}
 use Rattle.gib_weave.proofs.Basics.{by_test}
+use Rattle.gib_weave.proofs.Bills.{bill_goes_on, bill_forks, bill_takes, bill_joins, side_bill}
 use Rattle.gib_weave.proofs.Places.{IsSided, zero_or_one, open-outside, open-inside}
 use Rattle.gib_weave.proofs.Memories.{draws_new}
 use Rattle.gib_weave.proofs.Others.{safe-others, answer-grows}
@@ -22,8 +22,9 @@ use Rattle.gib_weave.proofs.Step.{step_keeps}
 use Rattle.gib_weave.proofs.Starts.{lowered_bodies}
 use Rattle.gib_arena.specs.Passes.{cells}
 use Rattle.gib_frame.specs.declared.due.Due.{Due}
-use Rattle.gib_frame.specs.Answers.{Answers}
-use Rattle.gib_pool.specs.Turn.{AreThere, IsLent, AreLent, Works, Wider, WorksOn, Tells, WorksBack, WorksAfter}
+use Rattle.gib_frame.specs.Answers.{Answers, ArePaid, IsPaid}
+use Rattle.gib_pool.specs.Turn.{AreThere, IsLent, AreLent, owing, Works, Pays, Wider, WorksOn, Tells, WorksBack, WorksAfter}
+use Rattle.gib_pool.proofs.Paid.{bill_stays, paid_of, safe_free, taken_out}
 
 fresh_absent : fresh ≡ absent → ⊥
 fresh_absent e = absurd cc
@@ -40,8 +41,8 @@ grows_on s r t g h = record { kept = λ q b e. h.kept q b (g.kept q b e) }
 pub side_grows : (core : CoreTree) (code : CodeTree) (d : Debt) (s r : Store) (w : Waiting) → Grows s r → SideSafe core code d s w → SideSafe core code d r w
 side_grows core code d s r w g h = record { safe = λ t k sm. h.safe t (grows_on s r t g k) sm }
 
-pub begins : (l : LoweredParts) (d : Debt) (s : Store) (w : Waiting) → IsSmall s → SideSafe (core_of l.core) l.code d s w → Works l d s (side_start l.code w) []
-begins l d s w sm h = record { own = λ q. 0; bill = new_share d.most; sides = []; safe = h.safe s (grows_same s) sm; there = record { there = λ q z e. absurd (omega (arith, z)) }; debts = tt }
+pub begins : (l : LoweredParts) (d : Debt) (s : Store) (w : Waiting) → IsSmall s → SideSafe (core_of l.core) l.code d s w → Works l d s 0 (side_start l.code w) []
+begins l d s w sm h = record { own = λ q. 0; bill = new_share d.most; sides = []; safe = h.safe s (grows_same s) sm; there = record { there = λ q z e. absurd (omega (arith, z)) }; debts = tt; paid = side_bill d }
 
 data Seen (c : Cell) : Type 0 where
   is_absent : c ≡ absent → Seen c
@@ -70,14 +71,15 @@ wider_others own s r t w = record { grows = w.known; mine = λ q h. mine q h (se
 there_wider : (own : Owned) (s r : Store) → AreThere own s → Wider s r → AreThere own r
 there_wider own s r t w = let o = wider_others own s r t w in record { there = λ q h e. t.there q h (o.drawn q e) }
 
-pub wider_keeps : (l : LoweredParts) (d : Debt) (s r : Store) (m : State) (lent : List (Option Due)) → Wider s r → Works l d s m lent → Works l d r m lent
-wider_keeps l d s r m lent w h = record {
+pub wider_keeps : (l : LoweredParts) (d : Debt) (s r : Store) (n : ℕ) (m : State) (lent : List (Option Due)) → Wider s r → Works l d s n m lent → Works l d r n m lent
+wider_keeps l d s r n m lent w h = record {
   own = h.own;
   bill = h.bill;
   sides = h.sides;
   safe = safe-others (core_of l.core) l.code (record { ty = d.ty; all = d.owed; sides = h.sides }) h.own h.bill s r m h.safe (wider_others h.own s r h.there w);
   there = there_wider h.own s r h.there w;
   debts = h.debts;
+  paid = h.paid;
 }
 
 there_put : (own : Owned) (s : Store) (a b : ℕ) → AreThere own s → AreThere own (set_cell s a (byte b))
@@ -91,15 +93,15 @@ there_draw own s c t = record { there = λ q h e. go q h e (zero_or_one (4096 * 
     go q h e (inr i) = fresh_absent (sym (open-inside s c q i.1 i.2) ∙ e)
 
 module _ (l : LoweredParts) (d : Debt) where
-  abbrev owing : List Debt → Owed
-  owing ds = record { ty = d.ty; all = d.owed; sides = ds }
+  pub pays : (s : Store) (n : ℕ) (m : State) (lent : List (Option Due)) → Works l d s n m lent → Pays l d.most n lent
+  pays s n m lent h = record { owed = owing d h.sides; bill = h.bill; debts = h.debts; paid = h.paid }
 
-  forked : (s : Store) (m : State) (lent : List (Option Due)) (h : Works l d s m lent) (sh : Share) → Forks (core_of l.core) l.code (owing h.sides) h.own sh s m
-      → WorksOn l d s lent m (left_starts m (slice_get l.code.instructions m.ip)) (right_of m (slice_get l.code.instructions m.ip))
-  forked s m lent h sh f = record {
+  forked : (s : Store) (n : ℕ) (m : State) (lent : List (Option Due)) (h : Works l d s n m lent) (sh : Share) → Bill d.most n (owing d h.sides) sh → Forks (core_of l.core) l.code (owing d h.sides) h.own sh s m
+      → WorksOn l d s n lent m (left_starts m (slice_get l.code.instructions m.ip)) (right_of m (slice_get l.code.instructions m.ip))
+  forked s n m lent h sh b f = record {
     room = f.room;
     owes = (f.debt, f.right);
-    refused = record { own = h.own; bill = _; sides = f.debt ∷ h.sides; safe = f.left; there = h.there; debts = (tt, h.debts) };
+    refused = record { own = h.own; bill = _; sides = f.debt ∷ h.sides; safe = f.left; there = h.there; debts = (tt, h.debts); paid = paid };
     made = λ e i. record {
       own = h.own;
       bill = _;
@@ -107,53 +109,69 @@ module _ (l : LoweredParts) (d : Debt) where
       safe = f.left;
       there = h.there;
       debts = ((i.lowered, side_grows (core_of l.core) l.code f.debt s (cells e.pass.value) (waiting_of e.side.value) i.knows (subst (SideSafe (core_of l.core) l.code f.debt s) (sym i.side) f.right)), h.debts);
+      paid = paid;
     };
   }
+    where
+      paid : Bill d.most n (owing d (f.debt ∷ h.sides)) (with_rest sh f.rest)
+      paid = bill_forks d.most n (owing d h.sides) (owing d (f.debt ∷ h.sides)) sh f.debt f.rest b f.pays refl
 
-  meets : (s : Store) (m : State) (own : Owned) (sh : Share) (ds : List Debt) (lent : List (Option Due)) → AreThere own s → AreLent l ds lent → (f : Meets (core_of l.core) l.code (owing ds) own sh s m) → ds ≡ f.debt ∷ f.others → WorksBack l d s lent m
-  meets s m own sh [] lent t a f e = absurd cc
-  meets s m own sh (x ∷ xs) [] t a f e = absurd a
-  meets s m own sh (x ∷ xs) (n ∷ ns) t a f e = record {
-    newest = n;
-    others = ns;
+  meets : (s : Store) (n : ℕ) (m : State) (own : Owned) (sh : Share) (ds : List Debt) (lent : List (Option Due)) → AreThere own s → AreLent l ds lent → Bill d.most n (owing d ds) sh → (f : Meets (core_of l.core) l.code (owing d ds) own sh s m) → ds ≡ f.debt ∷ f.others
+      → WorksBack l d s n lent m
+  meets s n m own sh [] lent t a b f e = absurd cc
+  meets s n m own sh (x ∷ xs) [] t a b f e = absurd a
+  meets s n m own sh (x ∷ xs) (y ∷ ys) t a b f e = record {
+    newest = y;
+    others = ys;
     are = refl;
-    take = back (takes m) _ f.take;
-    join = λ u y is k. back (joins m y) _ (f.join y nothing_done (told u y (subst (IsLent l f.debt) is owes.0) k) balanced);
+    take = back n (takes m) _ f.take (bill_takes d.most n (owing d (x ∷ xs)) (owing d f.others) sh f.debt b e);
+    join = λ u z drew is k. let p = paid u drew is k.paid in back (n + drew) (joins m z) _ (f.join z p.bill.count (told u drew z (lent_to u is) k) p.paid.balanced) (joined u drew p);
+    unwind = λ u drew is out k. let p = paid u drew is k in
+        back (n + drew) (takes m) _ (safe_free (core_of l.core) l.code (owing d f.others) own _ (with_count sh p.bill.count) s (takes m) (taken_out m out) f.take) (joined u drew p);
+    pays = record { owed = owing d (x ∷ xs); bill = sh; debts = a; paid = b };
   }
     where
-      balanced : Balanced nothing_done
-      balanced = search rules
+      owes : AreLent l (f.debt ∷ f.others) (y ∷ ys)
+      owes = subst (λ (z : List Debt). AreLent l z (y ∷ ys)) e a
 
-      owes : AreLent l (f.debt ∷ f.others) (n ∷ ns)
-      owes = subst (λ (z : List Debt). AreLent l z (n ∷ ns)) e a
+      lent_to : (u : Due) → y ≡ Some u → IsLent l f.debt (Some u)
+      lent_to u is = subst (IsLent l f.debt) is owes.0
 
-      back : (m' : State) (bill : Share) → Safe (core_of l.core) l.code (owing f.others) own bill s m' → Works l d s m' ns
-      back m' bill h = record { own = own; bill = bill; sides = f.others; safe = h; there = t; debts = owes.1 }
+      paid : (u : Due) (drew : ℕ) → y ≡ Some u → ArePaid u drew → IsPaid f.debt.most drew
+      paid u drew is k = paid_of l u f.debt drew (lent_to u is) k
 
-      told : (u : Due) (y : Answer) → IsLent l f.debt (Some u) → Tells u s y → IsAnswer l.code.laid s f.debt.ty f.debt.owed y
-      told u y x k = answer-grows l.code.laid k.from s f.debt.ty f.debt.owed y k.knows
-          (subst (λ (z : LoweredParts). Answers (core_of z.core) z.code (cells u.pass.value) (waiting_of u.side.value) k.from y) x.0 k.answers f.debt x.1)
+      joined : (u : Due) (drew : ℕ) (p : IsPaid f.debt.most drew) → Bill d.most (n + drew) (owing d f.others) (with_count sh p.bill.count)
+      joined u drew p = bill_joins d.most n drew (owing d (x ∷ xs)) (owing d f.others) p.owed sh p.bill f.debt b e p.paid
 
-  ended : (ds : List Debt) (lent : List (Option Due)) → AreLent l ds lent → ds ≡ [] → lent ≡ []
-  ended [] [] a e = refl
-  ended [] (x ∷ xs) a e = absurd a
-  ended (x ∷ xs) lent a e = absurd cc
+      back : (k : ℕ) (m' : State) (bill : Share) → Safe (core_of l.core) l.code (owing d f.others) own bill s m' → Bill d.most k (owing d f.others) bill → Works l d s k m' ys
+      back k m' bill h c = record { own = own; bill = bill; sides = f.others; safe = h; there = t; debts = owes.1; paid = c }
+
+      told : (u : Due) (drew : ℕ) (z : Answer) → IsLent l f.debt (Some u) → Tells u drew s z → IsAnswer l.code.laid s f.debt.ty f.debt.owed z
+      told u drew z x k = answer-grows l.code.laid k.from s f.debt.ty f.debt.owed z k.knows
+          (subst (λ (z' : LoweredParts). Answers (core_of z'.core) z'.code (cells u.pass.value) (waiting_of u.side.value) k.from z) x.0 k.answers f.debt x.1)
+
+  ended : (n : ℕ) (sh : Share) (ds : List Debt) (lent : List (Option Due)) → AreLent l ds lent → Bill d.most n (owing d ds) sh → ds ≡ [] → (lent ≡ []) × IsPaid d.most n
+  ended n sh [] [] a b e = (refl, record { owed = owing d []; bill = sh; paid = b })
+  ended n sh [] (x ∷ xs) a b e = absurd a
+  ended n sh (x ∷ xs) lent a b e = absurd cc
 
   -- At a join, whatever the pass learned since.
-  pub met : IsWhole l.core l.code → (s r : Store) (m : State) (lent : List (Option Due)) → next l.code m ≡ AtJoin → Works l d s m lent → Wider s r → WorksBack l d r lent m
-  met ok s r m lent at h w =
-      let o = wider_keeps l d s r m lent w h in
-      let k = subst (After (core_of l.core) l.code (owing o.sides) o.own o.bill r m) at (step_keeps (core_of l.core) l.code (lowered_bodies (core_of l.core) l.code ok.lowered ok.fits) (owing o.sides) o.own o.safe) in
-      meets r m o.own k.0 o.sides lent o.there o.debts k.2 k.2.sides
+  pub met : IsWhole l.core l.code → (s r : Store) (n : ℕ) (m : State) (lent : List (Option Due)) → next l.code m ≡ AtJoin → Works l d s n m lent → Wider s r → WorksBack l d r n lent m
+  met ok s r n m lent at h w =
+      let o = wider_keeps l d s r n m lent w h in
+      let k = subst (After (core_of l.core) l.code (owing d o.sides) o.own o.bill r m) at (step_keeps (core_of l.core) l.code (lowered_bodies (core_of l.core) l.code ok.lowered ok.fits) (owing d o.sides) o.own o.safe) in
+      meets r n m o.own k.0 o.sides lent o.there o.debts (bill_stays d.most n (owing d o.sides) o.bill k.0 o.paid k.1) k.2 k.2.sides
 
-  after : IsWhole l.core l.code → (v : Memory) (m : State) (lent : List (Option Due)) (a : Ask) → next l.code m ≡ a → IsBounded v → (h : Works l d v.cells m lent) → After (core_of l.core) l.code (owing h.sides) h.own h.bill v.cells m a → WorksAfter l d v lent m a
-  after ok v m lent (Silent m') is b h k = record { own = h.own; bill = k.0; sides = h.sides; safe = k.2; there = h.there; debts = h.debts }
-  after ok v m lent (Get a f) is b h k = (k.0, k.1, record { own = h.own; bill = k.2.0; sides = h.sides; safe = k.2.2; there = h.there; debts = h.debts })
-  after ok v m lent (Put a x m') is b h k = (k.0, record { own = h.own; bill = k.2.0; sides = h.sides; safe = k.2.2; there = there_put h.own v.cells a x h.there; debts = h.debts })
-  after ok v m lent (Draw f) is b h k = λ c dr. let t = k c (draws_new v c b dr) in record { own = with_chunk h.own c; bill = t.0; sides = h.sides; safe = t.2; there = there_draw h.own v.cells c h.there; debts = h.debts }
-  after ok v m lent AtFork is b h k = forked v.cells m lent h k.0 k.2
-  after ok v m lent AtJoin is b h k = λ r w. met ok v.cells r m lent is h w
-  after ok v m lent (Ended a) is b h k = (ended h.sides lent h.debts k.0, k.1)
+  after : IsWhole l.core l.code → (v : Memory) (m : State) (lent : List (Option Due)) (a : Ask) → next l.code m ≡ a → IsBounded v → (h : Works l d v.cells v.share m lent) → After (core_of l.core) l.code (owing d h.sides) h.own h.bill v.cells m a → WorksAfter l d v lent m a
+  after ok v m lent (Silent m') is b h k = record { own = h.own; bill = k.0; sides = h.sides; safe = k.2; there = h.there; debts = h.debts; paid = bill_stays d.most v.share (owing d h.sides) h.bill k.0 h.paid k.1 }
+  after ok v m lent (Get a f) is b h k = (k.0, k.1, record { own = h.own; bill = k.2.0; sides = h.sides; safe = k.2.2; there = h.there; debts = h.debts; paid = bill_stays d.most v.share (owing d h.sides) h.bill k.2.0 h.paid k.2.1 })
+  after ok v m lent (Put a x m') is b h k =
+      (k.0, record { own = h.own; bill = k.2.0; sides = h.sides; safe = k.2.2; there = there_put h.own v.cells a x h.there; debts = h.debts; paid = bill_stays d.most v.share (owing d h.sides) h.bill k.2.0 h.paid k.2.1 })
+  after ok v m lent (Draw f) is b h k = λ c dr. let t = k c (draws_new v c b dr) in
+      record { own = with_chunk h.own c; bill = t.0; sides = h.sides; safe = t.2; there = there_draw h.own v.cells c h.there; debts = h.debts; paid = bill_goes_on d.most v.share 1 (owing d h.sides) h.bill t.0 h.paid t.1 }
+  after ok v m lent AtFork is b h k = forked v.cells v.share m lent h k.0 (bill_stays d.most v.share (owing d h.sides) h.bill k.0 h.paid k.1) k.2
+  after ok v m lent AtJoin is b h k = λ r w. met ok v.cells r v.share m lent is h w
+  after ok v m lent (Ended a) is b h k = let e = ended v.share h.bill h.sides lent h.debts h.paid k.0 in (e.0, k.1, e.1)
 
-  pub turn : IsWhole l.core l.code → (v : Memory) (m : State) (lent : List (Option Due)) → IsBounded v → Works l d v.cells m lent → WorksAfter l d v lent m (next l.code m)
-  turn ok v m lent b h = after ok v m lent (next l.code m) refl b h (step_keeps (core_of l.core) l.code (lowered_bodies (core_of l.core) l.code ok.lowered ok.fits) (owing h.sides) h.own h.safe)
+  pub turn : IsWhole l.core l.code → (v : Memory) (m : State) (lent : List (Option Due)) → IsBounded v → Works l d v.cells v.share m lent → WorksAfter l d v lent m (next l.code m)
+  turn ok v m lent b h = after ok v m lent (next l.code m) refl b h (step_keeps (core_of l.core) l.code (lowered_bodies (core_of l.core) l.code ok.lowered ok.fits) (owing d h.sides) h.own h.safe)

@@ -1,6 +1,6 @@
 -- What a worker holds and owes at a task.
-use Rattle.std.specs.Prelude.{◌≡◌, [], List, Option}
-use Rattle.gib_mem.specs.Memory.{Memory}
+use Rattle.std.specs.Prelude.{◌≡◌, [], List, Option, Result, Ok, Err}
+use Rattle.gib_mem.specs.Memory.{Memory, Grows}
 use Rattle.gib_core.specs.LoweredParts.{LoweredParts}
 use Rattle.gib_machine.specs.Machine.{State, widest}
 use Rattle.gib_machine.specs.Stepping.{with_tails}
@@ -14,8 +14,9 @@ use Rattle.gib_arena.specs.Shown.{shown}
 use Rattle.gib_frame.specs.declared.due.Due.{Due}
 use Rattle.gib_frame.specs.declared.due.Ending.{Ending}
 use Rattle.gib_frame.specs.declared.due.Ending.TheVariants as ending
+use Rattle.gib_frame.specs.Answers.{IsPaid, drawn_by}
 use Rattle.gib_pool.specs.declared.job.Job.{Job}
-use Rattle.gib_pool.specs.Turn.{Works}
+use Rattle.gib_pool.specs.Turn.{Pays, Works}
 use Rattle.gib_pool.specs.Going.{Comes}
 use Rattle.gib_pool.specs.Lent.{Lends}
 use Rattle.gib_pool.specs.Frames.{lent_of, AreHere}
@@ -34,7 +35,7 @@ job_memory j = shown j.pass.seat.table_id (view j.pass)
 
 -- It owes this, in what its pass knows.
 abbrev pub OwesStill : LoweredParts → Debt → Job → Type 0
-OwesStill l d j = Works l d (cells j.pass) (job_state j) (job_lent j)
+OwesStill l d j = Works l d (cells j.pass) (drawn_by j.pass) (job_state j) (job_lent j)
 
 -- It owes this, and its machine stands.
 abbrev pub StandsAt : LoweredParts → Debt → Job → Turn → Type 0
@@ -50,10 +51,11 @@ pub record Holds (a : Arena) (l : LoweredParts) (j : Job) : Type 0 where
 abbrev pub IsHere : Job → List Due → Type 0
 IsHere j mine = AreHere (job_lent j) j.here mine
 
--- The pass is the same one of an arena with as many chunks.
+-- The pass is the same one of an arena with as many chunks, and knows what it knew.
 pub record IsSamePass (old new : Pass) : Type 0 where
   pub path : (view new).branch.path ≡ (view old).branch.path
   pub limit : (view new).branch.limit ≡ (view old).branch.limit
+  pub known : Grows (cells old) (cells new)
 
 -- The pass comes back: the same one, with all that was split off it back.
 pub record IsBackWhole (a : Arena) (old new : Pass) : Type 0 where
@@ -61,8 +63,31 @@ pub record IsBackWhole (a : Arena) (old new : Pass) : Type 0 where
   pub same : IsSamePass old new
   pub none_out : (view new).branch.out ≡ []
 
--- How a task ends: its answer is what the job owed; or its pass saw that all chunks are drawn; or memory was wanted.
-abbrev pub Settles : LoweredParts → Job → Ending → Pass → Type 0
-Settles l j (ending.Answer a) p = (d : Debt) → OwesStill l d j → IsAnswer l.code.laid (cells p) d.ty d.owed a
-Settles l j ending.Full p = (view p).holding.seen ≡ (view p).branch.limit
-Settles l j ending.NotRun p = Unit {0}
+-- What a pass drew and the right sides of a job are paid for by what this debt may cost.
+abbrev pub PaysStill : LoweredParts → Debt → Job → Type 0
+PaysStill l d j = Pays l d.most (drawn_by j.pass) (job_lent j)
+
+-- How a task ends, whichever debt of these it has: its answer is what was owed, or its pass saw that all chunks are drawn, and what was
+-- drawn is paid for; or memory was wanted.
+abbrev pub Settles : LoweredParts → (Debt → Type 0) → Ending → Pass → Type 0
+Settles l Has (ending.Answer a) p = (d : Debt) → Has d → IsAnswer l.code.laid (cells p) d.ty d.owed a × IsPaid d.most (drawn_by p)
+Settles l Has ending.Full p = ((view p).holding.seen ≡ (view p).branch.limit) × ((d : Debt) → Has d → IsPaid d.most (drawn_by p))
+Settles l Has ending.NotRun p = ⊥
+Settles l Has ending.Memory p = Unit {0}
+
+-- A task that stood goes on: the worker holds and owes what it should, its forks are these, and the pass is the same one.
+pub record IsOn (a : Arena) (l : LoweredParts) (Has : Debt → Type 0) (old : Job) (mine : List Due) (new : Job) : Type 0 where
+  pub holds : Holds a l new
+  pub owes : (d : Debt) → Has d → OwesStill l d new
+  pub here : IsHere new mine
+  pub same : IsSamePass old.pass new.pass
+
+-- A task has come to its end: its pass is back, and how it ended is settled.
+pub record IsOver (a : Arena) (l : LoweredParts) (Has : Debt → Type 0) (old : Job) (e : Ending) (p : Pass) : Type 0 where
+  pub back : IsBackWhole a old.pass p
+  pub settles : Settles l Has e p
+
+-- A task that stood goes on, or has come to its end.
+abbrev pub Goes : Arena → LoweredParts → (Debt → Type 0) → Job → List Due → Result Job (Ending × Pass) → Type 0
+Goes a l Has old mine (Ok j) = IsOn a l Has old mine j
+Goes a l Has old mine (Err r) = IsOver a l Has old r.0 r.1

@@ -7,3 +7,4 @@ pub mod Backs
 pub mod Frames
 pub mod Jobs
 pub mod Runs
+pub mod Together

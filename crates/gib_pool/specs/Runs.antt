@@ -13,19 +13,20 @@ use Rattle.gib_weave.specs.declared.root_run.RunFault.TheVariants as fault
 use Rattle.gib_weave.specs.Sound.{IsAnswer}
 use Rattle.gib_arena.specs.declared.memory.Pass.{Pass}
 use Rattle.gib_arena.specs.Passes.{view}
-use Rattle.gib_arena.specs.Shown.{shown}
+use Rattle.gib_arena.specs.Shown.{shown_alone}
 use Rattle.gib_frame.specs.declared.due.Ending.{Ending}
 use Rattle.gib_frame.specs.declared.due.Ending.TheVariants as ending
 
--- A pass as a memory.
+-- The first pass as a memory, where no other one is out.
 abbrev pub pass_memory : Pass → Memory
-pass_memory p = shown p.seat.table_id (view p)
+pass_memory p = shown_alone (view p)
 
 -- What a run answers whose root ended so.
 abbrev pub outcome : Ending → Result Answer RunFault
 outcome (ending.Answer a) = Ok a
 outcome ending.Full = Err fault.Full
 outcome ending.NotRun = Err fault.Memory
+outcome ending.Memory = Err fault.Memory
 
 -- How a run by several workers ends that started with this value, and may nest so many calls and forks: with what the core means; or
 -- all chunks are drawn, and so many may not be enough for the run; or memory was wanted.

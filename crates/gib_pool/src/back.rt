@@ -19,18 +19,20 @@ use std::sync::Wait;
 
 /// What a join goes on with.
 #[derive(Drop)]
-pub enum Back {
+pub(crate) enum Back {
     /// Nobody ran the side: it is taken in place.
     Take,
     /// Another worker ran the side, and this is its answer.
     Answer(Answer),
     /// Another worker ran the side, and found all chunks drawn.
     Full,
+    /// Another worker left the side midway, for want of memory.
+    Memory,
 }
 
 /// Takes the latest fork back, or waits for who stole it. The pass then knows both sides. `here` is how many of the newest forks
 /// may still be in the deque: once one is gone all older ones are, so that none of them is looked for.
-pub fn settle<'a, R: Wait>(
+pub(crate) fn settle<'a, R: Wait>(
     rt: &R,
     arena: &'a Arena,
     pass: &mut Pass,
@@ -49,7 +51,7 @@ pub fn settle<'a, R: Wait>(
     ensures path { (view pass.new).branch.path ≡ (view pass.old).branch.path }
     ensures seen { ((view pass.old).holding.seen ≤ (view pass.new).holding.seen) × ((view pass.new).branch.limit ≡ (view pass.old).branch.limit) }
     ensures mine { IsMine forks.new × (worker_deque forks.new ≡ worker_deque forks.old) }
-    ensures back { IsBack (frame_due frame.entry.now) (view pass.new) (worker_view forks.old).mine (worker_view forks.new).mine here.old here.new result }
+    ensures back { IsBack (frame_due frame.entry.now) (view pass.old) (view pass.new) (worker_view forks.old).mine (worker_view forks.new).mine here.old here.new result }
 {
     if *here > 0 {
         *here -= 1;
@@ -66,5 +68,6 @@ pub fn settle<'a, R: Wait>(
         Ending::Answer(answer) => Back::Answer(answer),
         Ending::Full => Back::Full,
         Ending::NotRun => Back::Take,
+        Ending::Memory => Back::Memory,
     }
 }

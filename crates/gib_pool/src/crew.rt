@@ -1,19 +1,18 @@
 //! The workers of a run.
 
-ghost use Rattle.std.specs.Prelude.{◌≡◌, ◌<◌, [], length};
+ghost use Rattle.std.specs.Prelude.{◌≡◌, ◌<◌, [], length, IfOk};
 ghost use Rattle.gib_weave.specs.Owing.{Debt};
-ghost use Rattle.gib_pool.specs.Jobs.{Holds, IsBackWhole, OwesStill, Settles};
+ghost use Rattle.gib_pool.specs.Jobs.{Holds, IsOver, OwesStill};
 
-use crate::bell::Bell;
 use crate::forks::new_forks;
 use crate::helping::help;
 use crate::job::Job;
 use crate::post::Post;
 use crate::raid::Raid;
+use crate::shared::Shared;
 use crate::worker::Member;
 use crate::working::work;
-use gib_arena::{Arena, Pass};
-use gib_core::Lowered;
+use gib_arena::Pass;
 use gib_edge::outside::Gate;
 use gib_frame::Ending;
 use std::alloc::{AllocError, Global};
@@ -38,9 +37,11 @@ fn set_on_others<'a>(members: &mut Vec<Member<'a>>, thief: usize) -> Result<(), 
 /// # Errors
 ///
 /// Want of memory.
-pub fn make_members<'a>(alloc: Global, workers: u32) -> Result<Vec<Member<'a>>, AllocError> {
+pub(crate) fn make_members<'a>(alloc: Global, workers: u32) -> Result<Vec<Member<'a>>, AllocError>
+    ensures { IfOk result (λ members. length members.items ≡ workers) }
+{
     let mut members = Vec::new(alloc);
-    for number in 0..workers {
+    'made: for number in 0..workers {
         members.push(Member {
             number,
             forks: new_forks(alloc)?,
@@ -55,29 +56,25 @@ pub fn make_members<'a>(alloc: Global, workers: u32) -> Result<Vec<Member<'a>>, 
 }
 
 /// Runs a task by the first of these workers, which is the caller's thread, while the others run what it and they fork. A worker whose
-/// thread cannot be started is missing. Without workers the task is not run.
-pub fn work_together<'a, R: Threads + Wait + Sync, G: Gate + Sync>(
+/// thread cannot be started is missing. Without workers it ends for want of memory.
+pub(crate) fn work_together<'a, R: Threads + Wait + Sync, G: Gate + Sync>(
     rt: &R,
     alloc: Global,
-    arena: &'a Arena,
-    lowered: &'a Lowered,
+    shared: &Shared<'a, G>,
     job: Job,
     mut members: Vec<Member<'a>>,
-    bell: &Bell,
-    gate: &G,
 ) -> (Ending, Pass)
-    requires holds { Holds arena.now lowered.now job }
-    requires owes { (d : Debt) × OwesStill lowered.now d job }
+    requires holds { Holds shared.now.arena.now shared.now.lowered.now job }
+    requires owes { (d : Debt) × OwesStill shared.now.lowered.now d job }
     requires begins { (job.frames.items ≡ []) × (job.here ≡ 0) }
-    ensures back { IsBackWhole arena.entry.now job.pass result.1 }
-    ensures settles { Settles lowered.entry.now job result.0 result.1 }
+    ensures over { IsOver shared.entry.now.arena.now shared.entry.now.lowered.now (λ (d : Debt). OwesStill shared.entry.now.lowered.now d job) job result.0 result.1 }
 {
     let Some(member) = members.pop() else {
-        return (Ending::NotRun, job.pass);
+        return (Ending::Memory, job.pass);
     };
     let post = Post {
-        bell,
-        gate,
+        bell: shared.bell,
+        gate: shared.gate,
         worker: member.number,
     };
     if members.is_empty() {
@@ -86,20 +83,27 @@ pub fn work_together<'a, R: Threads + Wait + Sync, G: Gate + Sync>(
             mut forks,
             raids: _,
         } = member;
-        let end = work(rt, alloc, arena, lowered, job, &mut forks, &post);
-        bell.end(rt);
+        let end = work(
+            rt,
+            alloc,
+            shared.arena,
+            shared.lowered,
+            job,
+            &mut forks,
+            &post,
+        );
+        shared.bell.end(rt);
         return end;
     }
     let (_, end) = join(
         rt,
         move || help(rt, alloc, member, &post),
         move || -> (Ending, Pass)
-            requires holds { Holds arena.now lowered.now job }
-            requires owes { (d : Debt) × OwesStill lowered.now d job }
+            requires holds { Holds shared.now.arena.now shared.now.lowered.now job }
+            requires owes { (d : Debt) × OwesStill shared.now.lowered.now d job }
             requires begins { (job.frames.items ≡ []) × (job.here ≡ 0) }
-            ensures back { IsBackWhole arena.entry.now job.pass result.1 }
-            ensures settles { Settles lowered.entry.now job result.0 result.1 }
-        { work_together(rt, alloc, arena, lowered, job, members, bell, gate) },
+            ensures over { IsOver shared.entry.now.arena.now shared.entry.now.lowered.now (λ (d : Debt). OwesStill shared.entry.now.lowered.now d job) job result.0 result.1 }
+        { work_together(rt, alloc, shared, job, members) },
     );
     end
 }

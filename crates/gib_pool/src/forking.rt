@@ -1,8 +1,8 @@
 //! A worker at a fork.
 
-ghost use Rattle.std.specs.Prelude.{◌≡◌, ◌<◌, ◌+◌, ◌^◌, ◌∷◌, ℕ, List, Option, IfOk, IfErr, IfSome, slice_get};
+ghost use Rattle.std.specs.Prelude.{◌≡◌, ◌<◌, ◌+◌, ◌^◌, ◌∷◌, ℕ, List, Option, IfNone, IfSome, slice_get};
 ghost use Rattle.crossbeam_deque.specs.Handles.{worker_deque, worker_view};
-ghost use Rattle.gib_mem.specs.Memory.{Grows, fresh};
+ghost use Rattle.gib_mem.specs.Memory.{fresh};
 ghost use Rattle.gib_core.specs.Parts.{core_of};
 ghost use Rattle.gib_machine.specs.Machine.{next, right_of, widest};
 ghost use Rattle.gib_machine.specs.Machine as asks;
@@ -12,21 +12,24 @@ ghost use Rattle.gib_weave.specs.Owing.{Debt};
 ghost use Rattle.gib_weave.specs.Sound.{SideSafe};
 ghost use Rattle.gib_arena.specs.Passes.{cells, IsOf};
 ghost use Rattle.gib_frame.specs.declared.due.Due.{Due};
+ghost use Rattle.gib_frame.specs.Answers.{drawn_by};
 ghost use Rattle.gib_frame.specs.Dues.{frame_due};
 ghost use Rattle.gib_pool.specs.Frames.{due_maybe, AreHere};
-ghost use Rattle.gib_pool.specs.Jobs.{Holds, IsHere, IsSamePass, OwesStill, StandsAt};
+ghost use Rattle.gib_pool.specs.Jobs.{Goes, Holds, IsHere, IsSamePass, StandsAt};
 ghost use Rattle.gib_pool.specs.Lent.{Lends};
 ghost use Rattle.gib_pool.specs.Mine.{IsMine};
 ghost use Rattle.gib_pool.specs.Turn.{IsFor};
 
 use crate::forks::Forks;
 use crate::job::Job;
+use crate::leaving::give_up;
 use crate::offer::offer_side;
 use gib_arena::{Arena, Pass};
 use gib_core::Lowered;
-use gib_frame::Frame;
+use gib_frame::{Ending, Frame};
 use gib_machine::Machine;
 use std::alloc::Global;
+use std::sync::Wait;
 
 /// Offers the right side of the fork at which the machine stands; none where memory refuses the side or its frame.
 fn offer_here<'a>(
@@ -46,10 +49,12 @@ fn offer_here<'a>(
     requires few { here.old + 1 < 2 ^ 64 }
     ensures own { IsOf arena.entry.now pass.new }
     ensures same { IsSamePass pass.old pass.new }
-    ensures knows { Grows (cells pass.old) (cells pass.new) }
+    ensures drawn { drawn_by pass.new ≡ drawn_by pass.old }
     ensures free { (q : ℕ) → cells pass.old q ≡ fresh → cells pass.new q ≡ fresh }
     ensures side { IfSome result (λ f. (tails : List ℕ) → IsFor lowered.entry.now (cells pass.old) (right_of (with_tails machine.entry.now tails) (slice_get lowered.entry.now.code.instructions machine.entry.now.ip)) (frame_due f)) }
     ensures lends { (lent : List (Option Due)) → Lends pass.old lent → Lends pass.new (due_maybe result ∷ lent) }
+    ensures more { IfSome result (λ _. here.new ≡ here.old + 1) }
+    ensures no_more { IfNone result (here.new ≡ here.old) }
     ensures here { (lent : List (Option Due)) → AreHere lent here.old (worker_view forks.old).mine → AreHere (due_maybe result ∷ lent) here.new (worker_view forks.new).mine }
     ensures mine { IsMine forks.new × (worker_deque forks.new ≡ worker_deque forks.old) }
 {
@@ -66,27 +71,24 @@ fn offer_here<'a>(
 ///
 /// # Errors
 ///
-/// Want of memory to keep a frame; the task is where it was.
-pub(crate) fn fork_here<'a>(
+/// Want of memory to keep a frame: the task is left.
+pub(crate) fn fork_here<'a, R: Wait>(
+    rt: &R,
     alloc: Global,
     arena: &'a Arena,
     lowered: &'a Lowered,
     mut job: Job,
     forks: &mut Forks<'a>,
-) -> Result<Job, Job>
+) -> Result<Job, (Ending, Pass)>
     requires holds { Holds arena.now lowered.now job }
     requires stands { (d : Debt) × StandsAt lowered.now d job AtFork }
     requires mine { IsMine forks.old }
     requires here { IsHere job (worker_view forks.old).mine }
     ensures mine { IsMine forks.new × (worker_deque forks.new ≡ worker_deque forks.old) }
-    ensures holds { IfOk result (λ j. Holds arena.entry.now lowered.entry.now j) }
-    ensures owes { IfOk result (λ j. (d : Debt) → StandsAt lowered.entry.now d job AtFork → OwesStill lowered.entry.now d j) }
-    ensures here { IfOk result (λ j. IsHere j (worker_view forks.new).mine) }
-    ensures same { IfOk result (λ j. IsSamePass job.pass j.pass) }
-    ensures err { IfErr result (λ j. Holds arena.entry.now lowered.entry.now j × IsHere j (worker_view forks.new).mine × IsSamePass job.pass j.pass) }
+    ensures goes { Goes arena.entry.now lowered.entry.now (λ (d : Debt). StandsAt lowered.entry.now d job AtFork) job (worker_view forks.new).mine result }
 {
     if job.frames.reserve(1).is_err() {
-        return Err(job);
+        return Err(give_up(rt, arena, job, forks));
     }
     let frame = offer_here(
         alloc,

@@ -12,13 +12,13 @@ use std::alloc::{AllocError, Global};
 use std::collections::LinkedList;
 
 /// What a worker has pushed and not popped, the oldest first. Contracts speak of it; no value of it is made.
-pub struct Stack {
-    pub owner: bool,
-    pub mine: LinkedList<Due>,
+pub(crate) struct Stack {
+    pub(crate) owner: bool,
+    pub(crate) mine: LinkedList<Due>,
 }
 
 /// The rule of a deque of forks: its owner knows what it pushed and did not pop.
-pub struct Stacking;
+pub(crate) struct Stacking;
 
 impl<'a> Protocol<Task<'a>, Stack> for Stacking {
     ghost use Rattle.std.specs.Prelude.{[]};
@@ -32,7 +32,7 @@ impl<'a> Protocol<Task<'a>, Stack> for Stacking {
 }
 
 /// What the owner knows after a push.
-pub struct Push;
+pub(crate) struct Push;
 
 impl<'a> Outcome<Task<'a>, Stack> for Push {
     ghost use Rattle.gib_pool.specs.Stacks.{Pushed};
@@ -41,7 +41,7 @@ impl<'a> Outcome<Task<'a>, Stack> for Push {
 }
 
 /// What the owner knows after a pop.
-pub struct Pop;
+pub(crate) struct Pop;
 
 impl<'a> Outcome<Task<'a>, Stack> for Pop {
     ghost use Rattle.gib_pool.specs.Stacks.{Popped};
@@ -50,22 +50,22 @@ impl<'a> Outcome<Task<'a>, Stack> for Pop {
 }
 
 /// What another worker knows after a steal.
-pub struct Take;
+pub(crate) struct Rob;
 
-impl<'a> Outcome<Task<'a>, Stack> for Take {
+impl<'a> Outcome<Task<'a>, Stack> for Rob {
     ghost use Rattle.gib_pool.specs.Stacks.{Stole};
 
     ghost then = { Stole };
 }
 
 /// The forks of a worker, in its own hands.
-pub type Forks<'a> = Worker<Task<'a>, Global, Stack, Stacking>;
+pub(crate) type Forks<'a> = Worker<Task<'a>, Global, Stack, Stacking>;
 
 /// The forks of a worker, for others to steal.
-pub type Thief<'a> = Stealer<Task<'a>, Global, Stack, Stacking>;
+pub(crate) type Thief<'a> = Stealer<Task<'a>, Global, Stack, Stacking>;
 
 /// What a thief takes to a deque.
-pub type Loot<'a> = Pass<Task<'a>, Stack>;
+pub(crate) type Loot<'a> = Pass<Task<'a>, Stack>;
 
 /// The slots for forks that are taken at first.
 const SLOTS: usize = 64;
@@ -75,7 +75,7 @@ const SLOTS: usize = 64;
 /// # Errors
 ///
 /// Want of memory.
-pub fn new_forks<'a>(alloc: Global) -> Result<Forks<'a>, AllocError>
+pub(crate) fn new_forks<'a>(alloc: Global) -> Result<Forks<'a>, AllocError>
     ensures { IfOk result (λ forks. IsMine forks) }
 {
     Forks::lifo_as(alloc, SLOTS)
@@ -86,7 +86,7 @@ pub fn new_forks<'a>(alloc: Global) -> Result<Forks<'a>, AllocError>
 /// # Errors
 ///
 /// Want of memory; the task comes back.
-pub fn push_fork<'a>(forks: &mut Forks<'a>, task: Task<'a>) -> Result<(), Task<'a>>
+pub(crate) fn push_fork<'a>(forks: &mut Forks<'a>, task: Task<'a>) -> Result<(), Task<'a>>
     requires { IsMine forks.old }
     ensures same { IsMine forks.new × (worker_deque forks.new ≡ worker_deque forks.old) }
     ensures ok { IfOk result (λ _. worker_view forks.new ≡ own ((worker_view forks.old).mine ++ due_of task.entry ∷ [])) }
@@ -96,7 +96,7 @@ pub fn push_fork<'a>(forks: &mut Forks<'a>, task: Task<'a>) -> Result<(), Task<'
 }
 
 /// The task that was pushed last and not popped, where none was stolen since.
-pub fn take_back<'a>(forks: &mut Forks<'a>) -> Option<Task<'a>>
+pub(crate) fn take_back<'a>(forks: &mut Forks<'a>) -> Option<Task<'a>>
     requires { IsMine forks.old }
     ensures same { IsMine forks.new × (worker_deque forks.new ≡ worker_deque forks.old) }
     ensures some { IfSome result (λ t. (worker_view forks.old).mine ≡ (worker_view forks.new).mine ++ due_of t ∷ []) }
@@ -106,9 +106,9 @@ pub fn take_back<'a>(forks: &mut Forks<'a>) -> Option<Task<'a>>
 }
 
 /// The oldest task of another worker, where there is one.
-pub fn steal_fork<'a>(thief: &Thief<'a>, pass: &mut Loot<'a>) -> Steal<Task<'a>>
+pub(crate) fn steal_fork<'a>(thief: &Thief<'a>, pass: &mut Loot<'a>) -> Steal<Task<'a>>
     requires { IsPassOf (stealer_deque thief.now) pass.old × (view pass.old ≡ guest) }
     ensures { IsPassOf (stealer_deque thief.now) pass.new × (view pass.new ≡ guest) }
 {
-    thief.steal_as::<Take>(pass)
+    thief.steal_as::<Rob>(pass)
 }

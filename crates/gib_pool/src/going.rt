@@ -15,16 +15,16 @@ use gib_region::Tails;
 use std::sync::Wait;
 
 /// Makes a worker's turns until its machine stands at a fork, at a join or at its end, or draws where all chunks are drawn.
-pub fn go_on<R: Wait, M: Mem>(
+pub(crate) fn go_on<R: Wait, M: Mem>(
     rt: &R,
     lowered: &Lowered,
     machine: &mut Machine,
     mem: &mut M,
     tails: &mut Tails,
 ) -> Turn
-    requires works { (d : Debt) × (lent : List (Option Due)) × Works lowered.now d (M.view mem.old).cells (with_tails machine.old tails.old) lent }
+    requires works { (d : Debt) × (lent : List (Option Due)) × Works lowered.now d (M.view mem.old).cells (M.view mem.old).share (with_tails machine.old tails.old) lent }
     requires made { machine.old.width ≡ widest lowered.now.code.functions }
-    ensures comes { (d : Debt) (lent : List (Option Due)) → Works lowered.entry.now d (M.view mem.old).cells (with_tails machine.old tails.old) lent → Comes lowered.entry.now d lent (M.view mem.new) (with_tails machine.new tails.new) result }
+    ensures comes { (d : Debt) (lent : List (Option Due)) → Works lowered.entry.now d (M.view mem.old).cells (M.view mem.old).share (with_tails machine.old tails.old) lent → Comes lowered.entry.now d lent (M.view mem.new) (with_tails machine.new tails.new) result }
     ensures same { IsSame (M.view mem.old) (M.view mem.new) }
     ensures made { machine.new.width ≡ machine.old.width }
 {

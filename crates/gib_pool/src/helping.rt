@@ -18,7 +18,7 @@ use std::alloc::Global;
 use std::sync::Wait;
 
 /// Runs a side that was stolen, and tells its frame how it ended. Where memory refuses a machine, the side is given back.
-pub fn run_task<'a, R: Wait, G: Gate>(
+pub(crate) fn run_task<'a, R: Wait, G: Gate>(
     rt: &R,
     alloc: Global,
     task: Task<'a>,
@@ -51,7 +51,12 @@ fn steal_any<'a, R: Wait>(rt: &R, raids: &mut Vec<Raid<'a>>) -> Option<Task<'a>>
 }
 
 /// Runs what others fork until the run is over. Where there is nothing to steal it sleeps.
-pub fn help<'a, R: Wait, G: Gate>(rt: &R, alloc: Global, member: Member<'a>, post: &Post<'_, G>) {
+pub(crate) fn help<'a, R: Wait, G: Gate>(
+    rt: &R,
+    alloc: Global,
+    member: Member<'a>,
+    post: &Post<'_, G>,
+) {
     let Member {
         number: _,
         mut forks,

@@ -1,6 +1,7 @@
 //! What a worker holds of the task that it is at.
 
 ghost use Rattle.std.specs.Prelude.{◌≡◌, []};
+ghost use Rattle.gib_pool.specs.Frames.{newest_made};
 
 use gib_arena::Pass;
 use gib_frame::Frame;
@@ -10,7 +11,7 @@ use std::alloc::Global;
 
 /// A task that a worker is at: its machine with its tails, and the pass over whose bytes it works.
 #[derive(Drop)]
-pub struct Job {
+pub(crate) struct Job {
     pub(crate) machine: Machine,
     pub(crate) tails: Tails,
     pub(crate) pass: Pass,
@@ -22,7 +23,7 @@ pub struct Job {
 
 impl Job {
     /// A task at its begin, with no right sides.
-    pub fn make(alloc: Global, machine: Machine, tails: Tails, pass: Pass) -> Job
+    pub(crate) fn make(alloc: Global, machine: Machine, tails: Tails, pass: Pass) -> Job
         ensures machine { (result.machine ≡ machine) × (result.tails ≡ tails) }
         ensures pass { result.pass ≡ pass }
         ensures frames { (result.frames.items ≡ []) × (result.here ≡ 0) }
@@ -33,6 +34,16 @@ impl Job {
             pass,
             frames: Vec::new(alloc),
             here: 0,
+        }
+    }
+
+    /// Whether the newest right side was offered to others: its frame was made, and not refused.
+    pub(crate) fn is_offered(&self) -> bool
+        ensures { result ≡ newest_made self.now.frames.items }
+    {
+        match self.frames.last() {
+            None => false,
+            Some(newest) => newest.is_some(),
         }
     }
 }

@@ -1,35 +1,45 @@
 //! A worker's task keeps the law of a task over the bytes of the worker's own pass: functions whose contracts are the laws.
 
-ghost use Rattle.std.specs.Prelude.{◌≡◌, ◌<◌, ◌∷◌, ℕ, List, [], Option, Some};
+ghost use Rattle.std.specs.Prelude.{◌≡◌, ◌<◌, ◌^◌, ◌∷◌, ℕ, List, [], Option, Some};
+ghost use Rattle.atomic_table.specs.Table.{State as TableState};
+ghost use Rattle.gib_types.specs.declared.table.Ty.{Ty};
+ghost use Rattle.gib_types.specs.Layout.{LaidOut};
+ghost use Rattle.gib_syntax.specs.Meaning.{Outcome};
 ghost use Rattle.gib_mem.specs.Memory.{IsBounded, Memory, Store};
 ghost use Rattle.gib_core.specs.LoweredParts.{IsWhole, LoweredParts};
 ghost use Rattle.gib_core.specs.Parts.{core_of};
+ghost use Rattle.gib_code.specs.declared.answer.Answer.{Answer};
 ghost use Rattle.gib_machine.specs.Machine.{State, Waiting, next, side_start};
 ghost use Rattle.gib_weave.specs.Owing.{Debt};
 ghost use Rattle.gib_weave.specs.Places.{IsSmall};
-ghost use Rattle.gib_weave.specs.Sound.{SideSafe};
+ghost use Rattle.gib_weave.specs.Sound.{IsAnswer, SideSafe};
 ghost use Rattle.gib_arena.specs.declared.memory.Pass.{Pass};
+ghost use Rattle.gib_arena.specs.declared.view.View.{View};
+ghost use Rattle.gib_arena.specs.Cells.{cells_of};
 ghost use Rattle.gib_arena.specs.Passes.{view};
+ghost use Rattle.gib_arena.specs.Rule.{ArenaRule};
+ghost use Rattle.gib_arena.specs.Says.{IsPass};
 ghost use Rattle.gib_arena.specs.Steps.{split_left, split_right, joined_view, saw};
 ghost use Rattle.gib_arena.specs.Sums.{times_path};
 ghost use Rattle.gib_frame.specs.declared.due.Due.{Due};
 ghost use Rattle.gib_pool.specs.Lent.{Lends, path};
+ghost use Rattle.gib_pool.specs.Together.{Together, fresh_to};
 ghost use Rattle.gib_pool.specs.Turn.{Works, WorksAfter, Wider};
 
-/// Who begins a right side owes what it owes, with no right sides of its own.
+/// Who begins a right side owes what it owes, with no right sides of its own, and drew nothing.
 pub fn a_side_begins()
-    ensures { (l : LoweredParts) (d : Debt) (s : Store) (w : Waiting) → IsSmall s → SideSafe (core_of l.core) l.code d s w → Works l d s (side_start l.code w) [] }
+    ensures { (l : LoweredParts) (d : Debt) (s : Store) (w : Waiting) → IsSmall s → SideSafe (core_of l.core) l.code d s w → Works l d s 0 (side_start l.code w) [] }
 {}
 
 /// A split and a join of its pass leave a worker as it was.
 pub fn a_wider_pass_keeps()
-    ensures { (l : LoweredParts) (d : Debt) (s r : Store) (m : State) (lent : List (Option Due)) → Wider s r → Works l d s m lent → Works l d r m lent }
+    ensures { (l : LoweredParts) (d : Debt) (s r : Store) (n : ℕ) (m : State) (lent : List (Option Due)) → Wider s r → Works l d s n m lent → Works l d r n m lent }
 {}
 
 /// Each turn keeps a worker: what it gets is known, what it puts is fresh, each right side that it leaves is safe in the pass that
-/// was split for it, and its answer is what it owed.
+/// was split for it, its answer is what it owed, and what it drew is paid for.
 pub fn each_turn_keeps()
-    ensures { (l : LoweredParts) (d : Debt) (v : Memory) (m : State) (lent : List (Option Due)) → IsWhole l.core l.code → IsBounded v → Works l d v.cells m lent → WorksAfter l d v lent m (next l.code m) }
+    ensures { (l : LoweredParts) (d : Debt) (v : Memory) (m : State) (lent : List (Option Due)) → IsWhole l.core l.code → IsBounded v → Works l d v.cells v.share m lent → WorksAfter l d v lent m (next l.code m) }
 {}
 
 /// A split lends a pass; a join with the newest takes it back; where none is lent, none is out.
@@ -40,4 +50,20 @@ pub fn passes_come_back()
     ensures less { (p q p' : Pass) (n : ℕ) (e : Due) (lent : List (Option Due)) → p'.seat.table_id ≡ p.seat.table_id → view p' ≡ saw (joined_view (view p) (view q)) n
         → (view q).branch.path ≡ path e → (view q).branch.out ≡ [] → Lends p (Some e ∷ lent) → Lends p' lent }
     ensures none { (p : Pass) → Lends p [] → (view p).branch.out ≡ [] }
+{}
+
+/// Whatever the words and the passes are under the arena's rule, there is one store of all the words. Tasks that are each sound over
+/// the bytes of their own pass are so over it, all at once: each puts none but addresses that are fresh to its pass, and no address is
+/// fresh to two. So are right sides that are not begun, and answers stand there too.
+pub fn tasks_are_sound_together()
+    ensures store { (limit : ℕ) (s : TableState (Unit {0}) View) → limit < 2 ^ 32 → ArenaRule limit s → (r : Store) × Together s.words s.views r }
+    ensures one { (words : List ℕ) (views : List View) (r r' : Store) → Together words views r → Together words views r' → (a : ℕ) → r' a ≡ r a }
+    ensures task { (words : List ℕ) (views : List View) (r : Store) → Together words views r → (j : ℕ) (v : View) → IsPass views j v
+        → (l : LoweredParts) (d : Debt) (n : ℕ) (m : State) (lent : List (Option Due)) → Works l d (cells_of v.holding) n m lent → (w : Works l d r n m lent) × (w.own ≡ fresh_to v) }
+    ensures apart { (words : List ℕ) (views : List View) (r : Store) → Together words views r → (i j : ℕ) (v w : View) → IsPass views i v → IsPass views j w
+        → (q : ℕ) → 0 < fresh_to v q → 0 < fresh_to w q → i ≡ j }
+    ensures side { (words : List ℕ) (views : List View) (r : Store) → Together words views r → (j : ℕ) (v : View) → IsPass views j v
+        → (l : LoweredParts) (d : Debt) (w : Waiting) → SideSafe (core_of l.core) l.code d (cells_of v.holding) w → SideSafe (core_of l.core) l.code d r w }
+    ensures answer { (words : List ℕ) (views : List View) (r : Store) → Together words views r → (j : ℕ) (v : View) → IsPass views j v
+        → (laid : LaidOut) (ty : Ty) (owed : Outcome) (a : Answer) → IsAnswer laid (cells_of v.holding) ty owed a → IsAnswer laid r ty owed a }
 {}

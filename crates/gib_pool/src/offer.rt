@@ -6,7 +6,7 @@ ghost use Rattle.crossbeam_deque.specs.Handles.{worker_deque, worker_view};
 ghost use Rattle.gib_mem.specs.Memory.{Grows, fresh};
 ghost use Rattle.gib_arena.specs.Passes.{view, cells, IsOf};
 ghost use Rattle.gib_frame.specs.declared.due.Due.{Due};
-ghost use Rattle.gib_frame.specs.Answers.{Owes};
+ghost use Rattle.gib_frame.specs.Answers.{Owes, drawn_by};
 ghost use Rattle.gib_frame.specs.Dues.{frame_due};
 ghost use Rattle.gib_pool.specs.Lent.{Lends};
 ghost use Rattle.gib_pool.specs.Mine.{IsMine};
@@ -18,8 +18,8 @@ use gib_core::Lowered;
 use gib_frame::{Frame, make};
 use std::alloc::Global;
 
-/// Offers a right side to whoever steals it. Where memory refuses its frame or the push, the pass is as it was.
-pub fn offer_side<'a>(
+/// Offers a right side to whoever steals it. Where memory refuses its frame or the push, nothing more is split off the pass.
+pub(crate) fn offer_side<'a>(
     alloc: Global,
     arena: &'a Arena,
     lowered: &'a Lowered,
@@ -33,6 +33,7 @@ pub fn offer_side<'a>(
     requires mine { IsMine forks.old }
     ensures own { IsOf arena.entry.now pass.new }
     ensures knows { Grows (cells pass.old) (cells pass.new) }
+    ensures drawn { drawn_by pass.new ≡ drawn_by pass.old }
     ensures free { (q : ℕ) → cells pass.old q ≡ fresh → cells pass.new q ≡ fresh }
     ensures path { (view pass.new).branch.path ≡ (view pass.old).branch.path }
     ensures seen { ((view pass.old).holding.seen ≤ (view pass.new).holding.seen) × ((view pass.new).branch.limit ≡ (view pass.old).branch.limit) }

@@ -1,7 +1,7 @@
 //! A thief at the forks of another worker.
 
-ghost use Rattle.std.specs.Prelude.{◌≡◌};
-ghost use Rattle.crossbeam_deque.specs.Handles.{IsPassOf, stealer_deque, view};
+ghost use Rattle.std.specs.Prelude.{◌≡◌, IfOk};
+ghost use Rattle.crossbeam_deque.specs.Handles.{IsPassOf, stealer_deque, worker_deque, view};
 ghost use Rattle.gib_pool.specs.Stacks.{guest};
 
 use crate::forks::{Forks, Loot, Thief, steal_fork};
@@ -12,7 +12,7 @@ use std::sync::Wait;
 
 /// A thief at the forks of another worker.
 #[derive(Drop)]
-pub struct Raid<'a> {
+pub(crate) struct Raid<'a> {
     thief: Thief<'a>,
     loot: Loot<'a>,
     ghost own: { IsPassOf (stealer_deque thief) loot × (view loot ≡ guest) },
@@ -24,7 +24,9 @@ impl<'a> Raid<'a> {
     /// # Errors
     ///
     /// Want of memory.
-    pub fn make(forks: &Forks<'a>) -> Result<Raid<'a>, AllocError> {
+    pub(crate) fn make(forks: &Forks<'a>) -> Result<Raid<'a>, AllocError>
+        ensures { IfOk result (λ raid. stealer_deque raid.thief ≡ worker_deque forks.now) }
+    {
         let thief = forks.stealer()?;
         let loot = thief.pass();
         Ok(Raid { thief, loot })
@@ -36,7 +38,7 @@ impl<'a> Raid<'a> {
     }
 
     /// The oldest of the forks; None where there is none. It tries again only where another worker took one meanwhile.
-    pub fn steal<R: Wait>(&mut self, rt: &R) -> Option<Task<'a>> {
+    pub(crate) fn steal<R: Wait>(&mut self, rt: &R) -> Option<Task<'a>> {
         for _ in rt.forever() {
             match self.try_steal() {
                 Steal::Success(task) => return Some(task),

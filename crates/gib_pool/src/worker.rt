@@ -7,9 +7,9 @@ use crate::raid::Raid;
 
 /// A worker: its number, its own forks, and a thief at those of each other worker.
 #[derive(Drop)]
-pub struct Member<'a> {
-    pub number: u32,
-    pub forks: Forks<'a>,
-    pub raids: Vec<Raid<'a>>,
+pub(crate) struct Member<'a> {
+    pub(crate) number: u32,
+    pub(crate) forks: Forks<'a>,
+    pub(crate) raids: Vec<Raid<'a>>,
     ghost mine: { IsMine forks },
 }

@@ -1,18 +1,16 @@
 //! A worker runs a task to its end.
 
-ghost use Rattle.std.specs.Prelude.{◌≡◌, ◌≤◌, IfOk, IfErr};
+ghost use Rattle.std.specs.Prelude.{◌≡◌};
 ghost use Rattle.crossbeam_deque.specs.Handles.{worker_deque, worker_view};
-ghost use Rattle.gib_arena.specs.Passes.{view};
-ghost use Rattle.gib_core.specs.LoweredParts.{LoweredParts};
 ghost use Rattle.gib_weave.specs.Owing.{Debt};
-ghost use Rattle.gib_pool.specs.Jobs.{Holds, IsHere, IsSamePass, IsBackWhole, OwesStill, Settles};
+ghost use Rattle.gib_pool.specs.Jobs.{Goes, Holds, IsHere, IsOver, OwesStill};
 ghost use Rattle.gib_pool.specs.Mine.{IsMine};
 
-use crate::drain::drain_frames;
 use crate::forking::fork_here;
 use crate::forks::Forks;
 use crate::job::Job;
 use crate::joining::join_here;
+use crate::leaving::leave;
 use crate::post::Post;
 use crate::running::run_on;
 use gib_arena::{Arena, Pass};
@@ -22,26 +20,6 @@ use gib_frame::Ending;
 use gib_machine::Turn;
 use std::alloc::Global;
 use std::sync::Wait;
-
-/// Leaves a task before its end. All that was split off its pass comes back.
-fn leave<'a, R: Wait>(rt: &R, arena: &'a Arena, job: Job, forks: &mut Forks<'a>) -> Pass
-    requires holds { (l : LoweredParts) × Holds arena.now l job }
-    requires mine { IsMine forks.old }
-    requires here { IsHere job (worker_view forks.old).mine }
-    ensures mine { IsMine forks.new × (worker_deque forks.new ≡ worker_deque forks.old) }
-    ensures back { IsBackWhole arena.entry.now job.pass result }
-    ensures seen { (view job.pass).holding.seen ≤ (view result).holding.seen }
-{
-    let Job {
-        machine: _,
-        tails: _,
-        mut pass,
-        mut frames,
-        mut here,
-    } = job;
-    drain_frames(rt, arena, &mut pass, &mut frames, forks, &mut here);
-    pass
-}
 
 /// Goes on until the task's machine stood once. Where the task has ended, how it did and its pass come back.
 fn stand_once<'a, R: Wait, G: Gate>(
@@ -58,35 +36,29 @@ fn stand_once<'a, R: Wait, G: Gate>(
     requires mine { IsMine forks.old }
     requires here { IsHere job (worker_view forks.old).mine }
     ensures mine { IsMine forks.new × (worker_deque forks.new ≡ worker_deque forks.old) }
-    ensures holds { IfOk result (λ j. Holds arena.entry.now lowered.entry.now j) }
-    ensures owes { IfOk result (λ j. (d : Debt) → OwesStill lowered.entry.now d job → OwesStill lowered.entry.now d j) }
-    ensures here { IfOk result (λ j. IsHere j (worker_view forks.new).mine) }
-    ensures same { IfOk result (λ j. IsSamePass job.pass j.pass) }
-    ensures back { IfErr result (λ r. IsBackWhole arena.entry.now job.pass r.1) }
-    ensures settles { IfErr result (λ r. Settles lowered.entry.now job r.0 r.1) }
+    ensures goes { Goes arena.entry.now lowered.entry.now (λ (d : Debt). OwesStill lowered.entry.now d job) job (worker_view forks.new).mine result }
 {
     let (job, turn) = run_on(rt, arena, lowered, job);
     match turn {
         Turn::Went => unreachable!(),
         Turn::Ended(answer) => Err((Ending::Answer(answer), job.pass)),
-        Turn::Full => Err((Ending::Full, leave(rt, arena, job, forks))),
-        Turn::AtFork => match fork_here(alloc, arena, lowered, job, forks) {
+        Turn::Full => Err(leave(rt, arena, job, forks)),
+        Turn::AtFork => match fork_here(rt, alloc, arena, lowered, job, forks) {
             Ok(job) => {
-                post.forked(rt);
+                if job.is_offered() {
+                    post.forked(rt);
+                }
                 Ok(job)
             }
-            Err(job) => Err((Ending::NotRun, leave(rt, arena, job, forks))),
+            Err(end) => Err(end),
         },
-        Turn::AtJoin => match join_here(rt, arena, lowered, job, forks) {
-            Ok(job) => Ok(job),
-            Err(job) => Err((Ending::Full, leave(rt, arena, job, forks))),
-        },
+        Turn::AtJoin => join_here(rt, arena, lowered, job, forks),
     }
 }
 
 /// Runs a task to its end: its forks are offered to others, and those that nobody stole are run here. Its pass comes back with all
 /// that was split off it.
-pub fn work<'a, R: Wait, G: Gate>(
+pub(crate) fn work<'a, R: Wait, G: Gate>(
     rt: &R,
     alloc: Global,
     arena: &'a Arena,
@@ -100,8 +72,7 @@ pub fn work<'a, R: Wait, G: Gate>(
     requires mine { IsMine forks.old }
     requires here { IsHere job (worker_view forks.old).mine }
     ensures mine { IsMine forks.new × (worker_deque forks.new ≡ worker_deque forks.old) }
-    ensures back { IsBackWhole arena.entry.now job.pass result.1 }
-    ensures settles { Settles lowered.entry.now job result.0 result.1 }
+    ensures over { IsOver arena.entry.now lowered.entry.now (λ (d : Debt). OwesStill lowered.entry.now d job) job result.0 result.1 }
 {
     let mut current = job;
     'turns: for _ in rt.forever() {

@@ -33,25 +33,37 @@ fn main_of(alloc: Global, x: u32) -> Result<Program, Memory> {
     Ok(Program::new(exprs, Vec::new(alloc), Vec::new(alloc), main))
 }
 
+/// Whether the program is typed, and declares nothing but main.
+fn is_main_alone(alloc: Global, x: u32) -> bool {
+    let Ok(program) = main_of(alloc, x) else {
+        return false;
+    };
+    match check(alloc, program) {
+        Ok(typed) => typed.types().len() == 0 && typed.program().functions().len() == 0,
+        Err(_) => false,
+    }
+}
+
+/// What is wrong with the program; nothing also where it was not made.
+fn fault_of(alloc: Global, x: u32) -> Option<TypeFault> {
+    let Ok(program) = main_of(alloc, x) else {
+        return None;
+    };
+    check(alloc, program).err()
+}
+
 #[test]
 fn accepts_a_typed_program(rt: HostRuntime) -> Result<(), Fail> {
-    let program = main_of(rt.alloc(), 0)?;
-    let typed = check(rt.alloc(), program)?;
-    assert_eq!(rt; typed.types().len(), 0);
-    assert_eq!(rt; typed.program().functions().len(), 0);
+    assert!(rt; is_main_alone(rt.alloc(), 0));
     Ok(())
 }
 
 #[test]
 fn refuses_an_unknown_variable(rt: HostRuntime) -> Result<(), Fail> {
-    let program = main_of(rt.alloc(), 1)?;
     let fault = Fault {
         kind: Kind::Unknown,
         span: span(20),
     };
-    match check(rt.alloc(), program) {
-        Ok(_) => assert!(rt; false, "an unknown variable was accepted"),
-        Err(answer) => assert_eq!(rt; answer, TypeFault::Broken(fault)),
-    }
+    assert_eq!(rt; fault_of(rt.alloc(), 1), Some(TypeFault::Broken(fault)));
     Ok(())
 }

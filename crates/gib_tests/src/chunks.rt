@@ -1,7 +1,7 @@
 //! Runs in region memory of so many chunks, on both sides of where these run out. The statuses and the numbers of cells
 //! are those of a second implementation.
 
-use crate::harness::{call, file, packed};
+use crate::harness::{End, ends, packed, two_files};
 use gib_app::Status;
 use std::alloc::{AllocError, Global};
 use std::sync::Wait;
@@ -58,15 +58,13 @@ struct Case<'a> {
 }
 
 /// Whether a run ends so.
-fn ends<R: Threads + Wait + Sync>(
+fn ends_so<R: Threads + Wait + Sync>(
     rt: &R,
     alloc: Global,
     case: &Case<'_>,
 ) -> Result<bool, AllocError> {
-    let files = vec![in alloc;
-        file(alloc, "a.gib", case.source.as_bytes())?,
-        file(alloc, "a.gbp", &packed(alloc, case.payload)?)?,
-    ]?;
+    let input = packed(alloc, case.payload)?;
+    let files = two_files(case.source, "a.gbp", &input);
     let texts = [
         "gib",
         "run",
@@ -77,93 +75,98 @@ fn ends<R: Threads + Wait + Sync>(
         "--depth",
         case.depth,
     ];
-    let ended = call(rt, alloc, &texts, files, Vec::new(alloc))?;
     let out = if case.status == Status::Done {
         line(alloc, case.count)?
     } else {
         String::new(alloc)
     };
-    Ok(
-        ended.status == case.status
-            && ended.out.bytes() == out.as_bytes()
-            && ended.err.bytes() == case.err.as_bytes(),
-    )
+    let end = End {
+        status: case.status,
+        out: &out,
+        err: case.err,
+    };
+    ends(rt, alloc, &texts, &files, end)
 }
+
+/// Sources on counts, in so many chunks and within a depth, and how they end.
+const BUILT: [(&str, u64, &str, &str, Status, &str); 9] = [
+    (SPREAD, 15, "16", "10000", Status::Done, ""),
+    (SPREAD, 16, "16", "10000", Status::Full, "gib: chunks\n"),
+    (SPREAD, 16, "17", "10000", Status::Done, ""),
+    // What is met first is told: depth before the seventeenth chunk, or this chunk.
+    (SPREAD, 8_000, "16", "15", Status::Depth, "gib: depth\n"),
+    (SPREAD, 8_000, "16", "16", Status::Full, "gib: chunks\n"),
+    (SPREAD, 8_000, "9000", "8001", Status::Done, ""),
+    (BUILD, 7_264, "16", "10000", Status::Done, ""),
+    (BUILD, 7_265, "16", "10000", Status::Full, "gib: chunks\n"),
+    (BUILD, 7_265, "17", "10000", Status::Done, ""),
+];
 
 #[test]
 fn lists_are_built_in_their_chunks(rt: HostRuntime) -> Result<(), Fail> {
-    let alloc = rt.alloc();
-    for (source, count, chunks, depth, status, err) in [
-        (SPREAD, 15, "16", "10000", Status::Done, ""),
-        (SPREAD, 16, "16", "10000", Status::Full, "gib: chunks\n"),
-        (SPREAD, 16, "17", "10000", Status::Done, ""),
-        // What is met first is told: depth before the seventeenth chunk, or this chunk.
-        (SPREAD, 8_000, "16", "15", Status::Depth, "gib: depth\n"),
-        (SPREAD, 8_000, "16", "16", Status::Full, "gib: chunks\n"),
-        (SPREAD, 8_000, "9000", "8001", Status::Done, ""),
-        (BUILD, 7_264, "16", "10000", Status::Done, ""),
-        (BUILD, 7_265, "16", "10000", Status::Full, "gib: chunks\n"),
-        (BUILD, 7_265, "17", "10000", Status::Done, ""),
-    ] {
-        let number = u64::to_le_bytes(count);
+    for (source, count, chunks, depth, status, err) in &BUILT {
+        let number = u64::to_le_bytes(*count);
         let case = Case {
             source,
             payload: &number,
             chunks,
             depth,
-            count,
-            status,
+            count: *count,
+            status: *status,
             err,
         };
-        assert!(rt; ends(&rt, alloc, &case)?, "{count} in {chunks}");
+        assert!(rt; ends_so(&rt, rt.alloc(), &case)?, "{count} in {chunks}");
     }
     Ok(())
 }
 
+/// Lists of so many cells with their last bytes, in so many chunks, and how a run ends on them.
+const LOADED: [(u64, &[u8], &str, Status, &str); 9] = [
+    (455, b"\0", "16", Status::Done, ""),
+    (7_256, b"\0", "16", Status::Done, ""),
+    (7_257, b"\0", "16", Status::Full, "gib: chunks\n"),
+    (7_257, b"\0", "17", Status::Done, ""),
+    // An input that is refused is told, however few the chunks are.
+    (
+        7_257,
+        b"",
+        "16",
+        Status::Input,
+        "gib: input: short at 65313\n",
+    ),
+    (
+        7_257,
+        b"\0\0",
+        "16",
+        Status::Input,
+        "gib: input: trailing bytes at 65314\n",
+    ),
+    (
+        1,
+        b"\x02",
+        "65536",
+        Status::Input,
+        "gib: input: bad tag at 9\n",
+    ),
+    (1, b"\0", "15", Status::Usage, "gib: usage\n"),
+    (1, b"\0", "65537", Status::Usage, "gib: usage\n"),
+];
+
 #[test]
 fn lists_are_loaded_into_their_chunks(rt: HostRuntime) -> Result<(), Fail> {
     let alloc = rt.alloc();
-    for (count, last, chunks, status, err) in [
-        (455, b"\0".as_slice(), "16", Status::Done, ""),
-        (7_256, b"\0".as_slice(), "16", Status::Done, ""),
-        (7_257, b"\0".as_slice(), "16", Status::Full, "gib: chunks\n"),
-        (7_257, b"\0".as_slice(), "17", Status::Done, ""),
-        // An input that is refused is told, however few the chunks are.
-        (
-            7_257,
-            b"".as_slice(),
-            "16",
-            Status::Input,
-            "gib: input: short at 65313\n",
-        ),
-        (
-            7_257,
-            b"\0\0".as_slice(),
-            "16",
-            Status::Input,
-            "gib: input: trailing bytes at 65314\n",
-        ),
-        (
-            1,
-            b"\x02".as_slice(),
-            "65536",
-            Status::Input,
-            "gib: input: bad tag at 9\n",
-        ),
-        (1, b"\0".as_slice(), "15", Status::Usage, "gib: usage\n"),
-        (1, b"\0".as_slice(), "65537", Status::Usage, "gib: usage\n"),
-    ] {
-        let payload = cells(alloc, count, last)?;
+    for (count, last, chunks, status, err) in &LOADED {
+        let payload = cells(alloc, *count, last)?;
         let case = Case {
             source: SAME,
             payload: &payload,
             chunks,
             depth: "10000",
-            count,
-            status,
+            count: *count,
+            status: *status,
             err,
         };
-        assert!(rt; ends(&rt, alloc, &case)?, "{count} in {chunks}");
+        assert!(rt; ends_so(&rt, alloc, &case)?, "{count} in {chunks}");
     }
     Ok(())
 }

@@ -1,6 +1,6 @@
 //! The text of cores after each pass, as `core` prints it, and of code, as `code` does.
 
-use crate::harness::{call, file};
+use crate::harness::{End, call_on, ends, is_end};
 use gib_app::Status;
 use std::alloc::{AllocError, Global};
 use std::sync::Wait;
@@ -500,122 +500,196 @@ fn prints<R: Threads + Wait + Sync>(
     words: &[&str],
     text: &str,
 ) -> Result<bool, AllocError> {
-    let files = vec![in alloc; file(alloc, "a.gib", source.as_bytes())?]?;
-    let ended = call(rt, alloc, words, files, Vec::new(alloc))?;
+    let end = End {
+        status: Status::Done,
+        out: text,
+        err: "",
+    };
+    ends(rt, alloc, words, &[("a.gib", source.as_bytes())], end)
+}
+
+/// A source, its core after the first pass, and the pieces of what it is after later ones.
+struct Cores<'a> {
+    source: &'a str,
+    inferred: &'a str,
+    pieces: &'a [(&'a str, &'a str)],
+}
+
+/// The text of a core after a pass, with fields reached by offsets or by skips.
+fn core_of(alloc: Global, cores: &Cores<'_>, pass: u32, skips: bool) -> Result<String, AllocError> {
+    if pass == 1 {
+        String::from_str(alloc, cores.inferred)
+    } else {
+        text_of(alloc, cores.pieces, pass, skips)
+    }
+}
+
+/// Whether `core` prints the core of a source after a pass, whose number is also given as a word, with fields reached by offsets and by
+/// skips.
+fn prints_pass<R: Threads + Wait + Sync>(
+    rt: &R,
+    alloc: Global,
+    cores: &Cores<'_>,
+    pass: u32,
+    word: &str,
+) -> Result<bool, AllocError> {
+    let offsets = core_of(alloc, cores, pass, false)?;
+    let skips = core_of(alloc, cores, pass, true)?;
+    let usual = ["gib", "core", "a.gib", "--pass", word];
+    let skipping = ["gib", "core", "--skips", "a.gib", "--pass", word];
     Ok(
-        ended.status == Status::Done
-            && ended.out.bytes() == text.as_bytes()
-            && ended.err.bytes().is_empty(),
+        prints(rt, alloc, cores.source, &usual, &offsets)?
+            && prints(rt, alloc, cores.source, &skipping, &skips)?,
     )
 }
 
-/// Whether `core` prints these cores of a source after each pass, with fields reached by offsets and by skips.
+/// The passes, and their words.
+const PASSES: [(u32, &str); 4] = [(1, "1"), (2, "2"), (3, "3"), (4, "4")];
+
+/// Whether `core` prints the cores of a source after each pass, and of itself the last.
 fn prints_each_pass<R: Threads + Wait + Sync>(
     rt: &R,
     alloc: Global,
-    source: &str,
-    inferred: &str,
-    pieces: &[(&str, &str)],
+    cores: &Cores<'_>,
 ) -> Result<bool, AllocError> {
-    for (pass, word) in [(1, "1"), (2, "2"), (3, "3"), (4, "4")] {
-        for skips in [false, true] {
-            let text = if pass == 1 {
-                String::from_str(alloc, inferred)?
-            } else {
-                text_of(alloc, pieces, pass, skips)?
-            };
-            let usual = ["gib", "core", "a.gib", "--pass", word];
-            let skipping = ["gib", "core", "--skips", "a.gib", "--pass", word];
-            let words = if skips {
-                skipping.as_slice()
-            } else {
-                usual.as_slice()
-            };
-            if !prints(rt, alloc, source, words, text.as_str())? {
-                return Ok(false);
-            }
+    for (pass, word) in &PASSES {
+        if !prints_pass(rt, alloc, cores, *pass, word)? {
+            return Ok(false);
         }
     }
-    let marked = text_of(alloc, pieces, 4, false)?;
-    prints(
-        rt,
-        alloc,
-        source,
-        &["gib", "core", "a.gib"],
-        marked.as_str(),
-    )
+    let marked = text_of(alloc, cores.pieces, 4, false)?;
+    prints(rt, alloc, cores.source, &["gib", "core", "a.gib"], &marked)
 }
+
+/// The programs whose cores are shown.
+const PRINTED: [Cores<'static>; 3] = [
+    Cores {
+        source: ADD_ONE,
+        inferred: ADD_ONE_INFERRED,
+        pieces: &ADD_ONE_PLACED,
+    },
+    Cores {
+        source: RIGHT,
+        inferred: RIGHT_INFERRED,
+        pieces: &RIGHT_PLACED,
+    },
+    Cores {
+        source: EACH,
+        inferred: EACH_INFERRED,
+        pieces: &EACH_PLACED,
+    },
+];
 
 #[test]
 fn a_core_is_printed_after_each_pass(rt: HostRuntime) -> Result<(), Fail> {
-    let alloc = rt.alloc();
-    assert!(rt; prints_each_pass(&rt, alloc, ADD_ONE, ADD_ONE_INFERRED, &ADD_ONE_PLACED)?);
-    assert!(rt; prints_each_pass(&rt, alloc, RIGHT, RIGHT_INFERRED, &RIGHT_PLACED)?);
-    assert!(rt; prints_each_pass(&rt, alloc, EACH, EACH_INFERRED, &EACH_PLACED)?);
+    for cores in &PRINTED {
+        assert!(rt;
+            prints_each_pass(&rt, rt.alloc(), cores)?,
+            "{}",
+            cores.source
+        );
+    }
     Ok(())
+}
+
+/// Whether these words print the code of the first program, with fields reached by offsets or by skips.
+fn prints_code<R: Threads + Wait + Sync>(
+    rt: &R,
+    alloc: Global,
+    words: &[&str],
+    skips: bool,
+) -> Result<bool, AllocError> {
+    let code = text_of(alloc, &ADD_ONE_CODE, 4, skips)?;
+    prints(rt, alloc, ADD_ONE, words, &code)
 }
 
 #[test]
 fn code_is_printed_with_its_labels(rt: HostRuntime) -> Result<(), Fail> {
     let alloc = rt.alloc();
-    let offsets = text_of(alloc, &ADD_ONE_CODE, 4, false)?;
-    let skips = text_of(alloc, &ADD_ONE_CODE, 4, true)?;
-    let words = ["gib", "code", "a.gib"];
-    assert!(rt; prints(&rt, alloc, ADD_ONE, &words, offsets.as_str())?);
-    let words = ["gib", "code", "--skips", "a.gib"];
-    assert!(rt; prints(&rt, alloc, ADD_ONE, &words, skips.as_str())?);
+    assert!(rt; prints_code(&rt, alloc, &["gib", "code", "a.gib"], false)?);
+    assert!(rt; prints_code(&rt, alloc, &["gib", "code", "--skips", "a.gib"], true)?);
     Ok(())
 }
 
+/// Words of `core` and `code`, and of options of theirs, that are not taken.
+const NOT_TAKEN: [&[&str]; 14] = [
+    &["gib", "core"],
+    &["gib", "core", "a.gib", "b.gib"],
+    &["gib", "core", "a.gib", "--pass"],
+    &["gib", "core", "a.gib", "--pass", "0"],
+    &["gib", "core", "a.gib", "--pass", "5"],
+    &["gib", "core", "a.gib", "--pass", "1", "--pass", "1"],
+    &["gib", "core", "a.gib", "--depth", "5"],
+    &["gib", "check", "a.gib", "--pass", "1"],
+    &["gib", "code"],
+    &["gib", "code", "a.gib", "b.gib"],
+    &["gib", "code", "a.gib", "--pass", "1"],
+    &["gib", "code", "a.gib", "--skips", "--skips"],
+    &["gib", "core", "a.gib", "--skips=1"],
+    &["gib", "check", "a.gib", "--skips"],
+];
+
 #[test]
 fn words_of_core_and_code_that_are_not_taken_are_usage(rt: HostRuntime) -> Result<(), Fail> {
-    let alloc = rt.alloc();
-    for words in [
-        ["gib", "core"].as_slice(),
-        ["gib", "core", "a.gib", "b.gib"].as_slice(),
-        ["gib", "core", "a.gib", "--pass"].as_slice(),
-        ["gib", "core", "a.gib", "--pass", "0"].as_slice(),
-        ["gib", "core", "a.gib", "--pass", "5"].as_slice(),
-        ["gib", "core", "a.gib", "--pass", "1", "--pass", "1"].as_slice(),
-        ["gib", "core", "a.gib", "--depth", "5"].as_slice(),
-        ["gib", "check", "a.gib", "--pass", "1"].as_slice(),
-        ["gib", "code"].as_slice(),
-        ["gib", "code", "a.gib", "b.gib"].as_slice(),
-        ["gib", "code", "a.gib", "--pass", "1"].as_slice(),
-        ["gib", "code", "a.gib", "--skips", "--skips"].as_slice(),
-        ["gib", "core", "a.gib", "--skips=1"].as_slice(),
-        ["gib", "check", "a.gib", "--skips"].as_slice(),
-    ] {
-        let files = vec![in alloc; file(alloc, "a.gib", ADD_ONE.as_bytes())?]?;
-        let ended = call(&rt, alloc, words, files, Vec::new(alloc))?;
-        assert_eq!(rt; ended.status, Status::Usage);
-        assert_eq!(rt; ended.out.bytes(), b"".as_slice());
-        assert_eq!(rt; ended.err.bytes(), b"gib: usage\n".as_slice());
+    let end = End {
+        status: Status::Usage,
+        out: "",
+        err: "gib: usage\n",
+    };
+    for words in &NOT_TAKEN {
+        let files = [("a.gib", ADD_ONE.as_bytes())];
+        assert!(rt; ends(&rt, rt.alloc(), words, &files, end)?, "{words:?}");
     }
     Ok(())
+}
+
+/// Sources that are not typed, and their lines.
+const UNTYPED: [(&str, &str); 3] = [
+    ("main @", "gib: source: bad character at 5\n"),
+    ("main (n : Int) : Int =", "gib: source: syntax at 22\n"),
+    (
+        "main (n : Int) : Int = True ;",
+        "gib: source: wrong type at 23\n",
+    ),
+];
+
+/// Whether `core` and `code` refuse a source with this line.
+fn is_refused<R: Threads + Wait + Sync>(
+    rt: &R,
+    alloc: Global,
+    source: &str,
+    err: &str,
+) -> Result<bool, AllocError> {
+    let files = [("a.gib", source.as_bytes())];
+    let end = End {
+        status: Status::Source,
+        out: "",
+        err,
+    };
+    Ok(
+        ends(rt, alloc, &["gib", "core", "a.gib"], &files, end)?
+            && ends(rt, alloc, &["gib", "code", "a.gib"], &files, end)?,
+    )
 }
 
 #[test]
 fn a_source_that_is_not_typed_has_no_core_and_no_code(rt: HostRuntime) -> Result<(), Fail> {
-    let alloc = rt.alloc();
-    for (source, err) in [
-        ("main @", "gib: source: bad character at 5\n"),
-        ("main (n : Int) : Int =", "gib: source: syntax at 22\n"),
-        (
-            "main (n : Int) : Int = True ;",
-            "gib: source: wrong type at 23\n",
-        ),
-    ] {
-        for command in ["core", "code"] {
-            let files = vec![in alloc; file(alloc, "a.gib", source.as_bytes())?]?;
-            let words = ["gib", command, "a.gib"];
-            let ended = call(&rt, alloc, &words, files, Vec::new(alloc))?;
-            assert_eq!(rt; ended.status, Status::Source, "{source}");
-            assert_eq!(rt; ended.out.bytes(), b"".as_slice(), "{source}");
-            assert_eq!(rt; ended.err.bytes(), err.as_bytes(), "{source}");
-        }
+    for (source, err) in &UNTYPED {
+        assert!(rt; is_refused(&rt, rt.alloc(), source, err)?, "{source}");
     }
     Ok(())
+}
+
+/// Whether `core` ends so on a source, where its output takes three bytes.
+fn ends_put<R: Threads + Wait + Sync>(
+    rt: &R,
+    alloc: Global,
+    source: &str,
+    end: End<'_>,
+) -> Result<bool, AllocError> {
+    let files = [("a.gib", source.as_bytes())];
+    let ended = call_on(rt, alloc, &["gib", "core", "a.gib"], &files, &[], &[(0, 3)])?;
+    Ok(is_end(&ended, end))
 }
 
 #[test]
@@ -623,15 +697,17 @@ fn a_source_that_is_not_read_and_a_core_that_is_not_put_are_faults(
     rt: HostRuntime,
 ) -> Result<(), Fail> {
     let alloc = rt.alloc();
-    let words = ["gib", "core", "a.gib"];
-    let ended = call(&rt, alloc, &words, Vec::new(alloc), Vec::new(alloc))?;
-    assert_eq!(rt; ended.status, Status::ReadFault);
-    assert_eq!(rt; ended.out.bytes(), b"".as_slice());
-    assert_eq!(rt; ended.err.bytes(), b"gib: cannot read a.gib\n".as_slice());
-    let files = vec![in alloc; file(alloc, "a.gib", RIGHT.as_bytes())?]?;
-    let ended = call(&rt, alloc, &words, files, vec![in alloc; (0, 3)]?)?;
-    assert_eq!(rt; ended.status, Status::WriteFault);
-    assert_eq!(rt; ended.out.bytes(), b"fun".as_slice());
-    assert_eq!(rt; ended.err.bytes(), b"gib: cannot write\n".as_slice());
+    let end = End {
+        status: Status::ReadFault,
+        out: "",
+        err: "gib: cannot read a.gib\n",
+    };
+    assert!(rt; ends(&rt, alloc, &["gib", "core", "a.gib"], &[], end)?);
+    let end = End {
+        status: Status::WriteFault,
+        out: "fun",
+        err: "gib: cannot write\n",
+    };
+    assert!(rt; ends_put(&rt, alloc, RIGHT, end)?);
     Ok(())
 }

@@ -20,6 +20,14 @@ pub struct Ended {
     pub err: MemSink,
 }
 
+/// How a call has to end: its status, and all that it puts on `out` and on `err`.
+#[derive(Clone, Copy)]
+pub struct End<'a> {
+    pub status: Status,
+    pub out: &'a str,
+    pub err: &'a str,
+}
+
 /// A file by its bytes.
 pub fn file(alloc: Global, name: &str, bytes: &[u8]) -> Result<(String, Vec<u8>), AllocError> {
     Ok((
@@ -36,6 +44,23 @@ pub fn packed(alloc: Global, payload: &[u8]) -> Result<Vec<u8>, AllocError> {
     Ok(bytes)
 }
 
+/// Puts a chunk by its first bytes; all bytes behind these are zeros.
+fn push_chunk(image: &mut Vec<u8>, front: &[u8]) -> Result<(), AllocError> {
+    image.extend_from_slice(front)?;
+    for _ in front.len()..CHUNK {
+        image.push(0)?;
+    }
+    Ok(())
+}
+
+/// Puts chunks by their first bytes.
+fn push_chunks(image: &mut Vec<u8>, chunks: &[&[u8]]) -> Result<(), AllocError> {
+    for front in chunks {
+        push_chunk(image, front)?;
+    }
+    Ok(())
+}
+
 /// The image of a root by its kind and itself, and of chunks by their first bytes; all bytes behind these are zeros.
 pub fn image_of(
     alloc: Global,
@@ -44,15 +69,10 @@ pub fn image_of(
     chunks: &[&[u8]],
 ) -> Result<Vec<u8>, AllocError> {
     let mut bytes = Vec::from_slice(alloc, b"GIBI\x01")?;
-    bytes.push(kind)?;
-    bytes.extend_from_slice(&[0, 0])?;
+    bytes.extend_from_slice(&[kind, 0, 0])?;
     bytes.extend_from_slice(&root.to_le_bytes())?;
     bytes.extend_from_slice(&(chunks.len() as u64).to_le_bytes())?;
-    for front in chunks {
-        bytes.extend_from_slice(front)?;
-        let behind = vec![in alloc; 0u8; CHUNK.saturating_sub(front.len())]?;
-        bytes.extend_from_slice(&behind)?;
-    }
+    push_chunks(&mut bytes, chunks)?;
     Ok(bytes)
 }
 
@@ -80,24 +100,37 @@ pub fn call_failing<R: Threads + Wait + Sync>(
     call_at(rt, alloc, &FreeGate, texts, shelf, out)
 }
 
-/// Runs the top call on these words, with this shelf and sink; the workers of a run come to the gate.
+/// Runs the top call on these words, with this shelf and these sinks; the workers of a run come to the gate.
+fn ended_by<R: Threads + Wait + Sync, G: Gate + Sync>(
+    rt: &R,
+    alloc: Global,
+    gate: &G,
+    words: &[String],
+    mut shelf: MemShelf,
+    mut out: MemSink,
+    mut err: MemSink,
+) -> Ended {
+    let status = gib(rt, alloc, words, &mut shelf, &mut out, &mut err, gate);
+    Ended {
+        status,
+        shelf,
+        out,
+        err,
+    }
+}
+
+/// The same, with an empty sink for the line.
 pub fn call_at<R: Threads + Wait + Sync, G: Gate + Sync>(
     rt: &R,
     alloc: Global,
     gate: &G,
     texts: &[&str],
-    mut shelf: MemShelf,
-    mut out: MemSink,
+    shelf: MemShelf,
+    out: MemSink,
 ) -> Result<Ended, AllocError> {
     let words = words(alloc, texts)?;
-    let mut err = MemSink::make(alloc, 4_096, Vec::new(alloc))?;
-    let status = gib(rt, alloc, &words, &mut shelf, &mut out, &mut err, gate);
-    Ok(Ended {
-        status,
-        shelf,
-        out,
-        err,
-    })
+    let err = MemSink::make(alloc, 4_096, Vec::new(alloc))?;
+    Ok(ended_by(rt, alloc, gate, &words, shelf, out, err))
 }
 
 /// Runs the top call on these words and files; `out` fails as the pairs say.
@@ -109,4 +142,76 @@ pub fn call<R: Threads + Wait + Sync>(
     fails: Vec<(u64, u64)>,
 ) -> Result<Ended, AllocError> {
     call_failing(rt, alloc, texts, files, Vec::new(alloc), fails)
+}
+
+/// A source, which is `a.gib`, and a second file.
+pub fn two_files<'x>(source: &'x str, name: &'x str, bytes: &'x [u8]) -> [(&'x str, &'x [u8]); 2] {
+    [("a.gib", source.as_bytes()), (name, bytes)]
+}
+
+/// Files by their names and bytes.
+fn files_of(alloc: Global, files: &[(&str, &[u8])]) -> Result<Vec<(String, Vec<u8>)>, AllocError> {
+    let mut made = Vec::new(alloc);
+    for (name, bytes) in files {
+        made.push(file(alloc, name, bytes)?)?;
+    }
+    Ok(made)
+}
+
+/// Runs the top call on these words and files; the shelf fails at the calls of these numbers, and `out` as the
+/// pairs say.
+pub fn call_on<R: Threads + Wait + Sync>(
+    rt: &R,
+    alloc: Global,
+    texts: &[&str],
+    files: &[(&str, &[u8])],
+    shelf_fails: &[u64],
+    out_fails: &[(u64, u64)],
+) -> Result<Ended, AllocError> {
+    let files = files_of(alloc, files)?;
+    let shelf = MemShelf::make(alloc, files, Vec::from_slice(alloc, shelf_fails)?)?;
+    let out = MemSink::make(alloc, 16_777_216, Vec::from_slice(alloc, out_fails)?)?;
+    call_at(rt, alloc, &FreeGate, texts, shelf, out)
+}
+
+/// Whether a call ended so.
+pub fn is_end(ended: &Ended, end: End<'_>) -> bool {
+    ended.status == end.status
+        && ended.out.bytes() == end.out.as_bytes()
+        && ended.err.bytes() == end.err.as_bytes()
+}
+
+/// Whether the top call on these words and files ends so.
+pub fn ends<R: Threads + Wait + Sync>(
+    rt: &R,
+    alloc: Global,
+    texts: &[&str],
+    files: &[(&str, &[u8])],
+    end: End<'_>,
+) -> Result<bool, AllocError> {
+    let ended = call_on(rt, alloc, texts, files, &[], &[])?;
+    Ok(is_end(&ended, end))
+}
+
+/// Whether a shelf has files of these names with these bytes, or none of a name.
+pub fn has_files(shelf: &MemShelf, files: &[(&str, Option<&[u8]>)]) -> bool {
+    for (name, bytes) in files {
+        if shelf.file(name) != *bytes {
+            return false;
+        }
+    }
+    true
+}
+
+/// Whether the top call on these words and files ends so, and leaves files of these names with these bytes, or none of a name.
+pub fn ends_with<R: Threads + Wait + Sync>(
+    rt: &R,
+    alloc: Global,
+    texts: &[&str],
+    files: &[(&str, &[u8])],
+    end: End<'_>,
+    left: &[(&str, Option<&[u8]>)],
+) -> Result<bool, AllocError> {
+    let ended = call_on(rt, alloc, texts, files, &[], &[])?;
+    Ok(is_end(&ended, end) && has_files(&ended.shelf, left))
 }

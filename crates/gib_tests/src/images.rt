@@ -1,6 +1,8 @@
 //! Images that runs write, byte by byte. The bytes are those of a second implementation.
 
-use crate::harness::{CHUNK, Ended, call, call_failing, file, image_of, packed};
+use crate::harness::{
+    CHUNK, End, Ended, call_on, ends, has_files, image_of, is_end, packed, two_files,
+};
 use gib_app::Status;
 use std::alloc::{AllocError, Global};
 use std::sync::Wait;
@@ -34,18 +36,31 @@ const WORDS: [&str; 9] = [
     "gib", "run", "--skips", "a.gib", "a.gbp", "--image", "m.gbi", "--chunks", "16",
 ];
 
-/// The files of a program and of its packed input.
-fn files(
+/// Calls with these words on a program and its packed input; the shelf fails at the calls of these numbers, and `out` as the pairs say.
+fn called<R: Threads + Wait + Sync>(
+    rt: &R,
     alloc: Global,
-    source: &str,
-    payload: &[u8],
-) -> Result<Vec<(String, Vec<u8>)>, AllocError> {
-    let files = vec![in alloc;
-        file(alloc, "a.gib", source.as_bytes())?,
-        file(alloc, "a.gbp", &packed(alloc, payload)?)?,
-    ]?;
-    Ok(files)
+    words: &[&str],
+    inputs: (&str, &[u8]),
+    shelf_fails: &[u64],
+    out_fails: &[(u64, u64)],
+) -> Result<Ended, AllocError> {
+    let input = packed(alloc, inputs.1)?;
+    let files = two_files(inputs.0, "a.gbp", &input);
+    call_on(rt, alloc, words, &files, shelf_fails, out_fails)
 }
+
+/// One is added to each leaf.
+const ADDED: Row<'static> = Row {
+    source: ADD_ONE,
+    payload: TWO_LEAVES,
+    kind: 2,
+    root: 19,
+    chunks: &[
+        b"\x01\x00\x01\0\0\0\0\0\0\0\x00\x02\0\0\0\0\0\0\0\x01\x00\x02\0\0\0\0\0\0\0\x00\x03\0\0\0\0\0\0\0",
+    ],
+    text: "(Node (Leaf 2) (Leaf 3))\n",
+};
 
 const ROWS: [Row<'static>; 9] = [
     // A value that is named twice stands once.
@@ -78,16 +93,7 @@ const ROWS: [Row<'static>; 9] = [
         chunks: &[b"\x01\x00\x01\0\0\0\0\0\0\0\x00\x02\0\0\0\0\0\0\0\xfe\0\0\0\0\0\0\0\0"],
         text: "(Node (Leaf 1) (Leaf 2))\n",
     },
-    Row {
-        source: ADD_ONE,
-        payload: TWO_LEAVES,
-        kind: 2,
-        root: 19,
-        chunks: &[
-            b"\x01\x00\x01\0\0\0\0\0\0\0\x00\x02\0\0\0\0\0\0\0\x01\x00\x02\0\0\0\0\0\0\0\x00\x03\0\0\0\0\0\0\0",
-        ],
-        text: "(Node (Leaf 2) (Leaf 3))\n",
-    },
+    ADDED,
     // A whole number, with the input's chunk.
     Row {
         source: "data Tree = Leaf Int | Node Tree Tree ; fun right (t : Tree) : Int = case t of { Leaf n -> n ; Node l r -> right r } ; main (t : Tree) : Int = right t ;",
@@ -136,18 +142,33 @@ const ROWS: [Row<'static>; 9] = [
     },
 ];
 
+/// The end of a call that puts this.
+fn done(out: &str) -> End<'_> {
+    End {
+        status: Status::Done,
+        out,
+        err: "",
+    }
+}
+
+/// Whether a run of a row with these words ends with its text, and leaves its image in this file.
+fn writes_image<R: Threads + Wait + Sync>(
+    rt: &R,
+    alloc: Global,
+    words: &[&str],
+    row: &Row<'_>,
+    name: &str,
+) -> Result<bool, AllocError> {
+    let image = image(alloc, row)?;
+    let ended = called(rt, alloc, words, (row.source, row.payload), &[], &[])?;
+    Ok(is_end(&ended, done(row.text)) && has_files(&ended.shelf, &[(name, Some(&image))]))
+}
+
 #[test]
 fn a_run_writes_its_image(rt: HostRuntime) -> Result<(), Fail> {
-    let alloc = rt.alloc();
     for row in &ROWS {
-        let files = files(alloc, row.source, row.payload)?;
-        let ended = call(&rt, alloc, &WORDS, files, Vec::new(alloc))?;
-        let want = image(alloc, row)?;
-        assert_eq!(rt; ended.status, Status::Done, "{}", row.source);
-        assert_eq!(rt; ended.out.bytes(), row.text.as_bytes(), "{}", row.source);
-        assert!(rt; ended.err.bytes().is_empty(), "{}", row.source);
         assert!(rt;
-            ended.shelf.file("m.gbi") == Some(want.as_slice()),
+            writes_image(&rt, rt.alloc(), &WORDS, row, "m.gbi")?,
             "{}",
             row.source
         );
@@ -155,125 +176,158 @@ fn a_run_writes_its_image(rt: HostRuntime) -> Result<(), Fail> {
     Ok(())
 }
 
+/// Calls of the shelf that fail, with how a run ends, and whether it wrote its image and its value.
+const FAILING: [(u64, Status, &str, bool); 4] = [
+    (0, Status::ReadFault, "gib: cannot read a.gib\n", false),
+    (1, Status::ReadFault, "gib: cannot read a.gbp\n", false),
+    (2, Status::WriteFault, "gib: cannot write m.gbi\n", false),
+    (3, Status::Done, "", true),
+];
+
+/// Whether a run ends so where the call of this number fails, and wrote its image and its value or neither.
+fn is_told<R: Threads + Wait + Sync>(
+    rt: &R,
+    alloc: Global,
+    number: u64,
+    status: Status,
+    err: &str,
+    written: bool,
+) -> Result<bool, AllocError> {
+    let ended = called(rt, alloc, &WORDS, (ADD_ONE, TWO_LEAVES), &[number], &[])?;
+    Ok(
+        ended.status == status
+            && ended.err.bytes() == err.as_bytes()
+            && ended.out.bytes().is_empty() != written
+            && ended.shelf.file("m.gbi").is_some() == written,
+    )
+}
+
 #[test]
 fn each_call_of_a_run_with_an_image_may_fail(rt: HostRuntime) -> Result<(), Fail> {
-    let alloc = rt.alloc();
-    for (number, status, err, written) in [
-        (0, Status::ReadFault, "gib: cannot read a.gib\n", false),
-        (1, Status::ReadFault, "gib: cannot read a.gbp\n", false),
-        (2, Status::WriteFault, "gib: cannot write m.gbi\n", false),
-        (3, Status::Done, "", true),
-    ] {
-        let fails = vec![in alloc; number]?;
-        let files = files(alloc, ADD_ONE, TWO_LEAVES)?;
-        let ended = call_failing(&rt, alloc, &WORDS, files, fails, Vec::new(alloc))?;
-        assert_eq!(rt; ended.status, status);
-        assert_eq!(rt; ended.err.bytes(), err.as_bytes());
-        assert_eq!(rt; ended.out.bytes().is_empty(), !written);
-        assert_eq!(rt; ended.shelf.file("m.gbi").is_some(), written);
+    for (number, status, err, written) in &FAILING {
+        assert!(rt;
+            is_told(&rt, rt.alloc(), *number, *status, err, *written)?,
+            "{number}"
+        );
     }
     Ok(())
 }
 
+/// Whether a run whose output takes three bytes leaves its image.
+fn writes_before<R: Threads + Wait + Sync>(rt: &R, alloc: Global) -> Result<bool, AllocError> {
+    let end = End {
+        status: Status::WriteFault,
+        out: "(No",
+        err: "gib: cannot write\n",
+    };
+    let ended = called(rt, alloc, &WORDS, (ADD_ONE, TWO_LEAVES), &[], &[(0, 3)])?;
+    Ok(is_end(&ended, end) && ended.shelf.file("m.gbi").is_some())
+}
+
 #[test]
 fn an_image_stands_before_the_output(rt: HostRuntime) -> Result<(), Fail> {
-    let alloc = rt.alloc();
-    let files = files(alloc, ADD_ONE, TWO_LEAVES)?;
-    let ended = call(&rt, alloc, &WORDS, files, vec![in alloc; (0, 3)]?)?;
-    assert_eq!(rt; ended.status, Status::WriteFault);
-    assert_eq!(rt; ended.err.bytes(), b"gib: cannot write\n".as_slice());
-    assert_eq!(rt; ended.out.bytes(), b"(No".as_slice());
-    assert!(rt; ended.shelf.file("m.gbi").is_some());
+    assert!(rt; writes_before(&rt, rt.alloc())?);
     Ok(())
+}
+
+const BUILD: &str =
+    "data List = Nil | Cons Int List ; fun build (n : Int) : List = if (n < 1) then Nil else Cons n (build (n - 1)) ; main (n : Int) : List = build n ;";
+
+/// Programs, payloads and words of runs that come to no value, and how these end.
+const NO_VALUES: [(&str, &[u8], &[&str], Status, &str); 3] = [
+    (
+        ADD_ONE,
+        TWO_LEAVES,
+        &[
+            "gib", "run", "a.gib", "a.gbp", "--image", "m.gbi", "--depth", "1",
+        ],
+        Status::Depth,
+        "gib: depth\n",
+    ),
+    (
+        BUILD,
+        b"\x40\x1f\0\0\0\0\0\0",
+        &WORDS,
+        Status::Full,
+        "gib: chunks\n",
+    ),
+    (
+        ADD_ONE,
+        b"\x02",
+        &WORDS,
+        Status::Input,
+        "gib: input: bad tag at 0\n",
+    ),
+];
+
+/// Whether a call with these words on a program and its packed input ends so, and leaves no image.
+fn leaves_none<R: Threads + Wait + Sync>(
+    rt: &R,
+    alloc: Global,
+    words: &[&str],
+    inputs: (&str, &[u8]),
+    end: End<'_>,
+) -> Result<bool, AllocError> {
+    let ended = called(rt, alloc, words, inputs, &[], &[])?;
+    Ok(is_end(&ended, end) && has_files(&ended.shelf, &[("m.gbi", None)]))
 }
 
 #[test]
 fn without_a_value_no_image_is_written(rt: HostRuntime) -> Result<(), Fail> {
-    let alloc = rt.alloc();
-    let build =
-        "data List = Nil | Cons Int List ; fun build (n : Int) : List = if (n < 1) then Nil else Cons n (build (n - 1)) ; main (n : Int) : List = build n ;";
-    for (source, payload, words, status, err) in [
-        (
-            ADD_ONE,
-            TWO_LEAVES,
-            [
-                "gib", "run", "a.gib", "a.gbp", "--image", "m.gbi", "--depth", "1",
-            ]
-            .as_slice(),
-            Status::Depth,
-            "gib: depth\n",
-        ),
-        (
-            build,
-            b"\x40\x1f\0\0\0\0\0\0".as_slice(),
-            WORDS.as_slice(),
-            Status::Full,
-            "gib: chunks\n",
-        ),
-        (
-            ADD_ONE,
-            b"\x02".as_slice(),
-            WORDS.as_slice(),
-            Status::Input,
-            "gib: input: bad tag at 0\n",
-        ),
-    ] {
-        let files = files(alloc, source, payload)?;
-        let ended = call(&rt, alloc, words, files, Vec::new(alloc))?;
-        assert_eq!(rt; ended.status, status);
-        assert_eq!(rt; ended.err.bytes(), err.as_bytes());
-        assert!(rt; ended.out.bytes().is_empty());
-        assert!(rt; ended.shelf.file("m.gbi").is_none());
+    for (source, payload, words, status, err) in &NO_VALUES {
+        let end = End {
+            status: *status,
+            out: "",
+            err,
+        };
+        assert!(rt;
+            leaves_none(&rt, rt.alloc(), words, (source, payload), end)?,
+            "{err}"
+        );
     }
     Ok(())
 }
 
 #[test]
 fn an_image_may_be_written_over_a_file_that_was_read(rt: HostRuntime) -> Result<(), Fail> {
-    let alloc = rt.alloc();
-    let want = image(alloc, &ROWS[3])?;
-    for name in ["a.gib", "a.gbp"] {
+    for name in &["a.gib", "a.gbp"] {
         let words = [
             "gib", "run", "--skips", "a.gib", "a.gbp", "--image", name, "--chunks", "16",
         ];
-        let files = files(alloc, ADD_ONE, TWO_LEAVES)?;
-        let ended = call(&rt, alloc, &words, files, Vec::new(alloc))?;
-        assert_eq!(rt; ended.status, Status::Done);
-        assert_eq!(rt; ended.out.bytes(), b"(Node (Leaf 2) (Leaf 3))\n".as_slice());
-        assert!(rt; ended.shelf.file(name) == Some(want.as_slice()));
+        assert!(rt;
+            writes_image(&rt, rt.alloc(), &words, &ADDED, name)?,
+            "{name}"
+        );
     }
     Ok(())
 }
 
-/// Shows a file by a program.
-fn show_by<R: Threads + Wait + Sync>(
+/// Whether a call with these words shows a file by a program, and ends so.
+fn shows_by<R: Threads + Wait + Sync>(
     rt: &R,
     alloc: Global,
     words: &[&str],
     source: &str,
     bytes: &[u8],
-) -> Result<Ended, AllocError> {
-    let files = vec![in alloc;
-        file(alloc, "a.gib", source.as_bytes())?,
-        file(alloc, "m.gbi", bytes)?,
-    ]?;
-    call(rt, alloc, words, files, Vec::new(alloc))
+    end: End<'_>,
+) -> Result<bool, AllocError> {
+    let files = two_files(source, "m.gbi", bytes);
+    ends(rt, alloc, words, &files, end)
 }
 
-/// The same where heads store no offsets.
-fn show<R: Threads + Wait + Sync>(
-    rt: &R,
-    alloc: Global,
-    source: &str,
-    bytes: &[u8],
-) -> Result<Ended, AllocError> {
-    show_by(
-        rt,
-        alloc,
-        &["gib", "show", "a.gib", "m.gbi", "--skips"],
-        source,
-        bytes,
-    )
+/// The words that show an image where heads store no offsets.
+const SKIPS: [&str; 5] = ["gib", "show", "a.gib", "m.gbi", "--skips"];
+
+/// The words that show an image where heads store offsets.
+const OFFSETS: [&str; 4] = ["gib", "show", "a.gib", "m.gbi"];
+
+/// The end of a call that refuses its second file with this line.
+fn refused(err: &str) -> End<'_> {
+    End {
+        status: Status::Input,
+        out: "",
+        err,
+    }
 }
 
 /// Whether a file is refused with this line, and nothing is put.
@@ -284,12 +338,7 @@ fn refuses<R: Threads + Wait + Sync>(
     bytes: &[u8],
     line: &str,
 ) -> Result<bool, AllocError> {
-    let ended = show(rt, alloc, source, bytes)?;
-    Ok(
-        ended.status == Status::Input
-            && ended.out.bytes().is_empty()
-            && ended.err.bytes() == line.as_bytes(),
-    )
+    shows_by(rt, alloc, &SKIPS, source, bytes, refused(line))
 }
 
 /// The image of a row with other bytes at some places of the file.
@@ -303,14 +352,20 @@ fn changed(alloc: Global, row: &Row<'_>, changes: &[(usize, u8)]) -> Result<Vec<
     Ok(bytes)
 }
 
+/// Whether the image of a row is shown as its text.
+fn is_shown<R: Threads + Wait + Sync>(
+    rt: &R,
+    alloc: Global,
+    row: &Row<'_>,
+) -> Result<bool, AllocError> {
+    let image = image(alloc, row)?;
+    shows_by(rt, alloc, &SKIPS, row.source, &image, done(row.text))
+}
+
 #[test]
 fn an_image_is_shown(rt: HostRuntime) -> Result<(), Fail> {
-    let alloc = rt.alloc();
     for row in &ROWS {
-        let ended = show(&rt, alloc, row.source, &image(alloc, row)?)?;
-        assert_eq!(rt; ended.status, Status::Done, "{}", row.source);
-        assert_eq!(rt; ended.out.bytes(), row.text.as_bytes(), "{}", row.source);
-        assert!(rt; ended.err.bytes().is_empty(), "{}", row.source);
+        assert!(rt; is_shown(&rt, rt.alloc(), row)?, "{}", row.source);
     }
     Ok(())
 }
@@ -323,66 +378,96 @@ fn shows_changed<R: Threads + Wait + Sync>(
     text: &str,
 ) -> Result<bool, AllocError> {
     let bytes = changed(alloc, &ROWS[0], changes)?;
-    let ended = show(rt, alloc, ROWS[0].source, &bytes)?;
-    Ok(ended.status == Status::Done && ended.out.bytes() == text.as_bytes())
+    shows_by(rt, alloc, &SKIPS, ROWS[0].source, &bytes, done(text))
 }
+
+/// Changes of the first row's image, and what is shown of it.
+const ROOTS: [(&[(usize, u8)], &str); 4] = [
+    (&[(9, 16)], "(Leaf 1)\n"),
+    (&[(8, 1)], "(Leaf 1)\n"),
+    (&[(8, 10)], "(Leaf 1)\n"),
+    // The first tree is a leaf with the bytes of an address, and the second one is where it was.
+    (&[(24 + 1, 0)], "(Node (Leaf 4096) (Leaf 1))\n"),
+];
 
 #[test]
 fn an_image_is_read_from_its_root(rt: HostRuntime) -> Result<(), Fail> {
-    let alloc = rt.alloc();
-    for (changes, text) in [
-        ([(9, 16)].as_slice(), "(Leaf 1)\n"),
-        ([(8, 1)].as_slice(), "(Leaf 1)\n"),
-        ([(8, 10)].as_slice(), "(Leaf 1)\n"),
-        // The first tree is a leaf with the bytes of an address, and the second one is where it was.
-        ([(24 + 1, 0)].as_slice(), "(Node (Leaf 4096) (Leaf 1))\n"),
-    ] {
-        assert!(rt; shows_changed(&rt, alloc, changes, text)?, "{text}");
+    for (changes, text) in &ROOTS {
+        assert!(rt; shows_changed(&rt, rt.alloc(), changes, text)?, "{text}");
     }
     Ok(())
+}
+
+/// The line on a header that does not fit.
+const HEADER: &str = "gib: input: bad image header\n";
+
+/// Changes of a header: its version, kind, reserved bytes, and the number of chunks: one more, one less, and 65,538.
+const HEADERS: [(usize, u8); 8] = [
+    (4, 2),
+    (5, 0),
+    (5, 1),
+    (6, 1),
+    (7, 1),
+    (16, 3),
+    (16, 1),
+    (18, 1),
+];
+
+/// Bytes that begin neither a packed file nor an image.
+const NO_FILES: [&[u8]; 3] = [b"GIB", b"GIBJ\x01\x02", b""];
+
+/// Whether the image of a row with these changes is refused with this line.
+fn refuses_changed<R: Threads + Wait + Sync>(
+    rt: &R,
+    alloc: Global,
+    row: &Row<'_>,
+    changes: &[(usize, u8)],
+    line: &str,
+) -> Result<bool, AllocError> {
+    let bytes = changed(alloc, row, changes)?;
+    refuses(rt, alloc, row.source, &bytes, line)
+}
+
+/// Whether the first row's image is refused with a byte more, a byte less, a chunk less, or its first bytes alone.
+fn refuses_lengths<R: Threads + Wait + Sync>(rt: &R, alloc: Global) -> Result<bool, AllocError> {
+    let source = ROWS[0].source;
+    let mut image = image(alloc, &ROWS[0])?;
+    let (shorter, _) = image.split_at(image.len().saturating_sub(1));
+    let (cut, _) = image.split_at(image.len().saturating_sub(CHUNK));
+    let less = refuses(rt, alloc, source, shorter, HEADER)?
+        && refuses(rt, alloc, source, cut, HEADER)?
+        && refuses(rt, alloc, source, b"GIBI", HEADER)?;
+    image.push(0)?;
+    Ok(less && refuses(rt, alloc, source, &image, HEADER)?)
+}
+
+/// Whether the image of a tree is refused by a program on trees that gives a number.
+fn refuses_type<R: Threads + Wait + Sync>(rt: &R, alloc: Global) -> Result<bool, AllocError> {
+    let image = image(alloc, &ROWS[0])?;
+    let number = "data Tree = Leaf Int | Node Tree Tree ; main (t : Tree) : Int = 0 ;";
+    refuses(rt, alloc, number, &image, HEADER)
 }
 
 #[test]
 fn a_header_of_another_form_is_refused(rt: HostRuntime) -> Result<(), Fail> {
     let alloc = rt.alloc();
-    let source = ROWS[0].source;
-    let line = "gib: input: bad image header\n";
-    // Version, kind, reserved bytes, and the number of chunks: one more, one less, and 65,538.
-    for change in [
-        (4, 2),
-        (5, 0),
-        (5, 1),
-        (6, 1),
-        (7, 1),
-        (16, 3),
-        (16, 1),
-        (18, 1),
-    ] {
-        let bytes = changed(alloc, &ROWS[0], &[change])?;
-        assert!(rt; refuses(&rt, alloc, source, &bytes, line)?);
+    for change in &HEADERS {
+        assert!(rt; refuses_changed(&rt, alloc, &ROWS[0], &[*change], HEADER)?);
     }
-    let whole = image(alloc, &ROWS[0])?;
-    let mut longer = image(alloc, &ROWS[0])?;
-    longer.push(0)?;
-    let (shorter, _) = whole.split_at(whole.len().saturating_sub(1));
-    let (cut, _) = whole.split_at(whole.len().saturating_sub(CHUNK));
-    for bytes in [longer.as_slice(), shorter, cut, b"GIBI".as_slice()] {
-        assert!(rt; refuses(&rt, alloc, source, bytes, line)?);
-    }
-    let number = "data Tree = Leaf Int | Node Tree Tree ; main (t : Tree) : Int = 0 ;";
-    assert!(rt; refuses(&rt, alloc, number, &whole, line)?, "another type");
-    let truth = changed(alloc, &ROWS[6], &[(8, 2)])?;
-    assert!(rt;
-        refuses(&rt, alloc, ROWS[6].source, &truth, line)?,
-        "a truth value past 1"
-    );
-    let line = "gib: input: not a packed file\n";
-    for bytes in [
-        b"GIB".as_slice(),
-        b"GIBJ\x01\x02".as_slice(),
-        b"".as_slice(),
-    ] {
-        assert!(rt; refuses(&rt, alloc, source, bytes, line)?);
+    assert!(rt; refuses_lengths(&rt, alloc)?);
+    // A truth value past 1, and an image of another type.
+    assert!(rt; refuses_changed(&rt, alloc, &ROWS[6], &[(8, 2)], HEADER)?);
+    assert!(rt; refuses_type(&rt, alloc)?);
+    for bytes in &NO_FILES {
+        assert!(rt;
+            refuses(
+                &rt,
+                alloc,
+                ROWS[0].source,
+                bytes,
+                "gib: input: not a packed file\n"
+            )?
+        );
     }
     Ok(())
 }
@@ -399,50 +484,57 @@ const FAR: [(usize, u8); 8] = [
     (33, 255),
 ];
 
+/// Changes of the first row's image, and the lines that refuse it.
+const ITEMS: [(&[(usize, u8)], &str); 11] = [
+    // The root's address, behind all chunks.
+    (&[(9, 32)], "gib: input: bad image at 8192\n"),
+    // A tag that no constructor has, and the greatest such tag.
+    (&[(24, 2)], "gib: input: bad image at 0\n"),
+    (&[(24, 253)], "gib: input: bad image at 0\n"),
+    // An indirection behind all chunks, at their end and far off.
+    (&[(24 + 3, 32)], "gib: input: bad image at 8192\n"),
+    (&FAR, "gib: input: bad image at 18446744073709551615\n"),
+    // The leaf, the second tree, and the first of two that are bad.
+    (&[(24 + 4096, 2)], "gib: input: bad image at 4096\n"),
+    (&[(24 + 10, 253)], "gib: input: bad image at 10\n"),
+    (&[(24 + 1, 2), (24 + 10, 9)], "gib: input: bad image at 1\n"),
+    // A leaf and an indirection that the end cuts, and a node whose first tree is behind it.
+    (&[(8, 255), (9, 31)], "gib: input: bad image at 8191\n"),
+    (
+        &[(8, 255), (9, 31), (24 + 8191, 254)],
+        "gib: input: bad image at 8191\n",
+    ),
+    (
+        &[(8, 255), (9, 31), (24 + 8191, 1)],
+        "gib: input: bad image at 8192\n",
+    ),
+];
+
+/// A field that is no truth value.
+const TRUTH: Row<'static> = Row {
+    source: "data B = B Bool ; main (n : Int) : B = B True ;",
+    payload: b"",
+    kind: 2,
+    root: 0,
+    chunks: &[b"\x00\x02"],
+    text: "",
+};
+
 #[test]
 fn the_first_bad_item_is_named(rt: HostRuntime) -> Result<(), Fail> {
     let alloc = rt.alloc();
-    for (changes, place) in [
-        // The root's address, behind all chunks.
-        ([(9, 32)].as_slice(), "8192"),
-        // A tag that no constructor has, and the greatest such tag.
-        ([(24, 2)].as_slice(), "0"),
-        ([(24, 253)].as_slice(), "0"),
-        // An indirection behind all chunks, at their end and far off.
-        ([(24 + 3, 32)].as_slice(), "8192"),
-        (FAR.as_slice(), "18446744073709551615"),
-        // The leaf, the second tree, and the first of two that are bad.
-        ([(24 + 4096, 2)].as_slice(), "4096"),
-        ([(24 + 10, 253)].as_slice(), "10"),
-        ([(24 + 1, 2), (24 + 10, 9)].as_slice(), "1"),
-        // A leaf and an indirection that the end cuts, and a node whose first tree is behind it.
-        ([(8, 255), (9, 31)].as_slice(), "8191"),
-        ([(8, 255), (9, 31), (24 + 8191, 254)].as_slice(), "8191"),
-        ([(8, 255), (9, 31), (24 + 8191, 1)].as_slice(), "8192"),
-    ] {
-        let bytes = changed(alloc, &ROWS[0], changes)?;
-        let line = format!(in alloc; "gib: input: bad image at {place}\n")?;
+    for (changes, line) in &ITEMS {
         assert!(rt;
-            refuses(&rt, alloc, ROWS[0].source, &bytes, &line)?,
-            "{place}"
+            refuses_changed(&rt, alloc, &ROWS[0], changes, line)?,
+            "{line}"
         );
     }
-    let source = "data B = B Bool ; main (n : Int) : B = B True ;";
-    let row = Row {
-        source,
-        payload: b"",
-        kind: 2,
-        root: 0,
-        chunks: &[b"\x00\x02"],
-        text: "",
-    };
-    let bytes = image(alloc, &row)?;
-    assert!(rt; refuses(&rt, alloc, source, &bytes, "gib: input: bad image at 1\n")?);
+    assert!(rt; refuses_changed(&rt, alloc, &TRUTH, &[], "gib: input: bad image at 1\n")?);
     Ok(())
 }
 
 /// A node's head stores where its second tree stands, in the input and in the answer.
-const OFFSETS: Row<'static> = Row {
+const SEEN: Row<'static> = Row {
     source: ADD_ONE,
     payload: TWO_LEAVES,
     kind: 2,
@@ -453,61 +545,61 @@ const OFFSETS: Row<'static> = Row {
     text: "(Node (Leaf 2) (Leaf 3))\n",
 };
 
+/// Whether the image whose heads store offsets is shown as its text.
+fn shows_offsets<R: Threads + Wait + Sync>(rt: &R, alloc: Global) -> Result<bool, AllocError> {
+    let image = image(alloc, &SEEN)?;
+    shows_by(rt, alloc, &OFFSETS, SEEN.source, &image, done(SEEN.text))
+}
+
 #[test]
 fn a_run_writes_offsets_where_a_field_is_reached_by_one(rt: HostRuntime) -> Result<(), Fail> {
     let alloc = rt.alloc();
-    let files = files(alloc, ADD_ONE, TWO_LEAVES)?;
     let words = ["gib", "run", "a.gib", "a.gbp", "--image", "m.gbi"];
-    let ended = call(&rt, alloc, &words, files, Vec::new(alloc))?;
-    let want = image(alloc, &OFFSETS)?;
-    assert_eq!(rt; ended.status, Status::Done);
-    assert_eq!(rt; ended.out.bytes(), OFFSETS.text.as_bytes());
-    assert!(rt; ended.shelf.file("m.gbi") == Some(want.as_slice()));
-    let words = ["gib", "show", "a.gib", "m.gbi"];
-    let ended = show_by(&rt, alloc, &words, ADD_ONE, &want)?;
-    assert_eq!(rt; ended.status, Status::Done);
-    assert_eq!(rt; ended.out.bytes(), OFFSETS.text.as_bytes());
+    assert!(rt; writes_image(&rt, alloc, &words, &SEEN, "m.gbi")?);
+    assert!(rt; shows_offsets(&rt, alloc)?);
     Ok(())
+}
+
+/// Words that show images with these changes, and the lines that refuse these.
+const LAYOUTS: [(&[&str], &Row<'static>, &[(usize, u8)], &str); 4] = [
+    // One that has offsets as one that has none, and the other way round.
+    (&SKIPS, &SEEN, &[], "gib: input: bad image at 28\n"),
+    (&OFFSETS, &ADDED, &[], "gib: input: bad image at 20\n"),
+    // An offset that is not the end of the first tree, and behind it a tree that is bad.
+    (
+        &OFFSETS,
+        &SEEN,
+        &[(24 + 28, 46)],
+        "gib: input: bad image at 28\n",
+    ),
+    (
+        &OFFSETS,
+        &SEEN,
+        &[(24 + 28, 46), (24 + 36, 3)],
+        "gib: input: bad image at 36\n",
+    ),
+];
+
+/// Whether these words refuse the image of a row with these changes with this line.
+fn refuses_by<R: Threads + Wait + Sync>(
+    rt: &R,
+    alloc: Global,
+    words: &[&str],
+    row: &Row<'_>,
+    changes: &[(usize, u8)],
+    line: &str,
+) -> Result<bool, AllocError> {
+    let bytes = changed(alloc, row, changes)?;
+    shows_by(rt, alloc, words, ADD_ONE, &bytes, refused(line))
 }
 
 #[test]
 fn an_image_is_read_by_the_layouts_of_the_words(rt: HostRuntime) -> Result<(), Fail> {
-    let alloc = rt.alloc();
-    let usual = ["gib", "show", "a.gib", "m.gbi"];
-    let skips = ["gib", "show", "a.gib", "m.gbi", "--skips"];
-    for (words, row, changes, line) in [
-        // One that has offsets as one that has none, and the other way round.
-        (
-            skips.as_slice(),
-            &OFFSETS,
-            [].as_slice(),
-            "gib: input: bad image at 28\n",
-        ),
-        (
-            usual.as_slice(),
-            &ROWS[3],
-            [].as_slice(),
-            "gib: input: bad image at 20\n",
-        ),
-        // An offset that is not the end of the first tree, and behind it a tree that is bad.
-        (
-            usual.as_slice(),
-            &OFFSETS,
-            [(24 + 28, 46)].as_slice(),
-            "gib: input: bad image at 28\n",
-        ),
-        (
-            usual.as_slice(),
-            &OFFSETS,
-            [(24 + 28, 46), (24 + 36, 3)].as_slice(),
-            "gib: input: bad image at 36\n",
-        ),
-    ] {
-        let bytes = changed(alloc, row, changes)?;
-        let ended = show_by(&rt, alloc, words, ADD_ONE, &bytes)?;
-        assert_eq!(rt; ended.status, Status::Input, "{line}");
-        assert!(rt; ended.out.bytes().is_empty(), "{line}");
-        assert_eq!(rt; ended.err.bytes(), line.as_bytes(), "{line}");
+    for (words, row, changes, line) in &LAYOUTS {
+        assert!(rt;
+            refuses_by(&rt, rt.alloc(), words, row, changes, line)?,
+            "{line}"
+        );
     }
     Ok(())
 }

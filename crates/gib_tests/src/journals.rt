@@ -1,7 +1,7 @@
 //! Journals of events that happen to programs: the text and the image that each leaves, or the status and the line. The journals, the
 //! texts and the bytes are those of a second implementation.
 
-use crate::harness::{Ended, call, file, image_of, packed};
+use crate::harness::{End, Ended, call_on, has_files, image_of, is_end, packed};
 use gib_app::Status;
 use std::alloc::{AllocError, Global};
 use std::sync::Wait;
@@ -77,6 +77,15 @@ struct Row<'a> {
     text: &'a str,
 }
 
+/// A source, a packed input and a journal.
+fn three_files<'x>(source: &'x str, input: &'x [u8], journal: &'x str) -> [(&'x str, &'x [u8]); 3] {
+    [
+        ("a.gib", source.as_bytes()),
+        ("a.gbp", input),
+        ("a.gbj", journal.as_bytes()),
+    ]
+}
+
 /// The events of a journal happen to a program on a packed payload; the image is asked for.
 fn replayed<R: Threads + Wait + Sync>(
     rt: &R,
@@ -85,15 +94,12 @@ fn replayed<R: Threads + Wait + Sync>(
     payload: &[u8],
     journal: &str,
 ) -> Result<Ended, AllocError> {
-    let files = vec![in alloc;
-        file(alloc, "a.gib", source.as_bytes())?,
-        file(alloc, "a.gbp", &packed(alloc, payload)?)?,
-        file(alloc, "a.gbj", journal.as_bytes())?,
-    ]?;
+    let input = packed(alloc, payload)?;
+    let files = three_files(source, &input, journal);
     let words = [
         "gib", "replay", "a.gib", "a.gbp", "a.gbj", "--image", "m.gbi",
     ];
-    call(rt, alloc, &words, files, Vec::new(alloc))
+    call_on(rt, alloc, &words, &files, &[], &[])
 }
 
 /// Whether a journal leaves the text and the image that are wanted.
@@ -102,14 +108,14 @@ fn leaves<R: Threads + Wait + Sync>(
     alloc: Global,
     row: &Row<'_>,
 ) -> Result<bool, AllocError> {
-    let ended = replayed(rt, alloc, row.source, row.payload, row.journal)?;
     let image = image_of(alloc, row.kind, row.root, row.chunks)?;
-    Ok(
-        ended.status == Status::Done
-            && ended.out.bytes() == row.text.as_bytes()
-            && ended.err.bytes().is_empty()
-            && ended.shelf.file("m.gbi") == Some(image.as_slice()),
-    )
+    let end = End {
+        status: Status::Done,
+        out: row.text,
+        err: "",
+    };
+    let ended = replayed(rt, alloc, row.source, row.payload, row.journal)?;
+    Ok(is_end(&ended, end) && has_files(&ended.shelf, &[("m.gbi", Some(&image))]))
 }
 
 /// Whether a journal leaves nothing but this status and line.
@@ -122,13 +128,13 @@ fn stops<R: Threads + Wait + Sync>(
     status: Status,
     line: &str,
 ) -> Result<bool, AllocError> {
+    let end = End {
+        status,
+        out: "",
+        err: line,
+    };
     let ended = replayed(rt, alloc, source, payload, journal)?;
-    Ok(
-        ended.status == status
-            && ended.out.bytes().is_empty()
-            && ended.err.bytes() == line.as_bytes()
-            && ended.shelf.file("m.gbi").is_none(),
-    )
+    Ok(is_end(&ended, end) && has_files(&ended.shelf, &[("m.gbi", None)]))
 }
 
 const ADDED: [Row<'static>; 8] = [
@@ -379,40 +385,42 @@ fn journals_leave_values(rt: HostRuntime) -> Result<(), Fail> {
     Ok(())
 }
 
+/// Programs, payloads and journals, with which the depth is not enough.
+const DEEP: [(&str, &[u8], &str); 5] = [
+    (
+        LEFT_DEEPER,
+        ZERO,
+        "gibj 1\ndepth 3 chunks 16 fork 4 skips 0\nfork 0\nsteal 0\nstep 1 10\nfinish 1\nstep 0 13\njoin 0\nfinish 0\nend\n",
+    ),
+    (
+        LEFT_DEEPER,
+        ZERO,
+        "gibj 1\ndepth 3 chunks 16 fork 4 skips 0\nfork 0\nstep 0 13\ntake 0\nfinish 0\nend\n",
+    ),
+    (
+        RIGHT_DEEPER,
+        ZERO,
+        "gibj 1\ndepth 3 chunks 16 fork 4 skips 0\nfork 0\nsteal 0\nstep 1 13\nfinish 1\nstep 0 9\njoin 0\nfinish 0\nend\n",
+    ),
+    (
+        RIGHT_DEEPER,
+        ZERO,
+        "gibj 1\ndepth 3 chunks 16 fork 4 skips 0\nfork 0\nstep 0 9\ntake 0\nstep 0 13\nfinish 0\nend\n",
+    ),
+    (
+        NESTED,
+        FIVE,
+        "gibj 1\ndepth 4 chunks 16 fork 4 skips 0\nfork 0\nstep 0 1\nfork 0\nstep 0 13\ntake 0\nsteal 0\nstep 1 1\nfork 1\nstep 1 7\nsteal 1\nstep 1 2\nstep 2 10\nfinish 2\njoin 1\nstep 1 3\nfinish 1\njoin 0\nfinish 0\nend\n",
+    ),
+];
+
 #[test]
 fn journals_end_without_depth(rt: HostRuntime) -> Result<(), Fail> {
-    let alloc = rt.alloc();
-    for (source, payload, journal) in [
-        (
-            LEFT_DEEPER,
-            ZERO,
-            "gibj 1\ndepth 3 chunks 16 fork 4 skips 0\nfork 0\nsteal 0\nstep 1 10\nfinish 1\nstep 0 13\njoin 0\nfinish 0\nend\n",
-        ),
-        (
-            LEFT_DEEPER,
-            ZERO,
-            "gibj 1\ndepth 3 chunks 16 fork 4 skips 0\nfork 0\nstep 0 13\ntake 0\nfinish 0\nend\n",
-        ),
-        (
-            RIGHT_DEEPER,
-            ZERO,
-            "gibj 1\ndepth 3 chunks 16 fork 4 skips 0\nfork 0\nsteal 0\nstep 1 13\nfinish 1\nstep 0 9\njoin 0\nfinish 0\nend\n",
-        ),
-        (
-            RIGHT_DEEPER,
-            ZERO,
-            "gibj 1\ndepth 3 chunks 16 fork 4 skips 0\nfork 0\nstep 0 9\ntake 0\nstep 0 13\nfinish 0\nend\n",
-        ),
-        (
-            NESTED,
-            FIVE,
-            "gibj 1\ndepth 4 chunks 16 fork 4 skips 0\nfork 0\nstep 0 1\nfork 0\nstep 0 13\ntake 0\nsteal 0\nstep 1 1\nfork 1\nstep 1 7\nsteal 1\nstep 1 2\nstep 2 10\nfinish 2\njoin 1\nstep 1 3\nfinish 1\njoin 0\nfinish 0\nend\n",
-        ),
-    ] {
+    for (source, payload, journal) in &DEEP {
         assert!(rt;
             stops(
                 &rt,
-                alloc,
+                rt.alloc(),
                 source,
                 payload,
                 journal,
@@ -425,166 +433,178 @@ fn journals_end_without_depth(rt: HostRuntime) -> Result<(), Fail> {
     Ok(())
 }
 
+/// Programs, payloads, journals with an event that is not enabled, and the lines that say so.
+const NOT_ENABLED: [(&str, &[u8], &str, &str); 15] = [
+    // A join before the finish of the side that it waits for.
+    (
+        ADD_ONE,
+        TWO_LEAVES,
+        "gibj 1\ndepth 10000 chunks 16 fork 4 skips 0\nstep 0 13\nfork 0\nsteal 0\nstep 1 26\njoin 0\nstep 0 24\nfinish 1\nstep 0 20\nfinish 0\nend\n",
+        "gib: input: event not enabled at line 7\n",
+    ),
+    // The same, at the join.
+    (
+        ADD_ONE,
+        TWO_LEAVES,
+        "gibj 1\ndepth 10000 chunks 16 fork 4 skips 0\nstep 0 13\nfork 0\nsteal 0\nstep 1 26\nstep 0 24\njoin 0\nfinish 1\nstep 0 20\nfinish 0\nend\n",
+        "gib: input: event not enabled at line 8\n",
+    ),
+    // Nothing to steal.
+    (
+        ADD_ONE,
+        TWO_LEAVES,
+        "gibj 1\ndepth 10000 chunks 1024 fork 4 skips 0\nsteal 0\nfinish 0\nend\n",
+        "gib: input: event not enabled at line 3\n",
+    ),
+    // No such task.
+    (
+        PLUS_ONE,
+        FIVE,
+        "gibj 1\ndepth 10000 chunks 16 fork 4 skips 0\nstep 9 1\nfinish 0\nend\n",
+        "gib: input: event not enabled at line 3\n",
+    ),
+    // A step too many.
+    (
+        PLUS_ONE,
+        FIVE,
+        "gibj 1\ndepth 10000 chunks 16 fork 4 skips 0\nstep 0 3\nfinish 0\nend\n",
+        "gib: input: event not enabled at line 3\n",
+    ),
+    (
+        ADD_ONE,
+        TWO_LEAVES,
+        "gibj 1\ndepth 10000 chunks 16 fork 4 skips 0\nstep 0 9223372036854775807\nend\n",
+        "gib: input: event not enabled at line 3\n",
+    ),
+    // A step too few.
+    (
+        ADD_ONE,
+        TWO_LEAVES,
+        "gibj 1\ndepth 10000 chunks 16 fork 4 skips 0\nstep 0 12\nfork 0\nend\n",
+        "gib: input: event not enabled at line 4\n",
+    ),
+    (
+        PLUS_ONE,
+        FIVE,
+        "gibj 1\ndepth 10000 chunks 16 fork 4 skips 0\nstep 0 1\nfinish 0\nend\n",
+        "gib: input: event not enabled at line 4\n",
+    ),
+    // No fork may be nested.
+    (
+        ADD_ONE,
+        TWO_LEAVES,
+        "gibj 1\ndepth 10000 chunks 16 fork 0 skips 0\nstep 0 13\nfork 0\nend\n",
+        "gib: input: event not enabled at line 4\n",
+    ),
+    // A side is stolen once.
+    (
+        ADD_ONE,
+        TWO_LEAVES,
+        "gibj 1\ndepth 10000 chunks 16 fork 4 skips 0\nstep 0 13\nfork 0\nsteal 0\nsteal 0\nend\n",
+        "gib: input: event not enabled at line 6\n",
+    ),
+    // A side that was stolen is not taken.
+    (
+        ADD_ONE,
+        TWO_LEAVES,
+        "gibj 1\ndepth 10000 chunks 16 fork 4 skips 0\nstep 0 13\nfork 0\nsteal 0\nstep 0 24\ntake 0\nend\n",
+        "gib: input: event not enabled at line 7\n",
+    ),
+    // A task finishes once.
+    (
+        ADD_ONE,
+        TWO_LEAVES,
+        "gibj 1\ndepth 10000 chunks 16 fork 4 skips 0\nstep 0 13\nfork 0\nsteal 0\nstep 1 26\nfinish 1\nfinish 1\nend\n",
+        "gib: input: event not enabled at line 8\n",
+    ),
+    // A joined task is no more.
+    (
+        ADD_ONE,
+        TWO_LEAVES,
+        "gibj 1\ndepth 10000 chunks 16 fork 4 skips 0\nstep 0 13\nfork 0\nsteal 0\nstep 1 26\nfinish 1\nstep 0 24\njoin 0\nstep 1 1\nend\n",
+        "gib: input: event not enabled at line 10\n",
+    ),
+    // Nothing follows the end of the root.
+    (
+        PLUS_ONE,
+        FIVE,
+        "gibj 1\ndepth 10000 chunks 16 fork 4 skips 0\nstep 0 2\nfinish 0\nfinish 0\nend\n",
+        "gib: input: event not enabled at line 5\n",
+    ),
+    (
+        ADD_ONE,
+        TWO_LEAVES,
+        "gibj 1\ndepth 10000 chunks 16 fork 4 skips 0\nstep 0 13\nfork 0\nsteal 0\nstep 1 26\nfinish 1\nstep 0 24\njoin 0\nstep 0 20\nfinish 0\nstep 0 1\nend\n",
+        "gib: input: event not enabled at line 12\n",
+    ),
+];
+
 #[test]
 fn events_that_are_not_enabled_are_refused(rt: HostRuntime) -> Result<(), Fail> {
-    let alloc = rt.alloc();
-    for (source, payload, journal, line) in [
-        // A join before the finish of the side that it waits for.
-        (
-            ADD_ONE,
-            TWO_LEAVES,
-            "gibj 1\ndepth 10000 chunks 16 fork 4 skips 0\nstep 0 13\nfork 0\nsteal 0\nstep 1 26\njoin 0\nstep 0 24\nfinish 1\nstep 0 20\nfinish 0\nend\n",
-            "gib: input: event not enabled at line 7\n",
-        ),
-        // The same, at the join.
-        (
-            ADD_ONE,
-            TWO_LEAVES,
-            "gibj 1\ndepth 10000 chunks 16 fork 4 skips 0\nstep 0 13\nfork 0\nsteal 0\nstep 1 26\nstep 0 24\njoin 0\nfinish 1\nstep 0 20\nfinish 0\nend\n",
-            "gib: input: event not enabled at line 8\n",
-        ),
-        // Nothing to steal.
-        (
-            ADD_ONE,
-            TWO_LEAVES,
-            "gibj 1\ndepth 10000 chunks 1024 fork 4 skips 0\nsteal 0\nfinish 0\nend\n",
-            "gib: input: event not enabled at line 3\n",
-        ),
-        // No such task.
-        (
-            PLUS_ONE,
-            FIVE,
-            "gibj 1\ndepth 10000 chunks 16 fork 4 skips 0\nstep 9 1\nfinish 0\nend\n",
-            "gib: input: event not enabled at line 3\n",
-        ),
-        // A step too many.
-        (
-            PLUS_ONE,
-            FIVE,
-            "gibj 1\ndepth 10000 chunks 16 fork 4 skips 0\nstep 0 3\nfinish 0\nend\n",
-            "gib: input: event not enabled at line 3\n",
-        ),
-        (
-            ADD_ONE,
-            TWO_LEAVES,
-            "gibj 1\ndepth 10000 chunks 16 fork 4 skips 0\nstep 0 9223372036854775807\nend\n",
-            "gib: input: event not enabled at line 3\n",
-        ),
-        // A step too few.
-        (
-            ADD_ONE,
-            TWO_LEAVES,
-            "gibj 1\ndepth 10000 chunks 16 fork 4 skips 0\nstep 0 12\nfork 0\nend\n",
-            "gib: input: event not enabled at line 4\n",
-        ),
-        (
-            PLUS_ONE,
-            FIVE,
-            "gibj 1\ndepth 10000 chunks 16 fork 4 skips 0\nstep 0 1\nfinish 0\nend\n",
-            "gib: input: event not enabled at line 4\n",
-        ),
-        // No fork may be nested.
-        (
-            ADD_ONE,
-            TWO_LEAVES,
-            "gibj 1\ndepth 10000 chunks 16 fork 0 skips 0\nstep 0 13\nfork 0\nend\n",
-            "gib: input: event not enabled at line 4\n",
-        ),
-        // A side is stolen once.
-        (
-            ADD_ONE,
-            TWO_LEAVES,
-            "gibj 1\ndepth 10000 chunks 16 fork 4 skips 0\nstep 0 13\nfork 0\nsteal 0\nsteal 0\nend\n",
-            "gib: input: event not enabled at line 6\n",
-        ),
-        // A side that was stolen is not taken.
-        (
-            ADD_ONE,
-            TWO_LEAVES,
-            "gibj 1\ndepth 10000 chunks 16 fork 4 skips 0\nstep 0 13\nfork 0\nsteal 0\nstep 0 24\ntake 0\nend\n",
-            "gib: input: event not enabled at line 7\n",
-        ),
-        // A task finishes once.
-        (
-            ADD_ONE,
-            TWO_LEAVES,
-            "gibj 1\ndepth 10000 chunks 16 fork 4 skips 0\nstep 0 13\nfork 0\nsteal 0\nstep 1 26\nfinish 1\nfinish 1\nend\n",
-            "gib: input: event not enabled at line 8\n",
-        ),
-        // A joined task is no more.
-        (
-            ADD_ONE,
-            TWO_LEAVES,
-            "gibj 1\ndepth 10000 chunks 16 fork 4 skips 0\nstep 0 13\nfork 0\nsteal 0\nstep 1 26\nfinish 1\nstep 0 24\njoin 0\nstep 1 1\nend\n",
-            "gib: input: event not enabled at line 10\n",
-        ),
-        // Nothing follows the end of the root.
-        (
-            PLUS_ONE,
-            FIVE,
-            "gibj 1\ndepth 10000 chunks 16 fork 4 skips 0\nstep 0 2\nfinish 0\nfinish 0\nend\n",
-            "gib: input: event not enabled at line 5\n",
-        ),
-        (
-            ADD_ONE,
-            TWO_LEAVES,
-            "gibj 1\ndepth 10000 chunks 16 fork 4 skips 0\nstep 0 13\nfork 0\nsteal 0\nstep 1 26\nfinish 1\nstep 0 24\njoin 0\nstep 0 20\nfinish 0\nstep 0 1\nend\n",
-            "gib: input: event not enabled at line 12\n",
-        ),
-    ] {
+    for (source, payload, journal, line) in &NOT_ENABLED {
         assert!(rt;
-            stops(&rt, alloc, source, payload, journal, Status::Input, line)?,
+            stops(
+                &rt,
+                rt.alloc(),
+                source,
+                payload,
+                journal,
+                Status::Input,
+                line
+            )?,
             "{journal}"
         );
     }
     Ok(())
 }
 
+/// Programs, payloads, journals that come to no end, and how the call ends.
+const NOT_ENDED: [(&str, &[u8], &str, Status, &str); 5] = [
+    // The root does not end.
+    (
+        ADD_ONE,
+        TWO_LEAVES,
+        "gibj 1\ndepth 10000 chunks 16 fork 4 skips 0\nend\n",
+        Status::Input,
+        "gib: input: journal not ended\n",
+    ),
+    (
+        ADD_ONE,
+        TWO_LEAVES,
+        "gibj 1\ndepth 10000 chunks 16 fork 4 skips 0\nstep 0 13\nfork 0\nsteal 0\nstep 1 26\nfinish 1\nstep 0 24\njoin 0\nstep 0 20\nend\n",
+        Status::Input,
+        "gib: input: journal not ended\n",
+    ),
+    // The seventeenth chunk.
+    (
+        SPREAD,
+        SIXTEEN,
+        "gibj 1\ndepth 10000 chunks 16 fork 4 skips 0\nstep 0 9223372036854775807\nfinish 0\nend\n",
+        Status::Full,
+        "gib: chunks\n",
+    ),
+    // No journal.
+    (
+        PLUS_ONE,
+        FIVE,
+        "gibj 1\ndepth 10000 chunks 16 fork 4 skips 0\nstep 0 2\nfinish 0\n",
+        Status::Input,
+        "gib: input: bad journal at line 5\n",
+    ),
+    (
+        PLUS_ONE,
+        FIVE,
+        "gibj 1\ndepth 10000 chunks 16 fork 4 skips 0\nstep 0 1\nstep 0 1\nfinish 0\nend\n",
+        Status::Input,
+        "gib: input: bad journal at line 4\n",
+    ),
+];
+
 #[test]
 fn journals_that_do_not_end_are_refused(rt: HostRuntime) -> Result<(), Fail> {
-    let alloc = rt.alloc();
-    for (source, payload, journal, status, line) in [
-        // The root does not end.
-        (
-            ADD_ONE,
-            TWO_LEAVES,
-            "gibj 1\ndepth 10000 chunks 16 fork 4 skips 0\nend\n",
-            Status::Input,
-            "gib: input: journal not ended\n",
-        ),
-        (
-            ADD_ONE,
-            TWO_LEAVES,
-            "gibj 1\ndepth 10000 chunks 16 fork 4 skips 0\nstep 0 13\nfork 0\nsteal 0\nstep 1 26\nfinish 1\nstep 0 24\njoin 0\nstep 0 20\nend\n",
-            Status::Input,
-            "gib: input: journal not ended\n",
-        ),
-        // The seventeenth chunk.
-        (
-            SPREAD,
-            SIXTEEN,
-            "gibj 1\ndepth 10000 chunks 16 fork 4 skips 0\nstep 0 9223372036854775807\nfinish 0\nend\n",
-            Status::Full,
-            "gib: chunks\n",
-        ),
-        // No journal.
-        (
-            PLUS_ONE,
-            FIVE,
-            "gibj 1\ndepth 10000 chunks 16 fork 4 skips 0\nstep 0 2\nfinish 0\n",
-            Status::Input,
-            "gib: input: bad journal at line 5\n",
-        ),
-        (
-            PLUS_ONE,
-            FIVE,
-            "gibj 1\ndepth 10000 chunks 16 fork 4 skips 0\nstep 0 1\nstep 0 1\nfinish 0\nend\n",
-            Status::Input,
-            "gib: input: bad journal at line 4\n",
-        ),
-    ] {
+    for (source, payload, journal, status, line) in &NOT_ENDED {
         assert!(rt;
-            stops(&rt, alloc, source, payload, journal, status, line)?,
+            stops(&rt, rt.alloc(), source, payload, journal, *status, line)?,
             "{journal}"
         );
     }

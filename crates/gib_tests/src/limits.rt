@@ -1,6 +1,6 @@
 //! The limits on files, names and sizes at the top call, on both sides.
 
-use crate::harness::{call, file};
+use crate::harness::call_on;
 use gib_app::Status;
 use std::alloc::{AllocError, Global};
 use std::sync::Wait;
@@ -46,153 +46,149 @@ fn cells(alloc: Global, count: usize) -> Result<Vec<u8>, AllocError> {
     Ok(text)
 }
 
-/// The files of a source and of a second file.
-fn two_files(
-    alloc: Global,
-    source: &[u8],
-    second: Vec<u8>,
-) -> Result<Vec<(String, Vec<u8>)>, AllocError> {
-    let second = (String::from_str(alloc, "b")?, second);
-    let files = vec![in alloc; file(alloc, "a", source)?, second]?;
-    Ok(files)
-}
-
-/// Runs the top call on these words and files; whether it ends so, with this line.
+/// Runs the top call on these words, a source and a second file; whether it ends so, with this line.
 fn ends<R: Threads + Wait + Sync>(
     rt: &R,
     alloc: Global,
     texts: &[&str],
-    files: Vec<(String, Vec<u8>)>,
+    files: (&[u8], &[u8]),
     status: Status,
     line: &str,
 ) -> Result<bool, AllocError> {
-    let ended = call(rt, alloc, texts, files, Vec::new(alloc))?;
+    let files = [("a", files.0), ("b", files.1)];
+    let ended = call_on(rt, alloc, texts, &files, &[], &[])?;
     Ok(ended.status == status && ended.err.bytes() == line.as_bytes())
 }
+
+/// Lengths of a source, and how `check` ends on it.
+const SOURCES: [(usize, Status, &str); 2] = [
+    (1_048_576, Status::Done, ""),
+    (
+        1_048_577,
+        Status::Source,
+        "gib: source: longer than 1048576 bytes\n",
+    ),
+];
 
 #[test]
 fn a_source_is_taken_up_to_its_length(rt: HostRuntime) -> Result<(), Fail> {
     let alloc = rt.alloc();
-    for (len, status, line) in [
-        (1_048_576, Status::Done, ""),
-        (
-            1_048_577,
-            Status::Source,
-            "gib: source: longer than 1048576 bytes\n",
-        ),
-    ] {
-        let files = two_files(alloc, &padded(alloc, SOURCE, len)?, Vec::new(alloc))?;
+    for (len, status, line) in &SOURCES {
+        let source = padded(alloc, SOURCE, *len)?;
         let texts = ["gib", "check", "a"];
-        assert!(rt; ends(&rt, alloc, &texts, files, status, line)?, "{line}");
+        assert!(rt;
+            ends(&rt, alloc, &texts, (&source, b""), *status, line)?,
+            "{len}"
+        );
     }
     Ok(())
 }
+
+/// So many names in a source, and the line of `check` on it.
+const NAMES: [(u32, &str); 2] = [
+    (65_535, "gib: source: syntax at 0\n"),
+    (65_536, "gib: source: more than 65535 names\n"),
+];
 
 #[test]
 fn a_source_is_taken_up_to_its_names(rt: HostRuntime) -> Result<(), Fail> {
     let alloc = rt.alloc();
-    for (count, line) in [
-        (65_535, "gib: source: syntax at 0\n"),
-        (65_536, "gib: source: more than 65535 names\n"),
-    ] {
-        let files = two_files(alloc, &many_names(alloc, count)?, Vec::new(alloc))?;
+    for (count, line) in &NAMES {
+        let source = many_names(alloc, *count)?;
         let texts = ["gib", "check", "a"];
         assert!(rt;
-            ends(&rt, alloc, &texts, files, Status::Source, line)?,
-            "{line}"
+            ends(&rt, alloc, &texts, (&source, b""), Status::Source, line)?,
+            "{count}"
         );
     }
     Ok(())
 }
+
+/// Commands on files of a front and a length, and the lines that refuse these.
+const PACKED: [(&str, &[u8], usize, &str); 7] = [
+    ("run", b"", 16_777_216, "gib: input: not a packed file\n"),
+    (
+        "run",
+        b"",
+        16_777_217,
+        "gib: input: longer than 16777216 bytes\n",
+    ),
+    (
+        "plain",
+        b"",
+        16_777_217,
+        "gib: input: longer than 16777216 bytes\n",
+    ),
+    ("show", b"GIBP", 16_777_216, "gib: input: version 32\n"),
+    (
+        "show",
+        b"GIBP",
+        16_777_217,
+        "gib: input: longer than 16777216 bytes\n",
+    ),
+    ("show", b"", 268_435_480, "gib: input: not a packed file\n"),
+    (
+        "show",
+        b"",
+        268_435_481,
+        "gib: input: longer than 268435480 bytes\n",
+    ),
+];
 
 #[test]
 fn a_packed_file_is_read_up_to_its_length(rt: HostRuntime) -> Result<(), Fail> {
     let alloc = rt.alloc();
-    for (command, front, len, line) in [
-        (
-            "run",
-            b"".as_slice(),
-            16_777_216,
-            "gib: input: not a packed file\n",
-        ),
-        (
-            "run",
-            b"".as_slice(),
-            16_777_217,
-            "gib: input: longer than 16777216 bytes\n",
-        ),
-        (
-            "plain",
-            b"".as_slice(),
-            16_777_217,
-            "gib: input: longer than 16777216 bytes\n",
-        ),
-        (
-            "show",
-            b"GIBP".as_slice(),
-            16_777_216,
-            "gib: input: version 32\n",
-        ),
-        (
-            "show",
-            b"GIBP".as_slice(),
-            16_777_217,
-            "gib: input: longer than 16777216 bytes\n",
-        ),
-        (
-            "show",
-            b"".as_slice(),
-            268_435_480,
-            "gib: input: not a packed file\n",
-        ),
-        (
-            "show",
-            b"".as_slice(),
-            268_435_481,
-            "gib: input: longer than 268435480 bytes\n",
-        ),
-    ] {
-        let files = two_files(alloc, SOURCE, padded(alloc, front, len)?)?;
+    for (command, front, len, line) in &PACKED {
+        let input = padded(alloc, front, *len)?;
         let texts = ["gib", command, "a", "b"];
         assert!(rt;
-            ends(&rt, alloc, &texts, files, Status::Input, line)?,
-            "{line}"
+            ends(&rt, alloc, &texts, (SOURCE, &input), Status::Input, line)?,
+            "{command} {len}"
         );
     }
     Ok(())
 }
+
+/// Lengths of a text, and the lines that refuse it.
+const TEXTS: [(usize, &str); 2] = [
+    (16_777_216, "gib: input: bad text at 0\n"),
+    (16_777_217, "gib: input: longer than 16777216 bytes\n"),
+];
 
 #[test]
 fn a_text_is_read_up_to_its_length(rt: HostRuntime) -> Result<(), Fail> {
     let alloc = rt.alloc();
-    for (len, line) in [
-        (16_777_216, "gib: input: bad text at 0\n"),
-        (16_777_217, "gib: input: longer than 16777216 bytes\n"),
-    ] {
-        let files = two_files(alloc, SOURCE, padded(alloc, b"", len)?)?;
+    for (len, line) in &TEXTS {
+        let text = padded(alloc, b"", *len)?;
         let texts = ["gib", "pack", "a", "b", "c"];
         assert!(rt;
-            ends(&rt, alloc, &texts, files, Status::Input, line)?,
-            "{line}"
+            ends(&rt, alloc, &texts, (SOURCE, &text), Status::Input, line)?,
+            "{len}"
         );
     }
     Ok(())
 }
 
+/// So many cells of a list, and how `pack` ends on its text.
+const CELLS: [(usize, Status, &str); 2] = [
+    (294_336, Status::Done, ""),
+    (
+        294_337,
+        Status::Input,
+        "gib: input: longer than 16777216 bytes\n",
+    ),
+];
+
 #[test]
 fn a_file_is_packed_up_to_its_length(rt: HostRuntime) -> Result<(), Fail> {
     let alloc = rt.alloc();
-    for (count, status, line) in [
-        (294_336, Status::Done, ""),
-        (
-            294_337,
-            Status::Input,
-            "gib: input: longer than 16777216 bytes\n",
-        ),
-    ] {
-        let files = two_files(alloc, LISTS, cells(alloc, count)?)?;
+    for (count, status, line) in &CELLS {
+        let text = cells(alloc, *count)?;
         let texts = ["gib", "pack", "a", "b", "c"];
-        assert!(rt; ends(&rt, alloc, &texts, files, status, line)?, "{line}");
+        assert!(rt;
+            ends(&rt, alloc, &texts, (LISTS, &text), *status, line)?,
+            "{count}"
+        );
     }
     Ok(())
 }

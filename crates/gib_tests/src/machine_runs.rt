@@ -176,145 +176,151 @@ fn the_machine_runs_programs(rt: HostRuntime) -> Result<(), Fail> {
     Ok(())
 }
 
+/// Lists and trees.
+const BUILDS: [Run<'static>; 6] = [
+    Run {
+        source: "data List = Nil | Cons Int List ; fun app (a : List) (b : List) : List = case a of { Nil -> b ; Cons x r -> Cons x (app r b) } ; main (l : List) : List = app l l ;",
+        payload: b"\x01\x01\0\0\0\0\0\0\0\x01\x02\0\0\0\0\0\0\0\0",
+        root: Root::At(19),
+        drawn: 1,
+        low: (
+            0,
+            b"\x01\x01\0\0\0\0\0\0\0\x01\x02\0\0\0\0\0\0\0\0\x01\x01\0\0\0\0\0\0\0\x01\x02\0\0\0\0\0\0\0\xfe\0\0\0\0\0\0\0\0",
+        ),
+        high: (0, b""),
+    },
+    Run {
+        source: "data List = Nil | Cons Int List ; fun rev (l : List) (done : List) : List = case l of { Nil -> done ; Cons x r -> rev r (Cons x done) } ; main (l : List) : List = rev l Nil ;",
+        payload: b"\x01\x01\0\0\0\0\0\0\0\x01\x02\0\0\0\0\0\0\0\x01\x03\0\0\0\0\0\0\0\0",
+        root: Root::At(28),
+        drawn: 2,
+        low: (
+            0,
+            b"\x01\x01\0\0\0\0\0\0\0\x01\x02\0\0\0\0\0\0\0\x01\x03\0\0\0\0\0\0\0\0\xfe\x25\x10\0\0\0\0\0\0",
+        ),
+        high: (
+            4096,
+            b"\0\x01\x01\0\0\0\0\0\0\0\xfe\0\x10\0\0\0\0\0\0\x01\x02\0\0\0\0\0\0\0\xfe\x01\x10\0\0\0\0\0\0\x01\x03\0\0\0\0\0\0\0\xfe\x13\x10\0\0\0\0\0\0",
+        ),
+    },
+    Run {
+        source: "data Tree = Leaf Int | Node Tree Tree ; fun flip (t : Tree) : Tree = case t of { Leaf n -> t ; Node l r -> Node (flip r) (flip l) } ; main (t : Tree) : Tree = flip t ;",
+        payload: b"\x01\0\x01\0\0\0\0\0\0\0\0\x02\0\0\0\0\0\0\0",
+        root: Root::At(19),
+        drawn: 1,
+        low: (
+            0,
+            b"\x01\0\x01\0\0\0\0\0\0\0\0\x02\0\0\0\0\0\0\0\x01\xfe\x0a\0\0\0\0\0\0\0\xfe\x01\0\0\0\0\0\0\0",
+        ),
+        high: (0, b""),
+    },
+    Run {
+        source: "data Tree = Leaf Int | Node Tree Tree ; fun sum (t : Tree) : Int = case t of { Leaf n -> n ; Node l r -> (sum l + sum r) } ; main (t : Tree) : Int = let u = Node t t in sum u ;",
+        payload: b"\x01\0\x01\0\0\0\0\0\0\0\0\x02\0\0\0\0\0\0\0",
+        root: Root::Whole(6),
+        drawn: 1,
+        low: (
+            0,
+            b"\x01\0\x01\0\0\0\0\0\0\0\0\x02\0\0\0\0\0\0\0\x01\xfe\0\0\0\0\0\0\0\0\xfe\0\0\0\0\0\0\0\0",
+        ),
+        high: (0, b""),
+    },
+    Run {
+        source: "data List = Nil | Cons Int List ; fun ins (x : Int) (l : List) : List = case l of { Nil -> Cons x Nil ; Cons y r -> if (x < y) then Cons x l else Cons y (ins x r) } ; main (l : List) : List = ins 2 l ;",
+        payload: b"\x01\x01\0\0\0\0\0\0\0\x01\x03\0\0\0\0\0\0\0\0",
+        root: Root::At(19),
+        drawn: 1,
+        low: (
+            0,
+            b"\x01\x01\0\0\0\0\0\0\0\x01\x03\0\0\0\0\0\0\0\0\x01\x01\0\0\0\0\0\0\0\x01\x02\0\0\0\0\0\0\0\xfe\x09\0\0\0\0\0\0\0",
+        ),
+        high: (0, b""),
+    },
+    Run {
+        source: "data Flag = Flag Bool Int ; main (n : Int) : Flag = Flag (n < 3) (n * 2) ;",
+        payload: b"\x02\0\0\0\0\0\0\0",
+        root: Root::At(0),
+        drawn: 1,
+        low: (0, b"\0\x01\x04\0\0\0\0\0\0\0"),
+        high: (0, b""),
+    },
+];
+
 #[test]
 fn the_machine_builds_lists_and_trees(rt: HostRuntime) -> Result<(), Fail> {
     let alloc = rt.alloc();
-    for wanted in [
-        Run {
-            source: "data List = Nil | Cons Int List ; fun app (a : List) (b : List) : List = case a of { Nil -> b ; Cons x r -> Cons x (app r b) } ; main (l : List) : List = app l l ;",
-            payload: b"\x01\x01\0\0\0\0\0\0\0\x01\x02\0\0\0\0\0\0\0\0",
-            root: Root::At(19),
-            drawn: 1,
-            low: (
-                0,
-                b"\x01\x01\0\0\0\0\0\0\0\x01\x02\0\0\0\0\0\0\0\0\x01\x01\0\0\0\0\0\0\0\x01\x02\0\0\0\0\0\0\0\xfe\0\0\0\0\0\0\0\0",
-            ),
-            high: (0, b""),
-        },
-        Run {
-            source: "data List = Nil | Cons Int List ; fun rev (l : List) (done : List) : List = case l of { Nil -> done ; Cons x r -> rev r (Cons x done) } ; main (l : List) : List = rev l Nil ;",
-            payload: b"\x01\x01\0\0\0\0\0\0\0\x01\x02\0\0\0\0\0\0\0\x01\x03\0\0\0\0\0\0\0\0",
-            root: Root::At(28),
-            drawn: 2,
-            low: (
-                0,
-                b"\x01\x01\0\0\0\0\0\0\0\x01\x02\0\0\0\0\0\0\0\x01\x03\0\0\0\0\0\0\0\0\xfe\x25\x10\0\0\0\0\0\0",
-            ),
-            high: (
-                4096,
-                b"\0\x01\x01\0\0\0\0\0\0\0\xfe\0\x10\0\0\0\0\0\0\x01\x02\0\0\0\0\0\0\0\xfe\x01\x10\0\0\0\0\0\0\x01\x03\0\0\0\0\0\0\0\xfe\x13\x10\0\0\0\0\0\0",
-            ),
-        },
-        Run {
-            source: "data Tree = Leaf Int | Node Tree Tree ; fun flip (t : Tree) : Tree = case t of { Leaf n -> t ; Node l r -> Node (flip r) (flip l) } ; main (t : Tree) : Tree = flip t ;",
-            payload: b"\x01\0\x01\0\0\0\0\0\0\0\0\x02\0\0\0\0\0\0\0",
-            root: Root::At(19),
-            drawn: 1,
-            low: (
-                0,
-                b"\x01\0\x01\0\0\0\0\0\0\0\0\x02\0\0\0\0\0\0\0\x01\xfe\x0a\0\0\0\0\0\0\0\xfe\x01\0\0\0\0\0\0\0",
-            ),
-            high: (0, b""),
-        },
-        Run {
-            source: "data Tree = Leaf Int | Node Tree Tree ; fun sum (t : Tree) : Int = case t of { Leaf n -> n ; Node l r -> (sum l + sum r) } ; main (t : Tree) : Int = let u = Node t t in sum u ;",
-            payload: b"\x01\0\x01\0\0\0\0\0\0\0\0\x02\0\0\0\0\0\0\0",
-            root: Root::Whole(6),
-            drawn: 1,
-            low: (
-                0,
-                b"\x01\0\x01\0\0\0\0\0\0\0\0\x02\0\0\0\0\0\0\0\x01\xfe\0\0\0\0\0\0\0\0\xfe\0\0\0\0\0\0\0\0",
-            ),
-            high: (0, b""),
-        },
-        Run {
-            source: "data List = Nil | Cons Int List ; fun ins (x : Int) (l : List) : List = case l of { Nil -> Cons x Nil ; Cons y r -> if (x < y) then Cons x l else Cons y (ins x r) } ; main (l : List) : List = ins 2 l ;",
-            payload: b"\x01\x01\0\0\0\0\0\0\0\x01\x03\0\0\0\0\0\0\0\0",
-            root: Root::At(19),
-            drawn: 1,
-            low: (
-                0,
-                b"\x01\x01\0\0\0\0\0\0\0\x01\x03\0\0\0\0\0\0\0\0\x01\x01\0\0\0\0\0\0\0\x01\x02\0\0\0\0\0\0\0\xfe\x09\0\0\0\0\0\0\0",
-            ),
-            high: (0, b""),
-        },
-        Run {
-            source: "data Flag = Flag Bool Int ; main (n : Int) : Flag = Flag (n < 3) (n * 2) ;",
-            payload: b"\x02\0\0\0\0\0\0\0",
-            root: Root::At(0),
-            drawn: 1,
-            low: (0, b"\0\x01\x04\0\0\0\0\0\0\0"),
-            high: (0, b""),
-        },
-    ] {
-        assert!(rt; leaves(&rt, alloc, &wanted)?, "{}", wanted.source);
+    for wanted in &BUILDS {
+        assert!(rt; leaves(&rt, alloc, wanted)?, "{}", wanted.source);
     }
     Ok(())
 }
 
+/// What is read, and what several fields share.
+const SHARES: [Run<'static>; 6] = [
+    Run {
+        source: "data Pair = Pair Flag Flag ; data Flag = No | Yes Bool ; main (n : Int) : Pair = if (n == 1) then Pair No (Yes (n == 1)) else Pair (Yes False) No ;",
+        payload: b"\x01\0\0\0\0\0\0\0",
+        root: Root::At(0),
+        drawn: 1,
+        low: (0, b"\0\x01\x02\x01"),
+        high: (0, b""),
+    },
+    Run {
+        source: "data Tree = Leaf Int | Node Tree Tree ; fun build (n : Int) : Tree = if (n < 1) then Leaf n else let par a = build (n - 1) and b = build (n - 1) in Node a b ; main (n : Int) : Tree = build n ;",
+        payload: b"\x01\0\0\0\0\0\0\0",
+        root: Root::At(0),
+        drawn: 1,
+        low: (0, b"\x01\0\0\0\0\0\0\0\0\0\0\0\0\0\0\0\0\0\0"),
+        high: (0, b""),
+    },
+    Run {
+        source: "data List = Nil | Cons Int List ; fun next (l : List) : List = case l of { Nil -> Nil ; Cons x r -> Cons (x + 1) (next r) } ; main (l : List) : List = next (next l) ;",
+        payload: b"\x01\x05\0\0\0\0\0\0\0\0",
+        root: Root::At(10),
+        drawn: 2,
+        low: (0, b"\x01\x05\0\0\0\0\0\0\0\0\x01\x07\0\0\0\0\0\0\0\0"),
+        high: (4096, b"\x01\x06\0\0\0\0\0\0\0\0"),
+    },
+    Run {
+        source: "data Tree = Leaf Int | Node Tree Tree ; fun left (t : Tree) : Tree = case t of { Leaf n -> t ; Node l r -> left l } ; main (t : Tree) : Tree = Node (left t) t ;",
+        payload: b"\x01\x01\0\x03\0\0\0\0\0\0\0\0\x04\0\0\0\0\0\0\0\0\x05\0\0\0\0\0\0\0",
+        root: Root::At(29),
+        drawn: 1,
+        low: (
+            0,
+            b"\x01\x01\0\x03\0\0\0\0\0\0\0\0\x04\0\0\0\0\0\0\0\0\x05\0\0\0\0\0\0\0\x01\xfe\x02\0\0\0\0\0\0\0\xfe\0\0\0\0\0\0\0\0",
+        ),
+        high: (0, b""),
+    },
+    Run {
+        source: "data Tree = Leaf Int | Node Tree Tree ; fun last (t : Tree) : Int = case t of { Leaf n -> n ; Node l r -> last r } ; main (t : Tree) : Int = let u = Node t (Node t t) in last u ;",
+        payload: b"\x01\0\x08\0\0\0\0\0\0\0\0\x09\0\0\0\0\0\0\0",
+        root: Root::Whole(9),
+        drawn: 1,
+        low: (
+            0,
+            b"\x01\0\x08\0\0\0\0\0\0\0\0\x09\0\0\0\0\0\0\0\x01\xfe\0\0\0\0\0\0\0\0\x01\xfe\0\0\0\0\0\0\0\0\xfe\0\0\0\0\0\0\0\0",
+        ),
+        high: (0, b""),
+    },
+    Run {
+        source: "data Big = Big Int Int Bool Int ; fun pick (b : Big) : Int = case b of { Big p q c r -> if c then (p - q) else r } ; main (n : Int) : Int = pick (Big n 5 (n < 0) 9) ;",
+        payload: b"\xff\xff\xff\xff\xff\xff\xff\xff",
+        root: Root::Whole(-6),
+        drawn: 1,
+        low: (
+            0,
+            b"\0\xff\xff\xff\xff\xff\xff\xff\xff\x05\0\0\0\0\0\0\0\x01\x09\0\0\0\0\0\0\0",
+        ),
+        high: (0, b""),
+    },
+];
+
 #[test]
 fn the_machine_reads_and_shares(rt: HostRuntime) -> Result<(), Fail> {
     let alloc = rt.alloc();
-    for wanted in [
-        Run {
-            source: "data Pair = Pair Flag Flag ; data Flag = No | Yes Bool ; main (n : Int) : Pair = if (n == 1) then Pair No (Yes (n == 1)) else Pair (Yes False) No ;",
-            payload: b"\x01\0\0\0\0\0\0\0",
-            root: Root::At(0),
-            drawn: 1,
-            low: (0, b"\0\x01\x02\x01"),
-            high: (0, b""),
-        },
-        Run {
-            source: "data Tree = Leaf Int | Node Tree Tree ; fun build (n : Int) : Tree = if (n < 1) then Leaf n else let par a = build (n - 1) and b = build (n - 1) in Node a b ; main (n : Int) : Tree = build n ;",
-            payload: b"\x01\0\0\0\0\0\0\0",
-            root: Root::At(0),
-            drawn: 1,
-            low: (0, b"\x01\0\0\0\0\0\0\0\0\0\0\0\0\0\0\0\0\0\0"),
-            high: (0, b""),
-        },
-        Run {
-            source: "data List = Nil | Cons Int List ; fun next (l : List) : List = case l of { Nil -> Nil ; Cons x r -> Cons (x + 1) (next r) } ; main (l : List) : List = next (next l) ;",
-            payload: b"\x01\x05\0\0\0\0\0\0\0\0",
-            root: Root::At(10),
-            drawn: 2,
-            low: (0, b"\x01\x05\0\0\0\0\0\0\0\0\x01\x07\0\0\0\0\0\0\0\0"),
-            high: (4096, b"\x01\x06\0\0\0\0\0\0\0\0"),
-        },
-        Run {
-            source: "data Tree = Leaf Int | Node Tree Tree ; fun left (t : Tree) : Tree = case t of { Leaf n -> t ; Node l r -> left l } ; main (t : Tree) : Tree = Node (left t) t ;",
-            payload: b"\x01\x01\0\x03\0\0\0\0\0\0\0\0\x04\0\0\0\0\0\0\0\0\x05\0\0\0\0\0\0\0",
-            root: Root::At(29),
-            drawn: 1,
-            low: (
-                0,
-                b"\x01\x01\0\x03\0\0\0\0\0\0\0\0\x04\0\0\0\0\0\0\0\0\x05\0\0\0\0\0\0\0\x01\xfe\x02\0\0\0\0\0\0\0\xfe\0\0\0\0\0\0\0\0",
-            ),
-            high: (0, b""),
-        },
-        Run {
-            source: "data Tree = Leaf Int | Node Tree Tree ; fun last (t : Tree) : Int = case t of { Leaf n -> n ; Node l r -> last r } ; main (t : Tree) : Int = let u = Node t (Node t t) in last u ;",
-            payload: b"\x01\0\x08\0\0\0\0\0\0\0\0\x09\0\0\0\0\0\0\0",
-            root: Root::Whole(9),
-            drawn: 1,
-            low: (
-                0,
-                b"\x01\0\x08\0\0\0\0\0\0\0\0\x09\0\0\0\0\0\0\0\x01\xfe\0\0\0\0\0\0\0\0\x01\xfe\0\0\0\0\0\0\0\0\xfe\0\0\0\0\0\0\0\0",
-            ),
-            high: (0, b""),
-        },
-        Run {
-            source: "data Big = Big Int Int Bool Int ; fun pick (b : Big) : Int = case b of { Big p q c r -> if c then (p - q) else r } ; main (n : Int) : Int = pick (Big n 5 (n < 0) 9) ;",
-            payload: b"\xff\xff\xff\xff\xff\xff\xff\xff",
-            root: Root::Whole(-6),
-            drawn: 1,
-            low: (
-                0,
-                b"\0\xff\xff\xff\xff\xff\xff\xff\xff\x05\0\0\0\0\0\0\0\x01\x09\0\0\0\0\0\0\0",
-            ),
-            high: (0, b""),
-        },
-    ] {
-        assert!(rt; leaves(&rt, alloc, &wanted)?, "{}", wanted.source);
+    for wanted in &SHARES {
+        assert!(rt; leaves(&rt, alloc, wanted)?, "{}", wanted.source);
     }
     Ok(())
 }

@@ -1,10 +1,10 @@
 //! `gen`: a program and its input are made, written and run.
 
-use crate::harness::{Ended, call_failing};
+use crate::harness::{End, call_on, ends, has_files, is_end};
 use gib_app::Status;
 use std::alloc::{AllocError, Global};
 use std::sync::Wait;
-use std::test::*;
+use std::test::Fail;
 use std::thread::Threads;
 
 /// The source that is made of 1.
@@ -18,80 +18,93 @@ const LEAF: &[u8] = b"GIBP\x01\0\0\0\x09\0\0\0\0\0\0\0\0\xa6\x7e\xc6\x41\0\0\0\0
 const TWO: &[u8] =
     b"GIBP\x01\0\0\0\x13\0\0\0\0\0\0\0\x01\0\xa6\x7e\xc6\x41\0\0\0\0\0\xe7\xb0\x7e\x16\0\0\0\0";
 
-/// Calls with these words on a shelf without files, whose calls of these numbers fail.
-fn made<R: Threads + Wait + Sync>(
+/// Whether a call with these words, on a shelf without files whose calls of these numbers fail, ends so and leaves these files.
+fn makes<R: Threads + Wait + Sync>(
     rt: &R,
     alloc: Global,
     words: &[&str],
-    fails: Vec<u64>,
-) -> Result<Ended, AllocError> {
-    call_failing(rt, alloc, words, Vec::new(alloc), fails, Vec::new(alloc))
+    fails: &[u64],
+    end: End<'_>,
+    left: &[(&str, Option<&[u8]>)],
+) -> Result<bool, AllocError> {
+    let ended = call_on(rt, alloc, words, &[], fails, &[])?;
+    Ok(is_end(&ended, end) && has_files(&ended.shelf, left))
 }
 
 #[test]
 fn what_is_made_is_written_and_run(rt: HostRuntime) -> Result<(), Fail> {
-    let alloc = rt.alloc();
     let words = ["gib", "gen", "1", "0", "s.gib", "s.gbp"];
-    let ended = made(&rt, alloc, &words, Vec::new(alloc))?;
-    assert_eq!(rt; ended.status, Status::Done);
-    assert_eq!(rt;
-        ended.out.bytes(),
-        b"gen 1 levels 0 leaves 1 sum 3310582771\n".as_slice()
-    );
-    assert!(rt; ended.shelf.file("s.gib") == Some(SOURCE.as_bytes()));
-    assert!(rt; ended.shelf.file("s.gbp") == Some(LEAF));
+    let end = End {
+        status: Status::Done,
+        out: "gen 1 levels 0 leaves 1 sum 3310582771\n",
+        err: "",
+    };
+    let left = [("s.gib", Some(SOURCE.as_bytes())), ("s.gbp", Some(LEAF))];
+    assert!(rt; makes(&rt, rt.alloc(), &words, &[], end, &left)?);
     Ok(())
 }
 
 #[test]
 fn of_one_name_twice_the_input_stands(rt: HostRuntime) -> Result<(), Fail> {
-    let alloc = rt.alloc();
     let words = ["gib", "gen", "1", "1", "F", "F", "--chunks", "16"];
-    let ended = made(&rt, alloc, &words, Vec::new(alloc))?;
-    assert_eq!(rt; ended.status, Status::Done);
-    assert_eq!(rt;
-        ended.out.bytes(),
-        b"gen 1 levels 1 leaves 2 sum 4442787497\n".as_slice()
-    );
-    assert!(rt; ended.shelf.file("F") == Some(TWO));
+    let end = End {
+        status: Status::Done,
+        out: "gen 1 levels 1 leaves 2 sum 4442787497\n",
+        err: "",
+    };
+    let left = [("F", Some(TWO))];
+    assert!(rt; makes(&rt, rt.alloc(), &words, &[], end, &left)?);
     Ok(())
 }
 
 #[test]
 fn what_was_made_stays_without_a_value(rt: HostRuntime) -> Result<(), Fail> {
-    let alloc = rt.alloc();
     let words = ["gib", "gen", "1", "1", "s.gib", "s.gbp", "--depth", "1"];
-    let ended = made(&rt, alloc, &words, Vec::new(alloc))?;
-    assert_eq!(rt; ended.status, Status::Depth);
-    assert!(rt; ended.out.bytes().is_empty());
-    assert!(rt; ended.shelf.file("s.gib") == Some(SOURCE.as_bytes()));
-    assert!(rt; ended.shelf.file("s.gbp") == Some(TWO));
+    let end = End {
+        status: Status::Depth,
+        out: "",
+        err: "gib: depth\n",
+    };
+    let left = [("s.gib", Some(SOURCE.as_bytes())), ("s.gbp", Some(TWO))];
+    assert!(rt; makes(&rt, rt.alloc(), &words, &[], end, &left)?);
     Ok(())
+}
+
+/// The end of a call that cannot write a file.
+fn unwritten(err: &str) -> End<'_> {
+    End {
+        status: Status::WriteFault,
+        out: "",
+        err,
+    }
 }
 
 #[test]
 fn each_write_of_what_is_made_may_fail(rt: HostRuntime) -> Result<(), Fail> {
     let alloc = rt.alloc();
     let words = ["gib", "gen", "1", "1", "s.gib", "s.gbp"];
-    let first = made(&rt, alloc, &words, vec![in alloc; 0]?)?;
-    assert_eq!(rt; first.status, Status::WriteFault);
-    assert_eq!(rt; first.err.bytes(), b"gib: cannot write s.gib\n".as_slice());
-    assert!(rt; first.shelf.file("s.gbp").is_none());
-    let second = made(&rt, alloc, &words, vec![in alloc; 1]?)?;
-    assert_eq!(rt; second.status, Status::WriteFault);
-    assert_eq!(rt; second.err.bytes(), b"gib: cannot write s.gbp\n".as_slice());
-    assert!(rt; second.shelf.file("s.gib") == Some(SOURCE.as_bytes()));
-    assert!(rt; second.out.bytes().is_empty());
+    let none = [("s.gib", None), ("s.gbp", None)];
+    let end = unwritten("gib: cannot write s.gib\n");
+    assert!(rt; makes(&rt, alloc, &words, &[0], end, &none)?);
+    let source = [("s.gib", Some(SOURCE.as_bytes())), ("s.gbp", None)];
+    let end = unwritten("gib: cannot write s.gbp\n");
+    assert!(rt; makes(&rt, alloc, &words, &[1], end, &source)?);
     Ok(())
 }
 
+/// Numbers and levels, one of them past its range.
+const PAST: [(&str, &str); 3] = [("2147483648", "0"), ("1", "19"), ("-1", "0")];
+
 #[test]
 fn numbers_past_their_ranges_are_not_taken(rt: HostRuntime) -> Result<(), Fail> {
-    let alloc = rt.alloc();
-    for (number, levels) in [("2147483648", "0"), ("1", "19"), ("-1", "0")] {
+    let end = End {
+        status: Status::Usage,
+        out: "",
+        err: "gib: usage\n",
+    };
+    for (number, levels) in &PAST {
         let words = ["gib", "gen", number, levels, "s.gib", "s.gbp"];
-        let ended = made(&rt, alloc, &words, Vec::new(alloc))?;
-        assert_eq!(rt; ended.status, Status::Usage);
+        assert!(rt; ends(&rt, rt.alloc(), &words, &[], end)?, "{number}");
     }
     Ok(())
 }

@@ -101,10 +101,20 @@ fn program(alloc: Global, is_par: bool, fields: (u32, u32)) -> Result<Core, Memo
 
 fn names(alloc: Global) -> Result<Names, Fail> {
     let mut names = Names::make(alloc)?;
-    for text in ["Tree", "Leaf", "Node", "work"] {
-        names.intern(alloc, text.as_bytes()).map_err(|_| "a name")?;
+    for text in &["Tree", "Leaf", "Node", "work"] {
+        if names.intern(alloc, text.as_bytes()).is_err() {
+            return Err(Fail::new("a name"));
+        }
     }
     Ok(names)
+}
+
+/// Whether placing makes this text of a program.
+fn places(alloc: Global, is_par: bool, fields: (u32, u32), want: &str) -> Result<bool, Fail> {
+    let names = names(alloc)?;
+    let core = place(alloc, program(alloc, is_par, fields)?)?;
+    let text = print_core(alloc, &core, &names)?;
+    Ok(text.as_slice() == want.as_bytes())
 }
 
 const BOTH: &str =
@@ -125,22 +135,20 @@ const BOTH_SIDES: &str =
 const RIGHT_SIDE: &str =
     "main %0:Tree : Tree\n  past %1 Node\n  here %2\n    point %0\n  par\n    region %3\n      call work %0\n    here %4\n      call work %0\n  write %1 %2 %4\n";
 
+/// Whether the two calls stand side by side, to which variables the fields point, and the text that is made of it.
+const CASES: [(bool, (u32, u32), &str); 6] = [
+    (false, (1, 2), BOTH),
+    (false, (1, 1), USED_TWICE),
+    (false, (0, 2), BEHIND_A_POINTED),
+    (false, (2, 1), EXCHANGED),
+    (true, (1, 2), BOTH_SIDES),
+    (true, (0, 2), RIGHT_SIDE),
+];
+
 #[test]
 fn places_what_stands_in_a_field(rt: HostRuntime) -> Result<(), Fail> {
-    let alloc = rt.alloc();
-    let names = names(alloc)?;
-    let cases = [
-        (false, (1, 2), BOTH),
-        (false, (1, 1), USED_TWICE),
-        (false, (0, 2), BEHIND_A_POINTED),
-        (false, (2, 1), EXCHANGED),
-        (true, (1, 2), BOTH_SIDES),
-        (true, (0, 2), RIGHT_SIDE),
-    ];
-    for (is_par, fields, want) in cases {
-        let core = place(alloc, program(alloc, is_par, fields)?)?;
-        let text = print_core(alloc, &core, &names)?;
-        assert!(rt; text.as_slice() == want.as_bytes(), "{want}");
+    for (is_par, fields, want) in &CASES {
+        assert!(rt; places(rt.alloc(), *is_par, *fields, want)?, "{want}");
     }
     Ok(())
 }

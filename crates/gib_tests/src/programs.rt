@@ -123,8 +123,24 @@ pub fn run(
     }
 }
 
-/// The text of what a source's program gives on a packed payload; `deep` where its calls nest deeper than
-/// this, and nothing where one of the two isn't read.
+/// The text of what a program gives on a packed file; `deep` where its calls nest deeper than this, and nothing where
+/// the file isn't read.
+fn run_on(
+    alloc: Global,
+    compiled: &Compiled,
+    file: &[u8],
+    depth: u32,
+) -> Result<Vec<u8>, AllocError>
+    requires fine { IsFineProgram (program_of compiled.now.typed) }
+    requires held { AreHeld (table_of_program (program_of compiled.now.typed)) compiled.now.names }
+{
+    let Some(value) = read_value(alloc, &compiled.typed, file) else {
+        return Ok(Vec::new(alloc));
+    };
+    run(alloc, compiled, value, depth)
+}
+
+/// The same, of a source and a packed payload; nothing also where the source is no typed program.
 pub fn meaning(
     alloc: Global,
     source: &str,
@@ -132,11 +148,8 @@ pub fn meaning(
     depth: u32,
 ) -> Result<Vec<u8>, AllocError> {
     let file = packed(alloc, payload)?;
-    let Some(compiled) = compile(alloc, source) else {
-        return Ok(Vec::new(alloc));
-    };
-    let Some(value) = read_value(alloc, &compiled.typed, &file) else {
-        return Ok(Vec::new(alloc));
-    };
-    run(alloc, &compiled, value, depth)
+    match compile(alloc, source) {
+        Some(compiled) => run_on(alloc, &compiled, &file, depth),
+        None => Ok(Vec::new(alloc)),
+    }
 }

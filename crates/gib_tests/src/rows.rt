@@ -1,6 +1,6 @@
 //! Worked examples, each with its status, its output and its line.
 
-use crate::harness::{call, file, packed};
+use crate::harness::{End, call_on, ends, packed, two_files};
 use gib_app::Status;
 use std::alloc::{AllocError, Global};
 use std::sync::Wait;
@@ -21,263 +21,274 @@ fn with_types(alloc: Global, types: &str, rest: &str) -> Result<String, AllocErr
     Ok(text)
 }
 
-/// Runs the top call on these words with no file; it has to print the sample's value.
-fn prints_the_sample<R: Threads + Wait + Sync>(
-    rt: &R,
-    alloc: Global,
-    texts: &[&str],
-) -> Result<bool, AllocError> {
-    let ended = call(rt, alloc, texts, Vec::new(alloc), Vec::new(alloc))?;
-    Ok(
-        ended.status == Status::Done
-            && ended.out.bytes() == b"(Node (Leaf 2) (Leaf 3))\n".as_slice()
-            && ended.err.bytes().is_empty(),
-    )
-}
+/// The end of a call on words that are not taken.
+const USAGE: End<'static> = End {
+    status: Status::Usage,
+    out: "",
+    err: "gib: usage\n",
+};
 
 #[test]
 fn the_sample_runs_without_words(rt: HostRuntime) -> Result<(), Fail> {
     let alloc = rt.alloc();
-    assert!(rt; prints_the_sample(&rt, alloc, &[])?);
-    assert!(rt; prints_the_sample(&rt, alloc, &["gib"])?);
+    let end = End {
+        status: Status::Done,
+        out: "(Node (Leaf 2) (Leaf 3))\n",
+        err: "",
+    };
+    assert!(rt; ends(&rt, alloc, &[], &[], end)?);
+    assert!(rt; ends(&rt, alloc, &["gib"], &[], end)?);
     Ok(())
+}
+
+/// Programs by their types and the rest, with payloads, and how they end.
+const PROGRAMS: [(&str, &str, &[u8], Status, &str, &str); 21] = [
+    (
+        TREE,
+        "fun add1 (t : Tree) : Tree = case t of { Leaf n -> Leaf (n + 1) ; Node l r -> let par a = add1 l and b = add1 r in Node a b } ; main (t : Tree) : Tree = add1 t ;",
+        TWO_LEAVES,
+        Status::Done,
+        "(Node (Leaf 2) (Leaf 3))\n",
+        "",
+    ),
+    (
+        TREE,
+        "fun work (t : Tree) : Tree = case t of { Leaf n -> Leaf ((n * 3) + 1) ; Node l r -> let par a = work l and b = work r in Node a b } ; main (t : Tree) : Tree = work t ;",
+        b"\x01\x00\xa6~\xc6A\0\0\0\0\x00\xe7\xb0~\x16\0\0\0\0",
+        Status::Done,
+        "(Node (Leaf 3310582771) (Leaf 1132204726))\n",
+        "",
+    ),
+    (
+        "",
+        "main (n : Int) : Int = (n + 1) ;",
+        &[255, 255, 255, 255, 255, 255, 255, 127],
+        Status::Done,
+        "-9223372036854775808\n",
+        "",
+    ),
+    (
+        TREE,
+        "main (n : Int) : Tree = let x = Leaf 1 in Node x x ;",
+        &[0, 0, 0, 0, 0, 0, 0, 0],
+        Status::Done,
+        "(Node (Leaf 1) (Leaf 1))\n",
+        "",
+    ),
+    (
+        TREE,
+        "fun right (t : Tree) : Int = case t of { Leaf n -> n ; Node l r -> right r } ; main (t : Tree) : Int = right t ;",
+        TWO_LEAVES,
+        Status::Done,
+        "2\n",
+        "",
+    ),
+    (
+        TREE,
+        "main (t : Tree) : Tree = t ;",
+        TWO_LEAVES,
+        Status::Done,
+        "(Node (Leaf 1) (Leaf 2))\n",
+        "",
+    ),
+    (
+        "",
+        "data B = B Bool ; main (b : B) : Bool = case b of { B x -> x } ;",
+        &[0, 1],
+        Status::Done,
+        "True\n",
+        "",
+    ),
+    (
+        TREE,
+        "data P = P Tree Int ; main (p : P) : P = p ;",
+        &[2, 7, 0, 0, 0, 0, 0, 0, 0, 0, 5, 0, 0, 0, 0, 0, 0, 0],
+        Status::Done,
+        "(P (Leaf 5) 7)\n",
+        "",
+    ),
+    (
+        "",
+        "data T = A ; fun f (t : T) : T = f t ; main (t : T) : T = f t ;",
+        &[0],
+        Status::Depth,
+        "",
+        "gib: depth\n",
+    ),
+    (
+        "",
+        "fun down (n : Int) : Int = if (n < 1) then 0 else down (n - 1) ; main (n : Int) : Int = let par a = down 9998 and b = down 9999 in (a + b) ;",
+        &[0, 0, 0, 0, 0, 0, 0, 0],
+        Status::Done,
+        "0\n",
+        "",
+    ),
+    (
+        "",
+        "fun down (n : Int) : Int = if (n < 1) then 0 else down (n - 1) ; main (n : Int) : Int = let par a = down 1 and b = down 10000 in (a + b) ;",
+        &[0, 0, 0, 0, 0, 0, 0, 0],
+        Status::Depth,
+        "",
+        "gib: depth\n",
+    ),
+    (
+        "",
+        "data B = B Bool ; main (b : B) : Bool = case b of { B x -> x } ;",
+        &[0, 2],
+        Status::Input,
+        "",
+        "gib: input: bad truth value at 1\n",
+    ),
+    (
+        TREE,
+        "main (t : Tree) : Tree = t ;",
+        &[2, 0, 1, 0, 0, 0, 0, 0, 0, 0, 0, 2, 0, 0, 0, 0, 0, 0, 0],
+        Status::Input,
+        "",
+        "gib: input: bad tag at 0\n",
+    ),
+    (
+        TREE,
+        "main (t : Tree) : Tree = t ;",
+        &[254, 0, 1, 0, 0, 0, 0, 0, 0, 0, 0, 2, 0, 0, 0, 0, 0, 0, 0],
+        Status::Input,
+        "",
+        "gib: input: bad tag at 0\n",
+    ),
+    (
+        TREE,
+        "main (t : Tree) : Tree = t ;",
+        &[1, 0, 1, 0, 0, 0, 0, 0, 0, 0, 0, 2, 0, 0, 0, 0, 0, 0],
+        Status::Input,
+        "",
+        "gib: input: short at 11\n",
+    ),
+    (
+        TREE,
+        "main (t : Tree) : Tree = t ;",
+        &[1, 0, 1, 0, 0, 0, 0, 0, 0, 0, 0, 2, 0, 0, 0, 0, 0, 0, 0, 0],
+        Status::Input,
+        "",
+        "gib: input: trailing bytes at 19\n",
+    ),
+    (
+        "",
+        "main (n : Int) : Int = 9223372036854775808 ;",
+        &[0, 0, 0, 0, 0, 0, 0, 0],
+        Status::Source,
+        "",
+        "gib: source: number too large at 23\n",
+    ),
+    (
+        "",
+        "data T = A | B ; main (t : T) : Int = case t of { A -> 1 } ;",
+        &[0],
+        Status::Source,
+        "",
+        "gib: source: wrong arms at 38\n",
+    ),
+    (
+        "",
+        "",
+        &[],
+        Status::Source,
+        "",
+        "gib: source: syntax at 0\n",
+    ),
+    (
+        "",
+        "main @",
+        &[],
+        Status::Source,
+        "",
+        "gib: source: bad character at 5\n",
+    ),
+    (
+        "",
+        "main (n : Int) : Int = m ;",
+        &[0, 0, 0, 0, 0, 0, 0, 0],
+        Status::Source,
+        "",
+        "gib: source: unknown name at 23\n",
+    ),
+];
+
+/// Whether a run and a plain run of a program on a payload both end so.
+fn both_end<R: Threads + Wait + Sync>(
+    rt: &R,
+    alloc: Global,
+    program: (&str, &str),
+    payload: &[u8],
+    end: End<'_>,
+) -> Result<bool, AllocError> {
+    let source = with_types(alloc, program.0, program.1)?;
+    let input = packed(alloc, payload)?;
+    let files = two_files(&source, "a.gbp", &input);
+    let run = ["gib", "run", "a.gib", "a.gbp", "--chunks", "16"];
+    let plain = ["gib", "plain", "a.gib", "a.gbp"];
+    Ok(ends(rt, alloc, &run, &files, end)? && ends(rt, alloc, &plain, &files, end)?)
 }
 
 #[test]
 fn programs_end_as_they_mean(rt: HostRuntime) -> Result<(), Fail> {
-    let alloc = rt.alloc();
-    for (types, rest, payload, status, out, err) in [
-        (
-            TREE,
-            "fun add1 (t : Tree) : Tree = case t of { Leaf n -> Leaf (n + 1) ; Node l r -> let par a = add1 l and b = add1 r in Node a b } ; main (t : Tree) : Tree = add1 t ;",
-            TWO_LEAVES,
-            Status::Done,
-            "(Node (Leaf 2) (Leaf 3))\n",
-            "",
-        ),
-        (
-            TREE,
-            "fun work (t : Tree) : Tree = case t of { Leaf n -> Leaf ((n * 3) + 1) ; Node l r -> let par a = work l and b = work r in Node a b } ; main (t : Tree) : Tree = work t ;",
-            b"\x01\x00\xa6~\xc6A\0\0\0\0\x00\xe7\xb0~\x16\0\0\0\0".as_slice(),
-            Status::Done,
-            "(Node (Leaf 3310582771) (Leaf 1132204726))\n",
-            "",
-        ),
-        (
-            "",
-            "main (n : Int) : Int = (n + 1) ;",
-            [255, 255, 255, 255, 255, 255, 255, 127].as_slice(),
-            Status::Done,
-            "-9223372036854775808\n",
-            "",
-        ),
-        (
-            TREE,
-            "main (n : Int) : Tree = let x = Leaf 1 in Node x x ;",
-            [0, 0, 0, 0, 0, 0, 0, 0].as_slice(),
-            Status::Done,
-            "(Node (Leaf 1) (Leaf 1))\n",
-            "",
-        ),
-        (
-            TREE,
-            "fun right (t : Tree) : Int = case t of { Leaf n -> n ; Node l r -> right r } ; main (t : Tree) : Int = right t ;",
-            TWO_LEAVES,
-            Status::Done,
-            "2\n",
-            "",
-        ),
-        (
-            TREE,
-            "main (t : Tree) : Tree = t ;",
-            TWO_LEAVES,
-            Status::Done,
-            "(Node (Leaf 1) (Leaf 2))\n",
-            "",
-        ),
-        (
-            "",
-            "data B = B Bool ; main (b : B) : Bool = case b of { B x -> x } ;",
-            [0, 1].as_slice(),
-            Status::Done,
-            "True\n",
-            "",
-        ),
-        (
-            TREE,
-            "data P = P Tree Int ; main (p : P) : P = p ;",
-            [2, 7, 0, 0, 0, 0, 0, 0, 0, 0, 5, 0, 0, 0, 0, 0, 0, 0].as_slice(),
-            Status::Done,
-            "(P (Leaf 5) 7)\n",
-            "",
-        ),
-        (
-            "",
-            "data T = A ; fun f (t : T) : T = f t ; main (t : T) : T = f t ;",
-            [0].as_slice(),
-            Status::Depth,
-            "",
-            "gib: depth\n",
-        ),
-        (
-            "",
-            "fun down (n : Int) : Int = if (n < 1) then 0 else down (n - 1) ; main (n : Int) : Int = let par a = down 9998 and b = down 9999 in (a + b) ;",
-            [0, 0, 0, 0, 0, 0, 0, 0].as_slice(),
-            Status::Done,
-            "0\n",
-            "",
-        ),
-        (
-            "",
-            "fun down (n : Int) : Int = if (n < 1) then 0 else down (n - 1) ; main (n : Int) : Int = let par a = down 1 and b = down 10000 in (a + b) ;",
-            [0, 0, 0, 0, 0, 0, 0, 0].as_slice(),
-            Status::Depth,
-            "",
-            "gib: depth\n",
-        ),
-        (
-            "",
-            "data B = B Bool ; main (b : B) : Bool = case b of { B x -> x } ;",
-            [0, 2].as_slice(),
-            Status::Input,
-            "",
-            "gib: input: bad truth value at 1\n",
-        ),
-        (
-            TREE,
-            "main (t : Tree) : Tree = t ;",
-            [2, 0, 1, 0, 0, 0, 0, 0, 0, 0, 0, 2, 0, 0, 0, 0, 0, 0, 0].as_slice(),
-            Status::Input,
-            "",
-            "gib: input: bad tag at 0\n",
-        ),
-        (
-            TREE,
-            "main (t : Tree) : Tree = t ;",
-            [254, 0, 1, 0, 0, 0, 0, 0, 0, 0, 0, 2, 0, 0, 0, 0, 0, 0, 0].as_slice(),
-            Status::Input,
-            "",
-            "gib: input: bad tag at 0\n",
-        ),
-        (
-            TREE,
-            "main (t : Tree) : Tree = t ;",
-            [1, 0, 1, 0, 0, 0, 0, 0, 0, 0, 0, 2, 0, 0, 0, 0, 0, 0].as_slice(),
-            Status::Input,
-            "",
-            "gib: input: short at 11\n",
-        ),
-        (
-            TREE,
-            "main (t : Tree) : Tree = t ;",
-            [1, 0, 1, 0, 0, 0, 0, 0, 0, 0, 0, 2, 0, 0, 0, 0, 0, 0, 0, 0].as_slice(),
-            Status::Input,
-            "",
-            "gib: input: trailing bytes at 19\n",
-        ),
-        (
-            "",
-            "main (n : Int) : Int = 9223372036854775808 ;",
-            [0, 0, 0, 0, 0, 0, 0, 0].as_slice(),
-            Status::Source,
-            "",
-            "gib: source: number too large at 23\n",
-        ),
-        (
-            "",
-            "data T = A | B ; main (t : T) : Int = case t of { A -> 1 } ;",
-            [0].as_slice(),
-            Status::Source,
-            "",
-            "gib: source: wrong arms at 38\n",
-        ),
-        (
-            "",
-            "",
-            [].as_slice(),
-            Status::Source,
-            "",
-            "gib: source: syntax at 0\n",
-        ),
-        (
-            "",
-            "main @",
-            [].as_slice(),
-            Status::Source,
-            "",
-            "gib: source: bad character at 5\n",
-        ),
-        (
-            "",
-            "main (n : Int) : Int = m ;",
-            [0, 0, 0, 0, 0, 0, 0, 0].as_slice(),
-            Status::Source,
-            "",
-            "gib: source: unknown name at 23\n",
-        ),
-    ] {
-        let source = with_types(alloc, types, rest)?;
-        let input = packed(alloc, payload)?;
-        for words in [
-            ["gib", "run", "a.gib", "a.gbp", "--chunks", "16"].as_slice(),
-            ["gib", "plain", "a.gib", "a.gbp"].as_slice(),
-        ] {
-            let files = vec![in alloc;
-                file(alloc, "a.gib", source.as_bytes())?,
-                file(alloc, "a.gbp", &input)?,
-            ]?;
-            let ended = call(&rt, alloc, words, files, Vec::new(alloc))?;
-            assert_eq!(rt; ended.status, status, "{source}");
-            assert_eq!(rt; ended.out.bytes(), out.as_bytes(), "{source}");
-            assert_eq!(rt; ended.err.bytes(), err.as_bytes(), "{source}");
-        }
+    for (types, rest, payload, status, out, err) in &PROGRAMS {
+        let end = End {
+            status: *status,
+            out,
+            err,
+        };
+        assert!(rt;
+            both_end(&rt, rt.alloc(), (types, rest), payload, end)?,
+            "{rest}"
+        );
     }
     Ok(())
 }
 
+/// Words that are not taken.
+const NOT_TAKEN: [&[&str]; 8] = [
+    &["gib", "run"],
+    &["gib", "run", "a.gib"],
+    &["gib", "run", "a.gib", "a.gbp", "--fast"],
+    &["gib", "run", "--a.gib", "a.gbp"],
+    &["gib", "pack", "a.gib", "a.txt"],
+    &["gib", "check"],
+    &["gib", "show", "a.gib"],
+    &["gib", "walk", "a.gib", "a.gbp"],
+];
+
 #[test]
 fn words_that_are_not_taken_are_usage(rt: HostRuntime) -> Result<(), Fail> {
-    let alloc = rt.alloc();
-    for words in [
-        ["gib", "run"].as_slice(),
-        ["gib", "run", "a.gib"].as_slice(),
-        ["gib", "run", "a.gib", "a.gbp", "--fast"].as_slice(),
-        ["gib", "run", "--a.gib", "a.gbp"].as_slice(),
-        ["gib", "pack", "a.gib", "a.txt"].as_slice(),
-        ["gib", "check"].as_slice(),
-        ["gib", "show", "a.gib"].as_slice(),
-        ["gib", "walk", "a.gib", "a.gbp"].as_slice(),
-    ] {
-        let ended = call(&rt, alloc, words, Vec::new(alloc), Vec::new(alloc))?;
-        assert_eq!(rt; ended.status, Status::Usage);
-        assert_eq!(rt; ended.out.bytes(), b"".as_slice());
-        assert_eq!(rt; ended.err.bytes(), b"gib: usage\n".as_slice());
+    for words in &NOT_TAKEN {
+        assert!(rt; ends(&rt, rt.alloc(), words, &[], USAGE)?, "{words:?}");
     }
     Ok(())
+}
+
+/// The end of a call that cannot read a file.
+fn unread(err: &str) -> End<'_> {
+    End {
+        status: Status::ReadFault,
+        out: "",
+        err,
+    }
 }
 
 #[test]
 fn a_file_that_is_not_there_is_named(rt: HostRuntime) -> Result<(), Fail> {
     let alloc = rt.alloc();
-    let ended = call(
-        &rt,
-        alloc,
-        &["gib", "run", "a.gib", "a.gbp"],
-        Vec::new(alloc),
-        Vec::new(alloc),
-    )?;
-    assert_eq!(rt; ended.status, Status::ReadFault);
-    assert_eq!(rt; ended.err.bytes(), b"gib: cannot read a.gib\n".as_slice());
-    let files = vec![in alloc; file(alloc, "a.gib", b"main (n : Int) : Int = n ;")?]?;
-    let ended = call(
-        &rt,
-        alloc,
-        &["gib", "run", "a.gib", "a.gbp"],
-        files,
-        Vec::new(alloc),
-    )?;
-    assert_eq!(rt; ended.status, Status::ReadFault);
-    assert_eq!(rt; ended.err.bytes(), b"gib: cannot read a.gbp\n".as_slice());
+    let words = ["gib", "run", "a.gib", "a.gbp"];
+    let source = [("a.gib", b"main (n : Int) : Int = n ;".as_slice())];
+    assert!(rt; ends(&rt, alloc, &words, &[], unread("gib: cannot read a.gib\n"))?);
+    assert!(rt;
+        ends(
+            &rt,
+            alloc,
+            &words,
+            &source,
+            unread("gib: cannot read a.gbp\n")
+        )?
+    );
     Ok(())
 }
 
@@ -291,27 +302,41 @@ fn ones(alloc: Global, count: usize) -> Result<Vec<u8>, AllocError> {
     Ok(payload)
 }
 
+/// Whether a run on a list of 600 ones puts so many bytes and ends so, where `out` fails as the pairs say.
+fn puts_a_list<R: Threads + Wait + Sync>(
+    rt: &R,
+    alloc: Global,
+    fails: &[(u64, u64)],
+    status: Status,
+    taken: usize,
+    err: &str,
+) -> Result<bool, AllocError> {
+    let source = with_types(alloc, LIST, "main (l : List) : List = l ;")?;
+    let list = ones(alloc, 600)?;
+    let input = packed(alloc, &list)?;
+    let words = ["gib", "run", "a.gib", "a.gbp"];
+    let files = two_files(&source, "a.gbp", &input);
+    let ended = call_on(rt, alloc, &words, &files, &[], fails)?;
+    Ok(
+        ended.status == status
+            && ended.out.bytes().len() == taken
+            && ended.err.bytes() == err.as_bytes(),
+    )
+}
+
 #[test]
 fn a_second_put_that_fails_leaves_the_first(rt: HostRuntime) -> Result<(), Fail> {
     let alloc = rt.alloc();
-    let source = with_types(alloc, LIST, "main (l : List) : List = l ;")?;
-    for (fails, status, taken) in [
-        (vec![in alloc; (1, 0)]?, Status::WriteFault, 4096),
-        (vec![in alloc]?, Status::Done, 5404),
-    ] {
-        let files = vec![in alloc;
-            file(alloc, "a.gib", source.as_bytes())?,
-            file(alloc, "a.gbp", &packed(alloc, &ones(alloc, 600)?)?)?,
-        ]?;
-        let ended = call(&rt, alloc, &["gib", "run", "a.gib", "a.gbp"], files, fails)?;
-        assert_eq!(rt; ended.status, status);
-        assert_eq!(rt; ended.out.bytes().len(), taken);
-        let line = if status == Status::Done {
-            b"".as_slice()
-        } else {
-            b"gib: cannot write\n".as_slice()
-        };
-        assert_eq!(rt; ended.err.bytes(), line);
-    }
+    assert!(rt;
+        puts_a_list(
+            &rt,
+            alloc,
+            &[(1, 0)],
+            Status::WriteFault,
+            4096,
+            "gib: cannot write\n"
+        )?
+    );
+    assert!(rt; puts_a_list(&rt, alloc, &[], Status::Done, 5404, "")?);
     Ok(())
 }

@@ -10,7 +10,7 @@ use crate::programs::{Compiled, compile};
 use gib_file::pack;
 use gib_types::{Ty, TyId};
 use gib_value::{TextFault, read_text, write_text};
-use std::alloc::Global;
+use std::alloc::{AllocError, Global};
 use std::test::Fail;
 
 const SOURCE: &str =
@@ -37,58 +37,77 @@ fn there_and_back(
     Ok((file, written))
 }
 
+/// Whether the value of a text is packed to this payload, and written as the text that was read.
+fn comes_back(alloc: Global, ty: Ty, text: &str, payload: &[u8]) -> Result<bool, AllocError> {
+    let file = packed(alloc, payload)?;
+    let Some(compiled) = compile(alloc, SOURCE) else {
+        return Ok(false);
+    };
+    match there_and_back(alloc, &compiled, ty, text.as_bytes()) {
+        Ok((made, written)) => Ok(
+            made.as_slice() == file.as_slice() && written.as_slice() == text.as_bytes(),
+        ),
+        Err(_) => Ok(false),
+    }
+}
+
+/// Whether a text is refused with this place.
+fn is_refused(alloc: Global, ty: Ty, text: &str, place: u64) -> bool {
+    let Some(compiled) = compile(alloc, SOURCE) else {
+        return false;
+    };
+    match there_and_back(alloc, &compiled, ty, text.as_bytes()) {
+        Ok(_) => false,
+        Err(fault) => fault == TextFault::At(place),
+    }
+}
+
+/// Texts of values, and the payloads that these are packed to.
+const TEXTS: [(Ty, &str, &[u8]); 6] = [
+    (
+        TREE,
+        "(Node (Leaf 1) (Leaf 2))",
+        &[1, 0, 1, 0, 0, 0, 0, 0, 0, 0, 0, 2, 0, 0, 0, 0, 0, 0, 0],
+    ),
+    (
+        P,
+        "(P (Leaf 5) 7)",
+        &[2, 7, 0, 0, 0, 0, 0, 0, 0, 0, 5, 0, 0, 0, 0, 0, 0, 0],
+    ),
+    (P, "(Q True)", &[3, 1]),
+    (P, "R", &[4]),
+    (
+        Ty::Whole,
+        "-9223372036854775808",
+        &[0, 0, 0, 0, 0, 0, 0, 128],
+    ),
+    (Ty::Truth, "False", &[0]),
+];
+
 #[test]
 fn texts_come_back(rt: HostRuntime) -> Result<(), Fail> {
-    let alloc = rt.alloc();
-    let compiled = compile(alloc, SOURCE).ok_or("source")?;
-    for (ty, text, payload) in [
-        (
-            TREE,
-            "(Node (Leaf 1) (Leaf 2))",
-            [1, 0, 1, 0, 0, 0, 0, 0, 0, 0, 0, 2, 0, 0, 0, 0, 0, 0, 0].as_slice(),
-        ),
-        (
-            P,
-            "(P (Leaf 5) 7)",
-            [2, 7, 0, 0, 0, 0, 0, 0, 0, 0, 5, 0, 0, 0, 0, 0, 0, 0].as_slice(),
-        ),
-        (P, "(Q True)", [3, 1].as_slice()),
-        (P, "R", [4].as_slice()),
-        (
-            Ty::Whole,
-            "-9223372036854775808",
-            [0, 0, 0, 0, 0, 0, 0, 128].as_slice(),
-        ),
-        (Ty::Truth, "False", [0].as_slice()),
-    ] {
-        let file = packed(alloc, payload)?;
-        let (made, written) = there_and_back(alloc, &compiled, ty, text.as_bytes()).map_err(
-            |_| "read",
-        )?;
-        assert_eq!(rt; made.as_slice(), file.as_slice(), "{text}");
-        assert_eq!(rt; written.as_slice(), text.as_bytes(), "{text}");
+    for (ty, text, payload) in &TEXTS {
+        assert!(rt; comes_back(rt.alloc(), *ty, text, payload)?, "{text}");
     }
     Ok(())
 }
 
+/// Texts that are of no value, with the places of their faults.
+const REFUSED: [(Ty, &str, u64); 8] = [
+    (TREE, "(Node (Leaf 1))", 14),
+    (TREE, "(Node (Leaf 1) (Leaf 2)", 23),
+    (TREE, "(Leaf 9223372036854775808)", 6),
+    (P, "(Leaf 5)", 1),
+    (P, "(P 7 (Leaf 5))", 3),
+    (P, "(R)", 1),
+    (P, "(Q True) ", 8),
+    (Ty::Truth, "(Q True)", 0),
+];
+
 #[test]
 fn other_texts_are_refused(rt: HostRuntime) -> Result<(), Fail> {
-    let alloc = rt.alloc();
-    let compiled = compile(alloc, SOURCE).ok_or("source")?;
-    for (ty, text, place) in [
-        (TREE, "(Node (Leaf 1))", 14),
-        (TREE, "(Node (Leaf 1) (Leaf 2)", 23),
-        (TREE, "(Leaf 9223372036854775808)", 6),
-        (P, "(Leaf 5)", 1),
-        (P, "(P 7 (Leaf 5))", 3),
-        (P, "(R)", 1),
-        (P, "(Q True) ", 8),
-        (Ty::Truth, "(Q True)", 0),
-    ] {
-        match there_and_back(alloc, &compiled, ty, text.as_bytes()) {
-            Ok(_) => assert!(rt; false, "{text}"),
-            Err(fault) => assert_eq!(rt; fault, TextFault::At(place), "{text}"),
-        }
+    for (ty, text, place) in &REFUSED {
+        assert!(rt; is_refused(rt.alloc(), *ty, text, *place), "{text}");
     }
     Ok(())
 }

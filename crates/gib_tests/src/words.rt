@@ -1,7 +1,7 @@
 //! Words of command lines with what they ask for.
 
 use gib_app::matches::usual;
-use gib_app::plan::{Document, Job, Plan};
+use gib_app::plan::{Document, Job, Options, Plan};
 use gib_app::sample::{SAMPLE_INPUT, SAMPLE_SOURCE};
 use gib_app::words::read_words;
 use std::alloc::{AllocError, Global};
@@ -14,6 +14,14 @@ fn name<'a>(document: Document<'a>) -> &'a str {
         Document::Named(name) => name,
         Document::MadeSource(_) => "(a source)",
         Document::MadeInput(_, _) => "(an input)",
+    }
+}
+
+/// The name of a document's file, where there is one.
+fn name_of<'a>(document: Option<Document<'a>>) -> Option<&'a str> {
+    match document {
+        Some(document) => Some(name(document)),
+        None => None,
     }
 }
 
@@ -33,42 +41,59 @@ fn command(job: Job) -> &'static str {
     }
 }
 
+/// Puts a file that is named, where there is one.
+fn push_name(line: &mut String, name: Option<&str>) -> Result<(), AllocError> {
+    if let Some(name) = name {
+        line.push_str(" ")?;
+        line.push_str(name)?;
+    }
+    Ok(())
+}
+
+/// Puts an option and its value, where this is not the usual one.
+fn push_number(
+    line: &mut String,
+    alloc: Global,
+    option: &str,
+    value: u32,
+    usual: u32,
+) -> Result<(), AllocError> {
+    if value != usual {
+        line.push_str(&format!(in alloc; " {option} {value}")?)?;
+    }
+    Ok(())
+}
+
+/// Puts an option that is set.
+fn push_set(line: &mut String, option: &str, set: bool) -> Result<(), AllocError> {
+    if set {
+        line.push_str(option)?;
+    }
+    Ok(())
+}
+
+/// Puts the options of a line that are not the usual ones.
+fn push_options(line: &mut String, alloc: Global, options: &Options) -> Result<(), AllocError> {
+    push_number(line, alloc, "workers", options.workers, 1)?;
+    push_number(line, alloc, "fork", options.fork, 4)?;
+    push_number(line, alloc, "depth", options.depth, 10_000)?;
+    push_number(line, alloc, "chunks", options.chunks, 1_024)?;
+    push_number(line, alloc, "pass", options.pass, 4)?;
+    push_set(line, " image", options.image)?;
+    push_set(line, " skips", options.skips)
+}
+
 /// A plan as one line: its job, its files, and the options that are not the usual ones; or `not taken`.
 fn shown(alloc: Global, plan: Option<Plan<'_>>) -> Result<String, AllocError> {
     let Some(plan) = plan else {
         return String::from_str(alloc, "not taken");
     };
-    let mut line = format!(in alloc; "{} {}", command(plan.job), name(plan.source))?;
-    if let Some(second) = plan.second {
-        line = format!(in alloc; "{line} {}", name(second))?;
-    }
-    if let Some(third) = plan.third {
-        line = format!(in alloc; "{line} {}", name(third))?;
-    }
-    if let Some(target) = plan.target {
-        line = format!(in alloc; "{line} {target}")?;
-    }
-    if plan.options.workers != 1 {
-        line = format!(in alloc; "{line} workers {}", plan.options.workers)?;
-    }
-    if plan.options.fork != 4 {
-        line = format!(in alloc; "{line} fork {}", plan.options.fork)?;
-    }
-    if plan.options.depth != 10_000 {
-        line = format!(in alloc; "{line} depth {}", plan.options.depth)?;
-    }
-    if plan.options.chunks != 1_024 {
-        line = format!(in alloc; "{line} chunks {}", plan.options.chunks)?;
-    }
-    if plan.options.pass != 4 {
-        line = format!(in alloc; "{line} pass {}", plan.options.pass)?;
-    }
-    if plan.options.image {
-        line = format!(in alloc; "{line} image")?;
-    }
-    if plan.options.skips {
-        line = format!(in alloc; "{line} skips")?;
-    }
+    let mut line = String::from_str(alloc, command(plan.job))?;
+    push_name(&mut line, Some(name(plan.source)))?;
+    push_name(&mut line, name_of(plan.second))?;
+    push_name(&mut line, name_of(plan.third))?;
+    push_name(&mut line, plan.target)?;
+    push_options(&mut line, alloc, &plan.options)?;
     Ok(line)
 }
 
@@ -81,6 +106,12 @@ fn asked(alloc: Global, texts: &[&str]) -> Result<String, AllocError> {
     }
     let plan = read_words(alloc, words.as_slice())?;
     shown(alloc, plan)
+}
+
+/// Whether words ask for what this line says.
+fn ask_for(alloc: Global, texts: &[&str], line: &str) -> Result<bool, AllocError> {
+    let asked = asked(alloc, texts)?;
+    Ok(asked.as_str() == line)
 }
 
 /// Whether a plan is to run the product's own program on its own input, with the usual options.
@@ -109,203 +140,203 @@ fn no_words_ask_for_the_sample(rt: HostRuntime) -> Result<(), Fail> {
     Ok(())
 }
 
+/// Words, and what they ask for.
+const COMMANDS: [(&[&str], &str); 57] = [
+    (&["run", "s", "i"], "run s i"),
+    (&["plain", "s", "i"], "plain s i"),
+    (&["check", "s"], "check s"),
+    (&["code", "s"], "code s"),
+    (&["code", "s", "--pass", "1"], "not taken"),
+    (&["pack", "s", "t", "o"], "pack s t o"),
+    (&["show", "s", "f"], "show s f"),
+    // The depth of calls, on both sides of its range.
+    (&["run", "s", "i", "--depth", "5"], "run s i depth 5"),
+    (&["plain", "s", "i", "--depth=5"], "plain s i depth 5"),
+    (&["run", "--depth", "5", "s", "i"], "run s i depth 5"),
+    (&["run", "s", "--depth", "5", "i"], "run s i depth 5"),
+    (&["run", "s", "i", "--depth", "1"], "run s i depth 1"),
+    (
+        &["run", "s", "i", "--depth", "1000000"],
+        "run s i depth 1000000",
+    ),
+    (&["run", "s", "i", "--depth", "0"], "not taken"),
+    (&["run", "s", "i", "--depth", "1000001"], "not taken"),
+    (
+        &["run", "s", "i", "--depth", "18446744073709551617"],
+        "not taken",
+    ),
+    (&["run", "s", "i", "--depth", "+5"], "run s i depth 5"),
+    (&["run", "s", "i", "--depth", "007"], "run s i depth 7"),
+    (&["run", "s", "i", "--depth", "-0"], "not taken"),
+    (&["run", "s", "i", "--depth=-0"], "not taken"),
+    (&["run", "s", "i", "--depth", "five"], "not taken"),
+    (
+        &["run", "s", "i", "--depth", "5", "--depth", "5"],
+        "not taken",
+    ),
+    (&["run", "s", "i", "--depth"], "not taken"),
+    (&["run", "s", "i", "--depth="], "not taken"),
+    (&["run", "s", "i", "--dep", "5"], "not taken"),
+    (&["check", "s", "--depth", "5"], "not taken"),
+    (&["run", "s", "i", "-d", "5"], "not taken"),
+    (&["--depth", "5", "run", "s", "i"], "not taken"),
+    (&["code", "s", "--depth", "5"], "not taken"),
+    // Chunks of memory, on both sides of their range.
+    (&["run", "s", "i", "--chunks", "16"], "run s i chunks 16"),
+    (&["run", "s", "i", "--chunks=65536"], "run s i chunks 65536"),
+    (&["run", "s", "i", "--chunks", "15"], "not taken"),
+    (&["run", "s", "i", "--chunks", "65537"], "not taken"),
+    (&["plain", "s", "i", "--chunks", "16"], "not taken"),
+    (&["code", "s", "--chunks", "16"], "not taken"),
+    (
+        &["run", "--chunks", "20", "s", "i", "--depth", "3"],
+        "run s i depth 3 chunks 20",
+    ),
+    // The image of memory.
+    (&["run", "s", "i", "--image", "m"], "run s i m image"),
+    (&["run", "--image=m", "s", "i"], "run s i m image"),
+    (&["run", "s", "i", "--image"], "not taken"),
+    (
+        &["run", "s", "i", "--image", "m", "--image", "n"],
+        "not taken",
+    ),
+    (&["plain", "s", "i", "--image", "m"], "not taken"),
+    // The pass, on both sides of its range.
+    (&["core", "s"], "core s"),
+    (&["core", "s", "--pass", "1"], "core s pass 1"),
+    (&["core", "--pass=4", "s"], "core s"),
+    (&["core", "s", "--pass", "0"], "not taken"),
+    (&["core", "s", "--pass", "5"], "not taken"),
+    (&["core", "s", "--pass", "1", "--pass", "1"], "not taken"),
+    (&["check", "s", "--pass", "1"], "not taken"),
+    // How fields are reached.
+    (&["run", "--skips", "s", "i"], "run s i skips"),
+    (
+        &["core", "s", "--pass", "3", "--skips"],
+        "core s pass 3 skips",
+    ),
+    (&["code", "s", "--skips"], "code s skips"),
+    (&["show", "s", "--skips", "f"], "show s f skips"),
+    (&["show", "s", "f", "--skips", "--skips"], "not taken"),
+    (&["run", "s", "i", "--skips=1"], "not taken"),
+    (&["plain", "s", "i", "--skips"], "not taken"),
+    (&["check", "s", "--skips"], "not taken"),
+    (&["pack", "s", "t", "o", "--skips"], "not taken"),
+];
+
 #[test]
 fn commands_take_their_words(rt: HostRuntime) -> Result<(), Fail> {
-    let alloc = rt.alloc();
-    let cases: [(&[&str], &str); 57] = [
-        (&["run", "s", "i"], "run s i"),
-        (&["plain", "s", "i"], "plain s i"),
-        (&["check", "s"], "check s"),
-        (&["code", "s"], "code s"),
-        (&["code", "s", "--pass", "1"], "not taken"),
-        (&["pack", "s", "t", "o"], "pack s t o"),
-        (&["show", "s", "f"], "show s f"),
-        // The depth of calls, on both sides of its range.
-        (&["run", "s", "i", "--depth", "5"], "run s i depth 5"),
-        (&["plain", "s", "i", "--depth=5"], "plain s i depth 5"),
-        (&["run", "--depth", "5", "s", "i"], "run s i depth 5"),
-        (&["run", "s", "--depth", "5", "i"], "run s i depth 5"),
-        (&["run", "s", "i", "--depth", "1"], "run s i depth 1"),
-        (
-            &["run", "s", "i", "--depth", "1000000"],
-            "run s i depth 1000000",
-        ),
-        (&["run", "s", "i", "--depth", "0"], "not taken"),
-        (&["run", "s", "i", "--depth", "1000001"], "not taken"),
-        (
-            &["run", "s", "i", "--depth", "18446744073709551617"],
-            "not taken",
-        ),
-        (&["run", "s", "i", "--depth", "+5"], "run s i depth 5"),
-        (&["run", "s", "i", "--depth", "007"], "run s i depth 7"),
-        (&["run", "s", "i", "--depth", "-0"], "not taken"),
-        (&["run", "s", "i", "--depth=-0"], "not taken"),
-        (&["run", "s", "i", "--depth", "five"], "not taken"),
-        (
-            &["run", "s", "i", "--depth", "5", "--depth", "5"],
-            "not taken",
-        ),
-        (&["run", "s", "i", "--depth"], "not taken"),
-        (&["run", "s", "i", "--depth="], "not taken"),
-        (&["run", "s", "i", "--dep", "5"], "not taken"),
-        (&["check", "s", "--depth", "5"], "not taken"),
-        (&["run", "s", "i", "-d", "5"], "not taken"),
-        (&["--depth", "5", "run", "s", "i"], "not taken"),
-        (&["code", "s", "--depth", "5"], "not taken"),
-        // Chunks of memory, on both sides of their range.
-        (&["run", "s", "i", "--chunks", "16"], "run s i chunks 16"),
-        (&["run", "s", "i", "--chunks=65536"], "run s i chunks 65536"),
-        (&["run", "s", "i", "--chunks", "15"], "not taken"),
-        (&["run", "s", "i", "--chunks", "65537"], "not taken"),
-        (&["plain", "s", "i", "--chunks", "16"], "not taken"),
-        (&["code", "s", "--chunks", "16"], "not taken"),
-        (
-            &["run", "--chunks", "20", "s", "i", "--depth", "3"],
-            "run s i depth 3 chunks 20",
-        ),
-        // The image of memory.
-        (&["run", "s", "i", "--image", "m"], "run s i m image"),
-        (&["run", "--image=m", "s", "i"], "run s i m image"),
-        (&["run", "s", "i", "--image"], "not taken"),
-        (
-            &["run", "s", "i", "--image", "m", "--image", "n"],
-            "not taken",
-        ),
-        (&["plain", "s", "i", "--image", "m"], "not taken"),
-        // The pass, on both sides of its range.
-        (&["core", "s"], "core s"),
-        (&["core", "s", "--pass", "1"], "core s pass 1"),
-        (&["core", "--pass=4", "s"], "core s"),
-        (&["core", "s", "--pass", "0"], "not taken"),
-        (&["core", "s", "--pass", "5"], "not taken"),
-        (&["core", "s", "--pass", "1", "--pass", "1"], "not taken"),
-        (&["check", "s", "--pass", "1"], "not taken"),
-        // How fields are reached.
-        (&["run", "--skips", "s", "i"], "run s i skips"),
-        (
-            &["core", "s", "--pass", "3", "--skips"],
-            "core s pass 3 skips",
-        ),
-        (&["code", "s", "--skips"], "code s skips"),
-        (&["show", "s", "--skips", "f"], "show s f skips"),
-        (&["show", "s", "f", "--skips", "--skips"], "not taken"),
-        (&["run", "s", "i", "--skips=1"], "not taken"),
-        (&["plain", "s", "i", "--skips"], "not taken"),
-        (&["check", "s", "--skips"], "not taken"),
-        (&["pack", "s", "t", "o", "--skips"], "not taken"),
-    ];
-    for (texts, expected) in cases {
-        let line = asked(alloc, texts)?;
-        assert_eq!(rt; line.as_str(), expected, "{texts:?}");
+    for (texts, line) in &COMMANDS {
+        assert!(rt; ask_for(rt.alloc(), texts, line)?, "{texts:?}");
     }
     Ok(())
 }
+
+/// Words of runs by workers and of journals, and what they ask for.
+const WORKERS: [(&[&str], &str); 18] = [
+    (&["run", "s", "i", "--workers", "2"], "run s i workers 2"),
+    (&["run", "s", "i", "--workers=64"], "run s i workers 64"),
+    (&["run", "s", "i", "--workers", "0"], "not taken"),
+    (&["run", "s", "i", "--workers", "65"], "not taken"),
+    (&["run", "s", "i", "--fork", "0"], "run s i fork 0"),
+    (&["run", "--fork=64", "s", "i"], "run s i fork 64"),
+    (&["run", "s", "i", "--fork", "65"], "not taken"),
+    (&["core", "s", "--fork", "1"], "not taken"),
+    (&["trace", "s", "i", "j"], "trace s i j"),
+    (
+        &["trace", "s", "i", "--workers", "8", "j", "--fork=0"],
+        "trace s i j workers 8 fork 0",
+    ),
+    (
+        &["trace", "s", "i", "j", "--depth=3", "--chunks=16"],
+        "trace s i j depth 3 chunks 16",
+    ),
+    (&["trace", "s", "i", "j", "--skips"], "trace s i j skips"),
+    (&["trace", "s", "i", "j", "--image", "m"], "not taken"),
+    (&["replay", "s", "i", "j"], "replay s i j"),
+    (
+        &["replay", "s", "i", "j", "--image", "m"],
+        "replay s i j m image",
+    ),
+    (&["replay", "s", "i", "j", "--depth", "3"], "not taken"),
+    (&["replay", "s", "i", "j", "--workers", "2"], "not taken"),
+    (&["replay", "s", "i", "j", "--skips"], "not taken"),
+];
 
 #[test]
 fn workers_and_journals_take_their_words(rt: HostRuntime) -> Result<(), Fail> {
-    let alloc = rt.alloc();
-    let cases: [(&[&str], &str); 18] = [
-        (&["run", "s", "i", "--workers", "2"], "run s i workers 2"),
-        (&["run", "s", "i", "--workers=64"], "run s i workers 64"),
-        (&["run", "s", "i", "--workers", "0"], "not taken"),
-        (&["run", "s", "i", "--workers", "65"], "not taken"),
-        (&["run", "s", "i", "--fork", "0"], "run s i fork 0"),
-        (&["run", "--fork=64", "s", "i"], "run s i fork 64"),
-        (&["run", "s", "i", "--fork", "65"], "not taken"),
-        (&["core", "s", "--fork", "1"], "not taken"),
-        (&["trace", "s", "i", "j"], "trace s i j"),
-        (
-            &["trace", "s", "i", "--workers", "8", "j", "--fork=0"],
-            "trace s i j workers 8 fork 0",
-        ),
-        (
-            &["trace", "s", "i", "j", "--depth=3", "--chunks=16"],
-            "trace s i j depth 3 chunks 16",
-        ),
-        (&["trace", "s", "i", "j", "--skips"], "trace s i j skips"),
-        (&["trace", "s", "i", "j", "--image", "m"], "not taken"),
-        (&["replay", "s", "i", "j"], "replay s i j"),
-        (
-            &["replay", "s", "i", "j", "--image", "m"],
-            "replay s i j m image",
-        ),
-        (&["replay", "s", "i", "j", "--depth", "3"], "not taken"),
-        (&["replay", "s", "i", "j", "--workers", "2"], "not taken"),
-        (&["replay", "s", "i", "j", "--skips"], "not taken"),
-    ];
-    for (texts, expected) in cases {
-        let line = asked(alloc, texts)?;
-        assert_eq!(rt; line.as_str(), expected, "{texts:?}");
+    for (texts, line) in &WORKERS {
+        assert!(rt; ask_for(rt.alloc(), texts, line)?, "{texts:?}");
     }
     Ok(())
 }
+
+/// Words that name files, and what they ask for.
+const FILES: [(&[&str], &str); 13] = [
+    (&["check", "-"], "check -"),
+    (&["check", ""], "check "),
+    (&["check", "check"], "check check"),
+    (&["check", "help"], "check help"),
+    (&["check", "a=b"], "check a=b"),
+    (&["check", "--", "-s"], "check -s"),
+    (&["check", "--", "--"], "check --"),
+    (&["run", "--", "--depth", "5"], "run --depth 5"),
+    (&["run", "s", "--", "-i"], "run s -i"),
+    (&["run", "--depth", "5", "--", "s", "i"], "run s i depth 5"),
+    (&["run", "--", "s", "i", "--depth", "5"], "not taken"),
+    (&["check", "-s"], "not taken"),
+    (&["check", "--s"], "not taken"),
+];
 
 #[test]
 fn names_of_files_are_any_words(rt: HostRuntime) -> Result<(), Fail> {
-    let alloc = rt.alloc();
-    let cases: [(&[&str], &str); 13] = [
-        (&["check", "-"], "check -"),
-        (&["check", ""], "check "),
-        (&["check", "check"], "check check"),
-        (&["check", "help"], "check help"),
-        (&["check", "a=b"], "check a=b"),
-        (&["check", "--", "-s"], "check -s"),
-        (&["check", "--", "--"], "check --"),
-        (&["run", "--", "--depth", "5"], "run --depth 5"),
-        (&["run", "s", "--", "-i"], "run s -i"),
-        (&["run", "--depth", "5", "--", "s", "i"], "run s i depth 5"),
-        (&["run", "--", "s", "i", "--depth", "5"], "not taken"),
-        (&["check", "-s"], "not taken"),
-        (&["check", "--s"], "not taken"),
-    ];
-    for (texts, expected) in cases {
-        let line = asked(alloc, texts)?;
-        assert_eq!(rt; line.as_str(), expected, "{texts:?}");
+    for (texts, line) in &FILES {
+        assert!(rt; ask_for(rt.alloc(), texts, line)?, "{texts:?}");
     }
     Ok(())
 }
 
+/// Words that are not taken.
+const OTHERS: [&[&str]; 33] = [
+    &[""],
+    &["--"],
+    &["-"],
+    &["run"],
+    &["run", "s"],
+    &["run", "s", "i", "x"],
+    &["plain", "s"],
+    &["check"],
+    &["check", "s", "x"],
+    &["core"],
+    &["core", "s", "x"],
+    &["code"],
+    &["code", "s", "x"],
+    &["pack", "s", "t"],
+    &["pack", "s", "t", "o", "x"],
+    &["show", "s"],
+    &["show", "s", "f", "x"],
+    &["run", "s", "i", "--fast"],
+    &["plain", "s", "i", "--workers", "2"],
+    &["trace", "s", "i"],
+    &["replay", "s", "i"],
+    &["replay", "s", "i", "j", "x"],
+    &["walk", "s", "i"],
+    &["Run", "s", "i"],
+    &["ru", "s", "i"],
+    &["--", "run", "s", "i"],
+    &["help"],
+    &["help", "run"],
+    &["--help"],
+    &["-h"],
+    &["--version"],
+    &["run", "--help"],
+    &["run", "s", "i", "-h"],
+];
+
 #[test]
 fn other_words_are_not_taken(rt: HostRuntime) -> Result<(), Fail> {
-    let alloc = rt.alloc();
-    let cases: [&[&str]; 33] = [
-        &[""],
-        &["--"],
-        &["-"],
-        &["run"],
-        &["run", "s"],
-        &["run", "s", "i", "x"],
-        &["plain", "s"],
-        &["check"],
-        &["check", "s", "x"],
-        &["core"],
-        &["core", "s", "x"],
-        &["code"],
-        &["code", "s", "x"],
-        &["pack", "s", "t"],
-        &["pack", "s", "t", "o", "x"],
-        &["show", "s"],
-        &["show", "s", "f", "x"],
-        &["run", "s", "i", "--fast"],
-        &["plain", "s", "i", "--workers", "2"],
-        &["trace", "s", "i"],
-        &["replay", "s", "i"],
-        &["replay", "s", "i", "j", "x"],
-        &["walk", "s", "i"],
-        &["Run", "s", "i"],
-        &["ru", "s", "i"],
-        &["--", "run", "s", "i"],
-        &["help"],
-        &["help", "run"],
-        &["--help"],
-        &["-h"],
-        &["--version"],
-        &["run", "--help"],
-        &["run", "s", "i", "-h"],
-    ];
-    for texts in cases {
-        let line = asked(alloc, texts)?;
-        assert_eq!(rt; line.as_str(), "not taken", "{texts:?}");
+    for texts in &OTHERS {
+        assert!(rt; ask_for(rt.alloc(), texts, "not taken")?, "{texts:?}");
     }
     Ok(())
 }

@@ -21,13 +21,10 @@ use std::alloc::Global;
 fn without_feed(bytes: &[u8]) -> &[u8]
     ensures { result.now ≡ feed_cut bytes.now }
 {
-    let len = bytes.len();
-    if len > 0 && bytes[len - 1] == b'\n' {
-        let (front, _) = bytes.split_at(len - 1);
-        front
-    } else {
-        bytes
-    }
+    let Some((last, front)) = bytes.split_last() else {
+        return bytes;
+    };
+    if *last == b'\n' { front } else { bytes }
 }
 
 /// The packed file of the value of the type of main's parameter whose text this is; one line feed may stand at

@@ -1,10 +1,15 @@
 //! `trace`: prints what a program means on an input, and makes the journal of a run by workers.
 
-ghost use Rattle.std.specs.Prelude.{◌≡◌, ◌≤◌, length, IfOk, IfErr};
+ghost use Rattle.std.specs.Prelude.{◌≡◌, ◌≤◌, ℕ, List, length, IfOk, IfErr};
+ghost use Rattle.gib_value.specs.Text.{AreHeld};
+ghost use Rattle.gib_syntax.specs.Tree.{ProgramTree};
 ghost use Rattle.gib_syntax.specs.Parts.{program_of};
+ghost use Rattle.gib_app.specs.declared.plan.Options.{Options as OptionValues};
+ghost use Rattle.gib_app.specs.Cores.{layouts_of};
 ghost use Rattle.gib_app.specs.Jobs.{Traces};
 ghost use Rattle.gib_app.specs.Kept.{EndsBy, file_of};
 ghost use Rattle.gib_app.specs.Stops.{IsReady, IsRunStop};
+ghost use Rattle.gib_app.specs.Workers.{IsTraced};
 
 use crate::compile::Compiled;
 use crate::imaging::text_of;
@@ -15,12 +20,47 @@ use crate::printing::of_stop;
 use crate::runtime::Runtime;
 use crate::stop::Stop;
 use crate::tracing::{TracedRun, trace_packed};
+use gib_base::Names;
 use gib_base::limits::FILE_BYTES;
 use gib_edge::outside::Gate;
 use gib_locked::{Traced, write_journal};
+use gib_mem::{Mem, PlainMem};
 use std::alloc::Global;
 use std::sync::Wait;
 use std::thread::Threads;
+
+/// What such a run leaves: its journal, and the text of its value or that depth ran out.
+fn left_of(alloc: Global, run: TracedRun, names: &Names) -> Result<Made, Stop<'static>>
+    requires names { AreHeld run.lowered.code.laid.table names.now }
+    requires traced { (p : ProgramTree) × (options : OptionValues) × (input : List ℕ) × IsTraced p options input run.traced.journal.settings run.traced.journal.lines.all.items (⟦<PlainMem as Mem>⟧.view run.traced.memory) run.traced.answer
+        × (run.lowered.code.laid ≡ layouts_of options.skips p) }
+    ensures made { (p : ProgramTree) (options : OptionValues) (input : List ℕ) → IsTraced p options input run.traced.journal.settings run.traced.journal.lines.all.items (⟦<PlainMem as Mem>⟧.view run.traced.memory) run.traced.answer
+        → run.lowered.code.laid ≡ layouts_of options.skips p → IfOk result (λ made. EndsBy (file_of made) made.end (Traces p names.now options input)) }
+    ensures memory { IfErr result (λ stop. stop ≡ Stop.Memory) }
+{
+    let TracedRun { lowered, traced } = run;
+    let Traced {
+        answer,
+        memory,
+        journal,
+    } = traced;
+    let Ok(file) = write_journal(alloc, &journal) else {
+        return Err(Stop::Memory);
+    };
+    let Some(mut ran) = ran_of(lowered, memory, answer) else {
+        return Ok(Made {
+            file: Some(file),
+            end: End::NoValue(Reason::Deep),
+        });
+    };
+    match text_of(alloc, &mut ran, names) {
+        Ok(text) => Ok(Made {
+            file: Some(file),
+            end: End::Prints(text),
+        }),
+        Err(_) => Err(Stop::Memory),
+    }
+}
 
 /// What a program means on the bytes of an input, within the depth, by workers over one lock, and the journal of what happened. It is made
 /// too where depth runs out.
@@ -40,35 +80,8 @@ pub fn trace<R: Threads + Wait + Sync, G: Gate + Sync>(
     ensures made { IfOk result (λ made. EndsBy (file_of made) made.end (Traces (program_of compiled.now.typed) compiled.now.names options input.now)) }
     ensures stop { IfErr result (IsRunStop (program_of compiled.now.typed) input.now) }
 {
-    let TracedRun { lowered, traced } = match trace_packed(
-        alloc,
-        runtime,
-        &compiled.typed,
-        input,
-        options,
-    ) {
-        Ok(run) => run,
-        Err(stop) => return of_stop(stop),
-    };
-    let Traced {
-        answer,
-        memory,
-        journal,
-    } = traced;
-    let Ok(file) = write_journal(alloc, &journal) else {
-        return Err(Stop::Memory);
-    };
-    let Some(mut ran) = ran_of(lowered, memory, answer) else {
-        return Ok(Made {
-            file: Some(file),
-            end: End::NoValue(Reason::Deep),
-        });
-    };
-    match text_of(alloc, &mut ran, &compiled.names) {
-        Ok(text) => Ok(Made {
-            file: Some(file),
-            end: End::Prints(text),
-        }),
-        Err(_) => Err(Stop::Memory),
+    match trace_packed(alloc, runtime, &compiled.typed, input, options) {
+        Ok(run) => left_of(alloc, run, &compiled.names),
+        Err(stop) => of_stop(stop),
     }
 }

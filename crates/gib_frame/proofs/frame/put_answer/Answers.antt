@@ -1,10 +1,8 @@
-use Rattle.std.proofs.Common.{rules, ◌≡◌, refl, sym, ap, ◌∙◌, subst, arith, ◌∷◌}
-use Rattle.std.specs.Prelude.{Some, None, Option}
+use Rattle.std.proofs.Common.{rules, sym, ap, ◌∙◌, subst, arith, ◌∷◌}
+use Rattle.std.specs.Prelude.{Some, Option}
 use Rattle.atomic_table.specs.Table.{rest}
 use Rattle.gib_frame.specs.declared.due.Given.{Given}
-use Rattle.std.specs.Arc.{arc_value}
 use Rattle.gib_frame.specs.declared.ends.Cell.{Cell}
-use Rattle.gib_frame.specs.Answers.{Delivers}
 use Rattle.gib_frame.specs.Slot.{Fits}
 use Rattle.gib_frame.proofs.SlotKeeps.{sits, takes_it, gives_it}
 use Rattle.gib_frame.proofs.frame.put_answer.Goals as goal

@@ -1,8 +1,6 @@
-use Rattle.std.proofs.Common.{rules, ◌≡◌, refl, sym, ap, ◌∙◌, subst, arith, ◌∷◌}
-use Rattle.std.specs.Prelude.{Some, None, Option}
+use Rattle.std.proofs.Common.{rules, ap, ◌∙◌, arith, ◌∷◌}
+use Rattle.std.specs.Prelude.{None}
 use Rattle.atomic_table.specs.Table.{rest}
-use Rattle.gib_frame.specs.declared.due.Given.{Given}
-use Rattle.gib_frame.specs.Slot.{Fits}
 use Rattle.gib_frame.proofs.SlotKeeps.{sits, takes_it, gives_it}
 use Rattle.gib_frame.proofs.frame.wait_answer.Goals as goal
 

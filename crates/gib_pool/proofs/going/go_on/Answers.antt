@@ -1,7 +1,6 @@
 use Rattle.std.proofs.Common.{sym, ◌∙◌}
 use Rattle.gib_machine.specs.Stepping.{with_tails}
-use Rattle.gib_machine.specs.Machine.{next}
-use Rattle.gib_pool.proofs.Standing.{stays, stays_on, turn_stays, whole, can_step, steps, stands, keeps_width}
+use Rattle.gib_pool.proofs.Standing.{stays, stays_on, whole, can_step, same, steps, stands, keeps_width}
 use Rattle.gib_pool.proofs.going.go_on.Goals as goal
 
 pub turns-init : goal.turns-init
@@ -22,9 +21,10 @@ turns-preserved g c =
     let v' = g.M.Mem.view c.step.new.mem in
     let s = with_tails c.turns.machine c.turns.tails in
     let s' = with_tails c.step.new.self c.step.new.tails in
+    let w = c.requires.works in
     record {
-      works = λ d lent w. steps l c.code-code.result.now c.code-code.ensures.value ok d lent v v' s s' c.step.result (g.met.M.Mem.bounded c.turns.mem) c.in-Went.is c.step.ensures (c.turns.invariant.works d lent w);
-      same = stays_on (g.M.Mem.view c.args.mem.now) v v' c.turns.invariant.same (turn_stays (next c.code-code.result.now s) s s' v v' c.step.result c.step.ensures);
+      works = λ d lent h. steps l c.code-code.result.now c.code-code.ensures.value ok d lent v v' s s' c.step.result (g.met.M.Mem.bounded c.turns.mem) c.in-Went.is c.step.ensures (c.turns.invariant.works d lent h);
+      same = stays_on (g.M.Mem.view c.args.mem.now) v v' c.turns.invariant.same (same l c.code-code.result.now c.code-code.ensures.value ok w.0 w.1 v v' s s' c.step.result (g.met.M.Mem.bounded c.turns.mem) c.step.ensures (c.turns.invariant.works w.0 w.1 w.2));
       made = keeps_width l c.code-code.result.now c.code-code.ensures.value ok v v' s s' c.step.result c.step.ensures ∙ c.turns.invariant.made;
     }
 
@@ -36,8 +36,9 @@ returns-in_default g c =
     let v' = g.M.Mem.view c.step.new.mem in
     let s = with_tails c.turns.machine c.turns.tails in
     let s' = with_tails c.step.new.self c.step.new.tails in
+    let w = c.requires.works in
     record {
-      comes = λ d lent w. stands l c.code-code.result.now c.code-code.ensures.value ok d lent v v' s s' c.step.result (g.met.M.Mem.bounded c.turns.mem) c.in_default.not-Went c.step.ensures (c.turns.invariant.works d lent w);
-      same = stays_on (g.M.Mem.view c.args.mem.now) v v' c.turns.invariant.same (turn_stays (next c.code-code.result.now s) s s' v v' c.step.result c.step.ensures);
+      comes = λ d lent h. stands l c.code-code.result.now c.code-code.ensures.value ok d lent v v' s s' c.step.result (g.met.M.Mem.bounded c.turns.mem) c.in_default.not-Went c.step.ensures (c.turns.invariant.works d lent h);
+      same = stays_on (g.M.Mem.view c.args.mem.now) v v' c.turns.invariant.same (same l c.code-code.result.now c.code-code.ensures.value ok w.0 w.1 v v' s s' c.step.result (g.met.M.Mem.bounded c.turns.mem) c.step.ensures (c.turns.invariant.works w.0 w.1 w.2));
       made = keeps_width l c.code-code.result.now c.code-code.ensures.value ok v v' s s' c.step.result c.step.ensures ∙ (c.turns.invariant.made ∙ sym c.requires.made);
     }

@@ -9,7 +9,7 @@ use Rattle.gib_pool.proofs.going.go_on.Given as goal
 
 abbrev pub invariant-turns : goal.invariant-turns
 invariant-turns g l = record {
-  works : (d : Debt) (lent : List (Option Due)) → Works l.fn.lowered d (g.M.Mem.view l.fn.mem).cells (with_tails l.fn.machine l.fn.tails) lent → Works l.fn.lowered d (g.M.Mem.view l.mem).cells (with_tails l.machine l.tails) lent;
+  works : (d : Debt) (lent : List (Option Due)) → Works l.fn.lowered d (g.M.Mem.view l.fn.mem).cells (g.M.Mem.view l.fn.mem).share (with_tails l.fn.machine l.fn.tails) lent → Works l.fn.lowered d (g.M.Mem.view l.mem).cells (g.M.Mem.view l.mem).share (with_tails l.machine l.tails) lent;
   same : IsSame (g.M.Mem.view l.fn.mem) (g.M.Mem.view l.mem);
   made : l.machine.width ≡ widest l.fn.lowered.code.functions;
 }

@@ -4,6 +4,7 @@ use Rattle.gib_arena.specs.declared.memory.Arena.{Arena}
 use Rattle.gib_arena.specs.declared.memory.Pass.{Pass}
 use Rattle.gib_arena.specs.Passes.{view, IsOf}
 use Rattle.gib_frame.specs.declared.due.Due.{Due}
+use Rattle.gib_frame.specs.Answers.{drawn_by}
 use Rattle.gib_frame.specs.Dues.{reply_due}
 use Rattle.gib_pool.proofs.Beginnings.{IsMade, side_owes, side_ends, task_debt}
 use Rattle.gib_pool.proofs.Passing.{pass_small}
@@ -21,7 +22,7 @@ work-ending-requires-clause-owes g c =
     let lowered : due.lowered.value ≡ l = ap (λ (x : Due). x.lowered.value) t.due ∙ (is.lowered ∙ sym t.code.1) in
     let pass : due.pass.value ≡ p = ap (λ (x : Due). x.pass.value) t.due ∙ (is.pass ∙ sym t.parts.1) in
     let side = ap (λ (x : Due). x.side.value) t.due ∙ (is.side ∙ sym t.parts.0) in
-    let owes = λ (d : Debt). side_owes l d due c.code.result.now c.open-reply.result.3 p c.in-Ok.machine c.make-job.result lowered c.code.ensures.value side pass c.in-Ok.ensures made (pass_small c.open-reply.result.1.now p of) in
+    let owes = λ (d : Debt). side_owes l d due c.code.result.now c.open-reply.result.3 p c.in-Ok.machine c.make-job.result lowered c.code.ensures.value side pass c.in-Ok.ensures made (pass_small c.open-reply.result.1.now p of) (ap drawn_by t.parts.1 ∙ is.none_drawn) in
     let debt = task_debt c.args.task due is t.due in
     (debt.0, owes debt.0 debt.1)
 
@@ -37,8 +38,8 @@ put_answer-requires-in-Ok g c =
     let lowered : due.lowered.value ≡ l = ap (λ (x : Due). x.lowered.value) t.due ∙ (is.lowered ∙ sym t.code.1) in
     let pass : due.pass.value ≡ p = ap (λ (x : Due). x.pass.value) t.due ∙ (is.pass ∙ sym t.parts.1) in
     let side = ap (λ (x : Due). x.side.value) t.due ∙ (is.side ∙ sym t.parts.0) in
-    let owes = λ (d : Debt). side_owes l d due c.code.result.now c.open-reply.result.3 p c.in-Ok.machine c.make-job.result lowered c.code.ensures.value side pass c.in-Ok.ensures made (pass_small c.open-reply.result.1.now p of) in
-    let w = c.work-ending.ensures in
+    let owes = λ (d : Debt). side_owes l d due c.code.result.now c.open-reply.result.3 p c.in-Ok.machine c.make-job.result lowered c.code.ensures.value side pass c.in-Ok.ensures made (pass_small c.open-reply.result.1.now p of) (ap drawn_by t.parts.1 ∙ is.none_drawn) in
+    let w = c.work-ending.ensures.over in
     let b = w.back in
     let q = c.work-ending.result.1 in
     record {

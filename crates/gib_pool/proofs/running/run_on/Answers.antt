@@ -4,6 +4,7 @@ use Rattle.gib_machine.specs.Stepping.{with_tails}
 use Rattle.gib_arena.specs.declared.memory.Pass.{Pass}
 use Rattle.gib_arena.specs.Passes.{view, cells}
 use Rattle.gib_arena.specs.Shown.{shown}
+use Rattle.gib_frame.specs.Answers.{drawn_by}
 use Rattle.gib_pool.specs.Turn.{Works}
 use Rattle.gib_pool.specs.Going.{Comes}
 use Rattle.gib_pool.specs.Jobs.{job_state, job_lent}
@@ -21,4 +22,4 @@ returns-clause-holds g c =
 pub returns-clause-stands : goal.returns-clause-stands
 returns-clause-stands g c = λ d w.
     subst (λ (p : Pass). Comes c.args.lowered.now d (job_lent c.args.job) (shown p.seat.table_id (view p)) (with_tails c.go_on-turn.new.machine c.go_on-turn.new.tails) c.go_on-turn.result) (sym c.into_pass-pass.ensures.pass)
-    (c.go_on-turn.ensures.comes d (job_lent c.args.job) (subst (λ (p : Pass). Works c.args.lowered.now d (cells p) (job_state c.args.job) (job_lent c.args.job)) (sym c.make-mem.ensures.pass) w))
+    (c.go_on-turn.ensures.comes d (job_lent c.args.job) (subst (λ (p : Pass). Works c.args.lowered.now d (cells p) (drawn_by p) (job_state c.args.job) (job_lent c.args.job)) (sym c.make-mem.ensures.pass) w))

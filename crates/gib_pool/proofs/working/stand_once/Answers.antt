@@ -1,7 +1,11 @@
 use Rattle.std.proofs.Common.{ap, subst, ◌∙◌}
-use Rattle.gib_pool.specs.Jobs.{StandsAt}
+use Rattle.std.specs.Prelude.{Ok, Err}
+use Rattle.crossbeam_deque.specs.Handles.{worker_view}
+use Rattle.gib_machine.specs.declared.turn.Turn.TheVariants.{AtFork, AtJoin}
+use Rattle.gib_weave.specs.Owing.{Debt}
+use Rattle.gib_pool.specs.Jobs.{OwesStill, PaysStill, StandsAt}
 use Rattle.gib_pool.specs.Lent.{lent_paths}
-use Rattle.gib_pool.proofs.Passing.{full_still}
+use Rattle.gib_pool.proofs.Passing.{back_on, goes_for, settles_for}
 use Rattle.gib_pool.proofs.working.stand_once.Goals as goal
 
 pub unreachable-requires : goal.unreachable-requires
@@ -13,24 +17,40 @@ fork_here-requires-clause-stands g c = let w = c.requires.owes in (w.0, subst (S
 pub join_here-requires-clause-stands : goal.join_here-requires-clause-stands
 join_here-requires-clause-stands g c = let w = c.requires.owes in (w.0, subst (StandsAt c.args.lowered.now w.0 c.run_on-job.result.0) c.in-AtJoin.is (c.run_on-job.ensures.stands w.0 w.1))
 
-pub returns-in-Ended-clause-back : goal.returns-in-Ended-clause-back
-returns-in-Ended-clause-back g c =
+pub returns-in-Ended-clause-goes : goal.returns-in-Ended-clause-goes
+returns-in-Ended-clause-goes g c =
+    let at = λ (d : Debt) (h : OwesStill c.args.lowered.now d c.args.job). subst (StandsAt c.args.lowered.now d c.run_on-job.result.0) c.in-Ended.is (c.run_on-job.ensures.stands d h) in
     let w = c.requires.owes in
-    let none = subst (StandsAt c.args.lowered.now w.0 c.run_on-job.result.0) c.in-Ended.is (c.run_on-job.ensures.stands w.0 w.1) in
     let h = c.run_on-job.ensures.holds in
-    record { own = h.own; same = c.run_on-job.ensures.same; none_out = h.lends.out ∙ ap lent_paths none.0 }
+    record {
+      back = record { own = h.own; same = c.run_on-job.ensures.same; none_out = h.lends.out ∙ ap lent_paths (at w.0 w.1).0 };
+      settles = λ d h. let e = at d h in (e.1, e.2);
+    }
 
-pub returns-in-Ended-clause-settles : goal.returns-in-Ended-clause-settles
-returns-in-Ended-clause-settles g c = λ d w. (subst (StandsAt c.args.lowered.now d c.run_on-job.result.0) c.in-Ended.is (c.run_on-job.ensures.stands d w)).1
-
-pub returns-in-Full-clause-settles : goal.returns-in-Full-clause-settles
-returns-in-Full-clause-settles g c =
+pub returns-in-Full-clause-goes : goal.returns-in-Full-clause-goes
+returns-in-Full-clause-goes g c =
+    let l = c.args.lowered.now in
+    let full = λ (d : Debt) (h : OwesStill l d c.args.job). subst (StandsAt l d c.run_on-job.result.0) c.in-Full.is (c.run_on-job.ensures.stands d h) in
     let w = c.requires.owes in
-    let full = subst (StandsAt c.args.lowered.now w.0 c.run_on-job.result.0) c.in-Full.is (c.run_on-job.ensures.stands w.0 w.1) in
-    full_still c.run_on-job.result.0.pass c.leave.result full c.leave.ensures.back.same c.leave.ensures.seen
+    record {
+      back = back_on c.args.arena.now c.args.job.pass c.run_on-job.result.0.pass c.leave.result.1 c.run_on-job.ensures.same c.leave.ensures.back;
+      settles = settles_for l (λ (d : Debt). PaysStill l d c.run_on-job.result.0) (λ (d : Debt). OwesStill l d c.args.job) c.leave.result.0 c.leave.result.1 (λ d h. (full d h).3) (c.leave.ensures.settles l (full w.0 w.1).2);
+    }
 
-pub returns-in-Ok-clause-owes : goal.returns-in-Ok-clause-owes
-returns-in-Ok-clause-owes g c = λ d w. c.in-Ok.ensures.owes d (subst (StandsAt c.args.lowered.now d c.run_on-job.result.0) c.in-AtFork.is (c.run_on-job.ensures.stands d w))
+pub returns-after-is_offered-clause-goes : goal.returns-after-is_offered-clause-goes
+returns-after-is_offered-clause-goes g c =
+    let l = c.args.lowered.now in
+    goes_for c.args.arena.now l (λ (d : Debt). StandsAt l d c.run_on-job.result.0 AtFork) (λ (d : Debt). OwesStill l d c.args.job) c.args.job c.run_on-job.result.0 (worker_view c.fork_here.new.forks).mine (Ok c.in-Ok.job) c.run_on-job.ensures.same
+    (λ d w. subst (StandsAt l d c.run_on-job.result.0) c.in-AtFork.is (c.run_on-job.ensures.stands d w)) c.in-Ok.ensures.goes
 
-pub returns-in-Ok-join_here-clause-owes : goal.returns-in-Ok-join_here-clause-owes
-returns-in-Ok-join_here-clause-owes g c = λ d w. c.in-Ok-join_here.ensures.owes d (subst (StandsAt c.args.lowered.now d c.run_on-job.result.0) c.in-AtJoin.is (c.run_on-job.ensures.stands d w))
+pub returns-in-Err-clause-goes : goal.returns-in-Err-clause-goes
+returns-in-Err-clause-goes g c =
+    let l = c.args.lowered.now in
+    goes_for c.args.arena.now l (λ (d : Debt). StandsAt l d c.run_on-job.result.0 AtFork) (λ (d : Debt). OwesStill l d c.args.job) c.args.job c.run_on-job.result.0 (worker_view c.fork_here.new.forks).mine (Err c.in-Err.end) c.run_on-job.ensures.same
+    (λ d w. subst (StandsAt l d c.run_on-job.result.0) c.in-AtFork.is (c.run_on-job.ensures.stands d w)) c.in-Err.ensures.goes
+
+pub returns-in-AtJoin-clause-goes : goal.returns-in-AtJoin-clause-goes
+returns-in-AtJoin-clause-goes g c =
+    let l = c.args.lowered.now in
+    goes_for c.args.arena.now l (λ (d : Debt). StandsAt l d c.run_on-job.result.0 AtJoin) (λ (d : Debt). OwesStill l d c.args.job) c.args.job c.run_on-job.result.0 (worker_view c.join_here.new.forks).mine c.join_here.result c.run_on-job.ensures.same
+    (λ d w. subst (StandsAt l d c.run_on-job.result.0) c.in-AtJoin.is (c.run_on-job.ensures.stands d w)) c.join_here.ensures.goes

@@ -1,0 +1,90 @@
+use Rattle.std.proofs.Common.{ℕ, [], sym, ap, subst, ◌∙◌}
+use Rattle.std.specs.Prelude.{Result}
+use Rattle.gib_types.specs.Tree.{Datum}
+use Rattle.gib_core.specs.Parts.{core_of}
+use Rattle.gib_code.specs.declared.answer.Answer.{Answer}
+use Rattle.gib_machine.specs.Machine.{State}
+use Rattle.gib_weave.specs.declared.root_run.RunFault.{RunFault}
+use Rattle.gib_weave.specs.Running.{IsStart, word_of}
+use Rattle.gib_weave.specs.Starting.{root_start}
+use Rattle.gib_arena.specs.declared.memory.Pass.{Pass}
+use Rattle.gib_arena.specs.declared.view.View.{View}
+use Rattle.gib_arena.specs.Passes.{view, cells}
+use Rattle.gib_arena.specs.Shown.{shown_alone}
+use Rattle.gib_frame.specs.Answers.{drawn_by}
+use Rattle.gib_weave.specs.Owing.{Debt}
+use Rattle.gib_pool.specs.Jobs.{OwesStill}
+use Rattle.gib_pool.specs.Runs.{pass_memory, IsRun}
+use Rattle.gib_pool.specs.Turn.{Works}
+use Rattle.gib_pool.proofs.Beginnings.{IsMade, job_owes, made_holds, root_debt, root_owes, root_ends, full_drawn}
+use Rattle.gib_pool.proofs.Passing.{root_bounded}
+use Rattle.gib_pool.proofs.Standing.{whole}
+use Rattle.gib_pool.proofs.run.run_in.Goals as goal
+
+pub work_together-ending-requires-clause-holds : goal.work_together-ending-requires-clause-holds
+work_together-ending-requires-clause-holds g c κs within =
+    let l = c.args.shared.now.lowered.now in
+    let a = c.args.shared.now.arena.now in
+    let tails = c.args.tails in
+    let pass = c.count_all.new.pass in
+    let depth = c.args.crew.depth in
+    let level = c.args.crew.level in
+    let counted = c.count_all.ensures in
+    let job = c.make-job.ensures in
+    let made : IsMade c.make-job.result c.in-Ok.machine tails pass = record { machine = job.machine.0; tails = job.machine.1; pass = job.pass; frames = job.frames.0 } in
+    let start = c.in-Ok.ensures tails in
+    made_holds a l c.make-job.result c.in-Ok.machine tails pass made counted.own (ap (λ (v : View). v.branch.out) counted.same ∙ c.requires.alone.2) (ap (λ (s : State). s.width) start)
+
+pub work_together-ending-requires-clause-owes : goal.work_together-ending-requires-clause-owes
+work_together-ending-requires-clause-owes g c κs within =
+    let l = c.args.shared.now.lowered.now in
+    let a = c.args.shared.now.arena.now in
+    let tails = c.args.tails in
+    let pass = c.count_all.new.pass in
+    let depth = c.args.crew.depth in
+    let level = c.args.crew.level in
+    let counted = c.count_all.ensures in
+    let job = c.make-job.ensures in
+    let made : IsMade c.make-job.result c.in-Ok.machine tails pass = record { machine = job.machine.0; tails = job.machine.1; pass = job.pass; frames = job.frames.0 } in
+    let start = c.in-Ok.ensures tails in
+    let ok = whole l c.code-code.ensures.lowered c.core.ensures.fits c.code-code.ensures.runs in
+    let owes : (d : Datum) → IsStart l c.args.root tails (pass_memory c.args.first) d → OwesStill l (root_debt l depth level d) c.make-job.result = λ d st.
+    job_owes l (root_debt l depth level d) c.make-job.result c.in-Ok.machine tails pass made
+    (subst (λ (s : State). Works l (root_debt l depth level d) (cells pass) (drawn_by pass) s []) (sym start)
+    (subst (λ (n : ℕ). Works l (root_debt l depth level d) (cells pass) n (root_start (core_of l.core) l.code (word_of c.args.root) depth level tails) []) (sym counted.all)
+    (root_owes l (pass_memory pass) c.args.root tails depth level d ok (root_bounded a pass counted.own)
+    (subst (λ (v : View). IsStart l c.args.root tails (shown_alone v) d) (sym counted.same) st))))
+    in
+    let st = c.requires.starts in
+    (root_debt l depth level st.0, owes st.0 st.1)
+
+pub returns-clause-ends : goal.returns-clause-ends
+returns-clause-ends g c = λ d st.
+    let l = c.args.shared.now.lowered.now in
+    let a = c.args.shared.now.arena.now in
+    let tails = c.args.tails in
+    let pass = c.count_all.new.pass in
+    let depth = c.args.crew.depth in
+    let level = c.args.crew.level in
+    let counted = c.count_all.ensures in
+    let job = c.make-job.ensures in
+    let made : IsMade c.make-job.result c.in-Ok.machine tails pass = record { machine = job.machine.0; tails = job.machine.1; pass = job.pass; frames = job.frames.0 } in
+    let start = c.in-Ok.ensures tails in
+    let ok = whole l c.code-code.ensures.lowered c.core.ensures.fits c.code-code.ensures.runs in
+    let owes : (d : Datum) → IsStart l c.args.root tails (pass_memory c.args.first) d → OwesStill l (root_debt l depth level d) c.make-job.result = λ d st.
+    job_owes l (root_debt l depth level d) c.make-job.result c.in-Ok.machine tails pass made
+    (subst (λ (s : State). Works l (root_debt l depth level d) (cells pass) (drawn_by pass) s []) (sym start)
+    (subst (λ (n : ℕ). Works l (root_debt l depth level d) (cells pass) n (root_start (core_of l.core) l.code (word_of c.args.root) depth level tails) []) (sym counted.all)
+    (root_owes l (pass_memory pass) c.args.root tails depth level d ok (root_bounded a pass counted.own)
+    (subst (λ (v : View). IsStart l c.args.root tails (shown_alone v) d) (sym counted.same) st))))
+    in
+    let last = c.count_all-2 in
+    let limit = ap (λ (v : View). v.branch.limit) last.ensures.same ∙ (c.work_together-ending.ensures.over.back.same.limit ∙ (ap (λ (p : Pass). (view p).branch.limit) job.pass ∙ ap (λ (v : View). v.branch.limit) counted.same)) in
+    subst (λ (o : Result Answer RunFault). IsRun l depth level d (pass_memory c.args.first) (pass_memory last.new.pass) o) (sym c.outcome_of.ensures)
+    (root_ends l depth level d c.make-job.result c.work_together-ending.result.0 (pass_memory c.args.first) c.work_together-ending.result.1 last.new.pass (owes d st) c.work_together-ending.ensures.over.settles (sym limit) last.ensures.same last.ensures.all)
+
+pub returns-clause-full : goal.returns-clause-full
+returns-clause-full g c = λ e.
+    let l = c.args.shared.now.lowered.now in
+    let last = c.count_all-2 in
+    full_drawn l (λ (d : Debt). OwesStill l d c.make-job.result) c.work_together-ending.result.0 c.work_together-ending.result.1 last.new.pass (sym c.outcome_of.ensures ∙ e) c.work_together-ending.ensures.over.settles last.ensures.same last.ensures.all
