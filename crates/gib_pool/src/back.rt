@@ -11,6 +11,7 @@ ghost use Rattle.gib_pool.specs.Lent.{Lends, path};
 ghost use Rattle.gib_pool.specs.Mine.{IsMine};
 ghost use Rattle.gib_pool.specs.Backs.{IsBack, IsLatest};
 
+use crate::desks::Desks;
 use crate::forks::{Forks, take_back};
 use gib_arena::{Arena, Pass};
 use gib_code::Answer;
@@ -30,8 +31,8 @@ pub(crate) enum Back {
     Memory,
 }
 
-/// Takes the latest fork back, or waits for who stole it. The pass then knows both sides. `here` is how many of the newest forks
-/// may still be in the deque: once one is gone all older ones are, so that none of them is looked for.
+/// Takes the latest fork back, or waits for who stole it, while another worker runs at the desk. The pass then knows both sides. `here` is
+/// how many of the newest forks may still be in the deque: once one is gone all older ones are, so that none of them is looked for.
 pub(crate) fn settle<'a, R: Wait>(
     rt: &R,
     arena: &'a Arena,
@@ -39,6 +40,7 @@ pub(crate) fn settle<'a, R: Wait>(
     frame: &Frame,
     forks: &mut Forks<'a>,
     here: &mut usize,
+    desks: &Desks,
 ) -> Back
     requires own { IsOf arena.now pass.old × ((frame_due frame.now).pass.value.seat.table_id ≡ arena.now.table.shared.table_id) }
     requires out { 0 < times_path (path (frame_due frame.now)) (view pass.old).branch.out }
@@ -62,7 +64,9 @@ pub(crate) fn settle<'a, R: Wait>(
         }
         *here = 0;
     }
+    desks.leave(rt);
     let (ending, his) = wait_answer(rt, frame);
+    desks.take(rt);
     pass.join(arena, his);
     match ending {
         Ending::Answer(answer) => Back::Answer(answer),

@@ -74,6 +74,7 @@ pub(crate) fn work_together<'a, R: Threads + Wait + Sync, G: Gate + Sync>(
     };
     let post = Post {
         bell: shared.bell,
+        desks: shared.desks,
         gate: shared.gate,
         worker: member.number,
     };
@@ -83,6 +84,7 @@ pub(crate) fn work_together<'a, R: Threads + Wait + Sync, G: Gate + Sync>(
             mut forks,
             raids: _,
         } = member;
+        post.desks.take(rt);
         let end = work(
             rt,
             alloc,
@@ -92,7 +94,8 @@ pub(crate) fn work_together<'a, R: Threads + Wait + Sync, G: Gate + Sync>(
             &mut forks,
             &post,
         );
-        shared.bell.end(rt);
+        post.desks.leave(rt);
+        post.bell.end(rt);
         return end;
     }
     let (_, end) = join(

@@ -14,6 +14,7 @@ ghost use Rattle.gib_pool.specs.Frames.{lent_of, AreHere};
 ghost use Rattle.gib_pool.specs.Turn.{Pays};
 
 use crate::back::{Back, settle};
+use crate::desks::Desks;
 use crate::forks::Forks;
 use gib_arena::{Arena, Pass};
 use gib_frame::Frame;
@@ -38,6 +39,7 @@ pub(crate) fn drain_frames<'a, R: Wait>(
     frames: &mut Vec<Option<Frame>>,
     forks: &mut Forks<'a>,
     here: &mut usize,
+    desks: &Desks,
 ) -> bool
     requires own { IsOf arena.now pass.old }
     requires lends { Lends pass.old (lent_of frames.old.items) }
@@ -55,7 +57,7 @@ pub(crate) fn drain_frames<'a, R: Wait>(
         match held {
             None => {}
             Some(frame) => {
-                let back = settle(rt, arena, pass, &frame, forks, here);
+                let back = settle(rt, arena, pass, &frame, forks, here, desks);
                 known = still_known(known, &back);
             }
         }

@@ -20,6 +20,7 @@ ghost use Rattle.gib_pool.specs.Lent.{Lends};
 ghost use Rattle.gib_pool.specs.Mine.{IsMine};
 ghost use Rattle.gib_pool.specs.Turn.{IsFor};
 
+use crate::desks::Desks;
 use crate::forks::Forks;
 use crate::job::Job;
 use crate::leaving::give_up;
@@ -79,6 +80,7 @@ pub(crate) fn fork_here<'a, R: Wait>(
     lowered: &'a Lowered,
     mut job: Job,
     forks: &mut Forks<'a>,
+    desks: &Desks,
 ) -> Result<Job, (Ending, Pass)>
     requires holds { Holds arena.now lowered.now job }
     requires stands { (d : Debt) × StandsAt lowered.now d job AtFork }
@@ -88,7 +90,7 @@ pub(crate) fn fork_here<'a, R: Wait>(
     ensures goes { Goes arena.entry.now lowered.entry.now (λ (d : Debt). StandsAt lowered.entry.now d job AtFork) job (worker_view forks.new).mine result }
 {
     if job.frames.reserve(1).is_err() {
-        return Err(give_up(rt, arena, job, forks));
+        return Err(give_up(rt, arena, job, forks, desks));
     }
     let frame = offer_here(
         alloc,

@@ -50,7 +50,7 @@ fn steal_any<'a, R: Wait>(rt: &R, raids: &mut Vec<Raid<'a>>) -> Option<Task<'a>>
     None
 }
 
-/// Runs what others fork until the run is over. Where there is nothing to steal it sleeps.
+/// Runs what others fork until the run is over, and looks for it at a desk. Where there is nothing to steal it sleeps.
 pub(crate) fn help<'a, R: Wait, G: Gate>(
     rt: &R,
     alloc: Global,
@@ -66,13 +66,18 @@ pub(crate) fn help<'a, R: Wait, G: Gate>(
         let Some(heard) = post.bell.heard(rt) else {
             return;
         };
+        post.desks.take(rt);
         match steal_any(rt, &mut raids) {
             Some(task) => {
                 post.stolen();
                 run_task(rt, alloc, task, &mut forks, post);
                 post.answered();
+                post.desks.leave(rt);
             }
-            None => post.bell.wait_past(rt, heard),
+            None => {
+                post.desks.leave(rt);
+                post.bell.wait_past(rt, heard);
+            }
         }
     }
     unreachable!()

@@ -10,6 +10,7 @@ ghost use Rattle.gib_pool.specs.Jobs.{Goes, Holds, IsHere, StandsAt};
 ghost use Rattle.gib_pool.specs.Mine.{IsMine};
 
 use crate::back::{Back, settle};
+use crate::desks::Desks;
 use crate::forks::Forks;
 use crate::job::Job;
 use crate::leaving::{give_up, leave};
@@ -30,6 +31,7 @@ pub(crate) fn join_here<'a, R: Wait>(
     lowered: &Lowered,
     mut job: Job,
     forks: &mut Forks<'a>,
+    desks: &Desks,
 ) -> Result<Job, (Ending, Pass)>
     requires holds { Holds arena.now lowered.now job }
     requires stands { (d : Debt) × StandsAt lowered.now d job AtJoin }
@@ -47,7 +49,15 @@ pub(crate) fn join_here<'a, R: Wait>(
         job.machine.take(code);
         return Ok(job);
     };
-    match settle(rt, arena, &mut job.pass, &frame, forks, &mut job.here) {
+    match settle(
+        rt,
+        arena,
+        &mut job.pass,
+        &frame,
+        forks,
+        &mut job.here,
+        desks,
+    ) {
         Back::Take => {
             job.machine.take(code);
             Ok(job)
@@ -58,11 +68,11 @@ pub(crate) fn join_here<'a, R: Wait>(
         }
         Back::Full => {
             if !job.machine.is_unwinding() {
-                return Err(leave(rt, arena, job, forks));
+                return Err(leave(rt, arena, job, forks, desks));
             }
             job.machine.take(code);
             Ok(job)
         }
-        Back::Memory => Err(give_up(rt, arena, job, forks)),
+        Back::Memory => Err(give_up(rt, arena, job, forks, desks)),
     }
 }

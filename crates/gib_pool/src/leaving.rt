@@ -9,6 +9,7 @@ ghost use Rattle.gib_frame.specs.declared.due.Ending.TheVariants.{Memory};
 ghost use Rattle.gib_pool.specs.Jobs.{Holds, IsHere, IsBackWhole, PaysStill, Settles};
 ghost use Rattle.gib_pool.specs.Mine.{IsMine};
 
+use crate::desks::Desks;
 use crate::drain::drain_frames;
 use crate::forks::Forks;
 use crate::job::Job;
@@ -22,6 +23,7 @@ pub(crate) fn leave<'a, R: Wait>(
     arena: &'a Arena,
     job: Job,
     forks: &mut Forks<'a>,
+    desks: &Desks,
 ) -> (Ending, Pass)
     requires holds { (l : LoweredParts) × Holds arena.now l job }
     requires mine { IsMine forks.old }
@@ -37,7 +39,7 @@ pub(crate) fn leave<'a, R: Wait>(
         mut frames,
         mut here,
     } = job;
-    if drain_frames(rt, arena, &mut pass, &mut frames, forks, &mut here) {
+    if drain_frames(rt, arena, &mut pass, &mut frames, forks, &mut here, desks) {
         return (Ending::Full, pass);
     }
     (Ending::Memory, pass)
@@ -49,6 +51,7 @@ pub(crate) fn give_up<'a, R: Wait>(
     arena: &'a Arena,
     job: Job,
     forks: &mut Forks<'a>,
+    desks: &Desks,
 ) -> (Ending, Pass)
     requires holds { (l : LoweredParts) × Holds arena.now l job }
     requires mine { IsMine forks.old }
@@ -57,6 +60,6 @@ pub(crate) fn give_up<'a, R: Wait>(
     ensures memory { result.0 ≡ Memory }
     ensures back { IsBackWhole arena.entry.now job.pass result.1 }
 {
-    let (_ending, pass) = leave(rt, arena, job, forks);
+    let (_ending, pass) = leave(rt, arena, job, forks, desks);
     (Ending::Memory, pass)
 }

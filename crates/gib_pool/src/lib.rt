@@ -4,6 +4,7 @@
 mod back;
 mod bell;
 mod crew;
+mod desks;
 mod drain;
 mod forking;
 mod forks;

@@ -1,13 +1,15 @@
 //! What a worker tells the others.
 
 use crate::bell::Bell;
+use crate::desks::Desks;
 use gib_edge::outside::{Gate, Point};
 use std::sync::Wait;
 
-/// Where a worker tells what it did: the bell that all workers of a run hear, and the gate, with the number of the worker.
+/// Where a worker tells what it did: the bell that all workers of a run hear, their desks, and the gate, with the number of the worker.
 #[derive(Drop)]
 pub(crate) struct Post<'a, G: Gate> {
     pub(crate) bell: &'a Bell,
+    pub(crate) desks: &'a Desks,
     pub(crate) gate: &'a G,
     pub(crate) worker: u32,
 }

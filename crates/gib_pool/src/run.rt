@@ -12,6 +12,7 @@ ghost use Rattle.gib_pool.specs.Runs.{pass_memory, outcome, IsRun};
 
 use crate::bell::Bell;
 use crate::crew::{make_members, work_together};
+use crate::desks::Desks;
 use crate::job::Job;
 use crate::shared::Shared;
 use gib_arena::{Arena, Pass, SoleMem};
@@ -30,7 +31,8 @@ use std::thread::Threads;
 /// How a run is made.
 #[derive(Clone, Copy, Debug)]
 pub struct Crew {
-    /// How many threads work, with the caller's: at least 1; with none the run ends for want of memory.
+    /// How many workers run at a time: at least 1; with none the run ends for want of memory. There are twice as many, each in a thread of
+    /// its own, the first in the caller's, since one that waits lets another run.
     pub workers: u32,
     /// How many calls may nest.
     pub depth: u32,
@@ -96,7 +98,7 @@ fn run_in<'a, R: Threads + Wait + Sync, G: Gate + Sync>(
     let Ok(machine) = root_machine(alloc, shared.lowered, root, crew.depth, crew.level) else {
         return (Err(RunFault::Memory), first);
     };
-    let Ok(members) = make_members(alloc, crew.workers) else {
+    let Ok(members) = make_members(alloc, crew.workers.saturating_mul(2)) else {
         return (Err(RunFault::Memory), first);
     };
     let mut pass = first;
@@ -134,10 +136,12 @@ pub fn run_by<R: Threads + Wait + Sync, G: Gate + Sync>(
     } = loaded;
     let (arena, first) = memory.into_parts();
     let bell = Bell::new();
+    let desks = Desks::new(crew.workers);
     let shared = Shared {
         arena: &arena,
         lowered,
         bell: &bell,
+        desks: &desks,
         gate,
     };
     let (end, last) = run_in(rt, alloc, &shared, first, tails, root, crew);

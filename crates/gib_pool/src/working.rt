@@ -42,8 +42,8 @@ fn stand_once<'a, R: Wait, G: Gate>(
     match turn {
         Turn::Went => unreachable!(),
         Turn::Ended(answer) => Err((Ending::Answer(answer), job.pass)),
-        Turn::Full => Err(leave(rt, arena, job, forks)),
-        Turn::AtFork => match fork_here(rt, alloc, arena, lowered, job, forks) {
+        Turn::Full => Err(leave(rt, arena, job, forks, post.desks)),
+        Turn::AtFork => match fork_here(rt, alloc, arena, lowered, job, forks, post.desks) {
             Ok(job) => {
                 if job.is_offered() {
                     post.forked(rt);
@@ -52,7 +52,7 @@ fn stand_once<'a, R: Wait, G: Gate>(
             }
             Err(end) => Err(end),
         },
-        Turn::AtJoin => join_here(rt, arena, lowered, job, forks),
+        Turn::AtJoin => join_here(rt, arena, lowered, job, forks, post.desks),
     }
 }
 

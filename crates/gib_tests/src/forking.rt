@@ -47,7 +47,7 @@ pub fn filling(alloc: Global) -> Result<Vec<u8>, AllocError> {
     Ok(payload)
 }
 
-/// A gate for two workers: the first waits at a fork until the second one answered, and the second at a steal until the first forked.
+/// A gate where the first worker waits at a fork until another one answered, and who steals until the first one forked.
 #[derive(Drop)]
 pub struct Meeting {
     forked: AtomicBool,
@@ -93,12 +93,12 @@ impl Gate for Meeting {
                 self.forked.store(true, Ordering::SeqCst);
                 self.wait(&self.answered);
             }
-            (1, Point::Stolen) => {
+            (0, _) | (_, Point::Forked) => {}
+            (_, Point::Stolen) => {
                 self.stolen.store(true, Ordering::SeqCst);
                 self.wait(&self.forked);
             }
-            (1, Point::Answered) => self.answered.store(true, Ordering::SeqCst),
-            _ => {}
+            (_, Point::Answered) => self.answered.store(true, Ordering::SeqCst),
         }
     }
 }

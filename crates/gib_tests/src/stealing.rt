@@ -137,7 +137,7 @@ fn any_number_of_workers_and_forks_ends_so(rt: HostRuntime) -> Result<(), Fail> 
     Ok(())
 }
 
-/// The second worker steals a side and ends it before the first one begins the other side, so no run by one thread ends well here.
+/// Another worker steals a side and ends it before the first one begins the other side, so no run by one thread ends well here.
 #[test]
 fn a_side_is_stolen(rt: HostRuntime) -> Result<(), Fail> {
     let alloc = rt.alloc();
