@@ -1,6 +1,6 @@
 //! Programs that fork, with their inputs, and a gate at which two workers meet.
 
-use crate::harness::{Ended, file, packed};
+use crate::harness::End;
 use gib_app::Status;
 use gib_edge::outside::{Gate, Point};
 use std::alloc::{AllocError, Global};
@@ -19,22 +19,28 @@ pub const COUNT: &str =
 pub const COPIES: &str =
     "data List = Nil | Cons Int List ; data Two = Two List List ; fun copy (l : List) : List = case l of { Nil -> Nil ; Cons x r -> Cons x (copy r) } ; main (l : List) : Two = let par a = copy l and b = copy l in Two a b ;";
 
-/// The files of a program and of its packed input.
-pub fn inputs(
-    alloc: Global,
-    source: &str,
-    payload: &[u8],
-) -> Result<Vec<(String, Vec<u8>)>, AllocError> {
-    let files = vec![in alloc;
-        file(alloc, "a.gib", source.as_bytes())?,
-        file(alloc, "a.gbp", &packed(alloc, payload)?)?,
-    ]?;
-    Ok(files)
-}
+/// What a call puts that runs out of depth.
+pub const DEEP: End<'static> = End {
+    status: Status::Depth,
+    out: "",
+    err: "gib: depth\n",
+};
 
-/// Whether a call ended so, with this output.
-pub fn is(ended: &Ended, status: Status, output: &str) -> bool {
-    ended.status == status && ended.out.bytes() == output.as_bytes()
+/// What a call puts that runs out of chunks.
+pub const FULL: End<'static> = End {
+    status: Status::Full,
+    out: "",
+    err: "gib: chunks\n",
+};
+
+/// A program on an input, within a depth and so many chunks, and how it ends.
+#[derive(Drop)]
+pub struct Row<'a> {
+    pub source: &'a str,
+    pub payload: &'a [u8],
+    pub depth: &'a str,
+    pub chunks: &'a str,
+    pub end: End<'a>,
 }
 
 /// The payload of a list that fills sixteen chunks.

@@ -29,7 +29,7 @@ pub struct End<'a> {
 }
 
 /// A file by its bytes.
-pub fn file(alloc: Global, name: &str, bytes: &[u8]) -> Result<(String, Vec<u8>), AllocError> {
+fn file(alloc: Global, name: &str, bytes: &[u8]) -> Result<(String, Vec<u8>), AllocError> {
     Ok((
         String::from_str(alloc, name)?,
         Vec::from_slice(alloc, bytes)?,
@@ -85,21 +85,6 @@ pub fn words(alloc: Global, texts: &[&str]) -> Result<Vec<String>, AllocError> {
     Ok(words)
 }
 
-/// Runs the top call on these words and files; the shelf fails at the calls of these numbers, and `out` as the
-/// pairs say.
-pub fn call_failing<R: Threads + Wait + Sync>(
-    rt: &R,
-    alloc: Global,
-    texts: &[&str],
-    files: Vec<(String, Vec<u8>)>,
-    shelf_fails: Vec<u64>,
-    out_fails: Vec<(u64, u64)>,
-) -> Result<Ended, AllocError> {
-    let shelf = MemShelf::make(alloc, files, shelf_fails)?;
-    let out = MemSink::make(alloc, 16_777_216, out_fails)?;
-    call_at(rt, alloc, &FreeGate, texts, shelf, out)
-}
-
 /// Runs the top call on these words, with this shelf and these sinks; the workers of a run come to the gate.
 fn ended_by<R: Threads + Wait + Sync, G: Gate + Sync>(
     rt: &R,
@@ -120,7 +105,7 @@ fn ended_by<R: Threads + Wait + Sync, G: Gate + Sync>(
 }
 
 /// The same, with an empty sink for the line.
-pub fn call_at<R: Threads + Wait + Sync, G: Gate + Sync>(
+fn call_at<R: Threads + Wait + Sync, G: Gate + Sync>(
     rt: &R,
     alloc: Global,
     gate: &G,
@@ -131,17 +116,6 @@ pub fn call_at<R: Threads + Wait + Sync, G: Gate + Sync>(
     let words = words(alloc, texts)?;
     let err = MemSink::make(alloc, 4_096, Vec::new(alloc))?;
     Ok(ended_by(rt, alloc, gate, &words, shelf, out, err))
-}
-
-/// Runs the top call on these words and files; `out` fails as the pairs say.
-pub fn call<R: Threads + Wait + Sync>(
-    rt: &R,
-    alloc: Global,
-    texts: &[&str],
-    files: Vec<(String, Vec<u8>)>,
-    fails: Vec<(u64, u64)>,
-) -> Result<Ended, AllocError> {
-    call_failing(rt, alloc, texts, files, Vec::new(alloc), fails)
 }
 
 /// A source, which is `a.gib`, and a second file.
@@ -156,6 +130,19 @@ fn files_of(alloc: Global, files: &[(&str, &[u8])]) -> Result<Vec<(String, Vec<u
         made.push(file(alloc, name, bytes)?)?;
     }
     Ok(made)
+}
+
+/// Runs the top call on these words and files; the workers of a run come to the gate.
+pub fn call_to<R: Threads + Wait + Sync, G: Gate + Sync>(
+    rt: &R,
+    alloc: Global,
+    gate: &G,
+    texts: &[&str],
+    files: &[(&str, &[u8])],
+) -> Result<Ended, AllocError> {
+    let shelf = MemShelf::make(alloc, files_of(alloc, files)?, Vec::new(alloc))?;
+    let out = MemSink::make(alloc, 16_777_216, Vec::new(alloc))?;
+    call_at(rt, alloc, gate, texts, shelf, out)
 }
 
 /// Runs the top call on these words and files; the shelf fails at the calls of these numbers, and `out` as the

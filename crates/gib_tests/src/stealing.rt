@@ -1,10 +1,8 @@
 //! Programs run by workers that steal sides from one another.
 
-use crate::forking::{ADD_ONE, COPIES, COUNT, Meeting, TWO_LEAVES, filling, inputs, is};
-use crate::harness::{Ended, call, call_at, file};
+use crate::forking::{ADD_ONE, COPIES, COUNT, DEEP, FULL, Meeting, Row, TWO_LEAVES, filling};
+use crate::harness::{End, call_on, call_to, ends, is_end, packed, two_files};
 use gib_app::Status;
-use gib_edge::mem_shelf::MemShelf;
-use gib_edge::mem_sink::MemSink;
 use std::alloc::{AllocError, Global};
 use std::sync::Wait;
 use std::test::Fail;
@@ -19,34 +17,35 @@ const RIGHT_DOWN: &str =
 const LEFT_DOWN: &str =
     "fun down (n : Int) : Int = if (n < 1) then 0 else (1 + down (n - 1)) ; main (n : Int) : Int = let par a = down n and b = down 3 in (a + b) ;";
 
-/// A program on an input, within a depth and so many chunks, and how it ends. It comes to a fork.
-#[derive(Drop)]
-struct Row<'a> {
-    source: &'a str,
-    payload: &'a [u8],
-    depth: &'a str,
-    chunks: &'a str,
-    status: Status,
-    text: &'a str,
-}
+const THREE: &[u8] = b"\x03\0\0\0\0\0\0\0";
 
+/// What `BUILD` prints on three.
+const BUILT: End<'static> = End {
+    status: Status::Done,
+    out: "(Node (Node (Node (Leaf 0) (Leaf 0)) (Node (Leaf 0) (Leaf 0))) (Node (Node (Leaf 0) (Leaf 0)) (Node (Leaf 0) (Leaf 0))))\n",
+    err: "",
+};
+
+/// Each comes to a fork.
 const ROWS: &[Row<'static>] = &[
     Row {
         source: ADD_ONE,
         payload: TWO_LEAVES,
         depth: "100",
         chunks: "16",
-        status: Status::Done,
-        text: "(Node (Leaf 2) (Leaf 3))\n",
+        end: End {
+            status: Status::Done,
+            out: "(Node (Leaf 2) (Leaf 3))\n",
+            err: "",
+        },
     },
     // Forks inside of forks, each of whose sides is a tree.
     Row {
         source: BUILD,
-        payload: b"\x03\0\0\0\0\0\0\0",
+        payload: THREE,
         depth: "100",
         chunks: "64",
-        status: Status::Done,
-        text: "(Node (Node (Node (Leaf 0) (Leaf 0)) (Node (Leaf 0) (Leaf 0))) (Node (Node (Leaf 0) (Leaf 0)) (Node (Leaf 0) (Leaf 0))))\n",
+        end: BUILT,
     },
     // Sides that are numbers, over trees of more than one chunk.
     Row {
@@ -54,16 +53,22 @@ const ROWS: &[Row<'static>] = &[
         payload: b"\x09\0\0\0\0\0\0\0",
         depth: "100",
         chunks: "128",
-        status: Status::Done,
-        text: "512\n",
+        end: End {
+            status: Status::Done,
+            out: "512\n",
+            err: "",
+        },
     },
     Row {
         source: RIGHT_DOWN,
         payload: b"\x05\0\0\0\0\0\0\0",
         depth: "10",
         chunks: "16",
-        status: Status::Done,
-        text: "8\n",
+        end: End {
+            status: Status::Done,
+            out: "8\n",
+            err: "",
+        },
     },
     // One of the sides runs out of depth.
     Row {
@@ -71,16 +76,14 @@ const ROWS: &[Row<'static>] = &[
         payload: b"\x32\0\0\0\0\0\0\0",
         depth: "10",
         chunks: "16",
-        status: Status::Depth,
-        text: "",
+        end: DEEP,
     },
     Row {
         source: LEFT_DOWN,
         payload: b"\x32\0\0\0\0\0\0\0",
         depth: "10",
         chunks: "16",
-        status: Status::Depth,
-        text: "",
+        end: DEEP,
     },
     // The whole tree has no room in so many chunks.
     Row {
@@ -88,20 +91,27 @@ const ROWS: &[Row<'static>] = &[
         payload: b"\x0d\0\0\0\0\0\0\0",
         depth: "100",
         chunks: "16",
-        status: Status::Full,
-        text: "",
+        end: FULL,
     },
 ];
 
-/// Runs the program of a row by so many workers, with so many forks nested.
-fn ran<R: Threads + Wait + Sync>(
-    rt: &R,
-    alloc: Global,
-    row: &Row<'_>,
-    workers: &str,
-    fork: &str,
-) -> Result<Ended, AllocError> {
-    let words = [
+/// Numbers of workers, each with how many forks may be nested.
+const CREWS: &[(&str, &str)] = &[
+    ("1", "0"),
+    ("1", "4"),
+    ("2", "0"),
+    ("2", "1"),
+    ("2", "4"),
+    ("8", "0"),
+    ("8", "1"),
+    ("8", "4"),
+];
+
+const WORKERS: &[&str] = &["1", "2", "8"];
+
+/// The words that run a row by so many workers, with so many forks nested.
+fn words_of<'x>(row: &Row<'x>, workers: &'x str, fork: &'x str) -> [&'x str; 12] {
+    [
         "gib",
         "run",
         "a.gib",
@@ -114,27 +124,58 @@ fn ran<R: Threads + Wait + Sync>(
         workers,
         "--fork",
         fork,
-    ];
-    let files = inputs(alloc, row.source, row.payload)?;
-    call(rt, alloc, &words, files, Vec::new(alloc))
+    ]
+}
+
+/// Whether the program of a row ends so.
+fn ends_so<R: Threads + Wait + Sync>(
+    rt: &R,
+    alloc: Global,
+    row: &Row<'_>,
+    workers: &str,
+    fork: &str,
+) -> Result<bool, AllocError> {
+    let input = packed(alloc, row.payload)?;
+    ends(
+        rt,
+        alloc,
+        &words_of(row, workers, fork),
+        &two_files(row.source, "a.gbp", &input),
+        row.end,
+    )
 }
 
 #[test]
 fn any_number_of_workers_and_forks_ends_so(rt: HostRuntime) -> Result<(), Fail> {
     let alloc = rt.alloc();
     for row in ROWS {
-        for workers in ["1", "2", "8"] {
-            for fork in ["0", "1", "4"] {
-                let ended = ran(&rt, alloc, row, workers, fork)?;
-                assert!(rt;
-                    is(&ended, row.status, row.text),
-                    "{workers} {fork}: {}",
-                    row.source
-                );
-            }
+        for (workers, fork) in CREWS {
+            assert!(rt;
+                ends_so(&rt, alloc, row, workers, fork)?,
+                "{workers} {fork}: {}",
+                row.source
+            );
         }
     }
     Ok(())
+}
+
+/// Whether another worker steals a side and ends it before the first one begins the other side, and the program ends so.
+fn is_stolen<R: Threads + Wait + Sync>(
+    rt: &R,
+    alloc: Global,
+    row: &Row<'_>,
+) -> Result<bool, AllocError> {
+    let gate = Meeting::new();
+    let input = packed(alloc, row.payload)?;
+    let ended = call_to(
+        rt,
+        alloc,
+        &gate,
+        &words_of(row, "2", "1"),
+        &two_files(row.source, "a.gbp", &input),
+    )?;
+    Ok(gate.is_held() && is_end(&ended, row.end))
 }
 
 /// Another worker steals a side and ends it before the first one begins the other side, so no run by one thread ends well here.
@@ -142,108 +183,115 @@ fn any_number_of_workers_and_forks_ends_so(rt: HostRuntime) -> Result<(), Fail> 
 fn a_side_is_stolen(rt: HostRuntime) -> Result<(), Fail> {
     let alloc = rt.alloc();
     for row in ROWS {
-        let gate = Meeting::new();
-        let words = [
-            "gib",
-            "run",
-            "a.gib",
-            "a.gbp",
-            "--depth",
-            row.depth,
-            "--chunks",
-            row.chunks,
-            "--workers",
-            "2",
-            "--fork",
-            "1",
-        ];
-        let files = inputs(alloc, row.source, row.payload)?;
-        let shelf = MemShelf::make(alloc, files, Vec::new(alloc))?;
-        let out = MemSink::make(alloc, 65_536, Vec::new(alloc))?;
-        let ended = call_at(&rt, alloc, &gate, &words, shelf, out)?;
-        assert!(rt; gate.is_held(), "{}", row.source);
-        assert!(rt; is(&ended, row.status, row.text), "{}", row.source);
+        assert!(rt; is_stolen(&rt, alloc, row)?, "{}", row.source);
     }
     Ok(())
+}
+
+/// Whether so many workers find no chunk for the copies of a value that fills them all.
+fn finds_no_chunk<R: Threads + Wait + Sync>(
+    rt: &R,
+    alloc: Global,
+    workers: &str,
+) -> Result<bool, AllocError> {
+    let words = [
+        "gib",
+        "run",
+        "a.gib",
+        "a.gbp",
+        "--chunks",
+        "16",
+        "--workers",
+        workers,
+    ];
+    let input = packed(alloc, &filling(alloc)?)?;
+    ends(rt, alloc, &words, &two_files(COPIES, "a.gbp", &input), FULL)
 }
 
 #[test]
 fn a_value_that_fills_all_chunks_leaves_none_for_a_side(rt: HostRuntime) -> Result<(), Fail> {
     let alloc = rt.alloc();
-    let payload = filling(alloc)?;
-    for workers in ["1", "2", "8"] {
-        let words = [
-            "gib",
-            "run",
-            "a.gib",
-            "a.gbp",
-            "--chunks",
-            "16",
-            "--workers",
-            workers,
-        ];
-        let files = inputs(alloc, COPIES, &payload)?;
-        let ended = call(&rt, alloc, &words, files, Vec::new(alloc))?;
-        assert!(rt; is(&ended, Status::Full, ""), "{workers}");
+    for workers in WORKERS {
+        assert!(rt; finds_no_chunk(&rt, alloc, workers)?, "{workers}");
     }
     Ok(())
+}
+
+/// Whether so many workers leave an image that shows the value that was printed.
+fn leaves_an_image<R: Threads + Wait + Sync>(
+    rt: &R,
+    alloc: Global,
+    workers: &str,
+) -> Result<bool, AllocError> {
+    let words = [
+        "gib",
+        "run",
+        "a.gib",
+        "a.gbp",
+        "--image",
+        "m.gbi",
+        "--chunks",
+        "64",
+        "--workers",
+        workers,
+    ];
+    let input = packed(alloc, THREE)?;
+    let ran = call_on(
+        rt,
+        alloc,
+        &words,
+        &two_files(BUILD, "a.gbp", &input),
+        &[],
+        &[],
+    )?;
+    let Some(image) = ran.shelf.file("m.gbi") else {
+        return Ok(false);
+    };
+    let show = ["gib", "show", "a.gib", "m.gbi"];
+    let shows = ends(rt, alloc, &show, &two_files(BUILD, "m.gbi", image), BUILT)?;
+    Ok(shows && is_end(&ran, BUILT))
 }
 
 #[test]
 fn the_image_of_a_run_by_workers_shows_its_value(rt: HostRuntime) -> Result<(), Fail> {
     let alloc = rt.alloc();
-    let payload = b"\x03\0\0\0\0\0\0\0".as_slice();
-    let text =
-        "(Node (Node (Node (Leaf 0) (Leaf 0)) (Node (Leaf 0) (Leaf 0))) (Node (Node (Leaf 0) (Leaf 0)) (Node (Leaf 0) (Leaf 0))))\n";
-    for workers in ["1", "2", "8"] {
-        let words = [
-            "gib",
-            "run",
-            "a.gib",
-            "a.gbp",
-            "--image",
-            "m.gbi",
-            "--chunks",
-            "64",
-            "--workers",
-            workers,
-        ];
-        let files = inputs(alloc, BUILD, payload)?;
-        let ran = call(&rt, alloc, &words, files, Vec::new(alloc))?;
-        assert!(rt; is(&ran, Status::Done, text), "{workers}");
-        let Some(image) = ran.shelf.file("m.gbi") else {
-            return Err(Fail::new("no image"));
-        };
-        let files = vec![in alloc;
-            file(alloc, "a.gib", BUILD.as_bytes())?,
-            file(alloc, "m.gbi", image)?,
-        ]?;
-        let words = ["gib", "show", "a.gib", "m.gbi"];
-        let shown = call(&rt, alloc, &words, files, Vec::new(alloc))?;
-        assert!(rt; is(&shown, Status::Done, text), "{workers}");
+    for workers in WORKERS {
+        assert!(rt; leaves_an_image(&rt, alloc, workers)?, "{workers}");
     }
     Ok(())
+}
+
+/// Whether a program and an input are made, and so many workers give its line.
+fn makes_and_runs<R: Threads + Wait + Sync>(
+    rt: &R,
+    alloc: Global,
+    workers: &str,
+) -> Result<bool, AllocError> {
+    let words = [
+        "gib",
+        "gen",
+        "1",
+        "1",
+        "s.gib",
+        "s.gbp",
+        "--chunks",
+        "16",
+        "--workers",
+        workers,
+    ];
+    let end = End {
+        status: Status::Done,
+        out: "gen 1 levels 1 leaves 2 sum 4442787497\n",
+        err: "",
+    };
+    ends(rt, alloc, &words, &[], end)
 }
 
 #[test]
 fn what_is_made_is_run_by_workers(rt: HostRuntime) -> Result<(), Fail> {
     let alloc = rt.alloc();
-    for workers in ["1", "2", "8"] {
-        let words = [
-            "gib",
-            "gen",
-            "1",
-            "1",
-            "s.gib",
-            "s.gbp",
-            "--chunks",
-            "16",
-            "--workers",
-            workers,
-        ];
-        let ended = call(&rt, alloc, &words, Vec::new(alloc), Vec::new(alloc))?;
-        let text = "gen 1 levels 1 leaves 2 sum 4442787497\n";
-        assert!(rt; is(&ended, Status::Done, text), "{workers}");
+    for workers in WORKERS {
+        assert!(rt; makes_and_runs(&rt, alloc, workers)?, "{workers}");
     }
     Ok(())
 }

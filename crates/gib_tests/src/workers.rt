@@ -1,10 +1,10 @@
 //! Programs traced by workers over one lock, the journals of these runs, and what they are replayed to.
 
-use crate::forking::{ADD_ONE, COPIES, COUNT, Meeting, TWO_LEAVES, filling, inputs, is};
-use crate::harness::{Ended, call, call_at, file};
+use crate::forking::{ADD_ONE, COPIES, COUNT, DEEP, FULL, Meeting, Row, TWO_LEAVES, filling};
+use crate::harness::{
+    End, Ended, call_on, call_to, ends, ends_with, has_files, is_end, packed, two_files,
+};
 use gib_app::Status;
-use gib_edge::mem_shelf::MemShelf;
-use gib_edge::mem_sink::MemSink;
 use std::alloc::{AllocError, Global};
 use std::sync::Wait;
 use std::test::Fail;
@@ -12,164 +12,213 @@ use std::thread::Threads;
 
 const PLUS_ONE: &str = "main (n : Int) : Int = (n + 1) ;";
 
+const FIVE: &[u8] = b"\x05\0\0\0\0\0\0\0";
+
+const ROWS: &[Row<'static>] = &[
+    Row {
+        source: ADD_ONE,
+        payload: TWO_LEAVES,
+        depth: "100",
+        chunks: "16",
+        end: End {
+            status: Status::Done,
+            out: "(Node (Leaf 2) (Leaf 3))\n",
+            err: "",
+        },
+    },
+    Row {
+        source: COUNT,
+        payload: FIVE,
+        depth: "100",
+        chunks: "64",
+        end: End {
+            status: Status::Done,
+            out: "32\n",
+            err: "",
+        },
+    },
+    Row {
+        source: ADD_ONE,
+        payload: TWO_LEAVES,
+        depth: "1",
+        chunks: "16",
+        end: DEEP,
+    },
+];
+
+/// Numbers of workers, each with how many forks may be nested.
+const CREWS: &[(&str, &str)] = &[
+    ("1", "0"),
+    ("1", "4"),
+    ("2", "0"),
+    ("2", "4"),
+    ("8", "0"),
+    ("8", "4"),
+];
+
 /// Whether the journal that a call wrote is replayed to this end.
 fn replays<R: Threads + Wait + Sync>(
     rt: &R,
     alloc: Global,
     source: &str,
-    payload: &[u8],
+    input: &[u8],
     traced: &Ended,
-    status: Status,
-    output: &str,
+    end: End<'_>,
 ) -> Result<bool, AllocError> {
     let Some(journal) = traced.shelf.file("a.gbj") else {
         return Ok(false);
     };
-    let mut files = inputs(alloc, source, payload)?;
-    files.push(file(alloc, "a.gbj", journal)?)?;
+    let files = [
+        ("a.gib", source.as_bytes()),
+        ("a.gbp", input),
+        ("a.gbj", journal),
+    ];
     let words = ["gib", "replay", "a.gib", "a.gbp", "a.gbj"];
-    let ended = call(rt, alloc, &words, files, Vec::new(alloc))?;
-    Ok(is(&ended, status, output))
+    ends(rt, alloc, &words, &files, end)
 }
 
-/// Whether so many workers, with so many forks, give this text by `trace`, with a journal that is replayed to it.
-fn gives<R: Threads + Wait + Sync>(
+/// Whether a trace of a row by so many workers, with so many forks nested, ends so, with a journal that is replayed to the same end.
+fn traces<R: Threads + Wait + Sync>(
     rt: &R,
     alloc: Global,
-    source: &str,
-    payload: &[u8],
+    row: &Row<'_>,
     workers: &str,
     fork: &str,
-    text: &str,
 ) -> Result<bool, AllocError> {
-    let trace = [
+    let words = [
         "gib",
         "trace",
         "a.gib",
         "a.gbp",
         "a.gbj",
+        "--depth",
+        row.depth,
+        "--chunks",
+        row.chunks,
         "--workers",
         workers,
         "--fork",
         fork,
-        "--chunks",
-        "64",
     ];
-    let traced = call(
-        rt,
-        alloc,
-        &trace,
-        inputs(alloc, source, payload)?,
-        Vec::new(alloc),
-    )?;
-    let replayed = replays(rt, alloc, source, payload, &traced, Status::Done, text)?;
-    Ok(is(&traced, Status::Done, text) && replayed)
+    let input = packed(alloc, row.payload)?;
+    let files = two_files(row.source, "a.gbp", &input);
+    let traced = call_on(rt, alloc, &words, &files, &[], &[])?;
+    let replayed = replays(rt, alloc, row.source, &input, &traced, row.end)?;
+    Ok(replayed && is_end(&traced, row.end))
 }
 
 #[test]
-fn traces_by_any_number_of_workers_and_forks_give_the_text(rt: HostRuntime) -> Result<(), Fail> {
+fn traces_by_any_number_of_workers_and_forks_end_so(rt: HostRuntime) -> Result<(), Fail> {
     let alloc = rt.alloc();
-    for (source, payload, text) in [
-        (ADD_ONE, TWO_LEAVES, "(Node (Leaf 2) (Leaf 3))\n"),
-        (COUNT, b"\x05\0\0\0\0\0\0\0".as_slice(), "32\n"),
-    ] {
-        for workers in ["1", "2", "8"] {
-            for fork in ["0", "4"] {
-                assert!(rt;
-                    gives(&rt, alloc, source, payload, workers, fork, text)?,
-                    "{workers} {fork}: {source}"
-                );
-            }
+    for row in ROWS {
+        for (workers, fork) in CREWS {
+            assert!(rt;
+                traces(&rt, alloc, row, workers, fork)?,
+                "{workers} {fork}: {}",
+                row.source
+            );
         }
     }
     Ok(())
 }
 
-#[test]
-fn a_run_without_forks_has_a_short_journal(rt: HostRuntime) -> Result<(), Fail> {
-    let alloc = rt.alloc();
-    let payload = b"\x05\0\0\0\0\0\0\0".as_slice();
+/// Whether a trace without forks writes these bytes.
+fn writes<R: Threads + Wait + Sync>(
+    rt: &R,
+    alloc: Global,
+    journal: &[u8],
+) -> Result<bool, AllocError> {
     let words = ["gib", "trace", "a.gib", "a.gbp", "a.gbj"];
-    let traced = call(
-        &rt,
+    let input = packed(alloc, FIVE)?;
+    let files = two_files(PLUS_ONE, "a.gbp", &input);
+    let left = [("a.gbj", Some(journal))];
+    ends_with(
+        rt,
         alloc,
         &words,
-        inputs(alloc, PLUS_ONE, payload)?,
-        Vec::new(alloc),
-    )?;
-    assert!(rt; is(&traced, Status::Done, "6\n"));
-    let journal =
-        "gibj 1\ndepth 10000 chunks 1024 fork 4 skips 0\nstep 0 2\nfinish 0\nend\n".as_bytes();
-    assert!(rt; traced.shelf.file("a.gbj") == Some(journal));
-    Ok(())
+        &files,
+        End {
+            status: Status::Done,
+            out: "6\n",
+            err: "",
+        },
+        &left,
+    )
 }
 
 #[test]
-fn a_run_too_deep_has_a_journal(rt: HostRuntime) -> Result<(), Fail> {
+fn a_run_without_forks_has_a_short_journal(rt: HostRuntime) -> Result<(), Fail> {
     let alloc = rt.alloc();
-    for workers in ["1", "8"] {
-        let words = [
-            "gib",
-            "trace",
-            "a.gib",
-            "a.gbp",
-            "a.gbj",
-            "--depth",
-            "1",
-            "--workers",
-            workers,
-        ];
-        let files = inputs(alloc, ADD_ONE, TWO_LEAVES)?;
-        let traced = call(&rt, alloc, &words, files, Vec::new(alloc))?;
-        assert!(rt; is(&traced, Status::Depth, ""), "{workers}");
-        let again = replays(&rt, alloc, ADD_ONE, TWO_LEAVES, &traced, Status::Depth, "")?;
-        assert!(rt; again, "{workers}");
-    }
+    let journal =
+        "gibj 1\ndepth 10000 chunks 1024 fork 4 skips 0\nstep 0 2\nfinish 0\nend\n".as_bytes();
+    assert!(rt; writes(&rt, alloc, journal)?);
     Ok(())
+}
+
+const WORKERS: &[&str] = &["1", "4"];
+
+/// Whether a trace by so many workers fills its chunks, and writes no journal.
+fn fills<R: Threads + Wait + Sync>(
+    rt: &R,
+    alloc: Global,
+    workers: &str,
+) -> Result<bool, AllocError> {
+    let words = [
+        "gib",
+        "trace",
+        "a.gib",
+        "a.gbp",
+        "a.gbj",
+        "--chunks",
+        "16",
+        "--workers",
+        workers,
+    ];
+    let input = packed(alloc, &filling(alloc)?)?;
+    let files = two_files(COPIES, "a.gbp", &input);
+    ends_with(rt, alloc, &words, &files, FULL, &[("a.gbj", None)])
 }
 
 #[test]
 fn a_run_that_fills_its_chunks_has_no_journal(rt: HostRuntime) -> Result<(), Fail> {
     let alloc = rt.alloc();
-    let payload = filling(alloc)?;
-    for workers in ["1", "4"] {
-        let words = [
-            "gib",
-            "trace",
-            "a.gib",
-            "a.gbp",
-            "a.gbj",
-            "--chunks",
-            "16",
-            "--workers",
-            workers,
-        ];
-        let traced = call(
-            &rt,
-            alloc,
-            &words,
-            inputs(alloc, COPIES, &payload)?,
-            Vec::new(alloc),
-        )?;
-        assert!(rt; is(&traced, Status::Full, ""), "{workers}");
-        assert!(rt; traced.shelf.file("a.gbj").is_none(), "{workers}");
+    for workers in WORKERS {
+        assert!(rt; fills(&rt, alloc, workers)?, "{workers}");
     }
     Ok(())
 }
 
-/// Each of two workers waits for the other's point, so no run by one thread ends well here.
+/// Whether each of two workers waits for the other's point, and they write these bytes.
+fn meet<R: Threads + Wait + Sync>(
+    rt: &R,
+    alloc: Global,
+    journal: &[u8],
+) -> Result<bool, AllocError> {
+    let gate = Meeting::new();
+    let words = ["gib", "trace", "a.gib", "a.gbp", "a.gbj", "--workers", "2"];
+    let input = packed(alloc, TWO_LEAVES)?;
+    let files = two_files(ADD_ONE, "a.gbp", &input);
+    let traced = call_to(rt, alloc, &gate, &words, &files)?;
+    Ok(
+        gate.is_held()
+            && is_end(
+                &traced,
+                End {
+                    status: Status::Done,
+                    out: "(Node (Leaf 2) (Leaf 3))\n",
+                    err: "",
+                },
+            )
+            && has_files(&traced.shelf, &[("a.gbj", Some(journal))]),
+    )
+}
+
+/// No run by one thread ends well here.
 #[test]
 fn two_workers_meet(rt: HostRuntime) -> Result<(), Fail> {
     let alloc = rt.alloc();
-    let gate = Meeting::new();
-    let words = ["gib", "trace", "a.gib", "a.gbp", "a.gbj", "--workers", "2"];
-    let shelf = MemShelf::make(alloc, inputs(alloc, ADD_ONE, TWO_LEAVES)?, Vec::new(alloc))?;
-    let out = MemSink::make(alloc, 65_536, Vec::new(alloc))?;
-    let traced = call_at(&rt, alloc, &gate, &words, shelf, out)?;
-    assert!(rt; gate.is_held());
-    assert!(rt; is(&traced, Status::Done, "(Node (Leaf 2) (Leaf 3))\n"));
     let journal =
         "gibj 1\ndepth 10000 chunks 1024 fork 4 skips 0\nstep 0 13\nfork 0\nsteal 0\nstep 1 26\nfinish 1\nstep 0 24\njoin 0\nstep 0 20\nfinish 0\nend\n".as_bytes();
-    assert!(rt; traced.shelf.file("a.gbj") == Some(journal));
+    assert!(rt; meet(&rt, alloc, journal)?);
     Ok(())
 }
