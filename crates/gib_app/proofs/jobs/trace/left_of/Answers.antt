@@ -1,4 +1,4 @@
-use Rattle.std.proofs.Common.{◌≡◌, ◌∙◌, ap, List, ℕ}
+use Rattle.std.proofs.Common.{◌∙◌, ap}
 use Rattle.gib_mem.specs.Memory.{Memory}
 use Rattle.gib_mem.specs.Plain.{plain_memory}
 use Rattle.gib_mem.specs.declared.plain.PlainMem.{PlainMem}

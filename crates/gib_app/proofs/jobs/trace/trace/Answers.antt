@@ -1,16 +1,8 @@
-use Rattle.std.proofs.Common.{◌≡◌, sym, subst}
+use Rattle.std.proofs.Common.{sym, subst}
 use Rattle.std.proofs.lemmas.Result.{IfErr-weaker}
-use Rattle.gib_types.specs.Layout.{LaidOut}
-use Rattle.gib_types.specs.Table.{Table}
-use Rattle.gib_value.specs.Text.{AreHeld}
 use Rattle.gib_syntax.specs.Parts.{program_of}
 use Rattle.gib_app.specs.declared.stop.Stop.{Stop}
-use Rattle.gib_app.specs.Jobs.{Traces}
-use Rattle.gib_app.specs.Running.{FillsUp}
 use Rattle.gib_app.specs.Stops.{IsRunStop}
-use Rattle.gib_app.specs.Workers.{OnlyFull}
-use Rattle.gib_app.proofs.Doing.{fills_traces}
-use Rattle.gib_app.proofs.Stopped.{RunRefused, stopped_made, stopped_stop}
 use Rattle.gib_app.proofs.jobs.trace.trace.Goals as goal
 
 pub left_of-requires-clause-traced : goal.left_of-requires-clause-traced
