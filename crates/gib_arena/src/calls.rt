@@ -1,24 +1,23 @@
 //! The calls of an arena and its passes. None but `arena` takes memory, and none waits.
-ghost use Rattle.std.specs.Prelude.{◌≡◌, ℕ, max, ◌*◌, ◌%◌, ◌<◌, ◌≤◌, IfOk, IfSome, IfNone};
-ghost use Rattle.gib_mem.specs.Memory.{absent, fresh, byte, IsThere, look_of, Grows};
+ghost use Rattle.std.specs.Prelude.{◌≡◌, ℕ, max, ◌+◌, ◌*◌, ◌%◌, ◌<◌, ◌≤◌, List, length, slice_index, IfOk, IfSome, IfNone};
+ghost use Rattle.std.specs.Int.{w64, from_le_bytes, to_le_bytes};
+ghost use Rattle.gib_mem.specs.Memory.{absent, fresh, byte, IsThere, look_of, Grows, Owned, Holds, AreKnown};
 ghost use Rattle.gib_arena.specs.Sums.{times_path};
-ghost use Rattle.gib_arena.specs.Bytes.{share, lone};
+ghost use Rattle.gib_arena.specs.Bytes.{share, added};
 ghost use Rattle.gib_arena.specs.Tree.{IsAlone};
 ghost use Rattle.gib_arena.specs.Rule.{first_view};
-ghost use Rattle.gib_arena.specs.Steps.{saw, drew, put_at, IsWhole, split_left, split_right, joined_view};
+ghost use Rattle.gib_arena.specs.Steps.{saw, drew, put_at, puts_at, IsWhole, split_left, split_right, joined_view};
 ghost use Rattle.gib_arena.specs.Passes.{view, cells, IsOf};
 
 use crate::memory::{Arena, Pass};
 use crate::rule::{Count, Cut, Draw, Glue, Intent, Put, Read};
 use atomic_table::Table;
+use gib_mem::WORD_BYTES;
 use std::alloc::{AllocError, Global};
 use std::marker::Brand;
 
 /// The words of a chunk.
 const CHUNK_WORDS: usize = 512;
-
-/// The bytes of a word.
-const WORD_BYTES: u64 = 8;
 
 /// An arena of so many chunks, none of them drawn, and its first pass.
 ///
@@ -98,23 +97,62 @@ impl Pass {
         ensures of { IsOf arena.now self.new }
         ensures known { view self.new ≡ put_at (view self.old) at byte }
     {
-        self.add::<Brand>(arena, at, byte, (byte as u64) << (8 * (at % WORD_BYTES)));
+        self.add::<Brand>(arena, at, &[byte], (byte as u64) << (8 * (at % WORD_BYTES)));
     }
 
-    // Adds to the word of a fresh address the number that is the byte in its place.
-    fn add<J: Intent>(&mut self, arena: &Arena, at: u64, byte: u8, number: u64)
+    /// Puts one to eight bytes at fresh addresses of one word, from an address on: one add.
+    pub fn put_run(&mut self, arena: &Arena, at: u64, bytes: &[u8])
         requires of { IsOf arena.now self.old }
-        requires meant { (J.address ≡ at) × (J.byte ≡ byte) }
-        requires free { cells self.old at ≡ fresh }
-        requires number { number ≡ lone (at % 8) byte }
+        requires some { 0 < length bytes.now }
+        requires one_word { at % 8 + length bytes.now ≤ 8 }
+        requires free { Owned (cells self.old) at (length bytes.now) }
         ensures of { IsOf arena.now self.new }
-        ensures known { view self.new ≡ put_at (view self.old) at byte }
+        ensures known { view self.new ≡ puts_at (view self.old) at bytes.now }
+    {
+        let from = at % WORD_BYTES;
+        let mut number = 0u64;
+        let mut i = 0;
+        'lay: while i < bytes.len() {
+            number += (bytes[i] as u64) << (8 * (from + i as u64));
+            i += 1;
+        }
+        self.add::<Brand>(arena, at, bytes, number);
+    }
+
+    // Adds to the word of fresh addresses the number that has the bytes in their places.
+    fn add<J: Intent>(&mut self, arena: &Arena, at: u64, bytes: &[u8], number: u64)
+        requires of { IsOf arena.now self.old }
+        requires meant { (J.address ≡ at) × (J.bytes ≡ bytes.now) }
+        requires some { 0 < length bytes.now }
+        requires one_word { at % 8 + length bytes.now ≤ 8 }
+        requires free { Owned (cells self.old) at (length bytes.now) }
+        requires number { number ≡ added (at % 8) bytes.now }
+        ensures of { IsOf arena.now self.new }
+        ensures known { view self.new ≡ puts_at (view self.old) at bytes.now }
     {
         let _limit = arena.limit;
         arena
             .table
             .shared
             .fetch_add::<Put<J>>(&mut self.seat, (at / WORD_BYTES) as usize + 1, number);
+    }
+
+    /// One to eight known bytes of one word, from an address on, the lowest first: one load.
+    pub fn get_run(&mut self, arena: &Arena, at: u64, count: u8) -> u64
+        requires of { IsOf arena.now self.old }
+        requires some { 0 < count }
+        requires one_word { at % 8 + count ≤ 8 }
+        requires known { AreKnown (cells self.old) at count }
+        ensures of { IsOf arena.now self.new }
+        ensures same { view self.new ≡ view self.old }
+        ensures value { (bs : List ℕ) → Holds (cells self.old) at bs → length bs ≡ count → result ≡ from_le_bytes w64 bs }
+    {
+        let _limit = arena.limit;
+        let word = arena
+            .table
+            .shared
+            .load::<Read>(&mut self.seat, (at / WORD_BYTES) as usize + 1);
+        part_of(word, at % WORD_BYTES, count as u64)
     }
 
     /// The byte at a known address.
@@ -137,11 +175,11 @@ impl Pass {
         ensures value { result ≡ look_of (cells self.old at) }
     {
         let _limit = arena.limit;
-        arena
+        let word = arena
             .table
             .shared
-            .load::<Read>(&mut self.seat, (at / WORD_BYTES) as usize + 1)
-            .to_le_bytes()[(at % WORD_BYTES) as usize]
+            .load::<Read>(&mut self.seat, (at / WORD_BYTES) as usize + 1);
+        byte_of(word, at % WORD_BYTES)
     }
 
     /// Another pass, which knows what this one knows and owns nothing.
@@ -173,6 +211,23 @@ impl Pass {
         // the joined view is known to be sound once a load has told what the rule says of it
         arena.table.shared.load::<Count>(&mut self.seat, 0);
     }
+}
+
+/// The byte of a word at a place: a shift, since an array of its bytes would go through the stack.
+fn byte_of(word: u64, place: u64) -> u8
+    requires { place < 8 }
+    ensures { result ≡ slice_index (to_le_bytes w64 word) place }
+{
+    ((word >> (8 * place)) % 256) as u8
+}
+
+/// So many bytes of a word from a place on, as a number.
+fn part_of(word: u64, from: u64, count: u64) -> u64
+    requires some { 0 < count }
+    requires fit { from + count ≤ 8 }
+    ensures { (bs : List ℕ) → length bs ≡ count → ((j : ℕ) → j < count → slice_index (to_le_bytes w64 word) (from + j) ≡ slice_index bs j) → result ≡ from_le_bytes w64 bs }
+{
+    (word << (64 - 8 * (from + count))) >> (64 - 8 * count)
 }
 
 /// How many chunks were drawn in all: the share of the first pass, with no other one out.

@@ -2,6 +2,7 @@
 use Rattle.std.proofs.Common.{◌≡◌, ℕ, suc, ◌+◌, ◌<◌, List, [], ◌∷◌, ◌++◌, length, true, append_assoc, length-append, sym, ap, ◌∙◌, subst, subst₂, refl, arith}
 use Rattle.gib_types.specs.Tree.{Datum}
 use Rattle.gib_mem.specs.Memory.{Memory}
+use Rattle.gib_mem.proofs.Puts.{puts_alone, puts_limit}
 use Rattle.gib_core.specs.Cost.{run_cost}
 use Rattle.gib_core.specs.LoweredParts.{LoweredParts}
 use Rattle.gib_core.specs.Meaning.{core_run}
@@ -38,7 +39,7 @@ tail_same x y xs ys h = cc
 next_alone : (code : CodeTree) (w v : Weave) (e : Event) → Next code w e v → v.memory.alone ≡ w.memory.alone
 next_alone code w _ _ (ev.silent on e) = refl
 next_alone code w _ _ (ev.get on e known) = refl
-next_alone code w _ _ (ev.puts on e) = refl
+next_alone code w _ _ (ev.puts {a = a} {b = b} {bs = bs} on e) = puts_alone w.memory a (b ∷ bs)
 next_alone code w _ _ (ev.draws on e dr) = refl
 next_alone code w _ _ (ev.forks on e) = refl
 next_alone code w _ _ (ev.steals on few st) = refl
@@ -49,7 +50,7 @@ next_alone code w _ _ (ev.joins_it on e q fin) = refl
 next_limit : (code : CodeTree) (w v : Weave) (e : Event) → Next code w e v → v.memory.limit ≡ w.memory.limit
 next_limit code w _ _ (ev.silent on e) = refl
 next_limit code w _ _ (ev.get on e known) = refl
-next_limit code w _ _ (ev.puts on e) = refl
+next_limit code w _ _ (ev.puts {a = a} {b = b} {bs = bs} on e) = puts_limit w.memory a (b ∷ bs)
 next_limit code w _ _ (ev.draws on e dr) = refl
 next_limit code w _ _ (ev.forks on e) = refl
 next_limit code w _ _ (ev.steals on few st) = refl

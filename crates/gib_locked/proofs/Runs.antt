@@ -38,7 +38,7 @@ leads_still start w w' lines lines' still is same h = record {
 }
 
 pub refused : (code : CodeTree) (v v' : Weave) (e : Event) (f : WeaveFault) → Applied code v e v' (Err f) → v' ≡ v
-refused code v v' e fault.Memory h = h
+refused code v v' e fault.Memory h = h.0
 refused code v v' e fault.NotNow h = h.0
 refused code v v' e fault.Full h = h.0
 

@@ -1,55 +1,50 @@
-//! A number that is read byte by byte.
+//! A number that is read word by word.
 
-ghost use Rattle.std.specs.Prelude.{◌≡◌, ◌≤◌, ◌<◌, ◌+◌, ◌^◌, ◌++◌, ◌∷◌, []};
-ghost use Rattle.std.specs.Int.{w64, from_le_bytes};
-ghost use Rattle.gib_machine.specs.Stepping.{came};
+ghost use Rattle.std.specs.Prelude.{◌≡◌, ◌≤◌, ◌<◌, ◌-◌, ◌^◌, ℕ, suc, min};
+ghost use Rattle.gib_mem.specs.Memory.{AreKnown, Reads};
+ghost use Rattle.gib_machine.specs.Machine.{left_in, word_end, with_part};
 
-/// A byte in the highest place of a word.
-const HIGHEST: u64 = 0x0100_0000_0000_0000;
+use gib_mem::{Mem, WORD_BYTES};
 
-/// Bytes of a number that were read, the lowest first: so many, in the highest places of `number`; and where the next one
-/// stands.
+/// The number that the lowest bytes of a number are, how many more are due, and where the next one stands.
 #[derive(Clone, Copy, Debug)]
 pub struct Gathered {
     pub at: u64,
     pub number: u64,
-    pub count: u32,
+    pub due: u64,
 }
 
 impl Gathered {
     /// No byte of a number that begins there.
     pub fn empty(at: u64) -> Gathered
-        ensures { result ≡ record { at = at; number = 0; count = 0 } }
+        ensures { result ≡ record { at = at; number = 0; due = 8 } }
     {
         Gathered {
             at,
             number: 0,
-            count: 0,
+            due: WORD_BYTES,
         }
     }
 
-    /// With a byte more, which is not the last one.
-    #[tactic(auto, using(crate::proofs::Gathers::one_more))]
-    pub fn with_byte(self, byte: u8) -> Gathered
-        requires few { self.count ≤ 6 }
+    /// With the bytes that lie in the word of the next one.
+    pub fn gets<M: Mem>(self, mem: &mut M) -> Gathered
         requires small { self.at < 2 ^ 44 }
-        ensures next { result.at ≡ self.at + 1 }
-        ensures longer { result.count ≡ self.count + 1 }
-        ensures gathered { came result ≡ came self ++ byte ∷ [] }
+        requires some { 0 < self.due }
+        requires few { self.due ≤ 8 }
+        requires known { AreKnown (M.view mem.old).cells self.at (suc (min (self.due - 1) (left_in self.at))) }
+        ensures same { M.view mem.new ≡ M.view mem.old }
+        ensures got { (x : ℕ) × Reads (M.view mem.old).cells self.at (suc (min (self.due - 1) (left_in self.at))) x × (result ≡ record { at = word_end self.at; number = with_part self.number (self.due - 1) x; due = self.due - 1 - left_in self.at }) }
+        ensures fewer { result.due < self.due }
     {
+        let left = WORD_BYTES - self.at % WORD_BYTES;
+        let count = if self.due < left { self.due } else { left };
+        let part = mem.get_run(self.at, count as u8);
         Gathered {
-            at: self.at + 1,
-            number: self.number / 256 + byte as u64 * HIGHEST,
-            count: self.count + 1,
+            at: self.at + left,
+            number: self
+                .number
+                .wrapping_add(part << (8 * (WORD_BYTES - self.due))),
+            due: self.due - count,
         }
-    }
-
-    /// The number, with its last byte.
-    #[tactic(auto, using(crate::proofs::Gathers::last))]
-    pub fn whole(self, byte: u8) -> u64
-        requires { self.count ≡ 7 }
-        ensures { result ≡ from_le_bytes w64 (came self ++ byte ∷ []) }
-    {
-        self.number / 256 + byte as u64 * HIGHEST
     }
 }

@@ -1,9 +1,12 @@
 //! The bytes of an item that are still to be put.
 
-ghost use Rattle.std.specs.Prelude.{◌≡◌, ◌<◌, ◌≤◌, ◌+◌, ◌-◌, ◌++◌, ℕ, [], ◌∷◌, length, drop, ◌↔◌, IsTrue};
+ghost use Rattle.std.specs.Prelude.{◌≡◌, ◌<◌, ◌≤◌, ◌+◌, ◌-◌, ◌++◌, ℕ, suc, [], ◌∷◌, length, take, drop, ◌↔◌, IsTrue};
 ghost use Rattle.std.specs.Int.{w64, to_le_bytes};
+ghost use Rattle.gib_mem.specs.Memory.{Owned, after_puts};
 ghost use Rattle.gib_machine.specs.Items.{Bytes, bytes_of};
+ghost use Rattle.gib_machine.specs.Machine.{left_in};
 
+use gib_mem::{Mem, WORD_BYTES};
 use std::marker::Model;
 
 /// At most 128 bytes, of which some are put.
@@ -75,19 +78,20 @@ impl Item {
         }
     }
 
-    /// The next byte.
-    pub fn first(&self) -> u8
-        requires { 0 < length self.now.left }
-        ensures { self.now.left ≡ result ∷ drop 1 self.now.left }
+    /// Puts those of the bytes that lie in the word of an address, and drops them.
+    pub fn put_front<M: Mem>(&mut self, mem: &mut M, at: u64)
+        requires some { 0 < length self.old.left }
+        requires free { Owned (M.view mem.old).cells at (length (take (suc (left_in at)) self.old.left)) }
+        ensures left { self.new.left ≡ drop (suc (left_in at)) self.old.left }
+        ensures put { M.view mem.new ≡ after_puts (M.view mem.old) at (take (suc (left_in at)) self.old.left) }
     {
-        self.bytes[self.from]
-    }
-
-    /// Drops the next byte.
-    pub fn pop(&mut self)
-        requires { 0 < length self.old.left }
-        ensures left { self.new.left ≡ drop 1 self.old.left }
-    {
-        self.from += 1;
+        let in_word = (WORD_BYTES - at % WORD_BYTES) as usize;
+        let end = if self.to - self.from < in_word {
+            self.to
+        } else {
+            self.from + in_word
+        };
+        mem.put_run(at, &self.bytes[self.from..end]);
+        self.from = end;
     }
 }

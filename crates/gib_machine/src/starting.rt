@@ -1,6 +1,6 @@
 //! A machine at its first instruction.
 
-ghost use Rattle.std.specs.Prelude.{◌≡◌, ◌≤◌, ◌<◌, ◌+◌, ℕ, length, map, Option, Some, None, IfOk, IfSome, IfNone, if◌then◌else◌};
+ghost use Rattle.std.specs.Prelude.{◌≡◌, ◌≤◌, ◌<◌, ◌+◌, ℕ, length, map, Option, Some, None, IfOk, IfSome, IfNone, IsTrue, if◌then◌else◌};
 ghost use Rattle.gib_code.specs.Instruction.{instruction_of};
 ghost use Rattle.gib_machine.specs.Machine.{Ready, Opening, fork_of, side_doing, side_start, nesting_from};
 ghost use Rattle.gib_machine.specs.Machine as m;
@@ -208,6 +208,22 @@ fn begin(
 }
 
 impl Machine {
+    /// The machine of a task that is over. It has no memory, and is not to be run.
+    pub fn gone(alloc: Global) -> Machine
+        ensures { result ≡ m.gone }
+    {
+        Machine {
+            ip: 0,
+            frames: Frames::gone(alloc),
+            level: 0,
+            side: None,
+            openings: Openings::gone(alloc),
+            result: Ty::Whole,
+            item: Item::new(),
+            doing: Doing::Ready,
+        }
+    }
+
     /// A machine that starts at a label with these words, and may nest `depth` calls and `level` forks: at main's start with
     /// its argument, or at the start of a fork's right side with the words of a frame. It takes all its memory here.
     ///
@@ -276,5 +292,39 @@ impl Machine {
             opens: opens_region(side.kind),
         };
         begin(alloc, code, start, &side.words, side.depth, side.level)
+    }
+
+    /// The machine of a right side that waits, in the memory of this one, which takes none: false where that is not enough, and the
+    /// machine is then of no use but for another try. A machine that was made for the same code and as many calls has enough.
+    #[tactic(auto, using(crate::proofs::Starts::whole_frame, crate::proofs::Starts::room_is))]
+    pub fn restart(&mut self, code: &Code, side: &Side) -> bool
+        requires { length side.now.words.items ≤ m.widest code.now.functions }
+        ensures { IsTrue result → self.new ≡ side_start code.now (waiting_of side.now) }
+    {
+        let width = widest(code.functions());
+        let slots = slots_for(code, &side.words);
+        let Ok(most) = nesting(code.instructions()) else {
+            return false;
+        };
+        if !self
+            .openings
+            .restart((side.depth as usize + 1) * most as usize + 1)
+        {
+            return false;
+        }
+        if !self.frames.restart(&side.words, slots, side.depth, width) {
+            return false;
+        }
+        self.ip = side.start;
+        self.level = side.level;
+        self.side = Some(side.variable);
+        self.result = side.result;
+        self.item.clear();
+        self.doing = if opens_region(side.kind) {
+            Doing::Opening
+        } else {
+            Doing::Ready
+        };
+        true
     }
 }

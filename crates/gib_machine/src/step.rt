@@ -11,7 +11,7 @@ use crate::starting::ForkParts;
 use crate::state::{Doing, Machine};
 use crate::turn::Turn;
 use gib_code::{Answer, Code, Instr};
-use gib_mem::Mem;
+use gib_mem::{Mem, WORD_BYTES};
 use gib_region::Tails;
 
 impl Machine {
@@ -40,27 +40,14 @@ impl Machine {
             Doing::Over(answer) => Turn::Ended(answer),
             Doing::Unwinding => Turn::AtJoin,
             Doing::Joining { to, target } => self.points_joined(to, target, mem),
-            Doing::Putting(at) => {
-                let byte = self.item.first();
-                mem.put(at, byte);
-                self.item.pop();
-                if self.item.is_empty() {
-                    self.ip += 1;
-                    self.doing = Doing::Ready;
-                } else {
-                    self.doing = Doing::Putting(at + 1);
-                }
-                Turn::Went
-            }
+            Doing::Putting(at) => self.puts_on(at, mem),
             Doing::Looking { tree, at } => self.switches_on(code, tree, at, mem),
             Doing::Following { tree, gathered } => self.follows(tree, gathered, mem),
             Doing::Reading { to, gathered } => self.reads_on(to, gathered, mem),
             Doing::Skipping { to, at, due } => self.skips_on(code, to, at, due, mem),
             Doing::SkipTurn { to, due, gathered } => self.skip_turns(to, due, gathered, mem),
             Doing::Turning { placed, chunk, at } => {
-                let byte = self.item.first();
-                mem.put(at, byte);
-                self.item.pop();
+                self.item.put_front(mem, at);
                 if self.item.is_empty() {
                     self.doing = Doing::Ready;
                     self.places(code, placed, chunk);
@@ -68,7 +55,7 @@ impl Machine {
                     self.doing = Doing::Turning {
                         placed,
                         chunk,
-                        at: at + 1,
+                        at: at - at % WORD_BYTES + WORD_BYTES,
                     };
                 }
                 Turn::Went
@@ -120,12 +107,7 @@ impl Machine {
                 constructor,
                 scalars,
                 packed,
-            } => {
-                let at = self.frames.slot(*head);
-                mem.put(at, *constructor as u8);
-                self.fills(code, *head, *constructor, scalars, packed);
-                Turn::Went
-            }
+            } => self.fills(code, *head, *constructor, scalars, packed, mem),
             Instr::Point(from) => {
                 let target = self.frames.slot(*from);
                 self.points(target, mem)

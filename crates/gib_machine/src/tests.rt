@@ -1,4 +1,4 @@
-//! Machines are made, where there is memory for them.
+//! Machines are made, where there is memory for them, and begin again in the memory that they have.
 
 ghost use Rattle.std.specs.Prelude.{◌≡◌, []};
 
@@ -23,6 +23,7 @@ fn machines_are_made(rt: HostRuntime) -> Result<(), Fail> {
         variable: 2,
         result: Ty::Whole,
     };
-    assert!(rt; Machine::of_side(rt.alloc(), &code, &side).is_ok());
+    let mut machine = Machine::of_side(rt.alloc(), &code, &side)?;
+    assert!(rt; machine.restart(&code, &side));
     Ok(())
 }

@@ -1,4 +1,6 @@
+-- Where items are placed, and what that leaves.
 pub mod Bounds
 pub mod Placing
 pub mod Keeping
+-- The balance of addresses.
 pub mod Counting

@@ -4,7 +4,7 @@ ghost use Rattle.std.specs.Prelude.{◌≡◌, ◌<◌, ◌≤◌, ◌^◌, ◌+
 ghost use Rattle.gib_mem.specs.Memory.{Owned, after_puts};
 ghost use Rattle.gib_region.specs.Region.{Behind, pointer, HasRoom, has_room, Placed, Pointed, IsFull, rest, Draws, redirected};
 
-use gib_mem::{CHUNK, INDIRECTION, Mem, POINTER_BYTES, REDIRECT};
+use gib_mem::{CHUNK, INDIRECTION, Mem, POINTER_BYTES, REDIRECT, WORD_BYTES};
 use thiserror::Error;
 
 /// All chunks are drawn.
@@ -32,8 +32,13 @@ pub fn fill<M: Mem>(mem: &mut M, at: u64, bytes: &[u8])
     requires { Owned (M.view mem.old).cells at (length bytes.now) }
     ensures { M.view mem.new ≡ after_puts (M.view mem.old) at bytes.now }
 {
-    'bytes: for i in 0..bytes.len() {
-        mem.put(at + i as u64, bytes[i]);
+    let mut i = 0;
+    'words: while i < bytes.len() {
+        let place = at + i as u64;
+        let in_word = (WORD_BYTES - place % WORD_BYTES) as usize;
+        let count = in_word.min(bytes.len() - i);
+        mem.put_run(place, &bytes[i..i + count]);
+        i += count;
     }
 }
 
@@ -42,8 +47,9 @@ fn put_pointer<M: Mem>(mem: &mut M, at: u64, tag: u8, target: u64)
     requires { Owned (M.view mem.old).cells at 9 }
     ensures { M.view mem.new ≡ after_puts (M.view mem.old) at (pointer tag target) }
 {
-    mem.put(at, tag);
-    fill(mem, at + 1, &target.to_le_bytes());
+    let mut bytes = [tag; POINTER_BYTES as usize];
+    bytes[1..].copy_from_slice(&target.to_le_bytes());
+    fill(mem, at, &bytes);
 }
 
 impl Cursor {

@@ -1,11 +1,11 @@
 -- What a call of a weave leaves.
 use Rattle.std.proofs.lemmas.Bool.{cases_lt}
-use Rattle.std.proofs.lemmas.List.{get_or_read, get_or-set_other, get_or_append_left, length-append, length-set, set-append_left}
+use Rattle.std.proofs.lemmas.List.{get_or_read, get_or_append_left, length-append, length-set, set-append_left}
 use Rattle.std.proofs.Common.{◌≡◌, ◌⊎◌, inl, inr, ℕ, zero, suc, ◌<◌, ◌≤◌, List, [], ◌∷◌, ◌++◌, ◌^◌, length, get_or, drop, slice_set, true, refl, sym, ap, subst, ◌∙◌, arith}
 use Rattle.std.specs.Prelude.{Result, Ok, Err, slice_get}
 use Rattle.gib_code.specs.declared.answer.Answer.{Answer}
 use Rattle.gib_machine.specs.declared.stand.Stand.TheVariants as stand
-use Rattle.gib_mem.specs.Memory.{Memory, with_drawn, after_put, after_draw}
+use Rattle.gib_mem.specs.Memory.{Memory, with_drawn, after_puts, after_draw}
 use Rattle.gib_region.specs.Region.{IsFull}
 use Rattle.gib_core.specs.Tree.{CoreTree}
 use Rattle.gib_code.specs.Program.{CodeTree}
@@ -16,7 +16,7 @@ use Rattle.gib_machine.specs.declared.turn.Turn.TheVariants as turn
 use Rattle.gib_weave.specs.declared.task.WeaveFault.{WeaveFault}
 use Rattle.gib_weave.specs.declared.task.WeaveFault.TheVariants as fault
 use Rattle.gib_weave.specs.Applied.{Applied, CanGo, IsBegun, IsDraw, IsForked, forked, stepped}
-use Rattle.gib_weave.specs.Weave.{Weave, Task, Stage, Status, Waits, Running, Joined, Step, Fork, Steal, Take, Finish, Join, Stolen, Next, NewestWaits, NewestFinished, Enabled, IsAction, IsEnd, IsFinished, IsOn, asks, moved, no_task, task, weave_start, with_sides}
+use Rattle.gib_weave.specs.Weave.{Weave, Task, Stage, Status, Waits, Running, Joined, Step, Fork, Steal, Take, Finish, Join, Stolen, Next, NewestWaits, NewestFinished, Enabled, IsAction, IsEnd, IsFinished, IsOn, asks, ended_task, moved, no_task, task, weave_start, with_sides}
 use Rattle.gib_weave.specs.Weave as w
 use Rattle.gib_weave.specs.Starting.{root_start}
 
@@ -76,8 +76,8 @@ module _ (code : CodeTree) (v : Weave) (i : ℕ) (on : IsOn v i) where
 
   applied : (a : Ask) (m : Memory) (s : State) (r : Turn) → v.memory.alone ≡ true → asks code v i ≡ a → Made a (task v.tasks i).state s v.memory m r → Applied code v (Step i) (moved v m i s) (stepped r)
   applied (Silent n) m s r al e p = goes m v.memory s n r p.0 p.1 p.2 (w.silent on e)
-  applied (Get a k) m s r al e p = goes m v.memory s (k p.0) r p.2 p.3 p.4 (w.get on e p.1)
-  applied (Put a b n) m s r al e p = goes m (after_put v.memory a b) s n r p.0 p.1 p.2 (w.puts on e)
+  applied (Get a more k) m s r al e p = goes m v.memory s (k p.0) r p.2 p.3 p.4 (w.get on e p.1)
+  applied (Put a b bs n) m s r al e p = goes m (after_puts v.memory a (b ∷ bs)) s n r p.0 p.1 p.2 (w.puts on e)
   applied (Draw k) m s r al e (inl p) = goes m (after_draw v.memory p.0) s (k p.0) r p.2 p.3 p.4 (w.draws on e p.1)
   applied (Draw k) m s r al e (inr p) = by_turn m s r turn.Full p.0 (full m s k al e p.1 p.2)
   applied AtFork m s r al e p = by_turn m s r turn.AtFork p.0 (not_now AtFork m s e (λ h. h) p.1 p.2)
@@ -100,7 +100,7 @@ on_below v i on = go (cases_lt i (length v.tasks))
 
 -- The task that was read can make a step.
 pub can_step : (code : CodeTree) (v : Weave) (i : ℕ) (t : Task) → CanGo code v → IsOn v i → t ≡ task v.tasks i → CanStep code t.state v.memory
-can_step code v i t h on e = subst (λ (u : Task). CanStep code u.state v.memory) (sym e) (record { runs = h.runs; made = h.widths i (on_below v i on); can = h.can i on.here })
+can_step code v i t h on e = subst (λ (u : Task). CanStep code u.state v.memory) (sym e) (record { runs = h.runs; made = h.widths i on.here; can = h.can i on.here })
 
 -- It made one.
 pub read_step_applied : (code : CodeTree) (v : Weave) (ts : List Task) (i : ℕ) (m : Memory) (t u : Task) (r : Turn) (o : Result (Unit {0}) WeaveFault) → IsOn v i → CanGo code v → ts ≡ v.tasks → t ≡ task v.tasks i
@@ -118,8 +118,8 @@ read_task ts us i t e f h = get_or_read us i t (let l = ap length f in omega (ar
 
 pub at_fork : (a : Ask) → stand_of a ≡ stand.Fork → a ≡ AtFork
 at_fork (Silent m) e = absurd cc
-at_fork (Get a k) e = absurd cc
-at_fork (Put a b m) e = absurd cc
+at_fork (Get a more k) e = absurd cc
+at_fork (Put a b bs m) e = absurd cc
 at_fork (Draw k) e = absurd cc
 at_fork AtFork e = refl
 at_fork AtJoin e = absurd cc
@@ -127,8 +127,8 @@ at_fork (Ended a) e = absurd cc
 
 pub at_join : (a : Ask) → stand_of a ≡ stand.Join → a ≡ AtJoin
 at_join (Silent m) e = absurd cc
-at_join (Get a k) e = absurd cc
-at_join (Put a b m) e = absurd cc
+at_join (Get a more k) e = absurd cc
+at_join (Put a b bs m) e = absurd cc
 at_join (Draw k) e = absurd cc
 at_join AtFork e = absurd cc
 at_join AtJoin e = refl
@@ -136,8 +136,8 @@ at_join (Ended a) e = absurd cc
 
 pub at_end : (a : Ask) (x : Answer) → stand_of a ≡ stand.End x → a ≡ Ended x
 at_end (Silent m) x e = absurd cc
-at_end (Get a k) x e = absurd cc
-at_end (Put a b m) x e = absurd cc
+at_end (Get a more k) x e = absurd cc
+at_end (Put a b bs m) x e = absurd cc
 at_end (Draw k) x e = absurd cc
 at_end AtFork x e = absurd cc
 at_end AtJoin x e = absurd cc
@@ -148,8 +148,8 @@ at_end (Ended a) x e = ap Ended (same_end e)
 
 pub not_end : (a : Ask) → ((x : Answer) → stand_of a ≡ stand.End x → ⊥) → IsEnd a → ⊥
 not_end (Silent m) f h = h
-not_end (Get a k) f h = h
-not_end (Put a b m) f h = h
+not_end (Get a more k) f h = h
+not_end (Put a b bs m) f h = h
 not_end (Draw k) f h = h
 not_end AtFork f h = h
 not_end AtJoin f h = h
@@ -172,9 +172,11 @@ module _ (code : CodeTree) (v : Weave) (ts : List Task) (i : ℕ) (t u : Task) (
 
   pub fork_applied : (r : Result (Unit {0}) WeaveFault) → next code t.state ≡ AtFork → IsForked t (slice_get code.instructions t.state.ip) u r → Applied code v (Fork i) (record { memory = v.memory; tasks = slice_set ts i u }) r
   fork_applied (Ok x) a h = goes_left a h
-  fork_applied (Err fault.Memory) a h =
-      ap (λ (us : List Task). record { memory = v.memory; tasks = slice_set us i u }) te ∙ ap (λ (x : Task). record { memory = v.memory; tasks = slice_set v.tasks i x }) (h ∙ e)
-      ∙ ap (λ (us : List Task). record { memory = v.memory; tasks = us }) (set_same v.tasks i)
+  fork_applied (Err fault.Memory) a h = (
+    ap (λ (us : List Task). record { memory = v.memory; tasks = slice_set us i u }) te ∙ ap (λ (x : Task). record { memory = v.memory; tasks = slice_set v.tasks i x }) (h ∙ e)
+        ∙ ap (λ (us : List Task). record { memory = v.memory; tasks = us }) (set_same v.tasks i),
+    tt,
+  )
   fork_applied (Err fault.NotNow) a h = absurd h
   fork_applied (Err fault.Full) a h = absurd h
 
@@ -190,11 +192,10 @@ module _ (code : CodeTree) (v : Weave) (ts : List Task) (i : ℕ) (t u : Task) (
           h ∙ ap (λ (x : Task). record { state = takes x.state; sides = drop 1 t.sides; stage = t.stage }) e ∙ ap (λ (qs : List Status). record { state = takes (task v.tasks i).state; sides = drop 1 qs; stage = t.stage }) q in
           subst (Next code v (Take i)) (sym (running _ _ k)) (w.takes_it on (sym (ap (λ (x : Task). next code x.state) e) ∙ a) (sym (ap (λ (x : Task). x.sides) e) ∙ q))
 
-  pub finish_applied : (a : Answer) → next code t.state ≡ Ended a → u ≡ record { state = t.state; sides = []; stage = w.Finished a } → Next code v (Finish i) (record { memory = v.memory; tasks = slice_set ts i u })
+  pub finish_applied : (a : Answer) → next code t.state ≡ Ended a → u ≡ ended_task a → Next code v (Finish i) (record { memory = v.memory; tasks = slice_set ts i u })
   finish_applied a p h =
-      let k : u ≡ record { state = (task v.tasks i).state; sides = []; stage = w.Finished a } = h ∙ ap (λ (x : Task). record { state = x.state; sides = []; stage = w.Finished a }) e in
       subst (Next code v (Finish i))
-      (sym (ap (λ (us : List Task). record { memory = v.memory; tasks = slice_set us i u }) te ∙ ap (λ (x : Task). record { memory = v.memory; tasks = slice_set v.tasks i x }) k))
+      (sym (ap (λ (us : List Task). record { memory = v.memory; tasks = slice_set us i u }) te ∙ ap (λ (x : Task). record { memory = v.memory; tasks = slice_set v.tasks i x }) h))
       (w.finishes on (sym (ap (λ (x : Task). next code x.state) e) ∙ p))
 
 -- Two reads of one task are one.
@@ -207,29 +208,16 @@ none_finished [] i h f = f
 none_finished (t ∷ ts) zero h f = absurd (omega (arith, h))
 none_finished (t ∷ ts) (suc i) h f = none_finished ts i (omega (arith, h)) f
 
-ended_runs : {a : Answer} {g : Stage} → g ≡ w.Finished a → g ≡ Running → ⊥
-ended_runs e f = clash (sym e ∙ f)
-  where
-    clash : {b : Answer} → w.Finished b ≡ Running → ⊥
-    clash h = absurd cc
-
 -- A join changes two tasks.
-module _ (code : CodeTree) (v : Weave) (ts : List Task) (i j : ℕ) (t u y x : Task) (a : Answer) (on : IsOn v i) (te : ts ≡ v.tasks) (e : t ≡ task v.tasks i) (fin : (task v.tasks j).stage ≡ w.Finished a) where
-  others : (i ≡ j) → ⊥
-  others q = ended_runs (ap (λ (k : ℕ). (task v.tasks k).stage) q ∙ fin) on.here
-
-  pub join_applied : next code t.state ≡ AtJoin → t.sides ≡ w.Runs j ∷ drop 1 t.sides → u ≡ record { state = joins t.state a; sides = drop 1 t.sides; stage = t.stage } → y ≡ get_or (slice_set ts i u) j y → j < length ts
-      → x ≡ record { state = y.state; sides = []; stage = Joined } → Next code v (Join i) (record { memory = v.memory; tasks = slice_set (slice_set ts i u) j x })
-  join_applied p q h r b k =
+module _ (code : CodeTree) (v : Weave) (ts : List Task) (i j : ℕ) (t u x : Task) (a : Answer) (on : IsOn v i) (te : ts ≡ v.tasks) (e : t ≡ task v.tasks i) (fin : (task v.tasks j).stage ≡ w.Finished a) where
+  pub join_applied : next code t.state ≡ AtJoin → t.sides ≡ w.Runs j ∷ drop 1 t.sides → u ≡ record { state = joins t.state a; sides = drop 1 t.sides; stage = t.stage } → x ≡ no_task → Next code v (Join i) (record { memory = v.memory; tasks = slice_set (slice_set ts i u) j x })
+  join_applied p q h k =
       let f = task v.tasks i in
       let same : record { memory = v.memory; tasks = slice_set ts i u } ≡ with_sides v i (joins f.state a) (drop 1 f.sides) =
       ap (λ (us : List Task). record { memory = v.memory; tasks = slice_set us i u }) te
       ∙ ap (λ (z : Task). record { memory = v.memory; tasks = slice_set v.tasks i z }) (h ∙ ap (λ (z : Task). record { state = joins z.state a; sides = drop 1 z.sides; stage = z.stage }) e ∙ ap (λ (g : Stage). record { state = joins f.state a; sides = drop 1 f.sides; stage = g }) on.here) in
-      let read : y ≡ task v.tasks j =
-      get_or_read (slice_set ts i u) j y (let l = length-set ts i u in omega (arith, l, b)) r no_task ∙ get_or-set_other ts i j u no_task (λ z. others (sym z)) ∙ ap (λ (us : List Task). task us j) te in
-      let gone : x ≡ record { state = (task v.tasks j).state; sides = []; stage = Joined } = k ∙ ap (λ (z : Task). record { state = z.state; sides = []; stage = Joined }) read in
       subst (λ (us : List Task). Next code v (Join i) (record { memory = v.memory; tasks = slice_set us j x })) (sym (ap (λ (z : Weave). z.tasks) same))
-      (subst (λ (z : Task). Next code v (Join i) (record { memory = v.memory; tasks = slice_set (with_sides v i (joins f.state a) (drop 1 f.sides)).tasks j z })) (sym gone)
+      (subst (λ (z : Task). Next code v (Join i) (record { memory = v.memory; tasks = slice_set (with_sides v i (joins f.state a) (drop 1 f.sides)).tasks j z })) (sym k)
       (w.joins_it on (sym (ap (λ (z : Task). next code z.state) e) ∙ p) (sym (ap (λ (z : Task). z.sides) e) ∙ q ∙ ap (λ (z : Task). w.Runs j ∷ drop 1 z.sides) e) fin))
 
 -- A join that is not enabled.

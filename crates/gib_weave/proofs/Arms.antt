@@ -28,14 +28,15 @@ use Rattle.gib_weave.specs.Owing.{costs, Owed, sides_of, resume, means}
 use Rattle.gib_weave.specs.Paying.{Share, Counted, left_costs, later_costs}
 use Rattle.gib_weave.specs.Places.{Owned, covers, HaveRoom, TailsHaveRoom, IsSmall, Apart, AllRoom}
 use Rattle.gib_weave.specs.Stacks.{Stack}
-use Rattle.gib_weave.specs.Sound.{AtTerm, at_term, Safe, rests, Moves, silent, get}
+use Rattle.gib_weave.specs.Sound.{AtTerm, at_term, Safe, rests, Moves, silent}
 use Rattle.gib_weave.specs.Starting.{AreBodies}
 use Rattle.gib_weave.proofs.Basics.{by_test, put-other, set-same, set-other, set-length}
 use Rattle.gib_weave.proofs.Move.{MovedOne, Moved, moved_same, AllMoved, Stack-moved, Keeps, Has-keeps, Fields-keeps, with_var, HasAll-set, IsDest-bind, all_under_bind, all_under_goes, goes-refl, covers_head, code_put, is_field}
 use Rattle.gib_weave.proofs.Places.{Apart-less}
 use Rattle.gib_weave.proofs.Lines.{all_calm_less, or_left, or_right}
 use Rattle.gib_weave.proofs.Scalars.{scalar_word}
-use Rattle.gib_weave.proofs.Readings.{skip_looks, reads_number, dec_small}
+use Rattle.gib_weave.proofs.Readings.{get_one, skip_looks, dec_small}
+use Rattle.gib_weave.proofs.Numbers.{reads_number}
 use Rattle.gib_weave.proofs.Opens.{few_packed, few_fields}
 use Rattle.gib_weave.proofs.Ends.{Levels, at_rest, step_is}
 
@@ -239,7 +240,7 @@ module _ (core : CoreTree) (code : CodeTree) (ok : AreBodies core code) (owed : 
       let w = c.pl y.0 in
       let over = reached core code owed own sh lv ty rm s ip (ip + 1) sl fs n rs ts y (by.Skip z) u c k t z.0 at.fits.1 at.fits.2 at.fits.3 at.fits.5 at lu at.fits.7 in
       let sk = skip_looks core code owed own sh (λ k. let i = few_packed (fields_at code.laid.table k) in let j = few_fields code.laid.table ok.table k in omega (arith, i, j)) s (at_rest lv ty rm ip sl fs n rs ts) y.0 (slot sl z.0) fld.type_before w (value_in c.env z.0) (subst (λ (q : ℕ). Dec code.laid s q fld.type_before (value_in c.env z.0) w) (sym pz.same) fld.before) at.small over in
-      get (step_is core code owed own sh lv ty rm (at_rest lv ty rm ip sl fs n rs ts) (i.Skip y.0 z.0) refl e) sk.known sk.goes
+      get_one core code owed own sh (step_is core code owed own sh lv ty rm (at_rest lv ty rm ip sl fs n rs ts) (i.Skip y.0 z.0) refl e) sk.known sk.goes
 
   pub does_offset : (s : Store) (ip : ℕ) (sl : Slots) (fs : List Frame) (n : ℕ) (rs : List OpenRegion) (ts : List ℕ) (y : Variable) (u : Term) (c : Ctx) (k : Kont) (stored : List StoredField) → Agrees stored c.scope → IsAt code ip (reaching stored y by.Offset) → IsCode core code c.scope (ip + 1) u (end_of k)
       → AtTerm core code owed own sh s (at_rest lv ty rm ip sl fs n rs ts) (Then (Reach y by.Offset) u) c k → Moves core code owed own sh s (at_rest lv ty rm ip sl fs n rs ts)
@@ -256,7 +257,7 @@ module _ (core : CoreTree) (code : CodeTree) (ok : AreBodies core code) (owed : 
       let ex : IsAt code ip (i.Offset y.0 x p) = subst (λ (q : ℕ). IsAt code ip (i.Offset y.0 x q)) same.1 (subst (λ (q : ℕ). IsAt code ip (i.Offset y.0 q (field_of stored y.0).place)) same.0 e) in
       let has : is_among code.laid.with_offsets con ≡ true = subst (λ (q : LaidOut). is_among q.with_offsets con ≡ true) (sym ok.laid) at.fits.6 in
       let bytes : Holds s (slot sl x + p) (address w) = subst (λ (q : ℕ). Holds s (q + p) (address w)) (sym hx.same) (fld.stored has) in
-      reads_number core code owed own sh s (at_rest lv ty rm ip sl fs n rs ts) y.0 (slot sl x + p) w (dec_small at.small fld.stands.dec) bytes
+      reads_number core code owed own sh s w (dec_small at.small fld.stands.dec) (at_rest lv ty rm ip sl fs n rs ts) y.0 (slot sl x + p) bytes
       (step_is core code owed own sh lv ty rm (at_rest lv ty rm ip sl fs n rs ts) (i.Offset y.0 x p) refl ex)
       (reached core code owed own sh lv ty rm s ip (ip + 1) sl fs n rs ts y by.Offset u c k t z x con p at.fits.5 at lu at.fits.7)
 

@@ -6,7 +6,7 @@ use Rattle.std.proofs.lemmas.Bool.Decides.{nat_tests}
 use Rattle.gib_mem.specs.Memory.{Cell, absent, fresh, byte, Store, set_cell, Holds, none, more, Grows}
 use Rattle.gib_machine.specs.Machine.{Slots, slot, set}
 use Rattle.gib_core.specs.Fits.{put}
-use Rattle.gib_weave.specs.Places.{within, IsSmall, Owned}
+use Rattle.gib_weave.specs.Places.{within, IsSmall, Owned, put_all, AllFresh}
 
 -- to prove something of a test, prove it in both cases
 pub by_test : (y x : ℕ) (P : Bool → Type 0) → (y ≡ x → P true) → ((y ≡ x → ⊥) → P false) → P (eqb y x)
@@ -50,11 +50,6 @@ within-split a k n q = grind (arith, nat_tests)
 pub within-zero : (a q : ℕ) → within a 0 q ≡ 0
 within-zero a q = grind (arith, nat_tests)
 
--- bytes that are put one after another
-abbrev pub put_all : Store → ℕ → List ℕ → Store
-put_all s a [] = s
-put_all s a (b ∷ bs) = put_all (set_cell s a (byte b)) (a + 1) bs
-
 pub cell-same : (s : Store) (a : ℕ) (c : Cell) → set_cell s a c a ≡ c
 cell-same s a c = put-same s a c
 
@@ -76,10 +71,6 @@ pub put_all-holds : (s : Store) (a : ℕ) (bs : List ℕ) → Holds (put_all s a
 put_all-holds s a [] = none
 put_all-holds s a (b ∷ bs) =
     more (put_all-outside (set_cell s a (byte b)) (a + 1) bs a (grind (arith, nat_tests)) ∙ cell-same s a (byte b)) (put_all-holds (set_cell s a (byte b)) (a + 1) bs)
-
-pub record AllFresh (own : Owned) (s : Store) (a n : ℕ) : Type 0 where
-  pub mine : (q : ℕ) → a ≤ q → q < a + n → 0 < own q
-  pub all : (q : ℕ) → a ≤ q → q < a + n → s q ≡ fresh
 
 not_fresh : {b : ℕ} → byte b ≡ fresh → ⊥
 not_fresh e = absurd cc

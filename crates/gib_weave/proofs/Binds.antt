@@ -33,7 +33,8 @@ use Rattle.gib_weave.specs.Owing.{level_after, costs, Owed, rest_sides, sides_of
 use Rattle.gib_weave.specs.Paying.{Share, Counted, AtMost, cost_after, left_costs, later_costs}
 use Rattle.gib_weave.specs.Places.{Owned, head_covers, kont_covers, rest_covers, tail_covers, HaveRoom, TailsHaveRoom, IsSmall, Apart, AllRoom, HasRoom, freed}
 use Rattle.gib_weave.specs.Stacks.{Stack, Waits}
-use Rattle.gib_weave.specs.Sound.{AtRest, lefts, AtTerm, IsAnswer, at_term, over, rests, Moves, silent}
+use Rattle.gib_machine.specs.Levels.{lefts}
+use Rattle.gib_weave.specs.Sound.{AtRest, AtTerm, IsAnswer, at_term, over, rests, Moves, silent}
 use Rattle.gib_weave.specs.Starting.{AreBodies}
 use Rattle.gib_weave.proofs.Move.{with_var, HasAll-bind, HasAll-dest, IsDest-bind, IsDest-moved, moved_set, all_moved_set, Stack-moved, covers_head, all_under_bind, not_there, code_put, rest_code_put, is_field, bound-same, bound-other}
 use Rattle.gib_weave.proofs.Places.{Apart-less}

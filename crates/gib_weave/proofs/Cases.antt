@@ -32,11 +32,12 @@ use Rattle.gib_weave.specs.Continuing.{Kont, nest, branches_nest, Agrees}
 use Rattle.gib_weave.specs.Owing.{costs, Owed, means}
 use Rattle.gib_weave.specs.Paying.{Share}
 use Rattle.gib_weave.specs.Places.{Owned}
-use Rattle.gib_weave.specs.Sound.{Safe, moves, get}
+use Rattle.gib_weave.specs.Sound.{Safe, moves}
 use Rattle.gib_weave.proofs.Basics.{by_test, put-same, put-other, set-same, set-other, set-length}
 use Rattle.gib_weave.proofs.Move.{Keeps, keeps_var, with_var, agrees_put, bound-same}
 use Rattle.gib_weave.proofs.Lines.{or_left, or_right}
-use Rattle.gib_weave.proofs.Readings.{reads_number, first, tail}
+use Rattle.gib_weave.proofs.Readings.{get_one, first, tail}
+use Rattle.gib_weave.proofs.Numbers.{reads_number}
 use Rattle.gib_weave.proofs.Binds.{first_at, rest_at}
 use Rattle.gib_weave.proofs.Arms.{Line, line_var}
 use Rattle.gib_weave.proofs.Ends.{Levels, at_rest, step_is, silently}
@@ -200,7 +201,7 @@ module _ (core : CoreTree) (code : CodeTree) (owed : Owed) (own : Owned) (sh : S
       let sl' = set sl y.0 w in
       let q : a + p + length (number int) ≡ a + (p + 8) = omega arith in
       let rest = run_scalars s fs n rs tls (put sc y.0 Held) x a ts ys vs places b z (p + 8) (ip + 1) m sl' nw.1 (next_bound sc y.0 x nb) ds (subst (λ (r : ℕ). Holds s r (scalars vs)) q (Holds-right (a + p) (number int) (scalars vs) h)) (set-other sl y.0 x w (not_this sc y.0 x nw.0 nb) ∙ e) (rest_at at) g in
-      moves (reads_number core code owed own sh s (at_rest lv ty rm ip sl fs n rs tls) y.0 (slot sl x + p) w (Fits-lt-pow (Fits-of_z fits)) (subst (λ (r : ℕ). Holds s (r + p) (number int)) (sym e) (Holds-left (a + p) (number int) (scalars vs) h))
+      moves (reads_number core code owed own sh s w (Fits-lt-pow (Fits-of_z fits)) (at_rest lv ty rm ip sl fs n rs tls) y.0 (slot sl x + p) (subst (λ (r : ℕ). Holds s (r + p) (number int)) (sym e) (Holds-left (a + p) (number int) (scalars vs) h))
       (step_is core code owed own sh lv ty rm (at_rest lv ty rm ip sl fs n rs tls) (i.Whole y.0 x p) refl (first_at at)) rest)
   run_scalars s fs n rs tls sc x a _ [] _ _ b z p ip m sl nw nb (d.truth_field ds) h e at g = absurd nw
   run_scalars s fs n rs tls sc x a _ (y ∷ ys) _ _ b z p ip m sl nw nb (d.truth_field {b = bool} {ts = ts} {vs = vs} {places = places} ds) h e at g =
@@ -208,7 +209,7 @@ module _ (core : CoreTree) (code : CodeTree) (owed : Owed) (own : Owned) (sh : S
       let sl' = set sl y.0 w in
       let q : a + p + 1 ≡ a + (p + 1) = omega arith in
       let rest = run_scalars s fs n rs tls (put sc y.0 Held) x a ts ys vs places b z (p + 1) (ip + 1) m sl' nw.1 (next_bound sc y.0 x nb) ds (subst (λ (r : ℕ). Holds s r (scalars vs)) q (tail h)) (set-other sl y.0 x w (not_this sc y.0 x nw.0 nb) ∙ e) (rest_at at) g in
-      moves (get (step_is core code owed own sh lv ty rm (at_rest lv ty rm ip sl fs n rs tls) (i.Truth y.0 x p) refl (first_at at)) (subst (λ (r : ℕ). s (r + p) ≡ byte w) (sym e) (first h)) rest)
+      moves (get_one core code owed own sh (step_is core code owed own sh lv ty rm (at_rest lv ty rm ip sl fs n rs tls) (i.Truth y.0 x p) refl (first_at at)) (subst (λ (r : ℕ). s (r + p) ≡ byte w) (sym e) (first h)) rest)
   run_scalars s fs n rs tls sc x a _ [] _ _ b z p ip m sl nw nb (d.tree_field dec ds) h e at g = absurd nw
   run_scalars s fs n rs tls sc x a _ (y ∷ ys) _ _ b z p ip m sl nw nb (d.tree_field {y = mid} {t = t} {v = v} {ts = ts} {vs = vs} {places = places} dec ds) h e at g =
       run_scalars s fs n rs tls (put sc y.0 Held) x a ts ys vs places mid z p ip m sl nw.1 (next_bound sc y.0 x nb) ds (subst (λ (r : List ℕ). Holds s (a + p) (r ++ scalars vs)) (Dec-no_scalar dec) h) e at g

@@ -19,7 +19,8 @@ use Rattle.gib_weave.specs.Owing.{debt_of, no_debt, level_after, Owed, rest_side
 use Rattle.gib_weave.specs.Paying.{Share, Counted, left_costs, later_costs}
 use Rattle.gib_weave.specs.Places.{Owned, kont_covers, rest_covers, tail_covers, HaveRoom, TailsHaveRoom, IsSmall, Apart, AllRoom}
 use Rattle.gib_weave.specs.Stacks.{IsRoot, Stack}
-use Rattle.gib_weave.specs.Sound.{counts, AtRest, lefts, unwinds, IsAnswer, at_term, over, Safe, rests, moves, silent}
+use Rattle.gib_machine.specs.Levels.{lefts}
+use Rattle.gib_weave.specs.Sound.{counts, AtRest, unwinds, IsAnswer, at_term, over, Safe, rests, moves, silent}
 use Rattle.gib_weave.proofs.Move.{with_var, with_dest, HasAll-set, HasAll-dest, keeps_dest, IsDest-bind, IsDest-more, all_under_bind, type_more, covers_more, covers_head, rest_code_put}
 use Rattle.gib_weave.proofs.Lines.{follows}
 use Rattle.gib_weave.proofs.Uses.{sides_bound}

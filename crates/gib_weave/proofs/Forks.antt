@@ -30,17 +30,17 @@ use Rattle.gib_packed.specs.Reaching.{Turns, there, turn as redirected}
 use Rattle.gib_weave.specs.Continuing.{Rest, Plain, Part, Meet, Leave, Last, KSide, KLast, IsInBody, Follows, Next, IsMeet, rest_pars, pars_of, side_of, RestCode, RestFits, result_sort, rest_cased, rest_nest, Kont, end_of, due, root, nest, side_nest, AllCalm, Agrees, IsCode}
 use Rattle.gib_weave.specs.Owing.{debt_of, no_debt, level_after, own_region, link, costs, side_costs, task_costs, Owed, rest_sides, sides_of, rest_means, side_gives, Debt, means, resume}
 use Rattle.gib_weave.specs.Paying.{Share, AtMost, Counted, new_share, cost_after, left_costs, later_costs}
-use Rattle.gib_weave.specs.Places.{within, Owned, with_chunk, AllRoom, head_covers, kont_covers, rest_covers, tail_covers, HaveRoom, TailsHaveRoom, IsSmall, Apart, HasRoom, freed}
+use Rattle.gib_weave.specs.Places.{within, Owned, with_chunk, AllRoom, head_covers, kont_covers, rest_covers, tail_covers, HaveRoom, TailsHaveRoom, IsSmall, Apart, HasRoom, freed, put_all, AllFresh}
 use Rattle.gib_weave.specs.Stacks.{Stack, Waits}
 use Rattle.gib_weave.specs.Sound.{counts, AtRest, SideSafe, AtTerm, IsAnswer, at_term, over, Safe, rests, moves, Moves, silent, draws}
-use Rattle.gib_weave.proofs.Basics.{put-same, set-same, put_all, put_all-holds, put_all-grows, put_all-small, AllFresh}
+use Rattle.gib_weave.proofs.Basics.{put-same, set-same, put_all-holds, put_all-grows, put_all-small}
 use Rattle.gib_weave.proofs.Grow.{Stack-grows, Matches-grows, Dec-grows, Turns-grows}
 use Rattle.gib_weave.proofs.Move.{with_var, with_dest, HasAll-bind, HasAll-set, HasAll-dest, keeps_dest, IsDest-bind, IsDest-more, IsDest-moved, moved_set, all_moved_set, Stack-moved, all_under_bind, type_more, covers_more, covers_head, not_there, absent_slot, is_field, bound-same, code_put, rest_code_put}
 use Rattle.gib_weave.proofs.Places.{Apart-less, Apart-put_all, Apart-fresh, Apart-open, open-grows, open-small, within_front, within_redirect, within_chunk, chunk_room, rest_room}
 use Rattle.gib_weave.proofs.Lines.{follows, holding, HasAll-hold, all_calm_less, from_having}
 use Rattle.gib_weave.proofs.Uses.{side_same, but_new, sides_bound}
-use Rattle.gib_weave.proofs.Writes.{safe_putting, moves_putting}
-use Rattle.gib_weave.proofs.Opens.{safe_turning, no_room}
+use Rattle.gib_weave.proofs.Items.{safe_putting, moves_putting, safe_turning}
+use Rattle.gib_weave.proofs.Opens.{no_room}
 use Rattle.gib_weave.proofs.Binds.{scalar_answer}
 use Rattle.gib_weave.proofs.Ends.{Levels, at_rest, step_is, silently}
 

@@ -28,7 +28,8 @@ use Rattle.gib_weave.specs.Owing.{kind_link, link, own_region, side_costs, task_
 use Rattle.gib_weave.specs.Paying.{Share, Counted, with_side, with_count, cost_after, left_costs}
 use Rattle.gib_weave.specs.Places.{Owned, head_covers, kont_covers}
 use Rattle.gib_weave.specs.Stacks.{Stack, Waits}
-use Rattle.gib_weave.specs.Sound.{AtRest, lefts, IsUnwinding, Meets, IsAnswer, at_term, Safe, rests, moves}
+use Rattle.gib_machine.specs.Levels.{lefts}
+use Rattle.gib_weave.specs.Sound.{AtRest, IsUnwinding, Meets, IsAnswer, at_term, Safe, rests, moves}
 use Rattle.gib_weave.proofs.Basics.{set-same}
 use Rattle.gib_weave.proofs.Grow.{Stack-grows, Matches-grows, Dec-grows, Turns-grows}
 use Rattle.gib_weave.proofs.Move.{with_var, with_dest, moved_set, all_moved_set, Stack-moved, Matches-moved, covers_head, not_there, absent_slot, is_field}

@@ -8,8 +8,11 @@ pub mod Uses
 pub mod Counts
 pub mod Costs
 pub mod Ends
+pub mod Parts
+pub mod Numbers
 pub mod Readings
 pub mod Scalars
+pub mod Items
 pub mod Writes
 pub mod Opens
 pub mod Opening
@@ -21,6 +24,7 @@ pub mod Switches
 pub mod Forks
 pub mod Joins
 pub mod Step
+pub mod ForkSides
 pub mod Nests
 pub mod Starts
 pub mod Others

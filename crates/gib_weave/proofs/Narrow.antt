@@ -56,8 +56,8 @@ left_narrow s s' i x sts sts' e f h a = other_width s.width s'.width (Waits x �
 -- A micro-step keeps the width.
 made_width : (n : ℕ) (a : Ask) (s s' : State) (v v' : Memory) (r : Turn) → s.width ≡ n → KeepsWidth n a → Made a s s' v v' r → s'.width ≡ n
 made_width n (Silent m) s s' v v' r e k p = ap (λ (q : State). q.width) p.1 ∙ k
-made_width n (Get a f) s s' v v' r e k p = ap (λ (q : State). q.width) p.3 ∙ k p.0
-made_width n (Put a b m) s s' v v' r e k p = ap (λ (q : State). q.width) p.1 ∙ k
+made_width n (Get a more f) s s' v v' r e k p = ap (λ (q : State). q.width) p.3 ∙ k p.0
+made_width n (Put a b bs m) s s' v v' r e k p = ap (λ (q : State). q.width) p.1 ∙ k
 made_width n (Draw f) s s' v v' r e k (inl p) = ap (λ (q : State). q.width) p.3 ∙ k p.0
 made_width n (Draw f) s s' v v' r e k (inr p) = ap (λ (q : State). q.width) p.1 ∙ e
 made_width n AtFork s s' v v' r e k p = ap (λ (q : State). q.width) p.1 ∙ e

@@ -76,7 +76,7 @@ module _ (code : CodeTree) (v : Weave) where
   -- a step leaves its task as it was
   step_stays : {i : ℕ} {v' : Weave} → Next code v (w.Step i) v' → can_steal_from (task v'.tasks i) ≡ can_steal_from (task v.tasks i)
   step_stays (w.silent {i = i} {m = m} on e) = goes_on i m on
-  step_stays (w.get {i = i} {b = b} {k = k} on e known) = goes_on i (k b) on
+  step_stays (w.get {i = i} {x = x} {k = k} on e known) = goes_on i (k x) on
   step_stays (w.puts {i = i} {m = m} on e) = goes_on i m on
   step_stays (w.draws {i = i} {c = c} {k = k} on e dr) = goes_on i (k c) on
 
@@ -86,7 +86,7 @@ module _ (code : CodeTree) (v : Weave) where
   -- the task of an event that opens none was open if it is now
   was_open : {e : Event} {v' : Weave} → Next code v e v' → opens e (number_of e) ≡ false → can_steal_from (task v'.tasks (number_of e)) ≡ true → can_steal_from (task v.tasks (number_of e)) ≡ true
   was_open (w.silent {i = i} {m = m} on e) o h = sym (goes_on i m on) ∙ h
-  was_open (w.get {i = i} {b = b} {k = k} on e known) o h = sym (goes_on i (k b) on) ∙ h
+  was_open (w.get {i = i} {x = x} {k = k} on e known) o h = sym (goes_on i (k x) on) ∙ h
   was_open (w.puts {i = i} {m = m} on e) o h = sym (goes_on i m on) ∙ h
   was_open (w.draws {i = i} {c = c} {k = k} on e dr) o h = sym (goes_on i (k c) on) ∙ h
   was_open (w.forks {i = i} on e) o h = absurd (same_number i o)
@@ -114,13 +114,13 @@ module _ (code : CodeTree) (v : Weave) where
   keeps e v' (Ok u) h = record { others = stays h; here = was_open h }
   keeps e v' (Err fault.NotNow) h = by_same e v' h.0
   keeps e v' (Err fault.Full) h = by_same e v' h.0
-  keeps e v' (Err fault.Memory) h = by_same e v' h
+  keeps e v' (Err fault.Memory) h = by_same e v' h.0
 
   step_keeps : (i : ℕ) (v' : Weave) (r : Result (Unit {0}) WeaveFault) → Applied code v (w.Step i) v' r → can_steal_from (task v'.tasks i) ≡ can_steal_from (task v.tasks i)
   step_keeps i v' (Ok u) h = step_stays h
   step_keeps i v' (Err fault.NotNow) h = ap (λ (x : Weave). can_steal_from (task x.tasks i)) h.0
   step_keeps i v' (Err fault.Full) h = ap (λ (x : Weave). can_steal_from (task x.tasks i)) h.0
-  step_keeps i v' (Err fault.Memory) h = ap (λ (x : Weave). can_steal_from (task x.tasks i)) h
+  step_keeps i v' (Err fault.Memory) h = absurd h.1
 
   -- A step leaves the numbers right.
   pub open_after_step : (i : ℕ) (e : TaskEvent) (v' : Weave) (r : Result (Unit {0}) WeaveFault) (s : BTreeSet ℕ) → e ≡ event.Step i → Applied code v (event_of e) v' r → AreOpen s v.tasks → AreOpen s v'.tasks

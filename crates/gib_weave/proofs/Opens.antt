@@ -7,7 +7,7 @@ use Rattle.gib_types.specs.declared.table.ConId.{ConId}
 use Rattle.gib_types.specs.Table.{Table, Row, fields_at, fields_of, con_at, IsTable}
 use Rattle.gib_types.specs.Layout.{LaidOut, is_among, layout_of, packed_count, scalar_size, offset_size, head_size}
 use Rattle.gib_syntax.specs.Meaning.{is_scalar}
-use Rattle.gib_mem.specs.Memory.{Store, byte, set_cell, open_chunk, Grows}
+use Rattle.gib_mem.specs.Memory.{Store, open_chunk, Grows}
 use Rattle.gib_types.proofs.LayoutLemmas.{head_long}
 use Rattle.gib_core.specs.Cost.{Cost}
 use Rattle.gib_region.specs.Region.{rest, pointer, HasRoom}
@@ -19,7 +19,7 @@ use Rattle.gib_code.specs.Instruction.{Instruction, Here, Begin, Done}
 use Rattle.gib_code.specs.Instruction as i
 use Rattle.gib_code.specs.Program.{CodeTree, IsAt}
 use Rattle.gib_core.specs.Low.{To}
-use Rattle.gib_machine.specs.Machine.{Slots, set, Frame, Open as OpenRegion, State, Turning, next, begins, sets, cursor, latest, places, turn_on, placed, Item, HeadOf, ToTree, doing}
+use Rattle.gib_machine.specs.Machine.{Slots, set, Frame, Open as OpenRegion, next, begins, sets, cursor, latest, places, HeadOf}
 use Rattle.gib_weave.proofs.Counts.{goes_on_counted, Paid, item_counted, turn_counted, turned_counted, tail_counted, chunk_counted}
 use Rattle.gib_core.specs.Fits.{Held, Placed, Dest, Empty, Open, dest_type, more, packed_due, cased}
 use Rattle.gib_weave.specs.Environment.{Ctx, Fields, none, IsDest}
@@ -27,10 +27,11 @@ use Rattle.gib_packed.specs.Reaching.{Turns, there, turn as redirected}
 use Rattle.gib_weave.specs.Continuing.{Rest, Plain, Part, RestCode, rest_cased, Kont, KHere, KRegion, end_of, due, IsCode}
 use Rattle.gib_weave.specs.Owing.{Owed, rest_means, means}
 use Rattle.gib_weave.specs.Paying.{Share, Counted, left_costs}
-use Rattle.gib_weave.specs.Places.{within, Owned, with_chunk, head_covers, kont_covers, rest_covers, tail_covers, covers, TailsHaveRoom, IsSmall, Apart}
-use Rattle.gib_weave.specs.Sound.{counts, AtRest, AtTerm, at_term, Safe, rests, moves, Moves, silent, puts, draws}
+use Rattle.gib_weave.specs.Places.{within, Owned, with_chunk, head_covers, kont_covers, rest_covers, tail_covers, covers, TailsHaveRoom, IsSmall, Apart, put_all, AllFresh}
+use Rattle.gib_weave.specs.Sound.{counts, AtRest, AtTerm, at_term, Safe, rests, Moves, silent, draws}
 use Rattle.gib_weave.specs.Starting.{AreBodies}
-use Rattle.gib_weave.proofs.Basics.{put-same, set-same, put_all, put_all-holds, put_all-grows, put_all-small, put_fresh, AllFresh}
+use Rattle.gib_weave.proofs.Basics.{put-same, set-same, put_all-holds, put_all-grows, put_all-small}
+use Rattle.gib_weave.proofs.Items.{safe_turning}
 use Rattle.gib_weave.proofs.Grow.{Stack-grows, Matches-grows}
 use Rattle.gib_weave.proofs.Move.{moved_set, all_moved_set, Stack-moved, Matches-moved, covers_head, not_there, absent_slot, code_put}
 use Rattle.gib_weave.proofs.Places.{Apart-less, Apart-put_all, Apart-fresh, Apart-open, open-grows, open-small, within_front, within_redirect, within_chunk, chunk_room, rest_room, Splits, SplitsAt, splits}
@@ -188,15 +189,6 @@ size_few laid t k = head_long (is_among laid.with_offsets k) (fields_at laid.tab
 
 pub size_small : (laid : LaidOut) → IsTable laid.table → (k : ℕ) → head_size laid k + 9 ≤ 4096
 size_small laid t k = small_layout (is_among laid.with_offsets k) (fields_at laid.table k) (few_fields laid.table t k)
-
-module _ (core : CoreTree) (code : CodeTree) (owed : Owed) (own : Owned) (sh : Share) where
-  pub safe_turning : (bs : List ℕ) (s : Store) (m : State) (it : Item) (d a : ℕ) → AllFresh own s a (length bs) → Safe core code owed own sh (put_all s a bs) (turn_on code.laid m it d a []) → Safe core code owed own sh s (turn_on code.laid m it d a bs)
-  safe_turning [] s m it d a f g = g
-  safe_turning (b ∷ bs) s m it d a f g = moves (puts refl (f.all a (omega arith) (omega arith)) (f.mine a (omega arith) (omega arith)) (safe_turning bs (set_cell s a (byte b)) (doing m (Turning it d b bs a)) it d (a + 1) (put_fresh s a (length bs) b f) (subst (λ (z : State). Safe core code owed own sh (put_all (set_cell s a (byte b)) (a + 1) bs) z) (sym (again it)) g)))
-    where
-      again : (i : Item) → placed code.laid (doing m (Turning it d b bs a)) i d ≡ placed code.laid m i d
-      again (HeadOf h k) = refl
-      again (ToTree t) = refl
 
 module _ (core : CoreTree) (code : CodeTree) (ok : AreBodies core code) (owed : Owed) (own : Owned) (sh : Share) (lv : Levels) (ty : Ty) (rm : ℕ) where
   head_at : (s s' : Store) (ip : ℕ) (sl : Slots) (fs : List Frame) (n : ℕ) (r r' : OpenRegion) (rs : List OpenRegion) (ts : List ℕ) (h : Variable) (kk : ConId) (a : ℕ) (t : Term) (c : Ctx) (k : Kont) (sh' : Share) → IsCode core code c.scope (ip + 1) t (end_of k)

@@ -1,9 +1,9 @@
 -- What other tasks do keeps a task sound.
-use Rattle.std.proofs.Common.{◌≡◌, inl, inr, ℕ, ◌+◌, ◌*◌, ◌<◌, cond, refl, sym, ap, ◌∙◌, arith}
+use Rattle.std.proofs.Common.{◌≡◌, inl, inr, ℕ, ◌+◌, ◌*◌, ◌<◌, cond, List, [], ◌∷◌, length, refl, sym, ap, ◌∙◌, arith}
 use Rattle.gib_types.specs.declared.table.Ty.{Ty}
 use Rattle.gib_types.specs.Layout.{LaidOut}
 use Rattle.gib_syntax.specs.Meaning.{Outcome}
-use Rattle.gib_mem.specs.Memory.{absent, fresh, byte, Store, set_cell, open_chunk, Grows}
+use Rattle.gib_mem.specs.Memory.{absent, fresh, byte, Store, set_cell, open_chunk, Grows, Holds, none, more, Reads}
 use Rattle.gib_core.specs.Tree.{CoreTree}
 use Rattle.gib_code.specs.declared.answer.Answer.{Answer}
 use Rattle.gib_code.specs.declared.answer.Answer.TheVariants as answer
@@ -11,9 +11,9 @@ use Rattle.gib_code.specs.Program.{CodeTree}
 use Rattle.gib_machine.specs.Machine.{State}
 use Rattle.gib_weave.specs.Owing.{Owed}
 use Rattle.gib_weave.specs.Paying.{Share}
-use Rattle.gib_weave.specs.Places.{within, Owned, with_chunk, IsNew, IsSmall}
+use Rattle.gib_weave.specs.Places.{within, Owned, with_chunk, IsNew, IsSmall, put_all, AllFresh}
 use Rattle.gib_weave.specs.Sound.{counts, unwinds, IsAnswer, Rests, at_term, over, Safe, rests, moves, Moves, silent, get, puts, draws, ended, Others}
-use Rattle.gib_weave.proofs.Basics.{by_test, cell-other}
+use Rattle.gib_weave.proofs.Basics.{by_test, cell-other, put_fresh}
 use Rattle.gib_weave.proofs.Grow.{Stack-grows, Matches-grows, StandsAt-grows}
 use Rattle.gib_weave.proofs.Places.{IsSided, zero_or_one, open-outside, open-inside, open-small, open-grows}
 
@@ -36,6 +36,21 @@ others-put own s r a b f i o = record {
   drawn = λ q. by_test q a (λ t. cond t (byte b) (r q) ≡ absent → cond t (byte b) (s q) ≡ absent) (λ e h. h) (λ e h. o.drawn q h);
   small = put-small r a b (o.mine a i ∙ f) o.small;
 }
+
+-- so for bytes that are put one after another
+others-puts : (own : Owned) (s r : Store) (a : ℕ) (bs : List ℕ) → AllFresh own s a (length bs) → Others own s r → Others own (put_all s a bs) (put_all r a bs)
+others-puts own s r a [] f o = o
+others-puts own s r a (b ∷ bs) f o = others-puts own (set_cell s a (byte b)) (set_cell r a (byte b)) (a + 1) bs (put_fresh s a (length bs) b f) (others-put own s r a b (f.all a (omega arith) (omega arith)) (f.mine a (omega arith) (omega arith)) o)
+
+fresh-others : {own : Owned} {s r : Store} {a n : ℕ} → AllFresh own s a n → Others own s r → AllFresh own r a n
+fresh-others f o = record { mine = f.mine; all = λ q l g. o.mine q (f.mine q l g) ∙ f.all q l g }
+
+holds-grows : {s r : Store} {a : ℕ} {bs : List ℕ} → Grows s r → Holds s a bs → Holds r a bs
+holds-grows g none = none
+holds-grows g (more e h) = more (g.kept _ _ e) (holds-grows g h)
+
+reads-grows : {s r : Store} {a n x : ℕ} → Grows s r → Reads s a n x → Reads r a n x
+reads-grows g h = (h.0, holds-grows g h.1, h.2, h.3)
 
 new_before : {own : Owned} {s r : Store} {c : ℕ} → Others own s r → IsNew r c → IsNew s c
 new_before o n = record { new = λ q x y. o.drawn q (n.new q x y); small = n.small }
@@ -104,8 +119,8 @@ module _ (core : CoreTree) (code : CodeTree) (owed : Owed) where
 
     pub moves-others : (own : Owned) (sh : Share) (s r : Store) (m : State) → Moves core code owed own sh s m → Others own s r → Moves core code owed own sh r m
     moves-others own sh s r m (silent {m' = m'} e h) o = silent e (safe-others own sh s r m' h o)
-    moves-others own sh s r m (get {b = b} {k = k} e i h) o = get e (o.grows.kept _ _ i) (safe-others own sh s r (k b) h o)
-    moves-others own sh s r m (puts {m' = m'} {a = a} {b = b} e f i h) o = puts e (o.mine a i ∙ f) i (safe-others own sh (set_cell s a (byte b)) (set_cell r a (byte b)) m' h (others-put own s r a b f i o))
+    moves-others own sh s r m (get {x = x} {k = k} e i h) o = get e (reads-grows o.grows i) (safe-others own sh s r (k x) h o)
+    moves-others own sh s r m (puts {m' = m'} {a = a} {b = b} {bs = bs} e f h) o = puts e (fresh-others f o) (safe-others own sh (put_all s a (b ∷ bs)) (put_all r a (b ∷ bs)) m' h (others-puts own s r a (b ∷ bs) f o))
     moves-others own sh s r m (draws {k = k} sh' e d h) o = draws sh' e (λ c new. d c (new_before o new)) (λ c new. safe-others (with_chunk own c) (sh' c) (open_chunk s c) (open_chunk r c) (k c) (h c (new_before o new)) (others-open own s r c new o))
     moves-others own sh s r m (ended {a = a} e d h) o = ended e d (answer-grows code.laid s r owed.ty owed.all a o.grows h)
 
@@ -118,6 +133,16 @@ put_is_others own s a b f z m = record {
   drawn = λ q. by_test q a (λ t. cond t (byte b) (s q) ≡ absent → s q ≡ absent) (λ e h. absurd (byte_absent h)) (λ e h. h);
   small = put-small s a b f m;
 }
+
+others-then : {own : Owned} {s r t : Store} → Others own s r → Others own r t → Others own s t
+others-then o p = record { grows = record { kept = λ q b e. p.grows.kept q b (o.grows.kept q b e) }; mine = λ q h. p.mine q h ∙ o.mine q h; drawn = λ q e. o.drawn q (p.drawn q e); small = p.small }
+
+-- of a run, where no address is the other's
+pub puts_is_others : (own own' : Owned) (s : Store) (a : ℕ) (bs : List ℕ) → AllFresh own' s a (length bs) → ((q : ℕ) → 0 < own' q → own q ≡ 0) → IsSmall s → Others own s (put_all s a bs)
+puts_is_others own own' s a [] f z m = record { grows = record { kept = λ q b h. h }; mine = λ q h. refl; drawn = λ q h. h; small = m }
+puts_is_others own own' s a (b ∷ bs) f z m =
+    let o = put_is_others own s a b (f.all a (omega arith) (omega arith)) (z a (f.mine a (omega arith) (omega arith))) m in
+    others-then o (puts_is_others own own' (set_cell s a (byte b)) (a + 1) bs (put_fresh s a (length bs) b f) z o.small)
 
 pub open_is_others : (own : Owned) (s : Store) (c : ℕ) → IsNew s c → ((q : ℕ) → 0 < own q → s q ≡ absent → ⊥) → IsSmall s → Others own s (open_chunk s c)
 open_is_others own s c new there m = record {

@@ -1,13 +1,12 @@
 -- Tags and numbers are read, and values skipped.
-use Rattle.std.proofs.Common.{◌≡◌, ℕ, suc, ◌+◌, ◌*◌, ◌<◌, ◌≤◌, ◌^◌, Bool, true, false, List, [], ◌∷◌, ◌++◌, append_assoc, length, cond, eqb, nat_lt, nat_le, max, ◌%◌, slice_get, Some, refl, sym, ap, subst, ◌∙◌, arith}
+use Rattle.std.proofs.Common.{◌≡◌, ℕ, suc, ◌+◌, ◌*◌, ◌<◌, ◌≤◌, ◌^◌, Bool, true, false, List, [], ◌∷◌, cond, eqb, nat_lt, nat_le, max, ◌%◌, slice_get, Some, refl, sym, ap, subst, ◌∙◌, arith}
 use Rattle.std.specs.Int.{w64, from_le_bytes}
-use Rattle.std.proofs.lemmas.Nat.{from_le_bytes-to_le_bytes_8}
 use Rattle.std.proofs.lemmas.Bool.Decides.{nat_tests}
 use Rattle.gib_types.specs.Table.{fields_at, con_at}
 use Rattle.gib_types.specs.Layout.{LaidOut, packed_count, head_size}
 use Rattle.gib_types.specs.Tree.{Datum, con, Data}
-use Rattle.gib_mem.specs.Memory.{Store, absent, byte, Holds, more}
-use Rattle.gib_packed.specs.Head.{address, head_bytes}
+use Rattle.gib_mem.specs.Memory.{Store, absent, byte, Holds, none, more}
+use Rattle.gib_packed.specs.Head.{head_bytes}
 use Rattle.gib_packed.specs.Decoding as d
 use Rattle.gib_packed.specs.Decoding.{Points, Dec, Decs}
 use Rattle.gib_packed.proofs.Spans as sp
@@ -16,8 +15,9 @@ use Rattle.gib_packed.proofs.SpanLemmas.{Dec-span, Span-height}
 use Rattle.gib_core.specs.Tree.{CoreTree}
 use Rattle.gib_code.specs.declared.instruction.Arm.{Arm}
 use Rattle.gib_code.specs.Program.{CodeTree}
-use Rattle.gib_machine.specs.Machine.{State, Get, next, Ready, Looking, Following, Reading, SkipTurn, doing, looked, read_on, sets, skip_on, skipped, set, label_of, arms_of}
+use Rattle.gib_machine.specs.Machine.{State, Get, next, Ready, Looking, Following, SkipTurn, doing, looked, skip_on, skipped, set, label_of, arms_of}
 use Rattle.gib_weave.specs.Owing.{Owed}
+use Rattle.gib_weave.proofs.Numbers.{follows_number, turns_number}
 use Rattle.gib_weave.specs.Paying.{Share}
 use Rattle.gib_weave.specs.Places.{Owned, IsSmall}
 use Rattle.gib_weave.specs.Sound.{Safe, moves, Moves, get}
@@ -54,29 +54,9 @@ max-right : (g h : ℕ) → h ≤ max g h
 max-right g h = omega arith
 
 module _ (core : CoreTree) (code : CodeTree) (owed : Owed) (own : Owned) (sh : Share) where
-  -- eight bytes are read one by one
-  follows : (bs : List ℕ) (b : ℕ) (acc : List ℕ) (s : Store) (m : State) (x a : ℕ) → Holds s a (b ∷ bs) → Safe core code owed own sh s (doing m (Looking x (from_le_bytes w64 (acc ++ b ∷ bs)))) → Safe core code owed own sh s (doing m (Following x a acc (length bs)))
-  follows [] b acc s m x a h g = moves (get refl (first h) g)
-  follows (b' ∷ bs) b acc s m x a h g =
-      moves (get refl (first h) (follows bs b' (acc ++ b ∷ []) s (doing m (Following x a acc (length (b' ∷ bs)))) x (a + 1) (tail h)
-      (subst (λ (z : List ℕ). Safe core code owed own sh s (doing m (Looking x (from_le_bytes w64 z)))) (sym (append_assoc acc (b ∷ []) (b' ∷ bs))) g)))
-
-  pub reads : (bs : List ℕ) (b : ℕ) (acc : List ℕ) (s : Store) (m : State) (d a : ℕ) → Holds s a (b ∷ bs) → Safe core code owed own sh s (sets m d (from_le_bytes w64 (acc ++ b ∷ bs))) → Safe core code owed own sh s (doing m (Reading d a acc (length bs)))
-  reads [] b acc s m d a h g = moves (get refl (first h) g)
-  reads (b' ∷ bs) b acc s m d a h g =
-      moves (get refl (first h) (reads bs b' (acc ++ b ∷ []) s (doing m (Reading d a acc (length (b' ∷ bs)))) d (a + 1) (tail h)
-      (subst (λ (z : List ℕ). Safe core code owed own sh s (sets m d (from_le_bytes w64 z))) (sym (append_assoc acc (b ∷ []) (b' ∷ bs))) g)))
-
-  turns : (bs : List ℕ) (b : ℕ) (acc : List ℕ) (s : Store) (m : State) (y n a : ℕ) → Holds s a (b ∷ bs) → Safe core code owed own sh s (skip_on m y (from_le_bytes w64 (acc ++ b ∷ bs)) (suc n)) → Safe core code owed own sh s (doing m (SkipTurn y n a acc (length bs)))
-  turns [] b acc s m y n a h g = moves (get refl (first h) g)
-  turns (b' ∷ bs) b acc s m y n a h g =
-      moves (get refl (first h) (turns bs b' (acc ++ b ∷ []) s (doing m (SkipTurn y n a acc (length (b' ∷ bs)))) y n (a + 1) (tail h)
-      (subst (λ (z : List ℕ). Safe core code owed own sh s (skip_on m y (from_le_bytes w64 z) (suc n))) (sym (append_assoc acc (b ∷ []) (b' ∷ bs))) g)))
-
-  -- a number of eight bytes is read, by an instruction that asks for its first byte
-  pub reads_number : (s : Store) (m : State) (d a w : ℕ) → w < 2 ^ 64 → Holds s a (address w) → next code m ≡ Get a (λ b. read_on m d a (b ∷ []) 7) → Safe core code owed own sh s (sets m d w) → Moves core code owed own sh s m
-  reads_number s m d a w fits h e g =
-      get e (first h) (reads _ _ (_ ∷ []) s m d (a + 1) (tail h) (subst (λ (z : ℕ). Safe core code owed own sh s (sets m d z)) (sym (from_le_bytes-to_le_bytes_8 w fits)) g))
+  -- a tag or a truth is read: one byte
+  pub get_one : {s : Store} {m : State} {a b : ℕ} {k : ℕ → State} → next code m ≡ Get a 0 k → s a ≡ byte b → Safe core code owed own sh s (k b) → Moves core code owed own sh s m
+  get_one {s} {m} {a} {b} {k} e h g = get e (b ∷ [], more h none, refl, (let q : b ≡ from_le_bytes w64 (b ∷ []) = omega arith in q)) g
 
   -- what comes at a head: it may be where the look began, or that is no head
   pub record Heads (s : Store) (m : State) (x : ℕ) (arms : List Arm) (t start : ℕ) (v : Datum) : Type 0 where
@@ -90,9 +70,9 @@ module _ (core : CoreTree) (code : CodeTree) (owed : Owed) (own : Owned) (sh : S
     pub known : s a ≡ byte tag
     pub goes : Safe core code owed own sh s (looked m x arms a tag)
 
-  goes_to : (s : Store) (m : State) (x : ℕ) (arms : List Arm) (a tag b : ℕ) → arms_of (slice_get code.instructions m.ip) ≡ arms → Points s a tag b → Looks s m x arms b → Safe core code owed own sh s (doing m (Following x (a + 1) [] 7))
-  goes_to s m x arms a tag b q pt l = follows _ _ [] s m x (a + 1) (tail pt.bytes)
-      (subst (λ (z : ℕ). Safe core code owed own sh s (doing m (Looking x z))) (sym (from_le_bytes-to_le_bytes_8 b pt.fits)) (moves (get (ap (λ (r : List Arm). Get b (looked (doing m (Looking x b)) x r b)) q) l.known l.goes)))
+  goes_to : (s : Store) (m : State) (x : ℕ) (arms : List Arm) (a tag b : ℕ) → arms_of (slice_get code.instructions m.ip) ≡ arms → Points s a tag b → Looks s m x arms b → Safe core code owed own sh s (doing m (Following x (a + 1) 0 7))
+  goes_to s m x arms a tag b q pt l = follows_number core code owed own sh s b pt.fits m x (a + 1) (tail pt.bytes)
+      (moves (get_one (ap (λ (r : List Arm). Get b 0 (looked (doing m (Looking x b)) x r b)) q) l.known l.goes))
 
   same_byte : {b c : ℕ} → byte b ≡ byte c → b ≡ c
   same_byte e = cc
@@ -104,7 +84,7 @@ module _ (core : CoreTree) (code : CodeTree) (owed : Owed) (own : Owned) (sh : S
   looked_head : (s : Store) (m : State) (x : ℕ) (arms : List Arm) (a k : ℕ) → k < 254 → Safe core code owed own sh s (record m { words = set m.words x a; ip = label_of arms k; doing = Ready }) → Safe core code owed own sh s (looked m x arms a k)
   looked_head s m x arms a k lt g =
       let e : nat_lt k 254 ≡ true = grind (arith, nat_tests) in
-      subst (λ (b : Bool). Safe core code owed own sh s (cond b (record m { words = set m.words x a; ip = label_of arms k; doing = Ready }) (doing m (Following x (a + 1) [] 7)))) (sym e) g
+      subst (λ (b : Bool). Safe core code owed own sh s (cond b (record m { words = set m.words x a; ip = label_of arms k; doing = Ready }) (doing m (Following x (a + 1) 0 7)))) (sym e) g
 
   pub looks : (s : Store) (m : State) (x : ℕ) (arms : List Arm) (a t z : ℕ) (v : Datum) → arms_of (slice_get code.instructions m.ip) ≡ arms → Dec code.laid s a t v z → Heads s m x arms t a v → Looks s m x arms a
   looks s m x arms a t z v q (d.redirect {b = b} pt dec) h = record { tag = 255; known = first pt.bytes; goes = goes_to s m x arms a 255 b q pt (looks s m x arms b t z v q dec (from_pointer s m x arms t a b v 255 (first pt.bytes) (omega arith) h)) }
@@ -119,7 +99,7 @@ module _ (core : CoreTree) (code : CodeTree) (owed : Owed) (own : Owned) (sh : S
     pub goes : Safe core code owed own sh s (skipped code.laid m y a n tag)
 
   skip_get : (s : Store) (m : State) (y a n : ℕ) → SkipLooks s m y a n → Safe core code owed own sh s (skip_on m y a (suc n))
-  skip_get s m y a n l = moves (get refl l.known l.goes)
+  skip_get s m y a n l = moves (get_one refl l.known l.goes)
 
   skipped_head : (s : Store) (m : State) (y a n k : ℕ) → k < 254 → packed_count (fields_at code.laid.table k) + n < 2 ^ 64 → Safe core code owed own sh s (skip_on m y (a + head_size code.laid k) (packed_count (fields_at code.laid.table k) + n)) → Safe core code owed own sh s (skipped code.laid m y a n k)
   skipped_head s m y a n k lt fits g =
@@ -127,7 +107,7 @@ module _ (core : CoreTree) (code : CodeTree) (owed : Owed) (own : Owned) (sh : S
       let e : eqb k 255 ≡ false = grind (arith, nat_tests) in
       let f : eqb k 254 ≡ false = grind (arith, nat_tests) in
       let q : c % 2 ^ 64 ≡ c = omega (arith, fits) in
-      subst (λ (b : Bool). Safe core code owed own sh s (cond b (doing m (SkipTurn y n (a + 1) [] 7)) (cond (eqb k 254) (skip_on m y (a + 9) n) (skip_on m y (a + head_size code.laid k) (c % 2 ^ 64))))) (sym e)
+      subst (λ (b : Bool). Safe core code owed own sh s (cond b (doing m (SkipTurn y n (a + 1) 0 7)) (cond (eqb k 254) (skip_on m y (a + 9) n) (skip_on m y (a + head_size code.laid k) (c % 2 ^ 64))))) (sym e)
       (subst (λ (b : Bool). Safe core code owed own sh s (cond b (skip_on m y (a + 9) n) (skip_on m y (a + head_size code.laid k) (c % 2 ^ 64)))) (sym f)
       (subst (λ (r : ℕ). Safe core code owed own sh s (skip_on m y (a + head_size code.laid k) r)) (sym q) g))
 
@@ -138,7 +118,7 @@ module _ (core : CoreTree) (code : CodeTree) (owed : Owed) (own : Owned) (sh : S
       skip_span s m y _ a z n (sp.redirect {h = h} {b = b} pt dec) lt g = record {
         tag = 255;
         known = first pt.bytes;
-        goes = turns _ _ [] s m y n (a + 1) (tail pt.bytes) (subst (λ (q : ℕ). Safe core code owed own sh s (skip_on m y q (suc n))) (sym (from_le_bytes-to_le_bytes_8 b pt.fits)) (skip_get s m y b n (skip_span s m y h b z n dec (omega (arith, lt)) g)));
+        goes = turns_number core code owed own sh s b pt.fits m y n (a + 1) (tail pt.bytes) (skip_get s m y b n (skip_span s m y h b z n dec (omega (arith, lt)) g));
       }
       skip_span s m y _ a z n (sp.indirect pt dec e) lt g = record { tag = 254; known = first pt.bytes; goes = subst (λ (q : ℕ). Safe core code owed own sh s (skip_on m y q n)) e g }
       skip_span s m y _ a z n (sp.head {h = h} {k = k} sm kc known ds) lt g =

@@ -1,5 +1,5 @@
 -- How the root's run ends.
-use Rattle.std.proofs.Common.{◌≡◌, ℕ, zero, suc, ◌≤◌, ◌-◌, List, [], ◌∷◌, length, get_or, true, Option, Some, None, refl, sym, ap, subst, ◌∙◌, arith}
+use Rattle.std.proofs.Common.{◌≡◌, inr, ℕ, zero, suc, ◌≤◌, ◌-◌, List, [], ◌∷◌, length, get_or, true, Option, Some, None, refl, sym, ap, subst, ◌∙◌, arith}
 use Rattle.std.specs.Prelude.{Result, Ok, Err, IfOk}
 use Rattle.gib_types.specs.declared.table.Ty.{Ty}
 use Rattle.gib_types.specs.Layout.{LaidOut}
@@ -26,7 +26,7 @@ use Rattle.gib_machine.specs.Stepping.{with_tails}
 use Rattle.gib_weave.specs.Calling.{GoesOn, IsTask, Ran, RootRan, Walked}
 use Rattle.gib_weave.specs.Owing.{Owed}
 use Rattle.gib_weave.specs.Paying.{Share}
-use Rattle.gib_weave.specs.Running.{CanEnd, IsOutcome, IsStart, Kept, RunEnds, word_of}
+use Rattle.gib_weave.specs.Running.{CanEnd, IsOutcome, IsStart, Kept, RunEnds, WantsMemory, word_of}
 use Rattle.gib_weave.specs.Starting.{IsArgument, root_start}
 use Rattle.gib_weave.proofs.Mades.{made_root}
 use Rattle.gib_weave.proofs.RootRuns.{root_ran, root_task}
@@ -137,6 +137,14 @@ pub if_ok : {A B : Type 0} {P Q : A → Type 0} (r : Result A B) → ((x : A) �
 if_ok (Ok x) f h = f x h
 if_ok (Err e) f h = tt {0}
 
+outcome_wants : (code : CodeTree) (s : State) (v : Memory) (steps : ℕ) (s' : State) (v' : Memory) (r : Option Turn) (o : Result Answer RunFault) → IsOutcome r o → Walked code s v steps s' v' r → WantsMemory code s v steps v' o
+outcome_wants code s v steps s' v' None o e w = subst (WantsMemory code s v steps v') (sym e) (inr (s', w))
+outcome_wants code s v steps s' v' (Some turn.Went) o e w = absurd e
+outcome_wants code s v steps s' v' (Some turn.AtFork) o e w = absurd e
+outcome_wants code s v steps s' v' (Some turn.AtJoin) o e w = absurd e
+outcome_wants code s v steps s' v' (Some (turn.Ended a)) o e w = subst (WantsMemory code s v steps v') (sym e) tt
+outcome_wants code s v steps s' v' (Some turn.Full) o e w = subst (WantsMemory code s v steps v') (sym e) tt
+
 -- The run.
 module _ (l : LoweredParts) (v : Memory) (place : Root) (tails : List ℕ) (depth : ℕ) (code : CodeTree) (m : State) (ce : code ≡ l.code) (lo : IsLowered (core_of l.core) l.code) (fit : AllFit (core_of l.core)) (runs : Runs l.code) (bd : IsBounded v)
     (me : (ts : List ℕ) → with_tails m ts ≡ root_start (core_of l.core) l.code (word_of place) depth 0 ts) where
@@ -158,6 +166,9 @@ module _ (l : LoweredParts) (v : Memory) (place : Root) (tails : List ℕ) (dept
 
     pub run_ends : (o : Result Answer RunFault) → IsOutcome r o → RunEnds l depth d v v' o
     run_ends o e = root_ends l v place tails depth d lo fit runs bd st al s' v' r steps root_walk root_task_ran o e
+
+    pub run_wants : (o : Result Answer RunFault) → IsOutcome r o → WantsMemory l.code (root_start (core_of l.core) l.code (word_of place) depth 0 tails) v steps v' o
+    run_wants o e = outcome_wants l.code (root_start (core_of l.core) l.code (word_of place) depth 0 tails) v steps s' v' r o e root_walk
 
   pub run_keeps : (d : Datum) → IsStart l place tails v d → (s' : State) (v' : Memory) (r : Option Turn) → ((t : IsTask code (with_tails m tails) v) → Ran code (with_tails m tails) v t s' v' r) → Kept v v'
   run_keeps d st s' v' r h = ran_kept code (with_tails m tails) v (run_task d st) s' v' r (h (run_task d st))

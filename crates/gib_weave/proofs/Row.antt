@@ -1,10 +1,11 @@
 -- Worked runs: a tree's leaves get 1 more, and the right side is stolen; a side has no depth left, and the other one ends.
-use Rattle.std.specs.Prelude.{pos}
+use Rattle.std.specs.Prelude.{List, ◌+◌, pos}
+use Rattle.std.specs.Int.{w64, from_le_bytes}
 use Rattle.std.proofs.Common.{Some, None, ◌≡◌, ℕ, zero, suc, true, [], ◌∷◌, slice_get, refl}
 use Rattle.gib_types.specs.declared.table.Ty.{Ty}
 use Rattle.gib_types.specs.declared.table.Ty.TheVariants.{Whole, Tree}
 use Rattle.gib_types.specs.Table.{Table}
-use Rattle.gib_mem.specs.Memory.{sole, Memory, Cell, absent, fresh, byte, after_put, after_puts, after_draw, open_chunk}
+use Rattle.gib_mem.specs.Memory.{sole, Store, Memory, Cell, absent, fresh, byte, after_puts, after_draw, open_chunk}
 use Rattle.gib_code.specs.declared.instruction.Kind.TheVariants as at
 use Rattle.gib_code.specs.declared.instruction.Operand.TheVariants.{Slot, Number}
 use Rattle.gib_code.specs.declared.instruction.Operation.TheVariants.{Add, Lt, Sub}
@@ -47,10 +48,15 @@ byte_of absent = 0
 byte_of fresh = 0
 byte_of (byte b) = b
 
+-- so many bytes from a on
+abbrev bytes_of : Store → ℕ → ℕ → List ℕ
+bytes_of s a zero = []
+bytes_of s a (suc n) = byte_of (s a) ∷ bytes_of s (a + 1) n
+
 abbrev act : Weave → ℕ → Ask → Weave
 act w n (Silent m) = moved w w.memory n m
-act w n (Get a k) = moved w w.memory n (k (byte_of (w.memory.cells a)))
-act w n (Put a b m) = moved w (after_put w.memory a b) n m
+act w n (Get a more k) = moved w w.memory n (k (from_le_bytes w64 (bytes_of w.memory.cells a (suc more))))
+act w n (Put a b bs m) = moved w (after_puts w.memory a (b ∷ bs)) n m
 act w n (Draw k) = moved w (after_draw w.memory w.memory.drawn) n (k w.memory.drawn)
 act w n AtFork = w
 act w n AtJoin = w
@@ -61,17 +67,35 @@ abbrev steps : CodeTree → ℕ → ℕ → Weave → Weave
 steps p n zero w = w
 steps p n (suc m) w = steps p n m (act w n (asks p w n))
 
+-- How many of so many micro-steps task n can make before it stands at a fork, a join or its end.
+abbrev is_made : Ask → ℕ
+is_made (Silent m) = 1
+is_made (Get a more k) = 1
+is_made (Put a b bs m) = 1
+is_made (Draw k) = 1
+is_made AtFork = 0
+is_made AtJoin = 0
+is_made (Ended a) = 0
+
+abbrev made : CodeTree → ℕ → ℕ → Weave → ℕ
+made p n zero w = 0
+made p n (suc m) w = is_made (asks p w n) + made p n m (act w n (asks p w n))
+
 abbrev w0 : Weave
 w0 = weave_start core code loaded 0 10000 4 (27 ∷ [])
 
-pub at_fork : asks code (steps code 0 13 w0) 0 ≡ AtFork
+-- Seven: where the offset and the whole of main's input stand, and the fork.
+pub to_fork : made code 0 40 w0 ≡ 7
+to_fork = refl
+
+pub at_fork : asks code (steps code 0 7 w0) 0 ≡ AtFork
 at_fork = refl
 
 abbrev fork : CodeTree → Weave → Weave
 fork p w = with_sides w 0 (left_starts (task w.tasks 0).state (slice_get p.instructions (task w.tasks 0).state.ip)) (Waits (right_of (task w.tasks 0).state (slice_get p.instructions (task w.tasks 0).state.ip)) ∷ [])
 
 abbrev w1 : Weave
-w1 = steps code 0 13 w0
+w1 = steps code 0 7 w0
 
 -- The fork of the root, whose right side is then the task 1.
 abbrev stolen : CodeTree → Weave → Weave
@@ -81,19 +105,31 @@ abbrev w2 : Weave
 w2 = stolen code w1
 
 abbrev w3 : Weave
-w3 = steps code 1 26 w2
+w3 = steps code 1 13 w2
+
+pub to_side_end : made code 1 40 w2 ≡ 13
+to_side_end = refl
 
 pub side_ends : asks code w3 1 ≡ Ended (answer.At 4096)
 side_ends = refl
 
 abbrev w4 : Weave
-w4 = steps code 0 24 w3
+w4 = steps code 0 11 w3
+
+pub to_join : made code 0 40 w3 ≡ 11
+to_join = refl
 
 pub at_join : asks code w4 0 ≡ AtJoin
 at_join = refl
 
+abbrev met : Weave
+met = with_sides w4 0 (joins (task w4.tasks 0).state (answer.At 4096)) []
+
+pub to_end : made code 0 40 met ≡ 6
+to_end = refl
+
 abbrev w5 : Weave
-w5 = steps code 0 20 (with_sides w4 0 (joins (task w4.tasks 0).state (answer.At 4096)) [])
+w5 = steps code 0 6 met
 
 pub root_ends : asks code w5 0 ≡ Ended (answer.At 27)
 root_ends = refl
@@ -120,7 +156,13 @@ abbrev take : Weave → Weave
 take w = with_sides w 0 (takes (task w.tasks 0).state) []
 
 abbrev w6 : Weave
-w6 = steps code 0 36 (take (steps code 0 24 (fork code w1)))
+w6 = steps code 0 16 (take (steps code 0 11 (fork code w1)))
+
+pub to_taken : made code 0 40 (fork code w1) ≡ 11
+to_taken = refl
+
+pub to_taken_end : made code 0 40 (take (steps code 0 11 (fork code w1))) ≡ 16
+to_taken_end = refl
 
 pub taken_ends : asks code w6 0 ≡ Ended (answer.At 27)
 taken_ends = refl
@@ -136,8 +178,11 @@ taken_chunks = refl
 
 -- In place, with no level left: no fork, and the same bytes.
 
+pub to_sequential_end : made code 0 60 (weave_start core code loaded 0 10000 0 (27 ∷ [])) ≡ 36
+to_sequential_end = refl
+
 abbrev w7 : Weave
-w7 = steps code 0 75 (weave_start core code loaded 0 10000 0 (27 ∷ []))
+w7 = steps code 0 36 (weave_start core code loaded 0 10000 0 (27 ∷ []))
 
 pub placed_ends : asks code w7 0 ≡ Ended (answer.At 27)
 placed_ends = refl
@@ -145,7 +190,7 @@ placed_ends = refl
 -- With one call, the left side has none left: the task stands at the join, and ends once its side is dropped.
 
 abbrev w8 : Weave
-w8 = steps code 0 2 (fork code (steps code 0 13 (weave_start core code loaded 0 1 4 (27 ∷ []))))
+w8 = steps code 0 2 (fork code (steps code 0 7 (weave_start core code loaded 0 1 4 (27 ∷ []))))
 
 pub unwinds : asks code w8 0 ≡ AtJoin
 unwinds = refl

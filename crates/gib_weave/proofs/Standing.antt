@@ -27,8 +27,8 @@ full e h = absurd (subst Stands e h)
 
 stays : (a : Ask) (s s' : State) (v v' : Memory) (r : Turn) → IsInPlace s → StaysInPlace a → Made a s s' v v' r → Stays s' r
 stays (Silent m) s s' v v' r h k p = record { state = subst IsInPlace (sym p.1) k; turn = went p.0 }
-stays (Get a f) s s' v v' r h k p = record { state = subst IsInPlace (sym p.3) (k p.0); turn = went p.2 }
-stays (Put a b m) s s' v v' r h k p = record { state = subst IsInPlace (sym p.1) k; turn = went p.0 }
+stays (Get a more f) s s' v v' r h k p = record { state = subst IsInPlace (sym p.3) (k p.0); turn = went p.2 }
+stays (Put a b bs m) s s' v v' r h k p = record { state = subst IsInPlace (sym p.1) k; turn = went p.0 }
 stays (Draw f) s s' v v' r h k (inl p) = record { state = subst IsInPlace (sym p.3) (k p.0); turn = went p.2 }
 stays (Draw f) s s' v v' r h k (inr p) = record { state = subst IsInPlace (sym p.1) h; turn = full p.0 }
 stays AtFork s s' v v' r h k p = absurd k

@@ -20,7 +20,7 @@ use Rattle.gib_weave.specs.Continuing.{Rest, Plain, Part, Meet, Leave, Last, Res
 use Rattle.gib_weave.specs.Owing.{debt_of, costs, Owed, Debt, resume, means}
 use Rattle.gib_weave.specs.Paying.{Share, AtMost, Counted, Spends, with_rest, left_costs, later_costs}
 use Rattle.gib_weave.specs.Places.{Owned}
-use Rattle.gib_weave.specs.Sound.{counts, Forks, Meets, IsUnwinding, AtRest, lefts, IsUnwinding, unwinds, AtTerm, IsAnswer, Rests, at_term, over, Safe, rests, moves, Moves, silent, get, puts, draws, ended, After}
+use Rattle.gib_weave.specs.Sound.{counts, Forks, Meets, IsUnwinding, AtRest, IsUnwinding, unwinds, AtTerm, IsAnswer, Rests, at_term, over, Safe, rests, moves, Moves, silent, get, puts, draws, ended, After}
 use Rattle.gib_weave.specs.Starting.{AreBodies}
 use Rattle.gib_weave.proofs.Lines.{side_means, all_calm_less}
 use Rattle.gib_weave.proofs.Writes.{does_write}
@@ -42,16 +42,16 @@ or_assoc false b c e = e
 
 after_moves : {core : CoreTree} {code : CodeTree} {owed : Owed} {own : Owned} {sh : Share} {s : Store} {m : State} → Moves core code owed own sh s m → After core code owed own sh s m (next code m)
 after_moves {core} {code} {owed} {own} {sh} {s} {m} (silent e g) = subst (After core code owed own sh s m) (sym e) (sh, no_spending sh, g)
-after_moves {core} {code} {owed} {own} {sh} {s} {m} (get {b = b} e known g) = subst (After core code owed own sh s m) (sym e) (b, known, (sh, no_spending sh, g))
-after_moves {core} {code} {owed} {own} {sh} {s} {m} (puts e f i g) = subst (After core code owed own sh s m) (sym e) (f, i, (sh, no_spending sh, g))
+after_moves {core} {code} {owed} {own} {sh} {s} {m} (get {x = x} e known g) = subst (After core code owed own sh s m) (sym e) (x, known, (sh, no_spending sh, g))
+after_moves {core} {code} {owed} {own} {sh} {s} {m} (puts e f g) = subst (After core code owed own sh s m) (sym e) (f, (sh, no_spending sh, g))
 after_moves {core} {code} {owed} {own} {sh} {s} {m} (draws sh' e d g) = subst (After core code owed own sh s m) (sym e) (λ c new. (sh' c, d c new, g c new))
 after_moves {core} {code} {owed} {own} {sh} {s} {m} (ended e d a) = subst (After core code owed own sh s m) (sym e) (d, a)
 
 -- once something was counted anew
 after_counts : (core : CoreTree) (code : CodeTree) (owed : Owed) (own : Owned) (sh sh' : Share) (s : Store) (m : State) (a : Ask) → Spends sh sh' 0 → After core code owed own sh' s m a → After core code owed own sh s m a
 after_counts core code owed own sh sh' s m (Silent m') p h = (h.0, spends_then p h.1, h.2)
-after_counts core code owed own sh sh' s m (Get a k) p h = (h.0, h.1, (h.2.0, spends_then p h.2.1, h.2.2))
-after_counts core code owed own sh sh' s m (Put a b m') p h = (h.0, h.1, (h.2.0, spends_then p h.2.1, h.2.2))
+after_counts core code owed own sh sh' s m (Get a n k) p h = (h.0, h.1, (h.2.0, spends_then p h.2.1, h.2.2))
+after_counts core code owed own sh sh' s m (Put a b bs m') p h = (h.0, (h.1.0, spends_then p h.1.1, h.1.2))
 after_counts core code owed own sh sh' s m (Draw k) p h = λ c new. ((h c new).0, spends_then p (h c new).1, (h c new).2)
 after_counts core code owed own sh sh' s m AtFork p h = (h.0, spends_then p h.1, h.2)
 after_counts core code owed own sh sh' s m AtJoin p h = (h.0, spends_then p h.1, h.2)

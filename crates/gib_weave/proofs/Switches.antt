@@ -29,12 +29,12 @@ use Rattle.gib_weave.specs.Continuing.{Plain, KSide, KLast, Kont, KEnd, KHere, K
 use Rattle.gib_weave.specs.Owing.{costs, Owed, resume, means}
 use Rattle.gib_weave.specs.Paying.{Share, Counted, left_costs, later_costs}
 use Rattle.gib_weave.specs.Places.{Owned}
-use Rattle.gib_weave.specs.Sound.{AtTerm, at_term, Safe, rests, Moves, get}
+use Rattle.gib_weave.specs.Sound.{AtTerm, at_term, Safe, rests, Moves}
 use Rattle.gib_weave.specs.Starting.{AreBodies}
 use Rattle.gib_weave.proofs.Basics.{put-same, set-same}
 use Rattle.gib_weave.proofs.Move.{MovedOne, Moved, moved_same, AllMoved, Stack-moved, Matches-moved, goes-there, agrees_put}
 use Rattle.gib_weave.proofs.Lines.{or_left, or_right}
-use Rattle.gib_weave.proofs.Readings.{looks, first, tail, known_below}
+use Rattle.gib_weave.proofs.Readings.{get_one, looks, first, tail, known_below}
 use Rattle.gib_weave.proofs.Opens.{size_small}
 use Rattle.gib_weave.proofs.Binds.{tree_of}
 use Rattle.gib_weave.proofs.Arms.{with_sort, StaysHead, Line, line_of, term_at, line_sort}
@@ -131,7 +131,7 @@ module _ (core : CoreTree) (code : CodeTree) (ok : AreBodies core code) (owed : 
       → AtTerm core code owed own sh s (at_rest lv ty rm ip sl fs n rs tls) (CaseTerm (atom.Variable x) bs) c k → Moves core code owed own sh s (at_rest lv ty rm ip sl fs n rs tls)
   case_of s ip until sl fs n rs tls x bs arms c k stored ag e low at =
       let lk = looks core code owed own sh s (at_rest lv ty rm ip sl fs n rs tls) x.0 arms (slot sl x.0) t stands.end (value_in c.env x.0) (ap arms_of e) stands.dec (record { at_head = at_head }) in
-      get (step_is core code owed own sh lv ty rm (at_rest lv ty rm ip sl fs n rs tls) (i.Switch x.0 arms) refl e) lk.known lk.goes
+      get_one core code owed own sh (step_is core code owed own sh lv ty rm (at_rest lv ty rm ip sl fs n rs tls) (i.Switch x.0 arms) refl e) lk.known lk.goes
     where
       t : ℕ
       t = at.fits.0

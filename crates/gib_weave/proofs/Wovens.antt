@@ -45,7 +45,7 @@ module _ (l : LoweredParts) (code : CodeTree) (same : code ≡ l.code) (low : Is
       go (Ok u) n = event_keeps (core_of l.core) l.code (lowered_bodies (core_of l.core) l.code low fit) ty o whole v v' e h n
       go (Err fault.NotNow) n = stays n.0
       go (Err fault.Full) n = stays n.0
-      go (Err fault.Memory) n = stays n
+      go (Err fault.Memory) n = stays n.0
 
   width_stays : (v v' : Weave) (e : Event) (r : Result (Unit {0}) WeaveFault) → HaveWidth l.code v.tasks → Applied code v e v' r → HaveWidth l.code v'.tasks
   width_stays v v' e r h a = go r (subst (λ (c : CodeTree). Applied c v e v' r) same a)
@@ -57,7 +57,7 @@ module _ (l : LoweredParts) (code : CodeTree) (same : code ≡ l.code) (low : Is
       go (Ok u) n = widths_kept l.code v h e v' n
       go (Err fault.NotNow) n = stays n.0
       go (Err fault.Full) n = stays n.0
-      go (Err fault.Memory) n = stays n
+      go (Err fault.Memory) n = stays n.0
 
   -- so it leaves a weave
   pub woven_stays : (v v' : Weave) (e : Event) (r : Result (Unit {0}) WeaveFault) → IsWoven l v → Applied code v e v' r → IsWoven l v'
@@ -75,7 +75,7 @@ module _ (l : LoweredParts) (low : IsLowered (core_of l.core) l.code) (fit : All
     where
       first : HaveWidth l.code (weave_start (core_of l.core) l.code m (word_of root) depth level tails).tasks
       first zero h = refl
-      first (suc i) h = absurd (omega (arith, h))
+      first (suc i) h = absurd cc
 
   pub start_woven : (d : Datum) → IsStart l root tails m d → IsWoven l v
   start_woven d s = record {

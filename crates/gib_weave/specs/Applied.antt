@@ -1,5 +1,5 @@
 -- What a call of a weave leaves, by its answer.
-use Rattle.std.specs.Prelude.{◌≡◌, ℕ, zero, suc, ◌<◌, ◌≤◌, List, [], ◌∷◌, ◌++◌, length, Bool, ◌&&◌, true, false, nat_eq, Option, Some, None, Result, Ok, Err}
+use Rattle.std.specs.Prelude.{◌≡◌, ℕ, zero, suc, ◌≤◌, List, [], ◌∷◌, ◌++◌, length, Bool, ◌&&◌, true, false, nat_eq, Option, Some, None, Result, Ok, Err}
 use Rattle.std.specs.Ordering.{nat_cmp}
 use Rattle.std.specs.BTreeSet.{BTreeSet, contains}
 use Rattle.gib_mem.specs.Memory.{Memory}
@@ -135,8 +135,8 @@ stepped (turn.Ended a) = Err fault.NotNow
 -- The event is a step that draws.
 abbrev pub IsDraw : Ask → Type 0
 IsDraw (Silent s) = ⊥
-IsDraw (Get a k) = ⊥
-IsDraw (Put a b s) = ⊥
+IsDraw (Get a more k) = ⊥
+IsDraw (Put a b bs s) = ⊥
 IsDraw (Draw k) = Unit {0}
 IsDraw AtFork = ⊥
 IsDraw AtJoin = ⊥
@@ -151,17 +151,26 @@ DrawsNow code v (Take i) = ⊥
 DrawsNow code v (Finish i) = ⊥
 DrawsNow code v (Join i) = ⊥
 
+-- The event may take memory: at a fork a right side is kept, and by a steal a machine is made.
+abbrev pub TakesMemory : Event → Type 0
+TakesMemory (Step i) = ⊥
+TakesMemory (Fork i) = Unit {0}
+TakesMemory (Steal i) = Unit {0}
+TakesMemory (Take i) = ⊥
+TakesMemory (Finish i) = ⊥
+TakesMemory (Join i) = ⊥
+
 -- An event that is accepted leads on; a refusal leaves the weave as it was: the event is not enabled; or it is enabled and draws, and
--- all chunks are drawn; or memory was wanted.
+-- all chunks are drawn; or memory was wanted, which only a fork and a steal take.
 abbrev pub Applied : CodeTree → Weave → Event → Weave → Result (Unit {0}) WeaveFault → Type 0
 Applied code v e v' (Ok u) = Next code v e v'
 Applied code v e v' (Err fault.NotNow) = (v' ≡ v) × (Enabled code v e → ⊥)
 Applied code v e v' (Err fault.Full) = (v' ≡ v) × Enabled code v e × DrawsNow code v e × (v.memory.drawn ≡ v.memory.limit)
-Applied code v e v' (Err fault.Memory) = v' ≡ v
+Applied code v e v' (Err fault.Memory) = (v' ≡ v) × TakesMemory e
 
--- The frames of each task have the width of this code.
+-- The frames of each task that runs have the width of this code.
 abbrev pub HaveWidth : CodeTree → List Task → Type 0
-HaveWidth code ts = (i : ℕ) → i < length ts → (task ts i).state.width ≡ widest code.functions
+HaveWidth code ts = (i : ℕ) → (task ts i).stage ≡ w.Running → (task ts i).state.width ≡ widest code.functions
 
 -- The tasks run this code, and each that runs asks the memory for nothing that it cannot answer; nobody else draws.
 pub record CanGo (code : CodeTree) (v : Weave) : Type 0 where

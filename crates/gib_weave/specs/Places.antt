@@ -1,7 +1,7 @@
 -- The places that are a task's own: open heads, the rests behind its cursors, its tails; and the room that it has.
 use Rattle.std.specs.Prelude.{◌≡◌, ℕ, suc, ◌+◌, ◌*◌, ◌<◌, ◌≤◌, ◌^◌, List, [], ◌∷◌, if◌then◌else◌, nat_lt, nat_le}
 use Rattle.gib_types.specs.Layout.{LaidOut, head_size}
-use Rattle.gib_mem.specs.Memory.{Store, absent, fresh}
+use Rattle.gib_mem.specs.Memory.{Store, absent, fresh, byte, set_cell}
 use Rattle.gib_region.specs.Region.{rest}
 use Rattle.gib_core.specs.Fits.{Dest, Empty, Nowhere, Open}
 use Rattle.gib_machine.specs.Machine.{Open as OpenRegion, State, times}
@@ -56,6 +56,16 @@ TailsHaveRoom (t ∷ ts) = (9 ≤ rest t) × TailsHaveRoom ts
 -- The addresses that are a task's own: 1 there, 0 elsewhere.
 abbrev pub Owned : Type 0
 Owned = ℕ → ℕ
+
+-- So many addresses from a on are a task's own and fresh.
+pub record AllFresh (own : Owned) (s : Store) (a n : ℕ) : Type 0 where
+  pub mine : (q : ℕ) → a ≤ q → q < a + n → 0 < own q
+  pub all : (q : ℕ) → a ≤ q → q < a + n → s q ≡ fresh
+
+-- The bytes were put from a on, one after another.
+abbrev pub put_all : Store → ℕ → List ℕ → Store
+put_all s a [] = s
+put_all s a (b ∷ bs) = put_all (set_cell s a (byte b)) (a + 1) bs
 
 -- The places are the task's own, fresh, and apart.
 pub record Apart (own : Owned) (s : Store) (n : ℕ → ℕ) : Type 0 where

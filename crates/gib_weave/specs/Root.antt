@@ -1,5 +1,5 @@
 -- How a task's store and places are those of a memory.
-use Rattle.std.specs.Prelude.{◌≡◌, ℕ, [], Option, Some, None}
+use Rattle.std.specs.Prelude.{◌≡◌, ℕ, suc, [], ◌∷◌, length, Option, Some, None}
 use Rattle.gib_packed.specs.declared.root.Root.{Root}
 use Rattle.gib_packed.specs.declared.root.Root.TheVariants as root
 use Rattle.gib_packed.specs.Stands.{Stands}
@@ -8,7 +8,7 @@ use Rattle.gib_code.specs.declared.answer.Answer.TheVariants as answer
 use Rattle.gib_types.specs.declared.table.Ty.{Ty}
 use Rattle.gib_types.specs.Layout.{LaidOut}
 use Rattle.gib_types.specs.Tree.{Datum}
-use Rattle.gib_mem.specs.Memory.{Memory, absent, after_put, after_draw}
+use Rattle.gib_mem.specs.Memory.{Memory, absent, after_puts, after_draw}
 use Rattle.gib_region.specs.Region.{Draws}
 use Rattle.gib_core.specs.Tree.{CoreTree}
 use Rattle.gib_code.specs.Program.{CodeTree}
@@ -23,8 +23,8 @@ use Rattle.gib_mem.specs.Memory as mem
 -- is then.
 abbrev pub AfterOver : CoreTree → CodeTree → Owed → Owned → Share → Memory → State → Ask → Type 0
 AfterOver core code owed own sh v old (Silent m) = Leads core code owed own sh 0 v.cells m
-AfterOver core code owed own sh v old (Get a k) = (b : ℕ) × (v.cells a ≡ mem.byte b) × Leads core code owed own sh 0 v.cells (k b)
-AfterOver core code owed own sh v old (Put a b m) = (v.cells a ≡ mem.fresh) × Leads core code owed own sh 0 (after_put v a b).cells m
+AfterOver core code owed own sh v old (Get a n k) = (x : ℕ) × mem.Reads v.cells a (suc n) x × Leads core code owed own sh 0 v.cells (k x)
+AfterOver core code owed own sh v old (Put a b bs m) = mem.Owned v.cells a (length (b ∷ bs)) × Leads core code owed own sh 0 (after_puts v a (b ∷ bs)).cells m
 AfterOver core code owed own sh v old (Draw k) = (c : ℕ) → Draws v c → Leads core code owed (with_chunk own c) sh 1 (after_draw v c).cells (k c)
 AfterOver core code owed own sh v old AtFork = (sh' : Share) × Spends sh sh' 0 × Forks core code owed own sh' v.cells old
 AfterOver core code owed own sh v old AtJoin = (sh' : Share) × Spends sh sh' 0 × Meets core code owed own sh' v.cells old

@@ -1,5 +1,5 @@
 -- A run of a core on a loaded value, to its end.
-use Rattle.std.specs.Prelude.{◌≡◌, ℕ, List, Option, Some, None, Result, Ok, Err}
+use Rattle.std.specs.Prelude.{◌≡◌, ◌⊎◌, ℕ, List, Option, Some, None, Result, Ok, Err}
 use Rattle.std.specs.Int.{w64, cast_unsigned}
 use Rattle.gib_types.specs.Loaded.{Loaded}
 use Rattle.gib_types.specs.Tree.{Datum}
@@ -15,10 +15,13 @@ use Rattle.gib_core.specs.Meaning.{core_run}
 use Rattle.gib_core.specs.Parts.{core_of}
 use Rattle.gib_core.specs.Tight.{Tight}
 use Rattle.gib_code.specs.declared.answer.Answer.{Answer}
+use Rattle.gib_code.specs.Program.{CodeTree}
+use Rattle.gib_machine.specs.Machine.{State}
 use Rattle.gib_machine.specs.declared.turn.Turn.{Turn}
 use Rattle.gib_machine.specs.declared.turn.Turn.TheVariants as turn
 use Rattle.gib_weave.specs.declared.root_run.RunFault.{RunFault}
 use Rattle.gib_weave.specs.declared.root_run.RunFault.TheVariants as fault
+use Rattle.gib_weave.specs.Calling.{Walks}
 use Rattle.gib_weave.specs.Sound.{IsAnswer}
 
 -- Where a run may start: the root stands for a value of main's parameter, the tails are owned, and no more chunks are drawn than the
@@ -41,6 +44,12 @@ abbrev pub RunEnds : LoweredParts → (depth : ℕ) → Datum → (v v' : Memory
 RunEnds l depth d v v' (Ok a) = IsAnswer l.code.laid v'.cells (core_of l.core).main.result (core_run (core_of l.core) depth d) a
 RunEnds l depth d v v' (Err fault.Full) = Tight v.limit (run_cost (core_of l.core) depth 0 d) × (v'.drawn ≡ v'.limit)
 RunEnds l depth d v v' (Err fault.Memory) = Unit {0}
+
+-- Where such a run wants memory, nothing was done yet, or as many steps were made as are counted.
+abbrev pub WantsMemory : CodeTree → State → (v : Memory) (steps : ℕ) (v' : Memory) → Result Answer RunFault → Type 0
+WantsMemory code s v steps v' (Ok a) = Unit {0}
+WantsMemory code s v steps v' (Err fault.Full) = Unit {0}
+WantsMemory code s v steps v' (Err fault.Memory) = (v' ≡ v) ⊎ ((s' : State) × Walks code s v steps s' v')
 
 -- The word of main's parameter.
 abbrev pub word_of : Root → ℕ

@@ -1,12 +1,12 @@
 -- A task that keeps what it owes.
-use Rattle.std.specs.Prelude.{◌≡◌, ℕ, suc, ◌<◌, ◌≤◌, true, List, [], ◌∷◌, length, slice_get, if◌then◌else◌, FitsSigned}
+use Rattle.std.specs.Prelude.{◌≡◌, ℕ, suc, ◌<◌, ◌≤◌, true, List, [], ◌∷◌, length, slice_get, FitsSigned}
 use Rattle.std.specs.Int.{w64}
 use Rattle.gib_types.specs.declared.table.Ty.{Ty}
 use Rattle.gib_types.specs.declared.table.Ty.TheVariants.{Whole, Truth, Tree}
 use Rattle.gib_types.specs.Layout.{LaidOut}
 use Rattle.gib_types.specs.Tree.{Datum, whole, truth}
 use Rattle.gib_syntax.specs.Meaning.{Outcome, Gives, Stops, Deep}
-use Rattle.gib_mem.specs.Memory.{Store, absent, fresh, byte, set_cell, open_chunk, Grows}
+use Rattle.gib_mem.specs.Memory.{Store, absent, open_chunk, Grows, Reads}
 use Rattle.gib_core.specs.Tree.{Term, CoreTree}
 use Rattle.gib_code.specs.declared.answer.Answer.{Answer}
 use Rattle.gib_code.specs.declared.answer.Answer.TheVariants as answer
@@ -15,11 +15,12 @@ use Rattle.gib_core.specs.Fits.{dest_type}
 use Rattle.gib_region.specs.Count.{Count, Balanced}
 use Rattle.gib_core.specs.Cost.{Cost, plus, own}
 use Rattle.gib_machine.specs.Machine.{State, Ready, Over, Unwinding, Par, Waiting, times, nesting, left_starts, right_of, side_start, takes, joins, Ask, Silent, Get, Put, Draw, AtFork, AtJoin, Ended, next, cursor}
+use Rattle.gib_machine.specs.Levels.{lefts}
 use Rattle.gib_weave.specs.Environment.{Ctx, Matches, StandsAt}
 use Rattle.gib_weave.specs.Continuing.{AllCalm, AllUnder, Kont, Next, Plain, Rest, RestCode, RestFits, due, end_of, pars_of, rest_cased, rest_nest, rest_pars, root, side_of}
 use Rattle.gib_weave.specs.Owing.{Debt, Owed, level_after, rest_means, rest_sides, resume, sides_of}
 use Rattle.gib_weave.specs.Paying.{AtMost, Counted, Share, Spends, left_costs, new_share, with_count, with_rest, with_side}
-use Rattle.gib_weave.specs.Places.{AllRoom, Apart, HasRoom, HaveRoom, IsNew, IsSmall, Owned, TailsHaveRoom, covers, freed, with_chunk}
+use Rattle.gib_weave.specs.Places.{AllFresh, AllRoom, Apart, HasRoom, HaveRoom, IsNew, IsSmall, Owned, TailsHaveRoom, covers, freed, put_all, with_chunk}
 use Rattle.gib_weave.specs.Stacks.{Stack}
 
 -- A task at what is next in a line.
@@ -51,11 +52,6 @@ pub record AtRest (core : CoreTree) (code : CodeTree) (owed : Owed) (own : Owned
 -- A task at the start of a term.
 abbrev pub AtTerm : CoreTree → CodeTree → Owed → Owned → Share → Store → State → Term → Ctx → Kont → Type 0
 AtTerm core code owed own sh s m u c k = AtRest core code owed own sh s m (Plain u) c k
-
--- How many left sides run here whose right sides were not joined.
-abbrev pub lefts : List Par → ℕ
-lefts [] = 0
-lefts (p ∷ ps) = if p.left then suc (lefts ps) else lefts ps
 
 -- A left side had no depth left: its task stands at the join, whose right side is not looked at.
 pub record IsUnwinding (owed : Owed) (m : State) : Type 0 where
@@ -92,8 +88,8 @@ mutual
 
   pub data Moves (core : CoreTree) (code : CodeTree) (owed : Owed) : Owned → Share → Store → State → Type 0 where
     silent : {own : Owned} {sh : Share} {s : Store} {m m' : State} → next code m ≡ Silent m' → Safe core code owed own sh s m' → Moves core code owed own sh s m
-    get : {own : Owned} {sh : Share} {s : Store} {m : State} {a b : ℕ} {k : ℕ → State} → next code m ≡ Get a k → s a ≡ byte b → Safe core code owed own sh s (k b) → Moves core code owed own sh s m
-    puts : {own : Owned} {sh : Share} {s : Store} {m m' : State} {a b : ℕ} → next code m ≡ Put a b m' → s a ≡ fresh → 0 < own a → Safe core code owed own sh (set_cell s a (byte b)) m' → Moves core code owed own sh s m
+    get : {own : Owned} {sh : Share} {s : Store} {m : State} {a n x : ℕ} {k : ℕ → State} → next code m ≡ Get a n k → Reads s a (suc n) x → Safe core code owed own sh s (k x) → Moves core code owed own sh s m
+    puts : {own : Owned} {sh : Share} {s : Store} {m m' : State} {a b : ℕ} {bs : List ℕ} → next code m ≡ Put a b bs m' → AllFresh own s a (length (b ∷ bs)) → Safe core code owed own sh (put_all s a (b ∷ bs)) m' → Moves core code owed own sh s m
     draws : {own : Owned} {sh : Share} {s : Store} {m : State} {k : ℕ → State} (sh' : ℕ → Share) → next code m ≡ Draw k → ((c : ℕ) → IsNew s c → Spends sh (sh' c) 1)
         → ((c : ℕ) → IsNew s c → Safe core code owed (with_chunk own c) (sh' c) (open_chunk s c) (k c)) → Moves core code owed own sh s m
     ended : {own : Owned} {sh : Share} {s : Store} {m : State} {a : Answer} → next code m ≡ Ended a → owed.sides ≡ [] → IsAnswer code.laid s owed.ty owed.all a → Moves core code owed own sh s m
@@ -128,8 +124,8 @@ Leads core code owed own sh drew s m = (sh' : Share) × Spends sh sh' drew × Sa
 -- What a task owes in the next event, by what its machine asks.
 abbrev pub After : CoreTree → CodeTree → Owed → Owned → Share → Store → State → Ask → Type 0
 After core code owed own sh s old (Silent m) = Leads core code owed own sh 0 s m
-After core code owed own sh s old (Get a k) = (b : ℕ) × (s a ≡ byte b) × Leads core code owed own sh 0 s (k b)
-After core code owed own sh s old (Put a b m) = (s a ≡ fresh) × (0 < own a) × Leads core code owed own sh 0 (set_cell s a (byte b)) m
+After core code owed own sh s old (Get a n k) = (x : ℕ) × Reads s a (suc n) x × Leads core code owed own sh 0 s (k x)
+After core code owed own sh s old (Put a b bs m) = AllFresh own s a (length (b ∷ bs)) × Leads core code owed own sh 0 (put_all s a (b ∷ bs)) m
 After core code owed own sh s old (Draw k) = (c : ℕ) → IsNew s c → Leads core code owed (with_chunk own c) sh 1 (open_chunk s c) (k c)
 After core code owed own sh s old AtFork = (sh' : Share) × Spends sh sh' 0 × Forks core code owed own sh' s old
 After core code owed own sh s old AtJoin = (sh' : Share) × Spends sh sh' 0 × Meets core code owed own sh' s old

@@ -1,15 +1,14 @@
 -- A weave: tasks over one memory, and its events.
 use Rattle.std.specs.Prelude.{◌≡◌, ℕ, zero, suc, ◌+◌, ◌<◌, ◌≤◌, ◌^◌, List, [], ◌∷◌, ◌++◌, length, get_or, slice_get, slice_set, Option, Some, None, Bool, true, false, ◌&&◌, nat_lt, if◌then◌else◌}
 use Rattle.gib_types.specs.declared.table.Ty.{Ty}
-use Rattle.gib_types.specs.declared.table.Ty.TheVariants.{Whole}
 use Rattle.gib_syntax.specs.Meaning.{Outcome}
-use Rattle.gib_mem.specs.Memory.{Memory, Store, absent, fresh, byte, after_put, after_draw}
+use Rattle.gib_mem.specs.Memory.{Memory, Store, absent, after_puts, after_draw, Reads, AreKnown, Owned as Cells}
 use Rattle.gib_region.specs.Region.{Draws}
 use Rattle.gib_mem.specs.Memory.{IsBounded}
 use Rattle.gib_core.specs.Tree.{CoreTree}
 use Rattle.gib_code.specs.declared.answer.Answer.{Answer}
 use Rattle.gib_code.specs.Program.{CodeTree}
-use Rattle.gib_machine.specs.Machine.{State, Waiting, Ready, Ask, Silent, Get, Put, Draw, AtFork, AtJoin, Ended, next, left_starts, right_of, side_start, takes, joins}
+use Rattle.gib_machine.specs.Machine.{State, Waiting, Ask, gone, Silent, Get, Put, Draw, AtFork, AtJoin, Ended, next, left_starts, right_of, side_start, takes, joins}
 use Rattle.gib_region.specs.Count.{Balanced}
 use Rattle.gib_core.specs.Cost.{Cost, nothing, plus}
 use Rattle.gib_weave.specs.Owing.{Owed, Debt}
@@ -52,10 +51,14 @@ pub data Event : Type 0 where
 -- Of a number that no task has, a task that is gone.
 abbrev pub no_task : Task
 no_task = record {
-  state = record { ip = 0; words = []; frames = []; depth = 0; level = 0; pars = []; side = None; regions = []; tails = []; room = 0; width = 0; result = Whole; doing = Ready };
+  state = gone;
   sides = [];
   stage = Joined;
 }
+
+-- A task that has ended keeps its answer, and no machine.
+abbrev pub ended_task : Answer → Task
+ended_task a = record no_task { stage = Finished a }
 
 -- The task of a number.
 abbrev pub task : List Task → ℕ → Task
@@ -88,8 +91,8 @@ pub record IsOn (w : Weave) (i : ℕ) : Type 0 where
 -- An event that is enabled, and the weave that it leads to.
 pub data Next (code : CodeTree) (w : Weave) : Event → Weave → Type 0 where
   silent : {i : ℕ} {m : State} → IsOn w i → next code (task w.tasks i).state ≡ Silent m → Next code w (Step i) (moved w w.memory i m)
-  get : {i a b : ℕ} {k : ℕ → State} → IsOn w i → next code (task w.tasks i).state ≡ Get a k → w.memory.cells a ≡ byte b → Next code w (Step i) (moved w w.memory i (k b))
-  puts : {i a b : ℕ} {m : State} → IsOn w i → next code (task w.tasks i).state ≡ Put a b m → Next code w (Step i) (moved w (after_put w.memory a b) i m)
+  get : {i a n x : ℕ} {k : ℕ → State} → IsOn w i → next code (task w.tasks i).state ≡ Get a n k → Reads w.memory.cells a (suc n) x → Next code w (Step i) (moved w w.memory i (k x))
+  puts : {i a b : ℕ} {bs : List ℕ} {m : State} → IsOn w i → next code (task w.tasks i).state ≡ Put a b bs m → Next code w (Step i) (moved w (after_puts w.memory a (b ∷ bs)) i m)
   draws : {i c : ℕ} {k : ℕ → State} → IsOn w i → next code (task w.tasks i).state ≡ Draw k → Draws w.memory c → Next code w (Step i) (moved w (after_draw w.memory c) i (k c))
   forks : {i : ℕ} → IsOn w i → next code (task w.tasks i).state ≡ AtFork
       → Next code w (Fork i) (with_sides w i (left_starts (task w.tasks i).state (slice_get code.instructions (task w.tasks i).state.ip)) (Waits (right_of (task w.tasks i).state (slice_get code.instructions (task w.tasks i).state.ip)) ∷ (task w.tasks i).sides))
@@ -98,9 +101,9 @@ pub data Next (code : CodeTree) (w : Weave) : Event → Weave → Type 0 where
   takes_it : {i : ℕ} {x : Waiting} {sts : List Status} → IsOn w i → next code (task w.tasks i).state ≡ AtJoin → (task w.tasks i).sides ≡ Waits x ∷ sts
       → Next code w (Take i) (with_sides w i (takes (task w.tasks i).state) sts)
   finishes : {i : ℕ} {a : Answer} → IsOn w i → next code (task w.tasks i).state ≡ Ended a
-      → Next code w (Finish i) (record { memory = w.memory; tasks = slice_set w.tasks i (record { state = (task w.tasks i).state; sides = []; stage = Finished a }) })
+      → Next code w (Finish i) (record { memory = w.memory; tasks = slice_set w.tasks i (ended_task a) })
   joins_it : {i j : ℕ} {sts : List Status} {a : Answer} → IsOn w i → next code (task w.tasks i).state ≡ AtJoin → (task w.tasks i).sides ≡ Runs j ∷ sts → (task w.tasks j).stage ≡ Finished a
-      → Next code w (Join i) (record { memory = w.memory; tasks = slice_set (with_sides w i (joins (task w.tasks i).state a) sts).tasks j (record { state = (task w.tasks j).state; sides = []; stage = Joined }) })
+      → Next code w (Join i) (record { memory = w.memory; tasks = slice_set (with_sides w i (joins (task w.tasks i).state a) sts).tasks j no_task })
 
 -- A list of events.
 pub data Legal (code : CodeTree) : Weave → List Event → Weave → Type 0 where
@@ -199,8 +202,8 @@ weave_start core code v w depth level tails = record { memory = v; tasks = recor
 -- The task can make a step.
 abbrev pub IsAction : Ask → Type 0
 IsAction (Silent m) = Unit {0}
-IsAction (Get a k) = Unit {0}
-IsAction (Put a b m) = Unit {0}
+IsAction (Get a n k) = Unit {0}
+IsAction (Put a b bs m) = Unit {0}
 IsAction (Draw k) = Unit {0}
 IsAction AtFork = ⊥
 IsAction AtJoin = ⊥
@@ -209,8 +212,8 @@ IsAction (Ended a) = ⊥
 -- The task has ended.
 abbrev pub IsEnd : Ask → Type 0
 IsEnd (Silent m) = ⊥
-IsEnd (Get a k) = ⊥
-IsEnd (Put a b m) = ⊥
+IsEnd (Get a n k) = ⊥
+IsEnd (Put a b bs m) = ⊥
 IsEnd (Draw k) = ⊥
 IsEnd AtFork = ⊥
 IsEnd AtJoin = ⊥
@@ -268,8 +271,8 @@ pick_at_join ts i (Runs j ∷ sts) = pick_at_stage i (task ts j).stage
 -- By what the task asks.
 abbrev pub pick_by : List Task → ℕ → List Status → Ask → Option Event
 pick_by ts i sts (Silent m) = Some (Step i)
-pick_by ts i sts (Get a k) = Some (Step i)
-pick_by ts i sts (Put a b m) = Some (Step i)
+pick_by ts i sts (Get a n k) = Some (Step i)
+pick_by ts i sts (Put a b bs m) = Some (Step i)
 pick_by ts i sts (Draw k) = Some (Step i)
 pick_by ts i sts AtFork = Some (Fork i)
 pick_by ts i sts AtJoin = pick_at_join ts i sts
@@ -349,11 +352,11 @@ pub data Applies (code : CodeTree) (w : Weave) : Event → Type 0 where
   leads : {e : Event} {w' : Weave} → Next code w e w' → Applies code w e
   full : {i : ℕ} {k : ℕ → State} → IsOn w i → asks code w i ≡ Draw k → w.memory.drawn ≡ w.memory.limit → Applies code w (Step i)
 
--- A byte is got where one stands, and put where none was put.
+-- What is got stands there, and what is put is put where nothing was put.
 abbrev pub IsCareful : Store → Ask → Type 0
 IsCareful s (Silent m) = Unit {0}
-IsCareful s (Get a k) = (b : ℕ) × (s a ≡ byte b)
-IsCareful s (Put a b m) = s a ≡ fresh
+IsCareful s (Get a n k) = AreKnown s a (suc n)
+IsCareful s (Put a b bs m) = Cells s a (length (b ∷ bs))
 IsCareful s (Draw k) = Unit {0}
 IsCareful s AtFork = Unit {0}
 IsCareful s AtJoin = Unit {0}

@@ -1,5 +1,5 @@
-//! The law of a task: whatever the memory answers, it gets only what is known, puts only its own fresh bytes, pays for what it
-//! does, and ends with what the source means.
+//! Tasks over one memory, and what holds of each: whatever the memory answers, it gets only what is known, puts only its own fresh
+//! bytes, pays for what it does, and ends with what the source means. A weave is such tasks with the events that happen to them.
 #![tactic(auto)]
 
 pub mod call_law;

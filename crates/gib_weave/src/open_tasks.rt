@@ -5,7 +5,7 @@ ghost use Rattle.std.specs.Ordering.{nat_cmp};
 ghost use Rattle.std.specs.BTreeSet.{contains};
 ghost use Rattle.gib_mem.specs.Memory as M;
 ghost use Rattle.gib_core.specs.Parts.{core_of};
-ghost use Rattle.gib_weave.specs.Applied.{Applied, CanGo, can_steal_from, event_of, number_of, opens, over, picked_of};
+ghost use Rattle.gib_weave.specs.Applied.{Applied, CanGo, TakesMemory, can_steal_from, event_of, number_of, opens, over, picked_of};
 ghost use Rattle.gib_weave.specs.Weave.{Finished, IsFinished, task, weave_start};
 ghost use Rattle.gib_weave.specs.Running.{word_of};
 ghost use Rattle.gib_weave.specs.Weave as w;
@@ -65,6 +65,7 @@ fn number_of(event: Event) -> u32
 fn add_opened(numbers: &mut BTreeSet<u32>, event: Event) -> Result<(), Memory>
     ensures added { OnOk result ((i : ℕ) → contains nat_cmp numbers.new i ≡ (contains nat_cmp numbers.old i || opens (event_of event) i)) }
     ensures same { OnErr result (numbers.new.keys ≡ numbers.old.keys) }
+    ensures forks { OnErr result (TakesMemory (event_of event)) }
 {
     match event {
         Event::Fork(number) => {
@@ -109,11 +110,12 @@ impl OpenTasks {
     }
 
     /// An event happens. A step takes a time that depends neither on how many tasks there are nor on how deep their stacks are; any
-    /// other event takes beside that the logarithm of how many are open, and a steal all memory of a machine.
+    /// other event takes beside that the logarithm of how many are open. A steal takes all memory of a machine, which a finish gives back.
     ///
     /// # Errors
     ///
-    /// `NotNow`: it is not enabled. `Full`: it draws, and all chunks are drawn. `Memory`: want of memory. All is then as it was.
+    /// `NotNow`: it is not enabled. `Full`: it draws, and all chunks are drawn. `Memory`: want of memory, of a fork or a steal alone. All is
+    /// then as it was.
     pub fn apply<V: Mem>(
         &mut self,
         alloc: Global,

@@ -1,13 +1,13 @@
 //! Runs a core on a value that was loaded, to its end.
 
-ghost use Rattle.std.specs.Prelude.{◌≡◌, ◌<◌, ◌≤◌, ℕ, List, length, true, Some, IfOk};
+ghost use Rattle.std.specs.Prelude.{◌≡◌, ◌<◌, ◌≤◌, ◌-◌, ◌^◌, ℕ, List, length, true, Some, IfOk};
 ghost use Rattle.gib_types.specs.Tree.{Datum};
 ghost use Rattle.gib_core.specs.Parts.{core_of};
 ghost use Rattle.gib_machine.specs.Machine.{start_at};
 ghost use Rattle.gib_code.specs.Program.{Runs};
 ghost use Rattle.gib_machine.specs.Stepping.{with_tails};
 ghost use Rattle.gib_weave.specs.Running as spec;
-ghost use Rattle.gib_weave.specs.Running.{CanEnd, IsOutcome, IsStart, Kept, RunEnds};
+ghost use Rattle.gib_weave.specs.Running.{CanEnd, IsOutcome, IsStart, Kept, RunEnds, WantsMemory};
 ghost use Rattle.gib_weave.specs.Starting.{root_start};
 
 use crate::steps::run_for;
@@ -95,7 +95,8 @@ pub fn root_machine(
 ///
 /// # Errors
 ///
-/// `Full`: it draws a chunk, and all are drawn. `Memory`: want of memory, which also stands for a run of more than 2^64 - 1 steps.
+/// `Full`: it draws a chunk, and all are drawn. `Memory`: want of memory, before the first step; or 2^64 - 1 steps were made, and it has
+/// not ended.
 pub fn run<M: Mem>(
     alloc: Global,
     lowered: &Lowered,
@@ -108,6 +109,7 @@ pub fn run<M: Mem>(
     requires starts { (d : Datum) × IsStart lowered.now root tails (M.view mem.old) d }
     ensures ends { (d : Datum) → IsStart lowered.now root tails (M.view mem.old) d → RunEnds lowered.now depth d (M.view mem.old) (M.view mem.new) result }
     ensures keeps { Kept (M.view mem.old) (M.view mem.new) }
+    ensures wants { WantsMemory lowered.now.code (root_start (core_of lowered.now.core) lowered.now.code (spec.word_of root) depth 0 tails) (M.view mem.old) (2 ^ 64 - 1) (M.view mem.new) result }
 {
     lowered.core();
     let code = lowered.code();

@@ -5,7 +5,7 @@ ghost use Rattle.gib_code.specs.Program.{Runs};
 ghost use Rattle.gib_machine.specs.Machine.{AtFork, AtJoin, Ended, Waiting, next, side_start, takes, joins, widest};
 ghost use Rattle.gib_machine.specs.Stepping.{CanStep, Made, stand_of, with_tails};
 ghost use Rattle.gib_weave.specs.Applied.{IsBegun, IsForked, IsOldest, newest_of};
-ghost use Rattle.gib_weave.specs.Weave.{Running, Finished, Joined, HasWaiting, IsEnd, IsFinished, NewestWaits, Status, Stolen, Runs as Begun};
+ghost use Rattle.gib_weave.specs.Weave.{Running, Finished, Joined, HasWaiting, IsEnd, IsFinished, NewestWaits, Status, Stolen, Runs as Begun, ended_task, no_task};
 
 use crate::sides::{Newest, Sides};
 use gib_base::Memory;
@@ -40,7 +40,7 @@ pub enum Stage {
     Joined,
 }
 
-/// A task. A machine for its code has room for each of its right sides that waits.
+/// A task. A machine for its code has room for each of its right sides that waits. Once it has ended its machine is gone.
 #[derive(Drop)]
 pub struct Task {
     pub(crate) machine: Machine,
@@ -250,18 +250,22 @@ impl Task {
         self.sides.pop();
     }
 
-    /// It has ended with this answer.
-    pub fn finish(&mut self, answer: Answer)
-        ensures { self.new ≡ record { state = self.old.state; sides = []; stage = Finished answer } }
+    /// It has ended with this answer, and drops its machine.
+    pub fn finish(&mut self, alloc: Global, answer: Answer)
+        ensures { self.new ≡ ended_task answer }
     {
+        self.machine = Machine::gone(alloc);
+        self.tails = Tails::new();
         self.sides.clear();
         self.stage = Stage::Finished(answer);
     }
 
     /// It is joined.
-    pub fn leave(&mut self)
-        ensures { self.new ≡ record { state = self.old.state; sides = []; stage = Joined } }
+    pub fn leave(&mut self, alloc: Global)
+        ensures { self.new ≡ no_task }
     {
+        self.machine = Machine::gone(alloc);
+        self.tails = Tails::new();
         self.sides.clear();
         self.stage = Stage::Joined;
     }

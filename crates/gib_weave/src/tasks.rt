@@ -221,7 +221,7 @@ impl Tasks {
     ///
     /// `NotNow`: it has not ended. All is then as it was.
     #[tactic(auto, using(crate::proofs::Applying::set_few))]
-    pub fn finish(&mut self, code: &Code, number: u32) -> Result<(), WeaveFault>
+    pub fn finish(&mut self, alloc: Global, code: &Code, number: u32) -> Result<(), WeaveFault>
         ensures { (v : M.Memory) → Applied code.now (over v self.old) (w.Finish number) (over v self.new) result }
     {
         let place = number as usize;
@@ -231,7 +231,7 @@ impl Tasks {
         match self.at(place).end(code) {
             None => Err(WeaveFault::NotNow),
             Some(answer) => {
-                self.items[place].finish(answer);
+                self.items[place].finish(alloc, answer);
                 Ok(())
             }
         }
@@ -256,7 +256,7 @@ impl Tasks {
     ///
     /// `NotNow`: it stands at no join, or the side's task has not ended. All is then as it was.
     #[tactic(auto, using(crate::proofs::Applying::set_few))]
-    pub fn join(&mut self, code: &Code, number: u32) -> Result<(), WeaveFault>
+    pub fn join(&mut self, alloc: Global, code: &Code, number: u32) -> Result<(), WeaveFault>
         ensures { (v : M.Memory) → Applied code.now (over v self.old) (w.Join number) (over v self.new) result }
     {
         let place = number as usize;
@@ -272,7 +272,7 @@ impl Tasks {
                 None => Err(WeaveFault::NotNow),
                 Some(answer) => {
                     self.items[place].join(answer);
-                    self.items[side as usize].leave();
+                    self.items[side as usize].leave(alloc);
                     Ok(())
                 }
             },
@@ -280,11 +280,12 @@ impl Tasks {
     }
 
     /// An event happens. It takes a time that depends neither on how many tasks there are nor on how deep their stacks are; a steal
-    /// takes all memory of a machine.
+    /// takes all memory of a machine, which a finish gives back.
     ///
     /// # Errors
     ///
-    /// `NotNow`: it is not enabled. `Full`: it draws, and all chunks are drawn. `Memory`: want of memory. All is then as it was.
+    /// `NotNow`: it is not enabled. `Full`: it draws, and all chunks are drawn. `Memory`: want of memory, of a fork or a steal alone. All is
+    /// then as it was.
     pub fn apply<V: Mem>(
         &mut self,
         alloc: Global,
@@ -300,8 +301,8 @@ impl Tasks {
             Event::Fork(number) => self.fork(alloc, code, number),
             Event::Steal(number) => self.steal(alloc, code, number),
             Event::Take(number) => self.take(code, number),
-            Event::Finish(number) => self.finish(code, number),
-            Event::Join(number) => self.join(code, number),
+            Event::Finish(number) => self.finish(alloc, code, number),
+            Event::Join(number) => self.join(alloc, code, number),
         }
     }
 

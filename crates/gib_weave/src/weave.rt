@@ -82,7 +82,8 @@ impl<'a> Weave<'a> {
     ///
     /// # Errors
     ///
-    /// `NotNow`: it is not enabled. `Full`: it draws, and all chunks are drawn. `Memory`: want of memory. All is then as it was.
+    /// `NotNow`: it is not enabled. `Full`: it draws, and all chunks are drawn. `Memory`: want of memory, of a fork or a steal alone. All is
+    /// then as it was.
     pub fn apply(&mut self, alloc: Global, event: Event) -> Result<(), WeaveFault>
         ensures lowered { self.new.lowered ≡ self.old.lowered }
         ensures applied { Applied self.old.lowered.code (weave_of self.old) (event_of event) (weave_of self.new) result }

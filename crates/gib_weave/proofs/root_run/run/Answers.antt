@@ -1,4 +1,4 @@
-use Rattle.gib_weave.proofs.RootEnds.{run_can_end, run_ends, run_keeps, run_task}
+use Rattle.gib_weave.proofs.RootEnds.{run_can_end, run_ends, run_keeps, run_task, run_wants}
 use Rattle.gib_weave.proofs.root_run.run.Goals as goal
 
 pub run_for-turn-requires : goal.run_for-turn-requires
@@ -23,3 +23,9 @@ returns-in-Ok-clause-keeps g c =
     let st = c.requires.starts in
     run_keeps c.args.lowered.now (g.M.Mem.view c.args.mem.now) c.args.root c.args.tails c.args.depth c.code-code.result.now c.in-Ok.machine c.code-code.ensures.value c.code-code.ensures.lowered c.core.ensures.fits c.code-code.ensures.runs
     (g.met.M.Mem.bounded c.args.mem.now) c.in-Ok.ensures st.0 st.1 _ (g.M.Mem.view c.run_for-turn.new.mem) c.run_for-turn.result c.run_for-turn.ensures.task
+
+pub returns-in-Ok-clause-wants : goal.returns-in-Ok-clause-wants
+returns-in-Ok-clause-wants g c =
+    let st = c.requires.starts in
+    run_wants c.args.lowered.now (g.M.Mem.view c.args.mem.now) c.args.root c.args.tails c.args.depth c.code-code.result.now c.in-Ok.machine c.code-code.ensures.value c.code-code.ensures.lowered c.core.ensures.fits c.code-code.ensures.runs
+    (g.met.M.Mem.bounded c.args.mem.now) c.in-Ok.ensures st.0 st.1 c.requires.alone _ (g.M.Mem.view c.run_for-turn.new.mem) c.run_for-turn.result _ c.run_for-turn.ensures.walks c.run_for-turn.ensures.task c.outcome_of.result c.outcome_of.ensures

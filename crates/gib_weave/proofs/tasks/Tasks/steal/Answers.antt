@@ -1,4 +1,5 @@
 use Rattle.std.proofs.Common.{◌≡◌, ◌<◌, ◌++◌, ◌∷◌, [], ◌^◌, ℕ, List, false, true, refl, sym, ap, subst, ◌∙◌, length, arith}
+use Rattle.gib_mem.specs.Plain.{nothing}
 use Rattle.gib_machine.specs.Machine.{State}
 use Rattle.gib_machine.specs.Stepping.{with_tails}
 use Rattle.gib_weave.specs.Applied.{IsOldest, over}
@@ -11,6 +12,10 @@ clash e = absurd cc
 
 pub returns-then-not-is_on : goal.returns-then-not-is_on
 returns-then-not-is_on c = λ v. (refl, λ h. absurd (clash ((c.if-not-is_on.ensures.on v).1 h.0)))
+
+-- It runs, so its frames have the width of the code.
+pub oldest-requires-clause-width : goal.oldest-requires-clause-width
+oldest-requires-clause-width c = ap (λ (t : Task). t.state.width) c.at-2.ensures ∙ c.requires c.args.number ((c.if-not-is_on.ensures.on (nothing 0)).0 refl).here
 
 pub returns-in-Ok-add : goal.returns-in-Ok-add
 returns-in-Ok-add c = λ v.
