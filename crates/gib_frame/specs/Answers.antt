@@ -49,12 +49,11 @@ pub record IsHis (was pass : Pass) : Type 0 where
   pub none_out : (view pass).branch.out ≡ []
 
 -- The side has this answer in what the pass knows, or the pass saw that all chunks are drawn, and what the pass drew is paid for; or
--- nothing was drawn for the side. Of a side that was left in the middle nothing is said.
+-- nothing was drawn for the side.
 abbrev pub IsEnding : Due → Pass → Ending → Type 0
 IsEnding due p (ending.Answer a) = Answers (core_of due.lowered.value.core) due.lowered.value.code (cells due.pass.value) (waiting_of due.side.value) (cells p) a × ArePaid due (drawn_by p)
 IsEnding due p ending.Full = ((view p).holding.seen ≡ (view p).branch.limit) × ArePaid due (drawn_by p)
 IsEnding due p ending.NotRun = drawn_by p ≡ 0
-IsEnding due p ending.Memory = Unit {0}
 
 -- What comes to a frame: its task's pass, and how that task ended.
 pub record Delivers (due : Due) (e : Ending) (p : Pass) : Type 0 where

@@ -23,10 +23,9 @@ pub enum Ending {
     Answer(Answer),
     /// All chunks were drawn.
     Full,
-    /// No machine could be made for it: its side is still to be run, by whoever waits.
+    /// Who stole it had no room for it: its side is still to be run, by whoever waits. Never, where the thief's machine was made for the
+    /// same run.
     NotRun,
-    /// Memory was wanted midway, and the task was left. Its side is not run again, since what it drew would count twice.
-    Memory,
 }
 
 /// What comes to a frame: how its task ended, and the pass of that task.

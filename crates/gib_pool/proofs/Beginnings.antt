@@ -1,6 +1,7 @@
 -- How a job begins, and what its end is to whoever began it.
-use Rattle.std.proofs.Common.{◌≡◌, ℕ, List, [], refl, sym, ap, subst, ◌∙◌}
+use Rattle.std.proofs.Common.{◌≡◌, ℕ, ◌≤◌, List, [], refl, sym, ap, subst, ◌∙◌, arith}
 use Rattle.std.specs.Prelude.{Option, Err}
+use Rattle.std.specs.Vec.{vec_capacity}
 use Rattle.gib_types.specs.Tree.{Datum}
 use Rattle.gib_mem.specs.Memory.{Memory, absent, fresh, IsBounded}
 use Rattle.gib_code.specs.declared.answer.Side.{Side}
@@ -44,6 +45,7 @@ use Rattle.gib_weave.proofs.Bills.{bill_tight, root_bill, root_counted}
 use Rattle.gib_weave.proofs.Memories.{bounded_small, tails_apart, tails_have_room}
 use Rattle.gib_weave.proofs.RootEnds.{argument}
 use Rattle.gib_weave.proofs.Starts.{lowered_main, root_starts}
+use Rattle.gib_pool.proofs.Fitting.{starts_within}
 use Rattle.gib_pool.proofs.Turns.{begins}
 
 -- A job as it is made.
@@ -86,13 +88,13 @@ pub side_ends : (due : Due) (l : LoweredParts) (j : Job) (e : Ending) (p : Pass)
 side_ends due l j (ending.Answer a) p is owes s = ((λ d safe. subst (λ (x : LoweredParts). IsAnswer x.code.laid (cells p) d.ty d.owed a) (sym is) (s d (owes d safe)).0), λ d safe. (s d (owes d safe)).1)
 side_ends due l j ending.Full p is owes s = (s.0, λ d safe. s.1 d (owes d safe))
 side_ends due l j ending.NotRun p is owes s = absurd s
-side_ends due l j ending.Memory p is owes s = tt
 
-pub made_holds : (a : Arena) (l : LoweredParts) (j : Job) (m : State) (ts : List ℕ) (p : Pass) → IsMade j m ts p → IsOf a p → (view p).branch.out ≡ [] → m.width ≡ widest l.code.functions → Holds a l j
-made_holds a l j m ts p is of none made = record {
+pub made_holds : (a : Arena) (l : LoweredParts) (j : Job) (m : State) (ts : List ℕ) (p : Pass) → IsMade j m ts p → IsOf a p → (view p).branch.out ≡ [] → m.width ≡ widest l.code.functions → m.pars ≡ [] → m.level ≤ vec_capacity j.frames → Holds a l j
+made_holds a l j m ts p is of none made pars few = record {
   own = subst (IsOf a) (sym is.pass) of;
   lends = subst (λ (x : Pass). Lends x (lent_of j.frames.items)) (sym is.pass) (subst (λ (xs : List (Option Frame)). Lends p (lent_of xs)) (sym is.frames) record { splits = tt; out = none });
   made = ap (λ (s : State). s.width) is.machine ∙ made;
+  within = starts_within (vec_capacity j.frames) (with_tails j.machine j.tails) (ap (λ (s : State). s.pars) is.machine ∙ pars) (let e : j.machine.level ≡ m.level = ap (λ (s : State). s.level) is.machine in omega (arith, e, few));
 }
 
 pub made_here : (j : Job) (mine : List Due) → j.frames.items ≡ [] → j.here ≡ 0 → IsHere j mine
@@ -128,7 +130,6 @@ pub full_drawn : (l : LoweredParts) (Has : Debt → Type 0) (e : Ending) (p p' :
 full_drawn l Has (ending.Answer a) p p' is s same all = absurd cc
 full_drawn l Has ending.Full p p' is s same all = all ∙ (ap (λ (w : View). w.holding.seen) same ∙ (s.0 ∙ sym (ap (λ (w : View). w.branch.limit) same)))
 full_drawn l Has ending.NotRun p p' is s same all = absurd s
-full_drawn l Has ending.Memory p p' is s same all = absurd cc
 
 pub root_ends : (l : LoweredParts) (depth level : ℕ) (d : Datum) (j : Job) (e : Ending) (v : Memory) (p p' : Pass) → OwesStill l (root_debt l depth level d) j → Settles l (λ (z : Debt). OwesStill l z j) e p
     → v.limit ≡ (view p').branch.limit → view p' ≡ view p → drawn_by p' ≡ (view p').holding.seen → IsRun l depth level d v (pass_memory p') (outcome e)
@@ -139,4 +140,3 @@ root_ends l depth level d j ending.Full v p p' owes s limit same all =
     let drawn : drawn_by p ≡ v.limit = sym (ap (λ (w : View). share w.holding) same) ∙ (all ∙ (seen ∙ sym limit)) in
     (tight (core_of l.core) depth level d (drawn_by p) v.limit drawn (s.1 (root_debt l depth level d) owes), seen)
 root_ends l depth level d j ending.NotRun v p p' owes s limit same all = absurd s
-root_ends l depth level d j ending.Memory v p p' owes s limit same all = tt

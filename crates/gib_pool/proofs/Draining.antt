@@ -8,7 +8,7 @@ use Rattle.gib_arena.specs.Bytes.{share}
 use Rattle.gib_frame.specs.declared.due.Due.{Due}
 use Rattle.gib_frame.specs.declared.ends.Frame.{Frame}
 use Rattle.gib_pool.specs.declared.back.Back.{Back}
-use Rattle.gib_pool.specs.declared.back.Back.TheVariants.{Take, Answer, Full, Memory}
+use Rattle.gib_pool.specs.declared.back.Back.TheVariants.{Take, Answer, Full}
 use Rattle.gib_pool.specs.Backs.{IsBack, IsLatest}
 use Rattle.gib_pool.specs.Frames.{due_maybe, before, lent_of, AreHere}
 use Rattle.gib_pool.specs.Turn.{Pays}
@@ -48,15 +48,13 @@ pub here_after : (e : Due) (es : List (Option Due)) (u v : View) (n k : ℕ) (mi
 here_after e es u v n k mine more Take b a = here_took e es n k mine more b.1 a
 here_after e es u v n k mine more (Answer x) b a = zero_here es k more b.1
 here_after e es u v n k mine more Full b a = zero_here es k more b.1
-here_after e es u v n k mine more Memory b a = zero_here es k more b.0
 
--- What the pass drew is paid for, with the newest side's, unless that one was left for want of memory.
-pub pays_after : (l : LoweredParts) (most : Cost) (e : Due) (es : List (Option Due)) (u v : View) (n k : ℕ) (mine more : List Due) (r : Back) → (r ≡ Memory → ⊥) → IsBack e u v mine more n k r
+-- What the pass drew is paid for, with the newest side's.
+pub pays_after : (l : LoweredParts) (most : Cost) (e : Due) (es : List (Option Due)) (u v : View) (n k : ℕ) (mine more : List Due) (r : Back) → IsBack e u v mine more n k r
     → Pays l most (share u.holding) (Some e ∷ es) → Pays l most (share v.holding) es
-pays_after l most e es u v n k mine more Take other b p = subst (λ (i : ℕ). Pays l most i es) (sym b.0) (pays_less l most (share u.holding) (Some e) es p)
-pays_after l most e es u v n k mine more (Answer x) other b p = subst (λ (i : ℕ). Pays l most i es) (sym b.3) (pays_joined l most (share u.holding) b.0 e es p b.4.paid)
-pays_after l most e es u v n k mine more Full other b p = subst (λ (i : ℕ). Pays l most i es) (sym b.3) (pays_joined l most (share u.holding) b.0 e es p b.5)
-pays_after l most e es u v n k mine more Memory other b p = absurd (other refl)
+pays_after l most e es u v n k mine more Take b p = subst (λ (i : ℕ). Pays l most i es) (sym b.0) (pays_less l most (share u.holding) (Some e) es p)
+pays_after l most e es u v n k mine more (Answer x) b p = subst (λ (i : ℕ). Pays l most i es) (sym b.3) (pays_joined l most (share u.holding) b.0 e es p b.4.paid)
+pays_after l most e es u v n k mine more Full b p = subst (λ (i : ℕ). Pays l most i es) (sym b.3) (pays_joined l most (share u.holding) b.0 e es p b.5)
 
 pub now_lent : (xs ys : List (Option Frame)) (x z : Option Frame) → xs ≡ ys ++ x ∷ [] → x ≡ z → lent_of xs ≡ due_maybe z ∷ lent_of ys
 now_lent xs ys x z e s = ap lent_of e ∙ (last_first ys x [] ∙ ap (λ h. due_maybe h ∷ lent_of ys) s)

@@ -1,7 +1,9 @@
 -- A worker goes on from a join whose right side's frame was settled.
 use Rattle.std.proofs.Common.{◌≡◌, List, ◌∷◌, subst, ◌∙◌}
 use Rattle.std.specs.Prelude.{Option, Some}
+use Rattle.std.specs.Vec.{vec_capacity}
 use Rattle.gib_core.specs.LoweredParts.{LoweredParts}
+use Rattle.gib_machine.specs.Levels.{IsWithin}
 use Rattle.gib_machine.specs.declared.turn.Turn.TheVariants.{AtJoin}
 use Rattle.gib_weave.specs.Owing.{Debt}
 use Rattle.gib_arena.specs.declared.memory.Arena.{Arena}
@@ -11,7 +13,7 @@ use Rattle.gib_pool.specs.declared.back.Back.{Back}
 use Rattle.gib_pool.specs.declared.job.Job.{Job}
 use Rattle.gib_pool.specs.Backs.{IsBack}
 use Rattle.gib_pool.specs.Frames.{AreHere}
-use Rattle.gib_pool.specs.Jobs.{Holds, IsHere, IsOn, IsSamePass, OwesStill, StandsAt, job_lent}
+use Rattle.gib_pool.specs.Jobs.{Holds, IsHere, IsOn, IsSamePass, OwesStill, StandsAt, job_lent, job_state}
 use Rattle.gib_pool.specs.Lent.{Lends}
 use Rattle.gib_pool.proofs.Draining.{here_after}
 
@@ -24,12 +26,12 @@ pub record Settled (a : Arena) (old new : Job) (due : Due) (mine more : List Due
   pub back : IsBack due (view old.pass) (view new.pass) mine more old.here new.here r
 
 module _ (a : Arena) (l : LoweredParts) (old new : Job) (due : Due) (mine more : List Due) (r : Back) where
-  pub holds_then : Settled a old new due mine more r → Holds a l old → new.machine.width ≡ old.machine.width → Holds a l new
-  holds_then s h w = record { own = s.own; lends = s.lends (job_lent new) (subst (Lends old.pass) s.newest h.lends); made = w ∙ h.made }
+  pub holds_then : Settled a old new due mine more r → Holds a l old → new.machine.width ≡ old.machine.width → IsWithin (vec_capacity new.frames) (job_state new) → Holds a l new
+  holds_then s h w k = record { own = s.own; lends = s.lends (job_lent new) (subst (Lends old.pass) s.newest h.lends); made = w ∙ h.made; within = k }
 
   pub here_then : Settled a old new due mine more r → IsHere old mine → IsHere new more
   here_then s h = here_after due (job_lent new) (view old.pass) (view new.pass) old.here new.here mine more r s.back (subst (λ (es : List (Option Due)). AreHere es old.here mine) s.newest h)
 
-  pub goes_on : Settled a old new due mine more r → Holds a l old → IsHere old mine → new.machine.width ≡ old.machine.width → ((d : Debt) → StandsAt l d old AtJoin → OwesStill l d new)
+  pub goes_on : Settled a old new due mine more r → Holds a l old → IsHere old mine → new.machine.width ≡ old.machine.width → IsWithin (vec_capacity new.frames) (job_state new) → ((d : Debt) → StandsAt l d old AtJoin → OwesStill l d new)
       → IsOn a l (λ (d : Debt). StandsAt l d old AtJoin) old more new
-  goes_on s h i w owes = record { holds = holds_then s h w; owes = owes; here = here_then s i; same = s.same }
+  goes_on s h i w k owes = record { holds = holds_then s h w k; owes = owes; here = here_then s i; same = s.same }

@@ -12,3 +12,4 @@ pub mod Standings
 pub mod Beginnings
 pub mod TogetherOwned
 pub mod Together
+pub mod Fitting

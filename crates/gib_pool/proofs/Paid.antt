@@ -68,11 +68,11 @@ not_silent : {a : Ask} {m : State} → (a ≡ AtJoin) ⊎ ((y : Answer) × (a �
 not_silent (inl e) r = absurd cc
 not_silent (inr e) r = let d = e.1 in absurd cc
 
-not_get : {a : Ask} {q : ℕ} {k : ℕ → State} → (a ≡ AtJoin) ⊎ ((y : Answer) × (a ≡ Ended y)) → a ≡ Get q k → ⊥
+not_get : {a : Ask} {q n : ℕ} {k : ℕ → State} → (a ≡ AtJoin) ⊎ ((y : Answer) × (a ≡ Ended y)) → a ≡ Get q n k → ⊥
 not_get (inl e) r = absurd cc
 not_get (inr e) r = let d = e.1 in absurd cc
 
-not_put : {a : Ask} {q b : ℕ} {m : State} → (a ≡ AtJoin) ⊎ ((y : Answer) × (a ≡ Ended y)) → a ≡ Put q b m → ⊥
+not_put : {a : Ask} {q b : ℕ} {bs : List ℕ} {m : State} → (a ≡ AtJoin) ⊎ ((y : Answer) × (a ≡ Ended y)) → a ≡ Put q b bs m → ⊥
 not_put (inl e) r = absurd cc
 not_put (inr e) r = let d = e.1 in absurd cc
 
@@ -90,7 +90,7 @@ module _ (core : CoreTree) (code : CodeTree) (owed : Owed) where
   moves_free : (own : Owned) (sh sh' : Share) (s : Store) (m : State) → IsOut m → Moves core code owed own sh s m → Moves core code owed own sh' s m
   moves_free own sh sh' s m o (silent e h) = absurd (not_silent (asks_out code m o) e)
   moves_free own sh sh' s m o (get e i h) = absurd (not_get (asks_out code m o) e)
-  moves_free own sh sh' s m o (puts e f i h) = absurd (not_put (asks_out code m o) e)
+  moves_free own sh sh' s m o (puts e f h) = absurd (not_put (asks_out code m o) e)
   moves_free own sh sh' s m o (draws t e d h) = absurd (not_draw (asks_out code m o) e)
   moves_free own sh sh' s m o (ended {a = a} e d h) = ended e d h
 

@@ -1,12 +1,12 @@
 -- A task needs no more of its own than what is fresh.
-use Rattle.std.proofs.Common.{◌≡◌, ℕ, zero, suc, ◌+◌, ◌*◌, ◌<◌, ◌≤◌, cond, inl, inr, refl, sym, ◌∙◌, arith}
+use Rattle.std.proofs.Common.{◌≡◌, ℕ, zero, suc, ◌+◌, ◌*◌, ◌<◌, ◌≤◌, List, [], ◌∷◌, cond, inl, inr, refl, sym, ◌∙◌, arith}
 use Rattle.gib_mem.specs.Memory.{fresh, byte, Store, set_cell, open_chunk}
 use Rattle.gib_core.specs.Tree.{CoreTree}
 use Rattle.gib_code.specs.Program.{CodeTree}
 use Rattle.gib_machine.specs.Machine.{State}
 use Rattle.gib_weave.specs.Owing.{Owed}
 use Rattle.gib_weave.specs.Paying.{Share}
-use Rattle.gib_weave.specs.Places.{Apart, Owned, within, with_chunk}
+use Rattle.gib_weave.specs.Places.{Apart, Owned, put_all, within, with_chunk}
 use Rattle.gib_weave.specs.Sound.{Safe, Rests, Moves, rests, counts, moves, at_term, unwinds, over, silent, get, puts, draws, ended}
 use Rattle.gib_weave.proofs.Basics.{by_test}
 use Rattle.gib_weave.proofs.Places.{IsSided, zero_or_one, open-outside}
@@ -20,6 +20,10 @@ pub record StillOwns (own more : Owned) (s : Store) : Type 0 where
 
 owns_put : (own more : Owned) (s : Store) (a b : ℕ) → StillOwns own more s → StillOwns own more (set_cell s a (byte b))
 owns_put own more s a b k = record { kept = λ q. by_test q a (λ t. cond t (byte b) (s q) ≡ fresh → 0 < own q → 0 < more q) (λ e f h. absurd (byte_fresh f)) (λ e f h. k.kept q f h) }
+
+owns_puts : (own more : Owned) (s : Store) (a : ℕ) (bs : List ℕ) → StillOwns own more s → StillOwns own more (put_all s a bs)
+owns_puts own more s a [] k = k
+owns_puts own more s a (b ∷ bs) k = owns_puts own more (set_cell s a (byte b)) (a + 1) bs (owns_put own more s a b k)
 
 owns_open : (own more : Owned) (s : Store) (c : ℕ) → StillOwns own more s → StillOwns (with_chunk own c) (with_chunk more c) (open_chunk s c)
 owns_open own more s c k = record { kept = λ q f h. go q f h (zero_or_one (4096 * c) 4096 q) }
@@ -73,7 +77,8 @@ module _ (core : CoreTree) (code : CodeTree) (owed : Owed) where
 
     moves_owned : (own more : Owned) (sh : Share) (s : Store) (m : State) → Moves core code owed own sh s m → StillOwns own more s → Moves core code owed more sh s m
     moves_owned own more sh s m (silent {m' = m'} e h) o = silent e (safe_owned own more sh s m' h o)
-    moves_owned own more sh s m (get {b = b} {k = k} e i h) o = get e i (safe_owned own more sh s (k b) h o)
-    moves_owned own more sh s m (puts {m' = m'} {a = a} {b = b} e f i h) o = puts e f (o.kept a f i) (safe_owned own more sh (set_cell s a (byte b)) m' h (owns_put own more s a b o))
+    moves_owned own more sh s m (get {x = x} {k = k} e i h) o = get e i (safe_owned own more sh s (k x) h o)
+    moves_owned own more sh s m (puts {m' = m'} {a = a} {b = b} {bs = bs} e f h) o =
+        puts e (record { mine = λ q l i. o.kept q (f.all q l i) (f.mine q l i); all = f.all }) (safe_owned own more sh (put_all s a (b ∷ bs)) m' h (owns_puts own more s a (b ∷ bs) o))
     moves_owned own more sh s m (draws {k = k} sh' e d h) o = draws sh' e d (λ c new. safe_owned (with_chunk own c) (with_chunk more c) (sh' c) (open_chunk s c) (k c) (h c new) (owns_open own more s c o))
     moves_owned own more sh s m (ended {a = a} e d h) o = ended e d h

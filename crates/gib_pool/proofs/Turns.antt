@@ -1,5 +1,5 @@
 -- A worker's turns.
-use Rattle.std.proofs.Common.{◌≡◌, ℕ, ◌+◌, ◌*◌, ◌<◌, inl, inr, List, [], ◌∷◌, refl, sym, subst, ◌∙◌, arith, cond}
+use Rattle.std.proofs.Common.{◌≡◌, ℕ, ◌+◌, ◌*◌, ◌<◌, inl, inr, suc, List, [], ◌∷◌, length, refl, sym, ap, subst, ◌∙◌, arith, cond}
 use Rattle.std.specs.Prelude.{Option, Some, slice_get}
 use Rattle.gib_mem.specs.Memory.{Memory, Cell, Store, absent, fresh, byte, set_cell, open_chunk, Grows, IsBounded}
 use Rattle.gib_core.specs.Tree.{CoreTree}
@@ -11,15 +11,16 @@ use Rattle.gib_machine.specs.Machine.{State, Waiting, Ask, Silent, Get, Put, Dra
 use Rattle.gib_machine.specs.Starting.{waiting_of}
 use Rattle.gib_weave.specs.Owing.{Debt}
 use Rattle.gib_weave.specs.Paying.{Share, Bill, new_share, with_rest, with_count}
-use Rattle.gib_weave.specs.Places.{Owned, with_chunk, IsSmall}
+use Rattle.gib_weave.specs.Places.{Owned, put_all, with_chunk, IsSmall}
 use Rattle.gib_weave.specs.Sound.{Safe, SideSafe, IsAnswer, After, Forks, Meets, Others}
 use Rattle.gib_weave.proofs.Basics.{by_test}
 use Rattle.gib_weave.proofs.Bills.{bill_goes_on, bill_forks, bill_takes, bill_joins, side_bill}
 use Rattle.gib_weave.proofs.Places.{IsSided, zero_or_one, open-outside, open-inside}
-use Rattle.gib_weave.proofs.Memories.{draws_new}
+use Rattle.gib_weave.proofs.Memories.{draws_new, puts_cells}
 use Rattle.gib_weave.proofs.Others.{safe-others, answer-grows}
 use Rattle.gib_weave.proofs.Step.{step_keeps}
 use Rattle.gib_weave.proofs.Starts.{lowered_bodies}
+use Rattle.gib_weave.proofs.ForkSides.{fork_open}
 use Rattle.gib_arena.specs.Passes.{cells}
 use Rattle.gib_frame.specs.declared.due.Due.{Due}
 use Rattle.gib_frame.specs.Answers.{Answers, ArePaid, IsPaid}
@@ -85,6 +86,10 @@ wider_keeps l d s r n m lent w h = record {
 there_put : (own : Owned) (s : Store) (a b : ℕ) → AreThere own s → AreThere own (set_cell s a (byte b))
 there_put own s a b t = record { there = λ q h. by_test q a (λ c. cond c (byte b) (s q) ≡ absent → ⊥) (λ e z. byte_absent z) (λ e z. t.there q h z) }
 
+there_puts : (own : Owned) (s : Store) (a : ℕ) (bs : List ℕ) → AreThere own s → AreThere own (put_all s a bs)
+there_puts own s a [] t = t
+there_puts own s a (b ∷ bs) t = there_puts own (set_cell s a (byte b)) (a + 1) bs (there_put own s a b t)
+
 there_draw : (own : Owned) (s : Store) (c : ℕ) → AreThere own s → AreThere (with_chunk own c) (open_chunk s c)
 there_draw own s c t = record { there = λ q h e. go q h e (zero_or_one (4096 * c) 4096 q) }
   where
@@ -96,10 +101,17 @@ module _ (l : LoweredParts) (d : Debt) where
   pub pays : (s : Store) (n : ℕ) (m : State) (lent : List (Option Due)) → Works l d s n m lent → Pays l d.most n lent
   pays s n m lent h = record { owed = owing d h.sides; bill = h.bill; debts = h.debts; paid = h.paid }
 
+  are_long : (ds : List Debt) (es : List (Option Due)) → AreLent l ds es → length ds ≡ length es
+  are_long [] [] a = refl
+  are_long [] (e ∷ es) a = absurd a
+  are_long (x ∷ ds) [] a = absurd a
+  are_long (x ∷ ds) (e ∷ es) a = ap suc (are_long ds es a.1)
+
   forked : (s : Store) (n : ℕ) (m : State) (lent : List (Option Due)) (h : Works l d s n m lent) (sh : Share) → Bill d.most n (owing d h.sides) sh → Forks (core_of l.core) l.code (owing d h.sides) h.own sh s m
-      → WorksOn l d s n lent m (left_starts m (slice_get l.code.instructions m.ip)) (right_of m (slice_get l.code.instructions m.ip))
-  forked s n m lent h sh b f = record {
+      → next l.code m ≡ AtFork → WorksOn l d s n lent m (left_starts m (slice_get l.code.instructions m.ip)) (right_of m (slice_get l.code.instructions m.ip))
+  forked s n m lent h sh b f at = record {
     room = f.room;
+    count = fork_open (core_of l.core) l.code (owing d h.sides) h.own h.bill s m h.safe at ∙ are_long h.sides lent h.debts;
     owes = (f.debt, f.right);
     refused = record { own = h.own; bill = _; sides = f.debt ∷ h.sides; safe = f.left; there = h.there; debts = (tt, h.debts); paid = paid };
     made = λ e i. record {
@@ -164,12 +176,15 @@ module _ (l : LoweredParts) (d : Debt) where
 
   after : IsWhole l.core l.code → (v : Memory) (m : State) (lent : List (Option Due)) (a : Ask) → next l.code m ≡ a → IsBounded v → (h : Works l d v.cells v.share m lent) → After (core_of l.core) l.code (owing d h.sides) h.own h.bill v.cells m a → WorksAfter l d v lent m a
   after ok v m lent (Silent m') is b h k = record { own = h.own; bill = k.0; sides = h.sides; safe = k.2; there = h.there; debts = h.debts; paid = bill_stays d.most v.share (owing d h.sides) h.bill k.0 h.paid k.1 }
-  after ok v m lent (Get a f) is b h k = (k.0, k.1, record { own = h.own; bill = k.2.0; sides = h.sides; safe = k.2.2; there = h.there; debts = h.debts; paid = bill_stays d.most v.share (owing d h.sides) h.bill k.2.0 h.paid k.2.1 })
-  after ok v m lent (Put a x m') is b h k =
-      (k.0, record { own = h.own; bill = k.2.0; sides = h.sides; safe = k.2.2; there = there_put h.own v.cells a x h.there; debts = h.debts; paid = bill_stays d.most v.share (owing d h.sides) h.bill k.2.0 h.paid k.2.1 })
+  after ok v m lent (Get a i f) is b h k = (k.0, k.1, record { own = h.own; bill = k.2.0; sides = h.sides; safe = k.2.2; there = h.there; debts = h.debts; paid = bill_stays d.most v.share (owing d h.sides) h.bill k.2.0 h.paid k.2.1 })
+  after ok v m lent (Put a x xs m') is b h k = (
+    record { all = k.0.all },
+    subst (λ (s : Store). Works l d s v.share m' lent) (sym (puts_cells v a (x ∷ xs)))
+        record { own = h.own; bill = k.1.0; sides = h.sides; safe = k.1.2; there = there_puts h.own v.cells a (x ∷ xs) h.there; debts = h.debts; paid = bill_stays d.most v.share (owing d h.sides) h.bill k.1.0 h.paid k.1.1 },
+  )
   after ok v m lent (Draw f) is b h k = λ c dr. let t = k c (draws_new v c b dr) in
       record { own = with_chunk h.own c; bill = t.0; sides = h.sides; safe = t.2; there = there_draw h.own v.cells c h.there; debts = h.debts; paid = bill_goes_on d.most v.share 1 (owing d h.sides) h.bill t.0 h.paid t.1 }
-  after ok v m lent AtFork is b h k = forked v.cells v.share m lent h k.0 (bill_stays d.most v.share (owing d h.sides) h.bill k.0 h.paid k.1) k.2
+  after ok v m lent AtFork is b h k = forked v.cells v.share m lent h k.0 (bill_stays d.most v.share (owing d h.sides) h.bill k.0 h.paid k.1) k.2 is
   after ok v m lent AtJoin is b h k = λ r w. met ok v.cells r v.share m lent is h w
   after ok v m lent (Ended a) is b h k = let e = ended v.share h.bill h.sides lent h.debts h.paid k.0 in (e.0, k.1, e.1)
 

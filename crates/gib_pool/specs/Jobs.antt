@@ -1,7 +1,9 @@
 -- What a worker holds and owes at a task.
 use Rattle.std.specs.Prelude.{◌≡◌, [], List, Option, Result, Ok, Err}
+use Rattle.std.specs.Vec.{vec_capacity}
 use Rattle.gib_mem.specs.Memory.{Memory, Grows}
 use Rattle.gib_core.specs.LoweredParts.{LoweredParts}
+use Rattle.gib_machine.specs.Levels.{IsWithin}
 use Rattle.gib_machine.specs.Machine.{State, widest}
 use Rattle.gib_machine.specs.Stepping.{with_tails}
 use Rattle.gib_machine.specs.declared.turn.Turn.{Turn}
@@ -16,6 +18,7 @@ use Rattle.gib_frame.specs.declared.due.Ending.{Ending}
 use Rattle.gib_frame.specs.declared.due.Ending.TheVariants as ending
 use Rattle.gib_frame.specs.Answers.{IsPaid, drawn_by}
 use Rattle.gib_pool.specs.declared.job.Job.{Job}
+use Rattle.gib_pool.specs.declared.workspace.Workspace.{Workspace}
 use Rattle.gib_pool.specs.Turn.{Pays, Works}
 use Rattle.gib_pool.specs.Going.{Comes}
 use Rattle.gib_pool.specs.Lent.{Lends}
@@ -41,11 +44,13 @@ OwesStill l d j = Works l d (cells j.pass) (drawn_by j.pass) (job_state j) (job_
 abbrev pub StandsAt : LoweredParts → Debt → Job → Turn → Type 0
 StandsAt l d j turn = Comes l d (job_lent j) (job_memory j) (job_state j) turn
 
--- Its pass is of the arena, and no pass is split off it but those of its frames; its machine was made for the code.
+-- Its pass is of the arena, and no pass is split off it but those of its frames; its machine was made for the code; and there is room for a
+-- frame for each fork that is open or may nest yet.
 pub record Holds (a : Arena) (l : LoweredParts) (j : Job) : Type 0 where
   pub own : IsOf a j.pass
   pub lends : Lends j.pass (job_lent j)
   pub made : j.machine.width ≡ widest l.code.functions
+  pub within : IsWithin (vec_capacity j.frames) (job_state j)
 
 -- So many of its newest forks may still be among those of its worker.
 abbrev pub IsHere : Job → List Due → Type 0
@@ -68,12 +73,11 @@ abbrev pub PaysStill : LoweredParts → Debt → Job → Type 0
 PaysStill l d j = Pays l d.most (drawn_by j.pass) (job_lent j)
 
 -- How a task ends, whichever debt of these it has: its answer is what was owed, or its pass saw that all chunks are drawn, and what was
--- drawn is paid for; or memory was wanted.
+-- drawn is paid for.
 abbrev pub Settles : LoweredParts → (Debt → Type 0) → Ending → Pass → Type 0
 Settles l Has (ending.Answer a) p = (d : Debt) → Has d → IsAnswer l.code.laid (cells p) d.ty d.owed a × IsPaid d.most (drawn_by p)
 Settles l Has ending.Full p = ((view p).holding.seen ≡ (view p).branch.limit) × ((d : Debt) → Has d → IsPaid d.most (drawn_by p))
 Settles l Has ending.NotRun p = ⊥
-Settles l Has ending.Memory p = Unit {0}
 
 -- A task that stood goes on: the worker holds and owes what it should, its forks are these, and the pass is the same one.
 pub record IsOn (a : Arena) (l : LoweredParts) (Has : Debt → Type 0) (old : Job) (mine : List Due) (new : Job) : Type 0 where
@@ -88,6 +92,6 @@ pub record IsOver (a : Arena) (l : LoweredParts) (Has : Debt → Type 0) (old : 
   pub settles : Settles l Has e p
 
 -- A task that stood goes on, or has come to its end.
-abbrev pub Goes : Arena → LoweredParts → (Debt → Type 0) → Job → List Due → Result Job (Ending × Pass) → Type 0
+abbrev pub Goes : Arena → LoweredParts → (Debt → Type 0) → Job → List Due → Result Job (Ending × Pass × Workspace) → Type 0
 Goes a l Has old mine (Ok j) = IsOn a l Has old mine j
 Goes a l Has old mine (Err r) = IsOver a l Has old r.0 r.1

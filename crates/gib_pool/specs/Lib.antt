@@ -8,3 +8,4 @@ pub mod Frames
 pub mod Jobs
 pub mod Runs
 pub mod Together
+pub mod Forking

@@ -26,7 +26,6 @@ abbrev pub outcome : Ending → Result Answer RunFault
 outcome (ending.Answer a) = Ok a
 outcome ending.Full = Err fault.Full
 outcome ending.NotRun = Err fault.Memory
-outcome ending.Memory = Err fault.Memory
 
 -- How a run by several workers ends that started with this value, and may nest so many calls and forks: with what the core means; or
 -- all chunks are drawn, and so many may not be enough for the run; or memory was wanted.

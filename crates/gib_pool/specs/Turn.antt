@@ -1,11 +1,13 @@
 -- A worker at a task: what it knows over the bytes of its own pass, and after each turn.
-use Rattle.std.specs.Prelude.{◌≡◌, ℕ, ◌+◌, ◌<◌, true, List, [], ◌∷◌, Option, Some, None, slice_get}
-use Rattle.gib_mem.specs.Memory.{Memory, Store, absent, fresh, byte, Grows, after_put, after_draw}
+use Rattle.std.specs.Prelude.{◌≡◌, ℕ, suc, ◌+◌, ◌<◌, true, List, [], ◌∷◌, length, Option, Some, None, slice_get}
+use Rattle.gib_mem.specs.Memory as mem
+use Rattle.gib_mem.specs.Memory.{Memory, Store, absent, fresh, Grows, Reads, after_puts, after_draw}
 use Rattle.gib_region.specs.Region.{Draws}
 use Rattle.gib_code.specs.declared.answer.Answer.{Answer}
 use Rattle.gib_core.specs.Cost.{Cost}
 use Rattle.gib_core.specs.Parts.{core_of}
 use Rattle.gib_core.specs.LoweredParts.{LoweredParts}
+use Rattle.gib_machine.specs.Levels.{lefts}
 use Rattle.gib_machine.specs.Machine.{State, Waiting, Ask, Silent, Get, Put, Draw, AtFork, AtJoin, Ended, left_starts, right_of, is_unwinding, takes, joins}
 use Rattle.gib_machine.specs.Starting.{waiting_of}
 use Rattle.gib_weave.specs.Owing.{Debt, Owed}
@@ -70,6 +72,8 @@ pub record IsFor (l : LoweredParts) (s : Store) (w : Waiting) (e : Due) : Type 0
 pub record WorksOn (l : LoweredParts) (d : Debt) (s : Store) (n : ℕ) (lent : List (Option Due)) (m left : State) (right : Waiting) : Type 0 where
   pub room : 0 < m.room
   pub owes : (e : Debt) × SideSafe (core_of l.core) l.code e s right
+  -- each right side that was not joined is one of a `par` whose left side runs here
+  pub count : lefts m.pars ≡ length lent
   pub refused : Works l d s n left (None ∷ lent)
   pub made : (e : Due) → IsFor l s right e → Works l d s n left (Some e ∷ lent)
 
@@ -95,8 +99,8 @@ pub record WorksBack (l : LoweredParts) (d : Debt) (s : Store) (n : ℕ) (lent :
 -- What a worker has after one turn over a memory, by what its machine asks; at a join, whatever the pass learns before.
 abbrev pub WorksAfter : LoweredParts → Debt → Memory → List (Option Due) → State → Ask → Type 0
 WorksAfter l d v lent old (Silent m) = Works l d v.cells v.share m lent
-WorksAfter l d v lent old (Get a k) = (b : ℕ) × (v.cells a ≡ byte b) × Works l d v.cells v.share (k b) lent
-WorksAfter l d v lent old (Put a b m) = (v.cells a ≡ fresh) × Works l d (after_put v a b).cells v.share m lent
+WorksAfter l d v lent old (Get a n k) = (x : ℕ) × Reads v.cells a (suc n) x × Works l d v.cells v.share (k x) lent
+WorksAfter l d v lent old (Put a b bs m) = mem.Owned v.cells a (length (b ∷ bs)) × Works l d (after_puts v a (b ∷ bs)).cells v.share m lent
 WorksAfter l d v lent old (Draw k) = (c : ℕ) → Draws v c → Works l d (after_draw v c).cells (after_draw v c).share (k c) lent
 WorksAfter l d v lent old AtFork = WorksOn l d v.cells v.share lent old (left_starts old (slice_get l.code.instructions old.ip)) (right_of old (slice_get l.code.instructions old.ip))
 WorksAfter l d v lent old AtJoin = (r : Store) → Wider v.cells r → WorksBack l d r v.share lent old

@@ -11,11 +11,11 @@ ghost use Rattle.gib_pool.specs.Lent.{Lends, path};
 ghost use Rattle.gib_pool.specs.Mine.{IsMine};
 ghost use Rattle.gib_pool.specs.Backs.{IsBack, IsLatest};
 
-use crate::desks::Desks;
+use crate::desks::Desk;
 use crate::forks::{Forks, take_back};
 use gib_arena::{Arena, Pass};
 use gib_code::Answer;
-use gib_frame::{Ending, Frame, wait_answer};
+use gib_frame::{Ending, Frame};
 use std::sync::Wait;
 
 /// What a join goes on with.
@@ -27,12 +27,11 @@ pub(crate) enum Back {
     Answer(Answer),
     /// Another worker ran the side, and found all chunks drawn.
     Full,
-    /// Another worker left the side midway, for want of memory.
-    Memory,
 }
 
 /// Takes the latest fork back, or waits for who stole it, while another worker runs at the desk. The pass then knows both sides. `here` is
-/// how many of the newest forks may still be in the deque: once one is gone all older ones are, so that none of them is looked for.
+/// how many of the newest forks may still be in the deque: once one is gone all older ones are, so that none of them is looked for. It takes
+/// no memory.
 pub(crate) fn settle<'a, R: Wait>(
     rt: &R,
     arena: &'a Arena,
@@ -40,7 +39,7 @@ pub(crate) fn settle<'a, R: Wait>(
     frame: &Frame,
     forks: &mut Forks<'a>,
     here: &mut usize,
-    desks: &Desks,
+    desk: &mut Desk<'_>,
 ) -> Back
     requires own { IsOf arena.now pass.old × ((frame_due frame.now).pass.value.seat.table_id ≡ arena.now.table.shared.table_id) }
     requires out { 0 < times_path (path (frame_due frame.now)) (view pass.old).branch.out }
@@ -58,20 +57,16 @@ pub(crate) fn settle<'a, R: Wait>(
     if *here > 0 {
         *here -= 1;
         if let Some(task) = take_back(forks) {
-            let (_reply, _arena, _lowered, _side, his) = task.open();
-            pass.join(arena, his);
+            pass.join(arena, task.into_pass());
             return Back::Take;
         }
         *here = 0;
     }
-    desks.leave(rt);
-    let (ending, his) = wait_answer(rt, frame);
-    desks.take(rt);
+    let (ending, his) = desk.wait_answer(rt, frame);
     pass.join(arena, his);
     match ending {
         Ending::Answer(answer) => Back::Answer(answer),
         Ending::Full => Back::Full,
         Ending::NotRun => Back::Take,
-        Ending::Memory => Back::Memory,
     }
 }

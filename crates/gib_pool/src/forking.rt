@@ -15,22 +15,19 @@ ghost use Rattle.gib_frame.specs.declared.due.Due.{Due};
 ghost use Rattle.gib_frame.specs.Answers.{drawn_by};
 ghost use Rattle.gib_frame.specs.Dues.{frame_due};
 ghost use Rattle.gib_pool.specs.Frames.{due_maybe, AreHere};
-ghost use Rattle.gib_pool.specs.Jobs.{Goes, Holds, IsHere, IsSamePass, StandsAt};
+ghost use Rattle.gib_pool.specs.Jobs.{Holds, IsHere, IsOn, IsSamePass, StandsAt};
 ghost use Rattle.gib_pool.specs.Lent.{Lends};
 ghost use Rattle.gib_pool.specs.Mine.{IsMine};
 ghost use Rattle.gib_pool.specs.Turn.{IsFor};
 
-use crate::desks::Desks;
 use crate::forks::Forks;
 use crate::job::Job;
-use crate::leaving::give_up;
 use crate::offer::offer_side;
 use gib_arena::{Arena, Pass};
 use gib_core::Lowered;
-use gib_frame::{Ending, Frame};
+use gib_frame::Frame;
 use gib_machine::Machine;
 use std::alloc::Global;
-use std::sync::Wait;
 
 /// Offers the right side of the fork at which the machine stands; none where memory refuses the side or its frame.
 fn offer_here<'a>(
@@ -68,30 +65,21 @@ fn offer_here<'a>(
 }
 
 /// Offers the right side of the fork to whoever steals it, and begins the left side. Where memory refuses the side or its frame, the
-/// right side is left to be taken in place.
-///
-/// # Errors
-///
-/// Want of memory to keep a frame: the task is left.
-pub(crate) fn fork_here<'a, R: Wait>(
-    rt: &R,
+/// right side is left to be taken in place. The room for the frame was taken with the task.
+pub(crate) fn fork_here<'a>(
     alloc: Global,
     arena: &'a Arena,
     lowered: &'a Lowered,
     mut job: Job,
     forks: &mut Forks<'a>,
-    desks: &Desks,
-) -> Result<Job, (Ending, Pass)>
+) -> Job
     requires holds { Holds arena.now lowered.now job }
     requires stands { (d : Debt) × StandsAt lowered.now d job AtFork }
     requires mine { IsMine forks.old }
     requires here { IsHere job (worker_view forks.old).mine }
     ensures mine { IsMine forks.new × (worker_deque forks.new ≡ worker_deque forks.old) }
-    ensures goes { Goes arena.entry.now lowered.entry.now (λ (d : Debt). StandsAt lowered.entry.now d job AtFork) job (worker_view forks.new).mine result }
+    ensures on { IsOn arena.entry.now lowered.entry.now (λ (d : Debt). StandsAt lowered.entry.now d job AtFork) job (worker_view forks.new).mine result }
 {
-    if job.frames.reserve(1).is_err() {
-        return Err(give_up(rt, arena, job, forks, desks));
-    }
     let frame = offer_here(
         alloc,
         arena,
@@ -103,5 +91,5 @@ pub(crate) fn fork_here<'a, R: Wait>(
     );
     job.machine.left(lowered.code());
     job.frames.push_reserved(frame);
-    Ok(job)
+    job
 }

@@ -67,7 +67,7 @@ pub(crate) type Thief<'a> = Stealer<Task<'a>, Global, Stack, Stacking>;
 /// What a thief takes to a deque.
 pub(crate) type Loot<'a> = Pass<Task<'a>, Stack>;
 
-/// The slots for forks that are taken at first.
+/// The slots for forks that are taken at first: as many as may nest in a run of the command line, so that no push grows them.
 const SLOTS: usize = 64;
 
 /// No forks, in the hands of their worker.

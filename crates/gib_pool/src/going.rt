@@ -1,6 +1,7 @@
 //! A worker's machine goes on until it stands.
 
-ghost use Rattle.std.specs.Prelude.{◌≡◌, List, Option};
+ghost use Rattle.std.specs.Prelude.{◌≡◌, ℕ, List, Option};
+ghost use Rattle.gib_machine.specs.Levels.{IsWithin};
 ghost use Rattle.gib_machine.specs.Machine.{widest};
 ghost use Rattle.gib_machine.specs.Stepping.{with_tails};
 ghost use Rattle.gib_weave.specs.Owing.{Debt};
@@ -27,6 +28,7 @@ pub(crate) fn go_on<R: Wait, M: Mem>(
     ensures comes { (d : Debt) (lent : List (Option Due)) → Works lowered.entry.now d (M.view mem.old).cells (M.view mem.old).share (with_tails machine.old tails.old) lent → Comes lowered.entry.now d lent (M.view mem.new) (with_tails machine.new tails.new) result }
     ensures same { IsSame (M.view mem.old) (M.view mem.new) }
     ensures made { machine.new.width ≡ machine.old.width }
+    ensures within { (n : ℕ) → IsWithin n (with_tails machine.old tails.old) → IsWithin n (with_tails machine.new tails.new) }
 {
     lowered.core();
     let code = lowered.code();

@@ -4,45 +4,49 @@ ghost use Rattle.std.specs.Prelude.{◌≡◌};
 ghost use Rattle.crossbeam_deque.specs.Handles.{worker_deque};
 ghost use Rattle.gib_pool.specs.Mine.{IsMine};
 
+use crate::bell::Bell;
+use crate::desks::Desk;
 use crate::forks::Forks;
 use crate::job::Job;
 use crate::post::Post;
 use crate::raid::Raid;
 use crate::worker::Member;
 use crate::working::work;
+use crate::workspace::Workspace;
 use gib_edge::outside::Gate;
 use gib_frame::{Ending, Task, put_answer};
-use gib_machine::Machine;
 use gib_region::Tails;
-use std::alloc::Global;
 use std::sync::Wait;
 
-/// Runs a side that was stolen, and tells its frame how it ended. Where memory refuses a machine, the side is given back.
+/// Runs a side that was stolen, and tells its frame how it ended. To begin it takes no memory. The workspace comes back. Where it was made
+/// for fewer calls or forks, as none of the same run is, the side is given back.
 pub(crate) fn run_task<'a, R: Wait, G: Gate>(
     rt: &R,
-    alloc: Global,
     task: Task<'a>,
+    mut workspace: Workspace,
     forks: &mut Forks<'a>,
     post: &Post<'_, G>,
-)
+    desk: &mut Desk<'_>,
+) -> Workspace
     requires { IsMine forks.old }
     ensures { IsMine forks.new × (worker_deque forks.new ≡ worker_deque forks.old) }
 {
     let (reply, arena, lowered, side, pass) = task.open();
-    match Machine::of_side(alloc, lowered.code(), &side) {
-        Err(_) => put_answer(rt, reply, Ending::NotRun, pass),
-        Ok(machine) => {
-            let job = Job::make(alloc, machine, Tails::new(), pass);
-            let (ending, pass) = work(rt, alloc, arena, lowered, job, forks, post);
-            put_answer(rt, reply, ending, pass);
-        }
+    if !workspace.begin(lowered.code(), side) {
+        put_answer(rt, reply, Ending::NotRun, pass);
+        return workspace;
     }
+    let job = Job::make(workspace, Tails::new(), pass);
+    let (ending, pass, workspace) = work(rt, arena, lowered, job, forks, post, desk);
+    put_answer(rt, reply, ending, pass);
+    workspace
 }
 
-/// A fork of any other worker.
-fn steal_any<'a, R: Wait>(rt: &R, raids: &mut Vec<Raid<'a>>) -> Option<Task<'a>> {
-    for raid in raids.iter_mut() {
-        let found = raid.steal(rt);
+/// A fork of any other worker. They are asked in turn from the one at this place on.
+fn steal_any<'a, R: Wait>(rt: &R, raids: &mut Vec<Raid<'a>>, from: u32) -> Option<Task<'a>> {
+    let count = raids.len();
+    'steps: for step in 0..count {
+        let found = raids[(from as usize + step) % count].steal(rt);
         if found.is_some() {
             return found;
         }
@@ -50,35 +54,59 @@ fn steal_any<'a, R: Wait>(rt: &R, raids: &mut Vec<Raid<'a>>) -> Option<Task<'a>>
     None
 }
 
-/// Runs what others fork until the run is over, and looks for it at a desk. Where there is nothing to steal it sleeps.
-pub(crate) fn help<'a, R: Wait, G: Gate>(
+/// The next of some numbers that look random: where a worker begins to look for a fork.
+fn next_place(place: u32) -> u32 {
+    place.wrapping_mul(747796405).wrapping_add(2891336453)
+}
+
+/// A fork of any other worker; none where the run is over. Where there is nothing to steal it sleeps: it looks once, and once more after it
+/// said that it listens, so that it misses no fork, and who forks has nobody to wake while a look finds something.
+fn find_task<'a, R: Wait>(
     rt: &R,
-    alloc: Global,
-    member: Member<'a>,
-    post: &Post<'_, G>,
-) {
+    raids: &mut Vec<Raid<'a>>,
+    bell: &Bell,
+    place: u32,
+) -> Option<Task<'a>> {
+    for _ in rt.forever() {
+        let first = steal_any(rt, raids, place >> 8);
+        if first.is_some() {
+            return first;
+        }
+        let key = bell.listen();
+        if bell.is_over() {
+            return None;
+        }
+        let again = steal_any(rt, raids, place >> 8);
+        if again.is_some() {
+            return again;
+        }
+        key.wait(rt);
+    }
+    unreachable!()
+}
+
+/// Runs what others fork until the run is over, each at a desk.
+pub(crate) fn help<'a, R: Wait, G: Gate>(rt: &R, member: Member<'a>, post: &Post<'_, G>) {
     let Member {
-        number: _,
+        number,
         mut forks,
         mut raids,
+        workspace,
     } = member;
+    let Some(mut workspace) = workspace else {
+        return;
+    };
+    let mut place = number;
     'turns: for _ in rt.forever() {
-        let Some(heard) = post.bell.heard(rt) else {
+        place = next_place(place);
+        let Some(task) = find_task(rt, &mut raids, post.bell, place) else {
             return;
         };
-        post.desks.take(rt);
-        match steal_any(rt, &mut raids) {
-            Some(task) => {
-                post.stolen();
-                run_task(rt, alloc, task, &mut forks, post);
-                post.answered();
-                post.desks.leave(rt);
-            }
-            None => {
-                post.desks.leave(rt);
-                post.bell.wait_past(rt, heard);
-            }
-        }
+        let mut desk = post.desks.take(rt);
+        post.stolen();
+        workspace = run_task(rt, task, workspace, &mut forks, post, &mut desk);
+        post.answered();
+        desk.leave(rt);
     }
     unreachable!()
 }

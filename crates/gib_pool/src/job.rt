@@ -1,13 +1,14 @@
 //! What a worker holds of the task that it is at.
 
 ghost use Rattle.std.specs.Prelude.{◌≡◌, []};
+ghost use Rattle.std.specs.Vec.{vec_capacity};
 ghost use Rattle.gib_pool.specs.Frames.{newest_made};
 
+use crate::workspace::Workspace;
 use gib_arena::Pass;
 use gib_frame::Frame;
 use gib_machine::Machine;
 use gib_region::Tails;
-use std::alloc::Global;
 
 /// A task that a worker is at: its machine with its tails, and the pass over whose bytes it works.
 #[derive(Drop)]
@@ -15,24 +16,31 @@ pub(crate) struct Job {
     pub(crate) machine: Machine,
     pub(crate) tails: Tails,
     pub(crate) pass: Pass,
-    /// For each right side that was not joined its frame, or none where it was refused; the newest last.
+    /// For each right side that was not joined its frame, or none where it was refused; the newest last. There is room for one for each fork
+    /// that the task may nest.
     pub(crate) frames: Vec<Option<Frame>>,
     /// How many of the newest frames' tasks may still be in the worker's deque.
     pub(crate) here: usize,
 }
 
 impl Job {
-    /// A task at its begin, with no right sides.
-    pub(crate) fn make(alloc: Global, machine: Machine, tails: Tails, pass: Pass) -> Job
-        ensures machine { (result.machine ≡ machine) × (result.tails ≡ tails) }
+    /// A task at its begin, with no right sides: its machine and the room for its frames are those of the workspace.
+    pub(crate) fn make(workspace: Workspace, tails: Tails, pass: Pass) -> Job
+        ensures machine { (result.machine ≡ workspace.machine) × (result.tails ≡ tails) }
         ensures pass { result.pass ≡ pass }
         ensures frames { (result.frames.items ≡ []) × (result.here ≡ 0) }
+        ensures room { vec_capacity result.frames ≡ vec_capacity workspace.frames }
     {
+        let Workspace {
+            machine,
+            mut frames,
+        } = workspace;
+        frames.clear();
         Job {
             machine,
             tails,
             pass,
-            frames: Vec::new(alloc),
+            frames,
             here: 0,
         }
     }

@@ -1,19 +1,19 @@
 //! A worker at a join.
 
-ghost use Rattle.std.specs.Prelude.{◌≡◌, true, IfErr};
+ghost use Rattle.std.specs.Prelude.{◌≡◌, true, IsOk};
 ghost use Rattle.crossbeam_deque.specs.Handles.{worker_deque, worker_view};
 ghost use Rattle.gib_machine.specs.Machine.{is_unwinding};
 ghost use Rattle.gib_machine.specs.declared.turn.Turn.TheVariants.{AtJoin};
 ghost use Rattle.gib_weave.specs.Owing.{Debt};
-ghost use Rattle.gib_frame.specs.declared.due.Ending.TheVariants.{Memory};
 ghost use Rattle.gib_pool.specs.Jobs.{Goes, Holds, IsHere, StandsAt};
 ghost use Rattle.gib_pool.specs.Mine.{IsMine};
 
 use crate::back::{Back, settle};
-use crate::desks::Desks;
+use crate::desks::Desk;
 use crate::forks::Forks;
 use crate::job::Job;
-use crate::leaving::{give_up, leave};
+use crate::leaving::leave;
+use crate::workspace::Workspace;
 use gib_arena::{Arena, Pass};
 use gib_core::Lowered;
 use gib_frame::Ending;
@@ -23,23 +23,23 @@ use std::sync::Wait;
 ///
 /// # Errors
 ///
-/// The task is left: who ran the right side found all chunks drawn, and the left side has a value; or left it for want of memory. Where
-/// all chunks are drawn and the left side had no depth left, that is what the task goes on with.
+/// The task is left: who ran the right side found all chunks drawn, and the left side has a value. Where all chunks are drawn and the left
+/// side had no depth left, that is what the task goes on with.
 pub(crate) fn join_here<'a, R: Wait>(
     rt: &R,
     arena: &'a Arena,
     lowered: &Lowered,
     mut job: Job,
     forks: &mut Forks<'a>,
-    desks: &Desks,
-) -> Result<Job, (Ending, Pass)>
+    desk: &mut Desk<'_>,
+) -> Result<Job, (Ending, Pass, Workspace)>
     requires holds { Holds arena.now lowered.now job }
     requires stands { (d : Debt) × StandsAt lowered.now d job AtJoin }
     requires mine { IsMine forks.old }
     requires here { IsHere job (worker_view forks.old).mine }
     ensures mine { IsMine forks.new × (worker_deque forks.new ≡ worker_deque forks.old) }
     ensures goes { Goes arena.entry.now lowered.entry.now (λ (d : Debt). StandsAt lowered.entry.now d job AtJoin) job (worker_view forks.new).mine result }
-    ensures unwinds { is_unwinding job.machine.doing ≡ true → IfErr result (λ end. end.0 ≡ Memory) }
+    ensures unwinds { is_unwinding job.machine.doing ≡ true → IsOk result }
 {
     let code = lowered.code();
     let Some(newest) = job.frames.pop() else {
@@ -49,15 +49,7 @@ pub(crate) fn join_here<'a, R: Wait>(
         job.machine.take(code);
         return Ok(job);
     };
-    match settle(
-        rt,
-        arena,
-        &mut job.pass,
-        &frame,
-        forks,
-        &mut job.here,
-        desks,
-    ) {
+    match settle(rt, arena, &mut job.pass, &frame, forks, &mut job.here, desk) {
         Back::Take => {
             job.machine.take(code);
             Ok(job)
@@ -68,11 +60,10 @@ pub(crate) fn join_here<'a, R: Wait>(
         }
         Back::Full => {
             if !job.machine.is_unwinding() {
-                return Err(leave(rt, arena, job, forks, desks));
+                return Err(leave(rt, arena, job, forks, desk));
             }
             job.machine.take(code);
             Ok(job)
         }
-        Back::Memory => Err(give_up(rt, arena, job, forks, desks)),
     }
 }

@@ -1,6 +1,6 @@
 //! A worker's task keeps the law of a task over the bytes of the worker's own pass: functions whose contracts are the laws.
 
-ghost use Rattle.std.specs.Prelude.{◌≡◌, ◌<◌, ◌^◌, ◌∷◌, ℕ, List, [], Option, Some};
+ghost use Rattle.std.specs.Prelude.{◌≡◌, ◌<◌, ◌^◌, ◌∷◌, length, ℕ, List, [], Option, Some};
 ghost use Rattle.atomic_table.specs.Table.{State as TableState};
 ghost use Rattle.gib_types.specs.declared.table.Ty.{Ty};
 ghost use Rattle.gib_types.specs.Layout.{LaidOut};
@@ -24,7 +24,8 @@ ghost use Rattle.gib_arena.specs.Sums.{times_path};
 ghost use Rattle.gib_frame.specs.declared.due.Due.{Due};
 ghost use Rattle.gib_pool.specs.Lent.{Lends, path};
 ghost use Rattle.gib_pool.specs.Together.{Together, fresh_to};
-ghost use Rattle.gib_pool.specs.Turn.{Works, WorksAfter, Wider};
+ghost use Rattle.gib_pool.specs.Turn.{Works, WorksAfter, WorksOn, Wider};
+ghost use Rattle.gib_machine.specs.Levels.{IsWithin};
 
 /// Who begins a right side owes what it owes, with no right sides of its own, and drew nothing.
 pub fn a_side_begins()
@@ -66,4 +67,11 @@ pub fn tasks_are_sound_together()
         → (l : LoweredParts) (d : Debt) (w : Waiting) → SideSafe (core_of l.core) l.code d (cells_of v.holding) w → SideSafe (core_of l.core) l.code d r w }
     ensures answer { (words : List ℕ) (views : List View) (r : Store) → Together words views r → (j : ℕ) (v : View) → IsPass views j v
         → (laid : LaidOut) (ty : Ty) (owed : Outcome) (a : Answer) → IsAnswer laid (cells_of v.holding) ty owed a → IsAnswer laid r ty owed a }
+{}
+
+/// At a fork a task whose open forks and levels left are no more than `top` has fewer right sides that were not joined: so room for `top`
+/// frames, taken where the task begins, is enough for all of them.
+#[tactic(auto, using(crate::proofs::Fitting::frames_fit))]
+pub fn there_is_room_for_a_frame()
+    ensures { (l : LoweredParts) (d : Debt) (s : Store) (n : ℕ) (lent : List (Option Due)) (m left : State) (right : Waiting) (top : ℕ) → WorksOn l d s n lent m left right → 0 < m.level → IsWithin top m → length lent < top }
 {}

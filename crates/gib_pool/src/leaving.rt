@@ -5,26 +5,26 @@ ghost use Rattle.crossbeam_deque.specs.Handles.{worker_deque, worker_view};
 ghost use Rattle.gib_arena.specs.Passes.{view};
 ghost use Rattle.gib_core.specs.LoweredParts.{LoweredParts};
 ghost use Rattle.gib_weave.specs.Owing.{Debt};
-ghost use Rattle.gib_frame.specs.declared.due.Ending.TheVariants.{Memory};
 ghost use Rattle.gib_pool.specs.Jobs.{Holds, IsHere, IsBackWhole, PaysStill, Settles};
 ghost use Rattle.gib_pool.specs.Mine.{IsMine};
 
-use crate::desks::Desks;
+use crate::desks::Desk;
 use crate::drain::drain_frames;
 use crate::forks::Forks;
 use crate::job::Job;
+use crate::workspace::Workspace;
 use gib_arena::{Arena, Pass};
 use gib_frame::Ending;
 use std::sync::Wait;
 
-/// Leaves a task whose pass saw all chunks drawn. All that was split off its pass comes back.
+/// Leaves a task whose pass saw all chunks drawn. All that was split off its pass comes back, and so does the workspace.
 pub(crate) fn leave<'a, R: Wait>(
     rt: &R,
     arena: &'a Arena,
     job: Job,
     forks: &mut Forks<'a>,
-    desks: &Desks,
-) -> (Ending, Pass)
+    desk: &mut Desk<'_>,
+) -> (Ending, Pass, Workspace)
     requires holds { (l : LoweredParts) × Holds arena.now l job }
     requires mine { IsMine forks.old }
     requires here { IsHere job (worker_view forks.old).mine }
@@ -33,33 +33,12 @@ pub(crate) fn leave<'a, R: Wait>(
     ensures settles { (l : LoweredParts) → (view job.pass).holding.seen ≡ (view job.pass).branch.limit → Settles l (λ (d : Debt). PaysStill l d job) result.0 result.1 }
 {
     let Job {
-        machine: _,
+        machine,
         tails: _,
         mut pass,
         mut frames,
         mut here,
     } = job;
-    if drain_frames(rt, arena, &mut pass, &mut frames, forks, &mut here, desks) {
-        return (Ending::Full, pass);
-    }
-    (Ending::Memory, pass)
-}
-
-/// Leaves a task for want of memory. All that was split off its pass comes back.
-pub(crate) fn give_up<'a, R: Wait>(
-    rt: &R,
-    arena: &'a Arena,
-    job: Job,
-    forks: &mut Forks<'a>,
-    desks: &Desks,
-) -> (Ending, Pass)
-    requires holds { (l : LoweredParts) × Holds arena.now l job }
-    requires mine { IsMine forks.old }
-    requires here { IsHere job (worker_view forks.old).mine }
-    ensures mine { IsMine forks.new × (worker_deque forks.new ≡ worker_deque forks.old) }
-    ensures memory { result.0 ≡ Memory }
-    ensures back { IsBackWhole arena.entry.now job.pass result.1 }
-{
-    let (_ending, pass) = leave(rt, arena, job, forks, desks);
-    (Ending::Memory, pass)
+    drain_frames(rt, arena, &mut pass, &mut frames, forks, &mut here, desk);
+    (Ending::Full, pass, Workspace { machine, frames })
 }

@@ -22,5 +22,7 @@ mod running;
 mod shared;
 mod worker;
 mod working;
+mod workspace;
 
-pub use run::{Crew, Loaded, run_by};
+pub use crew::Crew;
+pub use run::{Loaded, run_by};

@@ -1,13 +1,15 @@
-//! What a worker tells the others.
+//! What a worker has of its run.
 
 use crate::bell::Bell;
 use crate::desks::Desks;
 use gib_edge::outside::{Gate, Point};
-use std::sync::Wait;
+use std::alloc::Global;
 
-/// Where a worker tells what it did: the bell that all workers of a run hear, their desks, and the gate, with the number of the worker.
+/// What a worker has of its run beside its task: where it takes memory for what it forks, the bell that all workers hear, their desks, and
+/// the gate, with the number of the worker.
 #[derive(Drop)]
 pub(crate) struct Post<'a, G: Gate> {
+    pub(crate) alloc: Global,
     pub(crate) bell: &'a Bell,
     pub(crate) desks: &'a Desks,
     pub(crate) gate: &'a G,
@@ -16,8 +18,8 @@ pub(crate) struct Post<'a, G: Gate> {
 
 impl<'a, G: Gate> Post<'a, G> {
     /// A fork was made, and its left side was not begun.
-    pub(crate) fn forked<R: Wait>(&self, rt: &R) {
-        self.bell.ring(rt);
+    pub(crate) fn forked(&self) {
+        self.bell.ring();
         self.gate.at(self.worker, Point::Forked);
     }
 

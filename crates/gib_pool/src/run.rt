@@ -1,8 +1,12 @@
 //! A run of a core on a value that was loaded, by several workers.
 
-ghost use Rattle.std.specs.Prelude.{◌≡◌, IsErrOf};
+ghost use Rattle.std.specs.Prelude.{◌≡◌, ◌≤◌, ℕ, List, IfOk, IsErrOf};
+ghost use Rattle.std.specs.Vec.{vec_capacity};
 ghost use Rattle.gib_types.specs.Tree.{Datum};
-ghost use Rattle.gib_weave.specs.Running.{IsStart, Kept};
+ghost use Rattle.gib_core.specs.Parts.{core_of};
+ghost use Rattle.gib_machine.specs.Stepping.{with_tails};
+ghost use Rattle.gib_weave.specs.Running.{IsStart, Kept, word_of};
+ghost use Rattle.gib_weave.specs.Starting.{root_start};
 ghost use Rattle.gib_weave.specs.declared.root_run.RunFault.TheVariants.{Full};
 ghost use Rattle.gib_arena.specs.Passes.{view, IsOf};
 ghost use Rattle.gib_arena.specs.Tree.{IsAlone};
@@ -11,10 +15,12 @@ ghost use Rattle.gib_pool.specs.Jobs.{IsBackWhole};
 ghost use Rattle.gib_pool.specs.Runs.{pass_memory, outcome, IsRun};
 
 use crate::bell::Bell;
-use crate::crew::{make_members, work_together};
+use crate::crew::{Crew, count_workers, make_members, work_together};
 use crate::desks::Desks;
 use crate::job::Job;
 use crate::shared::Shared;
+use crate::workspace::Workspace;
+use crossbeam_utils::CachePadded;
 use gib_arena::{Arena, Pass, SoleMem};
 use gib_code::Answer;
 use gib_core::Lowered;
@@ -24,21 +30,9 @@ use gib_mem::Mem;
 use gib_packed::Root;
 use gib_region::Tails;
 use gib_weave::{RunFault, root_machine};
-use std::alloc::Global;
+use std::alloc::{AllocError, Global};
 use std::sync::Wait;
 use std::thread::Threads;
-
-/// How a run is made.
-#[derive(Clone, Copy, Debug)]
-pub struct Crew {
-    /// How many workers run at a time: at least 1; with none the run ends for want of memory. There are twice as many, each in a thread of
-    /// its own, the first in the caller's, since one that waits lets another run.
-    pub workers: u32,
-    /// How many calls may nest.
-    pub depth: u32,
-    /// How many forks may nest.
-    pub level: u32,
-}
 
 /// A value that was loaded: its root in a memory, and the tails that are kept for what is placed next.
 #[derive(Drop)]
@@ -55,8 +49,27 @@ fn outcome_of(ending: Ending) -> Result<Answer, RunFault>
     match ending {
         Ending::Answer(answer) => Ok(answer),
         Ending::Full => Err(RunFault::Full),
-        Ending::NotRun | Ending::Memory => Err(RunFault::Memory),
+        Ending::NotRun => Err(RunFault::Memory),
     }
+}
+
+/// The workspace of a run's root: main's machine with the word of its parameter, and room for a frame for each fork that may nest.
+///
+/// # Errors
+///
+/// Want of memory.
+fn root_workspace(
+    alloc: Global,
+    lowered: &Lowered,
+    root: Root,
+    crew: Crew,
+) -> Result<Workspace, AllocError>
+    ensures machine { IfOk result (λ w. (tails : List ℕ) → with_tails w.machine tails ≡ root_start (core_of lowered.now.core) lowered.now.code (word_of root) crew.depth crew.level tails) }
+    ensures room { IfOk result (λ w. crew.level ≤ vec_capacity w.frames) }
+{
+    let machine = root_machine(alloc, lowered, root, crew.depth, crew.level)?;
+    let frames = Vec::with_capacity(alloc, crew.level as usize)?;
+    Ok(Workspace { machine, frames })
 }
 
 /// Counts the chunks by the first pass, where no other one is out: it drew all that are drawn. The pass is as it was.
@@ -94,17 +107,21 @@ fn run_in<'a, R: Threads + Wait + Sync, G: Gate + Sync>(
     ensures full { IsErrOf result.0 Full → (pass_memory result.1).share ≡ (pass_memory result.1).limit }
 {
     shared.lowered.core();
-    let _code = shared.lowered.code();
-    let Ok(machine) = root_machine(alloc, shared.lowered, root, crew.depth, crew.level) else {
+    let code = shared.lowered.code();
+    let Ok(workspace) = root_workspace(alloc, shared.lowered, root, crew) else {
         return (Err(RunFault::Memory), first);
     };
-    let Ok(members) = make_members(alloc, crew.workers.saturating_mul(2)) else {
+    let workers = count_workers(code, crew);
+    let Ok(mut members) = make_members(alloc, code, crew, workers) else {
         return (Err(RunFault::Memory), first);
+    };
+    let Some(member) = members.pop() else {
+        unreachable!()
     };
     let mut pass = first;
     count_all(shared.arena, &mut pass);
-    let job = Job::make(alloc, machine, tails, pass);
-    let (ending, mut last) = work_together(rt, alloc, shared, job, members);
+    let job = Job::make(workspace, tails, pass);
+    let (ending, mut last) = work_together(rt, alloc, shared, job, member, members);
     count_all(shared.arena, &mut last);
     (outcome_of(ending), last)
 }
@@ -135,8 +152,8 @@ pub fn run_by<R: Threads + Wait + Sync, G: Gate + Sync>(
         root,
     } = loaded;
     let (arena, first) = memory.into_parts();
-    let bell = Bell::new();
-    let desks = Desks::new(crew.workers);
+    let bell = CachePadded::new(Bell::new());
+    let desks = CachePadded::new(Desks::new(crew.workers.max(1)));
     let shared = Shared {
         arena: &arena,
         lowered,

@@ -6,6 +6,7 @@ ghost use Rattle.gib_weave.specs.Owing.{Debt};
 ghost use Rattle.gib_pool.specs.Jobs.{Goes, Holds, IsHere, IsOver, OwesStill};
 ghost use Rattle.gib_pool.specs.Mine.{IsMine};
 
+use crate::desks::Desk;
 use crate::forking::fork_here;
 use crate::forks::Forks;
 use crate::job::Job;
@@ -13,24 +14,24 @@ use crate::joining::join_here;
 use crate::leaving::leave;
 use crate::post::Post;
 use crate::running::run_on;
+use crate::workspace::Workspace;
 use gib_arena::{Arena, Pass};
 use gib_core::Lowered;
 use gib_edge::outside::Gate;
 use gib_frame::Ending;
 use gib_machine::Turn;
-use std::alloc::Global;
 use std::sync::Wait;
 
-/// Goes on until the task's machine stood once. Where the task has ended, how it did and its pass come back.
+/// Goes on until the task's machine stood once. Where the task has ended, how it did, its pass and the workspace come back.
 fn stand_once<'a, R: Wait, G: Gate>(
     rt: &R,
-    alloc: Global,
     arena: &'a Arena,
     lowered: &'a Lowered,
     job: Job,
     forks: &mut Forks<'a>,
     post: &Post<'_, G>,
-) -> Result<Job, (Ending, Pass)>
+    desk: &mut Desk<'_>,
+) -> Result<Job, (Ending, Pass, Workspace)>
     requires holds { Holds arena.now lowered.now job }
     requires owes { (d : Debt) × OwesStill lowered.now d job }
     requires mine { IsMine forks.old }
@@ -41,32 +42,39 @@ fn stand_once<'a, R: Wait, G: Gate>(
     let (job, turn) = run_on(rt, arena, lowered, job);
     match turn {
         Turn::Went => unreachable!(),
-        Turn::Ended(answer) => Err((Ending::Answer(answer), job.pass)),
-        Turn::Full => Err(leave(rt, arena, job, forks, post.desks)),
-        Turn::AtFork => match fork_here(rt, alloc, arena, lowered, job, forks, post.desks) {
-            Ok(job) => {
-                if job.is_offered() {
-                    post.forked(rt);
-                }
-                Ok(job)
+        Turn::Ended(answer) => {
+            let Job {
+                machine,
+                tails: _,
+                pass,
+                frames,
+                here: _,
+            } = job;
+            Err((Ending::Answer(answer), pass, Workspace { machine, frames }))
+        }
+        Turn::Full => Err(leave(rt, arena, job, forks, desk)),
+        Turn::AtFork => {
+            let job = fork_here(post.alloc, arena, lowered, job, forks);
+            if job.is_offered() {
+                post.forked();
             }
-            Err(end) => Err(end),
-        },
-        Turn::AtJoin => join_here(rt, arena, lowered, job, forks, post.desks),
+            Ok(job)
+        }
+        Turn::AtJoin => join_here(rt, arena, lowered, job, forks, desk),
     }
 }
 
 /// Runs a task to its end: its forks are offered to others, and those that nobody stole are run here. Its pass comes back with all
-/// that was split off it.
+/// that was split off it, and the workspace for the next task.
 pub(crate) fn work<'a, R: Wait, G: Gate>(
     rt: &R,
-    alloc: Global,
     arena: &'a Arena,
     lowered: &'a Lowered,
     job: Job,
     forks: &mut Forks<'a>,
     post: &Post<'_, G>,
-) -> (Ending, Pass)
+    desk: &mut Desk<'_>,
+) -> (Ending, Pass, Workspace)
     requires holds { Holds arena.now lowered.now job }
     requires owes { (d : Debt) × OwesStill lowered.now d job }
     requires mine { IsMine forks.old }
@@ -76,7 +84,7 @@ pub(crate) fn work<'a, R: Wait, G: Gate>(
 {
     let mut current = job;
     'turns: for _ in rt.forever() {
-        match stand_once(rt, alloc, arena, lowered, current, forks, post) {
+        match stand_once(rt, arena, lowered, current, forks, post, desk) {
             Ok(next) => current = next,
             Err(end) => return end,
         }

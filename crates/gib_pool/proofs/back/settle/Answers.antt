@@ -15,10 +15,10 @@ returns-in-Some-clause-lends g c = λ lent h.
     let v = c.join.ensures.both in
     let o = c.requires.latest c.if-here-gt0.true in
     let due : c.in-Some.task.due ≡ frame_due c.args.frame.now = latest _ _ _ _ (sym c.in-Some.ensures.some ∙ o.1) in
-    let t = c.open-reply.ensures in
-    let is : c.open-reply.result.4 ≡ (frame_due c.args.frame.now).pass.value = t.parts.1 ∙ (sym t.task.pass ∙ ap (λ (d : Due). d.pass.value) due) in
-    let none = ap (λ (p : Pass). (view p).branch.out) t.parts.1 ∙ t.task.none_out in
-    lends_less c.args.pass.now c.open-reply.result.4 c.join.new.self v.0 (frame_due c.args.frame.now) lent (c.join.ensures.of ∙ sym c.requires.own.0) v.1 (ap (λ (p : Pass). (view p).branch.path) is) none h
+    let t = c.into_pass.ensures in
+    let is : c.into_pass.result ≡ (frame_due c.args.frame.now).pass.value = t.pass ∙ (sym t.task.pass ∙ ap (λ (d : Due). d.pass.value) due) in
+    let none = ap (λ (p : Pass). (view p).branch.out) t.pass ∙ t.task.none_out in
+    lends_less c.args.pass.now c.into_pass.result c.join.new.self v.0 (frame_due c.args.frame.now) lent (c.join.ensures.of ∙ sym c.requires.own.0) v.1 (ap (λ (p : Pass). (view p).branch.path) is) none h
 
 pub returns-in-Answer-clause-lends : goal.returns-in-Answer-clause-lends
 returns-in-Answer-clause-lends g c = λ lent h.
@@ -32,11 +32,6 @@ returns-in-Full-clause-lends g c = λ lent h.
 
 pub returns-in-NotRun-clause-lends : goal.returns-in-NotRun-clause-lends
 returns-in-NotRun-clause-lends g c = λ lent h.
-    let v = c.join-2.ensures.both in let d = c.wait_answer-ending.ensures in
-    lends_less c.args.pass.now c.wait_answer-ending.result.1 c.join-2.new.self v.0 (frame_due c.args.frame.now) lent (c.join-2.ensures.of ∙ sym c.requires.own.0) v.1 d.his.path d.his.none_out h
-
-pub returns-in-Memory-clause-lends : goal.returns-in-Memory-clause-lends
-returns-in-Memory-clause-lends g c = λ lent h.
     let v = c.join-2.ensures.both in let d = c.wait_answer-ending.ensures in
     lends_less c.args.pass.now c.wait_answer-ending.result.1 c.join-2.new.self v.0 (frame_due c.args.frame.now) lent (c.join-2.ensures.of ∙ sym c.requires.own.0) v.1 d.his.path d.his.none_out h
 

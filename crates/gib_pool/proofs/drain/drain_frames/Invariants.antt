@@ -1,4 +1,4 @@
-use Rattle.std.proofs.Common.{◌≡◌, ◌≤◌, true, length}
+use Rattle.std.proofs.Common.{◌≡◌, ◌≤◌, length}
 use Rattle.crossbeam_deque.specs.Handles.{worker_deque, worker_view}
 use Rattle.gib_core.specs.Cost.{Cost}
 use Rattle.gib_core.specs.LoweredParts.{LoweredParts}
@@ -19,7 +19,7 @@ invariant-frames g l = record {
   here : AreHere (lent_of l.frames.items) l.here (worker_view l.forks).mine;
   same : IsSamePass l.initial.pass l.pass;
   seen : (view l.initial.pass).holding.seen ≤ (view l.pass).holding.seen;
-  paid : l.known ≡ true → (w : LoweredParts) (most : Cost) → Pays w most (drawn_by l.initial.pass) (lent_of l.initial.frames.items) → Pays w most (drawn_by l.pass) (lent_of l.frames.items);
+  paid : (w : LoweredParts) (most : Cost) → Pays w most (drawn_by l.initial.pass) (lent_of l.initial.frames.items) → Pays w most (drawn_by l.pass) (lent_of l.frames.items);
 }
 
 abbrev pub decreases-frames : goal.decreases-frames

@@ -1,10 +1,10 @@
 use Rattle.std.proofs.Common.{sym, ◌∙◌}
 use Rattle.gib_machine.specs.Stepping.{with_tails}
-use Rattle.gib_pool.proofs.Standing.{stays, stays_on, whole, can_step, same, steps, stands, keeps_width}
+use Rattle.gib_pool.proofs.Standing.{stays, stays_on, whole, can_step, same, steps, stands, keeps_width, turn_within}
 use Rattle.gib_pool.proofs.going.go_on.Goals as goal
 
 pub turns-init : goal.turns-init
-turns-init g c = record { works = λ d lent w. w; same = stays _; made = c.requires.made }
+turns-init g c = record { works = λ d lent w. w; same = stays _; made = c.requires.made; within = λ n h. h }
 
 pub step-requires : goal.step-requires
 step-requires g c =
@@ -26,6 +26,7 @@ turns-preserved g c =
       works = λ d lent h. steps l c.code-code.result.now c.code-code.ensures.value ok d lent v v' s s' c.step.result (g.met.M.Mem.bounded c.turns.mem) c.in-Went.is c.step.ensures (c.turns.invariant.works d lent h);
       same = stays_on (g.M.Mem.view c.args.mem.now) v v' c.turns.invariant.same (same l c.code-code.result.now c.code-code.ensures.value ok w.0 w.1 v v' s s' c.step.result (g.met.M.Mem.bounded c.turns.mem) c.step.ensures (c.turns.invariant.works w.0 w.1 w.2));
       made = keeps_width l c.code-code.result.now c.code-code.ensures.value ok v v' s s' c.step.result c.step.ensures ∙ c.turns.invariant.made;
+      within = λ n h. turn_within n c.code-code.result.now s s' v v' c.step.result c.step.ensures (c.turns.invariant.within n h);
     }
 
 pub returns-in_default : goal.returns-in_default
@@ -41,4 +42,5 @@ returns-in_default g c =
       comes = λ d lent h. stands l c.code-code.result.now c.code-code.ensures.value ok d lent v v' s s' c.step.result (g.met.M.Mem.bounded c.turns.mem) c.in_default.not-Went c.step.ensures (c.turns.invariant.works d lent h);
       same = stays_on (g.M.Mem.view c.args.mem.now) v v' c.turns.invariant.same (same l c.code-code.result.now c.code-code.ensures.value ok w.0 w.1 v v' s s' c.step.result (g.met.M.Mem.bounded c.turns.mem) c.step.ensures (c.turns.invariant.works w.0 w.1 w.2));
       made = keeps_width l c.code-code.result.now c.code-code.ensures.value ok v v' s s' c.step.result c.step.ensures ∙ (c.turns.invariant.made ∙ sym c.requires.made);
+      within = λ n h. turn_within n c.code-code.result.now s s' v v' c.step.result c.step.ensures (c.turns.invariant.within n h);
     }

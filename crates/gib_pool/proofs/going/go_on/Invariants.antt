@@ -1,4 +1,5 @@
-use Rattle.std.proofs.Common.{◌≡◌, List, Option}
+use Rattle.std.proofs.Common.{◌≡◌, ℕ, List, Option}
+use Rattle.gib_machine.specs.Levels.{IsWithin}
 use Rattle.gib_machine.specs.Machine.{widest}
 use Rattle.gib_machine.specs.Stepping.{with_tails}
 use Rattle.gib_weave.specs.Owing.{Debt}
@@ -12,4 +13,5 @@ invariant-turns g l = record {
   works : (d : Debt) (lent : List (Option Due)) → Works l.fn.lowered d (g.M.Mem.view l.fn.mem).cells (g.M.Mem.view l.fn.mem).share (with_tails l.fn.machine l.fn.tails) lent → Works l.fn.lowered d (g.M.Mem.view l.mem).cells (g.M.Mem.view l.mem).share (with_tails l.machine l.tails) lent;
   same : IsSame (g.M.Mem.view l.fn.mem) (g.M.Mem.view l.mem);
   made : l.machine.width ≡ widest l.fn.lowered.code.functions;
+  within : (n : ℕ) → IsWithin n (with_tails l.fn.machine l.fn.tails) → IsWithin n (with_tails l.machine l.tails);
 }

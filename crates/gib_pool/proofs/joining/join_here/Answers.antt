@@ -1,14 +1,15 @@
 use Rattle.std.proofs.Common.{◌≡◌, ◌-◌, List, [], ◌∷◌, ◌++◌, take, refl, sym, ap, subst, ◌∙◌}
 use Rattle.std.specs.Prelude.{Option, Some, None}
+use Rattle.std.specs.Vec.{vec_capacity}
 use Rattle.crossbeam_deque.specs.Handles.{worker_view}
-use Rattle.gib_machine.specs.Machine.{State}
+use Rattle.gib_machine.specs.Machine.{State, takes, joins}
 use Rattle.gib_machine.specs.Stepping.{with_tails}
 use Rattle.gib_machine.specs.declared.turn.Turn.TheVariants.{AtJoin}
 use Rattle.gib_weave.specs.Owing.{Debt}
+use Rattle.gib_machine.proofs.Levels.{take_stays_within, join_stays_within}
 use Rattle.gib_machine.proofs.Widths.{take_keeps_width, join_keeps_width}
 use Rattle.gib_arena.specs.Passes.{view, cells}
 use Rattle.gib_frame.specs.declared.due.Due.{Due}
-use Rattle.gib_frame.specs.declared.due.Ending.{Ending}
 use Rattle.gib_frame.specs.declared.ends.Frame.{Frame}
 use Rattle.gib_frame.specs.Answers.{drawn_by}
 use Rattle.gib_frame.specs.Dues.{frame_due}
@@ -16,10 +17,11 @@ use Rattle.gib_pool.specs.Backs.{IsBack}
 use Rattle.gib_pool.specs.declared.back.Back.{Back}
 use Rattle.gib_pool.specs.declared.job.Job.{Job}
 use Rattle.gib_pool.specs.Frames.{lent_of, AreHere}
-use Rattle.gib_pool.specs.Jobs.{job_state, job_lent, PaysStill, Settles, StandsAt}
+use Rattle.gib_pool.specs.Jobs.{job_state, job_lent, PaysStill, StandsAt}
 use Rattle.gib_pool.specs.Lent.{Lends}
 use Rattle.gib_pool.proofs.Lending.{lends_it}
 use Rattle.gib_pool.proofs.Draining.{now_lent, here_latest}
+use Rattle.gib_pool.proofs.Fitting.{within_then}
 use Rattle.gib_pool.proofs.Joinings.{Settled, goes_on, holds_then, here_then}
 use Rattle.gib_pool.proofs.Passing.{wider, no_wider, lends_none_less, back_on, same_still, settles_for}
 use Rattle.gib_pool.proofs.Standings.{some_left, takes_back, answers_back, unwinds_back, pays_back}
@@ -37,8 +39,14 @@ returns-in_default-newest-clause-goes g c =
     let p = c.args.job.pass in
     let rest = lent_of c.pop.new.self.items in
     let h = c.requires.holds in
+    let new : Job = record { machine = c.take.new.self; tails = c.args.job.tails; pass = p; frames = c.pop.new.self; here = c.args.job.here } in
     record {
-      holds = record { own = h.own; lends = lends_none_less p rest (subst (Lends p) e h.lends); made = ap (λ (s : State). s.width) (c.take.ensures c.args.job.tails) ∙ (take_keeps_width (job_state c.args.job) ∙ h.made) };
+      holds = record {
+        own = h.own;
+        lends = lends_none_less p rest (subst (Lends p) e h.lends);
+        made = ap (λ (s : State). s.width) (c.take.ensures c.args.job.tails) ∙ (take_keeps_width (job_state c.args.job) ∙ h.made);
+        within = within_then c.args.job new (takes (job_state c.args.job)) c.in-Some.ensures.capacity (c.take.ensures c.args.job.tails) (take_stays_within (vec_capacity c.args.job.frames) (job_state c.args.job) h.within);
+      };
       owes = λ d w. takes_back l d (cells p) (drawn_by p) (drawn_by p) (job_lent c.args.job) rest None (job_state c.args.job) (with_tails c.take.new.self c.args.job.tails) (w.1 (cells p) (no_wider c.args.arena.now p h.own)) e refl (c.take.ensures c.args.job.tails);
       here = subst (λ (es : List (Option Due)). AreHere es c.args.job.here (worker_view c.args.forks.now).mine) e c.requires.here;
       same = same_still p;
@@ -80,6 +88,7 @@ returns-in-Take-clause-goes g c =
     in
     let b = subst (λ (r : Back). IsBack due (view old.pass) (view new.pass) mine more old.here new.here r) c.in-Take.is s.back in
     goes_on c.args.arena.now c.args.lowered.now old new due mine more c.settle.result settled c.requires.holds c.requires.here (ap (λ (m : State). m.width) (c.take-in-Take.ensures old.tails) ∙ take_keeps_width (job_state old))
+    (within_then old new (takes (job_state old)) c.in-Some.ensures.capacity (c.take-in-Take.ensures old.tails) (take_stays_within (vec_capacity old.frames) (job_state old) c.requires.holds.within))
     (λ d w. takes_back c.args.lowered.now d (cells new.pass) (drawn_by old.pass) (drawn_by new.pass) (job_lent old) (job_lent new) (Some due) (job_state old) (job_state new) (w.1 (cells new.pass) (wider c.args.arena.now old.pass new.pass s.own s.knows s.free)) settled.newest b.0 (c.take-in-Take.ensures old.tails))
 
 pub returns-in-Answer-clause-goes : goal.returns-in-Answer-clause-goes
@@ -100,10 +109,11 @@ returns-in-Answer-clause-goes g c =
     in
     let b = subst (λ (r : Back). IsBack due (view old.pass) (view new.pass) mine more old.here new.here r) c.in-Answer.is s.back in
     goes_on c.args.arena.now c.args.lowered.now old new due mine more c.settle.result settled c.requires.holds c.requires.here (ap (λ (m : State). m.width) (c.join.ensures old.tails) ∙ join_keeps_width (job_state old) c.in-Answer.answer)
+    (within_then old new (joins (job_state old) c.in-Answer.answer) c.in-Some.ensures.capacity (c.join.ensures old.tails) (join_stays_within (vec_capacity old.frames) (job_state old) c.in-Answer.answer c.requires.holds.within))
     (λ d w. answers_back c.args.lowered.now d (cells new.pass) (drawn_by old.pass) (drawn_by new.pass) b.0 (job_lent old) (job_lent new) due c.in-Answer.answer (job_state old) (job_state new) (w.1 (cells new.pass) (wider c.args.arena.now old.pass new.pass s.own s.knows s.free)) settled.newest b.3 b.4 (c.join.ensures old.tails))
 
-pub returns-in-Full-clause-goes : goal.returns-in-Full-clause-goes
-returns-in-Full-clause-goes g c =
+pub returns-clause-goes : goal.returns-clause-goes
+returns-clause-goes g c =
     let s = c.settle.ensures in
     let due = frame_due c.in-Some-newest.frame in
     let old = c.args.job in
@@ -120,6 +130,7 @@ returns-in-Full-clause-goes g c =
     in
     let b = subst (λ (r : Back). IsBack due (view old.pass) (view new.pass) mine more old.here new.here r) c.in-Full.is s.back in
     goes_on c.args.arena.now c.args.lowered.now old new due mine more c.settle.result settled c.requires.holds c.requires.here (ap (λ (m : State). m.width) (c.take-in-Full.ensures old.tails) ∙ take_keeps_width (job_state old))
+    (within_then old new (takes (job_state old)) c.in-Some.ensures.capacity (c.take-in-Full.ensures old.tails) (take_stays_within (vec_capacity old.frames) (job_state old) c.requires.holds.within))
     (λ d w. unwinds_back c.args.lowered.now d (cells new.pass) (drawn_by old.pass) (drawn_by new.pass) b.0 (job_lent old) (job_lent new) due (job_state old) (job_state new) (w.1 (cells new.pass) (wider c.args.arena.now old.pass new.pass s.own s.knows s.free)) settled.newest b.3 b.5 (sym c.is_unwinding.ensures ∙ c.if-not-is_unwinding.false) (c.take-in-Full.ensures old.tails))
 
 pub leave-requires-clause-holds : goal.leave-requires-clause-holds
@@ -138,46 +149,10 @@ leave-requires-clause-holds g c =
       back = s.back;
     }
     in
-    (c.args.lowered.now, holds_then c.args.arena.now c.args.lowered.now old new due mine more c.settle.result settled c.requires.holds refl)
+    (c.args.lowered.now, holds_then c.args.arena.now c.args.lowered.now old new due mine more c.settle.result settled c.requires.holds refl (within_then old new (job_state old) c.in-Some.ensures.capacity refl c.requires.holds.within))
 
 pub leave-requires-clause-here : goal.leave-requires-clause-here
 leave-requires-clause-here g c =
-    let s = c.settle.ensures in
-    let due = frame_due c.in-Some-newest.frame in
-    let old = c.args.job in
-    let new : Job = record { machine = c.args.job.machine; tails = c.args.job.tails; pass = c.settle.new.pass; frames = c.pop.new.self; here = c.settle.new.here } in
-    let mine = (worker_view c.args.forks.now).mine in
-    let more = (worker_view c.settle.new.forks).mine in
-    let settled : Settled c.args.arena.now old new due mine more c.settle.result = record {
-      newest = now_lent old.frames.items c.pop.new.self.items c.in-Some.newest (Some c.in-Some-newest.frame) c.in-Some.ensures.items c.in-Some-newest.is;
-      own = s.own;
-      lends = s.lends;
-      same = record { path = s.path; limit = s.seen.1; known = s.knows };
-      back = s.back;
-    }
-    in
-    here_then c.args.arena.now c.args.lowered.now old new due mine more c.settle.result settled c.requires.here
-
-pub give_up-requires-clause-holds : goal.give_up-requires-clause-holds
-give_up-requires-clause-holds g c =
-    let s = c.settle.ensures in
-    let due = frame_due c.in-Some-newest.frame in
-    let old = c.args.job in
-    let new : Job = record { machine = c.args.job.machine; tails = c.args.job.tails; pass = c.settle.new.pass; frames = c.pop.new.self; here = c.settle.new.here } in
-    let mine = (worker_view c.args.forks.now).mine in
-    let more = (worker_view c.settle.new.forks).mine in
-    let settled : Settled c.args.arena.now old new due mine more c.settle.result = record {
-      newest = now_lent old.frames.items c.pop.new.self.items c.in-Some.newest (Some c.in-Some-newest.frame) c.in-Some.ensures.items c.in-Some-newest.is;
-      own = s.own;
-      lends = s.lends;
-      same = record { path = s.path; limit = s.seen.1; known = s.knows };
-      back = s.back;
-    }
-    in
-    (c.args.lowered.now, holds_then c.args.arena.now c.args.lowered.now old new due mine more c.settle.result settled c.requires.holds refl)
-
-pub give_up-requires-clause-here : goal.give_up-requires-clause-here
-give_up-requires-clause-here g c =
     let s = c.settle.ensures in
     let due = frame_due c.in-Some-newest.frame in
     let old = c.args.job in
@@ -217,26 +192,4 @@ returns-then-not-is_unwinding-clause-goes g c =
       settles = settles_for l (λ (d : Debt). PaysStill l d new) (λ (d : Debt). StandsAt l d old AtJoin) c.leave.result.0 c.leave.result.1
           (λ d w. pays_back l d (cells new.pass) (drawn_by old.pass) (drawn_by new.pass) b.0 (job_lent old) (job_lent new) due (job_state old) (w.1 (cells new.pass) (wider c.args.arena.now old.pass new.pass s.own s.knows s.free)) settled.newest b.3 b.5)
           (c.leave.ensures.settles l b.4);
-    }
-
-pub returns-clause-goes : goal.returns-clause-goes
-returns-clause-goes g c =
-    let s = c.settle.ensures in
-    let due = frame_due c.in-Some-newest.frame in
-    let old = c.args.job in
-    let new : Job = record { machine = c.args.job.machine; tails = c.args.job.tails; pass = c.settle.new.pass; frames = c.pop.new.self; here = c.settle.new.here } in
-    let mine = (worker_view c.args.forks.now).mine in
-    let more = (worker_view c.settle.new.forks).mine in
-    let settled : Settled c.args.arena.now old new due mine more c.settle.result = record {
-      newest = now_lent old.frames.items c.pop.new.self.items c.in-Some.newest (Some c.in-Some-newest.frame) c.in-Some.ensures.items c.in-Some-newest.is;
-      own = s.own;
-      lends = s.lends;
-      same = record { path = s.path; limit = s.seen.1; known = s.knows };
-      back = s.back;
-    }
-    in
-    let l = c.args.lowered.now in
-    record {
-      back = back_on c.args.arena.now old.pass new.pass c.give_up.result.1 settled.same c.give_up.ensures.back;
-      settles = subst (λ (e : Ending). Settles l (λ (d : Debt). StandsAt l d old AtJoin) e c.give_up.result.1) (sym c.give_up.ensures.memory) tt;
     }

@@ -1,4 +1,4 @@
-use Rattle.std.proofs.Common.{ℕ, [], sym, ap, subst, ◌∙◌}
+use Rattle.std.proofs.Common.{◌≡◌, ℕ, [], sym, ap, subst, ◌∙◌, arith}
 use Rattle.std.specs.Prelude.{Result}
 use Rattle.gib_types.specs.Tree.{Datum}
 use Rattle.gib_core.specs.Parts.{core_of}
@@ -31,9 +31,10 @@ work_together-ending-requires-clause-holds g c κs within =
     let level = c.args.crew.level in
     let counted = c.count_all.ensures in
     let job = c.make-job.ensures in
-    let made : IsMade c.make-job.result c.in-Ok.machine tails pass = record { machine = job.machine.0; tails = job.machine.1; pass = job.pass; frames = job.frames.0 } in
-    let start = c.in-Ok.ensures tails in
-    made_holds a l c.make-job.result c.in-Ok.machine tails pass made counted.own (ap (λ (v : View). v.branch.out) counted.same ∙ c.requires.alone.2) (ap (λ (s : State). s.width) start)
+    let made : IsMade c.make-job.result c.in-Ok.workspace.machine tails pass = record { machine = job.machine.0; tails = job.machine.1; pass = job.pass; frames = job.frames.0 } in
+    let start = c.in-Ok.ensures.machine tails in
+    made_holds a l c.make-job.result c.in-Ok.workspace.machine tails pass made counted.own (ap (λ (v : View). v.branch.out) counted.same ∙ c.requires.alone.2) (ap (λ (s : State). s.width) start) (ap (λ (s : State). s.pars) start)
+    (let few = c.in-Ok.ensures.room in let at : c.in-Ok.workspace.machine.level ≡ level = ap (λ (s : State). s.level) start in let room = job.room in omega (arith, few, at, room))
 
 pub work_together-ending-requires-clause-owes : goal.work_together-ending-requires-clause-owes
 work_together-ending-requires-clause-owes g c κs within =
@@ -45,11 +46,11 @@ work_together-ending-requires-clause-owes g c κs within =
     let level = c.args.crew.level in
     let counted = c.count_all.ensures in
     let job = c.make-job.ensures in
-    let made : IsMade c.make-job.result c.in-Ok.machine tails pass = record { machine = job.machine.0; tails = job.machine.1; pass = job.pass; frames = job.frames.0 } in
-    let start = c.in-Ok.ensures tails in
+    let made : IsMade c.make-job.result c.in-Ok.workspace.machine tails pass = record { machine = job.machine.0; tails = job.machine.1; pass = job.pass; frames = job.frames.0 } in
+    let start = c.in-Ok.ensures.machine tails in
     let ok = whole l c.code-code.ensures.lowered c.core.ensures.fits c.code-code.ensures.runs in
     let owes : (d : Datum) → IsStart l c.args.root tails (pass_memory c.args.first) d → OwesStill l (root_debt l depth level d) c.make-job.result = λ d st.
-    job_owes l (root_debt l depth level d) c.make-job.result c.in-Ok.machine tails pass made
+    job_owes l (root_debt l depth level d) c.make-job.result c.in-Ok.workspace.machine tails pass made
     (subst (λ (s : State). Works l (root_debt l depth level d) (cells pass) (drawn_by pass) s []) (sym start)
     (subst (λ (n : ℕ). Works l (root_debt l depth level d) (cells pass) n (root_start (core_of l.core) l.code (word_of c.args.root) depth level tails) []) (sym counted.all)
     (root_owes l (pass_memory pass) c.args.root tails depth level d ok (root_bounded a pass counted.own)
@@ -68,11 +69,11 @@ returns-clause-ends g c = λ d st.
     let level = c.args.crew.level in
     let counted = c.count_all.ensures in
     let job = c.make-job.ensures in
-    let made : IsMade c.make-job.result c.in-Ok.machine tails pass = record { machine = job.machine.0; tails = job.machine.1; pass = job.pass; frames = job.frames.0 } in
-    let start = c.in-Ok.ensures tails in
+    let made : IsMade c.make-job.result c.in-Ok.workspace.machine tails pass = record { machine = job.machine.0; tails = job.machine.1; pass = job.pass; frames = job.frames.0 } in
+    let start = c.in-Ok.ensures.machine tails in
     let ok = whole l c.code-code.ensures.lowered c.core.ensures.fits c.code-code.ensures.runs in
     let owes : (d : Datum) → IsStart l c.args.root tails (pass_memory c.args.first) d → OwesStill l (root_debt l depth level d) c.make-job.result = λ d st.
-    job_owes l (root_debt l depth level d) c.make-job.result c.in-Ok.machine tails pass made
+    job_owes l (root_debt l depth level d) c.make-job.result c.in-Ok.workspace.machine tails pass made
     (subst (λ (s : State). Works l (root_debt l depth level d) (cells pass) (drawn_by pass) s []) (sym start)
     (subst (λ (n : ℕ). Works l (root_debt l depth level d) (cells pass) n (root_start (core_of l.core) l.code (word_of c.args.root) depth level tails) []) (sym counted.all)
     (root_owes l (pass_memory pass) c.args.root tails depth level d ok (root_bounded a pass counted.own)

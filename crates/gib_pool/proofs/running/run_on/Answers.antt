@@ -1,3 +1,4 @@
+use Rattle.std.specs.Vec.{vec_capacity}
 use Rattle.std.proofs.Common.{◌≡◌, sym, ap, subst, ◌∙◌}
 use Rattle.gib_mem.specs.Memory.{Holder}
 use Rattle.gib_machine.specs.Stepping.{with_tails}
@@ -17,7 +18,7 @@ returns-clause-holds g c =
     let e : holder c.into_pass-pass.result.1 ≡ holder c.args.job.pass = ap holder c.into_pass-pass.ensures.pass ∙ (c.go_on-turn.ensures.same.holder ∙ ap holder c.make-mem.ensures.pass) in
     let h = c.requires.holds in
     let own = c.names_tell.ensures c.args.arena.now c.args.job.pass c.into_pass-pass.result.1 h.own (ap (λ (x : Holder). x.arena) e) in
-    record { own = own; lends = lends_on c.args.job.pass c.into_pass-pass.result.1 (job_lent c.args.job) (own ∙ sym h.own) e h.lends; made = c.go_on-turn.ensures.made ∙ h.made }
+    record { own = own; lends = lends_on c.args.job.pass c.into_pass-pass.result.1 (job_lent c.args.job) (own ∙ sym h.own) e h.lends; made = c.go_on-turn.ensures.made ∙ h.made; within = c.go_on-turn.ensures.within (vec_capacity c.args.job.frames) h.within }
 
 pub returns-clause-stands : goal.returns-clause-stands
 returns-clause-stands g c = λ d w.

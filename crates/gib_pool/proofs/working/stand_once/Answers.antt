@@ -1,5 +1,5 @@
 use Rattle.std.proofs.Common.{ap, subst, ◌∙◌}
-use Rattle.std.specs.Prelude.{Ok, Err}
+use Rattle.std.specs.Prelude.{Ok}
 use Rattle.crossbeam_deque.specs.Handles.{worker_view}
 use Rattle.gib_machine.specs.declared.turn.Turn.TheVariants.{AtFork, AtJoin}
 use Rattle.gib_weave.specs.Owing.{Debt}
@@ -11,8 +11,8 @@ use Rattle.gib_pool.proofs.working.stand_once.Goals as goal
 pub unreachable-requires : goal.unreachable-requires
 unreachable-requires g c = let w = c.requires.owes in subst (StandsAt c.args.lowered.now w.0 c.run_on-job.result.0) c.in-Went.is (c.run_on-job.ensures.stands w.0 w.1)
 
-pub fork_here-requires-clause-stands : goal.fork_here-requires-clause-stands
-fork_here-requires-clause-stands g c = let w = c.requires.owes in (w.0, subst (StandsAt c.args.lowered.now w.0 c.run_on-job.result.0) c.in-AtFork.is (c.run_on-job.ensures.stands w.0 w.1))
+pub fork_here-job-requires-clause-stands : goal.fork_here-job-requires-clause-stands
+fork_here-job-requires-clause-stands g c = let w = c.requires.owes in (w.0, subst (StandsAt c.args.lowered.now w.0 c.run_on-job.result.0) c.in-AtFork.is (c.run_on-job.ensures.stands w.0 w.1))
 
 pub join_here-requires-clause-stands : goal.join_here-requires-clause-stands
 join_here-requires-clause-stands g c = let w = c.requires.owes in (w.0, subst (StandsAt c.args.lowered.now w.0 c.run_on-job.result.0) c.in-AtJoin.is (c.run_on-job.ensures.stands w.0 w.1))
@@ -40,14 +40,8 @@ returns-in-Full-clause-goes g c =
 pub returns-after-is_offered-clause-goes : goal.returns-after-is_offered-clause-goes
 returns-after-is_offered-clause-goes g c =
     let l = c.args.lowered.now in
-    goes_for c.args.arena.now l (λ (d : Debt). StandsAt l d c.run_on-job.result.0 AtFork) (λ (d : Debt). OwesStill l d c.args.job) c.args.job c.run_on-job.result.0 (worker_view c.fork_here.new.forks).mine (Ok c.in-Ok.job) c.run_on-job.ensures.same
-    (λ d w. subst (StandsAt l d c.run_on-job.result.0) c.in-AtFork.is (c.run_on-job.ensures.stands d w)) c.in-Ok.ensures.goes
-
-pub returns-in-Err-clause-goes : goal.returns-in-Err-clause-goes
-returns-in-Err-clause-goes g c =
-    let l = c.args.lowered.now in
-    goes_for c.args.arena.now l (λ (d : Debt). StandsAt l d c.run_on-job.result.0 AtFork) (λ (d : Debt). OwesStill l d c.args.job) c.args.job c.run_on-job.result.0 (worker_view c.fork_here.new.forks).mine (Err c.in-Err.end) c.run_on-job.ensures.same
-    (λ d w. subst (StandsAt l d c.run_on-job.result.0) c.in-AtFork.is (c.run_on-job.ensures.stands d w)) c.in-Err.ensures.goes
+    goes_for c.args.arena.now l (λ (d : Debt). StandsAt l d c.run_on-job.result.0 AtFork) (λ (d : Debt). OwesStill l d c.args.job) c.args.job c.run_on-job.result.0 (worker_view c.fork_here-job.new.forks).mine (Ok c.fork_here-job.result) c.run_on-job.ensures.same
+    (λ d w. subst (StandsAt l d c.run_on-job.result.0) c.in-AtFork.is (c.run_on-job.ensures.stands d w)) c.fork_here-job.ensures.on
 
 pub returns-in-AtJoin-clause-goes : goal.returns-in-AtJoin-clause-goes
 returns-in-AtJoin-clause-goes g c =
