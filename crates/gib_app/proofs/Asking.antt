@@ -167,7 +167,7 @@ code_asks words passes = plan_there (built_form code_form) words ((refl, refl), 
 
 pack_asks : Asks (built_form pack_form)
 unfolding clap_on_literals
-pack_asks words passes = plan_there (built_form pack_form) words ((refl, refl), ((refl, refl), ((refl, refl), tt))) refl passes Pack (Some (codes "text")) None (AtPlace (codes "target")) (_, refl, refl, refl) (_, refl, refl, refl) tt (_, refl, refl, refl)
+pack_asks words passes = plan_there (built_form pack_form) words ((refl, refl), ((refl, refl), ((refl, refl), ((refl, refl), ((refl, refl), tt))))) refl passes Pack (Some (codes "text")) None (AtPlace (codes "target")) (_, refl, refl, refl) (_, refl, refl, refl) tt (_, refl, refl, refl)
 
 show_asks : Asks (built_form show_form)
 unfolding clap_on_literals

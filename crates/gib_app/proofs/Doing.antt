@@ -23,8 +23,8 @@ use Rattle.gib_app.specs.MachineRun.{LacksValue}
 use Rattle.gib_app.specs.Workers.{OnlyFull}
 
 -- what the events of a journal lead to, they lead to
-on_happens : (p : ProgramTree) (input bytes : List ℕ) (P : Datum → Settings → List Line → Type 0) → ((v : Datum) (settings : Settings) (lines : List Line) → P v settings lines → Happens p v settings lines) → OnJournal p input bytes P
-    → OnJournal p input bytes (Happens p)
+on_happens : {names : List (List ℕ)} (p : ProgramTree) (input bytes : List ℕ) (P : Datum → Settings → List Line → Type 0) → ((v : Datum) (settings : Settings) (lines : List Line) → P v settings lines → Happens p v settings lines) → OnJournal p names input bytes P
+    → OnJournal p names input bytes (Happens p)
 on_happens p input bytes P f j = record {
   value = j.value;
   settings = j.settings;
@@ -35,7 +35,7 @@ on_happens p input bytes P f j = record {
 }
 
 -- what was made was made of a file that is accepted
-pub does_accepts : (job : Job) (o : Options) (p : ProgramTree) (names : List (List ℕ)) (given : Contents) (file : Option (List ℕ)) (e : End) → Does job o p names given file e → Accepts job o.skips p names given
+pub does_accepts : (job : Job) (o : Options) (p : ProgramTree) (names : List (List ℕ)) (given : Contents) (file : Option (List ℕ)) (e : End) → Does job o p names given file e → Accepts job o p names given
 does_accepts Run o p names given file (Prints text) h = (h.1.value, h.1.is_input)
 does_accepts Run o p names given file (NoValue Deep) h = (h.1.value, h.1.is_input)
 does_accepts Run o p names given file (NoValue Full) h = (h.1.value, h.1.is_input)
@@ -60,7 +60,7 @@ does_accepts Replay o p names given file (NoValue Deep) h = on_happens p given.s
 does_accepts Replay o p names given file (NoValue Full) h = on_happens p given.second (journal_in given) (LacksChunks p) (λ v settings lines e. inr e) h.1
 
 -- a file whose value is shown is not too long
-pub shown_short : (p : ProgramTree) (skips : Bool) (v : Datum) (bytes : List ℕ) → IsShownValue p skips v bytes → length bytes ≤ 268435480
+pub shown_short : {names : List (List ℕ)} (p : ProgramTree) (skips : Bool) (v : Datum) (bytes : List ℕ) → IsShownValue p names skips v bytes → length bytes ≤ 268435480
 shown_short p skips v bytes (inl is) = let short = is.short in omega (arith, short)
 shown_short p skips v bytes (inr read) = let few = read.image.formed.few in let long = read.image.formed.long in omega (arith, few, long)
 
@@ -80,22 +80,22 @@ full_runs Replay o p names given file h = inr refl
 
 -- a run that lacks a value
 
-pub lacks_runs : (p : ProgramTree) (names : List (List ℕ)) (o : Options) (input : List ℕ) (why : Reason) → LacksValue p o.skips o.depth (run_forks o) o.chunks input why → Runs p names o input None (NoValue why)
+pub lacks_runs : (p : ProgramTree) (names : List (List ℕ)) (o : Options) (input : List ℕ) (why : Reason) → LacksValue p names o.skips o.depth (run_forks o) o.chunks input why → Runs p names o input None (NoValue why)
 lacks_runs p names o input Deep h = (refl, h)
 lacks_runs p names o input Full h = (refl, h)
 
-pub lacks_sums : (p : ProgramTree) (o : Options) (input : List ℕ) (why : Reason) → LacksValue p o.skips o.depth (run_forks o) o.chunks input why → Sums p o input None (NoValue why)
-lacks_sums p o input Deep h = (refl, h)
-lacks_sums p o input Full h = (refl, h)
+pub lacks_sums : (p : ProgramTree) (names : List (List ℕ)) (o : Options) (input : List ℕ) (why : Reason) → LacksValue p names o.skips o.depth (run_forks o) o.chunks input why → Sums p names o input None (NoValue why)
+lacks_sums p names o input Deep h = (refl, h)
+lacks_sums p names o input Full h = (refl, h)
 
 -- a trace whose chunks run out
 
-pub fills_traces : (p : ProgramTree) (names : List (List ℕ)) (o : Options) (input : List ℕ) (why : Reason) → OnlyFull (FillsUp p o.skips o.depth o.fork o.chunks input) why → Traces p names o input None (NoValue why)
+pub fills_traces : (p : ProgramTree) (names : List (List ℕ)) (o : Options) (input : List ℕ) (why : Reason) → OnlyFull (FillsUp p names o.skips o.depth o.fork o.chunks input) why → Traces p names o input None (NoValue why)
 fills_traces p names o input Deep h = absurd h
 fills_traces p names o input Full h = (refl, h)
 
 -- a replay whose journal leads to where chunks run out
-pub fills_replays : (p : ProgramTree) (names : List (List ℕ)) (image : Bool) (input bytes : List ℕ) (why : Reason) → OnlyFull (OnJournal p input bytes (LacksChunks p)) why →
+pub fills_replays : (p : ProgramTree) (names : List (List ℕ)) (image : Bool) (input bytes : List ℕ) (why : Reason) → OnlyFull (OnJournal p names input bytes (LacksChunks p)) why →
     Replays p names image (record { second = input; further = bytes ∷ [] }) None (NoValue why)
 fills_replays p names image input bytes Deep h = absurd h
 fills_replays p names image input bytes Full h = (refl, h)
@@ -108,7 +108,7 @@ ends_without made why P file end' h =
     subst₂ E (sym none) (sym end') h
 
 -- the options of a trace are its settings alone
-trace_without : (p : ProgramTree) (o : Options) (input bytes : List ℕ) → IsTrace p o input bytes → IsTrace p (without_image o) input bytes
+trace_without : {names : List (List ℕ)} (p : ProgramTree) (o : Options) (input bytes : List ℕ) → IsTrace p names o input bytes → IsTrace p names (without_image o) input bytes
 trace_without p o input bytes h = record {
   value = h.value;
   settings = h.settings;

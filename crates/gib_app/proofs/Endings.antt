@@ -24,7 +24,7 @@ use Rattle.gib_app.specs.Writes.{at_reading, with_write, IsStuckIn, IsNamedIn}
 use Rattle.gib_app.specs.Words.{asked}
 use Rattle.gib_app.specs.Running.{IsInput, IsProgram, IsSource, IsNoProgram, IsOutput, IsSummary, RunsOut, IsShownValue}
 use Rattle.gib_app.specs.Replaying.{journal_in}
-use Rattle.gib_app.specs.Packing.{IsPackedText}
+use Rattle.gib_app.specs.Packing.{IsPackedBy}
 use Rattle.gib_app.specs.SourceFaults.{IsSourceFault}
 use Rattle.gib_app.specs.Formats.{inputs_of, Accepts, Refuses}
 use Rattle.gib_app.specs.Formats.{Input as PlanInput}
@@ -77,7 +77,7 @@ IsCause tells words before now out_before out_now status.Memory = Unit {0}
 IsCause tells words before now out_before out_now status.ReadFault = MatchOption (asked words) ⊥ (λ plan. (name : List ℕ) × FailsToRead (at_reading tells before.kept plan) before now plan name)
 IsCause tells words before now out_before out_now status.WriteFault = IsWriteCause tells words before now out_before out_now
 IsCause tells words before now out_before out_now status.Input =
-    MatchOption (asked words) ⊥ (λ plan. OnReached (at_reading tells before.kept plan) plan (λ p names given. Accepts plan.job plan.options.skips p names given → ⊥))
+    MatchOption (asked words) ⊥ (λ plan. OnReached (at_reading tells before.kept plan) plan (λ p names given. Accepts plan.job plan.options p names given → ⊥))
 
 -- the files that a plan reads
 abbrev pub K : Bool → ShelfView → Plan → Files
@@ -85,7 +85,7 @@ K tells before r = at_reading tells before.kept r
 
 -- what holds of inputs that are refused
 abbrev Refused : Plan → InputFault → ProgramTree → List (List ℕ) → Contents → Type 0
-Refused r fault p names given = Refuses r.job r.options.skips p names given fault × (Accepts r.job r.options.skips p names given → ⊥)
+Refused r fault p names given = Refuses r.job r.options p names given fault × (Accepts r.job r.options p names given → ⊥)
 
 without_of : (tells : Bool) (words : List (List ℕ)) (before now : ShelfView) (why : Reason) → AsksProgram tells words before.kept (EndsWithout tells before now why) → AsksProgram tells words before.kept (HasNoValue why)
 without_of tells words before now why h =
@@ -110,8 +110,8 @@ cause_of tells words before now out_before out_now status.WriteFault said (inl h
     )
 cause_of tells words before now out_before out_now status.WriteFault said (inr h) = inr (h.0, h.1, h.2)
 cause_of tells words before now out_before out_now status.Input said h =
-    map_asked (asked words) (λ r. OnReached (K tells before r) r (Refused r h.0)) (λ r. OnReached (K tells before r) r (λ p names given. Accepts r.job r.options.skips p names given → ⊥))
-    (λ r k. map_reached (K tells before r) r (Refused r h.0) (λ p names given. Accepts r.job r.options.skips p names given → ⊥) (λ p names given both. both.1) k) h.1
+    map_asked (asked words) (λ r. OnReached (K tells before r) r (Refused r h.0)) (λ r. OnReached (K tells before r) r (λ p names given. Accepts r.job r.options p names given → ⊥))
+    (λ r k. map_reached (K tells before r) r (Refused r h.0) (λ p names given. Accepts r.job r.options p names given → ⊥) (λ p names given both. both.1) k) h.1
 
 -- From the stop of a call to its status and its line
 pub ending_of : (tells : Bool) (words : List (List ℕ)) (before now : ShelfView) (out_before out_now : SinkView) (stop : Stop) → IsCallStop tells words before now out_before out_now stop →
@@ -181,49 +181,49 @@ clash laws tells before now r P Q due end' =
 
 -- Inputs that are told, and inputs as far as they were read
 
-same_second : (kept : Files) (p : ProgramTree) (is : List PlanInput) (a b : Contents) → AreTold kept is a → AreReached kept p is b → b.second ≡ a.second
-same_second kept p [] a b e h = h.0 ∙ sym e.0
-same_second kept p (i ∷ is) a b e h = same_bytes (bytes_in kept i.document) a.second b.second e.0 h.0
+same_second : (kept : Files) (p : ProgramTree) (names : List (List ℕ)) (is : List PlanInput) (a b : Contents) → AreTold kept is a → AreReached kept p names is b → b.second ≡ a.second
+same_second kept p names [] a b e h = h.0 ∙ sym e.0
+same_second kept p names (i ∷ is) a b e h = same_bytes (bytes_in kept i.document) a.second b.second e.0 h.0
 
-same_behind : (kept : Files) (p : ProgramTree) (is : List PlanInput) (a b : Contents) → AreTold kept is a → AreReached kept p is b → ((v : Datum) × IsInput p v b.second) → b.further ≡ a.further
-same_behind kept p [] a b e h taken = h.1 ∙ sym e.1
-same_behind kept p (i ∷ is) a b e h taken = same_further kept is a.further b.further e.1 (h.1 taken)
+same_behind : (kept : Files) (p : ProgramTree) (names : List (List ℕ)) (is : List PlanInput) (a b : Contents) → AreTold kept is a → AreReached kept p names is b → ((v : Datum) × IsInput p names v b.second) → b.further ≡ a.further
+same_behind kept p names [] a b e h taken = h.1 ∙ sym e.1
+same_behind kept p names (i ∷ is) a b e h taken = same_further kept is a.further b.further e.1 (h.1 taken)
 
 -- what is accepted of all of them, is accepted of those that were read
-module _ (skips : Bool) (p : ProgramTree) (names : List (List ℕ)) (a b : Contents) (second : b.second ≡ a.second) (behind : ((v : Datum) × IsInput p v b.second) → b.further ≡ a.further) where
-  packed_again : ((v : Datum) × IsInput p v a.second) → (v : Datum) × IsInput p v b.second
-  packed_again h = let P : List ℕ → Type 0 = λ bytes. (v : Datum) × IsInput p v bytes in subst P (sym second) h
+module _ (options : Options) (p : ProgramTree) (names : List (List ℕ)) (a b : Contents) (second : b.second ≡ a.second) (behind : ((v : Datum) × IsInput p names v b.second) → b.further ≡ a.further) where
+  packed_again : ((v : Datum) × IsInput p names v a.second) → (v : Datum) × IsInput p names v b.second
+  packed_again h = let P : List ℕ → Type 0 = λ bytes. (v : Datum) × IsInput p names v bytes in subst P (sym second) h
 
-  accepted_again : (job : Job) → Accepts job skips p names a → Accepts job skips p names b
+  accepted_again : (job : Job) → Accepts job options p names a → Accepts job options p names b
   accepted_again Run h = packed_again h
   accepted_again Plain h = packed_again h
   accepted_again Check h = h
   accepted_again Core h = h
   accepted_again Code h = h
-  accepted_again Pack h = let P : List ℕ → Type 0 = λ bytes. (packed : List ℕ) × IsPackedText p names bytes packed in subst P (sym second) h
-  accepted_again Show h = let P : List ℕ → Type 0 = λ bytes. (v : Datum) × IsShownValue p skips v bytes in subst P (sym second) h
+  accepted_again Pack h = let P : List ℕ → Type 0 = λ bytes. (packed : List ℕ) × IsPackedBy options.repacks options.first_version p names bytes packed in subst P (sym second) h
+  accepted_again Show h = let P : List ℕ → Type 0 = λ bytes. (v : Datum) × IsShownValue p names options.skips v bytes in subst P (sym second) h
   accepted_again Gen h = packed_again h
   accepted_again Trace h = packed_again h
   accepted_again Replay h =
       let same : b ≡ a = same_parts a b second (behind (packed_again (h.value, h.is_input))) in
-      let P : Contents → Type 0 = Accepts Replay skips p names in
+      let P : Contents → Type 0 = Accepts Replay options p names in
       subst P (sym same) h
 
 -- what is due is accepted, and what was read is not
 fit_or_unfit : Laws → (tells : Bool) (before now : ShelfView) (r : Plan) (P : ProgramTree → List (List ℕ) → Contents → Type 0) →
-    ((p : ProgramTree) (names : List (List ℕ)) (given : Contents) → P p names given → Accepts r.job r.options.skips p names given) → DueOfFiles tells before now r P →
-    OnReached (K tells before r) r (λ p names given. Accepts r.job r.options.skips p names given → ⊥) → ⊥
+    ((p : ProgramTree) (names : List (List ℕ)) (given : Contents) → P p names given → Accepts r.job r.options p names given) → DueOfFiles tells before now r P →
+    OnReached (K tells before r) r (λ p names given. Accepts r.job r.options p names given → ⊥) → ⊥
 fit_or_unfit laws tells before now r P accepts due end' =
     let kept = K tells before r in
-    let Q : ProgramTree → List (List ℕ) → Type 0 = λ p names. AreReached kept p (inputs_of r) end'.given × (Accepts r.job r.options.skips p names end'.given → ⊥) in
+    let Q : ProgramTree → List (List ℕ) → Type 0 = λ p names. AreReached kept p names (inputs_of r) end'.given × (Accepts r.job r.options p names end'.given → ⊥) in
     let S : List ℕ → Type 0 = λ s. OnProgram s Q in
     let es = same_bytes (bytes_in kept r.source) due.source end'.source due.source_told end'.source_held in
     let both = together laws due.source (λ p names. P p names due.given) Q due.holds (subst S es end'.holds) in
     let p = both.0 in
     let reached = both.3.0 in
-    let second = same_second kept p (inputs_of r) due.given end'.given due.given_told reached in
-    let behind = same_behind kept p (inputs_of r) due.given end'.given due.given_told reached in
-    both.3.1 (accepted_again r.options.skips p both.1 due.given end'.given second behind r.job (accepts p both.1 due.given both.2))
+    let second = same_second kept p both.1 (inputs_of r) due.given end'.given due.given_told reached in
+    let behind = same_behind kept p both.1 (inputs_of r) due.given end'.given due.given_told reached in
+    both.3.1 (accepted_again r.options p both.1 due.given end'.given second behind r.job (accepts p both.1 due.given both.2))
 
 no_program : (tells : Bool) (before now : ShelfView) (r : Plan) (P : ProgramTree → List (List ℕ) → Contents → Type 0) → DueOfFiles tells before now r P → OnSource (K tells before r) r.source IsNoProgram → ⊥
 no_program tells before now r P due end' =
@@ -276,15 +276,15 @@ of_job : (tells : Bool) (before now : ShelfView) (r : Plan) (name : List ℕ) �
 of_job tells before now r name wrote (inl h) = let k = stuck_named tells before.kept r.first before now name h in absurd (wrote name k.0 k.1)
 of_job tells before now r name wrote (inr h) = h
 
-pub runs_well : Laws → (p : ProgramTree) (names : List (List ℕ)) (depth : ℕ) (input output : List ℕ) → IsOutput p names depth input output → RunsOut p depth input → ⊥
+pub runs_well : Laws → (p : ProgramTree) (names : List (List ℕ)) (depth : ℕ) (input output : List ℕ) → IsOutput p names depth input output → RunsOut p names depth input → ⊥
 runs_well laws p names depth input output o d =
-    let v = laws.filed (table_of_program p) (input_type p) d.value o.value input d.is_input.file o.is_input.file in
+    let v = laws.filed (table_of_program p) _ (input_type p) d.value o.value input d.is_input.file o.is_input.file in
     let S : Datum → Type 0 = λ x. run p depth x ≡ Stops TooDeep in
     gives_or_stops (run p depth o.value) o.result o.means (subst S v d.means)
 
-sums_well : Laws → (p : ProgramTree) (number levels depth : ℕ) (input output : List ℕ) → IsSummary p number levels depth input output → RunsOut p depth input → ⊥
+sums_well : {names : List (List ℕ)} → Laws → (p : ProgramTree) (number levels depth : ℕ) (input output : List ℕ) → IsSummary p names number levels depth input output → RunsOut p names depth input → ⊥
 sums_well laws p number levels depth input output o d =
-    let v = laws.filed (table_of_program p) (input_type p) d.value o.value input d.is_input.file o.is_input.file in
+    let v = laws.filed (table_of_program p) _ (input_type p) d.value o.value input d.is_input.file o.is_input.file in
     let S : Datum → Type 0 = λ x. run p depth x ≡ Stops TooDeep in
     gives_or_stops (run p depth o.value) o.result o.means (subst S v d.means)
 
@@ -348,7 +348,7 @@ module _ (laws : Laws) (o : Options) (p : ProgramTree) (names : List (List ℕ))
   file_or_full bytes (Without Full) other h k = some_or_none bytes h.0
 
 -- a job accepts what it is due to end with
-ends_accept : (job : Job) (o : Options) (p : ProgramTree) (names : List (List ℕ)) (given : Contents) (file : Option (List ℕ)) (e : End) → Does (ends_as job) o p names given file e → Accepts job o.skips p names given
+ends_accept : (job : Job) (o : Options) (p : ProgramTree) (names : List (List ℕ)) (given : Contents) (file : Option (List ℕ)) (e : End) → Does (ends_as job) o p names given file e → Accepts job o p names given
 ends_accept Run o p names given file e h = does_accepts Run o p names given file e h
 ends_accept Plain o p names given file e h = does_accepts Plain o p names given file e h
 ends_accept Check o p names given file e h = does_accepts Check o p names given file e h
@@ -359,6 +359,19 @@ ends_accept Show o p names given file e h = does_accepts Show o p names given fi
 ends_accept Gen o p names given file e h = does_accepts Gen o p names given file e h
 ends_accept Trace o p names given file e h = does_accepts Run o p names given file e h
 ends_accept Replay o p names given file e h = does_accepts Replay o p names given file e h
+
+-- what it accepts does not hang on an image
+accepts_without : (job : Job) (o : Options) (p : ProgramTree) (names : List (List ℕ)) (given : Contents) → Accepts job (without_image o) p names given → Accepts job o p names given
+accepts_without Run o p names given h = h
+accepts_without Plain o p names given h = h
+accepts_without Check o p names given h = h
+accepts_without Core o p names given h = h
+accepts_without Code o p names given h = h
+accepts_without Pack o p names given h = h
+accepts_without Show o p names given h = h
+accepts_without Gen o p names given h = h
+accepts_without Trace o p names given h = h
+accepts_without Replay o p names given h = h
 
 -- The status that is due
 
@@ -385,7 +398,7 @@ abbrev pub Exhausted : Plan → ProgramTree → List (List ℕ) → Contents →
 Exhausted r = HasNoValue Deep r
 
 abbrev Unfit : Plan → ProgramTree → List (List ℕ) → Contents → Type 0
-Unfit r p names given = Accepts r.job r.options.skips p names given → ⊥
+Unfit r p names given = Accepts r.job r.options p names given → ⊥
 
 abbrev Fails : Bool → ShelfView → ShelfView → Plan → Type 0
 Fails tells before now r = (name : List ℕ) × FailsToRead (K tells before r) before now r name
@@ -420,7 +433,7 @@ done_due laws tells words before now a b due status.WriteFault (inr h) =
     absurd (k.1.1.out h.1)
 done_due laws tells words before now a b due status.Input h =
     let k = both_asked (asked words) (DueAll tells before now a b) (λ r. OnReached (K tells before r) r (Unfit r)) due h in
-    absurd (fit_or_unfit laws tells before now k.0 (HasText k.0) (λ p names given d. ends_accept k.0.job (without_image k.0.options) p names given d.0 (Prints d.1) d.2) k.1.0 k.2)
+    absurd (fit_or_unfit laws tells before now k.0 (HasText k.0) (λ p names given d. accepts_without k.0.job k.0.options p names given (ends_accept k.0.job (without_image k.0.options) p names given d.0 (Prints d.1) d.2)) k.1.0 k.2)
 
 -- a refusal of the source is due
 
@@ -545,29 +558,29 @@ full_due laws tells words before now a b due status.Input h =
 -- a refusal of the inputs is due
 
 -- the first one, which is told, is that which is given
-same_reached : (kept : Files) (p : ProgramTree) (is : List PlanInput) (first : List ℕ) (given : Contents) → AreTold kept (first_of is) (record { second = first; further = [] }) → AreReached kept p is given → given.second ≡ first
-same_reached kept p [] first given e h = h.0 ∙ sym e.0
-same_reached kept p (i ∷ is) first given e h = same_bytes (bytes_in kept i.document) first given.second e.0 h.0
+same_reached : (kept : Files) (p : ProgramTree) (names : List (List ℕ)) (is : List PlanInput) (first : List ℕ) (given : Contents) → AreTold kept (first_of is) (record { second = first; further = [] }) → AreReached kept p names is given → given.second ≡ first
+same_reached kept p names [] first given e h = h.0 ∙ sym e.0
+same_reached kept p names (i ∷ is) first given e h = same_bytes (bytes_in kept i.document) first given.second e.0 h.0
 
 same_alone : (kept : Files) (is : List PlanInput) (first : List ℕ) (given : Contents) → AreTold kept (first_of is) (record { second = first; further = [] }) → AreGiven kept (first_of is) given → given.second ≡ first
 same_alone kept [] first given e h = h.0 ∙ sym e.0
 same_alone kept (i ∷ is) first given e h = same_bytes (bytes_in kept i.document) first given.second e.0 h.0
 
 -- what a replay accepts begins with a packed file
-accepts_packed : (job : Job) (skips : Bool) (p : ProgramTree) (names : List (List ℕ)) (given : Contents) → job ≡ Replay → Accepts job skips p names given → (v : Datum) × IsInput p v given.second
-accepts_packed job skips p names given is h = let P : Job → Type 0 = λ j. Accepts j skips p names given in let a : Accepts Replay skips p names given = subst P is h in (a.value, a.is_input)
+accepts_packed : (job : Job) (options : Options) (p : ProgramTree) (names : List (List ℕ)) (given : Contents) → job ≡ Replay → Accepts job options p names given → (v : Datum) × IsInput p names v given.second
+accepts_packed job options p names given is h = let P : Job → Type 0 = λ j. Accepts j options p names given in let a : Accepts Replay options p names given = subst P is h in (a.value, a.is_input)
 
 -- the first is no packed file, and is one
 module _ (laws : Laws) (tells : Bool) (before now : ShelfView) (r : Plan) (due : DueOfSource tells before now r (RefusesFirst tells before now r)) where
-  refused_and_taken : (source : List ℕ) (given : Contents) → IsAllOf (bytes_in (K tells before r) r.source) source → given.second ≡ due.holds.holds.first → OnProgram source (λ p names. (v : Datum) × IsInput p v given.second) → ⊥
+  refused_and_taken : (source : List ℕ) (given : Contents) → IsAllOf (bytes_in (K tells before r) r.source) source → given.second ≡ due.holds.holds.first → OnProgram source (λ p names. (v : Datum) × IsInput p names v given.second) → ⊥
   refused_and_taken source given held second on =
       let es = same_bytes (bytes_in (K tells before r) r.source) due.source source due.source_told held in
-      let Q : ProgramTree → List (List ℕ) → Type 0 = λ p names. (v : Datum) × IsInput p v given.second in
+      let Q : ProgramTree → List (List ℕ) → Type 0 = λ p names. (v : Datum) × IsInput p names v given.second in
       let S : List ℕ → Type 0 = λ s. OnProgram s Q in
-      let F : ProgramTree → List (List ℕ) → Type 0 = λ p names. ((v : Datum) × IsInput p v due.holds.holds.first) → ⊥ in
+      let F : ProgramTree → List (List ℕ) → Type 0 = λ p names. ((v : Datum) × IsInput p names v due.holds.holds.first) → ⊥ in
       let first : OnProgram due.source F = record { lexed = due.holds.lexed; program = due.holds.program; is_program = due.holds.is_program; holds = due.holds.holds.holds } in
       let both = together laws due.source F Q first (subst S es on) in
-      let I : List ℕ → Type 0 = λ bytes. (v : Datum) × IsInput both.0 v bytes in
+      let I : List ℕ → Type 0 = λ bytes. (v : Datum) × IsInput both.0 both.1 v bytes in
       both.2 (subst I second both.3)
 
   refused_read : (name : List ℕ) → FailsToRead (K tells before r) before now r name → ⊥
@@ -576,17 +589,17 @@ module _ (laws : Laws) (tells : Bool) (before now : ShelfView) (r : Plan) (due :
   refused_read name (inr (inr h)) =
       refused_and_taken h.1.source h.1.given h.1.source_held (same_alone (K tells before r) (inputs_of r) due.holds.holds.first h.1.given due.holds.holds.first_told h.1.given_held) h.1.holds
 
-  refused_both : (Q : ProgramTree → List (List ℕ) → Contents → Type 0) → r.job ≡ Replay → ((p : ProgramTree) (names : List (List ℕ)) (given : Contents) → Q p names given → Accepts r.job r.options.skips p names given) →
+  refused_both : (Q : ProgramTree → List (List ℕ) → Contents → Type 0) → r.job ≡ Replay → ((p : ProgramTree) (names : List (List ℕ)) (given : Contents) → Q p names given → Accepts r.job r.options p names given) →
       OnBoth (K tells before r) r Q → ⊥
   refused_both Q is accepts end' =
       let given = end'.given in
-      let on : OnProgram end'.source (λ p names. (v : Datum) × IsInput p v given.second) = record {
+      let on : OnProgram end'.source (λ p names. (v : Datum) × IsInput p names v given.second) = record {
         lexed = end'.holds.lexed;
         program = end'.holds.program;
         is_program = end'.holds.is_program;
-        holds = accepts_packed r.job r.options.skips end'.holds.program end'.holds.lexed.names given is (accepts end'.holds.program end'.holds.lexed.names given end'.holds.holds);
+        holds = accepts_packed r.job r.options end'.holds.program end'.holds.lexed.names given is (accepts end'.holds.program end'.holds.lexed.names given end'.holds.holds);
       } in
-      refused_and_taken end'.source given end'.source_held (same_reached (K tells before r) end'.holds.program (inputs_of r) due.holds.holds.first given due.holds.holds.first_told (reached_all (K tells before r) end'.holds.program (inputs_of r) given end'.given_held)) on
+      refused_and_taken end'.source given end'.source_held (same_reached (K tells before r) end'.holds.program end'.holds.lexed.names (inputs_of r) due.holds.holds.first given due.holds.holds.first_told (reached_all (K tells before r) end'.holds.program end'.holds.lexed.names (inputs_of r) given end'.given_held)) on
 
   refused_program : OnSource (K tells before r) r.source IsNoProgram → ⊥
   refused_program end' =
@@ -595,7 +608,7 @@ module _ (laws : Laws) (tells : Bool) (before now : ShelfView) (r : Plan) (due :
 
 -- so the inputs are not accepted, and their source is a program
 module _ (laws : Laws) (tells : Bool) (before now : ShelfView) (r : Plan) where
-  unfit_both : (Q : ProgramTree → List (List ℕ) → Contents → Type 0) → ((p : ProgramTree) (names : List (List ℕ)) (given : Contents) → Q p names given → Accepts r.job r.options.skips p names given) →
+  unfit_both : (Q : ProgramTree → List (List ℕ) → Contents → Type 0) → ((p : ProgramTree) (names : List (List ℕ)) (given : Contents) → Q p names given → Accepts r.job r.options p names given) →
       DueRefused tells before now r → OnBoth (K tells before r) r Q → ⊥
   unfit_both Q accepts (inl due) end' = let both = clash laws tells before now r (Unfit r) Q due end' in both.3 (accepts both.0 both.1 both.2 both.4)
   unfit_both Q accepts (inr due) end' = refused_both laws tells before now r due.1 Q due.0 accepts end'
@@ -647,9 +660,9 @@ input_due laws tells words before now a b due status.Input h = inl refl
 not_missing : (o : Held) (bytes : List ℕ) → o ≡ Missing → IsAllOf o bytes → ⊥
 not_missing o bytes e h = let P : Held → Type 0 = λ x. IsAllOf x bytes in subst P e h
 
-first_missing : (kept : Files) (p : ProgramTree) (is : List PlanInput) (given : Contents) → IsMissing kept is → AreReached kept p is given → ⊥
-first_missing kept p [] given e h = e
-first_missing kept p (i ∷ is) given e h = not_missing (bytes_in kept i.document) given.second e h.0
+first_missing : (kept : Files) (p : ProgramTree) (names : List (List ℕ)) (is : List PlanInput) (given : Contents) → IsMissing kept is → AreReached kept p names is given → ⊥
+first_missing kept p names [] given e h = e
+first_missing kept p names (i ∷ is) given e h = not_missing (bytes_in kept i.document) given.second e h.0
 
 behind_missing : (kept : Files) (is : List PlanInput) (further : List (List ℕ)) → IsMissing kept is → AreFurther kept is further → ⊥
 behind_missing kept [] further e h = e
@@ -661,29 +674,30 @@ further_missing kept [] given e h = e
 further_missing kept (i ∷ is) given e h = behind_missing kept is given.further e h.1
 
 -- where the first is taken, what is behind it is reached
-taken_missing : (kept : Files) (p : ProgramTree) (is : List PlanInput) (given : Contents) → IsMissing kept (further_of is) → ((v : Datum) × IsInput p v given.second) → AreReached kept p is given → ⊥
+taken_missing : {names : List (List ℕ)} (kept : Files) (p : ProgramTree) (is : List PlanInput) (given : Contents) → IsMissing kept (further_of is) → ((v : Datum) × IsInput p names v given.second) → AreReached kept p names is given → ⊥
 taken_missing kept p [] given e taken h = e
 taken_missing kept p (i ∷ is) given e taken h = behind_missing kept is given.further e (h.1 taken)
 
 missing_both : (tells : Bool) (before now : ShelfView) (r : Plan) (Q : ProgramTree → List (List ℕ) → Contents → Type 0) → DueMissing tells before now r → OnBoth (K tells before r) r Q → ⊥
 missing_both tells before now r Q (inl e) h = not_missing (bytes_in (K tells before r) r.source) h.source e.0 h.source_held
-missing_both tells before now r Q (inr (inl d)) h = first_missing (K tells before r) h.holds.program (inputs_of r) h.given d.1 (reached_all (K tells before r) h.holds.program (inputs_of r) h.given h.given_held)
+missing_both tells before now r Q (inr (inl d)) h = first_missing (K tells before r) h.holds.program h.holds.lexed.names (inputs_of r) h.given d.1 (reached_all (K tells before r) h.holds.program h.holds.lexed.names (inputs_of r) h.given h.given_held)
 missing_both tells before now r Q (inr (inr d)) h = further_missing (K tells before r) (inputs_of r) h.given d.holds.1 h.given_held
 
 missing_reached : Laws → (tells : Bool) (before now : ShelfView) (r : Plan) (Q : ProgramTree → List (List ℕ) → Contents → Type 0) → DueMissing tells before now r → OnReached (K tells before r) r Q → ⊥
 missing_reached laws tells before now r Q (inl e) h = not_missing (bytes_in (K tells before r) r.source) h.source e.0 h.source_held
-missing_reached laws tells before now r Q (inr (inl d)) h = first_missing (K tells before r) h.holds.program (inputs_of r) h.given d.1 h.holds.holds.0
+missing_reached laws tells before now r Q (inr (inl d)) h = first_missing (K tells before r) h.holds.program h.holds.lexed.names (inputs_of r) h.given d.1 h.holds.holds.0
 missing_reached laws tells before now r Q (inr (inr d)) h =
     let kept = K tells before r in
     let es = same_bytes (bytes_in kept r.source) d.source h.source d.source_told h.source_held in
-    let R : ProgramTree → List (List ℕ) → Type 0 = λ p names. AreReached kept p (inputs_of r) h.given × Q p names h.given in
+    let R : ProgramTree → List (List ℕ) → Type 0 = λ p names. AreReached kept p names (inputs_of r) h.given × Q p names h.given in
     let S : List ℕ → Type 0 = λ s. OnProgram s R in
-    let F : ProgramTree → List (List ℕ) → Type 0 = λ p names. DueOfFirst tells before now r (λ bytes. (v : Datum) × IsInput p v bytes) in
+    let F : ProgramTree → List (List ℕ) → Type 0 = λ p names. DueOfFirst tells before now r (λ bytes. (v : Datum) × IsInput p names v bytes) in
     let both = together laws d.source F R d.holds.0 (subst S es h.holds) in
     let p = both.0 in
+    let names = both.1 in
     let first = both.2 in
-    let second = same_reached kept p (inputs_of r) first.first h.given first.first_told both.3.0 in
-    let I : List ℕ → Type 0 = λ bytes. (v : Datum) × IsInput p v bytes in
+    let second = same_reached kept p names (inputs_of r) first.first h.given first.first_told both.3.0 in
+    let I : List ℕ → Type 0 = λ bytes. (v : Datum) × IsInput p names v bytes in
     taken_missing kept p (inputs_of r) h.given d.holds.1 (subst I (sym second) first.holds) both.3.0
 
 missing_program : (tells : Bool) (before now : ShelfView) (r : Plan) → DueMissing tells before now r → OnSource (K tells before r) r.source IsNoProgram → ⊥

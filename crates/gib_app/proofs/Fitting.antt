@@ -149,7 +149,7 @@ none_replayed false laid ty memory place result on d = true≢false (sym on)
 none_replayed true laid ty memory place result on d = none_is_some (image_of memory place) d.0
 
 made_none : (job : Job) (o : Options) (p : ProgramTree) (names : List (List ℕ)) (given : Contents) (text : List ℕ) → MakesFile job o → Does job o p names given None (Prints text) → ⊥
-made_none Run o p names given text on d = subst (λ (b : Bool). MakesImage b p o.skips o.depth o.chunks given.second None) on d.0
+made_none Run o p names given text on d = subst (λ (b : Bool). MakesImage b p names o.skips o.depth o.chunks given.second None) on d.0
 made_none Plain o p names given text on d = on
 made_none Check o p names given text on d = on
 made_none Core o p names given text on d = on

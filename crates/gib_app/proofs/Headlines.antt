@@ -62,7 +62,7 @@ output_of source input depth output h = record {
   holds = record { value = h.given.value; result = h.result; is_input = record { short = h.given.short; file = h.given.file }; means = h.means; is_text = h.is_text };
 }
 
-deep_of : (source input : List ℕ) (depth : ℕ) → OnProgram source (λ p names. RunsOut p depth input) → IsTooDeep source input depth
+deep_of : (source input : List ℕ) (depth : ℕ) → OnProgram source (λ p names. RunsOut p names depth input) → IsTooDeep source input depth
 deep_of source input depth on = record {
   given = record {
     lexed = on.lexed;
@@ -76,7 +76,7 @@ deep_of source input depth on = record {
   means = on.holds.means;
 }
 
-runs_out : (source input : List ℕ) (depth : ℕ) → IsTooDeep source input depth → OnProgram source (λ p names. RunsOut p depth input)
+runs_out : (source input : List ℕ) (depth : ℕ) → IsTooDeep source input depth → OnProgram source (λ p names. RunsOut p names depth input)
 runs_out source input depth h = record {
   lexed = h.given.lexed;
   program = h.given.program;
@@ -96,8 +96,8 @@ run_done tells words before now out out_now source input options front said r h 
       subst T r.front_is on.holds.2,
     )
 
-image_there : (tells : Bool) (before now : Files) (name : List ℕ) (asked_for : Bool) (p : ProgramTree) (skips : Bool) (depth chunks : ℕ) (input : List ℕ) (file : Option (List ℕ)) → IsStored (Some name) file
-    → AreMade tells before now (writes_of file (Some name)) → MakesImage asked_for p skips depth chunks input file → (bytes : List ℕ) × (now name ≡ told tells bytes) × IsRunImage p skips depth chunks input bytes
+image_there : {names : List (List ℕ)} (tells : Bool) (before now : Files) (name : List ℕ) (asked_for : Bool) (p : ProgramTree) (skips : Bool) (depth chunks : ℕ) (input : List ℕ) (file : Option (List ℕ)) → IsStored (Some name) file
+    → AreMade tells before now (writes_of file (Some name)) → MakesImage asked_for p names skips depth chunks input file → (bytes : List ℕ) × (now name ≡ told tells bytes) × IsRunImage p names skips depth chunks input bytes
 image_there tells before now name asked_for p skips depth chunks input None stored written made = absurd stored
 image_there tells before now name false p skips depth chunks input (Some bytes) stored written made = cc
 image_there tells before now name true p skips depth chunks input (Some bytes) stored written made = (bytes, written_here tells before now name bytes written, made)
@@ -112,7 +112,7 @@ run_image tells words before now out out_now source input options front said nam
     let made = on.holds.1 in
     let S : Option (List ℕ) → Type 0 = λ t. IsStored t made.ended.file in
     let W : Option (List ℕ) → Type 0 = λ t. AreMade tells before.kept now.kept (writes_of made.ended.file t) in
-    let there = image_there tells before.kept now.kept name options.image on.program options.skips options.depth options.chunks input made.ended.file (subst S named made.stored) (subst W named made.ended.written) made.ended.does.0 in
+    let there = image_there {names = on.lexed.names} tells before.kept now.kept name options.image on.program options.skips options.depth options.chunks input made.ended.file (subst S named made.stored) (subst W named made.ended.written) made.ended.does.0 in
     let is = there.2 in (
       there.0,
       there.1,
@@ -241,13 +241,13 @@ one_result laws source input depth output other h k =
     let p = both.0 in
     let a = both.2 in
     let b = both.3 in
-    let same = laws.filed (table_of_program p) (input_type p) b.value a.value input b.is_input.file a.is_input.file in
+    let same = laws.filed (table_of_program p) _ (input_type p) b.value a.value input b.is_input.file a.is_input.file in
     let M : Datum → Type 0 = λ x. run p depth x ≡ Gives b.result in
     let u = one_value (run p depth a.value) a.result b.result a.means (subst M same b.means) in
     a.is_text ∙ ap (text_line p both.1) u ∙ sym b.is_text
 
 pub no_result : Laws → (source input : List ℕ) (depth : ℕ) (output : List ℕ) → IsResult source input depth output → IsTooDeep source input depth → ⊥
 no_result laws source input depth output h k =
-    let both = together laws source (λ p names. IsOutput p names depth input output) (λ p names. RunsOut p depth input)
+    let both = together laws source (λ p names. IsOutput p names depth input output) (λ p names. RunsOut p names depth input)
     (output_of source input depth output h) (runs_out source input depth k) in
     runs_well laws both.0 both.1 depth input output both.2 both.3

@@ -73,9 +73,9 @@ image_few laid m place bytes bounded is ty v image =
     omega (arith, long, size, same, order)
 
 -- The image of the memory that a run leaves, where one is asked for.
-image_made : (b : Bool) (p : ProgramTree) (o : Options) (input : List ℕ) (laid : LaidOut) (m : Memory) (place : Root) (s : StandsMeant p o.depth input laid m.cells place)
+image_made : {names : List (List ℕ)} (b : Bool) (p : ProgramTree) (o : Options) (input : List ℕ) (laid : LaidOut) (m : Memory) (place : Root) (s : StandsMeant p names o.depth input laid m.cells place)
     → IsBounded m → laid ≡ layouts_of o.skips p → m.limit ≡ o.chunks → (file : Option (List ℕ)) → IsImageFile b laid (output_type p) m place s.result file
-    → MakesImage b p o.skips o.depth o.chunks input file
+    → MakesImage b p names o.skips o.depth o.chunks input file
 image_made false p o input laid m place s bounded same limit file h = h
 image_made true p o input laid m place s bounded same limit None h = let other : None ≡ Some (image_of m place) = h.0 in absurd cc
 image_made true p o input laid m place s bounded same limit (Some bytes) h =
@@ -91,10 +91,10 @@ image_made true p o input laid m place s bounded same limit (Some bytes) h =
     }
 
 -- A text, and an image where one is asked for, end a run.
-pub shown_runs : (p : ProgramTree) (names : List (List ℕ)) (o : Options) (input : List ℕ) (laid : LaidOut) (m : Memory) (place : Root) (s : StandsMeant p o.depth input laid m.cells place)
+pub shown_runs : (p : ProgramTree) (names : List (List ℕ)) (o : Options) (input : List ℕ) (laid : LaidOut) (m : Memory) (place : Root) (s : StandsMeant p names o.depth input laid m.cells place)
     → IsBounded m → laid ≡ layouts_of o.skips p → m.limit ≡ o.chunks → (b : Bool) → o.image ≡ b → (file : Option (List ℕ)) (e : KeptEnd) → IsShownWith b laid m place p names s.result file e → EndsBy file e (Runs p names o input)
 shown_runs p names o input laid m place s bounded same limit b asked file (ends.Prints text) h =
-    let M : Bool → Type 0 = λ x. MakesImage x p o.skips o.depth o.chunks input file in (
+    let M : Bool → Type 0 = λ x. MakesImage x p names o.skips o.depth o.chunks input file in (
       subst M (sym asked) (image_made b p o input laid m place s bounded same limit file h.0),
       record { value = s.value; result = s.result; is_input = s.is_input; means = s.means; is_text = h.1 },
     )
@@ -103,9 +103,9 @@ shown_runs p names o input laid m place s bounded same limit b asked file (ends.
 
 -- A value in region memory ends one that is not.
 pub value_ends : (p : ProgramTree) (o : Options) (input : List ℕ) (value : Valued) → AreHeld value.ran.lowered.code.laid.table value.names → o.image ≡ false
-    → StandsMeant p o.depth input value.ran.lowered.code.laid (cells_of value.ran.memory) value.ran.root → EndsBy None (ends.Value value) (Runs p value.names o input)
+    → StandsMeant p value.names o.depth input value.ran.lowered.code.laid (cells_of value.ran.memory) value.ran.root → EndsBy None (ends.Value value) (Runs p value.names o input)
 value_ends p o input value held off s =
-    let M : Bool → Type 0 = λ b. MakesImage b p o.skips o.depth o.chunks input None in (
+    let M : Bool → Type 0 = λ b. MakesImage b p value.names o.skips o.depth o.chunks input None in (
       refl,
       text_line p value.names s.result,
       record { program = p; depth = o.depth; input = input; stands = s; held = held; is_text = refl },
@@ -113,9 +113,9 @@ value_ends p o input value held off s =
     )
 
 -- Want of memory is free to stop a run.
-pub memory_stops : {T : Type 0} (r : Result T Stop) (p : ProgramTree) (input : List ℕ) → IfErr r (λ stop. stop ≡ NoMemory) → IfErr r (IsRunStop p input)
-memory_stops (Ok x) p input h = tt {0}
-memory_stops (Err stop) p input h = subst (IsRunStop p input) (sym h) (tt {0})
+pub memory_stops : {T : Type 0} (r : Result T Stop) (p : ProgramTree) (names : List (List ℕ)) (input : List ℕ) → IfErr r (λ stop. stop ≡ NoMemory) → IfErr r (IsRunStop p names input)
+memory_stops (Ok x) p names input h = tt {0}
+memory_stops (Err stop) p names input h = subst (IsRunStop p names input) (sym h) (tt {0})
 
 -- A buffer that held nothing holds what it took.
 pub text_kept : (old new got text : List ℕ) → old ≡ [] → Some new ≡ Some (old ++ text) → got ≡ new → got ≡ text
@@ -124,8 +124,8 @@ text_kept old new got text e put g =
     g ∙ is ∙ ap (λ (l : List ℕ). l ++ text) e
 
 -- What stands in a memory stands in the same one.
-abbrev pub stands_again : (p : ProgramTree) (depth : ℕ) (input : List ℕ) (laid other : LaidOut) (m n : Memory) (place spot : Root) → other ≡ laid → n ≡ m → spot ≡ place
-    → StandsMeant p depth input laid m.cells place → StandsMeant p depth input other n.cells spot
+abbrev pub stands_again : {names : List (List ℕ)} (p : ProgramTree) (depth : ℕ) (input : List ℕ) (laid other : LaidOut) (m n : Memory) (place spot : Root) → other ≡ laid → n ≡ m → spot ≡ place
+    → StandsMeant p names depth input laid m.cells place → StandsMeant p names depth input other n.cells spot
 stands_again p depth input laid other m n place spot e f g s =
     let one = subst (λ (l : LaidOut). Stands l m.cells place (output_type p) s.result) (sym e) s.stands in
     let two = subst (λ (x : Memory). Stands other x.cells place (output_type p) s.result) (sym f) one in
@@ -140,6 +140,6 @@ stands_again p depth input laid other m n place spot e f g s =
 
 -- What is printed of a memory is what is printed of the same memory.
 pub text_moved : (p : ProgramTree) (depth : ℕ) (input : List ℕ) (names : List (List ℕ)) (text : List ℕ) (laid other : LaidOut) (m n : Memory) (place spot : Root) → other ≡ laid → n ≡ m → spot ≡ place
-    → ((q : ProgramTree) (d : ℕ) (i : List ℕ) (s : StandsMeant q d i other n.cells spot) → text ≡ text_line q names s.result)
-    → (s : StandsMeant p depth input laid m.cells place) → text ≡ text_line p names s.result
+    → ((q : ProgramTree) (d : ℕ) (i : List ℕ) (s : StandsMeant q names d i other n.cells spot) → text ≡ text_line q names s.result)
+    → (s : StandsMeant p names depth input laid m.cells place) → text ≡ text_line p names s.result
 text_moved p depth input names text laid other m n place spot e f g printed s = printed p depth input (stands_again p depth input laid other m n place spot e f g s)

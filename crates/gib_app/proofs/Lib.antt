@@ -3,6 +3,7 @@ mod Told
 mod Doing
 mod AfterReads
 mod Replays
+mod Packs
 mod Repeats
 mod Making
 mod Decimals

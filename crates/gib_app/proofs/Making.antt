@@ -17,6 +17,7 @@ use Rattle.gib_app.specs.declared.stop.Stop.TheVariants.{Usage, Source, Unread, 
 use Rattle.gib_app.specs.declared.plan.Input.{Input as KeptInput}
 use Rattle.gib_app.specs.Kept.{document_of, input_of}
 use Rattle.gib_app.specs.declared.plan.Job.{Job}
+use Rattle.gib_app.specs.declared.plan.Options.{Options}
 use Rattle.gib_app.specs.declared.plan.Job.TheVariants.{Run, Plain, Check, Core, Code, Pack, Show, Gen, Trace, Replay}
 use Rattle.gib_app.specs.Plan.{Document, BuiltIn, Named, Plan, Files, Contents}
 use Rattle.gib_app.specs.Running.{IsInput, IsSource, IsNoProgram}
@@ -51,13 +52,13 @@ source_here kept r d p names e on =
     record { source = on.source; source_held = subst H e on.source_held; holds = (on.holds.lexed, p, on.holds.is_program) }
 
 -- inputs that are given are reached
-pub reached_all : (kept : Files) (p : ProgramTree) (is : List PlanInput) (given : Contents) → AreGiven kept is given → AreReached kept p is given
-reached_all kept p [] given h = h
-reached_all kept p (i ∷ is) given h = (h.0, λ taken. h.1)
+pub reached_all : (kept : Files) (p : ProgramTree) (names : List (List ℕ)) (is : List PlanInput) (given : Contents) → AreGiven kept is given → AreReached kept p names is given
+reached_all kept p names [] given h = h
+reached_all kept p names (i ∷ is) given h = (h.0, λ taken. h.1)
 
 -- the first one is, where it is refused
-reached_first : (kept : Files) (p : ProgramTree) (is : List PlanInput) (first : List ℕ) → (((v : Datum) × IsInput p v first) → ⊥) → AreGiven kept (first_of is) (record { second = first; further = [] }) →
-    AreReached kept p is (record { second = first; further = [] })
+reached_first : {names : List (List ℕ)} (kept : Files) (p : ProgramTree) (is : List PlanInput) (first : List ℕ) → (((v : Datum) × IsInput p names v first) → ⊥) → AreGiven kept (first_of is) (record { second = first; further = [] }) →
+    AreReached kept p names is (record { second = first; further = [] })
 reached_first kept p [] first not' h = h
 reached_first kept p (i ∷ is) first not' h = (h.0, λ taken. absurd (not' taken))
 
@@ -73,15 +74,16 @@ pub inputs_given : (kept mid : Files) (is : List PlanInput) (first : List ℕ) (
 inputs_given kept mid is first further same h k = joined kept is first further h (further_before kept mid (further_of is) further same k)
 
 pub on_reached : (kept : Files) (r : Plan) (d : Document) (p : ProgramTree) (names : List (List ℕ)) (given : Contents) (P : ProgramTree → List (List ℕ) → Contents → Type 0) → d ≡ r.source →
-    OnSource kept d (λ source. IsCompiled source p names) → AreReached kept p (inputs_of r) given → P p names given → OnReached kept r P
+    OnSource kept d (λ source. IsCompiled source p names) → AreReached kept p names (inputs_of r) given → P p names given → OnReached kept r P
 on_reached kept r d p names given P e on reached h =
     let H : Document → Type 0 = λ x. Holds kept x on.source in
     let N : List (List ℕ) → Type 0 = λ ns. P p ns given in
+    let A : List (List ℕ) → Type 0 = λ ns. AreReached kept p ns (inputs_of r) given in
     record {
       source = on.source;
       given = given;
       source_held = subst H e on.source_held;
-      holds = record { lexed = on.holds.lexed; program = p; is_program = on.holds.is_program; holds = (reached, subst N on.holds.same h) };
+      holds = record { lexed = on.holds.lexed; program = p; is_program = on.holds.is_program; holds = (subst A on.holds.same reached, subst N on.holds.same h) };
     }
 
 -- why a source is not read, or not compiled
@@ -196,12 +198,12 @@ module _ (o : Option KeptInput) (r : Plan) (same : option_to_list (option_map in
   first_short i e first few = let P : Job → Type 0 = λ job. length first ≤ most_of job in subst P (replays i e) few
 
   -- it was looked over, and is a packed file
-  pub first_taken : (i : KeptInput) → o ≡ Some i → (p : ProgramTree) (first : List ℕ) (table : Table) (ty : Ty) (payload : List ℕ) → length first ≤ most_of r.job → ((v : Datum) × Packed table ty v payload) →
-      ((v : Datum) → Packed table ty v payload → File (table_of_program p) (input_type p) v first) → (v : Datum) × IsInput p v first
+  pub first_taken : {names : List (List ℕ)} (i : KeptInput) → o ≡ Some i → (p : ProgramTree) (first : List ℕ) (table : Table) (ty : Ty) (payload : List ℕ) → length first ≤ most_of r.job → ((v : Datum) × Packed table ty v payload) →
+      ((v : Datum) → Packed table ty v payload → File (table_of_program p) names (input_type p) v first) → (v : Datum) × IsInput p names v first
   first_taken i e p first table ty payload few packed file = (packed.0, record { short = first_short i e first few; file = file packed.0 packed.1 })
 
-  pub long_further : (before now : ShelfView) (i : KeptInput) → o ≡ Some i → i.most ≡ 16777216 → (p : ProgramTree) (first : List ℕ) → ((v : Datum) × IsInput p v first) →
-      OnSource before.kept (document_of i.document) (λ bytes. i.most < length bytes) → IsFurtherStop before now r p first (Input (input.Long i.most))
+  pub long_further : {names : List (List ℕ)} (before now : ShelfView) (i : KeptInput) → o ≡ Some i → i.most ≡ 16777216 → (p : ProgramTree) (first : List ℕ) → ((v : Datum) × IsInput p names v first) →
+      OnSource before.kept (document_of i.document) (λ bytes. i.most < length bytes) → IsFurtherStop before now r p names first (Input (input.Long i.most))
   long_further before now i e most p first taken on = inr (record {
     is = ap (λ n. input.Long n) most;
     taken = taken;
@@ -211,23 +213,23 @@ module _ (o : Option KeptInput) (r : Plan) (same : option_to_list (option_map in
   })
 
   -- why it is not read: the first one is refused
-  refused_first : (before now : ShelfView) (i : KeptInput) → o ≡ Some i → (p : ProgramTree) (first : List ℕ) (stop : Stop) → IsRunStop p first stop → IsFurtherStop before now r p first stop
-  refused_first before now i e p first Usage h = h
-  refused_first before now i e p first (Source fault) h = h
-  refused_first before now i e p first (Unread name) h = absurd h
-  refused_first before now i e p first (Input fault) h = inl (replays i e, h.0, h.1)
-  refused_first before now i e p first (NoValue reason) h = h
-  refused_first before now i e p first Memory h = h
-  refused_first before now i e p first (Unwritten name) h = h
-  refused_first before now i e p first Unput h = h
+  refused_first : (before now : ShelfView) (i : KeptInput) → o ≡ Some i → (p : ProgramTree) (names : List (List ℕ)) (first : List ℕ) (stop : Stop) → IsRunStop p names first stop → IsFurtherStop before now r p names first stop
+  refused_first before now i e p names first Usage h = h
+  refused_first before now i e p names first (Source fault) h = h
+  refused_first before now i e p names first (Unread name) h = absurd h
+  refused_first before now i e p names first (Input fault) h = inl (replays i e, h.0, h.1)
+  refused_first before now i e p names first (NoValue reason) h = h
+  refused_first before now i e p names first Memory h = h
+  refused_first before now i e p names first (Unwritten name) h = h
+  refused_first before now i e p names first Unput h = h
 
-  pub unsurveyed : (before now : ShelfView) (i : KeptInput) → o ≡ Some i → (p : ProgramTree) (first : List ℕ) (stop : Stop) → length first ≤ most_of r.job →
-      IsPackedStop (table_of_program p) (input_type p) first stop → IsFurtherStop before now r p first stop
-  unsurveyed before now i e p first stop few h = refused_first before now i e p first stop (run_stop p first (first_short i e first few) stop h)
+  pub unsurveyed : (before now : ShelfView) (i : KeptInput) → o ≡ Some i → (p : ProgramTree) (names : List (List ℕ)) (first : List ℕ) (stop : Stop) → length first ≤ most_of r.job →
+      IsPackedStop (table_of_program p) names (input_type p) first stop → IsFurtherStop before now r p names first stop
+  unsurveyed before now i e p names first stop few h = refused_first before now i e p names first stop (run_stop p names first (first_short i e first few) stop h)
 
   -- or its own file is not read
-  pub read_further_stop : (before now : ShelfView) (i : KeptInput) → o ≡ Some i → (p : ProgramTree) (first : List ℕ) → ((v : Datum) × IsInput p v first) → (stop : Stop) →
-      IsReadStop before now (document_of i.document) stop → IsFurtherStop before now r p first stop
+  pub read_further_stop : {names : List (List ℕ)} (before now : ShelfView) (i : KeptInput) → o ≡ Some i → (p : ProgramTree) (first : List ℕ) → ((v : Datum) × IsInput p names v first) → (stop : Stop) →
+      IsReadStop before now (document_of i.document) stop → IsFurtherStop before now r p names first stop
   read_further_stop before now i e p first taken Usage h = h
   read_further_stop before now i e p first taken (Source fault) h = h
   read_further_stop before now i e p first taken (Unread name) h =
@@ -254,29 +256,29 @@ inputs_unread_before before mid now (i ∷ is) name e (inr h) = inr (inputs_unre
 
 -- a first input that is too long is refused, and what is behind it is not reached
 
-record IsLongFirst (kept : Files) (job : Job) (skips : Bool) (documents : List Document) (p : ProgramTree) (names : List (List ℕ)) (given : Contents) : Type 0 where
-  reached : AreReached kept p (with_limits (option_map_or limits_of (format_of job) []) documents) given
-  refused : Refuses job skips p names given (input.Long (most_of job))
-  not_accepted : Accepts job skips p names given → ⊥
+record IsLongFirst (kept : Files) (job : Job) (options : Options) (documents : List Document) (p : ProgramTree) (names : List (List ℕ)) (given : Contents) : Type 0 where
+  reached : AreReached kept p names (with_limits (option_map_or limits_of (format_of job) []) documents) given
+  refused : Refuses job options p names given (input.Long (most_of job))
+  not_accepted : Accepts job options p names given → ⊥
 
-long_reached : (kept : Files) (p : ProgramTree) (most : ℕ) (limits : List ℕ) (documents : List Document) (given : Contents) → 16777216 ≤ most → most < length given.second →
-    AreGiven kept (first_of (with_limits (most ∷ limits) documents)) given → AreReached kept p (with_limits (most ∷ limits) documents) given
-long_reached kept p most limits [] given room many h = h
-long_reached kept p most limits (d ∷ documents) given room many h = (h.0, λ taken. let short = taken.1.short in absurd (omega (arith, room, many, short)))
+long_reached : (kept : Files) (p : ProgramTree) (names : List (List ℕ)) (most : ℕ) (limits : List ℕ) (documents : List Document) (given : Contents) → 16777216 ≤ most → most < length given.second →
+    AreGiven kept (first_of (with_limits (most ∷ limits) documents)) given → AreReached kept p names (with_limits (most ∷ limits) documents) given
+long_reached kept p names most limits [] given room many h = h
+long_reached kept p names most limits (d ∷ documents) given room many h = (h.0, λ taken. let short = taken.1.short in absurd (omega (arith, room, many, short)))
 
-module _ (kept : Files) (skips : Bool) (documents : List Document) (p : ProgramTree) (names : List (List ℕ)) (given : Contents) where
-  long_packed : (most : ℕ) → 16777216 ≤ most → most < length given.second → (v : Datum) → IsInput p v given.second → ⊥
+module _ (kept : Files) (options : Options) (documents : List Document) (p : ProgramTree) (names : List (List ℕ)) (given : Contents) where
+  long_packed : (most : ℕ) → 16777216 ≤ most → most < length given.second → (v : Datum) → IsInput p names v given.second → ⊥
   long_packed most room many v is = let short = is.short in omega (arith, room, many, short)
 
   long_first : (job : Job) → AreGiven kept (first_of (with_limits (option_map_or limits_of (format_of job) []) documents)) given → most_of job < length given.second →
-      IsLongFirst kept job skips documents p names given
+      IsLongFirst kept job options documents p names given
   long_first Run h many = record {
-    reached = long_reached kept p 16777216 [] documents given (omega arith) many h;
+    reached = long_reached kept p names 16777216 [] documents given (omega arith) many h;
     refused = (refl, many);
     not_accepted = λ a. long_packed 16777216 (omega arith) many a.0 a.1;
   }
   long_first Plain h many = record {
-    reached = long_reached kept p 16777216 [] documents given (omega arith) many h;
+    reached = long_reached kept p names 16777216 [] documents given (omega arith) many h;
     refused = (refl, many);
     not_accepted = λ a. long_packed 16777216 (omega arith) many a.0 a.1;
   }
@@ -284,27 +286,27 @@ module _ (kept : Files) (skips : Bool) (documents : List Document) (p : ProgramT
   long_first Core h many = absurd (omega (arith, many, ap length h.0))
   long_first Code h many = absurd (omega (arith, many, ap length h.0))
   long_first Pack h many = record {
-    reached = long_reached kept p 16777216 [] documents given (omega arith) many h;
+    reached = long_reached kept p names 16777216 [] documents given (omega arith) many h;
     refused = (refl, inl many);
     not_accepted = λ a. let short = a.1.short in absurd (omega (arith, many, short));
   }
   long_first Show h many = record {
-    reached = long_reached kept p 268435480 [] documents given (omega arith) many h;
+    reached = long_reached kept p names 268435480 [] documents given (omega arith) many h;
     refused = inl (refl, many);
-    not_accepted = λ a. let short = shown_short p skips a.0 given.second a.1 in absurd (omega (arith, many, short));
+    not_accepted = λ a. let short = shown_short p options.skips a.0 given.second a.1 in absurd (omega (arith, many, short));
   }
   long_first Gen h many = record {
-    reached = long_reached kept p 16777216 [] documents given (omega arith) many h;
+    reached = long_reached kept p names 16777216 [] documents given (omega arith) many h;
     refused = (refl, many);
     not_accepted = λ a. long_packed 16777216 (omega arith) many a.0 a.1;
   }
   long_first Trace h many = record {
-    reached = long_reached kept p 16777216 [] documents given (omega arith) many h;
+    reached = long_reached kept p names 16777216 [] documents given (omega arith) many h;
     refused = (refl, many);
     not_accepted = λ a. long_packed 16777216 (omega arith) many a.0 a.1;
   }
   long_first Replay h many = record {
-    reached = long_reached kept p 16777216 (16777216 ∷ []) documents given (omega arith) many h;
+    reached = long_reached kept p names 16777216 (16777216 ∷ []) documents given (omega arith) many h;
     refused = inl (refl, many);
     not_accepted = λ a. long_packed 16777216 (omega arith) many a.value a.is_input;
   }
@@ -314,8 +316,8 @@ first_stops before now r p names Usage h = h
 first_stops before now r p names (Source fault) h = h
 first_stops before now r p names (Unread name) h = inl h
 first_stops before now r p names (Input fault) h =
-    let long = long_first before.kept r.options.skips r.inputs p names h.given r.job h.given_held h.many in
-    let P : InputFault → Type 0 = λ f. Refuses r.job r.options.skips p names h.given f in
+    let long = long_first before.kept r.options r.inputs p names h.given r.job h.given_held h.many in
+    let P : InputFault → Type 0 = λ f. Refuses r.job r.options p names h.given f in
     (h.given, long.reached, subst P (sym h.is) long.refused, long.not_accepted)
 first_stops before now r p names (NoValue reason) h = h
 first_stops before now r p names Memory h = h
@@ -323,36 +325,36 @@ first_stops before now r p names (Unwritten name) h = h
 first_stops before now r p names Unput h = h
 
 -- a replay whose first input is refused
-replay_fault : (p : ProgramTree) (first journal : List ℕ) (fault : InputFault) → IsInputFault p first fault → IsReplayFault p first journal fault
-replay_fault p first journal (input.Long most) h = inl h
-replay_fault p first journal (input.Packed fault) h = h
-replay_fault p first journal (input.Image fault) h = h
-replay_fault p first journal (input.Text place) h = h
-replay_fault p first journal (input.Journal fault) h = absurd h
+replay_fault : (p : ProgramTree) (names : List (List ℕ)) (first journal : List ℕ) (fault : InputFault) → IsInputFault p names first fault → IsReplayFault p names first journal fault
+replay_fault p names first journal (input.Long most) h = inl h
+replay_fault p names first journal (input.Packed fault) h = h
+replay_fault p names first journal (input.Image fault) h = h
+replay_fault p names first journal (input.Text place) h = h
+replay_fault p names first journal (input.Journal fault) h = absurd h
 
 module _ (before mid now : ShelfView) (r : Plan) (p : ProgramTree) (names : List (List ℕ)) (first : List ℕ)
     (same : (name : List ℕ) → mid.kept name ≡ before.kept name) (reads : (name : List ℕ) → mid.reads name ≡ before.reads name)
     (held : AreGiven before.kept (first_of (inputs_of r)) (record { second = first; further = [] })) where
-  refused_there : (fault : InputFault) → (r.job ≡ Replay) × IsInputFault p first fault × (((v : Datum) × IsInput p v first) → ⊥) → IsInputsStop before now r p names (Input fault)
+  refused_there : (fault : InputFault) → (r.job ≡ Replay) × IsInputFault p names first fault × (((v : Datum) × IsInput p names v first) → ⊥) → IsInputsStop before now r p names (Input fault)
   refused_there fault h =
       let given : Contents = record { second = first; further = [] } in
-      let R : Job → Type 0 = λ job. Refuses job r.options.skips p names given fault × (Accepts job r.options.skips p names given → ⊥) in
-      let refused = subst R (sym h.0) (replay_fault p first [] fault h.1, λ a. h.2 (a.value, a.is_input)) in
-      (given, reached_first before.kept p (inputs_of r) first h.2 held, refused.0, refused.1)
+      let R : Job → Type 0 = λ job. Refuses job r.options p names given fault × (Accepts job r.options p names given → ⊥) in
+      let refused = subst R (sym h.0) (replay_fault p names first [] fault h.1, λ a. h.2 (a.value, a.is_input)) in
+      (given, reached_first {names = names} before.kept p (inputs_of r) first h.2 held, refused.0, refused.1)
 
-  long_there : (fault : InputFault) → IsLongFurther mid.kept r p first fault → IsInputsStop before now r p names (Input fault)
+  long_there : (fault : InputFault) → IsLongFurther mid.kept r p names first fault → IsInputsStop before now r p names (Input fault)
   long_there fault h =
       let given : Contents = record { second = first; further = h.bytes ∷ [] } in
       let behind = further_before before.kept mid.kept (further_of (inputs_of r)) (h.bytes ∷ []) same h.held in
       let F : List PlanInput → Type 0 = λ is. AreFurther before.kept is (h.bytes ∷ []) in
       let replay = is_replay r.job r.inputs (λ none'. not_none h.bytes [] (subst F none' behind)) in
-      let R : Job → Type 0 = λ job. Refuses job r.options.skips p names given fault × (Accepts job r.options.skips p names given → ⊥) in
-      let L : InputFault → Type 0 = λ f. IsReplayFault p first h.bytes f in
+      let R : Job → Type 0 = λ job. Refuses job r.options p names given fault × (Accepts job r.options p names given → ⊥) in
+      let L : InputFault → Type 0 = λ f. IsReplayFault p names first h.bytes f in
       let many = h.many in
       let refused = subst R (sym replay) (subst L (sym h.is) (inr (h.taken, refl, many)), λ a. let short = a.is_journal.short in absurd (omega (arith, many, short))) in
-      (given, reached_all before.kept p (inputs_of r) given (joined before.kept (inputs_of r) first (h.bytes ∷ []) held behind), refused.0, refused.1)
+      (given, reached_all before.kept p names (inputs_of r) given (joined before.kept (inputs_of r) first (h.bytes ∷ []) held behind), refused.0, refused.1)
 
-  pub further_stops : (stop : Stop) → IsFurtherStop mid now r p first stop → IsInputsStop before now r p names stop
+  pub further_stops : (stop : Stop) → IsFurtherStop mid now r p names first stop → IsInputsStop before now r p names stop
   further_stops Usage h = h
   further_stops (Source fault) h = h
   further_stops (Unread name) h = inr (inputs_unread_before before mid now (further_of (inputs_of r)) name.now reads h.0, (record { second = first; further = [] }, held, h.1))
@@ -365,13 +367,13 @@ module _ (before mid now : ShelfView) (r : Plan) (p : ProgramTree) (names : List
 
 -- what a job does not make of its inputs
 pub job_stop : (before now : ShelfView) (r : Plan) (p : ProgramTree) (names : List (List ℕ)) (given : Contents) → OnSource before.kept r.source (λ source. IsCompiled source p names) →
-    AreGiven before.kept (inputs_of r) given → (stop : Stop) → FailsTo r.job r.options.skips p names given stop → IsMakeStop before now r stop
+    AreGiven before.kept (inputs_of r) given → (stop : Stop) → FailsTo r.job r.options p names given stop → IsMakeStop before now r stop
 job_stop before now r p names given on held Usage h = h
 job_stop before now r p names given on held (Source fault) h = absurd h
 job_stop before now r p names given on held (Unread name) h = absurd h
 job_stop before now r p names given on held (Input fault) h =
-    on_reached before.kept r r.source p names given (λ q ns bytes. Refuses r.job r.options.skips q ns bytes fault × (Accepts r.job r.options.skips q ns bytes → ⊥)) refl on
-    (reached_all before.kept p (inputs_of r) given held) h
+    on_reached before.kept r r.source p names given (λ q ns bytes. Refuses r.job r.options q ns bytes fault × (Accepts r.job r.options q ns bytes → ⊥)) refl on
+    (reached_all before.kept p names (inputs_of r) given held) h
 job_stop before now r p names given on held (NoValue reason) h = absurd h
 job_stop before now r p names given on held Memory h = h
 job_stop before now r p names given on held (Unwritten name) h = absurd h
@@ -391,20 +393,21 @@ source_stop before now r d e (Unwritten name) h = absurd h
 source_stop before now r d e Unput h = h
 
 -- what the inputs are in a later view, they are in the one before
-reached_before : (kept now : Files) (p : ProgramTree) (is : List PlanInput) (given : Contents) → ((name : List ℕ) → now name ≡ kept name) → AreReached now p is given → AreReached kept p is given
-reached_before kept now p [] given e h = h
-reached_before kept now p (i ∷ is) given e h = (document_before kept now i.document given.second e h.0, λ taken. further_before kept now is given.further e (h.1 taken))
+reached_before : (kept now : Files) (p : ProgramTree) (names : List (List ℕ)) (is : List PlanInput) (given : Contents) → ((name : List ℕ) → now name ≡ kept name) → AreReached now p names is given → AreReached kept p names is given
+reached_before kept now p names [] given e h = h
+reached_before kept now p names (i ∷ is) given e h = (document_before kept now i.document given.second e h.0, λ taken. further_before kept now is given.further e (h.1 taken))
 
 takes_first : (kept mid : Files) (r : Plan) (d : Document) (p : ProgramTree) (names : List (List ℕ)) → d ≡ r.source → ((name : List ℕ) → mid name ≡ kept name) → OnSource kept d (λ source. IsCompiled source p names) →
-    ((given : Contents) × AreGiven mid (first_of (inputs_of r)) given × ((v : Datum) × IsInput p v given.second)) → TakesFirst kept r
+    ((given : Contents) × AreGiven mid (first_of (inputs_of r)) given × ((v : Datum) × IsInput p names v given.second)) → TakesFirst kept r
 takes_first kept mid r d p names e same on h =
     let H : Document → Type 0 = λ x. Holds kept x on.source in
+    let I : List (List ℕ) → Type 0 = λ ns. (v : Datum) × IsInput p ns v h.0.second in
     record {
       source = on.source;
       given = h.0;
       source_held = subst H e on.source_held;
       given_held = held_before kept mid (first_of (inputs_of r)) h.0 same h.1;
-      holds = record { lexed = on.holds.lexed; program = p; is_program = on.holds.is_program; holds = h.2 };
+      holds = record { lexed = on.holds.lexed; program = p; is_program = on.holds.is_program; holds = subst I on.holds.same h.2 };
     }
 
 module _ (before mid now : ShelfView) (r : Plan) (d : Document) (p : ProgramTree) (names : List (List ℕ)) (e : d ≡ r.source)
@@ -415,8 +418,8 @@ module _ (before mid now : ShelfView) (r : Plan) (d : Document) (p : ProgramTree
   inputs_stop (Unread name) (inl h) = inr (inl (inputs_unread_before before mid now (first_of (inputs_of r)) name.now reads h, source_here before.kept r d p names e on))
   inputs_stop (Unread name) (inr h) = inr (inr (inputs_unread_before before mid now (further_of (inputs_of r)) name.now reads h.0, takes_first before.kept mid.kept r d p names e same on h.1))
   inputs_stop (Input fault) h =
-      on_reached before.kept r d p names h.0 (λ q ns given. Refuses r.job r.options.skips q ns given fault × (Accepts r.job r.options.skips q ns given → ⊥)) e on
-      (reached_before before.kept mid.kept p (inputs_of r) h.0 same h.1) (h.2, h.3)
+      on_reached before.kept r d p names h.0 (λ q ns given. Refuses r.job r.options q ns given fault × (Accepts r.job r.options q ns given → ⊥)) e on
+      (reached_before before.kept mid.kept p names (inputs_of r) h.0 same h.1) (h.2, h.3)
   inputs_stop (NoValue reason) h = absurd h
   inputs_stop Memory h = h
   inputs_stop (Unwritten name) h = absurd h
@@ -445,7 +448,7 @@ reached_from kept start r P e on = record {
     lexed = on.holds.lexed;
     program = on.holds.program;
     is_program = on.holds.is_program;
-    holds = (reached_before kept start on.holds.program (inputs_of r) on.given e on.holds.holds.0, on.holds.holds.1);
+    holds = (reached_before kept start on.holds.program on.holds.lexed.names (inputs_of r) on.given e on.holds.holds.0, on.holds.holds.1);
   };
 }
 
@@ -469,7 +472,7 @@ module _ (tells : Bool) (before start now : ShelfView) (r : Plan) (same : (name 
   make_stop (Source fault) h = source_from (at_reading tells before.kept r) start.kept r.source (λ bytes. IsSourceFault bytes fault × IsNoProgram bytes) same h
   make_stop (Unread name) h = fails_from name.now h
   make_stop (Input fault) h =
-      reached_from (at_reading tells before.kept r) start.kept r (λ p names given. Refuses r.job r.options.skips p names given fault × (Accepts r.job r.options.skips p names given → ⊥)) same h
+      reached_from (at_reading tells before.kept r) start.kept r (λ p names given. Refuses r.job r.options p names given fault × (Accepts r.job r.options p names given → ⊥)) same h
   make_stop (NoValue reason) h = h
   make_stop Memory h = h
   make_stop (Unwritten name) h = absurd h

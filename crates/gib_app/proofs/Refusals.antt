@@ -5,57 +5,69 @@ use Rattle.gib_types.specs.Table.{Table}
 use Rattle.gib_types.specs.Tree.{Datum}
 use Rattle.gib_file.specs.declared.fault.HeadFault.{HeadFault}
 use Rattle.gib_file.specs.declared.fault.HeadFault.TheVariants as header
+use Rattle.gib_file.specs.declared.fault.SchemaFault.{SchemaFault}
+use Rattle.gib_file.specs.declared.fault.SchemaFault.TheVariants as schema
 use Rattle.gib_file.specs.declared.fault.PackFault.{PackFault}
 use Rattle.gib_file.specs.declared.fault.PackFault.TheVariants as payload
-use Rattle.gib_file.specs.Framed.{File, Framed, HasMagic, IsFirstFault}
+use Rattle.gib_file.specs.Framed.{Content, File, Framed, HasMagic, IsFirstFault}
+use Rattle.gib_file.specs.Agreeing.{IsSchemaFault}
+use Rattle.gib_file.specs.Describing.{Agrees, Differs}
 use Rattle.gib_file.specs.Reading.{Fails, read_all}
 use Rattle.gib_syntax.specs.Tree.{ProgramTree}
 use Rattle.gib_syntax.specs.Declarations.{table_of_program, input_type}
 use Rattle.gib_app.specs.declared.input_fault.InputFault.TheVariants as input
 use Rattle.gib_app.specs.declared.input_fault.PackedFault.{PackedFault}
-use Rattle.gib_app.specs.declared.input_fault.PackedFault.TheVariants.{Header, Short, Tag, Truth, Trailing}
+use Rattle.gib_app.specs.declared.input_fault.PackedFault.TheVariants.{Header, Types, Short, Tag, Truth, Trailing}
 use Rattle.gib_app.specs.declared.stop.Stop.{Stop}
 use Rattle.gib_app.specs.declared.stop.Stop.TheVariants.{Usage, Source, Unread, Input, NoValue, Memory, Unwritten, Unput}
 use Rattle.gib_app.specs.InputFaults.{IsFileFault, IsPayloadFault}
-use Rattle.gib_app.specs.PassFaults.{packed_stop, payload_stop}
+use Rattle.gib_app.specs.PassFaults.{packed_stop, payload_stop, schema_stop}
 use Rattle.gib_app.specs.MachineRun.{IsMachineStop}
 use Rattle.gib_app.specs.Stops.{IsPackedStop, IsRunStop, IsShowStop}
 use Rattle.gib_app.proofs.Signs.{no_packed_value}
 
 abbrev pub HeaderRefuses : Type 0
-HeaderRefuses = (table : Table) (ty : Ty) (v : Datum) (bytes : List ℕ) (fault : HeadFault) → IsFirstFault bytes fault → File table ty v bytes → ⊥
+HeaderRefuses = (table : Table) (names : List (List ℕ)) (ty : Ty) (v : Datum) (bytes : List ℕ) (fault : HeadFault) → IsFirstFault bytes fault → File table names ty v bytes → ⊥
+
+abbrev pub TypesRefuse : Type 0
+TypesRefuse = (table : Table) (names : List (List ℕ)) (ty : Ty) (c : Content) (bytes : List ℕ) (at : ℕ) → Framed c bytes → Differs table names ty c.description at → (v : Datum) → File table names ty v bytes → ⊥
 
 abbrev pub PayloadRefuses : Type 0
-PayloadRefuses = (table : Table) (ty : Ty) (payload bytes : List ℕ) (fault : PackFault) → Framed payload bytes → read_all table ty payload ≡ Err fault → (v : Datum) → File table ty v bytes → ⊥
+PayloadRefuses = (table : Table) (names : List (List ℕ)) (ty : Ty) (c : Content) (bytes : List ℕ) (fault : PackFault) → Framed c bytes → read_all table ty c.payload ≡ Err fault → (v : Datum) → File table names ty v bytes → ⊥
 
-module _ (headers : HeaderRefuses) (payloads : PayloadRefuses) (table : Table) (ty : Ty) (bytes : List ℕ) where
-  by_payload : (fault : PackFault) → IsPayloadFault table ty bytes fault → (v : Datum) → File table ty v bytes → ⊥
-  by_payload fault h v file = payloads table ty h.payload bytes fault h.framed h.read v file
+module _ (headers : HeaderRefuses) (types : TypesRefuse) (payloads : PayloadRefuses) (table : Table) (names : List (List ℕ)) (ty : Ty) (bytes : List ℕ) where
+  by_payload : (fault : PackFault) → IsPayloadFault table names ty bytes fault → (v : Datum) → File table names ty v bytes → ⊥
+  by_payload fault h v file = payloads table names ty h.content bytes fault h.framed h.read v file
 
-  pub no_file : (fault : PackedFault) → IsFileFault table ty bytes fault → (v : Datum) → File table ty v bytes → ⊥
-  no_file (Header fault) h v file = headers table ty v bytes fault h file
+  pub no_file : (fault : PackedFault) → IsFileFault table names ty bytes fault → (v : Datum) → File table names ty v bytes → ⊥
+  no_file (Header fault) h v file = headers table names ty v bytes fault h file
+  no_file (Types place) h v file = types table names ty h.content bytes place h.framed h.differs v file
   no_file (Short place) h v file = by_payload (payload.Short place) h v file
   no_file (Tag place) h v file = by_payload (payload.Tag place) h v file
   no_file (Truth place) h v file = by_payload (payload.Truth place) h v file
   no_file (Trailing place) h v file = by_payload (payload.Trailing place) h v file
 
-  refuses : (fault : PackedFault) → IsFileFault table ty bytes fault → IsPackedStop table ty bytes (packed_stop fault)
+  refuses : (fault : PackedFault) → IsFileFault table names ty bytes fault → IsPackedStop table names ty bytes (packed_stop fault)
   refuses fault h = (h, no_file fault h)
 
-  pub header_stops : (fault : HeadFault) → IsFirstFault bytes fault → IsPackedStop table ty bytes (packed_stop (Header fault))
+  pub header_stops : (fault : HeadFault) → IsFirstFault bytes fault → IsPackedStop table names ty bytes (packed_stop (Header fault))
   header_stops fault h = refuses (Header fault) h
 
-  pub payload_stops : (content : List ℕ) (fault : PackFault) → Framed content bytes → Fails fault (read_all table ty content) → IsPackedStop table ty bytes (payload_stop fault)
-  payload_stops content payload.Memory framed h = tt {0}
-  payload_stops content (payload.Short place) framed h = refuses (Short place) (record { payload = content; framed = framed; read = h })
-  payload_stops content (payload.Tag place) framed h = refuses (Tag place) (record { payload = content; framed = framed; read = h })
-  payload_stops content (payload.Truth place) framed h = refuses (Truth place) (record { payload = content; framed = framed; read = h })
-  payload_stops content (payload.Trailing place) framed h = refuses (Trailing place) (record { payload = content; framed = framed; read = h })
+  pub types_stop : (content : Content) (fault : SchemaFault) → Framed content bytes → IsSchemaFault table names ty content.description fault → IsPackedStop table names ty bytes (schema_stop fault)
+  types_stop content schema.Memory framed h = tt {0}
+  types_stop content (schema.At place) framed h = refuses (Types place) (record { content = content; framed = framed; differs = h })
+
+  pub payload_stops : (content : Content) (fault : PackFault) → Framed content bytes → Agrees table names ty content.description → Fails fault (read_all table ty content.payload) → IsPackedStop table names ty bytes (payload_stop fault)
+  payload_stops content payload.Memory framed agrees h = tt {0}
+  payload_stops content (payload.Short place) framed agrees h = refuses (Short place) (record { content = content; framed = framed; agrees = agrees; read = h })
+  payload_stops content (payload.Tag place) framed agrees h = refuses (Tag place) (record { content = content; framed = framed; agrees = agrees; read = h })
+  payload_stops content (payload.Truth place) framed agrees h = refuses (Truth place) (record { content = content; framed = framed; agrees = agrees; read = h })
+  payload_stops content (payload.Trailing place) framed agrees h = refuses (Trailing place) (record { content = content; framed = framed; agrees = agrees; read = h })
 
 -- A job stops where its file is refused as a packed one.
 
-module _ (p : ProgramTree) (bytes : List ℕ) (short : length bytes ≤ 16777216) where
-  pub run_stop : (stop : Stop) → IsPackedStop (table_of_program p) (input_type p) bytes stop → IsRunStop p bytes stop
+module _ (p : ProgramTree) (names : List (List ℕ)) (bytes : List ℕ) (short : length bytes ≤ 16777216) where
+  pub run_stop : (stop : Stop) → IsPackedStop (table_of_program p) names (input_type p) bytes stop → IsRunStop p names bytes stop
   run_stop Usage h = h
   run_stop (Source fault) h = h
   run_stop (Unread name) h = h
@@ -70,8 +82,8 @@ module _ (p : ProgramTree) (bytes : List ℕ) (short : length bytes ≤ 16777216
   run_stop Unput h = h
 
 -- The same where a file that begins as a packed one is shown.
-module _ (p : ProgramTree) (skips : Bool) (bytes : List ℕ) (short : length bytes ≤ 16777216) (magic : HasMagic bytes) where
-  pub show_stop : (stop : Stop) → IsPackedStop (table_of_program p) (input_type p) bytes stop → IsShowStop p skips bytes stop
+module _ (p : ProgramTree) (names : List (List ℕ)) (skips : Bool) (bytes : List ℕ) (short : length bytes ≤ 16777216) (magic : HasMagic bytes) where
+  pub show_stop : (stop : Stop) → IsPackedStop (table_of_program p) names (input_type p) bytes stop → IsShowStop p names skips bytes stop
   show_stop Usage h = h
   show_stop (Source fault) h = h
   show_stop (Unread name) h = h
@@ -80,6 +92,7 @@ module _ (p : ProgramTree) (skips : Bool) (bytes : List ℕ) (short : length byt
   show_stop (Input (input.Packed (Header (header.Version v)))) h = ((short, h.0), no_packed_value p skips bytes magic h.1)
   show_stop (Input (input.Packed (Header header.Reserved))) h = ((short, h.0), no_packed_value p skips bytes magic h.1)
   show_stop (Input (input.Packed (Header header.Length))) h = ((short, h.0), no_packed_value p skips bytes magic h.1)
+  show_stop (Input (input.Packed (Types place))) h = ((short, h.0), no_packed_value p skips bytes magic h.1)
   show_stop (Input (input.Packed (Short place))) h = ((short, h.0), no_packed_value p skips bytes magic h.1)
   show_stop (Input (input.Packed (Tag place))) h = ((short, h.0), no_packed_value p skips bytes magic h.1)
   show_stop (Input (input.Packed (Truth place))) h = ((short, h.0), no_packed_value p skips bytes magic h.1)
@@ -92,12 +105,12 @@ module _ (p : ProgramTree) (skips : Bool) (bytes : List ℕ) (short : length byt
   show_stop (Unwritten name) h = h
   show_stop Unput h = h
 
-pub machine_stop : (p : ProgramTree) (skips : Bool) (depth forks chunks : ℕ) (bytes : List ℕ) (stop : Stop) → IsRunStop p bytes stop → IsMachineStop p skips depth forks chunks bytes stop
-machine_stop p skips depth forks chunks bytes Usage h = h
-machine_stop p skips depth forks chunks bytes (Source fault) h = h
-machine_stop p skips depth forks chunks bytes (Unread name) h = h
-machine_stop p skips depth forks chunks bytes (Input fault) h = h
-machine_stop p skips depth forks chunks bytes (NoValue reason) h = absurd h
-machine_stop p skips depth forks chunks bytes Memory h = h
-machine_stop p skips depth forks chunks bytes (Unwritten name) h = h
-machine_stop p skips depth forks chunks bytes Unput h = h
+pub machine_stop : (p : ProgramTree) (names : List (List ℕ)) (skips : Bool) (depth forks chunks : ℕ) (bytes : List ℕ) (stop : Stop) → IsRunStop p names bytes stop → IsMachineStop p names skips depth forks chunks bytes stop
+machine_stop p names skips depth forks chunks bytes Usage h = h
+machine_stop p names skips depth forks chunks bytes (Source fault) h = h
+machine_stop p names skips depth forks chunks bytes (Unread name) h = h
+machine_stop p names skips depth forks chunks bytes (Input fault) h = h
+machine_stop p names skips depth forks chunks bytes (NoValue reason) h = absurd h
+machine_stop p names skips depth forks chunks bytes Memory h = h
+machine_stop p names skips depth forks chunks bytes (Unwritten name) h = h
+machine_stop p names skips depth forks chunks bytes Unput h = h

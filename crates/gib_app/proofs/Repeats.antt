@@ -38,7 +38,7 @@ module _ (laid : LaidOut) (s : Store) (type : Ty) (owed : Outcome) where
   is_deep (answer.At x) h e = let both = sym h.3 ∙ e in cc
   is_deep answer.Deep h e = refl
 
-module _ (one : OneValue) (p : ProgramTree) (names : List (List ℕ)) (options : Options) (input bytes : List ℕ) (short : length bytes ≤ 16777216) (t : IsTrace p options input bytes) where
+module _ (one : OneValue) (p : ProgramTree) (names : List (List ℕ)) (options : Options) (input bytes : List ℕ) (short : length bytes ≤ 16777216) (t : IsTrace p names options input bytes) where
   -- what the program means on the value within the depth of the options, it means within that of the journal
   means_there : (v : Datum) (o : Outcome) → v ≡ t.value → run p options.depth v ≡ o → run p t.settings.depth t.value ≡ o
   means_there v o same means =
@@ -46,9 +46,9 @@ module _ (one : OneValue) (p : ProgramTree) (names : List (List ℕ)) (options :
       let D : ℕ → Type 0 = λ d. run p d t.value ≡ o in
       subst D (sym t.set.depth) (subst V same means)
 
-  pub shown_again : (text : List ℕ) → IsOutput p names options.depth input text → OnJournal p input bytes (IsShownEnd p names false None text)
+  pub shown_again : (text : List ℕ) → IsOutput p names options.depth input text → OnJournal p names input bytes (IsShownEnd p names false None text)
   shown_again text h =
-      let same = one (table_of_program p) (input_type p) h.value t.value input h.is_input.file t.is_input.file in
+      let same = one (table_of_program p) _ (input_type p) h.value t.value input h.is_input.file t.is_input.file in
       let means = means_there h.value (Gives h.result) same h.means in
       let root = root_there (layouts_of t.settings.skips p) t.memory.cells (output_type p) (run p t.settings.depth t.value) t.ends_with h.result t.ended.means means in
       record {
@@ -70,9 +70,9 @@ module _ (one : OneValue) (p : ProgramTree) (names : List (List ℕ)) (options :
         };
       }
 
-  pub deep_again : RunsOut p options.depth input → OnJournal p input bytes (IsDeepEnd p)
+  pub deep_again : RunsOut p names options.depth input → OnJournal p names input bytes (IsDeepEnd p)
   deep_again h =
-      let same = one (table_of_program p) (input_type p) h.value t.value input h.is_input.file t.is_input.file in
+      let same = one (table_of_program p) _ (input_type p) h.value t.value input h.is_input.file t.is_input.file in
       let means = means_there h.value (Stops TooDeep) same h.means in
       let deep' = is_deep (layouts_of t.settings.skips p) t.memory.cells (output_type p) (run p t.settings.depth t.value) t.ends_with t.ended.means means in
       let E : Answer → Type 0 = IsEndOf p t.value t.settings t.lines t.memory in

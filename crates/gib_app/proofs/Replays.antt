@@ -29,17 +29,17 @@ use Rattle.gib_app.specs.Replaying.{IsDeepEnd, IsEndOf, IsShownEnd, LacksChunks,
 
 -- A file is that of one value.
 abbrev pub OneValue : Type 0
-OneValue = (table : Table) (ty : Ty) (v w : Datum) (bytes : List ℕ) → File table ty v bytes → File table ty w bytes → v ≡ w
+OneValue = (table : Table) (names : List (List ℕ)) (ty : Ty) (v w : Datum) (bytes : List ℕ) → File table names ty v bytes → File table names ty w bytes → v ≡ w
 
 -- what holds of one input and one journal, holds of one value, of one start and of the same lines
-pub both_on : OneValue → (p : ProgramTree) (input bytes : List ℕ) (P Q : Datum → Settings → List Line → Type 0) → OnJournal p input bytes P → OnJournal p input bytes Q →
+pub both_on : {names : List (List ℕ)} → OneValue → (p : ProgramTree) (input bytes : List ℕ) (P Q : Datum → Settings → List Line → Type 0) → OnJournal p names input bytes P → OnJournal p names input bytes Q →
     (v : Datum) × (settings : Settings) × (lines : List Line) × P v settings lines × Q v settings lines
 both_on one p input bytes P Q a b =
     let same = text_is_one b.settings a.settings b.lines a.lines b.is_journal.are a.is_journal.are (sym b.is_journal.text_is ∙ a.is_journal.text_is) in
     let V : Datum → Type 0 = λ v. Q v b.settings b.lines in
     let S : Settings → Type 0 = λ s. Q a.value s b.lines in
     let L : List Line → Type 0 = λ ls. Q a.value a.settings ls in
-    let value = one (table_of_program p) (input_type p) b.value a.value input b.is_input.file a.is_input.file in
+    let value = one (table_of_program p) _ (input_type p) b.value a.value input b.is_input.file a.is_input.file in
     (a.value, a.settings, a.lines, a.holds, subst L same.1 (subst S same.0 (subst V value b.holds)))
 
 -- Nobody else draws where a replay starts.
@@ -77,17 +77,17 @@ pub some_or_none : (bytes : List ℕ) → Some bytes ≡ None → ⊥
 some_or_none bytes e = cc
 
 module _ (one : OneValue) (p : ProgramTree) (names : List (List ℕ)) (input bytes : List ℕ) where
-  pub shown_or_deep : (image : Bool) (file : Option (List ℕ)) (text : List ℕ) → OnJournal p input bytes (IsShownEnd p names image file text) → OnJournal p input bytes (IsDeepEnd p) → ⊥
+  pub shown_or_deep : (image : Bool) (file : Option (List ℕ)) (text : List ℕ) → OnJournal p names input bytes (IsShownEnd p names image file text) → OnJournal p names input bytes (IsDeepEnd p) → ⊥
   shown_or_deep image file text h k =
       let both = both_on one p input bytes (IsShownEnd p names image file text) (IsDeepEnd p) h k in
       gives_or_stops (run p both.1.depth both.0) both.3.result both.3.means both.4.means
 
-  pub shown_or_full : (image : Bool) (file : Option (List ℕ)) (text : List ℕ) → OnJournal p input bytes (IsShownEnd p names image file text) → OnJournal p input bytes (LacksChunks p) → ⊥
+  pub shown_or_full : (image : Bool) (file : Option (List ℕ)) (text : List ℕ) → OnJournal p names input bytes (IsShownEnd p names image file text) → OnJournal p names input bytes (LacksChunks p) → ⊥
   shown_or_full image file text h k =
       let both = both_on one p input bytes (IsShownEnd p names image file text) (LacksChunks p) h k in
       ends_or_lacks p both.0 both.1 both.2 both.3.memory both.3.ends_with both.3.ended both.4
 
-  pub deep_or_full : OnJournal p input bytes (IsDeepEnd p) → OnJournal p input bytes (LacksChunks p) → ⊥
+  pub deep_or_full : OnJournal p names input bytes (IsDeepEnd p) → OnJournal p names input bytes (LacksChunks p) → ⊥
   deep_or_full h k =
       let both = both_on one p input bytes (IsDeepEnd p) (LacksChunks p) h k in
       ends_or_lacks p both.0 both.1 both.2 both.3.memory answer.Deep both.3.ended both.4

@@ -6,8 +6,8 @@ use Rattle.gib_types.specs.Layout.{LaidOut}
 use Rattle.gib_types.specs.Tree.{Datum, IsTyped}
 use Rattle.gib_packed.proofs.Typed.{Stands-typed}
 use Rattle.gib_file.specs.Framed.{File, HasMagic}
+use Rattle.gib_file.proofs.FileLaws.{inside}
 use Rattle.gib_file.proofs.HeadLemmas.{parts}
-use Rattle.gib_file.specs.Packed.{packed}
 use Rattle.gib_print.specs.declared.image_fault.ImageFault.{ImageFault as ReadFault}
 use Rattle.gib_print.specs.declared.image_fault.ImageFault.TheVariants as reading
 use Rattle.gib_print.specs.Image.{IsFormed}
@@ -38,38 +38,38 @@ fault_sign p skips bytes image.Header h = h.0
 fault_sign p skips bytes (image.Item at) h = formed_sign (output_type p) bytes h.formed
 fault_sign p skips bytes image.Long h = formed_sign (output_type p) bytes h.formed
 
-pub file_magic : (p : ProgramTree) (v : Datum) (bytes : List ℕ) → IsInput p v bytes → HasMagic bytes
-file_magic p v bytes is = (parts (packed v) bytes is.file.1).magic_is
+pub file_magic : {names : List (List ℕ)} (p : ProgramTree) (v : Datum) (bytes : List ℕ) → IsInput p names v bytes → HasMagic bytes
+file_magic p v bytes is = let h = inside _ _ _ v bytes is.file in (parts _ bytes h.framed).magic_is
 
 -- What begins as a packed file, and is none, has no value that is shown.
-pub no_packed_value : (p : ProgramTree) (skips : Bool) (bytes : List ℕ) → HasMagic bytes → ((v : Datum) → File (table_of_program p) (input_type p) v bytes → ⊥) → ((v : Datum) × IsShownValue p skips v bytes) → ⊥
+pub no_packed_value : {names : List (List ℕ)} (p : ProgramTree) (skips : Bool) (bytes : List ℕ) → HasMagic bytes → ((v : Datum) → File (table_of_program p) names (input_type p) v bytes → ⊥) → ((v : Datum) × IsShownValue p names skips v bytes) → ⊥
 no_packed_value p skips bytes m none' (v, inl is) = none' v is.file
 no_packed_value p skips bytes m none' (v, inr read) = signs_differ bytes m (formed_sign (output_type p) bytes read.image.formed)
 
 -- What begins as neither has none.
-pub no_sign_value : (p : ProgramTree) (skips : Bool) (bytes : List ℕ) → (HasMagic bytes → ⊥) → (HasImageSign bytes → ⊥) → ((v : Datum) × IsShownValue p skips v bytes) → ⊥
+pub no_sign_value : {names : List (List ℕ)} (p : ProgramTree) (skips : Bool) (bytes : List ℕ) → (HasMagic bytes → ⊥) → (HasImageSign bytes → ⊥) → ((v : Datum) × IsShownValue p names skips v bytes) → ⊥
 no_sign_value p skips bytes m s (v, inl is) = m (file_magic p v bytes is)
 no_sign_value p skips bytes m s (v, inr read) = s (formed_sign (output_type p) bytes read.image.formed)
 
 -- A value that is shown is typed.
-pub shown_typed : (p : ProgramTree) (skips : Bool) (v : Datum) (bytes : List ℕ) → IsShownValue p skips v bytes → IsTyped (table_of_program p) v
-shown_typed p skips v bytes (inl is) = (input_type p, is.file.0)
+pub shown_typed : {names : List (List ℕ)} (p : ProgramTree) (skips : Bool) (v : Datum) (bytes : List ℕ) → IsShownValue p names skips v bytes → IsTyped (table_of_program p) v
+shown_typed p skips v bytes (inl is) = (input_type p, (inside _ _ _ v bytes is.file).typed)
 shown_typed p skips v bytes (inr read) = (output_type p, Stands-typed read.image.stands)
 
 -- The law that bytes that are read as a value are not refused.
 abbrev pub ReadOrRefused : Type 0
 ReadOrRefused = (laid : LaidOut) (type : Ty) (bytes : List ℕ) (v : Datum) (f : ReadFault) → IsRead laid type bytes v → IsRefused laid type bytes f → ⊥
 
-module _ (law : ReadOrRefused) (p : ProgramTree) (skips : Bool) (bytes : List ℕ) where
+module _ (law : ReadOrRefused) (p : ProgramTree) (names : List (List ℕ)) (skips : Bool) (bytes : List ℕ) where
   -- What begins as an image, and is none, has no value that is shown.
-  pub no_image_value : (fault : ImageFault) → IsImageFault p skips bytes fault → (v : Datum) → IsShownValue p skips v bytes → ⊥
+  pub no_image_value : (fault : ImageFault) → IsImageFault p skips bytes fault → (v : Datum) → IsShownValue p names skips v bytes → ⊥
   no_image_value fault h v (inl is) = signs_differ bytes (file_magic p v bytes is) (fault_sign p skips bytes fault h)
   no_image_value image.Header h v (inr read) = h.1 read.image.formed
   no_image_value (image.Item at) h v (inr read) = law (layouts_of skips p) (output_type p) bytes v (reading.Bad at) read h
   no_image_value image.Long h v (inr read) = law (layouts_of skips p) (output_type p) bytes v reading.Long read h
 
   -- A call stops at a fault of reading.
-  pub image_stops : HasImageSign bytes → length bytes ≤ 268435480 → (fault : ReadFault) → ReadsTo (layouts_of skips p) (output_type p) bytes (Err fault) → IsShowStop p skips bytes (image_stop fault)
+  pub image_stops : HasImageSign bytes → length bytes ≤ 268435480 → (fault : ReadFault) → ReadsTo (layouts_of skips p) (output_type p) bytes (Err fault) → IsShowStop p names skips bytes (image_stop fault)
   image_stops sign short reading.Memory h = tt {0}
   image_stops sign short reading.Head h = ((short, (sign, h)), λ a. no_image_value image.Header (sign, h) a.0 a.1)
   image_stops sign short (reading.Bad at) h = ((short, h), λ a. no_image_value (image.Item at) h a.0 a.1)

@@ -21,12 +21,12 @@ abbrev pub StopsJob : (InputFault → Type 0) → (Reason → Type 0) → Stop �
 StopsJob I N = StopsBy (λ fault. ⊥) (λ name. ⊥) I N (λ name. ⊥)
 
 -- The input of a run is refused.
-abbrev pub RunRefused : ProgramTree → List ℕ → InputFault → Type 0
-RunRefused p input fault = IsInputFault p input fault × (((v : Datum) × IsInput p v input) → ⊥)
+abbrev pub RunRefused : ProgramTree → List (List ℕ) → List ℕ → InputFault → Type 0
+RunRefused p names input fault = IsInputFault p names input fault × (((v : Datum) × IsInput p names v input) → ⊥)
 
 -- The inputs of a replay are refused.
-abbrev pub ReplayRefused : ProgramTree → (input bytes : List ℕ) → InputFault → Type 0
-ReplayRefused p input bytes fault = IsReplayFault p input bytes fault × (OnJournal p input bytes (Happens p) → ⊥)
+abbrev pub ReplayRefused : ProgramTree → List (List ℕ) → (input bytes : List ℕ) → InputFault → Type 0
+ReplayRefused p names input bytes fault = IsReplayFault p names input bytes fault × (OnJournal p names input bytes (Happens p) → ⊥)
 
 -- Each cause gives another one.
 pub stops_with : (I J : InputFault → Type 0) (N O : Reason → Type 0) → ((fault : InputFault) → I fault → J fault) → ((why : Reason) → N why → O why) → (s : Stop) → StopsJob I N s → StopsJob J O s

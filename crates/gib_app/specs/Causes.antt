@@ -55,16 +55,16 @@ pub record OnProgram (source : List ℕ) (P : ProgramTree → List (List ℕ) �
 
 -- The first input has these bytes; where they are a packed file of a value that the program takes, so have the further ones: else
 -- these are not read.
-abbrev pub AreReached : Files → ProgramTree → List Input → Contents → Type 0
-AreReached kept p [] given = (given.second ≡ []) × (given.further ≡ [])
-AreReached kept p (input ∷ rest) given = Holds kept input.document given.second × (((v : Datum) × IsInput p v given.second) → AreFurther kept rest given.further)
+abbrev pub AreReached : Files → ProgramTree → List (List ℕ) → List Input → Contents → Type 0
+AreReached kept p names [] given = (given.second ≡ []) × (given.further ≡ [])
+AreReached kept p names (input ∷ rest) given = Holds kept input.document given.second × (((v : Datum) × IsInput p names v given.second) → AreFurther kept rest given.further)
 
 -- The source of a plan is a program, of which this holds with its names and the bytes of the inputs, as far as these are read.
 pub record OnReached (kept : Files) (plan : Plan) (P : ProgramTree → List (List ℕ) → Contents → Type 0) : Type 0 where
   pub source : List ℕ
   pub given : Contents
   pub source_held : Holds kept plan.source source
-  pub holds : OnProgram source (λ p names. AreReached kept p (inputs_of plan) given × P p names given)
+  pub holds : OnProgram source (λ p names. AreReached kept p names (inputs_of plan) given × P p names given)
 
 -- The words are taken, and this holds of the bytes of the source that they name.
 abbrev pub AsksSource : Bool → List (List ℕ) → Files → (List ℕ → Type 0) → Type 0
@@ -154,7 +154,7 @@ further_of (input ∷ rest) = rest
 
 -- The source of a plan is a program, and the first input a packed file of a value that it takes.
 abbrev pub TakesFirst : Files → Plan → Type 0
-TakesFirst kept plan = OnFiles kept plan.source (first_of (inputs_of plan)) (λ source given. OnProgram source (λ p names. (v : Datum) × IsInput p v given.second))
+TakesFirst kept plan = OnFiles kept plan.source (first_of (inputs_of plan)) (λ source given. OnProgram source (λ p names. (v : Datum) × IsInput p names v given.second))
 
 -- The file of this name could not be read: it is the source; or else the first input, and the source is a program; or else a further
 -- one, and the first is a packed file of a value that the program takes. These are the files that are read.

@@ -51,7 +51,7 @@ IsEnding tells words before now out_before out_now WriteFault said = IsWriteEndi
 IsEnding tells words before now out_before out_now Input said =
     (fault : InputFault)
     × MatchOption (asked words) ⊥
-    (λ plan. OnReached (at_reading tells before.kept plan) plan (λ p names given. Refuses plan.job plan.options.skips p names given fault × (Accepts plan.job plan.options.skips p names given → ⊥)))
+    (λ plan. OnReached (at_reading tells before.kept plan) plan (λ p names given. Refuses plan.job plan.options p names given fault × (Accepts plan.job plan.options p names given → ⊥)))
     × (said ≡ line (input_text fault))
 
 -- Not the name of a file that the words ask to write.
@@ -152,11 +152,11 @@ pub record DueOfFirst (tells : Bool) (before now : ShelfView) (plan : Plan) (P :
 -- The first input is the packed file of a value that the program of the source takes, and the one behind it is not there.
 abbrev pub LacksFurther : Bool → ShelfView → ShelfView → Plan → List ℕ → Type 0
 LacksFurther tells before now plan source =
-    OnProgram source (λ p names. DueOfFirst tells before now plan (λ bytes. (v : Datum) × IsInput p v bytes)) × IsMissing (at_reading tells before.kept plan) (further_of (inputs_of plan))
+    OnProgram source (λ p names. DueOfFirst tells before now plan (λ bytes. (v : Datum) × IsInput p names v bytes)) × IsMissing (at_reading tells before.kept plan) (further_of (inputs_of plan))
 
 -- The first input is no packed file of a value that the program of the source takes.
 abbrev pub RefusesFirst : Bool → ShelfView → ShelfView → Plan → List ℕ → Type 0
-RefusesFirst tells before now plan source = OnProgram source (λ p names. DueOfFirst tells before now plan (λ bytes. ((v : Datum) × IsInput p v bytes) → ⊥))
+RefusesFirst tells before now plan source = OnProgram source (λ p names. DueOfFirst tells before now plan (λ bytes. ((v : Datum) × IsInput p names v bytes) → ⊥))
 
 -- A file that is to be read is not there: the source; or else the first input, and the source is a program; or else the one behind
 -- it.
@@ -180,7 +180,7 @@ DueWithout before now reason plan p names given =
 -- The inputs are none that the job accepts; or the first is none for a replay, whatever the journal is.
 abbrev pub DueRefused : Bool → ShelfView → ShelfView → Plan → Type 0
 DueRefused tells before now plan =
-    DueOfFiles tells before now plan (λ p names given. Accepts plan.job plan.options.skips p names given → ⊥)
+    DueOfFiles tells before now plan (λ p names given. Accepts plan.job plan.options p names given → ⊥)
     ⊎ ((plan.job ≡ Replay) × DueOfSource tells before now plan (RefusesFirst tells before now plan))
 
 -- The status that is due by the words and by the bytes of the files that they name, where these are told and no

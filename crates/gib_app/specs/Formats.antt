@@ -5,16 +5,17 @@ use Rattle.gib_types.specs.Tree.{Datum}
 use Rattle.gib_syntax.specs.Tree.{ProgramTree}
 use Rattle.gib_app.specs.declared.input_fault.InputFault.{InputFault}
 use Rattle.gib_app.specs.declared.plan.Format.{Format}
-use Rattle.gib_app.specs.declared.plan.Format.TheVariants.{Packed, Text, Shown, Journaled}
+use Rattle.gib_app.specs.declared.plan.Format.TheVariants.{Packed, Packable, Shown, Journaled}
 use Rattle.gib_app.specs.declared.plan.Job.{Job}
 use Rattle.gib_app.specs.declared.plan.Job.TheVariants.{Run, Plain, Check, Core, Code, Pack, Show, Gen, Trace, Replay}
+use Rattle.gib_app.specs.declared.plan.Options.{Options}
 use Rattle.gib_app.specs.Plan.{Document, Plan, Contents}
 use Rattle.gib_app.specs.Running.{IsInput, IsShownValue}
 use Rattle.gib_app.specs.Replaying.{journal_in, OnJournal, Happens}
-use Rattle.gib_app.specs.Packing.{IsPackedText}
-use Rattle.gib_app.specs.InputFaults.{IsInputFault, IsReplayFault, IsShowFault, IsTextFault}
+use Rattle.gib_app.specs.Packing.{IsPackedBy}
+use Rattle.gib_app.specs.InputFaults.{IsInputFault, IsReplayFault, IsShowFault, IsPackFault}
 
--- What the inputs of a job are: a packed file, the text of a value, a file that is shown, a packed file and a journal; or there are
+-- What the inputs of a job are: a packed file, what is packed, a file that is shown, a packed file and a journal; or there are
 -- none.
 abbrev pub format_of : Job → Option Format
 format_of Run = Some Packed
@@ -22,7 +23,7 @@ format_of Plain = Some Packed
 format_of Check = None
 format_of Core = None
 format_of Code = None
-format_of Pack = Some Text
+format_of Pack = Some Packable
 format_of Show = Some Shown
 format_of Gen = Some Packed
 format_of Trace = Some Packed
@@ -31,14 +32,14 @@ format_of Replay = Some Journaled
 -- How many bytes of the first input of that format are read at most.
 abbrev pub limit_of : Format → ℕ
 limit_of Packed = 16777216
-limit_of Text = 16777216
+limit_of Packable = 16777216
 limit_of Shown = 268435480
 limit_of Journaled = 16777216
 
 -- The same of the inputs behind it.
 abbrev pub further_limits : Format → List ℕ
 further_limits Packed = []
-further_limits Text = []
+further_limits Packable = []
 further_limits Shown = []
 further_limits Journaled = 16777216 ∷ []
 
@@ -66,24 +67,24 @@ abbrev pub inputs_of : Plan → List Input
 inputs_of plan = with_limits (option_map_or limits_of (format_of plan.job) []) plan.inputs
 
 -- The inputs are accepted as that.
--- An image is read by the layouts that the flag `--skips` chooses.
-abbrev pub IsAccepted : Format → (skips : Bool) → ProgramTree → List (List ℕ) → Contents → Type 0
-IsAccepted Packed skips p names given = (v : Datum) × IsInput p v given.second
-IsAccepted Text skips p names given = (packed : List ℕ) × IsPackedText p names given.second packed
-IsAccepted Shown skips p names given = (v : Datum) × IsShownValue p skips v given.second
-IsAccepted Journaled skips p names given = OnJournal p given.second (journal_in given) (Happens p)
+-- An image is read by the layouts that the flag `--skips` chooses; what is packed, and how, the flags `--from` and `--v1` tell.
+abbrev pub IsAccepted : Format → Options → ProgramTree → List (List ℕ) → Contents → Type 0
+IsAccepted Packed options p names given = (v : Datum) × IsInput p names v given.second
+IsAccepted Packable options p names given = (packed : List ℕ) × IsPackedBy options.repacks options.first_version p names given.second packed
+IsAccepted Shown options p names given = (v : Datum) × IsShownValue p names options.skips v given.second
+IsAccepted Journaled options p names given = OnJournal p names given.second (journal_in given) (Happens p)
 
 -- The inputs are refused as that, for this fault.
-abbrev pub IsRefused : Format → (skips : Bool) → ProgramTree → List (List ℕ) → Contents → InputFault → Type 0
-IsRefused Packed skips p names given fault = IsInputFault p given.second fault
-IsRefused Text skips p names given fault = IsTextFault p names given.second fault
-IsRefused Shown skips p names given fault = IsShowFault p skips given.second fault
-IsRefused Journaled skips p names given fault = IsReplayFault p given.second (journal_in given) fault
+abbrev pub IsRefused : Format → Options → ProgramTree → List (List ℕ) → Contents → InputFault → Type 0
+IsRefused Packed options p names given fault = IsInputFault p names given.second fault
+IsRefused Packable options p names given fault = IsPackFault options.repacks options.first_version p names given.second fault
+IsRefused Shown options p names given fault = IsShowFault p names options.skips given.second fault
+IsRefused Journaled options p names given fault = IsReplayFault p names given.second (journal_in given) fault
 
 -- A job accepts its inputs, if it has some.
-abbrev pub Accepts : Job → (skips : Bool) → ProgramTree → List (List ℕ) → Contents → Type 0
-Accepts job skips p names given = MatchOption (format_of job) ⊤ (λ format. IsAccepted format skips p names given)
+abbrev pub Accepts : Job → Options → ProgramTree → List (List ℕ) → Contents → Type 0
+Accepts job options p names given = MatchOption (format_of job) ⊤ (λ format. IsAccepted format options p names given)
 
 -- A job refuses its inputs for this fault.
-abbrev pub Refuses : Job → (skips : Bool) → ProgramTree → List (List ℕ) → Contents → InputFault → Type 0
-Refuses job skips p names given fault = MatchOption (format_of job) ⊥ (λ format. IsRefused format skips p names given fault)
+abbrev pub Refuses : Job → Options → ProgramTree → List (List ℕ) → Contents → InputFault → Type 0
+Refuses job options p names given fault = MatchOption (format_of job) ⊥ (λ format. IsRefused format options p names given fault)

@@ -45,7 +45,7 @@ pub record Given (source input : List ℕ) : Type 0 where
   pub spelled : Spells source lexed program
   pub typed : IsTypedProgram program
   pub short : length input ≤ 16777216
-  pub file : File (table_of_program program) (input_type program) value input
+  pub file : File (table_of_program program) lexed.names (input_type program) value input
 
 -- The program means a value on the input within the depth, and this is its text with a line feed.
 pub record IsResult (source input : List ℕ) (depth : ℕ) (output : List ℕ) : Type 0 where

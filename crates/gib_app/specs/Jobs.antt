@@ -11,7 +11,7 @@ use Rattle.gib_app.specs.declared.made.Reason.{Reason}
 use Rattle.gib_app.specs.declared.made.Reason.TheVariants.{Deep, Full}
 use Rattle.gib_app.specs.Plan.{Contents}
 use Rattle.gib_app.specs.Running.{IsOutput, IsSummary, IsRunImage, RunsOut, FillsUp, IsShown}
-use Rattle.gib_app.specs.Packing.{IsPackedText}
+use Rattle.gib_app.specs.Packing.{IsPackedBy}
 use Rattle.gib_app.specs.Cores.{core_after}
 use Rattle.gib_app.specs.Replaying.{journal_in, IsTrace, OnJournal, IsShownEnd, IsDeepEnd, LacksChunks}
 
@@ -32,14 +32,14 @@ ok_line = codes "ok" ++ 10 ∷ []
 -- `plain`: the text of the value that the program means on the input within the depth; or that is too deep.
 abbrev pub Means : ProgramTree → List (List ℕ) → ℕ → List ℕ → Option (List ℕ) → End → Type 0
 Means p names depth input file (Prints text) = (file ≡ None) × IsOutput p names depth input text
-Means p names depth input file (NoValue Deep) = (file ≡ None) × RunsOut p depth input
+Means p names depth input file (NoValue Deep) = (file ≡ None) × RunsOut p names depth input
 Means p names depth input file (NoValue Full) = ⊥
 
 -- Where an image is asked for, it is the file that a run makes; else there is none.
-abbrev pub MakesImage : Bool → ProgramTree → (skips : Bool) → (depth chunks : ℕ) → List ℕ → Option (List ℕ) → Type 0
-MakesImage false p skips depth chunks input file = file ≡ None
-MakesImage true p skips depth chunks input None = ⊥
-MakesImage true p skips depth chunks input (Some bytes) = IsRunImage p skips depth chunks input bytes
+abbrev pub MakesImage : Bool → ProgramTree → List (List ℕ) → (skips : Bool) → (depth chunks : ℕ) → List ℕ → Option (List ℕ) → Type 0
+MakesImage false p names skips depth chunks input file = file ≡ None
+MakesImage true p names skips depth chunks input None = ⊥
+MakesImage true p names skips depth chunks input (Some bytes) = IsRunImage p names skips depth chunks input bytes
 
 -- How many forks a run may nest: with one worker each `par` runs in place.
 abbrev pub run_forks : Options → ℕ
@@ -47,39 +47,39 @@ run_forks options = if nat_lt 1 options.workers then options.fork else 0
 
 -- `run`: the same, and its image, where that is asked for; or so many chunks of memory may not be enough.
 abbrev pub Runs : ProgramTree → List (List ℕ) → Options → List ℕ → Option (List ℕ) → End → Type 0
-Runs p names options input file (Prints text) = MakesImage options.image p options.skips options.depth options.chunks input file × IsOutput p names options.depth input text
-Runs p names options input file (NoValue Deep) = (file ≡ None) × RunsOut p options.depth input
-Runs p names options input file (NoValue Full) = (file ≡ None) × FillsUp p options.skips options.depth (run_forks options) options.chunks input
+Runs p names options input file (Prints text) = MakesImage options.image p names options.skips options.depth options.chunks input file × IsOutput p names options.depth input text
+Runs p names options input file (NoValue Deep) = (file ≡ None) × RunsOut p names options.depth input
+Runs p names options input file (NoValue Full) = (file ≡ None) × FillsUp p names options.skips options.depth (run_forks options) options.chunks input
 
--- `pack`: the packed file of the value whose text this is.
-abbrev pub Packs : ProgramTree → List (List ℕ) → List ℕ → Option (List ℕ) → End → Type 0
-Packs p names bytes file (Prints text) = (packed : List ℕ) × (file ≡ Some packed) × IsPackedText p names bytes packed × (text ≡ ok_line)
-Packs p names bytes file (NoValue reason) = ⊥
+-- `pack`: the packed file of the value whose text, or whose packed file, this is.
+abbrev pub Packs : ProgramTree → List (List ℕ) → Options → List ℕ → Option (List ℕ) → End → Type 0
+Packs p names options bytes file (Prints text) = (packed : List ℕ) × (file ≡ Some packed) × IsPackedBy options.repacks options.first_version p names bytes packed × (text ≡ ok_line)
+Packs p names options bytes file (NoValue reason) = ⊥
 
 -- `gen`: the line about the value that the program means on the input within the depth; or that is too deep; or so many chunks of
 -- memory may not be enough.
-abbrev pub Sums : ProgramTree → Options → List ℕ → Option (List ℕ) → End → Type 0
-Sums p options input file (Prints text) = (file ≡ None) × IsSummary p options.number options.levels options.depth input text
-Sums p options input file (NoValue Deep) = (file ≡ None) × RunsOut p options.depth input
-Sums p options input file (NoValue Full) = (file ≡ None) × FillsUp p options.skips options.depth (run_forks options) options.chunks input
+abbrev pub Sums : ProgramTree → List (List ℕ) → Options → List ℕ → Option (List ℕ) → End → Type 0
+Sums p names options input file (Prints text) = (file ≡ None) × IsSummary p names options.number options.levels options.depth input text
+Sums p names options input file (NoValue Deep) = (file ≡ None) × RunsOut p names options.depth input
+Sums p names options input file (NoValue Full) = (file ≡ None) × FillsUp p names options.skips options.depth (run_forks options) options.chunks input
 
 -- The journal of a run on the input, where there is a file.
-abbrev pub MakesTrace : ProgramTree → Options → List ℕ → Option (List ℕ) → Type 0
-MakesTrace p options input None = ⊥
-MakesTrace p options input (Some bytes) = IsTrace p options input bytes
+abbrev pub MakesTrace : ProgramTree → List (List ℕ) → Options → List ℕ → Option (List ℕ) → Type 0
+MakesTrace p names options input None = ⊥
+MakesTrace p names options input (Some bytes) = IsTrace p names options input bytes
 
 -- `trace`: as `run`, with the journal of the run also where that is too deep; or so many chunks of memory may not be enough.
 abbrev pub Traces : ProgramTree → List (List ℕ) → Options → List ℕ → Option (List ℕ) → End → Type 0
-Traces p names options input file (Prints text) = MakesTrace p options input file × IsOutput p names options.depth input text
-Traces p names options input file (NoValue Deep) = MakesTrace p options input file × RunsOut p options.depth input
-Traces p names options input file (NoValue Full) = (file ≡ None) × FillsUp p options.skips options.depth options.fork options.chunks input
+Traces p names options input file (Prints text) = MakesTrace p names options input file × IsOutput p names options.depth input text
+Traces p names options input file (NoValue Deep) = MakesTrace p names options input file × RunsOut p names options.depth input
+Traces p names options input file (NoValue Full) = (file ≡ None) × FillsUp p names options.skips options.depth options.fork options.chunks input
 
 -- `replay`: the text of the value to which the events of the journal lead, and its image, where that is asked for; or they lead to a
 -- root whose depth ran out; or to where chunks run out.
 abbrev pub Replays : ProgramTree → List (List ℕ) → (image : Bool) → Contents → Option (List ℕ) → End → Type 0
-Replays p names image given file (Prints text) = OnJournal p given.second (journal_in given) (IsShownEnd p names image file text)
-Replays p names image given file (NoValue Deep) = (file ≡ None) × OnJournal p given.second (journal_in given) (IsDeepEnd p)
-Replays p names image given file (NoValue Full) = (file ≡ None) × OnJournal p given.second (journal_in given) (LacksChunks p)
+Replays p names image given file (Prints text) = OnJournal p names given.second (journal_in given) (IsShownEnd p names image file text)
+Replays p names image given file (NoValue Deep) = (file ≡ None) × OnJournal p names given.second (journal_in given) (IsDeepEnd p)
+Replays p names image given file (NoValue Full) = (file ≡ None) × OnJournal p names given.second (journal_in given) (LacksChunks p)
 
 -- What a job with these options makes, for the program with these names, of the bytes of its inputs: a file, or none, and its
 -- end.
@@ -89,9 +89,9 @@ Does Plain options p names given = Means p names options.depth given.second
 Does Check options p names given = OnlyPrints (λ text. text ≡ ok_line)
 Does Core options p names given = OnlyPrints (λ text. text ≡ core_text names (core_after options.skips options.pass p))
 Does Code options p names given = OnlyPrints (λ text. text ≡ listing_text names (lower_program (core_after options.skips 4 p)))
-Does Pack options p names given = Packs p names given.second
+Does Pack options p names given = Packs p names options given.second
 Does Show options p names given = OnlyPrints (IsShown p names options.skips given.second)
-Does Gen options p names given = Sums p options given.second
+Does Gen options p names given = Sums p names options given.second
 Does Trace options p names given = Traces p names options given.second
 Does Replay options p names given = Replays p names options.image given
 

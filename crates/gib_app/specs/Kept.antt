@@ -65,7 +65,7 @@ pub record IsTextOf (value : Valued) (text : List ℕ) : Type 0 where
   pub program : ProgramTree
   pub depth : ℕ
   pub input : List ℕ
-  pub stands : StandsMeant program depth input value.ran.lowered.code.laid (cells_of value.ran.memory) value.ran.root
+  pub stands : StandsMeant program value.names depth input value.ran.lowered.code.laid (cells_of value.ran.memory) value.ran.root
   pub held : AreHeld value.ran.lowered.code.laid.table value.names
   pub is_text : text ≡ text_line program value.names stands.result
 

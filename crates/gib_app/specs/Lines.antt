@@ -62,6 +62,7 @@ header_text header.Length = codes "wrong length"
 -- What is said of a file that is no packed one.
 abbrev pub packed_text : PackedFault → List ℕ
 packed_text (packed.Header fault) = header_text fault
+packed_text (packed.Types place) = codes "other types at " ++ decimal place
 packed_text (packed.Short place) = codes "short at " ++ decimal place
 packed_text (packed.Tag place) = codes "bad tag at " ++ decimal place
 packed_text (packed.Truth place) = codes "bad truth value at " ++ decimal place

@@ -29,10 +29,10 @@ abbrev pub cells_of : SoleMem → Store
 cells_of m = (sole_memory m).cells
 
 -- The program means a value on the input within the depth, and in region memory that value stands for the root.
-pub record StandsMeant (p : ProgramTree) (depth : ℕ) (input : List ℕ) (laid : LaidOut) (s : Store) (place : Root) : Type 0 where
+pub record StandsMeant (p : ProgramTree) (names : List (List ℕ)) (depth : ℕ) (input : List ℕ) (laid : LaidOut) (s : Store) (place : Root) : Type 0 where
   pub value : Datum
   pub result : Datum
-  pub is_input : IsInput p value input
+  pub is_input : IsInput p names value input
   pub means : run p depth value ≡ Gives result
   pub table : laid.table ≡ table_of_program p
   pub stands : Stands laid s place (output_type p) result
@@ -42,14 +42,14 @@ abbrev pub program_cost : ProgramTree → (skips : Bool) → (depth forks : ℕ)
 program_cost p skips depth forks v = run_cost (core_after skips 4 p) depth forks v
 
 -- Why a program has no value on an input: its meaning runs out of depth, or so many chunks may not be enough.
-abbrev pub LacksValue : ProgramTree → (skips : Bool) → (depth forks chunks : ℕ) → (input : List ℕ) → Reason → Type 0
-LacksValue p skips depth forks chunks input reason.Deep = RunsOut p depth input
-LacksValue p skips depth forks chunks input reason.Full = FillsUp p skips depth forks chunks input
+abbrev pub LacksValue : ProgramTree → List (List ℕ) → (skips : Bool) → (depth forks chunks : ℕ) → (input : List ℕ) → Reason → Type 0
+LacksValue p names skips depth forks chunks input reason.Deep = RunsOut p names depth input
+LacksValue p names skips depth forks chunks input reason.Full = FillsUp p names skips depth forks chunks input
 
 -- Why a run leaves no root.
-abbrev pub IsMachineStop : ProgramTree → (skips : Bool) → (depth forks chunks : ℕ) → (input : List ℕ) → Stop → Type 0
-IsMachineStop p skips depth forks chunks input =
-    StopsBy (λ fault. ⊥) (λ name. ⊥) (λ fault. IsInputFault p input fault × (((v : Datum) × IsInput p v input) → ⊥)) (LacksValue p skips depth forks chunks input) (λ name. ⊥)
+abbrev pub IsMachineStop : ProgramTree → List (List ℕ) → (skips : Bool) → (depth forks chunks : ℕ) → (input : List ℕ) → Stop → Type 0
+IsMachineStop p names skips depth forks chunks input =
+    StopsBy (λ fault. ⊥) (λ name. ⊥) (λ fault. IsInputFault p names input fault × (((v : Datum) × IsInput p names v input) → ⊥)) (LacksValue p names skips depth forks chunks input) (λ name. ⊥)
 
 -- A value was owed, and in region memory it stands for the root.
 pub record IsRootOf (laid : LaidOut) (s : Store) (ty : Ty) (owed : Outcome) (place : Root) : Type 0 where

@@ -5,6 +5,8 @@ use Rattle.gib_parse.specs.declared.fault.ParseFault.{ParseFault}
 use Rattle.gib_parse.specs.declared.fault.ParseFault.TheVariants as parsing
 use Rattle.gib_check.specs.declared.fault.TypeFault.{TypeFault}
 use Rattle.gib_check.specs.declared.fault.TypeFault.TheVariants as typing
+use Rattle.gib_file.specs.declared.fault.SchemaFault.{SchemaFault}
+use Rattle.gib_file.specs.declared.fault.SchemaFault.TheVariants as schema
 use Rattle.gib_file.specs.declared.fault.PackFault.{PackFault}
 use Rattle.gib_file.specs.declared.fault.PackFault.TheVariants as payload
 use Rattle.gib_app.specs.declared.source_fault.SourceFault.TheVariants as source
@@ -39,6 +41,11 @@ check_stop (typing.Broken fault) = Source (source.Broken fault.kind fault.span.s
 -- A second file that is no packed file.
 abbrev pub packed_stop : PackedFault → Stop
 packed_stop fault = Input (input.Packed fault)
+
+-- A fault of what a packed file says of its types.
+abbrev pub schema_stop : SchemaFault → Stop
+schema_stop schema.Memory = Memory
+schema_stop (schema.At place) = packed_stop (packed.Types place)
 
 -- A fault of a packed file's payload.
 abbrev pub payload_stop : PackFault → Stop

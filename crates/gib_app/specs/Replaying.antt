@@ -88,11 +88,11 @@ abbrev pub IsNotEnded : ProgramTree → Datum → Settings → List Line → Typ
 IsNotEnded p v settings lines = GoesIn p settings v × IsLeftOpen (code_for p settings) (start_for p settings v) lines
 
 -- The first bytes are the packed file of a value, the others the text of a journal, and this holds of these.
-pub record OnJournal (p : ProgramTree) (input bytes : List ℕ) (P : Datum → Settings → List Line → Type 0) : Type 0 where
+pub record OnJournal (p : ProgramTree) (names : List (List ℕ)) (input bytes : List ℕ) (P : Datum → Settings → List Line → Type 0) : Type 0 where
   pub value : Datum
   pub settings : Settings
   pub lines : List Line
-  pub is_input : IsInput p value input
+  pub is_input : IsInput p names value input
   pub is_journal : IsJournal settings lines bytes
   pub holds : P value settings lines
 
@@ -116,13 +116,13 @@ pub record IsSetBy (options : Options) (settings : Settings) : Type 0 where
 
 -- The bytes are the text of a journal, of whatever length, with the settings of these options: on the input its events lead to an
 -- end.
-pub record IsTrace (p : ProgramTree) (options : Options) (input bytes : List ℕ) : Type 0 where
+pub record IsTrace (p : ProgramTree) (names : List (List ℕ)) (options : Options) (input bytes : List ℕ) : Type 0 where
   pub value : Datum
   pub settings : Settings
   pub lines : List Line
   pub memory : Memory
   pub ends_with : Answer
-  pub is_input : IsInput p value input
+  pub is_input : IsInput p names value input
   pub set : IsSetBy options settings
   pub are : are_lines lines ≡ true
   pub text_is : bytes ≡ journal_text settings lines

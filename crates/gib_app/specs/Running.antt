@@ -31,9 +31,9 @@ IsNoProgram source = (lexed : Lexed) (p : ProgramTree) → IsProgram source lexe
 
 -- The input is the packed file of this value, which is of the type of main's parameter, and has at most
 -- 16,777,216 bytes.
-pub record IsInput (p : ProgramTree) (v : Datum) (input : List ℕ) : Type 0 where
+pub record IsInput (p : ProgramTree) (names : List (List ℕ)) (v : Datum) (input : List ℕ) : Type 0 where
   pub short : length input ≤ 16777216
-  pub file : File (table_of_program p) (input_type p) v input
+  pub file : File (table_of_program p) names (input_type p) v input
 
 -- The text of a value of a program, with a line feed; the names by their numbers.
 abbrev pub text_line : ProgramTree → List (List ℕ) → Datum → List ℕ
@@ -43,47 +43,47 @@ text_line p names v = text (table_of_program p) names v ++ 10 ∷ []
 pub record IsOutput (p : ProgramTree) (names : List (List ℕ)) (depth : ℕ) (input output : List ℕ) : Type 0 where
   pub value : Datum
   pub result : Datum
-  pub is_input : IsInput p value input
+  pub is_input : IsInput p names value input
   pub means : run p depth value ≡ Gives result
   pub is_text : output ≡ text_line p names result
 
 -- The line about the value that the program means on the input within the depth, where both were made of a number and of levels.
-pub record IsSummary (p : ProgramTree) (number levels depth : ℕ) (input output : List ℕ) : Type 0 where
+pub record IsSummary (p : ProgramTree) (names : List (List ℕ)) (number levels depth : ℕ) (input output : List ℕ) : Type 0 where
   pub value : Datum
   pub result : Datum
-  pub is_input : IsInput p value input
+  pub is_input : IsInput p names value input
   pub means : run p depth value ≡ Gives result
   pub is_line : output ≡ summary_line number levels result
 
 -- The bytes are an image in which the value stands that the program means on the input within the depth, and have at most so many
 -- chunks.
-pub record IsRunImage (p : ProgramTree) (skips : Bool) (depth chunks : ℕ) (input bytes : List ℕ) : Type 0 where
+pub record IsRunImage (p : ProgramTree) (names : List (List ℕ)) (skips : Bool) (depth chunks : ℕ) (input bytes : List ℕ) : Type 0 where
   pub value : Datum
   pub result : Datum
-  pub is_input : IsInput p value input
+  pub is_input : IsInput p names value input
   pub means : run p depth value ≡ Gives result
   pub image : IsImageOf (layouts_of skips p) (output_type p) bytes result
   pub few : chunk_count bytes ≤ chunks
 
 -- The program's meaning on the input runs out of depth.
-pub record RunsOut (p : ProgramTree) (depth : ℕ) (input : List ℕ) : Type 0 where
+pub record RunsOut (p : ProgramTree) (names : List (List ℕ)) (depth : ℕ) (input : List ℕ) : Type 0 where
   pub value : Datum
-  pub is_input : IsInput p value input
+  pub is_input : IsInput p names value input
   pub means : run p depth value ≡ Stops Deep
 
 -- So many chunks may not be enough for what the run of the program on the input costs, where so many calls and forks may be nested.
-pub record FillsUp (p : ProgramTree) (skips : Bool) (depth forks chunks : ℕ) (input : List ℕ) : Type 0 where
+pub record FillsUp (p : ProgramTree) (names : List (List ℕ)) (skips : Bool) (depth forks chunks : ℕ) (input : List ℕ) : Type 0 where
   pub value : Datum
-  pub is_input : IsInput p value input
+  pub is_input : IsInput p names value input
   pub tight : Tight chunks (run_cost (core_after skips 4 p) depth forks value)
 
 -- A file whose value is shown: the packed file of a value of the type of main's parameter; or an image of one of the type of
 -- main's result, in which it is read in at most 16,777,216 items.
-abbrev pub IsShownValue : ProgramTree → (skips : Bool) → Datum → List ℕ → Type 0
-IsShownValue p skips v file = IsInput p v file ⊎ IsRead (layouts_of skips p) (output_type p) file v
+abbrev pub IsShownValue : ProgramTree → List (List ℕ) → (skips : Bool) → Datum → List ℕ → Type 0
+IsShownValue p names skips v file = IsInput p names v file ⊎ IsRead (layouts_of skips p) (output_type p) file v
 
 -- The text of the value of such a file, with a line feed.
 pub record IsShown (p : ProgramTree) (names : List (List ℕ)) (skips : Bool) (file output : List ℕ) : Type 0 where
   pub value : Datum
-  pub is_value : IsShownValue p skips value file
+  pub is_value : IsShownValue p names skips value file
   pub is_text : output ≡ text_line p names value

@@ -19,14 +19,15 @@ use Rattle.gib_app.specs.declared.made.Reason.{Reason}
 use Rattle.gib_app.specs.declared.plan.Job.{Job}
 use Rattle.gib_app.specs.declared.plan.Job.TheVariants.{Replay}
 use Rattle.gib_app.specs.declared.source_fault.SourceFault.{SourceFault}
+use Rattle.gib_app.specs.declared.plan.Options.{Options}
 use Rattle.gib_app.specs.declared.stop.Stop.{Stop}
 use Rattle.gib_app.specs.declared.stop.Stop.TheVariants.{Usage, Source, Unread, Input, NoValue, Memory, Unwritten, Unput}
 use Rattle.gib_app.specs.Plan.{Document, Plan, Files, Contents}
 use Rattle.gib_app.specs.Writes.{at_reading}
 use Rattle.gib_app.specs.Running.{IsProgram, IsNoProgram, IsInput, IsShownValue}
-use Rattle.gib_app.specs.Packing.{IsPackedText}
+use Rattle.gib_app.specs.Packing.{IsPackedBy}
 use Rattle.gib_app.specs.SourceFaults.{IsSourceFault}
-use Rattle.gib_app.specs.InputFaults.{IsFileFault, IsInputFault, IsReplayFault, IsShowFault, IsTextFault}
+use Rattle.gib_app.specs.InputFaults.{IsFileFault, IsInputFault, IsReplayFault, IsShowFault, IsPackFault}
 use Rattle.gib_app.specs.Formats.{inputs_of, most_of, Accepts, Refuses}
 use Rattle.gib_app.specs.Causes.{AreFurther, AreGiven, AreReached, OnSource, OnReached, IsUnread, AreUnread, first_of, further_of, FailsToRead, FailsToWrite}
 use Rattle.gib_app.specs.Replaying.{journal_in, OnJournal, Happens}
@@ -86,19 +87,19 @@ abbrev pub IsInputStop : ShelfView → ShelfView → Plan → Stop → Type 0
 IsInputStop before now plan = StopsBy (λ fault. ⊥) (λ name. AreUnread before now (first_of (inputs_of plan)) name) (IsLongInput before.kept plan) (λ reason. ⊥) (λ name. ⊥)
 
 -- The input behind the first has more bytes than a plan reads, and the first is a packed file of a value that the program takes.
-pub record IsLongFurther (kept : Files) (plan : Plan) (p : ProgramTree) (first : List ℕ) (fault : InputFault) : Type 0 where
+pub record IsLongFurther (kept : Files) (plan : Plan) (p : ProgramTree) (names : List (List ℕ)) (first : List ℕ) (fault : InputFault) : Type 0 where
   pub is : fault ≡ input.Long 16777216
-  pub taken : (v : Datum) × IsInput p v first
+  pub taken : (v : Datum) × IsInput p names v first
   pub bytes : List ℕ
   pub held : AreFurther kept (further_of (inputs_of plan)) (bytes ∷ [])
   pub many : 16777216 < length bytes
 
 -- Why the bytes of the input behind the first are not read: the first is no packed file of a value that the program takes; or it is,
 -- and the count of the other one's file rose, or that one has more bytes than a plan reads.
-abbrev pub IsFurtherStop : ShelfView → ShelfView → Plan → ProgramTree → (first : List ℕ) → Stop → Type 0
-IsFurtherStop before now plan p first =
-    StopsBy (λ fault. ⊥) (λ name. AreUnread before now (further_of (inputs_of plan)) name × ((v : Datum) × IsInput p v first))
-    (λ fault. ((plan.job ≡ Replay) × IsInputFault p first fault × (((v : Datum) × IsInput p v first) → ⊥)) ⊎ IsLongFurther before.kept plan p first fault)
+abbrev pub IsFurtherStop : ShelfView → ShelfView → Plan → ProgramTree → List (List ℕ) → (first : List ℕ) → Stop → Type 0
+IsFurtherStop before now plan p names first =
+    StopsBy (λ fault. ⊥) (λ name. AreUnread before now (further_of (inputs_of plan)) name × ((v : Datum) × IsInput p names v first))
+    (λ fault. ((plan.job ≡ Replay) × IsInputFault p names first fault × (((v : Datum) × IsInput p names v first) → ⊥)) ⊎ IsLongFurther before.kept plan p names first fault)
     (λ reason. ⊥) (λ name. ⊥)
 
 -- Why the bytes of the inputs are not read: the count of a file rose, for a further one where the first is a packed file of a value
@@ -107,9 +108,9 @@ abbrev pub IsInputsStop : ShelfView → ShelfView → Plan → ProgramTree → (
 IsInputsStop before now plan p names =
     StopsBy (λ fault. ⊥)
     (λ name. AreUnread before now (first_of (inputs_of plan)) name
-    ⊎ (AreUnread before now (further_of (inputs_of plan)) name × ((given : Contents) × AreGiven before.kept (first_of (inputs_of plan)) given × ((v : Datum) × IsInput p v given.second))))
-    (λ fault. (given : Contents) × AreReached before.kept p (inputs_of plan) given
-    × Refuses plan.job plan.options.skips p names given fault × (Accepts plan.job plan.options.skips p names given → ⊥))
+    ⊎ (AreUnread before now (further_of (inputs_of plan)) name × ((given : Contents) × AreGiven before.kept (first_of (inputs_of plan)) given × ((v : Datum) × IsInput p names v given.second))))
+    (λ fault. (given : Contents) × AreReached before.kept p names (inputs_of plan) given
+    × Refuses plan.job plan.options p names given fault × (Accepts plan.job plan.options p names given → ⊥))
     (λ reason. ⊥) (λ name. ⊥)
 
 -- Why nothing is made of a second file: it is refused so.
@@ -125,34 +126,34 @@ IsPacked P (input.Text place) = ⊥
 IsPacked P (input.Journal fault) = ⊥
 
 -- Why a file is not read as a packed one: it is that of no value.
-abbrev pub IsPackedStop : Table → Ty → List ℕ → Stop → Type 0
-IsPackedStop table ty bytes = IsRefusal (IsPacked (λ fault. IsFileFault table ty bytes fault × ((v : Datum) → File table ty v bytes → ⊥)))
+abbrev pub IsPackedStop : Table → List (List ℕ) → Ty → List ℕ → Stop → Type 0
+IsPackedStop table names ty bytes = IsRefusal (IsPacked (λ fault. IsFileFault table names ty bytes fault × ((v : Datum) → File table names ty v bytes → ⊥)))
 
 -- Why a program is not run on an input.
-abbrev pub IsRunStop : ProgramTree → List ℕ → Stop → Type 0
-IsRunStop p input = IsRefusal (λ fault. IsInputFault p input fault × (((v : Datum) × IsInput p v input) → ⊥))
+abbrev pub IsRunStop : ProgramTree → List (List ℕ) → List ℕ → Stop → Type 0
+IsRunStop p names input = IsRefusal (λ fault. IsInputFault p names input fault × (((v : Datum) × IsInput p names v input) → ⊥))
 
 -- Why a file is not shown.
-abbrev pub IsShowStop : ProgramTree → (skips : Bool) → List ℕ → Stop → Type 0
-IsShowStop p skips file = IsRefusal (λ fault. IsShowFault p skips file fault × (((v : Datum) × IsShownValue p skips v file) → ⊥))
+abbrev pub IsShowStop : ProgramTree → List (List ℕ) → (skips : Bool) → List ℕ → Stop → Type 0
+IsShowStop p names skips file = IsRefusal (λ fault. IsShowFault p names skips file fault × (((v : Datum) × IsShownValue p names skips v file) → ⊥))
 
--- Why a text is not packed.
-abbrev pub IsPackStop : ProgramTree → List (List ℕ) → List ℕ → Stop → Type 0
-IsPackStop p names bytes = IsRefusal (λ fault. IsTextFault p names bytes fault × (((file : List ℕ) × IsPackedText p names bytes file) → ⊥))
+-- Why no packed file is made.
+abbrev pub IsPackStop : (repacks first : Bool) → ProgramTree → List (List ℕ) → List ℕ → Stop → Type 0
+IsPackStop repacks first p names bytes = IsRefusal (λ fault. IsPackFault repacks first p names bytes fault × (((file : List ℕ) × IsPackedBy repacks first p names bytes file) → ⊥))
 
 -- Why no journal is replayed.
-abbrev pub IsReplayStop : ProgramTree → Contents → Stop → Type 0
-IsReplayStop p given = IsRefusal (λ fault. IsReplayFault p given.second (journal_in given) fault × (OnJournal p given.second (journal_in given) (Happens p) → ⊥))
+abbrev pub IsReplayStop : ProgramTree → List (List ℕ) → Contents → Stop → Type 0
+IsReplayStop p names given = IsRefusal (λ fault. IsReplayFault p names given.second (journal_in given) fault × (OnJournal p names given.second (journal_in given) (Happens p) → ⊥))
 
 -- Why a job makes nothing, for this program, of the bytes of its inputs.
-abbrev pub FailsTo : Job → (skips : Bool) → ProgramTree → List (List ℕ) → Contents → Stop → Type 0
-FailsTo job skips p names given = IsRefusal (λ fault. Refuses job skips p names given fault × (Accepts job skips p names given → ⊥))
+abbrev pub FailsTo : Job → Options → ProgramTree → List (List ℕ) → Contents → Stop → Type 0
+FailsTo job options p names given = IsRefusal (λ fault. Refuses job options p names given fault × (Accepts job options p names given → ⊥))
 
 -- Why what is asked for is not made: the source is no program, a file is not read, the inputs are refused.
 abbrev pub IsMakeStop : ShelfView → ShelfView → Plan → Stop → Type 0
 IsMakeStop before now plan =
     StopsBy (λ fault. OnSource before.kept plan.source (λ bytes. IsSourceFault bytes fault × IsNoProgram bytes)) (λ name. FailsToRead before.kept before now plan name)
-    (λ fault. OnReached before.kept plan (λ p names given. Refuses plan.job plan.options.skips p names given fault × (Accepts plan.job plan.options.skips p names given → ⊥)))
+    (λ fault. OnReached before.kept plan (λ p names given. Refuses plan.job plan.options p names given fault × (Accepts plan.job plan.options p names given → ⊥)))
     (λ reason. ⊥) (λ name. ⊥)
 
 -- Why what is asked for is not made, or not written.
@@ -160,6 +161,6 @@ abbrev pub IsStop : Bool → ShelfView → ShelfView → Plan → Stop → Type 
 IsStop tells before now plan =
     StopsBy (λ fault. OnSource (at_reading tells before.kept plan) plan.source (λ bytes. IsSourceFault bytes fault × IsNoProgram bytes))
     (λ name. FailsToRead (at_reading tells before.kept plan) before now plan name)
-    (λ fault. OnReached (at_reading tells before.kept plan) plan (λ p names given. Refuses plan.job plan.options.skips p names given fault × (Accepts plan.job plan.options.skips p names given → ⊥)))
+    (λ fault. OnReached (at_reading tells before.kept plan) plan (λ p names given. Refuses plan.job plan.options p names given fault × (Accepts plan.job plan.options p names given → ⊥)))
     (λ reason. ⊥)
     (λ name. FailsToWrite tells before now plan name)

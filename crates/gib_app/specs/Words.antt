@@ -71,6 +71,14 @@ flag name = record (new_rule name) { long = Some name; action = Some SetTrue }
 abbrev pub skips : Rule
 skips = flag (codes "skips")
 
+-- Whether what is packed is a packed file.
+abbrev pub from : Rule
+from = flag (codes "from")
+
+-- Whether a packed file of version 1 is written.
+abbrev pub v1 : Rule
+v1 = flag (codes "v1")
+
 -- ---- Their values
 
 -- The word at a place.
@@ -107,7 +115,7 @@ flag_of id rows = option_map_or (λ value. bytes_eq value (codes "true")) (word_
 
 -- The options where none is given.
 abbrev pub usual : Options
-usual = record { workers = 1; depth = 10000; chunks = 1024; fork = 4; pass = 4; image = false; skips = false; number = 0; levels = 0 }
+usual = record { workers = 1; depth = 10000; chunks = 1024; fork = 4; pass = 4; image = false; skips = false; number = 0; levels = 0; repacks = false; first_version = false }
 
 -- All options.
 abbrev pub options_of : List Row → Options
@@ -121,6 +129,8 @@ options_of rows = record {
   skips = flag_of (codes "skips") rows;
   number = number_or (codes "number") usual.number rows;
   levels = byte_or (codes "levels") usual.levels rows;
+  repacks = flag_of (codes "from") rows;
+  first_version = flag_of (codes "v1") rows;
 }
 
 -- One more value of a plan, where it is there.
@@ -225,9 +235,9 @@ core_form = record { name = codes "core"; second = None; third = None; target = 
 abbrev pub code_form : Form
 code_form = record { name = codes "code"; second = None; third = None; target = NoTarget; options = skips ∷ []; job = Code }
 
--- `pack SOURCE TEXT TARGET`.
+-- `pack SOURCE TEXT TARGET [--from] [--v1]`: with `--from` TEXT is a packed file.
 abbrev pub pack_form : Form
-pack_form = record { name = codes "pack"; second = Some (codes "text"); third = None; target = AtPlace (codes "target"); options = []; job = Pack }
+pack_form = record { name = codes "pack"; second = Some (codes "text"); third = None; target = AtPlace (codes "target"); options = from ∷ v1 ∷ []; job = Pack }
 
 -- `show SOURCE FILE [--skips]`.
 abbrev pub show_form : Form

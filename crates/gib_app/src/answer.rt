@@ -125,6 +125,7 @@ fn of_packed(fault: PackedFault) -> Said<'static>
 {
     match fault {
         PackedFault::Header(fault) => of_header(fault),
+        PackedFault::Types(place) => numbered(b"input: other types at ", place),
         PackedFault::Short(place) => numbered(b"input: short at ", place),
         PackedFault::Tag(place) => numbered(b"input: bad tag at ", place),
         PackedFault::Truth(place) => numbered(b"input: bad truth value at ", place),

@@ -3,7 +3,7 @@
 ghost use Rattle.std.specs.Prelude.{◌≡◌, [], ◌∷◌, IfOk, codes, false, true, fold};
 ghost use Rattle.clap.specs.Walk.{rule_of};
 ghost use Rattle.clap.specs.Simple.{App, app_of, new_app, with_rule, with_subcommand};
-ghost use Rattle.gib_app.specs.Words.{app_for, bare_program, chunks, command_set, depth, fork, gen_app, image, numeral, pass, positional, skips, workers};
+ghost use Rattle.gib_app.specs.Words.{app_for, bare_program, chunks, command_set, depth, fork, from, gen_app, image, numeral, pass, positional, skips, v1, workers};
 ghost use Rattle.gib_app.specs.Words.{check_form, code_form, core_form, pack_form, plain_form, replay_form, run_form, show_form, trace_form};
 
 use clap::builder::ValueParser;
@@ -94,6 +94,24 @@ fn skips<'a>(alloc: Global) -> Arg<'a>
         .action(ArgAction::SetTrue)
 }
 
+/// `--from`, whether what is packed is a packed file.
+fn from<'a>(alloc: Global) -> Arg<'a>
+    ensures rule { rule_of result ≡ from }
+    ensures local { result.global ≡ false }
+{
+    Arg::new(alloc, "from")
+        .long("from")
+        .action(ArgAction::SetTrue)
+}
+
+/// `--v1`, whether a packed file of version 1 is written.
+fn v1<'a>(alloc: Global) -> Arg<'a>
+    ensures rule { rule_of result ≡ v1 }
+    ensures local { result.global ≡ false }
+{
+    Arg::new(alloc, "v1").long("v1").action(ArgAction::SetTrue)
+}
+
 /// A command of this name on a source and a second file.
 fn on_both<'a>(alloc: Global, name: &'a str, second: &'a str) -> Result<Command<'a>, AllocError>
     ensures { IfOk result (λ command. app_of command ≡ with_rule (with_rule (new_app name.entry.now) (positional (codes "source"))) (positional second.entry.now)) }
@@ -158,14 +176,14 @@ fn code_command<'a>(alloc: Global) -> Result<Command<'a>, AllocError>
         .arg(skips(alloc))
 }
 
-/// `pack SOURCE TEXT TARGET`.
+/// `pack SOURCE TEXT TARGET [--from] [--v1]`.
 fn pack_command<'a>(alloc: Global) -> Result<Command<'a>, AllocError>
     ensures { IfOk result (λ command. app_of command ≡ app_for pack_form) }
 {
-    Command::new(alloc, "pack")
-        .arg(positional(alloc, "source"))?
-        .arg(positional(alloc, "text"))?
-        .arg(positional(alloc, "target"))
+    on_both(alloc, "pack", "text")?
+        .arg(positional(alloc, "target"))?
+        .arg(from(alloc))?
+        .arg(v1(alloc))
 }
 
 /// `show SOURCE FILE [--skips]`.

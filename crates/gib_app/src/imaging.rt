@@ -56,8 +56,8 @@ fn image_of<M: Mem>(alloc: Global, ran: &mut Ran<M>) -> Result<Vec<u8>, Memory>
 /// Want of memory.
 pub fn text_of<M: Mem>(alloc: Global, ran: &mut Ran<M>, names: &Names) -> Result<Vec<u8>, Memory>
     requires names { AreHeld ran.old.lowered.code.laid.table names.now }
-    requires stands { (p : ProgramTree) × (depth : ℕ) × (input : List ℕ) × StandsMeant p depth input ran.old.lowered.code.laid (M.view ran.old.memory).cells ran.old.root }
-    ensures { (p : ProgramTree) (depth : ℕ) (input : List ℕ) (s : StandsMeant p depth input ran.old.lowered.code.laid (M.view ran.old.memory).cells ran.old.root)
+    requires stands { (p : ProgramTree) × (depth : ℕ) × (input : List ℕ) × StandsMeant p names.now depth input ran.old.lowered.code.laid (M.view ran.old.memory).cells ran.old.root }
+    ensures { (p : ProgramTree) (depth : ℕ) (input : List ℕ) (s : StandsMeant p names.now depth input ran.old.lowered.code.laid (M.view ran.old.memory).cells ran.old.root)
         → IfOk result (λ text. text.items ≡ text_line p names.now s.result) }
 {
     let mut buffer = Buffer::new(alloc);
@@ -73,8 +73,8 @@ fn imaged<M: Mem + Drop>(alloc: Global, mut ran: Ran<M>, names: &Names) -> Resul
     requires alone { (M.view ran.memory).alone ≡ true }
     requires there { (q : ℕ) → q < 4096 * (M.view ran.memory).drawn → IsThere ((M.view ran.memory).cells q) }
     requires names { AreHeld ran.lowered.code.laid.table names.now }
-    requires stands { (p : ProgramTree) × (depth : ℕ) × (input : List ℕ) × StandsMeant p depth input ran.lowered.code.laid (M.view ran.memory).cells ran.root }
-    ensures { (p : ProgramTree) (depth : ℕ) (input : List ℕ) (s : StandsMeant p depth input ran.lowered.code.laid (M.view ran.memory).cells ran.root)
+    requires stands { (p : ProgramTree) × (depth : ℕ) × (input : List ℕ) × StandsMeant p names.now depth input ran.lowered.code.laid (M.view ran.memory).cells ran.root }
+    ensures { (p : ProgramTree) (depth : ℕ) (input : List ℕ) (s : StandsMeant p names.now depth input ran.lowered.code.laid (M.view ran.memory).cells ran.root)
         → IfOk result (λ made. IsShownWith true ran.lowered.code.laid (M.view ran.memory) ran.root p names.now s.result (file_of made) made.end) }
 {
     let bytes = image_of(alloc, &mut ran)?;
@@ -92,8 +92,8 @@ fn imaged<M: Mem + Drop>(alloc: Global, mut ran: Ran<M>, names: &Names) -> Resul
 /// Want of memory.
 pub fn with_image(alloc: Global, mut value: Valued) -> Result<Made, Memory>
     requires names { AreHeld value.ran.lowered.code.laid.table value.names }
-    requires stands { (p : ProgramTree) × (depth : ℕ) × (input : List ℕ) × StandsMeant p depth input value.ran.lowered.code.laid (⟦<SoleMem as Mem>⟧.view value.ran.memory).cells value.ran.root }
-    ensures { (p : ProgramTree) (depth : ℕ) (input : List ℕ) (s : StandsMeant p depth input value.ran.lowered.code.laid (⟦<SoleMem as Mem>⟧.view value.ran.memory).cells value.ran.root)
+    requires stands { (p : ProgramTree) × (depth : ℕ) × (input : List ℕ) × StandsMeant p value.names depth input value.ran.lowered.code.laid (⟦<SoleMem as Mem>⟧.view value.ran.memory).cells value.ran.root }
+    ensures { (p : ProgramTree) (depth : ℕ) (input : List ℕ) (s : StandsMeant p value.names depth input value.ran.lowered.code.laid (⟦<SoleMem as Mem>⟧.view value.ran.memory).cells value.ran.root)
         → IfOk result (λ made. IsShownWith true value.ran.lowered.code.laid (⟦<SoleMem as Mem>⟧.view value.ran.memory) value.ran.root p value.names s.result (file_of made) made.end) }
 {
     value.ran.memory.owns_all();
@@ -112,8 +112,8 @@ pub fn shown(
     image: bool,
 ) -> Result<Made, Memory>
     requires names { AreHeld ran.lowered.code.laid.table names.now }
-    requires stands { (p : ProgramTree) × (depth : ℕ) × (input : List ℕ) × StandsMeant p depth input ran.lowered.code.laid (⟦<PlainMem as Mem>⟧.view ran.memory).cells ran.root }
-    ensures { (p : ProgramTree) (depth : ℕ) (input : List ℕ) (s : StandsMeant p depth input ran.lowered.code.laid (⟦<PlainMem as Mem>⟧.view ran.memory).cells ran.root)
+    requires stands { (p : ProgramTree) × (depth : ℕ) × (input : List ℕ) × StandsMeant p names.now depth input ran.lowered.code.laid (⟦<PlainMem as Mem>⟧.view ran.memory).cells ran.root }
+    ensures { (p : ProgramTree) (depth : ℕ) (input : List ℕ) (s : StandsMeant p names.now depth input ran.lowered.code.laid (⟦<PlainMem as Mem>⟧.view ran.memory).cells ran.root)
         → IfOk result (λ made. IsShownWith image ran.lowered.code.laid (⟦<PlainMem as Mem>⟧.view ran.memory) ran.root p names.now s.result (file_of made) made.end) }
 {
     if image {

@@ -23,13 +23,16 @@ pub enum InputFault {
     Journal(JournalFault),
 }
 
-/// Why bytes are no packed file of a value of a type: the first fault of the header, else of the payload, whose bytes a
-/// place counts from 0.
+/// Why bytes are no packed file of a value of a type: the first fault of the header, else of the description, else of the payload;
+/// a place counts the bytes of the one that it is in from 0.
 #[derive(Clone, Copy, Debug, PartialEq, Eq, Error)]
 pub enum PackedFault {
     /// It has no header of a packed file with its payload.
     #[error("no header of a packed file")]
     Header(HeadFault),
+    /// What it says of its types differs from the type's description first at this byte of it.
+    #[error("other types at byte {0}")]
+    Types(u64),
     /// The tag, number or truth value at this place does not fit in what is left.
     #[error("bytes are missing at byte {0}")]
     Short(u64),

@@ -47,7 +47,7 @@ fn do_replay(
     requires most { length given.second.now ≤ FILE_BYTES }
     requires short { IfSome given.journal (λ j. length j.now ≤ FILE_BYTES) }
     ensures made { IfOk result (λ made. EndsBy (file_of made) made.end (Replays (program_of compiled.now.typed) compiled.now.names image (contents_of given.entry))) }
-    ensures stop { IfErr result (IsReplayStop (program_of compiled.now.typed) (contents_of given.entry)) }
+    ensures stop { IfErr result (IsReplayStop (program_of compiled.now.typed) compiled.now.names (contents_of given.entry)) }
 {
     match given.journal {
         Some(journal) => replay::replay(alloc, compiled, image, given.second, journal),
@@ -69,7 +69,7 @@ fn do_beside<R: Threads + Wait + Sync, G: Gate + Sync>(
     requires most { length given.second.now ≤ most_of job }
     requires short { IfSome given.journal (λ j. length j.now ≤ 16777216) }
     ensures made { IfOk result (λ made. EndsBy (file_of made) made.end (Does job options (program_of compiled.now.typed) compiled.now.names (contents_of given.entry))) }
-    ensures stop { IfErr result (FailsTo job options.skips (program_of compiled.now.typed) compiled.now.names (contents_of given.entry)) }
+    ensures stop { IfErr result (FailsTo job options (program_of compiled.now.typed) compiled.now.names (contents_of given.entry)) }
 {
     match job {
         Job::Run => unreachable!(),
@@ -77,7 +77,7 @@ fn do_beside<R: Threads + Wait + Sync, G: Gate + Sync>(
         Job::Check => check::check(alloc),
         Job::Core => core_text::core_text(alloc, compiled, options.skips, options.pass),
         Job::Code => code_text::code_text(alloc, compiled, options.skips),
-        Job::Pack => pack::pack(alloc, compiled, given.second),
+        Job::Pack => pack::pack(alloc, compiled, options, given.second),
         Job::Show => show::show(alloc, compiled, options.skips, given.second),
         Job::Gen => made_run::made_run(alloc, runtime, compiled, options, given.second),
         Job::Trace => trace::trace(alloc, runtime, compiled, options, given.second),
@@ -102,7 +102,7 @@ pub fn do_job<R: Threads + Wait + Sync, G: Gate + Sync>(
     requires most { length given.second.now ≤ most_of job }
     requires short { IfSome given.journal (λ j. length j.now ≤ 16777216) }
     ensures made { IfOk result (λ made. EndsBy (file_of made) made.end (Does job options (program_of compiled.typed) compiled.names (contents_of given.entry))) }
-    ensures stop { IfErr result (FailsTo job options.skips (program_of compiled.typed) compiled.names (contents_of given.entry)) }
+    ensures stop { IfErr result (FailsTo job options (program_of compiled.typed) compiled.names (contents_of given.entry)) }
 {
     match job {
         Job::Run => run::run(alloc, runtime, compiled, options, given.second),

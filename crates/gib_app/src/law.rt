@@ -1,6 +1,6 @@
 //! The laws of refusals, and of replays. Each function does nothing: its contract is the law.
 
-ghost use Rattle.std.specs.Prelude.{◌≡◌, ◌≤◌, Bool, ℕ, List, [], ◌∷◌, length, Option, None, Some};
+ghost use Rattle.std.specs.Prelude.{◌≡◌, ◌≤◌, ℕ, List, [], ◌∷◌, length, Option, None, Some};
 ghost use Rattle.gib_syntax.specs.Parts.{program_of};
 ghost use Rattle.gib_syntax.specs.Tree.{ProgramTree};
 ghost use Rattle.gib_app.specs.declared.input_fault.InputFault.{InputFault};
@@ -17,7 +17,7 @@ ghost use Rattle.gib_app.specs.Stops.{IsReady};
 
 use crate::compile::Compiled;
 use gib_check::laws::faults_are_exact;
-use gib_file::{one_file, refused_file, refused_header};
+use gib_file::{one_file, refused_description, refused_file, refused_header};
 use gib_lex::laws::{one_reading, one_refusal};
 use gib_parse::law::{one_text, program_is_read};
 use gib_print::law::{a_value_is_not_refused, one_fault};
@@ -38,12 +38,13 @@ pub fn one_source_fault()
 /// The inputs of a job are refused for one fault, at one place, and inputs that are refused are not accepted.
 pub fn one_input_fault(compiled: &Compiled)
     requires ready { IsReady (program_of compiled.now.typed) compiled.now.names }
-    ensures one { (job : Job) (skips : Bool) (given : Contents) (f g : InputFault)
-        → Refuses job skips (program_of compiled.now.typed) compiled.now.names given f → Refuses job skips (program_of compiled.now.typed) compiled.now.names given g → f ≡ g }
-    ensures none { (job : Job) (skips : Bool) (given : Contents) (f : InputFault)
-        → Refuses job skips (program_of compiled.now.typed) compiled.now.names given f → Accepts job skips (program_of compiled.now.typed) compiled.now.names given → ⊥ }
+    ensures one { (job : Job) (options : Options) (given : Contents) (f g : InputFault)
+        → Refuses job options (program_of compiled.now.typed) compiled.now.names given f → Refuses job options (program_of compiled.now.typed) compiled.now.names given g → f ≡ g }
+    ensures none { (job : Job) (options : Options) (given : Contents) (f : InputFault)
+        → Refuses job options (program_of compiled.now.typed) compiled.now.names given f → Accepts job options (program_of compiled.now.typed) compiled.now.names given → ⊥ }
 {
     refused_header();
+    refused_description();
     refused_file();
     one_file();
     let types = compiled.typed.types();

@@ -213,24 +213,25 @@ pub fn run_packed<R: Threads + Wait + Sync, G: Gate + Sync>(
     alloc: Global,
     runtime: Runtime<'_, R, G>,
     typed: &Typed,
+    names: &Names,
     file: &[u8],
     options: Options,
 ) -> Result<Ran<SoleMem>, Stop<'static>>
     requires short { length file.now ≤ FILE_BYTES }
-    ensures stands { IfOk result (λ ran. StandsMeant (program_of typed.now) options.depth file.now ran.lowered.code.laid (⟦<SoleMem as Mem>⟧.view ran.memory).cells ran.root) }
+    ensures stands { IfOk result (λ ran. StandsMeant (program_of typed.now) names.now options.depth file.now ran.lowered.code.laid (⟦<SoleMem as Mem>⟧.view ran.memory).cells ran.root) }
     // It is the code of the program's core that ran, in a memory of so many chunks.
     ensures code { IfOk result (λ ran. ran.lowered.code ≡ lower_program (core_after options.skips 4 (program_of typed.now))) }
     ensures limit { IfOk result (λ ran. (⟦<SoleMem as Mem>⟧.view ran.memory).limit ≡ options.chunks) }
     // The heads lie as those of the program's core.
     ensures laid { IfOk result (λ ran. ran.lowered.code.laid ≡ layouts_of options.skips (program_of typed.now)) }
-    ensures stop { IfErr result (IsMachineStop (program_of typed.now) options.skips options.depth (run_forks options) options.chunks file.now) }
+    ensures stop { IfErr result (IsMachineStop (program_of typed.now) names.now options.skips options.depth (run_forks options) options.chunks file.now) }
     // The other way round: of which value the file is, and what the program means on it, tells how the run ends.
-    ensures only { (v : Datum) → IsInput (program_of typed.now) v file.now
+    ensures only { (v : Datum) → IsInput (program_of typed.now) names.now v file.now
         → MatchResult result (λ ran. IsRootOf ran.lowered.code.laid (⟦<SoleMem as Mem>⟧.view ran.memory).cells (output_type (program_of typed.now)) (run (program_of typed.now) options.depth v) ran.root)
         (Halts (run (program_of typed.now) options.depth v) options.chunks (program_cost (program_of typed.now) options.skips options.depth (run_forks options) v)) }
 {
     one_file();
-    let survey = match survey_input(alloc, typed, file) {
+    let survey = match survey_input(alloc, typed, names, file) {
         Ok(survey) => survey,
         Err(stop) => return Err(stop),
     };
@@ -254,17 +255,17 @@ pub fn print_ran<M: Mem, O: Sink>(
     out: &mut O,
 ) -> Result<(), PrintFault>
     requires names { AreHeld ran.old.lowered.code.laid.table names.now }
-    requires stands { (p : ProgramTree) × (depth : ℕ) × (input : List ℕ) × StandsMeant p depth input ran.old.lowered.code.laid (M.view ran.old.memory).cells ran.old.root }
-    ensures done { (p : ProgramTree) (depth : ℕ) (input : List ℕ) (s : StandsMeant p depth input ran.old.lowered.code.laid (M.view ran.old.memory).cells ran.old.root)
+    requires stands { (p : ProgramTree) × (depth : ℕ) × (input : List ℕ) × StandsMeant p names.now depth input ran.old.lowered.code.laid (M.view ran.old.memory).cells ran.old.root }
+    ensures done { (p : ProgramTree) (depth : ℕ) (input : List ℕ) (s : StandsMeant p names.now depth input ran.old.lowered.code.laid (M.view ran.old.memory).cells ran.old.root)
         → OnOk result (Appends (O.view out.old).taken (O.view out.new).taken (text_line p names.now s.result)) }
-    ensures part { (p : ProgramTree) (depth : ℕ) (input : List ℕ) (s : StandsMeant p depth input ran.old.lowered.code.laid (M.view ran.old.memory).cells ran.old.root)
+    ensures part { (p : ProgramTree) (depth : ℕ) (input : List ℕ) (s : StandsMeant p names.now depth input ran.old.lowered.code.laid (M.view ran.old.memory).cells ran.old.root)
         → IsErrOf result PrintFault.Write → AppendsPart (O.view out.old).taken (O.view out.new).taken (text_line p names.now s.result) }
     ensures cause { IsErrOf result PrintFault.Write → Rose (O.view out.old).faults (O.view out.new).faults }
     ensures later { (O.view out.old).faults ≤ (O.view out.new).faults }
     ensures quiet { (IsErrOf result PrintFault.Write → ⊥) → (O.view out.new).faults ≡ (O.view out.old).faults }
-    ensures pieces { (p : ProgramTree) (depth : ℕ) (input : List ℕ) (s : StandsMeant p depth input ran.old.lowered.code.laid (M.view ran.old.memory).cells ran.old.root)
+    ensures pieces { (p : ProgramTree) (depth : ℕ) (input : List ℕ) (s : StandsMeant p names.now depth input ran.old.lowered.code.laid (M.view ran.old.memory).cells ran.old.root)
         → OnOk result (PutsPieces (O.view out.old) (O.view out.new) (length (text_line p names.now s.result))) }
-    ensures some { (p : ProgramTree) (depth : ℕ) (input : List ℕ) (s : StandsMeant p depth input ran.old.lowered.code.laid (M.view ran.old.memory).cells ran.old.root)
+    ensures some { (p : ProgramTree) (depth : ℕ) (input : List ℕ) (s : StandsMeant p names.now depth input ran.old.lowered.code.laid (M.view ran.old.memory).cells ran.old.root)
         → IsErrOf result PrintFault.Write → PutsSomePieces (O.view out.old) (O.view out.new) (length (text_line p names.now s.result)) }
     ensures still { IsErrOf result PrintFault.Memory → O.view out.new ≡ O.view out.old }
     ensures same { M.view ran.new.memory ≡ M.view ran.old.memory }

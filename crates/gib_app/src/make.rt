@@ -20,6 +20,7 @@ use crate::plan::{Document, Plan};
 use crate::runtime::Runtime;
 use crate::source_fault::SourceFault;
 use crate::stop::Stop;
+use gib_base::Names;
 use gib_base::limits::SOURCE_BYTES;
 use gib_check::Typed;
 use gib_edge::outside::{Gate, Shelf};
@@ -90,19 +91,20 @@ fn read_third<'a, S: Shelf>(
     shelf: &mut S,
     plan: Plan<'a>,
     typed: &Typed,
+    names: &Names,
     second: &[u8],
 ) -> Result<Option<Vec<u8>>, Stop<'a>>
     requires most { length second.now ≤ most_of plan.job }
     ensures bytes { IfOk result (λ found. AreFurther (S.view shelf.old).kept (further_of (inputs_of (plan_of plan.entry))) (option_to_list (option_map (λ bytes. bytes.items) found))) }
     ensures most { IfOk result (λ found. IfSome found (λ bytes. length bytes.items ≤ 16777216)) }
-    ensures stop { IfErr result (IsFurtherStop (S.view shelf.old) (S.view shelf.new) (plan_of plan.entry) (program_of typed.now) second.now) }
+    ensures stop { IfErr result (IsFurtherStop (S.view shelf.old) (S.view shelf.new) (plan_of plan.entry) (program_of typed.now) names.now second.now) }
     ensures read { OnOk result (HasRead (S.view shelf.old) (S.view shelf.new) (input_calls (further_of (inputs_of (plan_of plan.entry))))) }
     ensures stopped { IfErr result (HasStopped (S.view shelf.old) (S.view shelf.new) (input_calls (further_of (inputs_of (plan_of plan.entry))))) }
 {
     let Some(third) = plan.third_input() else {
         return Ok(None);
     };
-    let survey = match survey_input(alloc, typed, second) {
+    let survey = match survey_input(alloc, typed, names, second) {
         Ok(survey) => survey,
         Err(stop) => return Err(stop),
     };
@@ -136,7 +138,14 @@ fn read_inputs<'a, S: Shelf>(
         Ok(second) => second,
         Err(stop) => return Err(stop),
     };
-    match read_third(alloc, shelf, plan, &compiled.typed, &second) {
+    match read_third(
+        alloc,
+        shelf,
+        plan,
+        &compiled.typed,
+        &compiled.names,
+        &second,
+    ) {
         Ok(journal) => Ok(Inputs { second, journal }),
         Err(stop) => Err(stop),
     }

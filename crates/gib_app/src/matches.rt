@@ -25,6 +25,8 @@ pub fn usual() -> Options
         skips: false,
         number: 0,
         levels: 0,
+        repacks: false,
+        first_version: false,
     }
 }
 
@@ -106,6 +108,8 @@ fn options(matches: &ArgMatches<'_>) -> Options
         skips: flag(matches, "skips"),
         number: number_or(matches, "number", usual.number),
         levels: byte_or(matches, "levels", usual.levels),
+        repacks: flag(matches, "from"),
+        first_version: flag(matches, "v1"),
     }
 }
 

@@ -7,12 +7,16 @@ ghost use Rattle.gib_file.specs.Packed.{Packed};
 ghost use Rattle.gib_syntax.specs.Parts.{program_of};
 ghost use Rattle.gib_syntax.specs.Declarations.{table_of_program, input_type};
 ghost use Rattle.gib_app.specs.Stops.{IsPackedStop};
-ghost use Rattle.gib_app.specs.PassFaults.{packed_stop, payload_stop};
+ghost use Rattle.gib_app.specs.PassFaults.{packed_stop, payload_stop, schema_stop};
 
 use crate::input_fault::{InputFault, PackedFault};
 use crate::stop::Stop;
+use gib_base::Names;
 use gib_check::Typed;
-use gib_file::{PackFault, Survey, read_header, refused_file, refused_header, survey, unpack};
+use gib_file::{
+    PackFault, SchemaFault, Survey, agree, file_is_content, read_header, refused_description,
+    refused_file, refused_header, survey, unpack,
+};
 use gib_value::Value;
 use std::alloc::Global;
 
@@ -21,6 +25,16 @@ pub fn of_packed(fault: PackedFault) -> Stop<'static>
     ensures { result ≡ packed_stop fault }
 {
     Stop::Input(InputFault::Packed(fault))
+}
+
+/// Why it stops at what a packed file says of its types.
+fn of_schema(fault: SchemaFault) -> Stop<'static>
+    ensures { result ≡ schema_stop fault }
+{
+    match fault {
+        SchemaFault::Memory => Stop::Memory,
+        SchemaFault::At(place) => of_packed(PackedFault::Types(place)),
+    }
 }
 
 /// Why it stops at the payload of a packed file.
@@ -40,24 +54,31 @@ fn of_payload(fault: PackFault) -> Stop<'static>
 ///
 /// # Errors
 ///
-/// `Input` with the first fault of the header, else of the payload; `Memory`.
+/// `Input` with the first fault of the header, else of what it says of its types, else of the payload; `Memory`.
 pub fn survey_input<'a>(
     alloc: Global,
     typed: &'a Typed,
+    names: &Names,
     bytes: &'a [u8],
 ) -> Result<Survey<'a>, Stop<'static>>
     ensures table { IfOk result (λ s. s.table ≡ table_of_program (program_of typed.now)) }
     ensures ty { IfOk result (λ s. s.ty ≡ input_type (program_of typed.now)) }
-    ensures file { IfOk result (λ s. (v : Datum) → Packed s.table s.ty v s.bytes → File (table_of_program (program_of typed.now)) (input_type (program_of typed.now)) v bytes.now) }
-    ensures refused { IfErr result (IsPackedStop (table_of_program (program_of typed.now)) (input_type (program_of typed.now)) bytes.now) }
+    ensures file { IfOk result (λ s. (v : Datum) → Packed s.table s.ty v s.bytes → File (table_of_program (program_of typed.now)) names.now (input_type (program_of typed.now)) v bytes.now) }
+    ensures refused { IfErr result (IsPackedStop (table_of_program (program_of typed.now)) names.now (input_type (program_of typed.now)) bytes.now) }
 {
+    file_is_content();
     refused_header();
+    refused_description();
     refused_file();
     let ty = typed.input_type();
     let payload = match read_header(bytes) {
         Ok(payload) => payload,
         Err(fault) => return Err(of_packed(PackedFault::Header(fault))),
     };
+    match agree(alloc, typed.types(), names, ty, &payload) {
+        Ok(()) => {}
+        Err(fault) => return Err(of_schema(fault)),
+    }
     match survey(alloc, typed.types(), ty, payload) {
         Ok(survey) => Ok(survey),
         Err(fault) => Err(of_payload(fault)),
@@ -69,11 +90,16 @@ pub fn survey_input<'a>(
 /// # Errors
 ///
 /// As `survey_input`.
-pub fn read_packed(alloc: Global, typed: &Typed, bytes: &[u8]) -> Result<Value, Stop<'static>>
-    ensures read { IfOk result (λ v. File (table_of_program (program_of typed.now)) (input_type (program_of typed.now)) v bytes.now) }
-    ensures refused { IfErr result (IsPackedStop (table_of_program (program_of typed.now)) (input_type (program_of typed.now)) bytes.now) }
+pub fn read_packed(
+    alloc: Global,
+    typed: &Typed,
+    names: &Names,
+    bytes: &[u8],
+) -> Result<Value, Stop<'static>>
+    ensures read { IfOk result (λ v. File (table_of_program (program_of typed.now)) names.now (input_type (program_of typed.now)) v bytes.now) }
+    ensures refused { IfErr result (IsPackedStop (table_of_program (program_of typed.now)) names.now (input_type (program_of typed.now)) bytes.now) }
 {
-    let survey = match survey_input(alloc, typed, bytes) {
+    let survey = match survey_input(alloc, typed, names, bytes) {
         Ok(survey) => survey,
         Err(stop) => return Err(stop),
     };

@@ -30,7 +30,7 @@ pub enum Job {
     Core,
     /// Prints the code of a program.
     Code,
-    /// Makes a packed file of a value that is given as text.
+    /// Makes a packed file of a value that is given as text, or by a packed file.
     Pack,
     /// Prints the value of a packed file.
     Show,
@@ -47,8 +47,8 @@ pub enum Job {
 pub enum Format {
     /// The packed file of a value.
     Packed,
-    /// The text of a value.
-    Text,
+    /// What is packed: the text of a value, or its packed file.
+    Packable,
     /// A file whose value is shown.
     Shown,
     /// The packed file of a value, and a journal.
@@ -76,6 +76,10 @@ pub struct Options {
     pub number: u32,
     /// How many levels the input that is made has below its root.
     pub levels: u8,
+    /// Whether what is packed is a packed file, and not the text of a value.
+    pub repacks: bool,
+    /// Whether a packed file of version 1 is written, and not of version 2.
+    pub first_version: bool,
 }
 
 /// The names under which a source and an input that are made are written.
@@ -118,7 +122,7 @@ impl Job {
             Job::Check => None,
             Job::Core => None,
             Job::Code => None,
-            Job::Pack => Some(Format::Text),
+            Job::Pack => Some(Format::Packable),
             Job::Show => Some(Format::Shown),
             Job::Gen => Some(Format::Packed),
             Job::Trace => Some(Format::Packed),
@@ -138,7 +142,7 @@ impl Format {
     {
         match self {
             Format::Packed => FILE_BYTES,
-            Format::Text => FILE_BYTES,
+            Format::Packable => FILE_BYTES,
             Format::Shown => 268_435_480,
             Format::Journaled => FILE_BYTES,
         }

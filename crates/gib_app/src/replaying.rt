@@ -19,6 +19,7 @@ use crate::lowering::lowered;
 use crate::made::Reason;
 use crate::packed::survey_input;
 use crate::stop::Stop;
+use gib_base::Names;
 use gib_base::limits::FILE_BYTES;
 use gib_check::Typed;
 use gib_core::Lowered;
@@ -107,16 +108,17 @@ fn journal_of(alloc: Global, bytes: &[u8]) -> Result<Journal, Stop<'static>>
 pub fn replay_packed(
     alloc: Global,
     typed: &Typed,
+    names: &Names,
     file: &[u8],
     bytes: &[u8],
 ) -> Result<ReplayedRun, Stop<'static>>
     requires short { length file.now ≤ FILE_BYTES }
     requires few { length bytes.now ≤ FILE_BYTES }
-    ensures ends { IfOk result (λ run. IsReplayed (program_of typed.now) file.now bytes.now run.lowered.code.laid (⟦<PlainMem as Mem>⟧.view run.replayed.memory) run.replayed.answer) }
-    ensures stop { IfErr result (IsNotReplayed (program_of typed.now) file.now bytes.now) }
+    ensures ends { IfOk result (λ run. IsReplayed (program_of typed.now) names.now file.now bytes.now run.lowered.code.laid (⟦<PlainMem as Mem>⟧.view run.replayed.memory) run.replayed.answer) }
+    ensures stop { IfErr result (IsNotReplayed (program_of typed.now) names.now file.now bytes.now) }
 {
     one_file();
-    let survey = match survey_input(alloc, typed, file) {
+    let survey = match survey_input(alloc, typed, names, file) {
         Ok(survey) => survey,
         Err(stop) => return Err(stop),
     };

@@ -19,6 +19,7 @@ use crate::packed::survey_input;
 use crate::plan::Options;
 use crate::runtime::Runtime;
 use crate::stop::Stop;
+use gib_base::Names;
 use gib_base::limits::FILE_BYTES;
 use gib_check::Typed;
 use gib_core::Lowered;
@@ -102,20 +103,21 @@ pub fn trace_packed<R: Threads + Wait + Sync, G: Gate + Sync>(
     alloc: Global,
     runtime: Runtime<'_, R, G>,
     typed: &Typed,
+    names: &Names,
     file: &[u8],
     options: Options,
 ) -> Result<TracedRun, Stop<'static>>
     requires short { length file.now ≤ FILE_BYTES }
-    ensures ends { IfOk result (λ run. IsTraced (program_of typed.now) options file.now run.traced.journal.settings run.traced.journal.lines.all.items
+    ensures ends { IfOk result (λ run. IsTraced (program_of typed.now) names.now options file.now run.traced.journal.settings run.traced.journal.lines.all.items
         (⟦<PlainMem as Mem>⟧.view run.traced.memory) run.traced.answer) }
     // It is the code of the program's core that ran, in a memory of so many chunks.
     ensures code { IfOk result (λ run. run.lowered.code ≡ lower_program (core_after options.skips 4 (program_of typed.now))) }
     ensures limit { IfOk result (λ run. (⟦<PlainMem as Mem>⟧.view run.traced.memory).limit ≡ options.chunks) }
     // The heads lie as those of the program's core.
     ensures laid { IfOk result (λ run. run.lowered.code.laid ≡ layouts_of options.skips (program_of typed.now)) }
-    ensures stop { IfErr result (IsTraceStop (program_of typed.now) options file.now) }
+    ensures stop { IfErr result (IsTraceStop (program_of typed.now) names.now options file.now) }
 {
-    let survey = match survey_input(alloc, typed, file) {
+    let survey = match survey_input(alloc, typed, names, file) {
         Ok(survey) => survey,
         Err(stop) => return Err(stop),
     };

@@ -54,6 +54,9 @@ pub fn examples()
     ensures replay_depth { asked (codes "gib" ∷ codes "replay" ∷ codes "a" ∷ codes "b" ∷ codes "j" ∷ codes "--depth" ∷ codes "7" ∷ []) ≡ None }
     // A pass past its range.
     ensures pass { asked (codes "gib" ∷ codes "core" ∷ codes "a.gib" ∷ codes "--pass" ∷ codes "5" ∷ []) ≡ None }
+    // What is packed, and into which version.
+    ensures repack { asked (codes "gib" ∷ codes "pack" ∷ codes "a" ∷ codes "--from" ∷ codes "b" ∷ codes "c" ∷ codes "--v1" ∷ [])
+        ≡ Some (record { first = []; source = Named (codes "a"); inputs = Named (codes "b") ∷ []; target = Some (codes "c"); job = Pack; options = record usual { repacks = true; first_version = true } }) }
     // A name too few.
     ensures few { asked (codes "gib" ∷ codes "show" ∷ codes "a" ∷ []) ≡ None }
 {}

@@ -9,7 +9,7 @@ use Rattle.gib_syntax.specs.Declarations.{table_of_program, input_type, output_t
 use Rattle.gib_syntax.specs.Typing.{IsTypedProgram}
 use Rattle.gib_syntax.specs.Meaning.{Gives, Stops, Deep, run}
 use Rattle.gib_file.specs.Packed.{packed}
-use Rattle.gib_file.specs.Framed.{header, File}
+use Rattle.gib_file.specs.Framed.{header, File1}
 use Rattle.gib_gen.specs.NumberTree.{NumberTree, Leaf, Node, value_of, tree_type, height, worked}
 
 -- The text before the literal.
@@ -58,7 +58,7 @@ pub record IsProgramWith (literal : ℕ) (source input : List ℕ) (t : NumberTr
   pub program : ProgramTree
   pub spells : Spells source lexed program
   pub typed : IsTypedProgram program
-  pub file : File (table_of_program program) (input_type program) (value_of t) input
+  pub file : File1 (table_of_program program) (input_type program) (value_of t) input
   pub takes : input_type program ≡ tree_type
   pub gives : output_type program ≡ tree_type
   pub trees : (v : Datum) → HasType (table_of_program program) v tree_type → (u : NumberTree) × (v ≡ value_of u)

@@ -32,8 +32,8 @@ use std::thread::Threads;
 ///
 /// Want of memory.
 fn line_of(alloc: Global, ran: &mut Ran<SoleMem>, options: Options) -> Result<Vec<u8>, Memory>
-    requires stands { (p : ProgramTree) × (depth : ℕ) × (input : List ℕ) × StandsMeant p depth input ran.old.lowered.code.laid (⟦<SoleMem as Mem>⟧.view ran.old.memory).cells ran.old.root }
-    ensures { (p : ProgramTree) (depth : ℕ) (input : List ℕ) (s : StandsMeant p depth input ran.old.lowered.code.laid (⟦<SoleMem as Mem>⟧.view ran.old.memory).cells ran.old.root)
+    requires stands { (p : ProgramTree) × (names : List (List ℕ)) × (depth : ℕ) × (input : List ℕ) × StandsMeant p names depth input ran.old.lowered.code.laid (⟦<SoleMem as Mem>⟧.view ran.old.memory).cells ran.old.root }
+    ensures { (p : ProgramTree) (names : List (List ℕ)) (depth : ℕ) (input : List ℕ) (s : StandsMeant p names depth input ran.old.lowered.code.laid (⟦<SoleMem as Mem>⟧.view ran.old.memory).cells ran.old.root)
         → IfOk result (λ line. line.items ≡ summary_line options.number options.levels s.result) }
 {
     let layouts = ran.lowered.code().layouts();
@@ -49,9 +49,9 @@ fn line_of(alloc: Global, ran: &mut Ran<SoleMem>, options: Options) -> Result<Ve
 
 /// What is printed of what a run leaves.
 fn line_made(alloc: Global, mut ran: Ran<SoleMem>, options: Options) -> Result<Made, Stop<'static>>
-    requires stands { (p : ProgramTree) × (input : List ℕ) × StandsMeant p options.depth input ran.lowered.code.laid (⟦<SoleMem as Mem>⟧.view ran.memory).cells ran.root }
-    ensures made { (p : ProgramTree) (input : List ℕ) (s : StandsMeant p options.depth input ran.lowered.code.laid (⟦<SoleMem as Mem>⟧.view ran.memory).cells ran.root)
-        → IfOk result (λ made. EndsBy (file_of made) made.end (Sums p options input)) }
+    requires stands { (p : ProgramTree) × (names : List (List ℕ)) × (input : List ℕ) × StandsMeant p names options.depth input ran.lowered.code.laid (⟦<SoleMem as Mem>⟧.view ran.memory).cells ran.root }
+    ensures made { (p : ProgramTree) (names : List (List ℕ)) (input : List ℕ) (s : StandsMeant p names options.depth input ran.lowered.code.laid (⟦<SoleMem as Mem>⟧.view ran.memory).cells ran.root)
+        → IfOk result (λ made. EndsBy (file_of made) made.end (Sums p names options input)) }
     ensures memory { IfErr result (λ stop. stop ≡ Stop.Memory) }
 {
     match line_of(alloc, &mut ran, options) {
@@ -76,10 +76,17 @@ pub fn made_run<R: Threads + Wait + Sync, G: Gate + Sync>(
     input: &[u8],
 ) -> Result<Made, Stop<'static>>
     requires short { length input.now ≤ FILE_BYTES }
-    ensures made { IfOk result (λ made. EndsBy (file_of made) made.end (Sums (program_of compiled.now.typed) options input.now)) }
-    ensures stop { IfErr result (IsRunStop (program_of compiled.now.typed) input.now) }
+    ensures made { IfOk result (λ made. EndsBy (file_of made) made.end (Sums (program_of compiled.now.typed) compiled.now.names options input.now)) }
+    ensures stop { IfErr result (IsRunStop (program_of compiled.now.typed) compiled.now.names input.now) }
 {
-    match run_packed(alloc, runtime, &compiled.typed, input, options) {
+    match run_packed(
+        alloc,
+        runtime,
+        &compiled.typed,
+        &compiled.names,
+        input,
+        options,
+    ) {
         Ok(ran) => line_made(alloc, ran, options),
         Err(stop) => of_stop(stop),
     }

@@ -1,20 +1,26 @@
-//! `pack`: makes the packed file of a value that is given as text.
+//! `pack`: makes the packed file of a value that is given as text, or by a packed file.
 
 ghost use Rattle.std.specs.Prelude.{◌≡◌, ◌≤◌, length, IfOk, IfErr};
+ghost use Rattle.gib_types.specs.Tree.{HasType};
 ghost use Rattle.gib_syntax.specs.Parts.{program_of};
+ghost use Rattle.gib_syntax.specs.Declarations.{table_of_program, input_type};
 ghost use Rattle.gib_app.specs.Jobs.{Packs};
 ghost use Rattle.gib_app.specs.Kept.{EndsBy, file_of};
-ghost use Rattle.gib_app.specs.Packing.{IsPackedText, without_feed as feed_cut};
+ghost use Rattle.gib_app.specs.Packing.{IsFileOf, IsPackable, IsPackedBy, without_feed as feed_cut};
 ghost use Rattle.gib_app.specs.Stops.{IsReady, IsPackStop};
 
 use crate::compile::Compiled;
 use crate::input_fault::InputFault;
 use crate::made::{End, Made};
+use crate::packed::read_packed;
+use crate::plan::Options;
 use crate::printing::ok_answer;
 use crate::stop::Stop;
+use gib_base::Memory;
 use gib_base::limits::FILE_BYTES;
-use gib_file::pack as packed_file;
-use gib_value::{TextFault, read_text};
+use gib_file::{one_file, pack as packed_file};
+use gib_value::law::texts_differ;
+use gib_value::{TextFault, Value, read_text};
 use std::alloc::Global;
 
 /// The bytes without the line feed at their end, where one stands there.
@@ -27,26 +33,87 @@ fn without_feed(bytes: &[u8]) -> &[u8]
     if *last == b'\n' { front } else { bytes }
 }
 
-/// The packed file of the value of the type of main's parameter whose text this is; one line feed may stand at
-/// its end.
+/// The value of the type of main's parameter that is packed: of a text, at whose end one line feed may stand, or of a packed file.
 ///
 /// # Errors
 ///
-/// `Input` where the text is none of such a value, or the file would be too long.
-fn pack_text(alloc: Global, compiled: &Compiled, text: &[u8]) -> Result<Vec<u8>, Stop<'static>>
+/// `Input` where the bytes are none of such a value.
+fn value_of(
+    alloc: Global,
+    compiled: &Compiled,
+    options: Options,
+    bytes: &[u8],
+) -> Result<Value, Stop<'static>>
     requires ready { IsReady (program_of compiled.now.typed) compiled.now.names }
-    requires short { length text.now ≤ FILE_BYTES }
-    ensures file { IfOk result (λ file. IsPackedText (program_of compiled.now.typed) compiled.now.names text.now file.items) }
-    ensures stop { IfErr result (IsPackStop (program_of compiled.now.typed) compiled.now.names text.now) }
+    requires short { length bytes.now ≤ FILE_BYTES }
+    ensures packable { IfOk result (λ v. IsPackable options.repacks (program_of compiled.now.typed) compiled.now.names v bytes.now) }
+    ensures stop { IfErr result (IsPackStop options.repacks options.first_version (program_of compiled.now.typed) compiled.now.names bytes.now) }
 {
+    if options.repacks {
+        return match read_packed(alloc, &compiled.typed, &compiled.names, bytes) {
+            Ok(value) => Ok(value),
+            Err(stop) => Err(stop),
+        };
+    }
     let types = compiled.typed.types();
     let ty = compiled.typed.input_type();
-    let value = match read_text(alloc, types, &compiled.names, ty, without_feed(text)) {
+    match read_text(alloc, types, &compiled.names, ty, without_feed(bytes)) {
+        Ok(value) => Ok(value),
+        Err(TextFault::At(place)) => Err(Stop::Input(InputFault::Text(place))),
+        Err(TextFault::Memory) => Err(Stop::Memory),
+    }
+}
+
+/// The packed file of a value of the type of main's parameter: of version 1 or of version 2.
+///
+/// # Errors
+///
+/// Want of memory.
+fn file_of_value(
+    alloc: Global,
+    compiled: &Compiled,
+    first_version: bool,
+    value: &Value,
+) -> Result<Vec<u8>, Memory>
+    requires typed { HasType (table_of_program (program_of compiled.now.typed)) value.now (input_type (program_of compiled.now.typed)) }
+    ensures { IfOk result (λ file. IsFileOf first_version (program_of compiled.now.typed) compiled.now.names value.now file.items) }
+{
+    let types = compiled.typed.types();
+    if first_version {
+        return match packed_file(alloc, types, &compiled.names, value, 1) {
+            Ok(file) => Ok(file),
+            Err(memory) => Err(memory),
+        };
+    }
+    match packed_file(alloc, types, &compiled.names, value, 2) {
+        Ok(file) => Ok(file),
+        Err(memory) => Err(memory),
+    }
+}
+
+/// The packed file of the value that is packed.
+///
+/// # Errors
+///
+/// `Input` where the bytes are none of such a value, or the file would be too long.
+fn file_made(
+    alloc: Global,
+    compiled: &Compiled,
+    options: Options,
+    bytes: &[u8],
+) -> Result<Vec<u8>, Stop<'static>>
+    requires ready { IsReady (program_of compiled.now.typed) compiled.now.names }
+    requires short { length bytes.now ≤ FILE_BYTES }
+    ensures file { IfOk result (λ file. IsPackedBy options.repacks options.first_version (program_of compiled.now.typed) compiled.now.names bytes.now file.items) }
+    ensures stop { IfErr result (IsPackStop options.repacks options.first_version (program_of compiled.now.typed) compiled.now.names bytes.now) }
+{
+    one_file();
+    texts_differ(compiled.typed.types(), &compiled.names);
+    let value = match value_of(alloc, compiled, options, bytes) {
         Ok(value) => value,
-        Err(TextFault::At(place)) => return Err(Stop::Input(InputFault::Text(place))),
-        Err(TextFault::Memory) => return Err(Stop::Memory),
+        Err(stop) => return Err(stop),
     };
-    let Ok(file) = packed_file(alloc, types, &value) else {
+    let Ok(file) = file_of_value(alloc, compiled, options.first_version, &value) else {
         return Err(Stop::Memory);
     };
     if file.len() as u64 > FILE_BYTES {
@@ -55,19 +122,24 @@ fn pack_text(alloc: Global, compiled: &Compiled, text: &[u8]) -> Result<Vec<u8>,
     Ok(file)
 }
 
-/// The packed file of a text, and what is printed then. That is there before the file is written, so that memory cannot run
-/// out after it.
+/// The packed file of a text or of a packed file, and what is printed then. That is there before the file is written, so that
+/// memory cannot run out after it.
 ///
 /// # Errors
 ///
-/// `Input` where the text is none of a value of the type of main's parameter, or the file would be too long.
-pub fn pack(alloc: Global, compiled: &Compiled, text: &[u8]) -> Result<Made, Stop<'static>>
+/// `Input` where the bytes are none of a value of the type of main's parameter, or the file would be too long.
+pub fn pack(
+    alloc: Global,
+    compiled: &Compiled,
+    options: Options,
+    bytes: &[u8],
+) -> Result<Made, Stop<'static>>
     requires ready { IsReady (program_of compiled.now.typed) compiled.now.names }
-    requires short { length text.now ≤ FILE_BYTES }
-    ensures made { IfOk result (λ made. EndsBy (file_of made) made.end (Packs (program_of compiled.now.typed) compiled.now.names text.now)) }
-    ensures stop { IfErr result (IsPackStop (program_of compiled.now.typed) compiled.now.names text.now) }
+    requires short { length bytes.now ≤ FILE_BYTES }
+    ensures made { IfOk result (λ made. EndsBy (file_of made) made.end (Packs (program_of compiled.now.typed) compiled.now.names options bytes.now)) }
+    ensures stop { IfErr result (IsPackStop options.repacks options.first_version (program_of compiled.now.typed) compiled.now.names bytes.now) }
 {
-    let file = match pack_text(alloc, compiled, text) {
+    let file = match file_made(alloc, compiled, options, bytes) {
         Ok(file) => file,
         Err(stop) => return Err(stop),
     };

@@ -61,9 +61,9 @@ pub fn plain(
     requires ready { IsReady (program_of compiled.now.typed) compiled.now.names }
     requires short { length input.now ≤ FILE_BYTES }
     ensures made { IfOk result (λ made. EndsBy (file_of made) made.end (Means (program_of compiled.now.typed) compiled.now.names depth input.now)) }
-    ensures stop { IfErr result (IsRunStop (program_of compiled.now.typed) input.now) }
+    ensures stop { IfErr result (IsRunStop (program_of compiled.now.typed) compiled.now.names input.now) }
 {
-    let value = match read_packed(alloc, &compiled.typed, input) {
+    let value = match read_packed(alloc, &compiled.typed, &compiled.names, input) {
         Ok(value) => value,
         Err(stop) => return Err(stop),
     };

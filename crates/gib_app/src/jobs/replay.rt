@@ -33,11 +33,12 @@ pub fn replay(
     requires short { length file.now ≤ FILE_BYTES }
     requires few { length journal.now ≤ FILE_BYTES }
     ensures made { IfOk result (λ made. EndsBy (file_of made) made.end (Replays (program_of compiled.now.typed) compiled.now.names image (record { second = file.now; further = journal.now ∷ [] }))) }
-    ensures stop { IfErr result (IsReplayStop (program_of compiled.now.typed) (record { second = file.now; further = journal.now ∷ [] })) }
+    ensures stop { IfErr result (IsReplayStop (program_of compiled.now.typed) compiled.now.names (record { second = file.now; further = journal.now ∷ [] })) }
 {
     let ReplayedRun { lowered, replayed } = match replay_packed(
         alloc,
         &compiled.typed,
+        &compiled.names,
         file,
         journal,
     ) {

@@ -30,9 +30,9 @@ use std::thread::Threads;
 /// What a run makes that leaves a value: its image too, where that is asked for.
 fn finish(alloc: Global, value: Valued, image: bool) -> Result<Made, Stop<'static>>
     requires names { AreHeld value.ran.lowered.code.laid.table value.names }
-    requires stands { (p : ProgramTree) × (depth : ℕ) × (input : List ℕ) × StandsMeant p depth input value.ran.lowered.code.laid (⟦<SoleMem as Mem>⟧.view value.ran.memory).cells value.ran.root }
+    requires stands { (p : ProgramTree) × (depth : ℕ) × (input : List ℕ) × StandsMeant p value.names depth input value.ran.lowered.code.laid (⟦<SoleMem as Mem>⟧.view value.ran.memory).cells value.ran.root }
     ensures made { (p : ProgramTree) (options : OptionValues) (input : List ℕ) → value.ran.lowered.code.laid ≡ layouts_of options.skips p → options.image ≡ image → (⟦<SoleMem as Mem>⟧.view value.ran.memory).limit ≡ options.chunks
-        → (s : StandsMeant p options.depth input value.ran.lowered.code.laid (⟦<SoleMem as Mem>⟧.view value.ran.memory).cells value.ran.root)
+        → (s : StandsMeant p value.names options.depth input value.ran.lowered.code.laid (⟦<SoleMem as Mem>⟧.view value.ran.memory).cells value.ran.root)
         → IfOk result (λ made. EndsBy (file_of made) made.end (Runs p value.names options input)) }
     ensures memory { IfErr result (λ stop. stop ≡ Stop.Memory) }
 {
@@ -63,10 +63,10 @@ pub fn run<R: Threads + Wait + Sync, G: Gate + Sync>(
     requires ready { IsReady (program_of compiled.typed) compiled.names }
     requires short { length input.now ≤ FILE_BYTES }
     ensures made { IfOk result (λ made. EndsBy (file_of made) made.end (Runs (program_of compiled.typed) compiled.names options input.now)) }
-    ensures stop { IfErr result (IsRunStop (program_of compiled.typed) input.now) }
+    ensures stop { IfErr result (IsRunStop (program_of compiled.typed) compiled.names input.now) }
 {
     let Compiled { typed, names } = compiled;
-    match run_packed(alloc, runtime, &typed, input, options) {
+    match run_packed(alloc, runtime, &typed, &names, input, options) {
         Ok(ran) => finish(alloc, Valued { ran, names }, options.image),
         Err(stop) => of_stop(stop),
     }

@@ -14,6 +14,7 @@ use crate::made::Made;
 use crate::packed::{of_packed, read_packed};
 use crate::printing::{only_prints, value_line};
 use crate::stop::Stop;
+use gib_base::Names;
 use gib_base::limits::FILE_BYTES;
 use gib_check::Typed;
 use gib_file::{HeadFault, has_magic, refused_header};
@@ -24,12 +25,13 @@ use std::alloc::Global;
 fn read_shown(
     alloc: Global,
     typed: &Typed,
+    names: &Names,
     skips: bool,
     file: &[u8],
 ) -> Result<Value, Stop<'static>>
     requires short { length file.now ≤ 268435480 }
-    ensures value { IfOk result (λ v. IsShownValue (program_of typed.now) skips v file.now) }
-    ensures stop { IfErr result (IsShowStop (program_of typed.now) skips file.now) }
+    ensures value { IfOk result (λ v. IsShownValue (program_of typed.now) names.now skips v file.now) }
+    ensures stop { IfErr result (IsShowStop (program_of typed.now) names.now skips file.now) }
 {
     if has_image_sign(file) {
         return match read_image_of(alloc, typed, skips, file) {
@@ -44,7 +46,7 @@ fn read_shown(
     if file.len() as u64 > FILE_BYTES {
         return Err(Stop::Input(InputFault::Long(FILE_BYTES)));
     }
-    match read_packed(alloc, typed, file) {
+    match read_packed(alloc, typed, names, file) {
         Ok(value) => Ok(value),
         Err(stop) => Err(stop),
     }
@@ -65,9 +67,9 @@ fn show_file(
     requires ready { IsReady (program_of compiled.now.typed) compiled.now.names }
     requires short { length file.now ≤ 268435480 }
     ensures output { IfOk result (λ output. IsShown (program_of compiled.now.typed) compiled.now.names skips file.now output.items) }
-    ensures stop { IfErr result (IsShowStop (program_of compiled.now.typed) skips file.now) }
+    ensures stop { IfErr result (IsShowStop (program_of compiled.now.typed) compiled.now.names skips file.now) }
 {
-    let value = match read_shown(alloc, &compiled.typed, skips, file) {
+    let value = match read_shown(alloc, &compiled.typed, &compiled.names, skips, file) {
         Ok(value) => value,
         Err(stop) => return Err(stop),
     };
@@ -92,7 +94,7 @@ pub fn show(
     requires ready { IsReady (program_of compiled.now.typed) compiled.now.names }
     requires short { length file.now ≤ 268435480 }
     ensures made { IfOk result (λ made. EndsBy (file_of made) made.end (OnlyPrints (IsShown (program_of compiled.now.typed) compiled.now.names skips file.now))) }
-    ensures stop { IfErr result (IsShowStop (program_of compiled.now.typed) skips file.now) }
+    ensures stop { IfErr result (IsShowStop (program_of compiled.now.typed) compiled.now.names skips file.now) }
 {
     match show_file(alloc, compiled, skips, file) {
         Ok(text) => Ok(only_prints(text)),

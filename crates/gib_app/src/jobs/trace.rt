@@ -32,9 +32,9 @@ use std::thread::Threads;
 /// What such a run leaves: its journal, and the text of its value or that depth ran out.
 fn left_of(alloc: Global, run: TracedRun, names: &Names) -> Result<Made, Stop<'static>>
     requires names { AreHeld run.lowered.code.laid.table names.now }
-    requires traced { (p : ProgramTree) × (options : OptionValues) × (input : List ℕ) × IsTraced p options input run.traced.journal.settings run.traced.journal.lines.all.items (⟦<PlainMem as Mem>⟧.view run.traced.memory) run.traced.answer
+    requires traced { (p : ProgramTree) × (options : OptionValues) × (input : List ℕ) × IsTraced p names.now options input run.traced.journal.settings run.traced.journal.lines.all.items (⟦<PlainMem as Mem>⟧.view run.traced.memory) run.traced.answer
         × (run.lowered.code.laid ≡ layouts_of options.skips p) }
-    ensures made { (p : ProgramTree) (options : OptionValues) (input : List ℕ) → IsTraced p options input run.traced.journal.settings run.traced.journal.lines.all.items (⟦<PlainMem as Mem>⟧.view run.traced.memory) run.traced.answer
+    ensures made { (p : ProgramTree) (options : OptionValues) (input : List ℕ) → IsTraced p names.now options input run.traced.journal.settings run.traced.journal.lines.all.items (⟦<PlainMem as Mem>⟧.view run.traced.memory) run.traced.answer
         → run.lowered.code.laid ≡ layouts_of options.skips p → IfOk result (λ made. EndsBy (file_of made) made.end (Traces p names.now options input)) }
     ensures memory { IfErr result (λ stop. stop ≡ Stop.Memory) }
 {
@@ -78,9 +78,16 @@ pub fn trace<R: Threads + Wait + Sync, G: Gate + Sync>(
     requires ready { IsReady (program_of compiled.now.typed) compiled.now.names }
     requires short { length input.now ≤ FILE_BYTES }
     ensures made { IfOk result (λ made. EndsBy (file_of made) made.end (Traces (program_of compiled.now.typed) compiled.now.names options input.now)) }
-    ensures stop { IfErr result (IsRunStop (program_of compiled.now.typed) input.now) }
+    ensures stop { IfErr result (IsRunStop (program_of compiled.now.typed) compiled.now.names input.now) }
 {
-    match trace_packed(alloc, runtime, &compiled.typed, input, options) {
+    match trace_packed(
+        alloc,
+        runtime,
+        &compiled.typed,
+        &compiled.names,
+        input,
+        options,
+    ) {
         Ok(run) => left_of(alloc, run, &compiled.names),
         Err(stop) => of_stop(stop),
     }

@@ -11,7 +11,7 @@ use Rattle.gib_app.proofs.Signs.{image_stops}
 use Rattle.gib_app.proofs.image_file.read_image_of.Goals as goal
 
 pub returns-clause-stop : goal.returns-clause-stop
-returns-clause-stop c =
+returns-clause-stop c = λ names.
     let p = program_of c.args.typed.now in
     let skips = c.args.skips in
     let bytes = c.args.bytes.now in
@@ -20,5 +20,5 @@ returns-clause-stop c =
     let L : LaidOut → Type 0 = λ l. ReadsTo l c.output_type.result bytes (Err fault) in
     let T : Ty → Type 0 = λ t. ReadsTo (layouts_of skips p) t bytes (Err fault) in
     let read = subst T c.output_type.ensures (subst L laid c.in-Err-read_image.ensures.reads) in
-    let S : Stop → Type 0 = IsShowStop p skips bytes in
-    subst S (sym c.of_image.ensures) (image_stops c.a_value_is_not_refused.ensures p skips bytes c.requires.sign c.requires.short fault read)
+    let S : Stop → Type 0 = IsShowStop p names skips bytes in
+    subst S (sym c.of_image.ensures) (image_stops c.a_value_is_not_refused.ensures p names skips bytes c.requires.sign c.requires.short fault read)

@@ -10,13 +10,13 @@ pub returns-in-Err-clause-stop : goal.returns-in-Err-clause-stop
 returns-in-Err-clause-stop g c =
     let p = program_of c.args.typed.now in
     let file = c.args.file.now in
-    machine_stop p c.args.options.skips c.args.options.depth (run_forks c.args.options) c.args.options.chunks file c.in-Err.stop (run_stop p file c.requires.short c.in-Err.stop c.in-Err.ensures.refused)
+    machine_stop p c.args.names.now c.args.options.skips c.args.options.depth (run_forks c.args.options) c.args.options.chunks file c.in-Err.stop (run_stop p c.args.names.now file c.requires.short c.in-Err.stop c.in-Err.ensures.refused)
 
 pub returns-in-Err-clause-only : goal.returns-in-Err-clause-only
 returns-in-Err-clause-only g c = λ v is.
     let p = program_of c.args.typed.now in
     let file = c.args.file.now in
-    refused_halts p c.args.options.depth c.args.options.chunks file v (run p c.args.options.depth v) (program_cost p c.args.options.skips c.args.options.depth (run_forks c.args.options) v) is c.in-Err.stop (run_stop p file c.requires.short c.in-Err.stop c.in-Err.ensures.refused)
+    refused_halts {names = c.args.names.now} p c.args.options.depth c.args.options.chunks file v (run p c.args.options.depth v) (program_cost p c.args.options.skips c.args.options.depth (run_forks c.args.options) v) is c.in-Err.stop (run_stop p c.args.names.now file c.requires.short c.in-Err.stop c.in-Err.ensures.refused)
 
 pub returns-in-Ok-lowered-clause-stands : goal.returns-in-Ok-lowered-clause-stands
 returns-in-Ok-lowered-clause-stands g c =

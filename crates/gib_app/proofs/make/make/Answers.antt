@@ -64,7 +64,7 @@ returns-clause-stop g c =
     let before = g.S.Shelf.view c.args.shelf.now in
     let r = plan_of c.args.plan in
     let p = program_of c.in-Ok.compiled.typed in
-    let P : Contents → Type 0 = λ given. FailsTo r.job r.options.skips p c.in-Ok.compiled.names given c.in-Err-do_job.stop in
+    let P : Contents → Type 0 = λ given. FailsTo r.job r.options p c.in-Ok.compiled.names given c.in-Err-do_job.stop in
     job_stop before (g.S.Shelf.view c.read_inputs.new.shelf) r p c.in-Ok.compiled.names _ c.in-Ok.ensures.compiled
     (held_before before.kept (g.S.Shelf.view c.load_program.new.shelf).kept (inputs_of r) _ c.in-Ok.ensures.read.same c.in-Ok-read_inputs.ensures.bytes)
     c.in-Err-do_job.stop (subst P c.given.ensures.contents c.in-Err-do_job.ensures.stop)

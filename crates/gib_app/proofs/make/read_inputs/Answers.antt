@@ -31,8 +31,9 @@ returns-clause-stop g c =
     let mid = g.S.Shelf.view c.read_second.new.shelf in
     let now' = g.S.Shelf.view c.read_third.new.shelf in
     let p = program_of c.args.compiled.now.typed in
-    let F : List ℕ → Type 0 = λ first. IsFurtherStop mid now' (plan_of c.args.plan) p first c.in-Err-read_third.stop in
-    further_stops (g.S.Shelf.view c.args.shelf.now) mid now' (plan_of c.args.plan) p c.args.compiled.now.names c.in-Ok.second.items c.in-Ok.ensures.read.same c.in-Ok.ensures.read.reads c.in-Ok.ensures.bytes
+    let names = c.args.compiled.now.names in
+    let F : List ℕ → Type 0 = λ first. IsFurtherStop mid now' (plan_of c.args.plan) p names first c.in-Err-read_third.stop in
+    further_stops (g.S.Shelf.view c.args.shelf.now) mid now' (plan_of c.args.plan) p names c.in-Ok.second.items c.in-Ok.ensures.read.same c.in-Ok.ensures.read.reads c.in-Ok.ensures.bytes
     c.in-Err-read_third.stop (subst F c.deref.ensures.value c.in-Err-read_third.ensures.stop)
 
 pub returns-clause-stopped : goal.returns-clause-stopped

@@ -22,7 +22,7 @@ returns-in_default-clause-read g c = none_there c.third_input.result (further_of
 pub returns-in-Err-clause-stop : goal.returns-in-Err-clause-stop
 returns-in-Err-clause-stop g c =
     let before = g.S.Shelf.view c.args.shelf.now in
-    unsurveyed c.third_input.result (plan_of c.args.plan) c.third_input.ensures.input before before c.in-Some.third c.in-Some.is (program_of c.args.typed.now) c.args.second.now c.in-Err.stop c.requires.most c.in-Err.ensures.refused
+    unsurveyed c.third_input.result (plan_of c.args.plan) c.third_input.ensures.input before before c.in-Some.third c.in-Some.is (program_of c.args.typed.now) c.args.names.now c.args.second.now c.in-Err.stop c.requires.most c.in-Err.ensures.refused
 
 pub returns-in-Err-clause-stopped : goal.returns-in-Err-clause-stopped
 returns-in-Err-clause-stopped g c = none_begun (g.S.Shelf.view c.args.shelf.now) (input_calls (further_of (inputs_of (plan_of c.args.plan)))) c.in-Err.stop

@@ -8,7 +8,7 @@ pub returns-in-Err-clause-stop : goal.returns-in-Err-clause-stop
 returns-in-Err-clause-stop c =
     let p = program_of c.args.typed.now in
     let file = c.args.file.now in
-    refused_replay p file c.args.bytes.now c.in-Err.stop (run_stop p file c.requires.short c.in-Err.stop c.in-Err.ensures.refused)
+    refused_replay p c.args.names.now file c.args.bytes.now c.in-Err.stop (run_stop p c.args.names.now file c.requires.short c.in-Err.stop c.in-Err.ensures.refused)
 
 pub returns-in-Err-journal_of-clause-stop : goal.returns-in-Err-journal_of-clause-stop
 returns-in-Err-journal_of-clause-stop c =

@@ -8,7 +8,7 @@ pub returns-in-Err-clause-stop : goal.returns-in-Err-clause-stop
 returns-in-Err-clause-stop g c =
     let p = program_of c.args.typed.now in
     let file = c.args.file.now in
-    refused_trace p c.args.options file c.in-Err.stop (run_stop p file c.requires.short c.in-Err.stop c.in-Err.ensures.refused)
+    refused_trace p c.args.names.now c.args.options file c.in-Err.stop (run_stop p c.args.names.now file c.requires.short c.in-Err.stop c.in-Err.ensures.refused)
 
 pub returns-in-Ok-trace_survey-clause-ends : goal.returns-in-Ok-trace_survey-clause-ends
 returns-in-Ok-trace_survey-clause-ends g c =

@@ -81,3 +81,7 @@ returns-clause-replay c = refl
 pub returns-clause-replay_depth : goal.returns-clause-replay_depth
 unfolding clap_on_literals
 returns-clause-replay_depth c = refl
+
+pub returns-clause-repack : goal.returns-clause-repack
+unfolding clap_on_literals
+returns-clause-repack c = refl

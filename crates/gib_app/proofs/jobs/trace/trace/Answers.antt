@@ -13,5 +13,5 @@ returns-in-Ok-clause-made g c = c.left_of.ensures.made (program_of c.args.compil
 
 pub returns-in-Ok-clause-stop : goal.returns-in-Ok-clause-stop
 returns-in-Ok-clause-stop g c =
-    let P : Stop → Type 0 = IsRunStop (program_of c.args.compiled.now.typed) c.args.input.now in
+    let P : Stop → Type 0 = IsRunStop (program_of c.args.compiled.now.typed) c.args.compiled.now.names c.args.input.now in
     IfErr-weaker c.left_of.result _ _ (λ stop is. subst P (sym is) tt) c.left_of.ensures.memory

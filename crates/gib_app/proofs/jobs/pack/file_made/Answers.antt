@@ -1,0 +1,17 @@
+use Rattle.std.proofs.Common.{ℕ, ◌<◌, length, subst, arith}
+use Rattle.gib_types.specs.Table.{Table}
+use Rattle.gib_syntax.specs.Parts.{program_of}
+use Rattle.gib_syntax.specs.Declarations.{table_of_program}
+use Rattle.gib_app.proofs.Packs.{PackLaws, long_stop_packs}
+use Rattle.gib_app.proofs.jobs.pack.file_made.Goals as goal
+
+pub returns-then-len-gt-FILE_BYTES-clause-stop : goal.returns-then-len-gt-FILE_BYTES-clause-stop
+returns-then-len-gt-FILE_BYTES-clause-stop c =
+    let p = program_of c.args.compiled.now.typed in
+    let names = c.args.compiled.now.names in
+    let L : Table → Type 0 = λ t. PackLaws t names in
+    let laws : PackLaws (table_of_program p) names = subst L c.types.ensures (record { firsts = c.one_file.ensures.bytes; seconds = c.one_file.ensures.second; values = c.one_file.ensures.value; texts = c.texts_differ.ensures }) in
+    let over = c.if-len-gt-FILE_BYTES.true in
+    let len = c.len.ensures in
+    let many : 16777216 < length c.in-Ok-file_of_value.file.items = omega (arith, over, len) in
+    long_stop_packs c.args.options.repacks c.args.options.first_version p names c.args.bytes.now c.requires.short laws c.in-Ok.value c.in-Ok-file_of_value.file.items c.in-Ok.ensures.packable c.in-Ok-file_of_value.ensures many
