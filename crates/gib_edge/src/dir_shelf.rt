@@ -3,7 +3,7 @@
 ghost use Rattle.std.specs.Prelude.{◌≡◌, ◌≢◌, ℕ, List, ◌∷◌, [], ◌≤◌, length, OnOk, OnErr, IfOk, IsErrOf, IfErr, IfSome, None, false};
 
 use crate::outside::{Shelf, ShelfFault};
-use crate::streams::{closed, counted, read_opened, write_opened};
+use crate::streams::{read_file, write_file};
 use std::alloc::Global;
 use std::fs;
 use std::rt::Files;
@@ -50,8 +50,7 @@ impl<R: Files> Shelf for DirShelf<'_, R> {
         ensures once { OnErr result (AppendsPart None None (ReadOf name.now most ∷ [])) }
         ensures counted { IsErrOf result ShelfFault.Failed → self.new.read_faults ≡ raised self.old.read_faults 1 }
     {
-        let read = read_opened(fs::open(self.rt, name), alloc, most);
-        counted(&mut self.read_faults, read)
+        read_file(&mut self.read_faults, fs::open(self.rt, name), alloc, most)
     }
 
     fn write(&mut self, _alloc: Global, name: &str, bytes: &[u8]) -> Result<(), ShelfFault>
@@ -64,7 +63,10 @@ impl<R: Files> Shelf for DirShelf<'_, R> {
         ensures once { OnErr result (AppendsPart None None (WriteOf name.now ∷ [])) }
         ensures counted { IsErrOf result ShelfFault.Failed → self.new.write_faults ≡ raised self.old.write_faults 1 }
     {
-        let written = write_opened(fs::create(self.rt, name), bytes);
-        counted(&mut self.write_faults, closed(written))
+        write_file(
+            &mut self.write_faults,
+            &mut fs::create(self.rt, name),
+            bytes,
+        )
     }
 }

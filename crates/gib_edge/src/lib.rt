@@ -1,6 +1,7 @@
-//! The outside world: files by name, bytes that are put, and points where workers meet.
+//! The outside world: files by name, bytes that are put, the words of a command line, and points where workers meet.
 #![tactic(auto)]
 
+pub mod command_line;
 pub mod dir_shelf;
 pub mod mem_shelf;
 pub mod mem_sink;

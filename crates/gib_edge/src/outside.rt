@@ -109,6 +109,10 @@ pub enum Point {
 ///
 /// The rule for implementors, which no clause says: a gate tells nothing, and returns. For who writes workers:
 /// no lock is held at a call.
+///
+/// A worker's number is that of its thread, and 0 is the caller's own. Where so many workers share one lock the numbers are less than
+/// their count; where they steal from each other they are less than twice that, since there are twice as many threads as run at a
+/// time. A gate returns for every number.
 pub trait Gate {
     fn at(&self, worker: u32, point: Point);
 }

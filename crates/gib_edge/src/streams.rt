@@ -1,6 +1,6 @@
 //! What a shelf or a sink makes of a reader or a writer.
 
-ghost use Rattle.std.specs.Prelude.{◌≡◌, ◌≤◌, ◌<◌, ◌+◌, ℕ, List, length, take, vec_len, IfOk, IfErr, OnOk, OnErr, IfSome, IsOk, Err, IsErrOf};
+ghost use Rattle.std.specs.Prelude.{◌≡◌, ◌≤◌, ◌<◌, ◌+◌, ℕ, List, length, take, vec_len, IfOk, OnOk, OnErr, IfSome, IsOk, IsErrOf};
 ghost use Rattle.gib_edge.specs.Causes.{Rose, Appends, AppendsPart, raised};
 ghost use Rattle.gib_edge.specs.Moving.{Moves};
 
@@ -89,33 +89,60 @@ pub(crate) fn read_opened<F: Read + Drop>(
     }
 }
 
-/// Writes all bytes into a file that was opened, and gives it back.
-pub(crate) fn write_opened<W: Write + Drop>(
-    opened: io::Result<W>,
+/// Writes all bytes into a file that was opened.
+pub(crate) fn write_opened<W: Write>(
+    opened: &mut io::Result<W>,
     bytes: &[u8],
-) -> Result<W, ShelfFault>
-    ensures bytes { IfOk opened (λ old. IfOk result (λ new. Appends (W.contents old) (W.contents new) bytes.now)) }
-    ensures closed { OnErr opened (IsErrOf result ShelfFault.Failed) }
+) -> Result<(), ShelfFault>
+    ensures bytes { OnOk result (IfOk opened.old (λ old. IfOk opened.new (λ new. Appends (W.contents old) (W.contents new) bytes.now))) }
+    ensures open { OnOk opened.old (IsOk opened.new) }
+    ensures closed { OnErr opened.old (IsErrOf result ShelfFault.Failed) }
     ensures failed { OnErr result (IsErrOf result ShelfFault.Failed) }
 {
     match opened {
-        Ok(mut file) => match write_whole(&mut file, bytes) {
-            Ok(()) => Ok(file),
+        Ok(file) => match write_whole(file, bytes) {
+            Ok(()) => Ok(()),
             Err(_) => Err(ShelfFault::Failed),
         },
         Err(_) => Err(ShelfFault::Failed),
     }
 }
 
-/// Closes the file that was written.
-pub(crate) fn closed<W: Drop>(written: Result<W, ShelfFault>) -> Result<(), ShelfFault>
-    ensures ok { OnOk written (IsOk result) }
-    ensures err { IfErr written (λ fault. result ≡ Err fault) }
+/// The bytes of a file that was opened, or the first `most` of them; a failure is counted.
+pub(crate) fn read_file<F: Read + Drop>(
+    faults: &mut u64,
+    opened: io::Result<F>,
+    alloc: Global,
+    most: u64,
+) -> Result<Vec<u8>, ShelfFault>
+    ensures most { IfOk result (λ bytes. length bytes.items ≤ most) }
+    ensures bytes { IfOk opened (λ file. IfOk result (λ bytes. IfSome (F.remaining file) (λ all. bytes.items ≡ take most all))) }
+    ensures closed { OnErr opened (IsErrOf result ShelfFault.Failed) }
+    ensures failed { IsErrOf result ShelfFault.Failed → faults.new ≡ raised faults.old 1 }
+    ensures cause { IsErrOf result ShelfFault.Failed → Rose faults.old faults.new }
+    ensures quiet { (IsErrOf result ShelfFault.Failed → ⊥) → faults.new ≡ faults.old }
+    ensures later { faults.old ≤ faults.new }
 {
-    match written {
-        Ok(_) => Ok(()),
-        Err(fault) => Err(fault),
-    }
+    let read = read_opened(opened, alloc, most);
+    counted(faults, read)
+}
+
+/// Writes all bytes into a file that was opened; a failure is counted.
+pub(crate) fn write_file<W: Write>(
+    faults: &mut u64,
+    opened: &mut io::Result<W>,
+    bytes: &[u8],
+) -> Result<(), ShelfFault>
+    ensures bytes { OnOk result (IfOk opened.old (λ old. IfOk opened.new (λ new. Appends (W.contents old) (W.contents new) bytes.now))) }
+    ensures open { OnOk opened.old (IsOk opened.new) }
+    ensures closed { OnErr opened.old (IsErrOf result ShelfFault.Failed) }
+    ensures failed { IsErrOf result ShelfFault.Failed → faults.new ≡ raised faults.old 1 }
+    ensures cause { IsErrOf result ShelfFault.Failed → Rose faults.old faults.new }
+    ensures quiet { (IsErrOf result ShelfFault.Failed → ⊥) → faults.new ≡ faults.old }
+    ensures later { faults.old ≤ faults.new }
+{
+    let written = write_opened(opened, bytes);
+    counted(faults, written)
 }
 
 /// The same answer; where it is `Failed`, the count of faults goes up by one, up to its end.

@@ -1,11 +1,13 @@
+use crate::command_line::{WordsFault, taken_words};
 use crate::dir_shelf::DirShelf;
 use crate::mem_shelf::MemShelf;
 use crate::mem_sink::MemSink;
 use crate::outside::{Failed, FreeGate, Gate, Point, Shelf, ShelfFault, Sink, put_all};
 use crate::std_sink::StdSink;
 use std::alloc::{AllocError, Global};
-use std::fs;
+use std::io::{Error, ErrorKind};
 use std::test::Fail;
+use std::{env, fs};
 
 // A file by its text.
 fn file(alloc: Global, name: &str, text: &str) -> Result<(String, Vec<u8>), AllocError> {
@@ -126,12 +128,13 @@ fn dir_shelf_reads_and_writes_the_current_folder(rt: HostRuntime) -> Result<(), 
         let bytes = write_and_read(&mut shelf, alloc, name, most)?;
         assert_eq!(rt; bytes.as_slice(), want.as_bytes());
     }
-    let mut long = vec![in alloc; 3u8; 100_000]?;
+    // Longer than any round number of bytes at which a write could be cut in silence, a MiB among them.
+    let mut long = vec![in alloc; 3u8; 2_200_000]?;
     long.push(4)?;
     assert_eq!(rt; shelf.write(alloc, name, &long), Ok(()));
-    let whole = shelf.read(alloc, name, 200_000)?;
+    let whole = shelf.read(alloc, name, 3_000_000)?;
     assert!(rt; whole.as_slice() == long.as_slice());
-    assert_eq!(rt; shelf.read(alloc, name, 99_999)?.len(), 99_999);
+    assert_eq!(rt; shelf.read(alloc, name, 2_199_999)?.len(), 2_199_999);
     fs::remove_file(&rt, name)?;
     Ok(())
 }
@@ -173,6 +176,23 @@ fn std_sink_puts_on_the_streams(rt: HostRuntime) -> Result<(), Fail> {
     let mut room = [0u8; 3];
     assert_eq!(rt; StdSink::new(room.as_mut_slice()).put(b"abcd"), Err(Failed));
     assert_eq!(rt; room, *b"abc");
+    Ok(())
+}
+
+#[test]
+fn words_are_taken_or_refused_by_what_the_system_tells(rt: HostRuntime) -> Result<(), Fail> {
+    let alloc = rt.alloc();
+    let words = taken_words(alloc, env::args(&rt))?;
+    assert!(rt; !words.is_empty());
+    for (kind, want) in [
+        (ErrorKind::InvalidData, WordsFault::NoText),
+        (ErrorKind::OutOfMemory, WordsFault::Memory),
+    ] {
+        match taken_words(alloc, Err(Error::from(kind))) {
+            Ok(_) => assert!(rt; false),
+            Err(fault) => assert_eq!(rt; fault, want),
+        }
+    }
     Ok(())
 }
 

@@ -1,0 +1,7 @@
+use Rattle.std.proofs.Common.{refl}
+use Rattle.std.proofs.lemmas.Iterator.{items_from_collect}
+use Rattle.std.proofs.lemmas.Iterator.Adapters.{YieldsList-from_vec}
+use Rattle.gib_edge.proofs.command_line.collected.Goals as goal
+
+pub returns : goal.returns
+returns c = items_from_collect c.collect.result c.collect.ensures.ran (YieldsList-from_vec {s = c.args.args} _ refl c.args.args.rest.ok.0)
