@@ -111,7 +111,7 @@ fn is_packed_and_shown<R: Threads + Wait + Sync>(
     shown: &str,
 ) -> Result<bool, AllocError> {
     let made = packed(alloc, payload)?;
-    let pack = ["gib", "pack", "a.gib", "a.txt", "a.gbp"];
+    let pack = ["gib", "pack", "a.gib", "a.txt", "a.gbp", "--v1"];
     let texts = two_files(source, "a.txt", text.as_bytes());
     let left = [("a.gbp", Some(made.as_slice()))];
     let show = ["gib", "show", "a.gib", "a.gbp"];
@@ -139,7 +139,7 @@ const REFUSED: [(&str, &[u8], &str); 7] = [
     ("pack", b"(Leaf 1)\n\n", "gib: input: bad text at 8\n"),
     ("pack", b"", "gib: input: bad text at 0\n"),
     ("show", b"GIBJ", "gib: input: not a packed file\n"),
-    ("show", b"GIBP\x02", "gib: input: version 2\n"),
+    ("show", b"GIBP\x03", "gib: input: version 3\n"),
     ("show", b"GIBP\x01\0\x01", "gib: input: reserved bytes\n"),
     ("show", b"GIBP\x01\0\0\0", "gib: input: wrong length\n"),
 ];
@@ -304,7 +304,7 @@ fn is_written_over<R: Threads + Wait + Sync>(
     name: &str,
 ) -> Result<bool, AllocError> {
     let made = packed(alloc, &[0, 1, 0, 0, 0, 0, 0, 0, 0])?;
-    let texts = ["gib", "pack", "a.gib", "a.txt", name];
+    let texts = ["gib", "pack", "a.gib", "a.txt", name, "--v1"];
     let files = two_files(ADD_ONE, "a.txt", TEXT);
     let ended = call_on(rt, alloc, &texts, &files, &[], &[(0, 1)])?;
     Ok(

@@ -11,6 +11,9 @@ use std::thread::Threads;
 /// How many bytes a chunk has.
 pub const CHUNK: usize = 4096;
 
+/// The first line of a journal.
+pub const HEADER: &str = "gibj 2\n";
+
 /// How a call ended, the files after it, and what it put.
 #[derive(Drop)]
 pub struct Ended {
@@ -76,6 +79,13 @@ pub fn image_of(
     Ok(bytes)
 }
 
+/// The journal of these lines behind the first one: the settings, the events and the end.
+pub fn journal_of(alloc: Global, lines: &str) -> Result<String, AllocError> {
+    let mut text = String::from_str(alloc, HEADER)?;
+    text.push_str(lines)?;
+    Ok(text)
+}
+
 /// Words by their texts.
 pub fn words(alloc: Global, texts: &[&str]) -> Result<Vec<String>, AllocError> {
     let mut words = Vec::new(alloc);
@@ -86,7 +96,7 @@ pub fn words(alloc: Global, texts: &[&str]) -> Result<Vec<String>, AllocError> {
 }
 
 /// Runs the top call on these words, with this shelf and these sinks; the workers of a run come to the gate.
-fn ended_by<R: Threads + Wait + Sync, G: Gate + Sync>(
+pub fn ended_by<R: Threads + Wait + Sync, G: Gate + Sync>(
     rt: &R,
     alloc: Global,
     gate: &G,
@@ -124,7 +134,10 @@ pub fn two_files<'x>(source: &'x str, name: &'x str, bytes: &'x [u8]) -> [(&'x s
 }
 
 /// Files by their names and bytes.
-fn files_of(alloc: Global, files: &[(&str, &[u8])]) -> Result<Vec<(String, Vec<u8>)>, AllocError> {
+pub fn files_of(
+    alloc: Global,
+    files: &[(&str, &[u8])],
+) -> Result<Vec<(String, Vec<u8>)>, AllocError> {
     let mut made = Vec::new(alloc);
     for (name, bytes) in files {
         made.push(file(alloc, name, bytes)?)?;

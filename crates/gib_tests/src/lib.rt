@@ -14,6 +14,10 @@ mod cores;
 #[cfg(test)]
 mod deep;
 #[cfg(test)]
+mod failing;
+#[cfg(test)]
+mod files;
+#[cfg(test)]
 mod forking;
 #[cfg(test)]
 mod harness;
@@ -32,6 +36,8 @@ mod made;
 #[cfg(test)]
 mod meanings;
 #[cfg(test)]
+mod meeting;
+#[cfg(test)]
 mod parsing;
 #[cfg(test)]
 mod placing;
@@ -40,7 +46,11 @@ mod printed;
 #[cfg(test)]
 mod programs;
 #[cfg(test)]
+mod refusals;
+#[cfg(test)]
 mod rows;
+#[cfg(test)]
+mod sizes;
 #[cfg(test)]
 mod stealing;
 #[cfg(test)]

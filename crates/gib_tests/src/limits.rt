@@ -184,7 +184,7 @@ fn a_file_is_packed_up_to_its_length(rt: HostRuntime) -> Result<(), Fail> {
     let alloc = rt.alloc();
     for (count, status, line) in &CELLS {
         let text = cells(alloc, *count)?;
-        let texts = ["gib", "pack", "a", "b", "c"];
+        let texts = ["gib", "pack", "a", "b", "c", "--v1"];
         assert!(rt;
             ends(&rt, alloc, &texts, (LISTS, &text), *status, line)?,
             "{count}"

@@ -56,6 +56,8 @@ const ALONE: Options = Options {
     skips: true,
     number: 0,
     levels: 0,
+    repacks: false,
+    first_version: false,
 };
 
 /// Whether the machine runs so.
@@ -75,7 +77,14 @@ fn leaves<R: Threads + Wait + Sync>(
         threads: rt,
         gate: &FreeGate,
     };
-    let Ok(ran) = run_packed(alloc, runtime, &compiled.typed, &file, ALONE) else {
+    let Ok(ran) = run_packed(
+        alloc,
+        runtime,
+        &compiled.typed,
+        &compiled.names,
+        &file,
+        ALONE,
+    ) else {
         return Ok(false);
     };
     let mut ran = ran;

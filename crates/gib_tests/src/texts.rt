@@ -31,7 +31,7 @@ fn there_and_back(
 {
     let types = compiled.typed.types();
     let value = read_text(alloc, types, &compiled.names, ty, text)?;
-    let file = pack(alloc, types, &value)?;
+    let file = pack(alloc, types, &compiled.names, &value, 1)?;
     let copy = value.copy(alloc)?;
     let written = write_text(alloc, types, &compiled.names, &copy)?;
     Ok((file, written))

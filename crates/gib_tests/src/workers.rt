@@ -1,9 +1,7 @@
 //! Programs traced by workers over one lock, the journals of these runs, and what they are replayed to.
 
-use crate::forking::{ADD_ONE, COPIES, COUNT, DEEP, FULL, Meeting, Row, TWO_LEAVES, filling};
-use crate::harness::{
-    End, Ended, call_on, call_to, ends, ends_with, has_files, is_end, packed, two_files,
-};
+use crate::forking::{ADD_ONE, COPIES, COUNT, DEEP, FULL, Row, TWO_LEAVES, filling};
+use crate::harness::{End, Ended, call_on, ends, ends_with, is_end, packed, two_files};
 use gib_app::Status;
 use std::alloc::{AllocError, Global};
 use std::sync::Wait;
@@ -150,7 +148,7 @@ fn writes<R: Threads + Wait + Sync>(
 fn a_run_without_forks_has_a_short_journal(rt: HostRuntime) -> Result<(), Fail> {
     let alloc = rt.alloc();
     let journal =
-        "gibj 1\ndepth 10000 chunks 1024 fork 4 skips 0\nstep 0 2\nfinish 0\nend\n".as_bytes();
+        "gibj 2\ndepth 10000 chunks 1024 fork 4 skips 0\nstep 0 2\nfinish 0\nend\n".as_bytes();
     assert!(rt; writes(&rt, alloc, journal)?);
     Ok(())
 }
@@ -185,40 +183,5 @@ fn a_run_that_fills_its_chunks_has_no_journal(rt: HostRuntime) -> Result<(), Fai
     for workers in WORKERS {
         assert!(rt; fills(&rt, alloc, workers)?, "{workers}");
     }
-    Ok(())
-}
-
-/// Whether each of two workers waits for the other's point, and they write these bytes.
-fn meet<R: Threads + Wait + Sync>(
-    rt: &R,
-    alloc: Global,
-    journal: &[u8],
-) -> Result<bool, AllocError> {
-    let gate = Meeting::new();
-    let words = ["gib", "trace", "a.gib", "a.gbp", "a.gbj", "--workers", "2"];
-    let input = packed(alloc, TWO_LEAVES)?;
-    let files = two_files(ADD_ONE, "a.gbp", &input);
-    let traced = call_to(rt, alloc, &gate, &words, &files)?;
-    Ok(
-        gate.is_held()
-            && is_end(
-                &traced,
-                End {
-                    status: Status::Done,
-                    out: "(Node (Leaf 2) (Leaf 3))\n",
-                    err: "",
-                },
-            )
-            && has_files(&traced.shelf, &[("a.gbj", Some(journal))]),
-    )
-}
-
-/// No run by one thread ends well here.
-#[test]
-fn two_workers_meet(rt: HostRuntime) -> Result<(), Fail> {
-    let alloc = rt.alloc();
-    let journal =
-        "gibj 1\ndepth 10000 chunks 1024 fork 4 skips 0\nstep 0 13\nfork 0\nsteal 0\nstep 1 26\nfinish 1\nstep 0 24\njoin 0\nstep 0 20\nfinish 0\nend\n".as_bytes();
-    assert!(rt; meet(&rt, alloc, journal)?);
     Ok(())
 }
