@@ -1,0 +1,253 @@
+# What the script `gib` does beside the program: help on one command, `eval`, `pretty` and `where`, texts that are spread over lines, and
+# outputs that are inputs. `gib` reads this file, and calls `desk` with the words before it runs the program.
+
+# shellcheck disable=SC2154  # `gib` sets it
+manual=$root/docs/LANGUAGE.md
+
+# Ends with a line on standard error.
+stop() {
+  local status=$1
+  shift
+  echo "gib: $*" >&2
+  exit "$status"
+}
+
+# Ends where a file cannot be read.
+is_file() {
+  if ! [ -f "$1" ] || ! [ -r "$1" ]; then
+    stop 6 "cannot read $1"
+  fi
+}
+
+# The words were none that a command takes.
+misused() {
+  echo "gib: usage" >&2
+  help_on "$1" >&2
+  exit 2
+}
+
+# -- help ----------------------------------------------------------------------------------------------------------------------
+
+# Prints a command's row of the manual, and of each option its row. Answers whether there is such a command.
+help_on() {
+  awk -v command="$1" '
+    function cells(row,    place, count) {
+      gsub(/`/, "", row)
+      count = split(row, cell, "|")
+      for (place = 1; place <= count; place++) gsub(/^ +| +$/, "", cell[place])
+    }
+    /^### / { part = $2 }
+    part == "Commands" && (index($0, "| `" command " ") == 1 || index($0, "| `" command "` ") == 1) {
+      cells($0); usage = cell[2]
+      print "gib " usage; print "    " cell[3]
+    }
+    part == "Options" && usage && /^\| `--/ {
+      cells($0); split(cell[2], name, " ")
+      if (index(usage, name[1])) {
+        print "\n  " cell[2] (cell[3] ? ": " cell[3] : "") (cell[4] ? "; without it " cell[4] : ""); print "    " cell[5]
+      }
+    }
+    END { exit !usage }' "$manual"
+}
+
+# -- texts of values -------------------------------------------------------------------------------------------------------------
+
+# The tokens of a text on standard input, each on a line; with a word -b the place of each in front of it. Comments are blanks.
+tokens() {
+  LC_ALL=C awk '{ at = index($0, "--"); if (at) { rest = substr($0, at); gsub(/./, " ", rest); $0 = substr($0, 1, at - 1) rest }; print }' |
+    LC_ALL=C grep -oE "$@" '[()]|[^()[:space:]]+'
+}
+
+# Makes one line of tokens: no blank behind "(" and before ")", and one between all others.
+joined() {
+  LC_ALL=C awk '{ printf "%s%s", (NR > 1 && last != "(" && $0 != ")" ? " " : ""), $0; last = $0 } END { print "" }'
+}
+
+# Whether a file is a text that is spread: of bytes that texts may have, and not on one line with single blanks.
+is_spread() {
+  [ -f "$1" ] && [ -r "$1" ] && ! LC_ALL=C grep -q '[^[:print:][:space:]]' "$1" &&
+    { [ "$(wc -l < "$1")" -gt 1 ] ||
+      LC_ALL=C grep -qE '^[[:space:]]|[[:space:]]$|[[:space:]]{2}|[^[:print:]]|--|\([[:space:]]|[[:space:]]\)|\)[^) ]|[^( ]\(' "$1"; }
+}
+
+# The place in a spread text of what stands at a place of its one line: both are files. At the end it is behind the last token.
+place_in() {
+  tokens -b < "$1" | LC_ALL=C awk -v place="$3" -v line="$2" '
+    BEGIN { getline one < line; at = 0; end = 0 }
+    {
+      colon = index($0, ":"); start = substr($0, 1, colon - 1) + 0; token = substr($0, colon + 1)
+      if (substr(one, at + 1, 1) == " ") { if (place == at) { print start; found = 1; exit }; at++ }
+      if (place < at + length(token)) { print start + place - at; found = 1; exit }
+      at += length(token); end = start + length(token)
+    }
+    END { if (!found) print end }'
+}
+
+# Runs the program on words in which a made file stands for a text that is spread; a place in the line that it refuses is one of that text.
+run_on_line() {
+  local text=$1 line=$2 told status
+  shift 2
+  told=$("$program" "$@" 2>&1 >&3)
+  status=$?
+  if [[ $told =~ ^(gib: input: bad text at )([0-9]+)$ ]]; then
+    told=${BASH_REMATCH[1]}$(place_in "$text" "$line" "${BASH_REMATCH[2]}")
+  fi
+  if [ -n "$told" ]; then
+    printf '%s\n' "$told" >&2
+    ! is_read || explain "$status" "$told" "$@" >&2
+  fi
+  return $status
+} 3>&1
+
+# `pack`, where its text is spread over lines: the program packs the one line that it makes.
+pack_spread() {
+  local room status words=("$@")
+  room=$(mktemp -d) || exit 70
+  tokens < "${names[2]}" | joined > "$room/line"
+  words[places[2]]=$room/line
+  run_on_line "${names[2]}" "$room/line" "${words[@]}"
+  status=$?
+  rm -rf "$room"
+  exit $status
+}
+
+# `eval SRC [TXT] [OPTION ..]`: packs a text and runs the program on it.
+evaluate() {
+  local room status text=${names[2]:--}
+  [[ ${#names[@]} = [23] ]] || misused eval
+  room=$(mktemp -d) || exit 70
+  if [ "$text" = - ]; then
+    cat > "$room/given"
+  elif ! cat -- "$text" > "$room/given" 2> "$room/why"; then
+    rm -rf "$room"
+    stop 6 "cannot read $text"
+  fi
+  if is_spread "$room/given"; then
+    tokens < "$room/given" | joined > "$room/line"
+  else
+    cp "$room/given" "$room/line"
+  fi
+  run_on_line "$room/given" "$room/line" pack -- "${names[1]}" "$room/line" "$room/packed" > "$room/out"
+  status=$?
+  if [ $status -eq 0 ]; then
+    run_program run "${options[@]}" -- "${names[1]}" "$room/packed"
+    status=$?
+  fi
+  rm -rf "$room"
+  exit $status
+}
+
+# `pretty [--deep N] [TXT]`: lays a text out in lines.
+pretty() {
+  local deep=1000000 word text=-
+  while [ $# -gt 0 ]; do
+    word=$1
+    shift
+    case $word in
+      --deep=*) deep=${word#*=} ;;
+      --deep) deep=${1:-} && [ $# -gt 0 ] && shift ;;
+      --) text=${1:--} ;;
+      --*) misused pretty ;;
+      *) text=$word ;;
+    esac
+  done
+  [[ $deep =~ ^[0-9]{1,7}$ ]] || misused pretty
+  if [ "$text" != - ]; then
+    is_file "$text"
+    exec < "$text"
+  fi
+  tokens | LC_ALL=C awk -v deep="$((10#$deep))" -f "$root/tools/pretty.awk"
+  local status=$?
+  [ $status -ne 1 ] || stop 8 "input: no text of a value"
+  exit $status
+}
+
+# `where FILE PLACE`: the line and the column of a byte, all counted as editors do.
+where() {
+  [[ $# -eq 2 && $2 =~ ^[0-9]{1,12}$ ]] || misused where
+  is_file "$1"
+  [ "$((10#$2))" -le "$(wc -c < "$1")" ] || stop 8 "input: $1 has $(wc -c < "$1") bytes"
+  # One more letter, so that the last line is never empty.
+  { head -c "$2" < "$1" && printf x; } | LC_ALL=C awk -v file="$1" 'END { print file ":" NR ":" length($0) }'
+  exit
+}
+
+# -- words -----------------------------------------------------------------------------------------------------------------------
+
+# Takes words apart: `names` (the command first) and their `places` among the words, `options`, the files of `outputs` that options name, and `force`.
+take_words() {
+  local place=0 word last="" only_names=""
+  names=() places=() options=() outputs=() force=""
+  for word in "$@"; do
+    if [ -n "$last" ]; then
+      options+=("$word")
+      case $last in --image | --pack) outputs+=("$word") ;; esac
+      last=""
+    elif [ -n "$only_names" ] || [[ $word != -* ]] || [ "$word" = - ]; then
+      names+=("$word") places+=("$place")
+    elif [ "$word" = -- ]; then
+      only_names=yes
+    elif [ "$word" = --force ]; then
+      force=yes
+    else
+      options+=("$word")
+      case $word in
+        --image=* | --pack=*) outputs+=("${word#*=}") ;;
+        --*=* | --skips | --v1 | --from) ;;
+        *) last=$word ;;
+      esac
+    fi
+    place=$((place + 1))
+  done
+}
+
+# Refuses an output that is one of the inputs.
+spare_inputs() {
+  local output input inputs=("${names[@]:1:2}")
+  case ${names[0]} in
+    pack | trace) outputs+=("${names[@]:3:1}") ;;
+    replay) inputs+=("${names[@]:3:1}") ;;
+  esac
+  for output in "${outputs[@]}"; do
+    for input in "${inputs[@]}"; do
+      if [ -f "$output" ] && [ "$output" -ef "$input" ]; then
+        stop 2 "$output is read and would be written: --force lets that be"
+      fi
+    done
+  done
+}
+
+# Answers what the script answers itself, and then ends; returns where the program is to answer the words. These are in `words`, since
+# --force is for the script alone.
+desk() {
+  local place
+  words=("$@")
+  take_words "$@"
+  for place in "${options[@]}"; do
+    if [ "$place" = --help ] && [ ${#names[@]} -gt 0 ]; then
+      help_on "${names[0]}"
+      exit
+    fi
+  done
+  case ${1:-} in where | pretty) "$@" ;; esac
+  case ${names[0]:-} in
+    eval)
+      [ -n "$force" ] || spare_inputs
+      ready && evaluate
+      ;;
+    run | pack | trace | replay)
+      if [ -n "$force" ]; then
+        words=()
+        for place in "$@"; do
+          [ "$place" = --force ] || words+=("$place")
+        done
+        take_words "${words[@]}"
+      else
+        spare_inputs
+      fi
+      if [ "${names[0]}" = pack ] && [ ${#names[@]} -eq 4 ] && is_spread "${names[2]}"; then
+        ready && pack_spread "${words[@]}"
+      fi
+      ;;
+  esac
+}
