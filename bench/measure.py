@@ -169,7 +169,7 @@ def measure_values(bench, what, program, file, text, result, counts, texts):
     for place, count in enumerate(texts):
         bench.put(f"text.{place}", text(count))
     sizes = [len(file(count)) - len(inputs.packed(b"")) for count in texts]
-    words = ["pack", "@program", "@text", bench.at("made")]
+    words = ["pack", "@program", "@text", bench.at("made"), "--v1"]
     bench.case(f"pack, {what}", VALUES, sizes, words, [file(count) for count in texts], "made")
 
 
