@@ -67,44 +67,55 @@ fn bytes_of(alloc: Global, file: File) -> Result<Vec<u8>, AllocError> {
     }
 }
 
-/// What is packed, the options, and what is written.
+/// What is packed, by which words, and what is written.
 const PACKED: [(File, &[&str], File); 6] = [
-    (File::Text, &[], File::Second),
-    (File::Text, &["--v1"], File::First),
-    (File::First, &["--from"], File::Second),
-    (File::First, &["--from", "--v1"], File::First),
-    (File::Second, &["--from"], File::Second),
-    (File::Second, &["--v1", "--from"], File::First),
+    (File::Text, &["gib", "pack", "a", "b", "c"], File::Second),
+    (
+        File::Text,
+        &["gib", "pack", "a", "b", "c", "--v1"],
+        File::First,
+    ),
+    (
+        File::First,
+        &["gib", "pack", "a", "b", "c", "--from"],
+        File::Second,
+    ),
+    (
+        File::First,
+        &["gib", "pack", "a", "b", "c", "--from", "--v1"],
+        File::First,
+    ),
+    (
+        File::Second,
+        &["gib", "pack", "a", "b", "c", "--from"],
+        File::Second,
+    ),
+    (
+        File::Second,
+        &["gib", "pack", "a", "b", "c", "--v1", "--from"],
+        File::First,
+    ),
 ];
 
-/// Whether `pack` with these options makes that file.
+/// Whether `pack` by these words makes that file.
 fn is_packed<R: Threads + Wait + Sync>(
     rt: &R,
     alloc: Global,
     given: &[u8],
-    options: &[&str],
+    words: &[&str],
     made: &[u8],
 ) -> Result<bool, AllocError> {
-    let mut texts = Vec::from_slice(alloc, &["gib", "pack", "a", "b", "c"])?;
-    texts.extend_from_slice(options)?;
     let files = [("a", ADD_ONE.as_bytes()), ("b", given)];
-    ends_with(
-        rt,
-        alloc,
-        &texts,
-        &files,
-        done("ok\n"),
-        &[("c", Some(made))],
-    )
+    ends_with(rt, alloc, words, &files, done("ok\n"), &[("c", Some(made))])
 }
 
 #[test]
 fn a_file_of_each_version_is_packed(rt: HostRuntime) -> Result<(), Fail> {
     let alloc = rt.alloc();
-    for (given, options, made) in &PACKED {
+    for (given, words, made) in &PACKED {
         let given = bytes_of(alloc, *given)?;
         let made = bytes_of(alloc, *made)?;
-        assert!(rt; is_packed(&rt, alloc, &given, options, &made)?);
+        assert!(rt; is_packed(&rt, alloc, &given, words, &made)?);
     }
     Ok(())
 }

@@ -289,6 +289,15 @@ fn ones(alloc: Global, count: u32) -> Result<Vec<u8>, AllocError> {
     packed(alloc, &payload)
 }
 
+/// A program on lists, its input and a journal.
+fn three_files<'x>(input: &'x [u8], journal: &'x [u8]) -> [(&'x str, &'x [u8]); 3] {
+    [
+        ("a.gib", SAME.as_bytes()),
+        ("a.gbp", input),
+        ("a.gbj", journal),
+    ]
+}
+
 /// Whether the replay of a journal on a list of so many ones ends so.
 fn replays<R: Threads + Wait + Sync>(
     rt: &R,
@@ -298,11 +307,7 @@ fn replays<R: Threads + Wait + Sync>(
     end: End<'_>,
 ) -> Result<bool, AllocError> {
     let input = ones(alloc, count)?;
-    let files = [
-        ("a.gib", SAME.as_bytes()),
-        ("a.gbp", input.as_slice()),
-        ("a.gbj", journal),
-    ];
+    let files = three_files(&input, journal);
     let words = ["gib", "replay", "a.gib", "a.gbp", "a.gbj"];
     ends(rt, alloc, &words, &files, end)
 }
