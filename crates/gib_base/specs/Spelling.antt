@@ -29,6 +29,8 @@ sign_text sign.True = codes "True"
 sign_text sign.False = codes "False"
 sign_text sign.Int = codes "Int"
 sign_text sign.Bool = codes "Bool"
+sign_text sign.Quotient = codes "quot"
+sign_text sign.Remainder = codes "rem"
 sign_text sign.Equals = codes "="
 sign_text sign.Bar = codes "|"
 sign_text sign.Semicolon = codes ";"
@@ -46,7 +48,7 @@ sign_text sign.Less = codes "<"
 
 -- The signs that are words.
 abbrev pub words : List Sign
-words = sign.Data ∷ sign.Fun ∷ sign.Main ∷ sign.Let ∷ sign.Par ∷ sign.And ∷ sign.In ∷ sign.If ∷ sign.Then ∷ sign.Else ∷ sign.Case ∷ sign.Of ∷ sign.True ∷ sign.False ∷ sign.Int ∷ sign.Bool ∷ []
+words = sign.Data ∷ sign.Fun ∷ sign.Main ∷ sign.Let ∷ sign.Par ∷ sign.And ∷ sign.In ∷ sign.If ∷ sign.Then ∷ sign.Else ∷ sign.Case ∷ sign.Of ∷ sign.True ∷ sign.False ∷ sign.Int ∷ sign.Bool ∷ sign.Quotient ∷ sign.Remainder ∷ []
 
 -- The word that a text is, where it is one.
 abbrev pub word_of : List ℕ → Option Sign

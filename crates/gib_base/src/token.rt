@@ -24,6 +24,10 @@ pub enum Sign {
     False,
     Int,
     Bool,
+    /// `quot`
+    Quotient,
+    /// `rem`
+    Remainder,
     /// `=`
     Equals,
     /// `|`

@@ -131,6 +131,10 @@ fn word(text: &[u8]) -> Option<Sign>
         Some(Sign::Int)
     } else if text == b"Bool".as_slice() {
         Some(Sign::Bool)
+    } else if text == b"quot".as_slice() {
+        Some(Sign::Quotient)
+    } else if text == b"rem".as_slice() {
+        Some(Sign::Remainder)
     } else {
         None
     }

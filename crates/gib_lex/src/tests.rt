@@ -36,6 +36,10 @@ fn tokens_with_their_spans(rt: HostRuntime) -> Result<(), Fail> {
             "0-4 Sign(Then); 5-9 Sign(Else); 10-14 Sign(Case); 15-17 Sign(Of); 18-22 Sign(Main); 23-26 Sign(Par); 27-32 Sign(False); 33-37 Sign(Data); 38-41 Sign(Fun); 42-45 Sign(Int); 46-50 Sign(Bool); 51-53 Sign(In); ",
         ),
         (
+            b"quot rem quotient remainder quo Rem rem1".as_slice(),
+            "0-4 Sign(Quotient); 5-8 Sign(Remainder); 9-17 Variable(Name(0)); 18-27 Variable(Name(1)); 28-31 Variable(Name(2)); 32-35 Constructor(Name(3)); 36-40 Variable(Name(4)); ",
+        ),
+        (
             b"---> -- x\n->-->\r\n5".as_slice(),
             "10-12 Sign(Arrow); 17-18 Number(5); ",
         ),

@@ -44,6 +44,8 @@ agrees_operator o.Subtract j ws vs a = agrees_cons (t.Sign s.Minus) j ws vs a
 agrees_operator o.Multiply j ws vs a = agrees_cons (t.Sign s.Times) j ws vs a
 agrees_operator o.Equal j ws vs a = agrees_cons (t.Sign s.Same) j ws vs a
 agrees_operator o.Less j ws vs a = agrees_cons (t.Sign s.Less) j ws vs a
+agrees_operator o.Quotient j ws vs a = agrees_cons (t.Sign s.Quotient) j ws vs a
+agrees_operator o.Remainder j ws vs a = agrees_cons (t.Sign s.Remainder) j ws vs a
 
 agrees_bit : (b : Bool) (j : ℕ) (ws vs : List Token) → Agrees j ws vs → Agrees j (spell_bit b ws) (spell_bit b vs)
 agrees_bit true j ws vs a = agrees_cons (t.Sign s.True) j ws vs a

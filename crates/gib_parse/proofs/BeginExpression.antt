@@ -178,6 +178,8 @@ module _ (at : Places) where
   close_begins n h m z a fine (t.Sign s.Times ∷ ws) r = side_begins n h m z o.Multiply a fine (is_application a) refl ws r (close_at (parse at n) z a) (t.Sign s.Times) refl (λ l. refl)
   close_begins n h m z a fine (t.Sign s.Same ∷ ws) r = side_begins n h m z o.Equal a fine (is_application a) refl ws r (close_at (parse at n) z a) (t.Sign s.Same) refl (λ l. refl)
   close_begins n h m z a fine (t.Sign s.Less ∷ ws) r = side_begins n h m z o.Less a fine (is_application a) refl ws r (close_at (parse at n) z a) (t.Sign s.Less) refl (λ l. refl)
+  close_begins n h m z a fine (t.Sign s.Quotient ∷ ws) r = side_begins n h m z o.Quotient a fine (is_application a) refl ws r (close_at (parse at n) z a) (t.Sign s.Quotient) refl (λ l. refl)
+  close_begins n h m z a fine (t.Sign s.Remainder ∷ ws) r = side_begins n h m z o.Remainder a fine (is_application a) refl ws r (close_at (parse at n) z a) (t.Sign s.Remainder) refl (λ l. refl)
   close_begins n h m z a fine ws r = b_now (t.Sign s.Close ∷ r) (Paren z a, fine, paren_mode m z a, refl) refl
 
   open_begins : (n : ℕ) → PartsBegin n → (m : Mode) (z : Span) (ws r : List Token) → Begins (λ vs. ExpressionsThen m r (t.Sign s.Open ∷ vs)) (open_at (parse at n) z) ws

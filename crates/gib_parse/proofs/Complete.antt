@@ -84,6 +84,8 @@ operator_ends o.Subtract rest = refl
 operator_ends o.Multiply rest = refl
 operator_ends o.Equal rest = refl
 operator_ends o.Less rest = refl
+operator_ends o.Quotient rest = refl
+operator_ends o.Remainder rest = refl
 
 some_stand : (starts : Token → Bool) (ts : List Token) → next_is starts ts ≡ true → (k : ℕ) × (length ts ≡ suc k)
 some_stand starts [] e = absurd cc
@@ -185,6 +187,8 @@ close_operator sub p e o.Subtract ts = refl
 close_operator sub p e o.Multiply ts = refl
 close_operator sub p e o.Equal ts = refl
 close_operator sub p e o.Less ts = refl
+close_operator sub p e o.Quotient ts = refl
+close_operator sub p e o.Remainder ts = refl
 
 op_comes : (at : Places) (n : ℕ) (p : Span) (f : Operator) (a b : Expression) (ts after rest : List Token) (D E : List ℕ) → is_application a ≡ true → Comes D (parse at n Any ts) a (spell_operator f after) → Comes E (parse at n App after) b (t.Sign s.Close ∷ rest) → Comes (D ++ E) (open_at (parse at n) p ts) (Op p f a b) rest
 unfolding open_at

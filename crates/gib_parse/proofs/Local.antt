@@ -361,6 +361,8 @@ module _ (tok : Token) (xs ys : List Token) (at at' : Places) (shift : (k : ℕ)
   close_local n h z e (t.Sign s.Times ∷ ws) = operation_local n h (is_application e) z o.Multiply e s.Times ws refl (λ sub l. refl)
   close_local n h z e (t.Sign s.Same ∷ ws) = operation_local n h (is_application e) z o.Equal e s.Same ws refl (λ sub l. refl)
   close_local n h z e (t.Sign s.Less ∷ ws) = operation_local n h (is_application e) z o.Less e s.Less ws refl (λ sub l. refl)
+  close_local n h z e (t.Sign s.Quotient ∷ ws) = operation_local n h (is_application e) z o.Quotient e s.Quotient ws refl (λ sub l. refl)
+  close_local n h z e (t.Sign s.Remainder ∷ ws) = operation_local n h (is_application e) z o.Remainder e s.Remainder ws refl (λ sub l. refl)
   close_local n h z e (c ∷ ws) = head_fails (close_at (parse at n) z e) (close_at (parse at' n) z e) c ws (λ l. refl) (λ l. refl)
 
   pub open_local : (n : ℕ) → PartsLocal n → (z : Span) (ws : List Token) → LocalAt (open_at (parse at n) z) (open_at (parse at' n) z) ws

@@ -25,6 +25,8 @@ operator_longer o.Subtract rest = refl
 operator_longer o.Multiply rest = refl
 operator_longer o.Equal rest = refl
 operator_longer o.Less rest = refl
+operator_longer o.Quotient rest = refl
+operator_longer o.Remainder rest = refl
 
 bit_longer : (b : Bool) (rest : List Token) → length (spell_bit b rest) ≡ suc (length rest)
 bit_longer true rest = refl

@@ -234,6 +234,8 @@ module _ (at : Places) where
   close_past n h z e (t.Sign s.Times ∷ ws) = operation_past n h (is_application e) z o.Multiply e s.Times ws refl (λ sub. refl)
   close_past n h z e (t.Sign s.Same ∷ ws) = operation_past n h (is_application e) z o.Equal e s.Same ws refl (λ sub. refl)
   close_past n h z e (t.Sign s.Less ∷ ws) = operation_past n h (is_application e) z o.Less e s.Less ws refl (λ sub. refl)
+  close_past n h z e (t.Sign s.Quotient ∷ ws) = operation_past n h (is_application e) z o.Quotient e s.Quotient ws refl (λ sub. refl)
+  close_past n h z e (t.Sign s.Remainder ∷ ws) = operation_past n h (is_application e) z o.Remainder e s.Remainder ws refl (λ sub. refl)
   close_past n h z e ws = past_refuses (close_at (parse at n) z e) (close_at (parse at (suc n)) z e) ws refl refl
 
   open_past : (n : ℕ) → PartsPast n → (z : Span) (ws : List Token) → Past (open_at (parse at n) z) (open_at (parse at (suc n)) z) ws

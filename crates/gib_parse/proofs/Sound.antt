@@ -232,6 +232,8 @@ close_sound at l sub h m p a fine level (t.Sign s.Minus ∷ ts) pe pa = side_sou
 close_sound at l sub h m p a fine level (t.Sign s.Times ∷ ts) pe pa = side_sound at l (is_application a) sub h m p o.Multiply a refl fine level ts pe pa
 close_sound at l sub h m p a fine level (t.Sign s.Same ∷ ts) pe pa = side_sound at l (is_application a) sub h m p o.Equal a refl fine level ts pe pa
 close_sound at l sub h m p a fine level (t.Sign s.Less ∷ ts) pe pa = side_sound at l (is_application a) sub h m p o.Less a refl fine level ts pe pa
+close_sound at l sub h m p a fine level (t.Sign s.Quotient ∷ ts) pe pa = side_sound at l (is_application a) sub h m p o.Quotient a refl fine level ts pe pa
+close_sound at l sub h m p a fine level (t.Sign s.Remainder ∷ ts) pe pa = side_sound at l (is_application a) sub h m p o.Remainder a refl fine level ts pe pa
 close_sound at l sub h m p a fine level ts pe pa = holds_err (At (length ts))
 
 open_sound : (at : Places) (l : ℕ) (sub : Parts) → SoundParts at l sub → (m : Mode) (ts : List Token) → Holds (open_at sub (before at ts) ts) (Sound at (suc l) m (t.Sign s.Open ∷ ts))

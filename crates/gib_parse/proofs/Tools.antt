@@ -13,7 +13,7 @@ use Rattle.gib_parse.specs.Reading.{Fault, At, Read, Reader, then_at, number_of,
 
 all_signs : List Sign
 all_signs =
-    s.Data ∷ s.Fun ∷ s.Main ∷ s.Let ∷ s.Par ∷ s.And ∷ s.In ∷ s.If ∷ s.Then ∷ s.Else ∷ s.Case ∷ s.Of ∷ s.True ∷ s.False ∷ s.Int ∷ s.Bool ∷ s.Equals ∷ s.Bar ∷ s.Semicolon
+    s.Data ∷ s.Fun ∷ s.Main ∷ s.Let ∷ s.Par ∷ s.And ∷ s.In ∷ s.If ∷ s.Then ∷ s.Else ∷ s.Case ∷ s.Of ∷ s.True ∷ s.False ∷ s.Int ∷ s.Bool ∷ s.Quotient ∷ s.Remainder ∷ s.Equals ∷ s.Bar ∷ s.Semicolon
     ∷ s.Open ∷ s.Close ∷ s.Colon ∷ s.OpenBrace ∷ s.CloseBrace ∷ s.Arrow ∷ s.Plus ∷ s.Minus ∷ s.Times ∷ s.Same ∷ s.Less ∷ []
 
 sign_of : ℕ → Sign
@@ -38,6 +38,8 @@ sign_of-number_of a = elim a as (λ k. sign_of (number_of k) ≡ k) [
   | s.False ↦ refl
   | s.Int ↦ refl
   | s.Bool ↦ refl
+  | s.Quotient ↦ refl
+  | s.Remainder ↦ refl
   | s.Equals ↦ refl
   | s.Bar ↦ refl
   | s.Semicolon ↦ refl

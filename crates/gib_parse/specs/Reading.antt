@@ -64,20 +64,22 @@ number_of s.True = 12
 number_of s.False = 13
 number_of s.Int = 14
 number_of s.Bool = 15
-number_of s.Equals = 16
-number_of s.Bar = 17
-number_of s.Semicolon = 18
-number_of s.Open = 19
-number_of s.Close = 20
-number_of s.Colon = 21
-number_of s.OpenBrace = 22
-number_of s.CloseBrace = 23
-number_of s.Arrow = 24
-number_of s.Plus = 25
-number_of s.Minus = 26
-number_of s.Times = 27
-number_of s.Same = 28
-number_of s.Less = 29
+number_of s.Quotient = 16
+number_of s.Remainder = 17
+number_of s.Equals = 18
+number_of s.Bar = 19
+number_of s.Semicolon = 20
+number_of s.Open = 21
+number_of s.Close = 22
+number_of s.Colon = 23
+number_of s.OpenBrace = 24
+number_of s.CloseBrace = 25
+number_of s.Arrow = 26
+number_of s.Plus = 27
+number_of s.Minus = 28
+number_of s.Times = 29
+number_of s.Same = 30
+number_of s.Less = 31
 
 -- Whether two signs are one.
 abbrev pub same : Sign → Sign → Bool
@@ -257,6 +259,8 @@ operator_of s.Minus = Some o.Subtract
 operator_of s.Times = Some o.Multiply
 operator_of s.Same = Some o.Equal
 operator_of s.Less = Some o.Less
+operator_of s.Quotient = Some o.Quotient
+operator_of s.Remainder = Some o.Remainder
 operator_of a = None
 
 -- Behind an operator: its second side. The sign itself is at fault where the first side is no application.

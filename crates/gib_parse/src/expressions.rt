@@ -457,6 +457,8 @@ fn operator_of(sign: Sign) -> Option<Operator>
         Sign::Times => Some(Operator::Multiply),
         Sign::Same => Some(Operator::Equal),
         Sign::Less => Some(Operator::Less),
+        Sign::Quotient => Some(Operator::Quotient),
+        Sign::Remainder => Some(Operator::Remainder),
         _ => None,
     }
 }

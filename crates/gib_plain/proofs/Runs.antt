@@ -6,7 +6,7 @@ use Rattle.gib_types.specs.Table.{fields_at, at_fields}
 use Rattle.gib_types.specs.Tree.{Datum, con, data_of}
 use Rattle.gib_syntax.specs.Tree.{Expression, Arguments, Var, Num, Bit, Paren, Op, Call, Make, Let, Par, If, Case, NoArgument, Argument}
 use Rattle.gib_syntax.specs.Declarations.{number_of, constructor_named, table_of_program}
-use Rattle.gib_syntax.specs.Meaning.{Outcome, Gives, Stops, Deep, Environment, with_value, with_values, with_fields, eval_all, made}
+use Rattle.gib_syntax.specs.Meaning.{Reason, Outcome, Gives, Stops, Environment, with_value, with_values, with_fields, eval_all, made}
 use Rattle.gib_plain.specs.Running.{Waiting, Code, Around, at, gives, means_in, all_mean, expressions_of, first_parts, left_parts, finish, finished, complete, after, with_done, resume, if_values, cost, cost_all, costs, finish_cost, finished_cost, complete_cost, after_cost, stack_cost, fields_made, made_of}
 use Rattle.gib_plain.specs.Turns.{in_turn, in_place}
 use Rattle.gib_plain.proofs.InTurn.{map_turn, fields_in_turn}
@@ -22,15 +22,15 @@ stack_cost-snoc c (g ∷ fs) f o =
     let r = ap (after_cost c g) (resume-snoc c fs f o) in
     omega (arith, e, r)
 
-pub resume-deep : (c : Code) (fs : List Waiting) → resume c fs (Stops Deep) ≡ Stops Deep
-resume-deep c [] = refl
-resume-deep c (f ∷ fs) = ap (after c f) (resume-deep c fs)
+pub resume-stops : (c : Code) (fs : List Waiting) (why : Reason) → resume c fs (Stops why) ≡ Stops why
+resume-stops c [] why = refl
+resume-stops c (f ∷ fs) why = ap (after c f) (resume-stops c fs why)
 
-pub stack_cost-deep : (c : Code) (fs : List Waiting) → stack_cost c fs (Stops Deep) ≡ 0
-stack_cost-deep c [] = refl
-stack_cost-deep c (f ∷ fs) =
-    let e = stack_cost-deep c fs in
-    let r = ap (after_cost c f) (resume-deep c fs) in
+pub stack_cost-stops : (c : Code) (fs : List Waiting) (why : Reason) → stack_cost c fs (Stops why) ≡ 0
+stack_cost-stops c [] why = refl
+stack_cost-stops c (f ∷ fs) why =
+    let e = stack_cost-stops c fs why in
+    let r = ap (after_cost c f) (resume-stops c fs why) in
     omega (arith, e, r)
 
 -- ---- the next part of a frame

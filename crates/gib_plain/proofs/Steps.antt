@@ -8,9 +8,9 @@ use Rattle.gib_syntax.specs.Tree.{Expression, Case, FunctionTree}
 use Rattle.gib_base.specs.declared.Span.{Span}
 use Rattle.gib_syntax.specs.Arena.{arms_from, case_from, ArmsBelow}
 use Rattle.gib_syntax.specs.Declarations.{number_of, constructor_named, function_named, table_of_program}
-use Rattle.gib_syntax.specs.Meaning.{Outcome, Gives, Stops, Deep, Environment, value_in, bind, choose, is_made_by, parts, eval_arms, calls, names_of, of_function}
-use Rattle.gib_plain.specs.Running.{Waiting, Doing, Entering, Leaving, Ended, State, Code, Around, at, gives, means_in, finish, finished, finish_cost, finished_cost, complete, complete_cost, first_parts, left_parts, after, after_cost, with_done, resume, owes, cost, cost_arms, call_cost, function_cost, pick, stack_cost, work, Comes, Goes, frame_at, is_empty, is_over, is_number, arm_of, IsScalar, IsMadeBy}
-use Rattle.gib_plain.proofs.Runs.{resume-snoc, stack_cost-snoc, resume-deep, stack_cost-deep, complete-next, complete_cost-next, complete-all, complete_cost-all, IsBegun, begin-mean, begin-cost}
+use Rattle.gib_syntax.specs.Meaning.{Reason, Outcome, Gives, Stops, Deep, Environment, value_in, bind, choose, is_made_by, parts, eval_arms, calls, names_of, of_function}
+use Rattle.gib_plain.specs.Running.{Waiting, Doing, Entering, Leaving, Ended, doing_for, State, Code, Around, at, gives, means_in, finish, finished, finish_cost, finished_cost, complete, complete_cost, first_parts, left_parts, after, after_cost, with_done, resume, owes, cost, cost_arms, call_cost, function_cost, pick, stack_cost, work, Comes, Goes, frame_at, is_empty, is_over, is_number, arm_of, IsScalar, IsMadeBy}
+use Rattle.gib_plain.proofs.Runs.{resume-snoc, stack_cost-snoc, resume-stops, stack_cost-stops, complete-next, complete_cost-next, complete-all, complete_cost-all, IsBegun, begin-mean, begin-cost}
 
 pub on_ok : {T E : Type 0} {X Y : Type 0} (r : Result T E) → (Y → X) → OnOk r Y → OnOk r X
 on_ok (Ok t) f y = f y
@@ -26,9 +26,9 @@ pub came_leaving : (c : Code) (s : State) (frames : List Waiting) (n : ℕ) (env
 came_leaving c s frames n env v o k is e =
     subst (λ t. Comes c t (resume c frames o) (stack_cost c frames o + k)) (sym is) (record { same = ap (resume c frames) e; within = omega (arith, ap (stack_cost c frames) e) })
 
-pub came_ended : (c : Code) (s : State) (frames fs : List Waiting) (n : ℕ) (env : Environment) (k : ℕ) → s ≡ record { frames = frames; left = n; env = env; doing = Ended } → Comes c s (resume c fs (Stops Deep)) k
-came_ended c s frames fs n env k is =
-    subst (λ t. Comes c t (resume c fs (Stops Deep)) k) (sym is) (record { same = resume-deep c frames ∙ sym (resume-deep c fs); within = omega (arith, stack_cost-deep c frames) })
+pub came_ended : (c : Code) (s : State) (frames fs : List Waiting) (n : ℕ) (env : Environment) (why : Reason) (k : ℕ) → s ≡ record { frames = frames; left = n; env = env; doing = Ended why } → Comes c s (resume c fs (Stops why)) k
+came_ended c s frames fs n env why k is =
+    subst (λ t. Comes c t (resume c fs (Stops why)) k) (sym is) (record { same = resume-stops c frames why ∙ sym (resume-stops c fs why); within = omega (arith, stack_cost-stops c frames why) })
 
 -- the next part of a frame
 pub came_next : (c : Code) (s : State) (fs : List Waiting) (f : Waiting) (n : ℕ) (env : Environment) (i : ℕ) → s ≡ record { frames = fs ++ f ∷ []; left = n; env = env; doing = Entering i } → n ≡ f.left → env ≡ f.env → left_parts c f ≡ c.tree i ∷ drop (length f.finished + 1) (first_parts (table_of_program c.program) (c.tree f.id)) → Comes c s (resume c fs (complete c f)) (stack_cost c fs (complete c f) + complete_cost c f)
@@ -55,6 +55,14 @@ came_all c s fs f e comes =
 pub came_value : (c : Code) (s : State) (fs : List Waiting) (f : Waiting) (E : Expression) (n : ℕ) (env : Environment) (v : Datum) → s ≡ record { frames = fs; left = n; env = env; doing = Leaving v } → c.tree f.id ≡ E → finish (at c f.left) E f.env f.finished ≡ Gives v → Comes c s (resume c fs (finished c f f.finished)) (stack_cost c fs (finished c f f.finished) + finished_cost c f f.finished)
 came_value c s fs f E n env v is tree e =
     came_leaving c s fs n env v (finished c f f.finished) (finished_cost c f f.finished) is (sym e ∙ ap (λ t. finish (at c f.left) t f.env f.finished) (sym tree))
+
+-- it gives a value, or none
+pub came_outcome : (c : Code) (s : State) (fs : List Waiting) (f : Waiting) (E : Expression) (n : ℕ) (env : Environment) (o : Outcome) → s ≡ record { frames = fs; left = n; env = env; doing = doing_for o } → c.tree f.id ≡ E → finish (at c f.left) E f.env f.finished ≡ o → Comes c s (resume c fs (finished c f f.finished)) (stack_cost c fs (finished c f f.finished) + finished_cost c f f.finished)
+came_outcome c s fs f E n env (Gives v) is tree e = came_value c s fs f E n env v is tree e
+came_outcome c s fs f E n env (Stops why) is tree e =
+    let o : finished c f f.finished ≡ Stops why = ap (λ t. finish (at c f.left) t f.env f.finished) tree ∙ e in
+    let k = finished_cost c f f.finished in
+    subst (λ q. Comes c s (resume c fs q) (stack_cost c fs q + k)) (sym o) (came_ended c s fs fs n env why (stack_cost c fs (Stops why) + k) is)
 
 -- a body comes next
 pub came_body : (c : Code) (s : State) (fs : List Waiting) (f : Waiting) (E : Expression) (n : ℕ) (env : Environment) (i : ℕ) → s ≡ record { frames = fs; left = n; env = env; doing = Entering i } → c.tree f.id ≡ E → finish (at c f.left) E f.env f.finished ≡ gives c n (c.tree i) env → cost (at c n) (c.tree i) env ≤ finish_cost (at c f.left) E f.env f.finished → Comes c s (resume c fs (finished c f f.finished)) (stack_cost c fs (finished c f f.finished) + finished_cost c f f.finished)
@@ -85,11 +93,11 @@ came_nowhere c s fs f E name n env is tree call el some found =
     ∙ ap (λ h. of_function h (λ (k : FunctionTree). means_in (at c (n - 1)) k.body (bind (names_of k.parameters) f.finished []))) found)
 
 -- a call that is too deep
-pub came_too_deep : (c : Code) (s : State) (frames fs : List Waiting) (f : Waiting) (E : Expression) (name n : ℕ) (env : Environment) → s ≡ record { frames = frames; left = n; env = env; doing = Ended } → c.tree f.id ≡ E → ((a : Around) (env : Environment) (vs : List Datum) → finish a E env vs ≡ a.call name vs) → f.left ≡ 0 → Comes c s (resume c fs (finished c f f.finished)) (stack_cost c fs (finished c f f.finished) + finished_cost c f f.finished)
+pub came_too_deep : (c : Code) (s : State) (frames fs : List Waiting) (f : Waiting) (E : Expression) (name n : ℕ) (env : Environment) → s ≡ record { frames = frames; left = n; env = env; doing = Ended Deep } → c.tree f.id ≡ E → ((a : Around) (env : Environment) (vs : List Datum) → finish a E env vs ≡ a.call name vs) → f.left ≡ 0 → Comes c s (resume c fs (finished c f f.finished)) (stack_cost c fs (finished c f f.finished) + finished_cost c f f.finished)
 came_too_deep c s frames fs f E name n env is tree call z =
     let o : finished c f f.finished ≡ Stops Deep = ap (λ t. finish (at c f.left) t f.env f.finished) tree ∙ call (at c f.left) f.env f.finished ∙ ap (λ m. calls c.program m name f.finished) z in
     let k = finished_cost c f f.finished in
-    subst (λ q. Comes c s (resume c fs q) (stack_cost c fs q + k)) (sym o) (came_ended c s frames fs n env (stack_cost c fs (Stops Deep) + k) is)
+    subst (λ q. Comes c s (resume c fs q) (stack_cost c fs q + k)) (sym o) (came_ended c s frames fs n env Deep (stack_cost c fs (Stops Deep) + k) is)
 
 -- ---- whole steps
 
@@ -233,11 +241,11 @@ newest [] e = absurd (cc)
 newest (f ∷ []) e = ([], f, refl)
 newest (f ∷ (g ∷ fs)) e = let r = newest (g ∷ fs) refl in (f ∷ r.0, r.1, ap (λ hs. f ∷ hs) r.2)
 
-running : (b : Bool) (d : Doing) (v : Datum) → d ≡ Leaving v → (elim d [ Entering i ↦ false | Leaving w ↦ b | Ended ↦ true ]) ≡ false → b ≡ false
-running b d v e f = ap (λ (k : Doing). elim k [ Entering i ↦ false | Leaving w ↦ b | Ended ↦ true ]) (sym e) ∙ f
+running : (b : Bool) (d : Doing) (v : Datum) → d ≡ Leaving v → (elim d [ Entering i ↦ false | Leaving w ↦ b | Ended why ↦ true ]) ≡ false → b ≡ false
+running b d v e f = ap (λ (k : Doing). elim k [ Entering i ↦ false | Leaving w ↦ b | Ended why ↦ true ]) (sym e) ∙ f
 
 pub has_frames : (s : State) (v : Datum) → s.doing ≡ Leaving v → is_over s ≡ false → is_empty s.frames ≡ false
 has_frames s v e f = running (is_empty s.frames) s.doing v e f
 
-pub owes_ended : (c : Code) (s : State) → s.doing ≡ Ended → Stops Deep ≡ owes c s
-owes_ended c s e = sym (ap (λ (d : Doing). owes c (record s { doing = d })) e ∙ resume-deep c s.frames)
+pub owes_ended : (c : Code) (s : State) (why : Reason) → s.doing ≡ Ended why → Stops why ≡ owes c s
+owes_ended c s why e = sym (ap (λ (d : Doing). owes c (record s { doing = d })) e ∙ resume-stops c s.frames why)

@@ -10,7 +10,7 @@ use Rattle.gib_syntax.specs.Parts.{Parts, program_of}
 use Rattle.gib_syntax.specs.Declarations.{number_of, constructor_named, function_named, table_of_program}
 pub use Rattle.gib_check.specs.ArmPlaces.{is_number}
 use Rattle.gib_plain.specs.Turns.{in_turn, in_place}
-use Rattle.gib_syntax.specs.Meaning.{Outcome, Gives, Stops, Deep, Environment, value_in, bind, with_values, number_in, is_true, is_made_by, parts, operate, choose, eval, eval_all, names_of, calls}
+use Rattle.gib_syntax.specs.Meaning.{Reason, Outcome, Gives, Stops, Environment, value_in, bind, with_values, number_in, is_true, is_made_by, parts, outcome, choose, eval, eval_all, names_of, calls}
 
 -- An expression whose parts are being evaluated: the calls left, the variables in scope, the values of the
 -- parts that are done, and the expression's number.
@@ -20,11 +20,16 @@ pub record Waiting : Type 0 where
   pub finished : List Datum
   pub id : ℕ
 
--- What comes next: an expression, the value of one, or nothing since a call had no depth left.
+-- What comes next: an expression, the value of one, or nothing since one has no value.
 pub data Doing : Type 0 where
   Entering : (id : ℕ) → Doing
   Leaving : (v : Datum) → Doing
-  Ended : Doing
+  Ended : (why : Reason) → Doing
+
+-- What comes next where a frame gives this.
+abbrev pub doing_for : Outcome → Doing
+doing_for (Gives v) = Leaving v
+doing_for (Stops why) = Ended why
 
 -- The frames from the oldest on, the calls left, the variables in scope, and what comes next.
 pub record State : Type 0 where
@@ -88,7 +93,7 @@ finish a (Var x) env vs = Gives (whole (pos 0))
 finish a (Num p n) env vs = Gives (whole (pos 0))
 finish a (Bit p b) env vs = Gives (whole (pos 0))
 finish a (Paren p e) env vs = Gives (whole (pos 0))
-finish a (Op p f l r) env vs = Gives (operate f (number_in (value_at vs 0)) (number_in (value_at vs 1)))
+finish a (Op p f l r) env vs = outcome f (number_in (value_at vs 0)) (number_in (value_at vs 1))
 finish a (Call f xs) env vs = a.call (number_of f) vs
 finish a (Make k xs) env vs = made_of a.table (constructor_named a.table (number_of k)) vs
 finish a (Let p x l b) env vs = means_in a b (bind (x ∷ []) vs env)
@@ -216,7 +221,7 @@ resume c (f ∷ fs) o = after c f (resume c fs o)
 
 -- What the newest frame waits for.
 abbrev pub outcome_now : Code → State → Outcome
-outcome_now c s = elim s.doing [ Entering i ↦ gives c s.left (c.tree i) s.env | Leaving v ↦ Gives v | Ended ↦ Stops Deep ]
+outcome_now c s = elim s.doing [ Entering i ↦ gives c s.left (c.tree i) s.env | Leaving v ↦ Gives v | Ended why ↦ Stops why ]
 
 -- What the whole run gives.
 abbrev pub owes : Code → State → Outcome
@@ -246,7 +251,7 @@ stack_cost c (f ∷ fs) o = stack_cost c fs o + after_cost c f (resume c fs o)
 
 -- How many steps what comes next takes.
 abbrev pub doing_cost : Code → State → ℕ
-doing_cost c s = elim s.doing [ Entering i ↦ cost (at c s.left) (c.tree i) s.env | Leaving v ↦ 0 | Ended ↦ 0 ]
+doing_cost c s = elim s.doing [ Entering i ↦ cost (at c s.left) (c.tree i) s.env | Leaving v ↦ 0 | Ended why ↦ 0 ]
 
 -- A number that falls with each step.
 abbrev pub work : Code → State → ℕ
@@ -283,7 +288,7 @@ is_empty (f ∷ fs) = false
 
 -- The run has its outcome.
 abbrev pub is_over : State → Bool
-is_over s = elim s.doing [ Entering i ↦ false | Leaving v ↦ is_empty s.frames | Ended ↦ true ]
+is_over s = elim s.doing [ Entering i ↦ false | Leaving v ↦ is_empty s.frames | Ended why ↦ true ]
 
 -- Cases.
 

@@ -4,10 +4,10 @@ ghost use Rattle.std.specs.Prelude.{◌≡◌, ◌<◌, ◌≤◌, ◌+◌, ◌-
 ghost use Rattle.std.specs.Prelude.{pos};
 ghost use Rattle.gib_types.specs.Tree.{Datum, whole, truth, con as con_of, data_of};
 ghost use Rattle.gib_value.specs.Heap.{value_of};
-ghost use Rattle.gib_syntax.specs.Meaning.{bind, value_in, parts, operate, number_in, is_true, names_of, run};
+ghost use Rattle.gib_syntax.specs.Meaning.{bind, value_in, parts, Deep, outcome, number_in, is_true, names_of, run};
 ghost use Rattle.gib_syntax.specs.Parts.{program_of};
 ghost use Rattle.gib_syntax.specs.Arena.{tree_of};
-ghost use Rattle.gib_plain.specs.Running.{Waiting, Entering, Leaving, Ended, IsScalar, IsMadeBy, with_done, value_at, is_over, IsReady, ComesTo, Goes, owes, complete, finished, finished_cost, complete_cost, frame_at, code_of, Code};
+ghost use Rattle.gib_plain.specs.Running.{Waiting, Entering, Leaving, Ended, doing_for, IsScalar, IsMadeBy, with_done, value_at, is_over, IsReady, ComesTo, Goes, owes, complete, finished, finished_cost, complete_cost, frame_at, code_of, Code};
 ghost use Rattle.gib_base.specs.declared.Span.{Span};
 ghost use Rattle.gib_syntax.specs.declared.tree.Ident.{Ident};
 ghost use Rattle.gib_syntax.specs.Tree.{Arguments, Call, Make, Case};
@@ -42,12 +42,14 @@ pub struct Frame {
     pub temps_len: usize,
 }
 
-/// What comes next: an expression, the value of one, or nothing since a call had no depth left.
+/// What comes next: an expression, the value of one, or nothing, since a call had no depth left or a number was
+/// divided by 0.
 #[derive(Clone, Copy)]
 pub enum Now {
     Enter(ExprId),
     Leave(Node),
     TooDeep,
+    ByZero,
 }
 
 /// The machine. In `placed` a constructor's fields are put in declared order, each time anew.
@@ -121,7 +123,7 @@ impl Machine {
 
     // Ends the run, since a call had no depth left.
     fn end(&mut self)
-        ensures { self.new ≡ record self.old { doing = Ended } }
+        ensures { self.new ≡ record self.old { doing = Ended Deep } }
     {
         self.next = Now::TooDeep;
     }
@@ -178,18 +180,18 @@ impl Machine {
         self.next = Now::Leave(Node::Whole(0));
     }
 
-    // Leaves the newest frame with what an operator gives for its parts.
+    // Leaves the newest frame with what an operator gives for its parts, or ends the run where it divides by 0.
     fn operate(&mut self, operator: Operator)
         ensures { (fs : List Waiting) (f : Waiting) → self.old.frames ≡ fs ++ f ∷ [] →
-            self.new ≡ record self.old { frames = fs; doing = Leaving (operate operator (number_in (value_at f.finished 0)) (number_in (value_at f.finished 1))) } }
+            self.new ≡ record self.old { frames = fs; doing = doing_for (outcome operator (number_in (value_at f.finished 0)) (number_in (value_at f.finished 1))) } }
     {
         let Some(frame) = self.frames.pop() else {
             return;
         };
         let done = between(&self.temps, frame.start, frame.temps_len);
-        let value = operated(operator, node_at(done, 0), node_at(done, 1));
+        let next = operated(operator, node_at(done, 0), node_at(done, 1));
         self.temps.truncate(frame.start);
-        self.next = Now::Leave(value);
+        self.next = next;
     }
 
     // Leaves the newest frame for one of two expressions, by its first part.
@@ -498,6 +500,7 @@ impl Machine {
             Now::Enter(_) => false,
             Now::Leave(_) => self.frames.is_empty(),
             Now::TooDeep => true,
+            Now::ByZero => true,
         }
     }
 
@@ -513,6 +516,7 @@ impl Machine {
                 self.go_on(typed)
             }
             Now::TooDeep => Ok(()),
+            Now::ByZero => Ok(()),
         }
     }
 
@@ -550,6 +554,7 @@ impl Machine {
             Now::Enter(_) => Outcome::Deep,
             Now::Leave(value) => Outcome::Gives(Value::from_parts(self.heap, value)),
             Now::TooDeep => Outcome::Deep,
+            Now::ByZero => Outcome::Trap,
         }
     }
 }

@@ -1,10 +1,13 @@
 //! What operators make of values.
 
-ghost use Rattle.std.specs.Prelude.{◌≡◌, ℕ, List};
+ghost use Rattle.std.specs.Prelude.{◌≡◌, ℕ, List, false};
 ghost use Rattle.gib_types.specs.Tree.{Datum};
 ghost use Rattle.gib_value.specs.Heap.{value_of, IsWithin};
-ghost use Rattle.gib_syntax.specs.Meaning.{operate, number_in, is_true};
+ghost use Rattle.gib_syntax.specs.Meaning.{operate, is_by_zero, outcome, number_in, is_true};
+ghost use Rattle.gib_plain.specs.Running.{doing_for};
+ghost use Rattle.gib_plain.specs.Machines.{doing_of, IsNowWithin};
 
+use crate::machine::Now;
 use gib_syntax::Operator;
 use gib_value::Node;
 
@@ -30,18 +33,46 @@ pub fn truth_of(value: Node) -> bool
     }
 }
 
-/// What an operator gives.
-pub fn operated(operator: Operator, left: Node, right: Node) -> Node
-    ensures value { (heap : List Datum) → value_of heap result ≡ operate operator (number_in (value_of heap left)) (number_in (value_of heap right)) }
-    ensures within { (n : ℕ) → IsWithin n result }
+/// What comes next where an operator's parts are these: its value, or the end of the run where it divides by 0.
+pub fn operated(operator: Operator, left: Node, right: Node) -> Now
+    ensures value { (heap : List Datum) → doing_of heap result ≡ doing_for (outcome operator (number_in (value_of heap left)) (number_in (value_of heap right))) }
+    ensures within { (n : ℕ) → IsNowWithin n result }
 {
     let left = number(left);
     let right = number(right);
+    if is_by_zero(operator, right) {
+        return Now::ByZero;
+    }
+    Now::Leave(applied(operator, left, right))
+}
+
+/// Whether an operator divides, and by 0.
+fn is_by_zero(operator: Operator, right: i64) -> bool
+    ensures { result ≡ is_by_zero operator right }
+{
+    match operator {
+        Operator::Add
+        | Operator::Subtract
+        | Operator::Multiply
+        | Operator::Equal
+        | Operator::Less => false,
+        Operator::Quotient | Operator::Remainder => right == 0,
+    }
+}
+
+/// What an operator gives. The quotient of the least number by -1 wraps.
+fn applied(operator: Operator, left: i64, right: i64) -> Node
+    requires { is_by_zero operator right ≡ false }
+    ensures value { (heap : List Datum) → value_of heap result ≡ operate operator left right }
+    ensures within { (n : ℕ) → IsWithin n result }
+{
     match operator {
         Operator::Add => Node::Whole(left.wrapping_add(right)),
         Operator::Subtract => Node::Whole(left.wrapping_sub(right)),
         Operator::Multiply => Node::Whole(left.wrapping_mul(right)),
         Operator::Equal => Node::Truth(left == right),
         Operator::Less => Node::Truth(left < right),
+        Operator::Quotient => Node::Whole(left.wrapping_div(right)),
+        Operator::Remainder => Node::Whole(left.wrapping_rem(right)),
     }
 }

@@ -2,9 +2,12 @@
 
 use gib_value::Value;
 
-/// What a run gives: a value, or that a call came with no depth left.
+/// What a run gives: a value, or why there is none.
 #[derive(Debug, Drop)]
 pub enum Outcome {
     Gives(Value),
+    /// A call came with no depth left.
     Deep,
+    /// A number was divided by 0.
+    Trap,
 }

@@ -5,7 +5,7 @@ use Rattle.gib_types.specs.Table.{Table, fields_at}
 use Rattle.gib_types.specs.Tree.{Datum, whole, con, data_of}
 use Rattle.gib_syntax.specs.Tree.{Expression, Arguments, Arms, Var, Num, Bit, Paren, Op, Call, Make, Let, Par, If, Case, NoArgument, Argument, LastArm, NextArm, FunctionTree, ProgramTree}
 use Rattle.gib_syntax.specs.Declarations.{number_of, constructor_named, function_named, table_of_program}
-use Rattle.gib_syntax.specs.Meaning.{Outcome, Gives, Stops, Environment, value_in, bind, with_value, with_values, is_scalar, at_fields, is_true, is_made_by, parts, made, choose, eval, eval_all, eval_arms, names_of, of_function, calls, run}
+use Rattle.gib_syntax.specs.Meaning.{Outcome, Gives, Stops, Environment, value_in, bind, with_value, with_values, is_scalar, at_fields, number_in, is_true, is_made_by, parts, outcome, made, choose, eval, eval_all, eval_arms, names_of, of_function, calls, run}
 
 -- where the first outcome is a value, the second is the same
 abbrev pub Keeps : Outcome → Outcome → Type 0
@@ -17,6 +17,10 @@ AllKeep [] [] = Unit {0}
 AllKeep [] (s ∷ ss) = ⊥
 AllKeep (r ∷ rs) [] = ⊥
 AllKeep (r ∷ rs) (s ∷ ss) = Keeps r s × AllKeep rs ss
+
+same_keeps : (r : Outcome) → Keeps r r
+same_keeps (Gives v) = refl
+same_keeps (Stops why) = tt {0}
 
 with_value_keeps : (r s : Outcome) (go went : Datum → Outcome) → Keeps r s → ((v : Datum) → Keeps (go v) (went v)) → Keeps (with_value r go) (with_value s went)
 with_value_keeps (Gives v) s go went h k = rw h (k v)
@@ -78,7 +82,7 @@ mutual
   eval_keeps table call more_call h (Paren p e) env = eval_keeps table call more_call h e env
   eval_keeps table call more_call h (Op p f a b) env =
       with_value_keeps (eval table call a env) (eval table more_call a env) _ _ (eval_keeps table call more_call h a env)
-      (λ x. with_value_keeps (eval table call b env) (eval table more_call b env) _ _ (eval_keeps table call more_call h b env) (λ y. refl))
+      (λ x. with_value_keeps (eval table call b env) (eval table more_call b env) _ _ (eval_keeps table call more_call h b env) (λ y. same_keeps (outcome f (number_in x) (number_in y))))
   eval_keeps table call more_call h (Call f xs) env =
       with_values_keeps (eval_all table call xs env) (eval_all table more_call xs env) (call (number_of f)) (more_call (number_of f))
       (all_keep table call more_call h xs env) (λ vs. h (number_of f) vs)

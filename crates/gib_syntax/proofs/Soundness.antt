@@ -1,13 +1,16 @@
 -- A typed program gives a value of the type of its result.
 use Rattle.std.proofs.Common.{◌≡◌, ℕ, zero, suc, ℤ, pos, Bool, true, false, ◌==◌, if◌then◌else◌, List, [], ◌∷◌, ◌++◌, map, Option, Some, None, refl, sym, ap, ◌∙◌, subst}
-use Rattle.std.specs.Prelude.{slice_get, FitsSigned}
+use Rattle.std.specs.Prelude.{slice_get, int_div, FitsSigned}
 use Rattle.std.specs.Option.{option_map}
-use Rattle.std.specs.Int.{w64}
+use Rattle.std.specs.Int.{w64, cast_unsigned}
 use Rattle.std.specs.List.{AllByRecursion}
 use Rattle.std.proofs.lemmas.Option.{same_Some, slice_get-map}
 use Rattle.std.proofs.lemmas.Bool.{eqb-true, eq-eqb}
 use Rattle.std.proofs.lemmas.Int.{wrapping_add_is, wrapping_sub_is, wrapping_mul_is, SFits-int_wrap, fits_signed_from_abs}
 use Rattle.std.specs.Prelude.{◌+ℤ◌, ◌-ℤ◌, ◌*ℤ◌}
+use lib.Signed.{mag_rem}
+use mir.ValLaws.{sfits_le}
+use borrow.Author.Gap.{read_sfits}
 use Rattle.gib_types.specs.declared.table.Ty.{Ty}
 use Rattle.gib_types.specs.declared.table.Ty.TheVariants.{Whole, Truth, Tree}
 use Rattle.gib_types.specs.declared.table.TyId.{TyId}
@@ -22,7 +25,7 @@ use Rattle.gib_syntax.specs.Tree.{Expression, Arguments, Arms, Var, Num, Bit, Pa
 use Rattle.gib_syntax.specs.Spelling.{IsFine, AreFine, HasFine, IsFineFunction, IsFineProgram}
 use Rattle.gib_syntax.specs.Declarations.{number_of, place_of, next_place, AreDifferent, type_of_name, constructor_names, constructor_named, function_named, table_of_program, input_type, output_type}
 use Rattle.gib_syntax.specs.Typing.{Globals, globals_of, Scope, type_in, bound, BindsAll, parameter_types, result_type, operator_type, arm_names, Has, HaveAll, HaveArms, IsTypedFunction, IsTypedHere, IsTypedProgram}
-use Rattle.gib_syntax.specs.Meaning.{Outcome, Gives, Stops, Environment, value_in, bind, with_value, with_values, at_fields, number_in, is_true, is_made_by, operate, made, choose, eval, eval_all, eval_arms, names_of, calls, run, OutcomeHas}
+use Rattle.gib_syntax.specs.Meaning.{Outcome, Gives, Stops, Environment, value_in, bind, with_value, with_values, at_fields, number_in, is_true, is_made_by, operate, is_by_zero, outcome_unless, made, choose, eval, eval_all, eval_arms, names_of, calls, run, OutcomeHas}
 
 -- Places of names
 
@@ -136,6 +139,12 @@ operate_has table o.Subtract x y h k = subst (FitsSigned w64) (sym (wrapping_sub
 operate_has table o.Multiply x y h k = subst (FitsSigned w64) (sym (wrapping_mul_is w64 x y h k)) (SFits-int_wrap w64 (x *ℤ y))
 operate_has table o.Equal x y h k = tt {0}
 operate_has table o.Less x y h k = tt {0}
+operate_has table o.Quotient x y h k = read_sfits w64 (cast_unsigned w64 (int_div x y))
+operate_has table o.Remainder x y h k = sfits_le (mag_rem x y) h
+
+unless_has : (table : Table) (ty : Ty) (b : Bool) (v : Datum) → HasType table v ty → OutcomeHas table ty (outcome_unless b v)
+unless_has table ty true v h = tt {0}
+unless_has table ty false v h = h
 
 number_fits : (table : Table) (v : Datum) → HasType table v Whole → FitsSigned w64 (number_in v)
 number_fits table (whole z) h = h
@@ -205,7 +214,8 @@ mutual
   eval_has g call distinct well (Op p f a b) ty scope env fine agrees h =
       with_value_has g.table Whole ty (eval g.table call a env) _ (eval_has g call distinct well a Whole scope env fine.0 agrees h.1)
       (λ x hx. with_value_has g.table Whole ty (eval g.table call b env) _ (eval_has g call distinct well b Whole scope env fine.1 agrees h.2)
-      (λ y hy. subst (HasType g.table (operate f (number_in x) (number_in y))) (sym h.0) (operate_has g.table f (number_in x) (number_in y) (number_fits g.table x hx) (number_fits g.table y hy))))
+      (λ y hy. unless_has g.table ty (is_by_zero f (number_in y)) (operate f (number_in x) (number_in y))
+      (subst (HasType g.table (operate f (number_in x) (number_in y))) (sym h.0) (operate_has g.table f (number_in x) (number_in y) (number_fits g.table x hx) (number_fits g.table y hy)))))
   eval_has g call distinct well (Call f xs) ty scope env fine agrees h =
       with_values_has g.table (parameter_types g.table h.0) ty (eval_all g.table call xs env) (call (number_of f))
       (all_have g call distinct well xs (parameter_types g.table h.0) scope env (fine_arguments f xs fine) agrees h.3)

@@ -1,6 +1,6 @@
 -- What a program means: call by value on ordinary trees, with a bound on the depth of calls.
-use Rattle.std.specs.Prelude.{ℕ, zero, suc, ℤ, pos, ◌==◌, Bool, true, false, if◌then◌else◌, int_lt, List, [], ◌∷◌, ◌++◌, map, Option, Some, None}
-use Rattle.std.specs.Int.{w64, int_wrapping_add, int_wrapping_sub, int_wrapping_mul}
+use Rattle.std.specs.Prelude.{ℕ, zero, suc, ℤ, pos, ◌==◌, Bool, true, false, if◌then◌else◌, int_lt, int_rem, List, [], ◌∷◌, ◌++◌, map, Option, Some, None}
+use Rattle.std.specs.Int.{w64, int_wrapping_add, int_wrapping_sub, int_wrapping_mul, int_wrapping_div}
 use Rattle.std.specs.Ordering.{int_eq}
 use Rattle.gib_types.specs.declared.table.Ty.{Ty}
 use Rattle.gib_types.specs.Table.{Table, fields_at}
@@ -17,6 +17,8 @@ use Rattle.gib_syntax.specs.Declarations.{number_of, constructor_named, function
 pub data Reason : Type 0 where
   -- a call with no depth left
   Deep : Reason
+  -- a division by 0
+  Trap : Reason
 
 -- What an expression means: a value, or a reason why there is none.
 pub data Outcome : Type 0 where
@@ -80,13 +82,35 @@ parts (whole z) = []
 parts (truth b) = []
 parts (con k vs) = list_of vs
 
--- The operators; sums, differences and products wrap modulo 2^64.
+-- The operators; sums, differences, products and quotients wrap modulo 2^64. A quotient is cut towards zero, and
+-- what is left has the sign of the left operand. What is said of a division by 0 is not looked at.
 abbrev pub operate : Operator → ℤ → ℤ → Datum
 operate o.Add x y = whole (int_wrapping_add w64 x y)
 operate o.Subtract x y = whole (int_wrapping_sub w64 x y)
 operate o.Multiply x y = whole (int_wrapping_mul w64 x y)
 operate o.Equal x y = truth (int_eq x y)
 operate o.Less x y = truth (int_lt x y)
+operate o.Quotient x y = whole (int_wrapping_div w64 x y)
+operate o.Remainder x y = whole (int_rem x y)
+
+-- Whether the operator divides, and by 0.
+abbrev pub is_by_zero : Operator → ℤ → Bool
+is_by_zero o.Add y = false
+is_by_zero o.Subtract y = false
+is_by_zero o.Multiply y = false
+is_by_zero o.Equal y = false
+is_by_zero o.Less y = false
+is_by_zero o.Quotient y = int_eq y (pos 0)
+is_by_zero o.Remainder y = int_eq y (pos 0)
+
+-- No value where the test holds, else this one.
+abbrev pub outcome_unless : Bool → Datum → Outcome
+outcome_unless true v = Stops Trap
+outcome_unless false v = Gives v
+
+-- What an operation comes to: a division by 0 has no value.
+abbrev pub outcome : Operator → ℤ → ℤ → Outcome
+outcome f x y = outcome_unless (is_by_zero f y) (operate f x y)
 
 -- What a constructor with these arguments means; of one that is not declared, which typing excludes, 0.
 abbrev pub made : Table → Option ℕ → List Outcome → Outcome
@@ -106,7 +130,7 @@ abbrev mutual
   eval table call (Bit p b) env = Gives (truth b)
   eval table call (Paren p e) env = eval table call e env
   eval table call (Op p f a b) env =
-      with_value (eval table call a env) (λ x. with_value (eval table call b env) (λ y. Gives (operate f (number_in x) (number_in y))))
+      with_value (eval table call a env) (λ x. with_value (eval table call b env) (λ y. outcome f (number_in x) (number_in y)))
   eval table call (Call f xs) env = with_values (eval_all table call xs env) (call (number_of f))
   eval table call (Make k xs) env = made table (constructor_named table (number_of k)) (eval_all table call xs env)
   eval table call (Let p x a b) env = with_value (eval table call a env) (λ v. eval table call b ((number_of x, v) ∷ env))

@@ -20,6 +20,8 @@ spell_operator o.Subtract rest = t.Sign s.Minus ∷ rest
 spell_operator o.Multiply rest = t.Sign s.Times ∷ rest
 spell_operator o.Equal rest = t.Sign s.Same ∷ rest
 spell_operator o.Less rest = t.Sign s.Less ∷ rest
+spell_operator o.Quotient rest = t.Sign s.Quotient ∷ rest
+spell_operator o.Remainder rest = t.Sign s.Remainder ∷ rest
 
 -- A truth value.
 abbrev pub spell_bit : Bool → List Token → List Token

@@ -9,9 +9,9 @@ ghost use Rattle.gib_syntax.specs.declared.tree.Ident.{Ident};
 ghost use Rattle.gib_syntax.specs.declared.tree.Parameter.{Parameter};
 ghost use Rattle.gib_syntax.specs.declared.tree.TypeName.TheVariants as ty;
 ghost use Rattle.gib_syntax.specs.declared.tree.Operator.TheVariants as o;
-ghost use Rattle.gib_syntax.specs.Tree.{Var, Num, Paren, Op, Call, Let, If, NoArgument, Argument, ProgramTree};
+ghost use Rattle.gib_syntax.specs.Tree.{Expression, Var, Num, Paren, Op, Call, Let, Par, If, NoArgument, Argument, ProgramTree};
 ghost use Rattle.gib_syntax.specs.Spelling.{levels, spell};
-ghost use Rattle.gib_syntax.specs.Meaning.{Gives, Stops, Deep, run};
+ghost use Rattle.gib_syntax.specs.Meaning.{Gives, Stops, Deep, Trap, run};
 
 /// Expressions of these programs, and what the programs mean: `main (n : Int) : Int = (n + 1) ;`, and
 /// `fun down (n : Int) : Int = if (n < 1) then 0 else down (n - 1) ; main (n : Int) : Int = down n ;`.
@@ -38,4 +38,56 @@ pub fn examples()
           main = record { parameter = parameter; result = ty.Whole p; body = Call down (Argument (Var n) NoArgument) };
         } in
         (run program 1 (whole (pos 1)) ≡ Stops Deep) × (run program 2 (whole (pos 1)) ≡ Gives (whole (pos 0))) }
+{}
+
+/// What divisions mean: main's body stands at each program, and its parameter is `n`.
+pub fn divisions()
+    // `(n quot 2)` and `(n rem 2)` on -7: the quotient is cut towards zero, and what is left has the sign of -7.
+    ensures towards_zero { (p : Span) →
+        let n : Ident = record { name = record { 0 = 0 }; span = p } in
+        let main : Expression → ProgramTree = λ e. record { datas = []; functions = []; main = record { parameter = record { name = n; ty = ty.Whole p }; result = ty.Whole p; body = e } } in
+        (run (main (Op p o.Quotient (Var n) (Num p 2))) 0 (whole (negsuc 6)) ≡ Gives (whole (negsuc 2))) × (run (main (Op p o.Remainder (Var n) (Num p 2))) 0 (whole (negsuc 6)) ≡ Gives (whole (negsuc 0))) }
+    // `(7 quot n)` and `(7 rem n)` on -2.
+    ensures by_negative { (p : Span) →
+        let n : Ident = record { name = record { 0 = 0 }; span = p } in
+        let main : Expression → ProgramTree = λ e. record { datas = []; functions = []; main = record { parameter = record { name = n; ty = ty.Whole p }; result = ty.Whole p; body = e } } in
+        (run (main (Op p o.Quotient (Num p 7) (Var n))) 0 (whole (negsuc 1)) ≡ Gives (whole (negsuc 2))) × (run (main (Op p o.Remainder (Num p 7) (Var n))) 0 (whole (negsuc 1)) ≡ Gives (whole (pos 1))) }
+    // `(n quot (0 - 1))` and `(n rem (0 - 1))` on -2^63: the quotient wraps, and nothing is left.
+    ensures least { (p : Span) →
+        let n : Ident = record { name = record { 0 = 0 }; span = p } in
+        let main : Expression → ProgramTree = λ e. record { datas = []; functions = []; main = record { parameter = record { name = n; ty = ty.Whole p }; result = ty.Whole p; body = e } } in
+        let minus_one = Op p o.Subtract (Num p 0) (Num p 1) in
+        (run (main (Op p o.Quotient (Var n) minus_one)) 0 (whole (negsuc 9223372036854775807)) ≡ Gives (whole (negsuc 9223372036854775807)))
+        × (run (main (Op p o.Remainder (Var n) minus_one)) 0 (whole (negsuc 9223372036854775807)) ≡ Gives (whole (pos 0))) }
+    // `(1 quot n)` and `(1 rem n)` on 0 have no value.
+    ensures by_zero { (p : Span) →
+        let n : Ident = record { name = record { 0 = 0 }; span = p } in
+        let main : Expression → ProgramTree = λ e. record { datas = []; functions = []; main = record { parameter = record { name = n; ty = ty.Whole p }; result = ty.Whole p; body = e } } in
+        (run (main (Op p o.Quotient (Num p 1) (Var n))) 0 (whole (pos 0)) ≡ Stops Trap) × (run (main (Op p o.Remainder (Num p 1) (Var n))) 0 (whole (pos 0)) ≡ Stops Trap) }
+    // With no depth left, `f (1 quot n)` on 0 has the reason of its argument, and `f n` that of the call; and of two operands without a value the left one's counts.
+    ensures first { (p : Span) (f : Ident) →
+        let n : Ident = record { name = record { 0 = 0 }; span = p } in
+        let main : Expression → ProgramTree = λ e. record { datas = []; functions = []; main = record { parameter = record { name = n; ty = ty.Whole p }; result = ty.Whole p; body = e } } in
+        let division = Op p o.Quotient (Num p 1) (Var n) in
+        let call = Call f (Argument (Var n) NoArgument) in
+        (run (main (Call f (Argument division NoArgument))) 0 (whole (pos 0)) ≡ Stops Trap) × (run (main call) 0 (whole (pos 0)) ≡ Stops Deep)
+        × (run (main (Op p o.Add division call)) 0 (whole (pos 0)) ≡ Stops Trap) × (run (main (Op p o.Add call division)) 0 (whole (pos 0)) ≡ Stops Deep) }
+    // `let par a = div n and b = down 5 in (a + b)` with `fun div (n : Int) : Int = (1 quot n) ;` on 0 with a depth of 3: both sides have no value, and the left one's reason counts.
+    ensures sides { (p : Span) →
+        let down : Ident = record { name = record { 0 = 0 }; span = p } in
+        let n : Ident = record { name = record { 0 = 1 }; span = p } in
+        let div : Ident = record { name = record { 0 = 2 }; span = p } in
+        let a : Ident = record { name = record { 0 = 3 }; span = p } in
+        let b : Ident = record { name = record { 0 = 4 }; span = p } in
+        let body = If p (Op p o.Less (Var n) (Num p 1)) (Num p 0) (Call down (Argument (Op p o.Subtract (Var n) (Num p 1)) NoArgument)) in
+        let parameter : Parameter = record { name = n; ty = ty.Whole p } in
+        let main : Expression → Expression → ProgramTree = λ left right. record {
+          datas = [];
+          functions = record { name = down; parameters = parameter ∷ []; result = ty.Whole p; body = body }
+              ∷ record { name = div; parameters = parameter ∷ []; result = ty.Whole p; body = Op p o.Quotient (Num p 1) (Var n) } ∷ [];
+          main = record { parameter = parameter; result = ty.Whole p; body = Par p a left b right (Op p o.Add (Var a) (Var b)) };
+        } in
+        let divided = Call div (Argument (Var n) NoArgument) in
+        let deep = Call down (Argument (Num p 5) NoArgument) in
+        (run (main divided deep) 3 (whole (pos 0)) ≡ Stops Trap) × (run (main deep divided) 3 (whole (pos 0)) ≡ Stops Deep) }
 {}

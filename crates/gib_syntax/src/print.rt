@@ -30,6 +30,8 @@ fn put_operator(operator: Operator, out: &mut Spelled) -> Result<(), Memory>
         Operator::Multiply => out.put_sign(Sign::Times),
         Operator::Equal => out.put_sign(Sign::Same),
         Operator::Less => out.put_sign(Sign::Less),
+        Operator::Quotient => out.put_sign(Sign::Quotient),
+        Operator::Remainder => out.put_sign(Sign::Remainder),
     }
 }
 

@@ -28,6 +28,8 @@ fn sign_text(sign: Sign) -> &'static [u8]
         Sign::False => b"False",
         Sign::Int => b"Int",
         Sign::Bool => b"Bool",
+        Sign::Quotient => b"quot",
+        Sign::Remainder => b"rem",
         Sign::Equals => b"=",
         Sign::Bar => b"|",
         Sign::Semicolon => b";",

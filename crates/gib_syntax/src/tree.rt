@@ -22,7 +22,7 @@ pub enum TypeName {
     Declared(Ident),
 }
 
-/// The five operators: `+`, `-`, `*`, `==` and `<`.
+/// The operators: `+`, `-`, `*`, `==`, `<`, `quot` and `rem`.
 #[derive(Clone, Copy, Debug, PartialEq, Eq)]
 pub enum Operator {
     Add,
@@ -30,6 +30,10 @@ pub enum Operator {
     Multiply,
     Equal,
     Less,
+    /// The quotient, cut towards zero.
+    Quotient,
+    /// What is left of that quotient: it has the sign of the left operand.
+    Remainder,
 }
 
 impl Operator {
@@ -45,6 +49,8 @@ impl Operator {
             Operator::Multiply => Ty::Whole,
             Operator::Equal => Ty::Truth,
             Operator::Less => Ty::Truth,
+            Operator::Quotient => Ty::Whole,
+            Operator::Remainder => Ty::Whole,
         }
     }
 }
