@@ -43,6 +43,8 @@ operation_text f.Sub = codes " sub"
 operation_text f.Mul = codes " mul"
 operation_text f.Eq = codes " eq"
 operation_text f.Lt = codes " lt"
+operation_text f.Quot = codes " quot"
+operation_text f.Rem = codes " rem"
 
 -- The word for how a side's value is put.
 abbrev pub kind_text : Kind → List ℕ

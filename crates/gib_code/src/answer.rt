@@ -4,6 +4,15 @@ use crate::instruction::Kind;
 use gib_types::Ty;
 use std::alloc::Global;
 
+/// Why a run has no value.
+#[derive(Clone, Copy, Debug, PartialEq, Eq)]
+pub enum Reason {
+    /// A call had no depth left.
+    Deep,
+    /// A division by 0.
+    Trap,
+}
+
 /// What a run ends with.
 #[derive(Clone, Copy, Debug, PartialEq, Eq)]
 pub enum Answer {
@@ -15,6 +24,8 @@ pub enum Answer {
     At(u64),
     /// A call had no depth left.
     Deep,
+    /// A number was divided by 0.
+    Trap,
 }
 
 /// A right side that waits for a machine.

@@ -23,6 +23,10 @@ pub enum Operation {
     Mul,
     Eq,
     Lt,
+    /// The quotient, cut towards zero; the task unwinds where the right operand is 0.
+    Quot,
+    /// What is left of that quotient; the task unwinds where the right operand is 0.
+    Rem,
 }
 
 /// Where the value of a right side is put.

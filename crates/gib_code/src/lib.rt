@@ -5,9 +5,11 @@ mod answer;
 mod code;
 mod instruction;
 pub mod names;
+#[cfg(test)]
+mod tests;
 mod text;
 
-pub use answer::{Answer, Side};
+pub use answer::{Answer, Reason, Side};
 pub use code::Code;
 pub use instruction::{Arm, Entry, Instr, Kind, Operand, Operation};
 pub use text::listing;

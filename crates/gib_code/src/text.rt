@@ -126,6 +126,8 @@ fn operation_text(operation: Operation) -> &'static [u8]
         Operation::Mul => b" mul",
         Operation::Eq => b" eq",
         Operation::Lt => b" lt",
+        Operation::Quot => b" quot",
+        Operation::Rem => b" rem",
     }
 }
 

@@ -123,6 +123,8 @@ operator_scalar o.Subtract = refl
 operator_scalar o.Multiply = refl
 operator_scalar o.Equal = refl
 operator_scalar o.Less = refl
+operator_scalar o.Quotient = refl
+operator_scalar o.Remainder = refl
 
 -- What a here at an open head needs.
 record HereFacts (core : CoreTree) (b : Before) (s : Setting) (sc : Scope) (x : Variable) (ty : Ty) (d : Dest) : Type 0 where

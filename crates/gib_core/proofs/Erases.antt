@@ -11,7 +11,7 @@ use Rattle.gib_types.specs.Tree.{Datum, whole, truth, con, data_of}
 use Rattle.gib_syntax.specs.declared.tree.Ident.{Ident}
 use Rattle.gib_syntax.specs.Tree.{Expression, Arms, LastArm, NextArm}
 use Rattle.gib_syntax.specs.Declarations.{number_of, constructor_named}
-use Rattle.gib_syntax.specs.Meaning.{Outcome, Gives, Stops, Environment, value_in, bind, with_value, with_values, with_fields, at_fields, made, choose, is_made_by, is_true, number_in, parts, operate, eval, eval_all, eval_arms}
+use Rattle.gib_syntax.specs.Meaning.{Outcome, Gives, Stops, Environment, value_in, bind, with_value, with_values, with_fields, at_fields, made, choose, is_made_by, is_true, number_in, parts, outcome, eval, eval_all, eval_arms}
 use Rattle.gib_core.specs.declared.atom.Variable.{Variable}
 use Rattle.gib_core.specs.declared.atom.Atom.{Atom}
 use Rattle.gib_core.specs.declared.atom.Atom.TheVariants as atomic
@@ -310,8 +310,8 @@ module _ (tb : Table) (call : Calls) where
         ∙ two_sides (mean tb call t env) (mean tb call u env) x.0 y.0 env go (λ v w. eval tb call (k sub) ((y.0, w) ∷ (x.0, v) ∷ other))
         (λ v w. rest sub ((y.0, w) ∷ (x.0, v) ∷ env) ((y.0, w) ∷ (x.0, v) ∷ other) (relates_bind y w (omega (arith, o.1.1, o.1.2.0)) (relates_bind x v o.0.0 r)))
     erases_bind {n} {sub} {env} {other} (Prim x f y z) o r k go rest =
-        (λ i. with_value (with_value (atom_eval y o.1 r i) (λ v. with_value (atom_eval z o.2 r i) (λ w. Gives (operate f (number_in v) (number_in w))))) (λ v. eval tb call (k sub) ((x.0, v) ∷ other)))
-        ∙ rest sub ((x.0, operate f (number_in (value env y)) (number_in (value env z))) ∷ env) ((x.0, operate f (number_in (value env y)) (number_in (value env z))) ∷ other) (relates_bind x (operate f (number_in (value env y)) (number_in (value env z))) o.0 r)
+        (λ i. with_value (with_value (atom_eval y o.1 r i) (λ v. with_value (atom_eval z o.2 r i) (λ w. outcome f (number_in v) (number_in w)))) (λ v. eval tb call (k sub) ((x.0, v) ∷ other)))
+        ∙ one_side (outcome f (number_in (value env y)) (number_in (value env z))) x.0 env go (λ v. eval tb call (k sub) ((x.0, v) ∷ other)) (λ v. rest sub ((x.0, v) ∷ env) ((x.0, v) ∷ other) (relates_bind x v o.0 r))
     erases_bind {n} {sub} {env} {other} (Reach y by) o r k go rest = rest sub env other r
 
     erases_branches : {n : ℕ} {sub : Substitution} {env other : Environment} (bs : Branches) (v : Datum) → BranchesOrdered tb n bs → Relates n sub env other

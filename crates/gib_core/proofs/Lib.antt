@@ -34,3 +34,5 @@ pub mod Adding
 pub mod LiteralTerms
 pub mod Marks
 mod Orders
+pub mod OneCode
+pub mod Rising

@@ -127,6 +127,8 @@ operator_text o.Subtract = codes "-"
 operator_text o.Multiply = codes "*"
 operator_text o.Equal = codes "=="
 operator_text o.Less = codes "<"
+operator_text o.Quotient = codes "quot"
+operator_text o.Remainder = codes "rem"
 
 -- Two spaces for each level.
 abbrev pub indent : ℕ → List ℕ

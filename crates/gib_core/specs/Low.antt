@@ -20,7 +20,7 @@ use Rattle.gib_core.specs.Numbering.{binders}
 use Rattle.gib_code.specs.declared.instruction.Operand.{Operand}
 use Rattle.gib_code.specs.declared.instruction.Operand.TheVariants.{Slot, Number}
 use Rattle.gib_code.specs.declared.instruction.Operation.{Operation}
-use Rattle.gib_code.specs.declared.instruction.Operation.TheVariants.{Add, Sub, Mul, Eq, Lt}
+use Rattle.gib_code.specs.declared.instruction.Operation.TheVariants.{Add, Sub, Mul, Eq, Lt, Quot, Rem}
 use Rattle.gib_code.specs.declared.instruction.Kind.TheVariants as k
 use Rattle.gib_code.specs.declared.instruction.Kind.{Kind as CodeKind}
 use Rattle.gib_code.specs.declared.instruction.Arm.{Arm}
@@ -66,6 +66,8 @@ operation o.Subtract = Sub
 operation o.Multiply = Mul
 operation o.Equal = Eq
 operation o.Less = Lt
+operation o.Quotient = Quot
+operation o.Remainder = Rem
 
 -- How a side's value is put.
 abbrev pub kind_of : Kind → CodeKind

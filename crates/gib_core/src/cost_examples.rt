@@ -13,15 +13,16 @@ ghost use Rattle.gib_core.specs.declared.atom.Access.TheVariants as by;
 ghost use Rattle.gib_core.specs.declared.atom.Kind.{Kind as HowBound};
 ghost use Rattle.gib_core.specs.declared.atom.Kind.TheVariants as kind;
 ghost use Rattle.gib_core.specs.declared.atom.Variable.{Variable as X};
-ghost use Rattle.gib_core.specs.Tree.{Term, Then, Write, Point, CallTerm, CaseTerm, IfTerm, Past, One, Both, Prim, Reach, On, NoBranch, BranchThen, var, CoreTree};
+ghost use Rattle.gib_core.specs.Tree.{Term, Then, Write, Point, CallTerm, CaseTerm, IfTerm, Past, One, Both, Prim, Reach, Side, On, NoBranch, BranchThen, var, CoreTree};
 ghost use Rattle.gib_core.specs.Cost.{Cost, run_cost};
+ghost use Rattle.gib_core.specs.SampleCores.{tree, v, same, sample, zero_term};
 ghost use Rattle.gib_core.specs.Tight.{Tight};
 
 /// What it costs to add 1 to each leaf of `(Node (Leaf 1) (Leaf 2))`, both sides of each node in a marked `par`: with the
 /// sides in regions of their own; in their fields' places; in their places with no level of forks left;
 /// and where the depth ends at both sides, which still count.
 pub fn adding_one()
-    ensures { let leaf : Con = record { 0 = 0 } in
+    ensures once { let leaf : Con = record { 0 = 0 } in
         let node : Con = record { 0 = 1 } in
         let tree : FieldType = ty.Tree (record { 0 = 0 }) in
         let x : ℕ → X = λ n. record { 0 = n } in
@@ -43,6 +44,44 @@ pub fn adding_one()
         × (run_cost (core placed) 100 4 input ≡ record { regions = 1; items = 7 })
         × (run_cost (core placed) 100 0 input ≡ record { regions = 0; items = 6 })
         × (run_cost (core placed) 1 4 input ≡ record { regions = 1; items = 5 }) }
+    // Forks nest: of a tree of four leaves the first level of forks pays one region and one indirection, the second
+    // two of each, and no third one is there.
+    ensures nested { let leaf : Con = record { 0 = 0 } in
+        let node : Con = record { 0 = 1 } in
+        let tree : FieldType = ty.Tree (record { 0 = 0 }) in
+        let x : ℕ → X = λ n. record { 0 = n } in
+        let f : Name = record { 0 = 5 } in
+        let at_leaf : Term = Then (Prim (x 4) o.Add (var 1) (a.Whole (pos 1))) (Then (Past (x 5) leaf) (Write (x 5) leaf (var 4 ∷ []) [])) in
+        let at_node : Term = Then (Reach (x 3) (by.Skip (x 2))) (Then (Past (x 8) node)
+        (Then (Both true (On kind.Here (x 6) tree (CallTerm f (var 2 ∷ []))) (On kind.Here (x 7) tree (CallTerm f (var 3 ∷ [])))) (Write (x 8) node [] (var 6 ∷ var 7 ∷ [])))) in
+        let core : CoreTree = record {
+          table = record { types = 0 ∷ []; rows = record { name = 1; owner = 0; fields = ty.Whole ∷ [] } ∷ record { name = 2; owner = 0; fields = tree ∷ tree ∷ [] } ∷ [] };
+          functions = record { name = f; parameters = tree ∷ []; result = tree; body = CaseTerm (var 0) (BranchThen leaf (x 1 ∷ []) at_leaf (BranchThen node (x 2 ∷ x 3 ∷ []) at_node NoBranch)) } ∷ [];
+          main = record { parameter = tree; result = tree; body = CallTerm f (var 0 ∷ []) };
+          offsets = [];
+        } in
+        let leaf_of : ℕ → Datum = λ n. con 0 (field (whole (pos n)) no_fields) in
+        let node_of : Datum → Datum → Datum = λ l r. con 1 (field l (field r no_fields)) in
+        let input : Datum = node_of (node_of (leaf_of 1) (leaf_of 2)) (node_of (leaf_of 3) (leaf_of 4)) in
+        (run_cost core 100 0 input ≡ record { regions = 0; items = 14 })
+        × (run_cost core 100 1 input ≡ record { regions = 1; items = 15 })
+        × (run_cost core 100 2 input ≡ record { regions = 3; items = 17 })
+        × (run_cost core 100 3 input ≡ record { regions = 3; items = 17 }) }
+{}
+
+/// What sides of each kind cost where nothing is forked, where a fork may be made, and where one of them has no value: over
+/// `Tree`, a side in a region of its own beside a scalar one, and then a region. With no depth left the first side has no
+/// value: the other one counts, and nothing behind the two.
+pub fn sides()
+    ensures { let region : ℕ → Side = λ n. On kind.Region (v n) tree (CallTerm same (var 0 ∷ [])) in
+        let number : Side = On kind.Scalar (v 2) ty.Whole zero_term in
+        let core : Bool → CoreTree = λ fork. sample tree tree (Then (Both fork (region 1) number) (Then (One (region 3)) (Point (var 3)))) in
+        let swapped : CoreTree = sample tree tree (Then (Both true number (region 1)) (Then (One (region 3)) (Point (var 3)))) in
+        let input : Datum = con 0 (field (whole (pos 1)) no_fields) in
+        (run_cost (core false) 100 4 input ≡ record { regions = 2; items = 4 })
+        × (run_cost (core true) 100 4 input ≡ record { regions = 2; items = 4 })
+        × (run_cost swapped 100 0 input ≡ record { regions = 2; items = 4 })
+        × (run_cost (core false) 0 4 input ≡ record { regions = 1; items = 1 }) }
 {}
 
 /// For how many chunks a run is tight: as long as there are no more than one for each 32 items, one for each region, and

@@ -1,6 +1,6 @@
 //! Laws of cores: functions whose contracts are the laws.
 
-ghost use Rattle.std.specs.Prelude.{◌≡◌, ◌<◌, ◌^◌, ◌↔◌, ℕ, List, None, Some, length};
+ghost use Rattle.std.specs.Prelude.{◌≡◌, ◌<◌, ◌≤◌, ◌^◌, ◌↔◌, ℕ, List, None, Some, length};
 ghost use Rattle.gib_types.specs.Table.{Table, IsTable};
 ghost use Rattle.gib_types.specs.Tree.{Datum};
 ghost use Rattle.gib_syntax.specs.Tree.{DataTree};
@@ -18,7 +18,7 @@ ghost use Rattle.gib_core.specs.Ordered.{AreOrdered, AreNatural};
 ghost use Rattle.gib_core.specs.Literals.{AllLiteralsFit};
 ghost use Rattle.gib_core.specs.Fits.{AllFit, EachFits};
 ghost use Rattle.gib_core.specs.TypesNamed.{AllTypesDeclared, SignaturesDeclared};
-ghost use Rattle.gib_core.specs.Cost.{Costs, plus, cost_from, cost, cost_all};
+ghost use Rattle.gib_core.specs.Cost.{Costs, IsAtMost, plus, cost_from, cost, cost_all, run_cost};
 ghost use Rattle.gib_core.specs.Low.{IsLowered, HasCode, HasMain, function_number};
 ghost use Rattle.gib_code.specs.Program.{CodeTree, Runs};
 
@@ -71,6 +71,17 @@ pub fn code_that_fits_can_be_run()
 pub fn functions_have_their_code()
     ensures main { (core : CoreTree) (code : CodeTree) → IsLowered core code → HasMain core code code.functions (length core.functions) }
     ensures functions { (core : CoreTree) (code : CodeTree) (f : ℕ) (g : FunctionTerm) → IsLowered core code → function_at core.functions f ≡ Some g → HasCode core code code.functions (function_number core.functions f) g }
+{}
+
+/// A core has one code.
+#[tactic(auto, using(crate::proofs::OneCode::one_code))]
+pub fn a_core_has_one_code()
+    ensures { (core : CoreTree) (code other : CodeTree) → IsLowered core code → IsLowered core other → code ≡ other }
+{}
+
+/// What a run costs does not fall with the levels of forks that it may nest.
+pub fn costs_rise_with_the_forks()
+    ensures { (core : CoreTree) (depth fewer forks : ℕ) (v : Datum) → fewer ≤ forks → IsAtMost (run_cost core depth fewer v) (run_cost core depth forks v) }
 {}
 
 /// A line costs what its bindings cost and, where they come to an environment, what follows.

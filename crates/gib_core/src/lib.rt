@@ -5,6 +5,7 @@ pub mod atom;
 mod by_variable;
 pub mod checked;
 mod cost_examples;
+mod division_examples;
 pub mod examples;
 pub mod law;
 mod literals;

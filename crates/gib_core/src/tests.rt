@@ -247,3 +247,57 @@ fn prints_the_core_of_each_pass(rt: HostRuntime) -> Result<(), Fail> {
     }
     Ok(())
 }
+
+// prim %n = s op t, and the rest
+fn prim(
+    terms: &mut Terms,
+    number: u32,
+    operator: Operator,
+    left: Atom,
+    right: Atom,
+    rest: TermId,
+) -> Result<TermId, Memory>
+    requires { rest.0 < length terms.old }
+    ensures { IfOk result (λ id. (id.0 < length terms.new) × (length terms.old ≤ length terms.new)) }
+{
+    let binding = Binding::Prim {
+        variable: Variable(number),
+        operator,
+        left,
+        right,
+    };
+    then(terms, binding, rest)
+}
+
+// main (n : Int) : Int = ((n quot 3) rem n) ;
+fn division(alloc: Global) -> Result<Core, Memory> {
+    let mut terms = Terms::new(alloc);
+    let give = put(&mut terms, Node::Give(var(2)))?;
+    let rest = prim(&mut terms, 2, Operator::Remainder, var(1), var(0), give)?;
+    let body = prim(
+        &mut terms,
+        1,
+        Operator::Quotient,
+        var(0),
+        Atom::literal(3),
+        rest,
+    )?;
+    let main = CoreMain {
+        parameter: Ty::Whole,
+        result: Ty::Whole,
+        body,
+    };
+    let types = trees(alloc)?;
+    Ok(Core::new(types, terms, Vec::new(alloc), main, Vec::new(alloc)))
+}
+
+#[test]
+fn prints_divisions_by_their_words(rt: HostRuntime) -> Result<(), Fail> {
+    let alloc = rt.alloc();
+    let names = names(alloc)?;
+    let core = division(alloc)?;
+    let text = print_core(alloc, &core, &names)?;
+    let want = "main %0:Int : Int\n  prim %1 = %0 quot 3\n  prim %2 = %1 rem %0\n  give %2\n";
+    assert!(rt; text.as_slice() == want.as_bytes());
+    Ok(())
+}

@@ -47,6 +47,8 @@ fn operator_text(operator: Operator) -> &'static [u8]
         Operator::Multiply => b"*",
         Operator::Equal => b"==",
         Operator::Less => b"<",
+        Operator::Quotient => b"quot",
+        Operator::Remainder => b"rem",
     }
 }
 

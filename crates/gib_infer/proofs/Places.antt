@@ -9,7 +9,7 @@ use Rattle.gib_types.specs.Tree.{Datum, con, data_of}
 use Rattle.gib_syntax.specs.declared.tree.Ident.{Ident}
 use Rattle.gib_syntax.specs.declared.tree.Operator.{Operator}
 use Rattle.gib_syntax.specs.Declarations.{number_of}
-use Rattle.gib_syntax.specs.Meaning.{Outcome, Gives, Stops, Environment, value_in, with_value, at_fields, with_fields, number_in, is_true, operate, choose}
+use Rattle.gib_syntax.specs.Meaning.{Outcome, Gives, Stops, Environment, value_in, with_value, at_fields, with_fields, number_in, is_true, outcome, choose}
 use Rattle.gib_core.specs.declared.atom.Atom.{Atom}
 use Rattle.gib_core.specs.declared.atom.Kind.{Kind}
 use Rattle.gib_core.specs.declared.atom.Kind.TheVariants.{Scalar}
@@ -78,7 +78,7 @@ module _ (tb : Table) (call : Calls) where
   prim_agree : (n : ℕ) (env : Environment) (o : Outcome) → Agree n (var n) env o (and_on (having o (λ v. Went ((n, v) ∷ env))) (run_all tb call []))
   prim_agree n env o = boxed_agree n env o
 
-  pub operation_good : (op : Operator) (left right : ToAtom) (f g : Environment → Outcome) (sc : Scope) → ((n : ℕ) (env : Environment) → AllBelow n sc → Atoms tb call n (left sc n) env (f (env_of sc env))) → ((n : ℕ) (env : Environment) → AllBelow n sc → Atoms tb call n (right sc n) env (g (env_of sc env))) → (n : ℕ) (env : Environment) → AllBelow n sc → Atoms tb call n (operation_atom op left right sc n) env (with_value (f (env_of sc env)) (λ v. with_value (g (env_of sc env)) (λ w. Gives (operate op (number_in v) (number_in w)))))
+  pub operation_good : (op : Operator) (left right : ToAtom) (f g : Environment → Outcome) (sc : Scope) → ((n : ℕ) (env : Environment) → AllBelow n sc → Atoms tb call n (left sc n) env (f (env_of sc env))) → ((n : ℕ) (env : Environment) → AllBelow n sc → Atoms tb call n (right sc n) env (g (env_of sc env))) → (n : ℕ) (env : Environment) → AllBelow n sc → Atoms tb call n (operation_atom op left right sc n) env (with_value (f (env_of sc env)) (λ v. with_value (g (env_of sc env)) (λ w. outcome op (number_in v) (number_in w))))
   operation_good op left right f g sc hf hg n env b =
       let a = left sc n in
       let l = hf n env b in
@@ -90,12 +90,12 @@ module _ (tb : Table) (call : Calls) where
       record {
         grows = omega arith;
         below = omega arith;
-        agree = rw run_all-append (agree_then (run_all tb call (c.binds ++ prim ∷ [])) (λ v. with_value (g (env_of sc env)) (λ w. Gives (operate op (number_in v) (number_in w)))) l.agree
+        agree = rw run_all-append (agree_then (run_all tb call (c.binds ++ prim ∷ [])) (λ v. with_value (g (env_of sc env)) (λ w. outcome op (number_in v) (number_in w))) l.agree
             (λ v e1 is1 k1.
             let r = hg a.fresh e1 b' in
             let same : g (env_of sc e1) ≡ g (env_of sc env) = ap g (env_of-keeps sc k1 b) in
-            rw (run_all-append, sym same) (agree_then (run_all tb call (prim ∷ [])) (λ w. Gives (operate op (number_in v) (number_in w))) r.agree
-            (λ w e2 is2 k2. rw (value-keeps a.atom k2 l.below, is1, is2) (prim_agree c.fresh e2 (Gives (operate op (number_in v) (number_in w)))))
+            rw (run_all-append, sym same) (agree_then (run_all tb call (prim ∷ [])) (λ w. outcome op (number_in v) (number_in w)) r.agree
+            (λ w e2 is2 k2. rw (value-keeps a.atom k2 l.below, is1, is2) (prim_agree c.fresh e2 (outcome op (number_in v) (number_in w))))
             up'))
             up);
       }

@@ -187,6 +187,8 @@ module _ (core : CoreTree) (functions : List FunctionTree) (is : IsTable core.ta
   operator_scalar o.Multiply = refl
   operator_scalar o.Equal = refl
   operator_scalar o.Less = refl
+  operator_scalar o.Quotient = refl
+  operator_scalar o.Remainder = refl
 
   operation_built : (f : Operator) (c d : Code) (ty : Ty) (outer : typing.Scope) (sc : Scope) → ty ≡ operator_type f → CodeOrdered g (of_atom (operation_atom f c.atom d.atom)) sc → Built c Whole outer sc → Built d Whole outer sc
       → Built (of_atom (operation_atom f c.atom d.atom)) ty outer sc

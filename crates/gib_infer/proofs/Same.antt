@@ -8,7 +8,7 @@ use Rattle.gib_syntax.specs.declared.tree.Ident.{Ident}
 use Rattle.gib_syntax.specs.Tree.{Expression, Arguments, Arms, Var, Num, Bit, Paren, Op, Call, Make, Let, Par, If, Case, NoArgument, Argument, LastArm, NextArm}
 use Rattle.gib_syntax.specs.Declarations.{number_of, constructor_named}
 use Rattle.gib_syntax.specs.Typing as typing
-use Rattle.gib_syntax.specs.Meaning.{Gives, Environment, value_in, bind, with_value, with_values, number_in, is_true, is_made_by, parts, operate, made, choose, eval, eval_all, eval_arms}
+use Rattle.gib_syntax.specs.Meaning.{Gives, Environment, value_in, bind, with_value, with_values, number_in, is_true, is_made_by, parts, outcome, made, choose, eval, eval_all, eval_arms}
 use Rattle.gib_core.specs.declared.atom.Atom.{Atom}
 use Rattle.gib_core.specs.Tree.{var, variables_from}
 use Rattle.gib_core.specs.Meaning as core
@@ -29,7 +29,7 @@ module _ (tb : Table) (call : Calls) where
     eval_same (Num p n) env other h = refl
     eval_same (Bit p b) env other h = refl
     eval_same (Paren p e) env other h = eval_same e env other h
-    eval_same (Op p f d e) env other h = λ i. with_value (eval_same d env other h i) (λ v. with_value (eval_same e env other h i) (λ w. Gives (operate f (number_in v) (number_in w))))
+    eval_same (Op p f d e) env other h = λ i. with_value (eval_same d env other h i) (λ v. with_value (eval_same e env other h i) (λ w. outcome f (number_in v) (number_in w)))
     eval_same (Call f xs) env other h = ap (λ os. with_values os (call (number_of f))) (all_same xs env other h)
     eval_same (Make k xs) env other h = ap (made tb (constructor_named tb (number_of k))) (all_same xs env other h)
     eval_same (Let p x d e) env other h =

@@ -1,6 +1,6 @@
 //! What the walk keeps, and the small steps that it is made of.
 
-ghost use Rattle.std.specs.Prelude.{◌≡◌, ℕ, ◌+◌, ◌<◌, ◌++◌, ◌∷◌, [], length, Some, IfOk};
+ghost use Rattle.std.specs.Prelude.{◌≡◌, ℕ, ◌+◌, ◌-◌, ◌^◌, ◌<◌, ◌++◌, ◌∷◌, [], length, Some, IfOk, IfErr};
 ghost use Rattle.gib_core.specs.declared.node.Binding.TheVariants as b;
 ghost use Rattle.gib_core.specs.Tree.{prepend};
 ghost use Rattle.gib_core.specs.Arena.{Grows, PartsBelow, term_of, binds_from, layer};
@@ -25,6 +25,7 @@ pub struct Work {
 pub fn new_variable(work: &mut Work) -> Result<Variable, Memory>
     ensures variable { IfOk result (λ x. x.0 ≡ work.old.fresh) }
     ensures new { IfOk result (λ _. work.new ≡ record work.old { fresh = work.old.fresh + 1 }) }
+    ensures last { IfErr result (λ _. work.old.fresh ≡ 2 ^ 32 - 1) }
 {
     if work.fresh == u32::MAX {
         return Err(AllocError);

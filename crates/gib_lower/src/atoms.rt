@@ -67,6 +67,8 @@ pub(crate) fn operation(operator: Operator) -> Operation
         Operator::Multiply => Operation::Mul,
         Operator::Equal => Operation::Eq,
         Operator::Less => Operation::Lt,
+        Operator::Quotient => Operation::Quot,
+        Operator::Remainder => Operation::Rem,
     }
 }
 

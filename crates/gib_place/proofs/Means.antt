@@ -5,7 +5,7 @@ use Rattle.std.proofs.lemmas.Bool.{eq-eqb, both_ways, false_from_ne_true, or_par
 use Rattle.gib_types.specs.Table.{Table, fields_at}
 use Rattle.gib_types.specs.declared.table.ConId.{ConId}
 use Rattle.gib_types.specs.Tree.{Datum, whole, con, data_of}
-use Rattle.gib_syntax.specs.Meaning.{Outcome, Gives, Stops, Environment, value_in, number_in, operate, choose, is_made_by, is_true, parts}
+use Rattle.gib_syntax.specs.Meaning.{Outcome, Gives, Stops, Environment, value_in, number_in, outcome, choose, is_made_by, is_true, parts}
 use Rattle.gib_core.specs.declared.atom.Variable.{Variable}
 use Rattle.gib_core.specs.declared.atom.Atom.{Atom}
 use Rattle.gib_core.specs.declared.atom.Atom.TheVariants as a
@@ -115,11 +115,10 @@ module _ (tb : Table) (call : Calls) (F : Variable → Bool) where
         (λ v. from_having (mean tb call u env) (λ w. Went ((z.0, w) ∷ (x.0, v) ∷ env)) (λ w. Went ((z.0, w) ∷ (x.0, v) ∷ env')) go go'
         (λ w. f ((z.0, w) ∷ (x.0, v) ∷ env) ((z.0, w) ∷ (x.0, v) ∷ env') (agree_more F z.0 w ((x.0, v) ∷ env) ((x.0, v) ∷ env') (agree_more F x.0 v env env' h)) (keeps_two x z v w env) (keeps_two x z v w env'))))
     run_free (Prim x f' v w) env env' o h go go' f =
-        ap (λ z. go' ((x.0, z) ∷ env'))
-        (λ i. operate f' (number_in (value_free F v env env' (λ y m. let e = o y m in omega arith) h i)) (number_in (value_free F w env env' (λ y m. let e = o y m in omega arith) h i)))
-        ∙ f ((x.0, operate f' (number_in (value env v)) (number_in (value env w))) ∷ env) ((x.0, operate f' (number_in (value env v)) (number_in (value env w))) ∷ env')
-        (agree_more F x.0 (operate f' (number_in (value env v)) (number_in (value env w))) env env' h)
-        (keeps_one x (operate f' (number_in (value env v)) (number_in (value env w))) env) (keeps_one x (operate f' (number_in (value env v)) (number_in (value env w))) env')
+        ap (λ z. from_there (having z (λ u. Went ((x.0, u) ∷ env'))) go')
+        (λ i. outcome f' (number_in (value_free F v env env' (λ y m. let e = o y m in omega arith) h i)) (number_in (value_free F w env env' (λ y m. let e = o y m in omega arith) h i)))
+        ∙ from_having (outcome f' (number_in (value env v)) (number_in (value env w))) (λ u. Went ((x.0, u) ∷ env)) (λ u. Went ((x.0, u) ∷ env')) go go'
+        (λ u. f ((x.0, u) ∷ env) ((x.0, u) ∷ env') (agree_more F x.0 u env env' h) (keeps_one x u env) (keeps_one x u env'))
     run_free (Reach x by) env env' o h go go' f = f env env' h (λ y p q. refl) (λ y p q. refl)
 
     branches_free : (bs : Branches) (v : Datum) (env env' : Environment) → ((y : Variable) → F y ≡ true → count_branches bs y ≡ 0) → Agree F env env' → mean_branches tb call bs v env' ≡ mean_branches tb call bs v env

@@ -4,11 +4,12 @@ ghost use Rattle.std.specs.Prelude.{◌≡◌, ◌∷◌, [], ℕ, pos, false};
 ghost use Rattle.gib_types.specs.declared.table.Ty.{Ty as FieldType};
 ghost use Rattle.gib_types.specs.declared.table.Ty.TheVariants as ty;
 ghost use Rattle.gib_types.specs.declared.table.ConId.{ConId as Con};
+ghost use Rattle.gib_syntax.specs.declared.tree.Operator.TheVariants as o;
 ghost use Rattle.gib_core.specs.declared.atom.Atom.TheVariants as a;
 ghost use Rattle.gib_core.specs.declared.atom.Kind.TheVariants as kind;
 ghost use Rattle.gib_core.specs.declared.atom.Variable.{Variable as X};
 ghost use Rattle.gib_base.specs.declared.name.Name.{Name as Fun};
-ghost use Rattle.gib_core.specs.Tree.{Term, Then, Write, Point, CallTerm, Past, One, Both, On, var};
+ghost use Rattle.gib_core.specs.Tree.{Term, Then, Write, Point, CallTerm, Past, One, Both, Prim, On, var};
 ghost use Rattle.gib_place.specs.Placing.{place_body};
 ghost use Rattle.gib_place.specs.Numbering.{number_anew};
 
@@ -59,4 +60,31 @@ pub fn examples()
         ≡ Then (Past (x 1) three) (Then (Both false (On kind.Here (x 2) tree call) (On kind.Region (x 3) tree call))
         (Then (One (On kind.Here (x 4) tree (Point (var 0)))) (Then (One (On kind.Here (x 5) tree (Point (var 3))))
         (Write (x 1) three [] (var 2 ∷ var 4 ∷ var 5 ∷ []))))) }
+    // `let par a = f v and b = f v in Three v b a`: the right side alone is placed, behind the field in front of it.
+    ensures right_alone { let three : Con = record { 0 = 2 } in
+        let tree : FieldType = ty.Tree (record { 0 = 0 }) in
+        let x : ℕ → X = λ n. record { 0 = n } in
+        let call : Term = CallTerm (record { 0 = 3 }) (var 0 ∷ []) in
+        number_anew 1 (place_body (
+        Then (Both false (On kind.Region (x 1) tree call) (On kind.Region (x 2) tree call))
+        (Then (Past (x 3) three) (Then (One (On kind.Here (x 4) tree (Point (var 0)))) (Then (One (On kind.Here (x 5) tree (Point (var 2))))
+        (Then (One (On kind.Here (x 6) tree (Point (var 1)))) (Write (x 3) three [] (var 4 ∷ var 5 ∷ var 6 ∷ []))))))))
+        ≡ Then (Past (x 1) three) (Then (One (On kind.Here (x 2) tree (Point (var 0))))
+        (Then (Both false (On kind.Region (x 3) tree call) (On kind.Here (x 4) tree call))
+        (Then (One (On kind.Here (x 5) tree (Point (var 3)))) (Write (x 1) three [] (var 2 ∷ var 4 ∷ var 5 ∷ []))))) }
+{}
+
+/// `let l = f v in Cons (7 quot 0) l` over `data List = Nil | Cons Int List`.
+pub fn division()
+    // The head's room comes before the call. The division, which has no value, still stands behind it, so the reason is that
+    // of the call where there is no depth left.
+    ensures { let cons : Con = record { 0 = 1 } in
+        let list : FieldType = ty.Tree (record { 0 = 0 }) in
+        let x : ℕ → X = λ n. record { 0 = n } in
+        let call : Term = CallTerm (record { 0 = 3 }) (var 0 ∷ []) in
+        number_anew 1 (place_body (
+        Then (One (On kind.Region (x 1) list call)) (Then (Prim (x 2) o.Quotient (a.Whole (pos 7)) (a.Whole (pos 0)))
+        (Then (Past (x 3) cons) (Then (One (On kind.Here (x 4) list (Point (var 1)))) (Write (x 3) cons (var 2 ∷ []) (var 4 ∷ [])))))))
+        ≡ Then (Past (x 1) cons) (Then (One (On kind.Here (x 2) list call)) (Then (Prim (x 3) o.Quotient (a.Whole (pos 7)) (a.Whole (pos 0)))
+        (Write (x 1) cons (var 3 ∷ []) (var 2 ∷ [])))) }
 {}

@@ -1,6 +1,6 @@
 //! The numbers that variables get: their places in the order in which the text binds them.
 
-ghost use Rattle.std.specs.Prelude.{◌≡◌, ◌++◌, IfOk, OnOk};
+ghost use Rattle.std.specs.Prelude.{◌≡◌, ◌++◌, ◌≤◌, ◌^◌, IfOk, IfErr, OnOk};
 ghost use Rattle.gib_place.specs.Mentioned.{binder, binders_in};
 ghost use Rattle.gib_place.specs.Numbered.{ArePlaces};
 
@@ -35,6 +35,17 @@ pub fn push_binders(order: &mut Vec<u32>, mentions: &[Mention]) -> Result<(), Me
     Ok(())
 }
 
+/// A place as a number of 32 bits.
+fn number_of(place: usize) -> Result<u32, Memory>
+    ensures number { IfOk result (λ number. number ≡ place) }
+    ensures large { IfErr result (λ _. 2 ^ 32 ≤ place) }
+{
+    let Ok(number) = u32::try_from(place) else {
+        return Err(AllocError);
+    };
+    Ok(number)
+}
+
 /// The place of each variable in an order, where it stands first. The last one comes first, so that the first one stays.
 fn places_of(alloc: Global, order: &[u32]) -> Result<ByNumber<u32>, Memory>
     ensures { IfOk result (λ places. ArePlaces order.now places) }
@@ -43,9 +54,7 @@ fn places_of(alloc: Global, order: &[u32]) -> Result<ByNumber<u32>, Memory>
     let mut i = order.len();
     'order: while i > 0 {
         i -= 1;
-        let Ok(place) = u32::try_from(i) else {
-            return Err(AllocError);
-        };
+        let place = number_of(i)?;
         places.set(order[i], Some(place))?;
     }
     Ok(places)

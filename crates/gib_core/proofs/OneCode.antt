@@ -1,0 +1,198 @@
+-- A core has one code: each term's code ends at one label, and has one list of instructions.
+use Rattle.std.proofs.Common.{◌≡◌, ℕ, suc, ◌+◌, ◌<◌, ◌≤◌, Bool, true, false, nat_lt, List, [], ◌∷◌, length, slice_get, Option, Some, refl, sym, ap, subst, ◌∙◌, arith}
+use Rattle.std.proofs.lemmas.Bool.Decides.{nat_tests}
+use Rattle.gib_base.specs.declared.name.Name.{Name}
+use Rattle.gib_types.specs.declared.table.Ty.{Ty}
+use Rattle.gib_types.specs.Layout.{LaidOut}
+use Rattle.gib_types.specs.Table.{fields_at}
+use Rattle.gib_code.specs.declared.instruction.Arm.{Arm}
+use Rattle.gib_code.specs.declared.instruction.Entry.{Entry}
+use Rattle.gib_code.specs.declared.instruction.Operand.{Operand}
+use Rattle.gib_code.specs.Instruction.{Instruction, Unless, Switch, Fork, Join, Back, Done}
+use Rattle.gib_code.specs.Program.{CodeTree, IsAt, AreAt, none, one_more}
+use Rattle.gib_core.specs.Low as low
+use Rattle.gib_core.specs.Low.{Low, LowArms, LowBind, LowSide, LowFunctions, IsLowered, End, Returns, To, Field, laid_of, slot_of, operand, kind_of, giving, with_fields}
+use Rattle.gib_core.specs.Tree as t
+use Rattle.gib_core.specs.Tree.{Term, CoreTree, Side, FunctionTerm}
+
+-- Where the code ends.
+
+-- Both ends return, or both go to a label.
+abbrev Alike : End → End → Type 0
+Alike Returns Returns = Unit {0}
+Alike Returns (To l d) = ⊥
+Alike (To l d) Returns = ⊥
+Alike (To l d) (To m f) = Unit {0}
+
+alike_itself : (e : End) → Alike e e
+alike_itself Returns = tt
+alike_itself (To l d) = tt
+
+giving_length : (o : Operand) (e f : End) → Alike e f → length (giving o e) ≡ length (giving o f)
+giving_length o Returns Returns h = refl
+giving_length o Returns (To l d) h = absurd h
+giving_length o (To l d) Returns h = absurd h
+giving_length o (To l d) (To m f) h = refl
+
+list_end : {code : CodeTree} {a z : ℕ} {is : List Instruction} → AreAt code a is z → z ≡ a + length is
+list_end none = omega arith
+list_end (one_more at rest) = let h = list_end rest in omega (arith, h)
+
+same_end : {r s : CodeTree} {a z z' : ℕ} {is js : List Instruction} → AreAt r a is z → AreAt s a js z' → length is ≡ length js → z ≡ z'
+same_end p q e = let h = list_end p in let g = list_end q in omega (arith, h, g, e)
+
+module _ (core : CoreTree) (r s : CodeTree) where
+  mutual
+    term_ends : {fs : List Field} {a z z' : ℕ} {u : Term} {e e' : End} → Low core r fs a u e z → Low core s fs a u e' z' → Alike e e' → z ≡ z'
+    term_ends (low.write p) (low.write q) k = same_end p q refl
+    term_ends (low.point p) (low.point q) k = same_end p q refl
+    term_ends (low.call p) (low.call q) k = same_end p q refl
+    term_ends (low.give {x = w} {e = e} p) (low.give {e = e'} q) k = same_end p q (giving_length (operand w) e e' k)
+    term_ends (low.branch {fs = fs} {v = v} at lu lv) (low.branch {z = z'} {e = e'} at' lu' lv') k =
+        term_ends lv (subst (λ (n : ℕ). Low core s fs n v e' z') (sym (term_ends lu lu' k)) lv') k
+    term_ends (low.case at la) (low.case at' la') k = (arms_end la la' k).0
+    term_ends (low.binding {fs = fs} {u = u} lb lu) (low.binding {z = z'} {e = e'} lb' lu') k =
+        term_ends lu (subst (λ (n : ℕ). Low core s fs n u e' z') (sym (bind_ends lb lb')) lu') k
+
+    arms_end : {fs : List Field} {w a z z' : ℕ} {arms arms' : List Arm} {bs : t.Branches} {e e' : End} → LowArms core r fs w a arms bs e z → LowArms core s fs w a arms' bs e' z' → Alike e e' → (z ≡ z') × (arms ≡ arms')
+    arms_end low.no_arm low.no_arm k = (refl, refl)
+    arms_end (low.arm {fs = fs} {x = w} {a = a} {c = c} {ys = ys} {u = u} {bs = bs} op lo rest) (low.arm {l = l'} {z = z'} {arms = arms'} {e = e'} op' lo' rest') k =
+        let el = term_ends lo (subst (λ (n : ℕ). Low core s (with_fields w (fields_at core.table c.0) ys fs) n u e' l') (sym (same_end op op' refl)) lo') k in
+        let er = arms_end rest (subst (λ (n : ℕ). LowArms core s fs w n arms' bs e' z') (sym el) rest') k in
+        (er.0, ap (λ (q : List Arm). record { constructor = c.0; label = a } ∷ q) er.1)
+
+    bind_ends : {fs : List Field} {a z z' : ℕ} {b : t.Bind} → LowBind core r fs a b z → LowBind core s fs a b z' → z ≡ z'
+    bind_ends (low.past at) (low.past at') = refl
+    bind_ends (low.one ls) (low.one ls') = side_ends ls ls'
+    bind_ends (low.in_turn {fs = fs} {r = v} ll lr) (low.in_turn {z = z'} ll' lr') = side_ends lr (subst (λ (n : ℕ). LowSide core s fs n v z') (sym (side_ends ll ll')) lr')
+    bind_ends (low.forked {fs = fs} {c = c} {x = v} {ty = ty} {u = u} at ll ej lr eb) (low.forked {z = z'} at' ll' ej' lr' eb') =
+        ap (λ (n : ℕ). n + 1) (side_ends lr (subst (λ (n : ℕ). LowSide core s fs (n + 1) (t.On c v ty u) z') (sym (side_ends ll ll')) lr'))
+    bind_ends (low.prim at) (low.prim at') = refl
+    bind_ends (low.reach at) (low.reach at') = refl
+
+    side_ends : {fs : List Field} {a z z' : ℕ} {d : Side} → LowSide core r fs a d z → LowSide core s fs a d z' → z ≡ z'
+    side_ends (low.here at lt) (low.here at' lt') = term_ends lt lt' tt
+    side_ends (low.region at lt dn) (low.region at' lt' dn') = ap (λ (n : ℕ). n + 1) (term_ends lt lt' tt)
+    side_ends (low.scalar_call at) (low.scalar_call at') = refl
+    side_ends (low.scalar_call at) (low.scalar nc lt') = absurd nc
+    side_ends (low.scalar nc lt) (low.scalar_call at') = absurd nc
+    side_ends (low.scalar nc lt) (low.scalar nc' lt') = term_ends lt lt' tt
+
+-- What stands there.
+
+-- The same instructions stand from a label up to another one.
+record Same (r s : CodeTree) (a z : ℕ) : Type 0 where
+  pub same : (q : ℕ) → a ≤ q → q < z → slice_get r.instructions q ≡ slice_get s.instructions q
+
+same_none : {r s : CodeTree} {a : ℕ} → Same r s a a
+same_none = record { same = λ q x y. absurd (omega (arith, x, y)) }
+
+same_join : {r s : CodeTree} {a m z : ℕ} → Same r s a m → Same r s m z → Same r s a z
+same_join {r} {s} {a} {m} {z} f g = record { same = λ q x y. go q x y (nat_lt q m) refl }
+  where
+    go : (q : ℕ) → a ≤ q → q < z → (b : Bool) → nat_lt q m ≡ b → slice_get r.instructions q ≡ slice_get s.instructions q
+    go q x y true e = f.same q x (grind (arith, nat_tests))
+    go q x y false e = g.same q (grind (arith, nat_tests)) y
+
+same_one : {r s : CodeTree} {a : ℕ} {i : Instruction} → IsAt r a i → IsAt s a i → Same r s a (a + 1)
+same_one {r} {s} {a} at at' = record {
+  same = λ q x y.
+      let e : q ≡ a = omega (arith, x, y) in
+      ap (λ (n : ℕ). slice_get r.instructions n) e ∙ at ∙ sym at' ∙ ap (λ (n : ℕ). slice_get s.instructions n) (sym e);
+}
+
+same_list : {r s : CodeTree} {a z z' : ℕ} {is : List Instruction} → AreAt r a is z → AreAt s a is z' → Same r s a z
+same_list none none = same_none
+same_list (one_more at rest) (one_more at' rest') = same_join (same_one at at') (same_list rest rest')
+
+module _ (core : CoreTree) (r s : CodeTree) where
+  mutual
+    term_same : {fs : List Field} {a z z' : ℕ} {u : Term} {e : End} → Low core r fs a u e z → Low core s fs a u e z' → Same r s a z
+    term_same (low.write p) (low.write q) = same_list p q
+    term_same (low.point p) (low.point q) = same_list p q
+    term_same (low.call p) (low.call q) = same_list p q
+    term_same (low.give p) (low.give q) = same_list p q
+    term_same (low.branch {fs = fs} {a = a} {x = w} {v = v} {e = e} at lu lv) (low.branch {z = z'} at' lu' lv') =
+        let el = term_ends core r s lu lu' (alike_itself e) in
+        same_join (same_one at (subst (λ (n : ℕ). IsAt s a (Unless (operand w) n)) (sym el) at'))
+        (same_join (term_same lu lu') (term_same lv (subst (λ (n : ℕ). Low core s fs n v e z') (sym el) lv')))
+    term_same (low.case {a = a} {x = w} {e = e} at la) (low.case at' la') =
+        same_join (same_one at (subst (λ (q : List Arm). IsAt s a (Switch (slot_of w) q)) (sym (arms_end core r s la la' (alike_itself e)).1) at')) (arms_same la la')
+    term_same (low.binding {fs = fs} {u = u} {e = e} lb lu) (low.binding {z = z'} lb' lu') =
+        same_join (bind_same lb lb') (term_same lu (subst (λ (n : ℕ). Low core s fs n u e z') (sym (bind_ends core r s lb lb')) lu'))
+
+    arms_same : {fs : List Field} {w a z z' : ℕ} {arms arms' : List Arm} {bs : t.Branches} {e : End} → LowArms core r fs w a arms bs e z → LowArms core s fs w a arms' bs e z' → Same r s a z
+    arms_same low.no_arm low.no_arm = same_none
+    arms_same (low.arm {fs = fs} {x = w} {c = c} {ys = ys} {u = u} {bs = bs} {e = e} op lo rest) (low.arm {l = l'} {z = z'} {arms = arms'} op' lo' rest') =
+        let lo'' = subst (λ (n : ℕ). Low core s (with_fields w (fields_at core.table c.0) ys fs) n u e l') (sym (same_end op op' refl)) lo' in
+        let el = term_ends core r s lo lo'' (alike_itself e) in
+        same_join (same_list op op') (same_join (term_same lo lo'') (arms_same rest (subst (λ (n : ℕ). LowArms core s fs w n arms' bs e z') (sym el) rest')))
+
+    bind_same : {fs : List Field} {a z z' : ℕ} {b : t.Bind} → LowBind core r fs a b z → LowBind core s fs a b z' → Same r s a z
+    bind_same (low.past at) (low.past at') = same_one at at'
+    bind_same (low.one ls) (low.one ls') = side_same ls ls'
+    bind_same (low.in_turn {fs = fs} {r = v} ll lr) (low.in_turn {z = z'} ll' lr') =
+        same_join (side_same ll ll') (side_same lr (subst (λ (n : ℕ). LowSide core s fs n v z') (sym (side_ends core r s ll ll')) lr'))
+    bind_same (low.forked {fs = fs} {a = a} {m = m} {z = z} {c = c} {x = v} {ty = ty} {u = u} at ll ej lr eb) (low.forked {m = m'} {z = z'} at' ll' ej' lr' eb') =
+        let em = side_ends core r s ll ll' in
+        let lr'' = subst (λ (n : ℕ). LowSide core s fs (n + 1) (t.On c v ty u) z') (sym em) lr' in
+        let ez = side_ends core r s lr lr'' in
+        let at'' = subst (λ (n : ℕ). IsAt s a (Fork (n + 1) (z + 1) (kind_of c) v.0 ty)) (sym em) (subst (λ (n : ℕ). IsAt s a (Fork (m' + 1) (n + 1) (kind_of c) v.0 ty)) (sym ez) at') in
+        same_join (same_one at at'') (same_join (side_same ll ll') (same_join (same_one ej (subst (λ (n : ℕ). IsAt s n Join) (sym em) ej'))
+        (same_join (side_same lr lr'') (same_one eb (subst (λ (n : ℕ). IsAt s n Back) (sym ez) eb')))))
+    bind_same (low.prim at) (low.prim at') = same_one at at'
+    bind_same (low.reach at) (low.reach at') = same_one at at'
+
+    side_same : {fs : List Field} {a z z' : ℕ} {d : Side} → LowSide core r fs a d z → LowSide core s fs a d z' → Same r s a z
+    side_same (low.here {fs = fs} {a = a} {u = u} at lt) (low.here {z = z'} at' lt') =
+        same_join (same_one at at') (term_same lt (subst (λ (n : ℕ). Low core s fs (a + 1) u (To n 0) z') (sym (term_ends core r s lt lt' tt)) lt'))
+    side_same (low.region {fs = fs} {a = a} {u = u} at lt dn) (low.region {z = z'} at' lt' dn') =
+        let ez = term_ends core r s lt lt' tt in
+        same_join (same_one at at') (same_join (term_same lt (subst (λ (n : ℕ). Low core s fs (a + 1) u (To n 0) z') (sym ez) lt')) (same_one dn (subst (λ (n : ℕ). IsAt s n Done) (sym ez) dn')))
+    side_same (low.scalar_call at) (low.scalar_call at') = same_one at at'
+    side_same (low.scalar_call at) (low.scalar nc lt') = absurd nc
+    side_same (low.scalar nc lt) (low.scalar_call at') = absurd nc
+    side_same (low.scalar {fs = fs} {a = a} {x = v} {u = u} nc lt) (low.scalar {z = z'} nc' lt') =
+        term_same lt (subst (λ (n : ℕ). Low core s fs a u (To n v.0) z') (sym (term_ends core r s lt lt' tt)) lt')
+
+-- The functions.
+
+same_entry : (d e : Entry) → d.name ≡ e.name → d.start ≡ e.start → d.slots ≡ e.slots → d.result ≡ e.result → d ≡ e
+same_entry d e name start slots result =
+    ap (λ (n : Option Name). record { name = n; start = d.start; slots = d.slots; result = d.result }) name
+    ∙ ap (λ (n : ℕ). record { name = e.name; start = n; slots = d.slots; result = d.result }) start
+    ∙ ap (λ (n : ℕ). record { name = e.name; start = e.start; slots = n; result = d.result }) slots
+    ∙ ap (λ (ty : Ty). record { name = e.name; start = e.start; slots = e.slots; result = ty }) result
+
+functions_same : (core : CoreTree) (r s : CodeTree) (a : ℕ) (gs : List FunctionTerm) (es es' : List Entry) → LowFunctions core r a gs es → LowFunctions core s a gs es'
+    → Same r s a (length r.instructions) × (length r.instructions ≡ length s.instructions) × (es ≡ es')
+functions_same core r s a _ _ _ (low.main {e = e} name result start slots body) (low.main {e = e'} name' result' start' slots' body') = (
+  term_same core r s body body',
+  term_ends core r s body body' tt,
+  ap (λ (q : Entry). q ∷ []) (same_entry e e' (name ∙ sym name') (start ∙ sym start') (slots ∙ sym slots') (result ∙ sym result')),
+)
+functions_same core r s a _ _ _ (low.function {z = z} {g = g} {gs = gs} {e = e} {es = es} name result start slots body rest) (low.function {e = e'} {es = es'} name' result' start' slots' body' rest') =
+    let ez = term_ends core r s body body' tt in
+    let h = functions_same core r s z gs es es' rest (subst (λ (n : ℕ). LowFunctions core s n gs es') (sym ez) rest') in (
+      same_join (term_same core r s body body') h.0,
+      h.1,
+      ap (λ (q : Entry). q ∷ es) (same_entry e e' (name ∙ sym name') (start ∙ sym start') (slots ∙ sym slots') (result ∙ sym result')) ∙ ap (λ (q : List Entry). e' ∷ q) h.2,
+    )
+
+same_some : {i j : Instruction} → ◌≡◌ {A = Option Instruction} (Some i) (Some j) → i ≡ j
+same_some e = cc
+
+lists_same : (is js : List Instruction) → length is ≡ length js → ((q : ℕ) → q < length is → slice_get is q ≡ slice_get js q) → is ≡ js
+lists_same [] [] e f = refl
+lists_same [] (j ∷ js) e f = absurd (omega (arith, e))
+lists_same (i ∷ is) [] e f = absurd (omega (arith, e))
+lists_same (i ∷ is) (j ∷ js) e f =
+    ap (λ (q : Instruction). q ∷ is) (same_some (f 0 (omega arith)))
+    ∙ ap (λ (qs : List Instruction). j ∷ qs) (lists_same is js (omega (arith, e)) (λ q l. f (suc q) (omega (arith, l))))
+
+pub one_code : (core : CoreTree) (r s : CodeTree) → IsLowered core r → IsLowered core s → r ≡ s
+one_code core r s x y =
+    let h = functions_same core r s 0 core.functions r.functions s.functions x.functions y.functions in
+    ap (λ (l : LaidOut). record { laid = l; instructions = r.instructions; functions = r.functions }) (x.laid ∙ sym y.laid)
+    ∙ ap (λ (is : List Instruction). record { laid = s.laid; instructions = is; functions = r.functions }) (lists_same r.instructions s.instructions h.1 (λ q l. h.0.same q (omega arith) l))
+    ∙ ap (λ (es : List Entry). record { laid = s.laid; instructions = s.instructions; functions = es }) h.2
