@@ -17,15 +17,15 @@ holding v = v.holding
 abbrev pub branch : View → Branch
 branch v = v.branch
 
--- The words and what all passes hold fit each other, the passes that live form one tree, and one that does not live owns nothing.
-pub record ArenaRule (limit : ℕ) (s : State (Unit {0}) View) : Type 0 where
-  pub bytes : Held limit s.words (map holding s.views)
-  pub tree : Rooted limit (map branch s.views)
-  pub spent : (j : ℕ) (v : View) → get_elem? s.views j ≡ some v → v.branch.live ≡ false → v.holding.chunks ≡ []
-
 -- A pass that knows nothing and owns nothing.
 abbrev pub nothing : Holding
 nothing = record { own = []; learned = []; chunks = []; seen = 0 }
+
+-- The words and what all passes hold fit each other, the passes that live form one tree, and one that does not live holds nothing.
+pub record ArenaRule (limit : ℕ) (s : State (Unit {0}) View) : Type 0 where
+  pub bytes : Held limit s.words (map holding s.views)
+  pub tree : Rooted limit (map branch s.views)
+  pub spent : (j : ℕ) (v : View) → get_elem? s.views j ≡ some v → v.branch.live ≡ false → v.holding ≡ nothing
 
 -- The view of the first pass.
 abbrev pub first_view : ℕ → View

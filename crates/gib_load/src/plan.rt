@@ -1,6 +1,6 @@
 //! What the heads of a value store, told before anything is placed.
 
-ghost use Rattle.std.specs.Prelude.{◌≡◌, ◌<◌, ◌≤◌, ◌+◌, ◌*◌, ◌^◌, [], ◌∷◌, ◌++◌, ℕ, Option, Some, false, replicate, length, IfOk, OnOk, OnErr, IfSome, IsTrue, IsFalse, MatchOption};
+ghost use Rattle.std.specs.Prelude.{◌≡◌, ◌<◌, ◌≤◌, ◌+◌, ◌-◌, ◌*◌, ◌^◌, [], ◌∷◌, ◌++◌, ℕ, Option, Some, false, replicate, length, IfOk, OnOk, OnErr, IfSome, IfNone, IsTrue, IsFalse, MatchOption};
 ghost use Rattle.gib_types.specs.declared.table.Ty.TheVariants.{Tree};
 ghost use Rattle.gib_types.specs.Layout.{has_offsets};
 ghost use Rattle.gib_types.specs.Tree.{Datum};
@@ -95,6 +95,7 @@ fn past_item(spot: Ahead, size: u8) -> Option<Ahead>
     requires inside { spot.at < 4096 * spot.drawn }
     ensures spot { IfSome result (λ next. record { at = next.at; drawn = next.drawn } ≡ past_item (record { at = spot.at; drawn = spot.drawn }) size) }
     ensures inside { IfSome result (λ next. next.at < 4096 * next.drawn) }
+    ensures none { IfNone result (spot.drawn ≡ 2 ^ 32 - 1) }
 {
     let rest = CHUNK - spot.at % CHUNK;
     if size as u64 + POINTER_BYTES <= rest {
