@@ -6,3 +6,4 @@ pub mod JournalReading
 pub mod Run
 pub mod Locked
 pub mod Replays
+pub mod Choice

@@ -1,10 +1,12 @@
 //! What lies in the one slot of a run, and a worker's turn with it.
 
-ghost use Rattle.std.specs.Prelude.{◌≡◌, ◌<◌, ℕ, [], ◌∷◌, ◌++◌, IsTrue, OnOk, OnErr};
+ghost use Rattle.std.specs.Prelude.{◌≡◌, ◌<◌, ℕ, [], ◌∷◌, ◌++◌, IsTrue, IfSome, IfNone, OnOk, OnErr};
 ghost use Rattle.std.specs.Vec.{vec_len, vec_capacity};
 ghost use Rattle.gib_types.specs.Tree.{Datum};
 ghost use Rattle.gib_weave.specs.Applied.{Applied, event_of};
+ghost use Rattle.gib_weave.specs.Weave.{Enabled};
 ghost use Rattle.gib_weave.specs.Woven.{IsSoundOn, WeaveParts, weave_of};
+ghost use Rattle.gib_locked.specs.Choice.{HasNoOwn, HasNothing, IsChosen, IsOwn};
 ghost use Rattle.gib_locked.specs.Lines.{counted_out};
 ghost use Rattle.gib_locked.specs.Run.{HasEnded, IsRun};
 ghost use Rattle.gib_locked.specs.declared.held.End.TheVariants.{Going};
@@ -52,17 +54,27 @@ pub(crate) enum Did {
     Over,
 }
 
-// The next event of a worker with these tasks: one of the task that it began last, or else a steal. Its older tasks wait for that one.
-// No run stands still by this: who waits for a side waits for a task that was begun later, so the worker that began one last of all
-// has an event.
-fn choose(weave: &Weave<'_>, mine: &Vec<u32>) -> Option<Event> {
-    if let Some(task) = mine.last() {
-        let found = weave.pick_of(*task);
-        if found.is_some() {
-            return found;
-        }
+/// An event of the task that a worker began last, of these. Its older tasks wait for that one. No run stands still by this: who waits for
+/// a side waits for a task that was begun later, so the worker that began one last of all has an event.
+fn own_event(weave: &Weave<'_>, mine: &Vec<u32>) -> Option<Event>
+    ensures some { IfSome result (λ e. Enabled weave.now.lowered.code (weave_of weave.now) (event_of e) × IsOwn mine.now.items (event_of e)) }
+    ensures none { IfNone result (HasNoOwn weave.now.lowered.code (weave_of weave.now) mine.now.items) }
+{
+    let Some(task) = mine.last() else {
+        return None;
+    };
+    weave.pick_of(*task)
+}
+
+/// The next event of a worker with these tasks: one of its own, or else a steal.
+fn choose(weave: &Weave<'_>, mine: &Vec<u32>) -> Option<Event>
+    ensures some { IfSome result (λ e. IsChosen weave.now.lowered.code (weave_of weave.now) mine.now.items (event_of e)) }
+    ensures none { IfNone result (HasNothing weave.now.lowered.code (weave_of weave.now) mine.now.items) }
+{
+    match own_event(weave, mine) {
+        Some(event) => Some(event),
+        None => weave.pick_steal(),
     }
-    weave.pick_steal()
 }
 
 fn goes_on(end: End) -> bool

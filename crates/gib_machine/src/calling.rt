@@ -8,7 +8,7 @@ ghost use Rattle.gib_machine.specs.declared.turn.Turn.TheVariants as turns;
 
 use crate::state::{Doing, Machine};
 use crate::turn::Turn;
-use gib_code::{Answer, Code, Operand};
+use gib_code::{Answer, Code, Operand, Reason};
 use gib_types::Ty;
 
 /// A word as an answer of the type.
@@ -19,6 +19,16 @@ pub(crate) fn answer_of(ty: Ty, word: u64) -> Answer
         Ty::Whole => Answer::Whole(word.cast_signed()),
         Ty::Truth => Answer::Truth(word != 0),
         Ty::Tree(_) => Answer::At(word),
+    }
+}
+
+/// The answer of a task that has no value.
+fn stopped(why: Reason) -> Answer
+    ensures { result ≡ m.stopped why }
+{
+    match why {
+        Reason::Deep => Answer::Deep,
+        Reason::Trap => Answer::Trap,
     }
 }
 
@@ -51,16 +61,16 @@ fn slots_of(code: &Code, function: u32) -> u32
 }
 
 impl Machine {
-    /// Goes on at the join of the newest `par` whose left side runs, or ends: no call is left.
+    /// Goes on at the join of the newest `par` whose left side runs, or ends: the task has no value.
     #[tactic(auto, using(crate::proofs::Unwinds::unwound_none, crate::proofs::Unwinds::unwound_some))]
-    pub(crate) fn unwinds(&mut self)
-        ensures { (ts : List ℕ) → with_tails self.new ts ≡ unwound (with_tails self.old ts) self.old.pars }
+    pub(crate) fn unwinds(&mut self, why: Reason)
+        ensures { (ts : List ℕ) → with_tails self.new ts ≡ unwound why (with_tails self.old ts) self.old.pars }
     {
         match self.openings.unwind() {
-            None => self.doing = Doing::Over(Answer::Deep),
+            None => self.doing = Doing::Over(stopped(why)),
             Some(join) => {
                 self.ip = join;
-                self.doing = Doing::Unwinding;
+                self.doing = Doing::Unwinding(why);
             }
         }
     }
@@ -79,7 +89,7 @@ impl Machine {
         ensures turn { result ≡ turns.Went }
     {
         if self.frames.is_full() {
-            self.unwinds();
+            self.unwinds(Reason::Deep);
         } else {
             let start = start_of(code, function);
             let slots = slots_of(code, function);

@@ -1,7 +1,7 @@
 //! What becomes of a right side at a fork and at a join. Whoever runs the tasks decides it.
 
 ghost use Rattle.std.specs.Prelude.{◌≡◌, ◌<◌, ◌≤◌, ◌+◌, ◌-◌, ◌^◌, ℕ, List, drop, length, None, Some, IfOk, IfSome, IfNone, slice_get};
-ghost use Rattle.gib_machine.specs.Machine.{AtFork, AtJoin, next, fork_of, right_of, left_starts, takes, joins, unwound, is_unwinding};
+ghost use Rattle.gib_machine.specs.Machine.{AtFork, AtJoin, next, fork_of, right_of, left_starts, takes, joins, unwound, unwinding};
 ghost use Rattle.gib_machine.specs.Machine as m;
 ghost use Rattle.gib_machine.specs.Starting.{forking_of, waiting_of};
 ghost use Rattle.gib_code.specs.Program.{Runs};
@@ -10,7 +10,7 @@ ghost use Rattle.gib_machine.specs.Stepping.{with_tails};
 use crate::starting::{ForkParts, fork_parts};
 use crate::state::{Doing, Machine};
 use gib_base::Memory;
-use gib_code::{Answer, Code, Kind, Side};
+use gib_code::{Answer, Code, Kind, Reason, Side};
 use std::alloc::Global;
 
 /// The label before the one where a `par` is left.
@@ -78,8 +78,8 @@ impl Machine {
         }
     }
 
-    /// At a join whose right side nobody began, it begins in place; where the left side had no depth left it is dropped, and the
-    /// unwinding goes on at the join of the next `par` whose left side runs here.
+    /// At a join whose right side nobody began, it begins in place; where the left side has no value it is dropped, and the
+    /// unwinding goes on, with the left side's reason, at the join of the next `par` whose left side runs here.
     #[tactic(auto, using(crate::proofs::Stands::join_has_next, crate::proofs::Unwinds::take_unwinds))]
     pub fn take(&mut self, code: &Code)
         requires runs { Runs code.now }
@@ -89,35 +89,36 @@ impl Machine {
         if self.openings.newest().is_none() {
             return;
         }
-        if self.is_unwinding() {
-            self.drops_par();
-        } else {
-            self.openings.run_right();
-            self.went();
+        match self.unwinding() {
+            Some(why) => self.drops_par(why),
+            None => {
+                self.openings.run_right();
+                self.went();
+            }
         }
     }
 
-    /// Drops the newest `par`, whose left side had no depth left, and goes on to the next one.
-    fn drops_par(&mut self)
+    /// Drops the newest `par`, whose left side has no value, and goes on to the next one.
+    fn drops_par(&mut self, why: Reason)
         requires { 0 < length self.old.pars }
-        ensures { (tails : List ℕ) → with_tails self.new tails ≡ unwound (with_tails self.old tails) (drop 1 self.old.pars) }
+        ensures { (tails : List ℕ) → with_tails self.new tails ≡ unwound why (with_tails self.old tails) (drop 1 self.old.pars) }
     {
         self.openings.drop_par();
-        self.unwinds();
+        self.unwinds(why);
     }
 
-    /// Whether a left side had no depth left.
-    pub fn is_unwinding(&self) -> bool
-        ensures { result ≡ is_unwinding self.now.doing }
+    /// Why a left side has no value, where the machine unwinds.
+    pub fn unwinding(&self) -> Option<Reason>
+        ensures { result ≡ unwinding self.now.doing }
     {
         match self.doing {
-            Doing::Unwinding => true,
-            _ => false,
+            Doing::Unwinding(why) => Some(why),
+            _ => None,
         }
     }
 
-    /// At a join whose right side's task ended, its answer is taken behind the `par`; where the left side had no depth left it is
-    /// dropped, and the unwinding goes on.
+    /// At a join whose right side's task ended, its answer is taken behind the `par`; where the left side has no value it is
+    /// dropped, whatever it is, and the unwinding goes on with the left side's reason.
     #[tactic(auto, using(crate::proofs::Unwinds::join_unwinds))]
     pub fn join(&mut self, answer: Answer)
         ensures { (tails : List ℕ) → with_tails self.new tails ≡ joins (with_tails self.old tails) answer }
@@ -125,14 +126,15 @@ impl Machine {
         match self.openings.newest() {
             None => {}
             Some(forked) => {
-                if self.is_unwinding() {
-                    self.drops_par();
-                } else {
-                    self.openings.pop_par();
-                    self.level = forked.level;
-                    self.ip = back_of(forked.joint);
-                    self.doing = Doing::Ready;
-                    self.answered(forked.kind, forked.variable, answer);
+                match self.unwinding() {
+                    Some(left) => self.drops_par(left),
+                    None => {
+                        self.openings.pop_par();
+                        self.level = forked.level;
+                        self.ip = back_of(forked.joint);
+                        self.doing = Doing::Ready;
+                        self.answered(forked.kind, forked.variable, answer);
+                    }
                 }
             }
         }
@@ -147,7 +149,8 @@ impl Machine {
             Answer::Whole(value) => self.sets(variable, value.cast_unsigned()),
             Answer::Truth(value) => self.sets(variable, value as u64),
             Answer::At(target) => self.stands_at(kind, variable, target),
-            Answer::Deep => self.unwinds(),
+            Answer::Deep => self.unwinds(Reason::Deep),
+            Answer::Trap => self.unwinds(Reason::Trap),
         }
     }
 

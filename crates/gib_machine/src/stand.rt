@@ -31,7 +31,7 @@ impl Machine {
         match self.doing {
             Doing::Ready => self.stand_here(code),
             Doing::Over(answer) => Stand::End(answer),
-            Doing::Unwinding => Stand::Join,
+            Doing::Unwinding(_) => Stand::Join,
             _ => Stand::Goes,
         }
     }

@@ -1,6 +1,6 @@
 //! A machine at its first instruction.
 
-ghost use Rattle.std.specs.Prelude.{◌≡◌, ◌≤◌, ◌<◌, ◌+◌, ℕ, length, map, Option, Some, None, IfOk, IfSome, IfNone, IsTrue, if◌then◌else◌};
+ghost use Rattle.std.specs.Prelude.{◌≡◌, ◌≤◌, ◌<◌, ◌+◌, ◌-◌, ◌^◌, ℕ, length, map, Option, Some, None, IfOk, IfErr, IfSome, IfNone, IsTrue, if◌then◌else◌};
 ghost use Rattle.gib_code.specs.Instruction.{instruction_of};
 ghost use Rattle.gib_machine.specs.Machine.{Ready, Opening, fork_of, side_doing, side_start, nesting_from};
 ghost use Rattle.gib_machine.specs.Machine as m;
@@ -128,7 +128,8 @@ fn fork_to(code: &Code, label: u32) -> Option<ForkParts>
 
 /// One more; want of memory where that is too large for a number.
 fn one_more(count: u32) -> Result<u32, Memory>
-    ensures { IfOk result (λ more. more ≡ count + 1) }
+    ensures more { IfOk result (λ more. more ≡ count + 1) }
+    ensures last { IfErr result (λ _. count ≡ 2 ^ 32 - 1) }
 {
     match count.checked_add(1) {
         Some(more) => Ok(more),

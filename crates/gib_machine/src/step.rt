@@ -38,7 +38,7 @@ impl Machine {
             Doing::Ready => self.begins_here(code, mem, tails),
             Doing::Opening => self.begins_whole(mem, tails),
             Doing::Over(answer) => Turn::Ended(answer),
-            Doing::Unwinding => Turn::AtJoin,
+            Doing::Unwinding(_) => Turn::AtJoin,
             Doing::Joining { to, target } => self.points_joined(to, target, mem),
             Doing::Putting(at) => self.puts_on(at, mem),
             Doing::Looking { tree, at } => self.switches_on(code, tree, at, mem),

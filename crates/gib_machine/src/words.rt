@@ -1,16 +1,18 @@
 //! Instructions on the words of the frame: they have no memory action.
 
-ghost use Rattle.std.specs.Prelude.{◌≡◌, ◌<◌, ◌+◌, ◌%◌, ◌==◌, ◌^◌, ℕ, if◌then◌else◌};
+ghost use Rattle.std.specs.Prelude.{◌≡◌, ◌<◌, ◌+◌, ◌%◌, ◌==◌, ◌^◌, ℕ, List, IsTrue, if◌then◌else◌};
 ghost use Rattle.gib_machine.specs.Machine.{slot, word, sets, went, went_to};
 ghost use Rattle.gib_machine.specs.Machine as m;
+ghost use Rattle.gib_machine.specs.Stepping.{with_tails};
 ghost use Rattle.gib_machine.specs.declared.turn.Turn.TheVariants as turns;
 
 use crate::state::Machine;
 use crate::turn::Turn;
-use gib_code::{Operand, Operation};
+use gib_code::{Operand, Operation, Reason};
 
 /// What is done with two words, as numbers in two's complement.
 fn operated(operation: Operation, left: u64, right: u64) -> u64
+    requires { IsTrue (m.traps operation right) → ⊥ }
     ensures { result ≡ m.operated operation left right }
 {
     let left = left.cast_signed();
@@ -21,6 +23,18 @@ fn operated(operation: Operation, left: u64, right: u64) -> u64
         Operation::Mul => left.wrapping_mul(right).cast_unsigned(),
         Operation::Eq => (left == right) as u64,
         Operation::Lt => (left < right) as u64,
+        Operation::Quot => left.wrapping_div(right).cast_unsigned(),
+        Operation::Rem => left.wrapping_rem(right).cast_unsigned(),
+    }
+}
+
+/// Whether an operation divides, and by this word, which is 0.
+fn traps(operation: Operation, right: u64) -> bool
+    ensures { result ≡ m.traps operation right }
+{
+    match operation {
+        Operation::Quot | Operation::Rem => right.cast_signed() == 0,
+        _ => false,
     }
 }
 
@@ -35,6 +49,7 @@ impl Machine {
         Turn::Went
     }
 
+    /// The slot is set; at a division by 0 the task unwinds.
     pub(crate) fn operates(
         &mut self,
         to: u32,
@@ -43,11 +58,17 @@ impl Machine {
         right: Operand,
     ) -> Turn
         requires next { self.old.ip + 1 < 2 ^ 32 }
-        ensures state { self.new ≡ sets self.old to (m.operated operation (word self.old.words left) (word self.old.words right)) }
+        ensures state { (ts : List ℕ) → with_tails self.new ts ≡ m.operates (with_tails self.old ts) to operation (word self.old.words left) (word self.old.words right) }
         ensures turn { result ≡ turns.Went }
     {
-        let number = operated(operation, self.frames.word(left), self.frames.word(right));
-        self.sets(to, number);
+        let left = self.frames.word(left);
+        let right = self.frames.word(right);
+        if traps(operation, right) {
+            self.unwinds(Reason::Trap);
+        } else {
+            let number = operated(operation, left, right);
+            self.sets(to, number);
+        }
         Turn::Went
     }
 

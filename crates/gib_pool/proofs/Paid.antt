@@ -1,14 +1,15 @@
 -- What a pass drew is paid for, whatever becomes of the right sides.
 use Rattle.std.proofs.Common.{◌≡◌, ℕ, ◌+◌, inl, inr, ◌⊎◌, Bool, true, false, cond, List, [], ◌∷◌, refl, sym, ap, subst, arith}
-use Rattle.std.specs.Prelude.{Option, Some}
+use Rattle.std.specs.Prelude.{Option, Some, None}
 use Rattle.gib_mem.specs.Memory.{Store}
 use Rattle.gib_core.specs.Cost.{Cost}
 use Rattle.gib_core.specs.Tree.{CoreTree}
 use Rattle.gib_core.specs.Parts.{core_of}
 use Rattle.gib_core.specs.LoweredParts.{LoweredParts}
 use Rattle.gib_code.specs.declared.answer.Answer.{Answer}
+use Rattle.gib_code.specs.declared.answer.Reason.{Reason}
 use Rattle.gib_code.specs.Program.{CodeTree}
-use Rattle.gib_machine.specs.Machine.{State, Par, Doing, Ready, Opening, Over, Unwinding, Joining, Putting, Looking, Following, Reading, Skipping, SkipTurn, Turning, Ask, Silent, Get, Put, Draw, AtJoin, Ended, next, goes_on, is_unwinding, unwound, taken, takes}
+use Rattle.gib_machine.specs.Machine.{State, Par, Doing, Ready, Opening, Over, Unwinding, Joining, Putting, Looking, Following, Reading, Skipping, SkipTurn, Turning, Ask, Silent, Get, Put, Draw, AtJoin, Ended, next, goes_on, unwinding, unwound, taken, takes}
 use Rattle.gib_machine.specs.Starting.{waiting_of}
 use Rattle.gib_weave.specs.Owing.{Debt, Owed}
 use Rattle.gib_weave.specs.Paying.{Share, Bill, Spends, dues}
@@ -23,45 +24,45 @@ use Rattle.gib_pool.specs.Turn.{IsLent, AreLent, Pays}
 -- A machine that unwinds, or is over, does nothing that costs.
 
 abbrev pub IsOut : State → Type 0
-IsOut m = (m.doing ≡ Unwinding) ⊎ ((a : Answer) × (m.doing ≡ Over a))
+IsOut m = ((why : Reason) × (m.doing ≡ Unwinding why)) ⊎ ((a : Answer) × (m.doing ≡ Over a))
 
-unwinding_is : (d : Doing) → is_unwinding d ≡ true → d ≡ Unwinding
-unwinding_is Unwinding e = refl
-unwinding_is Ready e = absurd cc
-unwinding_is Opening e = absurd cc
-unwinding_is (Over a) e = absurd cc
-unwinding_is (Joining d a) e = absurd cc
-unwinding_is (Putting a b bs) e = absurd cc
-unwinding_is (Looking x a) e = absurd cc
-unwinding_is (Following x a bs n) e = absurd cc
-unwinding_is (Reading d a bs n) e = absurd cc
-unwinding_is (Skipping y a n) e = absurd cc
-unwinding_is (SkipTurn y n a bs m) e = absurd cc
-unwinding_is (Turning i c b bs a) e = absurd cc
+unwinding_is : (d : Doing) (why : Reason) → unwinding d ≡ Some why → d ≡ Unwinding why
+unwinding_is (Unwinding w) why e = cc
+unwinding_is Ready why e = absurd cc
+unwinding_is Opening why e = absurd cc
+unwinding_is (Over a) why e = absurd cc
+unwinding_is (Joining d a) why e = absurd cc
+unwinding_is (Putting a b bs) why e = absurd cc
+unwinding_is (Looking x a) why e = absurd cc
+unwinding_is (Following x a bs n) why e = absurd cc
+unwinding_is (Reading d a bs n) why e = absurd cc
+unwinding_is (Skipping y a n) why e = absurd cc
+unwinding_is (SkipTurn y n a bs m) why e = absurd cc
+unwinding_is (Turning i c b bs a) why e = absurd cc
 
-unwound_out : (s : State) (ps : List Par) → IsOut (unwound s ps)
-unwound_out s [] = inr (_, refl)
-unwound_out s (p ∷ ps) = by_side p.left (unwound_out s ps)
+unwound_out : (why : Reason) (s : State) (ps : List Par) → IsOut (unwound why s ps)
+unwound_out why s [] = inr (_, refl)
+unwound_out why s (p ∷ ps) = by_side p.left (unwound_out why s ps)
   where
-    by_side : (b : Bool) → IsOut (unwound s ps) → IsOut (cond b (record s { ip = p.join; pars = p ∷ ps; doing = Unwinding }) (unwound s ps))
-    by_side true h = inl refl
+    by_side : (b : Bool) → IsOut (unwound why s ps) → IsOut (cond b (record s { ip = p.join; pars = p ∷ ps; doing = Unwinding why }) (unwound why s ps))
+    by_side true h = inl (why, refl)
     by_side false h = h
 
 -- A machine that unwinds still does once its newest right side is dropped, or is over.
-pub taken_out : (s : State) → is_unwinding s.doing ≡ true → IsOut (takes s)
-taken_out s e = go (is_unwinding s.doing) s.pars e
+pub taken_out : (s : State) (why : Reason) → unwinding s.doing ≡ Some why → IsOut (takes s)
+taken_out s why e = go (unwinding s.doing) s.pars e
   where
-    go : (b : Bool) (ps : List Par) → b ≡ true → IsOut (taken s b ps)
-    go b [] i = inl (unwinding_is s.doing e)
-    go true (p ∷ ps) i = unwound_out s ps
-    go false (p ∷ ps) i = absurd cc
+    go : (b : Option Reason) (ps : List Par) → b ≡ Some why → IsOut (taken s b ps)
+    go b [] i = inl (why, unwinding_is s.doing why e)
+    go (Some w) (p ∷ ps) i = unwound_out w s ps
+    go None (p ∷ ps) i = absurd cc
 
 asks_out : (code : CodeTree) (m : State) → IsOut m → (next code m ≡ AtJoin) ⊎ ((a : Answer) × (next code m ≡ Ended a))
-asks_out code m (inl e) = inl (ap (goes_on code m) e)
+asks_out code m (inl e) = inl (ap (goes_on code m) e.1)
 asks_out code m (inr e) = inr (e.0, ap (goes_on code m) e.1)
 
 not_ready : (m : State) → IsOut m → m.doing ≡ Ready → ⊥
-not_ready m (inl e) r = absurd cc
+not_ready m (inl e) r = let d = e.1 in absurd cc
 not_ready m (inr e) r = let d = e.1 in absurd cc
 
 not_silent : {a : Ask} {m : State} → (a ≡ AtJoin) ⊎ ((y : Answer) × (a ≡ Ended y)) → a ≡ Silent m → ⊥

@@ -1,10 +1,11 @@
 -- A worker goes on from a fork and from a join.
-use Rattle.std.proofs.Common.{◌≡◌, ℕ, ◌+◌, true, List, [], ◌∷◌, sym, subst, ◌∙◌}
+use Rattle.std.proofs.Common.{◌≡◌, ℕ, ◌+◌, List, [], ◌∷◌, sym, subst, ◌∙◌}
 use Rattle.std.specs.Prelude.{Option, Some, None, IfSome}
 use Rattle.gib_mem.specs.Memory.{Store}
 use Rattle.gib_core.specs.LoweredParts.{LoweredParts}
 use Rattle.gib_code.specs.declared.answer.Answer.{Answer}
-use Rattle.gib_machine.specs.Machine.{State, Waiting, is_unwinding, takes, joins}
+use Rattle.gib_code.specs.declared.answer.Reason.{Reason}
+use Rattle.gib_machine.specs.Machine.{State, Waiting, unwinding, takes, joins}
 use Rattle.gib_weave.specs.Owing.{Debt}
 use Rattle.gib_frame.specs.declared.due.Due.{Due}
 use Rattle.gib_frame.specs.declared.ends.Frame.{Frame}
@@ -43,8 +44,8 @@ module _ (l : LoweredParts) (d : Debt) where
   pub answers_back : (s : Store) (n k drew : ℕ) (lent es : List (Option Due)) (e : Due) (a : Answer) (m m' : State) → WorksBack l d s n lent m → lent ≡ Some e ∷ es → k ≡ n + drew → Tells e drew s a → m' ≡ joins m a → Works l d s k m' es
   answers_back s n k drew lent es e a m m' w are z t is = so s (n + drew) k (joins m a) m' es w.others is z (tail_is (sym w.are ∙ are)) (w.join e a drew (head_is (sym w.are ∙ are)) t)
 
-  pub unwinds_back : (s : Store) (n k drew : ℕ) (lent es : List (Option Due)) (e : Due) (m m' : State) → WorksBack l d s n lent m → lent ≡ Some e ∷ es → k ≡ n + drew → ArePaid e drew → is_unwinding m.doing ≡ true → m' ≡ takes m → Works l d s k m' es
-  unwinds_back s n k drew lent es e m m' w are z t out is = so s (n + drew) k (takes m) m' es w.others is z (tail_is (sym w.are ∙ are)) (w.unwind e drew (head_is (sym w.are ∙ are)) out t)
+  pub unwinds_back : (s : Store) (n k drew : ℕ) (lent es : List (Option Due)) (e : Due) (why : Reason) (m m' : State) → WorksBack l d s n lent m → lent ≡ Some e ∷ es → k ≡ n + drew → ArePaid e drew → unwinding m.doing ≡ Some why → m' ≡ takes m → Works l d s k m' es
+  unwinds_back s n k drew lent es e why m m' w are z t out is = so s (n + drew) k (takes m) m' es w.others is z (tail_is (sym w.are ∙ are)) (w.unwind e why drew (head_is (sym w.are ∙ are)) out t)
 
   -- Who leaves the task has paid, with what was drawn for the newest side.
   pub pays_back : (s : Store) (n k drew : ℕ) (lent es : List (Option Due)) (e : Due) (m : State) → WorksBack l d s n lent m → lent ≡ Some e ∷ es → k ≡ n + drew → ArePaid e drew → Pays l d.most k es

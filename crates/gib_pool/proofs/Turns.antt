@@ -138,8 +138,8 @@ module _ (l : LoweredParts) (d : Debt) where
     are = refl;
     take = back n (takes m) _ f.take (bill_takes d.most n (owing d (x ∷ xs)) (owing d f.others) sh f.debt b e);
     join = λ u z drew is k. let p = paid u drew is k.paid in back (n + drew) (joins m z) _ (f.join z p.bill.count (told u drew z (lent_to u is) k) p.paid.balanced) (joined u drew p);
-    unwind = λ u drew is out k. let p = paid u drew is k in
-        back (n + drew) (takes m) _ (safe_free (core_of l.core) l.code (owing d f.others) own _ (with_count sh p.bill.count) s (takes m) (taken_out m out) f.take) (joined u drew p);
+    unwind = λ u why drew is out k. let p = paid u drew is k in
+        back (n + drew) (takes m) _ (safe_free (core_of l.core) l.code (owing d f.others) own _ (with_count sh p.bill.count) s (takes m) (taken_out m why out) f.take) (joined u drew p);
     pays = record { owed = owing d (x ∷ xs); bill = sh; debts = a; paid = b };
   }
     where

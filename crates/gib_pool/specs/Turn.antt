@@ -8,7 +8,8 @@ use Rattle.gib_core.specs.Cost.{Cost}
 use Rattle.gib_core.specs.Parts.{core_of}
 use Rattle.gib_core.specs.LoweredParts.{LoweredParts}
 use Rattle.gib_machine.specs.Levels.{lefts}
-use Rattle.gib_machine.specs.Machine.{State, Waiting, Ask, Silent, Get, Put, Draw, AtFork, AtJoin, Ended, left_starts, right_of, is_unwinding, takes, joins}
+use Rattle.gib_code.specs.declared.answer.Reason.{Reason}
+use Rattle.gib_machine.specs.Machine.{State, Waiting, Ask, Silent, Get, Put, Draw, AtFork, AtJoin, Ended, left_starts, right_of, unwinding, takes, joins}
 use Rattle.gib_machine.specs.Starting.{waiting_of}
 use Rattle.gib_weave.specs.Owing.{Debt, Owed}
 use Rattle.gib_weave.specs.Paying.{Bill, Share}
@@ -86,14 +87,14 @@ pub record Tells (e : Due) (drew : ℕ) (r : Store) (a : Answer) : Type 0 where
   pub paid : ArePaid e drew
 
 -- At a join some right side is the newest one. It can be taken; its answer can be, where the pass has joined that side's, with the
--- chunks that it drew; where the left side had no depth left, the side can be dropped with them; and the task can be left.
+-- chunks that it drew; where the left side has no value, the side can be dropped with them; and the task can be left.
 pub record WorksBack (l : LoweredParts) (d : Debt) (s : Store) (n : ℕ) (lent : List (Option Due)) (m : State) : Type 0 where
   pub newest : Option Due
   pub others : List (Option Due)
   pub are : lent ≡ newest ∷ others
   pub take : Works l d s n (takes m) others
   pub join : (e : Due) (a : Answer) (drew : ℕ) → newest ≡ Some e → Tells e drew s a → Works l d s (n + drew) (joins m a) others
-  pub unwind : (e : Due) (drew : ℕ) → newest ≡ Some e → is_unwinding m.doing ≡ true → ArePaid e drew → Works l d s (n + drew) (takes m) others
+  pub unwind : (e : Due) (why : Reason) (drew : ℕ) → newest ≡ Some e → unwinding m.doing ≡ Some why → ArePaid e drew → Works l d s (n + drew) (takes m) others
   pub pays : Pays l d.most n lent
 
 -- What a worker has after one turn over a memory, by what its machine asks; at a join, whatever the pass learns before.

@@ -1,8 +1,9 @@
 //! A worker at a join.
 
-ghost use Rattle.std.specs.Prelude.{◌≡◌, true, IsOk};
+ghost use Rattle.std.specs.Prelude.{◌≡◌, IsOk, Some};
 ghost use Rattle.crossbeam_deque.specs.Handles.{worker_deque, worker_view};
-ghost use Rattle.gib_machine.specs.Machine.{is_unwinding};
+ghost use Rattle.gib_code.specs.declared.answer.Reason.{Reason};
+ghost use Rattle.gib_machine.specs.Machine.{unwinding};
 ghost use Rattle.gib_machine.specs.declared.turn.Turn.TheVariants.{AtJoin};
 ghost use Rattle.gib_weave.specs.Owing.{Debt};
 ghost use Rattle.gib_pool.specs.Jobs.{Goes, Holds, IsHere, StandsAt};
@@ -24,7 +25,7 @@ use std::sync::Wait;
 /// # Errors
 ///
 /// The task is left: who ran the right side found all chunks drawn, and the left side has a value. Where all chunks are drawn and the left
-/// side had no depth left, that is what the task goes on with.
+/// side has no value, the task goes on with the left side's reason.
 pub(crate) fn join_here<'a, R: Wait>(
     rt: &R,
     arena: &'a Arena,
@@ -39,7 +40,7 @@ pub(crate) fn join_here<'a, R: Wait>(
     requires here { IsHere job (worker_view forks.old).mine }
     ensures mine { IsMine forks.new × (worker_deque forks.new ≡ worker_deque forks.old) }
     ensures goes { Goes arena.entry.now lowered.entry.now (λ (d : Debt). StandsAt lowered.entry.now d job AtJoin) job (worker_view forks.new).mine result }
-    ensures unwinds { is_unwinding job.machine.doing ≡ true → IsOk result }
+    ensures unwinds { (why : Reason) → unwinding job.machine.doing ≡ Some why → IsOk result }
 {
     let code = lowered.code();
     let Some(newest) = job.frames.pop() else {
@@ -58,12 +59,12 @@ pub(crate) fn join_here<'a, R: Wait>(
             job.machine.join(answer);
             Ok(job)
         }
-        Back::Full => {
-            if !job.machine.is_unwinding() {
-                return Err(leave(rt, arena, job, forks, desk));
+        Back::Full => match job.machine.unwinding() {
+            None => Err(leave(rt, arena, job, forks, desk)),
+            Some(_) => {
+                job.machine.take(code);
+                Ok(job)
             }
-            job.machine.take(code);
-            Ok(job)
-        }
+        },
     }
 }

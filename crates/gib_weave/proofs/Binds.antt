@@ -1,5 +1,5 @@
 -- Scalars are bound, and functions called.
-use Rattle.std.proofs.Common.{◌≡◌, ℕ, zero, suc, ℤ, pos, ◌+◌, ◌<◌, ◌≤◌, ◌==◌, FitsSigned, Bool, true, false, not, List, [], ◌∷◌, map, Option, Some, None, length, refl, sym, ap, subst, ◌∙◌, arith}
+use Rattle.std.proofs.Common.{◌≡◌, ℕ, zero, suc, ℤ, pos, ◌+◌, ◌<◌, ◌≤◌, ◌==◌, FitsSigned, Bool, true, false, not, List, [], ◌∷◌, map, Option, Some, None, length, cond, refl, sym, ap, subst, ◌∙◌, arith}
 use Rattle.std.specs.Int.{w64, cast_signed}
 use Rattle.std.proofs.lemmas.Int.{to_z-of_z}
 use Rattle.gib_types.specs.declared.table.Ty.{Ty}
@@ -7,7 +7,7 @@ use Rattle.gib_types.specs.declared.table.Ty.TheVariants.{Whole, Truth, Tree}
 use Rattle.gib_types.specs.Layout.{LaidOut}
 use Rattle.gib_types.specs.Tree.{Datum, whole, truth}
 use Rattle.gib_syntax.specs.declared.tree.Operator.{Operator}
-use Rattle.gib_syntax.specs.Meaning.{is_scalar, value_in, number_in, operate, Environment, Outcome, Gives, Stops, Deep}
+use Rattle.gib_syntax.specs.Meaning.{is_scalar, value_in, number_in, operate, outcome_unless, is_by_zero, Environment, Outcome, Gives, Stops, Deep, Trap}
 use Rattle.gib_syntax.specs.Typing.{operator_type}
 use Rattle.gib_mem.specs.Memory.{Store}
 use Rattle.gib_packed.specs.Scalars.{bit}
@@ -17,13 +17,14 @@ use Rattle.gib_core.specs.declared.atom.Atom.{Atom}
 use Rattle.gib_core.specs.declared.atom.Atom.TheVariants as a
 use Rattle.gib_core.specs.declared.atom.Kind.TheVariants as kind
 use Rattle.gib_core.specs.Tree.{Term, Then, One, On, Prim, CallTerm, Give, CoreTree, FunctionTerm, variables_from}
-use Rattle.gib_core.specs.Meaning.{value, bind, function_at, of_function, core_calls, mean}
+use Rattle.gib_core.specs.Meaning.{value, bind, function_at, of_function, core_calls, mean, from_there, having, Went}
 use Rattle.gib_code.specs.Instruction.{Instruction, Operate, Move, Jump, Call, CallScalar}
 use Rattle.gib_code.specs.Instruction as i
+use Rattle.gib_code.specs.declared.answer.Reason.TheVariants as reason
 use Rattle.gib_code.specs.Program.{CodeTree, IsAt, AreAt, one_more}
 use Rattle.gib_core.specs.Low.{To, ending, giving, operand, operands, operation, function_number, IsNoCall}
-use Rattle.gib_machine.specs.Machine.{times, nesting, Slots, slot, set, word, words, Frame, Open as OpenRegion, Silent, cursor, set_answer, answer_of, operated, frame_words, slots_at}
-use Rattle.gib_core.specs.Cost.{Cost, plus}
+use Rattle.gib_machine.specs.Machine.{times, nesting, Slots, slot, set, word, words, Frame, Open as OpenRegion, State, Silent, sets, unwound, cursor, set_answer, answer_of, operated, traps, frame_words, slots_at}
+use Rattle.gib_core.specs.Cost.{Cost, plus, nothing, cost_from}
 use Rattle.gib_weave.proofs.Costs.{call_costs_same}
 use Rattle.gib_weave.proofs.Counts.{goes_on_counted, same_most, most_then}
 use Rattle.gib_core.specs.Fits.{put, Sort, Outside, Absent, Scalar, Held, Placed, Loose, AtHead, Field, has_slot, tree_type, AtomFits, AtomsFit, by_call, CallFits, Dest, Nowhere, dest_type, dest_of, Fits, cased, param_sort, body_scope}
@@ -34,12 +35,12 @@ use Rattle.gib_weave.specs.Paying.{Share, Counted, AtMost, cost_after, left_cost
 use Rattle.gib_weave.specs.Places.{Owned, head_covers, kont_covers, rest_covers, tail_covers, HaveRoom, TailsHaveRoom, IsSmall, Apart, AllRoom, HasRoom, freed}
 use Rattle.gib_weave.specs.Stacks.{Stack, Waits}
 use Rattle.gib_machine.specs.Levels.{lefts}
-use Rattle.gib_weave.specs.Sound.{AtRest, AtTerm, IsAnswer, at_term, over, rests, Moves, silent}
+use Rattle.gib_weave.specs.Sound.{Safe, AtRest, AtTerm, IsAnswer, at_term, over, rests, Moves, silent}
 use Rattle.gib_weave.specs.Starting.{AreBodies}
 use Rattle.gib_weave.proofs.Move.{with_var, HasAll-bind, HasAll-dest, IsDest-bind, IsDest-moved, moved_set, all_moved_set, Stack-moved, covers_head, all_under_bind, not_there, code_put, rest_code_put, is_field, bound-same, bound-other}
 use Rattle.gib_weave.proofs.Places.{Apart-less}
 use Rattle.gib_weave.proofs.Lines.{follows, loosened, under_scalar, all_calm_less, or_left, or_right, calm_loosened, resume-with, resume-stop, waiting}
-use Rattle.gib_weave.proofs.Scalars.{scalar_word, operated_is}
+use Rattle.gib_weave.proofs.Scalars.{scalar_word, operated_is, traps_are}
 use Rattle.gib_weave.proofs.Uses.{sides_bound}
 use Rattle.gib_weave.proofs.Ends.{unwound_safe, lefts_sides, lefts_rest, Levels, at_rest, step_is, silently}
 
@@ -209,15 +210,47 @@ module _ (core : CoreTree) (code : CodeTree) (owed : Owed) (own : Owned) (sh : S
   pub does_prim : (s : Store) (ip : ℕ) (sl : Slots) (fs : List Frame) (n : ℕ) (rs : List OpenRegion) (ts : List ℕ) (x : Variable) (f : Operator) (y z : Atom) (u : Term) (c : Ctx) (k : Kont) → IsAt code ip (Operate x.0 (operation f) (operand y) (operand z)) → IsCode core code c.scope (ip + 1) u (end_of k)
       → AtTerm core code owed own sh s (at_rest lv ty rm ip sl fs n rs ts) (Then (Prim x f y z) u) c k → Moves core code owed own sh s (at_rest lv ty rm ip sl fs n rs ts)
   does_prim s ip sl fs n rs ts x f y z u c k e lu at =
-      let ny = scalar_word code.laid s sl c y Whole refl at.matches.vars at.fits.1 in
-      let nz = scalar_word code.laid s sl c z Whole refl at.matches.vars at.fits.2 in
-      let w = operated (operation f) (word sl (operand y)) (word sl (operand z)) in
-      silent (step_is core code owed own sh lv ty rm (at_rest lv ty rm ip sl fs n rs ts) (Operate x.0 (operation f) (operand y) (operand z)) refl e)
-      (rests (at_term (bound_at s ip sl fs n rs ts (Then (Prim x f y z) u) c k at x.0 (Scalar (operator_type f)) w (operate f ny.0 nz.0) 0 (ip + 1) u at.fits.0 refl
-      (operated_is f ny.0 nz.0 (word sl (operand y)) (word sl (operand z)) ny.2 nz.2 ny.3 nz.3) lu at.fits.3 (λ q h. h) (omega arith)
-      (ap (λ (q : Datum). means core n u ((x.0, operate f (number_in q) nz.0) ∷ c.env)) (sym ny.1) ∙ ap (λ (q : Datum). means core n u ((x.0, operate f (number_in (value c.env y)) (number_in q)) ∷ c.env)) (sym nz.1))
-      (most_then (same_most _ _ (ap (λ (q : Datum). left_costs core n lv.level (Plain u) ((x.0, operate f (number_in q) nz.0) ∷ c.env) k) (sym ny.1) ∙ ap (λ (q : Datum). left_costs core n lv.level (Plain u) ((x.0, operate f (number_in (value c.env y)) (number_in q)) ∷ c.env) k) (sym nz.1)))
-      (record { regions = omega arith; items = omega arith })))))
+      silent (step_is core code owed own sh lv ty rm here (Operate x.0 (operation f) (operand y) (operand z)) refl e)
+      (subst (λ (b : Bool). Safe core code owed own sh s (cond b (unwound reason.Trap here lv.pars) (sets here x.0 w))) (sym tests) (go (is_by_zero f (number_in (value c.env z))) refl))
+    where
+      here : State
+      here = at_rest lv ty rm ip sl fs n rs ts
+
+      w : ℕ
+      w = operated (operation f) (word sl (operand y)) (word sl (operand z))
+
+      ny : IsScalar Whole (word sl (operand y)) (value c.env y)
+      ny = scalar_word code.laid s sl c y Whole refl at.matches.vars at.fits.1
+
+      nz : IsScalar Whole (word sl (operand z)) (value c.env z)
+      nz = scalar_word code.laid s sl c z Whole refl at.matches.vars at.fits.2
+
+      tests : traps (operation f) (word sl (operand z)) ≡ is_by_zero f (number_in (value c.env z))
+      tests = traps_are f nz.0 (word sl (operand z)) nz.2 nz.3 ∙ ap (λ (q : Datum). is_by_zero f (number_in q)) (sym nz.1)
+
+      val : Datum
+      val = operate f (number_in (value c.env y)) (number_in (value c.env z))
+
+      same : operate f ny.0 nz.0 ≡ val
+      same = ap (λ (q : Datum). operate f (number_in q) nz.0) (sym ny.1) ∙ ap (λ (q : Datum). operate f (number_in (value c.env y)) (number_in q)) (sym nz.1)
+
+      -- the meaning and the cost, by the divisor
+      meant : Bool → Outcome
+      meant d = from_there (having (outcome_unless d val) (λ v. Went ((x.0, v) ∷ c.env))) (λ q. means core n u q)
+
+      costs_by : Bool → Cost
+      costs_by d = plus (plus nothing (cost_from (having (outcome_unless d val) (λ v. Went ((x.0, v) ∷ c.env))) (λ q. costs core n lv.level u q))) (later_costs core n lv.level k (meant d))
+
+      go : (d : Bool) → is_by_zero f (number_in (value c.env z)) ≡ d → Safe core code owed own sh s (cond d (unwound reason.Trap here lv.pars) (sets here x.0 w))
+      go true d = unwound_safe core code owed own sh reason.Trap s here lv.pars
+          (sym at.owes ∙ ap (λ (b : Bool). resume core n k (meant b)) d ∙ resume-stop core n k Trap)
+          (ap lefts at.pars ∙ lefts_sides core n lv.level k ∙ ap (λ (q : List Debt). length q) at.sides)
+      go false d =
+          rests (at_term (bound_at s ip sl fs n rs ts (Then (Prim x f y z) u) c k at x.0 (Scalar (operator_type f)) w (operate f ny.0 nz.0) 0 (ip + 1) u at.fits.0 refl
+          (operated_is f ny.0 nz.0 (word sl (operand y)) (word sl (operand z)) ny.2 nz.2 ny.3 nz.3) lu at.fits.3 (λ q h. h) (omega arith)
+          (ap (λ (q : Datum). means core n u ((x.0, q) ∷ c.env)) same ∙ sym (ap meant d))
+          (most_then (same_most _ _ (ap (λ (q : Datum). left_costs core n lv.level (Plain u) ((x.0, q) ∷ c.env) k) same))
+          (most_then (record { regions = omega arith; items = omega arith }) (same_most _ _ (sym (ap costs_by d)))))))
 
   -- the scalar of a line that waits has come
   scalar_comes : (s : Store) (ip : ℕ) (sl : Slots) (fs : List Frame) (n : ℕ) (rs : List OpenRegion) (ts : List ℕ) (x : ℕ) (xt : Ty) (u : Rest) (c : Ctx) (k : Kont) (w : ℕ) (v : Datum) → Waits core code s sl ip x (Scalar xt) u c c.dest (cursor rs) k → Stack core code s k sl fs c.front rs
@@ -323,7 +356,7 @@ module _ (core : CoreTree) (code : CodeTree) (ok : AreBodies core code) (owed : 
   pub does_call : (s : Store) (ip : ℕ) (sl : Slots) (fs : List Frame) (n : ℕ) (rs : List OpenRegion) (ts : List ℕ) (f : Name) (xs : List Atom) (c : Ctx) (k : Kont) → IsAt code ip (Call (function_number core.functions f.0) (operands xs)) → IsAt code (ip + 1) (ending (end_of k))
       → AtTerm core code owed own sh s (at_rest lv ty rm ip sl fs n rs ts) (CallTerm f xs) c k → Moves core code owed own sh s (at_rest lv ty rm ip sl fs n rs ts)
   does_call s ip sl fs zero rs ts f xs c k e en at =
-      silent (step_is core code owed own sh lv ty rm (at_rest lv ty rm ip sl fs zero rs ts) (Call (function_number core.functions f.0) (operands xs)) refl e) (unwound_safe core code owed own sh s (at_rest lv ty rm ip sl fs zero rs ts) lv.pars (sym at.owes ∙ resume-stop core zero k Deep) (ap lefts at.pars ∙ lefts_sides core zero lv.level k ∙ ap (λ (q : List Debt). length q) at.sides))
+      silent (step_is core code owed own sh lv ty rm (at_rest lv ty rm ip sl fs zero rs ts) (Call (function_number core.functions f.0) (operands xs)) refl e) (unwound_safe core code owed own sh reason.Deep s (at_rest lv ty rm ip sl fs zero rs ts) lv.pars (sym at.owes ∙ resume-stop core zero k Deep) (ap lefts at.pars ∙ lefts_sides core zero lv.level k ∙ ap (λ (q : List Debt). length q) at.sides))
   does_call s ip sl fs (suc n) rs ts f xs c k e en at =
       let fit = at.fits.2 in
       let g = fit.function in
@@ -365,7 +398,7 @@ module _ (core : CoreTree) (code : CodeTree) (ok : AreBodies core code) (owed : 
   pub does_scalar_call : (s : Store) (ip : ℕ) (sl : Slots) (fs : List Frame) (n : ℕ) (rs : List OpenRegion) (ts : List ℕ) (x : Variable) (xt : Ty) (f : Name) (xs : List Atom) (u : Rest) (c : Ctx) (k : Kont) → IsAt code ip (CallScalar x.0 (function_number core.functions f.0) (operands xs)) → RestCode core code c.scope (ip + 1) u (end_of k)
       → AtRest core code owed own sh s (at_rest lv ty rm ip sl fs n rs ts) (Part (On kind.Scalar x xt (CallTerm f xs)) u) c k → Moves core code owed own sh s (at_rest lv ty rm ip sl fs n rs ts)
   does_scalar_call s ip sl fs zero rs ts x xt f xs u c k e lu at =
-      silent (step_is core code owed own sh lv ty rm (at_rest lv ty rm ip sl fs zero rs ts) (CallScalar x.0 (function_number core.functions f.0) (operands xs)) refl e) (unwound_safe core code owed own sh s (at_rest lv ty rm ip sl fs zero rs ts) lv.pars (sym at.owes ∙ resume-stop core zero k Deep) (ap lefts at.pars ∙ lefts_rest core zero lv.level u c.env (pars_of k) (sides_of core zero (level_after lv.level u) k) (lefts_sides core zero (level_after lv.level u) k) ∙ ap (λ (q : List Debt). length q) at.sides))
+      silent (step_is core code owed own sh lv ty rm (at_rest lv ty rm ip sl fs zero rs ts) (CallScalar x.0 (function_number core.functions f.0) (operands xs)) refl e) (unwound_safe core code owed own sh reason.Deep s (at_rest lv ty rm ip sl fs zero rs ts) lv.pars (sym at.owes ∙ resume-stop core zero k Deep) (ap lefts at.pars ∙ lefts_rest core zero lv.level u c.env (pars_of k) (sides_of core zero (level_after lv.level u) k) (lefts_sides core zero (level_after lv.level u) k) ∙ ap (λ (q : List Debt). length q) at.sides))
   does_scalar_call s ip sl fs (suc n) rs ts x xt f xs u c k e lu at =
       let fit = at.fits.2 in
       let g = fit.function in

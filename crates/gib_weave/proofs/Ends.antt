@@ -3,14 +3,17 @@ use Rattle.std.proofs.Common.{◌≡◌, ℕ, suc, ◌+◌, ◌≤◌, Bool, tru
 use Rattle.gib_types.specs.declared.table.Ty.{Ty}
 use Rattle.gib_types.specs.declared.table.Ty.TheVariants.{Whole, Truth, Tree}
 use Rattle.gib_types.specs.Tree.{Datum}
-use Rattle.gib_syntax.specs.Meaning.{is_scalar, Environment, Gives, Stops, Deep}
+use Rattle.gib_types.specs.Layout.{LaidOut}
+use Rattle.gib_code.specs.declared.answer.Reason.{Reason}
+use Rattle.gib_code.specs.declared.answer.Reason.TheVariants as reason
+use Rattle.gib_syntax.specs.Meaning.{is_scalar, Environment, Outcome, Gives, Stops}
 use Rattle.gib_mem.specs.Memory.{Store}
 use Rattle.gib_packed.specs.Decoding.{Dec}
 use Rattle.gib_core.specs.Tree.{CoreTree}
 use Rattle.gib_code.specs.Instruction.{Instruction}
 use Rattle.gib_code.specs.Program.{CodeTree, IsAt}
 use Rattle.gib_core.specs.Low.{ending}
-use Rattle.gib_machine.specs.Machine.{times, nesting, Slots, slot, Frame, Open as OpenRegion, State, Doing, Ready, Ask, Silent, next, begin, goes_on, cursor, Unwinding, unwound, Par, backs_at, ends_side, answer_of}
+use Rattle.gib_machine.specs.Machine.{times, nesting, Slots, slot, Frame, Open as OpenRegion, State, Doing, Ready, Ask, Silent, next, begin, goes_on, cursor, Unwinding, unwound, stopped, Par, backs_at, ends_side, answer_of}
 use Rattle.gib_weave.proofs.Counts.{Paid, finish_counted}
 use Rattle.gib_core.specs.Fits.{Placed, more}
 use Rattle.gib_weave.specs.Environment.{Ctx, StandsAt, IsPlaced}
@@ -20,7 +23,7 @@ use Rattle.gib_weave.specs.Paying.{Share, Counted, left_costs, later_costs}
 use Rattle.gib_weave.specs.Places.{Owned, kont_covers, rest_covers, tail_covers, HaveRoom, TailsHaveRoom, IsSmall, Apart, AllRoom}
 use Rattle.gib_weave.specs.Stacks.{IsRoot, Stack}
 use Rattle.gib_machine.specs.Levels.{lefts}
-use Rattle.gib_weave.specs.Sound.{counts, AtRest, unwinds, IsAnswer, at_term, over, Safe, rests, moves, silent}
+use Rattle.gib_weave.specs.Sound.{counts, AtRest, means_why, unwinds, IsAnswer, at_term, over, Safe, rests, moves, silent}
 use Rattle.gib_weave.proofs.Move.{with_var, with_dest, HasAll-set, HasAll-dest, keeps_dest, IsDest-bind, IsDest-more, all_under_bind, type_more, covers_more, covers_head, rest_code_put}
 use Rattle.gib_weave.proofs.Lines.{follows}
 use Rattle.gib_weave.proofs.Uses.{sides_bound}
@@ -106,15 +109,20 @@ no_length : (ds : List Debt) → length ds ≡ 0 → ds ≡ []
 no_length [] h = refl
 no_length (d ∷ ds) h = absurd cc
 
+-- the answer of a task that has no value
+stop_answer : (why : Reason) (laid : LaidOut) (s : Store) (ty : Ty) (o : Outcome) → o ≡ Stops (means_why why) → IsAnswer laid s ty o (stopped why)
+stop_answer reason.Deep laid s ty o e = e
+stop_answer reason.Trap laid s ty o e = e
+
 module _ (core : CoreTree) (code : CodeTree) (owed : Owed) (own : Owned) (sh : Share) where
-  -- a task that has no depth left unwinds, or ends
-  pub unwound_safe : (s : Store) (m : State) (ps : List Par) → owed.all ≡ Stops Deep → lefts ps ≡ length owed.sides → Safe core code owed own sh s (unwound m ps)
-  unwound_safe s m [] e l = rests (over refl (no_length owed.sides (sym l)) e)
-  unwound_safe s m (p ∷ ps) e l = go p.left refl l (λ h. unwound_safe s m ps e h)
+  -- a task that has no value unwinds, or ends
+  pub unwound_safe : (why : Reason) (s : Store) (m : State) (ps : List Par) → owed.all ≡ Stops (means_why why) → lefts ps ≡ length owed.sides → Safe core code owed own sh s (unwound why m ps)
+  unwound_safe why s m [] e l = rests (over refl (no_length owed.sides (sym l)) (stop_answer why code.laid s owed.ty owed.all e))
+  unwound_safe why s m (p ∷ ps) e l = go p.left refl l (λ h. unwound_safe why s m ps e h)
     where
-      go : (b : Bool) → p.left ≡ b → cond b (suc (lefts ps)) (lefts ps) ≡ length owed.sides → (lefts ps ≡ length owed.sides → Safe core code owed own sh s (unwound m ps))
-          → Safe core code owed own sh s (cond b (record m { ip = p.join; pars = p ∷ ps; doing = Unwinding }) (unwound m ps))
-      go true q h i = rests (unwinds record { unwinding = refl; par = p; outer = ps; pars = refl; left = q; count = h; owes = e })
+      go : (b : Bool) → p.left ≡ b → cond b (suc (lefts ps)) (lefts ps) ≡ length owed.sides → (lefts ps ≡ length owed.sides → Safe core code owed own sh s (unwound why m ps))
+          → Safe core code owed own sh s (cond b (record m { ip = p.join; pars = p ∷ ps; doing = Unwinding why }) (unwound why m ps))
+      go true q h i = rests (unwinds record { why = why; unwinding = refl; par = p; outer = ps; pars = refl; left = q; count = h; owes = e })
       go false q h i = i h
 
 module _ (core : CoreTree) (code : CodeTree) (owed : Owed) (own : Owned) (sh : Share) (lv : Levels) (ty : Ty) (rm : ℕ) where

@@ -1,10 +1,10 @@
 -- What a task owes at a join.
-use Rattle.std.proofs.Common.{◌≡◌, ℕ, suc, ◌+◌, Bool, true, false, List, [], ◌∷◌, length, cond, refl, sym, ap, subst, ◌∙◌, arith}
+use Rattle.std.proofs.Common.{◌≡◌, ℕ, suc, ◌+◌, Bool, true, false, List, [], ◌∷◌, Some, None, length, cond, refl, sym, ap, subst, ◌∙◌, arith}
 use Rattle.std.specs.Int.{w64, cast_unsigned}
 use Rattle.gib_types.specs.declared.table.Ty.{Ty}
 use Rattle.gib_types.specs.declared.table.Ty.TheVariants.{Whole, Truth, Tree}
 use Rattle.gib_types.specs.Tree.{Datum, whole, truth}
-use Rattle.gib_syntax.specs.Meaning.{is_scalar, Outcome, Gives, Stops, Deep, with_value}
+use Rattle.gib_syntax.specs.Meaning.{is_scalar, Outcome, Gives, Stops, Deep, Trap, with_value}
 use Rattle.gib_mem.specs.Memory.{Store}
 use Rattle.gib_packed.specs.Scalars.{bit}
 use Rattle.gib_packed.specs.Decoding as d
@@ -16,6 +16,7 @@ use Rattle.gib_core.specs.Tree.{Term, On, CoreTree}
 use Rattle.gib_code.specs.declared.instruction.Kind.{Kind as CodeKind}
 use Rattle.gib_code.specs.declared.answer.Answer.{Answer}
 use Rattle.gib_code.specs.declared.answer.Answer.TheVariants as answer
+use Rattle.gib_code.specs.declared.answer.Reason.TheVariants as reason
 use Rattle.gib_code.specs.Program.{CodeTree}
 use Rattle.gib_core.specs.Low.{kind_of}
 use Rattle.gib_machine.specs.Machine.{times, Slots, slot, set, Frame, Open as OpenRegion, State, Doing, Ready, Opening, Over, Unwinding, Joining, Par, Waiting, Ask, Silent, Draw, AtFork, AtJoin, next, goes_on, begin, cursor, room, enters, forks_at, joins_at, backs_at, ends_side, answer_of, unwound, left_starts, right_of, side_start, takes, taken, joins, joined, answered, at_place, points, doing, ToTree}
@@ -115,7 +116,10 @@ module _ (core : CoreTree) (code : CodeTree) (owed owed' : Owed) (own : Owned) (
       → (at : AtRest core code owed own sh s (at_rest lv ty rm ip sl fs n rs ts) (Meet p (On kd y xt t) u) c k) → owed.ty ≡ owed'.ty → owed.all ≡ owed'.all → sides_of core n lv'.level k ≡ owed'.sides → lv'.pars ≡ pars_of k → lv'.side ≡ lv.side
       → Counted rs (right_costs core n lv.level lv'.level (On kd y xt t) u c.env k (kind_link kd)) sh' → IsAnswer code.laid s xt (means core n t c.env) a → Safe core code owed' own sh' s (answered (at_rest lv' ty (suc rm) at.low.until sl fs n rs ts) (kind_of kd) y.0 a)
   answer_comes s ip sl fs n rs ts p kd y xt t u c k answer.Deep at tl al sd ps si count h =
-      unwound_safe core code owed' own sh' s (at_rest lv' ty (suc rm) at.low.until sl fs n rs ts) lv'.pars (sym (comes_to s ip sl fs n rs ts p kd y xt t u c k (Stops Deep) at al h) ∙ resume-stop core n k Deep)
+      unwound_safe core code owed' own sh' reason.Deep s (at_rest lv' ty (suc rm) at.low.until sl fs n rs ts) lv'.pars (sym (comes_to s ip sl fs n rs ts p kd y xt t u c k (Stops Deep) at al h) ∙ resume-stop core n k Deep)
+      (ap lefts ps ∙ lefts_sides core n lv'.level k ∙ ap (λ (q : List Debt). length q) sd)
+  answer_comes s ip sl fs n rs ts p kd y xt t u c k answer.Trap at tl al sd ps si count h =
+      unwound_safe core code owed' own sh' reason.Trap s (at_rest lv' ty (suc rm) at.low.until sl fs n rs ts) lv'.pars (sym (comes_to s ip sl fs n rs ts p kd y xt t u c k (Stops Trap) at al h) ∙ resume-stop core n k Trap)
       (ap lefts ps ∙ lefts_sides core n lv'.level k ∙ ap (λ (q : List Debt). length q) sd)
   answer_comes s ip sl fs n rs ts p kind.Here y xt t u c k (answer.Whole z) at tl al sd ps si count h = absurd (scalar_packed at.fits.0 xt Whole at.fits.1 h.0 refl)
   answer_comes s ip sl fs n rs ts p kind.Region y xt t u c k (answer.Whole z) at tl al sd ps si count h = absurd (scalar_packed at.fits.0 xt Whole at.fits.1 h.0 refl)
@@ -157,9 +161,9 @@ module _ (core : CoreTree) (code : CodeTree) (owed : Owed) (own : Owned) (sh : S
         debt = debt;
         others = sides_of core n p.level k;
         sides = sym at.sides ∙ ap (λ (b : Bool). cond b (debt ∷ sides_of core n p.level k) (sides_of core n p.level k)) le;
-        take = subst (λ (q : List Par). Safe core code after own (with_side sh debt.most) s (taken here false q)) (sym at.pars)
+        take = subst (λ (q : List Par). Safe core code after own (with_side sh debt.most) s (taken here None q)) (sym at.pars)
             (rests (at_term {u = Part (On kd y xt t) (Leave p' u)} {c = c} {k = k} (right_at core code own ty rm owed after sh (with_side sh debt.most) lv lv1 s ip sl fs n rs ts p p' (On kd y xt t) u c k refl refl refl refl refl refl here_counted at)));
-        join = λ a done h b. subst (λ (q : List Par). Safe core code after own (with_count sh done) s (joined here false q a)) (sym at.pars)
+        join = λ a done h b. subst (λ (q : List Par). Safe core code after own (with_count sh done) s (joined here None q a)) (sym at.pars)
             (subst (λ (q : CodeKind). Safe core code after own (with_count sh done) s (answered (at_rest lv2 ty (suc rm) p.back sl fs n rs ts) q p.variable a)) (sym low.kind)
             (subst (λ (q : ℕ). Safe core code after own (with_count sh done) s (answered (at_rest lv2 ty (suc rm) p.back sl fs n rs ts) (kind_of kd) q a)) (sym low.variable)
             (subst (λ (q : ℕ). Safe core code after own (with_count sh done) s (answered (at_rest lv2 ty (suc rm) q sl fs n rs ts) (kind_of kd) y.0 a)) (sym low.label)
@@ -176,11 +180,11 @@ pub meets_unwinding : (core : CoreTree) (code : CodeTree) (owed : Owed) (own : O
 meets_unwinding core code owed own sh s m h =
     let o = one_of owed.sides (lefts h.outer) h.count in
     let after : Owed = record { ty = owed.ty; all = owed.all; sides = o.1 } in
-    let safe : (q : Share) → Safe core code after own q s (unwound m h.outer) = λ q. unwound_safe core code after own q s m h.outer h.owes o.3 in
+    let safe : (q : Share) → Safe core code after own q s (unwound h.why m h.outer) = λ q. unwound_safe core code after own q h.why s m h.outer h.owes o.3 in
     record {
       debt = o.0;
       others = o.1;
       sides = o.2;
-      take = subst (λ (q : Doing). Safe core code after own (with_side sh o.0.most) s (taken m (Rattle.gib_machine.specs.Machine.is_unwinding q) m.pars)) (sym h.unwinding) (subst (λ (q : List Par). Safe core code after own (with_side sh o.0.most) s (taken m true q)) (sym h.pars) (safe (with_side sh o.0.most)));
-      join = λ a done i b. subst (λ (q : Doing). Safe core code after own (with_count sh done) s (joined m (Rattle.gib_machine.specs.Machine.is_unwinding q) m.pars a)) (sym h.unwinding) (subst (λ (q : List Par). Safe core code after own (with_count sh done) s (joined m true q a)) (sym h.pars) (safe (with_count sh done)));
+      take = subst (λ (q : Doing). Safe core code after own (with_side sh o.0.most) s (taken m (Rattle.gib_machine.specs.Machine.unwinding q) m.pars)) (sym h.unwinding) (subst (λ (q : List Par). Safe core code after own (with_side sh o.0.most) s (taken m (Some h.why) q)) (sym h.pars) (safe (with_side sh o.0.most)));
+      join = λ a done i b. subst (λ (q : Doing). Safe core code after own (with_count sh done) s (joined m (Rattle.gib_machine.specs.Machine.unwinding q) m.pars a)) (sym h.unwinding) (subst (λ (q : List Par). Safe core code after own (with_count sh done) s (joined m (Some h.why) q a)) (sym h.pars) (safe (with_count sh done)));
     }

@@ -36,8 +36,10 @@ pub mod Shares
 pub mod Weaves
 pub mod Events
 pub mod Progress
+pub mod Puts
 pub mod Picks
 pub mod Row
+pub mod Journals
 pub mod Calls
 pub mod Mades
 pub mod RootRuns

@@ -80,6 +80,7 @@ answer-grows laid s r ty owed (answer.At a) g h = (h.0, h.1, h.2, h.3, StandsAt-
 answer-grows laid s r ty owed (answer.Whole z) g h = h
 answer-grows laid s r ty owed (answer.Truth b) g h = h
 answer-grows laid s r ty owed answer.Deep g h = h
+answer-grows laid s r ty owed answer.Trap g h = h
 
 module _ (core : CoreTree) (code : CodeTree) (owed : Owed) where
   rests-others : (own : Owned) (sh : Share) (s r : Store) (m : State) → Others own s r → Rests core code owed own sh s m → Rests core code owed own sh r m

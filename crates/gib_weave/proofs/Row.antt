@@ -1,59 +1,33 @@
--- Worked runs: a tree's leaves get 1 more, and the right side is stolen; a side has no depth left, and the other one ends.
-use Rattle.std.specs.Prelude.{List, ◌+◌, pos}
+-- Worked runs: a tree's leaves get 1 more, and the right side is stolen; a side has no depth left, or divides by 0, and
+-- the other one ends.
+use Rattle.std.specs.Prelude.{List, ◌+◌, ◌-◌, ◌^◌, ◌++◌, pos}
 use Rattle.std.specs.Int.{w64, from_le_bytes}
 use Rattle.std.proofs.Common.{Some, None, ◌≡◌, ℕ, zero, suc, true, [], ◌∷◌, slice_get, refl}
-use Rattle.gib_types.specs.declared.table.Ty.{Ty}
-use Rattle.gib_types.specs.declared.table.Ty.TheVariants.{Whole, Tree}
-use Rattle.gib_types.specs.Table.{Table}
-use Rattle.gib_mem.specs.Memory.{sole, Store, Memory, Cell, absent, fresh, byte, after_puts, after_draw, open_chunk}
+use Rattle.gib_types.specs.declared.table.Ty.TheVariants.{Whole}
+use Rattle.gib_mem.specs.Memory.{sole, Store, Memory, Cell, absent, fresh, byte, after_puts, after_draw}
 use Rattle.gib_code.specs.declared.instruction.Kind.TheVariants as at
 use Rattle.gib_code.specs.declared.instruction.Operand.TheVariants.{Slot, Number}
-use Rattle.gib_code.specs.declared.instruction.Operation.TheVariants.{Add, Lt, Sub}
+use Rattle.gib_code.specs.declared.instruction.Operation.TheVariants.{Add, Lt, Quot, Rem, Sub}
 use Rattle.gib_code.specs.declared.answer.Answer.TheVariants as answer
 use Rattle.gib_code.specs.Instruction as i
 use Rattle.gib_code.specs.Program.{CodeTree}
-use Rattle.gib_machine.specs.Machine.{Ask, Silent, Get, Put, Draw, AtFork, AtJoin, Ended, left_starts, right_of, side_start, joins, takes}
+use Rattle.gib_machine.specs.Machine.{Ask, Silent, Get, Put, Draw, AtFork, AtJoin, Ended, left_starts, right_of, side_start, joins, takes, operated}
 use Rattle.gib_weave.specs.Weave.{Waits, Runs, Running, Weave, task, moved, with_sides, asks, weave_start}
 use Rattle.gib_weave.specs.Example as example
+use Rattle.gib_weave.specs.Worked.{code, core, loaded, table}
 use Rattle.gib_core.specs.Tree.{CoreTree}
 
-abbrev tree : Ty
-tree = Tree (record { 0 = 0 })
-
-abbrev table : Table
-table = record { types = 0 ∷ []; rows = record { name = 1; owner = 0; fields = Whole ∷ [] } ∷ record { name = 2; owner = 0; fields = tree ∷ tree ∷ [] } ∷ [] }
-
-abbrev code : CodeTree
-code = record {
-  laid = record { table = table; with_offsets = 1 ∷ [] };
-  instructions =
-      i.Switch 0 (record { constructor = 0; label = 1 } ∷ record { constructor = 1; label = 6 } ∷ [])
-      ∷ i.Whole 1 0 1 ∷ i.Operate 2 Add (Slot 1) (Number 1) ∷ i.Past 3 0 ∷ i.Fill 3 0 (Slot 2 ∷ []) [] ∷ i.Return
-      ∷ i.First 4 0 9 ∷ i.Offset 5 0 1 ∷ i.Past 6 1 ∷ i.Fork 14 18 at.Here 8 tree ∷ i.Here 7 ∷ i.Call 0 (Slot 4 ∷ []) ∷ i.Jump 13 ∷ i.Join
-      ∷ i.Here 8 ∷ i.Call 0 (Slot 5 ∷ []) ∷ i.Jump 17 ∷ i.Back ∷ i.Fill 6 1 [] (7 ∷ 8 ∷ []) ∷ i.Return
-      ∷ i.Call 0 (Slot 0 ∷ []) ∷ i.Return ∷ [];
-  functions = record { name = Some (record { 0 = 0 }); start = 0; slots = 9; result = tree } ∷ record { name = None; start = 20; slots = 1; result = tree } ∷ [];
-}
-
--- the input (Node (Leaf 1) (Leaf 2)), and what is behind it in the chunk
-abbrev loaded : Memory
-loaded = after_puts (record { cells = open_chunk (λ q. absent) 0; drawn = 1; share = 1; limit = 1024; alone = true; holder = sole }) 0
-    (1 ∷ 18 ∷ 0 ∷ 0 ∷ 0 ∷ 0 ∷ 0 ∷ 0 ∷ 0 ∷ 0 ∷ 1 ∷ 0 ∷ 0 ∷ 0 ∷ 0 ∷ 0 ∷ 0 ∷ 0 ∷ 0 ∷ 2 ∷ 0 ∷ 0 ∷ 0 ∷ 0 ∷ 0 ∷ 0 ∷ 0 ∷ [])
-
-abbrev core : CoreTree
-core = record example.core { functions = record { name = record { 0 = 0 }; parameters = tree ∷ []; result = tree; body = example.body } ∷ [] }
-
-abbrev byte_of : Cell → ℕ
+abbrev pub byte_of : Cell → ℕ
 byte_of absent = 0
 byte_of fresh = 0
 byte_of (byte b) = b
 
 -- so many bytes from a on
-abbrev bytes_of : Store → ℕ → ℕ → List ℕ
+abbrev pub bytes_of : Store → ℕ → ℕ → List ℕ
 bytes_of s a zero = []
 bytes_of s a (suc n) = byte_of (s a) ∷ bytes_of s (a + 1) n
 
-abbrev act : Weave → ℕ → Ask → Weave
+abbrev pub act : Weave → ℕ → Ask → Weave
 act w n (Silent m) = moved w w.memory n m
 act w n (Get a more k) = moved w w.memory n (k (from_le_bytes w64 (bytes_of w.memory.cells a (suc more))))
 act w n (Put a b bs m) = moved w (after_puts w.memory a (b ∷ bs)) n m
@@ -63,7 +37,7 @@ act w n AtJoin = w
 act w n (Ended a) = w
 
 -- So many steps of task n.
-abbrev steps : CodeTree → ℕ → ℕ → Weave → Weave
+abbrev pub steps : CodeTree → ℕ → ℕ → Weave → Weave
 steps p n zero w = w
 steps p n (suc m) w = steps p n m (act w n (asks p w n))
 
@@ -238,3 +212,72 @@ left_ends = refl
 
 pub root_counted : asks counts_down (steps counts_down 0 2 (joined (apart 6 29))) 0 ≡ Ended (answer.Whole (pos 0))
 root_counted = refl
+
+-- A division by 0 beside a call that is too deep: the left side's reason is answered, though the right side, which is stolen, ended first.
+
+abbrev dividing : CoreTree
+dividing = record counting { functions = counting.functions ++ counting.functions }
+
+abbrev divides : (left right : i.Instruction) → CodeTree
+divides left right = record {
+  laid = record { table = table; with_offsets = [] };
+  instructions =
+      i.Operate 1 Lt (Slot 0) (Number 1) ∷ i.Unless (Slot 1) 3 ∷ i.Give (Number 0) ∷ i.Operate 2 Sub (Slot 0) (Number 1) ∷ i.CallScalar 3 0 (Slot 2 ∷ []) ∷ i.Give (Slot 3)
+      ∷ i.Operate 1 Quot (Number 1) (Slot 0) ∷ i.Give (Slot 1)
+      ∷ i.Fork 11 13 at.Scalar 2 Whole ∷ left ∷ i.Join ∷ right ∷ i.Back ∷ i.Operate 3 Add (Slot 1) (Slot 2) ∷ i.Give (Slot 3) ∷ [];
+  functions = record { name = Some (record { 0 = 0 }); start = 0; slots = 4; result = Whole } ∷ record { name = Some (record { 0 = 1 }); start = 6; slots = 2; result = Whole } ∷ record { name = None; start = 8; slots = 4; result = Whole } ∷ [];
+}
+
+abbrev traps_left : CodeTree
+traps_left = divides (i.CallScalar 1 1 (Slot 0 ∷ [])) (i.CallScalar 2 0 (Number 5 ∷ []))
+
+abbrev traps_right : CodeTree
+traps_right = divides (i.CallScalar 1 0 (Number 5 ∷ [])) (i.CallScalar 2 1 (Slot 0 ∷ []))
+
+abbrev apart_left : Weave
+apart_left = steps traps_left 0 2 (steps traps_left 1 13 (stolen traps_left (weave_start dividing traps_left nothing_drawn 0 3 4 [])))
+
+pub right_deep : asks traps_left apart_left 1 ≡ Ended answer.Deep
+right_deep = refl
+
+pub left_traps : asks traps_left apart_left 0 ≡ AtJoin
+left_traps = refl
+
+pub root_traps : asks traps_left (with_sides apart_left 0 (joins (task apart_left.tasks 0).state answer.Deep) []) 0 ≡ Ended answer.Trap
+root_traps = refl
+
+abbrev apart_right : Weave
+apart_right = steps traps_right 0 13 (steps traps_right 1 2 (stolen traps_right (weave_start dividing traps_right nothing_drawn 0 3 4 [])))
+
+pub right_traps : asks traps_right apart_right 1 ≡ Ended answer.Trap
+right_traps = refl
+
+pub root_deep : asks traps_right (with_sides apart_right 0 (joins (task apart_right.tasks 0).state answer.Trap) []) 0 ≡ Ended answer.Deep
+root_deep = refl
+
+-- So it is in place, with no level left, where the right side never begins.
+pub traps_in_place : asks traps_left (steps traps_left 0 3 (weave_start dividing traps_left nothing_drawn 0 3 0 [])) 0 ≡ Ended answer.Trap
+traps_in_place = refl
+
+pub deep_in_place : asks traps_right (steps traps_right 0 14 (weave_start dividing traps_right nothing_drawn 0 3 0 [])) 0 ≡ Ended answer.Deep
+deep_in_place = refl
+
+-- The least number by -1: the quotient wraps, and nothing is left.
+pub least_quot : operated Quot (2 ^ 63) (2 ^ 64 - 1) ≡ 2 ^ 63
+least_quot = refl
+
+pub least_rem : operated Rem (2 ^ 63) (2 ^ 64 - 1) ≡ 0
+least_rem = refl
+
+-- Of -7 by 2 the quotient is -3 and -1 is left; of 7 by -2 it is -3, and 1 is left.
+pub quot_cuts : operated Quot (2 ^ 64 - 7) 2 ≡ 2 ^ 64 - 3
+quot_cuts = refl
+
+pub rem_is_negative : operated Rem (2 ^ 64 - 7) 2 ≡ 2 ^ 64 - 1
+rem_is_negative = refl
+
+pub quot_by_negative : operated Quot 7 (2 ^ 64 - 2) ≡ 2 ^ 64 - 3
+quot_by_negative = refl
+
+pub rem_is_positive : operated Rem 7 (2 ^ 64 - 2) ≡ 1
+rem_is_positive = refl

@@ -1,8 +1,11 @@
 -- Scalars as words, and the bytes of heads.
-use Rattle.std.proofs.Common.{◌≡◌, ℕ, ℤ, ◌%◌, Bool, true, false, List, [], ◌∷◌, ◌++◌, map, int_lt, FitsSigned, refl, sym, ap, subst, ◌∙◌}
-use Rattle.std.specs.Int.{w64, cast_signed, cast_unsigned, to_le_bytes, int_wrapping_add, int_wrapping_sub, int_wrapping_mul}
+use Rattle.std.proofs.Common.{◌≡◌, ℕ, ℤ, ◌%◌, Bool, true, false, List, [], ◌∷◌, ◌++◌, map, int_lt, int_rem, int_div, pos, FitsSigned, refl, sym, ap, subst, ◌∙◌}
+use Rattle.std.specs.Int.{w64, cast_signed, cast_unsigned, to_le_bytes, int_wrapping_add, int_wrapping_sub, int_wrapping_mul, int_wrapping_div}
 use Rattle.std.specs.Ordering.{int_eq}
 use Rattle.std.proofs.lemmas.Int.{to_z-of_z, wrapping_add_is, wrapping_sub_is, wrapping_mul_is, SFits-int_wrap}
+use lib.Signed.{mag_rem}
+use mir.ValLaws.{sfits_le}
+use borrow.Author.Gap.{read_sfits}
 use Rattle.gib_packed.proofs.HeadLemmas.{Dec-no_scalar}
 use Rattle.gib_types.specs.declared.table.Ty.{Ty}
 use Rattle.gib_types.specs.declared.table.Ty.TheVariants.{Whole, Truth, Tree}
@@ -11,7 +14,7 @@ use Rattle.gib_types.specs.Layout.{LaidOut}
 use Rattle.gib_types.specs.Tree.{Datum, more, data_of}
 use Rattle.gib_syntax.specs.declared.tree.Operator.{Operator}
 use Rattle.gib_syntax.specs.declared.tree.Operator.TheVariants as o
-use Rattle.gib_syntax.specs.Meaning.{is_scalar, value_in, operate}
+use Rattle.gib_syntax.specs.Meaning.{is_scalar, value_in, operate, is_by_zero}
 use Rattle.gib_syntax.specs.Typing.{operator_type}
 use Rattle.gib_mem.specs.Memory.{Store}
 use Rattle.gib_packed.specs.Scalars.{bit, scalar, scalars}
@@ -23,7 +26,7 @@ use Rattle.gib_core.specs.declared.atom.Atom.TheVariants as a
 use Rattle.gib_core.specs.Tree.{var}
 use Rattle.gib_core.specs.Meaning.{value, merge}
 use Rattle.gib_core.specs.Low.{operand, operands, slots_of, operation, truth_word}
-use Rattle.gib_machine.specs.Machine.{Slots, slot, word, words, word_bytes, scalar_bytes, operated}
+use Rattle.gib_machine.specs.Machine.{Slots, slot, word, words, word_bytes, scalar_bytes, operated, traps}
 use Rattle.gib_core.specs.Fits.{Sort, AtomFits, AtomsFit, packed_due, ArePlaced, FurtherPlaced}
 use Rattle.gib_weave.specs.Environment.{Ctx, IsScalar, Has, HasAll, Fields, field}
 
@@ -59,12 +62,28 @@ word_scalar (Tree t) w v h = absurd h
 signed : (z : ℤ) (w : ℕ) → FitsSigned w64 z → w ≡ cast_unsigned w64 z → cast_signed w64 w ≡ z
 signed z w f e = ap (cast_signed w64) e ∙ to_z-of_z w64 z f
 
+-- what is left of a division fits
+rem_fits : (x y : ℤ) → FitsSigned w64 x → FitsSigned w64 (int_rem x y)
+rem_fits x y f = sfits_le (mag_rem x y) f
+
 pub operated_is : (f : Operator) (x y : ℤ) (a b : ℕ) → FitsSigned w64 x → FitsSigned w64 y → a ≡ cast_unsigned w64 x → b ≡ cast_unsigned w64 y → IsScalar (operator_type f) (operated (operation f) a b) (operate f x y)
 operated_is o.Add x y a b p q e g = (int_wrapping_add w64 x y, refl, subst (λ (z : ℤ). FitsSigned w64 z) (sym (wrapping_add_is w64 x y p q)) (SFits-int_wrap w64 _), ap (λ (z : ℤ). cast_unsigned w64 (int_wrapping_add w64 z (cast_signed w64 b))) (signed x a p e) ∙ ap (λ (z : ℤ). cast_unsigned w64 (int_wrapping_add w64 x z)) (signed y b q g))
 operated_is o.Subtract x y a b p q e g = (int_wrapping_sub w64 x y, refl, subst (λ (z : ℤ). FitsSigned w64 z) (sym (wrapping_sub_is w64 x y p q)) (SFits-int_wrap w64 _), ap (λ (z : ℤ). cast_unsigned w64 (int_wrapping_sub w64 z (cast_signed w64 b))) (signed x a p e) ∙ ap (λ (z : ℤ). cast_unsigned w64 (int_wrapping_sub w64 x z)) (signed y b q g))
 operated_is o.Multiply x y a b p q e g = (int_wrapping_mul w64 x y, refl, subst (λ (z : ℤ). FitsSigned w64 z) (sym (wrapping_mul_is w64 x y p q)) (SFits-int_wrap w64 _), ap (λ (z : ℤ). cast_unsigned w64 (int_wrapping_mul w64 z (cast_signed w64 b))) (signed x a p e) ∙ ap (λ (z : ℤ). cast_unsigned w64 (int_wrapping_mul w64 x z)) (signed y b q g))
 operated_is o.Equal x y a b p q e g = (int_eq x y, refl, ap (λ (z : ℤ). bit (int_eq z (cast_signed w64 b))) (signed x a p e) ∙ ap (λ (z : ℤ). bit (int_eq x z)) (signed y b q g))
 operated_is o.Less x y a b p q e g = (int_lt x y, refl, ap (λ (z : ℤ). bit (int_lt z (cast_signed w64 b))) (signed x a p e) ∙ ap (λ (z : ℤ). bit (int_lt x z)) (signed y b q g))
+operated_is o.Quotient x y a b p q e g = (int_wrapping_div w64 x y, refl, read_sfits w64 (cast_unsigned w64 (int_div x y)), ap (λ (z : ℤ). cast_unsigned w64 (int_wrapping_div w64 z (cast_signed w64 b))) (signed x a p e) ∙ ap (λ (z : ℤ). cast_unsigned w64 (int_wrapping_div w64 x z)) (signed y b q g))
+operated_is o.Remainder x y a b p q e g = (int_rem x y, refl, rem_fits x y p, ap (λ (z : ℤ). cast_unsigned w64 (int_rem z (cast_signed w64 b))) (signed x a p e) ∙ ap (λ (z : ℤ). cast_unsigned w64 (int_rem x z)) (signed y b q g))
+
+-- the machine divides by 0 where the meaning does
+pub traps_are : (f : Operator) (y : ℤ) (b : ℕ) → FitsSigned w64 y → b ≡ cast_unsigned w64 y → traps (operation f) b ≡ is_by_zero f y
+traps_are o.Add y b q g = refl
+traps_are o.Subtract y b q g = refl
+traps_are o.Multiply y b q g = refl
+traps_are o.Equal y b q g = refl
+traps_are o.Less y b q g = refl
+traps_are o.Quotient y b q g = ap (λ (z : ℤ). int_eq z (pos 0)) (signed y b q g)
+traps_are o.Remainder y b q g = ap (λ (z : ℤ). int_eq z (pos 0)) (signed y b q g)
 
 -- Heads.
 

@@ -13,3 +13,5 @@ pub mod Calling
 pub mod Running
 pub mod Applied
 pub mod Woven
+pub mod Bytes
+pub mod Worked

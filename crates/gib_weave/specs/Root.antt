@@ -30,12 +30,13 @@ AfterOver core code owed own sh v old AtFork = (sh' : Share) × Spends sh sh' 0 
 AfterOver core code owed own sh v old AtJoin = (sh' : Share) × Spends sh sh' 0 × Meets core code owed own sh' v.cells old
 AfterOver core code owed own sh v old (Ended a) = (owed.sides ≡ []) × IsAnswer code.laid v.cells owed.ty owed.all a
 
--- An answer as the root of its name; too deep is none.
+-- An answer as the root of its name; where there is no value there is none.
 abbrev pub answer_root : Answer → Option Root
 answer_root (answer.Whole z) = Some (root.Whole z)
 answer_root (answer.Truth b) = Some (root.Truth b)
 answer_root (answer.At a) = Some (root.At a)
 answer_root answer.Deep = None
+answer_root answer.Trap = None
 
 -- The answer is a root, for which the value stands.
 pub record AnswerStands (laid : LaidOut) (s : mem.Store) (ty : Ty) (v : Datum) (a : Answer) : Type 0 where

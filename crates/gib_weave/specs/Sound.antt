@@ -5,9 +5,11 @@ use Rattle.gib_types.specs.declared.table.Ty.{Ty}
 use Rattle.gib_types.specs.declared.table.Ty.TheVariants.{Whole, Truth, Tree}
 use Rattle.gib_types.specs.Layout.{LaidOut}
 use Rattle.gib_types.specs.Tree.{Datum, whole, truth}
-use Rattle.gib_syntax.specs.Meaning.{Outcome, Gives, Stops, Deep}
+use Rattle.gib_syntax.specs.Meaning.{Outcome, Gives, Stops, Deep, Trap, Reason as Why}
 use Rattle.gib_mem.specs.Memory.{Store, absent, open_chunk, Grows, Reads}
 use Rattle.gib_core.specs.Tree.{Term, CoreTree}
+use Rattle.gib_code.specs.declared.answer.Reason.{Reason}
+use Rattle.gib_code.specs.declared.answer.Reason.TheVariants as reason
 use Rattle.gib_code.specs.declared.answer.Answer.{Answer}
 use Rattle.gib_code.specs.declared.answer.Answer.TheVariants as answer
 use Rattle.gib_code.specs.Program.{CodeTree}
@@ -53,15 +55,21 @@ pub record AtRest (core : CoreTree) (code : CodeTree) (owed : Owed) (own : Owned
 abbrev pub AtTerm : CoreTree → CodeTree → Owed → Owned → Share → Store → State → Term → Ctx → Kont → Type 0
 AtTerm core code owed own sh s m u c k = AtRest core code owed own sh s m (Plain u) c k
 
--- A left side had no depth left: its task stands at the join, whose right side is not looked at.
+-- What the machine's reason means.
+abbrev pub means_why : Reason → Why
+means_why reason.Deep = Deep
+means_why reason.Trap = Trap
+
+-- A left side has no value: its task stands at the join, whose right side is not looked at.
 pub record IsUnwinding (owed : Owed) (m : State) : Type 0 where
-  pub unwinding : m.doing ≡ Unwinding
+  pub why : Reason
+  pub unwinding : m.doing ≡ Unwinding why
   pub par : Par
   pub outer : List Par
   pub pars : m.pars ≡ par ∷ outer
   pub left : par.left ≡ true
   pub count : suc (lefts outer) ≡ length owed.sides
-  pub owes : owed.all ≡ Stops Deep
+  pub owes : owed.all ≡ Stops (means_why why)
 
 -- The answer is what was owed.
 abbrev pub IsAnswer : LaidOut → Store → Ty → Outcome → Answer → Type 0
@@ -69,6 +77,7 @@ IsAnswer laid s ty owed (answer.At a) = (t : ℕ) × (v : Datum) × (ty ≡ Tree
 IsAnswer laid s ty owed (answer.Whole z) = (ty ≡ Whole) × FitsSigned w64 z × (owed ≡ Gives (whole z))
 IsAnswer laid s ty owed (answer.Truth b) = (ty ≡ Truth) × (owed ≡ Gives (truth b))
 IsAnswer laid s ty owed answer.Deep = owed ≡ Stops Deep
+IsAnswer laid s ty owed answer.Trap = owed ≡ Stops Trap
 
 -- A task between two instructions: at what is next in a line, unwinding, or over.
 pub data Rests (core : CoreTree) (code : CodeTree) (owed : Owed) (own : Owned) (sh : Share) (s : Store) (m : State) : Type 0 where

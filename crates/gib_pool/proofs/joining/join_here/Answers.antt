@@ -117,7 +117,7 @@ returns-clause-goes g c =
     let s = c.settle.ensures in
     let due = frame_due c.in-Some-newest.frame in
     let old = c.args.job in
-    let new : Job = record { machine = c.take-in-Full.new.self; tails = c.args.job.tails; pass = c.settle.new.pass; frames = c.pop.new.self; here = c.settle.new.here } in
+    let new : Job = record { machine = c.take-in-Some-unwinding.new.self; tails = c.args.job.tails; pass = c.settle.new.pass; frames = c.pop.new.self; here = c.settle.new.here } in
     let mine = (worker_view c.args.forks.now).mine in
     let more = (worker_view c.settle.new.forks).mine in
     let settled : Settled c.args.arena.now old new due mine more c.settle.result = record {
@@ -129,9 +129,9 @@ returns-clause-goes g c =
     }
     in
     let b = subst (λ (r : Back). IsBack due (view old.pass) (view new.pass) mine more old.here new.here r) c.in-Full.is s.back in
-    goes_on c.args.arena.now c.args.lowered.now old new due mine more c.settle.result settled c.requires.holds c.requires.here (ap (λ (m : State). m.width) (c.take-in-Full.ensures old.tails) ∙ take_keeps_width (job_state old))
-    (within_then old new (takes (job_state old)) c.in-Some.ensures.capacity (c.take-in-Full.ensures old.tails) (take_stays_within (vec_capacity old.frames) (job_state old) c.requires.holds.within))
-    (λ d w. unwinds_back c.args.lowered.now d (cells new.pass) (drawn_by old.pass) (drawn_by new.pass) b.0 (job_lent old) (job_lent new) due (job_state old) (job_state new) (w.1 (cells new.pass) (wider c.args.arena.now old.pass new.pass s.own s.knows s.free)) settled.newest b.3 b.5 (sym c.is_unwinding.ensures ∙ c.if-not-is_unwinding.false) (c.take-in-Full.ensures old.tails))
+    goes_on c.args.arena.now c.args.lowered.now old new due mine more c.settle.result settled c.requires.holds c.requires.here (ap (λ (m : State). m.width) (c.take-in-Some-unwinding.ensures old.tails) ∙ take_keeps_width (job_state old))
+    (within_then old new (takes (job_state old)) c.in-Some.ensures.capacity (c.take-in-Some-unwinding.ensures old.tails) (take_stays_within (vec_capacity old.frames) (job_state old) c.requires.holds.within))
+    (λ d w. unwinds_back c.args.lowered.now d (cells new.pass) (drawn_by old.pass) (drawn_by new.pass) b.0 (job_lent old) (job_lent new) due c.in-Some-unwinding.field-0 (job_state old) (job_state new) (w.1 (cells new.pass) (wider c.args.arena.now old.pass new.pass s.own s.knows s.free)) settled.newest b.3 b.5 (sym c.unwinding.ensures ∙ c.in-Some-unwinding.is) (c.take-in-Some-unwinding.ensures old.tails))
 
 pub leave-requires-clause-holds : goal.leave-requires-clause-holds
 leave-requires-clause-holds g c =
@@ -169,8 +169,8 @@ leave-requires-clause-here g c =
     in
     here_then c.args.arena.now c.args.lowered.now old new due mine more c.settle.result settled c.requires.here
 
-pub returns-then-not-is_unwinding-clause-goes : goal.returns-then-not-is_unwinding-clause-goes
-returns-then-not-is_unwinding-clause-goes g c =
+pub returns-in-None-clause-goes : goal.returns-in-None-clause-goes
+returns-in-None-clause-goes g c =
     let s = c.settle.ensures in
     let due = frame_due c.in-Some-newest.frame in
     let old = c.args.job in

@@ -10,6 +10,6 @@ pub returns : goal.returns
 returns c = λ ts.
     let w : State = the_view c.self.inside in
     c.unwinds.ensures ts
-    ∙ ap (λ (o : Opened). unwound (record (with_tails w ts) { pars = o.pars; regions = o.regions; room = o.room }) o.pars) c.drop_par.ensures
-    ∙ unwound_same (with_tails w ts) (drop 1 w.pars) (drop 1 w.pars)
-    ∙ ap (λ (q : State). unwound (with_tails q ts) (drop 1 q.pars)) c.self.view_is
+    ∙ ap (λ (o : Opened). unwound c.args.why (record (with_tails w ts) { pars = o.pars; regions = o.regions; room = o.room }) o.pars) c.drop_par.ensures
+    ∙ unwound_same c.args.why (with_tails w ts) (drop 1 w.pars) (drop 1 w.pars)
+    ∙ ap (λ (q : State). unwound c.args.why (with_tails q ts) (drop 1 q.pars)) c.self.view_is
