@@ -4,3 +4,5 @@ mod Works
 mod Program
 mod Feed
 mod Laws
+mod Named
+mod DescribedAlike

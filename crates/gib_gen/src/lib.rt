@@ -4,6 +4,7 @@
 ghost use Rattle.std.specs.Prelude.{◌≡◌, ◌%◌, IfOk};
 ghost use Rattle.gib_gen.specs.Made.{source_text, grown, file_of};
 
+pub mod described;
 mod input;
 pub mod law;
 mod line;

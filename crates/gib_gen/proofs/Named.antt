@@ -1,0 +1,208 @@
+-- The types and constructors of a program that is spelled and typed have names as descriptions need them.
+use Rattle.std.proofs.Common.{◌≡◌, ◌∙◌, refl, ℕ, zero, suc, ◌<◌, ◌≤◌, List, [], ◌∷◌, ◌++◌, length, map, subst, sym, ap, arith, Bool, true, false, if◌then◌else◌, Option, Some, None, length-append}
+use Rattle.std.specs.Prelude.{slice_get, slice_index, unwrap_or, nat_lt, ◌==◌, ◌^◌, fold}
+use Rattle.std.specs.List.{AllByRecursion, list_all, flat_map}
+use Rattle.std.specs.Char.{is_ascii_digit, is_ascii_alphabetic}
+use Rattle.gib_base.specs.declared.name.Name.{Name}
+use Rattle.gib_base.specs.declared.token.Token.{Token}
+use Rattle.gib_base.specs.declared.token.Token.TheVariants as t
+use Rattle.gib_base.specs.declared.token.Sign.TheVariants as sign
+use Rattle.gib_base.specs.declared.token.Piece.TheVariants as kinds
+use Rattle.gib_base.specs.Names.{holds, with_name, AreNames}
+use Rattle.gib_base.specs.Piece.{Class, Blank, Letter, Digit, Dash, Equal, Single, Other, class_of, is_piece, is_name_byte, is_blank, is_sign_byte, ends}
+use Rattle.gib_base.specs.Spelling.{piece_of, piece_in, value_from, dash_piece, equal_piece}
+use Rattle.gib_base.specs.Lexed.{Lexed, IsLexed, parts_of, name_at}
+use Rattle.gib_base.specs.Printing.{IsWritable}
+use Rattle.gib_base.proofs.Held.{AreNames-push}
+use Rattle.gib_lex.proofs.Numbers.{length-fold}
+use Rattle.gib_lex.proofs.Again.{all_writable}
+use Rattle.gib_types.specs.Table.{Row, IsTyBelow, name_of, name_at as con_name_at}
+use Rattle.gib_syntax.specs.declared.tree.TypeName.{TypeName}
+use Rattle.gib_syntax.specs.declared.tree.TypeName.TheVariants as ty
+use Rattle.gib_syntax.specs.Tree.{ConstructorTree, DataTree, ProgramTree}
+use Rattle.gib_syntax.specs.Spelling.{spell_type, spell_types, spell_more, spell_constructors, spell_datas, spell_functions, spell_main, spell_program}
+use Rattle.gib_syntax.specs.Source.{Spells}
+use Rattle.gib_syntax.specs.Declarations.{number_of, place_of, next_place, tree_type, type_or, type_of_name, type_names, row_in, rows_from, table_of_program, input_type, output_type}
+use Rattle.gib_syntax.specs.Typing.{IsTypedProgram}
+use Rattle.gib_check.proofs.RowRules.{table_is}
+use Rattle.gib_value.specs.Reading.{IsWord}
+use Rattle.gib_file.specs.Named.{IsTypeName, AreNamed}
+
+-- ---- names that are put in one by one are all different
+
+with_one : (names : List (List ℕ)) (text : List ℕ) (b : Bool) → holds names text ≡ b → AreNames names → length (if b then names else names ++ text ∷ []) ≤ 65535 → AreNames (if b then names else names ++ text ∷ [])
+with_one names text true e h le = h
+with_one names text false e h le = AreNames-push names text h e (omega (arith, le, length-append names (text ∷ [])))
+
+all_different : (names texts : List (List ℕ)) → AreNames names → length (fold with_name names texts) ≤ 65535 → AreNames (fold with_name names texts)
+all_different names [] h le = h
+all_different names (text ∷ texts) h le =
+    all_different (with_name names text) texts (with_one names text (holds names text) refl h (omega (arith, le, length-fold (with_name names text) texts))) le
+
+no_names : AreNames []
+no_names = record { differ = λ i j text e f. absurd (let no : None ≡ Some text = e in cc); few = omega arith }
+
+lexed_names : (text : List ℕ) (l : Lexed) → IsLexed text l → length l.names ≤ 65535 → AreNames l.names
+lexed_names text l h le =
+    let texts = flat_map name_at (parts_of text 0 h.lengths) in
+    subst AreNames (sym h.names) (all_different [] texts no_names (omega (arith, le, ap length h.names)))
+
+-- ---- the tokens of names of types and constructors
+
+-- this holds of the tokens of a declaration's names
+abbrev HasName : (Token → Type 0) → ConstructorTree → Type 0
+HasName T c = T (t.Constructor c.name.name)
+
+abbrev HaveNames : (Token → Type 0) → DataTree → Type 0
+HaveNames T d = T (t.Constructor d.name.name) × AllByRecursion (HasName T) d.constructors
+
+after_type : (T : Token → Type 0) (a : TypeName) (rest : List Token) → AllByRecursion T (spell_type a rest) → AllByRecursion T rest
+after_type T (ty.Whole p) rest h = h.1
+after_type T (ty.Truth p) rest h = h.1
+after_type T (ty.Declared x) rest h = h.1
+
+after_types : (T : Token → Type 0) (as' : List TypeName) (rest : List Token) → AllByRecursion T (spell_types as' rest) → AllByRecursion T rest
+after_types T [] rest h = h
+after_types T (a ∷ as') rest h = after_types T as' rest (after_type T a (spell_types as' rest) h)
+
+in_more : (T : Token → Type 0) (cs : List ConstructorTree) (rest : List Token) → AllByRecursion T (spell_more cs rest) → AllByRecursion (HasName T) cs × AllByRecursion T rest
+in_more T [] rest h = (tt {0}, h)
+in_more T (c ∷ cs) rest h =
+    let more = in_more T cs rest (after_types T c.fields (spell_more cs rest) h.1.1) in
+    ((h.1.0, more.0), more.1)
+
+in_constructors : (T : Token → Type 0) (cs : List ConstructorTree) (rest : List Token) → AllByRecursion T (spell_constructors cs rest) → AllByRecursion (HasName T) cs × AllByRecursion T rest
+in_constructors T [] rest h = (tt {0}, h)
+in_constructors T (c ∷ cs) rest h =
+    let more = in_more T cs rest (after_types T c.fields (spell_more cs rest) h.1) in
+    ((h.0, more.0), more.1)
+
+in_datas : (T : Token → Type 0) (ds : List DataTree) (rest : List Token) → AllByRecursion T (spell_datas ds rest) → AllByRecursion (HaveNames T) ds
+in_datas T [] rest h = tt {0}
+in_datas T (d ∷ ds) rest h =
+    let here = in_constructors T d.constructors (t.Sign sign.Semicolon ∷ spell_datas ds rest) h.1.1.1 in
+    ((h.1.0, here.0), in_datas T ds rest here.1.1)
+
+-- the number is that of a name whose token this holds of
+abbrev IsNamed : (Token → Type 0) → ℕ → Type 0
+IsNamed T number = (x : Name) × T (t.Constructor x) × (number ≡ x.0)
+
+row_at : (T : Token → Type 0) (types : List ℕ) (owner : ℕ) (cs : List ConstructorTree) (more : List Row) (k : ℕ) → AllByRecursion (HasName T) cs
+    → ((j : ℕ) → j < length more → IsNamed T (name_of (slice_get more j))) → k < length (map (row_in types owner) cs ++ more) → IsNamed T (name_of (slice_get (map (row_in types owner) cs ++ more) k))
+row_at T types owner [] more k h rest lt = rest k lt
+row_at T types owner (c ∷ cs) more zero h rest lt = (c.name.name, h.0, refl)
+row_at T types owner (c ∷ cs) more (suc k) h rest lt = row_at T types owner cs more k h.1 rest (omega (arith, lt))
+
+rows_at : (T : Token → Type 0) (types : List ℕ) (owner : ℕ) (ds : List DataTree) → AllByRecursion (HaveNames T) ds → (k : ℕ) → k < length (rows_from types owner ds) → IsNamed T (name_of (slice_get (rows_from types owner ds) k))
+rows_at T types owner [] h k lt = absurd (omega (arith, lt))
+rows_at T types owner (d ∷ ds) h k lt = row_at T types owner d.constructors (rows_from types (suc owner) ds) k h.0.1 (rows_at T types (suc owner) ds h.1) lt
+
+types_at : (T : Token → Type 0) (ds : List DataTree) → AllByRecursion (HaveNames T) ds → (k : ℕ) → k < length (map (λ (d : DataTree). number_of d.name) ds) → IsNamed T (slice_index (map (λ (d : DataTree). number_of d.name) ds) k)
+types_at T [] h k lt = absurd (omega (arith, lt))
+types_at T (d ∷ ds) h zero lt = (d.name.name, h.0.0, refl)
+types_at T (d ∷ ds) h (suc k) lt = types_at T ds h.1 k (omega (arith, lt))
+
+-- ---- the text of a constructor's token is a word, and none of the language
+
+letter_of : (x y d e q s : Bool) → (if x then Blank else (if y then Letter else (if d then Digit else (if e then Dash else (if q then Equal else (if s then Single else Other)))))) ≡ Letter → y ≡ true
+letter_of true y d e q s h = absurd cc
+letter_of false true d e q s h = refl
+letter_of false false true e q s h = absurd cc
+letter_of false false false true q s h = absurd cc
+letter_of false false false false true s h = absurd cc
+letter_of false false false false false true h = absurd cc
+letter_of false false false false false false h = absurd cc
+
+number_is_none : (b : Bool) (n : ℕ) → (if b then kinds.Number n else kinds.TooBig) ≡ kinds.Constructor → ⊥
+number_is_none true n h = cc
+number_is_none false n h = cc
+
+sign_is_none : (b : Bool) → (if b then kinds.Sign sign.Arrow else kinds.Gap) ≡ kinds.Constructor → ⊥
+sign_is_none true h = cc
+sign_is_none false h = cc
+
+dash_is_none : (rest : List ℕ) → dash_piece rest ≡ kinds.Constructor → ⊥
+dash_is_none [] h = cc
+dash_is_none (b ∷ rest) h = sign_is_none (b == 62) h
+
+equal_is_none : (rest : List ℕ) → equal_piece rest ≡ kinds.Constructor → ⊥
+equal_is_none [] h = cc
+equal_is_none (b ∷ rest) h = cc
+
+abbrev Ends : Class → List ℕ → Type 0
+Ends c rest = ends c rest ≡ true
+
+letter_piece : (c : Class) (b : ℕ) (rest : List ℕ) → class_of b ≡ c → Ends c rest → piece_in c b rest ≡ kinds.Constructor → (is_ascii_alphabetic b ≡ true) × (list_all is_name_byte rest ≡ true)
+letter_piece Blank b rest e w h = absurd cc
+letter_piece Letter b rest e w h = (letter_of (is_blank b) (is_ascii_alphabetic b) (is_ascii_digit b) (b == 45) (b == 61) (is_sign_byte b) e, w)
+letter_piece Digit b rest e w h = absurd (number_is_none (nat_lt (value_from 0 (b ∷ rest)) (2 ^ 63)) (value_from 0 (b ∷ rest)) h)
+letter_piece Dash b rest e w h = absurd (dash_is_none rest h)
+letter_piece Equal b rest e w h = absurd (equal_is_none rest h)
+letter_piece Single b rest e w h = absurd cc
+letter_piece Other b rest e w h = absurd cc
+
+word_of : (text : List ℕ) → is_piece text ≡ true → piece_of text ≡ kinds.Constructor → IsWord text
+word_of [] w h = absurd cc
+word_of (b ∷ rest) w h = letter_piece (class_of b) b rest refl w h
+
+sign_apart : kinds.Sign sign.Int ≡ kinds.Constructor → ⊥
+sign_apart e = cc
+
+truth_apart : kinds.Sign sign.Bool ≡ kinds.Constructor → ⊥
+truth_apart e = cc
+
+type_name : (text : List ℕ) → is_piece text ≡ true → piece_of text ≡ kinds.Constructor → IsTypeName text
+type_name text w h = record {
+  word = word_of text w h;
+  not_whole = λ e. sign_apart (sym (ap piece_of e) ∙ h);
+  not_truth = λ e. truth_apart (sym (ap piece_of e) ∙ h);
+}
+
+-- what holds of the text of each constructor's token holds of a name
+held_so : (P : List ℕ → Type 0) → ((text : List ℕ) → is_piece text ≡ true → piece_of text ≡ kinds.Constructor → P text)
+    → (names : List (List ℕ)) (number : ℕ) → IsNamed (IsWritable names) number → P (unwrap_or (slice_get names number) [])
+held_so P each names number h =
+    let name = h.1 in
+    let get : slice_get names number ≡ Some name.text = ap (slice_get names) h.2 ∙ name.held in
+    subst P (sym (ap (λ o. unwrap_or o []) get)) (each name.text name.whole name.is_so)
+
+-- ---- types that are written are declared
+
+below_step : (n : ℕ) (b : Bool) (o : Option ℕ) → ((j : ℕ) → o ≡ Some j → j < n) → (i : ℕ) → (if b then Some 0 else next_place o) ≡ Some i → i < suc n
+below_step n true o h i e = let same : 0 ≡ i = cc in omega (arith, same)
+below_step n false None h i e = absurd cc
+below_step n false (Some j) h i e = let same : suc j ≡ i = cc in omega (arith, same, h j refl)
+
+place_below : (xs : List ℕ) (x i : ℕ) → place_of xs x ≡ Some i → i < length xs
+place_below [] x i e = absurd cc
+place_below (y ∷ ys) x i e = below_step (length ys) (y == x) (place_of ys x) (λ j h. place_below ys x j h) i e
+
+tree_below : (n : ℕ) (o : Option ℕ) → ((j : ℕ) → o ≡ Some j → j < n) → IsTyBelow n (type_or (tree_type o))
+tree_below n None h = tt
+tree_below n (Some j) h = h j refl
+
+written_below : (types : List ℕ) (a : TypeName) → IsTyBelow (length types) (type_of_name types a)
+written_below types (ty.Whole p) = tt
+written_below types (ty.Truth p) = tt
+written_below types (ty.Declared x) = tree_below (length types) (place_of types (number_of x)) (λ j e. place_below types (number_of x) j e)
+
+-- ---- all of it
+
+pub named : (text : List ℕ) (l : Lexed) (p : ProgramTree) → Spells text l p → IsTypedProgram p → AreNamed (table_of_program p) l.names
+named text l p spells typed =
+    let T : Token → Type 0 = IsWritable l.names in
+    let P : List Token → Type 0 = AllByRecursion T in
+    let spelled : AllByRecursion T (spell_program p []) = subst P spells.derived.spelled (all_writable text l spells.is_lexed) in
+    let names = in_datas T p.datas (spell_functions p.functions (spell_main p.main [])) spelled in
+    record {
+      declared = table_is p (record { types_differ = typed.types_differ; constructors_differ = typed.constructors_differ; few = typed.few_constructors; fields = typed.fields }) spells.derived.fine.datas;
+      differ = lexed_names text l spells.is_lexed spells.few_names;
+      types = λ k lt. held_so IsTypeName type_name l.names (slice_index (type_names p) k) (types_at T p.datas names k lt);
+      constructors = λ k lt. held_so IsWord word_of l.names (con_name_at (table_of_program p) k) (rows_at T (type_names p) 0 p.datas names k lt);
+    }
+
+pub input_below : (p : ProgramTree) → IsTypedProgram p → IsTyBelow (length (table_of_program p).types) (input_type p)
+input_below p typed = written_below (type_names p) p.main.parameter.ty
+
+pub output_below : (p : ProgramTree) → IsTypedProgram p → IsTyBelow (length (table_of_program p).types) (output_type p)
+output_below p typed = written_below (type_names p) p.main.result
