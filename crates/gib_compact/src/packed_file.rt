@@ -1,0 +1,122 @@
+//! Packs the value of a root, by several workers.
+
+ghost use Rattle.std.specs.Prelude.{◌≡◌, ◌<◌, ◌≤◌, ◌+◌, ◌^◌, [], ℕ, List, length, IfOk, IsErrOf};
+ghost use Rattle.gib_types.specs.declared.table.Ty.{Ty as Type_of};
+ghost use Rattle.gib_types.specs.Tree.{Datum};
+ghost use Rattle.gib_mem.specs.Memory.{Grows, fresh};
+ghost use Rattle.gib_file.specs.Packed.{packed};
+ghost use Rattle.gib_file.specs.Framed.{Framed2, File2};
+ghost use Rattle.gib_arena.specs.Passes.{view, cells, IsOf};
+ghost use Rattle.gib_packed.specs.Stands.{Stands};
+ghost use Rattle.gib_compact.specs.Back.{IsBack};
+ghost use Rattle.gib_compact.specs.declared.fault.CompactFault.TheVariants.{Long};
+
+use crate::fault::CompactFault;
+use crate::packing::{HEADER_BYTES, MOST_BYTES, Packing};
+use crate::parts::gather;
+use crate::payload::parts_by;
+use gib_arena::{Arena, Pass, SoleMem};
+use gib_base::Names;
+use gib_file::{describe, one_description};
+use gib_mem::Mem;
+use gib_packed::Root;
+use gib_packed::law::typed;
+use gib_types::{Layouts, Ty};
+use std::alloc::Global;
+use std::thread::Threads;
+
+/// The file of the value of a root, with a description, by so many workers.
+fn file_by<R: Threads + Sync>(
+    rt: &R,
+    packing: Packing<'_>,
+    pass: Pass,
+    root: Root,
+    description: &[u8],
+    workers: u32,
+) -> (Result<Vec<u8>, CompactFault>, Pass)
+    requires own { IsOf packing.arena.now pass }
+    requires none_out { (view pass).branch.out ≡ [] }
+    requires room { length description.now + packing.most ≡ 16777192 }
+    requires stands { (ty : Type_of) × (v : Datum) × Stands packing.layouts.now (cells pass) root ty v }
+    ensures file { (ty : Type_of) (v : Datum) → Stands packing.entry.layouts.now (cells pass) root ty v → IfOk result.0 (λ file. Framed2 description.entry.now (packed v) file.items) }
+    ensures few { (ty : Type_of) (v : Datum) → Stands packing.entry.layouts.now (cells pass) root ty v → IfOk result.0 (λ file. length file.items ≤ 16777216) }
+    ensures long { (ty : Type_of) (v : Datum) → Stands packing.entry.layouts.now (cells pass) root ty v → IsErrOf result.0 Long → 16777216 < 24 + length description.entry.now + length (packed v) }
+    ensures back { IsBack packing.entry.arena.now pass result.1 }
+{
+    let (parts, pass) = parts_by(rt, packing, pass, root, description, workers);
+    match parts {
+        Err(fault) => (Err(fault), pass),
+        Ok(parts) => match gather(packing.alloc, parts) {
+            Err(_) => (Err(CompactFault::Memory), pass),
+            Ok(file) => (Ok(file), pass),
+        },
+    }
+}
+
+/// The file, with this description, of the value of a root in a memory, which comes back.
+fn compact_as<R: Threads + Sync>(
+    rt: &R,
+    alloc: Global,
+    memory: SoleMem,
+    layouts: &Layouts,
+    root: Root,
+    description: &[u8],
+    workers: u32,
+) -> (Result<Vec<u8>, CompactFault>, SoleMem)
+    requires stands { (ty : Type_of) × (v : Datum) × Stands layouts.now (⟦<SoleMem as Mem>⟧.view memory).cells root ty v }
+    ensures file { (ty : Type_of) (v : Datum) → Stands layouts.entry.now (⟦<SoleMem as Mem>⟧.view memory).cells root ty v → IfOk result.0 (λ file. Framed2 description.entry.now (packed v) file.items) }
+    ensures few { (ty : Type_of) (v : Datum) → Stands layouts.entry.now (⟦<SoleMem as Mem>⟧.view memory).cells root ty v → IfOk result.0 (λ file. length file.items ≤ 16777216) }
+    ensures long { (ty : Type_of) (v : Datum) → Stands layouts.entry.now (⟦<SoleMem as Mem>⟧.view memory).cells root ty v → IsErrOf result.0 Long → 16777216 < 24 + length description.entry.now + length (packed v) }
+    ensures known { Grows (⟦<SoleMem as Mem>⟧.view memory).cells (⟦<SoleMem as Mem>⟧.view result.1).cells }
+    ensures free { (q : ℕ) → (⟦<SoleMem as Mem>⟧.view memory).cells q ≡ fresh → (⟦<SoleMem as Mem>⟧.view result.1).cells q ≡ fresh }
+    ensures drew { (⟦<SoleMem as Mem>⟧.view result.1).share ≡ (⟦<SoleMem as Mem>⟧.view memory).share }
+    ensures limit { (⟦<SoleMem as Mem>⟧.view result.1).limit ≡ (⟦<SoleMem as Mem>⟧.view memory).limit }
+{
+    let len = description.len() as u64;
+    if len > MOST_BYTES - HEADER_BYTES {
+        return (Err(CompactFault::Long), memory);
+    }
+    let (arena, first) = memory.into_parts();
+    let packing = Packing {
+        alloc,
+        arena: &arena,
+        layouts,
+        most: MOST_BYTES - HEADER_BYTES - len,
+    };
+    let (file, last) = file_by(rt, packing, first, root, description, workers);
+    (file, SoleMem::of_parts(arena, last))
+}
+
+/// The packed file, version 2, of the value of a root in a memory, by so many workers: one file whatever their number is and
+/// however they are scheduled. However it ends, the memory comes back with all that it held, and no other pass of it is out.
+///
+/// # Errors
+///
+/// `Long`: the file would be longer than a file may be. `Memory`: want of memory.
+pub fn compact<R: Threads + Sync>(
+    rt: &R,
+    alloc: Global,
+    memory: SoleMem,
+    names: &Names,
+    layouts: &Layouts,
+    root: Root,
+    ty: Ty,
+    workers: u32,
+) -> (Result<Vec<u8>, CompactFault>, SoleMem)
+    requires stands { (v : Datum) × Stands layouts.now (⟦<SoleMem as Mem>⟧.view memory).cells root ty v }
+    ensures file { (v : Datum) → Stands layouts.entry.now (⟦<SoleMem as Mem>⟧.view memory).cells root ty v → IfOk result.0 (λ file. File2 layouts.entry.now.table names.entry.now ty v file.items) }
+    ensures few { IfOk result.0 (λ file. length file.items ≤ 16777216) }
+    ensures long { (v : Datum) (bytes : List ℕ) → Stands layouts.entry.now (⟦<SoleMem as Mem>⟧.view memory).cells root ty v → IsErrOf result.0 Long → File2 layouts.entry.now.table names.entry.now ty v bytes → 16777216 < length bytes }
+    ensures known { Grows (⟦<SoleMem as Mem>⟧.view memory).cells (⟦<SoleMem as Mem>⟧.view result.1).cells }
+    ensures free { (q : ℕ) → (⟦<SoleMem as Mem>⟧.view memory).cells q ≡ fresh → (⟦<SoleMem as Mem>⟧.view result.1).cells q ≡ fresh }
+    ensures drew { (⟦<SoleMem as Mem>⟧.view result.1).share ≡ (⟦<SoleMem as Mem>⟧.view memory).share }
+    ensures limit { (⟦<SoleMem as Mem>⟧.view result.1).limit ≡ (⟦<SoleMem as Mem>⟧.view memory).limit }
+{
+    let description = match describe(alloc, layouts.types(), names, ty) {
+        Err(_) => return (Err(CompactFault::Memory), memory),
+        Ok(description) => description,
+    };
+    typed();
+    one_description();
+    compact_as(rt, alloc, memory, layouts, root, &description, workers)
+}
