@@ -2,20 +2,20 @@
 use Rattle.std.proofs.Common.{◌≡◌, Bool, refl, ℕ, List, [], ◌∷◌, length, Option, Some, None, ◌⊎◌, inl, inr, ◌≤◌, sym, subst₂, arith}
 use Rattle.gib_types.specs.Tree.{Datum}
 use Rattle.gib_syntax.specs.Tree.{ProgramTree}
-use Rattle.gib_code.specs.declared.answer.Answer.TheVariants as answer
+use Rattle.gib_machine.specs.Machine.{stopped}
 use Rattle.gib_locked.specs.declared.journal.Line.{Line}
 use Rattle.gib_locked.specs.declared.settings.Settings.{Settings}
 use Rattle.gib_app.specs.declared.made.End.{End as KeptEnd}
 use Rattle.gib_app.specs.declared.made.End.TheVariants as ends
 use Rattle.gib_app.specs.declared.made.Made.{Made}
 use Rattle.gib_app.specs.declared.made.Reason.{Reason}
-use Rattle.gib_app.specs.declared.made.Reason.TheVariants.{Deep, Full}
+use Rattle.gib_app.specs.declared.made.Reason.TheVariants.{Meant, Full}
 use Rattle.gib_app.specs.declared.plan.Job.{Job}
 use Rattle.gib_app.specs.declared.plan.Job.TheVariants.{Run, Plain, Check, Core, Code, Pack, Show, Gen, Trace, Replay}
 use Rattle.gib_app.specs.declared.plan.Options.{Options}
 use Rattle.gib_app.specs.Formats.{Accepts}
 use Rattle.gib_app.specs.Plan.{Contents}
-use Rattle.gib_app.specs.Replaying.{Happens, IsDeepEnd, IsShownEnd, IsTrace, LacksChunks, OnJournal, journal_in}
+use Rattle.gib_app.specs.Replaying.{Happens, IsShownEnd, IsTrace, IsValueless, LacksChunks, OnJournal, journal_in}
 use Rattle.gib_app.specs.Running.{FillsUp, IsShownValue}
 use Rattle.gib_app.specs.Jobs.{End, Prints, NoValue, Does, Replays, Runs, Sums, Traces, run_forks, without_image}
 use Rattle.gib_app.specs.Kept.{EndsBy, file_of}
@@ -37,10 +37,10 @@ on_happens p input bytes P f j = record {
 -- what was made was made of a file that is accepted
 pub does_accepts : (job : Job) (o : Options) (p : ProgramTree) (names : List (List ℕ)) (given : Contents) (file : Option (List ℕ)) (e : End) → Does job o p names given file e → Accepts job o p names given
 does_accepts Run o p names given file (Prints text) h = (h.1.value, h.1.is_input)
-does_accepts Run o p names given file (NoValue Deep) h = (h.1.value, h.1.is_input)
+does_accepts Run o p names given file (NoValue (Meant why)) h = (h.1.value, h.1.is_input)
 does_accepts Run o p names given file (NoValue Full) h = (h.1.value, h.1.is_input)
 does_accepts Plain o p names given file (Prints text) h = (h.1.value, h.1.is_input)
-does_accepts Plain o p names given file (NoValue Deep) h = (h.1.value, h.1.is_input)
+does_accepts Plain o p names given file (NoValue (Meant why)) h = (h.1.value, h.1.is_input)
 does_accepts Plain o p names given file (NoValue Full) h = absurd h
 does_accepts Check o p names given file e h = tt {0}
 does_accepts Core o p names given file e h = tt {0}
@@ -50,13 +50,13 @@ does_accepts Pack o p names given file (NoValue reason) h = absurd h
 does_accepts Show o p names given file (Prints text) h = (h.1.value, h.1.is_value)
 does_accepts Show o p names given file (NoValue reason) h = absurd h
 does_accepts Gen o p names given file (Prints text) h = (h.1.value, h.1.is_input)
-does_accepts Gen o p names given file (NoValue Deep) h = (h.1.value, h.1.is_input)
+does_accepts Gen o p names given file (NoValue (Meant why)) h = (h.1.value, h.1.is_input)
 does_accepts Gen o p names given file (NoValue Full) h = (h.1.value, h.1.is_input)
 does_accepts Trace o p names given file (Prints text) h = (h.1.value, h.1.is_input)
-does_accepts Trace o p names given file (NoValue Deep) h = (h.1.value, h.1.is_input)
+does_accepts Trace o p names given file (NoValue (Meant why)) h = (h.1.value, h.1.is_input)
 does_accepts Trace o p names given file (NoValue Full) h = (h.1.value, h.1.is_input)
 does_accepts Replay o p names given file (Prints text) h = on_happens p given.second (journal_in given) (IsShownEnd p names o.image file text) (λ v settings lines e. inl (e.memory, e.ends_with, e.ended)) h
-does_accepts Replay o p names given file (NoValue Deep) h = on_happens p given.second (journal_in given) (IsDeepEnd p) (λ v settings lines e. inl (e.memory, answer.Deep, e.ended)) h.1
+does_accepts Replay o p names given file (NoValue (Meant why)) h = on_happens p given.second (journal_in given) (IsValueless p why) (λ v settings lines e. inl (e.memory, stopped why, e.ended)) h.1
 does_accepts Replay o p names given file (NoValue Full) h = on_happens p given.second (journal_in given) (LacksChunks p) (λ v settings lines e. inr e) h.1
 
 -- a file whose value is shown is not too long
@@ -81,23 +81,23 @@ full_runs Replay o p names given file h = inr refl
 -- a run that lacks a value
 
 pub lacks_runs : (p : ProgramTree) (names : List (List ℕ)) (o : Options) (input : List ℕ) (why : Reason) → LacksValue p names o.skips o.depth (run_forks o) o.chunks input why → Runs p names o input None (NoValue why)
-lacks_runs p names o input Deep h = (refl, h)
+lacks_runs p names o input (Meant why) h = (refl, h)
 lacks_runs p names o input Full h = (refl, h)
 
 pub lacks_sums : (p : ProgramTree) (names : List (List ℕ)) (o : Options) (input : List ℕ) (why : Reason) → LacksValue p names o.skips o.depth (run_forks o) o.chunks input why → Sums p names o input None (NoValue why)
-lacks_sums p names o input Deep h = (refl, h)
+lacks_sums p names o input (Meant why) h = (refl, h)
 lacks_sums p names o input Full h = (refl, h)
 
 -- a trace whose chunks run out
 
 pub fills_traces : (p : ProgramTree) (names : List (List ℕ)) (o : Options) (input : List ℕ) (why : Reason) → OnlyFull (FillsUp p names o.skips o.depth o.fork o.chunks input) why → Traces p names o input None (NoValue why)
-fills_traces p names o input Deep h = absurd h
+fills_traces p names o input (Meant why) h = absurd h
 fills_traces p names o input Full h = (refl, h)
 
 -- a replay whose journal leads to where chunks run out
 pub fills_replays : (p : ProgramTree) (names : List (List ℕ)) (image : Bool) (input bytes : List ℕ) (why : Reason) → OnlyFull (OnJournal p names input bytes (LacksChunks p)) why →
     Replays p names image (record { second = input; further = bytes ∷ [] }) None (NoValue why)
-fills_replays p names image input bytes Deep h = absurd h
+fills_replays p names image input bytes (Meant why) h = absurd h
 fills_replays p names image input bytes Full h = (refl, h)
 
 -- what a job made that makes no file and ends without a value
@@ -125,19 +125,19 @@ trace_without p o input bytes h = record {
 -- without a value, an image makes no difference
 pub no_image : (job : Job) (o : Options) (p : ProgramTree) (names : List (List ℕ)) (given : Contents) (file : Option (List ℕ)) (reason : Reason) → Does job o p names given file (NoValue reason) →
     Does job (without_image o) p names given file (NoValue reason)
-no_image Run o p names given file Deep h = h
+no_image Run o p names given file (Meant why) h = h
 no_image Run o p names given file Full h = h
-no_image Plain o p names given file Deep h = h
+no_image Plain o p names given file (Meant why) h = h
 no_image Plain o p names given file Full h = h
 no_image Check o p names given file reason h = h
 no_image Core o p names given file reason h = h
 no_image Code o p names given file reason h = h
 no_image Pack o p names given file reason h = h
 no_image Show o p names given file reason h = h
-no_image Gen o p names given file Deep h = h
+no_image Gen o p names given file (Meant why) h = h
 no_image Gen o p names given file Full h = h
-no_image Trace o p names given None Deep h = absurd h.0
-no_image Trace o p names given (Some bytes) Deep h = (trace_without p o given.second bytes h.0, h.1)
+no_image Trace o p names given None (Meant why) h = absurd h.0
+no_image Trace o p names given (Some bytes) (Meant why) h = (trace_without p o given.second bytes h.0, h.1)
 no_image Trace o p names given file Full h = h
-no_image Replay o p names given file Deep h = h
+no_image Replay o p names given file (Meant why) h = h
 no_image Replay o p names given file Full h = h

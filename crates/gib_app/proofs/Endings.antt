@@ -1,14 +1,18 @@
 -- From the stop of a call to its answer, and from the status that is due to the one that is answered.
-use Rattle.std.proofs.Common.{◌≡◌, ◌∙◌, refl, ap₂, ℕ, List, [], ◌∷◌, length, Option, Some, None, MatchOption, ◌⊎◌, inl, inr, subst, sym, Bool, false}
+use Rattle.std.proofs.Common.{◌≡◌, ◌∙◌, refl, ap, ap₂, ℕ, List, [], ◌∷◌, length, Option, Some, None, MatchOption, ◌⊎◌, inl, inr, subst, sym, Bool, false}
 use Rattle.gib_base.specs.Lexed.{Lexed, IsLexed}
 use Rattle.gib_base.specs.declared.token.Token.{Token}
 use Rattle.gib_types.specs.Tree.{Datum}
 use Rattle.gib_syntax.specs.Tree.{ProgramTree}
 use Rattle.gib_syntax.specs.Spelling.{Places, Derives, IsPlacedProgram, places_of}
 use Rattle.gib_syntax.specs.Declarations.{table_of_program, input_type}
-use Rattle.gib_syntax.specs.Meaning.{Stops, Deep as TooDeep, run}
+use Rattle.gib_syntax.specs.Meaning.{Stops, run}
+use Rattle.gib_syntax.specs.Meaning.{Reason as Meaning}
 use Rattle.gib_edge.specs.Causes.{Rose, IsAllOf, Appends, AppendsPart, PutsPieces, PutsSomePieces}
 use Rattle.gib_edge.specs.Views.{Held, Has, Missing, ShelfView, SinkView}
+use Rattle.gib_code.specs.declared.answer.Reason.{Reason as Why}
+use Rattle.gib_code.specs.declared.answer.Reason.TheVariants as why
+use Rattle.gib_weave.specs.Sound.{means_why}
 use Rattle.gib_app.specs.declared.input_fault.InputFault.{InputFault}
 use Rattle.gib_app.specs.declared.status.Status.{Status}
 use Rattle.gib_app.specs.declared.status.Status.TheVariants as status
@@ -18,11 +22,11 @@ use Rattle.gib_app.specs.declared.plan.Job.{Job}
 use Rattle.gib_app.specs.declared.plan.Job.TheVariants.{Run, Plain, Check, Core, Code, Pack, Show, Gen, Trace, Replay}
 use Rattle.gib_app.specs.declared.plan.Options.{Options}
 use Rattle.gib_app.specs.declared.made.Reason.{Reason}
-use Rattle.gib_app.specs.declared.made.Reason.TheVariants.{Deep, Full}
+use Rattle.gib_app.specs.declared.made.Reason.TheVariants.{Meant, Full}
 use Rattle.gib_app.specs.Plan.{Document, Write, Plan, Files, bytes_in, Contents}
 use Rattle.gib_app.specs.Writes.{at_reading, with_write, IsStuckIn, IsNamedIn}
 use Rattle.gib_app.specs.Words.{asked}
-use Rattle.gib_app.specs.Running.{IsInput, IsProgram, IsSource, IsNoProgram, IsOutput, IsSummary, RunsOut, IsShownValue}
+use Rattle.gib_app.specs.Running.{IsInput, IsProgram, IsSource, IsNoProgram, IsOutput, IsSummary, MeansNone, IsShownValue}
 use Rattle.gib_app.specs.Replaying.{journal_in}
 use Rattle.gib_app.specs.Packing.{IsPackedBy}
 use Rattle.gib_app.specs.SourceFaults.{IsSourceFault}
@@ -36,7 +40,7 @@ use Rattle.gib_app.specs.Ending.{IsEnding, ends_as, HasText, AreFurtherTold, Are
 use Rattle.gib_app.specs.Stopping.{answer_for}
 use Rattle.gib_app.specs.Performing.{IsCallStop}
 use Rattle.gib_app.proofs.Performing.{map_both}
-use Rattle.gib_app.proofs.Replays.{OneValue, gives_or_stops, some_or_none, shown_or_deep, shown_or_full, deep_or_full}
+use Rattle.gib_app.proofs.Replays.{OneValue, gives_or_stops, some_or_none, one_reason, one_why, shown_or_valueless, shown_or_full, one_valueless, valueless_or_full}
 use Rattle.gib_app.proofs.Doing.{does_accepts, full_runs}
 use Rattle.gib_app.proofs.Making.{reached_all}
 
@@ -71,13 +75,14 @@ abbrev pub IsCause : Bool → List (List ℕ) → ShelfView → ShelfView → Si
 IsCause tells words before now out_before out_now status.Done = IsPrinted tells words before now out_before out_now
 IsCause tells words before now out_before out_now status.Source = AsksSource tells words before.kept IsNoProgram
 IsCause tells words before now out_before out_now status.Usage = asked words ≡ None
-IsCause tells words before now out_before out_now status.Depth = AsksProgram tells words before.kept (HasNoValue Deep)
+IsCause tells words before now out_before out_now status.Depth = AsksProgram tells words before.kept (HasNoValue (Meant why.Deep))
 IsCause tells words before now out_before out_now status.Full = AsksProgram tells words before.kept (HasNoValue Full)
 IsCause tells words before now out_before out_now status.Memory = Unit {0}
 IsCause tells words before now out_before out_now status.ReadFault = MatchOption (asked words) ⊥ (λ plan. (name : List ℕ) × FailsToRead (at_reading tells before.kept plan) before now plan name)
 IsCause tells words before now out_before out_now status.WriteFault = IsWriteCause tells words before now out_before out_now
 IsCause tells words before now out_before out_now status.Input =
     MatchOption (asked words) ⊥ (λ plan. OnReached (at_reading tells before.kept plan) plan (λ p names given. Accepts plan.job plan.options p names given → ⊥))
+IsCause tells words before now out_before out_now status.Trap = AsksProgram tells words before.kept (HasNoValue (Meant why.Trap))
 
 -- the files that a plan reads
 abbrev pub K : Bool → ShelfView → Plan → Files
@@ -87,10 +92,10 @@ K tells before r = at_reading tells before.kept r
 abbrev Refused : Plan → InputFault → ProgramTree → List (List ℕ) → Contents → Type 0
 Refused r fault p names given = Refuses r.job r.options p names given fault × (Accepts r.job r.options p names given → ⊥)
 
-without_of : (tells : Bool) (words : List (List ℕ)) (before now : ShelfView) (why : Reason) → AsksProgram tells words before.kept (EndsWithout tells before now why) → AsksProgram tells words before.kept (HasNoValue why)
-without_of tells words before now why h =
-    map_asked (asked words) (λ r. OnBoth (K tells before r) r (EndsWithout tells before now why r)) (λ r. OnBoth (K tells before r) r (HasNoValue why r))
-    (λ r k. map_both (K tells before r) r (EndsWithout tells before now why r) (HasNoValue why r) (λ p names given e. (e.file, e.does)) k) h
+without_of : (tells : Bool) (words : List (List ℕ)) (before now : ShelfView) (cause : Reason) → AsksProgram tells words before.kept (EndsWithout tells before now cause) → AsksProgram tells words before.kept (HasNoValue cause)
+without_of tells words before now cause h =
+    map_asked (asked words) (λ r. OnBoth (K tells before r) r (EndsWithout tells before now cause r)) (λ r. OnBoth (K tells before r) r (HasNoValue cause r))
+    (λ r k. map_both (K tells before r) r (EndsWithout tells before now cause r) (HasNoValue cause r) (λ p names given e. (e.file, e.does)) k) h
 
 pub cause_of : (tells : Bool) (words : List (List ℕ)) (before now : ShelfView) (out_before out_now : SinkView) (status : Status) (said : List ℕ) → IsEnding tells words before now out_before out_now status said → IsCause tells words before now out_before out_now status
 cause_of tells words before now out_before out_now status.Done said h = h.0
@@ -98,7 +103,7 @@ cause_of tells words before now out_before out_now status.Source said h =
     map_asked (asked words) (λ r. OnSource (K tells before r) r.source (λ bytes. IsSourceFault bytes h.0 × IsNoProgram bytes)) (λ r. OnSource (K tells before r) r.source IsNoProgram)
     (λ r k. on_source (K tells before r) r.source (λ bytes. IsSourceFault bytes h.0 × IsNoProgram bytes) IsNoProgram (λ bytes both. both.1) k) h.1
 cause_of tells words before now out_before out_now status.Usage said h = h.0
-cause_of tells words before now out_before out_now status.Depth said h = without_of tells words before now Deep h.0
+cause_of tells words before now out_before out_now status.Depth said h = without_of tells words before now (Meant why.Deep) h.0
 cause_of tells words before now out_before out_now status.Full said h = without_of tells words before now Full h.0
 cause_of tells words before now out_before out_now status.Memory said h = tt {0}
 cause_of tells words before now out_before out_now status.ReadFault said h =
@@ -112,6 +117,7 @@ cause_of tells words before now out_before out_now status.WriteFault said (inr h
 cause_of tells words before now out_before out_now status.Input said h =
     map_asked (asked words) (λ r. OnReached (K tells before r) r (Refused r h.0)) (λ r. OnReached (K tells before r) r (λ p names given. Accepts r.job r.options p names given → ⊥))
     (λ r k. map_reached (K tells before r) r (Refused r h.0) (λ p names given. Accepts r.job r.options p names given → ⊥) (λ p names given both. both.1) k) h.1
+cause_of tells words before now out_before out_now status.Trap said h = without_of tells words before now (Meant why.Trap) h.0
 
 -- From the stop of a call to its status and its line
 pub ending_of : (tells : Bool) (words : List (List ℕ)) (before now : ShelfView) (out_before out_now : SinkView) (stop : Stop) → IsCallStop tells words before now out_before out_now stop →
@@ -120,7 +126,8 @@ ending_of tells words before now out_before out_now Usage h = (h, refl)
 ending_of tells words before now out_before out_now (Source fault) h = (fault, h, refl)
 ending_of tells words before now out_before out_now (Unread name) h = (name.now, h, refl)
 ending_of tells words before now out_before out_now (Input fault) h = (fault, h, refl)
-ending_of tells words before now out_before out_now (NoValue Deep) h = (h, refl)
+ending_of tells words before now out_before out_now (NoValue (Meant why.Deep)) h = (h, refl)
+ending_of tells words before now out_before out_now (NoValue (Meant why.Trap)) h = (h, refl)
 ending_of tells words before now out_before out_now (NoValue Full) h = (h, refl)
 ending_of tells words before now out_before out_now Memory h = refl
 ending_of tells words before now out_before out_now (Unwritten name) h = inl (name.now, h.0, h.1, refl)
@@ -276,17 +283,27 @@ of_job : (tells : Bool) (before now : ShelfView) (r : Plan) (name : List ℕ) �
 of_job tells before now r name wrote (inl h) = let k = stuck_named tells before.kept r.first before now name h in absurd (wrote name k.0 k.1)
 of_job tells before now r name wrote (inr h) = h
 
-pub runs_well : Laws → (p : ProgramTree) (names : List (List ℕ)) (depth : ℕ) (input output : List ℕ) → IsOutput p names depth input output → RunsOut p names depth input → ⊥
-runs_well laws p names depth input output o d =
+pub runs_well : Laws → (p : ProgramTree) (names : List (List ℕ)) (depth : ℕ) (input output : List ℕ) (meant : Meaning) → IsOutput p names depth input output → MeansNone p names depth input meant → ⊥
+runs_well laws p names depth input output meant o d =
     let v = laws.filed (table_of_program p) _ (input_type p) d.value o.value input d.is_input.file o.is_input.file in
-    let S : Datum → Type 0 = λ x. run p depth x ≡ Stops TooDeep in
-    gives_or_stops (run p depth o.value) o.result o.means (subst S v d.means)
+    let S : Datum → Type 0 = λ x. run p depth x ≡ Stops meant in
+    gives_or_stops (run p depth o.value) o.result meant o.means (subst S v d.means)
 
-sums_well : {names : List (List ℕ)} → Laws → (p : ProgramTree) (number levels depth : ℕ) (input output : List ℕ) → IsSummary p names number levels depth input output → RunsOut p names depth input → ⊥
-sums_well laws p number levels depth input output o d =
+sums_well : {names : List (List ℕ)} → Laws → (p : ProgramTree) (number levels depth : ℕ) (input output : List ℕ) (meant : Meaning) → IsSummary p names number levels depth input output → MeansNone p names depth input meant → ⊥
+sums_well laws p number levels depth input output meant o d =
     let v = laws.filed (table_of_program p) _ (input_type p) d.value o.value input d.is_input.file o.is_input.file in
-    let S : Datum → Type 0 = λ x. run p depth x ≡ Stops TooDeep in
-    gives_or_stops (run p depth o.value) o.result o.means (subst S v d.means)
+    let S : Datum → Type 0 = λ x. run p depth x ≡ Stops meant in
+    gives_or_stops (run p depth o.value) o.result meant o.means (subst S v d.means)
+
+-- a program means none for one reason
+pub one_meaning : Laws → (p : ProgramTree) (names : List (List ℕ)) (depth : ℕ) (input : List ℕ) (x y : Meaning) → MeansNone p names depth input x → MeansNone p names depth input y → x ≡ y
+one_meaning laws p names depth input x y a b =
+    let v = laws.filed (table_of_program p) _ (input_type p) b.value a.value input b.is_input.file a.is_input.file in
+    let S : Datum → Type 0 = λ z. run p depth z ≡ Stops y in
+    one_why (run p depth a.value) x y a.means (subst S v b.means)
+
+one_cause : Laws → (p : ProgramTree) (names : List (List ℕ)) (depth : ℕ) (input : List ℕ) (x y : Why) → MeansNone p names depth input (means_why x) → MeansNone p names depth input (means_why y) → x ≡ y
+one_cause laws p names depth input x y a b = one_reason x y (one_meaning laws p names depth input (means_why x) (means_why y) a b)
 
 -- without chunks no file is made
 full_no_file : (job : Job) (o : Options) (p : ProgramTree) (names : List (List ℕ)) (given : Contents) (bytes : List ℕ) → Does job o p names given (Some bytes) (Without Full) → ⊥
@@ -301,50 +318,63 @@ full_no_file Gen o p names given bytes h = some_or_none bytes h.0
 full_no_file Trace o p names given bytes h = some_or_none bytes h.0
 full_no_file Replay o p names given bytes h = some_or_none bytes h.0
 
--- how a job ends and how it is due to end: of text, want of depth and want of chunks only one
+-- how a job ends and how it is due to end: of text, a reason without a value and want of chunks only one
 
 module _ (laws : Laws) (o : Options) (p : ProgramTree) (names : List (List ℕ)) (given : Contents) where
-  text_or_deep : (job : Job) (text : List ℕ) (file other : Option (List ℕ)) → Does (ends_as job) (without_image o) p names given file (Prints text) → Does job o p names given other (Without Deep) → ⊥
-  text_or_deep Run text file other h k = runs_well laws p names o.depth given.second text h.1 k.1
-  text_or_deep Plain text file other h k = runs_well laws p names o.depth given.second text h.1 k.1
-  text_or_deep Check text file other h k = k
-  text_or_deep Core text file other h k = k
-  text_or_deep Code text file other h k = k
-  text_or_deep Pack text file other h k = k
-  text_or_deep Show text file other h k = k
-  text_or_deep Gen text file other h k = sums_well laws p o.number o.levels o.depth given.second text h.1 k.1
-  text_or_deep Trace text file other h k = runs_well laws p names o.depth given.second text h.1 k.1
-  text_or_deep Replay text file other h k = shown_or_deep laws.filed p names given.second (journal_in given) false file text h k.1
+  text_or_none : (job : Job) (text : List ℕ) (x : Why) (file other : Option (List ℕ)) → Does (ends_as job) (without_image o) p names given file (Prints text) → Does job o p names given other (Without (Meant x)) → ⊥
+  text_or_none Run text x file other h k = runs_well laws p names o.depth given.second text (means_why x) h.1 k.1
+  text_or_none Plain text x file other h k = runs_well laws p names o.depth given.second text (means_why x) h.1 k.1
+  text_or_none Check text x file other h k = k
+  text_or_none Core text x file other h k = k
+  text_or_none Code text x file other h k = k
+  text_or_none Pack text x file other h k = k
+  text_or_none Show text x file other h k = k
+  text_or_none Gen text x file other h k = sums_well laws p o.number o.levels o.depth given.second text (means_why x) h.1 k.1
+  text_or_none Trace text x file other h k = runs_well laws p names o.depth given.second text (means_why x) h.1 k.1
+  text_or_none Replay text x file other h k = shown_or_valueless laws.filed p names given.second (journal_in given) false file text x h k.1
 
-  deep_or_text : (job : Job) (text : List ℕ) (file other : Option (List ℕ)) → Does (ends_as job) o p names given file (Without Deep) → Does job o p names given other (Prints text) → ⊥
-  deep_or_text Run text file other h k = runs_well laws p names o.depth given.second text k.1 h.1
-  deep_or_text Plain text file other h k = runs_well laws p names o.depth given.second text k.1 h.1
-  deep_or_text Check text file other h k = h
-  deep_or_text Core text file other h k = h
-  deep_or_text Code text file other h k = h
-  deep_or_text Pack text file other h k = h
-  deep_or_text Show text file other h k = h
-  deep_or_text Gen text file other h k = sums_well laws p o.number o.levels o.depth given.second text k.1 h.1
-  deep_or_text Trace text file other h k = runs_well laws p names o.depth given.second text k.1 h.1
-  deep_or_text Replay text file other h k = shown_or_deep laws.filed p names given.second (journal_in given) o.image other text k h.1
+  none_or_text : (job : Job) (x : Why) (text : List ℕ) (file other : Option (List ℕ)) → Does (ends_as job) o p names given file (Without (Meant x)) → Does job o p names given other (Prints text) → ⊥
+  none_or_text Run x text file other h k = runs_well laws p names o.depth given.second text (means_why x) k.1 h.1
+  none_or_text Plain x text file other h k = runs_well laws p names o.depth given.second text (means_why x) k.1 h.1
+  none_or_text Check x text file other h k = h
+  none_or_text Core x text file other h k = h
+  none_or_text Code x text file other h k = h
+  none_or_text Pack x text file other h k = h
+  none_or_text Show x text file other h k = h
+  none_or_text Gen x text file other h k = sums_well laws p o.number o.levels o.depth given.second text (means_why x) k.1 h.1
+  none_or_text Trace x text file other h k = runs_well laws p names o.depth given.second text (means_why x) k.1 h.1
+  none_or_text Replay x text file other h k = shown_or_valueless laws.filed p names given.second (journal_in given) o.image other text x k h.1
+
+  -- without a value, the reason is one
+  one_end : (job : Job) (x y : Why) (file other : Option (List ℕ)) → Does (ends_as job) o p names given file (Without (Meant x)) → Does job o p names given other (Without (Meant y)) → x ≡ y
+  one_end Run x y file other h k = one_cause laws p names o.depth given.second x y h.1 k.1
+  one_end Plain x y file other h k = one_cause laws p names o.depth given.second x y h.1 k.1
+  one_end Check x y file other h k = absurd h
+  one_end Core x y file other h k = absurd h
+  one_end Code x y file other h k = absurd h
+  one_end Pack x y file other h k = absurd h
+  one_end Show x y file other h k = absurd h
+  one_end Gen x y file other h k = one_cause laws p names o.depth given.second x y h.1 k.1
+  one_end Trace x y file other h k = one_cause laws p names o.depth given.second x y h.1 k.1
+  one_end Replay x y file other h k = one_valueless laws.filed p names given.second (journal_in given) x y h.1 k.1
 
   -- where a file is made, there is a value, or the file is one without
-  file_or_deep : (job : Job) (bytes : List ℕ) (e : End) (file : Option (List ℕ)) → Does job o p names given (Some bytes) e → Does (ends_as job) o p names given file (Without Deep) → e ≡ Without Deep
-  file_or_deep job bytes (Prints text) file h k = absurd (deep_or_text job text file (Some bytes) k h)
-  file_or_deep job bytes (Without Deep) file h k = refl
-  file_or_deep job bytes (Without Full) file h k = absurd (full_no_file job o p names given bytes h)
+  file_or_none : (job : Job) (x : Why) (bytes : List ℕ) (e : End) (file : Option (List ℕ)) → Does job o p names given (Some bytes) e → Does (ends_as job) o p names given file (Without (Meant x)) → e ≡ Without (Meant x)
+  file_or_none job x bytes (Prints text) file h k = absurd (none_or_text job x text file (Some bytes) k h)
+  file_or_none job x bytes (Without (Meant y)) file h k = ap (λ (z : Why). Without (Meant z)) (sym (one_end job x y file (Some bytes) k h))
+  file_or_none job x bytes (Without Full) file h k = absurd (full_no_file job o p names given bytes h)
 
-  -- a replay that prints, or whose depth runs out, has its chunks
+  -- a replay that prints, or that ends without a value, has its chunks
   text_or_full : (any : Options) (text : List ℕ) (file other : Option (List ℕ)) → Does Replay any p names given file (Prints text) → Does Replay o p names given other (Without Full) → ⊥
   text_or_full any text file other h k = shown_or_full laws.filed p names given.second (journal_in given) any.image file text h k.1
 
-  depth_or_full : (file other : Option (List ℕ)) → Does Replay o p names given file (Without Deep) → Does Replay o p names given other (Without Full) → ⊥
-  depth_or_full file other h k = deep_or_full laws.filed p names given.second (journal_in given) h.1 k.1
+  none_or_full : (x : Why) (file other : Option (List ℕ)) → Does Replay o p names given file (Without (Meant x)) → Does Replay o p names given other (Without Full) → ⊥
+  none_or_full x file other h k = valueless_or_full laws.filed p names given.second (journal_in given) x h.1 k.1
 
   -- where chunks run out, no file is made
   file_or_full : (bytes : List ℕ) (e : End) (other : Option (List ℕ)) → Does Replay o p names given (Some bytes) e → Does Replay o p names given other (Without Full) → ⊥
   file_or_full bytes (Prints text) other h k = text_or_full o text (Some bytes) other h k
-  file_or_full bytes (Without Deep) other h k = some_or_none bytes h.0
+  file_or_full bytes (Without (Meant x)) other h k = some_or_none bytes h.0
   file_or_full bytes (Without Full) other h k = some_or_none bytes h.0
 
 -- a job accepts what it is due to end with
@@ -394,8 +424,12 @@ Front tells before now a b r p names given = (text : List ℕ) × IsMade tells b
 abbrev Somewhere : Bool → ShelfView → ShelfView → Plan → Type 0
 Somewhere tells before now r = (name : List ℕ) × FailsToWrite tells before now r name
 
-abbrev pub Exhausted : Plan → ProgramTree → List (List ℕ) → Contents → Type 0
-Exhausted r = HasNoValue Deep r
+-- the program means none, for this reason
+abbrev pub Valueless : Why → Plan → ProgramTree → List (List ℕ) → Contents → Type 0
+Valueless x r = HasNoValue (Meant x) r
+
+abbrev pub Lacking : Bool → ShelfView → Why → Plan → Type 0
+Lacking tells before x r = OnBoth (K tells before r) r (Valueless x r)
 
 abbrev Unfit : Plan → ProgramTree → List (List ℕ) → Contents → Type 0
 Unfit r p names given = Accepts r.job r.options p names given → ⊥
@@ -408,16 +442,20 @@ DueAll tells before now a b r = DueOfFiles tells before now r (HasText r) × Tak
 
 -- the output is due
 
+done_or_none : Laws → (tells : Bool) (words : List (List ℕ)) (before now : ShelfView) (a b : SinkView) (x : Why) → MatchOption (asked words) ⊥ (DueAll tells before now a b) → MatchOption (asked words) ⊥ (Lacking tells before x) → ⊥
+done_or_none laws tells words before now a b x due h =
+    let k = both_asked (asked words) (DueAll tells before now a b) (Lacking tells before x) due h in
+    let both = clash laws tells before now k.0 (HasText k.0) (Valueless x k.0) k.1.0 k.2 in
+    text_or_none laws k.0.options both.0 both.1 both.2 k.0.job both.3.1 x both.3.0 both.4.0 both.3.2 both.4.1
+
 done_due : Laws → (tells : Bool) (words : List (List ℕ)) (before now : ShelfView) (a b : SinkView) → MatchOption (asked words) ⊥ (DueAll tells before now a b) → (end' : Status) → IsCause tells words before now a b end' → (end' ≡ status.Done) ⊎ (end' ≡ status.Memory) ⊎ (end' ≡ status.Full)
 done_due laws tells words before now a b due status.Done h = inl refl
 done_due laws tells words before now a b due status.Source h =
     let k = both_asked (asked words) (DueAll tells before now a b) (λ r. OnSource (K tells before r) r.source IsNoProgram) due h in
     absurd (no_program tells before now k.0 (HasText k.0) k.1.0 k.2)
 done_due laws tells words before now a b due status.Usage h = absurd (none_asked (asked words) (DueAll tells before now a b) h due)
-done_due laws tells words before now a b due status.Depth h =
-    let k = both_asked (asked words) (DueAll tells before now a b) (λ r. OnBoth (K tells before r) r (Exhausted r)) due h in
-    let both = clash laws tells before now k.0 (HasText k.0) (Exhausted k.0) k.1.0 k.2 in
-    absurd (text_or_deep laws k.0.options both.0 both.1 both.2 k.0.job both.3.1 both.3.0 both.4.0 both.3.2 both.4.1)
+done_due laws tells words before now a b due status.Depth h = absurd (done_or_none laws tells words before now a b why.Deep due h)
+done_due laws tells words before now a b due status.Trap h = absurd (done_or_none laws tells words before now a b why.Trap due h)
 done_due laws tells words before now a b due status.Full h = inr (inr refl)
 done_due laws tells words before now a b due status.Memory h = inr (inl refl)
 done_due laws tells words before now a b due status.ReadFault h =
@@ -440,15 +478,19 @@ done_due laws tells words before now a b due status.Input h =
 abbrev DueRefusal : Bool → ShelfView → ShelfView → Plan → Type 0
 DueRefusal tells before now r = DueOfSource tells before now r IsNoProgram
 
+source_or_none : (tells : Bool) (words : List (List ℕ)) (before now : ShelfView) (x : Why) → MatchOption (asked words) ⊥ (DueRefusal tells before now) → MatchOption (asked words) ⊥ (Lacking tells before x) → ⊥
+source_or_none tells words before now x due h =
+    let k = both_asked (asked words) (DueRefusal tells before now) (Lacking tells before x) due h in
+    a_program tells before now k.0 (Valueless x k.0) k.1 k.2
+
 source_due : (tells : Bool) (words : List (List ℕ)) (before now : ShelfView) (a b : SinkView) → MatchOption (asked words) ⊥ (DueRefusal tells before now) → (end' : Status) → IsCause tells words before now a b end' → (end' ≡ status.Source) ⊎ (end' ≡ status.Memory) ⊎ (end' ≡ status.Full)
 source_due tells words before now a b due status.Done h =
     let k = both_asked (asked words) (DueRefusal tells before now) (λ r. OnBoth (K tells before r) r (Whole tells before now a b r)) due h in
     absurd (a_program tells before now k.0 (Whole tells before now a b k.0) k.1 k.2)
 source_due tells words before now a b due status.Source h = inl refl
 source_due tells words before now a b due status.Usage h = absurd (none_asked (asked words) (DueRefusal tells before now) h due)
-source_due tells words before now a b due status.Depth h =
-    let k = both_asked (asked words) (DueRefusal tells before now) (λ r. OnBoth (K tells before r) r (Exhausted r)) due h in
-    absurd (a_program tells before now k.0 (Exhausted k.0) k.1 k.2)
+source_due tells words before now a b due status.Depth h = absurd (source_or_none tells words before now why.Deep due h)
+source_due tells words before now a b due status.Trap h = absurd (source_or_none tells words before now why.Trap due h)
 source_due tells words before now a b due status.Full h = inr (inr refl)
 source_due tells words before now a b due status.Memory h = inr (inl refl)
 source_due tells words before now a b due status.ReadFault h =
@@ -464,41 +506,53 @@ source_due tells words before now a b due status.Input h =
     let k = both_asked (asked words) (DueRefusal tells before now) (λ r. OnReached (K tells before r) r (Unfit r)) due h in
     absurd (reached_program tells before now k.0 (Unfit k.0) k.1 k.2)
 
--- want of depth is due
+-- no value is due, for a reason
 
-abbrev pub DueDepth : Bool → ShelfView → ShelfView → Plan → Type 0
-DueDepth tells before now r = DueOfFiles tells before now r (DueWithout before now Deep r)
+abbrev pub DueNone : Bool → ShelfView → ShelfView → Why → Plan → Type 0
+DueNone tells before now x r = DueOfFiles tells before now r (DueWithout before now (Meant x) r)
 
-depth_due : Laws → (tells : Bool) (words : List (List ℕ)) (before now : ShelfView) (a b : SinkView) → MatchOption (asked words) ⊥ (DueDepth tells before now) → (end' : Status) → IsCause tells words before now a b end' → (end' ≡ status.Depth) ⊎ (end' ≡ status.Memory) ⊎ (end' ≡ status.Full)
-depth_due laws tells words before now a b due status.Done h =
-    let k = both_asked (asked words) (DueDepth tells before now) (λ r. OnBoth (K tells before r) r (Whole tells before now a b r)) due h in
-    let both = clash laws tells before now k.0 (DueWithout before now Deep k.0) (Whole tells before now a b k.0) k.1 k.2 in
-    absurd (deep_or_text laws k.0.options both.0 both.1 both.2 k.0.job both.4.0 both.3.0.0 both.4.1.ended.file both.3.0.1 both.4.1.ended.does)
-depth_due laws tells words before now a b due status.Source h =
-    let k = both_asked (asked words) (DueDepth tells before now) (λ r. OnSource (K tells before r) r.source IsNoProgram) due h in
-    absurd (no_program tells before now k.0 (DueWithout before now Deep k.0) k.1 k.2)
-depth_due laws tells words before now a b due status.Usage h = absurd (none_asked (asked words) (DueDepth tells before now) h due)
-depth_due laws tells words before now a b due status.Depth h = inl refl
-depth_due laws tells words before now a b due status.Full h = inr (inr refl)
-depth_due laws tells words before now a b due status.Memory h = inr (inl refl)
-depth_due laws tells words before now a b due status.ReadFault h =
-    let k = both_asked (asked words) (DueDepth tells before now) (Fails tells before now) due h in
-    absurd (read_both tells before now k.0 (DueWithout before now Deep k.0) k.2.0 k.1 k.2.1)
-depth_due laws tells words before now a b due status.WriteFault (inl h) =
-    let k = both_asked (asked words) (DueDepth tells before now) (Somewhere tells before now) due h.0 in
+-- the status that tells a reason
+abbrev pub told_by : Why → Status
+told_by why.Deep = status.Depth
+told_by why.Trap = status.Trap
+
+none_or_none : Laws → (tells : Bool) (words : List (List ℕ)) (before now : ShelfView) (x y : Why) → MatchOption (asked words) ⊥ (DueNone tells before now x) → MatchOption (asked words) ⊥ (Lacking tells before y) → x ≡ y
+none_or_none laws tells words before now x y due h =
+    let k = both_asked (asked words) (DueNone tells before now x) (Lacking tells before y) due h in
+    let both = clash laws tells before now k.0 (DueWithout before now (Meant x) k.0) (Valueless y k.0) k.1 k.2 in
+    one_end laws k.0.options both.0 both.1 both.2 k.0.job x y both.3.0.0 both.4.0 both.3.0.1 both.4.1
+
+pub none_due : Laws → (tells : Bool) (words : List (List ℕ)) (before now : ShelfView) (a b : SinkView) (x : Why) → MatchOption (asked words) ⊥ (DueNone tells before now x) → (end' : Status) → IsCause tells words before now a b end' → (end' ≡ told_by x) ⊎ (end' ≡ status.Memory) ⊎ (end' ≡ status.Full)
+none_due laws tells words before now a b x due status.Done h =
+    let k = both_asked (asked words) (DueNone tells before now x) (λ r. OnBoth (K tells before r) r (Whole tells before now a b r)) due h in
+    let both = clash laws tells before now k.0 (DueWithout before now (Meant x) k.0) (Whole tells before now a b k.0) k.1 k.2 in
+    absurd (none_or_text laws k.0.options both.0 both.1 both.2 k.0.job x both.4.0 both.3.0.0 both.4.1.ended.file both.3.0.1 both.4.1.ended.does)
+none_due laws tells words before now a b x due status.Source h =
+    let k = both_asked (asked words) (DueNone tells before now x) (λ r. OnSource (K tells before r) r.source IsNoProgram) due h in
+    absurd (no_program tells before now k.0 (DueWithout before now (Meant x) k.0) k.1 k.2)
+none_due laws tells words before now a b x due status.Usage h = absurd (none_asked (asked words) (DueNone tells before now x) h due)
+none_due laws tells words before now a b x due status.Depth h = inl (ap told_by (sym (none_or_none laws tells words before now x why.Deep due h)))
+none_due laws tells words before now a b x due status.Full h = inr (inr refl)
+none_due laws tells words before now a b x due status.Memory h = inr (inl refl)
+none_due laws tells words before now a b x due status.ReadFault h =
+    let k = both_asked (asked words) (DueNone tells before now x) (Fails tells before now) due h in
+    absurd (read_both tells before now k.0 (DueWithout before now (Meant x) k.0) k.2.0 k.1 k.2.1)
+none_due laws tells words before now a b x due status.WriteFault (inl h) =
+    let k = both_asked (asked words) (DueNone tells before now x) (Somewhere tells before now) due h.0 in
     let on = of_job tells before now k.0 k.2.0 k.1.first_written k.2.1 in
-    let both = clash laws tells before now k.0 (DueWithout before now Deep k.0) (λ p names given. IsUnwritten tells before now k.0 p names given k.2.0) k.1 on in
+    let both = clash laws tells before now k.0 (DueWithout before now (Meant x) k.0) (λ p names given. IsUnwritten tells before now k.0 p names given k.2.0) k.1 on in
     let made = both.4.1 in
     let D : End → Type 0 = Does k.0.job k.0.options both.0 both.1 both.2 (Some made.0) in
-    let deep' = subst D (file_or_deep laws k.0.options both.0 both.1 both.2 k.0.job made.0 made.1 both.3.0.0 made.2 both.3.0.1) made.2 in
-    absurd (both.3.1 k.2.0 made.0 both.4.0 deep' both.4.2.rose)
-depth_due laws tells words before now a b due status.WriteFault (inr h) =
-    let k = both_asked (asked words) (DueDepth tells before now) (λ r. OnBoth (K tells before r) r (Front tells before now a b r)) due h.0 in
-    let both = clash laws tells before now k.0 (DueWithout before now Deep k.0) (Front tells before now a b k.0) k.1 k.2 in
-    absurd (deep_or_text laws k.0.options both.0 both.1 both.2 k.0.job both.4.0 both.3.0.0 both.4.1.ended.file both.3.0.1 both.4.1.ended.does)
-depth_due laws tells words before now a b due status.Input h =
-    let k = both_asked (asked words) (DueDepth tells before now) (λ r. OnReached (K tells before r) r (Unfit r)) due h in
-    absurd (fit_or_unfit laws tells before now k.0 (DueWithout before now Deep k.0) (λ p names given d. ends_accept k.0.job k.0.options p names given d.0.0 (Without Deep) d.0.1) k.1 k.2)
+    let valueless = subst D (file_or_none laws k.0.options both.0 both.1 both.2 k.0.job x made.0 made.1 both.3.0.0 made.2 both.3.0.1) made.2 in
+    absurd (both.3.1 k.2.0 made.0 both.4.0 valueless both.4.2.rose)
+none_due laws tells words before now a b x due status.WriteFault (inr h) =
+    let k = both_asked (asked words) (DueNone tells before now x) (λ r. OnBoth (K tells before r) r (Front tells before now a b r)) due h.0 in
+    let both = clash laws tells before now k.0 (DueWithout before now (Meant x) k.0) (Front tells before now a b k.0) k.1 k.2 in
+    absurd (none_or_text laws k.0.options both.0 both.1 both.2 k.0.job x both.4.0 both.3.0.0 both.4.1.ended.file both.3.0.1 both.4.1.ended.does)
+none_due laws tells words before now a b x due status.Input h =
+    let k = both_asked (asked words) (DueNone tells before now x) (λ r. OnReached (K tells before r) r (Unfit r)) due h in
+    absurd (fit_or_unfit laws tells before now k.0 (DueWithout before now (Meant x) k.0) (λ p names given d. ends_accept k.0.job k.0.options p names given d.0.0 (Without (Meant x)) d.0.1) k.1 k.2)
+none_due laws tells words before now a b x due status.Trap h = inl (ap told_by (sym (none_or_none laws tells words before now x why.Trap due h)))
 
 -- want of chunks is due, which a replay tells
 
@@ -512,6 +566,15 @@ as_replay job o p names given file e is h = let P : Job → Type 0 = λ j. Does 
 ends_replay : (job : Job) (o : Options) (p : ProgramTree) (names : List (List ℕ)) (given : Contents) (file : Option (List ℕ)) (e : End) → job ≡ Replay → Does (ends_as job) o p names given file e → Does Replay o p names given file e
 ends_replay job o p names given file e is h = let P : Job → Type 0 = λ j. Does (ends_as j) o p names given file e in subst P is h
 
+full_or_none : Laws → (tells : Bool) (words : List (List ℕ)) (before now : ShelfView) (x : Why) → MatchOption (asked words) ⊥ (DueFull tells before now) → MatchOption (asked words) ⊥ (Lacking tells before x) → ⊥
+full_or_none laws tells words before now x due h =
+    let k = both_asked (asked words) (DueFull tells before now) (Lacking tells before x) due h in
+    let r = k.0 in
+    let both = clash laws tells before now r (DueWithout before now Full r) (Valueless x r) k.1.1 k.2 in
+    let full = ends_replay r.job r.options both.0 both.1 both.2 both.3.0.0 (Without Full) k.1.0 both.3.0.1 in
+    let valueless = as_replay r.job r.options both.0 both.1 both.2 both.4.0 (Without (Meant x)) k.1.0 both.4.1 in
+    none_or_full laws r.options both.0 both.1 both.2 x both.4.0 both.3.0.0 valueless full
+
 full_due : Laws → (tells : Bool) (words : List (List ℕ)) (before now : ShelfView) (a b : SinkView) → MatchOption (asked words) ⊥ (DueFull tells before now) → (end' : Status) → IsCause tells words before now a b end' → (end' ≡ status.Full) ⊎ (end' ≡ status.Memory) ⊎ (end' ≡ status.Full)
 full_due laws tells words before now a b due status.Done h =
     let k = both_asked (asked words) (DueFull tells before now) (λ r. OnBoth (K tells before r) r (Whole tells before now a b r)) due h in
@@ -524,13 +587,8 @@ full_due laws tells words before now a b due status.Source h =
     let k = both_asked (asked words) (DueFull tells before now) (λ r. OnSource (K tells before r) r.source IsNoProgram) due h in
     absurd (no_program tells before now k.0 (DueWithout before now Full k.0) k.1.1 k.2)
 full_due laws tells words before now a b due status.Usage h = absurd (none_asked (asked words) (DueFull tells before now) h due)
-full_due laws tells words before now a b due status.Depth h =
-    let k = both_asked (asked words) (DueFull tells before now) (λ r. OnBoth (K tells before r) r (Exhausted r)) due h in
-    let r = k.0 in
-    let both = clash laws tells before now r (DueWithout before now Full r) (Exhausted r) k.1.1 k.2 in
-    let full = ends_replay r.job r.options both.0 both.1 both.2 both.3.0.0 (Without Full) k.1.0 both.3.0.1 in
-    let deep' = as_replay r.job r.options both.0 both.1 both.2 both.4.0 (Without Deep) k.1.0 both.4.1 in
-    absurd (depth_or_full laws r.options both.0 both.1 both.2 both.4.0 both.3.0.0 deep' full)
+full_due laws tells words before now a b due status.Depth h = absurd (full_or_none laws tells words before now why.Deep due h)
+full_due laws tells words before now a b due status.Trap h = absurd (full_or_none laws tells words before now why.Trap due h)
 full_due laws tells words before now a b due status.Full h = inl refl
 full_due laws tells words before now a b due status.Memory h = inr (inl refl)
 full_due laws tells words before now a b due status.ReadFault h =
@@ -625,6 +683,12 @@ module _ (laws : Laws) (tells : Bool) (before now : ShelfView) (r : Plan) where
   unfit_first (inl due) = due.first_written
   unfit_first (inr due) = due.1.first_written
 
+input_or_none : Laws → (tells : Bool) (words : List (List ℕ)) (before now : ShelfView) (x : Why) → MatchOption (asked words) ⊥ (DueRefused tells before now) → MatchOption (asked words) ⊥ (Lacking tells before x) → ⊥
+input_or_none laws tells words before now x due h =
+    let k = both_asked (asked words) (DueRefused tells before now) (Lacking tells before x) due h in
+    let r = k.0 in
+    unfit_both laws tells before now r (Valueless x r) (λ p names given d. does_accepts r.job r.options p names given d.0 (Without (Meant x)) d.1) k.1 k.2
+
 input_due : Laws → (tells : Bool) (words : List (List ℕ)) (before now : ShelfView) (a b : SinkView) → MatchOption (asked words) ⊥ (DueRefused tells before now) → (end' : Status) → IsCause tells words before now a b end' → (end' ≡ status.Input) ⊎ (end' ≡ status.Memory) ⊎ (end' ≡ status.Full)
 input_due laws tells words before now a b due status.Done h =
     let k = both_asked (asked words) (DueRefused tells before now) (λ r. OnBoth (K tells before r) r (Whole tells before now a b r)) due h in
@@ -634,10 +698,8 @@ input_due laws tells words before now a b due status.Source h =
     let k = both_asked (asked words) (DueRefused tells before now) (λ r. OnSource (K tells before r) r.source IsNoProgram) due h in
     absurd (unfit_program laws tells before now k.0 k.1 k.2)
 input_due laws tells words before now a b due status.Usage h = absurd (none_asked (asked words) (DueRefused tells before now) h due)
-input_due laws tells words before now a b due status.Depth h =
-    let k = both_asked (asked words) (DueRefused tells before now) (λ r. OnBoth (K tells before r) r (Exhausted r)) due h in
-    let r = k.0 in
-    absurd (unfit_both laws tells before now r (Exhausted r) (λ p names given d. does_accepts r.job r.options p names given d.0 (Without Deep) d.1) k.1 k.2)
+input_due laws tells words before now a b due status.Depth h = absurd (input_or_none laws tells words before now why.Deep due h)
+input_due laws tells words before now a b due status.Trap h = absurd (input_or_none laws tells words before now why.Trap due h)
 input_due laws tells words before now a b due status.Full h = inr (inr refl)
 input_due laws tells words before now a b due status.Memory h = inr (inl refl)
 input_due laws tells words before now a b due status.ReadFault h =
@@ -715,6 +777,11 @@ missing_first tells before now r (inl e) = e.1
 missing_first tells before now r (inr (inl d)) = d.0.first_written
 missing_first tells before now r (inr (inr d)) = d.first_written
 
+read_or_none : (tells : Bool) (words : List (List ℕ)) (before now : ShelfView) (x : Why) → MatchOption (asked words) ⊥ (DueMissing tells before now) → MatchOption (asked words) ⊥ (Lacking tells before x) → ⊥
+read_or_none tells words before now x due h =
+    let k = both_asked (asked words) (DueMissing tells before now) (Lacking tells before x) due h in
+    missing_both tells before now k.0 (Valueless x k.0) k.1 k.2
+
 read_due : Laws → (tells : Bool) (words : List (List ℕ)) (before now : ShelfView) (a b : SinkView) → MatchOption (asked words) ⊥ (DueMissing tells before now) → (end' : Status) → IsCause tells words before now a b end' → (end' ≡ status.ReadFault) ⊎ (end' ≡ status.Memory) ⊎ (end' ≡ status.Full)
 read_due laws tells words before now a b due status.Done h =
     let k = both_asked (asked words) (DueMissing tells before now) (λ r. OnBoth (K tells before r) r (Whole tells before now a b r)) due h in
@@ -723,9 +790,8 @@ read_due laws tells words before now a b due status.Source h =
     let k = both_asked (asked words) (DueMissing tells before now) (λ r. OnSource (K tells before r) r.source IsNoProgram) due h in
     absurd (missing_program tells before now k.0 k.1 k.2)
 read_due laws tells words before now a b due status.Usage h = absurd (none_asked (asked words) (DueMissing tells before now) h due)
-read_due laws tells words before now a b due status.Depth h =
-    let k = both_asked (asked words) (DueMissing tells before now) (λ r. OnBoth (K tells before r) r (Exhausted r)) due h in
-    absurd (missing_both tells before now k.0 (Exhausted k.0) k.1 k.2)
+read_due laws tells words before now a b due status.Depth h = absurd (read_or_none tells words before now why.Deep due h)
+read_due laws tells words before now a b due status.Trap h = absurd (read_or_none tells words before now why.Trap due h)
 read_due laws tells words before now a b due status.Full h = inr (inr refl)
 read_due laws tells words before now a b due status.Memory h = inr (inl refl)
 read_due laws tells words before now a b due status.ReadFault h = inl refl
@@ -745,7 +811,8 @@ usage_due : (tells : Bool) (words : List (List ℕ)) (before now : ShelfView) (a
 usage_due tells words before now a b due status.Done h = absurd (none_asked (asked words) (λ r. OnBoth (K tells before r) r (Whole tells before now a b r)) due h)
 usage_due tells words before now a b due status.Source h = absurd (none_asked (asked words) (λ r. OnSource (K tells before r) r.source IsNoProgram) due h)
 usage_due tells words before now a b due status.Usage h = inl refl
-usage_due tells words before now a b due status.Depth h = absurd (none_asked (asked words) (λ r. OnBoth (K tells before r) r (Exhausted r)) due h)
+usage_due tells words before now a b due status.Depth h = absurd (none_asked (asked words) (Lacking tells before why.Deep) due h)
+usage_due tells words before now a b due status.Trap h = absurd (none_asked (asked words) (Lacking tells before why.Trap) due h)
 usage_due tells words before now a b due status.Full h = inr (inr refl)
 usage_due tells words before now a b due status.Memory h = inr (inl refl)
 usage_due tells words before now a b due status.ReadFault h = absurd (none_asked (asked words) (Fails tells before now) due h)
@@ -757,7 +824,8 @@ pub due_ends : Laws → (tells : Bool) (words : List (List ℕ)) (before now : S
 due_ends laws tells words before now a b end' h status.Done due = done_due laws tells words before now a b due end' h
 due_ends laws tells words before now a b end' h status.Source due = source_due tells words before now a b due end' h
 due_ends laws tells words before now a b end' h status.Usage due = usage_due tells words before now a b due end' h
-due_ends laws tells words before now a b end' h status.Depth due = depth_due laws tells words before now a b due end' h
+due_ends laws tells words before now a b end' h status.Depth due = none_due laws tells words before now a b why.Deep due end' h
+due_ends laws tells words before now a b end' h status.Trap due = none_due laws tells words before now a b why.Trap due end' h
 due_ends laws tells words before now a b end' h status.Full due = full_due laws tells words before now a b due end' h
 due_ends laws tells words before now a b end' h status.Memory due = absurd due
 due_ends laws tells words before now a b end' h status.ReadFault due = read_due laws tells words before now a b due end' h
@@ -795,17 +863,17 @@ module _ (laws : Laws) (tells : Bool) (before now : ShelfView) where
             (as_replay r.job r.options p names given full.0 (Without Full) is full.1))
       ]
 
-  depth_or_scarce : (r : Plan) → DueDepth tells before now r → Drained tells before r → Scarce r
-  depth_or_scarce r due end' =
-      let both = clash laws tells before now r (DueWithout before now Deep r) (HasNoValue Full r) due end' in
+  none_or_scarce : (x : Why) (r : Plan) → DueNone tells before now x r → Drained tells before r → Scarce r
+  none_or_scarce x r due end' =
+      let both = clash laws tells before now r (DueWithout before now (Meant x) r) (HasNoValue Full r) due end' in
       let p = both.0 in
       let names = both.1 in
       let given = both.2 in
-      let deep' = both.3.0 in
+      let valueless = both.3.0 in
       let full = both.4 in
       elim (run_or_replay r p names given full.0 full.1) [
         | inl run ↦ run
-        | inr is ↦ absurd (depth_or_full laws r.options p names given deep'.0 full.0 (ends_replay r.job r.options p names given deep'.0 (Without Deep) is deep'.1)
+        | inr is ↦ absurd (none_or_full laws r.options p names given x valueless.0 full.0 (ends_replay r.job r.options p names given valueless.0 (Without (Meant x)) is valueless.1)
             (as_replay r.job r.options p names given full.0 (Without Full) is full.1))
       ]
 
@@ -816,7 +884,8 @@ scarce laws tells words before now a b status.Source due h =
     let k = both_asked (asked words) (DueRefusal tells before now) (Drained tells before) due h in
     absurd (a_program tells before now k.0 (HasNoValue Full k.0) k.1 k.2)
 scarce laws tells words before now a b status.Usage due h = absurd (none_asked (asked words) (Drained tells before) due h)
-scarce laws tells words before now a b status.Depth due h = inr (map_two (asked words) (DueDepth tells before now) (Drained tells before) Scarce (depth_or_scarce laws tells before now) due h)
+scarce laws tells words before now a b status.Depth due h = inr (map_two (asked words) (DueNone tells before now why.Deep) (Drained tells before) Scarce (none_or_scarce laws tells before now why.Deep) due h)
+scarce laws tells words before now a b status.Trap due h = inr (map_two (asked words) (DueNone tells before now why.Trap) (Drained tells before) Scarce (none_or_scarce laws tells before now why.Trap) due h)
 scarce laws tells words before now a b status.Full due h = inl refl
 scarce laws tells words before now a b status.Memory due h = absurd due
 scarce laws tells words before now a b status.ReadFault due h =

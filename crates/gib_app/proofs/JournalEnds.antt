@@ -1,5 +1,5 @@
 -- What the events of a journal leave, and why they leave nothing.
-use Rattle.std.proofs.Common.{◌≡◌, refl, Bool, ℕ, ◌≤◌, List, [], ◌∷◌, length, Option, Some, None, inl, inr, sym, subst, subst₂}
+use Rattle.std.proofs.Common.{◌≡◌, refl, Bool, ℕ, ◌≤◌, List, [], ◌∷◌, length, Option, None, Ok, Err, inl, inr, sym, subst, subst₂}
 use Rattle.gib_types.specs.Layout.{LaidOut}
 use Rattle.gib_types.specs.Tree.{Datum}
 use Rattle.gib_mem.specs.Memory.{Memory}
@@ -15,6 +15,7 @@ use Rattle.gib_load.specs.Placement.{Placement}
 use Rattle.gib_weave.specs.Running.{word_of}
 use Rattle.gib_weave.specs.Weave.{weave_start}
 use Rattle.gib_code.specs.declared.answer.Answer.{Answer}
+use Rattle.gib_code.specs.declared.answer.Reason.{Reason as Why}
 use Rattle.gib_weave.specs.declared.task.WeaveFault.TheVariants as event
 use Rattle.gib_locked.specs.Replays.{StopsAt}
 use Rattle.gib_locked.specs.declared.journal.Line.{Line}
@@ -40,7 +41,7 @@ use Rattle.gib_app.specs.Running.{IsInput}
 use Rattle.gib_app.specs.Stops.{IsRunStop}
 use Rattle.gib_app.specs.Workers.{Engine, engine_for, engine_of, loaded_by, start_by, GoesInto, IsBadLine, IsEndBy, IsFaultBy, IsLoaded, IsNoJournal, LeavesOpen, IsNotReplayed, IsReplayed, LacksBy, OnlyFull, StopsTo}
 use Rattle.gib_app.proofs.Imaged.{stands_again}
-use Rattle.gib_app.proofs.Leading.{IsEngineOf, same_engine, end_meant, end_stands, end_deep}
+use Rattle.gib_app.proofs.Leading.{IsEngineOf, same_engine, end_meant, end_stands, end_stopped}
 use Rattle.gib_app.proofs.Replays.{OneValue, both_on, start_alone}
 use Rattle.gib_app.proofs.Roots.{input_of}
 use Rattle.gib_app.proofs.Stopped.{stops_with}
@@ -60,7 +61,7 @@ replayed_run p input bytes s l settings lines m a of short packed file is ends =
 }
 
 -- The root stands for what the program means within the journal's depth.
-abbrev pub replayed_stands : {names : List (List ℕ)} (p : ProgramTree) (input bytes : List ℕ) (laid : LaidOut) (m : Memory) (a : Answer) (place : Root) (r : IsReplayed p names input bytes laid m a) → root_in a ≡ Some place
+abbrev pub replayed_stands : {names : List (List ℕ)} (p : ProgramTree) (input bytes : List ℕ) (laid : LaidOut) (m : Memory) (a : Answer) (place : Root) (r : IsReplayed p names input bytes laid m a) → root_in a ≡ Ok place
     → StandsMeant p names r.settings.depth input laid m.cells place
 replayed_stands p input bytes laid m a place r there =
     stands_again p r.settings.depth input (layouts_of r.settings.skips p) laid m m place place r.laid_is refl refl (end_stands p input r.value r.settings r.lines m a place r.is_input r.ended there)
@@ -69,11 +70,11 @@ replayed_stands p input bytes laid m a place r there =
 pub replayed_on : {names : List (List ℕ)} (p : ProgramTree) (input bytes : List ℕ) (laid other : LaidOut) (m n : Memory) (a : Answer) → other ≡ laid → n ≡ m → IsReplayed p names input bytes laid m a → IsReplayed p names input bytes other n a
 replayed_on {names} p input bytes laid other m n a e f r = subst₂ (λ (x : LaidOut) (y : Memory). IsReplayed p names input bytes x y a) (sym e) (sym f) r
 
--- Where there is none, depth ran out.
-pub replayed_deep : (p : ProgramTree) (names : List (List ℕ)) (image : Bool) (input bytes : List ℕ) (laid : LaidOut) (m : Memory) (a : Answer) → IsReplayed p names input bytes laid m a → root_in a ≡ None
-    → Replays p names image (record { second = input; further = bytes ∷ [] }) None (NoValue reason.Deep)
-replayed_deep p names image input bytes laid m a r nowhere =
-    let deep = end_deep p r.value r.settings r.lines m a r.ended nowhere in (
+-- Where there is none, the program means none.
+pub replayed_none : (p : ProgramTree) (names : List (List ℕ)) (image : Bool) (input bytes : List ℕ) (laid : LaidOut) (m : Memory) (a : Answer) (why : Why) → IsReplayed p names input bytes laid m a → root_in a ≡ Err why
+    → Replays p names image (record { second = input; further = bytes ∷ [] }) None (NoValue (reason.Meant why))
+replayed_none p names image input bytes laid m a why r nowhere =
+    let over = end_stopped p r.value r.settings r.lines m a why r.ended nowhere in (
       refl,
       record {
         value = r.value;
@@ -81,13 +82,13 @@ replayed_deep p names image input bytes laid m a r nowhere =
         lines = r.lines;
         is_input = r.is_input;
         is_journal = r.is_journal;
-        holds = record { memory = m; ended = subst (λ (x : Answer). IsEndOf p r.value r.settings r.lines m x) deep.0 r.ended; means = deep.1 };
+        holds = record { memory = m; ended = subst (λ (x : Answer). IsEndOf p r.value r.settings r.lines m x) over.0 r.ended; means = over.1 };
       },
     )
 
 -- Its text, and its image where one is asked for, end a replay.
 pub shown_replays : (p : ProgramTree) (names : List (List ℕ)) (image : Bool) (input bytes : List ℕ) (laid : LaidOut) (m : Memory) (a : Answer) (place : Root) (r : IsReplayed p names input bytes laid m a)
-    (there : root_in a ≡ Some place) (file : Option (List ℕ)) (e : KeptEnd) → IsShownWith image laid m place p names (replayed_stands p input bytes laid m a place r there).result file e
+    (there : root_in a ≡ Ok place) (file : Option (List ℕ)) (e : KeptEnd) → IsShownWith image laid m place p names (replayed_stands p input bytes laid m a place r there).result file e
     → EndsBy file e (Replays p names image (record { second = input; further = bytes ∷ [] }))
 shown_replays p names image input bytes laid m a place r there file (ends.Prints text) h =
     let s = replayed_stands p input bytes laid m a place r there in
@@ -117,14 +118,14 @@ pub unread_replays : (p : ProgramTree) (names : List (List ℕ)) (image : Bool) 
     → EndsBy file e (Replays p names image (record { second = input; further = [] }))
 unread_replays p names image input file (ends.Prints text) h = h
 unread_replays p names image input file (ends.Value value) h = h
-unread_replays p names image input file (ends.NoValue reason.Deep) h = h
+unread_replays p names image input file (ends.NoValue (reason.Meant why)) h = h
 unread_replays p names image input file (ends.NoValue reason.Full) h = h
 
 -- ---- Why they leave nothing
 
 nowhere_full : (l : LoweredParts) (v : Datum) (settings : Settings) (lines : List Line) → GoesInto (engine_of l) settings v → (why : Reason)
     → OnlyFull ((n : ℕ) × StopsAt l.code (start_by (engine_of l) settings (loaded_by (engine_of l) settings v)) lines n event.Full) why → OnlyFull (LacksBy (engine_of l) v settings lines) why
-nowhere_full l v settings lines goes reason.Deep h = h
+nowhere_full l v settings lines goes (reason.Meant why) h = h
 nowhere_full l v settings lines goes reason.Full h = inr (goes, h.0, h.1)
 
 -- The events lead a loaded value to no end.
@@ -202,7 +203,7 @@ module _ {names : List (List ℕ)} (one : OneValue) (p : ProgramTree) (input byt
   )
 
   full : (why : Reason) → OnlyFull (LacksBy (engine_for p settings.skips) v settings lines) why → OnlyFull (OnJournal p names input bytes (LacksChunks p)) why
-  full reason.Deep h = h
+  full (reason.Meant why) h = h
   full reason.Full h = on (LacksChunks p) h
 
   ends_nowhere : (stop : Stop) → StopsTo (engine_for p settings.skips) v settings lines stop → IsNotReplayed p names input bytes stop

@@ -1,5 +1,5 @@
 -- From what workers or a journal leave to what the program means.
-use Rattle.std.proofs.Common.{◌≡◌, ◌∙◌, refl, Bool, ℕ, ◌≤◌, List, length, Option, Some, None, true, ap, sym, subst, subst₂}
+use Rattle.std.proofs.Common.{◌≡◌, ◌∙◌, refl, Bool, ℕ, ◌≤◌, List, length, Result, Ok, Err, true, ap, sym, subst, subst₂}
 use Rattle.gib_types.specs.Layout.{LaidOut}
 use Rattle.gib_types.specs.Tree.{Datum}
 use Rattle.gib_mem.specs.Memory.{Memory}
@@ -9,7 +9,7 @@ use Rattle.gib_file.specs.Packed.{Packed, IsPacked}
 use Rattle.gib_file.specs.Surveyed.{Surveyed}
 use Rattle.gib_syntax.specs.Tree.{ProgramTree}
 use Rattle.gib_syntax.specs.Declarations.{table_of_program, input_type, output_type}
-use Rattle.gib_syntax.specs.Meaning.{Outcome, Stops, Deep, run}
+use Rattle.gib_syntax.specs.Meaning.{Outcome, Stops, run}
 use Rattle.gib_core.specs.Cost.{run_cost}
 use Rattle.gib_core.specs.LoweredParts.{LoweredParts}
 use Rattle.gib_core.specs.Meaning.{core_run}
@@ -18,11 +18,14 @@ use Rattle.gib_core.specs.Tight.{Tight}
 use Rattle.gib_core.specs.Tree.{CoreTree}
 use Rattle.gib_code.specs.declared.answer.Answer.{Answer}
 use Rattle.gib_code.specs.declared.answer.Answer.TheVariants as answer
+use Rattle.gib_code.specs.declared.answer.Reason.{Reason as Why}
+use Rattle.gib_code.specs.declared.answer.Reason.TheVariants as why
 use Rattle.gib_code.specs.Program.{CodeTree}
 use Rattle.gib_lower.specs.Lowering.{lower_program}
 use Rattle.gib_load.specs.Placement.{Placement}
 use Rattle.gib_weave.specs.Running.{word_of}
-use Rattle.gib_weave.specs.Sound.{IsAnswer}
+use Rattle.gib_machine.specs.Machine.{stopped}
+use Rattle.gib_weave.specs.Sound.{IsAnswer, means_why}
 use Rattle.gib_weave.specs.Weave.{weave_start}
 use Rattle.gib_locked.specs.JournalText.{journal_text}
 use Rattle.gib_locked.specs.Lines.{are_lines}
@@ -36,7 +39,7 @@ use Rattle.gib_app.specs.declared.stop.Stop.{Stop}
 use Rattle.gib_app.specs.Cores.{core_after, layouts_of}
 use Rattle.gib_app.specs.MachineRun.{StandsMeant, IsRootOf}
 use Rattle.gib_app.specs.Replaying.{IsEndOf, IsSetBy, IsTrace, root_in}
-use Rattle.gib_app.specs.Running.{FillsUp, IsInput, RunsOut}
+use Rattle.gib_app.specs.Running.{FillsUp, IsInput, MeansNone}
 use Rattle.gib_app.specs.Stops.{IsRunStop}
 use Rattle.gib_app.specs.Workers.{Engine, engine_for, engine_of, start_by, IsEndBy, IsLoaded, IsTraced, IsTraceStop, IsWorkersStop, OnlyFull}
 use Rattle.gib_app.proofs.Imaged.{stands_again}
@@ -74,20 +77,24 @@ end_meant p l v settings lines m a of h =
 
 -- The root that is the answer stands for what the program means.
 abbrev pub end_stands : {names : List (List ℕ)} (p : ProgramTree) (input : List ℕ) (v : Datum) (settings : Settings) (lines : List Line) (m : Memory) (a : Answer) (place : Root) → IsInput p names v input
-    → IsEndOf p v settings lines m a → root_in a ≡ Some place → StandsMeant p names settings.depth input (layouts_of settings.skips p) m.cells place
+    → IsEndOf p v settings lines m a → root_in a ≡ Ok place → StandsMeant p names settings.depth input (layouts_of settings.skips p) m.cells place
 end_stands p input v settings lines m a place is ended there =
     let laid = layouts_of settings.skips p in
     let owed = run p settings.depth v in
-    let P : Option Root → Type 0 = λ found. Rattle.std.specs.Prelude.MatchOption found (owed ≡ Stops Deep) (IsRootOf laid m.cells (output_type p) owed) in
+    let P : Result Root Why → Type 0 = λ found. Rattle.std.specs.Prelude.MatchResult found (IsRootOf laid m.cells (output_type p) owed) (λ other. owed ≡ Stops (means_why other)) in
     let root : IsRootOf laid m.cells (output_type p) owed place = subst P there (answered laid m.cells (output_type p) owed a ended.means) in
     record { value = v; result = root.result; is_input = is; means = root.means; table = table_laid p settings.skips laid refl; stands = root.stands }
 
--- Where there is none, depth ran out.
-pub end_deep : (p : ProgramTree) (v : Datum) (settings : Settings) (lines : List Line) (m : Memory) (a : Answer) → IsEndOf p v settings lines m a → root_in a ≡ None → (a ≡ answer.Deep) × (run p settings.depth v ≡ Stops Deep)
-end_deep p v settings lines m (answer.Whole z) ended nowhere = absurd cc
-end_deep p v settings lines m (answer.Truth b) ended nowhere = absurd cc
-end_deep p v settings lines m (answer.At a) ended nowhere = absurd cc
-end_deep p v settings lines m answer.Deep ended nowhere = (refl, ended.means)
+-- Where there is none, the program means none, for the answer's reason.
+pub end_stopped : (p : ProgramTree) (v : Datum) (settings : Settings) (lines : List Line) (m : Memory) (a : Answer) (other : Why) → IsEndOf p v settings lines m a → root_in a ≡ Err other
+    → (a ≡ stopped other) × (run p settings.depth v ≡ Stops (means_why other))
+end_stopped p v settings lines m (answer.Whole z) other ended nowhere = absurd cc
+end_stopped p v settings lines m (answer.Truth b) other ended nowhere = absurd cc
+end_stopped p v settings lines m (answer.At a) other ended nowhere = absurd cc
+end_stopped p v settings lines m answer.Deep why.Deep ended nowhere = (refl, ended.means)
+end_stopped p v settings lines m answer.Deep why.Trap ended nowhere = absurd cc
+end_stopped p v settings lines m answer.Trap why.Deep ended nowhere = absurd cc
+end_stopped p v settings lines m answer.Trap why.Trap ended nowhere = (refl, ended.means)
 
 -- What becomes of a value that was loaded.
 pub loaded_end : (l : LoweredParts) (v : Datum) (settings js : Settings) (chunks : ℕ) (lines : List Line) (m1 m2 : Memory) (place : Root) (tails : List ℕ) (a : Answer) → js ≡ settings → settings.chunks ≡ chunks
@@ -130,7 +137,7 @@ pub traced_stops : {names : List (List ℕ)} (p : ProgramTree) (o : Options) (in
 traced_stops {names} p o input s l of short packed file stop ends = stops_with _ _ _ _ (λ fault h. absurd h) fills stop (ends packed.0 packed.1)
   where
     fills : (why : Reason) → OnlyFull (Tight o.chunks (run_cost (core_of l.core) o.depth o.fork packed.0)) why → OnlyFull (FillsUp p names o.skips o.depth o.fork o.chunks input) why
-    fills reason.Deep h = h
+    fills (reason.Meant other) h = h
     fills reason.Full h = record {
       value = packed.0;
       is_input = input_of p input s short file packed.0 packed.1;
@@ -142,21 +149,22 @@ pub refused_trace : (p : ProgramTree) (names : List (List ℕ)) (o : Options) (i
 refused_trace p names o input stop h = stops_with _ _ _ _ (λ fault h. h) (λ why h. absurd h) stop h
 
 pub traced_stands : {names : List (List ℕ)} (p : ProgramTree) (o : Options) (input : List ℕ) (settings : Settings) (lines : List Line) (m : Memory) (a : Answer) (place : Root) → IsTraced p names o input settings lines m a
-    → root_in a ≡ Some place → StandsMeant p names o.depth input (layouts_of o.skips p) m.cells place
+    → root_in a ≡ Ok place → StandsMeant p names o.depth input (layouts_of o.skips p) m.cells place
 traced_stands {names} p o input settings lines m a place h there =
     subst₂ (λ (d : ℕ) (b : Bool). StandsMeant p names d input (layouts_of b p) m.cells place) h.set.depth h.set.skips (end_stands p input h.value settings lines m a place h.is_input h.ended there)
 
 -- So it is where the code and the memory were handed on.
 pub ran_stands : {names : List (List ℕ)} (p : ProgramTree) (o : Options) (input : List ℕ) (settings : Settings) (lines : List Line) (m n : Memory) (a : Answer) (other : LaidOut) (place : Root) → IsTraced p names o input settings lines m a
-    → other ≡ layouts_of o.skips p → n ≡ m → root_in a ≡ Some place → StandsMeant p names o.depth input other n.cells place
+    → other ≡ layouts_of o.skips p → n ≡ m → root_in a ≡ Ok place → StandsMeant p names o.depth input other n.cells place
 ran_stands p o input settings lines m n a other place h e f there =
     stands_again p o.depth input (layouts_of o.skips p) other m n place place e f refl (traced_stands p o input settings lines m a place h there)
 
-pub traced_deep : {names : List (List ℕ)} (p : ProgramTree) (o : Options) (input : List ℕ) (settings : Settings) (lines : List Line) (m : Memory) (a : Answer) → IsTraced p names o input settings lines m a → root_in a ≡ None → RunsOut p names o.depth input
-traced_deep p o input settings lines m a h nowhere = record {
+pub traced_none : {names : List (List ℕ)} (p : ProgramTree) (o : Options) (input : List ℕ) (settings : Settings) (lines : List Line) (m : Memory) (a : Answer) (other : Why) → IsTraced p names o input settings lines m a → root_in a ≡ Err other
+    → MeansNone p names o.depth input (means_why other)
+traced_none p o input settings lines m a other h nowhere = record {
   value = h.value;
   is_input = h.is_input;
-  means = subst (λ (d : ℕ). run p d h.value ≡ Stops Deep) h.set.depth (end_deep p h.value settings lines m a h.ended nowhere).1;
+  means = subst (λ (d : ℕ). run p d h.value ≡ Stops (means_why other)) h.set.depth (end_stopped p h.value settings lines m a other h.ended nowhere).1;
 }
 
 -- The text of the journal of such a run is a trace.

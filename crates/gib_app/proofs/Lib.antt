@@ -33,3 +33,5 @@ mod Stopped
 mod Leading
 mod JournalEnds
 mod Loads
+mod Repeating
+mod Ranges

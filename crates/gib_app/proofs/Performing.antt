@@ -13,7 +13,8 @@ use Rattle.gib_app.specs.declared.stop.Stop.TheVariants.{NoValue as Stopped}
 use Rattle.gib_app.specs.declared.made.End.{End as KeptEnd}
 use Rattle.gib_app.specs.declared.made.End.TheVariants as ends
 use Rattle.gib_app.specs.declared.made.Reason.{Reason}
-use Rattle.gib_app.specs.declared.made.Reason.TheVariants.{Deep, Full}
+use Rattle.gib_code.specs.declared.answer.Reason.TheVariants as why
+use Rattle.gib_app.specs.declared.made.Reason.TheVariants.{Meant, Full}
 use Rattle.gib_app.specs.declared.made.Valued.{Valued}
 use Rattle.gib_app.specs.Kept.{EndsBy, IsTextOf}
 use Rattle.gib_app.specs.Plan.{Write, Plan, Files, Contents}
@@ -118,7 +119,8 @@ pub value_files : (tells : Bool) (words : List (List ℕ)) (r : Plan) (before no
 value_files tells words r before now end' e others h = stays tells words r before now end' e others (all_stay tells r.first before now end' h)
 
 pub valueless_files : (tells : Bool) (words : List (List ℕ)) (r : Plan) (before now : Files) (reason : Reason) → asked words ≡ Some r → OthersStay r before now → FilesStay tells words before now (answer_for (Stopped reason)).status
-valueless_files tells words r before now Deep e others = stays tells words r before now status.Depth e others tt
+valueless_files tells words r before now (Meant why.Deep) e others = stays tells words r before now status.Depth e others tt
+valueless_files tells words r before now (Meant why.Trap) e others = stays tells words r before now status.Trap e others tt
 valueless_files tells words r before now Full e others = stays tells words r before now status.Full e others tt
 
 pub prints : (tells : Bool) (words : List (List ℕ)) (before now : ShelfView) (out_before out_now : SinkView) (r : Plan) (e : KeptEnd) (text : List ℕ) → asked words ≡ Some r →

@@ -1,5 +1,5 @@
 -- A replay of the journal of a trace ends as the trace did.
-use Rattle.std.proofs.Common.{◌≡◌, ◌∙◌, ◌≤◌, refl, sym, ap, subst, false, ℕ, List, [], ◌∷◌, length, Option, Some, None}
+use Rattle.std.proofs.Common.{◌≡◌, ◌∙◌, ◌≤◌, refl, sym, ap, subst, false, ℕ, List, [], ◌∷◌, length, Option, Some, None, Ok}
 use Rattle.gib_types.specs.declared.table.Ty.{Ty}
 use Rattle.gib_types.specs.Layout.{LaidOut}
 use Rattle.gib_types.specs.Tree.{Datum}
@@ -8,35 +8,41 @@ use Rattle.gib_packed.specs.declared.root.Root.{Root}
 use Rattle.gib_packed.specs.declared.root.Root.TheVariants as place
 use Rattle.gib_code.specs.declared.answer.Answer.{Answer}
 use Rattle.gib_code.specs.declared.answer.Answer.TheVariants as answer
-use Rattle.gib_weave.specs.Sound.{IsAnswer}
+use Rattle.gib_code.specs.declared.answer.Reason.{Reason}
+use Rattle.gib_code.specs.declared.answer.Reason.TheVariants as reason
+use Rattle.gib_machine.specs.Machine.{stopped}
+use Rattle.gib_weave.specs.Sound.{IsAnswer, means_why}
 use Rattle.gib_syntax.specs.Tree.{ProgramTree}
 use Rattle.gib_syntax.specs.Declarations.{table_of_program, input_type, output_type}
 use Rattle.gib_syntax.specs.Meaning.{Outcome, Gives, Stops, run}
-use Rattle.gib_syntax.specs.Meaning.{Deep as TooDeep}
-use Rattle.gib_app.specs.declared.made.Reason.TheVariants.{Deep, Full}
+use Rattle.gib_app.specs.declared.made.Reason.TheVariants.{Meant, Full}
 use Rattle.gib_app.specs.declared.plan.Job.TheVariants.{Replay, Trace}
 use Rattle.gib_app.specs.declared.plan.Options.{Options}
 use Rattle.gib_app.specs.Cores.{layouts_of}
 use Rattle.gib_app.specs.Jobs.{End, Prints, NoValue, Does, without_image}
 use Rattle.gib_app.specs.Plan.{Contents}
-use Rattle.gib_app.specs.Replaying.{IsDeepEnd, IsEndOf, IsShownEnd, IsTrace, OnJournal, journal_in, root_in}
-use Rattle.gib_app.specs.Running.{IsOutput, RunsOut, text_line}
-use Rattle.gib_app.proofs.Replays.{OneValue, both_on, some_or_none, shown_or_deep, shown_or_full, deep_or_full}
+use Rattle.gib_app.specs.Replaying.{IsEndOf, IsShownEnd, IsTrace, IsValueless, OnJournal, journal_in, root_in}
+use Rattle.gib_app.specs.Running.{IsOutput, MeansNone, text_line}
+use Rattle.gib_app.proofs.Replays.{OneValue, both_on, some_or_none, shown_or_valueless, shown_or_full, one_valueless, valueless_or_full}
 
--- An answer where a value is owed is a root, and one where depth runs out is none.
+-- An answer where a value is owed is a root, and one where none is says why.
 
 module _ (laid : LaidOut) (s : Store) (type : Ty) (owed : Outcome) where
-  root_there : (a : Answer) (v : Datum) → IsAnswer laid s type owed a → owed ≡ Gives v → (root : Root) × (root_in a ≡ Some root)
+  root_there : (a : Answer) (v : Datum) → IsAnswer laid s type owed a → owed ≡ Gives v → (root : Root) × (root_in a ≡ Ok root)
   root_there (answer.Whole z) v h e = (place.Whole z, refl)
   root_there (answer.Truth b) v h e = (place.Truth b, refl)
   root_there (answer.At x) v h e = (place.At x, refl)
   root_there answer.Deep v h e = let both = sym h ∙ e in cc
+  root_there answer.Trap v h e = let both = sym h ∙ e in cc
 
-  is_deep : (a : Answer) → IsAnswer laid s type owed a → owed ≡ Stops TooDeep → a ≡ answer.Deep
-  is_deep (answer.Whole z) h e = let both = sym h.2 ∙ e in cc
-  is_deep (answer.Truth b) h e = let both = sym h.1 ∙ e in cc
-  is_deep (answer.At x) h e = let both = sym h.3 ∙ e in cc
-  is_deep answer.Deep h e = refl
+  is_stopped : (a : Answer) (why : Reason) → IsAnswer laid s type owed a → owed ≡ Stops (means_why why) → a ≡ stopped why
+  is_stopped (answer.Whole z) why h e = let both = sym h.2 ∙ e in cc
+  is_stopped (answer.Truth b) why h e = let both = sym h.1 ∙ e in cc
+  is_stopped (answer.At x) why h e = let both = sym h.3 ∙ e in cc
+  is_stopped answer.Deep reason.Deep h e = refl
+  is_stopped answer.Deep reason.Trap h e = let both = sym h ∙ e in cc
+  is_stopped answer.Trap reason.Deep h e = let both = sym h ∙ e in cc
+  is_stopped answer.Trap reason.Trap h e = refl
 
 module _ (one : OneValue) (p : ProgramTree) (names : List (List ℕ)) (options : Options) (input bytes : List ℕ) (short : length bytes ≤ 16777216) (t : IsTrace p names options input bytes) where
   -- what the program means on the value within the depth of the options, it means within that of the journal
@@ -70,11 +76,11 @@ module _ (one : OneValue) (p : ProgramTree) (names : List (List ℕ)) (options :
         };
       }
 
-  pub deep_again : RunsOut p names options.depth input → OnJournal p names input bytes (IsDeepEnd p)
-  deep_again h =
+  pub stopped_again : (why : Reason) → MeansNone p names options.depth input (means_why why) → OnJournal p names input bytes (IsValueless p why)
+  stopped_again why h =
       let same = one (table_of_program p) _ (input_type p) h.value t.value input h.is_input.file t.is_input.file in
-      let means = means_there h.value (Stops TooDeep) same h.means in
-      let deep' = is_deep (layouts_of t.settings.skips p) t.memory.cells (output_type p) (run p t.settings.depth t.value) t.ends_with t.ended.means means in
+      let means = means_there h.value (Stops (means_why why)) same h.means in
+      let is = is_stopped (layouts_of t.settings.skips p) t.memory.cells (output_type p) (run p t.settings.depth t.value) t.ends_with why t.ended.means means in
       let E : Answer → Type 0 = IsEndOf p t.value t.settings t.lines t.memory in
       record {
         value = t.value;
@@ -82,7 +88,7 @@ module _ (one : OneValue) (p : ProgramTree) (names : List (List ℕ)) (options :
         lines = t.lines;
         is_input = t.is_input;
         is_journal = record { short = short; are = t.are; text_is = t.text_is };
-        holds = record { memory = t.memory; ended = subst E deep' t.ended; means = means };
+        holds = record { memory = t.memory; ended = subst E is t.ended; means = means };
       }
 
 one_outcome : (o : Outcome) (u v : Datum) → o ≡ Gives u → o ≡ Gives v → u ≡ v
@@ -93,7 +99,7 @@ module _ (one : OneValue) (p : ProgramTree) (names : List (List ℕ)) where
   pub replays_again : (o a : Options) (given : Contents) (bytes : List ℕ) (e : End) → length bytes ≤ 16777216 → Does Trace o p names given (Some bytes) e →
       Does Replay (without_image a) p names (record { second = given.second; further = bytes ∷ [] }) None e
   replays_again o a given bytes (Prints text) short h = shown_again one p names o given.second bytes short h.0 text h.1
-  replays_again o a given bytes (NoValue Deep) short h = (refl, deep_again one p names o given.second bytes short h.0 h.1)
+  replays_again o a given bytes (NoValue (Meant why)) short h = (refl, stopped_again one p names o given.second bytes short h.0 why h.1)
   replays_again o a given bytes (NoValue Full) short h = absurd (some_or_none bytes h.0)
 
   -- and to no other one
@@ -104,13 +110,13 @@ module _ (one : OneValue) (p : ProgramTree) (names : List (List ℕ)) where
       let again = both.4 in
       let same = one_outcome (run p both.1.depth both.0) shown.result again.result shown.means again.means in
       ap Prints (shown.is_text ∙ ap (text_line p names) same ∙ sym again.is_text)
-  one_end o a given file other (Prints x) (NoValue Deep) h k = absurd (shown_or_deep one p names given.second (journal_in given) o.image file x h k.1)
+  one_end o a given file other (Prints x) (NoValue (Meant why)) h k = absurd (shown_or_valueless one p names given.second (journal_in given) o.image file x why h k.1)
   one_end o a given file other (Prints x) (NoValue Full) h k = absurd (shown_or_full one p names given.second (journal_in given) o.image file x h k.1)
-  one_end o a given file other (NoValue Deep) (Prints y) h k = absurd (shown_or_deep one p names given.second (journal_in given) a.image other y k h.1)
-  one_end o a given file other (NoValue Deep) (NoValue Deep) h k = refl
-  one_end o a given file other (NoValue Deep) (NoValue Full) h k = absurd (deep_or_full one p names given.second (journal_in given) h.1 k.1)
+  one_end o a given file other (NoValue (Meant why)) (Prints y) h k = absurd (shown_or_valueless one p names given.second (journal_in given) a.image other y why k h.1)
+  one_end o a given file other (NoValue (Meant x)) (NoValue (Meant y)) h k = ap (λ (why : Reason). NoValue (Meant why)) (one_valueless one p names given.second (journal_in given) x y h.1 k.1)
+  one_end o a given file other (NoValue (Meant why)) (NoValue Full) h k = absurd (valueless_or_full one p names given.second (journal_in given) why h.1 k.1)
   one_end o a given file other (NoValue Full) (Prints y) h k = absurd (shown_or_full one p names given.second (journal_in given) a.image other y k h.1)
-  one_end o a given file other (NoValue Full) (NoValue Deep) h k = absurd (deep_or_full one p names given.second (journal_in given) k.1 h.1)
+  one_end o a given file other (NoValue Full) (NoValue (Meant why)) h k = absurd (valueless_or_full one p names given.second (journal_in given) why k.1 h.1)
   one_end o a given file other (NoValue Full) (NoValue Full) h k = refl
 
   pub same_end : (o a : Options) (given : Contents) (bytes : List ℕ) (file : Option (List ℕ)) (e f : End) → length bytes ≤ 16777216 → Does Trace o p names given (Some bytes) e →

@@ -15,7 +15,8 @@ use Rattle.gib_load.specs.Placement.{Open, begun, place_head, place_heads, place
 use Rattle.gib_load.specs.Preorder.{Head, heads}
 use Rattle.gib_load.specs.Spot.{further, places}
 use Rattle.gib_code.specs.declared.answer.Answer.{Answer}
-use Rattle.gib_code.specs.declared.answer.Answer.TheVariants as answer
+use Rattle.gib_code.specs.declared.answer.Reason.{Reason}
+use Rattle.gib_code.specs.declared.answer.Reason.TheVariants as reason
 use Rattle.gib_weave.specs.declared.task.WeaveFault.TheVariants as event
 use Rattle.gib_locked.specs.declared.journal.Line.{Line}
 use Rattle.gib_locked.specs.declared.settings.Settings.{Settings}
@@ -23,9 +24,12 @@ use Rattle.gib_locked.proofs.OneEnd.{not_answered}
 use Rattle.gib_locked.proofs.ReadJournal.{text_is_one}
 use Rattle.gib_syntax.specs.Tree.{ProgramTree}
 use Rattle.gib_syntax.specs.Declarations.{table_of_program, input_type}
-use Rattle.gib_syntax.specs.Meaning.{Outcome, Gives, Stops, Deep, run}
+use Rattle.gib_syntax.specs.Meaning.{Outcome, Gives, Stops, run}
+use Rattle.gib_syntax.specs.Meaning.{Reason as Meaning}
+use Rattle.gib_machine.specs.Machine.{stopped}
+use Rattle.gib_weave.specs.Sound.{means_why}
 use Rattle.gib_app.specs.Cores.{layouts_of}
-use Rattle.gib_app.specs.Replaying.{IsDeepEnd, IsEndOf, IsShownEnd, LacksChunks, OnJournal, code_for, start_for}
+use Rattle.gib_app.specs.Replaying.{IsEndOf, IsShownEnd, IsValueless, LacksChunks, OnJournal, code_for, start_for}
 
 -- A file is that of one value.
 abbrev pub OneValue : Type 0
@@ -69,25 +73,40 @@ pub ends_or_lacks : (p : ProgramTree) (v : Datum) (settings : Settings) (lines :
 ends_or_lacks p v settings lines m a e (inl no') = no' e.goes_in
 ends_or_lacks p v settings lines m a e (inr h) = not_answered (code_for p settings) (start_for p settings v) lines (start_alone p settings v) h.1 event.Full tt h.2 m a e.answered
 
-pub gives_or_stops : (o : Outcome) (v : Datum) → o ≡ Gives v → o ≡ Stops Deep → ⊥
-gives_or_stops (Gives u) v e f = cc
-gives_or_stops (Stops why) v e f = cc
+pub gives_or_stops : (o : Outcome) (v : Datum) (why : Meaning) → o ≡ Gives v → o ≡ Stops why → ⊥
+gives_or_stops (Gives u) v why e f = cc
+gives_or_stops (Stops other) v why e f = cc
+
+pub one_why : (o : Outcome) (a b : Meaning) → o ≡ Stops a → o ≡ Stops b → a ≡ b
+one_why o a b e f = let both = sym e ∙ f in cc
+
+-- what two reasons of the code mean is one, where they are one
+pub one_reason : (a b : Reason) → means_why a ≡ means_why b → a ≡ b
+one_reason reason.Deep reason.Deep e = refl
+one_reason reason.Deep reason.Trap e = cc
+one_reason reason.Trap reason.Deep e = cc
+one_reason reason.Trap reason.Trap e = refl
 
 pub some_or_none : (bytes : List ℕ) → Some bytes ≡ None → ⊥
 some_or_none bytes e = cc
 
 module _ (one : OneValue) (p : ProgramTree) (names : List (List ℕ)) (input bytes : List ℕ) where
-  pub shown_or_deep : (image : Bool) (file : Option (List ℕ)) (text : List ℕ) → OnJournal p names input bytes (IsShownEnd p names image file text) → OnJournal p names input bytes (IsDeepEnd p) → ⊥
-  shown_or_deep image file text h k =
-      let both = both_on one p input bytes (IsShownEnd p names image file text) (IsDeepEnd p) h k in
-      gives_or_stops (run p both.1.depth both.0) both.3.result both.3.means both.4.means
+  pub shown_or_valueless : (image : Bool) (file : Option (List ℕ)) (text : List ℕ) (why : Reason) → OnJournal p names input bytes (IsShownEnd p names image file text) → OnJournal p names input bytes (IsValueless p why) → ⊥
+  shown_or_valueless image file text why h k =
+      let both = both_on one p input bytes (IsShownEnd p names image file text) (IsValueless p why) h k in
+      gives_or_stops (run p both.1.depth both.0) both.3.result (means_why why) both.3.means both.4.means
+
+  pub one_valueless : (a b : Reason) → OnJournal p names input bytes (IsValueless p a) → OnJournal p names input bytes (IsValueless p b) → a ≡ b
+  one_valueless a b h k =
+      let both = both_on one p input bytes (IsValueless p a) (IsValueless p b) h k in
+      one_reason a b (one_why (run p both.1.depth both.0) (means_why a) (means_why b) both.3.means both.4.means)
 
   pub shown_or_full : (image : Bool) (file : Option (List ℕ)) (text : List ℕ) → OnJournal p names input bytes (IsShownEnd p names image file text) → OnJournal p names input bytes (LacksChunks p) → ⊥
   shown_or_full image file text h k =
       let both = both_on one p input bytes (IsShownEnd p names image file text) (LacksChunks p) h k in
       ends_or_lacks p both.0 both.1 both.2 both.3.memory both.3.ends_with both.3.ended both.4
 
-  pub deep_or_full : OnJournal p names input bytes (IsDeepEnd p) → OnJournal p names input bytes (LacksChunks p) → ⊥
-  deep_or_full h k =
-      let both = both_on one p input bytes (IsDeepEnd p) (LacksChunks p) h k in
-      ends_or_lacks p both.0 both.1 both.2 both.3.memory answer.Deep both.3.ended both.4
+  pub valueless_or_full : (why : Reason) → OnJournal p names input bytes (IsValueless p why) → OnJournal p names input bytes (LacksChunks p) → ⊥
+  valueless_or_full why h k =
+      let both = both_on one p input bytes (IsValueless p why) (LacksChunks p) h k in
+      ends_or_lacks p both.0 both.1 both.2 both.3.memory (stopped why) both.3.ended both.4

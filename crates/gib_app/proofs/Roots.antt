@@ -1,5 +1,5 @@
 -- From the end of a run over region memory to what the program means.
-use Rattle.std.proofs.Common.{◌≡◌, ◌∙◌, refl, Bool, ℤ, ℕ, ◌+◌, ◌-◌, ◌*◌, ◌≤◌, List, length, Option, Result, Ok, Err, IfOk, IfErr, MatchResult, MatchOption, sym, ap, subst, subst₂, arith}
+use Rattle.std.proofs.Common.{◌≡◌, ◌∙◌, refl, Bool, ℤ, ℕ, ◌+◌, ◌-◌, ◌*◌, ◌≤◌, List, length, Result, Ok, Err, IfOk, IfErr, MatchResult, sym, ap, subst, subst₂, arith}
 use Rattle.gib_types.specs.declared.table.Ty.{Ty}
 use Rattle.gib_types.specs.Layout.{LaidOut}
 use Rattle.gib_types.specs.Loaded.{Loaded}
@@ -19,7 +19,7 @@ use Rattle.gib_load.specs.Refusal.{Refused, at_start, at_head, Spent}
 use Rattle.gib_load.proofs.Spots.{heads_limit}
 use Rattle.gib_syntax.specs.Tree.{ProgramTree}
 use Rattle.gib_syntax.specs.Declarations.{table_of_program, input_type, output_type}
-use Rattle.gib_syntax.specs.Meaning.{Outcome, Stops, Deep, run}
+use Rattle.gib_syntax.specs.Meaning.{Outcome, Stops, run}
 use Rattle.gib_core.specs.Cost.{Cost, run_cost, body_cost}
 use Rattle.gib_core.specs.Low.{laid_of}
 use Rattle.gib_core.specs.LoweredParts.{LoweredParts}
@@ -29,11 +29,12 @@ use Rattle.gib_core.specs.Tight.{Tight}
 use Rattle.gib_core.specs.Tree.{CoreTree}
 use Rattle.gib_code.specs.declared.answer.Answer.{Answer}
 use Rattle.gib_code.specs.declared.answer.Answer.TheVariants as answer
+use Rattle.gib_code.specs.declared.answer.Reason.{Reason as Why}
 use Rattle.gib_weave.specs.declared.root_run.RunFault.{RunFault}
 use Rattle.gib_weave.specs.declared.root_run.RunFault.TheVariants as fault
 use Rattle.gib_weave.specs.Running.{IsStart, RunEnds}
 use Rattle.gib_pool.specs.Runs.{IsRun}
-use Rattle.gib_weave.specs.Sound.{IsAnswer}
+use Rattle.gib_weave.specs.Sound.{IsAnswer, means_why}
 use Rattle.gib_arena.specs.declared.sole_mem.SoleMem.{SoleMem}
 use Rattle.gib_app.specs.declared.machine_run.Ran.{Ran}
 use Rattle.gib_app.specs.declared.made.Reason.{Reason}
@@ -87,12 +88,13 @@ module _ (laid : LaidOut) (s : Store) (ty : Ty) (owed : Outcome) where
   pub tree_stands : (a : ℕ) → IsAnswer laid s ty owed (answer.At a) → IsRootOf laid s ty owed (root.At a)
   tree_stands a h = record { result = h.1; means = h.3; stands = subst (λ (t : Ty). Stands laid s (root.At a) t h.1) (sym h.2) (a_tree {t = record { 0 = h.0 }} h.4.dec) }
 
--- An answer is a root for what was owed, or none, where depth ran out.
-pub answered : (laid : LaidOut) (s : Store) (ty : Ty) (owed : Outcome) (a : Answer) → IsAnswer laid s ty owed a → MatchOption (root_in a) (owed ≡ Stops Deep) (IsRootOf laid s ty owed)
+-- An answer is a root for what was owed, or says why there is none.
+pub answered : (laid : LaidOut) (s : Store) (ty : Ty) (owed : Outcome) (a : Answer) → IsAnswer laid s ty owed a → MatchResult (root_in a) (IsRootOf laid s ty owed) (λ other. owed ≡ Stops (means_why other))
 answered laid s ty owed (answer.Whole z) h = whole_stands laid s ty owed z h
 answered laid s ty owed (answer.Truth b) h = truth_stands laid s ty owed b h
 answered laid s ty owed (answer.At a) h = tree_stands laid s ty owed a h
 answered laid s ty owed answer.Deep h = h
+answered laid s ty owed answer.Trap h = h
 
 -- The run of one worker is one that may nest no forks.
 pub alone_is_run : (l : LoweredParts) (depth : ℕ) (v : Datum) (m m' : Memory) (end' : Result Answer RunFault) → RunEnds l depth v m m' end' → IsRun l depth 0 v m m' end'
@@ -101,13 +103,13 @@ alone_is_run l depth v m m' (Err fault.Full) h = h
 alone_is_run l depth v m m' (Err fault.Memory) h = h
 
 -- The answer with which a run ends is such a root, or none.
-pub answer_ends : (l : LoweredParts) (depth forks : ℕ) (v : Datum) (m m' : Memory) (end' : Result Answer RunFault) (a : Answer) (found : Option Root) → end' ≡ Ok a → found ≡ root_in a → IsRun l depth forks v m m' end'
-    → MatchOption found (core_run (core_of l.core) depth v ≡ Stops Deep) (IsRootOf l.code.laid m'.cells (core_of l.core).main.result (core_run (core_of l.core) depth v))
+pub answer_ends : (l : LoweredParts) (depth forks : ℕ) (v : Datum) (m m' : Memory) (end' : Result Answer RunFault) (a : Answer) (found : Result Root Why) → end' ≡ Ok a → found ≡ root_in a → IsRun l depth forks v m m' end'
+    → MatchResult found (IsRootOf l.code.laid m'.cells (core_of l.core).main.result (core_run (core_of l.core) depth v)) (λ other. core_run (core_of l.core) depth v ≡ Stops (means_why other))
 answer_ends l depth forks v m m' end' a found is there ends =
     let owed = core_run (core_of l.core) depth v in
     let ty = (core_of l.core).main.result in
     let ended = subst (λ (e : Result Answer RunFault). IsRun l depth forks v m m' e) is ends in
-    subst (λ (o : Option Root). MatchOption o (owed ≡ Stops Deep) (IsRootOf l.code.laid m'.cells ty owed)) (sym there) (answered l.code.laid m'.cells ty owed a ended)
+    subst (λ (o : Result Root Why). MatchResult o (IsRootOf l.code.laid m'.cells ty owed) (λ other. owed ≡ Stops (means_why other))) (sym there) (answered l.code.laid m'.cells ty owed a ended)
 
 -- What is packed by the survey's table is so by that of the layouts.
 pub packed_in : (l : LoweredParts) (laid : LaidOut) (s : Surveyed) (v : Datum) → laid ≡ l.code.laid → s.table ≡ l.code.laid.table → Packed s.table s.ty v s.bytes → Packed laid.table s.ty v s.bytes
@@ -173,7 +175,7 @@ root_meant {names} p skips depth input v l l' s place of is e h =
 
 lacks_meant : {names : List (List ℕ)} (p : ProgramTree) (skips : Bool) (depth forks chunks : ℕ) (input : List ℕ) (v : Datum) (l : LoweredParts) → IsOfProgram p skips l → IsInput p names v input → (why : Reason)
     → Lacks (core_run (core_of l.core) depth v) chunks (run_cost (core_of l.core) depth forks v) why → LacksValue p names skips depth forks chunks input why
-lacks_meant p skips depth forks chunks input v l of is reason.Deep h = record { value = v; is_input = is; means = sym (of.means depth v) ∙ h }
+lacks_meant p skips depth forks chunks input v l of is (reason.Meant other) h = record { value = v; is_input = is; means = sym (of.means depth v) ∙ h }
 lacks_meant p skips depth forks chunks input v l of is reason.Full h = record {
   value = v;
   is_input = is;

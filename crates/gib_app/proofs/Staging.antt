@@ -46,6 +46,7 @@ first_stay tells before mid now first status.Memory h k =
 first_stay tells before mid now first status.ReadFault h k = λ name. k name ∙ h name
 first_stay tells before mid now first status.WriteFault h k = tt
 first_stay tells before mid now first status.Input h k = λ name. k name ∙ h name
+first_stay tells before mid now first status.Trap h k = tt
 
 -- ---- The first writes failed
 

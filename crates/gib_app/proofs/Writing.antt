@@ -29,6 +29,7 @@ stays_from tells first f g now status.Memory e h = (h.0, made_from tells f g now
 stays_from tells first f g now status.ReadFault e h = made_from tells f g now first e h
 stays_from tells first f g now status.WriteFault e h = h
 stays_from tells first f g now status.Input e h = made_from tells f g now first e h
+stays_from tells first f g now status.Trap e h = h
 
 pub take_all : {X : Type 0} (xs : List X) → take (length xs) xs ≡ xs
 take_all [] = refl
@@ -45,6 +46,7 @@ all_stay tells first before now status.Memory h = (length first, let P : List Wr
 all_stay tells first before now status.ReadFault h = h
 all_stay tells first before now status.WriteFault h = tt
 all_stay tells first before now status.Input h = h
+all_stay tells first before now status.Trap h = tt
 
 -- One write.
 

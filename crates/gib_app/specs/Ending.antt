@@ -5,15 +5,16 @@ use Rattle.gib_edge.specs.Causes.{Rose}
 use Rattle.gib_edge.specs.Views.{Has, Missing, ShelfView, SinkView}
 use Rattle.gib_types.specs.Tree.{Datum}
 use Rattle.gib_syntax.specs.Tree.{ProgramTree}
+use Rattle.gib_code.specs.declared.answer.Reason.TheVariants as why
 use Rattle.gib_app.specs.declared.input_fault.InputFault.{InputFault}
 use Rattle.gib_app.specs.declared.plan.Job.{Job}
 use Rattle.gib_app.specs.declared.plan.Job.TheVariants.{Run, Gen, Trace, Replay}
 use Rattle.gib_app.specs.declared.source_fault.SourceFault.{SourceFault}
 use Rattle.gib_app.specs.declared.status.Status.{Status}
-use Rattle.gib_app.specs.declared.status.Status.TheVariants.{Done, Source, Usage, Depth, Full, Memory, ReadFault, WriteFault, Input}
+use Rattle.gib_app.specs.declared.status.Status.TheVariants.{Done, Source, Usage, Depth, Full, Memory, ReadFault, WriteFault, Input, Trap}
 use Rattle.gib_app.specs.declared.made.Reason.{Reason}
 use Rattle.gib_app.specs.declared.made.Reason.TheVariants as reason
-use Rattle.gib_app.specs.declared.made.Reason.TheVariants.{Deep}
+use Rattle.gib_app.specs.declared.made.Reason.TheVariants.{Meant}
 use Rattle.gib_app.specs.Plan.{Write, Plan, Files, bytes_in, Contents}
 use Rattle.gib_app.specs.Writes.{at_reading, AreMade, IsNamedIn, IsTarget}
 use Rattle.gib_app.specs.Words.{asked}
@@ -36,13 +37,13 @@ IsWriteEnding tells words before now out_before out_now said =
 
 -- Why a call ends with a status, and the line that tells it: what is asked for was made, put and written; the source is no
 -- program, by this fault; the words are not taken; the meaning runs out of depth; chunks may run out; this file could not be read,
--- or not be written; the inputs are none that the job accepts, by this fault. Want of memory is free.
+-- or not be written; the inputs are none that the job accepts, by this fault; the meaning is a division by 0. Want of memory is free.
 abbrev pub IsEnding : Bool → List (List ℕ) → ShelfView → ShelfView → SinkView → SinkView → Status → List ℕ → Type 0
 IsEnding tells words before now out_before out_now Done said = IsPrinted tells words before now out_before out_now × (said ≡ [])
 IsEnding tells words before now out_before out_now Source said =
     (fault : SourceFault) × AsksSource tells words before.kept (λ bytes. IsSourceFault bytes fault × IsNoProgram bytes) × (said ≡ line (source_text fault))
 IsEnding tells words before now out_before out_now Usage said = (asked words ≡ None) × (said ≡ line (codes "usage"))
-IsEnding tells words before now out_before out_now Depth said = AsksProgram tells words before.kept (EndsWithout tells before now Deep) × (said ≡ line (codes "depth"))
+IsEnding tells words before now out_before out_now Depth said = AsksProgram tells words before.kept (EndsWithout tells before now (Meant why.Deep)) × (said ≡ line (codes "depth"))
 IsEnding tells words before now out_before out_now Full said = AsksProgram tells words before.kept (EndsWithout tells before now reason.Full) × (said ≡ line (codes "chunks"))
 IsEnding tells words before now out_before out_now Memory said = said ≡ line (codes "memory")
 IsEnding tells words before now out_before out_now ReadFault said =
@@ -53,6 +54,7 @@ IsEnding tells words before now out_before out_now Input said =
     × MatchOption (asked words) ⊥
     (λ plan. OnReached (at_reading tells before.kept plan) plan (λ p names given. Refuses plan.job plan.options p names given fault × (Accepts plan.job plan.options p names given → ⊥)))
     × (said ≡ line (input_text fault))
+IsEnding tells words before now out_before out_now Trap said = AsksProgram tells words before.kept (EndsWithout tells before now (Meant why.Trap)) × (said ≡ line (codes "division by zero"))
 
 -- Not the name of a file that the words ask to write.
 abbrev pub IsNoTarget : List (List ℕ) → List ℕ → Type 0
@@ -74,6 +76,7 @@ StaysAfter tells first before now Memory = (count : ℕ) × AreMade tells before
 StaysAfter tells first before now ReadFault = AreMade tells before now first
 StaysAfter tells first before now WriteFault = ⊤
 StaysAfter tells first before now Input = AreMade tells before now first
+StaysAfter tells first before now Trap = ⊤
 
 -- What names hold stays, but for the files that are to be written; and where no job was done, for those that are written first.
 pub record FilesStay (tells : Bool) (words : List (List ℕ)) (before now : Files) (status : Status) : Type 0 where
@@ -191,13 +194,14 @@ IsDue tells words before now out_before out_now Done =
     (λ plan. DueOfFiles tells before now plan (HasText plan) × TakesAll before now out_before out_now plan)
 IsDue tells words before now out_before out_now Source = MatchOption (asked words) ⊥ (λ plan. DueOfSource tells before now plan IsNoProgram)
 IsDue tells words before now out_before out_now Usage = asked words ≡ None
-IsDue tells words before now out_before out_now Depth = MatchOption (asked words) ⊥ (λ plan. DueOfFiles tells before now plan (DueWithout before now Deep plan))
+IsDue tells words before now out_before out_now Depth = MatchOption (asked words) ⊥ (λ plan. DueOfFiles tells before now plan (DueWithout before now (Meant why.Deep) plan))
 IsDue tells words before now out_before out_now Full =
     MatchOption (asked words) ⊥ (λ plan. (plan.job ≡ Replay) × DueOfFiles tells before now plan (DueWithout before now reason.Full plan))
 IsDue tells words before now out_before out_now Memory = ⊥
 IsDue tells words before now out_before out_now ReadFault = MatchOption (asked words) ⊥ (DueMissing tells before now)
 IsDue tells words before now out_before out_now WriteFault = ⊥
 IsDue tells words before now out_before out_now Input = MatchOption (asked words) ⊥ (DueRefused tells before now)
+IsDue tells words before now out_before out_now Trap = MatchOption (asked words) ⊥ (λ plan. DueOfFiles tells before now plan (DueWithout before now (Meant why.Trap) plan))
 
 -- The words ask for `run`, `gen` or `trace`: of the other jobs `replay` alone uses chunks of region memory, and its journal tells
 -- whether these run out.

@@ -8,7 +8,7 @@ use Rattle.gib_syntax.specs.Tree.{ProgramTree}
 use Rattle.gib_syntax.specs.Source.{Spells}
 use Rattle.gib_syntax.specs.Declarations.{table_of_program, input_type, output_type}
 use Rattle.gib_syntax.specs.Typing.{IsTypedProgram}
-use Rattle.gib_syntax.specs.Meaning.{Gives, Stops, Deep, run}
+use Rattle.gib_syntax.specs.Meaning.{Reason, Deep, Trap, Gives, Stops, run}
 use Rattle.gib_edge.specs.Causes.{Rose}
 use Rattle.gib_edge.specs.Views.{Has, ShelfView, SinkView}
 use Rattle.gib_core.specs.Cost.{run_cost}
@@ -62,10 +62,18 @@ pub record IsResultImage (source input : List ℕ) (skips : Bool) (depth chunks 
   pub image : IsImageOf (layouts_of skips given.program) (output_type given.program) bytes result
   pub few : chunk_count bytes ≤ chunks
 
--- The program's meaning on the input runs out of depth.
-pub record IsTooDeep (source input : List ℕ) (depth : ℕ) : Type 0 where
+-- The program means no value on the input within the depth, for this reason.
+pub record HasNoResult (source input : List ℕ) (depth : ℕ) (why : Reason) : Type 0 where
   pub given : Given source input
-  pub means : run given.program depth given.value ≡ Stops Deep
+  pub means : run given.program depth given.value ≡ Stops why
+
+-- Its meaning runs out of depth: a call comes with no depth left.
+abbrev pub IsTooDeep : (source input : List ℕ) → (depth : ℕ) → Type 0
+IsTooDeep source input depth = HasNoResult source input depth Deep
+
+-- Its meaning is a division by 0.
+abbrev pub DividesByZero : (source input : List ℕ) → (depth : ℕ) → Type 0
+DividesByZero source input depth = HasNoResult source input depth Trap
 
 -- So many chunks may not be enough for what the run costs, where so many calls and forks may be nested.
 pub record IsTooBig (source input : List ℕ) (skips : Bool) (depth forks chunks : ℕ) : Type 0 where

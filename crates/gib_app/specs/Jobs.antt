@@ -4,16 +4,17 @@ use Rattle.gib_syntax.specs.Tree.{ProgramTree}
 use Rattle.gib_core.specs.CoreText.{core_text}
 use Rattle.gib_code.specs.ListingText.{listing_text}
 use Rattle.gib_lower.specs.Lowering.{lower_program}
+use Rattle.gib_weave.specs.Sound.{means_why}
 use Rattle.gib_app.specs.declared.plan.Job.{Job}
 use Rattle.gib_app.specs.declared.plan.Job.TheVariants.{Run, Plain, Check, Core, Code, Pack, Show, Gen, Trace, Replay}
 use Rattle.gib_app.specs.declared.plan.Options.{Options}
 use Rattle.gib_app.specs.declared.made.Reason.{Reason}
-use Rattle.gib_app.specs.declared.made.Reason.TheVariants.{Deep, Full}
+use Rattle.gib_app.specs.declared.made.Reason.TheVariants.{Meant, Full}
 use Rattle.gib_app.specs.Plan.{Contents}
-use Rattle.gib_app.specs.Running.{IsOutput, IsSummary, IsRunImage, RunsOut, FillsUp, IsShown}
+use Rattle.gib_app.specs.Running.{IsOutput, IsSummary, IsRunImage, MeansNone, FillsUp, IsShown}
 use Rattle.gib_app.specs.Packing.{IsPackedBy}
 use Rattle.gib_app.specs.Cores.{core_after}
-use Rattle.gib_app.specs.Replaying.{journal_in, IsTrace, OnJournal, IsShownEnd, IsDeepEnd, LacksChunks}
+use Rattle.gib_app.specs.Replaying.{journal_in, IsTrace, OnJournal, IsShownEnd, IsValueless, LacksChunks}
 
 -- How a job ends: with a text that is printed, or with no value to print.
 pub data End : Type 0 where
@@ -29,10 +30,10 @@ OnlyPrints P file (NoValue reason) = ⊥
 abbrev pub ok_line : List ℕ
 ok_line = codes "ok" ++ 10 ∷ []
 
--- `plain`: the text of the value that the program means on the input within the depth; or that is too deep.
+-- `plain`: the text of the value that the program means on the input within the depth; or it means none.
 abbrev pub Means : ProgramTree → List (List ℕ) → ℕ → List ℕ → Option (List ℕ) → End → Type 0
 Means p names depth input file (Prints text) = (file ≡ None) × IsOutput p names depth input text
-Means p names depth input file (NoValue Deep) = (file ≡ None) × RunsOut p names depth input
+Means p names depth input file (NoValue (Meant why)) = (file ≡ None) × MeansNone p names depth input (means_why why)
 Means p names depth input file (NoValue Full) = ⊥
 
 -- Where an image is asked for, it is the file that a run makes; else there is none.
@@ -48,7 +49,7 @@ run_forks options = if nat_lt 1 options.workers then options.fork else 0
 -- `run`: the same, and its image, where that is asked for; or so many chunks of memory may not be enough.
 abbrev pub Runs : ProgramTree → List (List ℕ) → Options → List ℕ → Option (List ℕ) → End → Type 0
 Runs p names options input file (Prints text) = MakesImage options.image p names options.skips options.depth options.chunks input file × IsOutput p names options.depth input text
-Runs p names options input file (NoValue Deep) = (file ≡ None) × RunsOut p names options.depth input
+Runs p names options input file (NoValue (Meant why)) = (file ≡ None) × MeansNone p names options.depth input (means_why why)
 Runs p names options input file (NoValue Full) = (file ≡ None) × FillsUp p names options.skips options.depth (run_forks options) options.chunks input
 
 -- `pack`: the packed file of the value whose text, or whose packed file, this is.
@@ -56,11 +57,11 @@ abbrev pub Packs : ProgramTree → List (List ℕ) → Options → List ℕ → 
 Packs p names options bytes file (Prints text) = (packed : List ℕ) × (file ≡ Some packed) × IsPackedBy options.repacks options.first_version p names bytes packed × (text ≡ ok_line)
 Packs p names options bytes file (NoValue reason) = ⊥
 
--- `gen`: the line about the value that the program means on the input within the depth; or that is too deep; or so many chunks of
+-- `gen`: the line about the value that the program means on the input within the depth; or it means none; or so many chunks of
 -- memory may not be enough.
 abbrev pub Sums : ProgramTree → List (List ℕ) → Options → List ℕ → Option (List ℕ) → End → Type 0
 Sums p names options input file (Prints text) = (file ≡ None) × IsSummary p names options.number options.levels options.depth input text
-Sums p names options input file (NoValue Deep) = (file ≡ None) × RunsOut p names options.depth input
+Sums p names options input file (NoValue (Meant why)) = (file ≡ None) × MeansNone p names options.depth input (means_why why)
 Sums p names options input file (NoValue Full) = (file ≡ None) × FillsUp p names options.skips options.depth (run_forks options) options.chunks input
 
 -- The journal of a run on the input, where there is a file.
@@ -68,17 +69,17 @@ abbrev pub MakesTrace : ProgramTree → List (List ℕ) → Options → List ℕ
 MakesTrace p names options input None = ⊥
 MakesTrace p names options input (Some bytes) = IsTrace p names options input bytes
 
--- `trace`: as `run`, with the journal of the run also where that is too deep; or so many chunks of memory may not be enough.
+-- `trace`: as `run`, with the journal of the run also where the program means no value; or so many chunks of memory may not be enough.
 abbrev pub Traces : ProgramTree → List (List ℕ) → Options → List ℕ → Option (List ℕ) → End → Type 0
 Traces p names options input file (Prints text) = MakesTrace p names options input file × IsOutput p names options.depth input text
-Traces p names options input file (NoValue Deep) = MakesTrace p names options input file × RunsOut p names options.depth input
+Traces p names options input file (NoValue (Meant why)) = MakesTrace p names options input file × MeansNone p names options.depth input (means_why why)
 Traces p names options input file (NoValue Full) = (file ≡ None) × FillsUp p names options.skips options.depth options.fork options.chunks input
 
 -- `replay`: the text of the value to which the events of the journal lead, and its image, where that is asked for; or they lead to a
--- root whose depth ran out; or to where chunks run out.
+-- root that ended without a value; or to where chunks run out.
 abbrev pub Replays : ProgramTree → List (List ℕ) → (image : Bool) → Contents → Option (List ℕ) → End → Type 0
 Replays p names image given file (Prints text) = OnJournal p names given.second (journal_in given) (IsShownEnd p names image file text)
-Replays p names image given file (NoValue Deep) = (file ≡ None) × OnJournal p names given.second (journal_in given) (IsDeepEnd p)
+Replays p names image given file (NoValue (Meant why)) = (file ≡ None) × OnJournal p names given.second (journal_in given) (IsValueless p why)
 Replays p names image given file (NoValue Full) = (file ≡ None) × OnJournal p names given.second (journal_in given) (LacksChunks p)
 
 -- What a job with these options makes, for the program with these names, of the bytes of its inputs: a file, or none, and its

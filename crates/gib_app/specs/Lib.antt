@@ -26,3 +26,5 @@ pub mod Readings
 pub mod Performing
 pub mod FirstWrites
 pub mod Headline
+pub mod Repeating
+pub mod Ranges

@@ -10,18 +10,19 @@ use Rattle.gib_packed.specs.Stands.{Stands}
 use Rattle.gib_packed.specs.declared.root.Root.{Root}
 use Rattle.gib_syntax.specs.Tree.{ProgramTree}
 use Rattle.gib_syntax.specs.Declarations.{table_of_program, output_type}
-use Rattle.gib_syntax.specs.Meaning.{Outcome, Gives, Stops, Deep, run}
+use Rattle.gib_syntax.specs.Meaning.{Outcome, Gives, Stops, run}
 use Rattle.gib_core.specs.Cost.{Cost, run_cost}
 use Rattle.gib_core.specs.LoweredParts.{LoweredParts}
 use Rattle.gib_core.specs.Meaning.{core_run}
 use Rattle.gib_core.specs.Parts.{core_of}
 use Rattle.gib_core.specs.Tight.{Tight}
+use Rattle.gib_weave.specs.Sound.{means_why}
 use Rattle.gib_app.specs.declared.made.Reason.{Reason}
 use Rattle.gib_app.specs.declared.made.Reason.TheVariants as reason
 use Rattle.gib_app.specs.declared.stop.Stop.{Stop}
 use Rattle.gib_app.specs.Cores.{core_after}
 use Rattle.gib_app.specs.InputFaults.{IsInputFault}
-use Rattle.gib_app.specs.Running.{IsInput, RunsOut, FillsUp}
+use Rattle.gib_app.specs.Running.{IsInput, MeansNone, FillsUp}
 use Rattle.gib_app.specs.Stops.{StopsBy}
 
 -- The bytes of a memory.
@@ -41,9 +42,9 @@ pub record StandsMeant (p : ProgramTree) (names : List (List ℕ)) (depth : ℕ)
 abbrev pub program_cost : ProgramTree → (skips : Bool) → (depth forks : ℕ) → Datum → Cost
 program_cost p skips depth forks v = run_cost (core_after skips 4 p) depth forks v
 
--- Why a program has no value on an input: its meaning runs out of depth, or so many chunks may not be enough.
+-- Why a program has no value on an input: it means none, for a reason, or so many chunks may not be enough.
 abbrev pub LacksValue : ProgramTree → List (List ℕ) → (skips : Bool) → (depth forks chunks : ℕ) → (input : List ℕ) → Reason → Type 0
-LacksValue p names skips depth forks chunks input reason.Deep = RunsOut p names depth input
+LacksValue p names skips depth forks chunks input (reason.Meant why) = MeansNone p names depth input (means_why why)
 LacksValue p names skips depth forks chunks input reason.Full = FillsUp p names skips depth forks chunks input
 
 -- Why a run leaves no root.
@@ -59,7 +60,7 @@ pub record IsRootOf (laid : LaidOut) (s : Store) (ty : Ty) (owed : Outcome) (pla
 
 -- Why there is no value, where this outcome was owed, and the run costs so much at most.
 abbrev pub Lacks : Outcome → (chunks : ℕ) → Cost → Reason → Type 0
-Lacks owed chunks most reason.Deep = owed ≡ Stops Deep
+Lacks owed chunks most (reason.Meant why) = owed ≡ Stops (means_why why)
 Lacks owed chunks most reason.Full = Tight chunks most
 
 -- Why a run leaves no root, where this outcome was owed, and the run costs so much at most.

@@ -1,5 +1,5 @@
 -- What a journal is to a program and an input, and where its events lead.
-use Rattle.std.specs.Prelude.{◌≡◌, ◌≤◌, ◌⊎◌, ℕ, List, [], ◌∷◌, length, Bool, true, false, Option, Some, None}
+use Rattle.std.specs.Prelude.{◌≡◌, ◌≤◌, ◌⊎◌, ℕ, List, [], ◌∷◌, length, Bool, true, false, Option, Some, None, Result, Ok, Err}
 use Rattle.gib_types.specs.declared.table.Ty.{Ty}
 use Rattle.gib_types.specs.Layout.{LaidOut}
 use Rattle.gib_types.specs.Tree.{Datum}
@@ -9,15 +9,18 @@ use Rattle.gib_packed.specs.declared.root.Root.{Root}
 use Rattle.gib_packed.specs.declared.root.Root.TheVariants as place
 use Rattle.gib_print.specs.Image.{IsImageOf, image_of}
 use Rattle.gib_syntax.specs.Declarations.{output_type}
-use Rattle.gib_syntax.specs.Meaning.{Gives, Stops, Deep, run}
+use Rattle.gib_syntax.specs.Meaning.{Gives, Stops, run}
 use Rattle.gib_syntax.specs.Tree.{ProgramTree}
 use Rattle.gib_code.specs.declared.answer.Answer.{Answer}
 use Rattle.gib_code.specs.declared.answer.Answer.TheVariants as answer
+use Rattle.gib_code.specs.declared.answer.Reason.{Reason}
+use Rattle.gib_code.specs.declared.answer.Reason.TheVariants as reason
 use Rattle.gib_code.specs.Program.{CodeTree}
 use Rattle.gib_lower.specs.Lowering.{lower_program}
 use Rattle.gib_load.specs.Placement.{Placement, placed_in}
+use Rattle.gib_machine.specs.Machine.{stopped}
 use Rattle.gib_weave.specs.Running.{word_of}
-use Rattle.gib_weave.specs.Sound.{IsAnswer}
+use Rattle.gib_weave.specs.Sound.{IsAnswer, means_why}
 use Rattle.gib_weave.specs.Weave.{Weave, weave_start}
 use Rattle.gib_weave.specs.declared.task.WeaveFault.TheVariants as event
 use Rattle.gib_locked.specs.declared.journal.Line.{Line}
@@ -100,12 +103,13 @@ pub record OnJournal (p : ProgramTree) (names : List (List ℕ)) (input bytes : 
 abbrev pub Happens : ProgramTree → Datum → Settings → List Line → Type 0
 Happens p v settings lines = ((memory : Memory) × (a : Answer) × IsEndOf p v settings lines memory a) ⊎ LacksChunks p v settings lines
 
--- The root that an answer is; the one that is none says that depth ran out.
-abbrev pub root_in : Answer → Option Root
-root_in (answer.Whole z) = Some (place.Whole z)
-root_in (answer.Truth b) = Some (place.Truth b)
-root_in (answer.At a) = Some (place.At a)
-root_in answer.Deep = None
+-- The root that an answer is, or why there is none.
+abbrev pub root_in : Answer → Result Root Reason
+root_in (answer.Whole z) = Ok (place.Whole z)
+root_in (answer.Truth b) = Ok (place.Truth b)
+root_in (answer.At a) = Ok (place.At a)
+root_in answer.Deep = Err reason.Deep
+root_in answer.Trap = Err reason.Trap
 
 -- What a run by workers is started with.
 pub record IsSetBy (options : Options) (settings : Settings) : Type 0 where
@@ -141,13 +145,13 @@ pub record IsShownEnd (p : ProgramTree) (names : List (List ℕ)) (image : Bool)
   pub place : Root
   pub result : Datum
   pub ended : IsEndOf p v settings lines memory ends_with
-  pub is_place : root_in ends_with ≡ Some place
+  pub is_place : root_in ends_with ≡ Ok place
   pub means : run p settings.depth v ≡ Gives result
   pub is_text : text ≡ text_line p names result
   pub is_file : IsImageFile image (layouts_of settings.skips p) (output_type p) memory place result file
 
--- They lead to a root whose depth ran out.
-pub record IsDeepEnd (p : ProgramTree) (v : Datum) (settings : Settings) (lines : List Line) : Type 0 where
+-- They lead to a root that ended without a value, for this reason.
+pub record IsValueless (p : ProgramTree) (why : Reason) (v : Datum) (settings : Settings) (lines : List Line) : Type 0 where
   pub memory : Memory
-  pub ended : IsEndOf p v settings lines memory answer.Deep
-  pub means : run p settings.depth v ≡ Stops Deep
+  pub ended : IsEndOf p v settings lines memory (stopped why)
+  pub means : run p settings.depth v ≡ Stops (means_why why)

@@ -10,7 +10,7 @@ use Rattle.gib_print.specs.Image.{IsImageOf, chunk_count}
 use Rattle.gib_print.specs.ImageReading.{IsRead}
 use Rattle.gib_syntax.specs.Declarations.{table_of_program, input_type, output_type}
 use Rattle.gib_syntax.specs.Typing.{IsTypedProgram}
-use Rattle.gib_syntax.specs.Meaning.{Gives, Stops, Deep, run}
+use Rattle.gib_syntax.specs.Meaning.{Reason, Gives, Stops, run}
 use Rattle.gib_gen.specs.Summary.{summary_line}
 use Rattle.gib_core.specs.Cost.{run_cost}
 use Rattle.gib_core.specs.Tight.{Tight}
@@ -65,11 +65,11 @@ pub record IsRunImage (p : ProgramTree) (names : List (List ℕ)) (skips : Bool)
   pub image : IsImageOf (layouts_of skips p) (output_type p) bytes result
   pub few : chunk_count bytes ≤ chunks
 
--- The program's meaning on the input runs out of depth.
-pub record RunsOut (p : ProgramTree) (names : List (List ℕ)) (depth : ℕ) (input : List ℕ) : Type 0 where
+-- The program means no value on the input within the depth, for this reason.
+pub record MeansNone (p : ProgramTree) (names : List (List ℕ)) (depth : ℕ) (input : List ℕ) (why : Reason) : Type 0 where
   pub value : Datum
   pub is_input : IsInput p names value input
-  pub means : run p depth value ≡ Stops Deep
+  pub means : run p depth value ≡ Stops why
 
 -- So many chunks may not be enough for what the run of the program on the input costs, where so many calls and forks may be nested.
 pub record FillsUp (p : ProgramTree) (names : List (List ℕ)) (skips : Bool) (depth forks chunks : ℕ) (input : List ℕ) : Type 0 where

@@ -1,5 +1,6 @@
 -- What a call answers to a stop: its status, and what its line says.
 use Rattle.std.specs.Prelude.{ℕ, List, ◌++◌, codes}
+use Rattle.gib_code.specs.declared.answer.Reason.TheVariants as why
 use Rattle.gib_app.specs.declared.answer.Answer.{Answer as KeptAnswer}
 use Rattle.gib_app.specs.declared.made.Reason.TheVariants as reason
 use Rattle.gib_app.specs.declared.status.Status.{Status}
@@ -19,7 +20,8 @@ answer_for Usage = record { status = status.Usage; said = codes "usage" }
 answer_for (Source fault) = record { status = status.Source; said = source_text fault }
 answer_for (Unread name) = record { status = status.ReadFault; said = codes "cannot read " ++ name.now }
 answer_for (Input fault) = record { status = status.Input; said = input_text fault }
-answer_for (NoValue reason.Deep) = record { status = status.Depth; said = codes "depth" }
+answer_for (NoValue (reason.Meant why.Deep)) = record { status = status.Depth; said = codes "depth" }
+answer_for (NoValue (reason.Meant why.Trap)) = record { status = status.Trap; said = codes "division by zero" }
 answer_for (NoValue reason.Full) = record { status = status.Full; said = codes "chunks" }
 answer_for Memory = record { status = status.Memory; said = codes "memory" }
 answer_for (Unwritten name) = record { status = status.WriteFault; said = codes "cannot write " ++ name.now }

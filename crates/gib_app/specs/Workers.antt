@@ -29,7 +29,7 @@ use Rattle.gib_app.specs.declared.input_fault.InputFault.{InputFault}
 use Rattle.gib_app.specs.declared.input_fault.InputFault.TheVariants.{Long, Packed, Image, Text, Journal}
 use Rattle.gib_app.specs.declared.input_fault.JournalFault.TheVariants as journal
 use Rattle.gib_app.specs.declared.made.Reason.{Reason}
-use Rattle.gib_app.specs.declared.made.Reason.TheVariants.{Deep, Full}
+use Rattle.gib_app.specs.declared.made.Reason.TheVariants.{Meant, Full}
 use Rattle.gib_app.specs.declared.plan.Options.{Options}
 use Rattle.gib_app.specs.declared.stop.Stop.{Stop}
 use Rattle.gib_app.specs.Cores.{core_after, layouts_of}
@@ -101,9 +101,9 @@ LeadsNowhere code start lines (Journal journal.NotEnded) = IsLeftOpen code start
 abbrev pub IsFaultBy : Engine → Datum → Settings → List Line → InputFault → Type 0
 IsFaultBy e v settings lines fault = GoesInto e settings v × LeadsNowhere e.code (start_by e settings (loaded_by e settings v)) lines fault
 
--- There is no value for want of chunks, of which this holds, and not for want of depth.
+-- There is no value for want of chunks, of which this holds, and for no other reason.
 abbrev pub OnlyFull : Type 0 → Reason → Type 0
-OnlyFull T Deep = ⊥
+OnlyFull T (Meant why) = ⊥
 OnlyFull T Full = T
 
 -- Why the events of a journal lead a weave to no end, as a stop.

@@ -7,7 +7,7 @@ ghost use Rattle.gib_app.specs.declared.plan.Options.{Options as OptionValues};
 ghost use Rattle.gib_app.specs.declared.status.Status.{Status as Statuses};
 ghost use Rattle.gib_app.specs.Ending.{IsEnding};
 ghost use Rattle.gib_app.specs.Jobs.{run_forks};
-ghost use Rattle.gib_app.specs.Headline.{IsRun, Given, IsResult, IsResultImage, IsTooDeep, IsTooBig, NoneFailed};
+ghost use Rattle.gib_app.specs.Headline.{IsRun, Given, IsResult, IsResultImage, IsTooDeep, DividesByZero, IsTooBig, NoneFailed};
 
 use crate::status::Status;
 use gib_file::one_file;
@@ -30,27 +30,34 @@ pub fn run_prints_what_is_meant()
     // Status 3: the meaning runs out of depth.
     ensures deep { (tells : Bool) (words : List (List ℕ)) (before now : ShelfView) (out out_now : SinkView) (source input : List ℕ) (options : OptionValues) (front said : List ℕ)
         → IsRun words before out source input options front → IsEnding tells words before now out out_now Status.Depth said → IsTooDeep source input options.depth }
+    // Status 9: the meaning is a division by 0.
+    ensures trapped { (tells : Bool) (words : List (List ℕ)) (before now : ShelfView) (out out_now : SinkView) (source input : List ℕ) (options : OptionValues) (front said : List ℕ)
+        → IsRun words before out source input options front → IsEnding tells words before now out out_now Status.Trap said → DividesByZero source input options.depth }
     // Status 4: the chunks of memory may not be enough for what the run costs.
     ensures full { (tells : Bool) (words : List (List ℕ)) (before now : ShelfView) (out out_now : SinkView) (source input : List ℕ) (options : OptionValues) (front said : List ℕ)
         → IsRun words before out source input options front → IsEnding tells words before now out out_now Status.Full said → IsTooBig source input options.skips options.depth (run_forks options) options.chunks }
 
-    // The other way round: where the program means a value, the status is 0 and no other, and where its meaning runs out of
-    // depth it is 3; unless memory or its chunks run out, or a file or `out` failed.
+    // The other way round: where the program means a value, the status is 0 and no other; where its meaning runs out of depth it is
+    // 3, and where that is a division by 0 it is 9; unless memory or its chunks run out, or a file or `out` failed.
     ensures ends_done { (tells : Bool) (words : List (List ℕ)) (before now : ShelfView) (out out_now : SinkView) (source input : List ℕ) (options : OptionValues) (front output said : List ℕ) (status : Statuses)
         → (r : IsRun words before out source input options front) → NoneFailed r.program r.packed r.image before now out out_now → IsResult source input options.depth output
         → IsEnding tells words before now out out_now status said → (status ≡ Status.Done) ⊎ (status ≡ Status.Memory) ⊎ (status ≡ Status.Full) }
     ensures ends_deep { (tells : Bool) (words : List (List ℕ)) (before now : ShelfView) (out out_now : SinkView) (source input : List ℕ) (options : OptionValues) (front said : List ℕ) (status : Statuses)
         → (r : IsRun words before out source input options front) → NoneFailed r.program r.packed r.image before now out out_now → IsTooDeep source input options.depth
         → IsEnding tells words before now out out_now status said → (status ≡ Status.Depth) ⊎ (status ≡ Status.Memory) ⊎ (status ≡ Status.Full) }
-    // Where so many chunks are enough for what the run costs, they do not run out: the status is 0 or 3, and never 4.
+    ensures ends_trapped { (tells : Bool) (words : List (List ℕ)) (before now : ShelfView) (out out_now : SinkView) (source input : List ℕ) (options : OptionValues) (front said : List ℕ) (status : Statuses)
+        → (r : IsRun words before out source input options front) → NoneFailed r.program r.packed r.image before now out out_now → DividesByZero source input options.depth
+        → IsEnding tells words before now out out_now status said → (status ≡ Status.Trap) ⊎ (status ≡ Status.Memory) ⊎ (status ≡ Status.Full) }
+    // Where so many chunks are enough for what the run costs, they do not run out: the status is 0, 3 or 9, and never 4.
     ensures fits { (tells : Bool) (words : List (List ℕ)) (before now : ShelfView) (out out_now : SinkView) (source input : List ℕ) (options : OptionValues) (front said : List ℕ) (status : Statuses)
         → (r : IsRun words before out source input options front) → NoneFailed r.program r.packed r.image before now out out_now → Given source input
         → (IsTooBig source input options.skips options.depth (run_forks options) options.chunks → ⊥)
-        → IsEnding tells words before now out out_now status said → (status ≡ Status.Done) ⊎ (status ≡ Status.Depth) ⊎ (status ≡ Status.Memory) }
+        → IsEnding tells words before now out out_now status said → (status ≡ Status.Done) ⊎ (status ≡ Status.Depth) ⊎ (status ≡ Status.Trap) ⊎ (status ≡ Status.Memory) }
 
-    // There is one result at most, and none where the meaning runs out of depth.
+    // There is one result at most, none where the meaning runs out of depth or is a division by 0, and these exclude one another.
     ensures one { (source input : List ℕ) (depth : ℕ) (output other : List ℕ) → IsResult source input depth output → IsResult source input depth other → output ≡ other }
-    ensures none { (source input : List ℕ) (depth : ℕ) (output : List ℕ) → IsResult source input depth output → IsTooDeep source input depth → ⊥ }
+    ensures none { (source input : List ℕ) (depth : ℕ) (output : List ℕ) → IsResult source input depth output → IsTooDeep source input depth ⊎ DividesByZero source input depth → ⊥ }
+    ensures either { (source input : List ℕ) (depth : ℕ) → IsTooDeep source input depth → DividesByZero source input depth → ⊥ }
 {
     one_reading();
     one_program();

@@ -55,7 +55,7 @@ pub fn one_input_fault(compiled: &Compiled)
 }
 
 /// A replay repeats its trace: the journal that a trace writes, where it is not too long, is accepted by a replay on the same input,
-/// which ends with the same text, or runs out of depth as the trace did.
+/// which ends with the same text, or without a value for the same reason.
 pub fn a_replay_repeats_its_trace()
     ensures same { (options others : Options) (p : ProgramTree) (names : List (List ℕ)) (given : Contents) (journal : List ℕ) (file : Option (List ℕ)) (ended again : End) → length journal ≤ 16777216
         → Does Trace options p names given (Some journal) ended → Does Replay others p names (record { second = given.second; further = journal ∷ [] }) file again → ended ≡ again }

@@ -1,6 +1,6 @@
 //! Runs a program by one worker or more, from the bytes of a packed file to a root in region memory, and prints from there.
 
-ghost use Rattle.std.specs.Prelude.{◌≡◌, ◌≤◌, ◌+◌, ◌++◌, ◌∷◌, ℕ, List, length, IfOk, IfErr, OnOk, OnErr, IsErrOf, MatchResult, IfNone, IfSome, None, Some};
+ghost use Rattle.std.specs.Prelude.{◌≡◌, ◌≤◌, ◌+◌, ◌++◌, ◌∷◌, ℕ, List, length, IfOk, IfErr, OnOk, OnErr, IsErrOf, MatchResult, Ok, Err};
 ghost use Rattle.gib_edge.specs.Causes.{Rose, Appends, AppendsPart, PutsPieces, PutsSomePieces};
 ghost use Rattle.gib_types.specs.Tree.{Datum};
 ghost use Rattle.gib_mem.specs.Memory.{Memory};
@@ -57,30 +57,35 @@ pub struct Ran<M> {
     pub root: Root,
 }
 
-/// The root that an answer of the machine is; the one that is none says that depth ran out.
-fn root_in(answer: Answer) -> Option<Root>
+/// The root that an answer of the machine is, or why there is none.
+fn root_in(answer: Answer) -> Result<Root, gib_code::Reason>
     ensures { result ≡ root_in answer }
 {
     match answer {
-        Answer::Whole(value) => Some(Root::Whole(value)),
-        Answer::Truth(value) => Some(Root::Truth(value)),
-        Answer::At(address) => Some(Root::At(address)),
-        Answer::Deep => None,
+        Answer::Whole(value) => Ok(Root::Whole(value)),
+        Answer::Truth(value) => Ok(Root::Truth(value)),
+        Answer::At(address) => Ok(Root::At(address)),
+        Answer::Deep => Err(gib_code::Reason::Deep),
+        Answer::Trap => Err(gib_code::Reason::Trap),
     }
 }
 
-/// What a run leaves that ended with this answer; none where depth ran out.
-pub fn ran_of<M: Drop>(lowered: Lowered, memory: M, answer: Answer) -> Option<Ran<M>>
-    ensures none { IfNone result (root_in answer ≡ None) }
-    ensures some { IfSome result (λ ran. (root_in answer ≡ Some ran.root) × (ran.memory ≡ memory) × (ran.lowered ≡ lowered)) }
+/// What a run leaves that ended with this answer, or why there is no value.
+pub fn ran_of<M: Drop>(
+    lowered: Lowered,
+    memory: M,
+    answer: Answer,
+) -> Result<Ran<M>, gib_code::Reason>
+    ensures none { IfErr result (λ why. root_in answer ≡ Err why) }
+    ensures some { IfOk result (λ ran. (root_in answer ≡ Ok ran.root) × (ran.memory ≡ memory) × (ran.lowered ≡ lowered)) }
 {
     match root_in(answer) {
-        Some(root) => Some(Ran {
+        Ok(root) => Ok(Ran {
             lowered,
             memory,
             root,
         }),
-        None => None,
+        Err(why) => Err(why),
     }
 }
 
@@ -90,8 +95,8 @@ fn end_of(end: Result<Answer, RunFault>) -> Result<Root, Stop<'static>>
 {
     match end {
         Ok(answer) => match root_in(answer) {
-            Some(root) => Ok(root),
-            None => Err(Stop::NoValue(Reason::Deep)),
+            Ok(root) => Ok(root),
+            Err(why) => Err(Stop::NoValue(Reason::Meant(why))),
         },
         Err(RunFault::Memory) => Err(Stop::Memory),
         Err(RunFault::Full) => Err(Stop::NoValue(Reason::Full)),
@@ -207,8 +212,8 @@ fn run_survey<R: Threads + Wait + Sync, G: Gate + Sync>(
 ///
 /// # Errors
 ///
-/// `Input` where the bytes are no packed file of a value of the type of main's parameter; else `NoValue`: `Deep` where the
-/// meaning runs out of depth, and `Full` where so many chunks may not be enough. `Memory`: want of memory.
+/// `Input` where the bytes are no packed file of a value of the type of main's parameter; else `NoValue`: `Meant` where the
+/// program means no value, with the reason, and `Full` where so many chunks may not be enough. `Memory`: want of memory.
 pub fn run_packed<R: Threads + Wait + Sync, G: Gate + Sync>(
     alloc: Global,
     runtime: Runtime<'_, R, G>,

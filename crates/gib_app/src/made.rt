@@ -7,8 +7,8 @@ use gib_base::Names;
 /// Why a job ends without a value.
 #[derive(Clone, Copy, Debug, PartialEq, Eq)]
 pub enum Reason {
-    /// The program's meaning runs out of depth.
-    Deep,
+    /// The program means none on the input, for this reason.
+    Meant(gib_code::Reason),
     /// So many chunks of region memory may not be enough for what the run costs; in a replay they are not.
     Full,
 }

@@ -23,6 +23,8 @@ pub enum Status {
     WriteFault,
     /// The input is refused.
     Input,
+    /// The program divides by 0.
+    Trap,
 }
 
 impl Status {
@@ -42,6 +44,7 @@ impl Status {
             Status::ReadFault => 6,
             Status::WriteFault => 7,
             Status::Input => 8,
+            Status::Trap => 9,
         }
     }
 }

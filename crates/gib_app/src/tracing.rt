@@ -1,11 +1,12 @@
 //! Runs a program by workers over one lock, and keeps the journal of what happened.
 
-ghost use Rattle.std.specs.Prelude.{◌≡◌, ◌≤◌, length, IfOk, IfErr, IfSome};
+ghost use Rattle.std.specs.Prelude.{◌≡◌, ◌≤◌, length, false, IfOk, IfErr, MatchOption};
 ghost use Rattle.gib_types.specs.Tree.{Datum};
 ghost use Rattle.gib_file.specs.Packed.{Packed};
 ghost use Rattle.gib_core.specs.Cost.{run_cost};
 ghost use Rattle.gib_core.specs.Parts.{core_of};
 ghost use Rattle.gib_core.specs.Tight.{Tight};
+ghost use Rattle.gib_locked.specs.Limits.{are_settings};
 ghost use Rattle.gib_lower.specs.Lowering.{lower_program};
 ghost use Rattle.gib_syntax.specs.Parts.{program_of};
 ghost use Rattle.gib_app.specs.Cores.{core_after, layouts_of};
@@ -40,9 +41,9 @@ pub struct TracedRun {
     pub traced: Traced,
 }
 
-/// What workers start with; none where an option is past its limits.
+/// What workers start with; none exactly where an option is past its limits, which no words ask for (`option_law`).
 fn settings_of(options: Options) -> Option<Settings>
-    ensures { IfSome result (IsSetBy options) }
+    ensures { MatchOption result (are_settings options.depth options.chunks options.fork ≡ false) (IsSetBy options) }
 {
     Settings::make(options.depth, options.chunks, options.fork, options.skips)
 }

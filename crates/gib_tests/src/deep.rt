@@ -58,6 +58,7 @@ fn is_size(outcome: &Outcome, size: Option<i64>) -> bool {
             _ => false,
         },
         Outcome::Deep => size.is_none(),
+        Outcome::Trap => false,
     }
 }
 

@@ -78,7 +78,11 @@ struct Row<'a> {
 }
 
 /// A source, a packed input and a journal.
-fn three_files<'x>(source: &'x str, input: &'x [u8], journal: &'x str) -> [(&'x str, &'x [u8]); 3] {
+pub fn three_files<'x>(
+    source: &'x str,
+    input: &'x [u8],
+    journal: &'x str,
+) -> [(&'x str, &'x [u8]); 3] {
     [
         ("a.gib", source.as_bytes()),
         ("a.gbp", input),

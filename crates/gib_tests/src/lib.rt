@@ -14,6 +14,8 @@ mod cores;
 #[cfg(test)]
 mod deep;
 #[cfg(test)]
+mod divisions;
+#[cfg(test)]
 mod failing;
 #[cfg(test)]
 mod files;

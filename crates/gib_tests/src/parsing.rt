@@ -183,7 +183,7 @@ fn a_token_that_may_not_stand_there(rt: HostRuntime) -> Result<(), Fail> {
 }
 
 /// Texts and the places of their faults.
-const FAULTS: [(&[u8], u32); 20] = [
+const FAULTS: [(&[u8], u32); 25] = [
     (b"main ( n : Int ) : Int = 1 ; main", 29),
     (b"main ( n : Int ) : Int = f let x = 1 in x ;", 27),
     (b"main ( n : Int ) : Int = ( let x = 1 in x + 1 ) ;", 42),
@@ -207,6 +207,15 @@ const FAULTS: [(&[u8], u32); 20] = [
     (b"data T = A ; ;", 13),
     (b"", 0),
     (b"-- nothing\n", 11),
+    // `quot` and `rem` are words, and no names.
+    (
+        b"fun quot ( x : Int ) : Int = x ; main ( n : Int ) : Int = 1 ;",
+        4,
+    ),
+    (b"main ( rem : Int ) : Int = 1 ;", 7),
+    (b"main ( n : Int ) : Int = let quot = 1 in n ;", 29),
+    (b"main ( n : Int ) : Int = rem n ;", 25),
+    (b"main ( n : Int ) : Int = n quot 2 ;", 27),
 ];
 
 #[test]

@@ -98,7 +98,7 @@ pub fn read_value(alloc: Global, typed: &Typed, file: &[u8]) -> Option<Value>
     unpack(alloc, survey).ok()
 }
 
-/// The text of what a program gives on a value; `deep` where its calls nest deeper than this.
+/// The text of what a program gives on a value; `deep` where its calls nest deeper than this, `trap` where it divides by 0.
 pub fn run(
     alloc: Global,
     compiled: &Compiled,
@@ -114,6 +114,7 @@ pub fn run(
     let result = match plain(alloc, &compiled.typed, value, depth) {
         Ok(Outcome::Gives(result)) => result,
         Ok(Outcome::Deep) => return Vec::from_slice(alloc, b"deep"),
+        Ok(Outcome::Trap) => return Vec::from_slice(alloc, b"trap"),
         Err(_) => return Err(AllocError),
     };
     let types = compiled.typed.types();

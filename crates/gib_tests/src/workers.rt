@@ -76,7 +76,7 @@ fn replays<R: Threads + Wait + Sync>(
 }
 
 /// Whether a trace of a row by so many workers, with so many forks nested, ends so, with a journal that is replayed to the same end.
-fn traces<R: Threads + Wait + Sync>(
+pub fn traces<R: Threads + Wait + Sync>(
     rt: &R,
     alloc: Global,
     row: &Row<'_>,
@@ -120,15 +120,18 @@ fn traces_by_any_number_of_workers_and_forks_end_so(rt: HostRuntime) -> Result<(
     Ok(())
 }
 
-/// Whether a trace without forks writes these bytes.
+/// Whether a trace of a source on a payload writes this text, and these bytes.
 fn writes<R: Threads + Wait + Sync>(
     rt: &R,
     alloc: Global,
+    source: &str,
+    payload: &[u8],
+    out: &str,
     journal: &[u8],
 ) -> Result<bool, AllocError> {
     let words = ["gib", "trace", "a.gib", "a.gbp", "a.gbj"];
-    let input = packed(alloc, FIVE)?;
-    let files = two_files(PLUS_ONE, "a.gbp", &input);
+    let input = packed(alloc, payload)?;
+    let files = two_files(source, "a.gbp", &input);
     let left = [("a.gbj", Some(journal))];
     ends_with(
         rt,
@@ -137,7 +140,7 @@ fn writes<R: Threads + Wait + Sync>(
         &files,
         End {
             status: Status::Done,
-            out: "6\n",
+            out,
             err: "",
         },
         &left,
@@ -149,7 +152,26 @@ fn a_run_without_forks_has_a_short_journal(rt: HostRuntime) -> Result<(), Fail> 
     let alloc = rt.alloc();
     let journal =
         "gibj 2\ndepth 10000 chunks 1024 fork 4 skips 0\nstep 0 2\nfinish 0\nend\n".as_bytes();
-    assert!(rt; writes(&rt, alloc, journal)?);
+    assert!(rt; writes(&rt, alloc, PLUS_ONE, FIVE, "6\n", journal)?);
+    Ok(())
+}
+
+// One worker steals nothing, though the right side waits while its own task has events: it takes it where the two meet.
+#[test]
+fn a_worker_has_its_own_tasks_first(rt: HostRuntime) -> Result<(), Fail> {
+    let alloc = rt.alloc();
+    let journal =
+        "gibj 2\ndepth 10000 chunks 1024 fork 4 skips 0\nstep 0 7\nfork 0\nstep 0 11\ntake 0\nstep 0 16\nfinish 0\nend\n".as_bytes();
+    assert!(rt;
+        writes(
+            &rt,
+            alloc,
+            ADD_ONE,
+            TWO_LEAVES,
+            "(Node (Leaf 2) (Leaf 3))\n",
+            journal
+        )?
+    );
     Ok(())
 }
 

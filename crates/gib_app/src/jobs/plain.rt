@@ -1,10 +1,11 @@
 //! `plain`: prints what a program means on an input, by the plain evaluator.
 
-ghost use Rattle.std.specs.Prelude.{◌≡◌, ◌≤◌, length, IfOk, IfErr, MatchOption};
+ghost use Rattle.std.specs.Prelude.{◌≡◌, ◌≤◌, length, IfOk, IfErr, MatchResult};
 ghost use Rattle.gib_types.specs.Tree.{Datum, HasType};
 ghost use Rattle.gib_syntax.specs.Parts.{program_of};
 ghost use Rattle.gib_syntax.specs.Declarations.{table_of_program, input_type};
-ghost use Rattle.gib_syntax.specs.Meaning.{run, Gives, Stops, Deep};
+ghost use Rattle.gib_syntax.specs.Meaning.{run, Gives, Stops};
+ghost use Rattle.gib_weave.specs.Sound.{means_why};
 ghost use Rattle.gib_app.specs.Running.{text_line};
 ghost use Rattle.gib_app.specs.Jobs.{Means};
 ghost use Rattle.gib_app.specs.Kept.{EndsBy, file_of};
@@ -22,27 +23,29 @@ use gib_syntax::law::results_are_typed;
 use gib_value::Value;
 use std::alloc::Global;
 
-/// The text of the value that a program means, with a line feed; none where its meaning runs out of depth.
+/// The text of the value that a program means, with a line feed, or why there is none.
 fn evaluate(
     alloc: Global,
     compiled: &Compiled,
     value: Value,
     depth: u32,
-) -> Result<Option<Vec<u8>>, Memory>
+) -> Result<Result<Vec<u8>, gib_code::Reason>, Memory>
     requires ready { IsReady (program_of compiled.now.typed) compiled.now.names }
     requires typed { HasType (table_of_program (program_of compiled.now.typed)) value (input_type (program_of compiled.now.typed)) }
-    ensures { IfOk result (λ found. MatchOption found (run (program_of compiled.now.typed) depth value ≡ Stops Deep)
-        (λ output. (u : Datum) × (run (program_of compiled.now.typed) depth value ≡ Gives u) × (output.items ≡ text_line (program_of compiled.now.typed) compiled.now.names u))) }
+    ensures { IfOk result (λ found. MatchResult found
+        (λ output. (u : Datum) × (run (program_of compiled.now.typed) depth value ≡ Gives u) × (output.items ≡ text_line (program_of compiled.now.typed) compiled.now.names u))
+        (λ why. run (program_of compiled.now.typed) depth value ≡ Stops (means_why why))) }
 {
     let _program = compiled.typed.program();
     results_are_typed();
     let result = match evaluated(alloc, &compiled.typed, value, depth) {
         Ok(Outcome::Gives(result)) => result,
-        Ok(Outcome::Deep) => return Ok(None),
+        Ok(Outcome::Deep) => return Ok(Err(gib_code::Reason::Deep)),
+        Ok(Outcome::Trap) => return Ok(Err(gib_code::Reason::Trap)),
         Err(memory) => return Err(memory),
     };
     match value_line(alloc, compiled, &result) {
-        Ok(output) => Ok(Some(output)),
+        Ok(output) => Ok(Ok(output)),
         Err(memory) => Err(memory),
     }
 }
@@ -68,8 +71,8 @@ pub fn plain(
         Err(stop) => return Err(stop),
     };
     match evaluate(alloc, compiled, value, depth) {
-        Ok(Some(text)) => Ok(only_prints(text)),
-        Ok(None) => Ok(no_value(Reason::Deep)),
+        Ok(Ok(text)) => Ok(only_prints(text)),
+        Ok(Err(why)) => Ok(no_value(Reason::Meant(why))),
         Err(_) => Err(Stop::Memory),
     }
 }

@@ -46,8 +46,9 @@ pub fn replay(
         Err(stop) => return of_stop(stop),
     };
     let Replayed { answer, memory } = replayed;
-    let Some(ran) = ran_of(lowered, memory, answer) else {
-        return Ok(no_value(Reason::Deep));
+    let ran = match ran_of(lowered, memory, answer) {
+        Ok(ran) => ran,
+        Err(why) => return Ok(no_value(Reason::Meant(why))),
     };
     match shown(alloc, ran, &compiled.names, image) {
         Ok(made) => Ok(made),

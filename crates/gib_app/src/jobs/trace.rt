@@ -29,7 +29,7 @@ use std::alloc::Global;
 use std::sync::Wait;
 use std::thread::Threads;
 
-/// What such a run leaves: its journal, and the text of its value or that depth ran out.
+/// What such a run leaves: its journal, and the text of its value or why there is none.
 fn left_of(alloc: Global, run: TracedRun, names: &Names) -> Result<Made, Stop<'static>>
     requires names { AreHeld run.lowered.code.laid.table names.now }
     requires traced { (p : ProgramTree) × (options : OptionValues) × (input : List ℕ) × IsTraced p names.now options input run.traced.journal.settings run.traced.journal.lines.all.items (⟦<PlainMem as Mem>⟧.view run.traced.memory) run.traced.answer
@@ -47,11 +47,14 @@ fn left_of(alloc: Global, run: TracedRun, names: &Names) -> Result<Made, Stop<'s
     let Ok(file) = write_journal(alloc, &journal) else {
         return Err(Stop::Memory);
     };
-    let Some(mut ran) = ran_of(lowered, memory, answer) else {
-        return Ok(Made {
-            file: Some(file),
-            end: End::NoValue(Reason::Deep),
-        });
+    let mut ran = match ran_of(lowered, memory, answer) {
+        Ok(ran) => ran,
+        Err(why) => {
+            return Ok(Made {
+                file: Some(file),
+                end: End::NoValue(Reason::Meant(why)),
+            });
+        }
     };
     match text_of(alloc, &mut ran, names) {
         Ok(text) => Ok(Made {
@@ -63,7 +66,7 @@ fn left_of(alloc: Global, run: TracedRun, names: &Names) -> Result<Made, Stop<'s
 }
 
 /// What a program means on the bytes of an input, within the depth, by workers over one lock, and the journal of what happened. It is made
-/// too where depth runs out.
+/// too where the program means no value.
 ///
 /// # Errors
 ///

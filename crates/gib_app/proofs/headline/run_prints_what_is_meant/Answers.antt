@@ -1,5 +1,5 @@
 use Rattle.gib_app.proofs.Endings.{Laws}
-use Rattle.gib_app.proofs.Headlines.{run_done, run_image, run_deep, run_full, run_ends_done, run_ends_deep, run_fits, one_result, no_result}
+use Rattle.gib_app.proofs.Headlines.{run_done, run_image, run_deep, run_trapped, run_full, run_ends_done, run_ends_deep, run_ends_trapped, run_fits, one_result, no_result, not_either}
 use Rattle.gib_app.proofs.headline.run_prints_what_is_meant.Goals as goal
 
 pub returns-clause-done : goal.returns-clause-done
@@ -10,6 +10,9 @@ returns-clause-image c = run_image
 
 pub returns-clause-deep : goal.returns-clause-deep
 returns-clause-deep c = run_deep
+
+pub returns-clause-trapped : goal.returns-clause-trapped
+returns-clause-trapped c = run_trapped
 
 pub returns-clause-full : goal.returns-clause-full
 returns-clause-full c = run_full
@@ -22,6 +25,10 @@ pub returns-clause-ends_deep : goal.returns-clause-ends_deep
 returns-clause-ends_deep c =
     let laws : Laws = record { lexed = c.one_reading.ensures; parsed = c.one_program.ensures; filed = c.one_file.ensures.value } in run_ends_deep laws
 
+pub returns-clause-ends_trapped : goal.returns-clause-ends_trapped
+returns-clause-ends_trapped c =
+    let laws : Laws = record { lexed = c.one_reading.ensures; parsed = c.one_program.ensures; filed = c.one_file.ensures.value } in run_ends_trapped laws
+
 pub returns-clause-fits : goal.returns-clause-fits
 returns-clause-fits c =
     let laws : Laws = record { lexed = c.one_reading.ensures; parsed = c.one_program.ensures; filed = c.one_file.ensures.value } in run_fits laws
@@ -33,3 +40,7 @@ returns-clause-one c =
 pub returns-clause-none : goal.returns-clause-none
 returns-clause-none c =
     let laws : Laws = record { lexed = c.one_reading.ensures; parsed = c.one_program.ensures; filed = c.one_file.ensures.value } in no_result laws
+
+pub returns-clause-either : goal.returns-clause-either
+returns-clause-either c =
+    let laws : Laws = record { lexed = c.one_reading.ensures; parsed = c.one_program.ensures; filed = c.one_file.ensures.value } in not_either laws

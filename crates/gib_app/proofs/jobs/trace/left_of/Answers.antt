@@ -3,32 +3,32 @@ use Rattle.gib_mem.specs.Memory.{Memory}
 use Rattle.gib_mem.specs.Plain.{plain_memory}
 use Rattle.gib_mem.specs.declared.plain.PlainMem.{PlainMem}
 use Rattle.gib_core.specs.LoweredParts.{LoweredParts}
-use Rattle.gib_app.proofs.Leading.{ran_stands, trace_of, traced_deep}
+use Rattle.gib_app.proofs.Leading.{ran_stands, trace_of, traced_none}
 use Rattle.gib_app.proofs.jobs.trace.left_of.Goals as goal
 
 abbrev view : PlainMem → Memory
 view m = plain_memory m.bytes.items m.drawn m.limit
 
-pub returns-in_default-ran_of-clause-made : goal.returns-in_default-ran_of-clause-made
-returns-in_default-ran_of-clause-made c = λ p o input h laid.
+pub returns-in-Err-clause-made : goal.returns-in-Err-clause-made
+returns-in-Err-clause-made c = λ p o input h laid.
     let traced = c.args.run.traced in
     let settings = traced.journal.settings in
     let lines = traced.journal.lines.all.items in (
       trace_of p o input c.in-Ok.file.items settings lines (view traced.memory) traced.answer h traced.journal.lines.are c.in-Ok.ensures,
-      traced_deep p o input settings lines (view traced.memory) traced.answer h c.in_default-ran_of.ensures.none,
+      traced_none p o input settings lines (view traced.memory) traced.answer c.in-Err.why h c.in-Err.ensures.none,
     )
 
 pub text_of-requires-clause-stands : goal.text_of-requires-clause-stands
 text_of-requires-clause-stands c =
     let t = c.requires.traced in
     let traced = c.args.run.traced in
-    let ran = c.in-Some.ran in
-    let laid = ap (λ (l : LoweredParts). l.code.laid) c.in-Some.ensures.some.2 ∙ t.4 in (
+    let ran = c.in-Ok-ran_of.ran in
+    let laid = ap (λ (l : LoweredParts). l.code.laid) c.in-Ok-ran_of.ensures.some.2 ∙ t.4 in (
       t.0,
       t.1.depth,
       t.2,
       ran_stands t.0 t.1 t.2 traced.journal.settings traced.journal.lines.all.items (view traced.memory) (view ran.memory) traced.answer ran.lowered.code.laid ran.root
-          t.3 laid (ap view c.in-Some.ensures.some.1) c.in-Some.ensures.some.0,
+          t.3 laid (ap view c.in-Ok-ran_of.ensures.some.1) c.in-Ok-ran_of.ensures.some.0,
     )
 
 pub returns-in-Ok-text_of-clause-made : goal.returns-in-Ok-text_of-clause-made
@@ -36,10 +36,10 @@ returns-in-Ok-text_of-clause-made c = λ p o input h is_laid.
     let traced = c.args.run.traced in
     let settings = traced.journal.settings in
     let lines = traced.journal.lines.all.items in
-    let ran = c.in-Some.ran in
-    let laid = ap (λ (l : LoweredParts). l.code.laid) c.in-Some.ensures.some.2 ∙ is_laid in
+    let ran = c.in-Ok-ran_of.ran in
+    let laid = ap (λ (l : LoweredParts). l.code.laid) c.in-Ok-ran_of.ensures.some.2 ∙ is_laid in
     let stands = ran_stands p o input settings lines (view traced.memory) (view ran.memory) traced.answer ran.lowered.code.laid ran.root
-    h laid (ap view c.in-Some.ensures.some.1) c.in-Some.ensures.some.0 in (
+    h laid (ap view c.in-Ok-ran_of.ensures.some.1) c.in-Ok-ran_of.ensures.some.0 in (
       trace_of p o input c.in-Ok.file.items settings lines (view traced.memory) traced.answer h traced.journal.lines.are c.in-Ok.ensures,
       record { value = stands.value; result = stands.result; is_input = stands.is_input; means = stands.means; is_text = c.in-Ok-text_of.ensures p o.depth input stands },
     )

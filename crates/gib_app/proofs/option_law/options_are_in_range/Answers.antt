@@ -1,0 +1,8 @@
+use Rattle.gib_app.proofs.Ranges.{in_range, have_settings}
+use Rattle.gib_app.proofs.option_law.options_are_in_range.Goals as goal
+
+pub returns-clause-range : goal.returns-clause-range
+returns-clause-range c = in_range
+
+pub returns-clause-settings : goal.returns-clause-settings
+returns-clause-settings c = have_settings
