@@ -1,5 +1,5 @@
-# What the script `gib` does beside the program: help on one command, `eval`, `pretty` and `where`, texts that are spread over lines, and
-# outputs that are inputs. `gib` reads this file, and calls `desk` with the words before it runs the program.
+# What the script `gib` does beside the program: help on one command, `eval`, `enough`, `pretty` and `where`, texts that are spread over lines,
+# and outputs that are inputs. `gib` reads this file, and calls `desk` with the words before it runs the program.
 
 # shellcheck disable=SC2154  # `gib` sets it
 manual=$root/docs/LANGUAGE.md
@@ -85,12 +85,12 @@ place_in() {
 
 # Runs the program on words in which a made file stands for a text that is spread; a place in the line that it refuses is one of that text.
 run_on_line() {
-  local text=$1 line=$2 told status
-  shift 2
+  local line=$1 told status
+  shift
   told=$("$program" "$@" 2>&1 >&3)
   status=$?
   if [[ $told =~ ^(gib: input: bad text at )([0-9]+)$ ]]; then
-    told=${BASH_REMATCH[1]}$(place_in "$text" "$line" "${BASH_REMATCH[2]}")
+    told=${BASH_REMATCH[1]}$(place_in "$text_file" "$line" "${BASH_REMATCH[2]}")
   fi
   if [ -n "$told" ]; then
     printf '%s\n' "$told" >&2
@@ -103,39 +103,75 @@ run_on_line() {
 pack_spread() {
   local room status words=("$@")
   room=$(mktemp -d) || exit 70
-  tokens < "${names[2]}" | joined > "$room/line"
+  text_file=${names[2]}
+  tokens < "$text_file" | joined > "$room/line"
   words[places[2]]=$room/line
-  run_on_line "${names[2]}" "$room/line" "${words[@]}"
+  run_on_line "$room/line" "${words[@]}"
   status=$?
   rm -rf "$room"
   exit $status
 }
 
-# `eval SRC [TXT] [OPTION ..]`: packs a text and runs the program on it.
-evaluate() {
-  local room status text=${names[2]:--}
-  [[ ${#names[@]} = [23] ]] || misused eval
-  room=$(mktemp -d) || exit 70
-  if [ "$text" = - ]; then
+# Packs the text that words name, standard input where they name none, to the file `packed` in a folder.
+pack_named() {
+  local room=$1
+  text_name=${names[2]:--} text_file=$room/given
+  if [ "$text_name" = - ]; then
     cat > "$room/given"
-  elif ! cat -- "$text" > "$room/given" 2> "$room/why"; then
-    rm -rf "$room"
-    stop 6 "cannot read $text"
+  elif ! cat -- "$text_name" > "$room/given" 2> "$room/why"; then
+    echo "gib: cannot read $text_name" >&2
+    return 6
   fi
   if is_spread "$room/given"; then
     tokens < "$room/given" | joined > "$room/line"
   else
     cp "$room/given" "$room/line"
   fi
-  run_on_line "$room/given" "$room/line" pack -- "${names[1]}" "$room/line" "$room/packed" > "$room/out"
+  run_on_line "$room/line" pack -- "${names[1]}" "$room/line" "$room/packed" > "$room/out"
+}
+
+# `eval SRC [TXT] [OPTION ..]`: packs a text, runs the program on it and prints the result.
+evaluate() {
+  local room status
+  [[ ${#names[@]} = [23] ]] || misused eval
+  room=$(mktemp -d) || exit 70
+  pack_named "$room" && run_program run "${options[@]}" -- "${names[1]}" "$room/packed"
   status=$?
-  if [ $status -eq 0 ]; then
-    run_program run "${options[@]}" -- "${names[1]}" "$room/packed"
+  rm -rf "$room"
+  exit $status
+}
+
+# `enough SRC [INP] [OPTION ..]`: prints options that suffice for a run on a packed file, or on a text. Python lets the program's core happen once, and
+# the program itself tries what that finds.
+enough() {
+  local room status told workers=1 forks=4 skips="" packed=${names[2]:-}
+  [[ ${#names[@]} = [23] ]] || misused enough
+  set -- "${options[@]}"
+  while [ $# -gt 0 ]; do
+    case $1 in
+      --workers=* | --fork=*) set -- "${1%%=*}" "${1#*=}" "${@:2}" && continue ;;
+      --workers) workers=${2:-} && shift ;;
+      --fork) forks=${2:-} && shift ;;
+      --skips) skips=yes ;;
+      *) misused enough ;;
+    esac
+    shift
+  done
+  [[ $workers =~ ^[1-9][0-9]?$ && $workers -le 64 && $forks =~ ^[0-9][0-9]?$ && $forks -le 64 ]] || misused enough
+  command -v python3 > /dev/null || stop 70 "enough needs Python 3"
+  room=$(mktemp -d) || exit 70
+  if [ -f "$packed" ] && [ "$(head -c 4 "$packed" | tr -d '\0')" = GIBP ] || pack_named "$room"; then
+    [ -z "${text_file:-}" ] || packed=$room/packed
+    told=$(python3 "$root/tools/enough.py" "${names[1]}" "$packed" "$workers" "$forks" "$skips" "$program" 2>&1 >&3)
+    status=$?
+    [ -z "$told" ] || printf '%s\n' "$told" >&2
+    [ $status -eq 0 ] || ! is_read || explain $status "$told" run "${names[1]}" "$packed" >&2
+  else
     status=$?
   fi
   rm -rf "$room"
   exit $status
-}
+} 3>&1
 
 # `pretty [--deep N] [TXT]`: lays a text out in lines.
 pretty() {
@@ -235,6 +271,7 @@ desk() {
       [ -n "$force" ] || spare_inputs
       ready && evaluate
       ;;
+    enough) ready && enough ;;
     run | pack | trace | replay)
       if [ -n "$force" ]; then
         words=()

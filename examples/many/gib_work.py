@@ -18,7 +18,7 @@ TRIES = 4
 PAUSE = 0.1
 
 # The statuses that the same source and input bring again. Whether chunks are enough may differ from run to run, so 4 is none of them.
-FINAL = ("0", "1", "2", "3", "8")
+FINAL = ("0", "1", "2", "3", "8", "9")
 
 # What `keep` may be, and how the name of a result ends.
 ENDINGS = {"text": ".txt", "packed": ".gbp"}

@@ -81,12 +81,16 @@ def do_spread(client, work, batches):
     running = as_completed(map(submit, itertools.islice(waiting, WINDOW)))
     for future in running:
         batch = batch_of.pop(future.key)
-        if future.status == "finished":
-            yield from future.result()
-        elif len(batch) == 1:
-            yield lost(work, batch[0], future.exception())
-        else:
-            running.update([submit([name]) for name in batch])
+        try:
+            # Where a worker died with its answer, this waits until another one has made it again.
+            rows = future.result()
+        except Exception as error:  # what the task ended with
+            rows = []
+            if len(batch) == 1:
+                rows.append(lost(work, batch[0], error))
+            else:
+                running.update([submit([name]) for name in batch])
+        yield from rows
         running.update(map(submit, itertools.islice(waiting, 1)))
 
 

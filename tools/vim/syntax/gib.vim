@@ -10,6 +10,7 @@ syntax keyword gibBasicType Int Bool
 syntax match gibConstructor "\<\u\w*\>"
 syntax match gibNumber "\d\+"
 syntax match gibOperator "->\|==\|[-+*<=|]"
+syntax keyword gibOperator quot rem
 syntax match gibFunction "\%(\<fun\s\+\)\@<=\l\w*"
 syntax match gibComment "--.*$" contains=gibTodo
 syntax keyword gibTodo TODO FIXME contained
