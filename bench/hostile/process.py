@@ -1,7 +1,7 @@
 #!/usr/bin/env python3
-"""Gives hostile inputs to the built program, a process for each call: process.py [INPUTS [SEED]]. GIB names another program than the one
-that ../../gib built, with its words. Each input is a source, a text, a packed file, an image and a journal, made by the grammar or damaged.
-After each call it looks at the status, at the lines and the output, at the files, at the time and at the peak of memory."""
+"""Gives hostile inputs to the built program, a process for each call: process.py [SEEDS [SEED]]. GIB names another program than the one
+that ../../gib built, with its words. Each seed gives a source, a text, a packed file, an image and a journal, made by the grammar, and damaged
+ones of each. After each call it looks at the status, at the line and the output, at the files, at the time and at the peak of memory."""
 import os
 import random
 import subprocess
@@ -14,9 +14,11 @@ SECONDS = 60
 HANGING = 900
 KILOBYTES = 2_000_000
 STATUSES = {
-    'check': {0, 1}, 'core': {0, 1}, 'code': {0, 1}, 'pack': {0, 1, 8}, 'show': {0, 1, 8}, 'plain': {0, 1, 3, 8},
-    'run': {0, 1, 3, 4, 8}, 'trace': {0, 1, 3, 4, 8}, 'replay': {0, 1, 3, 4, 8}, 'gen': {0, 3, 4}, 'walk': {2},
+    'check': {0, 1}, 'core': {0, 1}, 'code': {0, 1}, 'pack': {0, 1, 8}, 'show': {0, 1, 8}, 'plain': {0, 1, 3, 8, 9},
+    'run': {0, 1, 3, 4, 8, 9}, 'trace': {0, 1, 3, 4, 8, 9}, 'replay': {0, 1, 3, 4, 8, 9}, 'gen': {0, 3, 4}, 'walk': {2},
 }
+# The whole line of a status, or its front.
+LINES = {0: b'', 1: b'gib: source: ', 2: b'gib: usage\n', 3: b'gib: depth\n', 4: b'gib: chunks\n', 8: b'gib: input: ', 9: b'gib: division by zero\n'}
 TREE = 'data Tree = Leaf Int | Node Tree Tree ; '
 KNOWN = [
     (TREE + 'fun add1 (t : Tree) : Tree = case t of { Leaf n -> Leaf (n + 1) ; Node l r -> let par a = add1 l and b = add1 r in Node a b } ; '
@@ -142,9 +144,9 @@ class Trial:
     def judge(self, words, code, out, err, writes):
         if code not in STATUSES[words[0]]:
             self.tell('status %d' % code, words)
-        line = err.startswith(b'gib: ') and err.count(b'\n') == 1 and err.endswith(b'\n')
-        if line == (code == 0) or (code == 0 and err):
-            self.tell('no line, or more than one', words)
+        is_line = err.startswith(LINES.get(code, b'gib: ')) and err.count(b'\n') == 1 and err.endswith(b'\n')
+        if is_line == (code == 0) or (code == 0 and err):
+            self.tell('no line, or more than one, or that of another status', words)
         if (code == 0) != (out != b'') or (code == 0 and not out.endswith(b'\n')):
             self.tell('an output without a value, or a value without one', words)
         for name, data in self.files.items():
@@ -189,7 +191,7 @@ class Trial:
     def trace(self):
         self.made = None
         traced = self.call(['trace', 'source', 'packed', 'made'] + self.options(['--depth', str(self.rng.choice([1, 2, 10, 50]))]), ['made'])
-        if traced[0] in (0, 3):
+        if traced[0] in (0, 3, 9):
             self.files['journal'] = self.made
             if self.call(['replay', 'source', 'packed', 'journal']) != traced:
                 self.tell('the replay does not end as the trace', ['replay'])
@@ -200,6 +202,7 @@ class Trial:
         if r.random() < 0.5:
             source = Grammar(r).program()
         self.files = {'source': source.encode(), 'text': text.encode(), 'packed': b'', 'image': b'', 'journal': b''}
+        self.tally['inputs'] += 10
         verdict = self.call(['check', 'source'])
         for command in ('core', 'code'):
             if self.call([command, 'source'])[::2] != verdict[::2]:
@@ -222,24 +225,24 @@ class Trial:
 
 
 def main():
-    inputs = int(sys.argv[1]) if len(sys.argv) > 1 else 100
+    seeds = int(sys.argv[1]) if len(sys.argv) > 1 else 100
     seed = int(sys.argv[2]) if len(sys.argv) > 2 else 1
     root = os.path.join(os.path.dirname(os.path.abspath(__file__)), '..', '..')
     program = os.environ.get('GIB', os.path.join(root, 'crates', 'gib', 'out', 'gib')).split()
-    tally = {'calls': 0, 'faults': 0}
+    tally = {'calls': 0, 'inputs': 0, 'faults': 0}
     with tempfile.TemporaryDirectory() as room:
         os.chdir(room)
         number = seed
         try:
-            while number < seed + inputs:
+            while number < seed + seeds:
                 Trial(program, number, tally).input()
                 number += 1
         except KeyboardInterrupt:
             pass
         os.chdir('/')
-    inputs = number - seed
     statuses = {key: tally[key] for key in sorted(key for key in tally if isinstance(key, int))}
-    print('%d inputs from seed %d, %d calls by status %s, %d faults' % (inputs, seed, tally['calls'], statuses, tally['faults']))
+    print('%d seeds from %d, %d inputs, %d calls by status %s, %d faults'
+          % (number - seed, seed, tally['inputs'], tally['calls'], statuses, tally['faults']))
     sys.exit(1 if tally['faults'] else 0)
 
 
