@@ -1,19 +1,22 @@
 //! Memory of one owner.
 
-ghost use Rattle.std.specs.Prelude.{◌≡◌, ◌<◌, ◌≤◌, ◌^◌, ◌*◌, ◌+◌, ℕ, true, length, slice_get, Some, None, IfOk};
+ghost use Rattle.std.specs.Prelude.{◌≡◌, ◌<◌, ◌≤◌, ◌^◌, ◌*◌, ◌+◌, ◌++◌, ℕ, true, length, replicate, slice_get, Some, None, IfOk};
+ghost use Rattle.std.specs.Vec.{vec_len, vec_capacity};
 ghost use Rattle.gib_mem.specs.Plain.{IsPlain, plain_memory, nothing};
 ghost use Rattle.gib_mem.specs.Memory.{Memory, IsThere};
 
 use crate::{CHUNK, Mem};
 use std::alloc::{AllocError, Global};
 
-/// All bytes of so many chunks, each with whether it was put: two bytes of the machine for each.
+/// The bytes of the chunks that are drawn, each with whether it was put: two bytes of the machine for each. Room for
+/// all chunks is reserved when it is made, and none of it is touched before its chunk is drawn.
 #[derive(Drop)]
 pub struct PlainMem {
     bytes: Vec<Option<u8>>,
     drawn: u32,
     limit: u32,
     ghost plain: { IsPlain bytes.items drawn limit },
+    ghost room: { 4096 * limit ≤ vec_capacity bytes },
 }
 
 impl PlainMem {
@@ -25,7 +28,7 @@ impl PlainMem {
     pub fn make(alloc: Global, chunks: u32) -> Result<PlainMem, AllocError>
         ensures { IfOk result (λ m. ⟦<PlainMem as Mem>⟧.view m ≡ nothing chunks) }
     {
-        let bytes = vec![in alloc; None; chunks as usize * CHUNK as usize]?;
+        let bytes = Vec::with_capacity(alloc, chunks as usize * CHUNK as usize)?;
         Ok(PlainMem {
             bytes,
             drawn: 0,
@@ -49,6 +52,7 @@ impl Mem for PlainMem {
             return None;
         }
         let chunk = self.drawn;
+        push_unput(&mut self.bytes, CHUNK);
         self.drawn = chunk + 1;
         Some(chunk)
     }
@@ -76,4 +80,17 @@ impl Mem for PlainMem {
     }
 
     ghost bounded = { λ m. Rattle.gib_mem.specs.Plain.plain_bounded m.bytes.items m.drawn m.limit m.plain };
+}
+
+// Appends so many bytes that are not put. It takes no memory, since there is room for them.
+fn push_unput(bytes: &mut Vec<Option<u8>>, count: u64)
+    requires room { vec_len bytes.old + count ≤ vec_capacity bytes.old }
+    ensures items { bytes.new.items ≡ bytes.old.items ++ replicate count None }
+    ensures capacity { vec_capacity bytes.new ≡ vec_capacity bytes.old }
+{
+    let mut pushed = 0;
+    'unput: while pushed < count {
+        bytes.push_reserved(None);
+        pushed += 1;
+    }
 }
