@@ -11,8 +11,9 @@ use Rattle.gib_core.specs.declared.node.Branch.{Branch}
 use Rattle.gib_core.specs.declared.node.Node.{Node}
 use Rattle.gib_core.specs.declared.node.TermId.{TermId}
 use Rattle.gib_core.specs.Tree.{Term, Bind, Side, Branches, prepend}
+use Rattle.gib_core.specs.declared.atom.Ended.{Ended}
 use Rattle.gib_core.specs.Arena.{Grows, IsBindingBelow, IsBranchBelow, term_of, bind_from, side_from, branches_from}
-use Rattle.gib_core.specs.Reaching.{uses, bind_uses, side_uses, branches_use, reach, reach_bind, reach_side, reach_branches, reaches, packed_variables, offset_of, offsets_in, bind_offsets, side_offsets, branch_offsets}
+use Rattle.gib_core.specs.Reaching.{Later, laters, uses, bind_uses, side_uses, branches_use, reach, reach_bind, reach_side, reach_branches, reaches, packed_variables, offset_of, offsets_in, bind_offsets, side_offsets, branch_offsets}
 use Rattle.gib_access.specs.declared.work.Work.{Work}
 use Rattle.gib_access.specs.Used.{Marks}
 
@@ -47,37 +48,45 @@ pub record MakesBranches (old new : Work) (made : List Branch) (branches : Branc
   pub inside : AllByRecursion (IsBranchBelow (length new.terms)) made
   pub are : branches_from (term_of new.terms) made ≡ branches
 
--- The term was reached.
-abbrev pub ReachesTerm : AccessMode → Table → Work → Work → TermId → Term → Type 0
-ReachesTerm mode table old new id t = MakesTerm old new id (reach mode table t) (uses t) (offsets_in table t)
+-- How a term is reached: by this mode, with the types of these declarations, where these parameters are ended.
+pub record Way : Type 0 where
+  pub mode : AccessMode
+  pub table : Table
+  pub ended : List Ended
+
+-- The term was reached, and these fields by ends in its line.
+abbrev pub ReachesTerm : Way → List Later → Work → Work → TermId → Term → Type 0
+ReachesTerm w fs old new id t = MakesTerm old new id (reach w.mode w.table w.ended fs t) (uses t) (offsets_in w.mode w.table w.ended t)
 
 -- The binding was reached.
-abbrev pub ReachesBinding : AccessMode → Table → Work → Work → Binding → Bind → Type 0
-ReachesBinding mode table old new made b = MakesBinding old new made (reach_bind mode table b) (bind_uses b) (bind_offsets table b)
+abbrev pub ReachesBinding : Way → Work → Work → Binding → Bind → Type 0
+ReachesBinding w old new made b = MakesBinding old new made (reach_bind w.mode w.table w.ended b) (bind_uses b) (bind_offsets w.mode w.table w.ended b)
 
 -- The side was reached.
-abbrev pub ReachesSide : AccessMode → Table → Work → Work → BoundTerm → Side → Type 0
-ReachesSide mode table old new made s = MakesSide old new made (reach_side mode table s) (side_uses s) (side_offsets table s)
+abbrev pub ReachesSide : Way → Work → Work → BoundTerm → Side → Type 0
+ReachesSide w old new made s = MakesSide old new made (reach_side w.mode w.table w.ended s) (side_uses s) (side_offsets w.mode w.table w.ended s)
 
 -- The branches were reached.
-abbrev pub ReachesBranches : AccessMode → Table → Work → Work → List Branch → Branches → Type 0
-ReachesBranches mode table old new made bs = MakesBranches old new made (reach_branches mode table bs) (branches_use bs) (branch_offsets table bs)
+abbrev pub ReachesBranches : Way → Work → Work → List Branch → Branches → Type 0
+ReachesBranches w old new made bs = MakesBranches old new made (reach_branches w.mode w.table w.ended bs) (branches_use bs) (branch_offsets w.mode w.table w.ended bs)
 
 -- The term of an arm, with the fields of its own reached too.
-abbrev pub reach_arm : AccessMode → Table → ConId → List Variable → Term → Term
-reach_arm mode table k xs t = prepend (reaches mode t (packed_variables table k xs)) (reach mode table t)
+abbrev pub reach_arm : Way → ConId → List Variable → Term → Term
+reach_arm w k xs t =
+    let ps = packed_variables w.table k xs in
+    prepend (reaches w.mode w.ended t ps) (reach w.mode w.table w.ended (laters w.mode w.ended t ps) t)
 
--- The constructors with an arm that uses a packed field but the first, of an arm and in its term.
-abbrev pub arm_offsets : Table → ConId → List Variable → Term → List ConId
-arm_offsets table k xs t = offset_of k t (packed_variables table k xs) ++ offsets_in table t
+-- The constructors with an arm that uses a packed field but the first that no end reaches, of an arm and in its term.
+abbrev pub arm_offsets : Way → ConId → List Variable → Term → List ConId
+arm_offsets w k xs t = offset_of w.mode w.ended k t (packed_variables w.table k xs) ++ offsets_in w.mode w.table w.ended t
 
 -- The branch, which had this term, was reached.
-pub record ReachesBranch (mode : AccessMode) (table : Table) (old new : Work) (made was : Branch) (t : Term) : Type 0 where
-  pub walked : Walked old new (uses t) (arm_offsets table was.constructor was.variables.items t)
+pub record ReachesBranch (w : Way) (old new : Work) (made was : Branch) (t : Term) : Type 0 where
+  pub walked : Walked old new (uses t) (arm_offsets w was.constructor was.variables.items t)
   pub inside : made.term.0 < length new.terms
   pub constructor : made.constructor ≡ was.constructor
   pub variables : made.variables.items ≡ was.variables.items
-  pub term : term_of new.terms made.term.0 ≡ reach_arm mode table was.constructor was.variables.items t
+  pub term : term_of new.terms made.term.0 ≡ reach_arm w was.constructor was.variables.items t
 
 -- Bindings stand in front of a term.
 pub record Fronts (old new : List Node) (made body : TermId) (binds : List Bind) : Type 0 where

@@ -6,7 +6,7 @@ use Rattle.gib_core.specs.ByVariable.{number_at}
 use Rattle.gib_core.specs.declared.atom.Variable.{Variable}
 use Rattle.gib_core.specs.declared.atom.Access.TheVariants.{Offset, Skip}
 use Rattle.gib_core.specs.declared.atom.AccessMode.{AccessMode}
-use Rattle.gib_core.specs.declared.atom.AccessMode.TheVariants.{Skips, Offsets}
+use Rattle.gib_core.specs.declared.atom.AccessMode.TheVariants.{Skips, Offsets, Ends}
 use Rattle.gib_core.specs.Tree.{Bind, Reach}
 
 -- A clock, and at the number of each variable the time at which it was used last.
@@ -51,17 +51,13 @@ abbrev pub offsets_by_use : (Variable → Bool) → List Variable → List Bind
 offsets_by_use used [] = []
 offsets_by_use used (y ∷ ys) = if used y then Reach y Offset ∷ offsets_by_use used ys else offsets_by_use used ys
 
--- The fields behind the first one are reached.
-abbrev pub reaches_by : AccessMode → (Variable → Bool) → List Variable → List Bind
-reaches_by mode used [] = []
-reaches_by Skips used (z ∷ ys) = skips_by used z ys
-reaches_by Offsets used (z ∷ ys) = offsets_by_use used ys
+-- The fields behind the first one are reached at the start: by skips all of them, else these others by their offsets.
+abbrev pub reaches_by : AccessMode → (Variable → Bool) → List Variable → List Variable → List Bind
+reaches_by mode used [] others = []
+reaches_by Skips used (z ∷ ys) others = skips_by used z ys
+reaches_by Offsets used (z ∷ ys) others = offsets_by_use used others
+reaches_by Ends used (z ∷ ys) others = offsets_by_use used others
 
--- A field behind the first one is used.
-abbrev pub is_behind_used : (Variable → Bool) → List Variable → Bool
-is_behind_used used [] = false
-is_behind_used used (z ∷ ys) = list_any used ys
-
--- The constructor, where a field behind the first one is used.
+-- The constructor, where one of these fields is used.
 abbrev pub offset_by : ConId → (Variable → Bool) → List Variable → List ConId
-offset_by k used xs = if is_behind_used used xs then k ∷ [] else []
+offset_by k used others = if list_any used others then k ∷ [] else []

@@ -4,6 +4,7 @@ ghost use Rattle.std.specs.Prelude.{◌≡◌, ◌<◌, length, map, IfOk};
 ghost use Rattle.std.specs.List.{AllByRecursion};
 ghost use Rattle.gib_core.specs.Arena.{term_of};
 ghost use Rattle.gib_core.specs.Parts.{IsFunctionInside, function_term, main_term};
+ghost use Rattle.gib_access.specs.Sources.{way_of};
 ghost use Rattle.gib_access.specs.Bodies.{ReachesFunction, ReachesFunctions, ReachesMain};
 
 use crate::source::Source;
@@ -18,8 +19,8 @@ fn reach_function(
     work: &mut Work,
     function: CoreFunction,
 ) -> Result<CoreFunction, Memory>
-    requires { function.body.0 < length source.now.terms }
-    ensures { IfOk result (λ made. ReachesFunction source.now.mode source.now.types work.old work.new made (function_term (term_of source.now.terms) function)) }
+    requires { function.body.0 < length source.now.terms.now }
+    ensures { IfOk result (λ made. ReachesFunction (way_of source.now) work.old work.new made (function_term (term_of source.now.terms.now) function)) }
 {
     let body = reach_term(source, work, function.body)?;
     Ok(CoreFunction {
@@ -36,8 +37,8 @@ pub fn reach_functions(
     work: &mut Work,
     mut functions: Vec<CoreFunction>,
 ) -> Result<Vec<CoreFunction>, Memory>
-    requires { AllByRecursion (IsFunctionInside (length source.now.terms)) functions.items }
-    ensures { IfOk result (λ made. ReachesFunctions source.now.mode source.now.types work.old work.new made.items (map (function_term (term_of source.now.terms)) functions.items)) }
+    requires { AllByRecursion (IsFunctionInside (length source.now.terms.now)) functions.items }
+    ensures { IfOk result (λ made. ReachesFunctions (way_of source.now) work.old work.new made.items (map (function_term (term_of source.now.terms.now)) functions.items)) }
 {
     let mut reversed = Vec::new(source.alloc);
     'functions: while let Some(function) = functions.pop() {
@@ -50,8 +51,8 @@ pub fn reach_functions(
 
 /// Main with the fields of all arms reached.
 pub fn reach_main(source: &Source, work: &mut Work, main: CoreMain) -> Result<CoreMain, Memory>
-    requires { main.body.0 < length source.now.terms }
-    ensures { IfOk result (λ made. ReachesMain source.now.mode source.now.types work.old work.new made (main_term (term_of source.now.terms) main)) }
+    requires { main.body.0 < length source.now.terms.now }
+    ensures { IfOk result (λ made. ReachesMain (way_of source.now) work.old work.new made (main_term (term_of source.now.terms.now) main)) }
 {
     let body = reach_term(source, work, main.body)?;
     Ok(CoreMain { body, ..main })

@@ -6,10 +6,13 @@ ghost use Rattle.gib_core.specs.Arena.{Makes};
 ghost use Rattle.gib_core.specs.declared.node.Node.TheVariants as n;
 ghost use Rattle.gib_core.specs.declared.node.Binding.TheVariants as b;
 ghost use Rattle.gib_core.specs.Reaching.{packed_variables as packed_of};
-ghost use Rattle.gib_access.specs.Used.{since, before_at as at_before, skips_by, offsets_by_use, reaches_by, is_behind_used as behind_used, offset_by};
+ghost use Rattle.gib_access.specs.Used.{since, before_at as at_before, skips_by, offsets_by_use, reaches_by, offset_by};
+ghost use Rattle.gib_access.specs.Planned.{ends_at};
 ghost use Rattle.gib_access.specs.Made.{Fronts};
 
+use crate::planning::Planned;
 use crate::stamps::Stamps;
+use crate::work::Work;
 use gib_base::{Memory, Reversed};
 use gib_core::{Access, AccessMode, Binding, Node, TermId, Terms, Variable};
 use gib_types::{ConId, TypeTable, items_at};
@@ -101,25 +104,55 @@ fn put_offsets(
     Ok(term)
 }
 
-/// In front of an arm's term its packed fields behind the first one are reached.
+/// In front of an arm's term its packed fields behind the first one are reached: by skips all of them, else these others by
+/// their offsets.
 pub fn put_reaches(
     mode: AccessMode,
-    terms: &mut Terms,
-    stamps: &Stamps,
+    work: &mut Work,
     start: u64,
     packed: &[Variable],
+    others: &[Variable],
+    body: TermId,
+) -> Result<TermId, Memory>
+    requires { body.0 < length work.old.terms }
+    ensures fronts { IfOk result (λ made. Fronts work.old.terms work.new.terms made body (reaches_by mode (since work.old.stamps start) packed.now others.now)) }
+    ensures stamps { IfOk result (λ made. work.new.stamps ≡ work.old.stamps) }
+    ensures offsets { IfOk result (λ made. work.new.offsets ≡ work.old.offsets) }
+{
+    let made = match packed {
+        [] => body,
+        [first, fields @ ..] => match mode {
+            AccessMode::Skips => {
+                put_skips(&mut work.terms, &work.stamps, start, *first, fields, body)?
+            }
+            AccessMode::Offsets | AccessMode::Ends => {
+                put_offsets(&mut work.terms, &work.stamps, start, others, body)?
+            }
+        },
+    };
+    Ok(made)
+}
+
+/// In front of a term those fields are reached by ends whose place in the line is this one.
+pub fn put_ends(
+    terms: &mut Terms,
+    ends: &[Planned],
+    place: usize,
     body: TermId,
 ) -> Result<TermId, Memory>
     requires { body.0 < length terms.old }
-    ensures { IfOk result (λ made. Fronts terms.old terms.new made body (reaches_by mode (since stamps.now start) packed.now)) }
+    ensures { IfOk result (λ made. Fronts terms.old terms.new made body (ends_at place ends.now)) }
 {
-    match packed {
-        [] => Ok(body),
-        [first, fields @ ..] => match mode {
-            AccessMode::Skips => put_skips(terms, stamps, start, *first, fields, body),
-            AccessMode::Offsets => put_offsets(terms, stamps, start, fields, body),
-        },
+    let mut term = body;
+    let mut i = ends.len();
+    'fields: while i > 0 {
+        i -= 1;
+        let planned = ends[i];
+        if planned.place == place {
+            term = put_reach(terms, planned.field, Access::End(planned.before), term)?;
+        }
     }
+    Ok(term)
 }
 
 /// Whether one of these fields is used.
@@ -129,27 +162,17 @@ fn is_any_used(stamps: &Stamps, start: u64, fields: &[Variable]) -> bool
     fields.iter().any(|x| stamps.is_used_since(start, *x))
 }
 
-/// Whether a packed field behind the first one is used.
-fn is_behind_used(stamps: &Stamps, start: u64, packed: &[Variable]) -> bool
-    ensures { result ≡ behind_used (since stamps.now start) packed.now }
-{
-    match packed {
-        [] => false,
-        [_, fields @ ..] => is_any_used(stamps, start, fields),
-    }
-}
-
-/// Lists a constructor before the others, where a packed field of its arm behind the first one is used.
+/// Lists a constructor before the others, where one of these fields of its arm is used.
 pub fn list_constructor(
     offsets: &mut Reversed<ConId>,
     stamps: &Stamps,
     start: u64,
     constructor: ConId,
-    packed: &[Variable],
+    fields: &[Variable],
 ) -> Result<(), Memory>
-    ensures { OnOk result (offsets.new ≡ offset_by constructor (since stamps.now start) packed.now ++ offsets.old) }
+    ensures { OnOk result (offsets.new ≡ offset_by constructor (since stamps.now start) fields.now ++ offsets.old) }
 {
-    if is_behind_used(stamps, start, packed) {
+    if is_any_used(stamps, start, fields) {
         offsets.put(constructor)
     } else {
         Ok(())

@@ -8,7 +8,9 @@ ghost use Rattle.gib_core.specs.Meaning.{core_calls, core_run};
 ghost use Rattle.gib_core.specs.declared.atom.AccessMode.{AccessMode as Mode};
 ghost use Rattle.gib_core.specs.Erasing.{erase_core};
 ghost use Rattle.gib_core.specs.Reaching.{reach_core};
+ghost use Rattle.gib_core.specs.Reachable.{AreReachable};
 ghost use Rattle.gib_core.specs.Numbering.{AreNumbered};
+ghost use Rattle.gib_access.specs.Stored.{read_core};
 
 /// To reach the fields of arms keeps what is left of a core, and its own meaning.
 pub fn reaching_keeps_the_meaning()
@@ -20,4 +22,10 @@ pub fn reaching_keeps_the_meaning()
 /// To reach the fields of arms keeps that variables are numbered in the order in which the text binds them.
 pub fn reaching_keeps_numbers()
     ensures { (mode : Mode) (core : CoreTree) → AreNumbered core → AreNumbered (reach_core mode core) }
+{}
+
+/// Heads store offsets exactly where an arm reads one: the constructors that have offsets are those of the arms in whose lines a
+/// field is reached by its offset, in the order of the text.
+pub fn offsets_are_stored_where_read()
+    ensures { (mode : Mode) (core : CoreTree) → AreReachable core → (reach_core mode core).offsets ≡ read_core (reach_core mode core) }
 {}

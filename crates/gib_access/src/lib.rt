@@ -7,7 +7,7 @@ ghost use Rattle.gib_syntax.specs.Tree.{DataTree};
 ghost use Rattle.gib_core.specs.Parts.{core_of};
 ghost use Rattle.gib_core.specs.Meaning.{core_calls, core_run};
 ghost use Rattle.gib_core.specs.Erasing.{erase_core};
-ghost use Rattle.gib_core.specs.Reaching.{reach_core};
+ghost use Rattle.gib_core.specs.Reaching.{reach_core, tells_ends as tells};
 ghost use Rattle.gib_core.specs.Numbering.{AreNumbered};
 ghost use Rattle.gib_core.specs.Reachable.{AreReachable};
 ghost use Rattle.gib_core.specs.Rules.{AreBuilt};
@@ -16,6 +16,7 @@ ghost use Rattle.gib_access.specs.Bodies.{offsets_kept as kept};
 mod bodies;
 mod fields;
 pub mod law;
+mod planning;
 mod source;
 mod stamps;
 #[cfg(test)]
@@ -26,7 +27,7 @@ mod work;
 use bodies::{reach_functions, reach_main};
 use gib_base::{Memory, Reversed};
 use gib_core::law::reaching_makes_built;
-use gib_core::{AccessMode, Core};
+use gib_core::{AccessMode, Core, ended_parameters};
 use gib_types::ConId;
 use law::{reaching_keeps_numbers, reaching_keeps_the_meaning};
 use source::Source;
@@ -40,6 +41,18 @@ fn offsets_kept(alloc: Global, mode: AccessMode, offsets: Reversed<ConId>) -> Ve
     match mode {
         AccessMode::Skips => Vec::new(alloc),
         AccessMode::Offsets => offsets.into_vec(),
+        AccessMode::Ends => offsets.into_vec(),
+    }
+}
+
+/// Whether ends of values are told.
+fn tells_ends(mode: AccessMode) -> bool
+    ensures { result ≡ tells mode }
+{
+    match mode {
+        AccessMode::Skips => false,
+        AccessMode::Offsets => false,
+        AccessMode::Ends => true,
     }
 }
 
@@ -47,22 +60,26 @@ fn offsets_kept(alloc: Global, mode: AccessMode, offsets: Reversed<ConId>) -> Ve
 fn reached(alloc: Global, core: Core, mode: AccessMode) -> Result<Core, Memory>
     ensures { IfOk result (λ made. core_of made ≡ reach_core mode (core_of core)) }
 {
-    let (types, terms, functions, main, _) = core.into_parts();
+    let marked = tells_ends(mode);
+    let ended = ended_parameters(alloc, &core, marked)?;
+    let (types, terms, functions, main, _, _) = core.into_parts();
     let source = Source {
         alloc,
         mode,
-        types,
-        terms,
+        types: &types,
+        terms: &terms,
+        ended: &ended,
     };
     let mut work = Work::new(alloc);
     let main = reach_main(&source, &mut work, main)?;
     let functions = reach_functions(&source, &mut work, functions)?;
     let offsets = offsets_kept(alloc, mode, work.offsets);
-    Ok(Core::new(source.types, work.terms, functions, main, offsets))
+    Ok(Core::new(types, work.terms, functions, main, offsets, marked))
 }
 
 /// A core with the fields of all arms reached, where an arm's term uses them: each from the end of the field
-/// directly before it, or each by the offset that its head stores.
+/// directly before it, or each by the offset that its head stores; or each at the end of the field directly before it, where
+/// a call told that end before in its line, else by its offset. In this last mode ends are told in the core.
 ///
 /// # Errors
 ///

@@ -19,6 +19,8 @@ const NODE: ConId = ConId(2);
 
 const LAST: Name = Name(4);
 
+const SUM: Name = Name(5);
+
 // data Tree = Leaf Int | Pair Tree Tree | Node Tree Tree Tree ;
 fn table(alloc: Global) -> Result<TypeTable, Memory>
     ensures { IfOk result (λ table. length table.types ≡ 1) }
@@ -33,7 +35,7 @@ fn table(alloc: Global) -> Result<TypeTable, Memory>
 
 fn names(alloc: Global) -> Result<Names, Fail> {
     let mut names = Names::make(alloc)?;
-    for text in ["Tree", "Leaf", "Pair", "Node", "last"] {
+    for text in ["Tree", "Leaf", "Pair", "Node", "last", "sum"] {
         names.intern(alloc, text.as_bytes()).map_err(|_| "a name")?;
     }
     Ok(names)
@@ -105,7 +107,78 @@ fn program(alloc: Global) -> Result<Core, Memory> {
         body: main_body,
     };
     let types = table(alloc)?;
-    Ok(Core::new(types, terms, functions, main, Vec::new(alloc)))
+    Ok(Core::new(types, terms, functions, main, Vec::new(alloc), false))
+}
+
+// scalar %number, which is call sum %of, and then the rest
+fn summed(
+    alloc: Global,
+    terms: &mut Terms,
+    number: u32,
+    of: u32,
+    rest: TermId,
+) -> Result<TermId, Memory>
+    requires { rest.0 < length terms.old }
+    ensures { IfOk result (λ id. (id.0 < length terms.new) × (length terms.old ≤ length terms.new)) }
+{
+    let arguments = Vec::from_slice(alloc, &[Atom::Variable(Variable(of))])?;
+    let term = put(terms, Node::Call(SUM, arguments))?;
+    let side = BoundTerm {
+        kind: Kind::Scalar,
+        variable: Variable(number),
+        ty: Ty::Whole,
+        term,
+    };
+    put(terms, Node::Then(Binding::One(side), rest))
+}
+
+// give %n
+fn give(terms: &mut Terms, number: u32) -> Result<TermId, Memory>
+    ensures { IfOk result (λ id. (id.0 < length terms.new) × (length terms.old ≤ length terms.new)) }
+{
+    put(terms, Node::Give(Atom::Variable(Variable(number))))
+}
+
+// case %0: the second arm sums both fields, the third its last one alone.
+fn sum_body(alloc: Global, terms: &mut Terms) -> Result<TermId, Memory>
+    ensures { IfOk result (λ id. (id.0 < length terms.new) × (length terms.old ≤ length terms.new)) }
+{
+    let leaf = give(terms, 1)?;
+    let second = give(terms, 5)?;
+    let second = summed(alloc, terms, 5, 3, second)?;
+    let pair = summed(alloc, terms, 4, 2, second)?;
+    let last = give(terms, 9)?;
+    let node = summed(alloc, terms, 9, 8, last)?;
+    let mut branches = Vec::new(alloc);
+    let of_pair = [Variable(2), Variable(3)];
+    let of_node = [Variable(6), Variable(7), Variable(8)];
+    branches.push(branch(alloc, LEAF, &[Variable(1)], leaf)?)?;
+    branches.push(branch(alloc, PAIR, &of_pair, pair)?)?;
+    branches.push(branch(alloc, NODE, &of_node, node)?)?;
+    let subject = Atom::Variable(Variable(0));
+    put(terms, Node::Case { subject, branches })
+}
+
+// fun sum (t : Tree) : Int = .. ; main (t : Tree) : Int = sum(t) ;
+fn sum_program(alloc: Global) -> Result<Core, Memory> {
+    let mut terms = Terms::new(alloc);
+    let body = sum_body(alloc, &mut terms)?;
+    let given = give(&mut terms, 1)?;
+    let main_body = summed(alloc, &mut terms, 1, 0, given)?;
+    let mut functions = Vec::new(alloc);
+    functions.push(CoreFunction {
+        name: SUM,
+        parameters: Vec::from_slice(alloc, &[TREE])?,
+        result: Ty::Whole,
+        body,
+    })?;
+    let main = CoreMain {
+        parameter: TREE,
+        result: Ty::Whole,
+        body: main_body,
+    };
+    let types = table(alloc)?;
+    Ok(Core::new(types, terms, functions, main, Vec::new(alloc), false))
 }
 
 const SKIPS: &str =
@@ -114,13 +187,32 @@ const SKIPS: &str =
 const OFFSETS: &str =
     "fun last %0:Tree : Tree\n  case %0\n    Leaf %1\n      point %0\n    Pair %2 %3\n      reach %3 by offset\n      call last %3\n    Node %4 %5 %6\n      reach %6 by offset\n      call last %6\nmain %0:Tree : Tree\n  call last %0\n";
 
+const ENDS: &str =
+    "fun last %0:Tree : Tree\n  case %0\n    Leaf %1\n      point %0\n    Pair %2 %3\n      reach %3 by offset\n      call last %3 ends %3\n    Node %4 %5 %6\n      reach %6 by offset\n      call last %6 ends %6\nmain %0:Tree : Tree\n  call last %0 ends %0\n";
+
+const SUM_BY_ENDS: &str =
+    "fun sum %0:Tree : Int\n  case %0\n    Leaf %1\n      give %1\n    Pair %2 %3\n      scalar %4\n        call sum %2 ends %2\n      reach %3 by end %2\n      scalar %5\n        call sum %3 ends %3\n      give %5\n    Node %6 %7 %8\n      reach %8 by offset\n      scalar %9\n        call sum %8 ends %8\n      give %9\nmain %0:Tree : Int\n  scalar %1\n    call sum %0 ends %0\n  give %1\n";
+
+// A field is reached at the end of the one before it where a call told that end before; else by its offset.
+#[test]
+fn reaches_fields_by_ends(rt: HostRuntime) -> Result<(), Fail> {
+    let alloc = rt.alloc();
+    let names = names(alloc)?;
+    let core = reach(alloc, sum_program(alloc)?, AccessMode::Ends)?;
+    let text = print_core(alloc, &core, &names)?;
+    assert!(rt; text.as_slice() == SUM_BY_ENDS.as_bytes());
+    assert!(rt; core.offsets() == [NODE].as_slice());
+    Ok(())
+}
+
 #[test]
 fn reaches_the_fields_of_arms(rt: HostRuntime) -> Result<(), Fail> {
     let alloc = rt.alloc();
     let names = names(alloc)?;
-    let cases: [(AccessMode, &str, &[ConId]); 2] = [
+    let cases: [(AccessMode, &str, &[ConId]); 3] = [
         (AccessMode::Skips, SKIPS, &[]),
         (AccessMode::Offsets, OFFSETS, &[PAIR, NODE]),
+        (AccessMode::Ends, ENDS, &[PAIR, NODE]),
     ];
     for (mode, want, offsets) in cases {
         let core = reach(alloc, program(alloc)?, mode)?;

@@ -3,14 +3,17 @@
 //! It goes from the last part of a term to the first: an arm is listed when its term is done, in front of what
 //! was listed before, and so constructors stand in the order of the text.
 
-ghost use Rattle.std.specs.Prelude.{◌≡◌, ◌<◌, length, IfOk};
+ghost use Rattle.std.specs.Prelude.{◌≡◌, ◌<◌, [], length, map, IfOk};
 ghost use Rattle.std.specs.List.{AllByRecursion};
-ghost use Rattle.gib_core.specs.Arena.{IsBindingBelow, IsBranchBelow, IsEnd, term_of, side_from, bind_from, branches_from};
+ghost use Rattle.gib_core.specs.Arena.{IsBindingBelow, IsBranchBelow, IsEnd, IsLine, term_of, side_from, bind_from, binds_from, branches_from};
 ghost use Rattle.gib_core.specs.Tree.{CaseTerm, IfTerm};
+ghost use Rattle.gib_access.specs.Planned.{ArePlanned, later_of};
+ghost use Rattle.gib_access.specs.Sources.{way_of};
 ghost use Rattle.gib_access.specs.Made.{ReachesTerm, ReachesBinding, ReachesSide, ReachesBranches, ReachesBranch};
 
-use crate::fields::{list_constructor, packed_variables, put_reaches};
-use crate::source::Source;
+use crate::fields::{list_constructor, packed_variables, put_ends, put_reaches};
+use crate::planning::{Line, Planned, plan_line};
+use crate::source::{Source, in_par};
 use crate::stamps::mark_atom;
 use crate::work::{Work, put_call, put_give, put_point, put_write};
 use gib_base::Memory;
@@ -20,16 +23,39 @@ use gib_core::{Atom, Binding, BoundTerm, Branch, Node, TermId};
 /// branches, and not along a line.
 #[cycle(reach)]
 pub fn reach_term(source: &Source, work: &mut Work, id: TermId) -> Result<TermId, Memory>
-    requires { id.0 < length source.now.terms }
-    ensures { IfOk result (λ made. ReachesTerm source.now.mode source.now.types work.old work.new made (term_of source.now.terms id.0)) }
+    requires { id.0 < length source.now.terms.now }
+    ensures { IfOk result (λ made. ReachesTerm (way_of source.now) [] work.old work.new made (term_of source.now.terms.now id.0)) }
 {
     let (bindings, last) = source.terms.line(source.alloc, id)?;
-    let mut made = reach_end(source, work, last)?;
-    let mut i = bindings.len();
+    let line = Line {
+        id,
+        bindings: &bindings,
+        last,
+    };
+    reach_line(source, work, &line, &[])
+}
+
+/// A line, in which some fields are reached by ends too.
+#[cycle(reach)]
+fn reach_line(
+    source: &Source,
+    work: &mut Work,
+    line: &Line,
+    ends: &[Planned],
+) -> Result<TermId, Memory>
+    requires inside { line.now.id.0 < length source.now.terms.now }
+    requires line { IsLine source.now.terms.now line.now.id.0 line.now.bindings.now line.now.last.0 }
+    requires planned { ArePlanned (binds_from (term_of source.now.terms.now) line.now.bindings.now) (term_of source.now.terms.now line.now.last.0) ends.now }
+    ensures { IfOk result (λ made. ReachesTerm (way_of source.now) (map later_of ends.now) work.old work.new made (term_of source.now.terms.now line.now.id.0)) }
+{
+    let mut i = line.bindings.len();
+    let end = reach_end(source, work, line.last)?;
+    let mut made = put_ends(&mut work.terms, ends, i, end)?;
     'bindings: while i > 0 {
         i -= 1;
-        let binding = reach_binding(source, work, id, bindings[i])?;
-        made = work.terms.put(Node::Then(binding, made))?;
+        let binding = reach_binding(source, work, line.id, line.bindings[i])?;
+        let put = work.terms.put(Node::Then(binding, made))?;
+        made = put_ends(&mut work.terms, ends, i, put)?;
     }
     Ok(made)
 }
@@ -37,9 +63,9 @@ pub fn reach_term(source: &Source, work: &mut Work, id: TermId) -> Result<TermId
 /// The end of a line.
 #[cycle(reach)]
 fn reach_end(source: &Source, work: &mut Work, id: TermId) -> Result<TermId, Memory>
-    requires inside { id.0 < length source.now.terms }
-    requires end { IsEnd (term_of source.now.terms id.0) }
-    ensures { IfOk result (λ made. ReachesTerm source.now.mode source.now.types work.old work.new made (term_of source.now.terms id.0)) }
+    requires inside { id.0 < length source.now.terms.now }
+    requires end { IsEnd (term_of source.now.terms.now id.0) }
+    ensures { IfOk result (λ made. ReachesTerm (way_of source.now) [] work.old work.new made (term_of source.now.terms.now id.0)) }
 {
     match source.terms.node(id) {
         Node::Then(_, _) => unreachable!(),
@@ -69,9 +95,9 @@ fn reach_binding(
     parent: TermId,
     binding: Binding,
 ) -> Result<Binding, Memory>
-    requires inside { parent.0 < length source.now.terms }
+    requires inside { parent.0 < length source.now.terms.now }
     requires below { IsBindingBelow parent.0 binding }
-    ensures { IfOk result (λ made. ReachesBinding source.now.mode source.now.types work.old work.new made (bind_from (term_of source.now.terms) binding)) }
+    ensures { IfOk result (λ made. ReachesBinding (way_of source.now) work.old work.new made (bind_from (term_of source.now.terms.now) binding)) }
 {
     match binding {
         Binding::Past { .. } => Ok(binding),
@@ -80,8 +106,12 @@ fn reach_binding(
             Ok(Binding::One(side))
         }
         Binding::Par { fork, left, right } => {
-            let right = reach_side(source, work, right)?;
-            let left = reach_side(source, work, left)?;
+            let inside = Source {
+                mode: in_par(source.mode),
+                ..*source
+            };
+            let right = reach_side(&inside, work, right)?;
+            let left = reach_side(&inside, work, left)?;
             Ok(Binding::Par { fork, left, right })
         }
         Binding::Prim { left, right, .. } => {
@@ -96,8 +126,8 @@ fn reach_binding(
 /// A variable with the term that it is bound to.
 #[cycle(reach)]
 fn reach_side(source: &Source, work: &mut Work, side: BoundTerm) -> Result<BoundTerm, Memory>
-    requires { side.term.0 < length source.now.terms }
-    ensures { IfOk result (λ made. ReachesSide source.now.mode source.now.types work.old work.new made (side_from (term_of source.now.terms) side)) }
+    requires { side.term.0 < length source.now.terms.now }
+    ensures { IfOk result (λ made. ReachesSide (way_of source.now) work.old work.new made (side_from (term_of source.now.terms.now) side)) }
 {
     let term = reach_term(source, work, side.term)?;
     Ok(BoundTerm { term, ..side })
@@ -113,10 +143,10 @@ fn reach_if(
     then_part: TermId,
     else_part: TermId,
 ) -> Result<TermId, Memory>
-    requires inside { parent.0 < length source.now.terms }
+    requires inside { parent.0 < length source.now.terms.now }
     requires then_part { then_part.0 < parent.0 }
     requires else_part { else_part.0 < parent.0 }
-    ensures { IfOk result (λ made. ReachesTerm source.now.mode source.now.types work.old work.new made (IfTerm condition (term_of source.now.terms then_part.0) (term_of source.now.terms else_part.0))) }
+    ensures { IfOk result (λ made. ReachesTerm (way_of source.now) [] work.old work.new made (IfTerm condition (term_of source.now.terms.now then_part.0) (term_of source.now.terms.now else_part.0))) }
 {
     let else_part = reach_term(source, work, else_part)?;
     let then_part = reach_term(source, work, then_part)?;
@@ -138,9 +168,9 @@ fn reach_case(
     subject: Atom,
     branches: &[Branch],
 ) -> Result<TermId, Memory>
-    requires inside { parent.0 < length source.now.terms }
+    requires inside { parent.0 < length source.now.terms.now }
     requires below { AllByRecursion (IsBranchBelow parent.0) branches.now }
-    ensures { IfOk result (λ made. ReachesTerm source.now.mode source.now.types work.old work.new made (CaseTerm subject (branches_from (term_of source.now.terms) branches.now))) }
+    ensures { IfOk result (λ made. ReachesTerm (way_of source.now) [] work.old work.new made (CaseTerm subject (branches_from (term_of source.now.terms.now) branches.now))) }
 {
     let branches = reach_branches(source, work, parent, branches)?;
     mark_atom(&mut work.stamps, subject)?;
@@ -156,9 +186,9 @@ fn reach_branches(
     parent: TermId,
     branches: &[Branch],
 ) -> Result<Vec<Branch>, Memory>
-    requires inside { parent.0 < length source.now.terms }
+    requires inside { parent.0 < length source.now.terms.now }
     requires below { AllByRecursion (IsBranchBelow parent.0) branches.now }
-    ensures { IfOk result (λ made. ReachesBranches source.now.mode source.now.types work.old work.new made.items (branches_from (term_of source.now.terms) branches.now)) }
+    ensures { IfOk result (λ made. ReachesBranches (way_of source.now) work.old work.new made.items (branches_from (term_of source.now.terms.now) branches.now)) }
 {
     let mut reversed = Vec::new(source.alloc);
     let mut i = branches.len();
@@ -174,32 +204,32 @@ fn reach_branches(
 /// A branch: its fields are reached where its term uses them.
 #[cycle(reach)]
 fn reach_branch(source: &Source, work: &mut Work, branch: &Branch) -> Result<Branch, Memory>
-    requires { branch.now.term.0 < length source.now.terms }
-    ensures { IfOk result (λ made. ReachesBranch source.now.mode source.now.types work.old work.new made branch.now (term_of source.now.terms branch.now.term.0)) }
+    requires { branch.now.term.0 < length source.now.terms.now }
+    ensures { IfOk result (λ made. ReachesBranch (way_of source.now) work.old work.new made branch.now (term_of source.now.terms.now branch.now.term.0)) }
 {
     let start = work.stamps.enter()?;
-    let body = reach_term(source, work, branch.term)?;
+    let (bindings, last) = source.terms.line(source.alloc, branch.term)?;
+    let line = Line {
+        id: branch.term,
+        bindings: &bindings,
+        last,
+    };
     let packed = packed_variables(
         source.alloc,
-        &source.types,
+        source.types,
         branch.constructor,
         &branch.variables,
     )?;
+    let plan = plan_line(source, &line, &packed)?;
+    let body = reach_line(source, work, &line, &plan.ends)?;
     list_constructor(
         &mut work.offsets,
         &work.stamps,
         start,
         branch.constructor,
-        &packed,
+        &plan.others,
     )?;
-    let term = put_reaches(
-        source.mode,
-        &mut work.terms,
-        &work.stamps,
-        start,
-        &packed,
-        body,
-    )?;
+    let term = put_reaches(source.mode, work, start, &packed, &plan.others, body)?;
     let variables = Vec::from_slice(source.alloc, &branch.variables)?;
     Ok(Branch {
         constructor: branch.constructor,

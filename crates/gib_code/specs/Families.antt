@@ -14,6 +14,8 @@ pub data Family : Type 0 where
   Calling : Family
   -- a side begins or ends
   Forking : Family
+  -- where the value of a variable ends
+  Telling : Family
 
 -- The family of an instruction.
 abbrev pub family_of : Instruction → Family
@@ -40,3 +42,7 @@ family_of (i.Give s) = Calling
 family_of (i.Fork r j kind b ty) = Forking
 family_of i.Join = Forking
 family_of i.Back = Forking
+family_of (i.Got z k) = Telling
+family_of (i.OverEnd x y) = Telling
+family_of (i.LeafEnd x k) = Telling
+family_of (i.EndOf d z) = Telling

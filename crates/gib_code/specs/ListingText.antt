@@ -100,6 +100,10 @@ instruction_text names code (i.Give v) = codes " give" ++ operand_text v
 instruction_text names code (i.Fork r j kind b ty) = codes " fork" ++ (number_text r ++ (number_text j ++ (kind_text kind ++ slot_text b)))
 instruction_text names code i.Join = codes " join"
 instruction_text names code i.Back = codes " back"
+instruction_text names code (i.Got z k) = codes " got" ++ (slot_text z ++ number_text k)
+instruction_text names code (i.OverEnd x y) = codes " over" ++ (slot_text x ++ slot_text y)
+instruction_text names code (i.LeafEnd x k) = codes " leafend" ++ (slot_text x ++ number_text k)
+instruction_text names code (i.EndOf d z) = codes " end" ++ (slot_text d ++ slot_text z)
 
 -- The line of an instruction: its number, and its text.
 abbrev pub line_text : List (List ℕ) → CodeTree → ℕ → Instruction → List ℕ

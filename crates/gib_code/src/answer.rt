@@ -35,6 +35,8 @@ pub struct Side {
     pub start: u32,
     /// The slots of the frame that it begins with.
     pub words: Vec<u64>,
+    /// The ends of their values, as many; 0 where one is not known.
+    pub ends: Vec<u64>,
     /// How many calls it may still nest.
     pub depth: u32,
     /// How many forks it may still nest.

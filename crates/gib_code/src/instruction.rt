@@ -1,7 +1,8 @@
 //! The instructions of the machine.
 //!
-//! A slot is a 64-bit word of the frame and has the number of the core's variable. A label is the number of an
-//! instruction. A place counts bytes from the start of a head.
+//! A slot is a 64-bit word of the frame and has the number of the core's variable. Beside each stands the end of the
+//! variable's value, the address behind it, or 0 where it is not known; setting a slot forgets its end. A label is the
+//! number of an instruction. A place counts bytes from the start of a head.
 
 use gib_base::Name;
 use gib_types::Ty;
@@ -152,6 +153,27 @@ pub enum Instr {
     Join,
     /// The end of a right side.
     Back,
+    /// Tells the variable the end that the call just returned gave for its parameter of this number. Nothing where the
+    /// variable's end is known; so it is with the next two.
+    Got {
+        to: u32,
+        parameter: u32,
+    },
+    /// Tells the variable that it ends where the other one does.
+    OverEnd {
+        to: u32,
+        from: u32,
+    },
+    /// Tells the variable that it ends so many bytes behind the address in its slot.
+    LeafEnd {
+        to: u32,
+        size: u8,
+    },
+    /// Sets the slot to the end of a variable.
+    EndOf {
+        to: u32,
+        from: u32,
+    },
 }
 
 /// A function in the code.

@@ -43,3 +43,36 @@ fn lists_divisions_by_their_words(rt: HostRuntime) -> Result<(), Fail> {
     assert!(rt; text.as_slice() == want.as_bytes());
     Ok(())
 }
+
+// Each instruction on ends, one after another.
+fn telling(alloc: Global) -> Result<Code, Memory> {
+    let types = trees(alloc)?;
+    let layouts = Layouts::make(alloc, &types, &[])?;
+    let mut instructions = Vec::new(alloc);
+    instructions.push(Instr::Got {
+        to: 2,
+        parameter: 0,
+    })?;
+    instructions.push(Instr::OverEnd { to: 0, from: 3 })?;
+    instructions.push(Instr::LeafEnd { to: 0, size: 9 })?;
+    instructions.push(Instr::EndOf { to: 3, from: 2 })?;
+    let main = Entry {
+        name: None,
+        start: 0,
+        slots: 4,
+        result: Ty::Whole,
+    };
+    let functions = Vec::from_slice(alloc, &[main])?;
+    Ok(Code::new(layouts, instructions, functions))
+}
+
+#[test]
+fn lists_instructions_on_ends(rt: HostRuntime) -> Result<(), Fail> {
+    let alloc = rt.alloc();
+    let names = Names::make(alloc)?;
+    let code = telling(alloc)?;
+    let text = listing(alloc, &code, &names)?;
+    let want = "main 4\n0 got %2 0\n1 over %0 %3\n2 leafend %0 9\n3 end %3 %2\n";
+    assert!(rt; text.as_slice() == want.as_bytes());
+    Ok(())
+}

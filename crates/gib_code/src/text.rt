@@ -6,7 +6,7 @@ ghost use Rattle.std.specs.Fmt.{decimal, signed_decimal};
 ghost use Rattle.std.specs.Int.{w64, cast_signed};
 ghost use Rattle.gib_code.specs.Instruction.{instruction_of};
 ghost use Rattle.gib_code.specs.Program.{CodeTree};
-ghost use Rattle.gib_code.specs.Families.{family_of, Setting, Putting, Jumping, Calling, Forking};
+ghost use Rattle.gib_code.specs.Families.{family_of, Setting, Putting, Jumping, Calling, Forking, Telling};
 ghost use Rattle.gib_code.specs.ListingText.{name_text, number_text, slot_text, operand_text, operation_text, kind_text, constructor_text, called, function_text, label_text, instruction_text, line_text, title, head_text, head_at, later_than, lines_text, listing_text};
 
 use crate::code::Code;
@@ -328,6 +328,32 @@ fn push_forking(alloc: Global, out: &mut Vec<u8>, instr: &Instr) -> Result<(), M
     }
 }
 
+/// Writes an instruction on where the value of a variable ends.
+fn push_telling(alloc: Global, out: &mut Vec<u8>, instr: &Instr) -> Result<(), Memory>
+    requires { family_of (instruction_of instr.now) ≡ Telling }
+    ensures { (names : List (List ℕ)) (code : CodeTree) → OnOk result (out.new.items ≡ out.old.items ++ instruction_text names code (instruction_of instr.now)) }
+{
+    match instr {
+        Instr::Got { to, parameter } => {
+            push_one(alloc, out, b" got", *to)?;
+            push_number(alloc, out, *parameter)
+        }
+        Instr::OverEnd { to, from } => {
+            push_one(alloc, out, b" over", *to)?;
+            push_slot(alloc, out, *from)
+        }
+        Instr::LeafEnd { to, size } => {
+            push_one(alloc, out, b" leafend", *to)?;
+            push_number(alloc, out, u32::from(*size))
+        }
+        Instr::EndOf { to, from } => {
+            push_one(alloc, out, b" end", *to)?;
+            push_slot(alloc, out, *from)
+        }
+        _ => unreachable!(),
+    }
+}
+
 /// Writes an instruction.
 fn push_instruction(given: &Given<'_>, out: &mut Vec<u8>, instr: &Instr) -> Result<(), Memory>
     ensures { OnOk result (out.new.items ≡ out.old.items ++ instruction_text given.now.names.now given.now.code.now (instruction_of instr.now)) }
@@ -346,6 +372,8 @@ fn push_instruction(given: &Given<'_>, out: &mut Vec<u8>, instr: &Instr) -> Resu
             push_calling(given, out, instr)
         }
         Instr::Fork { .. } | Instr::Join | Instr::Back => push_forking(given.alloc, out, instr),
+        Instr::Got { .. } | Instr::OverEnd { .. } | Instr::LeafEnd { .. } | Instr::EndOf { .. } =>
+            push_telling(given.alloc, out, instr),
         _ => push_setting(given.alloc, out, instr),
     }
 }

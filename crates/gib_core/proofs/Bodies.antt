@@ -1,6 +1,6 @@
 -- Each body of a core that meets the build rules fits.
-use Rattle.std.proofs.Common.{◌≡◌, ℕ, zero, suc, ◌+◌, ◌<◌, ◌≤◌, ◌==◌, Bool, true, false, ◌||◌, if◌then◌else◌, List, [], ◌∷◌, ◌++◌, map, length, Option, Some, refl, sym, ap, ◌∙◌, subst, arith}
-use Rattle.std.proofs.lemmas.Bool.{ne_eqb}
+use Rattle.std.proofs.Common.{◌≡◌, ℕ, zero, suc, ◌+◌, ◌<◌, ◌≤◌, ◌==◌, Bool, true, false, ◌||◌, if◌then◌else◌, List, [], ◌∷◌, ◌++◌, map, length, Some, refl, sym, ap, ◌∙◌, subst, arith}
+use Rattle.std.proofs.lemmas.Bool.{ne_eqb, eqb-true}
 use Rattle.std.proofs.lemmas.Option.{same_Some}
 use Rattle.std.specs.List.{AllByRecursion}
 use Rattle.gib_types.specs.declared.table.Ty.{Ty}
@@ -13,7 +13,9 @@ use Rattle.gib_core.specs.Inferring.{numbers_from}
 use Rattle.gib_core.specs.Numbering.{binders, IsNumbered, AreNumbered}
 use Rattle.gib_core.specs.Met.{Body, reached, with_parameters, result_place, opening}
 use Rattle.gib_core.specs.Rules.{Before, is_bound, type_bound, bound_too, bind_parameters, before_body, IsBuilt, AreBuilt}
-use Rattle.gib_core.specs.Fits.{Sort, Absent, Scalar, Placed, Scope, put, tree_type, dest_of, param_sort, body_scope, Fits, FunctionFits, MainFits, AllFit, EachFits}
+use Rattle.gib_core.specs.Fits.{Sort, Absent, Scalar, Placed, Scope, put, tree_type, dest_of, param_sort, body_scope, Line, Needs, AtEnd, none_of, new_line, body_needs, Fits, FunctionFits, OwnFits, MainFits, AllFit, EachFits}
+use Rattle.gib_core.specs.Ending.{Within, within_function, within_main}
+use Rattle.gib_core.proofs.Owing.{Owes, owes_body, owes_main, owes_own, tells_new}
 use Rattle.gib_core.specs.Literals.{LiteralsFit, AllLiteralsFit}
 use Rattle.gib_core.proofs.Later.{later_new, its_type}
 use Rattle.gib_core.proofs.Vars.{named, Tracked, Vars, vars_on, vars_put, known_as, put_there, put_elsewhere}
@@ -108,15 +110,15 @@ opening_dest core b sc Truth = (refl, refl)
 opening_dest core b sc (Tree t) = (t, refl, refl)
 
 -- A body fits, with a slot for each variable.
-abbrev BodyFits : CoreTree → Body → Type 0
-BodyFits core b = Fits core b.term (body_scope (length b.parameters + length (binders b.term)) b.parameters) (dest_of b.result)
+abbrev BodyFits : CoreTree → Needs → Body → Line → Type 0
+BodyFits core ns b ln = Fits core ns b.term (body_scope (length b.parameters + length (binders b.term)) b.parameters) (dest_of b.result) ln
 
-body_fits : (core : CoreTree) (b : Body) → IsTable core.table → IsNumbered b → LiteralsFit b.term → IsBuilt core b → BodyFits core b
-body_fits core b is num lits built =
+body_fits : (core : CoreTree) (ns : Needs) (b : Body) (w : Within) → w.par ≡ false → Owes core ns b.term (new_line w) → IsTable core.table → IsNumbered b → LiteralsFit b.term → IsBuilt core b → BodyFits core ns b (new_line w)
+body_fits core ns b w np owes is num lits built =
     let n = length b.parameters + length (binders b.term) in
     let sc = body_scope n b.parameters in
     let below = subst (λ xs. AllBelow n xs) (sym num) (numbers_below n (length b.parameters) (length (binders b.term)) (omega arith)) in
-    term_fits core n is b.term (before_body b) (opening b) sc (dest_of b.result) (is_part (opening b) b.term refl) below lits
+    term_fits core n is ns b.term (before_body b) (opening b) sc (dest_of b.result) (new_line w) owes (tells_new core (opening b) w refl (λ e. np)) (is_part (opening b) b.term refl) below lits
     (parameters_vars n b.parameters (omega arith)) (opening_dest core (before_body b) sc b.result) built
 
 -- The bodies of functions, and then main's.
@@ -129,37 +131,49 @@ main_body core = record { parameters = core.main.parameter ∷ []; result = core
 abbrev function_bodies : CoreTree → List FunctionTerm → List Body
 function_bodies core gs = map (λ (g : FunctionTerm). record { parameters = g.parameters; result = g.result; term = g.body }) gs ++ main_body core ∷ []
 
-abbrev function_fits : CoreTree → FunctionTerm → Type 0
-function_fits core g = FunctionFits core g (length g.parameters + length (binders g.body))
+abbrev function_fits : CoreTree → ℕ → FunctionTerm → Type 0
+function_fits core f g = FunctionFits core f g (length g.parameters + length (binders g.body))
 
-fits_by : (core : CoreTree) (g h : FunctionTerm) (o : Option FunctionTerm) (same : Bool) → function_fits core g → (o ≡ Some h → function_fits core h) → (if same then Some g else o) ≡ Some h → function_fits core h
-fits_by core g h o true own rest is = subst (function_fits core) (same_Some g h is) own
-fits_by core g h o false own rest is = rest is
+-- The body of a function that its name leads to.
+functions_fit : (core : CoreTree) (f : ℕ) (gs : List FunctionTerm) → IsTable core.table → AllByRecursion IsNumbered (function_bodies core gs) → AllByRecursion (λ (b : Body). LiteralsFit b.term) (function_bodies core gs)
+    → AllByRecursion (IsBuilt core) (function_bodies core gs) → (g : FunctionTerm) → function_at gs f ≡ Some g → Owes core (body_needs core f) g.body (new_line (within_function core g)) → function_fits core f g
+functions_fit core f [] is num lits built g e owes = absurd cc
+functions_fit core f (h ∷ gs) is num lits built g e owes = go (h.name.0 == f) e (λ found. functions_fit core f gs is num.1 lits.1 built.1 g found owes)
+  where
+    go : (same : Bool) → (if same then Some h else function_at gs f) ≡ Some g → (function_at gs f ≡ Some g → function_fits core f g) → function_fits core f g
+    go true found rest =
+        let same = same_Some h g found in
+        let own : Owes core (body_needs core f) h.body (new_line (within_function core h)) = subst (λ (k : FunctionTerm). Owes core (body_needs core f) k.body (new_line (within_function core k))) (sym same) owes in
+        subst (function_fits core f) same (record { fits = body_fits core (body_needs core f) (body_of h) (within_function core h) refl own is num.0 lits.0 built.0; enough = omega arith })
+    go false found rest = rest found
 
-functions_fit : (core : CoreTree) (gs : List FunctionTerm) → IsTable core.table → AllByRecursion IsNumbered (function_bodies core gs) → AllByRecursion (λ (b : Body). LiteralsFit b.term) (function_bodies core gs)
-    → AllByRecursion (IsBuilt core) (function_bodies core gs) → (g : FunctionTerm) (f : ℕ) → function_at gs f ≡ Some g → FunctionFits core g (length g.parameters + length (binders g.body))
-functions_fit core [] is num lits built g f e = absurd cc
-functions_fit core (h ∷ gs) is num lits built g f e =
-    fits_by core h g (function_at gs f) (h.name.0 == f) (record { fits = body_fits core (body_of h) is num.0 lits.0 built.0; enough = omega arith })
-    (λ found. functions_fit core gs is num.1 lits.1 built.1 g f found) e
+name_of : (gs : List FunctionTerm) (f : ℕ) (g : FunctionTerm) → function_at gs f ≡ Some g → g.name.0 ≡ f
+name_of [] f g e = absurd cc
+name_of (h ∷ gs) f g e = go (h.name.0 == f) refl e (λ found. name_of gs f g found)
+  where
+    go : (same : Bool) → (h.name.0 == f) ≡ same → (if same then Some h else function_at gs f) ≡ Some g → (function_at gs f ≡ Some g → g.name.0 ≡ f) → g.name.0 ≡ f
+    go true q found rest = ap (λ (k : FunctionTerm). k.name.0) (sym (same_Some h g found)) ∙ eqb-true h.name.0 f q
+    go false q found rest = rest found
 
 main_fits : (core : CoreTree) (gs : List FunctionTerm) → IsTable core.table → AllByRecursion IsNumbered (function_bodies core gs) → AllByRecursion (λ (b : Body). LiteralsFit b.term) (function_bodies core gs)
     → AllByRecursion (IsBuilt core) (function_bodies core gs) → MainFits core (1 + length (binders core.main.body))
-main_fits core [] is num lits built = record { fits = body_fits core (main_body core) is num.0 lits.0 built.0 }
+main_fits core [] is num lits built = record { fits = body_fits core (AtEnd none_of) (main_body core) (within_main core) refl (owes_main core) is num.0 lits.0 built.0 }
 main_fits core (h ∷ gs) is num lits built = main_fits core gs is num.1 lits.1 built.1
 
 pub built_fits : (core : CoreTree) → IsTable core.table → AreNumbered core → AllLiteralsFit core → AreBuilt core → AllFit core
 built_fits core is num lits built = record {
   table = is;
-  functions = λ g f e. functions_fit core core.functions is num lits built g f e;
+  functions = λ g f e. functions_fit core f core.functions is num lits built g e (owes_body core f g e (name_of core.functions f g e));
   main = main_fits core core.functions is num lits built;
 }
 
 each_of : (core : CoreTree) (gs : List FunctionTerm) → IsTable core.table → AllByRecursion IsNumbered (function_bodies core gs) → AllByRecursion (λ (b : Body). LiteralsFit b.term) (function_bodies core gs)
-    → AllByRecursion (IsBuilt core) (function_bodies core gs) → AllByRecursion (function_fits core) gs
+    → AllByRecursion (IsBuilt core) (function_bodies core gs) → AllByRecursion (λ (g : FunctionTerm). OwnFits core g (length g.parameters + length (binders g.body))) gs
 each_of core [] is num lits built = tt
-each_of core (h ∷ gs) is num lits built =
-    (record { fits = body_fits core (body_of h) is num.0 lits.0 built.0; enough = omega arith }, each_of core gs is num.1 lits.1 built.1)
+each_of core (h ∷ gs) is num lits built = (
+  record { fits = body_fits core (AtEnd none_of) (body_of h) (within_function core h) refl (owes_own core h) is num.0 lits.0 built.0; enough = omega arith },
+  each_of core gs is num.1 lits.1 built.1,
+)
 
 pub each_fits : (core : CoreTree) → IsTable core.table → AreNumbered core → AllLiteralsFit core → AreBuilt core → EachFits core
 each_fits core is num lits built = each_of core core.functions is num lits built

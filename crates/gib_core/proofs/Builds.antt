@@ -17,7 +17,7 @@ use Rattle.gib_core.specs.declared.atom.Atom.{Atom}
 use Rattle.gib_core.specs.declared.atom.Atom.TheVariants as a
 use Rattle.gib_core.specs.declared.atom.Kind.TheVariants.{Here, Region, Scalar}
 use Rattle.gib_core.specs.declared.atom.Access.{Access}
-use Rattle.gib_core.specs.declared.atom.Access.TheVariants.{Offset, Skip}
+use Rattle.gib_core.specs.declared.atom.Access.TheVariants.{Offset, Skip, End}
 use Rattle.gib_core.specs.declared.scope.Bound.{Bound as BoundVariable}
 use Rattle.gib_core.specs.declared.scope.Behind.{Behind}
 use Rattle.gib_core.specs.declared.scope.Known.{Known}
@@ -25,9 +25,11 @@ use Rattle.gib_core.specs.Tree.{Term, Then, Write, Point, CallTerm, Give, CaseTe
 use Rattle.gib_core.specs.Meaning.{function_at}
 use Rattle.gib_core.specs.Numbering.{binders, bind_binders, side_binders, branch_binders}
 use Rattle.gib_core.specs.Met.{Destination, Nowhere, Empty, Open, Setting, PastLine, SideLine, ParLine, PrimLine, ReachLine, CaseLine, known, reached, field_due, packed_types, with_field, stands_too, in_side, behind, left_of, right_of, in_arm, in_branch, arms_of, met, met_bind, met_side, met_branches, reached_too}
-use Rattle.gib_core.specs.Rules.{Before, is_among, is_bound, type_bound, rules, least, next, next_all, LinesAreBuilt, has_room, same_type, is_empty, is_nowhere, is_of_type, is_usable, all_usable, is_other, any_other, has_type, may_write, are_scalars, may_reach, by_access, is_one_of, is_reached, type_of, arm_variables}
+use Rattle.gib_core.specs.Rules.{Before, is_among, is_bound, type_bound, rules, least, next, next_all, LinesAreBuilt, has_room, same_type, is_empty, is_nowhere, is_of_type, is_usable, all_usable, is_other, any_other, has_type, may_write, are_scalars, may_reach, by_access, one_tells, is_outside, is_one_of, is_reached, type_of, arm_variables}
 use Rattle.gib_core.specs.Fits as f
-use Rattle.gib_core.specs.Fits.{Sort, Absent, Held, Placed, AtHead, Field, Scope, put, tree_type, loosen, cased, side_cased, Dest, packed_due, more, IsDue, AtomsFit, FurtherPlaced, IsTree, CallFits, by_call, arm_scope, Fits, BindFits, SideFits, AloneFits, BranchesFit}
+use Rattle.gib_core.specs.Fits.{Sort, Absent, Held, Placed, AtHead, Field, Scope, put, tree_type, loosen, cased, side_cased, Dest, packed_due, more, IsDue, AtomsFit, FurtherPlaced, IsTree, CallFits, by_call, arm_scope, Line, Needs, Inner, none_of, new_line, tell_line, arm_line, side_tells, Fits, BindFits, SideFits, AloneFits, BranchesFit}
+use Rattle.gib_core.specs.Ending.{Within, within_par, ended, is_known, all_known, lasts_known, last_packed, if_some}
+use Rattle.gib_core.proofs.Owing.{Owes, Tells, MayTell, side_line, bind_line, owes_leaf, owes_call, owes_if, owes_arm, owes_side, owes_none, owes_behind, tells_new, tells_inner, tells_behind, left_may, right_may}
 use Rattle.gib_core.specs.Literals.{LiteralsFit, BindLiterals, SideLiterals, BranchLiterals}
 use Rattle.gib_core.proofs.Facts.{and_true, not_false, clash, least2, least3, least4, same_type_is, is_type_is, same_variable, itself, Test, holds, fails, test}
 use Rattle.gib_core.proofs.Later.{later_on, bound_arms, fresh_arms, line_later, lines_later, built_apart, next_apart, its_type, prim_facts, case_facts, ArmsHaveTypes, arms_have_on, typed_bound}
@@ -158,12 +160,12 @@ first_true false q e = absurd cc
 
 -- What comes after a binding: the rest of its line; after a left side, the right one comes before that.
 pub data After : Type 0 where
-  AfterBind : Term → After
-  AfterLeft : Side → After → After
+  AfterBind : Needs → Term → After
+  AfterLeft : (Line → Within) → Side → After → After
 
-abbrev pub goes : CoreTree → After → Scope → Dest → Type 0
-goes core (AfterBind t) sc d = Fits core t sc d
-goes core (AfterLeft r go) sc d = SideFits core r sc d (goes core go)
+abbrev pub goes : CoreTree → After → Scope → Dest → Line → Type 0
+goes core (AfterBind ns t) sc d ln = Fits core ns t sc d ln
+goes core (AfterLeft v r go) sc d ln = SideFits core (v ln) r sc d ln (goes core go)
 
 -- What a side leaves.
 abbrev pub SideLeft : CoreTree → ℕ → Before → Setting → Side → Scope → Before → Scope → Dest → Type 0
@@ -211,11 +213,11 @@ scalar_due core b s x ty t h = not_false (is_scalar ty) (least2 8 9 (is_bound b.
 scalar_vars : (core : CoreTree) (n : ℕ) (b : Before) (s : Setting) (sc : Scope) (x : Variable) (ty : Ty) (t : Term) → LinesAreBuilt core b (met_side core.table s (On Scalar x ty t)) → Vars n b s.scope sc → Vars n (next core.table b (SideLine Scalar x ty)) s.scope sc
 scalar_vars core n b s sc x ty t h v = vars_on n b (next core.table b (SideLine Scalar x ty)) s.scope sc (line_later core b s (SideLine Scalar x ty) h.0) v
 
-scalar_side : (core : CoreTree) (n : ℕ) (x : Variable) (ty : Ty) (t : Term) (b : Before) (s : Setting) (sc : Scope) (d : Dest) (go : After) → AllBelow n (side_binders (On Scalar x ty t))
+scalar_side : (core : CoreTree) (n : ℕ) (w : Within) (x : Variable) (ty : Ty) (t : Term) (b : Before) (s : Setting) (sc : Scope) (d : Dest) (ln : Line) (go : After) → AllBelow n (side_binders (On Scalar x ty t))
     → Vars n b s.scope sc → IsDest core.table b sc s.destination s.due d → LinesAreBuilt core b (met_side core.table s (On Scalar x ty t))
-    → ((tc : Scope) (d' : Dest) → SideLeft core n b s (On Scalar x ty t) sc (next_all core.table b (met_side core.table s (On Scalar x ty t))) tc d' → goes core go tc d')
-    → by_call t (Fits core t sc (f.Nowhere ty)) (λ g xs. CallFits core sc g xs ty) → SideFits core (On Scalar x ty t) sc d (goes core go)
-scalar_side core n x ty t b s sc d go below v e h on inside =
+    → ((tc : Scope) (d' : Dest) → SideLeft core n b s (On Scalar x ty t) sc (next_all core.table b (met_side core.table s (On Scalar x ty t))) tc d' → goes core go tc d' (tell_line (side_tells w core t) ln))
+    → by_call t (Fits core (Inner (side_tells w core t)) t sc (f.Nowhere ty) (new_line w)) (λ g xs. CallFits core sc g xs ty) → SideFits core w (On Scalar x ty t) sc d ln (goes core go)
+scalar_side core n w x ty t b s sc d ln go below v e h on inside =
     let r = least2 8 9 (is_bound b.bound x) (not (is_scalar ty)) h.0 in
     let scalar = not_false (is_scalar ty) r.1 in
     let line = SideLine Scalar x ty in
@@ -226,7 +228,7 @@ scalar_side core n x ty t b s sc d go below v e h on inside =
     let l1 = line_later core b s line h.0 in
     let l2 = lines_later core m lines h.1 in
     let typed : type_bound c.bound x ≡ Some ty = l2.bound.types x ty (its_type b.bound x ty) in
-    let z = bind_sort n b c s.scope sc (cased t) x (f.Scalar ty) (later_on b m c l1 l2) (λ q w. cased_before core.table t m inner (named q) w) r.0 below.0 (typed_bound c.bound x ty typed) v in
+    let z = bind_sort n b c s.scope sc (cased t) x (f.Scalar ty) (later_on b m c l1 l2) (λ q m'. cased_before core.table t m inner (named q) m') r.0 below.0 (typed_bound c.bound x ty typed) v in
     let tc = put (loosen (cased t) sc) x.0 (f.Scalar ty) in (
       scalar,
       v.new x.0 r.0 below.0,
@@ -241,39 +243,39 @@ due_there core Empty r = absurd cc
 due_there core (Open h k standing) r = (let n = next_of (fields_at core.table k.0) (length standing) (ltb-true (length standing) (length (packed_types core.table k)) r) in (n.ty, n.due))
 
 -- A scalar by itself.
-alone_scalar : (core : CoreTree) (n : ℕ) (x : Variable) (ty : Ty) (t : Term) (b : Before) (s : Setting) (sc : Scope) → AllBelow n (side_binders (On Scalar x ty t))
-    → Vars n b s.scope sc → LinesAreBuilt core b (met_side core.table s (On Scalar x ty t)) → by_call t (Fits core t sc (f.Nowhere ty)) (λ g xs. CallFits core sc g xs ty) → AloneFits core (On Scalar x ty t) sc
-alone_scalar core n x ty t b s sc below v h inside =
+alone_scalar : (core : CoreTree) (n : ℕ) (w : Within) (x : Variable) (ty : Ty) (t : Term) (b : Before) (s : Setting) (sc : Scope) → AllBelow n (side_binders (On Scalar x ty t))
+    → Vars n b s.scope sc → LinesAreBuilt core b (met_side core.table s (On Scalar x ty t)) → by_call t (Fits core (Inner (side_tells w core t)) t sc (f.Nowhere ty) (new_line w)) (λ g xs. CallFits core sc g xs ty) → AloneFits core w (On Scalar x ty t) sc
+alone_scalar core n w x ty t b s sc below v h inside =
     let r = least2 8 9 (is_bound b.bound x) (not (is_scalar ty)) h.0 in (not_false (is_scalar ty) r.1, v.new x.0 r.0 below.0, inside)
 
 mutual
-  pub term_fits : (core : CoreTree) (n : ℕ) → IsTable core.table → (t : Term) (b : Before) (s : Setting) (sc : Scope) (d : Dest) → IsPart s t → AllBelow n (binders t) → LiteralsFit t
-      → Vars n b s.scope sc → IsDest core.table b sc s.destination s.due d → LinesAreBuilt core b (met core.table s t) → Fits core t sc d
-  term_fits core n is (Then k rest) b s sc d part below lits v e h =
+  pub term_fits : (core : CoreTree) (n : ℕ) → IsTable core.table → (ns : Needs) (t : Term) (b : Before) (s : Setting) (sc : Scope) (d : Dest) (ln : Line) → Owes core ns t ln → Tells core s ln → IsPart s t → AllBelow n (binders t) → LiteralsFit t
+      → Vars n b s.scope sc → IsDest core.table b sc s.destination s.due d → LinesAreBuilt core b (met core.table s t) → Fits core ns t sc d ln
+  term_fits core n is ns (Then k rest) b s sc d ln owes tells part below lits v e h =
       let parts = built_apart core b (met_bind core.table s k) (met core.table (behind s k) rest) h in
       let low = below_apart n (bind_binders k) (binders rest) below in
-      bind_fits core n is k b s sc d (AfterBind rest) low.0 lits.0 v e parts.0
-      (λ tc d' v' e'. term_fits core n is rest (next_all core.table b (met_bind core.table s k)) (behind s k) tc d' (is_part (behind s k) rest (behind_part s k)) low.1 lits.1 v' e' parts.1)
-  term_fits core n is (Write q k ss ps) b s sc d part below lits v e h =
+      bind_fits core n is k b s sc d ln tells (AfterBind ns rest) low.0 lits.0 v e parts.0
+      (λ tc d' v' e'. term_fits core n is ns rest (next_all core.table b (met_bind core.table s k)) (behind s k) tc d' (bind_line core k ln) (owes_behind core ns k rest ln owes) (tells_behind core s k ln tells) (is_part (behind s k) rest (behind_part s k)) low.1 lits.1 v' e' parts.1)
+  term_fits core n is ns (Write q k ss ps) b s sc d ln owes tells part below lits v e h =
       let r = least4 4 5 8 9 (any_other s (ss ++ ps)) (not (may_write core.table b s.destination q k ps)) (not (all_usable s (ss ++ ps))) (not (are_scalars core.table b s.destination ss)) h.0 in
-      write_fits core n b s sc d s.destination q k ss ps (not_false (may_write core.table b s.destination q k ps) r.1) (not_false (are_scalars core.table b s.destination ss) r.3)
+      write_fits core n b s sc d s.destination q k ss ps ns ln (owes_leaf core ns (Write q k ss ps) ln refl (λ z. refl) owes) (not_false (may_write core.table b s.destination q k ps) r.1) (not_false (are_scalars core.table b s.destination ss) r.3)
       (usable_first s ss ps (not_false (all_usable s (ss ++ ps)) r.2)) lits v e
-  term_fits core n is (Point x) b s sc d part below lits v e h =
+  term_fits core n is ns (Point x) b s sc d ln owes tells part below lits v e h =
       let r = least4 4 6 8 9 (is_other s x) (not (is_empty s.destination)) (not (is_usable s x)) (not (has_type b x s.due)) h.0 in
       let place = empty_place core.table b sc s.destination s.due d (not_false (is_empty s.destination) r.1) e in
       let typed : type_of b x ≡ Some (Tree place.0) = is_type_is (type_of b x) s.due (not_false (has_type b x s.due) r.3) ∙ ap Some place.1 in
-      (place.0.0, place.2, tree_fits n b s sc x place.0 (not_false (is_usable s x) r.2) typed v)
-  term_fits core n is (CallTerm g xs) b s sc d part below lits v e h =
+      (place.0.0, place.2, tree_fits n b s sc x place.0 (not_false (is_usable s x) r.2) typed v, owes_leaf core ns (Point x) ln refl (λ z. refl) owes)
+  term_fits core n is ns (CallTerm g xs) b s sc d ln owes tells part below lits v e h =
       let c = call_facts core b s g xs h.0 in
       let place = empty_place core.table b sc s.destination s.due d (packed_place core b s xs (function_at core.functions g.0) part c.place c.fits) e in
       let fit = scalar_call_fits core n b s sc g xs h lits v in
-      (place.0.0, place.2, subst (λ ty. CallFits core sc g xs ty) place.1 fit)
-  term_fits core n is (Give x) b s sc d part below lits v e h =
+      (place.0.0, place.2, subst (λ ty. CallFits core sc g xs ty) place.1 fit, owes_call core ns g xs ln owes)
+  term_fits core n is ns (Give x) b s sc d ln owes tells part below lits v e h =
       let r = least3 4 8 9 (is_other s x) (not (is_usable s x)) (not (is_nowhere s.destination && has_type b x s.due)) h.0 in
       let both = and_true (is_nowhere s.destination) (has_type b x s.due) (not_false (is_nowhere s.destination && has_type b x s.due) r.2) in
       let place = no_place core.table b sc s.destination s.due d both.0 e in
-      (s.due, place.1, place.0, atom_fits n b s sc x s.due (not_false (is_usable s x) r.1) both.1 lits v)
-  term_fits core n is (CaseTerm (a.Variable x) bs) b s sc d part below lits v e h =
+      (s.due, place.1, place.0, atom_fits n b s sc x s.due (not_false (is_usable s x) r.1) both.1 lits v, owes_leaf core ns (Give x) ln refl (λ z. refl) owes)
+  term_fits core n is ns (CaseTerm (a.Variable x) bs) b s sc d ln owes tells part below lits v e h =
       let facts = case_facts core b s (a.Variable x) (arms_of bs) h.0 in
       let cover = covers core.table (type_bound b.bound x) bs is facts.covers in
       let own = tracked_as n b s.scope sc x (Tree cover.ty) facts.usable cover.typed v in
@@ -291,10 +293,10 @@ mutual
       let absent : (z : ℕ) → is_bound b.bound (named z) ≡ false → z < n → tc z ≡ Absent =
       λ z no lt. put_elsewhere sc x.0 z (AtHead cover.ty.0) (unbound_apart b.bound x z (typed_bound b.bound x (Tree cover.ty) cover.typed) no (test (z == x.0))) ∙ v.new z no lt in
       let new = arms_new n core.table (arms_of bs) tc (is_bound b.bound) fresh absent (arms_below n bs below) cover.long in
-      (cover.ty.0, record { variable = x; atom = refl; sort = own.usable.0 }, cover.each, branches_fit core n is bs c s tc d x.0 below lits v' e' types new h.1)
-  term_fits core n is (CaseTerm (a.Whole z) bs) b s sc d part below lits v e h = (let c = (case_facts core b s (a.Whole z) (arms_of bs) h.0).covers in absurd cc)
-  term_fits core n is (CaseTerm (a.Truth z) bs) b s sc d part below lits v e h = (let c = (case_facts core b s (a.Truth z) (arms_of bs) h.0).covers in absurd cc)
-  term_fits core n is (IfTerm x t u) b s sc d part below lits v e h =
+      (cover.ty.0, record { variable = x; atom = refl; sort = own.usable.0 }, cover.each, branches_fit core n is ns bs bs x ln owes (λ q i. i) (λ i. i) c s tc d tells below lits v' e' types new h.1)
+  term_fits core n is ns (CaseTerm (a.Whole z) bs) b s sc d ln owes tells part below lits v e h = (let c = (case_facts core b s (a.Whole z) (arms_of bs) h.0).covers in absurd cc)
+  term_fits core n is ns (CaseTerm (a.Truth z) bs) b s sc d ln owes tells part below lits v e h = (let c = (case_facts core b s (a.Truth z) (arms_of bs) h.0).covers in absurd cc)
+  term_fits core n is ns (IfTerm x t u) b s sc d ln owes tells part below lits v e h =
       let r = least3 4 8 9 (is_other s x) (not (is_usable s x)) (not (has_type b x Truth)) h.0 in
       let typed = not_false (has_type b x Truth) r.2 in
       let lines = met core.table (in_branch s) t in
@@ -303,15 +305,15 @@ mutual
       let c = next_all core.table b lines in
       let later = lines_later core b lines parts.0 in (
         truth_fits n b s sc x (not_false (is_usable s x) r.1) typed v,
-        term_fits core n is t b (in_branch s) sc d (is_part (in_branch s) t refl) low.0 lits.0 v e parts.0,
-        term_fits core n is u c (in_branch s) sc d (is_part (in_branch s) u refl) low.1 lits.1 (vars_on n b c s.scope sc later v) (dest_kept core.table b c sc sc s.destination s.due d (keep_later b c sc later) e) parts.1,
+        term_fits core n is ns t b (in_branch s) sc d ln (owes_if core ns x t u ln owes).0 (tells_inner core s (in_branch s) ln ln refl refl refl tells) (is_part (in_branch s) t refl) low.0 lits.0 v e parts.0,
+        term_fits core n is ns u c (in_branch s) sc d ln (owes_if core ns x t u ln owes).1 (tells_inner core s (in_branch s) ln ln refl refl refl tells) (is_part (in_branch s) u refl) low.1 lits.1 (vars_on n b c s.scope sc later v) (dest_kept core.table b c sc sc s.destination s.due d (keep_later b c sc later) e) parts.1,
       )
 
-  bind_fits : (core : CoreTree) (n : ℕ) → IsTable core.table → (k : Bind) (b : Before) (s : Setting) (sc : Scope) (d : Dest) (go : After) → AllBelow n (bind_binders k) → BindLiterals k
+  bind_fits : (core : CoreTree) (n : ℕ) → IsTable core.table → (k : Bind) (b : Before) (s : Setting) (sc : Scope) (d : Dest) (ln : Line) → Tells core s ln → (go : After) → AllBelow n (bind_binders k) → BindLiterals k
       → Vars n b s.scope sc → IsDest core.table b sc s.destination s.due d → LinesAreBuilt core b (met_bind core.table s k)
-      → ((tc : Scope) (d' : Dest) → Vars n (next_all core.table b (met_bind core.table s k)) (behind s k).scope tc → IsDest core.table (next_all core.table b (met_bind core.table s k)) tc (behind s k).destination (behind s k).due d' → goes core go tc d')
-      → BindFits core k sc d (goes core go)
-  bind_fits core n is (Past q k) b s sc d go below lits v e h on =
+      → ((tc : Scope) (d' : Dest) → Vars n (next_all core.table b (met_bind core.table s k)) (behind s k).scope tc → IsDest core.table (next_all core.table b (met_bind core.table s k)) tc (behind s k).destination (behind s k).due d' → goes core go tc d' (bind_line core k ln))
+      → BindFits core k sc d ln (goes core go)
+  bind_fits core n is (Past q k) b s sc d ln tells go below lits v e h on =
       let r = least2 1 8 (not (is_empty s.destination && is_of_type core.table k s.due)) (is_bound b.bound q) h.0 in
       let both = and_true (is_empty s.destination) (is_of_type core.table k s.due) (not_false (is_empty s.destination && is_of_type core.table k s.due) r.0) in
       let place = empty_place core.table b sc s.destination s.due d both.0 e in
@@ -328,10 +330,10 @@ mutual
         on (put sc q.0 Held) (f.Open place.0.0 q.0 k.0 [] (packed_due (fields_at core.table k.0))) (vars_hold n c s.scope sc q.0 Held absent bound (vars_on n b c s.scope sc later v))
             (place.0, place.1, record { dest = refl; stand = tt }),
       )
-  bind_fits core n is (One side) b s sc d go below lits v e h on =
-      side_fits core n is side b s sc d go below lits v e h
+  bind_fits core n is (One side) b s sc d ln tells go below lits v e h on =
+      side_fits core n is ln.within side b s sc d ln tells.par go below lits v e h
       (λ tc d' dn. let there = one_left core n b s side sc (next_all core.table b (met_side core.table s side)) tc d' dn in on tc d' there.0 there.1)
-  bind_fits core n is (Both false l r) b s sc d go below lits v e h on =
+  bind_fits core n is (Both false l r) b s sc d ln tells go below lits v e h on =
       let c = next core.table b ParLine in
       let ls = left_of s r in
       let rs = right_of s l in
@@ -342,14 +344,14 @@ mutual
       let z = next_all core.table m (met_side core.table rs r) in
       let all : z ≡ next_all core.table c (lines ++ met_side core.table rs r) = sym (next_apart core.table c lines (met_side core.table rs r)) in (
         side_unused core r m rs (variable_of l) (right_among s l) parts.1,
-        side_fits core n is l c ls sc d (AfterLeft r go) low.0 lits.0 v e parts.0
-            (λ tc d' dl. let start = right_start core n c s l r sc m tc d' dl in side_fits core n is r m rs tc d' go low.1 lits.1 start.0 start.1 parts.1
+        side_fits core n is (within_par ln.within) l c ls sc d ln (left_may s r (within_par ln.within)) (AfterLeft (λ ln'. within_par ln.within) r go) low.0 lits.0 v e parts.0
+            (λ tc d' dl. let start = right_start core n c s l r sc m tc d' dl in side_fits core n is (within_par ln.within) r m rs tc d' (side_line (within_par ln.within) core l ln) (right_may s l (within_par ln.within)) go low.1 lits.1 start.0 start.1 parts.1
             (λ uc d'' dr.
             let P : Before → Type 0 = λ y. Vars n y (behind s (Both false l r)).scope uc × IsDest core.table y uc (behind s (Both false l r)).destination (behind s (Both false l r)).due d'' in
             let there = subst P all (both_left core n c s false l r sc m tc d' z uc d'' dl dr) in
             on uc d'' there.0 there.1)),
       )
-  bind_fits core n is (Both true l r) b s sc d go below lits v e h on =
+  bind_fits core n is (Both true l r) b s sc d ln tells go below lits v e h on =
       let c = next core.table b ParLine in
       let ls = left_of s r in
       let rs = right_of s l in
@@ -360,15 +362,15 @@ mutual
       let z = next_all core.table m (met_side core.table rs r) in
       let all : z ≡ next_all core.table c (lines ++ met_side core.table rs r) = sym (next_apart core.table c lines (met_side core.table rs r)) in (
         side_unused core r m rs (variable_of l) (right_among s l) parts.1,
-        alone_fits core n is r m s l sc low.1 lits.1 (vars_on n b m s.scope sc (later_on b c m (line_later core b s ParLine h.0) (lines_later core c lines parts.0)) v) parts.1,
-        side_fits core n is l c ls sc d (AfterLeft r go) low.0 lits.0 v e parts.0
-            (λ tc d' dl. let start = right_start core n c s l r sc m tc d' dl in side_fits core n is r m rs tc d' go low.1 lits.1 start.0 start.1 parts.1
+        alone_fits core n is (within_par ln.within) r m s l sc low.1 lits.1 (vars_on n b m s.scope sc (later_on b c m (line_later core b s ParLine h.0) (lines_later core c lines parts.0)) v) parts.1,
+        side_fits core n is (within_par ln.within) l c ls sc d ln (left_may s r (within_par ln.within)) (AfterLeft (λ ln'. within_par ln'.within) r go) low.0 lits.0 v e parts.0
+            (λ tc d' dl. let start = right_start core n c s l r sc m tc d' dl in side_fits core n is (within_par (side_line (within_par ln.within) core l ln).within) r m rs tc d' (side_line (within_par ln.within) core l ln) (right_may s l (within_par (side_line (within_par ln.within) core l ln).within)) go low.1 lits.1 start.0 start.1 parts.1
             (λ uc d'' dr.
             let P : Before → Type 0 = λ y. Vars n y (behind s (Both true l r)).scope uc × IsDest core.table y uc (behind s (Both true l r)).destination (behind s (Both true l r)).due d'' in
             let there = subst P all (both_left core n c s true l r sc m tc d' z uc d'' dl dr) in
             on uc d'' there.0 there.1)),
       )
-  bind_fits core n is (Prim x g y z) b s sc d go below lits v e h on =
+  bind_fits core n is (Prim x g y z) b s sc d ln tells go below lits v e h on =
       let facts = prim_facts core b s x g y z h.0 in
       let us = and_true (is_usable s y) (is_usable s z && true) facts.usable in
       let uz = and_true (is_usable s z) true us.1 in
@@ -385,7 +387,7 @@ mutual
         atom_fits n b s sc z Whole uz.0 tz.0 lits.1 v,
         on tc d (vars_scope n c s.scope tc (reached x) (operator_type g, own) m.vars) (dest_kept core.table b c sc tc s.destination s.due d m.keep e),
       )
-  bind_fits core n is (Reach y Offset) b s sc d go below lits v e h on =
+  bind_fits core n is (Reach y Offset) b s sc d ln tells go below lits v e h on =
       let facts = reach_facts core b s y Offset h.0 in
       let k = facts.unreached in
       let back = behind_of b sc y.0 k.reached k.behind facts.not_yet (v.knows y.0 k facts.found) in
@@ -402,7 +404,7 @@ mutual
         on tc d (reach_vars n b s sc y k fd.ty tc facts.found (field_reached n b s.scope sc k y fd.ty facts.found fd.typed v))
             (dest_kept core.table b b sc tc s.destination s.due d (keep_reached b sc y.0 fd.ty.0 back.0.before.0 fd.tree back.0.constructor.0 fd.place (Placed fd.ty.0) fd.sort) e),
       )
-  bind_fits core n is (Reach y (Skip z)) b s sc d go below lits v e h on =
+  bind_fits core n is (Reach y (Skip z)) b s sc d ln tells go below lits v e h on =
       let facts = reach_facts core b s y (Skip z) h.0 in
       let k = facts.unreached in
       let back = behind_of b sc y.0 k.reached k.behind facts.not_yet (v.knows y.0 k facts.found) in
@@ -426,12 +428,37 @@ mutual
         on tc d (reach_vars n b s sc y k fd.ty tc facts.found (field_reached n b s.scope sc k y fd.ty facts.found fd.typed v))
             (dest_kept core.table b b sc tc s.destination s.due d (keep_reached b sc y.0 fd.ty.0 back.0.before.0 fd.tree back.0.constructor.0 fd.place (Placed fd.ty.0) fd.sort) e),
       )
+  bind_fits core n is (Reach y (End z)) b s sc d ln tells go below lits v e h on =
+      let facts = reach_facts core b s y (End z) h.0 in
+      let k = facts.unreached in
+      let back = behind_of b sc y.0 k.reached k.behind facts.not_yet (v.knows y.0 k facts.found) in
+      let fd = back.2 in
+      let by = subst (λ w. by_access core b s w (End z) ≡ true) back.1 facts.access in
+      let p = and_true (back.0.before.0 == z.0) (is_reached (known s.scope z) && (is_outside s.others && one_tells (ended core) s.calls z)) by in
+      let q = and_true (is_reached (known s.scope z)) (is_outside s.others && one_tells (ended core) s.calls z) p.1 in
+      let w = and_true (is_outside s.others) (one_tells (ended core) s.calls z) q.1 in
+      let same = same_variable back.0.before z p.0 in
+      let ztyped : type_bound b.bound z ≡ Some (Tree fd.before) = subst (λ w. type_bound b.bound w ≡ Some (Tree fd.before)) same fd.before_typed in
+      let ztracked = tracked_as n b s.scope sc z (Tree fd.before) q.0 ztyped v in
+      let sort = subst (λ (w : Variable). sc y.0 ≡ Field fd.ty.0 w.0 fd.tree back.0.constructor.0 fd.place) same fd.sort in
+      let tc = put sc y.0 (Placed fd.ty.0) in (
+        fd.ty.0,
+        fd.tree,
+        back.0.constructor.0,
+        fd.place,
+        fd.before.0,
+        sort,
+        ztracked.usable.0,
+        on tc d (reach_vars n b s sc y k fd.ty tc facts.found (field_reached n b s.scope sc k y fd.ty facts.found fd.typed v))
+            (dest_kept core.table b b sc tc s.destination s.due d (keep_reached b sc y.0 fd.ty.0 back.0.before.0 fd.tree back.0.constructor.0 fd.place (Placed fd.ty.0) fd.sort) e),
+        tells.told z w.0 w.1,
+      )
 
-  side_fits : (core : CoreTree) (n : ℕ) → IsTable core.table → (side : Side) (b : Before) (s : Setting) (sc : Scope) (d : Dest) (go : After) → AllBelow n (side_binders side) → SideLiterals side
+  side_fits : (core : CoreTree) (n : ℕ) → IsTable core.table → (w : Within) (side : Side) (b : Before) (s : Setting) (sc : Scope) (d : Dest) (ln : Line) → MayTell s w → (go : After) → AllBelow n (side_binders side) → SideLiterals side
       → Vars n b s.scope sc → IsDest core.table b sc s.destination s.due d → LinesAreBuilt core b (met_side core.table s side)
-      → ((tc : Scope) (d' : Dest) → SideLeft core n b s side sc (next_all core.table b (met_side core.table s side)) tc d' → goes core go tc d')
-      → SideFits core side sc d (goes core go)
-  side_fits core n is (On Here x ty t) b s sc d go below lits v e h on =
+      → ((tc : Scope) (d' : Dest) → SideLeft core n b s side sc (next_all core.table b (met_side core.table s side)) tc d' → goes core go tc d' (side_line w core side ln))
+      → SideFits core w side sc d ln (goes core go)
+  side_fits core n is w (On Here x ty t) b s sc d ln may go below lits v e h on =
       let r = least3 2 8 9 (not (has_room core.table s.destination)) (is_bound b.bound x) (not (same_type ty (field_due core.table s.destination))) h.0 in
       let facts = here_facts core b s sc x ty d s.destination refl (not_false (has_room core.table s.destination) r.0) (not_false (same_type ty (field_due core.table s.destination)) r.2) e in
       let line = SideLine Here x ty in
@@ -444,17 +471,17 @@ mutual
       let absent = v.new x.0 r.1 below.0 in
       let bound : is_bound m.bound x ≡ true = first_true (x.0 == x.0) (is_bound b.bound x) (itself x.0) in
       let typed : type_bound c.bound x ≡ Some (Tree facts.tree) = l2.bound.types x (Tree facts.tree) (its_type b.bound x ty ∙ ap Some facts.typed) in
-      let z = bind_sort n b c s.scope sc (cased t) x (Placed facts.tree.0) (later_on b m c l1 l2) (λ q w. cased_before core.table t m inner (named q) w) r.1 below.0 (typed_bound c.bound x (Tree facts.tree) typed) v in
+      let z = bind_sort n b c s.scope sc (cased t) x (Placed facts.tree.0) (later_on b m c l1 l2) (λ q m'. cased_before core.table t m inner (named q) m') r.1 below.0 (typed_bound c.bound x (Tree facts.tree) typed) v in
       let tc = put (loosen (cased t) sc) x.0 (Placed facts.tree.0) in
       let own = placed_own c (loosen (cased t) sc) x facts.tree typed in (
         facts.tree.0,
         facts.typed,
         facts.is,
         absent,
-        term_fits core n is t m inner (put sc x.0 Held) (f.Empty facts.tree.0) (is_part inner t refl) below.1 lits (vars_hold n m s.scope sc x.0 Held absent bound (vars_on n b m s.scope sc l1 v)) (facts.tree, facts.due, refl) h.1,
+        term_fits core n is (Inner (side_tells w core t)) t m inner (put sc x.0 Held) (f.Empty facts.tree.0) (new_line w) (owes_side core w t) (tells_new core inner w refl may) (is_part inner t refl) below.1 lits (vars_hold n m s.scope sc x.0 Held absent bound (vars_on n b m s.scope sc l1 v)) (facts.tree, facts.due, refl) h.1,
         on tc (more d x.0) (record { vars = z.vars; keep = z.keep; own = subst (λ u. Tracked c tc x.0 u) (sym facts.typed) own; dest = facts.after c tc z.keep own }),
       )
-  side_fits core n is (On Region x ty t) b s sc d go below lits v e h on =
+  side_fits core n is w (On Region x ty t) b s sc d ln may go below lits v e h on =
       let r = least2 3 8 (is_scalar ty) (is_bound b.bound x) h.0 in
       let packed = packed_type ty r.0 in
       let line = SideLine Region x ty in
@@ -467,38 +494,38 @@ mutual
       let absent = v.new x.0 r.1 below.0 in
       let bound : is_bound m.bound x ≡ true = first_true (x.0 == x.0) (is_bound b.bound x) (itself x.0) in
       let typed : type_bound c.bound x ≡ Some (Tree packed.0) = l2.bound.types x (Tree packed.0) (its_type b.bound x ty ∙ ap Some packed.1) in
-      let z = bind_sort n b c s.scope sc (cased t) x (Placed packed.0.0) (later_on b m c l1 l2) (λ q w. cased_before core.table t m inner (named q) w) r.1 below.0 (typed_bound c.bound x (Tree packed.0) typed) v in
+      let z = bind_sort n b c s.scope sc (cased t) x (Placed packed.0.0) (later_on b m c l1 l2) (λ q m'. cased_before core.table t m inner (named q) m') r.1 below.0 (typed_bound c.bound x (Tree packed.0) typed) v in
       let tc = put (loosen (cased t) sc) x.0 (Placed packed.0.0) in
       let own = placed_own c (loosen (cased t) sc) x packed.0 typed in (
         packed.0.0,
         packed.1,
         absent,
-        term_fits core n is t m inner (put sc x.0 Held) (f.Empty packed.0.0) (is_part inner t refl) below.1 lits (vars_hold n m s.scope sc x.0 Held absent bound (vars_on n b m s.scope sc l1 v)) (packed.0, packed.1, refl) h.1,
+        term_fits core n is (Inner (side_tells w core t)) t m inner (put sc x.0 Held) (f.Empty packed.0.0) (new_line w) (owes_side core w t) (tells_new core inner w refl may) (is_part inner t refl) below.1 lits (vars_hold n m s.scope sc x.0 Held absent bound (vars_on n b m s.scope sc l1 v)) (packed.0, packed.1, refl) h.1,
         on tc d (record { vars = z.vars; keep = z.keep; own = subst (λ u. Tracked c tc x.0 u) (sym packed.1) own; dest = dest_kept core.table b c sc tc s.destination s.due d z.keep e }),
       )
-  side_fits core n is (On Scalar x ty (CallTerm g xs)) b s sc d go below lits v e h on =
+  side_fits core n is w (On Scalar x ty (CallTerm g xs)) b s sc d ln may go below lits v e h on =
       let line = SideLine Scalar x ty in
       let l1 = line_later core b s line h.0 in
       let m = next core.table b line in
-      scalar_side core n x ty (CallTerm g xs) b s sc d go below v e h on (scalar_call_fits core n m (in_side core.table s Scalar ty) sc g xs h.1 lits (vars_on n b m s.scope sc l1 v))
-  side_fits core n is (On Scalar x ty (Then k t)) b s sc d go below lits v e h on =
-      scalar_side core n x ty (Then k t) b s sc d go below v e h on (term_fits core n is (Then k t) (next core.table b (SideLine Scalar x ty)) (in_side core.table s Scalar ty) sc (f.Nowhere ty) tt below.1 lits (scalar_vars core n b s sc x ty (Then k t) h v) (scalar_due core b s x ty (Then k t) h, refl) h.1)
-  side_fits core n is (On Scalar x ty (Write q k ss ps)) b s sc d go below lits v e h on =
-      scalar_side core n x ty (Write q k ss ps) b s sc d go below v e h on (term_fits core n is (Write q k ss ps) (next core.table b (SideLine Scalar x ty)) (in_side core.table s Scalar ty) sc (f.Nowhere ty) tt below.1 lits (scalar_vars core n b s sc x ty (Write q k ss ps) h v) (scalar_due core b s x ty (Write q k ss ps) h, refl) h.1)
-  side_fits core n is (On Scalar x ty (Point y)) b s sc d go below lits v e h on =
-      scalar_side core n x ty (Point y) b s sc d go below v e h on (term_fits core n is (Point y) (next core.table b (SideLine Scalar x ty)) (in_side core.table s Scalar ty) sc (f.Nowhere ty) tt below.1 lits (scalar_vars core n b s sc x ty (Point y) h v) (scalar_due core b s x ty (Point y) h, refl) h.1)
-  side_fits core n is (On Scalar x ty (Give y)) b s sc d go below lits v e h on =
-      scalar_side core n x ty (Give y) b s sc d go below v e h on (term_fits core n is (Give y) (next core.table b (SideLine Scalar x ty)) (in_side core.table s Scalar ty) sc (f.Nowhere ty) tt below.1 lits (scalar_vars core n b s sc x ty (Give y) h v) (scalar_due core b s x ty (Give y) h, refl) h.1)
-  side_fits core n is (On Scalar x ty (CaseTerm y bs)) b s sc d go below lits v e h on =
-      scalar_side core n x ty (CaseTerm y bs) b s sc d go below v e h on (term_fits core n is (CaseTerm y bs) (next core.table b (SideLine Scalar x ty)) (in_side core.table s Scalar ty) sc (f.Nowhere ty) tt below.1 lits (scalar_vars core n b s sc x ty (CaseTerm y bs) h v) (scalar_due core b s x ty (CaseTerm y bs) h, refl) h.1)
-  side_fits core n is (On Scalar x ty (IfTerm y t u)) b s sc d go below lits v e h on =
-      scalar_side core n x ty (IfTerm y t u) b s sc d go below v e h on (term_fits core n is (IfTerm y t u) (next core.table b (SideLine Scalar x ty)) (in_side core.table s Scalar ty) sc (f.Nowhere ty) tt below.1 lits (scalar_vars core n b s sc x ty (IfTerm y t u) h v) (scalar_due core b s x ty (IfTerm y t u) h, refl) h.1)
+      scalar_side core n w x ty (CallTerm g xs) b s sc d ln go below v e h on (scalar_call_fits core n m (in_side core.table s Scalar ty) sc g xs h.1 lits (vars_on n b m s.scope sc l1 v))
+  side_fits core n is w (On Scalar x ty (Then k t)) b s sc d ln may go below lits v e h on =
+      scalar_side core n w x ty (Then k t) b s sc d ln go below v e h on (term_fits core n is (Inner (side_tells w core (Then k t))) (Then k t) (next core.table b (SideLine Scalar x ty)) (in_side core.table s Scalar ty) sc (f.Nowhere ty) (new_line w) (owes_side core w (Then k t)) (tells_new core (in_side core.table s Scalar ty) w refl may) tt below.1 lits (scalar_vars core n b s sc x ty (Then k t) h v) (scalar_due core b s x ty (Then k t) h, refl) h.1)
+  side_fits core n is w (On Scalar x ty (Write q k ss ps)) b s sc d ln may go below lits v e h on =
+      scalar_side core n w x ty (Write q k ss ps) b s sc d ln go below v e h on (term_fits core n is (Inner (side_tells w core (Write q k ss ps))) (Write q k ss ps) (next core.table b (SideLine Scalar x ty)) (in_side core.table s Scalar ty) sc (f.Nowhere ty) (new_line w) (owes_side core w (Write q k ss ps)) (tells_new core (in_side core.table s Scalar ty) w refl may) tt below.1 lits (scalar_vars core n b s sc x ty (Write q k ss ps) h v) (scalar_due core b s x ty (Write q k ss ps) h, refl) h.1)
+  side_fits core n is w (On Scalar x ty (Point y)) b s sc d ln may go below lits v e h on =
+      scalar_side core n w x ty (Point y) b s sc d ln go below v e h on (term_fits core n is (Inner (side_tells w core (Point y))) (Point y) (next core.table b (SideLine Scalar x ty)) (in_side core.table s Scalar ty) sc (f.Nowhere ty) (new_line w) (owes_side core w (Point y)) (tells_new core (in_side core.table s Scalar ty) w refl may) tt below.1 lits (scalar_vars core n b s sc x ty (Point y) h v) (scalar_due core b s x ty (Point y) h, refl) h.1)
+  side_fits core n is w (On Scalar x ty (Give y)) b s sc d ln may go below lits v e h on =
+      scalar_side core n w x ty (Give y) b s sc d ln go below v e h on (term_fits core n is (Inner (side_tells w core (Give y))) (Give y) (next core.table b (SideLine Scalar x ty)) (in_side core.table s Scalar ty) sc (f.Nowhere ty) (new_line w) (owes_side core w (Give y)) (tells_new core (in_side core.table s Scalar ty) w refl may) tt below.1 lits (scalar_vars core n b s sc x ty (Give y) h v) (scalar_due core b s x ty (Give y) h, refl) h.1)
+  side_fits core n is w (On Scalar x ty (CaseTerm y bs)) b s sc d ln may go below lits v e h on =
+      scalar_side core n w x ty (CaseTerm y bs) b s sc d ln go below v e h on (term_fits core n is (Inner (side_tells w core (CaseTerm y bs))) (CaseTerm y bs) (next core.table b (SideLine Scalar x ty)) (in_side core.table s Scalar ty) sc (f.Nowhere ty) (new_line w) (owes_side core w (CaseTerm y bs)) (tells_new core (in_side core.table s Scalar ty) w refl may) tt below.1 lits (scalar_vars core n b s sc x ty (CaseTerm y bs) h v) (scalar_due core b s x ty (CaseTerm y bs) h, refl) h.1)
+  side_fits core n is w (On Scalar x ty (IfTerm y t u)) b s sc d ln may go below lits v e h on =
+      scalar_side core n w x ty (IfTerm y t u) b s sc d ln go below v e h on (term_fits core n is (Inner (side_tells w core (IfTerm y t u))) (IfTerm y t u) (next core.table b (SideLine Scalar x ty)) (in_side core.table s Scalar ty) sc (f.Nowhere ty) (new_line w) (owes_side core w (IfTerm y t u)) (tells_new core (in_side core.table s Scalar ty) w refl may) tt below.1 lits (scalar_vars core n b s sc x ty (IfTerm y t u) h v) (scalar_due core b s x ty (IfTerm y t u) h, refl) h.1)
 
   -- The right side of a par by itself, in the scope before the par: what the left side bound stands before it, and its
   -- variable is not in scope.
-  alone_fits : (core : CoreTree) (n : ℕ) → IsTable core.table → (r : Side) (b : Before) (s : Setting) (l : Side) (sc : Scope) → AllBelow n (side_binders r) → SideLiterals r
-      → Vars n b s.scope sc → LinesAreBuilt core b (met_side core.table (right_of s l) r) → AloneFits core r sc
-  alone_fits core n is (On Here x ty t) b s (On kl xl tl l) sc below lits v h =
+  alone_fits : (core : CoreTree) (n : ℕ) → IsTable core.table → (w : Within) (r : Side) (b : Before) (s : Setting) (l : Side) (sc : Scope) → AllBelow n (side_binders r) → SideLiterals r
+      → Vars n b s.scope sc → LinesAreBuilt core b (met_side core.table (right_of s l) r) → AloneFits core w r sc
+  alone_fits core n is w (On Here x ty t) b s (On kl xl tl l) sc below lits v h =
       let d = stands_too kl xl s.destination in
       let rs = right_of s (On kl xl tl l) in
       let r = least3 2 8 9 (not (has_room core.table d)) (is_bound b.bound x) (not (same_type ty (field_due core.table d))) h.0 in
@@ -511,9 +538,9 @@ mutual
         due.0.0,
         typed ∙ due.1,
         absent,
-        term_fits core n is t m inner (put sc x.0 Held) (f.Empty due.0.0) (is_part inner t refl) below.1 lits (vars_hold n m s.scope sc x.0 Held absent bound (vars_on n b m s.scope sc (line_later core b rs (SideLine Here x ty) h.0) v)) (due.0, due.1, refl) h.1,
+        term_fits core n is (Inner none_of) t m inner (put sc x.0 Held) (f.Empty due.0.0) (new_line w) (owes_none core w t) (tells_new core inner w refl (right_may s (On kl xl tl l) w)) (is_part inner t refl) below.1 lits (vars_hold n m s.scope sc x.0 Held absent bound (vars_on n b m s.scope sc (line_later core b rs (SideLine Here x ty) h.0) v)) (due.0, due.1, refl) h.1,
       )
-  alone_fits core n is (On Region x ty t) b s (On kl xl tl l) sc below lits v h =
+  alone_fits core n is w (On Region x ty t) b s (On kl xl tl l) sc below lits v h =
       let rs = right_of s (On kl xl tl l) in
       let r = least2 3 8 (is_scalar ty) (is_bound b.bound x) h.0 in
       let packed = packed_type ty r.0 in
@@ -524,46 +551,54 @@ mutual
         packed.0.0,
         packed.1,
         absent,
-        term_fits core n is t m inner (put sc x.0 Held) (f.Empty packed.0.0) (is_part inner t refl) below.1 lits (vars_hold n m s.scope sc x.0 Held absent bound (vars_on n b m s.scope sc (line_later core b rs (SideLine Region x ty) h.0) v)) (packed.0, packed.1, refl) h.1,
+        term_fits core n is (Inner (side_tells w core t)) t m inner (put sc x.0 Held) (f.Empty packed.0.0) (new_line w) (owes_side core w t) (tells_new core inner w refl (right_may s (On kl xl tl l) w)) (is_part inner t refl) below.1 lits (vars_hold n m s.scope sc x.0 Held absent bound (vars_on n b m s.scope sc (line_later core b rs (SideLine Region x ty) h.0) v)) (packed.0, packed.1, refl) h.1,
       )
-  alone_fits core n is (On Scalar x ty (CallTerm g xs)) b s (On kl xl tl l) sc below lits v h =
+  alone_fits core n is w (On Scalar x ty (CallTerm g xs)) b s (On kl xl tl l) sc below lits v h =
       let rs = right_of s (On kl xl tl l) in
       let m = next core.table b (SideLine Scalar x ty) in
-      alone_scalar core n x ty (CallTerm g xs) b rs sc below v h (scalar_call_fits core n m (in_side core.table rs Scalar ty) sc g xs h.1 lits (vars_on n b m s.scope sc (line_later core b rs (SideLine Scalar x ty) h.0) v))
-  alone_fits core n is (On Scalar x ty (Then k t)) b s (On kl xl tl l) sc below lits v h =
+      alone_scalar core n w x ty (CallTerm g xs) b rs sc below v h (scalar_call_fits core n m (in_side core.table rs Scalar ty) sc g xs h.1 lits (vars_on n b m s.scope sc (line_later core b rs (SideLine Scalar x ty) h.0) v))
+  alone_fits core n is w (On Scalar x ty (Then k t)) b s (On kl xl tl l) sc below lits v h =
       let rs = right_of s (On kl xl tl l) in
-      alone_scalar core n x ty (Then k t) b rs sc below v h (term_fits core n is (Then k t) (next core.table b (SideLine Scalar x ty)) (in_side core.table rs Scalar ty) sc (f.Nowhere ty) tt below.1 lits (scalar_vars core n b rs sc x ty (Then k t) h v) (scalar_due core b rs x ty (Then k t) h, refl) h.1)
-  alone_fits core n is (On Scalar x ty (Write q k ss ps)) b s (On kl xl tl l) sc below lits v h =
+      alone_scalar core n w x ty (Then k t) b rs sc below v h (term_fits core n is (Inner (side_tells w core (Then k t))) (Then k t) (next core.table b (SideLine Scalar x ty)) (in_side core.table rs Scalar ty) sc (f.Nowhere ty) (new_line w) (owes_side core w (Then k t)) (tells_new core (in_side core.table rs Scalar ty) w refl (right_may s (On kl xl tl l) w)) tt below.1 lits (scalar_vars core n b rs sc x ty (Then k t) h v) (scalar_due core b rs x ty (Then k t) h, refl) h.1)
+  alone_fits core n is w (On Scalar x ty (Write q k ss ps)) b s (On kl xl tl l) sc below lits v h =
       let rs = right_of s (On kl xl tl l) in
-      alone_scalar core n x ty (Write q k ss ps) b rs sc below v h (term_fits core n is (Write q k ss ps) (next core.table b (SideLine Scalar x ty)) (in_side core.table rs Scalar ty) sc (f.Nowhere ty) tt below.1 lits (scalar_vars core n b rs sc x ty (Write q k ss ps) h v) (scalar_due core b rs x ty (Write q k ss ps) h, refl) h.1)
-  alone_fits core n is (On Scalar x ty (Point y)) b s (On kl xl tl l) sc below lits v h =
+      alone_scalar core n w x ty (Write q k ss ps) b rs sc below v h (term_fits core n is (Inner (side_tells w core (Write q k ss ps))) (Write q k ss ps) (next core.table b (SideLine Scalar x ty)) (in_side core.table rs Scalar ty) sc (f.Nowhere ty) (new_line w) (owes_side core w (Write q k ss ps)) (tells_new core (in_side core.table rs Scalar ty) w refl (right_may s (On kl xl tl l) w)) tt below.1 lits (scalar_vars core n b rs sc x ty (Write q k ss ps) h v) (scalar_due core b rs x ty (Write q k ss ps) h, refl) h.1)
+  alone_fits core n is w (On Scalar x ty (Point y)) b s (On kl xl tl l) sc below lits v h =
       let rs = right_of s (On kl xl tl l) in
-      alone_scalar core n x ty (Point y) b rs sc below v h (term_fits core n is (Point y) (next core.table b (SideLine Scalar x ty)) (in_side core.table rs Scalar ty) sc (f.Nowhere ty) tt below.1 lits (scalar_vars core n b rs sc x ty (Point y) h v) (scalar_due core b rs x ty (Point y) h, refl) h.1)
-  alone_fits core n is (On Scalar x ty (Give y)) b s (On kl xl tl l) sc below lits v h =
+      alone_scalar core n w x ty (Point y) b rs sc below v h (term_fits core n is (Inner (side_tells w core (Point y))) (Point y) (next core.table b (SideLine Scalar x ty)) (in_side core.table rs Scalar ty) sc (f.Nowhere ty) (new_line w) (owes_side core w (Point y)) (tells_new core (in_side core.table rs Scalar ty) w refl (right_may s (On kl xl tl l) w)) tt below.1 lits (scalar_vars core n b rs sc x ty (Point y) h v) (scalar_due core b rs x ty (Point y) h, refl) h.1)
+  alone_fits core n is w (On Scalar x ty (Give y)) b s (On kl xl tl l) sc below lits v h =
       let rs = right_of s (On kl xl tl l) in
-      alone_scalar core n x ty (Give y) b rs sc below v h (term_fits core n is (Give y) (next core.table b (SideLine Scalar x ty)) (in_side core.table rs Scalar ty) sc (f.Nowhere ty) tt below.1 lits (scalar_vars core n b rs sc x ty (Give y) h v) (scalar_due core b rs x ty (Give y) h, refl) h.1)
-  alone_fits core n is (On Scalar x ty (CaseTerm y bs)) b s (On kl xl tl l) sc below lits v h =
+      alone_scalar core n w x ty (Give y) b rs sc below v h (term_fits core n is (Inner (side_tells w core (Give y))) (Give y) (next core.table b (SideLine Scalar x ty)) (in_side core.table rs Scalar ty) sc (f.Nowhere ty) (new_line w) (owes_side core w (Give y)) (tells_new core (in_side core.table rs Scalar ty) w refl (right_may s (On kl xl tl l) w)) tt below.1 lits (scalar_vars core n b rs sc x ty (Give y) h v) (scalar_due core b rs x ty (Give y) h, refl) h.1)
+  alone_fits core n is w (On Scalar x ty (CaseTerm y bs)) b s (On kl xl tl l) sc below lits v h =
       let rs = right_of s (On kl xl tl l) in
-      alone_scalar core n x ty (CaseTerm y bs) b rs sc below v h (term_fits core n is (CaseTerm y bs) (next core.table b (SideLine Scalar x ty)) (in_side core.table rs Scalar ty) sc (f.Nowhere ty) tt below.1 lits (scalar_vars core n b rs sc x ty (CaseTerm y bs) h v) (scalar_due core b rs x ty (CaseTerm y bs) h, refl) h.1)
-  alone_fits core n is (On Scalar x ty (IfTerm y t u)) b s (On kl xl tl l) sc below lits v h =
+      alone_scalar core n w x ty (CaseTerm y bs) b rs sc below v h (term_fits core n is (Inner (side_tells w core (CaseTerm y bs))) (CaseTerm y bs) (next core.table b (SideLine Scalar x ty)) (in_side core.table rs Scalar ty) sc (f.Nowhere ty) (new_line w) (owes_side core w (CaseTerm y bs)) (tells_new core (in_side core.table rs Scalar ty) w refl (right_may s (On kl xl tl l) w)) tt below.1 lits (scalar_vars core n b rs sc x ty (CaseTerm y bs) h v) (scalar_due core b rs x ty (CaseTerm y bs) h, refl) h.1)
+  alone_fits core n is w (On Scalar x ty (IfTerm y t u)) b s (On kl xl tl l) sc below lits v h =
       let rs = right_of s (On kl xl tl l) in
-      alone_scalar core n x ty (IfTerm y t u) b rs sc below v h (term_fits core n is (IfTerm y t u) (next core.table b (SideLine Scalar x ty)) (in_side core.table rs Scalar ty) sc (f.Nowhere ty) tt below.1 lits (scalar_vars core n b rs sc x ty (IfTerm y t u) h v) (scalar_due core b rs x ty (IfTerm y t u) h, refl) h.1)
+      alone_scalar core n w x ty (IfTerm y t u) b rs sc below v h (term_fits core n is (Inner (side_tells w core (IfTerm y t u))) (IfTerm y t u) (next core.table b (SideLine Scalar x ty)) (in_side core.table rs Scalar ty) sc (f.Nowhere ty) (new_line w) (owes_side core w (IfTerm y t u)) (tells_new core (in_side core.table rs Scalar ty) w refl (right_may s (On kl xl tl l) w)) tt below.1 lits (scalar_vars core n b rs sc x ty (IfTerm y t u) h v) (scalar_due core b rs x ty (IfTerm y t u) h, refl) h.1)
 
-  branches_fit : (core : CoreTree) (n : ℕ) → IsTable core.table → (bs : Branches) (b : Before) (s : Setting) (sc : Scope) (d : Dest) (x : ℕ) → AllBelow n (branch_binders bs) → BranchLiterals bs
+  branches_fit : (core : CoreTree) (n : ℕ) → IsTable core.table → (ns : Needs) (whole bs : Branches) (x : Variable) (ln : Line) → Owes core ns (CaseTerm (a.Variable x) whole) ln
+      → ((q : ℕ) → all_known core.table (ended core) whole (named q) ≡ true → all_known core.table (ended core) bs (named q) ≡ true) → (lasts_known core.table (ended core) whole ≡ true → lasts_known core.table (ended core) bs ≡ true)
+      → (b : Before) (s : Setting) (sc : Scope) (d : Dest) → Tells core s ln → AllBelow n (branch_binders bs) → BranchLiterals bs
       → Vars n b s.scope sc → IsDest core.table b sc s.destination s.due d → ArmsHaveTypes core.table (arms_of bs) b.bound → ArmsAreNew core.table sc (arms_of bs) → LinesAreBuilt core b (met_branches core.table s bs)
-      → BranchesFit core bs x sc d
-  branches_fit core n is NoBranch b s sc d x below lits v e types new h = tt
-  branches_fit core n is (BranchThen k ys t bs) b s sc d x below lits v e types new h =
+      → BranchesFit core ns bs x.0 sc d ln
+  branches_fit core n is ns whole NoBranch x ln owes all lasts b s sc d tells below lits v e types new h = tt
+  branches_fit core n is ns whole (BranchThen k ys t bs) x ln owes all lasts b s sc d tells below lits v e types new h =
       let inner = in_arm core.table s k ys in
       let lines = met core.table inner t in
       let parts = built_apart core b lines (met_branches core.table s bs) h in
       let low = below_apart n (map (λ (y : Variable). y.0) ys) (binders t ++ branch_binders bs) below in
       let lower = below_apart n (binders t) (branch_binders bs) low.1 in
-      let arm = enter n b s.scope sc x 1 k None (fields_at core.table k.0) ys new.0 types.0 tt v in
-      let tc = arm_scope x k.0 1 None (fields_at core.table k.0) ys sc in
+      let arm = enter n b s.scope sc x.0 1 k None (fields_at core.table k.0) ys new.0 types.0 tt v in
+      let tc = arm_scope x.0 k.0 1 None (fields_at core.table k.0) ys sc in
       let c = next_all core.table b lines in
+      let last = if_some (last_packed None (fields_at core.table k.0) ys) (λ z. is_known core.table (ended core) t z) in
+      let here : (q : ℕ) → all_known core.table (ended core) whole (named q) ≡ true → (is_known core.table (ended core) t (named q) ≡ true) × (all_known core.table (ended core) bs (named q) ≡ true) =
+      λ q i. and_true (is_known core.table (ended core) t (named q)) (all_known core.table (ended core) bs (named q)) (all q i) in
+      let there : lasts_known core.table (ended core) whole ≡ true → (last ≡ true) × (lasts_known core.table (ended core) bs ≡ true) = λ i. and_true last (lasts_known core.table (ended core) bs) (lasts i) in
       let later = lines_later core b lines parts.0 in (
         new.0,
-        term_fits core n is t b inner tc d (is_part inner t refl) lower.0 lits.0 arm.vars (dest_kept core.table b b sc tc s.destination s.due d arm.keep e) parts.0,
-        branches_fit core n is bs c s sc d x lower.1 lits.1 (vars_on n b c s.scope sc later v) (dest_kept core.table b c sc sc s.destination s.due d (keep_later b c sc later) e) (arms_have_on core.table (arms_of bs) b.bound c.bound later.bound types.1) new.1 parts.1,
+        term_fits core n is ns t b inner tc d (arm_line core x.0 k ys t ln) (owes_arm core ns x whole k ys t ln (λ q i. (here q i).0) (λ i. (there i).0) owes) (tells_inner core s inner ln (arm_line core x.0 k ys t ln) refl refl refl tells)
+            (is_part inner t refl) lower.0 lits.0 arm.vars (dest_kept core.table b b sc tc s.destination s.due d arm.keep e) parts.0,
+        branches_fit core n is ns whole bs x ln owes (λ q i. (here q i).1) (λ i. (there i).1) c s sc d tells lower.1 lits.1 (vars_on n b c s.scope sc later v) (dest_kept core.table b c sc sc s.destination s.due d (keep_later b c sc later) e)
+            (arms_have_on core.table (arms_of bs) b.bound c.bound later.bound types.1) new.1 parts.1,
       )

@@ -1,5 +1,5 @@
 -- A machine can run the code of a core of which each body fits.
-use Rattle.std.proofs.Common.{◌≡◌, ℕ, suc, ◌+◌, ◌<◌, ◌≤◌, ◌^◌, Bool, true, false, nat_lt, List, [], ◌∷◌, ◌++◌, map, length, slice_get, Option, Some, None, refl, sym, ap, subst, ◌∙◌, arith}
+use Rattle.std.proofs.Common.{◌≡◌, ℕ, suc, ◌+◌, ◌<◌, ◌≤◌, ◌^◌, Bool, true, false, if◌then◌else◌, nat_lt, List, [], ◌∷◌, ◌++◌, map, length, slice_get, Option, Some, None, refl, sym, ap, subst, ◌∙◌, arith}
 use Rattle.std.proofs.lemmas.Bool.Decides.{nat_tests}
 use Rattle.std.proofs.lemmas.List.{length-append}
 use Rattle.std.proofs.lemmas.Option.{slice_get_within}
@@ -12,16 +12,18 @@ use Rattle.gib_types.specs.Table.{Row, Table, IsTable, fields_at, fields_of, con
 use Rattle.gib_code.specs.declared.instruction.Arm.{Arm}
 use Rattle.gib_code.specs.declared.instruction.Entry.{Entry}
 use Rattle.gib_code.specs.declared.instruction.Operand.{Operand}
-use Rattle.gib_code.specs.Instruction.{Instruction, IsFine}
+use Rattle.gib_code.specs.Instruction.{Instruction, Return, Give, Got, IsFine}
 use Rattle.gib_code.specs.Program.{CodeTree, IsAt, AreAt, none, one_more, Runs}
 use Rattle.gib_core.specs.declared.atom.Atom.{Atom}
 use Rattle.gib_core.specs.declared.atom.Access.{Access}
 use Rattle.gib_core.specs.declared.atom.Access.TheVariants as by
 use Rattle.gib_core.specs.declared.atom.Kind.TheVariants as kind
 use Rattle.gib_core.specs.declared.atom.Variable.{Variable}
-use Rattle.gib_core.specs.Fits.{Scope, Dest, Nowhere, Empty, Open, AtHead, Fits, BindFits, SideFits, BranchesFit, CallFits, FunctionFits, MainFits, AllFit, EachFits, more, packed_due, dest_of, by_call, put}
+use Rattle.gib_core.specs.Fits.{Scope, Dest, Nowhere, Empty, Open, AtHead, Line, Needs, Inner, new_line, side_tells, Fits, BindFits, SideFits, BranchesFit, CallFits, OwnFits, MainFits, AllFit, EachFits, more, packed_due, dest_of, by_call, put}
+use Rattle.gib_core.specs.Ending.{Ended, Within, within_par, ended, has_ended}
+use Rattle.gib_core.specs.declared.atom.Atom.TheVariants as a
 use Rattle.gib_core.specs.Low as low
-use Rattle.gib_core.specs.Low.{Low, LowArms, LowBind, LowSide, LowFunctions, IsLowered, IsNoCall, End, Returns, To, Field, laid_of, slots_of, arm_opening, scalar_reads, first_reach, giving, ending, reaching}
+use Rattle.gib_core.specs.Low.{Low, LowArms, LowBind, LowSide, LowFunctions, LeafAt, IsLowered, IsNoCall, End, Returns, To, Over, Field, laid_of, slots_of, arm_opening, scalar_reads, first_reach, over_all, got_from, gots, giving, ending, reaching}
 use Rattle.gib_core.specs.Numbering.{binders}
 use Rattle.gib_core.specs.Tree as t
 use Rattle.gib_core.specs.Tree.{Term, CoreTree, Side, FunctionTerm, var}
@@ -62,13 +64,38 @@ fine_append : (js ls : List Instruction) → AreFine js → AreFine ls → AreFi
 fine_append [] ls f g = g
 fine_append (j ∷ js) ls f g = (f.0, fine_append js ls f.1 g)
 
-fine_ending : (e : End) → IsFine (ending e)
-fine_ending Returns = tt
-fine_ending (To l d) = tt
+fine_overs : (os : List Over) → AreFine (over_all os)
+fine_overs [] = tt
+fine_overs (o ∷ os) = (tt, fine_overs os)
+
+fine_ending : (e : End) → AreFine (ending e)
+fine_ending (Returns os) = fine_append (over_all os) (Return ∷ []) (fine_overs os) (tt, tt)
+fine_ending (To l d) = (tt, tt)
 
 fine_giving : (s : Operand) (e : End) → AreFine (giving s e)
-fine_giving s Returns = (tt, tt)
+fine_giving s (Returns os) = fine_append (over_all os) (Give s ∷ []) (fine_overs os) (tt, tt)
 fine_giving s (To l d) = (tt, (tt, tt))
+
+fine_got : (es : List Ended) (f k : ℕ) (xs : List Atom) → AreFine (got_from es f k xs)
+fine_got es f k [] = tt
+fine_got es f k (a.Variable z ∷ xs) = go (has_ended es f k) (fine_got es f (suc k) xs)
+  where
+    go : (b : Bool) → AreFine (got_from es f (suc k) xs) → AreFine (if b then Got z.0 k ∷ got_from es f (suc k) xs else got_from es f (suc k) xs)
+    go true h = (tt, h)
+    go false h = h
+fine_got es f k (a.Whole z ∷ xs) = fine_got es f (suc k) xs
+fine_got es f k (a.Truth b ∷ xs) = fine_got es f (suc k) xs
+
+fine_gots : (w : Within) (core : CoreTree) (f : ℕ) (xs : List Atom) → AreFine (gots w core f xs)
+fine_gots w core f xs = go w.par
+  where
+    go : (b : Bool) → AreFine (if b then [] else got_from (ended core) f 0 xs)
+    go true = tt
+    go false = fine_got (ended core) f 0 xs
+
+fine_leaf : {code : CodeTree} {must : Bool} {x size many m n : ℕ} → LeafAt code must x size many m n → Fine code m n
+fine_leaf (low.no_leaf f) = fine_none
+fine_leaf (low.leaf m n at) = fine_one at tt
 
 fine_reads : (x p : ℕ) (ts : List Ty) (ys : List Variable) → AreFine (scalar_reads x p ts ys)
 fine_reads x p [] ys = tt
@@ -92,6 +119,7 @@ fine_opening laid x k ys =
 fine_reaching : (fs : List Field) (y : Variable) (access : Access) → IsFine (reaching fs y access)
 fine_reaching fs y by.Offset = tt
 fine_reaching fs y (by.Skip z) = tt
+fine_reaching fs y (by.End z) = tt
 
 -- An open head has as many fields as its constructor.
 abbrev IsOpen : Dest → Type 0
@@ -135,49 +163,57 @@ slots_length [] = refl
 slots_length (x ∷ xs) = ap suc (slots_length xs)
 
 -- Where a line goes on behind a binding.
-abbrev GoesOn : (Scope → Dest → Type 0) → Type 0
-GoesOn P = (sc : Scope) × (d : Dest) × IsOpen d × P sc d
+abbrev GoesOn : (Scope → Dest → Line → Type 0) → Type 0
+GoesOn P = (sc : Scope) × (d : Dest) × (ln : Line) × IsOpen d × P sc d ln
 
-abbrev pub anywhere : Scope → Dest → Type 0
-anywhere sc d = Unit {0}
+abbrev pub anywhere : Scope → Dest → Line → Type 0
+anywhere sc d ln = Unit {0}
 
-pub side_alone : (core : CoreTree) (s : Side) (sc : Scope) (d : Dest) (P : Scope → Dest → Type 0) → SideFits core s sc d P → SideFits core s sc d anywhere
-side_alone core (t.On kind.Here x ty u) sc d P f = (f.0, f.1, f.2, f.3, f.4, tt)
-side_alone core (t.On kind.Region x ty u) sc d P f = (f.0, f.1, f.2, f.3, tt)
-side_alone core (t.On kind.Scalar x ty u) sc d P f = (f.0, f.1, f.2, tt)
+pub side_alone : (core : CoreTree) (w : Within) (s : Side) (sc : Scope) (d : Dest) (ln : Line) (P : Scope → Dest → Line → Type 0) → SideFits core w s sc d ln P → SideFits core w s sc d ln anywhere
+side_alone core w (t.On kind.Here x ty u) sc d ln P f = (f.0, f.1, f.2, f.3, f.4, tt)
+side_alone core w (t.On kind.Region x ty u) sc d ln P f = (f.0, f.1, f.2, f.3, tt)
+side_alone core w (t.On kind.Scalar x ty u) sc d ln P f = (f.0, f.1, f.2, tt)
 
-side_goes : (core : CoreTree) (s : Side) (sc : Scope) (d : Dest) (P : Scope → Dest → Type 0) → IsOpen d → SideFits core s sc d P → GoesOn P
-side_goes core (t.On kind.Here x ty u) sc d P o f = (_, _, one_further d x.0 o, f.5)
-side_goes core (t.On kind.Region x ty u) sc d P o f = (_, d, o, f.4)
-side_goes core (t.On kind.Scalar x ty u) sc d P o f = (_, d, o, f.3)
+side_goes : (core : CoreTree) (w : Within) (s : Side) (sc : Scope) (d : Dest) (ln : Line) (P : Scope → Dest → Line → Type 0) → IsOpen d → SideFits core w s sc d ln P → GoesOn P
+side_goes core w (t.On kind.Here x ty u) sc d ln P o f = (_, _, _, one_further d x.0 o, f.5)
+side_goes core w (t.On kind.Region x ty u) sc d ln P o f = (_, d, _, o, f.4)
+side_goes core w (t.On kind.Scalar x ty u) sc d ln P o f = (_, d, _, o, f.3)
 
-side_both : (core : CoreTree) (l r : Side) (sc : Scope) (d : Dest) (P : Scope → Dest → Type 0) → SideFits core l sc d (λ sc' d'. SideFits core r sc' d' P) → SideFits core l sc d (λ sc' d'. SideFits core r sc' d' anywhere)
-side_both core (t.On kind.Here x ty u) r sc d P f = (f.0, f.1, f.2, f.3, f.4, side_alone core r _ _ P f.5)
-side_both core (t.On kind.Region x ty u) r sc d P f = (f.0, f.1, f.2, f.3, side_alone core r _ _ P f.4)
-side_both core (t.On kind.Scalar x ty u) r sc d P f = (f.0, f.1, f.2, side_alone core r _ _ P f.3)
+side_both : (core : CoreTree) (w : Within) (v : Line → Within) (l r : Side) (sc : Scope) (d : Dest) (ln : Line) (P : Scope → Dest → Line → Type 0) → SideFits core w l sc d ln (λ sc' d' ln'. SideFits core (v ln') r sc' d' ln' P)
+    → SideFits core w l sc d ln (λ sc' d' ln'. SideFits core (v ln') r sc' d' ln' anywhere)
+side_both core w v (t.On kind.Here x ty u) r sc d ln P f = (f.0, f.1, f.2, f.3, f.4, side_alone core _ r _ _ _ P f.5)
+side_both core w v (t.On kind.Region x ty u) r sc d ln P f = (f.0, f.1, f.2, f.3, side_alone core _ r _ _ _ P f.4)
+side_both core w v (t.On kind.Scalar x ty u) r sc d ln P f = (f.0, f.1, f.2, side_alone core _ r _ _ _ P f.3)
 
-pub bind_alone : (core : CoreTree) (b : t.Bind) (sc : Scope) (d : Dest) (P : Scope → Dest → Type 0) → BindFits core b sc d P → BindFits core b sc d anywhere
-bind_alone core (t.Past h k) sc d P f = (f.0, f.1, f.2, f.3, tt)
-bind_alone core (t.One s) sc d P f = side_alone core s sc d P f
-bind_alone core (t.Both false l r) sc d P f = (f.0, side_both core l r sc d P f.1)
-bind_alone core (t.Both true l r) sc d P f = (f.0, f.1, side_both core l r sc d P f.2)
-bind_alone core (t.Prim x g y z) sc d P f = (f.0, f.1, f.2, tt)
-bind_alone core (t.Reach y by.Offset) sc d P f = (f.0, f.1, f.2, f.3, f.4, f.5, f.6, tt)
-bind_alone core (t.Reach y (by.Skip z)) sc d P f = (f.0, f.1, f.2, f.3, f.4, f.5, f.6, tt)
+pub bind_alone : (core : CoreTree) (b : t.Bind) (sc : Scope) (d : Dest) (ln : Line) (P : Scope → Dest → Line → Type 0) → BindFits core b sc d ln P → BindFits core b sc d ln anywhere
+bind_alone core (t.Past h k) sc d ln P f = (f.0, f.1, f.2, f.3, tt)
+bind_alone core (t.One s) sc d ln P f = side_alone core ln.within s sc d ln P f
+bind_alone core (t.Both false l r) sc d ln P f = (f.0, side_both core (within_par ln.within) (λ ln'. within_par ln.within) l r sc d ln P f.1)
+bind_alone core (t.Both true l r) sc d ln P f = (f.0, f.1, side_both core (within_par ln.within) (λ ln'. within_par ln'.within) l r sc d ln P f.2)
+bind_alone core (t.Prim x g y z) sc d ln P f = (f.0, f.1, f.2, tt)
+bind_alone core (t.Reach y by.Offset) sc d ln P f = (f.0, f.1, f.2, f.3, f.4, f.5, f.6, tt)
+bind_alone core (t.Reach y (by.Skip z)) sc d ln P f = (f.0, f.1, f.2, f.3, f.4, f.5, f.6, tt)
+bind_alone core (t.Reach y (by.End z)) sc d ln P f = (f.0, f.1, f.2, f.3, f.4, f.5, f.6, tt, f.8)
 
-bind_goes : (core : CoreTree) (is : IsTable core.table) (b : t.Bind) (sc : Scope) (d : Dest) (P : Scope → Dest → Type 0) → IsOpen d → BindFits core b sc d P → GoesOn P
-bind_goes core is (t.Past h c) sc d P o f =
+bind_goes : (core : CoreTree) (is : IsTable core.table) (b : t.Bind) (sc : Scope) (d : Dest) (ln : Line) (P : Scope → Dest → Line → Type 0) → IsOpen d → BindFits core b sc d ln P → GoesOn P
+bind_goes core is (t.Past h c) sc d ln P o f =
     let w = con_within core.table f.0 c.0 f.2 in
     let n = is.few in
     let l = few_due (fields_at core.table c.0) in
     let m = few_fields core.table is c.0 in
-    (_, _, (omega (arith, w, n), omega (arith, l, m)), f.4)
-bind_goes core is (t.One s) sc d P o f = side_goes core s sc d P o f
-bind_goes core is (t.Both false l r) sc d P o f = let x = side_goes core l sc d (λ sc' d'. SideFits core r sc' d' P) o f.1 in side_goes core r x.0 x.1 P x.2 x.3
-bind_goes core is (t.Both true l r) sc d P o f = let x = side_goes core l sc d (λ sc' d'. SideFits core r sc' d' P) o f.2 in side_goes core r x.0 x.1 P x.2 x.3
-bind_goes core is (t.Prim x g y z) sc d P o f = (_, d, o, f.3)
-bind_goes core is (t.Reach y by.Offset) sc d P o f = (_, d, o, f.7)
-bind_goes core is (t.Reach y (by.Skip z)) sc d P o f = (_, d, o, f.7)
+    (_, _, _, (omega (arith, w, n), omega (arith, l, m)), f.4)
+bind_goes core is (t.One s) sc d ln P o f = side_goes core ln.within s sc d ln P o f
+bind_goes core is (t.Both false l r) sc d ln P o f =
+    let w = within_par ln.within in
+    let x = side_goes core w l sc d ln (λ sc' d' ln'. SideFits core w r sc' d' ln' P) o f.1 in
+    side_goes core w r x.0 x.1 x.2 P x.3 x.4
+bind_goes core is (t.Both true l r) sc d ln P o f =
+    let x = side_goes core (within_par ln.within) l sc d ln (λ sc' d' ln'. SideFits core (within_par ln'.within) r sc' d' ln' P) o f.2 in
+    side_goes core (within_par x.2.within) r x.0 x.1 x.2 P x.3 x.4
+bind_goes core is (t.Prim x g y z) sc d ln P o f = (_, d, _, o, f.3)
+bind_goes core is (t.Reach y by.Offset) sc d ln P o f = (_, d, _, o, f.7)
+bind_goes core is (t.Reach y (by.Skip z)) sc d ln P o f = (_, d, _, o, f.7)
+bind_goes core is (t.Reach y (by.End z)) sc d ln P o f = (_, d, _, o, f.7)
 
 no_call : (A : Type 0) (B : Name → List Atom → Type 0) (u : Term) → IsNoCall u → by_call u A B → A
 no_call A B (t.Then b u) n h = h
@@ -190,50 +226,52 @@ no_call A B (t.IfTerm x u v) n h = h
 
 module _ (core : CoreTree) (code : CodeTree) (is : IsTable core.table) where
   mutual
-    term_fine : {fs : List Field} {a z : ℕ} {u : Term} {e : End} → Low core code fs a u e z → (sc : Scope) (d : Dest) → IsOpen d → Fits core u sc d → Fine code a z
-    term_fine (low.write {ps = ps} ar) sc d o f =
+    term_fine : {w : Within} {fs : List Field} {a z : ℕ} {u : Term} {e : End} → Low core code w fs a u e z → (ns : Needs) (sc : Scope) (d : Dest) (ln : Line) → IsOpen d → Fits core ns u sc d ln → Fine code a z
+    term_fine (low.write {ps = ps} {e = e} ar) ns sc d ln o f =
         let p = subst IsOpen f.2 o in
         let l = slots_length f.1 in
         let m = ap (λ (q : List Atom). length (slots_of q)) f.3 in
         let n = p.1 in
-        fine_list ar ((p.0, omega (arith, l, m, n)), (fine_ending _, tt))
-    term_fine (low.point ar) sc d o f = fine_list ar (tt, (fine_ending _, tt))
-    term_fine (low.call ar) sc d o f = fine_list ar (tt, (fine_ending _, tt))
-    term_fine (low.give ar) sc d o f = fine_list ar (fine_giving _ _)
-    term_fine (low.branch at lu lv) sc d o f = fine_join (fine_one at tt) (fine_join (term_fine lu sc d o f.1) (term_fine lv sc d o f.2))
-    term_fine (low.case at la) sc d o f = fine_join (fine_one at tt) (arms_fine la f.1.variable.0 (put sc f.1.variable.0 (AtHead f.0)) d o f.3)
-    term_fine (low.binding {b = b} {u = u} lb lu) sc d o f =
-        let r = bind_goes core is b sc d (λ sc' d'. Fits core u sc' d') o f in
-        fine_join (bind_fine lb sc d o (bind_alone core b sc d (λ sc' d'. Fits core u sc' d') f)) (term_fine lu r.0 r.1 r.2 r.3)
+        fine_list ar ((p.0, omega (arith, l, m, n)), fine_ending e)
+    term_fine (low.point {e = e} ar) ns sc d ln o f = fine_list ar (tt, fine_ending e)
+    term_fine (low.call {w = w} {f = g} {xs = xs} {e = e} ar) ns sc d ln o f = fine_list ar (tt, fine_append (gots w core g.0 xs) (ending e) (fine_gots w core g.0 xs) (fine_ending e))
+    term_fine (low.give ar) ns sc d ln o f = fine_list ar (fine_giving _ _)
+    term_fine (low.branch at lu lv) ns sc d ln o f = fine_join (fine_one at tt) (fine_join (term_fine lu ns sc d ln o f.1) (term_fine lv ns sc d ln o f.2))
+    term_fine (low.case at la) ns sc d ln o f = fine_join (fine_one at tt) (arms_fine la ns f.1.variable.0 (put sc f.1.variable.0 (AtHead f.0)) d ln o f.3)
+    term_fine (low.binding {b = b} {u = u} lb lu) ns sc d ln o f =
+        let r = bind_goes core is b sc d ln (λ sc' d' ln'. Fits core ns u sc' d' ln') o f in
+        fine_join (bind_fine lb sc d ln o (bind_alone core b sc d ln (λ sc' d' ln'. Fits core ns u sc' d' ln') f)) (term_fine lu ns r.0 r.1 r.2 r.3 r.4)
 
-    arms_fine : {fs : List Field} {x a z : ℕ} {arms : List Arm} {bs : t.Branches} {e : End} → LowArms core code fs x a arms bs e z → (y : ℕ) (sc : Scope) (d : Dest) → IsOpen d → BranchesFit core bs y sc d → Fine code a z
-    arms_fine low.no_arm y sc d o f = fine_none
-    arms_fine (low.arm {x = x} {c = c} {ys = ys} op lo rest) y sc d o f =
-        fine_join (fine_list op (fine_opening (laid_of core) x c.0 ys)) (fine_join (term_fine lo _ d o f.1) (arms_fine rest y sc d o f.2))
+    arms_fine : {w : Within} {fs : List Field} {x a z : ℕ} {arms : List Arm} {bs : t.Branches} {e : End} → LowArms core code w fs x a arms bs e z → (ns : Needs) (y : ℕ) (sc : Scope) (d : Dest) (ln : Line) → IsOpen d → BranchesFit core ns bs y sc d ln → Fine code a z
+    arms_fine low.no_arm ns y sc d ln o f = fine_none
+    arms_fine (low.arm {x = x} {c = c} {ys = ys} op lf lo rest) ns y sc d ln o f =
+        fine_join (fine_list op (fine_opening (laid_of core) x c.0 ys)) (fine_join (fine_leaf lf) (fine_join (term_fine lo ns _ d _ o f.1) (arms_fine rest ns y sc d ln o f.2)))
 
-    bind_fine : {fs : List Field} {a m : ℕ} {b : t.Bind} → LowBind core code fs a b m → (sc : Scope) (d : Dest) → IsOpen d → BindFits core b sc d anywhere → Fine code a m
-    bind_fine (low.past at) sc d o f = fine_one at tt
-    bind_fine (low.one ls) sc d o f = side_fine ls sc d o f
-    bind_fine (low.in_turn {l = l} {r = r} ll lr) sc d o f =
-        let x = side_goes core l sc d (λ sc' d'. SideFits core r sc' d' anywhere) o f.1 in
-        fine_join (side_fine ll sc d o (side_alone core l sc d (λ sc' d'. SideFits core r sc' d' anywhere) f.1)) (side_fine lr x.0 x.1 x.2 x.3)
-    bind_fine (low.forked {l = l} {c = c} {x = v} {ty = ty} {u = u} at ll ej lr eb) sc d o f =
-        let x = side_goes core l sc d (λ sc' d'. SideFits core (t.On c v ty u) sc' d' anywhere) o f.2 in
-        fine_join (fine_one at tt) (fine_join (side_fine ll sc d o (side_alone core l sc d (λ sc' d'. SideFits core (t.On c v ty u) sc' d' anywhere) f.2))
-        (fine_join (fine_one ej tt) (fine_join (side_fine lr x.0 x.1 x.2 x.3) (fine_one eb tt))))
-    bind_fine (low.prim at) sc d o f = fine_one at tt
-    bind_fine (low.reach {fs = fs} {y = y} {access = access} at) sc d o f = fine_one at (fine_reaching fs y access)
+    bind_fine : {w : Within} {fs : List Field} {a m : ℕ} {b : t.Bind} → LowBind core code w fs a b m → (sc : Scope) (d : Dest) (ln : Line) → IsOpen d → BindFits core b sc d ln anywhere → Fine code a m
+    bind_fine (low.past at) sc d ln o f = fine_one at tt
+    bind_fine (low.one ls) sc d ln o f = side_fine ls ln.within sc d ln o f
+    bind_fine (low.in_turn {l = l} {r = r} ll lr) sc d ln o f =
+        let v = within_par ln.within in
+        let x = side_goes core v l sc d ln (λ sc' d' ln'. SideFits core v r sc' d' ln' anywhere) o f.1 in
+        fine_join (side_fine ll v sc d ln o (side_alone core v l sc d ln (λ sc' d' ln'. SideFits core v r sc' d' ln' anywhere) f.1)) (side_fine lr v x.0 x.1 x.2 x.3 x.4)
+    bind_fine (low.forked {l = l} {c = c} {x = v} {ty = ty} {u = u} at ll ej lr eb) sc d ln o f =
+        let x = side_goes core (within_par ln.within) l sc d ln (λ sc' d' ln'. SideFits core (within_par ln'.within) (t.On c v ty u) sc' d' ln' anywhere) o f.2 in
+        fine_join (fine_one at tt) (fine_join (side_fine ll (within_par ln.within) sc d ln o (side_alone core (within_par ln.within) l sc d ln (λ sc' d' ln'. SideFits core (within_par ln'.within) (t.On c v ty u) sc' d' ln' anywhere) f.2))
+        (fine_join (fine_one ej tt) (fine_join (side_fine lr (within_par x.2.within) x.0 x.1 x.2 x.3 x.4) (fine_one eb tt))))
+    bind_fine (low.prim at) sc d ln o f = fine_one at tt
+    bind_fine (low.reach {fs = fs} {y = y} {access = access} at) sc d ln o f = fine_one at (fine_reaching fs y access)
 
-    side_fine : {fs : List Field} {a m : ℕ} {s : Side} → LowSide core code fs a s m → (sc : Scope) (d : Dest) → IsOpen d → SideFits core s sc d anywhere → Fine code a m
-    side_fine (low.here at lt) sc d o f = fine_join (fine_one at tt) (term_fine lt _ (Empty f.0) tt f.4)
-    side_fine (low.region at lt dn) sc d o f = fine_join (fine_one at tt) (fine_join (term_fine lt _ (Empty f.0) tt f.3) (fine_one dn tt))
-    side_fine (low.scalar_call at) sc d o f = fine_one at tt
-    side_fine (low.scalar {ty = ty} {u = u} nc lt) sc d o f = term_fine lt sc (Nowhere ty) tt (no_call (Fits core u sc (Nowhere ty)) (λ g xs. CallFits core sc g xs ty) u nc f.2)
+    side_fine : {w : Within} {fs : List Field} {a m : ℕ} {s : Side} → LowSide core code w fs a s m → (v : Within) (sc : Scope) (d : Dest) (ln : Line) → IsOpen d → SideFits core v s sc d ln anywhere → Fine code a m
+    side_fine (low.here at lt) v sc d ln o f = fine_join (fine_one at tt) (term_fine lt _ _ (Empty f.0) _ tt f.4)
+    side_fine (low.region at lt dn) v sc d ln o f = fine_join (fine_one at tt) (fine_join (term_fine lt _ _ (Empty f.0) _ tt f.3) (fine_one dn tt))
+    side_fine (low.scalar_call {w = w} {f = g} {xs = xs} at) v sc d ln o f = fine_list at (tt, fine_gots w core g.0 xs)
+    side_fine (low.scalar {ty = ty} {u = u} nc lt) v sc d ln o f =
+        term_fine lt (Inner (side_tells v core u)) sc (Nowhere ty) (new_line v) tt (no_call (Fits core (Inner (side_tells v core u)) u sc (Nowhere ty) (new_line v)) (λ g xs. CallFits core sc g xs ty) u nc f.2)
 
-  functions_fine : (a : ℕ) (gs : List FunctionTerm) (es : List Entry) → LowFunctions core code a gs es → AllByRecursion (λ (g : FunctionTerm). FunctionFits core g (length g.parameters + length (binders g.body))) gs
+  functions_fine : (a : ℕ) (gs : List FunctionTerm) (es : List Entry) → LowFunctions core code a gs es → AllByRecursion (λ (g : FunctionTerm). OwnFits core g (length g.parameters + length (binders g.body))) gs
       → MainFits core (1 + length (binders core.main.body)) → Fine code a (length code.instructions)
-  functions_fine a _ _ (low.main nm rs st sl lo) f m = term_fine lo _ _ (result_open core.main.result) m.fits
-  functions_fine a _ _ (low.function {z = z} {g = g} {gs = gs} {es = es} nm rs st sl lo later) f m = fine_join (term_fine lo _ _ (result_open g.result) f.0.fits) (functions_fine z gs es later f.1 m)
+  functions_fine a _ _ (low.main nm rs st sl lo) f m = term_fine lo _ _ _ _ (result_open core.main.result) m.fits
+  functions_fine a _ _ (low.function {z = z} {g = g} {gs = gs} {es = es} nm rs st sl lo later) f m = fine_join (term_fine lo _ _ _ _ (result_open g.result) f.0.fits) (functions_fine z gs es later f.1 m)
 
 pub code_runs : (core : CoreTree) (code : CodeTree) → IsLowered core code → AllFit core → EachFits core → length code.instructions < 2 ^ 32 → Runs code
 code_runs core code lo fits each few = record {

@@ -18,7 +18,7 @@ use Rattle.gib_core.specs.Meaning.{function_at}
 use Rattle.gib_core.specs.Met.{Destination, Nowhere, Empty, Open, Setting, CallLine, packed_types, stands_too, behind, met}
 use Rattle.gib_core.specs.Rules.{Before, is_among, is_bound, type_bound, rules, least, LinesAreBuilt, same_type, is_empty, is_nowhere, all_usable, any_other, have_types, may_write, are_scalars, any_cased, further, are_variables, gives_packed, call_fits}
 use Rattle.gib_core.specs.Fits as f
-use Rattle.gib_core.specs.Fits.{Sort, Absent, Held, Placed, AtHead, Field, Scope, put, tree_type, loosen, cased, side_cased, Dest, packed_due, more, IsDue, AtomsFit, FurtherPlaced, IsTree, CallFits, by_call, arm_scope, Fits, BindFits, SideFits, BranchesFit}
+use Rattle.gib_core.specs.Fits.{Sort, Absent, Held, Placed, AtHead, Field, Scope, put, tree_type, loosen, cased, side_cased, Dest, packed_due, more, IsDue, AtomsFit, FurtherPlaced, IsTree, CallFits, by_call, arm_scope, Line, Needs, Meets, Fits, BindFits, SideFits, BranchesFit}
 use Rattle.gib_core.specs.Literals.{LiteralFits}
 use Rattle.gib_core.proofs.Facts.{and_true, not_false, least4, same_type_is}
 use Rattle.gib_core.proofs.Later.{Later}
@@ -151,11 +151,11 @@ not_true true e = absurd cc
 not_true false e = refl
 
 -- A head that is filled.
-pub write_fits : (core : CoreTree) (n : ℕ) (b : Before) (s : Setting) (sc : Scope) (d : Dest) (e : Destination) (h : Variable) (k : ConId) (ss ps : List Atom) → may_write core.table b e h k ps ≡ true → are_scalars core.table b e ss ≡ true
-    → all_usable s ss ≡ true → AllByRecursion LiteralFits ss → Vars n b s.scope sc → IsDest core.table b sc e s.due d → Fits core (Write h k ss ps) sc d
-write_fits core n b s sc d Nowhere h k ss ps w t u l v i = absurd cc
-write_fits core n b s sc d Empty h k ss ps w t u l v i = absurd cc
-write_fits core n b s sc d (Open q c standing) h k ss ps w t u l v i =
+pub write_fits : (core : CoreTree) (n : ℕ) (b : Before) (s : Setting) (sc : Scope) (d : Dest) (e : Destination) (h : Variable) (k : ConId) (ss ps : List Atom) (ns : Needs) (ln : Line) → Meets ns ln.told ln.overs → may_write core.table b e h k ps ≡ true → are_scalars core.table b e ss ≡ true
+    → all_usable s ss ≡ true → AllByRecursion LiteralFits ss → Vars n b s.scope sc → IsDest core.table b sc e s.due d → Fits core ns (Write h k ss ps) sc d ln
+write_fits core n b s sc d Nowhere h k ss ps ns ln meets w t u l v i = absurd cc
+write_fits core n b s sc d Empty h k ss ps ns ln meets w t u l v i = absurd cc
+write_fits core n b s sc d (Open q c standing) h k ss ps ns ln meets w t u l v i =
     let names = length standing == length (packed_types core.table c) && are_variables standing ps in
     let calm = not (any_cased b.cased (further standing)) in
     let p = and_true (q.0 == h.0 && c.0 == k.0) (names && calm) w in
@@ -174,4 +174,5 @@ write_fits core n b s sc d (Open q c standing) h k ss ps w t u l v i =
       written_names standing ps lv.1,
       atoms_fit n b s sc ss (scalar_types (fields_at core.table k.0)) u typed l v,
       placed_further b sc standing i.2.stand (not_true (any_cased b.cased (further standing)) nc.1),
+      meets,
     )

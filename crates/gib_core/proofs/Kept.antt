@@ -16,7 +16,8 @@ use Rattle.gib_core.specs.declared.atom.Kind.TheVariants.{Here, Region, Scalar}
 use Rattle.gib_core.specs.Tree.{FunctionTerm, CoreTree}
 use Rattle.gib_core.specs.Meaning.{function_at}
 use Rattle.gib_core.specs.Met.{Known, Setting, Line, PastLine, SideLine, PrimLine, WriteLine, PointLine, CallLine, GiveLine, CaseLine, IfLine}
-use Rattle.gib_core.specs.Reaching.{is_variable, has_variable, reach_function, reach_core}
+use Rattle.gib_core.specs.Reaching.{is_variable, has_variable, ended_by, reach_function, reach_core}
+use Rattle.gib_core.specs.Ending.{Ended}
 use Rattle.gib_core.specs.Rules.{Before, is_bound, is_usable, all_usable, gives_packed, call_fits, any_bound, arm_variables, rules, least}
 use Rattle.gib_core.specs.Reachable.{all_reached}
 use Rattle.gib_core.proofs.Along.{none_broken, least_none}
@@ -50,22 +51,22 @@ variable_append v (x ∷ xs) ys = go (is_variable v x) (variable_append v xs ys)
 
 -- A function has the same type as before.
 
-packed_same : (mode : AccessMode) (tb : Table) (fs : List FunctionTerm) (f : ℕ) → gives_packed (function_at (map (reach_function mode tb) fs) f) ≡ gives_packed (function_at fs f)
-packed_same mode tb [] f = refl
-packed_same mode tb (g ∷ fs) f = go (g.name.0 == f) (packed_same mode tb fs f)
+packed_same : (mode : AccessMode) (tb : Table) (es : List Ended) (fs : List FunctionTerm) (f : ℕ) → gives_packed (function_at (map (reach_function mode tb es) fs) f) ≡ gives_packed (function_at fs f)
+packed_same mode tb es [] f = refl
+packed_same mode tb es (g ∷ fs) f = go (g.name.0 == f) (packed_same mode tb es fs f)
   where
-    go : (b : Bool) → gives_packed (function_at (map (reach_function mode tb) fs) f) ≡ gives_packed (function_at fs f)
-        → gives_packed (if b then Some (reach_function mode tb g) else function_at (map (reach_function mode tb) fs) f) ≡ gives_packed (if b then Some g else function_at fs f)
+    go : (b : Bool) → gives_packed (function_at (map (reach_function mode tb es) fs) f) ≡ gives_packed (function_at fs f)
+        → gives_packed (if b then Some (reach_function mode tb es g) else function_at (map (reach_function mode tb es) fs) f) ≡ gives_packed (if b then Some g else function_at fs f)
     go true e = refl
     go false e = e
 
-fits_same : (mode : AccessMode) (tb : Table) (b : Before) (s : Setting) (ks : List Known) (xs : List Atom) (fs : List FunctionTerm) (f : ℕ)
-    → call_fits b (scoped s ks) xs (function_at (map (reach_function mode tb) fs) f) ≡ call_fits b (all_reached s) xs (function_at fs f)
-fits_same mode tb b s ks xs [] f = refl
-fits_same mode tb b s ks xs (g ∷ fs) f = go (g.name.0 == f) (fits_same mode tb b s ks xs fs f)
+fits_same : (mode : AccessMode) (tb : Table) (es : List Ended) (b : Before) (s : Setting) (ks : List Known) (xs : List Atom) (fs : List FunctionTerm) (f : ℕ)
+    → call_fits b (scoped s ks) xs (function_at (map (reach_function mode tb es) fs) f) ≡ call_fits b (all_reached s) xs (function_at fs f)
+fits_same mode tb es b s ks xs [] f = refl
+fits_same mode tb es b s ks xs (g ∷ fs) f = go (g.name.0 == f) (fits_same mode tb es b s ks xs fs f)
   where
-    go : (c : Bool) → call_fits b (scoped s ks) xs (function_at (map (reach_function mode tb) fs) f) ≡ call_fits b (all_reached s) xs (function_at fs f)
-        → call_fits b (scoped s ks) xs (if c then Some (reach_function mode tb g) else function_at (map (reach_function mode tb) fs) f)
+    go : (c : Bool) → call_fits b (scoped s ks) xs (function_at (map (reach_function mode tb es) fs) f) ≡ call_fits b (all_reached s) xs (function_at fs f)
+        → call_fits b (scoped s ks) xs (if c then Some (reach_function mode tb es g) else function_at (map (reach_function mode tb es) fs) f)
         ≡ call_fits b (all_reached s) xs (if c then Some g else function_at fs f)
     go true e = refl
     go false e = e
@@ -124,10 +125,10 @@ module _ (mode : AccessMode) (core : CoreTree) (b : Before) (s : Setting) (ks : 
       least_none (rules (reach_core mode core) b (scoped s ks) (CallLine f xs)) (
         n.0,
         (
-          ap (λ p. p && not (Rattle.gib_core.specs.Rules.is_empty s.destination)) (packed_same mode core.table core.functions f.0) ∙ n.1.0,
+          ap (λ p. p && not (Rattle.gib_core.specs.Rules.is_empty s.destination)) (packed_same mode core.table (ended_by mode core) core.functions f.0) ∙ n.1.0,
           (
             ap not (all_kept s ks xs h (not-false (all_usable (all_reached s) xs) n.1.1.0)),
-            (ap not (fits_same mode core.table b s ks xs core.functions f.0) ∙ n.1.1.1.0, tt),
+            (ap not (fits_same mode core.table (ended_by mode core) b s ks xs core.functions f.0) ∙ n.1.1.1.0, tt),
           ),
         ),
       )

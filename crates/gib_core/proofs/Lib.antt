@@ -11,11 +11,20 @@ pub mod Left
 pub mod Along
 pub mod Cased
 mod Skipped
-mod Offered
 mod Kept
+mod Awaits
+mod Offered
 mod Onward
 mod Suited
 mod Reached
+mod Settles
+mod Greatest
+pub mod EndedSame
+mod EndedNumbers
+mod LastPacked
+mod FirstNamed
+mod KnownLine
+mod Promise
 mod Facts
 mod Later
 mod Unused
@@ -24,6 +33,7 @@ mod Dests
 mod Entering
 mod Covering
 mod Fitted
+mod Owing
 mod Builds
 mod Bodies
 mod Fine

@@ -1,5 +1,5 @@
 -- A core has one code: each term's code ends at one label, and has one list of instructions.
-use Rattle.std.proofs.Common.{◌≡◌, ℕ, suc, ◌+◌, ◌<◌, ◌≤◌, Bool, true, false, nat_lt, List, [], ◌∷◌, length, slice_get, Option, Some, refl, sym, ap, subst, ◌∙◌, arith}
+use Rattle.std.proofs.Common.{◌≡◌, ℕ, suc, ◌+◌, ◌<◌, ◌≤◌, Bool, true, false, nat_lt, List, [], ◌∷◌, ◌++◌, length, slice_get, Option, Some, refl, sym, ap, subst, ◌∙◌, arith}
 use Rattle.std.proofs.lemmas.Bool.Decides.{nat_tests}
 use Rattle.gib_base.specs.declared.name.Name.{Name}
 use Rattle.gib_types.specs.declared.table.Ty.{Ty}
@@ -8,31 +8,47 @@ use Rattle.gib_types.specs.Table.{fields_at}
 use Rattle.gib_code.specs.declared.instruction.Arm.{Arm}
 use Rattle.gib_code.specs.declared.instruction.Entry.{Entry}
 use Rattle.gib_code.specs.declared.instruction.Operand.{Operand}
-use Rattle.gib_code.specs.Instruction.{Instruction, Unless, Switch, Fork, Join, Back, Done}
+use Rattle.gib_code.specs.Instruction.{Instruction, Fill, Point, Call, Unless, Switch, Fork, Join, Back, Done, LeafEnd}
 use Rattle.gib_code.specs.Program.{CodeTree, IsAt, AreAt, none, one_more}
 use Rattle.gib_core.specs.Low as low
-use Rattle.gib_core.specs.Low.{Low, LowArms, LowBind, LowSide, LowFunctions, IsLowered, End, Returns, To, Field, laid_of, slot_of, operand, kind_of, giving, with_fields}
+use Rattle.gib_core.specs.Low.{Low, LowArms, LowBind, LowSide, LowFunctions, IsLowered, LeafAt, End, Returns, To, Over, Field, laid_of, slot_of, slots_of, operand, operands, function_number, kind_of, giving, ending, gots, arm_end, arm_overs, with_fields}
+use Rattle.gib_core.specs.Ending.{Within, within_par}
+use Rattle.gib_core.specs.declared.atom.Variable.{Variable}
+use Rattle.gib_types.specs.declared.table.ConId.{ConId}
 use Rattle.gib_core.specs.Tree as t
 use Rattle.gib_core.specs.Tree.{Term, CoreTree, Side, FunctionTerm}
 
 -- Where the code ends.
 
--- Both ends return, or both go to a label.
+-- Both ends return, once the same ends were told, or both go to a label.
 abbrev Alike : End → End → Type 0
-Alike Returns Returns = Unit {0}
-Alike Returns (To l d) = ⊥
-Alike (To l d) Returns = ⊥
+Alike (Returns os) (Returns ps) = os ≡ ps
+Alike (Returns os) (To l d) = ⊥
+Alike (To l d) (Returns os) = ⊥
 Alike (To l d) (To m f) = Unit {0}
 
 alike_itself : (e : End) → Alike e e
-alike_itself Returns = tt
+alike_itself (Returns os) = refl
 alike_itself (To l d) = tt
 
+alike_arm : (w : Within) (core : CoreTree) (x : ℕ) (c : ConId) (ys : List Variable) (u : Term) (e f : End) → Alike e f → Alike (arm_end w core x c ys u e) (arm_end w core x c ys u f)
+alike_arm w core x c ys u (Returns os) (Returns ps) h = ap (arm_overs w core x c ys u) h
+alike_arm w core x c ys u (Returns os) (To l d) h = absurd h
+alike_arm w core x c ys u (To l d) (Returns os) h = absurd h
+alike_arm w core x c ys u (To l d) (To m f) h = tt
+
 giving_length : (o : Operand) (e f : End) → Alike e f → length (giving o e) ≡ length (giving o f)
-giving_length o Returns Returns h = refl
-giving_length o Returns (To l d) h = absurd h
-giving_length o (To l d) Returns h = absurd h
+giving_length o (Returns os) (Returns ps) h = ap (λ (qs : List Over). length (giving o (Returns qs))) h
+giving_length o (Returns os) (To l d) h = absurd h
+giving_length o (To l d) (Returns os) h = absurd h
 giving_length o (To l d) (To m f) h = refl
+
+ending_length : (i : Instruction) (is : List Instruction) (e f : End) → Alike e f → length (i ∷ is ++ ending e) ≡ length (i ∷ is ++ ending f)
+ending_length i is (Returns os) (Returns ps) h = ap (λ (qs : List Over). length (i ∷ is ++ ending (Returns qs))) h
+ending_length i is (Returns os) (To l d) h = absurd h
+ending_length i is (To l d) (Returns os) h = absurd h
+ending_length i [] (To l d) (To m f) h = refl
+ending_length i (j ∷ is) (To l d) (To m f) h = ap suc (ending_length j is (To l d) (To m f) h)
 
 list_end : {code : CodeTree} {a z : ℕ} {is : List Instruction} → AreAt code a is z → z ≡ a + length is
 list_end none = omega arith
@@ -41,39 +57,46 @@ list_end (one_more at rest) = let h = list_end rest in omega (arith, h)
 same_end : {r s : CodeTree} {a z z' : ℕ} {is js : List Instruction} → AreAt r a is z → AreAt s a js z' → length is ≡ length js → z ≡ z'
 same_end p q e = let h = list_end p in let g = list_end q in omega (arith, h, g, e)
 
+leaf_ends : {r s : CodeTree} {must : Bool} {x size many m m' n n' : ℕ} → LeafAt r must x size many m n → LeafAt s must x size many m' n' → m ≡ m' → n ≡ n'
+leaf_ends (low.no_leaf f) (low.no_leaf g) e = e
+leaf_ends (low.no_leaf f) (low.leaf m n at) e = absurd (f m n)
+leaf_ends (low.leaf m n at) (low.no_leaf f) e = absurd (f m n)
+leaf_ends (low.leaf m n at) (low.leaf m' n' at') e = ap (λ (k : ℕ). k + 1) e
+
 module _ (core : CoreTree) (r s : CodeTree) where
   mutual
-    term_ends : {fs : List Field} {a z z' : ℕ} {u : Term} {e e' : End} → Low core r fs a u e z → Low core s fs a u e' z' → Alike e e' → z ≡ z'
-    term_ends (low.write p) (low.write q) k = same_end p q refl
-    term_ends (low.point p) (low.point q) k = same_end p q refl
-    term_ends (low.call p) (low.call q) k = same_end p q refl
+    term_ends : {wi : Within} {fs : List Field} {a z z' : ℕ} {u : Term} {e e' : End} → Low core r wi fs a u e z → Low core s wi fs a u e' z' → Alike e e' → z ≡ z'
+    term_ends (low.write {h = v} {c = c} {ss = ss} {ps = ps} {e = e} p) (low.write {e = e'} q) k = same_end p q (ending_length (Fill v.0 c.0 (operands ss) (slots_of ps)) [] e e' k)
+    term_ends (low.point {x = x} {e = e} p) (low.point {e = e'} q) k = same_end p q (ending_length (Point (slot_of x)) [] e e' k)
+    term_ends (low.call {w = wi} {f = f} {xs = xs} {e = e} p) (low.call {e = e'} q) k = same_end p q (ending_length (Call (function_number core.functions f.0) (operands xs)) (gots wi core f.0 xs) e e' k)
     term_ends (low.give {x = w} {e = e} p) (low.give {e = e'} q) k = same_end p q (giving_length (operand w) e e' k)
-    term_ends (low.branch {fs = fs} {v = v} at lu lv) (low.branch {z = z'} {e = e'} at' lu' lv') k =
-        term_ends lv (subst (λ (n : ℕ). Low core s fs n v e' z') (sym (term_ends lu lu' k)) lv') k
+    term_ends (low.branch {w = wi} {fs = fs} {v = v} at lu lv) (low.branch {z = z'} {e = e'} at' lu' lv') k =
+        term_ends lv (subst (λ (n : ℕ). Low core s wi fs n v e' z') (sym (term_ends lu lu' k)) lv') k
     term_ends (low.case at la) (low.case at' la') k = (arms_end la la' k).0
-    term_ends (low.binding {fs = fs} {u = u} lb lu) (low.binding {z = z'} {e = e'} lb' lu') k =
-        term_ends lu (subst (λ (n : ℕ). Low core s fs n u e' z') (sym (bind_ends lb lb')) lu') k
+    term_ends (low.binding {w = wi} {fs = fs} {u = u} lb lu) (low.binding {z = z'} {e = e'} lb' lu') k =
+        term_ends lu (subst (λ (n : ℕ). Low core s wi fs n u e' z') (sym (bind_ends lb lb')) lu') k
 
-    arms_end : {fs : List Field} {w a z z' : ℕ} {arms arms' : List Arm} {bs : t.Branches} {e e' : End} → LowArms core r fs w a arms bs e z → LowArms core s fs w a arms' bs e' z' → Alike e e' → (z ≡ z') × (arms ≡ arms')
+    arms_end : {wi : Within} {fs : List Field} {w a z z' : ℕ} {arms arms' : List Arm} {bs : t.Branches} {e e' : End} → LowArms core r wi fs w a arms bs e z → LowArms core s wi fs w a arms' bs e' z' → Alike e e' → (z ≡ z') × (arms ≡ arms')
     arms_end low.no_arm low.no_arm k = (refl, refl)
-    arms_end (low.arm {fs = fs} {x = w} {a = a} {c = c} {ys = ys} {u = u} {bs = bs} op lo rest) (low.arm {l = l'} {z = z'} {arms = arms'} {e = e'} op' lo' rest') k =
-        let el = term_ends lo (subst (λ (n : ℕ). Low core s (with_fields w (fields_at core.table c.0) ys fs) n u e' l') (sym (same_end op op' refl)) lo') k in
-        let er = arms_end rest (subst (λ (n : ℕ). LowArms core s fs w n arms' bs e' z') (sym el) rest') k in
+    arms_end (low.arm {w = wi} {fs = fs} {x = w} {a = a} {c = c} {ys = ys} {u = u} {bs = bs} {e = e} op lf lo rest) (low.arm {l = l'} {z = z'} {arms = arms'} {e = e'} op' lf' lo' rest') k =
+        let em = leaf_ends lf lf' (same_end op op' refl) in
+        let el = term_ends lo (subst (λ (n : ℕ). Low core s wi (with_fields w (fields_at core.table c.0) ys fs) n u (arm_end wi core w c ys u e') l') (sym em) lo') (alike_arm wi core w c ys u e e' k) in
+        let er = arms_end rest (subst (λ (n : ℕ). LowArms core s wi fs w n arms' bs e' z') (sym el) rest') k in
         (er.0, ap (λ (q : List Arm). record { constructor = c.0; label = a } ∷ q) er.1)
 
-    bind_ends : {fs : List Field} {a z z' : ℕ} {b : t.Bind} → LowBind core r fs a b z → LowBind core s fs a b z' → z ≡ z'
+    bind_ends : {wi : Within} {fs : List Field} {a z z' : ℕ} {b : t.Bind} → LowBind core r wi fs a b z → LowBind core s wi fs a b z' → z ≡ z'
     bind_ends (low.past at) (low.past at') = refl
     bind_ends (low.one ls) (low.one ls') = side_ends ls ls'
-    bind_ends (low.in_turn {fs = fs} {r = v} ll lr) (low.in_turn {z = z'} ll' lr') = side_ends lr (subst (λ (n : ℕ). LowSide core s fs n v z') (sym (side_ends ll ll')) lr')
-    bind_ends (low.forked {fs = fs} {c = c} {x = v} {ty = ty} {u = u} at ll ej lr eb) (low.forked {z = z'} at' ll' ej' lr' eb') =
-        ap (λ (n : ℕ). n + 1) (side_ends lr (subst (λ (n : ℕ). LowSide core s fs (n + 1) (t.On c v ty u) z') (sym (side_ends ll ll')) lr'))
+    bind_ends (low.in_turn {w = wi} {fs = fs} {r = v} ll lr) (low.in_turn {z = z'} ll' lr') = side_ends lr (subst (λ (n : ℕ). LowSide core s (within_par wi) fs n v z') (sym (side_ends ll ll')) lr')
+    bind_ends (low.forked {w = wi} {fs = fs} {c = c} {x = v} {ty = ty} {u = u} at ll ej lr eb) (low.forked {z = z'} at' ll' ej' lr' eb') =
+        ap (λ (n : ℕ). n + 1) (side_ends lr (subst (λ (n : ℕ). LowSide core s (within_par wi) fs (n + 1) (t.On c v ty u) z') (sym (side_ends ll ll')) lr'))
     bind_ends (low.prim at) (low.prim at') = refl
     bind_ends (low.reach at) (low.reach at') = refl
 
-    side_ends : {fs : List Field} {a z z' : ℕ} {d : Side} → LowSide core r fs a d z → LowSide core s fs a d z' → z ≡ z'
+    side_ends : {wi : Within} {fs : List Field} {a z z' : ℕ} {d : Side} → LowSide core r wi fs a d z → LowSide core s wi fs a d z' → z ≡ z'
     side_ends (low.here at lt) (low.here at' lt') = term_ends lt lt' tt
     side_ends (low.region at lt dn) (low.region at' lt' dn') = ap (λ (n : ℕ). n + 1) (term_ends lt lt' tt)
-    side_ends (low.scalar_call at) (low.scalar_call at') = refl
+    side_ends (low.scalar_call at) (low.scalar_call at') = same_end at at' refl
     side_ends (low.scalar_call at) (low.scalar nc lt') = absurd nc
     side_ends (low.scalar nc lt) (low.scalar_call at') = absurd nc
     side_ends (low.scalar nc lt) (low.scalar nc' lt') = term_ends lt lt' tt
@@ -105,37 +128,44 @@ same_list : {r s : CodeTree} {a z z' : ℕ} {is : List Instruction} → AreAt r 
 same_list none none = same_none
 same_list (one_more at rest) (one_more at' rest') = same_join (same_one at at') (same_list rest rest')
 
+leaf_same : {r s : CodeTree} {must : Bool} {x size many m m' n n' : ℕ} → LeafAt r must x size many m n → LeafAt s must x size many m' n' → m ≡ m' → Same r s m n
+leaf_same (low.no_leaf f) (low.no_leaf g) e = same_none
+leaf_same (low.no_leaf f) (low.leaf m n at) e = absurd (f m n)
+leaf_same (low.leaf m n at) (low.no_leaf f) e = absurd (f m n)
+leaf_same {s = s} {x = x} {size = size} (low.leaf m n at) (low.leaf m' n' at') e = same_one at (subst (λ (k : ℕ). IsAt s k (LeafEnd x size)) (sym e) at')
+
 module _ (core : CoreTree) (r s : CodeTree) where
   mutual
-    term_same : {fs : List Field} {a z z' : ℕ} {u : Term} {e : End} → Low core r fs a u e z → Low core s fs a u e z' → Same r s a z
+    term_same : {wi : Within} {fs : List Field} {a z z' : ℕ} {u : Term} {e : End} → Low core r wi fs a u e z → Low core s wi fs a u e z' → Same r s a z
     term_same (low.write p) (low.write q) = same_list p q
     term_same (low.point p) (low.point q) = same_list p q
     term_same (low.call p) (low.call q) = same_list p q
     term_same (low.give p) (low.give q) = same_list p q
-    term_same (low.branch {fs = fs} {a = a} {x = w} {v = v} {e = e} at lu lv) (low.branch {z = z'} at' lu' lv') =
+    term_same (low.branch {w = wi} {fs = fs} {a = a} {x = w} {v = v} {e = e} at lu lv) (low.branch {z = z'} at' lu' lv') =
         let el = term_ends core r s lu lu' (alike_itself e) in
         same_join (same_one at (subst (λ (n : ℕ). IsAt s a (Unless (operand w) n)) (sym el) at'))
-        (same_join (term_same lu lu') (term_same lv (subst (λ (n : ℕ). Low core s fs n v e z') (sym el) lv')))
+        (same_join (term_same lu lu') (term_same lv (subst (λ (n : ℕ). Low core s wi fs n v e z') (sym el) lv')))
     term_same (low.case {a = a} {x = w} {e = e} at la) (low.case at' la') =
         same_join (same_one at (subst (λ (q : List Arm). IsAt s a (Switch (slot_of w) q)) (sym (arms_end core r s la la' (alike_itself e)).1) at')) (arms_same la la')
-    term_same (low.binding {fs = fs} {u = u} {e = e} lb lu) (low.binding {z = z'} lb' lu') =
-        same_join (bind_same lb lb') (term_same lu (subst (λ (n : ℕ). Low core s fs n u e z') (sym (bind_ends core r s lb lb')) lu'))
+    term_same (low.binding {w = wi} {fs = fs} {u = u} {e = e} lb lu) (low.binding {z = z'} lb' lu') =
+        same_join (bind_same lb lb') (term_same lu (subst (λ (n : ℕ). Low core s wi fs n u e z') (sym (bind_ends core r s lb lb')) lu'))
 
-    arms_same : {fs : List Field} {w a z z' : ℕ} {arms arms' : List Arm} {bs : t.Branches} {e : End} → LowArms core r fs w a arms bs e z → LowArms core s fs w a arms' bs e z' → Same r s a z
+    arms_same : {wi : Within} {fs : List Field} {w a z z' : ℕ} {arms arms' : List Arm} {bs : t.Branches} {e : End} → LowArms core r wi fs w a arms bs e z → LowArms core s wi fs w a arms' bs e z' → Same r s a z
     arms_same low.no_arm low.no_arm = same_none
-    arms_same (low.arm {fs = fs} {x = w} {c = c} {ys = ys} {u = u} {bs = bs} {e = e} op lo rest) (low.arm {l = l'} {z = z'} {arms = arms'} op' lo' rest') =
-        let lo'' = subst (λ (n : ℕ). Low core s (with_fields w (fields_at core.table c.0) ys fs) n u e l') (sym (same_end op op' refl)) lo' in
-        let el = term_ends core r s lo lo'' (alike_itself e) in
-        same_join (same_list op op') (same_join (term_same lo lo'') (arms_same rest (subst (λ (n : ℕ). LowArms core s fs w n arms' bs e z') (sym el) rest')))
+    arms_same (low.arm {w = wi} {fs = fs} {x = w} {c = c} {ys = ys} {u = u} {bs = bs} {e = e} op lf lo rest) (low.arm {l = l'} {z = z'} {arms = arms'} op' lf' lo' rest') =
+        let em = same_end op op' refl in
+        let lo'' = subst (λ (n : ℕ). Low core s wi (with_fields w (fields_at core.table c.0) ys fs) n u (arm_end wi core w c ys u e) l') (sym (leaf_ends lf lf' em)) lo' in
+        let el = term_ends core r s lo lo'' (alike_itself (arm_end wi core w c ys u e)) in
+        same_join (same_list op op') (same_join (leaf_same lf lf' em) (same_join (term_same lo lo'') (arms_same rest (subst (λ (n : ℕ). LowArms core s wi fs w n arms' bs e z') (sym el) rest'))))
 
-    bind_same : {fs : List Field} {a z z' : ℕ} {b : t.Bind} → LowBind core r fs a b z → LowBind core s fs a b z' → Same r s a z
+    bind_same : {wi : Within} {fs : List Field} {a z z' : ℕ} {b : t.Bind} → LowBind core r wi fs a b z → LowBind core s wi fs a b z' → Same r s a z
     bind_same (low.past at) (low.past at') = same_one at at'
     bind_same (low.one ls) (low.one ls') = side_same ls ls'
-    bind_same (low.in_turn {fs = fs} {r = v} ll lr) (low.in_turn {z = z'} ll' lr') =
-        same_join (side_same ll ll') (side_same lr (subst (λ (n : ℕ). LowSide core s fs n v z') (sym (side_ends core r s ll ll')) lr'))
-    bind_same (low.forked {fs = fs} {a = a} {m = m} {z = z} {c = c} {x = v} {ty = ty} {u = u} at ll ej lr eb) (low.forked {m = m'} {z = z'} at' ll' ej' lr' eb') =
+    bind_same (low.in_turn {w = wi} {fs = fs} {r = v} ll lr) (low.in_turn {z = z'} ll' lr') =
+        same_join (side_same ll ll') (side_same lr (subst (λ (n : ℕ). LowSide core s (within_par wi) fs n v z') (sym (side_ends core r s ll ll')) lr'))
+    bind_same (low.forked {w = wi} {fs = fs} {a = a} {m = m} {z = z} {c = c} {x = v} {ty = ty} {u = u} at ll ej lr eb) (low.forked {m = m'} {z = z'} at' ll' ej' lr' eb') =
         let em = side_ends core r s ll ll' in
-        let lr'' = subst (λ (n : ℕ). LowSide core s fs (n + 1) (t.On c v ty u) z') (sym em) lr' in
+        let lr'' = subst (λ (n : ℕ). LowSide core s (within_par wi) fs (n + 1) (t.On c v ty u) z') (sym em) lr' in
         let ez = side_ends core r s lr lr'' in
         let at'' = subst (λ (n : ℕ). IsAt s a (Fork (n + 1) (z + 1) (kind_of c) v.0 ty)) (sym em) (subst (λ (n : ℕ). IsAt s a (Fork (m' + 1) (n + 1) (kind_of c) v.0 ty)) (sym ez) at') in
         same_join (same_one at at'') (same_join (side_same ll ll') (same_join (same_one ej (subst (λ (n : ℕ). IsAt s n Join) (sym em) ej'))
@@ -143,17 +173,17 @@ module _ (core : CoreTree) (r s : CodeTree) where
     bind_same (low.prim at) (low.prim at') = same_one at at'
     bind_same (low.reach at) (low.reach at') = same_one at at'
 
-    side_same : {fs : List Field} {a z z' : ℕ} {d : Side} → LowSide core r fs a d z → LowSide core s fs a d z' → Same r s a z
-    side_same (low.here {fs = fs} {a = a} {u = u} at lt) (low.here {z = z'} at' lt') =
-        same_join (same_one at at') (term_same lt (subst (λ (n : ℕ). Low core s fs (a + 1) u (To n 0) z') (sym (term_ends core r s lt lt' tt)) lt'))
-    side_same (low.region {fs = fs} {a = a} {u = u} at lt dn) (low.region {z = z'} at' lt' dn') =
+    side_same : {wi : Within} {fs : List Field} {a z z' : ℕ} {d : Side} → LowSide core r wi fs a d z → LowSide core s wi fs a d z' → Same r s a z
+    side_same (low.here {w = wi} {fs = fs} {a = a} {u = u} at lt) (low.here {z = z'} at' lt') =
+        same_join (same_one at at') (term_same lt (subst (λ (n : ℕ). Low core s wi fs (a + 1) u (To n 0) z') (sym (term_ends core r s lt lt' tt)) lt'))
+    side_same (low.region {w = wi} {fs = fs} {a = a} {u = u} at lt dn) (low.region {z = z'} at' lt' dn') =
         let ez = term_ends core r s lt lt' tt in
-        same_join (same_one at at') (same_join (term_same lt (subst (λ (n : ℕ). Low core s fs (a + 1) u (To n 0) z') (sym ez) lt')) (same_one dn (subst (λ (n : ℕ). IsAt s n Done) (sym ez) dn')))
-    side_same (low.scalar_call at) (low.scalar_call at') = same_one at at'
+        same_join (same_one at at') (same_join (term_same lt (subst (λ (n : ℕ). Low core s wi fs (a + 1) u (To n 0) z') (sym ez) lt')) (same_one dn (subst (λ (n : ℕ). IsAt s n Done) (sym ez) dn')))
+    side_same (low.scalar_call at) (low.scalar_call at') = same_list at at'
     side_same (low.scalar_call at) (low.scalar nc lt') = absurd nc
     side_same (low.scalar nc lt) (low.scalar_call at') = absurd nc
-    side_same (low.scalar {fs = fs} {a = a} {x = v} {u = u} nc lt) (low.scalar {z = z'} nc' lt') =
-        term_same lt (subst (λ (n : ℕ). Low core s fs a u (To n v.0) z') (sym (term_ends core r s lt lt' tt)) lt')
+    side_same (low.scalar {w = wi} {fs = fs} {a = a} {x = v} {u = u} nc lt) (low.scalar {z = z'} nc' lt') =
+        term_same lt (subst (λ (n : ℕ). Low core s wi fs a u (To n v.0) z') (sym (term_ends core r s lt lt' tt)) lt')
 
 -- The functions.
 
@@ -168,11 +198,11 @@ functions_same : (core : CoreTree) (r s : CodeTree) (a : ℕ) (gs : List Functio
     → Same r s a (length r.instructions) × (length r.instructions ≡ length s.instructions) × (es ≡ es')
 functions_same core r s a _ _ _ (low.main {e = e} name result start slots body) (low.main {e = e'} name' result' start' slots' body') = (
   term_same core r s body body',
-  term_ends core r s body body' tt,
+  term_ends core r s body body' refl,
   ap (λ (q : Entry). q ∷ []) (same_entry e e' (name ∙ sym name') (start ∙ sym start') (slots ∙ sym slots') (result ∙ sym result')),
 )
 functions_same core r s a _ _ _ (low.function {z = z} {g = g} {gs = gs} {e = e} {es = es} name result start slots body rest) (low.function {e = e'} {es = es'} name' result' start' slots' body' rest') =
-    let ez = term_ends core r s body body' tt in
+    let ez = term_ends core r s body body' refl in
     let h = functions_same core r s z gs es es' rest (subst (λ (n : ℕ). LowFunctions core s n gs es') (sym ez) rest') in (
       same_join (term_same core r s body body') h.0,
       h.1,

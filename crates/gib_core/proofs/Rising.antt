@@ -1,13 +1,13 @@
 -- The cost does not fall with the levels of forks.
-use Rattle.std.proofs.Common.{◌≡◌, ℕ, zero, suc, ◌+◌, ◌≤◌, Bool, true, false, List, [], ◌∷◌, map, Option, Some, None, arith}
+use Rattle.std.proofs.Common.{ℕ, zero, suc, ◌≤◌, Bool, true, false, List, [], ◌∷◌, map, Option, Some, None, arith}
 use Rattle.gib_types.specs.Table.{Table}
-use Rattle.gib_types.specs.Tree.{Datum, constructors}
+use Rattle.gib_types.specs.Tree.{Datum}
 use Rattle.gib_syntax.specs.Meaning.{Environment, is_true, is_made_by, parts}
 use Rattle.gib_core.specs.declared.atom.Kind.{Kind}
 use Rattle.gib_core.specs.declared.atom.Kind.TheVariants.{Here, Region, Scalar}
 use Rattle.gib_core.specs.Tree.{Term, Then, Write, Point, CallTerm, Give, CaseTerm, IfTerm, Bind, Past, One, Both, Prim, Reach, Side, On, Branches, NoBranch, BranchThen, variables_from, FunctionTerm, CoreTree}
 use Rattle.gib_core.specs.Meaning.{Calls, value, bind, Reached, Went, Halted, run, function_at, core_calls}
-use Rattle.gib_core.specs.Cost.{Cost, Costs, IsAtMost, plus, cost_from, choose_cost, inside, own_of_right, kind_of, cost, cost_bind, cost_side, cost_branches, cost_of_function, call_costs, body_cost, run_cost}
+use Rattle.gib_core.specs.Cost.{Cost, Costs, IsAtMost, plus, cost_from, choose_cost, inside, own_of_right, kind_of, cost, cost_bind, cost_side, cost_branches, cost_of_function, call_costs, run_cost}
 
 alike : (a : Cost) → IsAtMost a a
 alike a = (omega arith, omega arith)

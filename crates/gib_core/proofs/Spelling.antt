@@ -4,27 +4,28 @@ use Rattle.gib_core.specs.declared.node.Node.{Node}
 use Rattle.gib_core.specs.declared.node.Binding.{Binding}
 use Rattle.gib_core.specs.declared.piece.Piece.{Piece}
 use Rattle.gib_core.specs.Tree.{Term, Bind, prepend}
+use Rattle.gib_core.specs.Ending.{Ended}
 use Rattle.gib_core.specs.Arena.{IsLine, term_of, binds_from}
 use Rattle.gib_core.specs.CoreText.{spell_term, spell_bind}
 
 -- The pieces of bindings on a level, and then the rest.
-abbrev pub spell_binds : ℕ → List Bind → List Piece → List Piece
-spell_binds d [] rest = rest
-spell_binds d (b ∷ bs) rest = spell_bind d b (spell_binds d bs rest)
+abbrev pub spell_binds : List Ended → ℕ → List Bind → List Piece → List Piece
+spell_binds es d [] rest = rest
+spell_binds es d (b ∷ bs) rest = spell_bind es d b (spell_binds es d bs rest)
 
-spell_prepend : (d : ℕ) (bs : List Bind) (t : Term) (rest : List Piece) → spell_term d (prepend bs t) rest ≡ spell_binds d bs (spell_term d t rest)
-spell_prepend d [] t rest = refl
-spell_prepend d (b ∷ bs) t rest = ap (spell_bind d b) (spell_prepend d bs t rest)
+spell_prepend : (es : List Ended) (d : ℕ) (bs : List Bind) (t : Term) (rest : List Piece) → spell_term es d (prepend bs t) rest ≡ spell_binds es d bs (spell_term es d t rest)
+spell_prepend es d [] t rest = refl
+spell_prepend es d (b ∷ bs) t rest = ap (spell_bind es d b) (spell_prepend es d bs t rest)
 
 -- A line is spelled, once none of its bindings is left that is not spelled before its end.
-pub spell_line : (nodes : List Node) (d id last i : ℕ) (bindings : List Binding) (old behind new : List Piece) → IsLine nodes id bindings last → i ≡ 0
-    → behind ≡ spell_term d (term_of nodes last) old → new ≡ spell_binds d (binds_from (term_of nodes) (drop i bindings)) behind
-    → new ≡ spell_term d (term_of nodes id) old
-spell_line nodes d id last i bindings old behind new line none_left ends front =
+pub spell_line : (es : List Ended) (nodes : List Node) (d id last i : ℕ) (bindings : List Binding) (old behind new : List Piece) → IsLine nodes id bindings last → i ≡ 0
+    → behind ≡ spell_term es d (term_of nodes last) old → new ≡ spell_binds es d (binds_from (term_of nodes) (drop i bindings)) behind
+    → new ≡ spell_term es d (term_of nodes id) old
+spell_line es nodes d id last i bindings old behind new line none_left ends front =
     let f = term_of nodes in
     let bs = binds_from f bindings in
     front
-    ∙ ap (λ (k : ℕ). spell_binds d (binds_from f (drop k bindings)) behind) none_left
-    ∙ ap (spell_binds d bs) ends
-    ∙ sym (spell_prepend d bs (f last) old)
-    ∙ ap (λ (t : Term). spell_term d t old) (sym line.term)
+    ∙ ap (λ (k : ℕ). spell_binds es d (binds_from f (drop k bindings)) behind) none_left
+    ∙ ap (spell_binds es d bs) ends
+    ∙ sym (spell_prepend es d bs (f last) old)
+    ∙ ap (λ (t : Term). spell_term es d t old) (sym line.term)

@@ -1,6 +1,7 @@
 -- What the terms of a core are met with where its fields are reached, and how that goes on from a term to its parts.
-use Rattle.std.proofs.Common.{◌≡◌, inl, ⊎_elim, Bool, true, false, ◌==◌, ◌||◌, if◌then◌else◌, List, [], ◌∷◌, ◌++◌, Some, None, refl, sym, ap, ◌∙◌, subst}
+use Rattle.std.proofs.Common.{◌≡◌, inl, ⊎_elim, ℕ, suc, Bool, true, false, ◌==◌, ◌||◌, ◌&&◌, if◌then◌else◌, List, [], ◌∷◌, ◌++◌, Option, Some, None, refl, sym, ap, ◌∙◌, subst}
 use Rattle.std.proofs.lemmas.Bool.{eq-eqb, both_ways, or_parts, or_from, or_left, or_right, or_cases, false_from_ne_true, true_from_ne_false}
+use Rattle.gib_base.specs.declared.name.Name.{Name}
 use Rattle.gib_types.specs.declared.table.Ty.{Ty}
 use Rattle.gib_types.specs.declared.table.ConId.{ConId}
 use Rattle.gib_types.specs.Table.{Table, fields_at}
@@ -8,17 +9,20 @@ use Rattle.gib_syntax.specs.Meaning.{is_scalar, at_fields}
 use Rattle.gib_core.specs.declared.atom.Variable.{Variable}
 use Rattle.gib_core.specs.declared.atom.Atom.{Atom}
 use Rattle.gib_core.specs.declared.atom.AccessMode.{AccessMode}
+use Rattle.gib_core.specs.declared.atom.AccessMode.TheVariants.{Skips, Offsets, Ends}
 use Rattle.gib_core.specs.declared.atom.Kind.{Kind}
 use Rattle.gib_core.specs.declared.atom.Kind.TheVariants.{Here, Region, Scalar}
-use Rattle.gib_core.specs.Tree.{Term, Then, Bind, Past, One, Both, Prim, Reach, On, prepend, CoreTree}
-use Rattle.gib_core.specs.Met.{Known, Setting, at, SideLine, CaseLine, Met, known, reached, with_arm, in_side, in_arm, left_of, right_of, behind, met, met_bind, met_side}
-use Rattle.gib_core.specs.Reaching.{uses, bind_uses, reaches, offset_of, all_offsets, packed_variables, reach, reach_bind, reach_side, reach_core}
-use Rattle.gib_core.specs.Rules.{Before, further, is_among, is_bound, is_reached, arm_variables, any_bound, rules, least, next, next_all, LinesAreBuilt}
+use Rattle.gib_core.specs.Tree.{Term, Then, Write, Point, CallTerm, Give, CaseTerm, IfTerm, Bind, Past, One, Both, Prim, Reach, On, prepend, CoreTree}
+use Rattle.gib_core.specs.Ending.{Ended, is_telling, has_ended, call_ends}
+use Rattle.gib_core.specs.Met.{Known, Setting, at, SideLine, CaseLine, Met, known, reached, with_arm, in_side, in_arm, left_of, right_of, behind, call_too, packed_field, met, met_bind, met_side}
+use Rattle.gib_core.specs.Reaching.{is_variable, has_variable, uses, bind_uses, Later, told_first, not_now, laters, ends_from, in_par, reaches, offset_of, all_offsets, packed_variables, ended_by, reach, reach_bind, reach_side, reach_core}
+use Rattle.gib_core.specs.Rules.{Before, further, is_among, is_bound, is_outside, is_reached, one_tells, arm_variables, any_bound, rules, least, next, next_all, LinesAreBuilt}
 use Rattle.gib_core.specs.Reachable.{all_reached, LinesAreReachable}
 use Rattle.gib_core.proofs.Along.{same_variable, AreDistinct, arms_unbound, arms_distinct, distinct_split, none_broken, built_append, reachable_split, among_append, line_bound, NoneBinds, none_split, stays_bound, never_bound, bound_once}
 use Rattle.gib_core.proofs.Cased.{has, has_arm, in_side_scope, in_side_others, reaches_none, case_keeps, StaysUncased, out_behind, uncased, bind_uncased, side_uncased}
-use Rattle.gib_core.proofs.Skipped.{arm_started, ReachedOr, arm_reached, known_past_arm, Serves, inside}
-use Rattle.gib_core.proofs.Offered.{AreListed, offered, reaches_built}
+use Rattle.gib_core.proofs.Skipped.{arm_started, ReachedOr, arm_reached, known_past, known_past_arm, Serves, inside}
+use Rattle.gib_core.proofs.Offered.{AreListed, IsWithin, AreBehind, offered, reaches_built, ends_first, later_apart}
+use Rattle.gib_core.proofs.Awaits.{but, AreAwaited, AreApart, AreFirst, Awaits, awaits_none, left_apart}
 use Rattle.gib_core.proofs.Onward.{side_next}
 use Rattle.gib_core.proofs.Kept.{scoped, side_kept}
 
@@ -54,12 +58,21 @@ others_behind (Both fork (On kind x ty t) (On other z uy u)) s = refl
 others_behind (Prim x f v w) s = refl
 others_behind (Reach y by) s = refl
 
-pub scoped_behind : (mode : AccessMode) (tb : Table) (bind : Bind) (s : Setting) (ks : List Known) → behind (scoped s ks) (reach_bind mode tb bind) ≡ scoped (behind s bind) (behind (scoped s ks) bind).scope
-scoped_behind mode tb (Past h k) s ks = refl
-scoped_behind mode tb (One (On kind x ty t)) s ks = refl
-scoped_behind mode tb (Both fork (On kind x ty t) (On other z uy u)) s ks = refl
-scoped_behind mode tb (Prim x f v w) s ks = refl
-scoped_behind mode tb (Reach y by) s ks = refl
+call_same : (m : AccessMode) (tb : Table) (es : List Ended) (t : Term) (cs : List (Name × List Atom)) → call_too (reach m tb es [] t) cs ≡ call_too t cs
+call_same m tb es (Then bind t) cs = refl
+call_same m tb es (Write h k ss ps) cs = refl
+call_same m tb es (Point x) cs = refl
+call_same m tb es (CallTerm f xs) cs = refl
+call_same m tb es (Give x) cs = refl
+call_same m tb es (CaseTerm x branches) cs = refl
+call_same m tb es (IfTerm x t u) cs = refl
+
+pub scoped_behind : (m : AccessMode) (tb : Table) (es : List Ended) (bind : Bind) (s : Setting) (ks : List Known) → behind (scoped s ks) (reach_bind m tb es bind) ≡ scoped (behind s bind) (behind (scoped s ks) bind).scope
+scoped_behind m tb es (Past h k) s ks = refl
+scoped_behind m tb es (One (On kind x ty t)) s ks = λ i. record (scoped (behind s (One (On kind x ty t))) (reached x ∷ ks)) { calls = call_same m tb es t s.calls i }
+scoped_behind m tb es (Both fork (On kind x ty t) (On other z uy u)) s ks = refl
+scoped_behind m tb es (Prim x f v w) s ks = refl
+scoped_behind m tb es (Reach y by) s ks = refl
 
 scoped_side : (tb : Table) (s : Setting) (ks : List Known) (kind : Kind) (ty : Ty) → in_side tb (scoped s ks) kind ty ≡ scoped (in_side tb s kind ty) ks
 scoped_side tb s ks Here ty = refl
@@ -123,17 +136,131 @@ module _ (core : CoreTree) where
   serves_behind used (Reach y by) s ks b r g = absurd (reaches_none core b s y by r.0)
 
   -- The rest of a line.
-  pub rest_suits : (bind : Bind) (t : Term) (s : Setting) (ks : List Known) (b : Before) → Suits (uses (Then bind t)) s ks b (met core.table s (Then bind t)) → LinesAreReachable core b (met_bind core.table s bind)
-      → Suits (uses t) (behind s bind) (behind (scoped s ks) bind).scope (next_all core.table b (met_bind core.table s bind)) (met core.table (behind s bind) t)
-  rest_suits bind t s ks b h r =
+  pub rest_suits : (bind : Bind) (t : Term) (used : Variable → Bool) (s : Setting) (ks : List Known) (b : Before) → Suits used s ks b (met core.table s (Then bind t)) → LinesAreReachable core b (met_bind core.table s bind)
+      → Suits used (behind s bind) (behind (scoped s ks) bind).scope (next_all core.table b (met_bind core.table s bind)) (met core.table (behind s bind) t)
+  rest_suits bind t used s ks b h r =
       let xs = met_bind core.table s bind in
       let ys = met core.table (behind s bind) t in
       record {
-        serves = serves_behind (uses t) bind s ks b r (λ x u m. h.serves x (or_right (bind_uses bind x) (uses t x) u) m);
+        serves = serves_behind used bind s ks b r h.serves;
         bound = bound_behind bind s b r h.bound;
         cased = cased_after s b xs h.bound h.cased (λ y n out c. bind_uncased core y bind s b r n out c);
         differs = λ x m. (none_split x xs ys (h.differs x (ap (λ (o : List Variable). is_among o x) (sym (others_behind bind s)) ∙ m))).1;
       }
+
+  -- A call tells the end of a variable that it uses.
+  ends_use : (es : List Ended) (f k : ℕ) (xs : List Atom) (z : Variable) → call_ends es f k xs z ≡ true → has_variable z xs ≡ true
+  ends_use es f k [] z e = absurd cc
+  ends_use es f k (x ∷ xs) z e = ⊎_elim (λ h. or_left (is_variable z x) (has_variable z xs) (and_one (is_variable z x) (has_ended es f k) h)) (λ h. or_right (is_variable z x) (has_variable z xs) (ends_use es f (suc k) xs z h)) (or_cases (is_variable z x && has_ended es f k) (call_ends es f (suc k) xs z) e)
+    where
+      and_one : (a c : Bool) → (a && c) ≡ true → a ≡ true
+      and_one true c h = refl
+      and_one false c h = h
+
+  telling_uses : (es : List Ended) (bind : Bind) (z : Variable) → is_telling es bind z ≡ true → bind_uses bind z ≡ true
+  telling_uses es (Past h k) z e = absurd cc
+  telling_uses es (One (On kind x ty (Then b t))) z e = absurd cc
+  telling_uses es (One (On kind x ty (Write h k ss ps))) z e = absurd cc
+  telling_uses es (One (On kind x ty (Point y))) z e = absurd cc
+  telling_uses es (One (On kind x ty (CallTerm f xs))) z e = ends_use es f.0 0 xs z e
+  telling_uses es (One (On kind x ty (Give y))) z e = absurd cc
+  telling_uses es (One (On kind x ty (CaseTerm y branches))) z e = absurd cc
+  telling_uses es (One (On kind x ty (IfTerm y t u))) z e = absurd cc
+  telling_uses es (Both fork l r) z e = absurd cc
+  telling_uses es (Prim x f v w) z e = absurd cc
+  telling_uses es (Reach y by) z e = absurd cc
+
+  -- What is told behind a binding.
+  pub told_behind : (es : List Ended) (bind : Bind) (s : Setting) (z : Variable) → one_tells es (behind s bind).calls z ≡ (is_telling es bind z || one_tells es s.calls z)
+  told_behind es (Past h k) s z = refl
+  told_behind es (One (On kind x ty (Then b t))) s z = refl
+  told_behind es (One (On kind x ty (Write h k ss ps))) s z = refl
+  told_behind es (One (On kind x ty (Point y))) s z = refl
+  told_behind es (One (On kind x ty (CallTerm f xs))) s z = refl
+  told_behind es (One (On kind x ty (Give y))) s z = refl
+  told_behind es (One (On kind x ty (CaseTerm y branches))) s z = refl
+  told_behind es (One (On kind x ty (IfTerm y t u))) s z = refl
+  told_behind es (Both fork (On kind x ty t) (On other y uy u)) s z = refl
+  told_behind es (Prim x f v w) s z = refl
+  told_behind es (Reach y by) s z = refl
+
+  whole_behind : (bind : Bind) (s : Setting) → (behind s bind).whole ≡ false
+  whole_behind (Past h k) s = refl
+  whole_behind (One (On kind x ty t)) s = refl
+  whole_behind (Both fork (On kind x ty t) (On other z uy u)) s = refl
+  whole_behind (Prim x f v w) s = refl
+  whole_behind (Reach y by) s = refl
+
+  -- What is in scope stays so, and is what it was, but for what a binding binds.
+  has_behind : (bind : Bind) (s : Setting) (y : Variable) → has s.scope y ≡ true → has (behind s bind).scope y ≡ true
+  has_behind (Past h k) s y m = m
+  has_behind (One (On kind x ty t)) s y m = or_right (x.0 == y.0) (has s.scope y) m
+  has_behind (Both fork (On kind x ty t) (On other z uy u)) s y m = or_right (z.0 == y.0) (x.0 == y.0 || has s.scope y) (or_right (x.0 == y.0) (has s.scope y) m)
+  has_behind (Prim x f v w) s y m = or_right (x.0 == y.0) (has s.scope y) m
+  has_behind (Reach z by) s y m = go (known s.scope z)
+    where
+      go : (o : Option Known) → has (Rattle.gib_core.specs.Met.reached_too o s.scope) y ≡ true
+      go None = m
+      go (Some k) = or_right (k.variable.0 == y.0) (has s.scope y) m
+
+  reached_more : (x y : Variable) (ks : List Known) → is_reached (known ks y) ≡ true → is_reached (known (reached x ∷ ks) y) ≡ true
+  reached_more x y ks r = go (x.0 == y.0)
+    where
+      go : (c : Bool) → is_reached (if c then Some (reached x) else known ks y) ≡ true
+      go true = refl
+      go false = r
+
+  reached_behind : (bind : Bind) (s : Setting) (ks : List Known) (b : Before) → LinesAreReachable core b (met_bind core.table s bind) → (y : Variable) → is_reached (known ks y) ≡ true → is_reached (known (behind (scoped s ks) bind).scope y) ≡ true
+  reached_behind (Past h k) s ks b r y m = m
+  reached_behind (One (On kind x ty t)) s ks b r y m = reached_more x y ks m
+  reached_behind (Both fork (On kind x ty t) (On other z uy u)) s ks b r y m = reached_more z y (reached x ∷ ks) (reached_more x y ks m)
+  reached_behind (Prim x f v w) s ks b r y m = reached_more x y ks m
+  reached_behind (Reach z by) s ks b r y m = absurd (reaches_none core b s z by r.0)
+
+  known_behind : (bind : Bind) (s : Setting) (ks : List Known) (b : Before) → LinesAreReachable core b (met_bind core.table s bind) → (y : Variable) → NoneBinds y (met_bind core.table s bind) → known (behind (scoped s ks) bind).scope y ≡ known ks y
+  known_behind (Past h k) s ks b r y n = refl
+  known_behind (One (On kind x ty t)) s ks b r y n = known_past (reached x) ks y n.0
+  known_behind (Both fork (On kind x ty t) (On other z uy u)) s ks b r y n =
+      let parts = none_split y (met_side core.table (left_of s (On other z uy u)) (On kind x ty t)) (met_side core.table (right_of s (On kind x ty t)) (On other z uy u)) n.1 in
+      known_past (reached z) (reached x ∷ ks) y parts.1.0 ∙ known_past (reached x) ks y parts.0.0
+  known_behind (Prim x f v w) s ks b r y n = known_past (reached x) ks y n.0
+  known_behind (Reach z by) s ks b r y n = absurd (reaches_none core b s z by r.0)
+
+  awaited_behind : (es : List Ended) (bind : Bind) (s : Setting) (ks : List Known) (b : Before) → LinesAreReachable core b (met_bind core.table s bind) → ((x : Variable) → has s.scope x ≡ true → is_bound b.bound x ≡ true) → Serves (bind_uses bind) s.scope ks
+      → (fs : List Later) → AreAwaited es s ks fs → AreAwaited es (behind s bind) (behind (scoped s ks) bind).scope fs
+  awaited_behind es bind s ks b r bound serves [] a = tt
+  awaited_behind es bind s ks b r bound serves (f ∷ fs) a = (
+    record {
+      constructor = a.0.constructor;
+      pending = known_behind bind s ks b r f.field (bound_once core b (met_bind core.table s bind) f.field r (bound f.field a.0.there)) ∙ a.0.pending;
+      told = λ e. ⊎_elim (λ h. reached_behind bind s ks b r f.before (serves f.before (telling_uses es bind f.before h) a.0.beside)) (λ h. reached_behind bind s ks b r f.before (a.0.told h))
+          (or_cases (is_telling es bind f.before) (one_tells es s.calls f.before) (sym (told_behind es bind s f.before) ∙ e));
+      there = has_behind bind s f.field a.0.there;
+      beside = has_behind bind s f.before a.0.beside;
+      out = ap is_outside (others_behind bind s) ∙ a.0.out;
+      whole = whole_behind bind s;
+    },
+    awaited_behind es bind s ks b r bound serves fs a.1,
+  )
+
+  first_behind : (es : List Ended) (bind : Bind) (s : Setting) (t : Term) (fs : List Later) → AreFirst es s (Then bind t) fs → AreFirst es (behind s bind) t (not_now (bind_uses bind) fs)
+  first_behind es bind s t [] h = tt
+  first_behind es bind s t (f ∷ fs) h = go (bind_uses bind f.field) h.0 (first_behind es bind s t fs h.1)
+    where
+      go : (c : Bool) → (if c then one_tells es s.calls f.before else told_first es (is_telling es bind f.before || one_tells es s.calls f.before) f.before f.field t) ≡ true
+          → AreFirst es (behind s bind) t (not_now (bind_uses bind) fs) → AreFirst es (behind s bind) t (if c then not_now (bind_uses bind) fs else f ∷ not_now (bind_uses bind) fs)
+      go true e q = q
+      go false e q = (ap (λ (told : Bool). told_first es told f.before f.field t) (told_behind es bind s f.before) ∙ e, q)
+
+  -- The rest of a line awaits the fields that a binding does not use.
+  pub awaits_behind : (es : List Ended) (bind : Bind) (t : Term) (s : Setting) (ks new : List Known) (b : Before) (fs : List Later) → LinesAreReachable core b (met_bind core.table s bind) → ((x : Variable) → has s.scope x ≡ true → is_bound b.bound x ≡ true)
+      → Serves (bind_uses bind) s.scope new → AreAwaited es s new (not_now (bind_uses bind) fs) → AreFirst es s (Then bind t) fs → AreApart fs
+      → Awaits es t (behind s bind) (behind (scoped s new) bind).scope (not_now (bind_uses bind) fs)
+  awaits_behind es bind t s ks new b fs r bound serves a first p = record {
+    each = awaited_behind es bind s new b r bound serves (not_now (bind_uses bind) fs) a;
+    first = first_behind es bind s t fs first;
+    apart = left_apart (bind_uses bind) fs p;
+  }
 
   side_new : (b : Before) (s : Setting) (kind : Kind) (x : Variable) (ty : Ty) → least (rules core b s (SideLine kind x ty)) ≡ None → is_bound b.bound x ≡ false
   side_new b s Here x ty e = (none_broken (rules core b s (SideLine Here x ty)) e).1.0
@@ -172,22 +299,41 @@ module _ (core : CoreTree) where
         uncased = λ y m. case_keeps core b s x arms y e (hidden y m) (false_from_ne_true (is_among b.cased y) (λ g. both_ways (is_bound b.bound y) (unbound y m) (h.cased y g)));
       }
 
+-- Where ends reach fields, no par stands around.
+abbrev pub IsOut : AccessMode → Setting → Type 0
+IsOut Skips s = Unit {0}
+IsOut Offsets s = Unit {0}
+IsOut Ends s = is_outside s.others ≡ true
+
+pub out_of : (m : AccessMode) (s s' : Setting) → s'.others ≡ s.others → IsOut m s → IsOut m s'
+out_of Skips s s' e o = tt
+out_of Offsets s s' e o = tt
+out_of Ends s s' e o = ap is_outside e ∙ o
+
+pub out_par : (m : AccessMode) (s : Setting) → IsOut (in_par m) s
+out_par Skips s = tt
+out_par Offsets s = tt
+out_par Ends s = tt
+
 module _ (mode : AccessMode) (core : CoreTree) where
   -- Lines break no rule of the core whose fields are reached.
   abbrev pub AreFine : Before → List Met → Type 0
   AreFine b ms = LinesAreBuilt (reach_core mode core) b ms
 
-  -- The lines of a term with its fields reached break no rule.
-  abbrev pub IsKept : Term → Type 0
-  IsKept t = (s : Setting) (ks : List Known) (b : Before) → Suits (uses t) s ks b (met core.table s t) → LinesAreReachable core b (met core.table s t) → AreFine b (met core.table (scoped s ks) (reach mode core.table t))
+  abbrev pub es : List Ended
+  es = ended_by mode core
+
+  -- The lines of a term with its fields reached break no rule, where its line reaches these by ends.
+  abbrev pub IsKept : AccessMode → List Later → Term → Type 0
+  IsKept m fs t = (s : Setting) (ks : List Known) (b : Before) → IsOut m s → Awaits es t s ks fs → Suits (but (uses t) fs) s ks b (met core.table s t) → LinesAreReachable core b (met core.table s t) → AreFine b (met core.table (scoped s ks) (reach m core.table es fs t))
 
   pub then_built : (b : Before) (xs xs' ys' : List Met) → next_all core.table b xs' ≡ next_all core.table b xs → AreFine b xs' → AreFine (next_all core.table b xs) ys' → AreFine b (xs' ++ ys')
   then_built b xs xs' ys' e p q = built_append (reach_core mode core) b xs' ys' p (subst (λ (c : Before). AreFine c ys') (sym e) q)
 
   -- A side: its line, and its term.
-  pub side_from : (kind : Kind) (x : Variable) (ty : Ty) (t : Term) (s : Setting) (ks : List Known) (b : Before) → Suits (uses t) s ks b (met_side core.table s (On kind x ty t)) → LinesAreReachable core b (met_side core.table s (On kind x ty t))
-      → IsKept t → AreFine b (met_side core.table (scoped s ks) (On kind x ty (reach mode core.table t)))
-  side_from kind x ty t s ks b h r kept =
+  pub side_from : (m : AccessMode) (kind : Kind) (x : Variable) (ty : Ty) (t : Term) (s : Setting) (ks : List Known) (b : Before) → Suits (uses t) s ks b (met_side core.table s (On kind x ty t)) → LinesAreReachable core b (met_side core.table s (On kind x ty t))
+      → IsOut m s → IsKept m [] t → AreFine b (met_side core.table (scoped s ks) (On kind x ty (reach m core.table es [] t)))
+  side_from m kind x ty t s ks b h r out kept =
       let line = SideLine kind x ty in
       let inner = in_side core.table s kind ty in
       let b' = next core.table b line in
@@ -198,15 +344,16 @@ module _ (mode : AccessMode) (core : CoreTree) where
         differs = λ y m. (h.differs y (ap (λ (o : List Variable). is_among o y) (sym (in_side_others core.table s kind ty)) ∙ m)).1;
       } in (
         side_kept mode core b s ks kind x ty r.0,
-        subst (λ (z : Setting). AreFine b' (met core.table z (reach mode core.table t))) (sym (scoped_side core.table s ks kind ty)) (kept inner ks b' suits r.1),
+        subst (λ (z : Setting). AreFine b' (met core.table z (reach m core.table es [] t))) (sym (scoped_side core.table s ks kind ty))
+            (kept inner ks b' (out_of m s inner (in_side_others core.table s kind ty) out) (awaits_none es t inner ks) suits r.1),
       )
 
   -- Two sides: the variable of each is another one's while the other is met.
-  pub both_from : (fork : Bool) (kind : Kind) (x : Variable) (ty : Ty) (t : Term) (other : Kind) (z : Variable) (uy : Ty) (u : Term) (s : Setting) (ks : List Known) (b : Before)
+  pub both_from : (m : AccessMode) (fork : Bool) (kind : Kind) (x : Variable) (ty : Ty) (t : Term) (other : Kind) (z : Variable) (uy : Ty) (u : Term) (s : Setting) (ks : List Known) (b : Before)
       → Suits (bind_uses (Both fork (On kind x ty t) (On other z uy u))) s ks b (met_bind core.table s (Both fork (On kind x ty t) (On other z uy u)))
       → LinesAreReachable core b (met_bind core.table s (Both fork (On kind x ty t) (On other z uy u)))
-      → IsKept t → IsKept u → AreFine b (met_bind core.table (scoped s ks) (reach_bind mode core.table (Both fork (On kind x ty t) (On other z uy u))))
-  both_from fork kind x ty t other z uy u s ks b h r kept kept' =
+      → IsKept (in_par m) [] t → IsKept (in_par m) [] u → AreFine b (met_bind core.table (scoped s ks) (reach_bind m core.table es (Both fork (On kind x ty t) (On other z uy u))))
+  both_from m fork kind x ty t other z uy u s ks b h r kept kept' =
       let left = On kind x ty t in
       let right = On other z uy u in
       let first = left_of s right in
@@ -232,24 +379,24 @@ module _ (mode : AccessMode) (core : CoreTree) where
             (λ l. (none_split y xs ys (h.differs y l).1).1) (or_cases (x.0 == y.0) (is_among s.others y) m);
       } in (
         refl,
-        then_built b xs (met_side core.table (scoped first ks) (reach_side mode core.table left)) (met_side core.table (scoped second ks) (reach_side mode core.table right))
-            (side_next mode core.table left first (scoped first ks) b)
-            (side_from kind x ty t first ks b suits rs.0 kept)
-            (side_from other z uy u second ks after suits' rs.1 kept'),
+        then_built b xs (met_side core.table (scoped first ks) (reach_side (in_par m) core.table es left)) (met_side core.table (scoped second ks) (reach_side (in_par m) core.table es right))
+            (side_next core.table es (in_par m) left first (scoped first ks) b)
+            (side_from (in_par m) kind x ty t first ks b suits rs.0 (out_par m first) kept)
+            (side_from (in_par m) other z uy u second ks after suits' rs.1 (out_par m second) kept'),
       )
 
   -- An arm: its fields are reached, and then its term comes.
-  pub arm_from : (k : ConId) (vs : List Variable) (t : Term) (s : Setting) (ks : List Known) (b : Before) → Suits (uses t) s ks b (met core.table (in_arm core.table s k vs) t) → ArmsSuit vs s b
-      → LinesAreReachable core b (met core.table (in_arm core.table s k vs) t) → AreListed mode (all_offsets core) (offset_of k t (packed_variables core.table k vs)) → IsKept t
-      → AreFine b (met core.table (in_arm core.table (scoped s ks) k vs) (prepend (reaches mode t (packed_variables core.table k vs)) (reach mode core.table t)))
-  arm_from k vs t s ks b h arms r listed kept =
-      reaches_built (reach_core mode core) k t (reach mode core.table t) inner b from mode ps start (record {
+  pub arm_from : (m : AccessMode) → IsWithin mode m → (k : ConId) (vs : List Variable) (t : Term) (s : Setting) (ks : List Known) (b : Before) → IsOut m s → Suits (uses t) s ks b (met core.table (in_arm core.table s k vs) t) → ArmsSuit vs s b
+      → LinesAreReachable core b (met core.table (in_arm core.table s k vs) t) → AreListed m (all_offsets mode core) (offset_of m es k t (packed_variables core.table k vs)) → IsKept m (laters m es t (packed_variables core.table k vs)) t
+      → AreFine b (met core.table (in_arm core.table (scoped s ks) k vs) (prepend (reaches m es t (packed_variables core.table k vs)) (reach m core.table es (laters m es t (packed_variables core.table k vs)) t)))
+  arm_from m w k vs t s ks b out h arms r listed kept =
+      reaches_built (reach_core mode core) k t (reach m core.table es (laters m es t ps) t) inner b from m es ps start (record {
         started = arm_started k vs types ks arms.distinct;
         distinct = fields_distinct types vs arms.distinct;
         others = λ y m. arms.others y (fields_among types vs y m);
         uncased = λ y m. arms.uncased y (fields_among types vs y m);
         served = served;
-      }) (offered mode core k t ps listed) built_there
+      }) (offered mode m w core es k t ps listed) built_there
     where
       types : List Ty
       types = fields_at core.table k.0
@@ -269,8 +416,40 @@ module _ (mode : AccessMode) (core : CoreTree) where
       bound : (y : Variable) → has from y ≡ true → is_bound b.bound y ≡ true
       bound y m = ⊎_elim (arms.bound y) (h.bound y) (or_cases (is_among vs y) (has s.scope y) (sym (has_arm k vs types None s.scope y) ∙ m))
 
-      built_there : (new : List Known) → Serves (uses t) from new → AreFine b (met core.table (inside inner new) (reach mode core.table t))
-      built_there new serves = kept inner new b (record { serves = serves; bound = bound; cased = h.cased; differs = h.differs }) r
+      in_scope : (y : Variable) → is_among ps y ≡ true → has from y ≡ true
+      in_scope y n = has_arm k vs types None s.scope y ∙ or_left (is_among vs y) (has s.scope y) (fields_among types vs y n)
+
+      awaited : (z : Variable) (ys : List Variable) (new : List Known) → ((y : Variable) → is_among (z ∷ ys) y ≡ true → has from y ≡ true) → is_outside inner.others ≡ true → AreBehind k new (ends_from es t z ys) → AreAwaited es inner new (ends_from es t z ys)
+      awaited z [] new sc o a = tt
+      awaited z (y ∷ ys) new sc o a = go (uses t y && told_first es false z y t) a (λ n. awaited y ys new (λ v m'. sc v (or_right (z.0 == v.0) (is_among (y ∷ ys) v) m')) o n)
+        where
+          go : (c : Bool) → AreBehind k new (if c then record { field = y; before = z } ∷ ends_from es t y ys else ends_from es t y ys) → (AreBehind k new (ends_from es t y ys) → AreAwaited es inner new (ends_from es t y ys))
+              → AreAwaited es inner new (if c then record { field = y; before = z } ∷ ends_from es t y ys else ends_from es t y ys)
+          go true n rest = (
+            record {
+              constructor = k;
+              pending = n.0;
+              told = λ e. absurd cc;
+              there = sc y (or_right (z.0 == y.0) (is_among (y ∷ ys) y) (or_left (y.0 == y.0) (is_among ys y) (eq-eqb y.0 y.0 refl)));
+              beside = sc z (or_left (z.0 == z.0) (is_among (y ∷ ys) z) (eq-eqb z.0 z.0 refl));
+              out = o;
+              whole = refl;
+            },
+            rest n.1,
+          )
+          go false n rest = rest n
+
+      distinct_ps : AreDistinct ps
+      distinct_ps = fields_distinct types vs arms.distinct
+
+      awaits : (n : AccessMode) (qs : List Variable) (new : List Known) → AreDistinct qs → ((y : Variable) → is_among qs y ≡ true → has from y ≡ true) → IsOut n inner → AreBehind k new (laters n es t qs) → Awaits es t inner new (laters n es t qs)
+      awaits Skips qs new d sc o a = awaits_none es t inner new
+      awaits Offsets qs new d sc o a = awaits_none es t inner new
+      awaits Ends [] new d sc o a = awaits_none es t inner new
+      awaits Ends (z ∷ ys) new d sc o a = record { each = awaited z ys new sc o a; first = ends_first es t inner refl z ys; apart = later_apart es t z ys d.1 }
+
+      built_there : (new : List Known) → Serves (but (uses t) (laters m es t ps)) from new → AreBehind k new (laters m es t ps) → AreFine b (met core.table (inside inner new) (reach m core.table es (laters m es t ps) t))
+      built_there new serves a = kept inner new b (out_of m s inner refl out) (awaits m ps new distinct_ps in_scope (out_of m s inner refl out) a) (record { serves = serves; bound = bound; cased = h.cased; differs = h.differs }) r
 
       served : (y : Variable) → uses t y ≡ true → has from y ≡ true → ReachedOr start (further ps) y
       served y u m = split (is_among vs y) refl

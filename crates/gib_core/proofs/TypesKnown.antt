@@ -12,7 +12,7 @@ use Rattle.gib_core.specs.declared.atom.Atom.{Atom}
 use Rattle.gib_core.specs.declared.atom.Access.TheVariants as by
 use Rattle.gib_core.specs.declared.atom.Kind.TheVariants as kind
 use Rattle.gib_core.specs.declared.atom.Variable.{Variable}
-use Rattle.gib_core.specs.Fits.{Sort, Outside, Absent, Scalar, Held, Placed, Loose, AtHead, Field, Scope, Dest, Nowhere, Empty, Open, Fits, BindFits, SideFits, BranchesFit, CallFits, FunctionFits, MainFits, AllFit, EachFits, put, tree_type, packed_due, dest_of, dest_type, more, by_call, cased, loosen, loosen_one, has_branch, arm_scope, field_sort, param_sort, body_scope}
+use Rattle.gib_core.specs.Fits.{Sort, Outside, Absent, Scalar, Held, Placed, Loose, AtHead, Field, Scope, Dest, Nowhere, Empty, Open, Fits, BindFits, SideFits, BranchesFit, Line, Needs, Inner, AtEnd, none_of, new_line, tell_line, arm_line, side_tells, CallFits, OwnFits, MainFits, AllFit, EachFits, put, tree_type, packed_due, dest_of, dest_type, more, by_call, cased, loosen, loosen_one, has_branch, arm_scope, field_sort, param_sort, body_scope}
 use Rattle.gib_core.specs.Meaning.{function_at}
 use Rattle.gib_core.specs.Numbering.{binders, AreNumbered}
 use Rattle.gib_core.specs.Met.{Body}
@@ -20,6 +20,7 @@ use Rattle.gib_core.specs.Parts.{AreDeclared}
 use Rattle.gib_core.specs.Tree as t
 use Rattle.gib_core.specs.Tree.{Term, Bind, Side, Branches, FunctionTerm, CoreTree}
 use Rattle.gib_core.proofs.Bodies.{built_fits, each_fits}
+use Rattle.gib_core.specs.Ending.{Within, within_par, within_main, within_function}
 use Rattle.gib_core.proofs.Fine.{anywhere, side_alone, bind_alone}
 use Rattle.gib_core.specs.Literals.{AllLiteralsFit}
 use Rattle.gib_core.specs.Rules.{AreBuilt}
@@ -139,16 +140,18 @@ record Told (n : ℕ) (u : Term) (ty : Ty) : Type 0 where
   pub due : IsTyBelow n ty
 
 -- Where a line goes on behind a binding.
-record Goes (n : ℕ) (d : Dest) (P : Scope → Dest → Type 0) : Type 0 where
+record Goes (n : ℕ) (d : Dest) (P : Scope → Dest → Line → Type 0) : Type 0 where
   pub scope : Scope
   pub dest : Dest
   pub scope_below : IsScopeBelow n scope
   pub dest_below : IsDestBelow n dest
   pub same : dest_type dest ≡ dest_type d
-  pub rest : P scope dest
+  pub line : Line
+  pub rest : P scope dest line
 
-side_on : (core : CoreTree) (n : ℕ) (s : Side) (sc : Scope) (d : Dest) (P : Scope → Dest → Type 0) → SideDeclared n s → SideFits core s sc d P → IsScopeBelow n sc → IsDestBelow n d → Goes n d P
-side_on core n (t.On kind.Here x ty u) sc d P h f g k = record {
+side_on : (core : CoreTree) (n : ℕ) (w : Within) (s : Side) (sc : Scope) (d : Dest) (ln : Line) (P : Scope → Dest → Line → Type 0) → SideDeclared n s → SideFits core w s sc d ln P → IsScopeBelow n sc → IsDestBelow n d → Goes n d P
+side_on core n w (t.On kind.Here x ty u) sc d ln P h f g k = record {
+  line = tell_line (side_tells w core u) ln;
   scope = put (loosen (cased u) sc) x.0 (Placed f.0);
   dest = more d x.0;
   scope_below = behind_below n (cased u) sc x.0 (Placed f.0) g (subst (IsTyBelow n) f.1 h.0);
@@ -156,7 +159,8 @@ side_on core n (t.On kind.Here x ty u) sc d P h f g k = record {
   same = dest_more d x.0;
   rest = f.5;
 }
-side_on core n (t.On kind.Region x ty u) sc d P h f g k = record {
+side_on core n w (t.On kind.Region x ty u) sc d ln P h f g k = record {
+  line = tell_line (side_tells w core u) ln;
   scope = put (loosen (cased u) sc) x.0 (Placed f.0);
   dest = d;
   scope_below = behind_below n (cased u) sc x.0 (Placed f.0) g (subst (IsTyBelow n) f.1 h.0);
@@ -164,7 +168,8 @@ side_on core n (t.On kind.Region x ty u) sc d P h f g k = record {
   same = refl;
   rest = f.4;
 }
-side_on core n (t.On kind.Scalar x ty u) sc d P h f g k = record {
+side_on core n w (t.On kind.Scalar x ty u) sc d ln P h f g k = record {
+  line = tell_line (side_tells w core u) ln;
   scope = put (loosen (cased u) sc) x.0 (Scalar ty);
   dest = d;
   scope_below = behind_below n (cased u) sc x.0 (Scalar ty) g tt;
@@ -173,15 +178,17 @@ side_on core n (t.On kind.Scalar x ty u) sc d P h f g k = record {
   rest = f.3;
 }
 
-both_on : (core : CoreTree) (n : ℕ) (l r : Side) (sc : Scope) (d : Dest) (P : Scope → Dest → Type 0) → SideDeclared n l → SideDeclared n r → SideFits core l sc d (λ sc' d'. SideFits core r sc' d' P) → IsScopeBelow n sc → IsDestBelow n d → Goes n d P
-both_on core n l r sc d P hl hr f g k =
-    let a = side_on core n l sc d (λ sc' d'. SideFits core r sc' d' P) hl f g k in
-    let b = side_on core n r a.scope a.dest P hr a.rest a.scope_below a.dest_below in
-    record { scope = b.scope; dest = b.dest; scope_below = b.scope_below; dest_below = b.dest_below; same = b.same ∙ a.same; rest = b.rest }
+both_on : (core : CoreTree) (n : ℕ) (w : Within) (v : Line → Within) (l r : Side) (sc : Scope) (d : Dest) (ln : Line) (P : Scope → Dest → Line → Type 0) → SideDeclared n l → SideDeclared n r
+    → SideFits core w l sc d ln (λ sc' d' ln'. SideFits core (v ln') r sc' d' ln' P) → IsScopeBelow n sc → IsDestBelow n d → Goes n d P
+both_on core n w v l r sc d ln P hl hr f g k =
+    let a = side_on core n w l sc d ln (λ sc' d' ln'. SideFits core (v ln') r sc' d' ln' P) hl f g k in
+    let b = side_on core n (v a.line) r a.scope a.dest a.line P hr a.rest a.scope_below a.dest_below in
+    record { scope = b.scope; dest = b.dest; scope_below = b.scope_below; dest_below = b.dest_below; same = b.same ∙ a.same; line = b.line; rest = b.rest }
 
-bind_on : (core : CoreTree) (is : IsTable core.table) (b : Bind) (sc : Scope) (d : Dest) (P : Scope → Dest → Type 0) → BindDeclared (length core.table.types) b → BindFits core b sc d P
+bind_on : (core : CoreTree) (is : IsTable core.table) (b : Bind) (sc : Scope) (d : Dest) (ln : Line) (P : Scope → Dest → Line → Type 0) → BindDeclared (length core.table.types) b → BindFits core b sc d ln P
     → IsScopeBelow (length core.table.types) sc → IsDestBelow (length core.table.types) d → Goes (length core.table.types) d P
-bind_on core is (t.Past x c) sc d P h f g k = record {
+bind_on core is (t.Past x c) sc d ln P h f g k = record {
+  line = ln;
   scope = put sc x.0 Held;
   dest = Open f.0 x.0 c.0 [] (packed_due (fields_at core.table c.0));
   scope_below = put_below (length core.table.types) sc x.0 Held g tt;
@@ -189,10 +196,11 @@ bind_on core is (t.Past x c) sc d P h f g k = record {
   same = sym (ap dest_type f.1);
   rest = f.4;
 }
-bind_on core is (t.One s) sc d P h f g k = side_on core (length core.table.types) s sc d P h f g k
-bind_on core is (t.Both false l r) sc d P h f g k = both_on core (length core.table.types) l r sc d P h.0 h.1 f.1 g k
-bind_on core is (t.Both true l r) sc d P h f g k = both_on core (length core.table.types) l r sc d P h.0 h.1 f.2 g k
-bind_on core is (t.Prim x o y z) sc d P h f g k = record {
+bind_on core is (t.One s) sc d ln P h f g k = side_on core (length core.table.types) ln.within s sc d ln P h f g k
+bind_on core is (t.Both false l r) sc d ln P h f g k = both_on core (length core.table.types) (within_par ln.within) (λ ln'. within_par ln.within) l r sc d ln P h.0 h.1 f.1 g k
+bind_on core is (t.Both true l r) sc d ln P h f g k = both_on core (length core.table.types) (within_par ln.within) (λ ln'. within_par ln'.within) l r sc d ln P h.0 h.1 f.2 g k
+bind_on core is (t.Prim x o y z) sc d ln P h f g k = record {
+  line = ln;
   scope = put sc x.0 (Scalar (operator_type o));
   dest = d;
   scope_below = put_below (length core.table.types) sc x.0 (Scalar (operator_type o)) g tt;
@@ -200,7 +208,8 @@ bind_on core is (t.Prim x o y z) sc d P h f g k = record {
   same = refl;
   rest = f.3;
 }
-bind_on core is (t.Reach y by.Offset) sc d P h f g k = record {
+bind_on core is (t.Reach y by.Offset) sc d ln P h f g k = record {
+  line = ln;
   scope = put sc y.0 (Placed f.0);
   dest = d;
   scope_below = put_below (length core.table.types) sc y.0 (Placed f.0) g (subst (IsSortBelow (length core.table.types)) f.5 (g y.0));
@@ -208,7 +217,17 @@ bind_on core is (t.Reach y by.Offset) sc d P h f g k = record {
   same = refl;
   rest = f.7;
 }
-bind_on core is (t.Reach y (by.Skip z)) sc d P h f g k = record {
+bind_on core is (t.Reach y (by.Skip z)) sc d ln P h f g k = record {
+  line = ln;
+  scope = put sc y.0 (Placed f.0);
+  dest = d;
+  scope_below = put_below (length core.table.types) sc y.0 (Placed f.0) g (subst (IsSortBelow (length core.table.types)) f.5 (g y.0));
+  dest_below = k;
+  same = refl;
+  rest = f.7;
+}
+bind_on core is (t.Reach y (by.End z)) sc d ln P h f g k = record {
+  line = ln;
   scope = put sc y.0 (Placed f.0);
   dest = d;
   scope_below = put_below (length core.table.types) sc y.0 (Placed f.0) g (subst (IsSortBelow (length core.table.types)) f.5 (g y.0));
@@ -234,62 +253,65 @@ module _ (core : CoreTree) (is : IsTable core.table) (sg : AllByRecursion (λ (f
   many = length core.table.types
 
   mutual
-    term_told : (u : Term) (sc : Scope) (d : Dest) → Fits core u sc d → IsScopeBelow many sc → IsDestBelow many d → Told many u (dest_type d)
-    term_told (t.Then b u) sc d f g k =
-        let h = bind_told b sc d (bind_alone core b sc d (λ sc' d'. Fits core u sc' d') f) g k in
-        let r = bind_on core is b sc d (λ sc' d'. Fits core u sc' d') h f g k in
-        let q = term_told u r.scope r.dest r.rest r.scope_below r.dest_below in
+    term_told : (ns : Needs) (u : Term) (sc : Scope) (d : Dest) (ln : Line) → Fits core ns u sc d ln → IsScopeBelow many sc → IsDestBelow many d → Told many u (dest_type d)
+    term_told ns (t.Then b u) sc d ln f g k =
+        let h = bind_told b sc d ln (bind_alone core b sc d ln (λ sc' d' ln'. Fits core ns u sc' d' ln') f) g k in
+        let r = bind_on core is b sc d ln (λ sc' d' ln'. Fits core ns u sc' d' ln') h f g k in
+        let q = term_told ns u r.scope r.dest r.line r.rest r.scope_below r.dest_below in
         record { types = (h, q.types); due = subst (IsTyBelow many) r.same q.due }
-    term_told (t.Write x c ss ps) sc d f g k = record {
+    term_told ns (t.Write x c ss ps) sc d ln f g k = record {
       types = tt;
       due = same_due many d (Open f.0 x.0 c.0 f.1 []) f.2 (subst (IsDestBelow many) f.2 k);
     }
-    term_told (t.Point x) sc d f g k = record { types = tt; due = same_due many d (Empty f.0) f.1 (tree_below many (sc f.2.variable.0) f.0 (g f.2.variable.0) f.2.sort) }
-    term_told (t.CallTerm x xs) sc d f g k = record {
+    term_told ns (t.Point x) sc d ln f g k = record { types = tt; due = same_due many d (Empty f.0) f.1 (tree_below many (sc f.2.variable.0) f.0 (g f.2.variable.0) f.2.sort) }
+    term_told ns (t.CallTerm x xs) sc d ln f g k = record {
       types = tt;
       due = same_due many d (Empty f.0) f.1 (subst (IsTyBelow many) f.2.result (named_declared many core.functions sg x.0 f.2.function f.2.named));
     }
-    term_told (t.Give x) sc d f g k = record { types = tt; due = same_due many d (Nowhere f.0) f.1 (scalar_below many f.0 f.2) }
-    term_told (t.CaseTerm x bs) sc d f g k =
+    term_told ns (t.Give x) sc d ln f g k = record { types = tt; due = same_due many d (Nowhere f.0) f.1 (scalar_below many f.0 f.2) }
+    term_told ns (t.CaseTerm x bs) sc d ln f g k =
         let lt = tree_below many (sc f.1.variable.0) f.0 (g f.1.variable.0) f.1.sort in
-        let r = branches_told bs f.1.variable.0 (put sc f.1.variable.0 (AtHead f.0)) d f.3 (put_below many sc f.1.variable.0 (AtHead f.0) g lt) k in
+        let r = branches_told ns bs f.1.variable.0 (put sc f.1.variable.0 (AtHead f.0)) d ln f.3 (put_below many sc f.1.variable.0 (AtHead f.0) g lt) k in
         let one = is.inhabited f.0 lt in
         record { types = r.0; due = r.1 one.0 (f.2 one.0 one.1) }
-    term_told (t.IfTerm x u v) sc d f g k =
-        let a = term_told u sc d f.1 g k in
-        let b = term_told v sc d f.2 g k in
+    term_told ns (t.IfTerm x u v) sc d ln f g k =
+        let a = term_told ns u sc d ln f.1 g k in
+        let b = term_told ns v sc d ln f.2 g k in
         record { types = (a.types, b.types); due = a.due }
 
-    bind_told : (b : Bind) (sc : Scope) (d : Dest) → BindFits core b sc d anywhere → IsScopeBelow many sc → IsDestBelow many d → BindDeclared many b
-    bind_told (t.Past x c) sc d f g k = tt
-    bind_told (t.One s) sc d f g k = side_told s sc d f g k
-    bind_told (t.Both false l r) sc d f g k =
-        let hl = side_told l sc d (side_alone core l sc d (λ sc' d'. SideFits core r sc' d' anywhere) f.1) g k in
-        let a = side_on core many l sc d (λ sc' d'. SideFits core r sc' d' anywhere) hl f.1 g k in
-        (hl, side_told r a.scope a.dest a.rest a.scope_below a.dest_below)
-    bind_told (t.Both true l r) sc d f g k =
-        let hl = side_told l sc d (side_alone core l sc d (λ sc' d'. SideFits core r sc' d' anywhere) f.2) g k in
-        let a = side_on core many l sc d (λ sc' d'. SideFits core r sc' d' anywhere) hl f.2 g k in
-        (hl, side_told r a.scope a.dest a.rest a.scope_below a.dest_below)
-    bind_told (t.Prim x o y z) sc d f g k = tt
-    bind_told (t.Reach y access) sc d f g k = tt
+    bind_told : (b : Bind) (sc : Scope) (d : Dest) (ln : Line) → BindFits core b sc d ln anywhere → IsScopeBelow many sc → IsDestBelow many d → BindDeclared many b
+    bind_told (t.Past x c) sc d ln f g k = tt
+    bind_told (t.One s) sc d ln f g k = side_told ln.within s sc d ln f g k
+    bind_told (t.Both false l r) sc d ln f g k =
+        let w = within_par ln.within in
+        let hl = side_told w l sc d ln (side_alone core w l sc d ln (λ sc' d' ln'. SideFits core w r sc' d' ln' anywhere) f.1) g k in
+        let a = side_on core many w l sc d ln (λ sc' d' ln'. SideFits core w r sc' d' ln' anywhere) hl f.1 g k in
+        (hl, side_told w r a.scope a.dest a.line a.rest a.scope_below a.dest_below)
+    bind_told (t.Both true l r) sc d ln f g k =
+        let w = within_par ln.within in
+        let hl = side_told w l sc d ln (side_alone core w l sc d ln (λ sc' d' ln'. SideFits core (within_par ln'.within) r sc' d' ln' anywhere) f.2) g k in
+        let a = side_on core many w l sc d ln (λ sc' d' ln'. SideFits core (within_par ln'.within) r sc' d' ln' anywhere) hl f.2 g k in
+        (hl, side_told (within_par a.line.within) r a.scope a.dest a.line a.rest a.scope_below a.dest_below)
+    bind_told (t.Prim x o y z) sc d ln f g k = tt
+    bind_told (t.Reach y access) sc d ln f g k = tt
 
-    side_told : (s : Side) (sc : Scope) (d : Dest) → SideFits core s sc d anywhere → IsScopeBelow many sc → IsDestBelow many d → SideDeclared many s
-    side_told (t.On kind.Here x ty u) sc d f g k =
-        let q = term_told u (put sc x.0 Held) (Empty f.0) f.4 (put_below many sc x.0 Held g tt) tt in
+    side_told : (w : Within) (s : Side) (sc : Scope) (d : Dest) (ln : Line) → SideFits core w s sc d ln anywhere → IsScopeBelow many sc → IsDestBelow many d → SideDeclared many s
+    side_told w (t.On kind.Here x ty u) sc d ln f g k =
+        let q = term_told (Inner (side_tells w core u)) u (put sc x.0 Held) (Empty f.0) (new_line w) f.4 (put_below many sc x.0 Held g tt) tt in
         (subst (IsTyBelow many) (sym f.1) q.due, q.types)
-    side_told (t.On kind.Region x ty u) sc d f g k =
-        let q = term_told u (put sc x.0 Held) (Empty f.0) f.3 (put_below many sc x.0 Held g tt) tt in
+    side_told w (t.On kind.Region x ty u) sc d ln f g k =
+        let q = term_told (Inner (side_tells w core u)) u (put sc x.0 Held) (Empty f.0) (new_line w) f.3 (put_below many sc x.0 Held g tt) tt in
         (subst (IsTyBelow many) (sym f.1) q.due, q.types)
-    side_told (t.On kind.Scalar x ty u) sc d f g k =
-        (scalar_below many ty f.0, told_call many u (Fits core u sc (Nowhere ty)) (λ q xs. CallFits core sc q xs ty) (λ h. (term_told u sc (Nowhere ty) h g tt).types) f.2)
+    side_told w (t.On kind.Scalar x ty u) sc d ln f g k =
+        let ns = Inner (side_tells w core u) in
+        (scalar_below many ty f.0, told_call many u (Fits core ns u sc (Nowhere ty) (new_line w)) (λ q xs. CallFits core sc q xs ty) (λ h. (term_told ns u sc (Nowhere ty) (new_line w) h g tt).types) f.2)
 
-    branches_told : (bs : Branches) (x : ℕ) (sc : Scope) (d : Dest) → BranchesFit core bs x sc d → IsScopeBelow many sc → IsDestBelow many d
+    branches_told : (ns : Needs) (bs : Branches) (x : ℕ) (sc : Scope) (d : Dest) (ln : Line) → BranchesFit core ns bs x sc d ln → IsScopeBelow many sc → IsDestBelow many d
         → BranchesDeclared many bs × ((k : ℕ) → has_branch bs k ≡ true → IsTyBelow many (dest_type d))
-    branches_told t.NoBranch x sc d f g k = (tt, λ c e. absurd cc)
-    branches_told (t.BranchThen c ys u bs) x sc d f g k =
-        let a = term_told u (arm_scope x c.0 1 None (fields_at core.table c.0) ys sc) d f.1 (arm_below many x c.0 1 None (fields_at core.table c.0) ys sc (fields_below core.table is c.0) g) k in
-        let b = branches_told bs x sc d f.2 g k in
+    branches_told ns t.NoBranch x sc d ln f g k = (tt, λ c e. absurd cc)
+    branches_told ns (t.BranchThen c ys u bs) x sc d ln f g k =
+        let a = term_told ns u (arm_scope x c.0 1 None (fields_at core.table c.0) ys sc) d (arm_line core x c ys u ln) f.1 (arm_below many x c.0 1 None (fields_at core.table c.0) ys sc (fields_below core.table is c.0) g) k in
+        let b = branches_told ns bs x sc d ln f.2 g k in
         ((a.types, b.0), λ c' e. a.due)
 
 result_below : (n : ℕ) (ty : Ty) → IsDestBelow n (dest_of ty)
@@ -310,17 +332,17 @@ parameters_below n (suc m) (ty ∷ ts) h zero = param_below n ty h.0
 parameters_below n (suc m) (ty ∷ ts) h (suc y) = parameters_below n m ts h.1 y
 
 bodies_told : (core : CoreTree) (fs : List FunctionTerm) → IsTable core.table → SignaturesDeclared core → AllByRecursion (λ (f : FunctionTerm). AreDeclared (length core.table.types) f.parameters f.result) fs
-    → AllByRecursion (λ (g : FunctionTerm). FunctionFits core g (length g.parameters + length (binders g.body))) fs → MainFits core (1 + length (binders core.main.body))
+    → AllByRecursion (λ (g : FunctionTerm). OwnFits core g (length g.parameters + length (binders g.body))) fs → MainFits core (1 + length (binders core.main.body))
     → AllByRecursion (λ (b : Body). TypesDeclared (length core.table.types) b.term)
     (map (λ (f : FunctionTerm). record { parameters = f.parameters; result = f.result; term = f.body }) fs ++ record { parameters = core.main.parameter ∷ []; result = core.main.result; term = core.main.body } ∷ [])
 bodies_told core [] is sg h f m =
     let n = length core.table.types in
     let slots = 1 + length (binders core.main.body) in
-    ((term_told core is sg.functions core.main.body (body_scope slots (core.main.parameter ∷ [])) (dest_of core.main.result) m.fits (parameters_below n slots (core.main.parameter ∷ []) sg.main.0) (result_below n core.main.result)).types, tt)
+    ((term_told core is sg.functions (AtEnd none_of) core.main.body (body_scope slots (core.main.parameter ∷ [])) (dest_of core.main.result) (new_line (within_main core)) m.fits (parameters_below n slots (core.main.parameter ∷ []) sg.main.0) (result_below n core.main.result)).types, tt)
 bodies_told core (g ∷ fs) is sg h f m =
     let n = length core.table.types in
     let slots = length g.parameters + length (binders g.body) in
-    ((term_told core is sg.functions g.body (body_scope slots g.parameters) (dest_of g.result) f.0.fits (parameters_below n slots g.parameters h.0.0) (result_below n g.result)).types, bodies_told core fs is sg h.1 f.1 m)
+    ((term_told core is sg.functions (AtEnd none_of) g.body (body_scope slots g.parameters) (dest_of g.result) (new_line (within_function core g)) f.0.fits (parameters_below n slots g.parameters h.0.0) (result_below n g.result)).types, bodies_told core fs is sg h.1 f.1 m)
 
 pub types_known : (core : CoreTree) → IsTable core.table → SignaturesDeclared core → AreNumbered core → AllLiteralsFit core → AreBuilt core → AllTypesDeclared core
 types_known core is sg num lits built =

@@ -1,5 +1,5 @@
 -- The text of a core.
-use Rattle.std.specs.Prelude.{ℕ, zero, suc, ◌+◌, Bool, true, false, List, [], ◌∷◌, ◌++◌, codes, slice_get, unwrap_or}
+use Rattle.std.specs.Prelude.{ℕ, zero, suc, ◌+◌, Bool, true, false, if◌then◌else◌, List, [], ◌∷◌, ◌++◌, codes, slice_get, unwrap_or}
 use Rattle.std.specs.List.{flat_map}
 use Rattle.std.specs.Fmt.{decimal, signed_decimal}
 use Rattle.gib_types.specs.declared.table.Ty.{Ty}
@@ -14,11 +14,12 @@ use Rattle.gib_core.specs.declared.atom.Atom.TheVariants as a
 use Rattle.gib_core.specs.declared.atom.Kind.{Kind}
 use Rattle.gib_core.specs.declared.atom.Kind.TheVariants.{Here, Region, Scalar}
 use Rattle.gib_core.specs.declared.atom.Access.{Access}
-use Rattle.gib_core.specs.declared.atom.Access.TheVariants.{Offset, Skip}
+use Rattle.gib_core.specs.declared.atom.Access.TheVariants.{Offset, Skip, End}
 use Rattle.gib_core.specs.declared.piece.Keyword.{Keyword}
 use Rattle.gib_core.specs.declared.piece.Keyword.TheVariants as k
 use Rattle.gib_core.specs.declared.piece.Piece.{Piece}
 use Rattle.gib_core.specs.declared.piece.Piece.TheVariants as p
+use Rattle.gib_core.specs.Ending.{Ended, has_ended, ended}
 use Rattle.gib_core.specs.Tree.{Term, Then, Write, Point, CallTerm, Give, CaseTerm, IfTerm, Bind, Past, One, Both, Prim, Reach, Side, On, Branches, NoBranch, BranchThen, FunctionTerm, MainTerm, CoreTree}
 
 -- The pieces of variables, and then the rest.
@@ -41,6 +42,19 @@ kind_word Scalar = k.Scalar
 abbrev pub spell_access : Access → Piece
 spell_access Offset = p.ByOffset
 spell_access (Skip z) = p.BySkip z
+spell_access (End z) = p.ByEnd z
+
+-- The variables of a call of f at ended parameters, from the place k on.
+abbrev pub ended_from : List Ended → (f k : ℕ) → List Atom → List Variable
+ended_from es f k [] = []
+ended_from es f k (a.Variable x ∷ xs) = if has_ended es f k then x ∷ ended_from es f (suc k) xs else ended_from es f (suc k) xs
+ended_from es f k (a.Whole z ∷ xs) = ended_from es f (suc k) xs
+ended_from es f k (a.Truth b ∷ xs) = ended_from es f (suc k) xs
+
+-- The variables whose ends a call tells, where there are some.
+abbrev pub spell_ends : List Variable → List Piece → List Piece
+spell_ends [] rest = rest
+spell_ends (x ∷ xs) rest = p.Ends ∷ spell_variables (x ∷ xs) rest
 
 -- The mark of two sides that may run at the same time.
 abbrev pub spell_fork : Bool → List Piece → List Piece
@@ -48,34 +62,34 @@ spell_fork false rest = rest
 spell_fork true rest = p.Fork ∷ rest
 
 abbrev mutual
-  -- The pieces of a term on a level, and then the rest.
-  pub spell_term : ℕ → Term → List Piece → List Piece
-  spell_term d (Then b t) rest = spell_bind d b (spell_term d t rest)
-  spell_term d (Write h c ss ps) rest = p.Line d k.Write ∷ p.Variable h ∷ spell_atoms ss (spell_atoms ps (p.End ∷ rest))
-  spell_term d (Point x) rest = p.Line d k.Point ∷ p.Atom x ∷ p.End ∷ rest
-  spell_term d (CallTerm f xs) rest = p.Line d k.Call ∷ p.Function f ∷ spell_atoms xs (p.End ∷ rest)
-  spell_term d (Give x) rest = p.Line d k.Give ∷ p.Atom x ∷ p.End ∷ rest
-  spell_term d (CaseTerm x branches) rest = p.Line d k.Case ∷ p.Atom x ∷ p.End ∷ spell_branches (d + 1) branches rest
-  spell_term d (IfTerm x t u) rest =
-      p.Line d k.If ∷ p.Atom x ∷ p.End ∷ spell_term (d + 1) t (p.Line d k.Else ∷ p.End ∷ spell_term (d + 1) u rest)
+  -- The pieces of a term on a level, and then the rest, where these parameters are ended.
+  pub spell_term : List Ended → ℕ → Term → List Piece → List Piece
+  spell_term es d (Then b t) rest = spell_bind es d b (spell_term es d t rest)
+  spell_term es d (Write h c ss ps) rest = p.Line d k.Write ∷ p.Variable h ∷ spell_atoms ss (spell_atoms ps (p.End ∷ rest))
+  spell_term es d (Point x) rest = p.Line d k.Point ∷ p.Atom x ∷ p.End ∷ rest
+  spell_term es d (CallTerm f xs) rest = p.Line d k.Call ∷ p.Function f ∷ spell_atoms xs (spell_ends (ended_from es f.0 0 xs) (p.End ∷ rest))
+  spell_term es d (Give x) rest = p.Line d k.Give ∷ p.Atom x ∷ p.End ∷ rest
+  spell_term es d (CaseTerm x branches) rest = p.Line d k.Case ∷ p.Atom x ∷ p.End ∷ spell_branches es (d + 1) branches rest
+  spell_term es d (IfTerm x t u) rest =
+      p.Line d k.If ∷ p.Atom x ∷ p.End ∷ spell_term es (d + 1) t (p.Line d k.Else ∷ p.End ∷ spell_term es (d + 1) u rest)
 
-  -- A binding, with the sides of a `par` one level deeper.
-  pub spell_bind : ℕ → Bind → List Piece → List Piece
-  spell_bind d (Past h c) rest = p.Line d k.Past ∷ p.Variable h ∷ p.Constructor c ∷ p.End ∷ rest
-  spell_bind d (One s) rest = spell_side d s rest
-  spell_bind d (Both fork l r) rest = p.Line d k.Par ∷ spell_fork fork (p.End ∷ spell_side (d + 1) l (spell_side (d + 1) r rest))
-  spell_bind d (Prim x f y z) rest = p.Line d k.Prim ∷ p.Variable x ∷ p.Equals ∷ p.Atom y ∷ p.Operator f ∷ p.Atom z ∷ p.End ∷ rest
-  spell_bind d (Reach y by) rest = p.Line d k.Reach ∷ p.Variable y ∷ spell_access by ∷ p.End ∷ rest
+  -- A binding, with the sides of a `par` one level deeper: calls in them tell no ends.
+  pub spell_bind : List Ended → ℕ → Bind → List Piece → List Piece
+  spell_bind es d (Past h c) rest = p.Line d k.Past ∷ p.Variable h ∷ p.Constructor c ∷ p.End ∷ rest
+  spell_bind es d (One s) rest = spell_side es d s rest
+  spell_bind es d (Both fork l r) rest = p.Line d k.Par ∷ spell_fork fork (p.End ∷ spell_side [] (d + 1) l (spell_side [] (d + 1) r rest))
+  spell_bind es d (Prim x f y z) rest = p.Line d k.Prim ∷ p.Variable x ∷ p.Equals ∷ p.Atom y ∷ p.Operator f ∷ p.Atom z ∷ p.End ∷ rest
+  spell_bind es d (Reach y by) rest = p.Line d k.Reach ∷ p.Variable y ∷ spell_access by ∷ p.End ∷ rest
 
   -- A variable that is bound, and its term on the level below.
-  pub spell_side : ℕ → Side → List Piece → List Piece
-  spell_side d (On kind x ty t) rest = p.Line d (kind_word kind) ∷ p.Variable x ∷ p.End ∷ spell_term (d + 1) t rest
+  pub spell_side : List Ended → ℕ → Side → List Piece → List Piece
+  spell_side es d (On kind x ty t) rest = p.Line d (kind_word kind) ∷ p.Variable x ∷ p.End ∷ spell_term es (d + 1) t rest
 
   -- Each arm's line, and its term on the level below it.
-  pub spell_branches : ℕ → Branches → List Piece → List Piece
-  spell_branches d NoBranch rest = rest
-  spell_branches d (BranchThen c xs t branches) rest =
-      p.Arm d c ∷ spell_variables xs (p.End ∷ spell_term (d + 1) t (spell_branches d branches rest))
+  pub spell_branches : List Ended → ℕ → Branches → List Piece → List Piece
+  spell_branches es d NoBranch rest = rest
+  spell_branches es d (BranchThen c xs t branches) rest =
+      p.Arm d c ∷ spell_variables xs (p.End ∷ spell_term es (d + 1) t (spell_branches es d branches rest))
 
 -- Parameters, which are the variables from a number on.
 abbrev pub spell_parameters : ℕ → List Ty → List Piece → List Piece
@@ -83,23 +97,23 @@ spell_parameters n [] rest = rest
 spell_parameters n (t ∷ ts) rest = p.Parameter (record { 0 = n }) t ∷ spell_parameters (n + 1) ts rest
 
 -- A function: its line, and its body.
-abbrev pub spell_function : FunctionTerm → List Piece → List Piece
-spell_function f rest =
-    p.Line 0 k.Fun ∷ p.Function f.name ∷ spell_parameters 0 f.parameters (p.Result f.result ∷ p.End ∷ spell_term 1 f.body rest)
+abbrev pub spell_function : List Ended → FunctionTerm → List Piece → List Piece
+spell_function es f rest =
+    p.Line 0 k.Fun ∷ p.Function f.name ∷ spell_parameters 0 f.parameters (p.Result f.result ∷ p.End ∷ spell_term es 1 f.body rest)
 
 -- The functions, in the order of the text.
-abbrev pub spell_functions : List FunctionTerm → List Piece → List Piece
-spell_functions [] rest = rest
-spell_functions (f ∷ fs) rest = spell_function f (spell_functions fs rest)
+abbrev pub spell_functions : List Ended → List FunctionTerm → List Piece → List Piece
+spell_functions es [] rest = rest
+spell_functions es (f ∷ fs) rest = spell_function es f (spell_functions es fs rest)
 
 -- Main: its line, and its body.
-abbrev pub spell_main : MainTerm → List Piece → List Piece
-spell_main m rest =
-    p.Line 0 k.Main ∷ p.Parameter (record { 0 = 0 }) m.parameter ∷ p.Result m.result ∷ p.End ∷ spell_term 1 m.body rest
+abbrev pub spell_main : List Ended → MainTerm → List Piece → List Piece
+spell_main es m rest =
+    p.Line 0 k.Main ∷ p.Parameter (record { 0 = 0 }) m.parameter ∷ p.Result m.result ∷ p.End ∷ spell_term es 1 m.body rest
 
 -- The pieces of a core.
 abbrev pub spell_core : CoreTree → List Piece
-spell_core core = spell_functions core.functions (spell_main core.main [])
+spell_core core = spell_functions (ended core) core.functions (spell_main (ended core) core.main [])
 
 -- The word that a line begins with.
 abbrev pub keyword_text : Keyword → List ℕ
@@ -168,6 +182,8 @@ piece_text names table p.Equals = codes " ="
 piece_text names table p.Fork = codes " fork"
 piece_text names table p.ByOffset = codes " by offset"
 piece_text names table (p.BySkip z) = codes " by skip " ++ variable_text z
+piece_text names table (p.ByEnd z) = codes " by end " ++ variable_text z
+piece_text names table p.Ends = codes " ends"
 piece_text names table p.End = 10 ∷ []
 
 -- The text of a core, with the names by their numbers.

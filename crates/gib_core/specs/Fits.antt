@@ -1,5 +1,5 @@
 -- The build rules as a type, by recursion on terms: what is known of each variable, and where a value is put.
-use Rattle.std.specs.Prelude.{◌≡◌, ◌≤◌, ℕ, zero, suc, ◌+◌, ◌==◌, Bool, true, false, List, [], ◌∷◌, ◌++◌, map, length, Option, Some, None, if◌then◌else◌, ◌||◌, FitsSigned}
+use Rattle.std.specs.Prelude.{◌≡◌, ◌≤◌, ℕ, zero, suc, ◌+◌, ◌==◌, Bool, true, false, List, [], ◌∷◌, ◌++◌, map, length, Option, Some, None, if◌then◌else◌, ◌||◌, ◌&&◌, FitsSigned}
 use Rattle.std.specs.Int.{w64}
 use Rattle.std.specs.List.{AllByRecursion}
 use Rattle.gib_base.specs.declared.name.Name.{Name}
@@ -8,6 +8,7 @@ use Rattle.gib_types.specs.declared.table.Ty.TheVariants.{Whole, Truth, Tree}
 use Rattle.gib_types.specs.Table.{fields_at, con_at, scalar_types, IsTable, is_scalar}
 use Rattle.gib_types.specs.Layout.{is_among}
 use Rattle.gib_syntax.specs.Typing.{operator_type}
+use Rattle.gib_types.specs.declared.table.ConId.{ConId}
 use Rattle.gib_core.specs.declared.atom.Variable.{Variable}
 use Rattle.gib_core.specs.declared.atom.Atom.{Atom}
 use Rattle.gib_core.specs.declared.atom.Atom.TheVariants as a
@@ -18,7 +19,8 @@ use Rattle.gib_core.specs.Tree.{Term, Bind, Side, Branches, FunctionTerm, CoreTr
 use Rattle.gib_core.specs.Meaning.{function_at}
 use Rattle.gib_core.specs.Reaching.{side_uses}
 use Rattle.gib_core.specs.Numbering.{binders}
-use Rattle.gib_core.specs.Low.{laid_of}
+use Rattle.gib_core.specs.Ending.{Within, within_par, within_function, within_main, ended, has_ended, call_ends, last_packed}
+use Rattle.gib_core.specs.Low.{laid_of, Over, arm_overs}
 
 -- The same with another value at a place.
 abbrev pub put : {A : Type 0} → (ℕ → A) → ℕ → A → ℕ → A
@@ -249,53 +251,148 @@ pub record IsTree (sc : Scope) (x : Atom) (s : ℕ) : Type 0 where
   pub atom : x ≡ a.Variable variable
   pub sort : tree_type (sc variable.0) ≡ Some s
 
+-- Ends.
+
+-- The sort is a bound value's whose slot is not set anew in this line.
+abbrev pub is_settled : Sort → Bool
+is_settled Outside = false
+is_settled Absent = false
+is_settled (Scalar ty) = true
+is_settled Held = false
+is_settled (Placed t) = true
+is_settled (Loose t) = true
+is_settled (AtHead t) = true
+is_settled (Field t z x k p) = false
+
+-- What is known of ends in a line: where it stands; whose ends are not 0; what is told before its return; and, while it waits,
+-- whose ends the side tells, and at which parameters the call gives ends.
+pub record Line : Type 0 where
+  pub within : Within
+  pub told : ℕ → Bool
+  pub overs : List Over
+  pub pending : ℕ → Bool
+  pub called : ℕ → Bool
+
+abbrev pub none_of : ℕ → Bool
+none_of q = false
+
+-- A line begins.
+abbrev pub new_line : Within → Line
+new_line w = record { within = w; told = none_of; overs = []; pending = none_of; called = none_of }
+
+-- It waits until these ends are told; they are.
+abbrev pub await : (ℕ → Bool) → Line → Line
+await f ln = record { within = ln.within; told = ln.told; overs = ln.overs; pending = f; called = ln.called }
+
+abbrev pub tell_line : (ℕ → Bool) → Line → Line
+tell_line f ln = record { within = ln.within; told = λ q. ln.told q || f q; overs = ln.overs; pending = none_of; called = none_of }
+
+abbrev pub await_call : (ℕ → Bool) → Line → Line
+await_call f ln = record { within = ln.within; told = ln.told; overs = ln.overs; pending = ln.pending; called = f }
+
+-- What a call of f tells, behind which `got`s stand outside each `par`.
+abbrev pub call_tells : Within → CoreTree → ℕ → List Atom → ℕ → Bool
+call_tells w core f xs q = if w.par then false else call_ends (ended core) f 0 xs (record { 0 = q })
+
+-- What a side tells: its whole term is a call.
+abbrev pub side_tells : Within → CoreTree → Term → ℕ → Bool
+side_tells w core (t.Then b u) q = false
+side_tells w core (t.Write h k ss ps) q = false
+side_tells w core (t.Point x) q = false
+side_tells w core (t.CallTerm f xs) q = call_tells w core f.0 xs q
+side_tells w core (t.Give x) q = false
+side_tells w core (t.CaseTerm x bs) q = false
+side_tells w core (t.IfTerm x u v) q = false
+
+-- An arm without packed fields tells its tree's end.
+abbrev pub is_leaf : Option Variable → Bool
+is_leaf None = true
+is_leaf (Some y) = false
+
+abbrev pub arm_line : CoreTree → ℕ → ConId → List Variable → Term → Line → Line
+arm_line core x c ys u ln = record {
+  within = ln.within;
+  told = λ q. ln.told q || ((ln.within.ends && is_leaf (last_packed None (fields_at core.table c.0) ys)) && q == x);
+  overs = arm_overs ln.within core x c ys u ln.overs;
+  pending = ln.pending;
+  called = ln.called;
+}
+
+-- What is told once those were told.
+abbrev pub and_also : (ℕ → Bool) → ℕ → ℕ → Bool
+and_also f x q = f q || q == x
+
+abbrev pub finally : (ℕ → Bool) → List Over → ℕ → Bool
+finally f [] = f
+finally f (o ∷ os) = finally (and_also f o.tree) os
+
+-- Each finds an end that is not 0.
+abbrev pub Runs : (ℕ → Bool) → List Over → Type 0
+Runs f [] = Unit {0}
+Runs f (o ∷ os) = (f o.field ≡ true) × Runs (and_also f o.tree) os
+
+-- What must be told by the end of a line: of one that goes over to a label; of one that returns, once its `over`s ran.
+pub data Needs : Type 0 where
+  Inner : (f : ℕ → Bool) → Needs
+  AtEnd : (f : ℕ → Bool) → Needs
+
+abbrev pub Meets : Needs → (ℕ → Bool) → List Over → Type 0
+Meets (Inner f) told os = (q : ℕ) → f q ≡ true → told q ≡ true
+Meets (AtEnd f) told os = Runs told os × ((q : ℕ) → f q ≡ true → finally told os q ≡ true)
+
+-- What a function's callers are told.
+abbrev pub body_needs : CoreTree → ℕ → Needs
+body_needs core f = AtEnd (λ q. has_ended (ended core) f q)
+
 -- The build rules.
 abbrev mutual
   -- The term fits the scope and the destination.
-  pub Fits : CoreTree → Term → Scope → Dest → Type 0
-  Fits core (t.Then b u) sc d = BindFits core b sc d (λ sc' d'. Fits core u sc' d')
-  Fits core (t.Write h k ss ps) sc d =
-      (s : ℕ) × (xs : List ℕ) × (d ≡ Open s h.0 k.0 xs []) × (ps ≡ map var xs) × AtomsFit sc ss (scalar_types (fields_at core.table k.0)) × FurtherPlaced sc xs
-  Fits core (t.Point x) sc d = (s : ℕ) × (d ≡ Empty s) × IsTree sc x s
-  Fits core (t.CallTerm f xs) sc d = (s : ℕ) × (d ≡ Empty s) × CallFits core sc f xs (Tree (record { 0 = s }))
-  Fits core (t.Give x) sc d = (ty : Ty) × (d ≡ Nowhere ty) × (is_scalar ty ≡ true) × AtomFits sc x ty
-  Fits core (t.CaseTerm x bs) sc d =
-      (s : ℕ) × (tree : IsTree sc x s) × ((k : ℕ) → con_at core.table s k ≡ Some k → has_branch bs k ≡ true) × BranchesFit core bs tree.variable.0 (put sc tree.variable.0 (AtHead s)) d
-  Fits core (t.IfTerm x u v) sc d = AtomFits sc x Truth × Fits core u sc d × Fits core v sc d
+  pub Fits : CoreTree → Needs → Term → Scope → Dest → Line → Type 0
+  Fits core ns (t.Then b u) sc d ln = BindFits core b sc d ln (λ sc' d' ln'. Fits core ns u sc' d' ln')
+  Fits core ns (t.Write h k ss ps) sc d ln =
+      (s : ℕ) × (xs : List ℕ) × (d ≡ Open s h.0 k.0 xs []) × (ps ≡ map var xs) × AtomsFit sc ss (scalar_types (fields_at core.table k.0)) × FurtherPlaced sc xs × Meets ns ln.told ln.overs
+  Fits core ns (t.Point x) sc d ln = (s : ℕ) × (d ≡ Empty s) × IsTree sc x s × Meets ns ln.told ln.overs
+  Fits core ns (t.CallTerm f xs) sc d ln = (s : ℕ) × (d ≡ Empty s) × CallFits core sc f xs (Tree (record { 0 = s })) × Meets ns (λ q. ln.told q || call_tells ln.within core f.0 xs q) ln.overs
+  Fits core ns (t.Give x) sc d ln = (ty : Ty) × (d ≡ Nowhere ty) × (is_scalar ty ≡ true) × AtomFits sc x ty × Meets ns ln.told ln.overs
+  Fits core ns (t.CaseTerm x bs) sc d ln =
+      (s : ℕ) × (tree : IsTree sc x s) × ((k : ℕ) → con_at core.table s k ≡ Some k → has_branch bs k ≡ true) × BranchesFit core ns bs tree.variable.0 (put sc tree.variable.0 (AtHead s)) d ln
+  Fits core ns (t.IfTerm x u v) sc d ln = AtomFits sc x Truth × Fits core ns u sc d ln × Fits core ns v sc d ln
 
   -- go says that the rest of the line fits the scope and the destination behind the binding.
-  pub BindFits : CoreTree → Bind → Scope → Dest → (Scope → Dest → Type 0) → Type 0
-  BindFits core (t.Past h k) sc d go =
-      (s : ℕ) × (d ≡ Empty s) × (con_at core.table s k.0 ≡ Some k.0) × (sc h.0 ≡ Absent) × go (put sc h.0 Held) (Open s h.0 k.0 [] (packed_due (fields_at core.table k.0)))
-  BindFits core (t.One side) sc d go = SideFits core side sc d go
-  BindFits core (t.Both false l r) sc d go = (side_uses r (variable_of l) ≡ false) × SideFits core l sc d (λ sc' d'. SideFits core r sc' d' go)
-  BindFits core (t.Both true l r) sc d go = (side_uses r (variable_of l) ≡ false) × AloneFits core r sc × SideFits core l sc d (λ sc' d'. SideFits core r sc' d' go)
-  BindFits core (t.Prim x f y z) sc d go = (sc x.0 ≡ Absent) × AtomFits sc y Whole × AtomFits sc z Whole × go (put sc x.0 (Scalar (operator_type f))) d
-  BindFits core (t.Reach y by.Offset) sc d go =
-      (s : ℕ) × (z x k p : ℕ) × (sc y.0 ≡ Field s z x k p) × (is_among (laid_of core).with_offsets k ≡ true) × go (put sc y.0 (Placed s)) d
-  BindFits core (t.Reach y (by.Skip z)) sc d go =
-      (s : ℕ) × (x k p o : ℕ) × (sc y.0 ≡ Field s z.0 x k p) × (sc z.0 ≡ Placed o) × go (put sc y.0 (Placed s)) d
+  pub BindFits : CoreTree → Bind → Scope → Dest → Line → (Scope → Dest → Line → Type 0) → Type 0
+  BindFits core (t.Past h k) sc d ln go =
+      (s : ℕ) × (d ≡ Empty s) × (con_at core.table s k.0 ≡ Some k.0) × (sc h.0 ≡ Absent) × go (put sc h.0 Held) (Open s h.0 k.0 [] (packed_due (fields_at core.table k.0))) ln
+  BindFits core (t.One side) sc d ln go = SideFits core ln.within side sc d ln go
+  BindFits core (t.Both false l r) sc d ln go = (side_uses r (variable_of l) ≡ false) × SideFits core (within_par ln.within) l sc d ln (λ sc' d' ln'. SideFits core (within_par ln.within) r sc' d' ln' go)
+  BindFits core (t.Both true l r) sc d ln go = (side_uses r (variable_of l) ≡ false) × AloneFits core (within_par ln.within) r sc × SideFits core (within_par ln.within) l sc d ln (λ sc' d' ln'. SideFits core (within_par ln'.within) r sc' d' ln' go)
+  BindFits core (t.Prim x f y z) sc d ln go = (sc x.0 ≡ Absent) × AtomFits sc y Whole × AtomFits sc z Whole × go (put sc x.0 (Scalar (operator_type f))) d ln
+  BindFits core (t.Reach y by.Offset) sc d ln go =
+      (s : ℕ) × (z x k p : ℕ) × (sc y.0 ≡ Field s z x k p) × (is_among (laid_of core).with_offsets k ≡ true) × go (put sc y.0 (Placed s)) d ln
+  BindFits core (t.Reach y (by.Skip z)) sc d ln go =
+      (s : ℕ) × (x k p o : ℕ) × (sc y.0 ≡ Field s z.0 x k p) × (sc z.0 ≡ Placed o) × go (put sc y.0 (Placed s)) d ln
+  BindFits core (t.Reach y (by.End z)) sc d ln go =
+      (s : ℕ) × (x k p o : ℕ) × (sc y.0 ≡ Field s z.0 x k p) × (tree_type (sc z.0) ≡ Some o) × go (put sc y.0 (Placed s)) d ln × (ln.told z.0 ≡ true)
 
   -- A variable that is bound to a term; go says the rest.
-  pub SideFits : CoreTree → Side → Scope → Dest → (Scope → Dest → Type 0) → Type 0
-  SideFits core (t.On kind.Here x ty u) sc d go =
-      (s : ℕ) × (ty ≡ Tree (record { 0 = s })) × IsDue d s × (sc x.0 ≡ Absent) × Fits core u (put sc x.0 Held) (Empty s) × go (put (loosen (cased u) sc) x.0 (Placed s)) (more d x.0)
-  SideFits core (t.On kind.Region x ty u) sc d go =
-      (s : ℕ) × (ty ≡ Tree (record { 0 = s })) × (sc x.0 ≡ Absent) × Fits core u (put sc x.0 Held) (Empty s) × go (put (loosen (cased u) sc) x.0 (Placed s)) d
-  SideFits core (t.On kind.Scalar x ty u) sc d go =
-      (is_scalar ty ≡ true) × (sc x.0 ≡ Absent) × by_call u (Fits core u sc (Nowhere ty)) (λ f xs. CallFits core sc f xs ty) × go (put (loosen (cased u) sc) x.0 (Scalar ty)) d
+  pub SideFits : CoreTree → Within → Side → Scope → Dest → Line → (Scope → Dest → Line → Type 0) → Type 0
+  SideFits core w (t.On kind.Here x ty u) sc d ln go =
+      (s : ℕ) × (ty ≡ Tree (record { 0 = s })) × IsDue d s × (sc x.0 ≡ Absent) × Fits core (Inner (side_tells w core u)) u (put sc x.0 Held) (Empty s) (new_line w) × go (put (loosen (cased u) sc) x.0 (Placed s)) (more d x.0) (tell_line (side_tells w core u) ln)
+  SideFits core w (t.On kind.Region x ty u) sc d ln go =
+      (s : ℕ) × (ty ≡ Tree (record { 0 = s })) × (sc x.0 ≡ Absent) × Fits core (Inner (side_tells w core u)) u (put sc x.0 Held) (Empty s) (new_line w) × go (put (loosen (cased u) sc) x.0 (Placed s)) d (tell_line (side_tells w core u) ln)
+  SideFits core w (t.On kind.Scalar x ty u) sc d ln go =
+      (is_scalar ty ≡ true) × (sc x.0 ≡ Absent) × by_call u (Fits core (Inner (side_tells w core u)) u sc (Nowhere ty) (new_line w)) (λ f xs. CallFits core sc f xs ty) × go (put (loosen (cased u) sc) x.0 (Scalar ty)) d (tell_line (side_tells w core u) ln)
 
   -- The right side of a fork fits where the left one has bound nothing.
-  pub AloneFits : CoreTree → Side → Scope → Type 0
-  AloneFits core (t.On kind.Here y ty u) sc = (s : ℕ) × (ty ≡ Tree (record { 0 = s })) × (sc y.0 ≡ Absent) × Fits core u (put sc y.0 Held) (Empty s)
-  AloneFits core (t.On kind.Region y ty u) sc = (s : ℕ) × (ty ≡ Tree (record { 0 = s })) × (sc y.0 ≡ Absent) × Fits core u (put sc y.0 Held) (Empty s)
-  AloneFits core (t.On kind.Scalar y ty u) sc = (is_scalar ty ≡ true) × (sc y.0 ≡ Absent) × by_call u (Fits core u sc (Nowhere ty)) (λ f xs. CallFits core sc f xs ty)
+  pub AloneFits : CoreTree → Within → Side → Scope → Type 0
+  AloneFits core w (t.On kind.Here y ty u) sc = (s : ℕ) × (ty ≡ Tree (record { 0 = s })) × (sc y.0 ≡ Absent) × Fits core (Inner none_of) u (put sc y.0 Held) (Empty s) (new_line w)
+  AloneFits core w (t.On kind.Region y ty u) sc = (s : ℕ) × (ty ≡ Tree (record { 0 = s })) × (sc y.0 ≡ Absent) × Fits core (Inner (side_tells w core u)) u (put sc y.0 Held) (Empty s) (new_line w)
+  AloneFits core w (t.On kind.Scalar y ty u) sc = (is_scalar ty ≡ true) × (sc y.0 ≡ Absent) × by_call u (Fits core (Inner (side_tells w core u)) u sc (Nowhere ty) (new_line w)) (λ f xs. CallFits core sc f xs ty)
 
   -- Each branch fits, with its fields in scope.
-  pub BranchesFit : CoreTree → Branches → ℕ → Scope → Dest → Type 0
-  BranchesFit core t.NoBranch x sc d = Unit {0}
-  BranchesFit core (t.BranchThen k ys u bs) x sc d =
-      AreNew sc (fields_at core.table k.0) ys × Fits core u (arm_scope x k.0 1 None (fields_at core.table k.0) ys sc) d × BranchesFit core bs x sc d
+  pub BranchesFit : CoreTree → Needs → Branches → ℕ → Scope → Dest → Line → Type 0
+  BranchesFit core ns t.NoBranch x sc d ln = Unit {0}
+  BranchesFit core ns (t.BranchThen k ys u bs) x sc d ln =
+      AreNew sc (fields_at core.table k.0) ys × Fits core ns u (arm_scope x k.0 1 None (fields_at core.table k.0) ys sc) d (arm_line core x k ys u ln) × BranchesFit core ns bs x sc d ln
 
 -- What is known of a parameter of the type.
 abbrev pub param_sort : Ty → Sort
@@ -312,20 +409,25 @@ body_scope (suc n) (ty ∷ ts) zero = param_sort ty
 body_scope (suc n) (ty ∷ ts) (suc y) = body_scope n ts y
 
 -- A body fits its function, whatever its code.
-pub record FunctionFits (core : CoreTree) (g : FunctionTerm) (slots : ℕ) : Type 0 where
-  pub fits : Fits core g.body (body_scope slots g.parameters) (dest_of g.result)
+pub record FunctionFits (core : CoreTree) (f : ℕ) (g : FunctionTerm) (slots : ℕ) : Type 0 where
+  pub fits : Fits core (body_needs core f) g.body (body_scope slots g.parameters) (dest_of g.result) (new_line (within_function core g))
   pub enough : length g.parameters ≤ slots
 
 -- Main's body fits.
 pub record MainFits (core : CoreTree) (slots : ℕ) : Type 0 where
-  pub fits : Fits core core.main.body (body_scope slots (core.main.parameter ∷ [])) (dest_of core.main.result)
+  pub fits : Fits core (AtEnd none_of) core.main.body (body_scope slots (core.main.parameter ∷ [])) (dest_of core.main.result) (new_line (within_main core))
+
+-- A body fits by itself, whatever its callers are told.
+pub record OwnFits (core : CoreTree) (g : FunctionTerm) (slots : ℕ) : Type 0 where
+  pub fits : Fits core (AtEnd none_of) g.body (body_scope slots g.parameters) (dest_of g.result) (new_line (within_function core g))
+  pub enough : length g.parameters ≤ slots
 
 -- The body of each function fits, with a slot for each variable, also where another function has its name.
 abbrev pub EachFits : CoreTree → Type 0
-EachFits core = AllByRecursion (λ (g : FunctionTerm). FunctionFits core g (length g.parameters + length (binders g.body))) core.functions
+EachFits core = AllByRecursion (λ (g : FunctionTerm). OwnFits core g (length g.parameters + length (binders g.body))) core.functions
 
 -- All bodies that a name or main leads to fit, with a slot for each variable.
 pub record AllFit (core : CoreTree) : Type 0 where
   pub table : IsTable core.table
-  pub functions : (g : FunctionTerm) (f : ℕ) → function_at core.functions f ≡ Some g → FunctionFits core g (length g.parameters + length (binders g.body))
+  pub functions : (g : FunctionTerm) (f : ℕ) → function_at core.functions f ≡ Some g → FunctionFits core f g (length g.parameters + length (binders g.body))
   pub main : MainFits core (1 + length (binders core.main.body))

@@ -336,4 +336,5 @@ infer_program p =
         body = infer_body g (p.main.parameter.name ∷ []) (parameter ∷ []) p.main.body;
       };
       offsets = [];
+      marked = false;
     }

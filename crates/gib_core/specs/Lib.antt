@@ -5,6 +5,9 @@ pub mod Parts
 pub mod Meaning
 pub mod Erasing
 pub mod Inferring
+pub mod Ending
+pub mod EndedSet
+pub mod NamedFunctions
 pub mod Reaching
 pub mod Met
 pub mod Rules

@@ -1,11 +1,11 @@
 -- The code of a core.
-use Rattle.std.specs.Prelude.{◌≡◌, ℕ, suc, ◌+◌, ◌==◌, Bool, true, false, if◌then◌else◌, List, [], ◌∷◌, ◌++◌, length, map, Some, None, slice_get}
+use Rattle.std.specs.Prelude.{◌≡◌, ℕ, suc, ◌+◌, ◌==◌, Bool, true, false, if◌then◌else◌, ◌&&◌, not, Option, List, [], ◌∷◌, ◌++◌, length, map, Some, None, slice_get}
 use Rattle.std.specs.Int.{w64, cast_unsigned}
 use Rattle.gib_types.specs.declared.table.Ty.{Ty}
 use Rattle.gib_types.specs.declared.table.Ty.TheVariants as ty
 use Rattle.gib_types.specs.declared.table.ConId.{ConId}
 use Rattle.gib_types.specs.Table.{fields_at}
-use Rattle.gib_types.specs.Layout.{LaidOut, layout_at, head_size, numbers_of}
+use Rattle.gib_types.specs.Layout.{LaidOut, layout_at, head_size, numbers_of, packed_count}
 use Rattle.gib_syntax.specs.declared.tree.Operator.{Operator}
 use Rattle.gib_syntax.specs.declared.tree.Operator.TheVariants as o
 use Rattle.gib_core.specs.declared.atom.Variable.{Variable}
@@ -17,6 +17,7 @@ use Rattle.gib_core.specs.declared.atom.Access.TheVariants as by
 use Rattle.gib_core.specs.Tree as t
 use Rattle.gib_core.specs.Tree.{Term, Bind, Side, Branches, FunctionTerm, CoreTree}
 use Rattle.gib_core.specs.Numbering.{binders}
+use Rattle.gib_core.specs.Ending.{Ended, Within, within_par, within_function, within_main, ended, has_ended, last_packed, if_some, is_known}
 use Rattle.gib_code.specs.declared.instruction.Operand.{Operand}
 use Rattle.gib_code.specs.declared.instruction.Operand.TheVariants.{Slot, Number}
 use Rattle.gib_code.specs.declared.instruction.Operation.{Operation}
@@ -25,7 +26,7 @@ use Rattle.gib_code.specs.declared.instruction.Kind.TheVariants as k
 use Rattle.gib_code.specs.declared.instruction.Kind.{Kind as CodeKind}
 use Rattle.gib_code.specs.declared.instruction.Arm.{Arm}
 use Rattle.gib_code.specs.declared.instruction.Entry.{Entry}
-use Rattle.gib_code.specs.Instruction.{Instruction, Move, Operate, Jump, Unless, Switch, Whole, Truth, First, Offset, Skip, Begin, Done, Here, Past, Fill, Point, Call, CallScalar, Return, Give, Fork, Join, Back}
+use Rattle.gib_code.specs.Instruction.{Instruction, Move, Operate, Jump, Unless, Switch, Whole, Truth, First, Offset, Skip, Begin, Done, Here, Past, Fill, Point, Call, CallScalar, Return, Give, Fork, Join, Back, Got, OverEnd, LeafEnd, EndOf}
 use Rattle.gib_code.specs.Program.{CodeTree, IsAt, AreAt}
 
 -- Each function here is total: what a build rule excludes has an answer too, so that the code needs no build rule.
@@ -129,25 +130,64 @@ arm_opening laid x k ys =
     scalar_reads x (1 + (layout_at laid.table laid.with_offsets k).offsets) (fields_at laid.table k) ys
     ++ first_reach x (head_size laid k) (fields_at laid.table k) ys
 
--- What follows a term: a return, or the code at a label; a scalar goes to a slot.
+-- A tree that a case is on, and its last packed field, whose end is known by then.
+pub record Over : Type 0 where
+  pub tree : ℕ
+  pub field : ℕ
+
+-- What follows a term: a return, before which ends are told, the innermost first; or the code at a label; a scalar goes to a slot.
 pub data End : Type 0 where
-  Returns : End
+  Returns : (overs : List Over) → End
   To : (label slot : ℕ) → End
 
+-- The ends that are told before a return.
+abbrev pub over_all : List Over → List Instruction
+over_all [] = []
+over_all (o ∷ os) = OverEnd o.tree o.field ∷ over_all os
+
 -- What stands behind a packed term.
-abbrev pub ending : End → Instruction
-ending Returns = Return
-ending (To l d) = Jump l
+abbrev pub ending : End → List Instruction
+ending (Returns os) = over_all os ++ Return ∷ []
+ending (To l d) = Jump l ∷ []
 
 -- What gives a scalar.
 abbrev pub giving : Operand → End → List Instruction
-giving s Returns = Give s ∷ []
+giving s (Returns os) = over_all os ++ Give s ∷ []
 giving s (To l d) = Move d s ∷ Jump l ∷ []
+
+-- The ends that a call of f gave for its arguments, from the place k on.
+abbrev pub got_from : List Ended → (f k : ℕ) → List Atom → List Instruction
+got_from es f k [] = []
+got_from es f k (a.Variable z ∷ xs) = if has_ended es f k then Got z.0 k ∷ got_from es f (suc k) xs else got_from es f (suc k) xs
+got_from es f k (a.Whole z ∷ xs) = got_from es f (suc k) xs
+got_from es f k (a.Truth b ∷ xs) = got_from es f (suc k) xs
+
+-- None inside a side of a `par`.
+abbrev pub gots : Within → CoreTree → ℕ → List Atom → List Instruction
+gots w core f xs = if w.par then [] else got_from (ended core) f 0 xs
+
+-- The tree of an arm whose last packed field's end is known by then is told its end too.
+abbrev pub with_over : ℕ → Option Variable → Bool → List Over → List Over
+with_over x (Some y) true os = record { tree = x; field = y.0 } ∷ os
+with_over x (Some y) false os = os
+with_over x None b os = os
+
+abbrev pub is_over : Within → CoreTree → ConId → List Variable → Term → Bool
+is_over w core c ys u = w.ends && (not w.par && if_some (last_packed None (fields_at core.table c.0) ys) (λ z. is_known core.table (ended core) u z))
+
+abbrev pub arm_overs : Within → CoreTree → ℕ → ConId → List Variable → Term → List Over → List Over
+arm_overs w core x c ys u os = with_over x (last_packed None (fields_at core.table c.0) ys) (is_over w core c ys u) os
+
+-- The end of an arm.
+abbrev pub arm_end : Within → CoreTree → ℕ → ConId → List Variable → Term → End → End
+arm_end w core x c ys u (Returns os) = Returns (arm_overs w core x c ys u os)
+arm_end w core x c ys u (To l d) = To l d
 
 -- How a field is reached.
 abbrev pub reaching : List Field → Variable → Rattle.gib_core.specs.declared.atom.Access.Access → Instruction
 reaching fs y by.Offset = Offset y.0 (field_of fs y.0).tree (field_of fs y.0).place
 reaching fs y (by.Skip z) = Skip y.0 z.0
+reaching fs y (by.End z) = EndOf y.0 z.0
 
 -- The term is no call.
 abbrev pub IsNoCall : Term → Type 0
@@ -159,63 +199,69 @@ IsNoCall (t.Give x) = Unit {0}
 IsNoCall (t.CaseTerm x bs) = Unit {0}
 IsNoCall (t.IfTerm x u v) = Unit {0}
 
+-- An arm without packed fields tells where its tree ends, behind a head of so many bytes, in a function whose ends are told.
+pub data LeafAt (code : CodeTree) (must : Bool) (x size many : ℕ) : ℕ → ℕ → Type 0 where
+  no_leaf : {l : ℕ} → (must ≡ true → many ≡ 0 → ⊥) → LeafAt code must x size many l l
+  leaf : {l : ℕ} → must ≡ true → many ≡ 0 → IsAt code l (LeafEnd x size) → LeafAt code must x size many l (l + 1)
+
 mutual
-  -- Low core code fs a t e z: the instructions from a up to z are the code of the term t with the end e, where fs are the
+  -- Low core code w fs a t e z: the instructions from a up to z are the code of the term t with the end e, where fs are the
   -- packed fields of the arms around.
-  pub data Low (core : CoreTree) (code : CodeTree) : List Field → ℕ → Term → End → ℕ → Type 0 where
-    write : {fs : List Field} {a z : ℕ} {h : Variable} {c : ConId} {ss ps : List Atom} {e : End}
-        → AreAt code a (Fill h.0 c.0 (operands ss) (slots_of ps) ∷ ending e ∷ []) z → Low core code fs a (t.Write h c ss ps) e z
-    point : {fs : List Field} {a z : ℕ} {x : Atom} {e : End} → AreAt code a (Point (slot_of x) ∷ ending e ∷ []) z → Low core code fs a (t.Point x) e z
-    call : {fs : List Field} {a z : ℕ} {f : Rattle.gib_base.specs.declared.name.Name.Name} {xs : List Atom} {e : End}
-        → AreAt code a (Call (function_number core.functions f.0) (operands xs) ∷ ending e ∷ []) z → Low core code fs a (t.CallTerm f xs) e z
-    give : {fs : List Field} {a z : ℕ} {x : Atom} {e : End} → AreAt code a (giving (operand x) e) z → Low core code fs a (t.Give x) e z
-    branch : {fs : List Field} {a l z : ℕ} {x : Atom} {u v : Term} {e : End}
-        → IsAt code a (Unless (operand x) l) → Low core code fs (a + 1) u e l → Low core code fs l v e z → Low core code fs a (t.IfTerm x u v) e z
-    case : {fs : List Field} {a z : ℕ} {x : Atom} {bs : Branches} {arms : List Arm} {e : End}
-        → IsAt code a (Switch (slot_of x) arms) → LowArms core code fs (slot_of x) (a + 1) arms bs e z → Low core code fs a (t.CaseTerm x bs) e z
-    binding : {fs : List Field} {a m z : ℕ} {b : Bind} {u : Term} {e : End} → LowBind core code fs a b m → Low core code fs m u e z → Low core code fs a (t.Then b u) e z
+  pub data Low (core : CoreTree) (code : CodeTree) : Within → List Field → ℕ → Term → End → ℕ → Type 0 where
+    write : {w : Within} {fs : List Field} {a z : ℕ} {h : Variable} {c : ConId} {ss ps : List Atom} {e : End}
+        → AreAt code a (Fill h.0 c.0 (operands ss) (slots_of ps) ∷ ending e) z → Low core code w fs a (t.Write h c ss ps) e z
+    point : {w : Within} {fs : List Field} {a z : ℕ} {x : Atom} {e : End} → AreAt code a (Point (slot_of x) ∷ ending e) z → Low core code w fs a (t.Point x) e z
+    call : {w : Within} {fs : List Field} {a z : ℕ} {f : Rattle.gib_base.specs.declared.name.Name.Name} {xs : List Atom} {e : End}
+        → AreAt code a (Call (function_number core.functions f.0) (operands xs) ∷ gots w core f.0 xs ++ ending e) z → Low core code w fs a (t.CallTerm f xs) e z
+    give : {w : Within} {fs : List Field} {a z : ℕ} {x : Atom} {e : End} → AreAt code a (giving (operand x) e) z → Low core code w fs a (t.Give x) e z
+    branch : {w : Within} {fs : List Field} {a l z : ℕ} {x : Atom} {u v : Term} {e : End}
+        → IsAt code a (Unless (operand x) l) → Low core code w fs (a + 1) u e l → Low core code w fs l v e z → Low core code w fs a (t.IfTerm x u v) e z
+    case : {w : Within} {fs : List Field} {a z : ℕ} {x : Atom} {bs : Branches} {arms : List Arm} {e : End}
+        → IsAt code a (Switch (slot_of x) arms) → LowArms core code w fs (slot_of x) (a + 1) arms bs e z → Low core code w fs a (t.CaseTerm x bs) e z
+    binding : {w : Within} {fs : List Field} {a m z : ℕ} {b : Bind} {u : Term} {e : End} → LowBind core code w fs a b m → Low core code w fs m u e z → Low core code w fs a (t.Then b u) e z
 
   -- The code of the branches of a case on the slot x; each branch's code begins with its fields.
-  pub data LowArms (core : CoreTree) (code : CodeTree) : List Field → ℕ → ℕ → List Arm → Branches → End → ℕ → Type 0 where
-    no_arm : {fs : List Field} {x a : ℕ} {e : End} → LowArms core code fs x a [] t.NoBranch e a
-    arm : {fs : List Field} {x a m l z : ℕ} {c : ConId} {ys : List Variable} {u : Term} {bs : Branches} {arms : List Arm} {e : End}
+  pub data LowArms (core : CoreTree) (code : CodeTree) : Within → List Field → ℕ → ℕ → List Arm → Branches → End → ℕ → Type 0 where
+    no_arm : {w : Within} {fs : List Field} {x a : ℕ} {e : End} → LowArms core code w fs x a [] t.NoBranch e a
+    arm : {w : Within} {fs : List Field} {x a m n l z : ℕ} {c : ConId} {ys : List Variable} {u : Term} {bs : Branches} {arms : List Arm} {e : End}
         → AreAt code a (arm_opening (laid_of core) x c.0 ys) m
-        → Low core code (with_fields x (fields_at core.table c.0) ys fs) m u e l
-        → LowArms core code fs x l arms bs e z
-        → LowArms core code fs x a (record { constructor = c.0; label = a } ∷ arms) (t.BranchThen c ys u bs) e z
+        → LeafAt code w.ends x (head_size (laid_of core) c.0) (packed_count (fields_at core.table c.0)) m n
+        → Low core code w (with_fields x (fields_at core.table c.0) ys fs) n u (arm_end w core x c ys u e) l
+        → LowArms core code w fs x l arms bs e z
+        → LowArms core code w fs x a (record { constructor = c.0; label = a } ∷ arms) (t.BranchThen c ys u bs) e z
 
   -- The code of a binding.
-  pub data LowBind (core : CoreTree) (code : CodeTree) : List Field → ℕ → Bind → ℕ → Type 0 where
-    past : {fs : List Field} {a : ℕ} {h : Variable} {c : ConId} → IsAt code a (Past h.0 c.0) → LowBind core code fs a (t.Past h c) (a + 1)
-    one : {fs : List Field} {a z : ℕ} {s : Side} → LowSide core code fs a s z → LowBind core code fs a (t.One s) z
-    in_turn : {fs : List Field} {a m z : ℕ} {l r : Side} → LowSide core code fs a l m → LowSide core code fs m r z → LowBind core code fs a (t.Both false l r) z
-    forked : {fs : List Field} {a m z : ℕ} {l : Side} {c : Kind} {x : Variable} {ty : Ty} {u : Term}
+  pub data LowBind (core : CoreTree) (code : CodeTree) : Within → List Field → ℕ → Bind → ℕ → Type 0 where
+    past : {w : Within} {fs : List Field} {a : ℕ} {h : Variable} {c : ConId} → IsAt code a (Past h.0 c.0) → LowBind core code w fs a (t.Past h c) (a + 1)
+    one : {w : Within} {fs : List Field} {a z : ℕ} {s : Side} → LowSide core code w fs a s z → LowBind core code w fs a (t.One s) z
+    in_turn : {w : Within} {fs : List Field} {a m z : ℕ} {l r : Side} → LowSide core code (within_par w) fs a l m → LowSide core code (within_par w) fs m r z → LowBind core code w fs a (t.Both false l r) z
+    forked : {w : Within} {fs : List Field} {a m z : ℕ} {l : Side} {c : Kind} {x : Variable} {ty : Ty} {u : Term}
         → IsAt code a (Fork (m + 1) (z + 1) (kind_of c) x.0 ty)
-        → LowSide core code fs (a + 1) l m → IsAt code m Join
-        → LowSide core code fs (m + 1) (t.On c x ty u) z → IsAt code z Back
-        → LowBind core code fs a (t.Both true l (t.On c x ty u)) (z + 1)
-    prim : {fs : List Field} {a : ℕ} {x : Variable} {f : Operator} {y w : Atom}
-        → IsAt code a (Operate x.0 (operation f) (operand y) (operand w)) → LowBind core code fs a (t.Prim x f y w) (a + 1)
-    reach : {fs : List Field} {a : ℕ} {y : Variable} {access : Rattle.gib_core.specs.declared.atom.Access.Access}
-        → IsAt code a (reaching fs y access) → LowBind core code fs a (t.Reach y access) (a + 1)
+        → LowSide core code (within_par w) fs (a + 1) l m → IsAt code m Join
+        → LowSide core code (within_par w) fs (m + 1) (t.On c x ty u) z → IsAt code z Back
+        → LowBind core code w fs a (t.Both true l (t.On c x ty u)) (z + 1)
+    prim : {w : Within} {fs : List Field} {a : ℕ} {x : Variable} {f : Operator} {y v : Atom}
+        → IsAt code a (Operate x.0 (operation f) (operand y) (operand v)) → LowBind core code w fs a (t.Prim x f y v) (a + 1)
+    reach : {w : Within} {fs : List Field} {a : ℕ} {y : Variable} {access : Rattle.gib_core.specs.declared.atom.Access.Access}
+        → IsAt code a (reaching fs y access) → LowBind core code w fs a (t.Reach y access) (a + 1)
 
   -- The code of a variable that is bound to a term.
-  pub data LowSide (core : CoreTree) (code : CodeTree) : List Field → ℕ → Side → ℕ → Type 0 where
-    here : {fs : List Field} {a z : ℕ} {x : Variable} {ty : Ty} {u : Term}
-        → IsAt code a (Here x.0) → Low core code fs (a + 1) u (To z 0) z → LowSide core code fs a (t.On kind.Here x ty u) z
-    region : {fs : List Field} {a z : ℕ} {x : Variable} {ty : Ty} {u : Term}
-        → IsAt code a (Begin x.0) → Low core code fs (a + 1) u (To z 0) z → IsAt code z Done → LowSide core code fs a (t.On kind.Region x ty u) (z + 1)
-    scalar_call : {fs : List Field} {a : ℕ} {x : Variable} {ty : Ty} {f : Rattle.gib_base.specs.declared.name.Name.Name} {xs : List Atom}
-        → IsAt code a (CallScalar x.0 (function_number core.functions f.0) (operands xs)) → LowSide core code fs a (t.On kind.Scalar x ty (t.CallTerm f xs)) (a + 1)
-    scalar : {fs : List Field} {a z : ℕ} {x : Variable} {ty : Ty} {u : Term}
-        → IsNoCall u → Low core code fs a u (To z x.0) z → LowSide core code fs a (t.On kind.Scalar x ty u) z
+  pub data LowSide (core : CoreTree) (code : CodeTree) : Within → List Field → ℕ → Side → ℕ → Type 0 where
+    here : {w : Within} {fs : List Field} {a z : ℕ} {x : Variable} {ty : Ty} {u : Term}
+        → IsAt code a (Here x.0) → Low core code w fs (a + 1) u (To z 0) z → LowSide core code w fs a (t.On kind.Here x ty u) z
+    region : {w : Within} {fs : List Field} {a z : ℕ} {x : Variable} {ty : Ty} {u : Term}
+        → IsAt code a (Begin x.0) → Low core code w fs (a + 1) u (To z 0) z → IsAt code z Done → LowSide core code w fs a (t.On kind.Region x ty u) (z + 1)
+    scalar_call : {w : Within} {fs : List Field} {a z : ℕ} {x : Variable} {ty : Ty} {f : Rattle.gib_base.specs.declared.name.Name.Name} {xs : List Atom}
+        → AreAt code a (CallScalar x.0 (function_number core.functions f.0) (operands xs) ∷ gots w core f.0 xs) z → LowSide core code w fs a (t.On kind.Scalar x ty (t.CallTerm f xs)) z
+    scalar : {w : Within} {fs : List Field} {a z : ℕ} {x : Variable} {ty : Ty} {u : Term}
+        → IsNoCall u → Low core code w fs a u (To z x.0) z → LowSide core code w fs a (t.On kind.Scalar x ty u) z
 
 -- The functions of the text have their code one after another, main last; a frame has a slot for each variable.
 pub data LowFunctions (core : CoreTree) (code : CodeTree) : ℕ → List FunctionTerm → List Entry → Type 0 where
-  main : {a : ℕ} {e : Entry} → e.name ≡ None → e.result ≡ core.main.result → e.start ≡ a → e.slots ≡ 1 + length (binders core.main.body) → Low core code [] a core.main.body Returns (length code.instructions)
+  main : {a : ℕ} {e : Entry} → e.name ≡ None → e.result ≡ core.main.result → e.start ≡ a → e.slots ≡ 1 + length (binders core.main.body) → Low core code (within_main core) [] a core.main.body (Returns []) (length code.instructions)
       → LowFunctions core code a [] (e ∷ [])
   function : {a z : ℕ} {g : FunctionTerm} {gs : List FunctionTerm} {e : Entry} {es : List Entry}
-      → e.name ≡ Some g.name → e.result ≡ g.result → e.start ≡ a → e.slots ≡ length g.parameters + length (binders g.body) → Low core code [] a g.body Returns z
+      → e.name ≡ Some g.name → e.result ≡ g.result → e.start ≡ a → e.slots ≡ length g.parameters + length (binders g.body) → Low core code (within_function core g) [] a g.body (Returns []) z
       → LowFunctions core code z gs es → LowFunctions core code a (g ∷ gs) (e ∷ es)
 
 -- The code is that of the core.
@@ -231,7 +277,7 @@ pub record HasCode (core : CoreTree) (code : CodeTree) (entries : List Entry) (n
   pub slots : entry.slots ≡ length g.parameters + length (binders g.body)
   pub result : entry.result ≡ g.result
   pub until : ℕ
-  pub low : Low core code [] entry.start g.body Returns until
+  pub low : Low core code (within_function core g) [] entry.start g.body (Returns []) until
 
 -- Main's entry stands at the number behind those of the functions, and its code is the last.
 pub record HasMain (core : CoreTree) (code : CodeTree) (entries : List Entry) (number : ℕ) : Type 0 where
@@ -239,4 +285,4 @@ pub record HasMain (core : CoreTree) (code : CodeTree) (entries : List Entry) (n
   pub at : slice_get entries number ≡ Some entry
   pub slots : entry.slots ≡ 1 + length (binders core.main.body)
   pub result : entry.result ≡ core.main.result
-  pub low : Low core code [] entry.start core.main.body Returns (length code.instructions)
+  pub low : Low core code (within_main core) [] entry.start core.main.body (Returns []) (length code.instructions)

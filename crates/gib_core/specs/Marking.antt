@@ -78,6 +78,7 @@ mark_core core = record {
   functions = map mark_function core.functions;
   main = mark_main core.main;
   offsets = core.offsets;
+  marked = core.marked;
 }
 
 -- Whether a term begins with a par that is to be marked.

@@ -22,13 +22,15 @@ pub data Destination : Type 0 where
   Open : Variable → ConId → List Variable → Destination
 
 -- What a term is met with: its destination, the type due there, the variables in scope, the variables of
--- the other sides of the pars around it, and whether it begins the right side of a `scalar`.
+-- the other sides of the pars around it, whether it begins the right side of a `scalar`, and the calls to which
+-- variables were bound before it in its line, the newest first.
 pub record Setting : Type 0 where
   pub destination : Destination
   pub due : Ty
   pub scope : List Known
   pub others : List Variable
   pub whole : Bool
+  pub calls : List (Name × List Atom)
 
 -- A term as a line of the text.
 pub data Line : Type 0 where
@@ -87,9 +89,9 @@ stands_too Scalar x d = d
 
 -- What the term of a side is met with.
 abbrev pub in_side : Table → Setting → Kind → Ty → Setting
-in_side table s Here ty = record s { destination = Empty; due = field_due table s.destination; whole = false }
-in_side table s Region ty = record s { destination = Empty; due = ty; whole = false }
-in_side table s Scalar ty = record s { destination = Nowhere; due = ty; whole = true }
+in_side table s Here ty = record s { destination = Empty; due = field_due table s.destination; whole = false; calls = [] }
+in_side table s Region ty = record s { destination = Empty; due = ty; whole = false; calls = [] }
+in_side table s Scalar ty = record s { destination = Nowhere; due = ty; whole = true; calls = [] }
 
 -- What stands behind a side.
 abbrev pub behind_side : Setting → Side → Setting
@@ -100,10 +102,24 @@ abbrev pub reached_too : Option Known → List Known → List Known
 reached_too None ks = ks
 reached_too (Some k) ks = record k { reached = true } ∷ ks
 
+-- A term that is a call stands before too.
+abbrev pub call_too : Term → List (Name × List Atom) → List (Name × List Atom)
+call_too (Then b t) cs = cs
+call_too (Write h k ss ps) cs = cs
+call_too (Point x) cs = cs
+call_too (CallTerm f xs) cs = (f, xs) ∷ cs
+call_too (Give x) cs = cs
+call_too (CaseTerm x branches) cs = cs
+call_too (IfTerm x t u) cs = cs
+
+-- The calls before, behind a side.
+abbrev pub calls_behind : Side → List (Name × List Atom) → List (Name × List Atom)
+calls_behind (On kind x ty t) cs = call_too t cs
+
 -- What stands behind a binding. A head is no value, so it does not come into scope.
 abbrev pub behind : Setting → Bind → Setting
 behind s (Past h k) = record s { destination = Open h k []; whole = false }
-behind s (One side) = behind_side s side
+behind s (One side) = record (behind_side s side) { calls = calls_behind side s.calls }
 behind s (Both fork l r) = behind_side (behind_side s l) r
 behind s (Prim x f y z) = record s { scope = reached x ∷ s.scope; whole = false }
 behind s (Reach y by) = record s { scope = reached_too (known s.scope y) s.scope; whole = false }
@@ -141,11 +157,11 @@ with_arm k (x ∷ xs) types before ks =
 
 -- What the term of an arm is met with.
 abbrev pub in_arm : Table → Setting → ConId → List Variable → Setting
-in_arm table s k xs = record s { scope = with_arm k xs (fields_at table k.0) None s.scope; whole = false }
+in_arm table s k xs = record s { scope = with_arm k xs (fields_at table k.0) None s.scope; whole = false; calls = [] }
 
 -- What a branch of an `if` is met with.
 abbrev pub in_branch : Setting → Setting
-in_branch s = record s { whole = false }
+in_branch s = record s { whole = false; calls = [] }
 
 -- The constructors of branches with the variables of their fields.
 abbrev pub arms_of : Branches → List (ConId × List Variable)
@@ -205,7 +221,7 @@ result_place (Tree t) = Empty
 
 -- What a body is met with.
 abbrev pub opening : Body → Setting
-opening b = record { destination = result_place b.result; due = b.result; scope = with_parameters 0 b.parameters []; others = []; whole = false }
+opening b = record { destination = result_place b.result; due = b.result; scope = with_parameters 0 b.parameters []; others = []; whole = false; calls = [] }
 
 -- Each line of a body.
 abbrev pub met_body : Table → Body → List Met

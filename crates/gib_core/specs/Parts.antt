@@ -1,5 +1,5 @@
 -- A core as the code keeps it, and the core that it is.
-use Rattle.std.specs.Prelude.{ℕ, ◌<◌, List, [], ◌∷◌, map, length}
+use Rattle.std.specs.Prelude.{ℕ, ◌<◌, Bool, List, [], ◌∷◌, map, length}
 use Rattle.std.specs.List.{AllByRecursion}
 use Rattle.gib_types.specs.declared.table.ConId.{ConId}
 use Rattle.gib_types.specs.declared.table.Ty.{Ty}
@@ -11,13 +11,14 @@ use Rattle.gib_core.specs.declared.program.CoreMain.{CoreMain}
 use Rattle.gib_core.specs.Tree.{Term, FunctionTerm, MainTerm, CoreTree}
 use Rattle.gib_core.specs.Arena.{term_of}
 
--- The table, the terms of all bodies, the functions, main, and the constructors with offsets.
+-- The table, the terms of all bodies, the functions, main, the constructors with offsets, and whether ends are told.
 pub record Parts : Type 0 where
   pub table : Table
   pub terms : List Node
   pub functions : List CoreFunction
   pub main : CoreMain
   pub offsets : List ConId
+  pub marked : Bool
 
 -- The body of a function is one of so many terms.
 abbrev pub IsFunctionInside : ℕ → CoreFunction → Type 0
@@ -53,4 +54,5 @@ core_of parts = record {
   functions = map (function_term (term_of parts.terms)) parts.functions;
   main = main_term (term_of parts.terms) parts.main;
   offsets = parts.offsets;
+  marked = parts.marked;
 }

@@ -13,10 +13,12 @@ use Rattle.gib_core.specs.declared.atom.Atom.TheVariants as a
 use Rattle.gib_core.specs.declared.atom.Kind.{Kind}
 use Rattle.gib_core.specs.declared.atom.Kind.TheVariants.{Here, Region, Scalar}
 use Rattle.gib_core.specs.declared.atom.Access.{Access}
-use Rattle.gib_core.specs.declared.atom.Access.TheVariants.{Offset, Skip}
+use Rattle.gib_core.specs.declared.atom.Access.TheVariants.{Offset, Skip, End}
 use Rattle.gib_core.specs.declared.scope.Behind.{Behind}
+use Rattle.gib_base.specs.declared.name.Name.{Name}
 use Rattle.gib_core.specs.Tree.{FunctionTerm, CoreTree}
 use Rattle.gib_core.specs.Meaning.{function_at}
+use Rattle.gib_core.specs.Ending.{Ended, ended, call_ends}
 use Rattle.gib_core.specs.Met.{Known, Destination, Nowhere, Empty, Open, Setting, Line, PastLine, SideLine, ParLine, PrimLine, ReachLine, WriteLine, PointLine, CallLine, GiveLine, CaseLine, IfLine, Met, known, packed_types, field_due, Body, bodies, met_body}
 pub use Rattle.gib_core.specs.declared.scope.Bound.{Bound}
 
@@ -158,11 +160,22 @@ are_scalars table b Nowhere ss = true
 are_scalars table b Empty ss = true
 are_scalars table b (Open head con standing) ss = have_types b ss (scalar_types (fields_at table con.0))
 
+-- One of the calls tells the end of a variable, where these parameters are ended.
+abbrev pub one_tells : List Ended → List (Name × List Atom) → Variable → Bool
+one_tells es [] z = false
+one_tells es (c ∷ cs) z = call_ends es c.0.0 0 c.1 z || one_tells es cs z
+
+-- No par stands around a term.
+abbrev pub is_outside : List Variable → Bool
+is_outside [] = true
+is_outside (x ∷ xs) = false
+
 -- A field can be reached so, where it stands behind this.
 abbrev pub by_access : CoreTree → Before → Setting → Option Behind → Access → Bool
 by_access core b s None by = false
 by_access core b s (Some f) Offset = is_one_of core.offsets f.constructor
 by_access core b s (Some f) (Skip z) = f.before.0 == z.0 && (is_reached (known s.scope z) && not (is_among b.cased z))
+by_access core b s (Some f) (End z) = f.before.0 == z.0 && (is_reached (known s.scope z) && (is_outside s.others && one_tells (ended core) s.calls z))
 
 -- A field that is in scope and not reached can be reached so.
 abbrev pub may_reach : CoreTree → Before → Setting → Option Known → Access → Bool
@@ -234,8 +247,10 @@ side_rules table b s Scalar x ty = (8, is_bound b.bound x) ∷ (9, not (is_scala
 -- 6. `point` and a packed call give their value to an empty place.
 -- 7. `case` is on a packed value, with an arm for each constructor in declared order and a variable for each field.
 -- 8. A variable that is bound is new in its function; one that is used is in scope, and reached where it is a field. A field is
---    reached once: from the end of the field directly before it, which is reached and on which no `case` stands before, or by
---    the offset that its head stores, where its constructor has offsets.
+--    reached once: from the end of the field directly before it, which is reached and on which no `case` stands before; by
+--    the offset that its head stores, where its constructor has offsets; or at the end of the field directly before it, which is
+--    reached, where outside each `par` a call that tells that end is the whole term to which a variable was bound before in the
+--    same line.
 -- 9. Arguments, operands, conditions and results have the types that are due, as many as there are; a scalar is given where none
 --    has a place; a scalar call is the whole right side of a `scalar`.
 

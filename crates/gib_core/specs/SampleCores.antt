@@ -1,5 +1,5 @@
 -- Small cores, for examples of build rules.
-use Rattle.std.specs.Prelude.{ℕ, pos, List, [], ◌∷◌}
+use Rattle.std.specs.Prelude.{ℕ, pos, true, false, List, [], ◌∷◌}
 use Rattle.gib_base.specs.declared.name.Name.{Name}
 use Rattle.gib_types.specs.declared.table.Ty.{Ty}
 use Rattle.gib_types.specs.declared.table.Ty.TheVariants.{Whole, Tree}
@@ -8,7 +8,8 @@ use Rattle.gib_types.specs.Row.{Table}
 use Rattle.gib_core.specs.declared.atom.Variable.{Variable}
 use Rattle.gib_core.specs.declared.atom.Atom.TheVariants as a
 use Rattle.gib_core.specs.declared.atom.Kind.{Kind}
-use Rattle.gib_core.specs.Tree.{Term, Bind, Point, Give, One, On, Branches, NoBranch, BranchThen, var, CoreTree}
+use Rattle.gib_core.specs.declared.atom.Kind.TheVariants.{Scalar}
+use Rattle.gib_core.specs.Tree.{Term, Then, CallTerm, CaseTerm, Bind, Point, Give, One, On, Branches, NoBranch, BranchThen, var, CoreTree}
 
 -- data Tree = Leaf Int | Node Tree Tree, data Empty = Nil, data Triple = Three Tree Tree Tree
 
@@ -65,6 +66,7 @@ sample parameter result body = record {
   functions = record { name = same; parameters = tree ∷ []; result = tree; body = Point (var 0) } ∷ [];
   main = record { parameter = parameter; result = result; body = body };
   offsets = node ∷ [];
+  marked = false;
 }
 
 -- The function `size (t : Tree) : Int = 0`.
@@ -86,3 +88,17 @@ points kind x y = One (On kind (v x) tree (Point (var y)))
 -- The arms of a case on a tree.
 abbrev pub arms : List Variable → Term → List Variable → Term → Branches
 arms xs t ys u = BranchThen leaf xs t (BranchThen node ys u NoBranch)
+
+-- A variable that is bound to the size of another one, by a call.
+abbrev pub sizes : ℕ → ℕ → Bind
+sizes x y = One (On Scalar (v x) Whole (CallTerm size (var y ∷ [])))
+
+-- A core of a function `size` with this term in its second arm, whose fields are %2 and %3, and a main that calls it. Ends are marked.
+abbrev pub told : Term → CoreTree
+told t = record {
+  table = sample_table;
+  functions = record { name = size; parameters = tree ∷ []; result = Whole; body = CaseTerm (var 0) (arms (v 1 ∷ []) (Give (var 1)) (v 2 ∷ v 3 ∷ []) t) } ∷ [];
+  main = record { parameter = tree; result = Whole; body = Then (sizes 1 0) (Give (var 1)) };
+  offsets = [];
+  marked = true;
+}

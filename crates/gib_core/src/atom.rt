@@ -32,6 +32,15 @@ pub enum Access {
     Offset,
     /// From the end of the field directly before it.
     Skip(Variable),
+    /// At the end of the field directly before it, which a call told.
+    End(Variable),
+}
+
+/// A packed parameter: the number of its function's name, and its place among the function's parameters.
+#[derive(Clone, Copy, Debug, PartialEq, Eq)]
+pub struct Ended {
+    pub function: u32,
+    pub place: u32,
 }
 
 /// How all fields of a core are reached.
@@ -39,6 +48,8 @@ pub enum Access {
 pub enum AccessMode {
     Skips,
     Offsets,
+    /// By the end of the field before, where a call told it outside each `par`; else by an offset.
+    Ends,
 }
 
 impl Atom {

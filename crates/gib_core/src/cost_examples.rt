@@ -37,6 +37,7 @@ pub fn adding_one()
           functions = record { name = f; parameters = tree ∷ []; result = tree; body = CaseTerm (var 0) (BranchThen leaf (x 1 ∷ []) at_leaf (BranchThen node (x 2 ∷ x 3 ∷ []) (Then (Reach (x 3) (by.Skip (x 2))) t) NoBranch)) } ∷ [];
           main = record { parameter = tree; result = tree; body = CallTerm f (var 0 ∷ []) };
           offsets = [];
+          marked = false;
         } in
         let leaf_of : ℕ → Datum = λ n. con 0 (field (whole (pos n)) no_fields) in
         let input : Datum = con 1 (field (leaf_of 1) (field (leaf_of 2) no_fields)) in
@@ -59,6 +60,7 @@ pub fn adding_one()
           functions = record { name = f; parameters = tree ∷ []; result = tree; body = CaseTerm (var 0) (BranchThen leaf (x 1 ∷ []) at_leaf (BranchThen node (x 2 ∷ x 3 ∷ []) at_node NoBranch)) } ∷ [];
           main = record { parameter = tree; result = tree; body = CallTerm f (var 0 ∷ []) };
           offsets = [];
+          marked = false;
         } in
         let leaf_of : ℕ → Datum = λ n. con 0 (field (whole (pos n)) no_fields) in
         let node_of : Datum → Datum → Datum = λ l r. con 1 (field l (field r no_fields)) in
@@ -112,6 +114,7 @@ pub fn building()
           functions = record { name = f; parameters = ty.Whole ∷ []; result = list; body = Then (Prim (x 1) o.Less (var 0) (a.Whole (pos 1))) (IfTerm (var 1) empty cell) } ∷ [];
           main = record { parameter = ty.Whole; result = list; body = CallTerm f (var 0 ∷ []) };
           offsets = [];
+          marked = false;
         } in
         run_cost core 100 4 (whole (pos 3)) ≡ record { regions = 0; items = 4 } }
 {}

@@ -1,6 +1,6 @@
 //! Examples of what divisions mean, and of what runs cost that end at one.
 
-ghost use Rattle.std.specs.Prelude.{◌≡◌, ◌∷◌, [], ℕ, ℤ, pos, negsuc, true};
+ghost use Rattle.std.specs.Prelude.{◌≡◌, ◌∷◌, [], ℕ, ℤ, pos, negsuc, true, false};
 ghost use Rattle.gib_base.specs.declared.name.Name.{Name};
 ghost use Rattle.gib_types.specs.declared.table.Ty.{Ty as FieldType};
 ghost use Rattle.gib_types.specs.declared.table.Ty.TheVariants as ty;
@@ -24,6 +24,7 @@ pub fn dividing()
       functions = [];
       main = record { parameter = ty.Whole; result = ty.Whole; body = Then (Prim (record { 0 = 1 }) f (a.Whole z) (var 0)) (Give (var 1)) };
       offsets = [];
+      marked = false;
     } in
         (core_run (core o.Quotient (negsuc 6)) 0 (whole (pos 2)) ≡ Gives (whole (negsuc 2)))
         × (core_run (core o.Remainder (negsuc 6)) 0 (whole (pos 2)) ≡ Gives (whole (negsuc 0)))
@@ -40,6 +41,7 @@ pub fn dividing()
           functions = record { name = f; parameters = ty.Whole ∷ []; result = ty.Whole; body = Give (var 0) } ∷ [];
           main = record { parameter = ty.Whole; result = ty.Whole; body = t };
           offsets = [];
+          marked = false;
         } in
         let deep : ℕ → Side = λ n. On kind.Scalar (x n) ty.Whole (CallTerm f (var 0 ∷ [])) in
         let trap : ℕ → Side = λ n. On kind.Scalar (x n) ty.Whole (Then (Prim (x 9) o.Quotient (a.Whole (pos 7)) (a.Whole (pos 0))) (Give (var 9))) in
@@ -62,6 +64,7 @@ pub fn trapped()
           functions = [];
           main = record { parameter = ty.Whole; result = tree; body = Then (Prim (x 1) o.Quotient (a.Whole (pos 7)) (var 0)) (Then (Past (x 2) leaf) (Write (x 2) leaf (var 1 ∷ []) [])) };
           offsets = [];
+          marked = false;
         } in
         (run_cost core 100 4 (whole (pos 1)) ≡ record { regions = 0; items = 1 })
         × (run_cost core 100 4 (whole (pos 0)) ≡ record { regions = 0; items = 0 }) }
@@ -77,6 +80,7 @@ pub fn trapped()
           functions = [];
           main = record { parameter = ty.Whole; result = tree; body = Then (Past (x 1) node) (Then (Both true left right) (Write (x 1) node [] (var 2 ∷ var 5 ∷ []))) };
           offsets = [];
+          marked = false;
         } in
         (run_cost core 100 4 (whole (pos 1)) ≡ record { regions = 1; items = 4 })
         × (run_cost core 100 4 (whole (pos 0)) ≡ record { regions = 1; items = 3 }) }

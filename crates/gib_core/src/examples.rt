@@ -1,6 +1,6 @@
 //! Examples of what a program becomes, and of build rules.
 
-ghost use Rattle.std.specs.Prelude.{◌≡◌, ◌∷◌, [], ℕ, pos, None, Some};
+ghost use Rattle.std.specs.Prelude.{◌≡◌, ◌∷◌, [], ℕ, pos, false, None, Some};
 ghost use Rattle.gib_base.specs.declared.Span.{Span};
 ghost use Rattle.gib_types.specs.declared.table.Ty.{Ty as FieldType};
 ghost use Rattle.gib_types.specs.declared.table.Ty.TheVariants as ty;
@@ -32,7 +32,7 @@ pub fn examples()
         let tree : FieldType = ty.Tree (record { 0 = 0 }) in
         let x : ℕ → X = λ n. record { 0 = n } in
         let table : Table = record { types = 0 ∷ []; rows = record { name = 1; owner = 0; fields = ty.Whole ∷ [] } ∷ record { name = 2; owner = 0; fields = tree ∷ tree ∷ [] } ∷ [] } in
-        let core : Term → CoreTree = λ t. record { table = table; functions = []; main = record { parameter = tree; result = tree; body = t }; offsets = [] } in
+        let core : Term → CoreTree = λ t. record { table = table; functions = []; main = record { parameter = tree; result = tree; body = t }; offsets = []; marked = false } in
         let fields : Term → Term = λ t. Then (Past (x 1) node) (Then (One (On kind.Here (x 2) tree (Point (var 0)))) (Then (One (On kind.Here (x 3) tree (Point (var 0)))) t)) in
         (first_broken (core (fields (Write (x 1) node [] (var 2 ∷ var 3 ∷ [])))) ≡ None)
         × (first_broken (core (fields (Write (x 1) node [] (var 3 ∷ var 2 ∷ [])))) ≡ Some (5, 5)) }
@@ -42,7 +42,7 @@ pub fn examples()
         let tree : FieldType = ty.Tree (record { 0 = 0 }) in
         let x : ℕ → X = λ n. record { 0 = n } in
         let table : Table = record { types = 0 ∷ []; rows = record { name = 1; owner = 0; fields = ty.Whole ∷ [] } ∷ record { name = 2; owner = 0; fields = tree ∷ tree ∷ [] } ∷ [] } in
-        let core : Term → CoreTree = λ t. record { table = table; functions = []; main = record { parameter = tree; result = ty.Whole; body = CaseTerm (var 0) (BranchThen leaf (x 1 ∷ []) (Give (var 1)) (BranchThen node (x 2 ∷ x 3 ∷ []) t NoBranch)) }; offsets = [] } in
+        let core : Term → CoreTree = λ t. record { table = table; functions = []; main = record { parameter = tree; result = ty.Whole; body = CaseTerm (var 0) (BranchThen leaf (x 1 ∷ []) (Give (var 1)) (BranchThen node (x 2 ∷ x 3 ∷ []) t NoBranch)) }; offsets = []; marked = false } in
         let zero : Term = Give (a.Whole (pos 0)) in
         let look : Term → Term = λ t. Then (One (On kind.Scalar (x 4) ty.Whole (CaseTerm (var 2) (BranchThen leaf (x 5 ∷ []) zero (BranchThen node (x 6 ∷ x 7 ∷ []) zero NoBranch))))) t in
         (first_broken (core (Then (Reach (x 3) (by.Skip (x 2))) (look (Give (var 4))))) ≡ None)

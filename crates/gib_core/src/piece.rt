@@ -47,5 +47,9 @@ pub enum Piece {
     ByOffset,
     /// A field is reached from the end of another one.
     BySkip(Variable),
+    /// A field is reached at the end of another one.
+    ByEnd(Variable),
+    /// Variables follow whose ends a call tells.
+    Ends,
     End,
 }

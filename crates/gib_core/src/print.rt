@@ -6,12 +6,14 @@ ghost use Rattle.std.specs.Prelude.{◌≡◌, ◌<◌, ◌+◌, ◌*◌, ◌^�
 ghost use Rattle.std.specs.List.{AllByRecursion};
 ghost use Rattle.gib_core.specs.Arena.{IsBindingBelow, IsBranchBelow, IsEnd, term_of, side_from, bind_from, branches_from};
 ghost use Rattle.gib_core.specs.Parts.{IsFunctionInside, function_term, main_term, core_of};
-ghost use Rattle.gib_core.specs.CoreText.{kind_word, spell_access, spell_fork, spell_variables, spell_atoms, spell_term, spell_bind, spell_side, spell_branches, spell_parameters, spell_function, spell_functions, spell_main, spell_core, core_text};
+ghost use Rattle.gib_core.specs.CoreText.{kind_word, spell_access, spell_fork, spell_variables, spell_atoms, ended_from, spell_ends, spell_term, spell_bind, spell_side, spell_branches, spell_parameters, spell_function, spell_functions, spell_main, spell_core, core_text};
 
 use crate::atom::{Access, Atom, Kind, Variable};
+use crate::ended::EndedSet;
 use crate::node::{Binding, BoundTerm, Branch, Node, TermId, Terms};
 use crate::piece::{Keyword, Piece};
 use crate::program::{Core, CoreFunction, CoreMain};
+use crate::settle::ended_parameters;
 use crate::text::text_of;
 use crate::written::{Written, put_line};
 use gib_base::{Memory, Name, Names};
@@ -58,11 +60,53 @@ fn put_fields(scalars: &[Atom], packed: &[Atom], out: &mut Written) -> Result<()
     put_atoms(scalars, out)
 }
 
-/// The line of a call.
-fn put_call(level: u64, name: Name, arguments: &[Atom], out: &mut Written) -> Result<(), Memory>
-    ensures { OnOk result (out.new ≡ Piece.Line level Keyword.Call ∷ Piece.Function name ∷ spell_atoms arguments.now (Piece.End ∷ out.old)) }
+/// The variables of a call at ended parameters.
+fn ended_arguments(
+    alloc: Global,
+    ended: &EndedSet,
+    name: Name,
+    arguments: &[Atom],
+) -> Result<Vec<Variable>, Memory>
+    ensures { IfOk result (λ found. found.items ≡ ended_from ended.now name.0 0 arguments.now) }
 {
+    let mut found = Vec::new(alloc);
+    let mut i = 0;
+    'arguments: while i < arguments.len() {
+        if let Atom::Variable(x) = arguments[i] {
+            if ended.has(name, i) {
+                found.push(x)?;
+            }
+        }
+        i += 1;
+    }
+    Ok(found)
+}
+
+/// The variables whose ends a call tells.
+fn put_ends(ends: &[Variable], out: &mut Written) -> Result<(), Memory>
+    ensures { OnOk result (out.new ≡ spell_ends ends.now out.old) }
+{
+    if ends.is_empty() {
+        return Ok(());
+    }
+    put_variables(ends, out)?;
+    out.put(Piece::Ends)
+}
+
+/// The line of a call.
+fn put_call(
+    alloc: Global,
+    ended: &EndedSet,
+    level: u64,
+    name: Name,
+    arguments: &[Atom],
+    out: &mut Written,
+) -> Result<(), Memory>
+    ensures { OnOk result (out.new ≡ Piece.Line level Keyword.Call ∷ Piece.Function name ∷ spell_atoms arguments.now (spell_ends (ended_from ended.now name.0 0 arguments.now) (Piece.End ∷ out.old))) }
+{
+    let ends = ended_arguments(alloc, ended, name, arguments)?;
     out.put(Piece::End)?;
+    put_ends(&ends, out)?;
     put_atoms(arguments, out)?;
     out.put(Piece::Function(name))?;
     put_line(level, Keyword::Call, out)
@@ -85,6 +129,7 @@ fn put_access(access: Access, out: &mut Written) -> Result<(), Memory>
     match access {
         Access::Offset => out.put(Piece::ByOffset),
         Access::Skip(field) => out.put(Piece::BySkip(field)),
+        Access::End(field) => out.put(Piece::ByEnd(field)),
     }
 }
 
@@ -94,44 +139,43 @@ fn put_fork(fork: bool, out: &mut Written) -> Result<(), Memory>
     if fork { out.put(Piece::Fork) } else { Ok(()) }
 }
 
+/// What terms are printed of, with the ended parameters, and with none in the sides of a `par`.
+#[derive(Clone, Copy)]
+struct Printed<'a> {
+    alloc: Global,
+    terms: &'a Terms,
+    ended: &'a EndedSet,
+    none: &'a EndedSet,
+}
+
 /// A term on a level. This recurses as deep as terms are nested in bindings and branches, and not along a line.
 #[cycle(terms)]
-fn put_term(
-    alloc: Global,
-    terms: &Terms,
-    level: u64,
-    id: TermId,
-    out: &mut Written,
-) -> Result<(), Memory>
-    requires inside { id.0 < length terms.now }
+fn put_term(from: &Printed, level: u64, id: TermId, out: &mut Written) -> Result<(), Memory>
+    requires none { from.now.none.now ≡ [] }
+    requires inside { id.0 < length from.now.terms.now }
     requires level { level + 2 * id.0 < 2 ^ 40 }
-    ensures { OnOk result (out.new ≡ spell_term level (term_of terms.now id.0) out.old) }
+    ensures { OnOk result (out.new ≡ spell_term from.now.ended.now level (term_of from.now.terms.now id.0) out.old) }
 {
-    let (bindings, last) = terms.line(alloc, id)?;
-    put_end(alloc, terms, level, last, out)?;
+    let (bindings, last) = from.terms.line(from.alloc, id)?;
+    put_end(from, level, last, out)?;
     let mut i = bindings.len();
     'bindings: while i > 0 {
         i -= 1;
-        put_binding(alloc, terms, level, id, bindings[i], out)?;
+        put_binding(from, level, id, bindings[i], out)?;
     }
     Ok(())
 }
 
 /// The end of a line.
 #[cycle(terms)]
-fn put_end(
-    alloc: Global,
-    terms: &Terms,
-    level: u64,
-    id: TermId,
-    out: &mut Written,
-) -> Result<(), Memory>
-    requires inside { id.0 < length terms.now }
+fn put_end(from: &Printed, level: u64, id: TermId, out: &mut Written) -> Result<(), Memory>
+    requires none { from.now.none.now ≡ [] }
+    requires inside { id.0 < length from.now.terms.now }
     requires level { level + 2 * id.0 < 2 ^ 40 }
-    requires last { IsEnd (term_of terms.now id.0) }
-    ensures { OnOk result (out.new ≡ spell_term level (term_of terms.now id.0) out.old) }
+    requires last { IsEnd (term_of from.now.terms.now id.0) }
+    ensures { OnOk result (out.new ≡ spell_term from.now.ended.now level (term_of from.now.terms.now id.0) out.old) }
 {
-    match terms.node(id) {
+    match from.terms.node(id) {
         Node::Then(_, _) => unreachable!(),
         Node::Write {
             head,
@@ -144,10 +188,12 @@ fn put_end(
             put_line(level, Keyword::Write, out)
         }
         Node::Point(atom) => put_atom_line(level, Keyword::Point, *atom, out),
-        Node::Call(name, arguments) => put_call(level, *name, arguments, out),
+        Node::Call(name, arguments) => put_call(
+            from.alloc, from.ended, level, *name, arguments, out,
+        ),
         Node::Give(atom) => put_atom_line(level, Keyword::Give, *atom, out),
         Node::Case { subject, branches } => {
-            put_branches(alloc, terms, level + 1, id, branches, out)?;
+            put_branches(from, level + 1, id, branches, out)?;
             put_atom_line(level, Keyword::Case, *subject, out)
         }
         Node::If {
@@ -155,10 +201,10 @@ fn put_end(
             then_part,
             else_part,
         } => {
-            put_term(alloc, terms, level + 1, *else_part, out)?;
+            put_term(from, level + 1, *else_part, out)?;
             out.put(Piece::End)?;
             put_line(level, Keyword::Else, out)?;
-            put_term(alloc, terms, level + 1, *then_part, out)?;
+            put_term(from, level + 1, *then_part, out)?;
             put_atom_line(level, Keyword::If, *condition, out)
         }
     }
@@ -167,17 +213,17 @@ fn put_end(
 /// A binding of the term of a number, whose terms stand below it.
 #[cycle(terms)]
 fn put_binding(
-    alloc: Global,
-    terms: &Terms,
+    from: &Printed,
     level: u64,
     parent: TermId,
     binding: Binding,
     out: &mut Written,
 ) -> Result<(), Memory>
-    requires inside { parent.0 < length terms.now }
+    requires none { from.now.none.now ≡ [] }
+    requires inside { parent.0 < length from.now.terms.now }
     requires level { level + 2 * parent.0 < 2 ^ 40 }
     requires below { IsBindingBelow parent.0 binding }
-    ensures { OnOk result (out.new ≡ spell_bind level (bind_from (term_of terms.now) binding) out.old) }
+    ensures { OnOk result (out.new ≡ spell_bind from.now.ended.now level (bind_from (term_of from.now.terms.now) binding) out.old) }
 {
     match binding {
         Binding::Past { head, constructor } => {
@@ -186,10 +232,14 @@ fn put_binding(
             out.put(Piece::Variable(head))?;
             put_line(level, Keyword::Past, out)
         }
-        Binding::One(side) => put_side(alloc, terms, level, side, out),
+        Binding::One(side) => put_side(from, level, side, out),
         Binding::Par { fork, left, right } => {
-            put_side(alloc, terms, level + 1, right, out)?;
-            put_side(alloc, terms, level + 1, left, out)?;
+            let inside = Printed {
+                ended: from.none,
+                ..*from
+            };
+            put_side(&inside, level + 1, right, out)?;
+            put_side(&inside, level + 1, left, out)?;
             out.put(Piece::End)?;
             put_fork(fork, out)?;
             put_line(level, Keyword::Par, out)
@@ -219,18 +269,13 @@ fn put_binding(
 
 /// A variable with the term that it is bound to.
 #[cycle(terms)]
-fn put_side(
-    alloc: Global,
-    terms: &Terms,
-    level: u64,
-    side: BoundTerm,
-    out: &mut Written,
-) -> Result<(), Memory>
-    requires inside { side.term.0 < length terms.now }
+fn put_side(from: &Printed, level: u64, side: BoundTerm, out: &mut Written) -> Result<(), Memory>
+    requires none { from.now.none.now ≡ [] }
+    requires inside { side.term.0 < length from.now.terms.now }
     requires level { level + 1 + 2 * side.term.0 < 2 ^ 40 }
-    ensures { OnOk result (out.new ≡ spell_side level (side_from (term_of terms.now) side) out.old) }
+    ensures { OnOk result (out.new ≡ spell_side from.now.ended.now level (side_from (term_of from.now.terms.now) side) out.old) }
 {
-    put_term(alloc, terms, level + 1, side.term, out)?;
+    put_term(from, level + 1, side.term, out)?;
     out.put(Piece::End)?;
     out.put(Piece::Variable(side.variable))?;
     put_line(level, kind_word(side.kind), out)
@@ -239,22 +284,22 @@ fn put_side(
 /// The branches of the case of a number, whose terms stand below it.
 #[cycle(terms)]
 fn put_branches(
-    alloc: Global,
-    terms: &Terms,
+    from: &Printed,
     level: u64,
     parent: TermId,
     branches: &[Branch],
     out: &mut Written,
 ) -> Result<(), Memory>
-    requires inside { parent.0 < length terms.now }
+    requires none { from.now.none.now ≡ [] }
+    requires inside { parent.0 < length from.now.terms.now }
     requires level { level + 2 * parent.0 < 2 ^ 40 + 1 }
     requires below { AllByRecursion (IsBranchBelow parent.0) branches.now }
-    ensures { OnOk result (out.new ≡ spell_branches level (branches_from (term_of terms.now) branches.now) out.old) }
+    ensures { OnOk result (out.new ≡ spell_branches from.now.ended.now level (branches_from (term_of from.now.terms.now) branches.now) out.old) }
 {
     let mut i = branches.len();
     'branches: while i > 0 {
         i -= 1;
-        put_term(alloc, terms, level + 1, branches[i].term, out)?;
+        put_term(from, level + 1, branches[i].term, out)?;
         out.put(Piece::End)?;
         put_variables(&branches[i].variables, out)?;
         out.put(Piece::Arm(level, branches[i].constructor))?;
@@ -277,58 +322,50 @@ fn put_parameters(parameters: &[Ty], out: &mut Written) -> Result<(), Memory>
 }
 
 /// The type of a result, the end of its line, and the body below it.
-fn put_body(
-    alloc: Global,
-    terms: &Terms,
-    ty: Ty,
-    body: TermId,
-    out: &mut Written,
-) -> Result<(), Memory>
-    requires { body.0 < length terms.now }
-    ensures { OnOk result (out.new ≡ Piece.Result ty ∷ Piece.End ∷ spell_term 1 (term_of terms.now body.0) out.old) }
+fn put_body(from: &Printed, ty: Ty, body: TermId, out: &mut Written) -> Result<(), Memory>
+    requires none { from.now.none.now ≡ [] }
+    requires inside { body.0 < length from.now.terms.now }
+    ensures { OnOk result (out.new ≡ Piece.Result ty ∷ Piece.End ∷ spell_term from.now.ended.now 1 (term_of from.now.terms.now body.0) out.old) }
 {
-    put_term(alloc, terms, 1, body, out)?;
+    put_term(from, 1, body, out)?;
     out.put(Piece::End)?;
     out.put(Piece::Result(ty))
 }
 
-fn put_function(
-    alloc: Global,
-    terms: &Terms,
-    function: &CoreFunction,
-    out: &mut Written,
-) -> Result<(), Memory>
-    requires { function.now.body.0 < length terms.now }
-    ensures { OnOk result (out.new ≡ spell_function (function_term (term_of terms.now) function.now) out.old) }
+fn put_function(from: &Printed, function: &CoreFunction, out: &mut Written) -> Result<(), Memory>
+    requires none { from.now.none.now ≡ [] }
+    requires inside { function.now.body.0 < length from.now.terms.now }
+    ensures { OnOk result (out.new ≡ spell_function from.now.ended.now (function_term (term_of from.now.terms.now) function.now) out.old) }
 {
-    put_body(alloc, terms, function.result, function.body, out)?;
+    put_body(from, function.result, function.body, out)?;
     put_parameters(&function.parameters, out)?;
     out.put(Piece::Function(function.name))?;
     put_line(0, Keyword::Fun, out)
 }
 
 fn put_functions(
-    alloc: Global,
-    terms: &Terms,
+    from: &Printed,
     functions: &[CoreFunction],
     out: &mut Written,
 ) -> Result<(), Memory>
-    requires { AllByRecursion (IsFunctionInside (length terms.now)) functions.now }
-    ensures { OnOk result (out.new ≡ spell_functions (map (function_term (term_of terms.now)) functions.now) out.old) }
+    requires none { from.now.none.now ≡ [] }
+    requires inside { AllByRecursion (IsFunctionInside (length from.now.terms.now)) functions.now }
+    ensures { OnOk result (out.new ≡ spell_functions from.now.ended.now (map (function_term (term_of from.now.terms.now)) functions.now) out.old) }
 {
     let mut i = functions.len();
     'functions: while i > 0 {
         i -= 1;
-        put_function(alloc, terms, &functions[i], out)?;
+        put_function(from, &functions[i], out)?;
     }
     Ok(())
 }
 
-fn put_main(alloc: Global, terms: &Terms, main: CoreMain, out: &mut Written) -> Result<(), Memory>
-    requires { main.body.0 < length terms.now }
-    ensures { OnOk result (out.new ≡ spell_main (main_term (term_of terms.now) main) out.old) }
+fn put_main(from: &Printed, main: CoreMain, out: &mut Written) -> Result<(), Memory>
+    requires none { from.now.none.now ≡ [] }
+    requires inside { main.body.0 < length from.now.terms.now }
+    ensures { OnOk result (out.new ≡ spell_main from.now.ended.now (main_term (term_of from.now.terms.now) main) out.old) }
 {
-    put_body(alloc, terms, main.result, main.body, out)?;
+    put_body(from, main.result, main.body, out)?;
     out.put(Piece::Parameter(Variable(0), main.parameter))?;
     put_line(0, Keyword::Main, out)
 }
@@ -337,9 +374,17 @@ fn put_main(alloc: Global, terms: &Terms, main: CoreMain, out: &mut Written) -> 
 fn pieces_of(alloc: Global, core: &Core) -> Result<Vec<Piece>, Memory>
     ensures { IfOk result (λ pieces. pieces.items ≡ spell_core (core_of core.now)) }
 {
+    let ended = ended_parameters(alloc, core, core.marked())?;
+    let none = EndedSet::none(alloc);
+    let from = Printed {
+        alloc,
+        terms: core.terms(),
+        ended: &ended,
+        none: &none,
+    };
     let mut out = Written::new(alloc);
-    put_main(alloc, core.terms(), core.main(), &mut out)?;
-    put_functions(alloc, core.terms(), core.functions(), &mut out)?;
+    put_main(&from, core.main(), &mut out)?;
+    put_functions(&from, core.functions(), &mut out)?;
     Ok(out.into_vec())
 }
 

@@ -25,8 +25,9 @@ pub struct CoreMain {
     pub body: TermId,
 }
 
-/// A core: the types of the program, its functions, the terms in which their bodies stand, and the
-/// constructors whose heads store offsets. The types of functions and of main are declared.
+/// A core: the types of the program, its functions, the terms in which their bodies stand, the
+/// constructors whose heads store offsets, and whether ends of values are told. The types of functions and of
+/// main are declared.
 #[derive(Drop)]
 pub struct Core {
     types: TypeTable,
@@ -34,6 +35,7 @@ pub struct Core {
     functions: Vec<CoreFunction>,
     main: CoreMain,
     offsets: Vec<ConId>,
+    marked: bool,
 }
 
 impl Model for Core {
@@ -41,9 +43,9 @@ impl Model for Core {
 
     ghost Value = { Parts };
 
-    ghost view = { λ c. record { table = c.types; terms = c.terms; functions = c.functions.items; main = c.main; offsets = c.offsets.items } };
+    ghost view = { λ c. record { table = c.types; terms = c.terms; functions = c.functions.items; main = c.main; offsets = c.offsets.items; marked = c.marked } };
 
-    ghost invariant = { λ c. AreInside (record { table = c.types; terms = c.terms; functions = c.functions.items; main = c.main; offsets = c.offsets.items }) };
+    ghost invariant = { λ c. AreInside (record { table = c.types; terms = c.terms; functions = c.functions.items; main = c.main; offsets = c.offsets.items; marked = c.marked }) };
 }
 
 impl Core {
@@ -58,9 +60,10 @@ impl Core {
         functions: Vec<CoreFunction>,
         main: CoreMain,
         offsets: Vec<ConId>,
+        marked: bool,
     ) -> Core
-        requires { AreInside (record { table = types; terms = terms; functions = functions.items; main = main; offsets = offsets.items }) }
-        ensures { result ≡ record { table = types; terms = terms; functions = functions.items; main = main; offsets = offsets.items } }
+        requires { AreInside (record { table = types; terms = terms; functions = functions.items; main = main; offsets = offsets.items; marked = marked }) }
+        ensures { result ≡ record { table = types; terms = terms; functions = functions.items; main = main; offsets = offsets.items; marked = marked } }
     {
         Core {
             types,
@@ -68,6 +71,7 @@ impl Core {
             functions,
             main,
             offsets,
+            marked,
         }
     }
 
@@ -109,6 +113,13 @@ impl Core {
         &self.offsets
     }
 
+    /// Whether ends of values are told.
+    pub fn marked(&self) -> bool
+        ensures { result ≡ self.now.marked }
+    {
+        self.marked
+    }
+
     /// The types of a core's functions and of its main are declared.
     #[tactic(auto, using(crate::proofs::Signatures::parts_declared))]
     pub fn types_declared(&self)
@@ -125,12 +136,22 @@ impl Core {
     }
 
     /// The parts of a core.
-    pub fn into_parts(self) -> (TypeTable, Terms, Vec<CoreFunction>, CoreMain, Vec<ConId>)
+    pub fn into_parts(
+        self,
+    ) -> (
+        TypeTable,
+        Terms,
+        Vec<CoreFunction>,
+        CoreMain,
+        Vec<ConId>,
+        bool,
+    )
         ensures types { result.0 ≡ self.table }
         ensures terms { result.1 ≡ self.terms }
         ensures functions { result.2.items ≡ self.functions }
         ensures main { result.3 ≡ self.main }
         ensures offsets { result.4.items ≡ self.offsets }
+        ensures marked { result.5 ≡ self.marked }
         ensures inside { AreInside self }
     {
         (
@@ -139,6 +160,7 @@ impl Core {
             self.functions,
             self.main,
             self.offsets,
+            self.marked,
         )
     }
 }

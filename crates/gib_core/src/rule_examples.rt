@@ -9,7 +9,8 @@ ghost use Rattle.gib_core.specs.declared.atom.Access.TheVariants as by;
 ghost use Rattle.gib_core.specs.declared.atom.Kind.TheVariants as kind;
 ghost use Rattle.gib_core.specs.Tree.{Term, Then, Write, Point, CallTerm, Give, CaseTerm, IfTerm, Past, One, Both, Prim, Reach, On, NoBranch, BranchThen, var};
 ghost use Rattle.gib_core.specs.Rules.{first_broken};
-ghost use Rattle.gib_core.specs.SampleCores.{tree, empty, triple, leaf, node, nil, three, v, same, sample, size, sized, zero_term, points, arms};
+ghost use Rattle.gib_core.specs.SampleCores.{tree, empty, triple, leaf, node, nil, three, v, same, sample, size, sized, zero_term, points, arms, sizes, told as core_told};
+ghost use Rattle.gib_core.specs.Ending.{ended};
 
 /// Rules 1, 2, 3, 5 and 6: where values are put. Main's terms count from 1.
 pub fn places()
@@ -171,4 +172,22 @@ pub fn types()
         × (first_broken (sample tree tree (Then (Past (v 1) leaf) (Write (v 1) leaf (a.Truth true ∷ []) []))) ≡ Some (9, 2))
         × (first_broken (sample empty tree (Then (Past (v 1) node) (Then (One (On kind.Here (v 2) empty (Point (var 0)))) (Write (v 1) node [] (var 2 ∷ []))))) ≡ Some (9, 2))
         × (first_broken (sample tree ty.Whole (Then (One (On kind.Scalar (v 1) tree (Point (var 0)))) zero_term)) ≡ Some (9, 1)) }
+{}
+
+/// A field is reached at the end that a call told before in the same line, outside each par.
+pub fn told()
+    // Both fields are summed: the parameter is ended, as R12a says.
+    ensures both { let rest : Term = Then (Reach (v 3) (by.End (v 2))) (Then (sizes 5 3) (Then (Prim (v 6) o.Add (var 4) (var 5)) (Give (var 6)))) in
+        let core = core_told (Then (sizes 4 2) rest) in
+        (ended core ≡ record { function = 8; place = 0 } ∷ []) × (first_broken core ≡ None)
+        × (ended (record core { marked = false }) ≡ []) × (first_broken (record core { marked = false }) ≡ Some (8, 4)) }
+    // It was told neither before it is told, nor by a side of a par.
+    ensures early { let reach : Term → Term = λ t. Then (Reach (v 3) (by.End (v 2))) t in
+        let last : Term = Then (sizes 5 3) (Give (var 5)) in
+        (first_broken (core_told (reach (Then (sizes 4 2) last))) ≡ Some (8, 2))
+        × (first_broken (core_told (Then (Both false (On kind.Scalar (v 4) ty.Whole (CallTerm size (var 2 ∷ []))) (On kind.Scalar (v 7) ty.Whole zero_term)) (reach last))) ≡ Some (8, 7))
+        × (first_broken (core_told (Then (sizes 4 2) (Then (One (On kind.Scalar (v 7) ty.Whole (reach last))) (Give (var 7))))) ≡ Some (8, 5)) }
+    // A function that reads its parameter not to the end tells none.
+    ensures first_alone { let core = core_told (Then (sizes 4 2) (Give (var 4))) in
+        (ended core ≡ []) × (first_broken core ≡ None) }
 {}

@@ -205,7 +205,7 @@ fn program(alloc: Global, access: Option<Access>, fork: bool) -> Result<Core, Me
     };
     let types = trees(alloc)?;
     let copy = types.copy(alloc)?;
-    Ok(Core::new(copy, terms, functions, main, Vec::new(alloc)))
+    Ok(Core::new(copy, terms, functions, main, Vec::new(alloc), false))
 }
 
 const FRONT: &str =
@@ -288,7 +288,7 @@ fn division(alloc: Global) -> Result<Core, Memory> {
         body,
     };
     let types = trees(alloc)?;
-    Ok(Core::new(types, terms, Vec::new(alloc), main, Vec::new(alloc)))
+    Ok(Core::new(types, terms, Vec::new(alloc), main, Vec::new(alloc), false))
 }
 
 #[test]

@@ -172,6 +172,11 @@ fn push_piece(
             out.extend_from_slice(b" by skip ")?;
             push_variable(alloc, out, variable)
         }
+        Piece::ByEnd(variable) => {
+            out.extend_from_slice(b" by end ")?;
+            push_variable(alloc, out, variable)
+        }
+        Piece::Ends => push_behind_space(out, b"ends"),
         Piece::End => {
             out.push(b'\n')?;
             Ok(())

@@ -1,5 +1,5 @@
 -- Where each term is marked, the bodies of a core are.
-use Rattle.std.proofs.Common.{◌≡◌, ℕ, ◌<◌, List, [], ◌∷◌, map, length, refl, ap, ◌∙◌, subst}
+use Rattle.std.proofs.Common.{◌≡◌, ℕ, ◌<◌, Bool, List, [], ◌∷◌, map, length, refl, ap, ◌∙◌, subst}
 use Rattle.std.specs.List.{AllByRecursion}
 use Rattle.gib_types.specs.declared.table.ConId.{ConId}
 use Rattle.gib_types.specs.Table.{Table}
@@ -17,22 +17,23 @@ functions_marked n f g [] inside h = refl
 functions_marked n f g (d ∷ fs) inside h =
     λ i. record { name = d.name; parameters = d.parameters.items; result = d.result; body = h d.body.0 inside.0 i } ∷ functions_marked n f g fs inside.1 h i
 
-pub bodies_marked : (core made : Parts) (table : Table) (terms new : List Node) (functions : List CoreFunction) (main : CoreMain) (offsets : List ConId)
-    → table ≡ core.table → terms ≡ core.terms → functions ≡ core.functions → main ≡ core.main → offsets ≡ core.offsets
+pub bodies_marked : (core made : Parts) (table : Table) (terms new : List Node) (functions : List CoreFunction) (main : CoreMain) (offsets : List ConId) (told : Bool)
+    → table ≡ core.table → terms ≡ core.terms → functions ≡ core.functions → main ≡ core.main → offsets ≡ core.offsets → told ≡ core.marked
     → AreInside core → ((id : ℕ) → id < length terms → term_of new id ≡ mark (term_of terms id))
-    → made ≡ record { table = table; terms = new; functions = functions; main = main; offsets = offsets } → core_of made ≡ mark_core (core_of core)
-bodies_marked core made table terms new functions main offsets a b c d e inside h same =
+    → made ≡ record { table = table; terms = new; functions = functions; main = main; offsets = offsets; marked = told } → core_of made ≡ mark_core (core_of core)
+bodies_marked core made table terms new functions main offsets told a b c d e g inside h same =
     ap core_of same
-    ∙ (λ i. core_of (record { table = a i; terms = new; functions = c i; main = d i; offsets = e i }))
+    ∙ (λ i. core_of (record { table = a i; terms = new; functions = c i; main = d i; offsets = e i; marked = g i }))
     ∙ with_terms (subst (λ (ts : List Node). (id : ℕ) → id < length ts → term_of new id ≡ mark (term_of ts id)) b h)
   where
     with_terms : ((id : ℕ) → id < length core.terms → term_of new id ≡ mark (term_of core.terms id))
-        → core_of (record { table = core.table; terms = new; functions = core.functions; main = core.main; offsets = core.offsets }) ≡ mark_core (core_of core)
+        → core_of (record { table = core.table; terms = new; functions = core.functions; main = core.main; offsets = core.offsets; marked = core.marked }) ≡ mark_core (core_of core)
     with_terms k = λ i. record {
       table = core.table;
       functions = functions_marked (length core.terms) (term_of core.terms) (term_of new) core.functions inside.functions k i;
       main = record { parameter = core.main.parameter; result = core.main.result; body = k core.main.body.0 inside.main i };
       offsets = core.offsets;
+      marked = core.marked;
     }
 
 -- What is made of a core whose parts were marked is that core marked.

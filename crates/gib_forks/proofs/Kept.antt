@@ -1,5 +1,5 @@
 -- To mark pars changes neither what is left of a core, nor its meaning, nor how its lines are met.
-use Rattle.std.proofs.Common.{◌≡◌, ℕ, zero, suc, Bool, true, false, not, ◌&&◌, ◌==◌, if◌then◌else◌, List, [], ◌∷◌, ◌++◌, map, length, Some, refl, sym, ap, ◌∙◌, subst}
+use Rattle.std.proofs.Common.{◌≡◌, ℕ, zero, suc, Bool, true, false, not, ◌&&◌, ◌||◌, ◌==◌, if◌then◌else◌, List, [], ◌∷◌, ◌++◌, map, length, Option, Some, None, refl, sym, ap, ◌∙◌, subst}
 use Rattle.std.specs.List.{AllByRecursion}
 use Rattle.gib_types.specs.declared.table.Ty.{Ty}
 use Rattle.gib_types.specs.Table.{Table, fields_at}
@@ -16,8 +16,17 @@ use Rattle.gib_core.specs.Meaning.{Calls, value, from_there, having, Went, mean,
 use Rattle.gib_core.specs.Erasing.{ident, Substitution, put_in, case_of, arm_before, left_out, let_or_put, erase, erase_bind, erase_branches, erase_function, erase_core, erase_atom, nowhere}
 use Rattle.gib_core.specs.Inferring.{numbers_from}
 use Rattle.gib_core.specs.Numbering.{binders, bind_binders, branch_binders, IsNumbered, AreNumbered}
-use Rattle.gib_core.specs.Met.{Setting, Line, PastLine, SideLine, ParLine, PrimLine, ReachLine, WriteLine, PointLine, CallLine, GiveLine, CaseLine, IfLine, Met, at, in_side, in_arm, in_branch, left_of, right_of, behind, arms_of, met, met_bind, met_side, met_branches, Body, met_body, opening}
-use Rattle.gib_core.specs.Rules.{Before, gives_packed, call_fits, rules, least, next, before_body, LinesAreBuilt, IsBuilt, AreBuilt, any_other, is_empty, all_usable}
+use Rattle.gib_core.specs.declared.scope.Known.{Known}
+use Rattle.gib_core.specs.Met.{known, call_too, Setting, Line, PastLine, SideLine, ParLine, PrimLine, ReachLine, WriteLine, PointLine, CallLine, GiveLine, CaseLine, IfLine, Met, at, in_side, in_arm, in_branch, left_of, right_of, behind, arms_of, met, met_bind, met_side, met_branches, Body, met_body, opening}
+use Rattle.gib_core.specs.Rules.{Before, is_among, is_reached, is_outside, one_tells, by_access, may_reach, gives_packed, call_fits, rules, least, next, before_body, LinesAreBuilt, IsBuilt, AreBuilt, any_other, is_empty, all_usable}
+use Rattle.gib_base.specs.declared.name.Name.{Name}
+use Rattle.gib_core.specs.declared.scope.Behind.{Behind}
+use Rattle.gib_core.specs.declared.atom.Access.{Access}
+use Rattle.gib_core.specs.declared.atom.Access.TheVariants.{Offset, Skip, End}
+use Rattle.gib_core.specs.Tree.{is_variable}
+use Rattle.gib_core.specs.declared.atom.Ended.{Ended}
+use Rattle.gib_core.specs.Ending.{ended, is_telling, is_known, all_known, lasts_known, last_packed, if_some, known_in, packed_from, all_packed, settled}
+use Rattle.gib_core.proofs.EndedSame.{settled_same}
 use Rattle.gib_core.specs.Marking.{mark, mark_bind, mark_side, mark_branches, mark_function, mark_core}
 
 -- What is left.
@@ -169,9 +178,18 @@ module _ (tb : Table) where
   arms_marked NoBranch = refl
   arms_marked (BranchThen k xs t rest) = ap (λ l. (k, xs) ∷ l) (arms_marked rest)
 
+  call_marked : (t : Term) (cs : List (Name × List Atom)) → call_too (mark t) cs ≡ call_too t cs
+  call_marked (Then b t) cs = refl
+  call_marked (Write h k ss ps) cs = refl
+  call_marked (Point x) cs = refl
+  call_marked (CallTerm f xs) cs = refl
+  call_marked (Give x) cs = refl
+  call_marked (CaseTerm x bs) cs = refl
+  call_marked (IfTerm x t u) cs = refl
+
   behind_marked : (s : Setting) (b : Bind) → behind s (mark_bind b) ≡ behind s b
   behind_marked s (Past h k) = refl
-  behind_marked s (One (On kind x ty t)) = refl
+  behind_marked s (One (On kind x ty t)) = λ i. record (behind s (One (On kind x ty t))) { calls = call_marked t s.calls i }
   behind_marked s (Both fork (On kind x ty t) (On other y uy u)) = refl
   behind_marked s (Prim x f y z) = refl
   behind_marked s (Reach y by) = refl
@@ -201,6 +219,64 @@ module _ (tb : Table) where
     branches_met NoBranch s = refl
     branches_met (BranchThen k xs t rest) s = λ i. mark_met t (in_arm tb s k xs) i ++ branches_met rest s i
 
+-- The ends that are told.
+module _ (tb : Table) (es : List Ended) where
+  telling_marked : (b : Bind) (z : Variable) → is_telling es (mark_bind b) z ≡ is_telling es b z
+  telling_marked (Past h k) z = refl
+  telling_marked (One (On kind x ty (Then b t))) z = refl
+  telling_marked (One (On kind x ty (Write h k ss ps))) z = refl
+  telling_marked (One (On kind x ty (Point y))) z = refl
+  telling_marked (One (On kind x ty (CallTerm f xs))) z = refl
+  telling_marked (One (On kind x ty (Give y))) z = refl
+  telling_marked (One (On kind x ty (CaseTerm y bs))) z = refl
+  telling_marked (One (On kind x ty (IfTerm y t u))) z = refl
+  telling_marked (Both fork (On kind x ty t) (On other y uy u)) z = refl
+  telling_marked (Prim x f v w) z = refl
+  telling_marked (Reach y by) z = refl
+
+  some_same : (o : Option Variable) (f g : Variable → Bool) → ((y : Variable) → f y ≡ g y) → if_some o f ≡ if_some o g
+  some_same None f g h = refl
+  some_same (Some y) f g h = h y
+
+  mutual
+    known_marked : (t : Term) (z : Variable) → is_known tb es (mark t) z ≡ is_known tb es t z
+    known_marked (Then b rest) z = λ i. telling_marked b z i || known_marked rest z i
+    known_marked (Write h k ss ps) z = refl
+    known_marked (Point x) z = refl
+    known_marked (CallTerm f xs) z = refl
+    known_marked (Give x) z = refl
+    known_marked (CaseTerm x bs) z = λ i. all_known_marked bs z i || (is_variable z x && lasts_marked bs i)
+    known_marked (IfTerm x t u) z = λ i. known_marked t z i && known_marked u z i
+
+    all_known_marked : (bs : Branches) (z : Variable) → all_known tb es (mark_branches bs) z ≡ all_known tb es bs z
+    all_known_marked NoBranch z = refl
+    all_known_marked (BranchThen k xs t rest) z = λ i. known_marked t z i && all_known_marked rest z i
+
+    lasts_marked : (bs : Branches) → lasts_known tb es (mark_branches bs) ≡ lasts_known tb es bs
+    lasts_marked NoBranch = refl
+    lasts_marked (BranchThen k xs t rest) =
+        λ i. some_same (last_packed None (fields_at tb k.0) xs) (λ y. is_known tb es (mark t) y) (λ y. is_known tb es t y) (λ y. known_marked t y) i && lasts_marked rest i
+
+in_marked : (tb : Table) (es : List Ended) (k : ℕ) (fs : List FunctionTerm) (f : ℕ) → known_in tb es k (function_at (map mark_function fs) f) ≡ known_in tb es k (function_at fs f)
+in_marked tb es k [] f = refl
+in_marked tb es k (g ∷ fs) f = go (g.name.0 == f) (in_marked tb es k fs f)
+  where
+    go : (c : Bool) → known_in tb es k (function_at (map mark_function fs) f) ≡ known_in tb es k (function_at fs f)
+        → known_in tb es k (if c then Some (mark_function g) else function_at (map mark_function fs) f) ≡ known_in tb es k (if c then Some g else function_at fs f)
+    go true e = known_marked tb es g.body (record { 0 = k })
+    go false e = e
+
+all_packed_marked : (fs : List FunctionTerm) → all_packed (map mark_function fs) ≡ all_packed fs
+all_packed_marked [] = refl
+all_packed_marked (g ∷ fs) = ap (λ xs. packed_from g.name.0 0 g.parameters ++ xs) (all_packed_marked fs)
+
+ended_marked : (core : CoreTree) → ended (mark_core core) ≡ ended core
+ended_marked core = λ i. if core.marked then same i else []
+  where
+    same : settled (mark_core core) (length (all_packed (map mark_function core.functions))) (all_packed (map mark_function core.functions)) ≡ settled core (length (all_packed core.functions)) (all_packed core.functions)
+    same = ap (λ xs. settled (mark_core core) (length xs) xs) (all_packed_marked core.functions)
+        ∙ settled_same (mark_core core) core (λ gs e. in_marked core.table gs e.place core.functions e.function) (length (all_packed core.functions)) (all_packed core.functions)
+
 -- The rules.
 packed_marked : (fs : List FunctionTerm) (f : ℕ) → gives_packed (function_at (map mark_function fs) f) ≡ gives_packed (function_at fs f)
 packed_marked [] f = refl
@@ -221,12 +297,22 @@ fits_marked b s xs (g ∷ fs) f = go (g.name.0 == f) (fits_marked b s xs fs f)
     go false e = e
 
 module _ (core : CoreTree) where
+  access_marked : (b : Before) (s : Setting) (f : Option Behind) (by : Access) → by_access (mark_core core) b s f by ≡ by_access core b s f by
+  access_marked b s None by = refl
+  access_marked b s (Some f) Offset = refl
+  access_marked b s (Some f) (Skip z) = refl
+  access_marked b s (Some f) (End z) = λ i. f.before.0 == z.0 && (is_reached (known s.scope z) && (is_outside s.others && one_tells (ended_marked core i) s.calls z))
+
+  reach_marked : (b : Before) (s : Setting) (k : Option Known) (by : Access) → may_reach (mark_core core) b s k by ≡ may_reach core b s k by
+  reach_marked b s None by = refl
+  reach_marked b s (Some k) by = ap (λ c. not k.reached && c) (access_marked b s k.behind by)
+
   rules_marked : (b : Before) (s : Setting) (line : Line) → rules (mark_core core) b s line ≡ rules core b s line
   rules_marked b s (PastLine h k) = refl
   rules_marked b s (SideLine kind x ty) = refl
   rules_marked b s ParLine = refl
   rules_marked b s (PrimLine x f y z) = refl
-  rules_marked b s (ReachLine y by) = refl
+  rules_marked b s (ReachLine y by) = λ i. (4, is_among s.others y) ∷ (8, not (reach_marked b s (known s.scope y) by i)) ∷ []
   rules_marked b s (WriteLine h k ss ps) = refl
   rules_marked b s (PointLine x) = refl
   rules_marked b s (CallLine f xs) = λ i.

@@ -22,9 +22,9 @@ use law::marking_keeps;
 fn marked(core: Core) -> Core
     ensures { core_of result ≡ mark_core (core_of core) }
 {
-    let (types, mut terms, functions, main, offsets) = core.into_parts();
+    let (types, mut terms, functions, main, offsets, marked) = core.into_parts();
     terms.mark_pars();
-    Core::new(types, terms, functions, main, offsets)
+    Core::new(types, terms, functions, main, offsets, marked)
 }
 
 /// The core with each par marked exactly where both its sides contain a call. Marks that it has are made anew, and all

@@ -62,7 +62,7 @@ fn program(alloc: Global, sides: (bool, bool), fork: bool) -> Result<Core, Memor
         body,
     };
     let types = trees(alloc)?;
-    Ok(Core::new(types, terms, Vec::new(alloc), main, Vec::new(alloc)))
+    Ok(Core::new(types, terms, Vec::new(alloc), main, Vec::new(alloc), false))
 }
 
 fn names(alloc: Global) -> Result<Names, Fail> {

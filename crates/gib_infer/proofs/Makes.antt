@@ -19,7 +19,7 @@ use Rattle.gib_core.specs.declared.atom.Kind.TheVariants.{Here}
 use Rattle.gib_core.specs.Tree.{Term, Then, Write, Point, CallTerm, Give, Bind, Past, One, Prim, On, var, variables_from, prepend, FunctionTerm, CoreTree}
 use Rattle.gib_core.specs.Meaning.{function_at}
 use Rattle.gib_core.specs.Inferring.{Scope, Several, ToLine, ToAtom, Code, kind_of, boxed, given, of_line, of_atom, result_of, plain_line, of_plain, several, operation_atom, call_line, call_atom, call_side, scalar_call, call_code, pointed_fields, as_atoms, make_line}
-use Rattle.gib_core.specs.Met.{Setting, Line, PastLine, SideLine, PrimLine, WriteLine, PointLine, CallLine, GiveLine, Empty, Open, at, in_side, behind, behind_side, met, packed_types, field_due, result_place, stands_too}
+use Rattle.gib_core.specs.Met.{Setting, Line, PastLine, SideLine, PrimLine, WriteLine, PointLine, CallLine, GiveLine, Empty, Open, at, in_side, behind, met, packed_types, field_due, result_place, stands_too}
 use Rattle.gib_core.specs.Rules.{Before, same_type, is_nowhere, is_empty, has_room, is_among, type_bound, is_type, has_type, have_types, all_usable, is_other, any_other, is_there, is_of_type, are_variables, any_cased, further, may_write, are_scalars, gives_packed, call_fits, rules, least, type_made, next}
 use Rattle.gib_core.specs.Reachable.{all_reached}
 use Rattle.gib_core.specs.Ordered.{AreFit}
@@ -454,7 +454,7 @@ module _ (core : CoreTree) where
     fields_stand h k n standing earlier (t ∷ ts) (x ∷ xs) s b place types long can fit new apart =
         let v : Variable = record { 0 = n } in
         let side = On Here v t (Point x) in
-        let s1 = behind_side s side in
+        let s1 = behind s (One side) in
         let inner = in_side core.table s Here t in
         let b1 = next core.table b (SideLine Here v t) in
         let has : has_room core.table s.destination ≡ true = ap (has_room core.table) place ∙ room k standing earlier ts t types long in

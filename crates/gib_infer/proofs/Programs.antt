@@ -1,5 +1,5 @@
 -- Bodies, functions and whole programs.
-use Rattle.std.proofs.Common.{◌≡◌, ℕ, zero, suc, ◌+◌, ◌<◌, ◌≤◌, List, [], ◌∷◌, ◌++◌, length, map, drop, Some, refl, sym, ap, ◌∙◌, subst, arith, append_assoc}
+use Rattle.std.proofs.Common.{false, ◌≡◌, ℕ, zero, suc, ◌+◌, ◌<◌, ◌≤◌, List, [], ◌∷◌, ◌++◌, length, map, drop, Some, refl, sym, ap, ◌∙◌, subst, arith, append_assoc}
 use Rattle.std.specs.Prelude.{slice_get}
 use Rattle.std.specs.List.{AllByRecursion}
 use Rattle.std.proofs.lemmas.List.{map-append, append-nil}
@@ -113,7 +113,7 @@ functions_end parts old new made next le h = record {
 }
 
 -- The core of these parts.
-pub core_made : (parts : Parts) (w0 w1 w2 : Work) (table : Table) (fs : List CoreFunction) (main : CoreMain) (offsets : List ConId) (core : CoreParts) → table ≡ table_of_program (program_of parts) → MakesFunctions w0 w1 fs (map (infer_function (globals_in parts)) (program_of parts).functions) → MakesMain w1 w2 main (infer_program (program_of parts)).main → offsets ≡ [] → core ≡ record { table = table; terms = w2.terms; functions = fs; main = main; offsets = offsets } → core_of core ≡ infer_program (program_of parts)
+pub core_made : (parts : Parts) (w0 w1 w2 : Work) (table : Table) (fs : List CoreFunction) (main : CoreMain) (offsets : List ConId) (core : CoreParts) → table ≡ table_of_program (program_of parts) → MakesFunctions w0 w1 fs (map (infer_function (globals_in parts)) (program_of parts).functions) → MakesMain w1 w2 main (infer_program (program_of parts)).main → offsets ≡ [] → core ≡ record { table = table; terms = w2.terms; functions = fs; main = main; offsets = offsets; marked = false } → core_of core ≡ infer_program (program_of parts)
 core_made parts w0 w1 w2 table fs main offsets core et hf hm eo e =
     ap core_of e
-    ∙ (λ i. record { table = et i; functions = (functions_same w1.terms w2.terms fs hm.grows hf.inside ∙ hf.are) i; main = hm.is i; offsets = eo i })
+    ∙ (λ i. record { table = et i; functions = (functions_same w1.terms w2.terms fs hm.grows hf.inside ∙ hf.are) i; main = hm.is i; offsets = eo i; marked = false })

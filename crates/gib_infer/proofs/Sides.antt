@@ -11,7 +11,7 @@ use Rattle.gib_core.specs.declared.atom.Atom.TheVariants as atomic
 use Rattle.gib_core.specs.Tree.{Term, One, Side, On, variable_of, var, CoreTree}
 use Rattle.gib_core.specs.Inferring.{Scope, kind_of, atom_at}
 use Rattle.gib_core.specs.declared.scope.Known.{Known}
-use Rattle.gib_core.specs.Met.{Setting, SideLine, reached, known, in_side, behind_side, left_of, right_of, met, met_side}
+use Rattle.gib_core.specs.Met.{Setting, SideLine, reached, known, in_side, behind, behind_side, left_of, right_of, met, met_side}
 use Rattle.gib_core.specs.declared.scope.Bound.{Bound}
 use Rattle.gib_core.specs.Rules.{Before, same_type, is_among, is_bound, type_bound, is_reached, is_usable, side_rules, least, bound_too, next, next_all}
 use Rattle.gib_core.specs.Reachable.{as_reached, all_reached}
@@ -213,7 +213,7 @@ module _ (core : CoreTree) where
       let all = clean_nothing core k (next_all core.table b ms) in
       record {
         clean = clean_then core n k k k b ms [] clean all (omega (arith, lt)) (omega arith);
-        alike = subst (λ (z : Before). Alike n s (behind_side s side) b z) (sym (next_all-append core.table b ms [])) (alike_bound n x s (behind_side s side) b (next_all core.table b ms) (omega arith) (side_scope s side) (side_others s side) clean.below);
+        alike = subst (λ (z : Before). Alike n s (behind s (One side)) b z) (sym (next_all-append core.table b ms [])) (alike_bound n x s (behind s (One side)) b (next_all core.table b ms) (omega arith) (side_scope s side) (side_others s side) clean.below);
         others = side_others s side;
         destination = side_destination s x ty t;
         due = side_due s side;
@@ -227,5 +227,5 @@ module _ (core : CoreTree) where
       let x : Variable = record { 0 = n } in
       let side = On (kind_of ty) x ty t in
       let ms = met_side core.table s side in
-      subst (λ (z : Before). CanUse (behind_side s side) z (var n) ty) (sym (next_all-append core.table b ms []))
-      (can_bound x ty s (behind_side s side) (next_all core.table b ms) (side_scope s side) (side_others s side) apart (side_type n k ty t s b c))
+      subst (λ (z : Before). CanUse (behind s (One side)) z (var n) ty) (sym (next_all-append core.table b ms []))
+      (can_bound x ty s (behind s (One side)) (next_all core.table b ms) (side_scope s side) (side_others s side) apart (side_type n k ty t s b c))

@@ -1,5 +1,5 @@
 -- The types of a program's functions and of its main are declared.
-use Rattle.std.proofs.Common.{◌≡◌, ℕ, ◌<◌, List, [], ◌∷◌, length, map, Option, Some, None, refl, subst, sym}
+use Rattle.std.proofs.Common.{false, ◌≡◌, ℕ, ◌<◌, List, [], ◌∷◌, length, map, Option, Some, None, refl, subst, sym}
 use Rattle.std.specs.List.{AllByRecursion}
 use Rattle.gib_types.specs.declared.table.ConId.{ConId}
 use Rattle.gib_types.specs.Row.{Table}
@@ -50,7 +50,7 @@ main_below p n m e h =
 -- The parts of the core that is made.
 pub parts_inside : (parts : Parts) (w0 w1 w2 : Work) (table : Table) (fs : List CoreFunction) (main : CoreMain) (offsets : List ConId) → table ≡ (infer_program (program_of parts)).table
     → MakesFunctions w0 w1 fs (map (infer_function (globals_in parts)) (program_of parts).functions) → MakesMain w1 w2 main (infer_program (program_of parts)).main
-    → AreInside (record { table = table; terms = w2.terms; functions = fs; main = main; offsets = offsets })
+    → AreInside (record { table = table; terms = w2.terms; functions = fs; main = main; offsets = offsets; marked = false })
 parts_inside parts w0 w1 w2 table fs main offsets et hf hm =
     let n = length table.types in
     let same : length (infer_program (program_of parts)).table.types ≡ n = λ i. length (sym et i).types in

@@ -44,7 +44,7 @@ fn make_core(alloc: Global, typed: &Typed) -> Result<Core, Memory>
     let functions = make_functions(typed, &mut work)?;
     let main = make_main(typed, &mut work)?;
     let types = typed.types().copy(alloc)?;
-    let core = Core::new(types, work.terms, functions, main, Vec::new(alloc));
+    let core = Core::new(types, work.terms, functions, main, Vec::new(alloc), false);
     Ok(core)
 }
 

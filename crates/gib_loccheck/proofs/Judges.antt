@@ -1,5 +1,5 @@
 -- Some lines behind others.
-use Rattle.std.proofs.Common.{◌≡◌, ℕ, ◌+◌, List, [], ◌∷◌, ◌++◌, Option, Some, None, refl, sym, ap, ◌∙◌, reverse, arith, length, length-append}
+use Rattle.std.proofs.Common.{◌≡◌, ℕ, ◌+◌, List, [], ◌∷◌, ◌++◌, Option, Some, None, refl, sym, ap, ◌∙◌, reverse, map, arith, length, length-append}
 use Rattle.gib_types.specs.Table.{Table}
 use Rattle.gib_core.specs.Tree.{CoreTree}
 use Rattle.gib_core.specs.Met.{Met}
@@ -8,7 +8,7 @@ use Rattle.gib_loccheck.specs.declared.state.Walk.{Walk}
 use Rattle.gib_loccheck.specs.declared.state.Target.{Target}
 use Rattle.gib_loccheck.specs.declared.fault.LocFault.{LocFault}
 use Rattle.gib_loccheck.specs.declared.fault.LocFault.TheVariants as fault
-use Rattle.gib_loccheck.specs.Views.{before_of, setting_of}
+use Rattle.gib_loccheck.specs.Views.{before_of, setting_of, call_of}
 use Rattle.gib_loccheck.specs.Judging.{Passes, Blames, Kept, Stays}
 
 or_later-else : (r : Option ℕ) (p : ℕ) (a b : Broken) → or_later r p (or_else a b) ≡ or_else (or_later r p a) b
@@ -73,7 +73,7 @@ pub stays_same : (a : Walk) → Stays a a
 stays_same a = record { bound = refl; cased = refl; place = refl }
 
 pub setting-kept : (old new : Walk) (t : Target) → Kept old new → setting_of new t ≡ setting_of old t
-setting-kept old new t k = (λ i. record { destination = (setting_of old t).destination; due = t.due; scope = reverse (k.scope i); others = reverse (k.others i); whole = t.whole })
+setting-kept old new t k = (λ i. record { destination = (setting_of old t).destination; due = t.due; scope = reverse (k.scope i); others = reverse (k.others i); whole = t.whole; calls = reverse (map call_of (k.calls i)) })
 
 pub kept_then : (a b c : Walk) → Kept a b → Kept b c → Kept a c
-kept_then a b c p q = record { scope = q.scope ∙ p.scope; others = q.others ∙ p.others }
+kept_then a b c p q = record { scope = q.scope ∙ p.scope; others = q.others ∙ p.others; calls = q.calls ∙ p.calls }

@@ -12,3 +12,4 @@ pub mod Searching
 pub mod Walking
 pub mod FoundLemmas
 pub mod Smallest
+pub mod Telling

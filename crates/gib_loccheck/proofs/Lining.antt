@@ -1,5 +1,5 @@
 -- The bindings of a line, one after another, and its end.
-use Rattle.std.proofs.Common.{◌≡◌, ℕ, ◌<◌, ◌≤◌, List, [], ◌++◌, Some, refl, sym, ap, ◌∙◌, subst, length, take, append_assoc, arith}
+use Rattle.std.proofs.Common.{◌≡◌, ℕ, ◌<◌, ◌≤◌, List, [], ◌++◌, map, reverse, Some, sym, ap, ◌∙◌, subst, length, take, append_assoc, arith}
 use Rattle.std.proofs.lemmas.List.{append-nil}
 use Rattle.std.proofs.Math.Seq.{take-append_seam}
 use Rattle.gib_core.specs.declared.scope.Known.{Known}
@@ -13,14 +13,14 @@ use Rattle.gib_core.specs.Met.{Setting, Met, met, met_bind, behind}
 use Rattle.gib_loccheck.specs.declared.state.Walk.{Walk}
 use Rattle.gib_loccheck.specs.declared.state.Target.{Target}
 use Rattle.gib_loccheck.specs.declared.fault.LocFault.{LocFault}
-use Rattle.gib_loccheck.specs.Views.{setting_of}
+use Rattle.gib_loccheck.specs.Views.{setting_of, at_line, call_of}
 use Rattle.gib_loccheck.specs.Judging.{Passes, Blames, Kept, Binds, Stays}
 use Rattle.gib_loccheck.proofs.Judges.{passes_then, passes_none, blames_front, blames_back, stays_passes, stays_same}
 
 -- The walk stands before the term of a number in a line, and the bindings before it pass.
 pub record LineSoFar (core : CoreTree) (terms : List Node) (old now : Walk) (target inner : Target) (id rest : ℕ) (node : Node) : Type 0 where
   pub lines : List Met
-  pub all : met core.table (setting_of old target) (term_of terms id) ≡ lines ++ met core.table (setting_of now inner) (term_of terms rest)
+  pub all : met core.table (at_line (setting_of old target)) (term_of terms id) ≡ lines ++ met core.table (setting_of now inner) (term_of terms rest)
   pub passes : Passes core old now lines
   pub more : List Known
   pub scope : now.scope.items ≡ old.scope.items ++ more
@@ -62,7 +62,7 @@ module _ (core : CoreTree) (terms : List Node) where
 
   pub line_blame : (e : LocFault) (old now : Walk) (target inner : Target) (id rest : ℕ) (node : Node) (b : Binding) (after : TermId)
       → LineSoFar core terms old now target inner id rest node → node ≡ n.Then b after
-      → Blames core now (met_bind core.table (setting_of now inner) (bind_from (term_of terms) b)) e → Blames core old (met core.table (setting_of old target) (term_of terms id)) e
+      → Blames core now (met_bind core.table (setting_of now inner) (bind_from (term_of terms) b)) e → Blames core old (met core.table (at_line (setting_of old target)) (term_of terms id)) e
   line_blame e old now target inner id rest node b after so is h =
       let s = setting_of now inner in
       let bd = bind_from (term_of terms) b in
@@ -74,7 +74,7 @@ module _ (core : CoreTree) (terms : List Node) where
 
   pub line_passes : (old now next last : Walk) (target inner : Target) (id rest : ℕ) (node : Node)
       → LineSoFar core terms old now target inner id rest node → Passes core now next (met core.table (setting_of now inner) (term_of terms rest)) → Stays next last
-      → Passes core old last (met core.table (setting_of old target) (term_of terms id))
+      → Passes core old last (met core.table (at_line (setting_of old target)) (term_of terms id))
   line_passes old now next last target inner id rest node so p s =
       let ms = met core.table (setting_of now inner) (term_of terms rest) in
       let q = stays_passes core old old next last (so.lines ++ ms) (stays_same old) (passes_then core old now next so.lines ms so.passes p) s in
@@ -82,27 +82,30 @@ module _ (core : CoreTree) (terms : List Node) where
 
   pub line_blame_end : (e : LocFault) (old now : Walk) (target inner : Target) (id rest : ℕ) (node : Node)
       → LineSoFar core terms old now target inner id rest node → Blames core now (met core.table (setting_of now inner) (term_of terms rest)) e
-      → Blames core old (met core.table (setting_of old target) (term_of terms id)) e
+      → Blames core old (met core.table (at_line (setting_of old target)) (term_of terms id)) e
   line_blame_end e old now target inner id rest node so h =
       subst (λ (z : List Met). Blames core old z e) (sym so.all) (blames_back core e old now so.lines (met core.table (setting_of now inner) (term_of terms rest)) so.passes h)
 
-  pub line_first : (old : Walk) (target : Target) (id : ℕ) (node : Node) → Opens terms id node → id < length terms → LineSoFar core terms old old target target id id node
-  line_first old target id node o inside = record {
+  -- A line begins with no call before it.
+  pub line_first : (old now : Walk) (target : Target) (id : ℕ) (node : Node) → Opens terms id node → id < length terms → now.calls.items ≡ [] → now.scope.items ≡ old.scope.items → now.others.items ≡ old.others.items → Stays old now
+      → LineSoFar core terms old now target target id id node
+  line_first old now target id node o inside none scope others stays = record {
     lines = [];
-    all = refl;
-    passes = passes_none core old;
+    all = ap (λ (s : Setting). met core.table s (term_of terms id)) (λ i. record { destination = (setting_of old target).destination; due = target.due; scope = reverse (sym scope i); others = reverse (sym others i); whole = target.whole; calls = reverse (map call_of (sym none i)) });
+    passes = stays_passes core old old old now [] (stays_same old) (passes_none core old) stays;
     more = [];
-    scope = sym (append-nil old.scope.items);
-    others = refl;
+    scope = scope ∙ sym (append-nil old.scope.items);
+    others = others;
     opens = o;
     inside = inside;
     within = omega arith;
   }
 
   pub line_kept : (old now next last : Walk) (target inner : Target) (id rest : ℕ) (node : Node) (outer : ℕ)
-      → LineSoFar core terms old now target inner id rest node → Kept now next → outer ≡ length old.scope.items → last.scope.items ≡ take outer next.scope.items → last.others.items ≡ next.others.items
+      → LineSoFar core terms old now target inner id rest node → Kept now next → outer ≡ length old.scope.items → last.scope.items ≡ take outer next.scope.items → last.others.items ≡ next.others.items → last.calls.items ≡ old.calls.items
       → Kept old last
-  line_kept old now next last target inner id rest node outer so k len cut same = record {
+  line_kept old now next last target inner id rest node outer so k len cut same calls = record {
     scope = cut ∙ (λ i. take (len i) (k.scope i)) ∙ ap (λ (z : List Known). take (length old.scope.items) z) so.scope ∙ take-append_seam old.scope.items so.more;
     others = same ∙ k.others ∙ so.others;
+    calls = calls;
   }

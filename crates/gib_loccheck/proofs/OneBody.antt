@@ -13,7 +13,7 @@ use Rattle.gib_loccheck.specs.declared.state.Walk.{Walk}
 use Rattle.gib_loccheck.specs.declared.state.Target.{Target}
 use Rattle.gib_loccheck.specs.declared.fault.LocFault.{LocFault}
 use Rattle.gib_loccheck.specs.declared.fault.LocFault.TheVariants as fault
-use Rattle.gib_loccheck.specs.Views.{before_of, setting_of, destination_of}
+use Rattle.gib_loccheck.specs.Views.{before_of, setting_of, at_line, destination_of}
 use Rattle.gib_loccheck.specs.Judging.{Says, Passes, Blames}
 use Rattle.gib_loccheck.specs.Bodies.{Pass, Blame, Opens, body_of, bodies_of}
 
@@ -26,18 +26,18 @@ opened_before : (a b : Walk) (body : Body) → Opens a b body.parameters → bef
 opened_before a b body o = (λ i. record { bound = o.bound i; cased = reverse (o.cased i) })
 
 opened_setting : (a b : Walk) (target : Target) (body : Body) → Opens a b body.parameters
-    → destination_of target.destination ≡ result_place body.result → target.due ≡ body.result → target.whole ≡ false → setting_of b target ≡ opening body
-opened_setting a b target body o d e w = (λ i. record { destination = d i; due = e i; scope = o.scope i; others = reverse (o.others i); whole = w i })
+    → destination_of target.destination ≡ result_place body.result → target.due ≡ body.result → target.whole ≡ false → at_line (setting_of b target) ≡ opening body
+opened_setting a b target body o d e w = (λ i. record { destination = d i; due = e i; scope = o.scope i; others = reverse (o.others i); whole = w i; calls = [] })
 
 module _ (core : CoreTree) where
   lines_of_body : (a b : Walk) (target : Target) (body : Body) → Opens a b body.parameters
       → destination_of target.destination ≡ result_place body.result → target.due ≡ body.result → target.whole ≡ false
-      → broken_from core b.place (before_of b) (met core.table (setting_of b target) body.term) ≡ broken_from core a.place (before_body body) (met_body core.table body)
+      → broken_from core b.place (before_of b) (met core.table (at_line (setting_of b target)) body.term) ≡ broken_from core a.place (before_body body) (met_body core.table body)
   lines_of_body a b target body o d e w = (λ i. broken_from core (o.place i) (opened_before a b body o i) (met core.table (opened_setting a b target body o d e w i) body.term))
 
   pub body_passes : (a b c : Walk) (target : Target) (body : Body) → Opens a b body.parameters
       → destination_of target.destination ≡ result_place body.result → target.due ≡ body.result → target.whole ≡ false
-      → Passes core b c (met core.table (setting_of b target) body.term) → Pass core a.place c.place (body ∷ [])
+      → Passes core b c (met core.table (at_line (setting_of b target)) body.term) → Pass core a.place c.place (body ∷ [])
   body_passes a b c target body o d e w p =
       let none = sym (lines_of_body a b target body o d e w) ∙ p.unbroken in
       let place : c.place ≡ a.place + length (met_body core.table body) = p.place ∙ (λ i. o.place i + length (met core.table (opened_setting a b target body o d e w i) body.term)) in
@@ -51,7 +51,7 @@ module _ (core : CoreTree) where
 
   pub body_blamed : (e : LocFault) (a b : Walk) (target : Target) (body : Body) → Opens a b body.parameters
       → destination_of target.destination ≡ result_place body.result → target.due ≡ body.result → target.whole ≡ false
-      → Blames core b (met core.table (setting_of b target) body.term) e → Blame core a.place (body ∷ []) e
+      → Blames core b (met core.table (at_line (setting_of b target)) body.term) e → Blame core a.place (body ∷ []) e
   body_blamed e a b target body o d i w h =
       λ rest. says_first e (broken_from core a.place (before_body body) (met_body core.table body)) (broken_in core (a.place + length (met_body core.table body)) rest)
       (subst (λ (z : Broken). Says e z) (lines_of_body a b target body o d i w) h)

@@ -4,7 +4,7 @@ use Rattle.std.specs.Prelude.{◌&&◌, ◌||◌}
 use Rattle.gib_core.specs.declared.atom.Atom.{Atom}
 use Rattle.gib_core.specs.declared.atom.Atom.TheVariants as a
 use Rattle.gib_core.specs.declared.atom.Access.{Access}
-use Rattle.gib_core.specs.declared.atom.Access.TheVariants.{Offset, Skip}
+use Rattle.gib_core.specs.declared.atom.Access.TheVariants.{Offset, Skip, End}
 use Rattle.gib_core.specs.declared.scope.Behind.{Behind}
 use Rattle.gib_core.specs.declared.scope.Known.{Known}
 use Rattle.gib_core.specs.Tree.{CoreTree}
@@ -52,6 +52,7 @@ access_same : (core : CoreTree) (b : Before) (w : Walk) (t : Target) (f : Option
 access_same core b w t None by = refl
 access_same core b w t (Some f) Offset = refl
 access_same core b w t (Some f) (Skip z) = refl
+access_same core b w t (Some f) (End z) = refl
 
 pub reach_same : (core : CoreTree) (b : Before) (w : Walk) (t : Target) (k : Option Known) (by : Access) → may_reach core b (in_scope w) k by ≡ may_reach core b (setting_of w t) k by
 reach_same core b w t None by = refl

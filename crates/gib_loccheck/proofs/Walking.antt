@@ -14,7 +14,7 @@ use Rattle.gib_loccheck.specs.declared.state.Walk.{Walk}
 use Rattle.gib_loccheck.specs.declared.state.Target.{Target}
 use Rattle.gib_loccheck.specs.declared.fault.LocFault.{LocFault}
 use Rattle.gib_loccheck.specs.declared.fault.LocFault.TheVariants as fault
-use Rattle.gib_loccheck.specs.Views.{in_scope, setting_of, arms_in, arm_of}
+use Rattle.gib_loccheck.specs.Views.{in_scope, setting_of, at_line, arms_in, arm_of}
 use Rattle.gib_loccheck.specs.Judging.{one, Passes, Blames, Kept, Binds, with_other, past_field}
 use Rattle.gib_loccheck.proofs.Branching.{ArmsSoFar}
 use Rattle.gib_loccheck.proofs.Judges.{passes_then, blames_front, blames_back, setting-kept, kept_then}
@@ -69,13 +69,13 @@ module _ (core : CoreTree) where
       blames_back core e a b (one s (CaseLine x (arms_of (branches_from f bs)))) (met_branches core.table s (branches_from f bs)) p' q'
 
   -- Both branches of an `if`.
-  inner_same : (a b : Walk) (target inner : Target) → Kept a b → ((w : Walk) → setting_of w inner ≡ record (setting_of w target) { whole = false }) → setting_of b inner ≡ in_branch (setting_of a target)
-  inner_same a b target inner k e = e b ∙ ap (λ (z : Setting). record z { whole = false }) (setting-kept a b target k)
+  inner_same : (a b : Walk) (target inner : Target) → Kept a b → ((w : Walk) → setting_of w inner ≡ record (setting_of w target) { whole = false }) → at_line (setting_of b inner) ≡ in_branch (setting_of a target)
+  inner_same a b target inner k e = ap at_line (e b ∙ ap (λ (z : Setting). record z { whole = false }) (setting-kept a b target k))
 
   pub if_else_passes : (a b c d : Walk) (target first second : Target) (x : Atom) (t u : Term)
       → Passes core a b (one (in_scope a) (IfLine x)) → Kept a b → ((w : Walk) → setting_of w first ≡ record (setting_of w target) { whole = false })
-      → Passes core b c (met core.table (setting_of b first) t) → Kept b c → ((w : Walk) → setting_of w second ≡ record (setting_of w target) { whole = false })
-      → Passes core c d (met core.table (setting_of c second) u)
+      → Passes core b c (met core.table (at_line (setting_of b first)) t) → Kept b c → ((w : Walk) → setting_of w second ≡ record (setting_of w target) { whole = false })
+      → Passes core c d (met core.table (at_line (setting_of c second)) u)
       → Passes core a d (met core.table (setting_of a target) (IfTerm x t u))
   if_else_passes a b c d target first second x t u p k e q l f r =
       let s = setting_of a target in
@@ -86,7 +86,7 @@ module _ (core : CoreTree) where
 
   pub if_else_blames_first : (e : LocFault) (a b : Walk) (target first : Target) (x : Atom) (t u : Term)
       → Passes core a b (one (in_scope a) (IfLine x)) → Kept a b → ((w : Walk) → setting_of w first ≡ record (setting_of w target) { whole = false })
-      → Blames core b (met core.table (setting_of b first) t) e
+      → Blames core b (met core.table (at_line (setting_of b first)) t) e
       → Blames core a (met core.table (setting_of a target) (IfTerm x t u)) e
   if_else_blames_first e a b target first x t u p k i q =
       let s = setting_of a target in
@@ -96,8 +96,8 @@ module _ (core : CoreTree) where
 
   pub if_else_blames_second : (e : LocFault) (a b c : Walk) (target first second : Target) (x : Atom) (t u : Term)
       → Passes core a b (one (in_scope a) (IfLine x)) → Kept a b → ((w : Walk) → setting_of w first ≡ record (setting_of w target) { whole = false })
-      → Passes core b c (met core.table (setting_of b first) t) → Kept b c → ((w : Walk) → setting_of w second ≡ record (setting_of w target) { whole = false })
-      → Blames core c (met core.table (setting_of c second) u) e
+      → Passes core b c (met core.table (at_line (setting_of b first)) t) → Kept b c → ((w : Walk) → setting_of w second ≡ record (setting_of w target) { whole = false })
+      → Blames core c (met core.table (at_line (setting_of c second)) u) e
       → Blames core a (met core.table (setting_of a target) (IfTerm x t u)) e
   if_else_blames_second e a b c target first second x t u p k i q l f r =
       let s = setting_of a target in

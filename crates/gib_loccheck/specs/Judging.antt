@@ -5,14 +5,14 @@ use Rattle.gib_core.specs.declared.atom.Variable.{Variable}
 use Rattle.gib_core.specs.declared.atom.Atom.{Atom}
 use Rattle.gib_core.specs.declared.atom.Kind.{Kind}
 use Rattle.gib_core.specs.declared.scope.Known.{Known}
-use Rattle.gib_core.specs.Tree.{CoreTree}
-use Rattle.gib_core.specs.Met.{Setting, Met, Line, CaseLine, stands_too, reached_too, known}
+use Rattle.gib_core.specs.Tree.{CoreTree, Term}
+use Rattle.gib_core.specs.Met.{Setting, Met, Line, CaseLine, stands_too, reached_too, call_too, known}
 use Rattle.gib_core.specs.Rules.{Broken, broken_from, next_all, cases_on}
 use Rattle.gib_loccheck.specs.declared.state.Walk.{Walk}
 use Rattle.gib_loccheck.specs.declared.state.Target.{Target}
 use Rattle.gib_loccheck.specs.declared.fault.LocFault.{LocFault}
 use Rattle.gib_loccheck.specs.declared.fault.LocFault.TheVariants as fault
-use Rattle.gib_loccheck.specs.Views.{before_of, setting_of}
+use Rattle.gib_loccheck.specs.Views.{before_of, setting_of, calls_of}
 
 -- One line with what it is met with.
 abbrev pub one : Setting → Line → List Met
@@ -42,6 +42,7 @@ pub record Extends (old new : List Known) : Type 0 where
 pub record Kept (old new : Walk) : Type 0 where
   pub scope : new.scope.items ≡ old.scope.items
   pub others : new.others.items ≡ old.others.items
+  pub calls : new.calls.items ≡ old.calls.items
 
 -- More is in scope, and what stands behind is met with this.
 pub record Binds (old new : Walk) (target : Target) (now : Setting) : Type 0 where
@@ -56,6 +57,7 @@ pub record BindsToo (old new : Walk) (x : Variable) (ty : Ty) : Type 0 where
   pub cased : new.cased.items ≡ old.cased.items
   pub scope : new.scope.items ≡ old.scope.items
   pub others : new.others.items ≡ old.others.items
+  pub calls : new.calls.items ≡ old.calls.items
   pub place : new.place ≡ old.place
 
 -- A `case` was on one more variable, where it was on one, and nothing else is new.
@@ -64,6 +66,7 @@ pub record CasesToo (old new : Walk) (x : Atom) : Type 0 where
   pub bound : new.bound.items ≡ old.bound.items
   pub scope : new.scope.items ≡ old.scope.items
   pub others : new.others.items ≡ old.others.items
+  pub calls : new.calls.items ≡ old.calls.items
   pub place : new.place ≡ old.place
 
 -- What judges lines is the same: what was bound and cased, and the number of the next term.
@@ -84,6 +87,7 @@ past_field kind x s = record s { destination = stands_too kind x s.destination }
 pub record Enters (old new : Walk) (k : Known) : Type 0 where
   pub scope : new.scope.items ≡ old.scope.items ++ k ∷ []
   pub others : new.others.items ≡ old.others.items
+  pub calls : new.calls.items ≡ old.calls.items
   pub stays : Stays old new
 
 -- The field is reached, where it is in scope, and nothing else is new.
@@ -92,10 +96,19 @@ pub record Reaches (old new : Walk) (x : Variable) : Type 0 where
   pub scope : new.scope.items ≡ old.scope.items ++ more
   pub field : reverse new.scope.items ≡ reached_too (known (reverse old.scope.items) x) (reverse old.scope.items)
   pub others : new.others.items ≡ old.others.items
+  pub calls : new.calls.items ≡ old.calls.items
   pub stays : Stays old new
 
 -- One more variable is another side's, and nothing else is new.
 pub record HasOther (old new : Walk) (x : Variable) : Type 0 where
   pub others : new.others.items ≡ old.others.items ++ x ∷ []
   pub scope : new.scope.items ≡ old.scope.items
+  pub calls : new.calls.items ≡ old.calls.items
+  pub stays : Stays old new
+
+-- A term to which a variable was bound stands before, where it is a call, and nothing else is new.
+pub record Tells (old new : Walk) (t : Term) : Type 0 where
+  pub calls : calls_of new ≡ call_too t (calls_of old)
+  pub scope : new.scope.items ≡ old.scope.items
+  pub others : new.others.items ≡ old.others.items
   pub stays : Stays old new

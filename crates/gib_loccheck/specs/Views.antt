@@ -1,5 +1,6 @@
 -- The state of the walk, as the rules see it.
 use Rattle.std.specs.Prelude.{List, [], ◌∷◌, map, reverse}
+use Rattle.gib_base.specs.declared.name.Name.{Name}
 use Rattle.std.specs.Prelude.{false, not, ◌&&◌, ◌||◌, Option}
 use Rattle.gib_core.specs.Tree.{FunctionTerm}
 use Rattle.gib_core.specs.declared.atom.Atom.{Atom}
@@ -7,9 +8,11 @@ use Rattle.gib_types.specs.declared.table.Ty.TheVariants.{Whole}
 use Rattle.gib_types.specs.declared.table.ConId.{ConId}
 use Rattle.gib_core.specs.declared.atom.Variable.{Variable}
 use Rattle.gib_core.specs.declared.node.Branch.{Branch}
-use Rattle.gib_core.specs.Met.{Destination, Nowhere, Empty, Open, Setting}
+use Rattle.gib_types.specs.Table.{Table}
+use Rattle.gib_core.specs.Met.{Destination, Nowhere, Empty, Open, Setting, in_arm}
 use Rattle.gib_core.specs.Rules.{Before, Judgement, any_other, is_bound, have_types, gives_packed, is_empty, all_usable, call_fits}
 use Rattle.gib_loccheck.specs.declared.state.Walk.{Walk}
+use Rattle.gib_loccheck.specs.declared.state.Told.{Told}
 use Rattle.gib_loccheck.specs.declared.state.Target.{Target}
 use Rattle.gib_loccheck.specs.declared.state.Destination.{Destination as Stored}
 use Rattle.gib_loccheck.specs.declared.state.Destination.TheVariants as d
@@ -20,6 +23,14 @@ destination_of d.Nowhere = Nowhere
 destination_of d.Empty = Empty
 destination_of (d.Open h k standing) = Open h k standing.items
 
+-- A call with its arguments.
+abbrev pub call_of : Told → Name × List Atom
+call_of c = (c.name, c.arguments.items)
+
+-- The calls to which variables were bound before in the line, the newest first.
+abbrev pub calls_of : Walk → List (Name × List Atom)
+calls_of w = reverse (map call_of w.calls.items)
+
 -- What a term is met with.
 abbrev pub setting_of : Walk → Target → Setting
 setting_of w t = record {
@@ -28,11 +39,16 @@ setting_of w t = record {
   scope = reverse w.scope.items;
   others = reverse w.others.items;
   whole = t.whole;
+  calls = calls_of w;
 }
+
+-- The same, before a line.
+abbrev pub at_line : Setting → Setting
+at_line s = record s { calls = [] }
 
 -- What a term is met with, whatever is due there: what can be used tells no difference.
 abbrev pub in_scope : Walk → Setting
-in_scope w = record { destination = Nowhere; due = Whole; scope = reverse w.scope.items; others = reverse w.others.items; whole = false }
+in_scope w = record { destination = Nowhere; due = Whole; scope = reverse w.scope.items; others = reverse w.others.items; whole = false; calls = calls_of w }
 
 -- What stands before a term.
 abbrev pub before_of : Walk → Before
@@ -45,6 +61,10 @@ arm_of branch = (branch.constructor, branch.variables.items)
 -- Branches without their terms.
 abbrev pub arms_in : List Branch → List (ConId × List Variable)
 arms_in branches = map arm_of branches
+
+-- What stands before the line of an arm.
+abbrev pub before_arm : Table → Setting → ConId → List Variable → Setting
+before_arm table s k xs = record (in_arm table s k xs) { calls = s.calls }
 
 -- What the rules on a call are judged by: its function, where there is one.
 abbrev pub call_rules : Before → Setting → List Atom → Option FunctionTerm → List Judgement

@@ -1,24 +1,25 @@
 //! What stands behind a binding.
 
-ghost use Rattle.std.specs.Prelude.{◌≡◌, ℕ, true, false, take, None, IfOk, IfErr, OnOk};
+ghost use Rattle.std.specs.Prelude.{◌≡◌, ◌<◌, [], ℕ, true, false, take, length, None, IfOk, IfErr, OnOk};
 ghost use Rattle.gib_types.specs.declared.table.Ty.{Ty as AnyType};
 ghost use Rattle.gib_core.specs.Tree.{CoreTree, Term, Past, Prim, Reach, On, Both};
-ghost use Rattle.gib_core.specs.Arena.{side_from};
+ghost use Rattle.gib_core.specs.Arena.{side_from, term_of};
 ghost use Rattle.gib_core.specs.Parts.{core_of};
-ghost use Rattle.gib_core.specs.Met.{PastLine, PrimLine, ReachLine, behind, behind_side, in_arm};
-ghost use Rattle.gib_loccheck.specs.Views.{setting_of};
-ghost use Rattle.gib_loccheck.specs.Judging.{one, Passes, Blames, Binds, Stays, Enters, Reaches, HasOther, past_field};
+ghost use Rattle.gib_core.specs.Met.{PastLine, PrimLine, ReachLine, behind, behind_side};
+ghost use Rattle.gib_loccheck.specs.Views.{setting_of, before_arm};
+ghost use Rattle.gib_loccheck.specs.Judging.{one, Passes, Blames, Binds, Stays, Enters, Reaches, HasOther, Tells, past_field};
 ghost use Rattle.gib_loccheck.specs.declared.state.Walk.{Walk as State};
 
 use crate::cases::enter_arm;
 use crate::fault::LocFault;
 use crate::indexed::IndexedCore;
 use crate::lines::{judge_past, judge_prim, judge_reach};
-use crate::state::{Destination, Target, Walk};
+use crate::state::{Destination, Target, Told, Walk};
 use gib_base::Memory;
-use gib_core::{Access, Atom, BoundTerm, Branch, Kind, Known, Variable};
+use gib_core::{Access, Atom, BoundTerm, Branch, Kind, Known, Node, TermId, Variable};
 use gib_syntax::Operator;
 use gib_types::ConId;
+use std::mem::replace;
 
 /// A variable that is reached comes into scope.
 pub fn enter(walk: &mut Walk, variable: Variable) -> Result<(), Memory>
@@ -36,9 +37,34 @@ pub fn enter(walk: &mut Walk, variable: Variable) -> Result<(), Memory>
 pub fn leave(walk: &mut Walk, outer: usize) -> Result<(), Memory>
     ensures scope { OnOk result (walk.new.scope.items ≡ take outer walk.old.scope.items) }
     ensures others { OnOk result (walk.new.others.items ≡ walk.old.others.items) }
+    ensures calls { OnOk result (walk.new.calls.items ≡ walk.old.calls.items) }
     ensures stays { OnOk result (Stays walk.old walk.new) }
 {
     walk.scope.truncate(outer)
+}
+
+/// A line begins, with no call before it. The calls before in the line around it.
+pub fn begin_line(walk: &mut Walk) -> Vec<Told>
+    ensures result { result.items ≡ walk.old.calls.items }
+    ensures calls { walk.new.calls.items ≡ [] }
+    ensures scope { walk.new.scope.items ≡ walk.old.scope.items }
+    ensures others { walk.new.others.items ≡ walk.old.others.items }
+    ensures stays { Stays walk.old walk.new }
+{
+    let none = Vec::new(walk.alloc);
+    replace(&mut walk.calls, none)
+}
+
+/// A line ends: the variables leave that came into scope in it, and the calls of the line around it stand before again.
+pub fn leave_line(walk: &mut Walk, outer: usize, calls: Vec<Told>) -> Result<(), Memory>
+    ensures scope { OnOk result (walk.new.scope.items ≡ take outer walk.old.scope.items) }
+    ensures others { OnOk result (walk.new.others.items ≡ walk.old.others.items) }
+    ensures calls { OnOk result (walk.new.calls.items ≡ calls.items) }
+    ensures stays { OnOk result (Stays walk.old walk.new) }
+{
+    leave(walk, outer)?;
+    walk.calls = calls;
+    Ok(())
 }
 
 /// What is due behind a field that stands, or another bound term, before its variable is in scope.
@@ -82,6 +108,29 @@ pub fn enter_side(
         due: target.due,
         whole: false,
     })
+}
+
+/// A term to which a variable was bound stands before, where it is a call.
+pub fn tell(core: &IndexedCore, walk: &mut Walk, id: TermId) -> Result<(), Memory>
+    requires { id.0 < length core.now.terms }
+    ensures { OnOk result (Tells walk.old walk.new (term_of core.now.terms id.0)) }
+{
+    match core.terms().node(id) {
+        Node::Call(name, arguments) => {
+            let arguments = Vec::from_slice(walk.alloc, arguments)?;
+            walk.calls.push(Told {
+                name: *name,
+                arguments,
+            })?;
+        }
+        Node::Then(_, _) => {}
+        Node::Write { .. } => {}
+        Node::Point(_) => {}
+        Node::Give(_) => {}
+        Node::Case { .. } => {}
+        Node::If { .. } => {}
+    }
+    Ok(())
 }
 
 /// Judges room for a head; what is due behind it, where the head is open.
@@ -189,7 +238,8 @@ pub fn open_arm(
     target: &Target,
     branch: &Branch,
 ) -> Result<Target, Memory>
-    ensures binds { IfOk result (λ t. Binds walk.old walk.new t (in_arm core.now.table (setting_of walk.old target.now) branch.now.constructor branch.now.variables.items)) }
+    ensures binds { IfOk result (λ t. Binds walk.old walk.new t (before_arm core.now.table (setting_of walk.old target.now) branch.now.constructor branch.now.variables.items)) }
+    ensures calls { IfOk result (λ _. walk.new.calls.items ≡ walk.old.calls.items) }
     ensures stays { IfOk result (λ _. Stays walk.old walk.new) }
 {
     let types = core.types().fields(branch.constructor);

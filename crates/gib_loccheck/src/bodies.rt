@@ -112,6 +112,7 @@ pub fn check_bodies(alloc: Global, core: &IndexedCore) -> Result<(), LocFault>
         cased: MarkedVariables::new(alloc),
         scope: Scope::new(alloc),
         others: Vec::new(alloc),
+        calls: Vec::new(alloc),
         place: 0,
     };
     check_functions(core, &mut walk, core.functions())?;

@@ -6,6 +6,8 @@ ghost use Rattle.gib_loccheck.specs.Indexing.{IsIndex, entry_at};
 
 use crate::flagging::list_flags;
 use gib_base::{ByNumber, Memory, Name};
+use gib_core::ended::EndedSet;
+use gib_core::settle::ended_parameters;
 use gib_core::{Core, CoreFunction, CoreMain, Terms};
 use gib_types::{ConId, TypeTable};
 use std::alloc::Global;
@@ -38,17 +40,20 @@ pub struct IndexedCore {
     core: Core,
     places: ByNumber<usize>,
     flags: ByNumber<bool>,
+    ended: EndedSet,
 }
 
 impl Model for IndexedCore {
-    ghost use Rattle.gib_core.specs.Parts.{Parts};
+    ghost use Rattle.std.specs.Prelude.{◌≡◌};
+    ghost use Rattle.gib_core.specs.Parts.{Parts, core_of};
+    ghost use Rattle.gib_core.specs.Ending.{ended as ended_of};
     ghost use Rattle.gib_loccheck.specs.Indexing.{IsIndex, AreFlagged};
 
     ghost Value = { Parts };
 
     ghost view = { λ i. i.core };
 
-    ghost invariant = { λ i. IsIndex i.core.functions i.places × AreFlagged i.core.offsets i.flags };
+    ghost invariant = { λ i. IsIndex i.core.functions i.places × (AreFlagged i.core.offsets i.flags × (i.ended ≡ ended_of (core_of i.core))) };
 }
 
 impl IndexedCore {
@@ -56,6 +61,7 @@ impl IndexedCore {
     ghost use Rattle.gib_core.specs.Arena.{term_of};
     ghost use Rattle.gib_core.specs.Meaning.{function_at};
     ghost use Rattle.gib_core.specs.Parts.{AreInside, core_of, function_term};
+    ghost use Rattle.gib_core.specs.Ending.{ended as ended_of};
     ghost use Rattle.gib_core.specs.Rules.{is_one_of};
     ghost use Rattle.gib_loccheck.specs.Indexing.{first_named};
 
@@ -65,10 +71,12 @@ impl IndexedCore {
     {
         let places = list_places(alloc, core.functions())?;
         let flags = list_flags(alloc, core.offsets())?;
+        let ended = ended_parameters(alloc, &core, core.marked())?;
         Ok(IndexedCore {
             core,
             places,
             flags,
+            ended,
         })
     }
 
@@ -114,6 +122,13 @@ impl IndexedCore {
         ensures { result ≡ is_one_of self.now.offsets constructor }
     {
         self.flags.get(constructor.0).is_some()
+    }
+
+    /// The ended parameters.
+    pub fn ended(&self) -> &EndedSet
+        ensures { result.now ≡ ended_of (core_of self.now) }
+    {
+        &self.ended
     }
 
     /// The first function of a name.

@@ -1,11 +1,12 @@
 //! The build rules of one line, each from what stands before it: the first that it breaks, or none.
 
-ghost use Rattle.std.specs.Prelude.{◌≡◌, ◌==◌, ◌&&◌, not, length};
+ghost use Rattle.std.specs.Prelude.{◌≡◌, ◌==◌, ◌&&◌, not, length, reverse};
 ghost use Rattle.gib_types.specs.Table.{Table};
 ghost use Rattle.gib_core.specs.Parts.{core_of};
 ghost use Rattle.gib_core.specs.Met.{PastLine, SideLine, ReachLine, WriteLine, PointLine, GiveLine, IfLine, known, packed_types};
-ghost use Rattle.gib_core.specs.Rules.{least, rules, side_rules, may_write as writes, are_scalars as scalars_are, by_access as accessed, may_reach as reaches, is_reached, is_among, are_variables as variables_are};
-ghost use Rattle.gib_loccheck.specs.Views.{destination_of, setting_of, in_scope, before_of, prim_rules};
+ghost use Rattle.gib_core.specs.Rules.{least, rules, side_rules, may_write as writes, are_scalars as scalars_are, by_access as accessed, may_reach as reaches, is_reached, is_outside, one_tells, is_among, are_variables as variables_are};
+ghost use Rattle.gib_core.specs.Ending.{ended};
+ghost use Rattle.gib_loccheck.specs.Views.{destination_of, setting_of, in_scope, before_of, calls_of, prim_rules};
 
 use crate::atoms::{all_usable, any_cased, any_other, are_variables, further, have_scalar_types};
 use crate::indexed::IndexedCore;
@@ -136,6 +137,7 @@ fn by_access(core: &IndexedCore, walk: &Walk, behind: Option<Behind>, access: Ac
         Some(behind) => match access {
             Access::Offset => core.has_offsets(behind.constructor),
             Access::Skip(z) => behind.before.0 == z.0 && ends_known(walk, z),
+            Access::End(z) => behind.before.0 == z.0 && is_told(core, walk, z),
         },
     }
 }
@@ -145,6 +147,22 @@ fn ends_known(walk: &Walk, field: Variable) -> bool
     ensures { result ≡ (is_reached (known (in_scope walk.now).scope field) && not (is_among (before_of walk.now).cased field)) }
 {
     walk.is_usable(Atom::Variable(field)) && !walk.cased.has(field)
+}
+
+/// Whether outside each `par` the end of a field that is reached was told before in the line.
+fn is_told(core: &IndexedCore, walk: &Walk, field: Variable) -> bool
+    ensures { result ≡ (is_reached (known (in_scope walk.now).scope field) && (is_outside (reverse walk.now.others.items) && one_tells (ended (core_of core.now)) (calls_of walk.now) field)) }
+{
+    walk.is_usable(Atom::Variable(field))
+        && (is_outside(&walk.others) && walk.tells(core.ended(), field))
+}
+
+/// Whether no par stands around a term.
+#[tactic(auto, using(crate::proofs::Telling::outside_none))]
+fn is_outside(others: &[Variable]) -> bool
+    ensures { result ≡ is_outside (reverse others.now) }
+{
+    others.is_empty()
 }
 
 /// Whether a field that is in scope and not reached can be reached so.

@@ -2,14 +2,15 @@
 
 ghost use Rattle.std.specs.Prelude.{◌≡◌, reverse, IfOk};
 ghost use Rattle.gib_core.specs.Met.{field_due as due_at, stands_too, in_side};
-ghost use Rattle.gib_core.specs.Rules.{is_among, is_nowhere as nowhere, is_empty as empty, has_room as room_in, is_usable as usable, is_other as other, type_of as type_in_atom, has_type as typed};
-ghost use Rattle.gib_loccheck.specs.Views.{destination_of, in_scope, setting_of, before_of};
+ghost use Rattle.gib_core.specs.Rules.{is_among, is_nowhere as nowhere, is_empty as empty, has_room as room_in, is_usable as usable, is_other as other, one_tells, type_of as type_in_atom, has_type as typed};
+ghost use Rattle.gib_loccheck.specs.Views.{destination_of, in_scope, setting_of, at_line, before_of, calls_of};
 ghost use Rattle.gib_loccheck.specs.declared.state.Walk.{Walk as State};
 
 use crate::bound::{BoundVariables, MarkedVariables};
 use crate::scope::Scope;
 use crate::table::{packed_at, packed_count};
-use gib_base::Memory;
+use gib_base::{Memory, Name};
+use gib_core::ended::EndedSet;
 use gib_core::{Atom, Kind, Variable};
 use gib_types::{ConId, Ty, TypeTable};
 use std::alloc::Global;
@@ -38,6 +39,13 @@ pub struct Target {
     pub whole: bool,
 }
 
+/// A call to which a variable was bound.
+#[derive(Drop)]
+pub struct Told {
+    pub name: Name,
+    pub arguments: Vec<Atom>,
+}
+
 /// What stands before a term, with the newest last.
 #[derive(Drop)]
 pub struct Walk {
@@ -50,6 +58,8 @@ pub struct Walk {
     pub scope: Scope,
     /// The variables of the other sides of the pars around the term.
     pub others: Vec<Variable>,
+    /// The calls to which variables were bound before in the line.
+    pub calls: Vec<Told>,
     /// The number of the term in the order of the text.
     pub place: u64,
 }
@@ -62,6 +72,22 @@ pub fn is_listed(variables: &[Variable], variable: Variable) -> bool
 }
 
 impl Walk {
+    /// Whether one of the calls before in the line tells the end of a variable. The newest is looked at first.
+    #[tactic(auto, using(crate::proofs::Telling::told_next, crate::proofs::Telling::told_all, crate::proofs::Telling::told_none))]
+    pub fn tells(&self, ended: &EndedSet, z: Variable) -> bool
+        ensures { result ≡ one_tells ended.now (calls_of self.now) z }
+    {
+        let mut i = self.calls.len();
+        'calls: while i > 0 {
+            i -= 1;
+            let call = &self.calls[i];
+            if ended.has_among(call.name, &call.arguments, z) {
+                return true;
+            }
+        }
+        false
+    }
+
     /// Whether an atom can be used here: it is a literal, or a variable in scope that is reached.
     pub fn is_usable(&self, atom: Atom) -> bool
         ensures { result ≡ usable (in_scope self.now) atom }
@@ -164,7 +190,7 @@ impl Target {
 
     /// What is due at the term of a side.
     pub fn in_side(&self, types: &TypeTable, kind: Kind, ty: Ty) -> Target
-        ensures { (w : State) → setting_of w result ≡ in_side types.now (setting_of w self.now) kind ty }
+        ensures { (w : State) → at_line (setting_of w result) ≡ in_side types.now (setting_of w self.now) kind ty }
     {
         match kind {
             Kind::Here => Target {

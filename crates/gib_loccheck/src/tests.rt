@@ -500,7 +500,7 @@ fn program(alloc: Global, copied: Atom, line: Line, offsets: &[ConId]) -> Result
         body,
     };
     let offsets = Vec::from_slice(alloc, offsets)?;
-    Ok(Core::new(types, terms, functions, main, offsets))
+    Ok(Core::new(types, terms, functions, main, offsets, false))
 }
 
 #[test]

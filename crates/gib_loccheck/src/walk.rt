@@ -6,12 +6,12 @@ ghost use Rattle.gib_core.specs.Tree.{CaseTerm, IfTerm, One, Both};
 ghost use Rattle.gib_core.specs.Arena.{Opens, IsEnd, IsBindingBelow, IsBranchBelow, layer, term_of, side_from, bind_from, branches_from};
 ghost use Rattle.gib_core.specs.Parts.{core_of};
 ghost use Rattle.gib_core.specs.Met.{met, met_bind, met_side, met_branches, behind, in_arm};
-ghost use Rattle.gib_loccheck.specs.Views.{setting_of};
+ghost use Rattle.gib_loccheck.specs.Views.{setting_of, at_line};
 ghost use Rattle.gib_loccheck.specs.Judging.{Passes, Blames, Kept, Binds, with_other};
 
 use crate::bindings::{
-    add_other, behind_field, behind_operation, enter_side, enter_sides, leave, open_arm, open_head,
-    reach_field, without_call,
+    add_other, begin_line, behind_field, behind_operation, enter_side, enter_sides, leave,
+    leave_line, open_arm, open_head, reach_field, tell, without_call,
 };
 use crate::fault::LocFault;
 use crate::indexed::IndexedCore;
@@ -39,11 +39,12 @@ pub fn check_term(
     id: TermId,
 ) -> Result<(), LocFault>
     requires { id.0 < length core.now.terms }
-    ensures passes { IfOk result (λ _. Passes (core_of core.now) walk.old walk.new (met core.now.table (setting_of walk.old target) (term_of core.now.terms id.0))) }
+    ensures passes { IfOk result (λ _. Passes (core_of core.now) walk.old walk.new (met core.now.table (at_line (setting_of walk.old target)) (term_of core.now.terms id.0))) }
     ensures kept { IfOk result (λ _. Kept walk.old walk.new) }
-    ensures broken { IfErr result (Blames (core_of core.now) walk.old (met core.now.table (setting_of walk.old target) (term_of core.now.terms id.0))) }
+    ensures broken { IfErr result (Blames (core_of core.now) walk.old (met core.now.table (at_line (setting_of walk.old target)) (term_of core.now.terms id.0))) }
 {
     let outer = walk.scope.len();
+    let calls = begin_line(walk);
     let mut inner = target;
     let mut rest = id;
     let mut node = node_at(core, id);
@@ -53,7 +54,7 @@ pub fn check_term(
         node = node_at(core, rest);
     }
     check_end(core, walk, &inner, rest, node)?;
-    leave(walk, outer)?;
+    leave_line(walk, outer, calls)?;
     Ok(())
 }
 
@@ -169,6 +170,7 @@ fn bind_side(
 {
     check_side(core, walk, target, parent, bound)?;
     let next = enter_side(walk, target, bound.kind, bound.variable)?;
+    tell(core, walk, bound.term)?;
     Ok(next)
 }
 

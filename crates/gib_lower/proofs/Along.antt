@@ -12,30 +12,31 @@ use Rattle.gib_core.specs.declared.node.Binding.{Binding}
 use Rattle.gib_core.specs.Tree.{Term, Then, Write, Point, CallTerm, Give, CaseTerm, IfTerm, Bind, CoreTree, prepend}
 use Rattle.gib_core.specs.Arena.{IsLine, term_of, binds_from}
 use Rattle.gib_base.specs.declared.name.Name.{Name}
+use Rattle.gib_core.specs.Ending.{Within}
 use Rattle.gib_core.specs.Low.{Field, End, IsNoCall, further_fields, with_fields}
 use Rattle.gib_lower.specs.Lowering.{lowered, lowered_bind, call_or}
 
 -- Bindings, and then the rest.
-abbrev pub lowered_binds : CoreTree → List Field → List Bind → List Instruction → List Instruction
-lowered_binds core fs [] rest = rest
-lowered_binds core fs (b ∷ bs) rest = lowered_bind core fs b (lowered_binds core fs bs rest)
+abbrev pub lowered_binds : CoreTree → Within → List Field → List Bind → List Instruction → List Instruction
+lowered_binds core w fs [] rest = rest
+lowered_binds core w fs (b ∷ bs) rest = lowered_bind core w fs b (lowered_binds core w fs bs rest)
 
-lowered_prepend : (core : CoreTree) (fs : List Field) (bs : List Bind) (t : Term) (e : End) (rest : List Instruction) → lowered core fs (prepend bs t) e rest ≡ lowered_binds core fs bs (lowered core fs t e rest)
-lowered_prepend core fs [] t e rest = refl
-lowered_prepend core fs (b ∷ bs) t e rest = ap (lowered_bind core fs b) (lowered_prepend core fs bs t e rest)
+lowered_prepend : (core : CoreTree) (w : Within) (fs : List Field) (bs : List Bind) (t : Term) (e : End) (rest : List Instruction) → lowered core w fs (prepend bs t) e rest ≡ lowered_binds core w fs bs (lowered core w fs t e rest)
+lowered_prepend core w fs [] t e rest = refl
+lowered_prepend core w fs (b ∷ bs) t e rest = ap (lowered_bind core w fs b) (lowered_prepend core w fs bs t e rest)
 
 -- A line has its code, once none of its bindings is left that does not stand before its end.
-pub lowered_line : (core : CoreTree) (fs : List Field) (nodes : List Node) (id last i : ℕ) (bindings : List Binding) (e : End) (old behind new : List Instruction) → IsLine nodes id bindings last → i ≡ 0
-    → behind ≡ lowered core fs (term_of nodes last) e old → new ≡ lowered_binds core fs (binds_from (term_of nodes) (drop i bindings)) behind
-    → new ≡ lowered core fs (term_of nodes id) e old
-lowered_line core fs nodes id last i bindings e old behind new line none_left ends front =
+pub lowered_line : (core : CoreTree) (w : Within) (fs : List Field) (nodes : List Node) (id last i : ℕ) (bindings : List Binding) (e : End) (old behind new : List Instruction) → IsLine nodes id bindings last → i ≡ 0
+    → behind ≡ lowered core w fs (term_of nodes last) e old → new ≡ lowered_binds core w fs (binds_from (term_of nodes) (drop i bindings)) behind
+    → new ≡ lowered core w fs (term_of nodes id) e old
+lowered_line core w fs nodes id last i bindings e old behind new line none_left ends front =
     let f = term_of nodes in
     let bs = binds_from f bindings in
     front
-    ∙ ap (λ (k : ℕ). lowered_binds core fs (binds_from f (drop k bindings)) behind) none_left
-    ∙ ap (lowered_binds core fs bs) ends
-    ∙ sym (lowered_prepend core fs bs (f last) e old)
-    ∙ ap (λ (t : Term). lowered core fs t e old) (sym line.term)
+    ∙ ap (λ (k : ℕ). lowered_binds core w fs (binds_from f (drop k bindings)) behind) none_left
+    ∙ ap (lowered_binds core w fs bs) ends
+    ∙ sym (lowered_prepend core w fs bs (f last) e old)
+    ∙ ap (λ (t : Term). lowered core w fs t e old) (sym line.term)
 
 -- A term that is no call has its own code.
 pub no_call : (t : Term) (call : Name → List Atom → List Instruction) (other : List Instruction) → IsNoCall t → call_or t call other ≡ other

@@ -4,3 +4,5 @@ pub mod Lists
 pub mod Named
 pub mod Along
 pub mod Wholes
+pub mod TellingLine
+pub mod Tellings

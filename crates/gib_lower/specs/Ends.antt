@@ -1,9 +1,21 @@
 -- Ends as the code keeps them.
-use Rattle.gib_core.specs.Low.{End, Returns, To}
+use Rattle.std.specs.Prelude.{List}
+use Rattle.gib_core.specs.Ending.{Within}
+use Rattle.gib_core.specs.Low.{Over, End, Returns, To}
 use Rattle.gib_lower.specs.declared.ending.Ending.{Ending as Kept}
 use Rattle.gib_lower.specs.declared.ending.Ending.TheVariants as k
+use Rattle.gib_lower.specs.declared.ending.Around.{Around}
+use Rattle.gib_lower.specs.declared.ending.LastField.{LastField}
 
--- What follows a term, as the relation of a core and its code has it.
-abbrev pub end_of : Kept → End
-end_of k.Returns = Returns
-end_of (k.To l d) = To l d
+-- A tree and its last packed field, as the relation of a core and its code has them.
+abbrev pub over_of : LastField → Over
+over_of o = record { tree = o.tree; field = o.field }
+
+-- What follows a term; the ends of these trees are told before a return.
+abbrev pub end_of : Kept → List Over → End
+end_of k.Returns os = Returns os
+end_of (k.To l d) os = To l d
+
+-- Where a term stands.
+abbrev pub within_of : Around → Within
+within_of a = record { ends = a.ends; par = a.par }

@@ -3,11 +3,12 @@
 -- The code of a term is put in front of the code that follows it, so a label is known before it is used: while code is made,
 -- a label is how many instructions there are from its place to the end of the program. Once all code is there, labels
 -- become numbers of instructions.
-use Rattle.std.specs.Prelude.{ℕ, ◌+◌, ◌-◌, Bool, true, false, List, [], ◌∷◌, ◌++◌, map, length, Option, Some, None}
+use Rattle.std.specs.Prelude.{ℕ, ◌+◌, ◌-◌, ◌==◌, ◌&&◌, Bool, true, false, if◌then◌else◌, List, [], ◌∷◌, ◌++◌, map, length, Option, Some, None}
 use Rattle.gib_base.specs.declared.name.Name.{Name}
 use Rattle.gib_types.specs.declared.table.ConId.{ConId}
 use Rattle.gib_types.specs.declared.table.Ty.{Ty}
 use Rattle.gib_types.specs.Table.{fields_at}
+use Rattle.gib_types.specs.Layout.{head_size, packed_count}
 use Rattle.gib_code.specs.declared.instruction.Arm.{Arm}
 use Rattle.gib_code.specs.declared.instruction.Entry.{Entry}
 use Rattle.gib_code.specs.Instruction as i
@@ -15,10 +16,13 @@ use Rattle.gib_code.specs.Instruction.{Instruction}
 use Rattle.gib_code.specs.Program.{CodeTree}
 use Rattle.gib_core.specs.declared.atom.Variable.{Variable}
 use Rattle.gib_core.specs.declared.atom.Atom.{Atom}
+use Rattle.gib_core.specs.declared.atom.Atom.TheVariants as a
+use Rattle.gib_core.specs.declared.atom.Ended.{Ended}
 use Rattle.gib_core.specs.declared.atom.Kind.TheVariants.{Here, Region, Scalar}
 use Rattle.gib_core.specs.Tree.{Term, Then, Write, Point, CallTerm, Give, CaseTerm, IfTerm, Bind, Past, One, Both, Prim, Reach, Side, On, Branches, NoBranch, BranchThen, FunctionTerm, CoreTree}
 use Rattle.gib_core.specs.Numbering.{binders}
-use Rattle.gib_core.specs.Low.{laid_of, operand, operands, slot_of, slots_of, operation, kind_of, function_number, Field, with_fields, arm_opening, End, Returns, To, ending, giving, reaching}
+use Rattle.gib_core.specs.Ending.{has_ended, Within, within_par, within_function, within_main}
+use Rattle.gib_core.specs.Low.{laid_of, operand, operands, slot_of, slots_of, operation, kind_of, function_number, Field, with_fields, arm_opening, End, Returns, To, ending, giving, gots, arm_end, reaching}
 
 -- The code of branches, with each constructor's label.
 pub record Switched : Type 0 where
@@ -52,57 +56,71 @@ abbrev pub both : Bool → Side → (List Instruction → List Instruction) → 
 both false r left right rest = left (right rest)
 both true r left right rest = fork r (left (i.Join ∷ right (i.Back ∷ rest))) (right (i.Back ∷ rest)) rest
 
+-- An arm without packed fields tells where its tree ends, behind a head of so many bytes.
+abbrev pub leaf_end : Bool → (x size many : ℕ) → List Instruction
+leaf_end must x size many = if must && many == 0 then i.LeafEnd x size ∷ [] else []
+
+-- That of the constructor k.
+abbrev pub leaf_of : CoreTree → Within → ℕ → ConId → List Instruction
+leaf_of core w x k = leaf_end w.ends x (head_size (laid_of core) k.0) (packed_count (fields_at core.table k.0))
+
+-- The end that a call of f gave for its argument at the place k is told to it.
+abbrev pub got_one : List Ended → (f k : ℕ) → Atom → List Instruction
+got_one es f k (a.Variable z) = if has_ended es f k then i.Got z.0 k ∷ [] else []
+got_one es f k (a.Whole z) = []
+got_one es f k (a.Truth b) = []
+
 abbrev mutual
   -- A term with an end, and then the rest.
-  pub lowered : CoreTree → List Field → Term → End → List Instruction → List Instruction
-  lowered core fs (Then b t) e rest = lowered_bind core fs b (lowered core fs t e rest)
-  lowered core fs (Write h k ss ps) e rest = i.Fill h.0 k.0 (operands ss) (slots_of ps) ∷ ending e ∷ rest
-  lowered core fs (Point x) e rest = i.Point (slot_of x) ∷ ending e ∷ rest
-  lowered core fs (CallTerm g xs) e rest = i.Call (function_number core.functions g.0) (operands xs) ∷ ending e ∷ rest
-  lowered core fs (Give x) e rest = giving (operand x) e ++ rest
-  lowered core fs (CaseTerm x branches) e rest = switch (slot_of x) (lowered_branches core fs (slot_of x) branches e rest)
-  lowered core fs (IfTerm x t u) e rest =
-      let other = lowered core fs u e rest in
-      i.Unless (operand x) (length other) ∷ lowered core fs t e other
+  pub lowered : CoreTree → Within → List Field → Term → End → List Instruction → List Instruction
+  lowered core w fs (Then b t) e rest = lowered_bind core w fs b (lowered core w fs t e rest)
+  lowered core w fs (Write h k ss ps) e rest = i.Fill h.0 k.0 (operands ss) (slots_of ps) ∷ (ending e ++ rest)
+  lowered core w fs (Point x) e rest = i.Point (slot_of x) ∷ (ending e ++ rest)
+  lowered core w fs (CallTerm g xs) e rest = i.Call (function_number core.functions g.0) (operands xs) ∷ (gots w core g.0 xs ++ (ending e ++ rest))
+  lowered core w fs (Give x) e rest = giving (operand x) e ++ rest
+  lowered core w fs (CaseTerm x branches) e rest = switch (slot_of x) (lowered_branches core w fs (slot_of x) branches e rest)
+  lowered core w fs (IfTerm x t u) e rest =
+      let other = lowered core w fs u e rest in
+      i.Unless (operand x) (length other) ∷ lowered core w fs t e other
 
   -- A binding, and then the rest.
-  pub lowered_bind : CoreTree → List Field → Bind → List Instruction → List Instruction
-  lowered_bind core fs (Past h k) rest = i.Past h.0 k.0 ∷ rest
-  lowered_bind core fs (One side) rest = lowered_side core fs side rest
-  lowered_bind core fs (Both marked l r) rest = both marked r (lowered_side core fs l) (lowered_side core fs r) rest
-  lowered_bind core fs (Prim x g y z) rest = i.Operate x.0 (operation g) (operand y) (operand z) ∷ rest
-  lowered_bind core fs (Reach y by) rest = reaching fs y by ∷ rest
+  pub lowered_bind : CoreTree → Within → List Field → Bind → List Instruction → List Instruction
+  lowered_bind core w fs (Past h k) rest = i.Past h.0 k.0 ∷ rest
+  lowered_bind core w fs (One side) rest = lowered_side core w fs side rest
+  lowered_bind core w fs (Both marked l r) rest = both marked r (lowered_side core (within_par w) fs l) (lowered_side core (within_par w) fs r) rest
+  lowered_bind core w fs (Prim x g y z) rest = i.Operate x.0 (operation g) (operand y) (operand z) ∷ rest
+  lowered_bind core w fs (Reach y by) rest = reaching fs y by ∷ rest
 
   -- A variable that is bound to a term, and then the rest.
-  pub lowered_side : CoreTree → List Field → Side → List Instruction → List Instruction
-  lowered_side core fs (On Here x ty t) rest = i.Here x.0 ∷ lowered core fs t (To (length rest) 0) rest
-  lowered_side core fs (On Region x ty t) rest =
+  pub lowered_side : CoreTree → Within → List Field → Side → List Instruction → List Instruction
+  lowered_side core w fs (On Here x ty t) rest = i.Here x.0 ∷ lowered core w fs t (To (length rest) 0) rest
+  lowered_side core w fs (On Region x ty t) rest =
       let finish = i.Done ∷ rest in
-      i.Begin x.0 ∷ lowered core fs t (To (length finish) 0) finish
-  lowered_side core fs (On Scalar x ty t) rest =
-      call_or t (λ g xs. i.CallScalar x.0 (function_number core.functions g.0) (operands xs) ∷ rest) (lowered core fs t (To (length rest) x.0) rest)
+      i.Begin x.0 ∷ lowered core w fs t (To (length finish) 0) finish
+  lowered_side core w fs (On Scalar x ty t) rest =
+      call_or t (λ g xs. i.CallScalar x.0 (function_number core.functions g.0) (operands xs) ∷ (gots w core g.0 xs ++ rest)) (lowered core w fs t (To (length rest) x.0) rest)
 
   -- The branches of a case on the slot x, one after another, and then the rest.
-  pub lowered_branches : CoreTree → List Field → ℕ → Branches → End → List Instruction → Switched
-  lowered_branches core fs x NoBranch e rest = record { arms = []; code = rest }
-  lowered_branches core fs x (BranchThen k ys t branches) e rest =
-      let others = lowered_branches core fs x branches e rest in
-      one_more k (arm_opening (laid_of core) x k.0 ys ++ lowered core (with_fields x (fields_at core.table k.0) ys fs) t e others.code) others
+  pub lowered_branches : CoreTree → Within → List Field → ℕ → Branches → End → List Instruction → Switched
+  lowered_branches core w fs x NoBranch e rest = record { arms = []; code = rest }
+  lowered_branches core w fs x (BranchThen k ys t branches) e rest =
+      let others = lowered_branches core w fs x branches e rest in
+      one_more k (arm_opening (laid_of core) x k.0 ys ++ (leaf_of core w x k ++ lowered core w (with_fields x (fields_at core.table k.0) ys fs) t (arm_end w core x k ys t e) others.code)) others
 
 -- A scalar that is bound to a term, and then the rest.
-abbrev pub scalar_lowered : CoreTree → List Field → Variable → Term → List Instruction → List Instruction
-scalar_lowered core fs x t rest =
-    call_or t (λ g xs. i.CallScalar x.0 (function_number core.functions g.0) (operands xs) ∷ rest) (lowered core fs t (To (length rest) x.0) rest)
+abbrev pub scalar_lowered : CoreTree → Within → List Field → Variable → Term → List Instruction → List Instruction
+scalar_lowered core w fs x t rest =
+    call_or t (λ g xs. i.CallScalar x.0 (function_number core.functions g.0) (operands xs) ∷ (gots w core g.0 xs ++ rest)) (lowered core w fs t (To (length rest) x.0) rest)
 
 -- A branch, and then the rest.
-abbrev pub branch_lowered : CoreTree → List Field → ℕ → ConId → List Variable → Term → End → List Instruction → List Instruction
-branch_lowered core fs x k ys t e rest =
-    arm_opening (laid_of core) x k.0 ys ++ lowered core (with_fields x (fields_at core.table k.0) ys fs) t e rest
+abbrev pub branch_lowered : CoreTree → Within → List Field → ℕ → ConId → List Variable → Term → End → List Instruction → List Instruction
+branch_lowered core w fs x k ys t e rest =
+    arm_opening (laid_of core) x k.0 ys ++ (leaf_of core w x k ++ lowered core w (with_fields x (fields_at core.table k.0) ys fs) t (arm_end w core x k ys t e) rest)
 
 -- The code of functions in the order of the text, and then main's.
 abbrev pub lowered_functions : CoreTree → List FunctionTerm → List Instruction
-lowered_functions core [] = lowered core [] core.main.body Returns []
-lowered_functions core (g ∷ gs) = lowered core [] g.body Returns (lowered_functions core gs)
+lowered_functions core [] = lowered core (within_main core) [] core.main.body (Returns []) []
+lowered_functions core (g ∷ gs) = lowered core (within_function core g) [] g.body (Returns []) (lowered_functions core gs)
 
 -- A label as the number of an instruction, in a program of n instructions.
 abbrev pub label_in : ℕ → ℕ → ℕ
@@ -137,6 +155,10 @@ numbered n (i.Give v) = i.Give v
 numbered n (i.Fork r j kind b ty) = i.Fork (label_in n r) (label_in n j) kind b ty
 numbered n i.Join = i.Join
 numbered n i.Back = i.Back
+numbered n (i.Got z k) = i.Got z k
+numbered n (i.OverEnd x y) = i.OverEnd x y
+numbered n (i.LeafEnd x k) = i.LeafEnd x k
+numbered n (i.EndOf d z) = i.EndOf d z
 
 -- A function in the code: its name, where it begins, a slot for each variable, and the type of its value.
 abbrev pub entry_of : Option Name → Ty → ℕ → ℕ → Term → Entry

@@ -1,6 +1,6 @@
 //! An example of what a core becomes.
 
-ghost use Rattle.std.specs.Prelude.{◌≡◌, ◌∷◌, [], ℕ, pos, true, Some, None};
+ghost use Rattle.std.specs.Prelude.{◌≡◌, ◌∷◌, [], ℕ, pos, true, false, Some, None};
 ghost use Rattle.gib_types.specs.declared.table.Ty.{Ty as FieldType};
 ghost use Rattle.gib_types.specs.declared.table.Ty.TheVariants as ty;
 ghost use Rattle.gib_types.specs.declared.table.ConId.{ConId as Con};
@@ -11,7 +11,7 @@ ghost use Rattle.gib_core.specs.declared.atom.Atom.TheVariants as a;
 ghost use Rattle.gib_core.specs.declared.atom.Access.TheVariants as by;
 ghost use Rattle.gib_core.specs.declared.atom.Kind.TheVariants as kind;
 ghost use Rattle.gib_core.specs.declared.atom.Variable.{Variable as X};
-ghost use Rattle.gib_core.specs.Tree.{Term, Then, Write, CallTerm, CaseTerm, Past, One, Both, Prim, Reach, On, NoBranch, BranchThen, var, CoreTree};
+ghost use Rattle.gib_core.specs.Tree.{Term, Then, Write, CallTerm, Give, CaseTerm, Past, One, Both, Prim, Reach, On, NoBranch, BranchThen, var, CoreTree};
 ghost use Rattle.gib_code.specs.declared.instruction.Operand.TheVariants.{Slot, Number};
 ghost use Rattle.gib_code.specs.declared.instruction.Operation.TheVariants as f;
 ghost use Rattle.gib_code.specs.declared.instruction.Kind.TheVariants as side;
@@ -39,6 +39,7 @@ pub fn examples()
           functions = record { name = add1; parameters = tree ∷ []; result = tree; body = CaseTerm (var 0) (BranchThen leaf (x 1 ∷ []) first (BranchThen node (x 4 ∷ x 5 ∷ []) second NoBranch)) } ∷ [];
           main = record { parameter = tree; result = tree; body = CallTerm add1 (var 0 ∷ []) };
           offsets = node ∷ [];
+          marked = false;
         } in
         lower_program core ≡ record {
           laid = record { table = table; with_offsets = 1 ∷ [] };
@@ -67,5 +68,50 @@ pub fn examples()
               ∷ i.Return
               ∷ [];
           functions = record { name = Some add1; start = 0; slots = 9; result = tree } ∷ record { name = None; start = 20; slots = 1; result = tree } ∷ [];
+        } }
+{}
+
+/// The code of
+///
+///     fun sum (t : Tree) : Int = case t of { Leaf n -> n ; Node l r -> (sum l + sum r) } ;
+///     main (t : Tree) : Int = sum t ;
+///
+/// over the same type, by ends: each call tells where its argument ends, where the second tree begins.
+pub fn examples_by_ends()
+    ensures { let leaf : Con = record { 0 = 0 } in
+        let node : Con = record { 0 = 1 } in
+        let sum : FunctionName = record { 0 = 3 } in
+        let tree : FieldType = ty.Tree (record { 0 = 0 }) in
+        let x : ℕ → X = λ n. record { 0 = n } in
+        let table : Table = record { types = 0 ∷ []; rows = record { name = 1; owner = 0; fields = ty.Whole ∷ [] } ∷ record { name = 2; owner = 0; fields = tree ∷ tree ∷ [] } ∷ [] } in
+        let second : Term = Then (One (On kind.Scalar (x 4) ty.Whole (CallTerm sum (var 2 ∷ [])))) (Then (Reach (x 3) (by.End (x 2))) (Then (One (On kind.Scalar (x 5) ty.Whole (CallTerm sum (var 3 ∷ [])))) (Then (Prim (x 6) o.Add (var 4) (var 5)) (Give (var 6))))) in
+        let core : CoreTree = record {
+          table = table;
+          functions = record { name = sum; parameters = tree ∷ []; result = ty.Whole; body = CaseTerm (var 0) (BranchThen leaf (x 1 ∷ []) (Give (var 1)) (BranchThen node (x 2 ∷ x 3 ∷ []) second NoBranch)) } ∷ [];
+          main = record { parameter = tree; result = ty.Whole; body = Then (One (On kind.Scalar (x 1) ty.Whole (CallTerm sum (var 0 ∷ [])))) (Give (var 1)) };
+          offsets = [];
+          marked = true;
+        } in
+        lower_program core ≡ record {
+          laid = record { table = table; with_offsets = [] };
+          instructions =
+              i.Switch 0 (record { constructor = 0; label = 1 } ∷ record { constructor = 1; label = 4 } ∷ [])
+              ∷ i.Whole 1 0 1
+              ∷ i.LeafEnd 0 9
+              ∷ i.Give (Slot 1)
+              ∷ i.First 2 0 1
+              ∷ i.CallScalar 4 0 (Slot 2 ∷ [])
+              ∷ i.Got 2 0
+              ∷ i.EndOf 3 2
+              ∷ i.CallScalar 5 0 (Slot 3 ∷ [])
+              ∷ i.Got 3 0
+              ∷ i.Operate 6 f.Add (Slot 4) (Slot 5)
+              ∷ i.OverEnd 0 3
+              ∷ i.Give (Slot 6)
+              ∷ i.CallScalar 1 0 (Slot 0 ∷ [])
+              ∷ i.Got 0 0
+              ∷ i.Give (Slot 1)
+              ∷ [];
+          functions = record { name = Some sum; start = 0; slots = 7; result = ty.Whole } ∷ record { name = None; start = 13; slots = 2; result = ty.Whole } ∷ [];
         } }
 {}

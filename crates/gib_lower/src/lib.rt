@@ -13,6 +13,8 @@ mod numbering;
 mod opening;
 mod program;
 mod source;
+mod telling;
+mod told;
 mod walk;
 
 pub use program::lower;

@@ -57,7 +57,11 @@ fn number(count: u32, instr: &mut Instr)
         | Instr::Return
         | Instr::Give(_)
         | Instr::Join
-        | Instr::Back => {}
+        | Instr::Back
+        | Instr::Got { .. }
+        | Instr::OverEnd { .. }
+        | Instr::LeafEnd { .. }
+        | Instr::EndOf { .. } => {}
     }
 }
 

@@ -5,7 +5,9 @@ ghost use Rattle.std.specs.List.{AllByRecursion};
 ghost use Rattle.gib_core.specs.Arena.{term_of};
 ghost use Rattle.gib_core.specs.Parts.{IsFunctionInside, core_of, function_term};
 ghost use Rattle.gib_code.specs.Instruction.{instruction_of};
+ghost use Rattle.gib_core.specs.Ending.{within_function};
 ghost use Rattle.gib_core.specs.Low.{laid_of, Returns};
+ghost use Rattle.gib_lower.specs.Ends.{within_of};
 ghost use Rattle.gib_core.specs.Numbering.{AreNumbered};
 ghost use Rattle.gib_core.specs.Fits.{AllFit, EachFits};
 ghost use Rattle.gib_lower.specs.Counting.{variables_of};
@@ -13,11 +15,12 @@ ghost use Rattle.gib_lower.specs.Lowering.{label_in, entry_in, entry_of, numbere
 
 use crate::counts::{Counts, count_of, plus};
 use crate::emitted::Emitted;
-use crate::ending::Ending;
+use crate::ending::{Around, Overs};
 use crate::fields::Fields;
 use crate::law::lowering_gives_its_code;
 use crate::numbering::{label_in, number_all};
 use crate::source::Source;
+use crate::telling::has_telling;
 use crate::walk::{Lowering, lower_term};
 use gib_base::Memory;
 use gib_code::{Code, Entry, Instr};
@@ -26,15 +29,41 @@ use gib_core::{Checked, CoreFunction, Lowered, TermId};
 use std::alloc::Global;
 
 /// The code of a body, before the code that is there; its label.
-fn lower_body(source: &Source, body: TermId, out: &mut Lowering) -> Result<u32, Memory>
+fn lower_body(
+    source: &Source,
+    around: Around,
+    body: TermId,
+    out: &mut Lowering,
+) -> Result<u32, Memory>
     requires inside { body.0 < length source.now.terms }
     requires outside { out.old.fields ≡ [] }
-    ensures code { IfOk result (λ _. out.new.code ≡ lowered (core_of source.now) [] (term_of source.now.terms body.0) Returns out.old.code) }
+    requires none { out.old.overs ≡ [] }
+    ensures code { IfOk result (λ _. out.new.code ≡ lowered (core_of source.now) (within_of around) [] (term_of source.now.terms body.0) (Returns []) out.old.code) }
     ensures outside { IfOk result (λ _. out.new.fields ≡ []) }
+    ensures none { IfOk result (λ _. out.new.overs ≡ []) }
     ensures label { IfOk result (λ label. label ≡ length out.new.code) }
 {
-    lower_term(source, body, Ending::Returns, out)?;
+    lower_term(source, body, around.returning(), out)?;
     Ok(out.code.label())
+}
+
+/// Whether a function tells ends: it has an ended parameter, or calls that give ends.
+fn around_function(
+    alloc: Global,
+    source: &Source,
+    function: &CoreFunction,
+) -> Result<Around, Memory>
+    requires { function.now.body.0 < length source.now.terms }
+    ensures { IfOk result (λ around. within_of around ≡ within_function (core_of source.now) (function_term (term_of source.now.terms) function.now)) }
+{
+    if source.ended().has_some(function.name) {
+        return Ok(Around {
+            ends: true,
+            par: false,
+        });
+    }
+    let ends = has_telling(alloc, source.terms(), source.ended(), function.body)?;
+    Ok(Around { ends, par: false })
 }
 
 /// The code of a function, before the code that is there; the function as it stands there.
@@ -47,11 +76,14 @@ fn lower_function(
     requires inside { function.now.body.0 < length source.now.terms }
     requires counts { counts.now ≡ record { terms = source.now.terms; upto = length source.now.terms } }
     requires outside { out.old.fields ≡ [] }
-    ensures code { IfOk result (λ _. out.new.code ≡ lowered (core_of source.now) [] (term_of source.now.terms function.now.body.0) Returns out.old.code) }
+    requires none { out.old.overs ≡ [] }
+    ensures code { IfOk result (λ _. out.new.code ≡ lowered (core_of source.now) (within_function (core_of source.now) (function_term (term_of source.now.terms) function.now)) [] (term_of source.now.terms function.now.body.0) (Returns []) out.old.code) }
     ensures outside { IfOk result (λ _. out.new.fields ≡ []) }
+    ensures none { IfOk result (λ _. out.new.overs ≡ []) }
     ensures entry { IfOk result (λ entry. entry ≡ entry_of (Some function.now.name) function.now.result (length out.new.code) (length function.now.parameters.items) (term_of source.now.terms function.now.body.0)) }
 {
-    let start = lower_body(source, function.body, out)?;
+    let around = around_function(out.alloc, source, function)?;
+    let start = lower_body(source, around, function.body, out)?;
     let parameters = count_of(&function.parameters)?;
     let slots = plus(parameters, counts.of(function.body))?;
     Ok(Entry {
@@ -66,13 +98,17 @@ fn lower_function(
 fn lower_main(source: &Source, counts: &Counts, out: &mut Lowering) -> Result<Entry, Memory>
     requires counts { counts.now ≡ record { terms = source.now.terms; upto = length source.now.terms } }
     requires outside { out.old.fields ≡ [] }
+    requires none { out.old.overs ≡ [] }
     requires last { out.old.code ≡ [] }
     ensures code { IfOk result (λ _. out.new.code ≡ lowered_functions (core_of source.now) []) }
     ensures outside { IfOk result (λ _. out.new.fields ≡ []) }
+    ensures none { IfOk result (λ _. out.new.overs ≡ []) }
     ensures entry { IfOk result (λ entry. entry ∷ [] ≡ begun (core_of source.now) []) }
 {
     let main = source.main();
-    let start = lower_body(source, main.body, out)?;
+    let ends = has_telling(out.alloc, source.terms(), source.ended(), main.body)?;
+    let around = Around { ends, par: false };
+    let start = lower_body(source, around, main.body, out)?;
     let slots = plus(1, counts.of(main.body))?;
     Ok(Entry {
         name: None,
@@ -91,6 +127,7 @@ fn lower_functions(
 ) -> Result<(), Memory>
     requires counts { counts.now ≡ record { terms = source.now.terms; upto = length source.now.terms } }
     requires outside { out.old.fields ≡ [] }
+    requires none { out.old.overs ≡ [] }
     requires code { out.old.code ≡ lowered_functions (core_of source.now) [] }
     requires entries { reverse entries.old.items ≡ begun (core_of source.now) [] }
     ensures code { OnOk result (out.new.code ≡ lowered_functions (core_of source.now) (core_of source.now).functions) }
@@ -109,6 +146,7 @@ fn lower_functions(
 /// The code of main and of the functions, and these as they stand there, main first.
 fn lower_bodies(source: &Source, out: &mut Lowering) -> Result<Vec<Entry>, Memory>
     requires outside { out.old.fields ≡ [] }
+    requires none { out.old.overs ≡ [] }
     requires empty { out.old.code ≡ [] }
     ensures code { IfOk result (λ _. out.new.code ≡ lowered_functions (core_of source.now) (core_of source.now).functions) }
     ensures entries { IfOk result (λ entries. reverse entries.items ≡ begun (core_of source.now) (core_of source.now).functions) }
@@ -147,6 +185,7 @@ fn lower_core(alloc: Global, source: &Source) -> Result<(Vec<Instr>, Vec<Entry>)
     let mut out = Lowering {
         alloc,
         fields: Fields::new(alloc),
+        overs: Overs::new(alloc),
         code: Emitted::new(alloc),
     };
     let reversed = lower_bodies(source, &mut out)?;

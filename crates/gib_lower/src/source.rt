@@ -3,17 +3,18 @@
 use crate::counts::count_of;
 use crate::functions::{list_numbers, number_at};
 use gib_base::{ByNumber, Memory, Name};
-use gib_core::{Core, CoreFunction, CoreMain, Terms};
-use gib_types::Layouts;
+use gib_core::{Core, CoreFunction, CoreMain, EndedSet, Terms, ended_parameters};
+use gib_types::{Layouts, TypeTable};
 use std::alloc::Global;
 use std::marker::Model;
 
-/// A core, how its heads lie in memory, and the numbers of its functions by their names.
+/// A core, how its heads lie in memory, the numbers of its functions by their names, and its ended parameters.
 #[derive(Drop)]
 pub(crate) struct Source {
     core: Core,
     layouts: Layouts,
     numbers: ByNumber<u32>,
+    ended: EndedSet,
     /// How many functions there are besides main: main's number.
     count: u32,
 }
@@ -26,12 +27,13 @@ impl Model for Source {
 
     ghost view = { λ s. s.core };
 
-    ghost invariant = { λ s. IsSource s.core s.layouts s.numbers s.count };
+    ghost invariant = { λ s. IsSource s.core s.layouts s.numbers s.ended s.count };
 }
 
 impl Source {
     ghost use Rattle.std.specs.Prelude.{◌≡◌, IfOk};
     ghost use Rattle.gib_core.specs.Parts.{AreInside, core_of};
+    ghost use Rattle.gib_core.specs.Ending.{ended};
     ghost use Rattle.gib_core.specs.Low.{laid_of, function_number};
 
     /// A core with what lowering asks of it.
@@ -41,10 +43,12 @@ impl Source {
         let layouts = Layouts::make(alloc, core.types(), core.offsets())?;
         let count = count_of(core.functions())?;
         let numbers = list_numbers(alloc, core.functions(), count)?;
+        let ended = ended_parameters(alloc, &core, core.marked())?;
         Ok(Source {
             core,
             layouts,
             numbers,
+            ended,
             count,
         })
     }
@@ -54,6 +58,20 @@ impl Source {
         ensures { result.now ≡ laid_of (core_of self.now) }
     {
         &self.layouts
+    }
+
+    /// Its types.
+    pub(crate) fn types(&self) -> &TypeTable
+        ensures { result.now ≡ self.now.table }
+    {
+        self.core.types()
+    }
+
+    /// Its ended parameters.
+    pub(crate) fn ended(&self) -> &EndedSet
+        ensures { result.now ≡ ended (core_of self.now) }
+    {
+        &self.ended
     }
 
     /// The terms of all bodies.

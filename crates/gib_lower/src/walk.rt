@@ -9,20 +9,21 @@ ghost use Rattle.gib_types.specs.Table.{fields_at};
 ghost use Rattle.gib_core.specs.Arena.{IsBindingBelow, IsBranchBelow, IsEnd, term_of, side_from, bind_from, branches_from};
 ghost use Rattle.gib_core.specs.Parts.{core_of};
 ghost use Rattle.gib_core.specs.Tree.{CallTerm, Both};
-ghost use Rattle.gib_core.specs.Low.{laid_of, IsNoCall, with_fields, arm_opening, giving, operands as operands_spec, slots_of as slots_spec, ending as ending_spec, reaching};
+ghost use Rattle.gib_core.specs.Low.{laid_of, IsNoCall, function_number, with_fields, arm_opening, gots as gots_spec, operands as operands_spec, slots_of as slots_spec, ending as ending_spec, reaching};
 ghost use Rattle.gib_code.specs.Instruction as i;
 ghost use Rattle.gib_code.specs.Instruction.{instruction_of};
-ghost use Rattle.gib_lower.specs.Ends.{end_of};
+ghost use Rattle.gib_lower.specs.Ends.{end_of, within_of};
 ghost use Rattle.gib_lower.specs.Lowering.{lowered, lowered_bind, lowered_side, lowered_branches, switch, scalar_lowered, branch_lowered};
 
 use crate::atoms::{kind_of, operand, operands, operation, slot_of, slots_of};
 use crate::emitted::Emitted;
-use crate::ending::Ending;
+use crate::ending::{Around, At, Ending, Overs};
 use crate::fields::Fields;
 use crate::opening::opening;
 use crate::source::Source;
+use crate::told::{enter_arm, give, gots, put_ending, put_leaf};
 use gib_base::{Memory, Name};
-use gib_code::{Arm, Instr, Operand};
+use gib_code::{Arm, Instr};
 use gib_core::{Access, Atom, Binding, BoundTerm, Branch, Kind, Node, TermId, Terms, Variable};
 use gib_types::ConId;
 use std::alloc::Global;
@@ -33,25 +34,23 @@ pub(crate) struct Lowering {
     pub alloc: Global,
     /// The packed fields of the arms around what is lowered next.
     pub fields: Fields,
+    /// The trees of these arms whose ends are told before a return.
+    pub overs: Overs,
     pub code: Emitted,
 }
 
-/// What a packed term ends with.
-fn ending(end: Ending) -> Instr
-    ensures { instruction_of result ≡ ending_spec (end_of end) }
+/// Puts what makes a packed value, and what stands behind it.
+fn put_value(
+    alloc: Global,
+    overs: &Overs,
+    ending: Ending,
+    instr: Instr,
+    code: &mut Emitted,
+) -> Result<(), Memory>
+    ensures { OnOk result (code.new ≡ instruction_of instr ∷ (ending_spec (end_of ending overs.now) ++ code.old)) }
 {
-    match end {
-        Ending::Returns => Instr::Return,
-        Ending::To { label, .. } => Instr::Jump(label),
-    }
-}
-
-/// What puts a packed value, and what stands behind it.
-fn put_value(out: &mut Emitted, end: Ending, instr: Instr) -> Result<(), Memory>
-    ensures { OnOk result (out.new ≡ instruction_of instr ∷ ending_spec (end_of end) ∷ out.old) }
-{
-    out.put(ending(end))?;
-    out.put(instr)
+    put_ending(alloc, overs, ending, code)?;
+    code.put(instr)
 }
 
 /// What fills a head.
@@ -72,22 +71,6 @@ fn fill(
     })
 }
 
-/// What gives a scalar.
-fn give(out: &mut Emitted, end: Ending, value: Operand) -> Result<(), Memory>
-    ensures { OnOk result (out.new ≡ giving value (end_of end) ++ out.old) }
-{
-    match end {
-        Ending::Returns => out.put(Instr::Give(value)),
-        Ending::To { label, slot } => {
-            out.put(Instr::Jump(label))?;
-            out.put(Instr::Move {
-                to: slot,
-                from: value,
-            })
-        }
-    }
-}
-
 /// How a field is reached.
 fn reach(fields: &Fields, field: Variable, access: Access) -> Instr
     ensures { instruction_of result ≡ reaching fields.now field access }
@@ -104,6 +87,10 @@ fn reach(fields: &Fields, field: Variable, access: Access) -> Instr
         Access::Skip(before) => Instr::Skip {
             to: field.0,
             from: before.0,
+        },
+        Access::End(previous) => Instr::EndOf {
+            to: field.0,
+            from: previous.0,
         },
     }
 }
@@ -142,35 +129,82 @@ fn call_alone(terms: &Terms, id: TermId) -> Option<(Name, &[Atom])>
     }
 }
 
+/// The code of a packed call.
+fn lower_call(
+    source: &Source,
+    at: At,
+    name: Name,
+    arguments: &[Atom],
+    out: &mut Lowering,
+) -> Result<(), Memory>
+    ensures code { OnOk result (out.new.code ≡ i.Call (function_number (core_of source.now).functions name.0) (operands_spec arguments.now) ∷ (gots_spec (within_of at.around) (core_of source.now) name.0 arguments.now ++ (ending_spec (end_of at.ending out.old.overs) ++ out.old.code))) }
+    ensures fields { OnOk result (out.new.fields ≡ out.old.fields) }
+    ensures overs { OnOk result (out.new.overs ≡ out.old.overs) }
+{
+    put_ending(out.alloc, &out.overs, at.ending, &mut out.code)?;
+    let told = gots(out.alloc, source, at.around, name, arguments)?;
+    out.code.put_all(told)?;
+    let arguments = operands(out.alloc, arguments)?;
+    out.code.put(Instr::Call {
+        function: source.number(name),
+        arguments,
+    })
+}
+
+/// The code of a scalar call.
+fn lower_scalar_call(
+    source: &Source,
+    around: Around,
+    variable: Variable,
+    name: Name,
+    arguments: &[Atom],
+    out: &mut Lowering,
+) -> Result<(), Memory>
+    ensures code { OnOk result (out.new.code ≡ i.CallScalar variable.0 (function_number (core_of source.now).functions name.0) (operands_spec arguments.now) ∷ (gots_spec (within_of around) (core_of source.now) name.0 arguments.now ++ out.old.code)) }
+    ensures fields { OnOk result (out.new.fields ≡ out.old.fields) }
+    ensures overs { OnOk result (out.new.overs ≡ out.old.overs) }
+{
+    let told = gots(out.alloc, source, around, name, arguments)?;
+    out.code.put_all(told)?;
+    let arguments = operands(out.alloc, arguments)?;
+    out.code.put(Instr::CallScalar {
+        to: variable.0,
+        function: source.number(name),
+        arguments,
+    })
+}
+
 /// The code of a term. This recurses as deep as terms are nested in bindings and branches, and not along a line.
 #[cycle(lower)]
 pub(crate) fn lower_term(
     source: &Source,
     id: TermId,
-    end: Ending,
+    at: At,
     out: &mut Lowering,
 ) -> Result<(), Memory>
     requires inside { id.0 < length source.now.terms }
-    ensures code { OnOk result (out.new.code ≡ lowered (core_of source.now) out.old.fields (term_of source.now.terms id.0) (end_of end) out.old.code) }
+    ensures code { OnOk result (out.new.code ≡ lowered (core_of source.now) (within_of at.around) out.old.fields (term_of source.now.terms id.0) (end_of at.ending out.old.overs) out.old.code) }
     ensures fields { OnOk result (out.new.fields ≡ out.old.fields) }
+    ensures overs { OnOk result (out.new.overs ≡ out.old.overs) }
 {
     let (bindings, last) = source.terms().line(out.alloc, id)?;
-    lower_end(source, last, end, out)?;
+    lower_end(source, last, at, out)?;
     let mut i = bindings.len();
     'bindings: while i > 0 {
         i -= 1;
-        lower_binding(source, id, bindings[i], out)?;
+        lower_binding(source, at.around, id, bindings[i], out)?;
     }
     Ok(())
 }
 
 /// The code of the end of a line.
 #[cycle(lower)]
-fn lower_end(source: &Source, id: TermId, end: Ending, out: &mut Lowering) -> Result<(), Memory>
+fn lower_end(source: &Source, id: TermId, at: At, out: &mut Lowering) -> Result<(), Memory>
     requires inside { id.0 < length source.now.terms }
     requires last { IsEnd (term_of source.now.terms id.0) }
-    ensures code { OnOk result (out.new.code ≡ lowered (core_of source.now) out.old.fields (term_of source.now.terms id.0) (end_of end) out.old.code) }
+    ensures code { OnOk result (out.new.code ≡ lowered (core_of source.now) (within_of at.around) out.old.fields (term_of source.now.terms id.0) (end_of at.ending out.old.overs) out.old.code) }
     ensures fields { OnOk result (out.new.fields ≡ out.old.fields) }
+    ensures overs { OnOk result (out.new.overs ≡ out.old.overs) }
 {
     match source.terms().node(id) {
         Node::Then(_, _) => unreachable!(),
@@ -181,29 +215,32 @@ fn lower_end(source: &Source, id: TermId, end: Ending, out: &mut Lowering) -> Re
             packed,
         } => {
             let instr = fill(out.alloc, *head, *constructor, scalars, packed)?;
-            put_value(&mut out.code, end, instr)
+            put_value(out.alloc, &out.overs, at.ending, instr, &mut out.code)
         }
-        Node::Point(atom) => put_value(&mut out.code, end, Instr::Point(slot_of(*atom))),
-        Node::Call(name, arguments) => {
-            let instr = Instr::Call {
-                function: source.number(*name),
-                arguments: operands(out.alloc, arguments)?,
-            };
-            put_value(&mut out.code, end, instr)
+        Node::Point(atom) => {
+            let instr = Instr::Point(slot_of(*atom));
+            put_value(out.alloc, &out.overs, at.ending, instr, &mut out.code)
         }
-        Node::Give(atom) => give(&mut out.code, end, operand(*atom)),
+        Node::Call(name, arguments) => lower_call(source, at, *name, arguments, out),
+        Node::Give(atom) => give(
+            out.alloc,
+            &out.overs,
+            at.ending,
+            operand(*atom),
+            &mut out.code,
+        ),
         Node::Case { subject, branches } => {
             let tree = slot_of(*subject);
-            lower_case(source, id, tree, branches, end, out)
+            lower_case(source, id, tree, branches, at, out)
         }
         Node::If {
             condition,
             then_part,
             else_part,
         } => {
-            lower_term(source, *else_part, end, out)?;
+            lower_term(source, *else_part, at, out)?;
             let label = out.code.label();
-            lower_term(source, *then_part, end, out)?;
+            lower_term(source, *then_part, at, out)?;
             out.code.put(Instr::Unless {
                 test: operand(*condition),
                 label,
@@ -216,27 +253,29 @@ fn lower_end(source: &Source, id: TermId, end: Ending, out: &mut Lowering) -> Re
 #[cycle(lower)]
 fn lower_binding(
     source: &Source,
+    around: Around,
     parent: TermId,
     binding: Binding,
     out: &mut Lowering,
 ) -> Result<(), Memory>
     requires inside { parent.0 < length source.now.terms }
     requires below { IsBindingBelow parent.0 binding }
-    ensures code { OnOk result (out.new.code ≡ lowered_bind (core_of source.now) out.old.fields (bind_from (term_of source.now.terms) binding) out.old.code) }
+    ensures code { OnOk result (out.new.code ≡ lowered_bind (core_of source.now) (within_of around) out.old.fields (bind_from (term_of source.now.terms) binding) out.old.code) }
     ensures fields { OnOk result (out.new.fields ≡ out.old.fields) }
+    ensures overs { OnOk result (out.new.overs ≡ out.old.overs) }
 {
     match binding {
         Binding::Past { head, constructor } => out.code.put(Instr::Past {
             head: head.0,
             constructor: constructor.0,
         }),
-        Binding::One(side) => lower_side(source, side, out),
+        Binding::One(side) => lower_side(source, around, side, out),
         Binding::Par { fork, left, right } => {
             if fork {
-                lower_fork(source, parent, left, right, out)
+                lower_fork(source, around, parent, left, right, out)
             } else {
-                lower_side(source, right, out)?;
-                lower_side(source, left, out)
+                lower_side(source, around.in_par(), right, out)?;
+                lower_side(source, around.in_par(), left, out)
             }
         }
         Binding::Prim {
@@ -258,6 +297,7 @@ fn lower_binding(
 #[cycle(lower)]
 fn lower_fork(
     source: &Source,
+    around: Around,
     parent: TermId,
     left: BoundTerm,
     right: BoundTerm,
@@ -266,15 +306,16 @@ fn lower_fork(
     requires inside { parent.0 < length source.now.terms }
     requires left { left.term.0 < parent.0 }
     requires right { right.term.0 < parent.0 }
-    ensures code { OnOk result (out.new.code ≡ lowered_bind (core_of source.now) out.old.fields (Both true (side_from (term_of source.now.terms) left) (side_from (term_of source.now.terms) right)) out.old.code) }
+    ensures code { OnOk result (out.new.code ≡ lowered_bind (core_of source.now) (within_of around) out.old.fields (Both true (side_from (term_of source.now.terms) left) (side_from (term_of source.now.terms) right)) out.old.code) }
     ensures fields { OnOk result (out.new.fields ≡ out.old.fields) }
+    ensures overs { OnOk result (out.new.overs ≡ out.old.overs) }
 {
     let joint = out.code.label();
     out.code.put(Instr::Back)?;
-    lower_side(source, right, out)?;
+    lower_side(source, around.in_par(), right, out)?;
     let begin = out.code.label();
     out.code.put(Instr::Join)?;
-    lower_side(source, left, out)?;
+    lower_side(source, around.in_par(), left, out)?;
     out.code.put(Instr::Fork {
         right: begin,
         joint,
@@ -286,23 +327,29 @@ fn lower_fork(
 
 /// The code of a variable that is bound to a term.
 #[cycle(lower)]
-fn lower_side(source: &Source, side: BoundTerm, out: &mut Lowering) -> Result<(), Memory>
+fn lower_side(
+    source: &Source,
+    around: Around,
+    side: BoundTerm,
+    out: &mut Lowering,
+) -> Result<(), Memory>
     requires inside { side.term.0 < length source.now.terms }
-    ensures code { OnOk result (out.new.code ≡ lowered_side (core_of source.now) out.old.fields (side_from (term_of source.now.terms) side) out.old.code) }
+    ensures code { OnOk result (out.new.code ≡ lowered_side (core_of source.now) (within_of around) out.old.fields (side_from (term_of source.now.terms) side) out.old.code) }
     ensures fields { OnOk result (out.new.fields ≡ out.old.fields) }
+    ensures overs { OnOk result (out.new.overs ≡ out.old.overs) }
 {
     match side.kind {
         Kind::Here => {
             let label = out.code.label();
-            lower_term(source, side.term, Ending::To { label, slot: 0 }, out)?;
+            lower_term(source, side.term, around.going_to(label, 0), out)?;
             out.code.put(Instr::Here(side.variable.0))
         }
         Kind::Region => {
             let label = finish(&mut out.code)?;
-            lower_term(source, side.term, Ending::To { label, slot: 0 }, out)?;
+            lower_term(source, side.term, around.going_to(label, 0), out)?;
             out.code.put(Instr::Begin(side.variable.0))
         }
-        Kind::Scalar => lower_scalar(source, side.variable, side.term, out),
+        Kind::Scalar => lower_scalar(source, around, side.variable, side.term, out),
     }
 }
 
@@ -310,24 +357,23 @@ fn lower_side(source: &Source, side: BoundTerm, out: &mut Lowering) -> Result<()
 #[cycle(lower)]
 fn lower_scalar(
     source: &Source,
+    around: Around,
     variable: Variable,
     term: TermId,
     out: &mut Lowering,
 ) -> Result<(), Memory>
     requires inside { term.0 < length source.now.terms }
-    ensures code { OnOk result (out.new.code ≡ scalar_lowered (core_of source.now) out.old.fields variable (term_of source.now.terms term.0) out.old.code) }
+    ensures code { OnOk result (out.new.code ≡ scalar_lowered (core_of source.now) (within_of around) out.old.fields variable (term_of source.now.terms term.0) out.old.code) }
     ensures fields { OnOk result (out.new.fields ≡ out.old.fields) }
+    ensures overs { OnOk result (out.new.overs ≡ out.old.overs) }
 {
     match call_alone(source.terms(), term) {
-        Some((name, arguments)) => out.code.put(Instr::CallScalar {
-            to: variable.0,
-            function: source.number(name),
-            arguments: operands(out.alloc, arguments)?,
-        }),
+        Some((name, arguments)) => {
+            lower_scalar_call(source, around, variable, name, arguments, out)
+        }
         None => {
             let label = out.code.label();
-            let slot = variable.0;
-            lower_term(source, term, Ending::To { label, slot }, out)
+            lower_term(source, term, around.going_to(label, variable.0), out)
         }
     }
 }
@@ -339,19 +385,20 @@ fn lower_case(
     parent: TermId,
     tree: u32,
     branches: &[Branch],
-    end: Ending,
+    at: At,
     out: &mut Lowering,
 ) -> Result<(), Memory>
     requires inside { parent.0 < length source.now.terms }
     requires below { AllByRecursion (IsBranchBelow parent.0) branches.now }
-    ensures code { OnOk result (out.new.code ≡ switch tree (lowered_branches (core_of source.now) out.old.fields tree (branches_from (term_of source.now.terms) branches.now) (end_of end) out.old.code)) }
+    ensures code { OnOk result (out.new.code ≡ switch tree (lowered_branches (core_of source.now) (within_of at.around) out.old.fields tree (branches_from (term_of source.now.terms) branches.now) (end_of at.ending out.old.overs) out.old.code)) }
     ensures fields { OnOk result (out.new.fields ≡ out.old.fields) }
+    ensures overs { OnOk result (out.new.overs ≡ out.old.overs) }
 {
     let mut reversed = Vec::new(out.alloc);
     let mut i = branches.len();
     'branches: while i > 0 {
         i -= 1;
-        lower_branch(source, tree, &branches[i], end, out)?;
+        lower_branch(source, tree, &branches[i], at, out)?;
         reversed.push(Arm {
             constructor: branches[i].constructor.0,
             label: out.code.label(),
@@ -366,19 +413,24 @@ fn lower_branch(
     source: &Source,
     tree: u32,
     branch: &Branch,
-    end: Ending,
+    at: At,
     out: &mut Lowering,
 ) -> Result<(), Memory>
     requires inside { branch.now.term.0 < length source.now.terms }
-    ensures code { OnOk result (out.new.code ≡ branch_lowered (core_of source.now) out.old.fields tree branch.now.constructor branch.now.variables.items (term_of source.now.terms branch.now.term.0) (end_of end) out.old.code) }
+    ensures code { OnOk result (out.new.code ≡ branch_lowered (core_of source.now) (within_of at.around) out.old.fields tree branch.now.constructor branch.now.variables.items (term_of source.now.terms branch.now.term.0) (end_of at.ending out.old.overs) out.old.code) }
     ensures fields { OnOk result (out.new.fields ≡ out.old.fields) }
+    ensures overs { OnOk result (out.new.overs ≡ out.old.overs) }
 {
     let layouts = source.layouts();
     let outer = out.fields.len();
+    let told = out.overs.len();
     layouts.rules();
     out.fields.enter(tree, layouts.fields(branch.constructor), &branch.variables)?;
-    lower_term(source, branch.term, end, out)?;
+    enter_arm(source, at, tree, branch, &mut out.overs)?;
+    lower_term(source, branch.term, at, out)?;
+    out.overs.leave(told);
     out.fields.leave(outer);
+    put_leaf(layouts, at.around, tree, branch.constructor, &mut out.code)?;
     let instrs = opening(
         out.alloc,
         layouts,

@@ -13,6 +13,7 @@ core_at_once core = record {
   functions = map function_at_once core.functions;
   main = record { parameter = core.main.parameter; result = core.main.result; body = number_anew 1 (place_body core.main.body) };
   offsets = core.offsets;
+  marked = core.marked;
 }
 
 functions_at_once : (fs : List FunctionTerm) → map number_function (map place_function fs) ≡ map function_at_once fs
@@ -25,4 +26,5 @@ at_once core = λ i. record {
   functions = functions_at_once core.functions i;
   main = record { parameter = core.main.parameter; result = core.main.result; body = number_anew 1 (place_body core.main.body) };
   offsets = core.offsets;
+  marked = core.marked;
 }

@@ -15,7 +15,8 @@ use Rattle.gib_core.specs.Tree.{Term, Then, Write, Point, CallTerm, Give, CaseTe
 use Rattle.gib_core.specs.Meaning.{function_at}
 use Rattle.gib_core.specs.Inferring.{as_atoms, numbers_from}
 use Rattle.gib_core.specs.Numbering.{binders, bind_binders, IsNumbered, AreNumbered}
-use Rattle.gib_core.specs.Met.{Setting, Line, PastLine, SideLine, ParLine, PrimLine, ReachLine, WriteLine, PointLine, CallLine, GiveLine, CaseLine, IfLine, Met, reached, in_side, behind, left_of, right_of, in_arm, in_branch, arms_of, met, met_bind, met_side, met_branches, with_parameters, result_place, Body, opening}
+use Rattle.gib_base.specs.declared.name.Name.{Name}
+use Rattle.gib_core.specs.Met.{call_too, behind_side, Setting, Line, PastLine, SideLine, ParLine, PrimLine, ReachLine, WriteLine, PointLine, CallLine, GiveLine, CaseLine, IfLine, Met, reached, in_side, behind, left_of, right_of, in_arm, in_branch, arms_of, met, met_bind, met_side, met_branches, with_parameters, result_place, Body, opening}
 use Rattle.gib_core.specs.Rules.{Before, is_among, type_bound, any_other, is_empty, all_usable, gives_packed, call_fits, arm_variables, rules, least, next, next_all, bind_parameters, before_body}
 use Rattle.gib_core.specs.Reachable.{all_reached, LinesAreReachable, IsReachable, AreReachable}
 use Rattle.gib_place.specs.declared.field.Field.{Field}
@@ -24,7 +25,7 @@ use Rattle.gib_place.specs.Renaming.{Renaming, rename}
 use Rattle.gib_place.specs.Numbering.{place_in, variables_in, number_anew}
 use Rattle.gib_place.proofs.AtOnce.{function_at_once, core_at_once}
 use Rattle.gib_core.proofs.Along.{next_append, reachable_split}
-use Rattle.gib_core.proofs.Cased.{has, has_arm, in_side_scope}
+use Rattle.gib_core.proofs.Cased.{has, has_arm, in_side_scope, reaches_none}
 use Rattle.gib_place.proofs.Lays.{Lays, ends, opens, puts, stays, one, left, right, both}
 use Rattle.gib_place.proofs.Counts.{occurs, occurs_append, line_by_steps, ending_line, before_uses, before_binds, place_binds}
 use Rattle.gib_place.proofs.Positions.{place_tells}
@@ -65,6 +66,19 @@ line_casing once t = line_by_steps once (λ t u. (c : List Variable) → casing 
     ∙ (sym (casing_prepend (map pointing l.ending.fields) (Write l.ending.head l.ending.con l.ending.scalars l.ending.packed) (casing_all l.run c) ∙ fields_casing l.ending.fields (casing_all l.run c))
     ∙ sym (casing_prepend l.run (Then (Past l.room l.made) (ending_line l.ending)) c)))) t
 
+-- The calls that stand before: a call is placed as it is, and a line ends in no other one.
+call_written : (bs : List Bind) (h : Variable) (k : ConId) (ss ps : List Atom) (cs : List (Name × List Atom)) → call_too (prepend bs (Write h k ss ps)) cs ≡ cs
+call_written [] h k ss ps cs = refl
+call_written (b ∷ bs) h k ss ps cs = refl
+
+call_bound : (bs : List Bind) (b : Bind) (u : Term) (cs : List (Name × List Atom)) → call_too (prepend bs (Then b u)) cs ≡ cs
+call_bound [] b u cs = refl
+call_bound (x ∷ bs) b u cs = refl
+
+line_call : (once : Variable → Bool) (t : Term) (cs : List (Name × List Atom)) → call_too (place_line once t) cs ≡ call_too t cs
+line_call once t = line_by_steps once (λ t u. (cs : List (Name × List Atom)) → call_too u cs ≡ call_too t cs) (λ z cs. refl)
+    (λ l cs xs named lays ks. call_written cs l.ending.head l.ending.con l.ending.scalars (as_atoms xs) ks ∙ sym (call_bound l.run (Past l.room l.made) (ending_line l.ending) ks)) t
+
 module _ (once : Variable → Bool) where
   mutual
     inner_casing : (t : Term) (c : List Variable) → casing (place_inner once t) c ≡ casing t c
@@ -103,9 +117,18 @@ module _ (once : Variable → Bool) where
       let p = place_binds once t y in let q = terms_placed rest y in
       let m = occurs_append (binders (place once t)) (branch_terms (inner_branches once rest)) y in let n = occurs_append (binders t) (branch_terms rest) y in omega arith
 
+  inner_call : (t : Term) (cs : List (Name × List Atom)) → call_too (place_inner once t) cs ≡ call_too t cs
+  inner_call (Then b rest) cs = refl
+  inner_call (Write h k ss ps) cs = refl
+  inner_call (Point x) cs = refl
+  inner_call (CallTerm f xs) cs = refl
+  inner_call (Give x) cs = refl
+  inner_call (CaseTerm x bs) cs = refl
+  inner_call (IfTerm x t u) cs = refl
+
   behind_placed : (s : Setting) (b : Bind) → behind s (inner_bind once b) ≡ behind s b
   behind_placed s (Past h k) = refl
-  behind_placed s (One (On kind x ty t)) = refl
+  behind_placed s (One (On kind x ty t)) = λ i. record (behind_side s (On kind x ty t)) { calls = (line_call once (place_inner once t) s.calls ∙ inner_call t s.calls) i }
   behind_placed s (Both fork (On kind x ty t) (On other y uy u)) = refl
   behind_placed s (Prim x f y z) = refl
   behind_placed s (Reach y by) = refl
@@ -358,26 +381,30 @@ fits_placed b s xs (g ∷ fs) f = go (g.name.0 == f) (fits_placed b s xs fs f)
     go false e = e
 
 module _ (core : CoreTree) where
-  rules_placed : (b : Before) (s : Setting) (line : Line) → rules (core_at_once core) b s line ≡ rules core b s line
-  rules_placed b s (PastLine h k) = refl
-  rules_placed b s (SideLine kind x ty) = refl
-  rules_placed b s ParLine = refl
-  rules_placed b s (PrimLine x f y z) = refl
-  rules_placed b s (ReachLine y by) = refl
-  rules_placed b s (WriteLine h k ss ps) = refl
-  rules_placed b s (PointLine x) = refl
-  rules_placed b s (CallLine f xs) = λ i.
+  call_placed : (b : Before) (s : Setting) (f : Name) (xs : List Atom) → rules (core_at_once core) b s (CallLine f xs) ≡ rules core b s (CallLine f xs)
+  call_placed b s f xs = λ i.
       (4, any_other s xs)
       ∷ (6, packed_placed core.functions f.0 i && not (is_empty s.destination))
       ∷ (8, not (all_usable s xs))
       ∷ (9, not (fits_placed b s xs core.functions f.0 i)) ∷ []
-  rules_placed b s (GiveLine x) = refl
-  rules_placed b s (CaseLine x arms) = refl
-  rules_placed b s (IfLine x) = refl
+
+  -- A line breaks no rule: none reaches a field, so what calls tell is not asked.
+  line_placed : (b : Before) (s : Setting) (line : Line) → least (rules core b (all_reached s) line) ≡ None → least (rules (core_at_once core) b (all_reached s) line) ≡ None
+  line_placed b s (PastLine h k) e = e
+  line_placed b s (SideLine kind x ty) e = e
+  line_placed b s ParLine e = e
+  line_placed b s (PrimLine x f y z) e = e
+  line_placed b s (ReachLine y by) e = absurd (reaches_none core b s y by e)
+  line_placed b s (WriteLine h k ss ps) e = e
+  line_placed b s (PointLine x) e = e
+  line_placed b s (CallLine f xs) e = ap least (call_placed b (all_reached s) f xs) ∙ e
+  line_placed b s (GiveLine x) e = e
+  line_placed b s (CaseLine x arms) e = e
+  line_placed b s (IfLine x) e = e
 
   lines_placed : (b : Before) (ms : List Met) → LinesAreReachable core b ms → LinesAreReachable (core_at_once core) b ms
   lines_placed b [] h = tt
-  lines_placed b (m ∷ ms) h = (ap least (rules_placed b (all_reached m.with) m.line) ∙ h.0, lines_placed (next core.table b m.line) ms h.1)
+  lines_placed b (m ∷ ms) h = (line_placed b m.with m.line h.0, lines_placed (next core.table b m.line) ms h.1)
 
   params_nums : (n : ℕ) (ps : List Ty) (bs : List Bound) (y : ℕ) → occurs (nums (bind_parameters n ps bs)) y ≡ occurs (numbers_from n (length ps)) y + occurs (nums bs) y
   params_nums n [] bs y = omega arith
@@ -410,7 +437,7 @@ module _ (core : CoreTree) where
       (λ y o. let same : count t y ≡ 1 = eqb-true (count t y) 1 o in omega arith) h in
       let renamed = reachable_renamed by (place_tells (variables_in (length ps) (place_body t))) core b s (place_body t) placed in
       let same_b : before_lines_by by b ≡ b = λ i. record { bound = bound_parameters_by by 0 ps [] stay i; cased = [] } in
-      let same_s : setting_by by s ≡ s = λ i. record { destination = result_by by res s refl i; due = res; scope = parameters_by by 0 ps [] stay i; others = []; whole = false } in
+      let same_s : setting_by by s ≡ s = λ i. record { destination = result_by by res s refl i; due = res; scope = parameters_by by 0 ps [] stay i; others = []; whole = false; calls = [] } in
       lines_placed b (met core.table s (number_anew (length ps) (place_body t)))
       (subst (λ (z : Before). LinesAreReachable core z (met core.table s (rename by (place_body t)))) same_b
       (subst (λ (z : Setting). LinesAreReachable core (before_lines_by by b) (met core.table z (rename by (place_body t)))) same_s renamed))

@@ -221,7 +221,7 @@ module _ (core : CoreTree) where
   side_placed x ty t s b ks b' h k done w wd sc ro ro' r lt same =
       let due = get_or (packed_types core.table k) (length done) Whole in
       let so = opened s (Open h k done) ks w in
-      let inner : Ty → Setting = λ z. record s { destination = Empty; due = z; scope = ks; whole = false } in
+      let inner : Ty → Setting = λ z. record s { destination = Empty; due = z; scope = ks; whole = false; calls = [] } in
       let line = SideLine Here x ty in
       let e = same_types ty due same in
       record {
@@ -315,9 +315,9 @@ module _ (core : CoreTree) where
       (side_stays rt (right_of s l) (next_all core.table b (met_side core.table (left_of s rt) l)) ks (next_all core.table b' (met_side core.table (left_of (scoped s ks) rt) l)) d w right_empty
       (left_wider x kind ty t rt s b ks b' wd sc ro) (left_sc l rt s b sc) (room_right l rt (left_of s rt) b ro) (room_right l rt (left_of (scoped s ks) rt) b' ro') rs.1)
       refl
-      (λ i. record { destination = dd i; due = s.due; scope = ks; others = x ∷ s.others; whole = w })
+      (λ i. record { destination = dd i; due = s.due; scope = ks; others = x ∷ s.others; whole = w; calls = s.calls })
       refl refl
-      (λ i. record { destination = (od (stands_too kind x d) ∙ dd) i; due = s.due; scope = reached z ∷ reached x ∷ ks; others = s.others; whole = false })
+      (λ i. record { destination = (od (stands_too kind x d) ∙ dd) i; due = s.due; scope = reached z ∷ reached x ∷ ks; others = s.others; whole = false; calls = s.calls })
 
   stays_two : (fork : Bool) (kind : Kind) (x : Variable) (ty : Ty) (t : Term) (rt : Side) (s : Setting) (b : Before) (ks : List Known) (b' : Before) (d : Destination) (w : Bool) → stands_too kind x s.destination ≡ s.destination → stands_too kind x d ≡ d
       → is_empty s.destination ≡ true → Wider s.scope b ks b' → Scoped s.scope b → Room b ((x.0 ∷ binders t) ++ side_binders rt) → Room b' ((x.0 ∷ binders t) ++ side_binders rt)

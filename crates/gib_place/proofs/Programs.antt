@@ -1,5 +1,5 @@
 -- Whole cores are placed.
-use Rattle.std.proofs.Common.{◌≡◌, ℕ, zero, suc, ◌+◌, ◌<◌, ◌≤◌, List, [], ◌∷◌, ◌++◌, map, length, reverse, refl, sym, ap, ◌∙◌, subst, arith, append_assoc}
+use Rattle.std.proofs.Common.{◌≡◌, ℕ, zero, suc, ◌+◌, ◌<◌, ◌≤◌, Bool, List, [], ◌∷◌, ◌++◌, map, length, reverse, refl, sym, ap, ◌∙◌, subst, arith, append_assoc}
 use Rattle.std.specs.Prelude.{Option, Result, Ok, Err, IfOk}
 use Rattle.std.specs.List.{AllByRecursion}
 use Rattle.std.proofs.lemmas.List.{append-nil, map-append, reverse-append}
@@ -140,10 +140,10 @@ placed_declared n [] h = tt
 placed_declared n (g ∷ gs) h = (h.0, placed_declared n gs h.1)
 
 -- The parts of the new core.
-pub parts_inside : (was : Parts) (table : Table) (terms : List Node) (all : List CoreFunction) (main : CoreMain) (old now new : List Node) (functions : List CoreFunction) (first : CoreMain) (offsets : List ConId) → AreInside was
+pub parts_inside : (was : Parts) (table : Table) (terms : List Node) (all : List CoreFunction) (main : CoreMain) (old now new : List Node) (functions : List CoreFunction) (first : CoreMain) (offsets : List ConId) (marked : Bool) → AreInside was
     → table ≡ was.table → all ≡ was.functions → main ≡ was.main → PlacesMain old now first (main_term (term_of terms) main) → PlacesFunctions now new functions (map (function_term (term_of terms)) all)
-    → AreInside (record { table = table; terms = new; functions = functions; main = first; offsets = offsets })
-parts_inside was table terms all main old now new functions first offsets h et ef em m f =
+    → AreInside (record { table = table; terms = new; functions = functions; main = first; offsets = offsets; marked = marked })
+parts_inside was table terms all main old now new functions first offsets marked h et ef em m f =
     let n = length table.types in
     let known = subst (λ (t : Table). AllByRecursion (IsDeclared (length t.types)) was.functions) (sym et) h.types in
     let types = functions_declared n (term_of terms) all (subst (λ (ds : List CoreFunction). AllByRecursion (IsDeclared n) ds) (sym ef) known) in
@@ -158,17 +158,18 @@ parts_inside was table terms all main old now new functions first offsets h et e
     }
 
 -- What the new core is, where the parts of the old one are these.
-pub core_placed : (was made : Parts) (table : Table) (terms old now new : List Node) (functions fs : List CoreFunction) (main m : CoreMain) (offsets : List ConId) → table ≡ was.table → terms ≡ was.terms → functions ≡ was.functions → main ≡ was.main → offsets ≡ was.offsets
-    → made ≡ record { table = table; terms = new; functions = fs; main = m; offsets = offsets } → PlacesMain old now m (main_term (term_of terms) main) → PlacesFunctions now new fs (map (function_term (term_of terms)) functions) → core_of made ≡ place_core (core_of was)
-core_placed was made table terms old now new functions fs main m offsets e0 e1 e2 e3 e4 em hm hf =
+pub core_placed : (was made : Parts) (table : Table) (terms old now new : List Node) (functions fs : List CoreFunction) (main m : CoreMain) (offsets : List ConId) (marked : Bool) → table ≡ was.table → terms ≡ was.terms → functions ≡ was.functions → main ≡ was.main → offsets ≡ was.offsets → marked ≡ was.marked
+    → made ≡ record { table = table; terms = new; functions = fs; main = m; offsets = offsets; marked = marked } → PlacesMain old now m (main_term (term_of terms) main) → PlacesFunctions now new fs (map (function_term (term_of terms)) functions) → core_of made ≡ place_core (core_of was)
+core_placed was made table terms old now new functions fs main m offsets marked e0 e1 e2 e3 e4 e5 em hm hf =
     ap core_of em
     ∙ (λ i. record {
       table = table;
       functions = hf.are i;
       main = ((λ j. record { parameter = m.parameter; result = m.result; body = hf.grows.same m.body.0 hm.inside j }) ∙ hm.is) i;
       offsets = offsets;
+      marked = marked;
     })
-    ∙ (λ i. place_core (core_of (record { table = e0 i; terms = e1 i; functions = e2 i; main = e3 i; offsets = e4 i })))
+    ∙ (λ i. place_core (core_of (record { table = e0 i; terms = e1 i; functions = e2 i; main = e3 i; offsets = e4 i; marked = e5 i })))
 
 -- What holds of the core that is to be made holds of the one that was made.
 pub kept_reachable : {E : Type 0} (core : CoreTree) (o : Result Parts E) → ((c : CoreTree) → AreNumbered c → AreReachable c → AreReachable (place_core c)) → IfOk o (λ made. core_of made ≡ place_core core) → AreNumbered core → AreReachable core → IfOk o (λ made. AreReachable (core_of made))

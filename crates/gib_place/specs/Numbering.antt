@@ -35,6 +35,7 @@ number_core core = record {
   functions = map number_function core.functions;
   main = number_main core.main;
   offsets = core.offsets;
+  marked = core.marked;
 }
 
 -- A core whose bodies are placed, with its variables numbered in the order of the text.

@@ -300,4 +300,5 @@ place_bodies core = record {
   functions = map place_function core.functions;
   main = place_main core.main;
   offsets = core.offsets;
+  marked = core.marked;
 }

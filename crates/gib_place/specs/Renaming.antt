@@ -5,7 +5,7 @@ use Rattle.gib_core.specs.declared.atom.Variable.{Variable}
 use Rattle.gib_core.specs.declared.atom.Atom.{Atom}
 use Rattle.gib_core.specs.declared.atom.Atom.TheVariants as a
 use Rattle.gib_core.specs.declared.atom.Access.{Access}
-use Rattle.gib_core.specs.declared.atom.Access.TheVariants.{Offset, Skip}
+use Rattle.gib_core.specs.declared.atom.Access.TheVariants.{Offset, Skip, End}
 use Rattle.gib_core.specs.Tree.{Term, Then, Write, Point, CallTerm, Give, CaseTerm, IfTerm, Bind, Past, One, Both, Prim, Reach, Side, On, Branches, NoBranch, BranchThen}
 
 -- Other numbers for variables.
@@ -26,6 +26,7 @@ rename_atom r (a.Truth b) = a.Truth b
 abbrev pub rename_access : Renaming → Access → Access
 rename_access r Offset = Offset
 rename_access r (Skip z) = Skip (rename_variable r z)
+rename_access r (End z) = End (rename_variable r z)
 
 abbrev mutual
   -- A term with other numbers for its variables.

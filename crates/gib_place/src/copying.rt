@@ -34,6 +34,10 @@ fn renamed_access(numbers: &Numbers, access: Access) -> Result<Access, Memory>
             let x = numbers.number(x)?;
             Ok(Access::Skip(x))
         }
+        Access::End(x) => {
+            let x = numbers.number(x)?;
+            Ok(Access::End(x))
+        }
     }
 }
 

@@ -39,11 +39,11 @@ use std::alloc::Global;
 fn placed(alloc: Global, core: Core) -> Result<Core, Memory>
     ensures { IfOk result (λ made. core_of made ≡ place_core (core_of core)) }
 {
-    let (types, terms, functions, main, offsets) = core.into_parts();
+    let (types, terms, functions, main, offsets, marked) = core.into_parts();
     let mut made = Terms::new(alloc);
     let main = place_main(alloc, &terms, &mut made, main)?;
     let functions = place_functions(alloc, &terms, &mut made, functions)?;
-    Ok(Core::new(types, made, functions, main, offsets))
+    Ok(Core::new(types, made, functions, main, offsets, marked))
 }
 
 /// A core in which each packed value that will stand in a field of a head is built at that field's place, where its region

@@ -20,7 +20,7 @@ abbrev pub decreases-put_branches : goal.decreases-put_branches
 decreases-put_branches l = 4 * l.parent.0 + 1
 
 abbrev pub invariant-put_branches-branches : goal.invariant-put_branches-branches
-invariant-put_branches-branches l = (l.i ≤ length l.branches) × (l.out ≡ spell_branches l.level (branches_from (term_of l.terms) (drop l.i l.branches)) l.fn.out)
+invariant-put_branches-branches l = (l.i ≤ length l.branches) × (l.out ≡ spell_branches l.from.ended.now l.level (branches_from (term_of l.from.terms.now) (drop l.i l.branches)) l.fn.out)
 
 abbrev pub decreases-put_branches-branches : goal.decreases-put_branches-branches
 decreases-put_branches-branches l = l.i
@@ -28,7 +28,7 @@ decreases-put_branches-branches l = l.i
 abbrev pub invariant-put_term-bindings : goal.invariant-put_term-bindings
 invariant-put_term-bindings l =
     (l.i ≤ length l.bindings.items)
-    × (l.out ≡ spell_binds l.level (binds_from (term_of l.terms) (drop l.i l.bindings.items)) l.initial.out)
+    × (l.out ≡ spell_binds l.from.ended.now l.level (binds_from (term_of l.from.terms.now) (drop l.i l.bindings.items)) l.initial.out)
 
 abbrev pub decreases-put_term-bindings : goal.decreases-put_term-bindings
 decreases-put_term-bindings l = l.i

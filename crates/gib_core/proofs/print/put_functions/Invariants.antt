@@ -5,7 +5,7 @@ use Rattle.gib_core.specs.CoreText.{spell_functions}
 use Rattle.gib_core.proofs.print.put_functions.Given as goal
 
 abbrev pub invariant-functions : goal.invariant-functions
-invariant-functions l = (l.i ≤ length l.functions) × (l.out ≡ spell_functions (map (function_term (term_of l.terms)) (drop l.i l.functions)) l.fn.out)
+invariant-functions l = (l.i ≤ length l.functions) × (l.out ≡ spell_functions l.from.ended.now (map (function_term (term_of l.from.terms.now)) (drop l.i l.functions)) l.fn.out)
 
 abbrev pub decreases-functions : goal.decreases-functions
 decreases-functions l = l.i

@@ -9,6 +9,7 @@ invariant-functions l = record {
   within : l.i ≤ length l.functions;
   are : l.functions ≡ l.source.functions;
   outside : l.out.fields ≡ [];
+  none : l.out.overs ≡ [];
   code : l.out.code ≡ lowered_functions (core_of l.source) (map (function_term (term_of l.source.terms)) (drop l.i l.functions));
   entries : reverse l.entries.items ≡ begun (core_of l.source) (map (function_term (term_of l.source.terms)) (drop l.i l.functions));
 }

@@ -3,12 +3,12 @@ use Rattle.gib_core.specs.declared.node.Node.{Node}
 use Rattle.gib_core.specs.Arena.{IsLine}
 use Rattle.gib_core.specs.Parts.{core_of}
 use Rattle.gib_core.specs.Low.{with_fields}
-use Rattle.gib_lower.specs.Ends.{end_of}
+use Rattle.gib_lower.specs.Ends.{end_of, within_of}
 use Rattle.gib_lower.proofs.Along.{lowered_line, arm_left, arm_longer}
 use Rattle.gib_lower.proofs.walk.+lower.Goals as goal
 
-pub lower_branch-leave-requires : goal.lower_branch-leave-requires
-lower_branch-leave-requires t c =
+pub lower_branch-leave-requires-2 : goal.lower_branch-leave-requires-2
+lower_branch-leave-requires-2 t c =
     let e = c.in_ok-lower_term.ensures.fields ∙ c.in_ok-enter.ensures in
     let long = ap length e in
     let h = arm_longer c.args.tree c.fields.result.now c.deref.result.now c.args.out.now.fields in
@@ -17,7 +17,7 @@ lower_branch-leave-requires t c =
 pub lower_branch-returns-clause-fields : goal.lower_branch-returns-clause-fields
 lower_branch-returns-clause-fields t c =
     let e = c.in_ok-lower_term.ensures.fields ∙ c.in_ok-enter.ensures in
-    c.leave.ensures
+    c.leave-2.ensures
     ∙ ap (λ l. drop (length l - c.len-outer.result) l) e
     ∙ ap (λ n. drop (length (with_fields c.args.tree c.fields.result.now c.deref.result.now c.args.out.now.fields) - n) (with_fields c.args.tree c.fields.result.now c.deref.result.now c.args.out.now.fields)) c.len-outer.ensures
     ∙ arm_left c.args.tree c.fields.result.now c.deref.result.now c.args.out.now.fields
@@ -25,5 +25,5 @@ lower_branch-returns-clause-fields t c =
 pub lower_term-returns-clause-code : goal.lower_term-returns-clause-code
 lower_term-returns-clause-code t c =
     let line = subst (λ (ns : List Node). IsLine ns c.args.id.0 c.in_ok-bindings.bindings.items c.in_ok-bindings.last.0) c.terms.ensures.value c.in_ok-bindings.ensures in
-    lowered_line (core_of c.args.source.now) c.args.out.now.fields c.args.source.now.terms c.args.id.0 c.in_ok-bindings.last.0 c.bindings.i c.in_ok-bindings.bindings.items (end_of c.args.end) c.args.out.now.code c.lower_end.new.out.code c.bindings.out.code
+    lowered_line (core_of c.args.source.now) (within_of c.args.at.around) c.args.out.now.fields c.args.source.now.terms c.args.id.0 c.in_ok-bindings.last.0 c.bindings.i c.in_ok-bindings.bindings.items (end_of c.args.at.ending c.args.out.now.overs) c.args.out.now.code c.lower_end.new.out.code c.bindings.out.code
     line (omega (arith, c.bindings-test.false)) c.in_ok-lower_end.ensures.code c.bindings.invariant.code

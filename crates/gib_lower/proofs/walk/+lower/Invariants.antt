@@ -2,7 +2,7 @@ use Rattle.std.proofs.Common.{◌≡◌, ◌≤◌, ◌+◌, ◌*◌, length, dr
 use Rattle.gib_core.specs.Arena.{term_of, binds_from, branches_from}
 use Rattle.gib_core.specs.Parts.{core_of}
 use Rattle.gib_lower.specs.Lowering.{lowered_branches}
-use Rattle.gib_lower.specs.Ends.{end_of}
+use Rattle.gib_lower.specs.Ends.{end_of, within_of}
 use Rattle.gib_lower.proofs.Along.{lowered_binds}
 use Rattle.gib_lower.proofs.walk.+lower.Given as goal
 
@@ -33,8 +33,9 @@ decreases-lower_branch l = 5 * l.branch.now.term.0 + 5
 abbrev pub invariant-lower_term-bindings : goal.invariant-lower_term-bindings
 invariant-lower_term-bindings l = record {
   within : l.i ≤ length l.bindings.items;
-  code : l.out.code ≡ lowered_binds (core_of l.source) l.fn.out.fields (binds_from (term_of l.source.terms) (drop l.i l.bindings.items)) l.initial.out.code;
+  code : l.out.code ≡ lowered_binds (core_of l.source) (within_of l.at.around) l.fn.out.fields (binds_from (term_of l.source.terms) (drop l.i l.bindings.items)) l.initial.out.code;
   fields : l.out.fields ≡ l.fn.out.fields;
+  overs : l.out.overs ≡ l.fn.out.overs;
 }
 
 abbrev pub decreases-lower_term-bindings : goal.decreases-lower_term-bindings
@@ -43,8 +44,9 @@ decreases-lower_term-bindings l = l.i
 abbrev pub invariant-lower_case-branches : goal.invariant-lower_case-branches
 invariant-lower_case-branches l = record {
   within : l.i ≤ length l.branches;
-  code : record { arms = reverse l.reversed.items; code = l.out.code } ≡ lowered_branches (core_of l.source) l.fn.out.fields l.tree (branches_from (term_of l.source.terms) (drop l.i l.branches)) (end_of l.fn.end) l.fn.out.code;
+  code : record { arms = reverse l.reversed.items; code = l.out.code } ≡ lowered_branches (core_of l.source) (within_of l.at.around) l.fn.out.fields l.tree (branches_from (term_of l.source.terms) (drop l.i l.branches)) (end_of l.at.ending l.fn.out.overs) l.fn.out.code;
   fields : l.out.fields ≡ l.fn.out.fields;
+  overs : l.out.overs ≡ l.fn.out.overs;
 }
 
 abbrev pub decreases-lower_case-branches : goal.decreases-lower_case-branches
