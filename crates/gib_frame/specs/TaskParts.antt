@@ -1,8 +1,10 @@
 -- A task.
-use Rattle.std.specs.Prelude.{◌≡◌, ◌≤◌, [], length}
+use Rattle.std.specs.Prelude.{◌≡◌, []}
 use Rattle.gib_code.specs.declared.answer.Side.{Side}
 use Rattle.gib_core.specs.LoweredParts.{LoweredParts}
 use Rattle.gib_machine.specs.Machine.{widest}
+use Rattle.gib_machine.specs.Frames.{FitsFrame}
+use Rattle.gib_machine.specs.Starting.{waiting_of}
 use Rattle.gib_arena.specs.declared.memory.Arena.{Arena}
 use Rattle.gib_arena.specs.declared.memory.Pass.{Pass}
 use Rattle.gib_arena.specs.Passes.{view, cells, IsOf}
@@ -17,7 +19,7 @@ pub record TaskParts : Type 0 where
   pub side : Side
   pub pass : Pass
 
--- They are those of the frame, the pass drew nothing and nothing is split off it, a machine for the code has room for the side's words,
+-- They are those of the frame, the pass drew nothing and nothing is split off it, a frame of the code has room for the side's words and ends,
 -- and the side owes something.
 pub record IsTask (t : TaskParts) : Type 0 where
   pub own : IsOf t.arena t.pass
@@ -26,5 +28,5 @@ pub record IsTask (t : TaskParts) : Type 0 where
   pub lowered : t.due.lowered.value ≡ t.lowered
   pub side : t.due.side.value ≡ t.side
   pub pass : t.due.pass.value ≡ t.pass
-  pub fits : length t.side.words.items ≤ widest t.lowered.code.functions
+  pub fits : FitsFrame (widest t.lowered.code.functions) (waiting_of t.side).words
   pub owes : Owes t.lowered (cells t.pass) t.side

@@ -1,9 +1,11 @@
 //! A frame and its task; the answer is given, and waited for.
 
-ghost use Rattle.std.specs.Prelude.{◌≡◌, ◌≤◌, [], length, IfOk, IfErr};
+ghost use Rattle.std.specs.Prelude.{◌≡◌, [], IfOk, IfErr};
 ghost use Rattle.std.specs.Arc.{arc_value};
 ghost use Rattle.gib_arena.specs.Passes.{view, cells, IsOf};
+ghost use Rattle.gib_machine.specs.Frames.{FitsFrame};
 ghost use Rattle.gib_machine.specs.Machine.{widest};
+ghost use Rattle.gib_machine.specs.Starting.{waiting_of};
 ghost use Rattle.gib_frame.specs.Answers.{Delivers, Owes, drawn_by};
 ghost use Rattle.gib_frame.specs.Dues.{frame_due, reply_due};
 
@@ -39,7 +41,7 @@ pub fn make<'a>(
     pass: Pass,
 ) -> Result<(Frame, Task<'a>), Pass>
     requires pass { IsOf arena.now pass × ((view pass).branch.out ≡ []) × (drawn_by pass ≡ 0) }
-    requires fits { length side.words.items ≤ widest lowered.now.code.functions }
+    requires fits { FitsFrame (widest lowered.now.code.functions) (waiting_of side).words }
     requires owes { Owes lowered.now (cells pass) side }
     ensures due { IfOk result (λ r. (frame_due r.0).lowered.value ≡ lowered.entry.now) }
     ensures side { IfOk result (λ r. ((frame_due r.0).side.value ≡ side) × ((frame_due r.0).pass.value ≡ pass)) }

@@ -27,7 +27,7 @@ tail [] = []
 tail (x ∷ xs) = xs
 
 abbrev title : List ℕ
-title = codes "gibj 2"
+title = codes "gibj 3"
 
 none_can : CanStand []
 none_can = record { settings = least; lines = []; more = lines_text least []; are = refl; begin = refl }

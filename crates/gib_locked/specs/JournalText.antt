@@ -43,7 +43,7 @@ events_text ls = map line_text ls ++ codes "end" ∷ []
 
 -- The lines of a journal.
 abbrev pub lines_text : Settings → List Line → List (List ℕ)
-lines_text s ls = codes "gibj 2" ∷ settings_text s ∷ events_text ls
+lines_text s ls = codes "gibj 3" ∷ settings_text s ∷ events_text ls
 
 -- A line with its line feed (10).
 abbrev pub fed : List ℕ → List ℕ

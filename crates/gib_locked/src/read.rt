@@ -45,7 +45,7 @@ fn read_text(alloc: Global, text: &[u8]) -> Result<Journal, JournalFault>
     let Some(first) = cut(text, b'\n') else {
         return Err(JournalFault::Line(1));
     };
-    if first.front != b"gibj 2".as_slice() {
+    if first.front != b"gibj 3".as_slice() {
         return Err(JournalFault::Line(1));
     }
     let Some(second) = cut(first.rest, b'\n') else {

@@ -17,15 +17,15 @@ fn there_and_back(alloc: Global, text: &[u8]) -> Result<Vec<u8>, JournalFault> {
 fn journals_come_back(rt: HostRuntime) -> Result<(), Fail> {
     let alloc = rt.alloc();
     for text in [
-        "gibj 2\ndepth 1 chunks 16 fork 0 skips 0\nend\n",
-        "gibj 2\ndepth 1000000 chunks 65536 fork 64 skips 1\nend\n",
-        "gibj 2\ndepth 10000 chunks 1024 fork 4 skips 0\nstep 0 2\nfinish 0\nend\n",
-        "gibj 2\ndepth 10000 chunks 1024 fork 4 skips 0\nstep 0 7\nfork 0\nsteal 0\nstep 1 13\nfinish 1\nstep 0 11\njoin 0\nstep 0 6\nfinish 0\nend\n",
-        "gibj 2\ndepth 2 chunks 17 fork 1 skips 1\nfork 0\ntake 0\nfork 0\nfork 0\nend\n",
+        "gibj 3\ndepth 1 chunks 16 fork 0 skips 0\nend\n",
+        "gibj 3\ndepth 1000000 chunks 65536 fork 64 skips 1\nend\n",
+        "gibj 3\ndepth 10000 chunks 1024 fork 4 skips 0\nstep 0 2\nfinish 0\nend\n",
+        "gibj 3\ndepth 10000 chunks 1024 fork 4 skips 0\nstep 0 7\nfork 0\nsteal 0\nstep 1 13\nfinish 1\nstep 0 11\njoin 0\nstep 0 6\nfinish 0\nend\n",
+        "gibj 3\ndepth 2 chunks 17 fork 1 skips 1\nfork 0\ntake 0\nfork 0\nfork 0\nend\n",
         // Steps of one task follow one another where the line before has as many as a line may have.
-        "gibj 2\ndepth 2 chunks 17 fork 1 skips 1\nstep 7 9223372036854775807\nstep 7 9223372036854775807\nstep 7 1\nend\n",
-        "gibj 2\ndepth 2 chunks 17 fork 1 skips 1\nstep 0 1\nstep 1 1\nstep 0 1\nend\n",
-        "gibj 2\ndepth 2 chunks 17 fork 1 skips 1\nstep 4294967295 1\nsteal 4294967295\nend\n",
+        "gibj 3\ndepth 2 chunks 17 fork 1 skips 1\nstep 7 9223372036854775807\nstep 7 9223372036854775807\nstep 7 1\nend\n",
+        "gibj 3\ndepth 2 chunks 17 fork 1 skips 1\nstep 0 1\nstep 1 1\nstep 0 1\nend\n",
+        "gibj 3\ndepth 2 chunks 17 fork 1 skips 1\nstep 4294967295 1\nsteal 4294967295\nend\n",
     ] {
         let back = there_and_back(alloc, text.as_bytes()).map_err(|_| "read")?;
         assert!(rt; back.as_slice() == text.as_bytes(), "{text}");
@@ -34,7 +34,7 @@ fn journals_come_back(rt: HostRuntime) -> Result<(), Fail> {
 }
 
 /// What each journal of the rows below begins with.
-const HEAD: &str = "gibj 2\ndepth 2 chunks 17 fork 1 skips 0\n";
+const HEAD: &str = "gibj 3\ndepth 2 chunks 17 fork 1 skips 0\n";
 
 /// The line at which a text is refused.
 fn refused_at(alloc: Global, text: &[u8]) -> Option<u64> {
@@ -57,40 +57,41 @@ fn first_lines_are_refused(rt: HostRuntime) -> Result<(), Fail> {
     for (text, line) in [
         // The first line.
         ("", 1),
-        ("gibj 2", 1),
-        ("gibj 3\n", 1),
+        ("gibj 3", 1),
+        ("gibj 4\n", 1),
         // That of journals whose steps got and put one byte each.
         ("gibj 1\ndepth 2 chunks 17 fork 1 skips 0\nend\n", 1),
-        ("gibj 2 \n", 1),
-        (" gibj 2\n", 1),
+        ("gibj 2\ndepth 2 chunks 17 fork 1 skips 0\nend\n", 1),
+        ("gibj 3 \n", 1),
+        (" gibj 3\n", 1),
         ("Gibj 1\n", 1),
-        ("\ngibj 2\n", 1),
-        ("gibj 2\r\ndepth 2 chunks 17 fork 1 skips 0\nend\n", 1),
+        ("\ngibj 3\n", 1),
+        ("gibj 3\r\ndepth 2 chunks 17 fork 1 skips 0\nend\n", 1),
         ("end\n", 1),
         // The second line: missing, not ended, its words, and its numbers.
-        ("gibj 2\n", 2),
-        ("gibj 2\ndepth 2 chunks 17 fork 1 skips 0", 2),
-        ("gibj 2\nend\n", 2),
-        ("gibj 2\n\nend\n", 2),
-        ("gibj 2\ndepth 0 chunks 17 fork 1 skips 0\nend\n", 2),
-        ("gibj 2\ndepth 1000001 chunks 17 fork 1 skips 0\nend\n", 2),
-        ("gibj 2\ndepth 2 chunks 15 fork 1 skips 0\nend\n", 2),
-        ("gibj 2\ndepth 2 chunks 65537 fork 1 skips 0\nend\n", 2),
-        ("gibj 2\ndepth 2 chunks 17 fork 65 skips 0\nend\n", 2),
-        ("gibj 2\ndepth 2 chunks 17 fork 1 skips 2\nend\n", 2),
-        ("gibj 2\ndepth 02 chunks 17 fork 1 skips 0\nend\n", 2),
-        ("gibj 2\ndepth 2 chunks 017 fork 1 skips 0\nend\n", 2),
-        ("gibj 2\ndepth 2 chunks 17 fork 00 skips 0\nend\n", 2),
-        ("gibj 2\ndepth 2 chunks 17 fork 1 skips 00\nend\n", 2),
-        ("gibj 2\ndepth +2 chunks 17 fork 1 skips 0\nend\n", 2),
-        ("gibj 2\ndepth -2 chunks 17 fork 1 skips 0\nend\n", 2),
-        ("gibj 2\ndepth 2 chunks 17 fork  skips 0\nend\n", 2),
-        ("gibj 2\ndepth  2 chunks 17 fork 1 skips 0\nend\n", 2),
-        ("gibj 2\ndepth 2 chunks 17 fork 1 skips 0 \nend\n", 2),
-        ("gibj 2\ndepth 2 chunks 17 fork 1\nend\n", 2),
-        ("gibj 2\nchunks 17 depth 2 fork 1 skips 0\nend\n", 2),
+        ("gibj 3\n", 2),
+        ("gibj 3\ndepth 2 chunks 17 fork 1 skips 0", 2),
+        ("gibj 3\nend\n", 2),
+        ("gibj 3\n\nend\n", 2),
+        ("gibj 3\ndepth 0 chunks 17 fork 1 skips 0\nend\n", 2),
+        ("gibj 3\ndepth 1000001 chunks 17 fork 1 skips 0\nend\n", 2),
+        ("gibj 3\ndepth 2 chunks 15 fork 1 skips 0\nend\n", 2),
+        ("gibj 3\ndepth 2 chunks 65537 fork 1 skips 0\nend\n", 2),
+        ("gibj 3\ndepth 2 chunks 17 fork 65 skips 0\nend\n", 2),
+        ("gibj 3\ndepth 2 chunks 17 fork 1 skips 2\nend\n", 2),
+        ("gibj 3\ndepth 02 chunks 17 fork 1 skips 0\nend\n", 2),
+        ("gibj 3\ndepth 2 chunks 017 fork 1 skips 0\nend\n", 2),
+        ("gibj 3\ndepth 2 chunks 17 fork 00 skips 0\nend\n", 2),
+        ("gibj 3\ndepth 2 chunks 17 fork 1 skips 00\nend\n", 2),
+        ("gibj 3\ndepth +2 chunks 17 fork 1 skips 0\nend\n", 2),
+        ("gibj 3\ndepth -2 chunks 17 fork 1 skips 0\nend\n", 2),
+        ("gibj 3\ndepth 2 chunks 17 fork  skips 0\nend\n", 2),
+        ("gibj 3\ndepth  2 chunks 17 fork 1 skips 0\nend\n", 2),
+        ("gibj 3\ndepth 2 chunks 17 fork 1 skips 0 \nend\n", 2),
+        ("gibj 3\ndepth 2 chunks 17 fork 1\nend\n", 2),
+        ("gibj 3\nchunks 17 depth 2 fork 1 skips 0\nend\n", 2),
         (
-            "gibj 2\ndepth 18446744073709551618 chunks 17 fork 1 skips 0\nend\n",
+            "gibj 3\ndepth 18446744073709551618 chunks 17 fork 1 skips 0\nend\n",
             2,
         ),
     ] {
@@ -135,7 +136,7 @@ fn lines_of_events_are_refused(rt: HostRuntime) -> Result<(), Fail> {
         ("steps 0 1\nend\n", 3),
         ("End\nend\n", 3),
         ("end \nend\n", 3),
-        ("gibj 2\nend\n", 3),
+        ("gibj 3\nend\n", 3),
         ("# end\nend\n", 3),
         // Two lines of steps of one task.
         ("step 0 1\nstep 0 1\nend\n", 4),

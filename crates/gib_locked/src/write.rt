@@ -78,7 +78,7 @@ pub fn write_journal(alloc: Global, journal: &Journal) -> Result<Vec<u8>, Memory
     ensures { IfOk result (λ text. text.items ≡ journal_text journal.now.settings journal.now.lines.all.items) }
 {
     let mut out = Vec::new(alloc);
-    out.extend_from_slice(b"gibj 2\n")?;
+    out.extend_from_slice(b"gibj 3\n")?;
     push_settings(alloc, &mut out, journal.settings)?;
     'lines: for line in &journal.lines.all {
         push_line(alloc, &mut out, *line)?;

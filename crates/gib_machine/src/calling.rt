@@ -1,7 +1,7 @@
 //! Calls and their ends: they have no memory action.
 
 ghost use Rattle.std.specs.Prelude.{◌≡◌, ◌<◌, ◌+◌, ◌^◌, ℕ, List};
-ghost use Rattle.gib_machine.specs.Machine.{word, words, called, returned, gave, unwound, slots_at, widest};
+ghost use Rattle.gib_machine.specs.Machine.{word, words, called, returned, gives, unwound, slots_at, widest};
 ghost use Rattle.gib_machine.specs.Machine as m;
 ghost use Rattle.gib_machine.specs.Stepping.{with_tails};
 ghost use Rattle.gib_machine.specs.declared.turn.Turn.TheVariants as turns;
@@ -113,7 +113,7 @@ impl Machine {
     }
 
     pub(crate) fn gives(&mut self, from: Operand) -> Turn
-        ensures state { self.new ≡ gave self.old self.old.frames (word self.old.words from) }
+        ensures state { self.new ≡ gives self.old self.old.frames (word self.old.words from) }
         ensures turn { result ≡ turns.Went }
     {
         let word = self.frames.word(from);

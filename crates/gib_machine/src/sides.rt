@@ -3,6 +3,7 @@
 ghost use Rattle.std.specs.Prelude.{◌≡◌, ◌<◌, ◌≤◌, ◌+◌, ◌-◌, ◌^◌, ℕ, List, drop, length, None, Some, IfOk, IfSome, IfNone, slice_get};
 ghost use Rattle.gib_machine.specs.Machine.{AtFork, AtJoin, next, fork_of, right_of, left_starts, takes, joins, unwound, unwinding};
 ghost use Rattle.gib_machine.specs.Machine as m;
+ghost use Rattle.gib_machine.specs.Frames.{FitsFrame};
 ghost use Rattle.gib_machine.specs.Starting.{forking_of, waiting_of};
 ghost use Rattle.gib_code.specs.Program.{Runs};
 ghost use Rattle.gib_machine.specs.Stepping.{with_tails};
@@ -36,8 +37,8 @@ impl Machine {
         fork_parts(&instructions[place])
     }
 
-    /// The right side of the fork at which the machine stands, for whoever begins it: it has the words of the frame, its calls, and a
-    /// level less. A machine for the same code has room for it.
+    /// The right side of the fork at which the machine stands, for whoever begins it: it has the words and ends of the frame, its calls,
+    /// and a level less. A machine for the same code has room for it.
     ///
     /// # Errors
     ///
@@ -46,15 +47,17 @@ impl Machine {
     pub fn side(&self, alloc: Global, code: &Code) -> Result<Side, Memory>
         requires fork { (tails : List ℕ) × (next code.now (with_tails self.now tails) ≡ AtFork) }
         ensures side { IfOk result (λ side. (tails : List ℕ) → waiting_of side ≡ right_of (with_tails self.now tails) (slice_get code.now.instructions self.now.ip)) }
-        ensures fits { IfOk result (λ side. length side.words.items ≤ self.now.width) }
+        ensures fits { IfOk result (λ side. FitsFrame self.now.width (waiting_of side).words) }
     {
         match self.fork_here(code) {
             None => unreachable!(),
             Some(fork) => {
                 let words = self.frames.words(alloc)?;
+                let ends = self.frames.ends(alloc)?;
                 Ok(Side {
                     start: fork.right,
                     words,
+                    ends,
                     depth: self.frames.depth(),
                     level: self.level - 1,
                     kind: fork.kind,

@@ -4,6 +4,7 @@ ghost use Rattle.std.specs.Prelude.{◌≡◌, ◌≤◌, ◌<◌, ◌+◌, ◌-
 ghost use Rattle.gib_code.specs.Instruction.{instruction_of};
 ghost use Rattle.gib_machine.specs.Machine.{Ready, Opening, fork_of, side_doing, side_start, nesting_from};
 ghost use Rattle.gib_machine.specs.Machine as m;
+ghost use Rattle.gib_machine.specs.Frames.{FitsFrame};
 ghost use Rattle.gib_machine.specs.Starting.{begun, is_packed, main_entry, started, forking_of, waiting_of};
 ghost use Rattle.gib_machine.specs.Starting as s;
 
@@ -16,12 +17,14 @@ use gib_code::{Code, Entry, Instr, Kind, Side};
 use gib_types::Ty;
 use std::alloc::{AllocError, Global};
 
-/// How a machine begins: where, with how many slots, with which variable where it is a right side, with what type of answer,
-/// and whether it opens a region first.
+/// How a machine begins: where, with how many slots, how many calls and forks may nest, with which variable where it is a right
+/// side, with what type of answer, and whether it opens a region first.
 #[derive(Clone, Copy, Debug)]
 pub struct Start {
     pub label: u32,
     pub slots: u32,
+    pub depth: u32,
+    pub level: u32,
     pub side: Option<u32>,
     pub result: Ty,
     pub opens: bool,
@@ -174,23 +177,22 @@ fn slots_for(code: &Code, words: &[u64]) -> u32
     words.len().min(width as usize) as u32
 }
 
-/// A machine that begins so with these first words; the other slots are 0.
+/// A machine that begins so with these first words and ends; the others are 0.
 #[tactic(auto, using(crate::proofs::Starts::room_is))]
 fn begin(
     alloc: Global,
     code: &Code,
     start: Start,
     words: &[u64],
-    depth: u32,
-    level: u32,
+    ends: &[u64],
 ) -> Result<Machine, Memory>
     requires { start.slots ≤ m.widest code.now.functions }
-    ensures { IfOk result (λ machine. machine ≡ begun code.now start words.now depth level) }
+    ensures { IfOk result (λ machine. machine ≡ begun code.now start words.now ends.now) }
 {
     let width = widest(code.functions());
     let most = nesting(code.instructions())?;
-    let frames = Frames::make(alloc, words, start.slots, depth, width)?;
-    let openings = Openings::make(alloc, (depth as usize + 1) * most as usize + 1)?;
+    let frames = Frames::make(alloc, words, ends, start.slots, start.depth, width)?;
+    let openings = Openings::make(alloc, (start.depth as usize + 1) * most as usize + 1)?;
     let doing = if start.opens {
         Doing::Opening
     } else {
@@ -199,7 +201,7 @@ fn begin(
     Ok(Machine {
         ip: start.label,
         frames,
-        level,
+        level: start.level,
         side: start.side,
         openings,
         result: start.result,
@@ -225,7 +227,7 @@ impl Machine {
         }
     }
 
-    /// A machine that starts at a label with these words, and may nest `depth` calls and `level` forks: at main's start with
+    /// A machine that starts at a label with these words, of which no end is known, and may nest `depth` calls and `level` forks: at main's start with
     /// its argument, or at the start of a fork's right side with the words of a frame. It takes all its memory here.
     ///
     /// # Errors
@@ -248,11 +250,13 @@ impl Machine {
                 let start = Start {
                     label: start,
                     slots: main.slots,
+                    depth,
+                    level,
                     side: None,
                     result: main.result,
                     opens: is_packed(main.result),
                 };
-                return begin(alloc, code, start, words, depth, level);
+                return begin(alloc, code, start, words, &[]);
             }
         }
         let slots = slots_for(code, words);
@@ -260,6 +264,8 @@ impl Machine {
             Some(fork) => Start {
                 label: fork.right,
                 slots,
+                depth,
+                level,
                 side: Some(fork.variable),
                 result: fork.result,
                 opens: opens_region(fork.kind),
@@ -267,12 +273,14 @@ impl Machine {
             None => Start {
                 label: start,
                 slots,
+                depth,
+                level,
                 side: None,
                 result: Ty::Whole,
                 opens: false,
             },
         };
-        begin(alloc, code, start, words, depth, level)
+        begin(alloc, code, start, words, &[])
     }
 
     /// The machine of a right side that waits. It takes all its memory here.
@@ -282,24 +290,26 @@ impl Machine {
     /// Want of memory.
     #[tactic(auto, using(crate::proofs::Starts::whole_frame))]
     pub fn of_side(alloc: Global, code: &Code, side: &Side) -> Result<Machine, Memory>
-        requires { length side.now.words.items ≤ m.widest code.now.functions }
+        requires { FitsFrame (m.widest code.now.functions) (waiting_of side.now).words }
         ensures { IfOk result (λ machine. machine ≡ side_start code.now (waiting_of side.now)) }
     {
         let start = Start {
             label: side.start,
             slots: slots_for(code, &side.words),
+            depth: side.depth,
+            level: side.level,
             side: Some(side.variable),
             result: side.result,
             opens: opens_region(side.kind),
         };
-        begin(alloc, code, start, &side.words, side.depth, side.level)
+        begin(alloc, code, start, &side.words, &side.ends)
     }
 
     /// The machine of a right side that waits, in the memory of this one, which takes none: false where that is not enough, and the
     /// machine is then of no use but for another try. A machine that was made for the same code and as many calls has enough.
     #[tactic(auto, using(crate::proofs::Starts::whole_frame, crate::proofs::Starts::room_is))]
     pub fn restart(&mut self, code: &Code, side: &Side) -> bool
-        requires { length side.now.words.items ≤ m.widest code.now.functions }
+        requires { FitsFrame (m.widest code.now.functions) (waiting_of side.now).words }
         ensures { IsTrue result → self.new ≡ side_start code.now (waiting_of side.now) }
     {
         let width = widest(code.functions());
@@ -313,7 +323,10 @@ impl Machine {
         {
             return false;
         }
-        if !self.frames.restart(&side.words, slots, side.depth, width) {
+        if !self
+            .frames
+            .restart(&side.words, &side.ends, slots, side.depth, width)
+        {
             return false;
         }
         self.ip = side.start;

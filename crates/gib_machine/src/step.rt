@@ -19,6 +19,7 @@ impl Machine {
     ///
     /// `Full` is answered where the step draws and all chunks are drawn; the machine is then as before, so it may be tried
     /// again. At a fork, at a join and at its end a step changes nothing.
+    #[inline(always)]
     pub fn step<M: Mem>(&mut self, code: &Code, mem: &mut M, tails: &mut Tails) -> Turn
         requires { CanStep code.now (with_tails self.old tails.old) (M.view mem.old) }
         ensures { Made (next code.now (with_tails self.old tails.old)) (with_tails self.old tails.old) (with_tails self.new tails.new) (M.view mem.old) (M.view mem.new) result }
@@ -27,6 +28,7 @@ impl Machine {
     }
 
     /// A micro-step, by how far the instruction is.
+    #[inline(always)]
     fn goes_on<M: Mem>(&mut self, code: &Code, mem: &mut M, tails: &mut Tails) -> Turn
         requires runs { Runs code.now }
         requires made { self.old.width ≡ widest code.now.functions }
@@ -64,6 +66,7 @@ impl Machine {
     }
 
     /// The instruction at hand begins. Behind the code there is none.
+    #[inline(always)]
     fn begins_here<M: Mem>(&mut self, code: &Code, mem: &mut M, tails: &mut Tails) -> Turn
         requires runs { Runs code.now }
         requires made { self.old.width ≡ widest code.now.functions }
@@ -80,6 +83,7 @@ impl Machine {
     }
 
     /// An instruction begins; here those that ask the memory for something.
+    #[inline(always)]
     fn begins_with<M: Mem>(
         &mut self,
         code: &Code,
@@ -117,6 +121,7 @@ impl Machine {
     }
 
     /// An instruction that asks the memory for nothing; here those after which the next one follows, and the jumps.
+    #[inline(always)]
     fn begins_silent(&mut self, code: &Code, instr: &Instr, tails: &mut Tails) -> Turn
         requires next { self.old.ip + 1 < 2 ^ 32 }
         requires silent { IsSilent (instruction_of instr.now) }
@@ -136,11 +141,16 @@ impl Machine {
             Instr::First { to, tree, place } => self.reaches_first(*to, *tree, *place),
             Instr::Done => self.finishes(tails),
             Instr::Here(to) => self.stands_here(*to),
+            Instr::Got { to, parameter } => self.tells_given(*to, *parameter),
+            Instr::OverEnd { to, from } => self.tells_over(*to, *from),
+            Instr::LeafEnd { to, size } => self.tells_head(*to, *size),
+            Instr::EndOf { to, from } => self.stands_behind(*to, *from),
             _ => self.begins_flow(code, instr),
         }
     }
 
     /// An instruction that calls, returns, forks or joins.
+    #[inline(always)]
     fn begins_flow(&mut self, code: &Code, instr: &Instr) -> Turn
         requires next { self.old.ip + 1 < 2 ^ 32 }
         requires flow { IsFlow (instruction_of instr.now) }

@@ -17,6 +17,7 @@ fn machines_are_made(rt: HostRuntime) -> Result<(), Fail> {
     let side = Side {
         start: 1,
         words: Vec::new(rt.alloc()),
+        ends: Vec::new(rt.alloc()),
         depth: 100,
         level: 3,
         kind: Kind::Here,

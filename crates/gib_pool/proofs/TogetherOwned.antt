@@ -51,6 +51,7 @@ module _ (core : CoreTree) (code : CodeTree) (owed : Owed) where
     matches = at.matches;
     stack = at.stack;
     under = at.under;
+    given = at.given;
     calm = at.calm;
     places = owns_apart own more s _ o at.places;
     rooms = at.rooms;

@@ -1,5 +1,5 @@
 -- A worker at a task: what it knows over the bytes of its own pass, and after each turn.
-use Rattle.std.specs.Prelude.{◌≡◌, ℕ, suc, ◌+◌, ◌<◌, true, List, [], ◌∷◌, length, Option, Some, None, slice_get}
+use Rattle.std.specs.Prelude.{◌≡◌, ℕ, suc, ◌+◌, ◌<◌, List, [], ◌∷◌, length, Option, Some, None, slice_get}
 use Rattle.gib_mem.specs.Memory as mem
 use Rattle.gib_mem.specs.Memory.{Memory, Store, absent, fresh, Grows, Reads, after_puts, after_draw}
 use Rattle.gib_region.specs.Region.{Draws}

@@ -1,7 +1,8 @@
 //! What a worker keeps from one task to the next.
 
-ghost use Rattle.std.specs.Prelude.{◌≡◌, ◌≤◌, length, IsTrue};
+ghost use Rattle.std.specs.Prelude.{◌≡◌, ◌≤◌, IsTrue};
 ghost use Rattle.std.specs.Vec.{vec_capacity};
+ghost use Rattle.gib_machine.specs.Frames.{FitsFrame};
 ghost use Rattle.gib_machine.specs.Machine.{side_start, widest};
 ghost use Rattle.gib_machine.specs.Starting.{waiting_of};
 
@@ -39,7 +40,7 @@ impl Workspace {
     /// Makes the machine that of a side at its begin, with room for a frame for each fork that it may nest. False where the workspace was
     /// made for fewer calls or forks.
     pub(crate) fn begin(&mut self, code: &Code, side: Side) -> bool
-        requires { length side.words.items ≤ widest code.now.functions }
+        requires { FitsFrame (widest code.now.functions) (waiting_of side).words }
         ensures machine { IsTrue result → self.new.machine ≡ side_start code.now (waiting_of side) }
         ensures room { IsTrue result → side.level ≤ vec_capacity self.new.frames }
     {

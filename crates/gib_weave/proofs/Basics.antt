@@ -1,10 +1,11 @@
 -- Functions and words changed at one place; places; bytes that are put.
-use Rattle.std.proofs.Common.{◌≡◌, ℕ, suc, ◌+◌, ◌<◌, ◌≤◌, Bool, true, false, List, [], ◌∷◌, length, cond, eqb, nat_lt, nat_le, refl, sym, ap, ◌∙◌, arith}
+use Rattle.std.proofs.Common.{◌≡◌, ℕ, suc, ◌+◌, ◌<◌, ◌≤◌, Bool, true, false, List, [], ◌∷◌, length, cond, eqb, nat_lt, nat_le, slice_set, refl, sym, ap, ◌∙◌, arith}
 use Rattle.std.proofs.lemmas.Bool.{eq-eqb, ne_eqb, eqb-true}
 use Rattle.std.proofs.lemmas.List.{get_or-set_same, get_or-set_other, length-set}
 use Rattle.std.proofs.lemmas.Bool.Decides.{nat_tests}
 use Rattle.gib_mem.specs.Memory.{Cell, absent, fresh, byte, Store, set_cell, Holds, none, more, Grows}
-use Rattle.gib_machine.specs.Machine.{Slots, slot, set}
+use Rattle.gib_machine.specs.Machine.{Slots, slot, end_at, set}
+use Rattle.gib_weave.specs.EndWords.{WithEnd, both}
 use Rattle.gib_core.specs.Fits.{put}
 use Rattle.gib_weave.specs.Places.{within, IsSmall, Owned, put_all, AllFresh}
 
@@ -25,17 +26,39 @@ put-same f x v = ap (λ b. cond b v (f x)) (eq-eqb x x refl)
 pub put-other : {A : Type 0} (f : ℕ → A) (x y : ℕ) (v : A) → (y ≡ x → ⊥) → put f x v y ≡ f y
 put-other f x y v ne = ap (λ b. cond b v (f y)) (ne_eqb y x ne)
 
-pub set-same : (sl : Slots) (x w : ℕ) → x < length sl → slot (set sl x w) x ≡ w
-set-same sl x w h = get_or-set_same sl x w 0 h
+pub set-same : (sl : Slots) (x w : ℕ) → x < length sl.vars → slot (set sl x w) x ≡ w
+set-same sl x w h = get_or-set_same sl.vars x w 0 h
 
 pub set-other : (sl : Slots) (x y w : ℕ) → (y ≡ x → ⊥) → slot (set sl x w) y ≡ slot sl y
-set-other sl x y w ne = get_or-set_other sl x y w 0 ne
+set-other sl x y w ne = get_or-set_other sl.vars x y w 0 ne
 
-pub set-length : (sl : Slots) (x w : ℕ) → length (set sl x w) ≡ length sl
-set-length sl x w = length-set sl x w
+pub set-length : (sl : Slots) (x w : ℕ) → length (set sl x w).vars ≡ length sl.vars
+set-length sl x w = length-set sl.vars x w
+
+-- a slot that is set with its end
+abbrev pub set_both : Slots → (x w e : ℕ) → Slots
+set_both ws x w e = record { vars = slice_set ws.vars x w; ends = slice_set ws.ends x e }
+
+pub end-same : (sl : Slots) (x w e : ℕ) → x < length sl.ends → end_at (set_both sl x w e) x ≡ e
+end-same sl x w e h = get_or-set_same sl.ends x e 0 h
+
+pub end-other : (sl : Slots) (x y w e : ℕ) → (y ≡ x → ⊥) → end_at (set_both sl x w e) y ≡ end_at sl y
+end-other sl x y w e ne = get_or-set_other sl.ends x y e 0 ne
+
+pub ends-length : (sl : Slots) (x w e : ℕ) → length (set_both sl x w e).ends ≡ length sl.ends
+ends-length sl x w e = length-set sl.ends x e
+
+pub both_is : (w e w' e' : ℕ) → w ≡ w' → e ≡ e' → ◌≡◌ {A = WithEnd} (record { word = w; last = e }) (record { word = w'; last = e' })
+both_is w e w' e' p q = λ i. record { word = p i; last = q i }
+
+pub both-same : (sl : Slots) (x w : ℕ) → x < length sl.vars → length sl.ends ≡ length sl.vars → both (set sl x w) x ≡ record { word = w; last = 0 }
+both-same sl x w h ev = both_is (slot (set sl x w) x) (end_at (set sl x w) x) w 0 (set-same sl x w h) (end-same sl x w 0 (omega (arith, h, ev)))
+
+pub both-other : (sl : Slots) (x y w e : ℕ) → (y ≡ x → ⊥) → both (set_both sl x w e) y ≡ both sl y
+both-other sl x y w e ne = both_is (slot (set sl x w) y) (end_at (set_both sl x w e) y) (slot sl y) (end_at sl y) (set-other sl x y w ne) (end-other sl x y w e ne)
 
 -- a slot behind a change, as a test
-pub set-is : (sl : Slots) (x w y : ℕ) → x < length sl → slot (set sl x w) y ≡ cond (eqb y x) w (slot sl y)
+pub set-is : (sl : Slots) (x w y : ℕ) → x < length sl.vars → slot (set sl x w) y ≡ cond (eqb y x) w (slot sl y)
 set-is sl x w y h = by_test y x (λ b. slot (set sl x w) y ≡ cond b w (slot sl y)) (λ e. ap (slot (set sl x w)) e ∙ set-same sl x w h) (λ e. set-other sl x y w e)
 
 pub within-in : (a n q : ℕ) → a ≤ q → q < a + n → within a n q ≡ 1

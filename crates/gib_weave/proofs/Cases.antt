@@ -5,7 +5,7 @@ use Rattle.std.proofs.Math.Facts.{Fits-of_z, Fits-lt-pow}
 use Rattle.gib_types.specs.declared.table.Ty.{Ty}
 use Rattle.gib_types.specs.declared.table.Ty.TheVariants.{Whole, Truth, Tree}
 use Rattle.gib_types.specs.Table.{fields_at}
-use Rattle.gib_types.specs.Layout.{LaidOut, is_among}
+use Rattle.gib_types.specs.Layout.{LaidOut, is_among, head_size, packed_count}
 use Rattle.gib_types.specs.Tree.{Datum, whole, truth, con, Data, more, list_of}
 use Rattle.gib_types.specs.Tree as tree
 use Rattle.gib_syntax.specs.Meaning.{Environment, value_in, Outcome, choose}
@@ -23,24 +23,25 @@ use Rattle.gib_code.specs.declared.instruction.Arm.{Arm}
 use Rattle.gib_code.specs.Instruction.{Instruction}
 use Rattle.gib_code.specs.Instruction as i
 use Rattle.gib_code.specs.Program.{CodeTree, AreAt, none, one_more}
-use Rattle.gib_core.specs.Low.{Low, LowArms, no_arm, arm, End, laid_of, field_of, Field as StoredField, further_fields, with_fields, scalar_reads, first_reach, arm_opening}
-use Rattle.gib_machine.specs.Machine.{Slots, slot, set, Frame, Open as OpenRegion, label_of}
+use Rattle.gib_core.specs.Low.{arm_end, LeafAt, Low, LowArms, no_arm, arm, End, laid_of, field_of, Field as StoredField, further_fields, with_fields, scalar_reads, first_reach, arm_opening}
+use Rattle.gib_machine.specs.Machine.{end_at, Slots, slot, set, Frame, Open as OpenRegion, label_of}
+use Rattle.gib_weave.specs.EndWords.{WithEnd, both, EndWord}
 use Rattle.gib_core.specs.Cost.{Cost, cost_branches, call_costs, choose_cost}
-use Rattle.gib_core.specs.Fits.{put, Sort, Absent, Scalar, Held, Placed, AtHead, Field, Scope, is_there, Dest, Fits, BranchesFit, cased, branches_cased, has_branch, AreNew, arm_scope}
+use Rattle.gib_core.specs.Ending.{Within, last_packed}
+use Rattle.gib_core.specs.Fits.{Needs, Line as FitsLine, arm_line, put, Sort, Absent, Scalar, Held, Placed, AtHead, Field, Scope, is_there, Dest, Fits, BranchesFit, cased, branches_cased, has_branch, AreNew, arm_scope}
 use Rattle.gib_weave.specs.Environment.{Ctx}
 use Rattle.gib_weave.specs.Continuing.{Kont, nest, branches_nest, Agrees}
 use Rattle.gib_weave.specs.Owing.{costs, Owed, means}
 use Rattle.gib_weave.specs.Paying.{Share}
 use Rattle.gib_weave.specs.Places.{Owned}
 use Rattle.gib_weave.specs.Sound.{Safe, moves}
-use Rattle.gib_weave.proofs.Basics.{by_test, put-same, put-other, set-same, set-other, set-length}
+use Rattle.gib_weave.proofs.Basics.{by_test, put-same, put-other, set-same, set-other, set-length, end-other, ends-length, both-same}
 use Rattle.gib_weave.proofs.Move.{Keeps, keeps_var, with_var, agrees_put, bound-same}
 use Rattle.gib_weave.proofs.Lines.{or_left, or_right}
 use Rattle.gib_weave.proofs.Readings.{get_one, first, tail}
 use Rattle.gib_weave.proofs.Numbers.{reads_number}
-use Rattle.gib_weave.proofs.Binds.{first_at, rest_at}
+use Rattle.gib_weave.proofs.Ends.{first_at, rest_at, held_end, Levels, at_rest, step_is, silently}
 use Rattle.gib_weave.proofs.Arms.{Line, line_var}
-use Rattle.gib_weave.proofs.Ends.{Levels, at_rest, step_is, silently}
 
 clash : true ≡ false → ⊥
 clash h = absurd cc
@@ -108,6 +109,36 @@ scalar_kept sc (Whole ∷ ts) (y ∷ ys) (more v vs) sl q n nb = scalar_kept (pu
 scalar_kept sc (Truth ∷ ts) (y ∷ ys) (more v vs) sl q n nb = scalar_kept (put sc y.0 Held) ts ys vs (set sl y.0 (word_of v)) q n.1 (next_bound sc y.0 q nb) ∙ set-other sl y.0 q (word_of v) (not_this sc y.0 q n.0 nb)
 scalar_kept sc (Tree t ∷ ts) (y ∷ ys) (more v vs) sl q n nb = scalar_kept (put sc y.0 Held) ts ys vs sl q n.1 (next_bound sc y.0 q nb)
 
+pub scalar_ends : (sc : Scope) (ts : List Ty) (ys : List Variable) (vs : Data) (sl : Slots) (q : ℕ) → AreNew sc ts ys → (sc q ≡ Absent → ⊥) → end_at (scalar_slots ts ys vs sl) q ≡ end_at sl q
+scalar_ends sc [] ys vs sl q n nb = refl
+scalar_ends sc (ty ∷ ts) [] vs sl q n nb = refl
+scalar_ends sc (ty ∷ ts) (y ∷ ys) tree.none sl q n nb = refl
+scalar_ends sc (Whole ∷ ts) (y ∷ ys) (more v vs) sl q n nb = scalar_ends (put sc y.0 Held) ts ys vs (set sl y.0 (word_of v)) q n.1 (next_bound sc y.0 q nb) ∙ end-other sl y.0 q (word_of v) 0 (not_this sc y.0 q n.0 nb)
+scalar_ends sc (Truth ∷ ts) (y ∷ ys) (more v vs) sl q n nb = scalar_ends (put sc y.0 Held) ts ys vs (set sl y.0 (word_of v)) q n.1 (next_bound sc y.0 q nb) ∙ end-other sl y.0 q (word_of v) 0 (not_this sc y.0 q n.0 nb)
+scalar_ends sc (Tree t ∷ ts) (y ∷ ys) (more v vs) sl q n nb = scalar_ends (put sc y.0 Held) ts ys vs sl q n.1 (next_bound sc y.0 q nb)
+
+pub first_ends : (sc : Scope) (w : ℕ) (ts : List Ty) (ys : List Variable) (sl : Slots) (q : ℕ) → AreNew sc ts ys → (sc q ≡ Absent → ⊥) → end_at (first_slots w ts ys sl) q ≡ end_at sl q
+first_ends sc w [] ys sl q n nb = refl
+first_ends sc w (ty ∷ ts) [] sl q n nb = refl
+first_ends sc w (Whole ∷ ts) (y ∷ ys) sl q n nb = first_ends (put sc y.0 Held) w ts ys sl q n.1 (next_bound sc y.0 q nb)
+first_ends sc w (Truth ∷ ts) (y ∷ ys) sl q n nb = first_ends (put sc y.0 Held) w ts ys sl q n.1 (next_bound sc y.0 q nb)
+first_ends sc w (Tree t ∷ ts) (y ∷ ys) sl q n nb = end-other sl y.0 q w 0 (not_this sc y.0 q n.0 nb)
+
+pub scalar_even : (ts : List Ty) (ys : List Variable) (vs : Data) (sl : Slots) → length (scalar_slots ts ys vs sl).ends ≡ length sl.ends
+scalar_even [] ys vs sl = refl
+scalar_even (ty ∷ ts) [] vs sl = refl
+scalar_even (ty ∷ ts) (y ∷ ys) tree.none sl = refl
+scalar_even (Whole ∷ ts) (y ∷ ys) (more v vs) sl = scalar_even ts ys vs (set sl y.0 (word_of v)) ∙ ends-length sl y.0 (word_of v) 0
+scalar_even (Truth ∷ ts) (y ∷ ys) (more v vs) sl = scalar_even ts ys vs (set sl y.0 (word_of v)) ∙ ends-length sl y.0 (word_of v) 0
+scalar_even (Tree t ∷ ts) (y ∷ ys) (more v vs) sl = scalar_even ts ys vs sl
+
+pub first_even : (w : ℕ) (ts : List Ty) (ys : List Variable) (sl : Slots) → length (first_slots w ts ys sl).ends ≡ length sl.ends
+first_even w [] ys sl = refl
+first_even w (ty ∷ ts) [] sl = refl
+first_even w (Whole ∷ ts) (y ∷ ys) sl = first_even w ts ys sl
+first_even w (Truth ∷ ts) (y ∷ ys) sl = first_even w ts ys sl
+first_even w (Tree t ∷ ts) (y ∷ ys) sl = ends-length sl y.0 w 0
+
 pub first_kept : (sc : Scope) (w : ℕ) (ts : List Ty) (ys : List Variable) (sl : Slots) (q : ℕ) → AreNew sc ts ys → (sc q ≡ Absent → ⊥) → slot (first_slots w ts ys sl) q ≡ slot sl q
 first_kept sc w [] ys sl q n nb = refl
 first_kept sc w (ty ∷ ts) [] sl q n nb = refl
@@ -115,7 +146,7 @@ first_kept sc w (Whole ∷ ts) (y ∷ ys) sl q n nb = first_kept (put sc y.0 Hel
 first_kept sc w (Truth ∷ ts) (y ∷ ys) sl q n nb = first_kept (put sc y.0 Held) w ts ys sl q n.1 (next_bound sc y.0 q nb)
 first_kept sc w (Tree t ∷ ts) (y ∷ ys) sl q n nb = set-other sl y.0 q w (not_this sc y.0 q n.0 nb)
 
-pub scalar_long : (ts : List Ty) (ys : List Variable) (vs : Data) (sl : Slots) → length (scalar_slots ts ys vs sl) ≡ length sl
+pub scalar_long : (ts : List Ty) (ys : List Variable) (vs : Data) (sl : Slots) → length (scalar_slots ts ys vs sl).vars ≡ length sl.vars
 scalar_long [] ys vs sl = refl
 scalar_long (ty ∷ ts) [] vs sl = refl
 scalar_long (ty ∷ ts) (y ∷ ys) tree.none sl = refl
@@ -123,7 +154,7 @@ scalar_long (Whole ∷ ts) (y ∷ ys) (more v vs) sl = scalar_long ts ys vs (set
 scalar_long (Truth ∷ ts) (y ∷ ys) (more v vs) sl = scalar_long ts ys vs (set sl y.0 (word_of v)) ∙ set-length sl y.0 (word_of v)
 scalar_long (Tree t ∷ ts) (y ∷ ys) (more v vs) sl = scalar_long ts ys vs sl
 
-pub first_long : (w : ℕ) (ts : List Ty) (ys : List Variable) (sl : Slots) → length (first_slots w ts ys sl) ≡ length sl
+pub first_long : (w : ℕ) (ts : List Ty) (ys : List Variable) (sl : Slots) → length (first_slots w ts ys sl).vars ≡ length sl.vars
 first_long w [] ys sl = refl
 first_long w (ty ∷ ts) [] sl = refl
 first_long w (Whole ∷ ts) (y ∷ ys) sl = first_long w ts ys sl
@@ -137,14 +168,14 @@ SlotsFit F w before (ty ∷ ts) [] vs = Unit {0}
 SlotsFit F w before (ty ∷ ts) (y ∷ ys) tree.none = Unit {0}
 SlotsFit F w before (Whole ∷ ts) (y ∷ ys) (more v vs) = (slot F y.0 ≡ word_of v) × SlotsFit F w before ts ys vs
 SlotsFit F w before (Truth ∷ ts) (y ∷ ys) (more v vs) = (slot F y.0 ≡ word_of v) × SlotsFit F w before ts ys vs
-SlotsFit F w None (Tree t ∷ ts) (y ∷ ys) (more v vs) = (slot F y.0 ≡ w) × SlotsFit F w (Some y.0) ts ys vs
+SlotsFit F w None (Tree t ∷ ts) (y ∷ ys) (more v vs) = (both F y.0 ≡ record { word = w; last = 0 }) × SlotsFit F w (Some y.0) ts ys vs
 SlotsFit F w (Some z) (Tree t ∷ ts) (y ∷ ys) (more v vs) = SlotsFit F w (Some y.0) ts ys vs
 
 still_absent : (sc : Scope) (y q : ℕ) → put sc y Held q ≡ Absent → (q ≡ y → ⊥) × (sc q ≡ Absent)
 still_absent sc y q = by_test q y (λ b. cond b Held (sc q) ≡ Absent → (q ≡ y → ⊥) × (sc q ≡ Absent)) (λ e h. absurd cc) (λ e h. (e, h))
 
 -- behind the first packed field
-fit_behind : (sc : Scope) (w z : ℕ) (ts : List Ty) (ys : List Variable) (vs : Data) (sl : Slots) → AreNew sc ts ys → ((q : ℕ) → sc q ≡ Absent → q < length sl) → SlotsFit (scalar_slots ts ys vs sl) w (Some z) ts ys vs
+fit_behind : (sc : Scope) (w z : ℕ) (ts : List Ty) (ys : List Variable) (vs : Data) (sl : Slots) → AreNew sc ts ys → ((q : ℕ) → sc q ≡ Absent → q < length sl.vars) → SlotsFit (scalar_slots ts ys vs sl) w (Some z) ts ys vs
 fit_behind sc w z [] ys vs sl n lt = tt
 fit_behind sc w z (ty ∷ ts) [] vs sl n lt = tt
 fit_behind sc w z (ty ∷ ts) (y ∷ ys) tree.none sl n lt = tt
@@ -167,23 +198,23 @@ fit_same sc F G w z (Whole ∷ ts) (y ∷ ys) (more v vs) n e f = (e y.0 n.0 ∙
 fit_same sc F G w z (Truth ∷ ts) (y ∷ ys) (more v vs) n e f = (e y.0 n.0 ∙ f.0, fit_same (put sc y.0 Held) F G w z ts ys vs n.1 (λ q a. e q (still_absent sc y.0 q a).1) f.1)
 fit_same sc F G w z (Tree t ∷ ts) (y ∷ ys) (more v vs) n e f = fit_same (put sc y.0 Held) F G w y.0 ts ys vs n.1 (λ q a. e q (still_absent sc y.0 q a).1) f
 
-pub slots_fit : (sc : Scope) (w : ℕ) (ts : List Ty) (ys : List Variable) (vs : Data) (sl : Slots) → AreNew sc ts ys → ((q : ℕ) → sc q ≡ Absent → q < length sl) → SlotsFit (first_slots w ts ys (scalar_slots ts ys vs sl)) w None ts ys vs
-slots_fit sc w [] ys vs sl n lt = tt
-slots_fit sc w (ty ∷ ts) [] vs sl n lt = tt
-slots_fit sc w (ty ∷ ts) (y ∷ ys) tree.none sl n lt = tt
-slots_fit sc w (Whole ∷ ts) (y ∷ ys) (more v vs) sl n lt = (
+pub slots_fit : (sc : Scope) (w : ℕ) (ts : List Ty) (ys : List Variable) (vs : Data) (sl : Slots) → AreNew sc ts ys → ((q : ℕ) → sc q ≡ Absent → q < length sl.vars) → length sl.ends ≡ length sl.vars → SlotsFit (first_slots w ts ys (scalar_slots ts ys vs sl)) w None ts ys vs
+slots_fit sc w [] ys vs sl n lt ev = tt
+slots_fit sc w (ty ∷ ts) [] vs sl n lt ev = tt
+slots_fit sc w (ty ∷ ts) (y ∷ ys) tree.none sl n lt ev = tt
+slots_fit sc w (Whole ∷ ts) (y ∷ ys) (more v vs) sl n lt ev = (
   first_kept (put sc y.0 Held) w ts ys (scalar_slots ts ys vs (set sl y.0 (word_of v))) y.0 n.1 (held_now sc y.0)
       ∙ scalar_kept (put sc y.0 Held) ts ys vs (set sl y.0 (word_of v)) y.0 n.1 (held_now sc y.0) ∙ set-same sl y.0 (word_of v) (lt y.0 n.0),
-  slots_fit (put sc y.0 Held) w ts ys vs (set sl y.0 (word_of v)) n.1 (λ q a. subst (λ (m : ℕ). q < m) (sym (set-length sl y.0 (word_of v))) (lt q (still_absent sc y.0 q a).1)),
+  slots_fit (put sc y.0 Held) w ts ys vs (set sl y.0 (word_of v)) n.1 (λ q a. subst (λ (m : ℕ). q < m) (sym (set-length sl y.0 (word_of v))) (lt q (still_absent sc y.0 q a).1)) (ends-length sl y.0 (word_of v) 0 ∙ ev ∙ sym (set-length sl y.0 (word_of v))),
 )
-slots_fit sc w (Truth ∷ ts) (y ∷ ys) (more v vs) sl n lt = (
+slots_fit sc w (Truth ∷ ts) (y ∷ ys) (more v vs) sl n lt ev = (
   first_kept (put sc y.0 Held) w ts ys (scalar_slots ts ys vs (set sl y.0 (word_of v))) y.0 n.1 (held_now sc y.0)
       ∙ scalar_kept (put sc y.0 Held) ts ys vs (set sl y.0 (word_of v)) y.0 n.1 (held_now sc y.0) ∙ set-same sl y.0 (word_of v) (lt y.0 n.0),
-  slots_fit (put sc y.0 Held) w ts ys vs (set sl y.0 (word_of v)) n.1 (λ q a. subst (λ (m : ℕ). q < m) (sym (set-length sl y.0 (word_of v))) (lt q (still_absent sc y.0 q a).1)),
+  slots_fit (put sc y.0 Held) w ts ys vs (set sl y.0 (word_of v)) n.1 (λ q a. subst (λ (m : ℕ). q < m) (sym (set-length sl y.0 (word_of v))) (lt q (still_absent sc y.0 q a).1)) (ends-length sl y.0 (word_of v) 0 ∙ ev ∙ sym (set-length sl y.0 (word_of v))),
 )
-slots_fit sc w (Tree t ∷ ts) (y ∷ ys) (more v vs) sl n lt =
+slots_fit sc w (Tree t ∷ ts) (y ∷ ys) (more v vs) sl n lt ev =
     let G = scalar_slots ts ys vs sl in (
-      set-same G y.0 w (subst (λ (m : ℕ). y.0 < m) (sym (scalar_long ts ys vs sl)) (lt y.0 n.0)),
+      both-same G y.0 w (subst (λ (m : ℕ). y.0 < m) (sym (scalar_long ts ys vs sl)) (lt y.0 n.0)) (scalar_even ts ys vs sl ∙ ev ∙ sym (scalar_long ts ys vs sl)),
       fit_same (put sc y.0 Held) G (set G y.0 w) w y.0 ts ys vs n.1 (λ q a. set-other G y.0 q w (still_absent sc y.0 q a).0)
           (fit_behind (put sc y.0 Held) w y.0 ts ys vs sl n.1 (λ q a. lt q (still_absent sc y.0 q a).1)),
     )
@@ -238,6 +269,18 @@ before_keeps laid s c c' at w None k h = h
 before_keeps laid s c c' at w (Some z) k h =
     (k.there z h.0, (h.1.0, subst (λ (q : ℕ). Dec laid s q h.1.0 (value_in c'.env z) at) (sym (k.places z h.0)) (subst (λ (q : Datum). Dec laid s (c.pl z) h.1.0 q at) (sym (k.values z h.0)) h.1.1)))
 
+abbrev pub var_of : Option ℕ → Option Variable
+var_of None = None
+var_of (Some z) = Some (record { 0 = z })
+
+abbrev pub number_of_var : Option Variable → Option ℕ
+number_of_var None = None
+number_of_var (Some y) = Some y.0
+
+pub same_var : (o : Option ℕ) → number_of_var (var_of o) ≡ o
+same_var None = refl
+same_var (Some z) = refl
+
 -- the addresses that are stored from here on
 abbrev pub stored_due : Option ℕ → List ℕ → List ℕ
 stored_due None places = offset_bytes true places
@@ -247,42 +290,50 @@ now_absent : (sc : Scope) (c : Ctx) (y : ℕ) (so : Sort) (v : Datum) (at : ℕ)
 now_absent sc c y so v at h q = by_test q y (λ b. cond b Held (sc q) ≡ Absent → cond b so (c.scope q) ≡ Absent) (λ e g. absurd cc) (λ e g. h q g)
 
 module _ (core : CoreTree) (code : CodeTree) (owed : Owed) (own : Owned) (sh : Share) (lv : Levels) (ty : Ty) (rm : ℕ) where
-  pub record ArmLine (s : Store) (F : Slots) (fs : List Frame) (rs : List OpenRegion) (tls : List ℕ) (kt : Kont) (m : ℕ → Bool) (dest : Dest) (sc : Scope) (env : Environment) : Type 0 where
+  pub record ArmLine (s : Store) (F : Slots) (fs : List Frame) (rs : List OpenRegion) (tls : List ℕ) (kt : Kont) (m : ℕ → Bool) (dest : Dest) (sc : Scope) (env : Environment) (x o : ℕ) (v : Datum) (ln : FitsLine) (hx z w : ℕ) (lst : Option ℕ) : Type 0 where
     pub ctx : Ctx
+    pub head : ctx.scope x ≡ AtHead o
+    pub worth : value_in ctx.env x ≡ v
     pub scope : ctx.scope ≡ sc
     pub values : ctx.env ≡ env
     pub goal : ctx.dest ≡ dest
     pub line : Line core code owed own sh lv ty rm s F fs rs tls ctx kt m
+    pub ends : ctx.line ≡ ln
+    pub place : ctx.hd x ≡ hx
+    pub last : BeforeIs code.laid s ctx z w lst
+
+  worth_is : {s : Store} {F : Slots} {fs : List Frame} {rs : List OpenRegion} {tls : List ℕ} {kt : Kont} {m : ℕ → Bool} {dest : Dest} {sc : Scope} {env : Environment} {x o : ℕ} {v w : Datum} {ln : FitsLine} {hx z a : ℕ} {lst : Option ℕ} → v ≡ w → ArmLine s F fs rs tls kt m dest sc env x o v ln hx z a lst → ArmLine s F fs rs tls kt m dest sc env x o w ln hx z a lst
+  worth_is e r = record { ctx = r.ctx; head = r.head; worth = r.worth ∙ e; scope = r.scope; values = r.values; goal = r.goal; line = r.line; ends = r.ends; place = r.place; last = r.last }
 
   pub extend : (s : Store) (F : Slots) (fs : List Frame) (rs : List OpenRegion) (tls : List ℕ) (kt : Kont) (m : ℕ → Bool) (x k o w : ℕ) (ts : List Ty) (ys : List Variable) (vs : Data) (places : List ℕ) (at z p : ℕ) (before : Option ℕ) (c : Ctx) (sc : Scope)
       → AreNew sc ts ys → ((q : ℕ) → sc q ≡ Absent → c.scope q ≡ Absent) → Decs code.laid s at ts vs places z → SlotsFit F w before ts ys vs → BeforeIs code.laid s c at w before
       → (is_among code.laid.with_offsets k ≡ true → Holds s (c.hd x + p) (stored_due before places)) → c.scope x ≡ AtHead o → Line core code owed own sh lv ty rm s F fs rs tls c kt m
-      → ArmLine s F fs rs tls kt m c.dest (arm_scope x k p before ts ys c.scope) (bind ys (list_of vs) c.env)
-  extend s F fs rs tls kt m x k o w _ [] _ _ at z p before c sc nw ab d.done sf bi st hx l = record { ctx = c; scope = refl; values = refl; goal = refl; line = l }
+      → ArmLine s F fs rs tls kt m c.dest (arm_scope x k p before ts ys c.scope) (bind ys (list_of vs) c.env) x o (value_in c.env x) c.line (c.hd x) z w (number_of_var (last_packed (var_of before) ts ys))
+  extend s F fs rs tls kt m x k o w _ [] _ _ at z p before c sc nw ab d.done sf bi st hx l = record { ctx = c; head = hx; worth = refl; scope = refl; values = refl; goal = refl; line = l; ends = refl; place = refl; last = subst (BeforeIs code.laid s c at w) (sym (same_var before)) bi }
   extend s F fs rs tls kt m x k o w _ (y ∷ ys) _ _ at z p before c sc nw ab d.done sf bi st hx l = absurd nw
   extend s F fs rs tls kt m x k o w _ [] _ _ at z p before c sc nw ab (d.whole_field fits ds) sf bi st hx l = absurd nw
   extend s F fs rs tls kt m x k o w _ (y ∷ ys) _ _ at z p before c sc nw ab (d.whole_field {i = int} {ts = ts} {vs = vs} {places = places} fits ds) sf bi st hx l =
       let new = ab y.0 nw.0 in
       let c1 = with_var c y.0 (Scalar Whole) (whole int) 0 in
       let ke = keeps_var c y.0 (Scalar Whole) (whole int) 0 new in
-      let l1 = line_var core code owed own sh lv ty rm s F fs rs tls c kt m y.0 (Scalar Whole) (whole int) 0 l new (int, refl, fits, sf.0) in
-      extend s F fs rs tls kt m x k o w ts ys vs places at z p before c1 (put sc y.0 Held) nw.1 (now_absent sc c y.0 (Scalar Whole) (whole int) 0 ab) ds sf.1 (before_keeps code.laid s c c1 at w before ke bi) st (ke.at_head x o hx) l1
+      let l1 = line_var core code owed own sh lv ty rm s F fs rs tls c kt m y.0 (Scalar Whole) (whole int) 0 l new (int, refl, fits, sf.0) tt in
+      worth_is (ke.values x (ap is_there hx)) (extend s F fs rs tls kt m x k o w ts ys vs places at z p before c1 (put sc y.0 Held) nw.1 (now_absent sc c y.0 (Scalar Whole) (whole int) 0 ab) ds sf.1 (before_keeps code.laid s c c1 at w before ke bi) st (ke.at_head x o hx) l1)
   extend s F fs rs tls kt m x k o w _ [] _ _ at z p before c sc nw ab (d.truth_field ds) sf bi st hx l = absurd nw
   extend s F fs rs tls kt m x k o w _ (y ∷ ys) _ _ at z p before c sc nw ab (d.truth_field {b = bool} {ts = ts} {vs = vs} {places = places} ds) sf bi st hx l =
       let new = ab y.0 nw.0 in
       let c1 = with_var c y.0 (Scalar Truth) (truth bool) 0 in
       let ke = keeps_var c y.0 (Scalar Truth) (truth bool) 0 new in
-      let l1 = line_var core code owed own sh lv ty rm s F fs rs tls c kt m y.0 (Scalar Truth) (truth bool) 0 l new (bool, refl, sf.0) in
-      extend s F fs rs tls kt m x k o w ts ys vs places at z p before c1 (put sc y.0 Held) nw.1 (now_absent sc c y.0 (Scalar Truth) (truth bool) 0 ab) ds sf.1 (before_keeps code.laid s c c1 at w before ke bi) st (ke.at_head x o hx) l1
+      let l1 = line_var core code owed own sh lv ty rm s F fs rs tls c kt m y.0 (Scalar Truth) (truth bool) 0 l new (bool, refl, sf.0) tt in
+      worth_is (ke.values x (ap is_there hx)) (extend s F fs rs tls kt m x k o w ts ys vs places at z p before c1 (put sc y.0 Held) nw.1 (now_absent sc c y.0 (Scalar Truth) (truth bool) 0 ab) ds sf.1 (before_keeps code.laid s c c1 at w before ke bi) st (ke.at_head x o hx) l1)
   extend s F fs rs tls kt m x k o w _ [] _ _ at z p before c sc nw ab (d.tree_field dec ds) sf bi st hx l = absurd nw
   extend s F fs rs tls kt m x k o w _ (y ∷ ys) _ _ at z p None c sc nw ab (d.tree_field {y = mid} {t = t} {v = v} {ts = ts} {vs = vs} {places = places} dec ds) sf bi st hx l =
       let new = ab y.0 nw.0 in
       let so = Placed t.0 in
       let c1 = with_var c y.0 so v at in
       let ke = keeps_var c y.0 so v at new in
-      let l1 = line_var core code owed own sh lv ty rm s F fs rs tls c kt m y.0 so v at l new (record { same = sf.0 ∙ bi; stands = record { end = mid; dec = dec } }) in
+      let l1 = line_var core code owed own sh lv ty rm s F fs rs tls c kt m y.0 so v at l new (record { same = ap (λ (b : WithEnd). b.word) sf.0 ∙ bi; stands = record { end = mid; dec = dec } }) (subst (λ (q : ℕ). EndWord code.laid s t.0 q (slot F y.0) (end_at F y.0) v) bi (held_end F y.0 sf.0)) in
       let bf : BeforeIs code.laid s c1 mid w (Some y.0) = (ap is_there (put-same c.scope y.0 so), (t.0, subst (λ (q : ℕ). Dec code.laid s q t.0 (value_in c1.env y.0) mid) (sym (put-same c.pl y.0 at)) (subst (λ (q : Datum). Dec code.laid s at t.0 q mid) (sym (bound-same c.env y.0 v)) dec))) in
-      extend s F fs rs tls kt m x k o w ts ys vs places mid z p (Some y.0) c1 (put sc y.0 Held) nw.1 (now_absent sc c y.0 so v at ab) ds sf.1 bf st (ke.at_head x o hx) l1
+      worth_is (ke.values x (ap is_there hx)) (extend s F fs rs tls kt m x k o w ts ys vs places mid z p (Some y.0) c1 (put sc y.0 Held) nw.1 (now_absent sc c y.0 so v at ab) ds sf.1 bf st (ke.at_head x o hx) l1)
   extend s F fs rs tls kt m x k o w _ (y ∷ ys) _ _ at z p (Some b) c sc nw ab (d.tree_field {y = mid} {t = t} {v = v} {ts = ts} {vs = vs} {places = places} dec ds) sf bi st hx l =
       let new = ab y.0 nw.0 in
       let so = Field t.0 b x k p in
@@ -297,11 +348,11 @@ module _ (core : CoreTree) (code : CodeTree) (owed : Owed) (own : Owned) (sh : S
         before = b1.1.1;
         stored = λ e. Holds-left (c.hd x + p) (address at) (addresses places) (st e);
         stands = record { end = mid; dec = dec };
-      }) in
+      }) tt in
       let bf : BeforeIs code.laid s c1 mid w (Some y.0) = (ap is_there (put-same c.scope y.0 so), (t.0, subst (λ (q : ℕ). Dec code.laid s q t.0 (value_in c1.env y.0) mid) (sym (put-same c.pl y.0 at)) (subst (λ (q : Datum). Dec code.laid s at t.0 q mid) (sym (bound-same c.env y.0 v)) dec))) in
       let q : c.hd x + p + length (address at) ≡ c.hd x + (p + 8) = omega arith in
-      extend s F fs rs tls kt m x k o w ts ys vs places mid z (p + 8) (Some y.0) c1 (put sc y.0 Held) nw.1 (now_absent sc c y.0 so v at ab) ds sf bf
-      (λ e. subst (λ (r : ℕ). Holds s r (addresses places)) q (Holds-right (c.hd x + p) (address at) (addresses places) (st e))) (ke.at_head x o hx) l1
+      worth_is (ke.values x (ap is_there hx)) (extend s F fs rs tls kt m x k o w ts ys vs places mid z (p + 8) (Some y.0) c1 (put sc y.0 Held) nw.1 (now_absent sc c y.0 so v at ab) ds sf bf
+      (λ e. subst (λ (r : ℕ). Holds s r (addresses places)) q (Holds-right (c.hd x + p) (address at) (addresses places) (st e))) (ke.at_head x o hx) l1)
 
 -- Where the code reads fields.
 
@@ -332,32 +383,36 @@ agrees_arm x k (Tree t ∷ ts) (y ∷ ys) fs sc h = agrees_further x k 1 y.0 ts 
 
 -- The arm of a constructor.
 
-pub record FoundArm (core : CoreTree) (code : CodeTree) (fs : List StoredField) (x : ℕ) (e : End) (sc : Scope) (dest : Dest) (n : ℕ) (vs : Data) (env : Environment) (cs : ℕ → Bool) (top : ℕ) (k label : ℕ) (o : Outcome) (lv : ℕ) (price : Cost) : Type 0 where
+pub record FoundArm (core : CoreTree) (code : CodeTree) (w : Within) (ns : Needs) (ln : FitsLine) (fs : List StoredField) (x : ℕ) (e : End) (sc : Scope) (dest : Dest) (n : ℕ) (vs : Data) (env : Environment) (cs : ℕ → Bool) (top : ℕ) (k label : ℕ) (o : Outcome) (lv : ℕ) (price : Cost) : Type 0 where
   -- no more regions than in any branch
   pub variables : List Variable
   pub term : Term
   pub start : ℕ
   pub until : ℕ
   pub opening : AreAt code label (arm_opening (laid_of core) x k variables) start
-  pub low : Low core code (with_fields x (fields_at core.table k) variables fs) start term e until
+  pub after : ℕ
+  pub leaf : LeafAt code w.ends x (head_size (laid_of core) k) (packed_count (fields_at core.table k)) start after
+  pub low : Low core code w (with_fields x (fields_at core.table k) variables fs) after term (arm_end w core x (record { 0 = k }) variables term e) until
   pub new : AreNew sc (fields_at core.table k) variables
-  pub fits : Fits core term (arm_scope x k 1 None (fields_at core.table k) variables sc) dest
+  pub fits : Fits core ns term (arm_scope x k 1 None (fields_at core.table k) variables sc) dest (arm_line core x (record { 0 = k }) variables term ln)
   pub calm : (y : ℕ) → cased term y ≡ true → cs y ≡ true
   pub nests : nest term ≤ top
   pub meaning : o ≡ means core n term (bind variables (list_of vs) env)
   pub cost : price ≡ costs core n lv term (bind variables (list_of vs) env)
 
-pub find : (core : CoreTree) (code : CodeTree) (fs : List StoredField) (x : ℕ) (e : End) (sc : Scope) (dest : Dest) (n lv : ℕ) (vs : Data) (env : Environment) (cs : ℕ → Bool) (top k at z : ℕ) (bs : Branches) (arms : List Arm) → LowArms core code fs x at arms bs e z → BranchesFit core bs x sc dest → has_branch bs k ≡ true → ((y : ℕ) → branches_cased bs y ≡ true → cs y ≡ true) → branches_nest bs ≤ top
-    → FoundArm core code fs x e sc dest n vs env cs top k (label_of arms k) (mean_branches core.table (core_calls core n) bs (con k vs) env) lv (cost_branches core.table (core_calls core n) (call_costs core n) lv bs (con k vs) env)
-find core code fs x e sc dest n lv vs env cs top k at z _ _ no_arm f h cl ne = absurd (clash (sym h))
-find core code fs x e sc dest n lv vs env cs top k at z _ _ (arm {m = m} {l = l} {c = c} {ys = ys} {u = u} {bs = bs} {arms = arms} op lo rest) f h cl ne =
-    by_test c.0 k (λ b. (b || has_branch bs k) ≡ true → FoundArm core code fs x e sc dest n vs env cs top k (cond b at (label_of arms k)) (choose b (means core n u (bind ys (list_of vs) env)) (mean_branches core.table (core_calls core n) bs (con k vs) env)) lv (choose_cost b (costs core n lv u (bind ys (list_of vs) env)) (cost_branches core.table (core_calls core n) (call_costs core n) lv bs (con k vs) env)))
-    (λ q g. subst (λ (j : ℕ). FoundArm core code fs x e sc dest n vs env cs top j at (means core n u (bind ys (list_of vs) env)) lv (costs core n lv u (bind ys (list_of vs) env))) q (record {
+pub find : (core : CoreTree) (code : CodeTree) (w : Within) (ns : Needs) (ln : FitsLine) (fs : List StoredField) (x : ℕ) (e : End) (sc : Scope) (dest : Dest) (n lv : ℕ) (vs : Data) (env : Environment) (cs : ℕ → Bool) (top k at z : ℕ) (bs : Branches) (arms : List Arm) → LowArms core code w fs x at arms bs e z → BranchesFit core ns bs x sc dest ln → has_branch bs k ≡ true → ((y : ℕ) → branches_cased bs y ≡ true → cs y ≡ true) → branches_nest bs ≤ top
+    → FoundArm core code w ns ln fs x e sc dest n vs env cs top k (label_of arms k) (mean_branches core.table (core_calls core n) bs (con k vs) env) lv (cost_branches core.table (core_calls core n) (call_costs core n) lv bs (con k vs) env)
+find core code w ns ln fs x e sc dest n lv vs env cs top k at z _ _ no_arm f h cl ne = absurd (clash (sym h))
+find core code w ns ln fs x e sc dest n lv vs env cs top k at z _ _ (arm {m = m} {n = n'} {l = l} {c = c} {ys = ys} {u = u} {bs = bs} {arms = arms} op lf lo rest) f h cl ne =
+    by_test c.0 k (λ b. (b || has_branch bs k) ≡ true → FoundArm core code w ns ln fs x e sc dest n vs env cs top k (cond b at (label_of arms k)) (choose b (means core n u (bind ys (list_of vs) env)) (mean_branches core.table (core_calls core n) bs (con k vs) env)) lv (choose_cost b (costs core n lv u (bind ys (list_of vs) env)) (cost_branches core.table (core_calls core n) (call_costs core n) lv bs (con k vs) env)))
+    (λ q g. subst (λ (j : ℕ). FoundArm core code w ns ln fs x e sc dest n vs env cs top j at (means core n u (bind ys (list_of vs) env)) lv (costs core n lv u (bind ys (list_of vs) env))) q (record {
       variables = ys;
       term = u;
       start = m;
       until = l;
       opening = op;
+      after = n';
+      leaf = lf;
       low = lo;
       new = f.0;
       fits = f.1;
@@ -366,5 +421,12 @@ find core code fs x e sc dest n lv vs env cs top k at z _ _ (arm {m = m} {l = l}
       meaning = refl;
       cost = refl;
     }))
-    (λ q g. find core code fs x e sc dest n lv vs env cs top k l z bs arms rest f.2 g (λ y r. cl y (or_right (cased u y) (branches_cased bs y) r)) (omega (arith, ne)))
+    (λ q g. find core code w ns ln fs x e sc dest n lv vs env cs top k l z bs arms rest f.2 g (λ y r. cl y (or_right (cased u y) (branches_cased bs y) r)) (omega (arith, ne)))
     h
+
+-- fields of which none is packed end where they begin
+pub no_tree_end : {laid : LaidOut} {s : Store} {a z : ℕ} {ts : List Ty} {vs : Data} {places : List ℕ} → packed_count ts ≡ 0 → Decs laid s a ts vs places z → z ≡ a
+no_tree_end h d.done = refl
+no_tree_end h (d.whole_field f ds) = no_tree_end h ds
+no_tree_end h (d.truth_field ds) = no_tree_end h ds
+no_tree_end h (d.tree_field dec ds) = absurd (omega (arith, h))

@@ -1,30 +1,40 @@
 -- Where a tree stands, the machine goes on to the next term.
-use Rattle.std.proofs.Common.{◌≡◌, ℕ, suc, ◌+◌, ◌≤◌, Bool, true, false, List, [], ◌∷◌, length, Option, Some, cond, refl, sym, ap, subst, ◌∙◌, arith}
+use Rattle.std.proofs.Common.{◌≡◌, ℕ, suc, ◌+◌, ◌≤◌, Bool, true, false, List, [], ◌∷◌, length, Option, Some, get_or, map, ◌<◌, ◌++◌, ◌||◌, ◌&&◌, cond, refl, sym, ap, subst, ◌∙◌, arith}
 use Rattle.gib_types.specs.declared.table.Ty.{Ty}
 use Rattle.gib_types.specs.declared.table.Ty.TheVariants.{Whole, Truth, Tree}
 use Rattle.gib_types.specs.Tree.{Datum}
 use Rattle.gib_types.specs.Layout.{LaidOut}
 use Rattle.gib_code.specs.declared.answer.Reason.{Reason}
 use Rattle.gib_code.specs.declared.answer.Reason.TheVariants as reason
-use Rattle.gib_syntax.specs.Meaning.{is_scalar, Environment, Outcome, Gives, Stops}
+use Rattle.gib_syntax.specs.Meaning.{is_scalar, Environment, Outcome, Gives, Stops, value_in}
 use Rattle.gib_mem.specs.Memory.{Store}
 use Rattle.gib_packed.specs.Decoding.{Dec}
 use Rattle.gib_core.specs.Tree.{CoreTree}
-use Rattle.gib_code.specs.Instruction.{Instruction}
-use Rattle.gib_code.specs.Program.{CodeTree, IsAt}
-use Rattle.gib_core.specs.Low.{ending}
-use Rattle.gib_machine.specs.Machine.{times, nesting, Slots, slot, Frame, Open as OpenRegion, State, Doing, Ready, Ask, Silent, next, begin, goes_on, cursor, Unwinding, unwound, stopped, Par, backs_at, ends_side, answer_of}
+use Rattle.gib_code.specs.Instruction.{Instruction, Got, OverEnd, Return}
+use Rattle.gib_code.specs.Program.{CodeTree, IsAt, AreAt, none, one_more}
+use Rattle.gib_core.specs.Low.{ending, Over, over_all, got_from, gots, operands}
+use Rattle.gib_machine.specs.Machine.{times, nesting, Slots, slot, Frame, Open as OpenRegion, State, Doing, Ready, Ask, Silent, next, begin, goes_on, cursor, Unwinding, unwound, stopped, Par, backs_at, ends_side, answer_of, told, words, end_at}
+use Rattle.gib_weave.specs.EndWords.{WithEnd, both, IsTold, EndWord}
+use Rattle.std.specs.Prelude.{◌==◌}
+use Rattle.gib_core.specs.declared.atom.Atom.{Atom}
+use Rattle.gib_core.specs.declared.atom.Atom.TheVariants as atom
+use Rattle.gib_core.specs.Meaning.{value}
+use Rattle.gib_core.specs.declared.atom.Ended.{Ended}
+use Rattle.gib_core.specs.Ending.{Within, ended, has_ended, call_ends}
 use Rattle.gib_weave.proofs.Counts.{Paid, finish_counted}
-use Rattle.gib_core.specs.Fits.{Placed, more}
-use Rattle.gib_weave.specs.Environment.{Ctx, StandsAt, IsPlaced}
-use Rattle.gib_weave.specs.Continuing.{Rest, Plain, Part, Meet, Leave, Last, KSide, KLast, rest_pars, pars_of, side_of, Kont, KEnd, KHere, KRegion, KScalar, KCall, KCallScalar, end_of, due, root}
+use Rattle.gib_core.specs.Fits.{Sort, Absent, AtomsFit, Meets, Runs, and_also, finally, call_tells, tell_line, is_settled, tree_type, put, Placed, more}
+use Rattle.gib_packed.specs.Reaching.{Turns, there}
+use Rattle.gib_weave.specs.Environment.{Given, givens, Gave, AreGiven, AllClose, HasAll, Ctx, StandsAt, IsPlaced}
+use Rattle.gib_weave.specs.Continuing.{given_of, Rest, Plain, Part, Meet, Leave, Last, KSide, KLast, rest_pars, pars_of, side_of, Kont, KEnd, KHere, KRegion, KScalar, KCall, KCallScalar, AllUnder, end_of, needs_of, due, root}
 use Rattle.gib_weave.specs.Owing.{debt_of, no_debt, level_after, Owed, rest_sides, sides_of, Debt, resume}
 use Rattle.gib_weave.specs.Paying.{Share, Counted, left_costs, later_costs}
 use Rattle.gib_weave.specs.Places.{Owned, kont_covers, rest_covers, tail_covers, HaveRoom, TailsHaveRoom, IsSmall, Apart, AllRoom}
 use Rattle.gib_weave.specs.Stacks.{IsRoot, Stack}
 use Rattle.gib_machine.specs.Levels.{lefts}
-use Rattle.gib_weave.specs.Sound.{counts, AtRest, means_why, unwinds, IsAnswer, at_term, over, Safe, rests, moves, silent}
-use Rattle.gib_weave.proofs.Move.{with_var, with_dest, HasAll-set, HasAll-dest, keeps_dest, IsDest-bind, IsDest-more, all_under_bind, type_more, covers_more, covers_head, rest_code_put}
+use Rattle.gib_weave.specs.Sound.{counts, AtRest, means_why, unwinds, IsAnswer, at_term, over, Safe, rests, moves, silent, Moves}
+use Rattle.gib_weave.proofs.Move.{with_var, with_dest, HasAll-set, HasAll-dest, keeps_dest, IsDest-bind, IsDest-more, all_under_bind, type_more, covers_more, covers_head, rest_code_put, HasAll-moved, Stack-moved, goes-refl, tree_settled, settled_there, other, with_line, HasAll-line, Matches-line, IsDest-line, given_bind}
+use Rattle.gib_weave.proofs.Basics.{by_test, put-other}
+use Rattle.gib_weave.proofs.Tolds.{Tells, none_some, some_is, told_known, told_still, told_now, settled_slot, settled_not_held, moved_told, all_moved_told, gives_back, over_tells}
 use Rattle.gib_weave.proofs.Lines.{follows}
 use Rattle.gib_weave.proofs.Uses.{sides_bound}
 use Rattle.gib_weave.proofs.Places.{Apart-less, finished_covers, finished_rooms}
@@ -32,12 +42,13 @@ use Rattle.gib_weave.proofs.Places.{Apart-less, finished_covers, finished_rooms}
 -- The level left, the `par`s, whether the task is a stolen side, and how many words a frame may have.
 pub record Levels : Type 0 where
   pub level : ℕ
+  pub gave : List ℕ
   pub pars : List Par
   pub side : Option ℕ
   pub width : ℕ
 
 abbrev pub at_rest : Levels → Ty → ℕ → ℕ → Slots → List Frame → ℕ → List OpenRegion → List ℕ → State
-at_rest lv ty rm ip sl fs n rs ts = record { room = rm; width = lv.width; ip = ip; words = sl; frames = fs; depth = n; level = lv.level; pars = lv.pars; side = lv.side; regions = rs; tails = ts; result = ty; doing = Ready }
+at_rest lv ty rm ip sl fs n rs ts = record { room = rm; width = lv.width; gave = lv.gave; ip = ip; words = sl; frames = fs; depth = n; level = lv.level; pars = lv.pars; side = lv.side; regions = rs; tails = ts; result = ty; doing = Ready }
 
 -- what is a task's own may be more
 pub widen : {core : CoreTree} {code : CodeTree} {owed : Owed} {own own' : Owned} {sh : Share} {s : Store} {m : State} {u : Rest} {c : Ctx} {k : Kont} → ((q : ℕ) → own q ≤ own' q) → AtRest core code owed own sh s m u c k → AtRest core code owed own' sh s m u c k
@@ -49,6 +60,7 @@ widen h at = record {
   matches = at.matches;
   stack = at.stack;
   under = at.under;
+  given = at.given;
   calm = at.calm;
   places = record { mine = λ q. let x = at.places.mine q in let y = h q in omega arith; once = at.places.once; fresh = at.places.fresh };
   rooms = at.rooms;
@@ -82,7 +94,7 @@ clash h = absurd cc
 
 pub lefts_rest : (core : CoreTree) (d n : ℕ) (u : Rest) (env : Environment) (ps : List Par) (ds : List Debt) → lefts ps ≡ length ds → lefts (rest_pars u ps) ≡ length (rest_sides core d n u env ds)
 lefts_rest core d n (Plain u) env ps ds h = h
-lefts_rest core d n (Part s r) env ps ds h = lefts_rest core d n r env ps ds h
+lefts_rest core d n (Part wi s r) env ps ds h = lefts_rest core d n r env ps ds h
 lefts_rest core d n (Meet p s u) env ps ds h = go p.left
   where
     go : (b : Bool) → cond b (suc (lefts ps)) (lefts ps) ≡ length (cond b (debt_of core d n s env ∷ ds) ds)
@@ -102,8 +114,15 @@ lefts_sides core d n (KLast l y s) = refl
 lefts_sides core d n (KHere l x s u c k) = lefts_rest core d n u c.env (pars_of k) (sides_of core d (level_after n u) k) (lefts_sides core d (level_after n u) k)
 lefts_sides core d n (KRegion l x s u c k) = lefts_rest core d n u c.env (pars_of k) (sides_of core d (level_after n u) k) (lefts_sides core d (level_after n u) k)
 lefts_sides core d n (KScalar l x ty u c k) = lefts_rest core d n u c.env (pars_of k) (sides_of core d (level_after n u) k) (lefts_sides core d (level_after n u) k)
-lefts_sides core d n (KCall k) = lefts_sides core (suc d) n k
-lefts_sides core d n (KCallScalar x ty u c k) = lefts_rest core (suc d) n u c.env (pars_of k) (sides_of core (suc d) (level_after n u) k) (lefts_sides core (suc d) (level_after n u) k)
+lefts_sides core d n (KCall gs wc k) = lefts_sides core (suc d) n k
+lefts_sides core d n (KCallScalar x ty gs u c k) = lefts_rest core (suc d) n u c.env (pars_of k) (sides_of core (suc d) (level_after n u) k) (lefts_sides core (suc d) (level_after n u) k)
+
+-- a tree stands where its variable was set
+pub held_end : {laid : LaidOut} {s : Store} {t a : ℕ} {v : Datum} (sl : Slots) (x : ℕ) → both sl x ≡ record { word = a; last = 0 } → EndWord laid s t a (slot sl x) (end_at sl x) v
+held_end {laid} {s} {t} {a} {v} sl x h =
+    let p = ap (λ (b : WithEnd). b.word) h in
+    let q = ap (λ (b : WithEnd). b.last) h in
+    record { near = λ e. subst (λ (z : ℕ). Turns s a z) (sym p) there; ends = λ e. absurd (omega (arith, e, q)) }
 
 no_length : (ds : List Debt) → length ds ≡ 0 → ds ≡ []
 no_length [] h = refl
@@ -125,6 +144,61 @@ module _ (core : CoreTree) (code : CodeTree) (owed : Owed) (own : Owned) (sh : S
       go true q h i = rests (unwinds record { why = why; unwinding = refl; par = p; outer = ps; pars = refl; left = q; count = h; owes = e })
       go false q h i = i h
 
+pub first_at : {code : CodeTree} {l z : ℕ} {i : Instruction} {is : List Instruction} → AreAt code l (i ∷ is) z → IsAt code l i
+first_at (one_more e r) = e
+
+pub rest_at : {code : CodeTree} {l z : ℕ} {i : Instruction} {is : List Instruction} → AreAt code l (i ∷ is) z → AreAt code (l + 1) is z
+rest_at (one_more e r) = r
+
+pub or_none : (a : Bool) → (a || false) ≡ true → a ≡ true
+or_none true e = refl
+or_none false e = e
+
+got_also : (a b c d : Bool) → (a || ((b && c) || d)) ≡ true → ((a || (b && c)) || d) ≡ true
+got_also true b c d e = refl
+got_also false b c d e = e
+
+-- Between a term and what follows it: what is known of the frame, and what is told.
+pub record Led (core : CoreTree) (code : CodeTree) (s : Store) (sl : Slots) (fs : List Frame) (rs : List OpenRegion) (c : Ctx) (k : Kont) (a : ℕ) (T : ℕ → Bool) : Type 0 where
+  pub vars : HasAll code.laid s sl c
+  pub stack : Stack core code s k sl fs a rs
+  pub knows : (q : ℕ) → T q ≡ true → IsTold sl c.scope q
+
+pub led_less : (core : CoreTree) (code : CodeTree) (s : Store) (sl : Slots) (fs : List Frame) (rs : List OpenRegion) (c : Ctx) (k : Kont) (a : ℕ) (T U : ℕ → Bool) → ((q : ℕ) → U q ≡ true → T q ≡ true) → Led core code s sl fs rs c k a T → Led core code s sl fs rs c k a U
+led_less core code s sl fs rs c k a T U f h = record { vars = h.vars; stack = h.stack; knows = λ q e. h.knows q (f q e) }
+
+-- x is told z, and is known to be where that is not 0
+led_told : (core : CoreTree) (code : CodeTree) (s : Store) (sl : Slots) (fs : List Frame) (rs : List OpenRegion) (c : Ctx) (k : Kont) (a x z : ℕ) (T U : ℕ → Bool) → is_settled (c.scope x) ≡ true → Tells code.laid s (c.scope x) (slot sl x) (value_in c.env x) z → AllUnder c.scope c.env k
+    → ((q : ℕ) → U q ≡ true → (q ≡ x → ⊥) → T q ≡ true) → (U x ≡ true → 0 < z) → Led core code s sl fs rs c k a T → Led core code s (told sl x z) fs rs c k a U
+led_told core code s sl fs rs c k a x z T U st tl un less some h = record {
+  vars = HasAll-moved (moved_told code.laid s sl c x z lt (told_known code.laid s (c.scope x) (c.scope x) (slot sl x) (end_at sl x) z (value_in c.env x) (value_in c.env x) (c.pl x) (goes-refl (c.scope x)) (λ q. refl) tl)) h.vars;
+  stack = Stack-moved core code s k sl (told sl x z) fs a rs (all_moved_told code.laid s sl c.scope c.env k x z lt (settled_not_held (c.scope x) st) tl un) h.stack;
+  knows = λ q. by_test q x (λ b. U q ≡ true → IsTold (told sl x z) c.scope q)
+      (λ e u. subst (λ (y : ℕ). IsTold (told sl x z) c.scope y) (sym e) (record { settled = st; some = told_now sl x z lt (some (subst (λ (y : ℕ). U y ≡ true) e u)) }))
+      (λ e u. let t = h.knows q (less q u e) in record { settled = t.settled; some = told_still sl x z q lt t.some });
+}
+  where
+    lt : x < length sl.ends
+    lt = let w = h.vars.wide x (settled_slot (c.scope x) st) in let e = h.vars.even in omega (arith, w, e)
+
+abbrev and_is : (ℕ → Bool) → ℕ → Bool → ℕ → Bool
+and_is T x b q = T q || (x == q && b)
+
+also_less : (T : ℕ → Bool) (x q : ℕ) → and_also T x q ≡ true → (q ≡ x → ⊥) → T q ≡ true
+also_less T x q = by_test q x (λ b. (T q || b) ≡ true → (q ≡ x → ⊥) → T q ≡ true) (λ e h ne. absurd (ne e)) (λ e h ne. or_none (T q) h)
+
+is_less : (T : ℕ → Bool) (x q : ℕ) (c : Bool) → (T q || (x == q && c)) ≡ true → (q ≡ x → ⊥) → T q ≡ true
+is_less T x q c = by_test x q (λ b. (T q || (b && c)) ≡ true → (q ≡ x → ⊥) → T q ≡ true) (λ e h ne. absurd (ne (sym e))) (λ e h ne. or_none (T q) h)
+
+-- what a side told, in the line that waited for it
+pub told_side : (sl : Slots) (c ic : Ctx) (x : ℕ) (so : Sort) (v : Datum) (at : ℕ) → c.scope x ≡ Absent → ((q : ℕ) → c.line.pending q ≡ true → is_settled (c.scope q) ≡ true) → ((q : ℕ) → c.line.pending q ≡ true → IsTold sl ic.scope q) → ((q : ℕ) → c.line.told q ≡ true → IsTold sl (put c.scope x so) q)
+    → (q : ℕ) → (c.line.told q || c.line.pending q) ≡ true → IsTold sl (put c.scope x so) q
+told_side sl c ic x so v at n asked inner before q = go (c.line.told q) refl
+  where
+    go : (b : Bool) → c.line.told q ≡ b → (b || c.line.pending q) ≡ true → IsTold sl (put c.scope x so) q
+    go true e h = before q e
+    go false e h = record { settled = ap is_settled (put-other c.scope x q so (other c.scope q x (settled_there (c.scope q) (asked q h)) n)) ∙ asked q h; some = (inner q h).some }
+
 module _ (core : CoreTree) (code : CodeTree) (owed : Owed) (own : Owned) (sh : Share) (lv : Levels) (ty : Ty) (rm : ℕ) where
   pub step_is : (m : State) (i : Instruction) → m.doing ≡ Ready → IsAt code m.ip i → next code m ≡ begin code m (Some i)
   step_is m i r e = ap (goes_on code m) r ∙ ap (begin code m) e
@@ -132,11 +206,94 @@ module _ (core : CoreTree) (code : CodeTree) (owed : Owed) (own : Owned) (sh : S
   pub silently : {s : Store} {m m' : State} {i : Instruction} → m.doing ≡ Ready → IsAt code m.ip i → begin code m (Some i) ≡ Silent m' → Safe core code owed own sh s m' → Safe core code owed own sh s m
   silently {m = m} {i = i} r e b h = moves (silent (step_is m i r e ∙ b) h)
 
+  -- the ends before a return are told, the innermost first
+  pub overs_run : (s : Store) (fs : List Frame) (n : ℕ) (rs : List OpenRegion) (ts : List ℕ) (c : Ctx) (k : Kont) (a z : ℕ) (is : List Instruction) (os : List Over) (T : ℕ → Bool) (ip : ℕ) (sl : Slots) → AreAt code ip (over_all os ++ is) z → AllClose code.laid s c os → Runs T os → AllUnder c.scope c.env k → Led core code s sl fs rs c k a T
+      → ((m : ℕ) (sl' : Slots) → AreAt code m is z → sl'.vars ≡ sl.vars → Led core code s sl' fs rs c k a (finally T os) → Safe core code owed own sh s (at_rest lv ty rm m sl' fs n rs ts)) → Safe core code owed own sh s (at_rest lv ty rm ip sl fs n rs ts)
+  overs_run s fs n rs ts c k a z is [] T ip sl e cl ru un h go = go ip sl e refl h
+  overs_run s fs n rs ts c k a z is (o ∷ os) T ip sl e cl ru un h go =
+      let f = h.knows o.field ru.0 in
+      silently {m = at_rest lv ty rm ip sl fs n rs ts} refl (first_at e) refl
+      (overs_run s fs n rs ts c k a z is os (and_also T o.tree) (ip + 1) (told sl o.tree (end_at sl o.field)) (rest_at e) cl.1 ru.1 un
+      (led_told core code s sl fs rs c k a o.tree (end_at sl o.field) T (and_also T o.tree) (ap is_settled cl.0.head) (over_tells code.laid s sl c o h.vars cl.0 f) un (λ q. also_less T o.tree q) (λ q. f.some) h) go)
+
+  pub overs_move : (s : Store) (fs : List Frame) (n : ℕ) (rs : List OpenRegion) (ts : List ℕ) (c : Ctx) (k : Kont) (a z : ℕ) (is : List Instruction) (os : List Over) (T : ℕ → Bool) (ip : ℕ) (sl : Slots) → AreAt code ip (over_all os ++ is) z → AllClose code.laid s c os → Runs T os → AllUnder c.scope c.env k → Led core code s sl fs rs c k a T
+      → ((m : ℕ) (sl' : Slots) → AreAt code m is z → sl'.vars ≡ sl.vars → Led core code s sl' fs rs c k a (finally T os) → Moves core code owed own sh s (at_rest lv ty rm m sl' fs n rs ts)) → Moves core code owed own sh s (at_rest lv ty rm ip sl fs n rs ts)
+  overs_move s fs n rs ts c k a z is [] T ip sl e cl ru un h go = go ip sl e refl h
+  overs_move s fs n rs ts c k a z is (o ∷ os) T ip sl e cl ru un h go =
+      let f = h.knows o.field ru.0 in
+      silent (step_is (at_rest lv ty rm ip sl fs n rs ts) (OverEnd o.tree o.field) refl (first_at e))
+      (overs_run s fs n rs ts c k a z is os (and_also T o.tree) (ip + 1) (told sl o.tree (end_at sl o.field)) (rest_at e) cl.1 ru.1 un
+      (led_told core code s sl fs rs c k a o.tree (end_at sl o.field) T (and_also T o.tree) (ap is_settled cl.0.head) (over_tells code.laid s sl c o h.vars cl.0 f) un (λ q. also_less T o.tree q) (λ q. f.some) h) (λ m sl' e' sv hl. moves (go m sl' e' sv hl)))
+
+  -- a variable is told what the call gave for its j-th parameter, where that is ended
+  got_one : (s : Store) (fs : List Frame) (n : ℕ) (rs : List OpenRegion) (ts : List ℕ) (c : Ctx) (k : Kont) (a z x j : ℕ) (is : List Instruction) (T : ℕ → Bool) (ip : ℕ) (sl : Slots) (b : Bool) → AreAt code ip (cond b (Got x j ∷ is) is) z → is_settled (c.scope x) ≡ true → Tells code.laid s (c.scope x) (slot sl x) (value_in c.env x) (get_or lv.gave j 0) → (b ≡ true → 0 < get_or lv.gave j 0)
+      → AllUnder c.scope c.env k → Led core code s sl fs rs c k a T
+      → ((m : ℕ) (sl' : Slots) → AreAt code m is z → sl'.vars ≡ sl.vars → Led core code s sl' fs rs c k a (and_is T x b) → Safe core code owed own sh s (at_rest lv ty rm m sl' fs n rs ts)) → Safe core code owed own sh s (at_rest lv ty rm ip sl fs n rs ts)
+  got_one s fs n rs ts c k a z x j is T ip sl false e st tl some un h go = go ip sl e refl (led_less core code s sl fs rs c k a T (and_is T x false) (λ q. by_test x q (λ b. (T q || (b && false)) ≡ true → T q ≡ true) (λ e i. or_none (T q) i) (λ e i. or_none (T q) i)) h)
+  got_one s fs n rs ts c k a z x j is T ip sl true e st tl some un h go =
+      silently {m = at_rest lv ty rm ip sl fs n rs ts} refl (first_at e) refl
+      (go (ip + 1) (told sl x (get_or lv.gave j 0)) (rest_at e) refl (led_told core code s sl fs rs c k a x (get_or lv.gave j 0) T (and_is T x true) st tl un (λ q. is_less T x q true) (λ q. some refl) h))
+
+  -- the ends that a call gave are told to its arguments, in their order
+  pub gots_run : (es : List Ended) (f : ℕ) (s : Store) (fs : List Frame) (n : ℕ) (rs : List OpenRegion) (ts : List ℕ) (o c : Ctx) (k : Kont) (a : ℕ) (words0 : Slots) (xs : List Atom) (ps : List Ty) (j ip z : ℕ) (sl : Slots) (T : ℕ → Bool) → AreAt code ip (got_from es f j xs) z → AtomsFit o.scope xs ps
+      → ((y : ℕ) → is_settled (o.scope y) ≡ true → (c.scope y ≡ o.scope y) × (slot sl y ≡ slot words0 y) × (value_in c.env y ≡ value_in o.env y))
+      → Gave code.laid s lv.gave j (givens ps (words words0 (operands xs)) (map (value o.env) xs)) → ((q : ℕ) → has_ended es f q ≡ true → 0 < get_or lv.gave q 0) → AllUnder c.scope c.env k → Led core code s sl fs rs c k a T
+      → ((sl' : Slots) → sl'.vars ≡ sl.vars → Led core code s sl' fs rs c k a (λ q. T q || call_ends es f j xs (record { 0 = q })) → Safe core code owed own sh s (at_rest lv ty rm z sl' fs n rs ts)) → Safe core code owed own sh s (at_rest lv ty rm ip sl fs n rs ts)
+  gots_run es f s fs n rs ts o c k a words0 [] [] j ip _ sl T none fit know gave asked un h go = go sl refl (led_less core code s sl fs rs c k a T (λ q. T q || false) (λ q e. or_none (T q) e) h)
+  gots_run es f s fs n rs ts o c k a words0 [] (p ∷ ps) j ip z sl T e fit know gave asked un h go = absurd fit
+  gots_run es f s fs n rs ts o c k a words0 (x ∷ xs) [] j ip z sl T e fit know gave asked un h go = absurd fit
+  gots_run es f s fs n rs ts o c k a words0 (atom.Whole i ∷ xs) (Whole ∷ ps) j ip z sl T e fit know gave asked un h go = gots_run es f s fs n rs ts o c k a words0 xs ps (suc j) ip z sl T e fit.1 know gave asked un h go
+  gots_run es f s fs n rs ts o c k a words0 (atom.Whole i ∷ xs) (Truth ∷ ps) j ip z sl T e fit know gave asked un h go = absurd fit.0
+  gots_run es f s fs n rs ts o c k a words0 (atom.Whole i ∷ xs) (Tree t ∷ ps) j ip z sl T e fit know gave asked un h go = absurd fit.0
+  gots_run es f s fs n rs ts o c k a words0 (atom.Truth b ∷ xs) (Whole ∷ ps) j ip z sl T e fit know gave asked un h go = absurd fit.0
+  gots_run es f s fs n rs ts o c k a words0 (atom.Truth b ∷ xs) (Truth ∷ ps) j ip z sl T e fit know gave asked un h go = gots_run es f s fs n rs ts o c k a words0 xs ps (suc j) ip z sl T e fit.1 know gave asked un h go
+  gots_run es f s fs n rs ts o c k a words0 (atom.Truth b ∷ xs) (Tree t ∷ ps) j ip z sl T e fit know gave asked un h go = absurd fit.0
+  gots_run es f s fs n rs ts o c k a words0 (atom.Variable x ∷ xs) (Whole ∷ ps) j ip z sl T e fit know gave asked un h go =
+      let w = know x.0 (ap is_settled fit.0) in
+      got_one s fs n rs ts c k a z x.0 j (got_from es f (suc j) xs) T ip sl (has_ended es f j) e (ap is_settled w.0 ∙ (ap is_settled fit.0))
+      (λ u g p. absurd (none_some (sym (ap tree_type (w.0 ∙ fit.0)) ∙ g)))
+      (asked j) un h
+      (λ m sl1 e1 sv h1. gots_run es f s fs n rs ts o c k a words0 xs ps (suc j) m z sl1 (and_is T x.0 (has_ended es f j)) e1 fit.1 (λ y g. let i = know y g in (i.0, ap (λ (q : List ℕ). get_or q y 0) sv ∙ i.1, i.2)) gave asked un h1
+      (λ sl2 sv2 h2. go sl2 (sv2 ∙ sv) (led_less core code s sl2 fs rs c k a (λ q. and_is T x.0 (has_ended es f j) q || call_ends es f (suc j) xs (record { 0 = q })) (λ q. T q || call_ends es f j (atom.Variable x ∷ xs) (record { 0 = q })) (λ q i. got_also (T q) (x.0 == q) (has_ended es f j) (call_ends es f (suc j) xs (record { 0 = q })) i) h2)))
+  gots_run es f s fs n rs ts o c k a words0 (atom.Variable x ∷ xs) (Truth ∷ ps) j ip z sl T e fit know gave asked un h go =
+      let w = know x.0 (ap is_settled fit.0) in
+      got_one s fs n rs ts c k a z x.0 j (got_from es f (suc j) xs) T ip sl (has_ended es f j) e (ap is_settled w.0 ∙ (ap is_settled fit.0))
+      (λ u g p. absurd (none_some (sym (ap tree_type (w.0 ∙ fit.0)) ∙ g)))
+      (asked j) un h
+      (λ m sl1 e1 sv h1. gots_run es f s fs n rs ts o c k a words0 xs ps (suc j) m z sl1 (and_is T x.0 (has_ended es f j)) e1 fit.1 (λ y g. let i = know y g in (i.0, ap (λ (q : List ℕ). get_or q y 0) sv ∙ i.1, i.2)) gave asked un h1
+      (λ sl2 sv2 h2. go sl2 (sv2 ∙ sv) (led_less core code s sl2 fs rs c k a (λ q. and_is T x.0 (has_ended es f j) q || call_ends es f (suc j) xs (record { 0 = q })) (λ q. T q || call_ends es f j (atom.Variable x ∷ xs) (record { 0 = q })) (λ q i. got_also (T q) (x.0 == q) (has_ended es f j) (call_ends es f (suc j) xs (record { 0 = q })) i) h2)))
+  gots_run es f s fs n rs ts o c k a words0 (atom.Variable x ∷ xs) (Tree t ∷ ps) j ip z sl T e fit know gave asked un h go =
+      let w = know x.0 (tree_settled (o.scope x.0) t.0 fit.0) in
+      got_one s fs n rs ts c k a z x.0 j (got_from es f (suc j) xs) T ip sl (has_ended es f j) e (ap is_settled w.0 ∙ (tree_settled (o.scope x.0) t.0 fit.0))
+      (λ u g p. subst (λ (q : ℕ). Dec code.laid s (slot sl x.0) q (value_in c.env x.0) (get_or lv.gave j 0)) (some_is (sym fit.0 ∙ (sym (ap tree_type w.0) ∙ g))) (subst (λ (q : ℕ). Dec code.laid s q t.0 (value_in c.env x.0) (get_or lv.gave j 0)) (sym w.1) (subst (λ (q : Datum). Dec code.laid s (slot words0 x.0) t.0 q (get_or lv.gave j 0)) (sym w.2) (gave.0 p))))
+      (asked j) un h
+      (λ m sl1 e1 sv h1. gots_run es f s fs n rs ts o c k a words0 xs ps (suc j) m z sl1 (and_is T x.0 (has_ended es f j)) e1 fit.1 (λ y g. let i = know y g in (i.0, ap (λ (q : List ℕ). get_or q y 0) sv ∙ i.1, i.2)) gave.1 asked un h1
+      (λ sl2 sv2 h2. go sl2 (sv2 ∙ sv) (led_less core code s sl2 fs rs c k a (λ q. and_is T x.0 (has_ended es f j) q || call_ends es f (suc j) xs (record { 0 = q })) (λ q. T q || call_ends es f j (atom.Variable x ∷ xs) (record { 0 = q })) (λ q i. got_also (T q) (x.0 == q) (has_ended es f j) (call_ends es f (suc j) xs (record { 0 = q })) i) h2)))
+
+  -- none stand inside a side of a `par`
+  pub gots_all : (wi : Within) (f : ℕ) (s : Store) (fs : List Frame) (n : ℕ) (rs : List OpenRegion) (ts : List ℕ) (o c : Ctx) (k : Kont) (a : ℕ) (words0 : Slots) (xs : List Atom) (ps : List Ty) (ip z : ℕ) (sl : Slots) (T : ℕ → Bool) → AreAt code ip (gots wi core f xs) z → AtomsFit o.scope xs ps
+      → ((y : ℕ) → is_settled (o.scope y) ≡ true → (c.scope y ≡ o.scope y) × (slot sl y ≡ slot words0 y) × (value_in c.env y ≡ value_in o.env y))
+      → Gave code.laid s lv.gave 0 (givens ps (words words0 (operands xs)) (map (value o.env) xs)) → ((q : ℕ) → has_ended (ended core) f q ≡ true → 0 < get_or lv.gave q 0) → AllUnder c.scope c.env k → Led core code s sl fs rs c k a T
+      → ((sl' : Slots) → sl'.vars ≡ sl.vars → Led core code s sl' fs rs c k a (λ q. T q || call_tells wi core f xs q) → Safe core code owed own sh s (at_rest lv ty rm z sl' fs n rs ts)) → Safe core code owed own sh s (at_rest lv ty rm ip sl fs n rs ts)
+  gots_all wi f s fs n rs ts o c k a words0 xs ps ip z sl T e fit know gave asked un h go = by_par wi.par e go
+    where
+      stay : {l m : ℕ} → AreAt code l [] m → Safe core code owed own sh s (at_rest lv ty rm m sl fs n rs ts) → Safe core code owed own sh s (at_rest lv ty rm l sl fs n rs ts)
+      stay none i = i
+
+      by_par : (b : Bool) → AreAt code ip (cond b [] (got_from (ended core) f 0 xs)) z
+          → ((sl' : Slots) → sl'.vars ≡ sl.vars → Led core code s sl' fs rs c k a (λ q. T q || cond b false (call_ends (ended core) f 0 xs (record { 0 = q }))) → Safe core code owed own sh s (at_rest lv ty rm z sl' fs n rs ts)) → Safe core code owed own sh s (at_rest lv ty rm ip sl fs n rs ts)
+      by_par true r g = stay r (g sl refl (led_less core code s sl fs rs c k a T (λ q. T q || false) (λ q e. or_none (T q) e) h))
+      by_par false r g = gots_run (ended core) f s fs n rs ts o c k a words0 xs ps 0 ip z sl T r fit know gave asked un h g
+
   -- the tree v of the type t stands at a, and the code of what follows a term is next
-  pub record Stood (s : Store) (ip : ℕ) (sl : Slots) (fs : List Frame) (n : ℕ) (rs : List OpenRegion) (ts : List ℕ) (k : Kont) (t : ℕ) (v : Datum) (a : ℕ) : Type 0 where
-    pub ends : IsAt code ip (ending (end_of k))
+  pub record Stood (s : Store) (ip : ℕ) (sl : Slots) (fs : List Frame) (n : ℕ) (rs : List OpenRegion) (ts : List ℕ) (c : Ctx) (told : ℕ → Bool) (k : Kont) (t : ℕ) (v : Datum) (a : ℕ) : Type 0 where
+    pub until : ℕ
+    pub ends : AreAt code ip (ending (end_of c.line.overs k)) until
+    pub under : AllUnder c.scope c.env k
+    pub given : AreGiven c 0 (given_of k)
+    pub meets : Meets (needs_of k) told c.line.overs
+    pub led : Led core code s sl fs rs c k a told
     pub tree : due k ≡ Tree (record { 0 = t })
-    pub stack : Stack core code s k sl fs a rs
     pub dec : Dec code.laid s a t v (cursor rs)
     pub places : Apart own s (λ q. kont_covers code.laid k q + (rest_covers rs q + tail_covers ts q))
     pub rooms : HaveRoom rs
@@ -165,27 +322,31 @@ module _ (core : CoreTree) (code : CodeTree) (owed : Owed) (own : Owned) (sh : S
   tree_answer s Truth t w v e h o = absurd cc
   tree_answer s (Tree u) t w v e h o = (t, v, e, sym o, h)
 
-  pub ends : (k : Kont) (s : Store) (ip : ℕ) (sl : Slots) (fs : List Frame) (n : ℕ) (rs : List OpenRegion) (ts : List ℕ) (t : ℕ) (v : Datum) (a : ℕ) → Stood s ip sl fs n rs ts k t v a → Safe core code owed own sh s (at_rest lv ty rm ip sl fs n rs ts)
-  ends (KEnd u) s ip sl [] n rs ts t v a h =
-      silently refl h.ends refl (rests (over refl (sym h.sides) (subst (λ (z : Ty). IsAnswer code.laid s z owed.all (Rattle.gib_code.specs.declared.answer.Answer.TheVariants.At (Rattle.gib_machine.specs.Machine.start_of rs))) (sym h.type) (at_root s a rs t v u h.tree h.stack h.dec h.owes))))
-  ends (KEnd u) s ip sl (f ∷ fs) n rs ts t v a h = absurd h.stack
-  ends (KSide y u) s ip sl fs n rs ts t v a h = absurd (clash (ap is_scalar h.tree))
-  ends (KLast l y q) s ip sl [] n [] ts t v a h = absurd h.stack
-  ends (KLast l y q) s ip sl [] n (r ∷ []) ts t v a h =
+module _ (core : CoreTree) (code : CodeTree) (owed : Owed) (own : Owned) (sh : Share) where
+  pub ends : (lv : Levels) (ty : Ty) (rm : ℕ) (k : Kont) (s : Store) (ip : ℕ) (sl : Slots) (fs : List Frame) (n : ℕ) (rs : List OpenRegion) (ts : List ℕ) (c : Ctx) (T : ℕ → Bool) (t : ℕ) (v : Datum) (a : ℕ) → Stood core code owed own sh lv ty rm s ip sl fs n rs ts c T k t v a → Safe core code owed own sh s (at_rest lv ty rm ip sl fs n rs ts)
+  ends lv ty rm (KEnd u) s ip sl [] n rs ts ic T t v a h =
+      overs_run core code owed own sh lv ty rm s [] n rs ts ic (KEnd u) a h.until (Return ∷ []) ic.line.overs T ip sl h.ends h.led.vars.closes h.meets.0 h.under h.led (λ m sl' e sv hl. silently core code owed own sh lv ty rm {m = at_rest lv ty rm m sl' [] n rs ts} refl (first_at e) refl (rests (over refl (sym h.sides) (subst (λ (z : Ty). IsAnswer code.laid s z owed.all (Rattle.gib_code.specs.declared.answer.Answer.TheVariants.At (Rattle.gib_machine.specs.Machine.start_of rs))) (sym h.type) (at_root core code owed own sh lv ty rm s a rs t v u h.tree h.led.stack h.dec h.owes)))))
+  ends lv ty rm (KEnd u) s ip sl (f ∷ fs) n rs ts ic T t v a h = absurd h.led.stack
+  ends lv ty rm (KSide y u) s ip sl fs n rs ts ic T t v a h = absurd (clash (ap is_scalar h.tree))
+  ends lv ty rm (KLast l y q) s ip sl [] n [] ts ic T t v a h = absurd h.led.stack
+  ends lv ty rm (KLast l y q) s ip sl [] n (r ∷ []) ts ic T t v a h =
       let at = at_rest lv ty rm l sl [] n (r ∷ []) ts in
-      silently refl h.ends refl (silently {m = at} refl h.stack.0 (ap (backs_at at) h.pars ∙ ap (ends_side at) h.side)
-      (rests (over refl (sym h.sides) (subst (λ (z : Ty). IsAnswer code.laid s owed.ty owed.all (answer_of z (slot sl y))) (h.type ∙ sym h.result) (tree_answer s owed.ty t (slot sl y) v (h.type ∙ h.tree) (subst (λ (z : ℕ). StandsAt code.laid s t z v) (sym h.stack.1) (record { end = r.cur; dec = h.dec })) h.owes)))))
-  ends (KLast l y q) s ip sl [] n (r ∷ r' ∷ rs) ts t v a h = absurd h.stack
-  ends (KLast l y q) s ip sl (f ∷ fs) n rs ts t v a h = absurd h.stack
-  ends (KHere l x s' u c k) s ip sl fs n rs ts t v a h =
-      let w = h.stack.2 in
+      silently core code owed own sh lv ty rm refl (first_at h.ends) refl (silently core code owed own sh lv ty rm {m = at} refl h.led.stack.0 (ap (backs_at at) h.pars ∙ ap (ends_side at) h.side)
+      (rests (over refl (sym h.sides) (subst (λ (z : Ty). IsAnswer code.laid s owed.ty owed.all (answer_of z (slot sl y))) (h.type ∙ sym h.result) (tree_answer core code owed own sh lv ty rm s owed.ty t (slot sl y) v (h.type ∙ h.tree) (subst (λ (z : ℕ). StandsAt code.laid s t z v) (sym h.led.stack.1) (record { end = r.cur; dec = h.dec })) h.owes)))))
+  ends lv ty rm (KLast l y q) s ip sl [] n (r ∷ r' ∷ rs) ts ic T t v a h = absurd h.led.stack
+  ends lv ty rm (KLast l y q) s ip sl (f ∷ fs) n rs ts ic T t v a h = absurd h.led.stack
+  ends lv ty rm (KHere l x s' u c k) s ip sl fs n rs ts ic T t v a h =
+      let w = h.led.stack.2 in
       let dec : Dec code.laid s a s' v (cursor rs) = subst (λ (z : ℕ). Dec code.laid s a z v (cursor rs)) (sym (same_tree s' t h.tree)) h.dec in
-      let place : IsPlaced code.laid s s' (slot sl x) a v = record { same = h.stack.0; stands = record { end = cursor rs; dec = dec } } in
+      let place : IsPlaced code.laid s s' (slot sl x) a v = record { same = ap (λ (b : WithEnd). b.word) h.led.stack.0; stands = record { end = cursor rs; dec = dec } } in
+      let ln = tell_line c.line.pending c.line in
       let c1 = with_var c x (Placed s') v a in
-      let c2 = with_dest c1 (more c.dest x) in
-      silently refl h.ends refl (rests (at_term {u = u} {c = c2} {k = k} record {
+      let c1' = with_line c1 ln in
+      let c2 = with_dest c1' (more c.dest x) in
+      let hs = HasAll-set code.laid s sl c x (Placed s') v a w.new place (held_end sl x h.led.stack.0) w.matches.vars in
+      silently core code owed own sh lv ty rm refl (first_at h.ends) refl (rests (at_term {u = u} {c = c2} {k = k} record {
         ready = refl;
-        low = rest_code_put core code c.scope l u (end_of k) x (Placed s') refl w.low;
+        low = rest_code_put core code c.line.within c.scope l u (end_of c.line.overs k) x (Placed s') refl w.low;
         fits = w.fits;
         free = follows x u k w.free;
         pars = h.pars;
@@ -193,11 +354,12 @@ module _ (core : CoreTree) (code : CodeTree) (owed : Owed) (own : Owned) (sh : S
         sides = sides_bound core n lv.level x v u c.env k (sides_of core n (level_after lv.level u) k) w.free ∙ h.sides;
         kind = type_more c.dest x ∙ w.kind;
         matches = record {
-          vars = HasAll-dest {c = c1} {c' = c2} refl (keeps_dest c1 (more c.dest x)) (HasAll-set code.laid s sl c x (Placed s') v a w.new place w.matches.vars) (λ y. refl) (λ y. refl) (λ y. refl);
-          dest = IsDest-more code.laid s sl c a (cursor rs) x s' v c.dest w.new h.stack.1 dec w.matches.dest;
+          vars = let hl = HasAll-line {c = c1} ln (told_side sl c ic x (Placed s') v a w.new w.asked (λ q e. h.led.knows q (h.meets q e)) hs.told) hs.closes hs in HasAll-dest {c = c1'} {c' = c2} refl (keeps_dest c1' (more c.dest x)) hl (λ y. refl) (λ y. refl) (λ y. refl) hl.told hl.closes;
+          dest = IsDest-line code.laid s sl (with_dest c1 (more c.dest x)) (cursor rs) (more c.dest x) ln (IsDest-more code.laid s sl c a (cursor rs) x s' v c.dest w.new h.led.stack.1 dec w.matches.dest);
         };
-        stack = h.stack.3;
+        stack = h.led.stack.3;
         under = all_under_bind c.scope c.env k x (Placed s') v w.new w.under;
+        given = given_bind c x (Placed s') v a (given_of k) w.new w.given;
         calm = w.calm;
         places = Apart-less h.places (λ q. let e = covers_more code.laid c c2 c.dest x q refl in omega arith);
         rooms = h.rooms;
@@ -211,24 +373,25 @@ module _ (core : CoreTree) (code : CodeTree) (owed : Owed) (own : Owned) (sh : S
         nests = h.all_room.0;
         all_room = h.all_room.1;
       }))
-  ends (KRegion l x s' u c k) s ip sl fs n [] ts t v a h = absurd h.stack
-  ends (KRegion l x s' u c k) s ip sl fs n (r ∷ rs) ts t v a h =
-      let w = h.stack.3 in
+  ends lv ty rm (KRegion l x s' u c k) s ip sl fs n [] ts ic T t v a h = absurd h.led.stack
+  ends lv ty rm (KRegion l x s' u c k) s ip sl fs n (r ∷ rs) ts ic T t v a h =
+      let w = h.led.stack.3 in
       let dec : Dec code.laid s a s' v r.cur = subst (λ (z : ℕ). Dec code.laid s a z v r.cur) (sym (same_tree s' t h.tree)) h.dec in
-      let place : IsPlaced code.laid s s' (slot sl x) a v = record { same = h.stack.0; stands = record { end = r.cur; dec = dec } } in
+      let place : IsPlaced code.laid s s' (slot sl x) a v = record { same = ap (λ (b : WithEnd). b.word) h.led.stack.0; stands = record { end = r.cur; dec = dec } } in
       let paid : Paid rs (left_costs core n lv.level u ((x, v) ∷ c.env) k) sh 0 = finish_counted r rs (later_costs core n lv.level (KRegion l x s' u c k) (Gives v)) (left_costs core n lv.level u ((x, v) ∷ c.env) k) sh (record { regions = omega arith; items = omega arith }) h.counted in
-      silently refl h.ends refl (silently refl h.stack.2 refl (counts paid.spends (rests (at_term {u = u} {c = with_var c x (Placed s') v a} {k = k} record {
+      silently core code owed own sh lv ty rm refl (first_at h.ends) refl (silently core code owed own sh lv ty rm refl h.led.stack.2 refl (counts paid.spends (rests (at_term {u = u} {c = with_line (with_var c x (Placed s') v a) (tell_line c.line.pending c.line)} {k = k} record {
         ready = refl;
-        low = rest_code_put core code c.scope (l + 1) u (end_of k) x (Placed s') refl w.low;
+        low = rest_code_put core code c.line.within c.scope (l + 1) u (end_of c.line.overs k) x (Placed s') refl w.low;
         fits = w.fits;
         free = follows x u k w.free;
         pars = h.pars;
         side = h.side;
         sides = sides_bound core n lv.level x v u c.env k (sides_of core n (level_after lv.level u) k) w.free ∙ h.sides;
         kind = w.kind;
-        matches = record { vars = HasAll-set code.laid s sl c x (Placed s') v a w.new place w.matches.vars; dest = IsDest-bind code.laid s sl c (cursor rs) x (Placed s') v a c.dest w.new w.matches.dest };
-        stack = h.stack.4;
+        matches = let hs = HasAll-set code.laid s sl c x (Placed s') v a w.new place (held_end sl x h.led.stack.0) w.matches.vars in Matches-line (tell_line c.line.pending c.line) (told_side sl c ic x (Placed s') v a w.new w.asked (λ q e. h.led.knows q (h.meets q e)) hs.told) hs.closes (record { vars = hs; dest = IsDest-bind code.laid s sl c (cursor rs) x (Placed s') v a c.dest w.new w.matches.dest });
+        stack = h.led.stack.4;
         under = all_under_bind c.scope c.env k x (Placed s') v w.new w.under;
+        given = given_bind c x (Placed s') v a (given_of k) w.new w.given;
         calm = w.calm;
         places = Apart-less h.places (λ q. let e = covers_head code.laid c (with_var c x (Placed s') v a) c.dest q refl in let f = finished_covers r rs ts q in omega arith);
         rooms = h.rooms.1;
@@ -242,9 +405,18 @@ module _ (core : CoreTree) (code : CodeTree) (owed : Owed) (own : Owned) (sh : S
         nests = h.all_room.0;
         all_room = h.all_room.1;
       }))))
-  ends (KScalar l x u' u c k) s ip sl fs n rs ts t v a h = absurd (clash (sym h.stack.0 ∙ ap is_scalar h.tree))
-  ends (KCall k) s ip sl [] n rs ts t v a h = absurd h.stack
-  ends (KCall k) s ip sl (f ∷ fs) n rs ts t v a h =
-      silently refl h.ends refl (ends k s f.back f.words fs (suc n) rs ts t v a record { ends = h.stack.1; tree = h.tree; stack = h.stack.3; dec = h.dec; places = h.places; rooms = h.rooms; tail_rooms = h.tail_rooms; small = h.small; owes = h.owes; sides = h.sides; pars = h.pars; side = h.side; result = h.result; type = h.type; counted = h.counted; all_room = h.all_room })
-  ends (KCallScalar x u' u c k) s ip sl [] n rs ts t v a h = absurd h.stack
-  ends (KCallScalar x u' u c k) s ip sl (f ∷ fs) n rs ts t v a h = absurd (clash (sym h.stack.0 ∙ ap is_scalar h.tree))
+  ends lv ty rm (KScalar l x u' u c k) s ip sl fs n rs ts ic T t v a h = absurd (clash (sym h.led.stack.0 ∙ ap is_scalar h.tree))
+  ends lv ty rm (KCall gs wc k) s ip sl [] n rs ts ic T t v a h = absurd h.led.stack
+  ends lv ty rm (KCall gs wc k) s ip sl (f ∷ fs) n rs ts ic T t v a h =
+      overs_run core code owed own sh lv ty rm s (f ∷ fs) n rs ts ic (KCall gs wc k) a h.until (Return ∷ []) ic.line.overs T ip sl h.ends h.led.vars.closes h.meets.0 h.under h.led
+      (λ m sl' e sv hl.
+      let lv' : Levels = record { level = lv.level; gave = sl'.ends; pars = lv.pars; side = lv.side; width = lv.width } in
+      let st = hl.stack in
+      let b = st.6 in
+      silently core code owed own sh lv ty rm {m = at_rest lv ty rm m sl' (f ∷ fs) n rs ts} refl (first_at e) refl
+      (gots_all core code owed own sh lv' ty rm st.3.within st.3.name s fs (suc n) rs ts wc wc k a f.words st.3.arguments st.3.parameters f.back st.1 f.words wc.line.told st.3.gots st.3.fits (λ y g. (refl, refl, refl))
+      (subst (λ (r : List (Option Given)). Gave code.laid s sl'.ends 0 r) st.3.given (gives_back code.laid s sl' ic 0 gs hl.vars h.given))
+      (λ q g. (hl.knows q (h.meets.1 q (st.3.asked q g))).some) b.under (record { vars = b.vars; stack = st.7; knows = b.vars.told })
+      (λ sl2 sv2 h2. ends lv' ty rm k s st.1 sl2 fs (suc n) rs ts wc (λ q. wc.line.told q || call_tells st.3.within core st.3.name st.3.arguments q) t v a record { until = st.2; ends = st.4; under = b.under; given = b.given; meets = b.meets; led = h2; tree = h.tree; dec = h.dec; places = h.places; rooms = h.rooms; tail_rooms = h.tail_rooms; small = h.small; owes = h.owes; sides = h.sides; pars = h.pars; side = h.side; result = h.result; type = h.type; counted = h.counted; all_room = h.all_room })))
+  ends lv ty rm (KCallScalar x u' gs u c k) s ip sl [] n rs ts ic T t v a h = absurd h.led.stack
+  ends lv ty rm (KCallScalar x u' gs u c k) s ip sl (f ∷ fs) n rs ts ic T t v a h = absurd (clash (sym h.led.stack.0 ∙ ap is_scalar h.tree))

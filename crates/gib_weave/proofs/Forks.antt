@@ -22,12 +22,17 @@ use Rattle.gib_code.specs.Program.{CodeTree, IsAt}
 use Rattle.gib_core.specs.Low as low
 use Rattle.gib_core.specs.Low.{Low, LowSide, End, To, kind_of, Field as StoredField}
 use Rattle.gib_machine.specs.Machine.{times, nesting, widest, Slots, slot, set, Frame, Open as OpenRegion, State, Par, Silent, AtJoin, next, cursor, room, joins_at, backs_at, ends_side, answer_of, side_start, points, ToTree}
+use Rattle.gib_weave.specs.EndWords.{WithEnd, both, HasEnd}
 use Rattle.gib_core.specs.Cost.{Cost, nothing, plus, one_item, one_region}
 use Rattle.gib_weave.proofs.Counts.{Paid, most_then, item_counted, turn_counted, turned_counted, chunk_counted}
-use Rattle.gib_core.specs.Fits.{AloneFits, SideFits, Sort, Scalar, Held, Placed, Scope, Dest, Nowhere, Empty, more, IsDue, cased, side_cased, loosen, Fits}
+use Rattle.gib_core.specs.Ending.{Within, within_par}
+use Rattle.gib_core.specs.Tree as term
+use Rattle.gib_weave.proofs.Lines.{no_told}
+use Rattle.gib_weave.proofs.Move.{with_line, HasAll-line, Matches-line, IsDest-line}
+use Rattle.gib_core.specs.Fits.{AtEnd, Line as FitsLine, new_line, none_of, tell_line, side_tells, AloneFits, SideFits, Sort, Scalar, Held, Placed, Scope, Dest, Nowhere, Empty, more, IsDue, cased, side_cased, loosen, Fits}
 use Rattle.gib_weave.specs.Environment.{Ctx, IsPlaced, StandsAt, Has, HasAll}
 use Rattle.gib_packed.specs.Reaching.{Turns, there, turn as redirected}
-use Rattle.gib_weave.specs.Continuing.{Rest, Plain, Part, Meet, Leave, Last, KSide, KLast, IsInBody, Follows, Next, IsMeet, rest_pars, pars_of, side_of, RestCode, RestFits, result_sort, rest_cased, rest_nest, Kont, end_of, due, root, nest, side_nest, AllCalm, Agrees, IsCode}
+use Rattle.gib_weave.specs.Continuing.{given_of, Rest, Plain, Part, Meet, Leave, Last, KSide, KLast, IsInBody, Follows, Next, IsMeet, rest_pars, pars_of, side_of, RestCode, RestFits, result_sort, rest_cased, rest_nest, Kont, end_of, needs_of, due, root, nest, side_nest, AllCalm, Agrees, IsCode}
 use Rattle.gib_weave.specs.Owing.{debt_of, no_debt, level_after, own_region, link, costs, side_costs, task_costs, Owed, rest_sides, sides_of, rest_means, side_gives, Debt, means, resume}
 use Rattle.gib_weave.specs.Paying.{Share, AtMost, Counted, new_share, cost_after, left_costs, later_costs}
 use Rattle.gib_weave.specs.Places.{within, Owned, with_chunk, AllRoom, head_covers, kont_covers, rest_covers, tail_covers, HaveRoom, TailsHaveRoom, IsSmall, Apart, HasRoom, freed, put_all, AllFresh}
@@ -35,14 +40,14 @@ use Rattle.gib_weave.specs.Stacks.{Stack, Waits}
 use Rattle.gib_weave.specs.Sound.{counts, AtRest, SideSafe, AtTerm, IsAnswer, at_term, over, Safe, rests, moves, Moves, silent, draws}
 use Rattle.gib_weave.proofs.Basics.{put-same, set-same, put_all-holds, put_all-grows, put_all-small}
 use Rattle.gib_weave.proofs.Grow.{Stack-grows, Matches-grows, Dec-grows, Turns-grows}
-use Rattle.gib_weave.proofs.Move.{with_var, with_dest, HasAll-bind, HasAll-set, HasAll-dest, keeps_dest, IsDest-bind, IsDest-more, IsDest-moved, moved_set, all_moved_set, Stack-moved, all_under_bind, type_more, covers_more, covers_head, not_there, absent_slot, is_field, bound-same, code_put, rest_code_put}
+use Rattle.gib_weave.proofs.Move.{given_bind, with_var, with_dest, HasAll-bind, HasAll-set, HasAll-dest, keeps_dest, IsDest-bind, IsDest-more, IsDest-moved, moved_set, all_moved_set, Stack-moved, all_under_bind, type_more, covers_more, covers_head, not_there, absent_slot, is_field, bound-same, code_put, rest_code_put}
 use Rattle.gib_weave.proofs.Places.{Apart-less, Apart-put_all, Apart-fresh, Apart-open, open-grows, open-small, within_front, within_redirect, within_chunk, chunk_room, rest_room}
 use Rattle.gib_weave.proofs.Lines.{follows, holding, HasAll-hold, all_calm_less, from_having}
 use Rattle.gib_weave.proofs.Uses.{side_same, but_new, sides_bound}
 use Rattle.gib_weave.proofs.Items.{safe_putting, moves_putting, safe_turning}
 use Rattle.gib_weave.proofs.Opens.{no_room}
 use Rattle.gib_weave.proofs.Binds.{scalar_answer}
-use Rattle.gib_weave.proofs.Ends.{Levels, at_rest, step_is, silently}
+use Rattle.gib_weave.proofs.Ends.{held_end, Levels, at_rest, step_is, silently}
 
 clash : true ≡ false → ⊥
 clash h = absurd cc
@@ -52,8 +57,8 @@ or_assoc true b c e = refl
 or_assoc false b c e = e
 
 -- What a `par` means: its left side, then its right side, then the term behind it.
-par_means : (core : CoreTree) (n : ℕ) (p : Par) (l r : Side) (u : Term) (env : Environment) → side_uses r (variable_of l) ≡ false → means core n (Then (Both true l r) u) env ≡ rest_means core n (Part l (Meet p r u)) env
-par_means core n p l r u env e = of (side_gives core n l env)
+par_means : (wi : Within) (core : CoreTree) (n : ℕ) (p : Par) (l r : Side) (u : Term) (env : Environment) → side_uses r (variable_of l) ≡ false → means core n (Then (Both true l r) u) env ≡ rest_means core n (Part wi l (Meet p r u)) env
+par_means wi core n p l r u env e = of (side_gives core n l env)
   where
     of : (o : Outcome) → from_there (having o (λ v. having (side_gives core n r env) (λ w. Went (((variable_of r).0, w) ∷ ((variable_of l).0, v) ∷ env)))) (λ q. means core n u q)
         ≡ with_value o (λ v. with_value (side_gives core n r (((variable_of l).0, v) ∷ env)) (λ w. means core n u (((variable_of r).0, w) ∷ ((variable_of l).0, v) ∷ env)))
@@ -66,11 +71,11 @@ par_means core n p l r u env e = of (side_gives core n l env)
 module _ (core : CoreTree) (code : CodeTree) (own : Owned) (ty : Ty) (rm : ℕ) where
   -- behind the fork the left side is next, then the join
   pub par_at : (owed owed' : Owed) (sh sh' : Share) (lv lv' : Levels) (s : Store) (ip m z : ℕ) (sl : Slots) (fs : List Frame) (n : ℕ) (rs : List OpenRegion) (ts : List ℕ) (stored : List StoredField) (l r : Side) (u : Term) (c : Ctx) (k : Kont) (p : Par)
-      → LowSide core code stored (ip + 1) l m → IsAt code m Join → LowSide core code stored (m + 1) r z → IsAt code z Back → IsCode core code c.scope (z + 1) u (end_of k) → Agrees stored c.scope
+      → LowSide core code (within_par c.line.within) stored (ip + 1) l m → IsAt code m Join → LowSide core code (within_par c.line.within) stored (m + 1) r z → IsAt code z Back → IsCode core code c.line.within c.scope (z + 1) u (end_of c.line.overs k) → Agrees stored c.scope
       → p.back ≡ z → p.kind ≡ Rattle.gib_weave.specs.Continuing.side_kind r → p.variable ≡ (variable_of r).0
       → owed.ty ≡ owed'.ty → owed.all ≡ owed'.all → cond p.left (debt_of core n lv'.level r c.env ∷ owed.sides) owed.sides ≡ owed'.sides → lv'.pars ≡ p ∷ lv.pars → lv'.side ≡ lv.side
-      → p.level ≡ lv.level → Counted rs (left_costs core n lv'.level (Part l (Meet p r u)) c.env k) sh'
-      → AtTerm core code owed own sh s (at_rest lv ty (suc rm) ip sl fs n rs ts) (Then (Both true l r) u) c k → AtRest core code owed' own sh' s (at_rest lv' ty rm (ip + 1) sl fs n rs ts) (Part l (Meet p r u)) c k
+      → p.level ≡ lv.level → Counted rs (left_costs core n lv'.level (Part (within_par c.line.within) l (Meet p r u)) c.env k) sh'
+      → AtTerm core code owed own sh s (at_rest lv ty (suc rm) ip sl fs n rs ts) (Then (Both true l r) u) c k → AtRest core code owed' own sh' s (at_rest lv' ty rm (ip + 1) sl fs n rs ts) (Part (within_par c.line.within) l (Meet p r u)) c k
   par_at owed owed' sh sh' lv lv' s ip m z sl fs n rs ts stored l r u c k p ll ej lr eb lu ag pb pk pv tl al sd ps si le counted at = record {
     ready = refl;
     low = (stored, m, ll, ag, record { fields = stored; until = z; join = ej; side = lr; back = eb; next = lu; agree = ag; label = pb; kind = pk; variable = pv });
@@ -79,12 +84,13 @@ module _ (core : CoreTree) (code : CodeTree) (own : Owned) (ty : Ty) (rm : ℕ) 
     matches = at.matches;
     stack = at.stack;
     under = at.under;
-    calm = all_calm_less (cased (Then (Both true l r) u)) (rest_cased (Part l (Meet p r u))) k (λ y h. or_assoc (side_cased l y) (side_cased r y) (cased u y) h) at.calm;
+    given = at.given;
+    calm = all_calm_less (cased (Then (Both true l r) u)) (rest_cased (Part (within_par c.line.within) l (Meet p r u))) k (λ y h. or_assoc (side_cased l y) (side_cased r y) (cased u y) h) at.calm;
     places = at.places;
     rooms = at.rooms;
     tail_rooms = at.tail_rooms;
     small = at.small;
-    owes = sym (ap (resume core n k) (par_means core n p l r u c.env at.fits.0)) ∙ at.owes ∙ al;
+    owes = sym (ap (resume core n k) (par_means (within_par c.line.within) core n p l r u c.env at.fits.0)) ∙ at.owes ∙ al;
     sides = ap (λ (q : ℕ). cond p.left (debt_of core n lv'.level r c.env ∷ sides_of core n q k) (sides_of core n q k)) le ∙ ap (λ (ds : List Debt). cond p.left (debt_of core n lv'.level r c.env ∷ ds) ds) at.sides ∙ sd;
     pars = ps ∙ ap (λ (q : List Par). p ∷ q) at.pars;
     side = si ∙ at.side;
@@ -112,11 +118,11 @@ last_means y env (Gives v) = ap Gives (bound-same env y v)
 nothing_owned : (s : Store) → Apart (λ q. 0) s (λ q. 0)
 nothing_owned s = record { mine = λ q. omega arith; once = λ q. omega arith; fresh = λ q h. absurd (omega (arith, h)) }
 
-abbrev alone : Ctx → Ctx
-alone c = record { scope = c.scope; env = c.env; pl = c.pl; hd = c.hd; dest = Nowhere Whole; front = 0; head = 0 }
+abbrev alone : Within → Ctx → Ctx
+alone wi c = record { scope = c.scope; env = c.env; pl = c.pl; hd = c.hd; dest = Nowhere Whole; front = 0; head = 0; line = new_line wi }
 
-alone_vars : (laid : LaidOut) (s : Store) (sl : Slots) (c : Ctx) → HasAll laid s sl c → HasAll laid s sl (alone c)
-alone_vars laid s sl c h = HasAll-dest {c = c} {c' = alone c} refl (record { there = λ y h. h; places = λ y h. refl; values = λ y h. refl; at_head = λ y o e. e; heads = λ y o e. refl }) h (λ y. refl) (λ y. refl) (λ y. refl)
+alone_vars : (wi : Within) (laid : LaidOut) (s : Store) (sl : Slots) (c : Ctx) → HasAll laid s sl c → HasAll laid s sl (alone wi c)
+alone_vars wi laid s sl c h = HasAll-dest {c = c} {c' = alone wi c} refl (record { there = λ y h. h; places = λ y h. refl; values = λ y h. refl; at_head = λ y o e. e; heads = λ y o e. refl }) h (λ y. refl) (λ y. refl) (λ y. refl) (λ q e. absurd (no_told e)) tt
 
 -- what a side may cost as a task is enough for what it costs here
 pub own_most : (core : CoreTree) (d n : ℕ) (s : Side) (env : Environment) → AtMost (plus (own_region s) (side_costs core d n s env)) (task_costs core d n s env)
@@ -134,18 +140,19 @@ new_counted left most h = record { balanced = omega arith; cursors = refl; left 
 
 module _ (core : CoreTree) (code : CodeTree) where
   -- a region's or a scalar's side
-  bound_side : (s : Store) (a z : ℕ) (sl : Slots) (n lv rm : ℕ) (stored : List StoredField) (kd : Kind) (y : Variable) (xt : Ty) (t : Term) (c : Ctx)
-      → LowSide core code stored a (On kd y xt t) z → IsAt code z Back → Agrees stored c.scope → HasAll code.laid s sl c → IsSmall s → side_nest (On kd y xt t) ≤ nesting code → side_nest (On kd y xt t) + times n (nesting code) ≤ rm
-      → SideFits core (On kd y xt t) c.scope (Nowhere Whole) (λ sc' d'. RestFits core (Last y.0 xt) sc' d')
-      → Safe core code (record { ty = xt; all = means core n t c.env; sides = [] }) (λ q. 0) (new_share (task_costs core n lv (On kd y xt t) c.env)) s (at_rest (record { level = lv; pars = []; side = Some y.0; width = widest code.functions }) xt rm a sl [] n [] [])
-  bound_side s a z sl n lv rm stored kd y xt t c ls eb ag vars sm na le fit = rests (at_term {u = Part (On kd y xt t) (Last y.0 xt)} {c = alone c} {k = KSide y.0 xt} record {
+  bound_side : (wi : Within) (s : Store) (a z : ℕ) (sl : Slots) (n lv rm : ℕ) (stored : List StoredField) (kd : Kind) (y : Variable) (xt : Ty) (t : Term) (c : Ctx)
+      → LowSide core code wi stored a (On kd y xt t) z → IsAt code z Back → Agrees stored c.scope → HasAll code.laid s sl c → IsSmall s → side_nest (On kd y xt t) ≤ nesting code → side_nest (On kd y xt t) + times n (nesting code) ≤ rm
+      → SideFits core wi (On kd y xt t) c.scope (Nowhere Whole) (new_line wi) (λ sc' d' ln'. RestFits core (AtEnd none_of) (Last y.0 xt) sc' d' ln')
+      → Safe core code (record { ty = xt; all = means core n t c.env; sides = [] }) (λ q. 0) (new_share (task_costs core n lv (On kd y xt t) c.env)) s (at_rest (record { level = lv; pars = []; side = Some y.0; width = widest code.functions; gave = [] }) xt rm a sl [] n [] [])
+  bound_side wi s a z sl n lv rm stored kd y xt t c ls eb ag vars sm na le fit = rests (at_term {u = Part wi (On kd y xt t) (Last y.0 xt)} {c = alone wi c} {k = KSide y.0 xt} record {
     ready = refl;
     low = (stored, z, ls, ag, eb);
     fits = fit;
     kind = refl;
-    matches = record { vars = alone_vars code.laid s sl c vars; dest = tt };
+    matches = record { vars = alone_vars wi code.laid s sl c vars; dest = tt };
     stack = tt;
     under = tt;
+    given = tt;
     calm = tt;
     places = Apart-less (nothing_owned s) (λ q. omega arith);
     rooms = tt;
@@ -158,7 +165,7 @@ module _ (core : CoreTree) (code : CodeTree) where
     free = refl;
     result = refl;
     type = refl;
-    counted = new_counted (left_costs core n lv (Part (On kd y xt t) (Last y.0 xt)) c.env (KSide y.0 xt)) (task_costs core n lv (On kd y xt t) c.env)
+    counted = new_counted (left_costs core n lv (Part wi (On kd y xt t) (Last y.0 xt)) c.env (KSide y.0 xt)) (task_costs core n lv (On kd y xt t) c.env)
         (most_then (nothing_more (plus (own_region (On kd y xt t)) (costs core n lv t c.env)) (means core n t c.env)) (own_most core n lv (On kd y xt t) c.env));
     narrow = let h = na in omega (arith, h);
     nests = (le, tt);
@@ -166,14 +173,14 @@ module _ (core : CoreTree) (code : CodeTree) where
   })
 
   -- a field's side opens a region of its own
-  field_side : (s : Store) (a z : ℕ) (sl : Slots) (n lv : ℕ) (stored : List StoredField) (y : Variable) (xt : Ty) (t : Term) (c : Ctx)
-      → IsAt code a (Here y.0) → Low core code stored (a + 1) t (To z 0) z → IsAt code z Back → Agrees stored c.scope → HasAll code.laid s sl c → IsSmall s → nest t ≤ nesting code
-      → AloneFits core (On kind.Here y xt t) c.scope
+  field_side : (wi : Within) (s : Store) (a z : ℕ) (sl : Slots) (n lv : ℕ) (stored : List StoredField) (y : Variable) (xt : Ty) (t : Term) (c : Ctx)
+      → IsAt code a (Here y.0) → Low core code wi stored (a + 1) t (To z 0) z → IsAt code z Back → Agrees stored c.scope → HasAll code.laid s sl c → IsSmall s → nest t ≤ nesting code
+      → AloneFits core wi (On kind.Here y xt t) c.scope
       → Safe core code (record { ty = xt; all = means core n t c.env; sides = [] }) (λ q. 0) (new_share (task_costs core n lv (On kind.Here y xt t) c.env)) s (side_start code (record { start = a; words = sl; depth = n; level = lv; kind = at.Here; variable = y.0; result = xt }))
-  field_side s a z sl n lv stored y xt t c eh lt eb ag vars sm na fit =
+  field_side wi s a z sl n lv stored y xt t c eh lt eb ag vars sm na fit =
       let rm = times (suc n) (nesting code) in
       let owes : Owed = record { ty = xt; all = means core n t c.env; sides = [] } in
-      let lvs : Levels = record { level = lv; pars = []; side = Some y.0; width = widest code.functions } in
+      let lvs : Levels = record { level = lv; pars = []; side = Some y.0; width = widest code.functions; gave = [] } in
       let most = task_costs core n lv (On kind.Here y xt t) c.env in
       let left = left_costs core n lv (Plain t) c.env (KLast z y.0 fit.0) in
       let paid : (d : ℕ) → Paid (record { start = 4096 * d; cur = 4096 * d } ∷ []) left (new_share most) 1 =
@@ -185,14 +192,15 @@ module _ (core : CoreTree) (code : CodeTree) where
       let r : OpenRegion = record { start = a0; cur = a0 } in
       let hs : HasAll code.laid q sl c = Rattle.gib_weave.proofs.Grow.HasAll-grows (open-grows s dr new) vars in
       silently core code owes own' (paid dr).share lvs xt rm {m = at_rest lvs xt rm a sl [] n (r ∷ []) []} refl eh refl
-      (rests (at_term {u = Plain t} {c = holding c y.0 (Empty fit.0) a0 0} {k = KLast z y.0 fit.0} record {
+      (rests (at_term {u = Plain t} {c = holding wi c y.0 (Empty fit.0) a0 0} {k = KLast z y.0 fit.0} record {
         ready = refl;
         low = code_put y.0 Held refl (record { fields = stored; until = z; low = lt; agree = ag });
         fits = fit.3;
         kind = refl;
-        matches = record { vars = HasAll-hold code.laid q sl c y.0 a0 (Empty fit.0) a0 0 fit.2 hs; dest = refl };
+        matches = record { vars = HasAll-hold wi code.laid q sl c y.0 a0 (Empty fit.0) a0 0 fit.2 hs; dest = refl };
         stack = (eb, set-same sl y.0 a0 (hs.wide y.0 (absent_slot c.scope y.0 fit.2)), refl);
         under = put-same c.scope y.0 Held;
+        given = tt;
         calm = tt;
         places = Apart-open dr new (nothing_owned s) (λ q. let i : rest a0 ≡ 4096 = omega arith in let j = ap (λ (z : ℕ). within a0 z q) i in omega (arith, j));
         rooms = (omega arith, tt);
@@ -211,16 +219,16 @@ module _ (core : CoreTree) (code : CodeTree) where
         all_room = tt;
       }))))
 
-  pub side_safe : (s : Store) (a z : ℕ) (sl : Slots) (n lv : ℕ) (stored : List StoredField) (kd : Kind) (y : Variable) (xt : Ty) (t : Term) (c : Ctx)
-      → LowSide core code stored a (On kd y xt t) z → IsAt code z Back → Agrees stored c.scope → HasAll code.laid s sl c → side_nest (On kd y xt t) ≤ nesting code
-      → AloneFits core (On kd y xt t) c.scope
+  pub side_safe : (wi : Within) (s : Store) (a z : ℕ) (sl : Slots) (n lv : ℕ) (stored : List StoredField) (kd : Kind) (y : Variable) (xt : Ty) (t : Term) (c : Ctx)
+      → LowSide core code wi stored a (On kd y xt t) z → IsAt code z Back → Agrees stored c.scope → HasAll code.laid s sl c → side_nest (On kd y xt t) ≤ nesting code
+      → AloneFits core wi (On kd y xt t) c.scope
       → SideSafe core code (record { ty = xt; owed = means core n t c.env; most = task_costs core n lv (On kd y xt t) c.env }) s (record { start = a; words = sl; depth = n; level = lv; kind = kind_of kd; variable = y.0; result = xt })
-  side_safe s a z sl n lv stored kind.Here y xt t c (low.here eh lt) eb ag vars le fit = record { safe = λ r g sm. field_side r a z sl n lv stored y xt t c eh lt eb ag (Rattle.gib_weave.proofs.Grow.HasAll-grows g vars) sm le fit }
-  side_safe s a z sl n lv stored kind.Region y xt t c ls eb ag vars le fit = record {
-    safe = λ r g sm. bound_side r a z sl n lv (suc (times (suc n) (nesting code))) stored kind.Region y xt t c ls eb ag (Rattle.gib_weave.proofs.Grow.HasAll-grows g vars) sm le (let h = le in omega (arith, h)) (fit.0, fit.1, fit.2, fit.3, put-same (loosen (cased t) c.scope) y.0 (Placed fit.0) ∙ ap result_sort (sym fit.1));
+  side_safe wi s a z sl n lv stored kind.Here y xt t c (low.here eh lt) eb ag vars le fit = record { safe = λ r g sm. field_side wi r a z sl n lv stored y xt t c eh lt eb ag (Rattle.gib_weave.proofs.Grow.HasAll-grows g vars) sm le fit }
+  side_safe wi s a z sl n lv stored kind.Region y xt t c ls eb ag vars le fit = record {
+    safe = λ r g sm. bound_side wi r a z sl n lv (suc (times (suc n) (nesting code))) stored kind.Region y xt t c ls eb ag (Rattle.gib_weave.proofs.Grow.HasAll-grows g vars) sm le (let h = le in omega (arith, h)) (fit.0, fit.1, fit.2, fit.3, put-same (loosen (cased t) c.scope) y.0 (Placed fit.0) ∙ ap result_sort (sym fit.1));
   }
-  side_safe s a z sl n lv stored kind.Scalar y xt t c ls eb ag vars le fit = record {
-    safe = λ r g sm. bound_side r a z sl n lv (suc (times (suc n) (nesting code))) stored kind.Scalar y xt t c ls eb ag (Rattle.gib_weave.proofs.Grow.HasAll-grows g vars) sm le (let h = le in omega (arith, h)) (fit.0, fit.1, fit.2, put-same (loosen (cased t) c.scope) y.0 (Scalar xt) ∙ scalar_sort xt fit.0);
+  side_safe wi s a z sl n lv stored kind.Scalar y xt t c ls eb ag vars le fit = record {
+    safe = λ r g sm. bound_side wi r a z sl n lv (suc (times (suc n) (nesting code))) stored kind.Scalar y xt t c ls eb ag (Rattle.gib_weave.proofs.Grow.HasAll-grows g vars) sm le (let h = le in omega (arith, h)) (fit.0, fit.1, fit.2, put-same (loosen (cased t) c.scope) y.0 (Scalar xt) ∙ scalar_sort xt fit.0);
   }
 
 -- At a join.
@@ -231,24 +239,25 @@ right_costs core d n m r u env k a =
     plus a (cost_after (side_gives core d r env) (λ v. plus (costs core d m u (((variable_of r).0, v) ∷ env)) (later_costs core d m k (means core d u (((variable_of r).0, v) ∷ env)))))
 
 -- the same binding, with more said of what is behind it
-side_fits_map : (core : CoreTree) (s : Side) (sc : Scope) (dst : Dest) (A B : Scope → Dest → Type 0) → ((sc' : Scope) (d' : Dest) → A sc' d' → B sc' d') → SideFits core s sc dst A → SideFits core s sc dst B
-side_fits_map core (On kind.Here y ty t) sc dst A B f h = (h.0, h.1, h.2, h.3, h.4, f _ _ h.5)
-side_fits_map core (On kind.Region y ty t) sc dst A B f h = (h.0, h.1, h.2, h.3, f _ _ h.4)
-side_fits_map core (On kind.Scalar y ty t) sc dst A B f h = (h.0, h.1, h.2, f _ _ h.3)
+side_fits_map : (core : CoreTree) (w : Within) (s : Side) (sc : Scope) (dst : Dest) (ln : FitsLine) (A B : Scope → Dest → FitsLine → Type 0) → ((sc' : Scope) (d' : Dest) (ln' : FitsLine) → A sc' d' ln' → B sc' d' ln') → SideFits core w s sc dst ln A → SideFits core w s sc dst ln B
+side_fits_map core w (On kind.Here y ty t) sc dst ln A B f h = (h.0, h.1, h.2, h.3, h.4, f _ _ _ h.5)
+side_fits_map core w (On kind.Region y ty t) sc dst ln A B f h = (h.0, h.1, h.2, h.3, f _ _ _ h.4)
+side_fits_map core w (On kind.Scalar y ty t) sc dst ln A B f h = (h.0, h.1, h.2, f _ _ _ h.3)
 
 module _ (core : CoreTree) (code : CodeTree) (own : Owned) (ty : Ty) (rm : ℕ) where
   -- the right side runs here
   pub right_at : (owed owed' : Owed) (sh sh' : Share) (lv lv' : Levels) (s : Store) (ip : ℕ) (sl : Slots) (fs : List Frame) (n : ℕ) (rs : List OpenRegion) (ts : List ℕ) (p p' : Par) (r : Side) (u : Term) (c : Ctx) (k : Kont)
-      → owed.ty ≡ owed'.ty → owed.all ≡ owed'.all → sides_of core n p'.level k ≡ owed'.sides → p'.left ≡ false → lv'.pars ≡ p' ∷ pars_of k → lv'.side ≡ lv.side → Counted rs (left_costs core n lv'.level (Part r (Leave p' u)) c.env k) sh'
-      → AtRest core code owed own sh s (at_rest lv ty rm ip sl fs n rs ts) (Meet p r u) c k → AtRest core code owed' own sh' s (at_rest lv' ty rm (ip + 1) sl fs n rs ts) (Part r (Leave p' u)) c k
+      → owed.ty ≡ owed'.ty → owed.all ≡ owed'.all → sides_of core n p'.level k ≡ owed'.sides → p'.left ≡ false → lv'.pars ≡ p' ∷ pars_of k → lv'.side ≡ lv.side → Counted rs (left_costs core n lv'.level (Part (within_par c.line.within) r (Leave p' u)) c.env k) sh'
+      → AtRest core code owed own sh s (at_rest lv ty rm ip sl fs n rs ts) (Meet p r u) c k → AtRest core code owed' own sh' s (at_rest lv' ty rm (ip + 1) sl fs n rs ts) (Part (within_par c.line.within) r (Leave p' u)) c k
   right_at owed owed' sh sh' lv lv' s ip sl fs n rs ts p p' r u c k tl al sd le ps si counted at = record {
     ready = refl;
     low = (at.low.fields, at.low.until, at.low.side, at.low.agree, (at.low.back, at.low.next));
-    fits = side_fits_map core r c.scope c.dest (λ sc' d'. Fits core u sc' d') (λ sc' d'. RestFits core (Leave p' u) sc' d') (λ sc' d' h. (le, h)) at.fits;
+    fits = side_fits_map core (within_par c.line.within) r c.scope c.dest c.line (λ sc' d' ln'. Fits core (needs_of k) u sc' d' ln') (λ sc' d' ln'. RestFits core (needs_of k) (Leave p' u) sc' d' ln') (λ sc' d' ln' h. (le, h)) at.fits;
     kind = at.kind;
     matches = at.matches;
     stack = at.stack;
     under = at.under;
+    given = at.given;
     calm = at.calm;
     places = at.places;
     rooms = at.rooms;
@@ -279,6 +288,7 @@ module _ (core : CoreTree) (code : CodeTree) (own : Owned) (ty : Ty) (rm : ℕ) 
     matches = at.matches;
     stack = at.stack;
     under = at.under;
+    given = at.given;
     calm = at.calm;
     places = at.places;
     rooms = at.rooms;
@@ -302,7 +312,7 @@ module _ (core : CoreTree) (code : CodeTree) (owed : Owed) (own : Owned) (sh : S
       → AtRest core code owed own sh s (at_rest lv ty rm ip sl fs n rs ts) (Leave p u) c k → Moves core code owed own sh s (at_rest lv ty rm ip sl fs n rs ts)
   does_leave s ip sl fs n rs ts p u c k at =
       let here = at_rest lv ty rm ip sl fs n rs ts in
-      let lv' : Levels = record { level = p.level; pars = pars_of k; side = lv.side; width = lv.width } in
+      let lv' : Levels = record { level = p.level; pars = pars_of k; side = lv.side; width = lv.width; gave = lv.gave } in
       silent (step_is core code owed own sh lv ty rm here Back refl at.low.0 ∙ ap (backs_at here) at.pars)
       (rests (at_term {u = Plain u} {c = c} {k = k} (left_at core code own ty rm owed sh lv lv' s ip sl fs n rs ts p u c k refl refl refl at)))
 
@@ -312,7 +322,7 @@ module _ (core : CoreTree) (code : CodeTree) (owed : Owed) (own : Owned) (sh : S
   does_meet s ip sl fs n rs ts p r u c k le at =
       let here = at_rest lv ty rm ip sl fs n rs ts in
       silent (step_is core code owed own sh lv ty rm here Join refl at.low.join ∙ ap (joins_at here) at.pars ∙ ap (λ (b : Bool). cond b AtJoin (Silent (at_rest lv ty rm (ip + 1) sl fs n rs ts))) le)
-      (rests (at_term {u = Part r (Leave p u)} {c = c} {k = k} (right_at core code own ty rm owed owed sh sh lv lv s ip sl fs n rs ts p p r u c k refl refl
+      (rests (at_term {u = Part (within_par c.line.within) r (Leave p u)} {c = c} {k = k} (right_at core code own ty rm owed owed sh sh lv lv s ip sl fs n rs ts p p r u c k refl refl
       (ap (λ (b : Bool). cond b (debt_of core n lv.level r c.env ∷ sides_of core n p.level k) (sides_of core n p.level k)) (sym le) ∙ at.sides) le at.pars refl
       (subst (λ (b : Bool). Counted rs (right_costs core n lv.level p.level r u c.env k (cond b (link r) (plus (own_region r) (side_costs core n lv.level r c.env)))) sh) le at.counted) at)))
 
@@ -337,20 +347,35 @@ module _ (core : CoreTree) (code : CodeTree) (owed : Owed) (own : Owned) (sh : S
 
 -- The value of a right side has come.
 
+or_not : (a b : Bool) → (b ≡ true → ⊥) → (a || b) ≡ true → a ≡ true
+or_not true b f e = refl
+or_not false b f e = absurd (f e)
+
+-- a side of a `par` tells nothing
+pub par_tells : (wi : Within) (core : CoreTree) (t : Term) (q : ℕ) → side_tells (within_par wi) core t q ≡ true → ⊥
+par_tells wi core (term.Then b u) q e = no_told e
+par_tells wi core (term.Write v k ss ps) q e = no_told e
+par_tells wi core (term.Point x) q e = no_told e
+par_tells wi core (term.CallTerm f xs) q e = no_told e
+par_tells wi core (term.Give x) q e = no_told e
+par_tells wi core (term.CaseTerm x bs) q e = no_told e
+par_tells wi core (term.IfTerm x u v) q e = no_told e
+
 module _ (core : CoreTree) (code : CodeTree) (owed : Owed) (own : Owned) (sh : Share) (lv : Levels) (ty : Ty) (rm : ℕ) where
   -- a scalar, or a tree in a region
-  pub bound_comes : (s : Store) (ip : ℕ) (sl : Slots) (fs : List Frame) (n : ℕ) (rs : List OpenRegion) (ts : List ℕ) (x : ℕ) (so : Sort) (u : Rest) (c : Ctx) (k : Kont) (w pl : ℕ) (v : Datum) → is_field so ≡ false → Waits core code s sl ip x so u c c.dest (cursor rs) k → Stack core code s k sl fs c.front rs
-      → Has code.laid s (with_var c x so v pl) so w v pl (c.hd x) → Apart own s (λ q. (head_covers code.laid c c.dest q + kont_covers code.laid k q) + (rest_covers rs q + tail_covers ts q)) → HaveRoom rs → TailsHaveRoom ts → IsSmall s
+  pub bound_comes : (s : Store) (ip : ℕ) (sl : Slots) (fs : List Frame) (n : ℕ) (rs : List OpenRegion) (ts : List ℕ) (x : ℕ) (so : Sort) (u : Rest) (c : Ctx) (k : Kont) (w pl : ℕ) (v : Datum) → ((q : ℕ) → c.line.pending q ≡ true → ⊥) → is_field so ≡ false → Waits core code s sl ip x so u c c.dest (cursor rs) k → Stack core code s k sl fs c.front rs
+      → Has code.laid s (with_var c x so v pl) so w v pl (c.hd x) → HasEnd code.laid s so w 0 v pl → Apart own s (λ q. (head_covers code.laid c c.dest q + kont_covers code.laid k q) + (rest_covers rs q + tail_covers ts q)) → HaveRoom rs → TailsHaveRoom ts → IsSmall s
       → resume core n k (rest_means core n u ((x, v) ∷ c.env)) ≡ owed.all → rest_sides core n lv.level u c.env (sides_of core n (level_after lv.level u) k) ≡ owed.sides → lv.pars ≡ rest_pars u (pars_of k) → lv.side ≡ side_of k → ty ≡ root k → owed.ty ≡ root k → HasRoom (times n (nesting code)) u rm → AllRoom (nesting code) n (freed u rm) k → Counted rs (left_costs core n lv.level u ((x, v) ∷ c.env) k) sh
-      → AtRest core code owed own sh s (at_rest lv ty rm ip (set sl x w) fs n rs ts) u (with_var c x so v pl) k
-  bound_comes s ip sl fs n rs ts x so u c k w pl v nf wt st has places rooms tails small ow sd pa si res oty ne ar counted = record {
+      → AtRest core code owed own sh s (at_rest lv ty rm ip (set sl x w) fs n rs ts) u (with_line (with_var c x so v pl) (tell_line c.line.pending c.line)) k
+  bound_comes s ip sl fs n rs ts x so u c k w pl v np nf wt st has he places rooms tails small ow sd pa si res oty ne ar counted = record {
     ready = refl;
-    low = rest_code_put core code c.scope ip u (end_of k) x so nf wt.low;
+    low = rest_code_put core code c.line.within c.scope ip u (end_of c.line.overs k) x so nf wt.low;
     fits = wt.fits;
     kind = wt.kind;
-    matches = record { vars = HasAll-bind code.laid s sl c x so v w pl wt.new has wt.matches.vars; dest = IsDest-bind code.laid s (set sl x w) c (cursor rs) x so v pl c.dest wt.new (IsDest-moved code.laid s sl (set sl x w) c (cursor rs) c.dest (moved_set x w (not_there c.scope x wt.new)) wt.matches.dest) };
+    matches = let hb = HasAll-bind code.laid s sl c x so v w pl wt.new has he wt.matches.vars in Matches-line (tell_line c.line.pending c.line) (λ q e. hb.told q (or_not (c.line.told q) (c.line.pending q) (np q) e)) hb.closes (record { vars = hb; dest = IsDest-bind code.laid s (set sl x w) c (cursor rs) x so v pl c.dest wt.new (IsDest-moved code.laid s sl (set sl x w) c (cursor rs) c.dest (moved_set x w (not_there c.scope x wt.new)) wt.matches.dest) });
     stack = Stack-moved core code s k sl (set sl x w) fs c.front rs (all_moved_set code.laid s sl c.scope c.env k x w wt.under (not_there c.scope x wt.new)) st;
     under = all_under_bind c.scope c.env k x so v wt.new wt.under;
+    given = given_bind c x so v pl (given_of k) wt.new wt.given;
     calm = wt.calm;
     places = Apart-less places (λ q. let h = covers_head code.laid c (with_var c x so v pl) c.dest q refl in omega arith);
     rooms = rooms;
@@ -370,25 +395,30 @@ module _ (core : CoreTree) (code : CodeTree) (owed : Owed) (own : Owned) (sh : S
   }
 
   -- a field, at a, where its slot is as it should be
-  pub field_comes : (s : Store) (ip : ℕ) (sl : Slots) (fs : List Frame) (n : ℕ) (rs : List OpenRegion) (ts : List ℕ) (x t : ℕ) (u : Rest) (c : Ctx) (k : Kont) (a : ℕ) (v : Datum) → Waits core code s sl ip x (Placed t) u c (more c.dest x) a k → Stack core code s k sl fs c.front rs → slot sl x ≡ a → IsDue c.dest t
+  pub field_comes : (s : Store) (ip : ℕ) (sl : Slots) (fs : List Frame) (n : ℕ) (rs : List OpenRegion) (ts : List ℕ) (x t : ℕ) (u : Rest) (c : Ctx) (k : Kont) (a : ℕ) (v : Datum) → ((q : ℕ) → c.line.pending q ≡ true → ⊥) → Waits core code s sl ip x (Placed t) u c (more c.dest x) a k → Stack core code s k sl fs c.front rs → both sl x ≡ record { word = a; last = 0 } → IsDue c.dest t
       → Dec code.laid s a t v (cursor rs) → Apart own s (λ q. (head_covers code.laid c c.dest q + kont_covers code.laid k q) + (rest_covers rs q + tail_covers ts q)) → HaveRoom rs → TailsHaveRoom ts → IsSmall s
       → resume core n k (rest_means core n u ((x, v) ∷ c.env)) ≡ owed.all → rest_sides core n lv.level u c.env (sides_of core n (level_after lv.level u) k) ≡ owed.sides → lv.pars ≡ rest_pars u (pars_of k) → lv.side ≡ side_of k → ty ≡ root k → owed.ty ≡ root k → HasRoom (times n (nesting code)) u rm → AllRoom (nesting code) n (freed u rm) k → Counted rs (left_costs core n lv.level u ((x, v) ∷ c.env) k) sh
-      → AtRest core code owed own sh s (at_rest lv ty rm ip sl fs n rs ts) u (with_dest (with_var c x (Placed t) v a) (more c.dest x)) k
-  field_comes s ip sl fs n rs ts x t u c k a v w st at due dec places rooms tails small ow sd pa si res oty ne ar counted =
-      let place : IsPlaced code.laid s t (slot sl x) a v = record { same = at; stands = record { end = cursor rs; dec = dec } } in
+      → AtRest core code owed own sh s (at_rest lv ty rm ip sl fs n rs ts) u (with_dest (with_line (with_var c x (Placed t) v a) (tell_line c.line.pending c.line)) (more c.dest x)) k
+  field_comes s ip sl fs n rs ts x t u c k a v np w st at due dec places rooms tails small ow sd pa si res oty ne ar counted =
+      let place : IsPlaced code.laid s t (slot sl x) a v = record { same = ap (λ (b : WithEnd). b.word) at; stands = record { end = cursor rs; dec = dec } } in
       let c1 = with_var c x (Placed t) v a in
-      let c2 = with_dest c1 (more c.dest x) in
+      let ln = tell_line c.line.pending c.line in
+      let c1' = with_line c1 ln in
+      let c2 = with_dest c1' (more c.dest x) in
+      let hs = HasAll-set code.laid s sl c x (Placed t) v a w.new place (held_end sl x at) w.matches.vars in
+      let hl = HasAll-line {c = c1} ln (λ q e. hs.told q (or_not (c.line.told q) (c.line.pending q) (np q) e)) hs.closes hs in
       record {
         ready = refl;
-        low = rest_code_put core code c.scope ip u (end_of k) x (Placed t) refl w.low;
+        low = rest_code_put core code c.line.within c.scope ip u (end_of c.line.overs k) x (Placed t) refl w.low;
         fits = w.fits;
         kind = type_more c.dest x ∙ w.kind;
         matches = record {
-          vars = HasAll-dest {c = c1} {c' = c2} refl (keeps_dest c1 (more c.dest x)) (HasAll-set code.laid s sl c x (Placed t) v a w.new place w.matches.vars) (λ y. refl) (λ y. refl) (λ y. refl);
-          dest = IsDest-more code.laid s sl c a (cursor rs) x t v c.dest w.new due dec w.matches.dest;
+          vars = HasAll-dest {c = c1'} {c' = c2} refl (keeps_dest c1' (more c.dest x)) hl (λ y. refl) (λ y. refl) (λ y. refl) hl.told hl.closes;
+          dest = IsDest-line code.laid s sl (with_dest c1 (more c.dest x)) (cursor rs) (more c.dest x) ln (IsDest-more code.laid s sl c a (cursor rs) x t v c.dest w.new due dec w.matches.dest);
         };
         stack = st;
         under = all_under_bind c.scope c.env k x (Placed t) v w.new w.under;
+        given = given_bind c x (Placed t) v a (given_of k) w.new w.given;
         calm = w.calm;
         places = Apart-less places (λ q. let e = covers_more code.laid c c2 c.dest x q refl in omega arith);
         rooms = rooms;

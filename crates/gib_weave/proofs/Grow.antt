@@ -8,9 +8,11 @@ use Rattle.gib_mem.specs.Memory.{Store, Grows}
 use Rattle.gib_packed.specs.Decoding.{Dec}
 use Rattle.gib_packed.proofs.Grow as g
 use Rattle.gib_code.specs.Program.{CodeTree}
-use Rattle.gib_machine.specs.Machine.{Slots, slot, Frame, Open as OpenRegion}
+use Rattle.gib_machine.specs.Machine.{end_at, Slots, slot, Frame, Open as OpenRegion}
 use Rattle.gib_core.specs.Fits.{Sort, Outside, Absent, Scalar, Held, Placed, Loose, AtHead, Field, Dest, Nowhere, Empty, Open}
-use Rattle.gib_weave.specs.Environment.{Ctx, StandsAt, Has, HasAll, Fields, none, field, IsDest, Matches}
+use Rattle.gib_core.specs.Low.{Over}
+use Rattle.gib_weave.specs.Environment.{AllClose, Ctx, StandsAt, Has, HasAll, Fields, none, field, IsDest, Matches}
+use Rattle.gib_weave.specs.EndWords.{EndWord, HasEnd}
 use Rattle.gib_packed.specs.Reaching.{Turns, there, turn}
 use Rattle.gib_weave.specs.Continuing.{Rest, KSide, KLast, Kont, KEnd, KHere, KRegion, KScalar, KCall, KCallScalar}
 use Rattle.gib_weave.specs.Stacks.{Waits, Stack}
@@ -24,6 +26,19 @@ StandsAt-grows g d = record { end = d.end; dec = Dec-grows g d.dec }
 pub Turns-grows : {s r : Store} {a b : ℕ} → Grows s r → Turns s a b → Turns r a b
 Turns-grows h there = there
 Turns-grows h (turn p l) = turn (g.Points-grows h p) (Turns-grows h l)
+
+pub EndWord-grows : {laid : LaidOut} {s r : Store} {t pl w e : ℕ} {v : Datum} → Grows s r → EndWord laid s t pl w e v → EndWord laid r t pl w e v
+EndWord-grows g h = record { near = λ q. Turns-grows g (h.near q); ends = λ p. Dec-grows g (h.ends p) }
+
+pub HasEnd-grows : (laid : LaidOut) (s r : Store) (so : Sort) (w e : ℕ) (v : Datum) (pl : ℕ) → Grows s r → HasEnd laid s so w e v pl → HasEnd laid r so w e v pl
+HasEnd-grows laid s r Outside w e v pl g h = tt
+HasEnd-grows laid s r Absent w e v pl g h = tt
+HasEnd-grows laid s r (Scalar ty) w e v pl g h = tt
+HasEnd-grows laid s r Held w e v pl g h = tt
+HasEnd-grows laid s r (Placed t) w e v pl g h = EndWord-grows g h
+HasEnd-grows laid s r (Loose t) w e v pl g h = EndWord-grows g h
+HasEnd-grows laid s r (AtHead t) w e v pl g h = EndWord-grows g h
+HasEnd-grows laid s r (Field t z x k p) w e v pl g h = tt
 
 pub Has-grows : (laid : LaidOut) (s r : Store) (c : Ctx) (so : Sort) (w : ℕ) (v : Datum) (at hd : ℕ) → Grows s r → Has laid s c so w v at hd → Has laid r c so w v at hd
 Has-grows laid s r c Outside w v at hd g h = tt
@@ -44,14 +59,18 @@ IsDest-grows laid s r sl c cur (Nowhere ty) g h = tt
 IsDest-grows laid s r sl c cur (Empty t) g h = h
 IsDest-grows laid s r sl c cur (Open t x k xs dues) g h = record { con = h.con; slot = h.slot; sort = h.sort; leads = Turns-grows g h.leads; types = h.types; all = h.all; fields = Fields-grows g h.fields }
 
+closes_grows : (laid : LaidOut) (s r : Store) (c : Ctx) (os : List Over) → Grows s r → AllClose laid s c os → AllClose laid r c os
+closes_grows laid s r c [] g h = tt
+closes_grows laid s r c (o ∷ os) g h = (record { tx = h.0.tx; head = h.0.head; there = h.0.there; ty = h.0.ty; end = h.0.end; tree = Dec-grows g h.0.tree; field = Dec-grows g h.0.field }, closes_grows laid s r c os g h.1)
+
 pub HasAll-grows : {laid : LaidOut} {s r : Store} {sl : Slots} {c : Ctx} → Grows s r → HasAll laid s sl c → HasAll laid r sl c
-HasAll-grows {laid = laid} {s = s} {r = r} {sl = sl} {c = c} g h = record { has = λ y. Has-grows laid s r c (c.scope y) (slot sl y) (value_in c.env y) (c.pl y) (c.hd y) g (h.has y); wide = h.wide }
+HasAll-grows {laid = laid} {s = s} {r = r} {sl = sl} {c = c} g h = record { has = λ y. Has-grows laid s r c (c.scope y) (slot sl y) (value_in c.env y) (c.pl y) (c.hd y) g (h.has y); wide = h.wide; ends = λ y. HasEnd-grows laid s r (c.scope y) (slot sl y) (end_at sl y) (value_in c.env y) (c.pl y) g (h.ends y); even = h.even; told = h.told; closes = closes_grows laid s r c c.line.overs g h.closes }
 
 pub Matches-grows : {laid : LaidOut} {s r : Store} {sl : Slots} {c : Ctx} {cur : ℕ} → Grows s r → Matches laid s sl c cur → Matches laid r sl c cur
 Matches-grows {laid = laid} {s = s} {r = r} {sl = sl} {c = c} {cur = cur} g m = record { vars = HasAll-grows g m.vars; dest = IsDest-grows laid s r sl c cur c.dest g m.dest }
 
 pub Waits-grows : {core : CoreTree} {code : CodeTree} {s r : Store} {sl : Slots} {at x : ℕ} {so : Sort} {u : Rest} {c : Ctx} {after : Dest} {cur : ℕ} {k : Kont} → Grows s r → Waits core code s sl at x so u c after cur k → Waits core code r sl at x so u c after cur k
-Waits-grows g w = record { free = w.free; narrow = w.narrow; low = w.low; fits = w.fits; new = w.new; matches = Matches-grows g w.matches; under = w.under; calm = w.calm; kind = w.kind }
+Waits-grows g w = record { free = w.free; narrow = w.narrow; low = w.low; fits = w.fits; asked = w.asked; new = w.new; matches = Matches-grows g w.matches; given = w.given; under = w.under; calm = w.calm; kind = w.kind }
 
 pub Stack-grows : (core : CoreTree) (code : CodeTree) {s r : Store} (k : Kont) (sl : Slots) (fs : List Frame) (a : ℕ) (rs : List OpenRegion) → Grows s r → Stack core code s k sl fs a rs → Stack core code r k sl fs a rs
 Stack-grows core code (KEnd ty) sl [] a rs g h = h
@@ -66,7 +85,7 @@ Stack-grows core code (KHere l x t u c k) sl fs a rs g h = (h.0, h.1, Waits-grow
 Stack-grows core code (KRegion l x t u c k) sl fs a [] g h = absurd h
 Stack-grows core code (KRegion l x t u c k) sl fs a (q ∷ rs) g h = (h.0, h.1, h.2, Waits-grows g h.3, Stack-grows core code k sl fs c.front rs g h.4)
 Stack-grows core code (KScalar l x ty u c k) sl fs a rs g h = (h.0, Waits-grows g h.1, Stack-grows core code k sl fs c.front rs g h.2)
-Stack-grows core code (KCall k) sl [] a rs g h = absurd h
-Stack-grows core code (KCall k) sl (f ∷ fs) a rs g h = (h.0, h.1, h.2, Stack-grows core code k f.words fs a rs g h.3)
-Stack-grows core code (KCallScalar x ty u c k) sl [] a rs g h = absurd h
-Stack-grows core code (KCallScalar x ty u c k) sl (f ∷ fs) a rs g h = (h.0, h.1, Waits-grows g h.2, Stack-grows core code k f.words fs c.front rs g h.3)
+Stack-grows core code (KCall gs wc k) sl [] a rs g h = absurd h
+Stack-grows core code (KCall gs wc k) sl (f ∷ fs) a rs g h = (h.0, h.1, h.2, h.3, h.4, h.5, record { vars = HasAll-grows g h.6.vars; under = h.6.under; given = h.6.given; meets = h.6.meets }, Stack-grows core code k f.words fs a rs g h.7)
+Stack-grows core code (KCallScalar x ty gs u c k) sl [] a rs g h = absurd h
+Stack-grows core code (KCallScalar x ty gs u c k) sl (f ∷ fs) a rs g h = (h.0, h.1, h.2, h.3, h.4, Waits-grows g h.5, Stack-grows core code k f.words fs c.front rs g h.6)

@@ -70,7 +70,7 @@ next_is p i w AtJoin e on c = absurd cc
 next_is p i w (Ended a) e on c = absurd cc
 
 -- So many steps, and what is legal behind them.
-steps_are : (p : CodeTree) (i n : ℕ) (w v : Weave) (es : List Event) → all_can p i n w ≡ true → Legal p (steps p i n w) es v → Legal p w (steps_then i n es) v
+pub steps_are : (p : CodeTree) (i n : ℕ) (w v : Weave) (es : List Event) → all_can p i n w ≡ true → Legal p (steps p i n w) es v → Legal p w (steps_then i n es) v
 steps_are p i zero w v es e l = l
 steps_are p i (suc n) w v es e l =
     let h = both (is_running (task w.tasks 0).stage) (is_running (task w.tasks i).stage && (can w.memory (asks p w i) && all_can p i n (act w i (asks p w i)))) e in
@@ -78,7 +78,7 @@ steps_are p i (suc n) w v es e l =
     let f = both (can w.memory (asks p w i)) (all_can p i n (act w i (asks p w i))) g.1 in
     more (next_is p i w (asks p w i) refl (record { here = runs (task w.tasks i).stage g.0; root = runs (task w.tasks 0).stage h.0 }) f.0) (steps_are p i n (act w i (asks p w i)) v es f.1 l)
 
-on : {w : Weave} {i : ℕ} → (task w.tasks i).stage ≡ Running → (task w.tasks 0).stage ≡ Running → IsOn w i
+pub on : {w : Weave} {i : ℕ} → (task w.tasks i).stage ≡ Running → (task w.tasks 0).stage ≡ Running → IsOn w i
 on h r = record { here = h; root = r }
 
 -- The weaves between the steps of the journal in which the right side is stolen.

@@ -3,6 +3,8 @@ pub mod Grow
 pub mod Move
 pub mod Places
 pub mod Turns
+pub mod EndWords
+pub mod Tolds
 pub mod Lines
 pub mod Uses
 pub mod Counts
@@ -23,6 +25,7 @@ pub mod Cases
 pub mod Switches
 pub mod Forks
 pub mod Joins
+pub mod Telling
 pub mod Step
 pub mod ForkSides
 pub mod Nests
@@ -40,6 +43,7 @@ pub mod Puts
 pub mod Picks
 pub mod Row
 pub mod Journals
+pub mod Sums
 pub mod Calls
 pub mod Mades
 pub mod RootRuns

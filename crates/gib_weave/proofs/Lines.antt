@@ -10,14 +10,16 @@ use Rattle.gib_core.specs.declared.atom.Kind.{Kind}
 use Rattle.gib_core.specs.Tree.{Term, Then, One, On, CoreTree}
 use Rattle.gib_core.specs.Meaning.{from_there, having, Went}
 use Rattle.gib_code.specs.Program.{CodeTree}
-use Rattle.gib_machine.specs.Machine.{nesting, Slots, slot, set}
-use Rattle.gib_core.specs.Fits.{put, Sort, Outside, Absent, Scalar, Held, Placed, Loose, AtHead, Field, Scope, is_there, has_slot, loosen_one, loosen, Dest, Nowhere, Empty, Open, dest_type, cased}
-use Rattle.gib_weave.specs.Environment.{Ctx, StandsAt, Has, HasAll, IsDest, Matches}
-use Rattle.gib_weave.specs.Continuing.{Rest, Plain, Part, Meet, Leave, Last, KSide, KLast, Follows, Next, RestCode, RestFits, rest_cased, rest_nest, Kont, KEnd, KHere, KRegion, KScalar, KCall, KCallScalar, Goes, Under, AllUnder, Calm, AllCalm, due, end_of}
+use Rattle.gib_core.specs.Ending.{Within}
+use Rattle.gib_machine.specs.Machine.{end_at, nesting, Slots, slot, set}
+use Rattle.gib_core.specs.Fits.{put, Sort, Outside, Absent, Scalar, Held, Placed, Loose, AtHead, Field, Scope, new_line, await, await_call, tell_line, is_settled, is_there, has_slot, loosen_one, loosen, Dest, Nowhere, Empty, Open, dest_type, cased}
+use Rattle.gib_weave.specs.Environment.{AreGiven, Ctx, StandsAt, Has, HasAll, IsDest, Matches}
+use Rattle.gib_weave.specs.EndWords.{HasEnd}
+use Rattle.gib_weave.specs.Continuing.{given_of, Rest, Plain, Part, Meet, Leave, Last, KSide, KLast, Follows, Next, RestCode, RestFits, rest_cased, rest_nest, Kont, KEnd, KHere, KRegion, KScalar, KCall, KCallScalar, Goes, Under, AllUnder, Calm, AllCalm, due, end_of, needs_of}
 use Rattle.gib_weave.specs.Owing.{means, resume}
 use Rattle.gib_weave.specs.Stacks.{Waits}
-use Rattle.gib_weave.proofs.Basics.{by_test, put-other, set-other, set-length}
-use Rattle.gib_weave.proofs.Move.{other, goes-refl, under_goes, all_under_goes, goes_new, Keeps, Has-keeps, Fields-keeps, absent_slot, rest_code_loosen}
+use Rattle.gib_weave.proofs.Basics.{by_test, put-other, set-other, set-length, end-other, ends-length}
+use Rattle.gib_weave.proofs.Move.{with_line, HasAll-line, settled_there, Matches-line, closes_keeps, given_keeps, end_kept, other, goes-refl, under_goes, all_under_goes, goes_new, Keeps, Has-keeps, Fields-keeps, absent_slot, rest_code_loosen}
 
 -- Trees may be elsewhere.
 
@@ -43,6 +45,17 @@ loosen-slot true (Loose t) = refl
 loosen-slot true (AtHead t) = refl
 loosen-slot true (Field t z x k p) = refl
 
+pub loosen-settled : (b : Bool) (so : Sort) → is_settled (loosen_one b so) ≡ is_settled so
+loosen-settled false so = refl
+loosen-settled true Outside = refl
+loosen-settled true Absent = refl
+loosen-settled true (Scalar ty) = refl
+loosen-settled true Held = refl
+loosen-settled true (Placed t) = refl
+loosen-settled true (Loose t) = refl
+loosen-settled true (AtHead t) = refl
+loosen-settled true (Field t z x k p) = refl
+
 pub loosen-held : (b : Bool) (so : Sort) → so ≡ Held → loosen_one b so ≡ Held
 loosen-held false so e = e
 loosen-held true so e = ap (loosen_one true) e
@@ -57,7 +70,7 @@ loosen-head true so t e = ap (loosen_one true) e
 
 -- the line as it is after a term with such cases
 abbrev pub loosened : (ℕ → Bool) → Ctx → Ctx
-loosened m c = record { scope = loosen m c.scope; env = c.env; pl = c.pl; hd = c.hd; dest = c.dest; front = c.front; head = c.head }
+loosened m c = record { scope = loosen m c.scope; env = c.env; pl = c.pl; hd = c.hd; dest = c.dest; front = c.front; head = c.head; line = c.line }
 
 pub keeps_loosened : (m : ℕ → Bool) (c : Ctx) → Keeps c (loosened m c)
 keeps_loosened m c = record {
@@ -84,10 +97,25 @@ IsDest-loosen laid s sl c cur m (Nowhere ty) h = tt
 IsDest-loosen laid s sl c cur m (Empty t) h = h
 IsDest-loosen laid s sl c cur m (Open t x k xs dues) h = record { con = h.con; slot = h.slot; sort = loosen-held (m x) (c.scope x) h.sort; leads = h.leads; types = h.types; all = h.all; fields = Fields-keeps (keeps_loosened m c) h.fields }
 
+HasEnd-loosen : (laid : LaidOut) (s : Store) (b : Bool) (so : Sort) (w e : ℕ) (v : Datum) (pl : ℕ) → HasEnd laid s so w e v pl → HasEnd laid s (loosen_one b so) w e v pl
+HasEnd-loosen laid s false so w e v pl h = h
+HasEnd-loosen laid s true Outside w e v pl h = tt
+HasEnd-loosen laid s true Absent w e v pl h = tt
+HasEnd-loosen laid s true (Scalar ty) w e v pl h = tt
+HasEnd-loosen laid s true Held w e v pl h = tt
+HasEnd-loosen laid s true (Placed t) w e v pl h = h
+HasEnd-loosen laid s true (Loose t) w e v pl h = h
+HasEnd-loosen laid s true (AtHead t) w e v pl h = h
+HasEnd-loosen laid s true (Field t z x k p) w e v pl h = tt
+
 pub HasAll-loosen : {laid : LaidOut} {s : Store} {sl : Slots} {c : Ctx} (m : ℕ → Bool) → HasAll laid s sl c → HasAll laid s sl (loosened m c)
 HasAll-loosen {laid} {s} {sl} {c} m h = record {
   has = λ y. Has-loosen laid s (loosened m c) (m y) (c.scope y) (slot sl y) (value_in c.env y) (c.pl y) (c.hd y) (Has-keeps laid s c (loosened m c) (c.scope y) (slot sl y) (value_in c.env y) (c.pl y) (c.hd y) (keeps_loosened m c) (h.has y));
   wide = λ y e. h.wide y (sym (loosen-slot (m y) (c.scope y)) ∙ e);
+  ends = λ y. HasEnd-loosen laid s (m y) (c.scope y) (slot sl y) (end_at sl y) (value_in c.env y) (c.pl y) (h.ends y);
+  even = h.even;
+  told = λ q e. let t = h.told q e in record { settled = loosen-settled (m q) (c.scope q) ∙ t.settled; some = t.some };
+  closes = closes_keeps laid s c (loosened m c) c.line.overs (keeps_loosened m c) h.closes;
 }
 
 pub Matches-loosen : {laid : LaidOut} {s : Store} {sl : Slots} {c : Ctx} {cur : ℕ} (m : ℕ → Bool) → Matches laid s sl c cur → Matches laid s sl (loosened m c) cur
@@ -109,15 +137,25 @@ all_under_loosen sc env k m u = all_under_goes sc (loosen m sc) env env k (λ y.
 
 -- A variable is held while its value is made.
 
+pub no_told : false ≡ true → ⊥
+no_told e = absurd cc
+
 pub all_under_hold : (sc : Scope) (env : Environment) (k : Kont) (x : ℕ) → sc x ≡ Absent → AllUnder sc env k → AllUnder (put sc x Held) env k
 all_under_hold sc env k x n u = all_under_goes sc (put sc x Held) env env k (goes_new sc x Held n) (λ y t. refl) u
 
 -- the line of a part, which goes to a
-abbrev pub holding : Ctx → ℕ → Dest → ℕ → ℕ → Ctx
-holding c x d a b = record { scope = put c.scope x Held; env = c.env; pl = c.pl; hd = c.hd; dest = d; front = a; head = b }
+abbrev pub holding : Within → Ctx → ℕ → Dest → ℕ → ℕ → Ctx
+holding wi c x d a b = record { scope = put c.scope x Held; env = c.env; pl = c.pl; hd = c.hd; dest = d; front = a; head = b; line = new_line wi }
 
-pub keeps_holding : (c : Ctx) (x : ℕ) (d : Dest) (a b : ℕ) → c.scope x ≡ Absent → Keeps c (holding c x d a b)
-keeps_holding c x d a b n = record {
+-- the line waits until these are told
+abbrev pub pend : (f g : ℕ → Bool) → Ctx → Ctx
+pend f g c = with_line c (await_call g (await f c.line))
+
+pub Matches-pend : {laid : LaidOut} {s : Store} {sl : Slots} {c : Ctx} {cur : ℕ} (f g : ℕ → Bool) → Matches laid s sl c cur → Matches laid s sl (pend f g c) cur
+Matches-pend {c = c} f g m = Matches-line (await_call g (await f c.line)) m.vars.told m.vars.closes m
+
+pub keeps_holding : (wi : Within) (c : Ctx) (x : ℕ) (d : Dest) (a b : ℕ) → c.scope x ≡ Absent → Keeps c (holding wi c x d a b)
+keeps_holding wi c x d a b n = record {
   there = λ y h. ap is_there (put-other c.scope x y Held (other c.scope y x h n)) ∙ h;
   places = λ y h. refl;
   values = λ y h. refl;
@@ -125,21 +163,38 @@ keeps_holding c x d a b n = record {
   heads = λ y o e. refl;
 }
 
-pub HasAll-hold : (laid : LaidOut) (s : Store) (sl : Slots) (c : Ctx) (x w : ℕ) (d : Dest) (a b : ℕ) → c.scope x ≡ Absent → HasAll laid s sl c → HasAll laid s (set sl x w) (holding c x d a b)
-HasAll-hold laid s sl c x w d a b n h = record { has = has; wide = wide }
+pub HasAll-hold : (wi : Within) (laid : LaidOut) (s : Store) (sl : Slots) (c : Ctx) (x w : ℕ) (d : Dest) (a b : ℕ) → c.scope x ≡ Absent → HasAll laid s sl c → HasAll laid s (set sl x w) (holding wi c x d a b)
+HasAll-hold wi laid s sl c x w d a b n h = record { has = has; wide = wide; ends = ends; even = ends-length sl x w 0 ∙ h.even ∙ sym (set-length sl x w); told = λ q e. absurd (no_told e); closes = tt }
   where
+    ends : (y : ℕ) → HasEnd laid s (put c.scope x Held y) (slot (set sl x w) y) (end_at (set sl x w) y) (value_in c.env y) (c.pl y)
+    ends y = by_test y x (λ t. HasEnd laid s (cond t Held (c.scope y)) (slot (set sl x w) y) (end_at (set sl x w) y) (value_in c.env y) (c.pl y)) (λ e. tt)
+        (λ e. end_kept laid s (c.scope y) (slot sl y) (slot (set sl x w) y) (end_at sl y) (end_at (set sl x w) y) (value_in c.env y) (c.pl y) (λ i. set-other sl x y w e) (λ i. end-other sl x y w 0 e) (h.ends y))
+
     c' : Ctx
-    c' = holding c x d a b
+    c' = holding wi c x d a b
 
     has : (y : ℕ) → Has laid s c' (put c.scope x Held y) (slot (set sl x w) y) (value_in c.env y) (c.pl y) (c.hd y)
     has y = by_test y x (λ t. Has laid s c' (cond t Held (c.scope y)) (slot (set sl x w) y) (value_in c.env y) (c.pl y) (c.hd y)) (λ e. tt)
-        (λ e. subst (λ (q : ℕ). Has laid s c' (c.scope y) q (value_in c.env y) (c.pl y) (c.hd y)) (sym (set-other sl x y w e)) (Has-keeps laid s c c' (c.scope y) (slot sl y) (value_in c.env y) (c.pl y) (c.hd y) (keeps_holding c x d a b n) (h.has y)))
+        (λ e. subst (λ (q : ℕ). Has laid s c' (c.scope y) q (value_in c.env y) (c.pl y) (c.hd y)) (sym (set-other sl x y w e)) (Has-keeps laid s c c' (c.scope y) (slot sl y) (value_in c.env y) (c.pl y) (c.hd y) (keeps_holding wi c x d a b n) (h.has y)))
 
-    wide : (y : ℕ) → has_slot (put c.scope x Held y) ≡ true → y < length (set sl x w)
+    wide : (y : ℕ) → has_slot (put c.scope x Held y) ≡ true → y < length (set sl x w).vars
     wide y = subst (λ (m : ℕ). has_slot (put c.scope x Held y) ≡ true → y < m) (sym (set-length sl x w))
-        (by_test y x (λ t. has_slot (cond t Held (c.scope y)) ≡ true → y < length sl)
-        (λ e h'. subst (λ (z : ℕ). z < length sl) (sym e) (h.wide x (absent_slot c.scope x n)))
+        (by_test y x (λ t. has_slot (cond t Held (c.scope y)) ≡ true → y < length sl.vars)
+        (λ e h'. subst (λ (z : ℕ). z < length sl.vars) (sym e) (h.wide x (absent_slot c.scope x n)))
         (λ e h'. h.wide y h'))
+
+-- a head is open in the line
+abbrev pub opening : Ctx → ℕ → Dest → ℕ → ℕ → Ctx
+opening c x d a b = with_line (holding c.line.within c x d a b) c.line
+
+pub keeps_opening : (c : Ctx) (x : ℕ) (d : Dest) (a b : ℕ) → c.scope x ≡ Absent → Keeps c (opening c x d a b)
+keeps_opening c x d a b n = let k = keeps_holding c.line.within c x d a b n in record { there = k.there; places = k.places; values = k.values; at_head = k.at_head; heads = k.heads }
+
+pub HasAll-open : (laid : LaidOut) (s : Store) (sl : Slots) (c : Ctx) (x w : ℕ) (d : Dest) (a b : ℕ) → c.scope x ≡ Absent → HasAll laid s sl c → HasAll laid s (set sl x w) (opening c x d a b)
+HasAll-open laid s sl c x w d a b n h =
+    HasAll-line {c = holding c.line.within c x d a b} c.line
+    (λ q e. let t = h.told q e in let ne = other c.scope q x (settled_there (c.scope q) t.settled) n in record { settled = ap is_settled (put-other c.scope x q Held ne) ∙ t.settled; some = subst (λ (z : ℕ). 0 < z) (sym (end-other sl x q w 0 ne)) t.some })
+    (closes_keeps laid s c (holding c.line.within c x d a b) c.line.overs (keeps_holding c.line.within c x d a b n) h.closes) (HasAll-hold c.line.within laid s sl c x w d a b n h)
 
 -- Cases.
 
@@ -150,8 +205,8 @@ all_calm_less m m' (KLast l0 y0 s0) h c = tt
 all_calm_less m m' (KHere l x s t o k) h c = (record { calm = λ y t e. c.0.calm y t (h y e) }, all_calm_less m m' k h c.1)
 all_calm_less m m' (KRegion l x s t o k) h c = (record { calm = λ y t e. c.0.calm y t (h y e) }, all_calm_less m m' k h c.1)
 all_calm_less m m' (KScalar l x ty t o k) h c = (record { calm = λ y t e. c.0.calm y t (h y e) }, all_calm_less m m' k h c.1)
-all_calm_less m m' (KCall k) h c = tt
-all_calm_less m m' (KCallScalar x ty t o k) h c = tt
+all_calm_less m m' (KCall gs wc k) h c = tt
+all_calm_less m m' (KCallScalar x ty gs t o k) h c = tt
 
 pub or_left : (a b : Bool) → a ≡ true → (a || b) ≡ true
 or_left true b e = refl
@@ -201,8 +256,8 @@ resume-stop core n (KLast l0 y0 s0) why = refl
 resume-stop core n (KHere l x s u c k) why = refl
 resume-stop core n (KRegion l x s u c k) why = refl
 resume-stop core n (KScalar l x ty u c k) why = refl
-resume-stop core n (KCall k) why = resume-stop core (suc n) k why
-resume-stop core n (KCallScalar x ty u c k) why = refl
+resume-stop core n (KCall gs wc k) why = resume-stop core (suc n) k why
+resume-stop core n (KCallScalar x ty gs u c k) why = refl
 
 pub resume-with : (core : CoreTree) (n : ℕ) (k : Kont) (o : Outcome) (f : Datum → Outcome) → resume core n k (with_value o f) ≡ with_value o (λ v. resume core n k (f v))
 resume-with core n k (Stops why) f = resume-stop core n k why
@@ -217,17 +272,19 @@ pub side_means : (core : CoreTree) (n : ℕ) (kind : Kind) (x : Variable) (ty : 
 side_means core n kind x ty t u env = from_having x.0 env (means core n t env) (λ e. means core n u e)
 
 -- a line waits for the value of x, which a term with such cases makes
-pub waiting : (core : CoreTree) (code : CodeTree) (s : Store) (sl : Slots) (at x : ℕ) (so : Sort) (t : Term) (u : Rest) (c : Ctx) (after : Dest) (cur : ℕ) (k : Kont)
-    → RestCode core code c.scope at u (end_of k) → RestFits core u (put (loosen (cased t) c.scope) x so) after → c.scope x ≡ Absent → Matches code.laid s sl c cur → AllUnder c.scope c.env k → AllCalm (rest_cased u) k → dest_type c.dest ≡ due k → Follows x u k → rest_nest u ≤ nesting code
-    → Waits core code s sl at x so u (loosened (cased t) c) after cur k
-waiting core code s sl at x so t u c after cur k low fits new m under calm kind free nar = record {
+pub waiting : (core : CoreTree) (code : CodeTree) (s : Store) (sl : Slots) (at x : ℕ) (so : Sort) (t : Term) (f g : ℕ → Bool) (u : Rest) (c : Ctx) (after : Dest) (cur : ℕ) (k : Kont)
+    → RestCode core code c.line.within c.scope at u (end_of c.line.overs k) → RestFits core (needs_of k) u (put (loosen (cased t) c.scope) x so) after (tell_line f c.line) → ((q : ℕ) → f q ≡ true → is_settled (c.scope q) ≡ true) → c.scope x ≡ Absent → Matches code.laid s sl c cur → AllUnder c.scope c.env k → AreGiven c 0 (given_of k) → AllCalm (rest_cased u) k → dest_type c.dest ≡ due k → Follows x u k → rest_nest u ≤ nesting code
+    → Waits core code s sl at x so u (loosened (cased t) (pend f g c)) after cur k
+waiting core code s sl at x so t f g u c after cur k low fits asked new m under gv calm kind free nar = record {
   free = free;
   narrow = nar;
-  low = rest_code_loosen core code c.scope at u (end_of k) (cased t) low;
+  low = rest_code_loosen core code c.line.within c.scope at u (end_of c.line.overs k) (cased t) low;
   fits = fits;
+  asked = λ q e. loosen-settled (cased t q) (c.scope q) ∙ asked q e;
   new = loosen-absent (cased t x) (c.scope x) new;
-  matches = Matches-loosen (cased t) m;
+  matches = Matches-loosen (cased t) (Matches-pend f g m);
   under = all_under_loosen c.scope c.env k (cased t) under;
+  given = given_keeps c (loosened (cased t) (pend f g c)) 0 (given_of k) (record { there = λ y h. loosen-there (cased t y) (c.scope y) ∙ h; places = λ y h. refl; values = λ y h. refl; at_head = λ y o e. loosen-head (cased t y) (c.scope y) o e; heads = λ y o e. refl }) (λ y. goes_loosen (cased t y) (c.scope y)) gv;
   calm = calm;
   kind = kind;
 }
@@ -236,7 +293,7 @@ waiting core code s sl at x so t u c after cur k low fits new m under calm kind 
 
 pub follows : (x : ℕ) (u : Rest) (k : Kont) → Follows x u k → Next u k
 follows x (Plain u) k h = h
-follows x (Part s r) k h = h.0
+follows x (Part wi s r) k h = h.0
 follows x (Meet p s u) k h = h.1
 follows x (Leave p u) k h = h
 follows x (Last y ty) k h = h

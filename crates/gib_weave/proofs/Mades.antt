@@ -8,7 +8,7 @@ use Rattle.gib_core.specs.Low as low
 use Rattle.gib_core.specs.Tree.{CoreTree, FunctionTerm}
 use Rattle.gib_code.specs.declared.instruction.Entry.{Entry}
 use Rattle.gib_code.specs.Program.{CodeTree}
-use Rattle.gib_machine.specs.Machine.{State, Doing, Ready, Opening, start_at, slots_at, frame_words, whole_room, widest}
+use Rattle.gib_machine.specs.Machine.{State, Doing, Ready, Opening, start_at, slots_at, frame, whole_room, widest}
 use Rattle.gib_machine.specs.Starting.{main_entry, started, started_by, started_by_fork, entry_start, fork_to, is_packed}
 use Rattle.gib_machine.specs.Stepping.{with_tails}
 use Rattle.gib_weave.specs.Starting.{first_doing, root_start}
@@ -39,7 +39,7 @@ first_same (Tree t) = refl
 abbrev made_with : CoreTree → CodeTree → (w depth level : ℕ) → List ℕ → (ip slots : ℕ) → Ty → Doing → State
 made_with core code w depth level tails ip slots ty d = record {
   ip = ip;
-  words = frame_words slots (w ∷ []);
+  words = frame slots (w ∷ []);
   frames = [];
   depth = depth;
   level = level;
@@ -49,6 +49,7 @@ made_with core code w depth level tails ip slots ty d = record {
   tails = tails;
   room = whole_room code depth;
   width = widest code.functions;
+  gave = [];
   result = ty;
   doing = d;
 }

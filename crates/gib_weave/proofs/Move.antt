@@ -1,5 +1,5 @@
 -- What is said of a frame's slots is kept when slots change that are not relied on, and when a line knows more.
-use Rattle.std.proofs.Common.{◌≡◌, ℕ, ◌+◌, ◌<◌, Bool, true, false, cond, eqb, List, [], ◌∷◌, ◌++◌, length, Some, append_assoc, refl, sym, ap, subst, ◌∙◌}
+use Rattle.std.proofs.Common.{◌≡◌, ℕ, ◌+◌, ◌<◌, Bool, true, false, cond, eqb, List, [], ◌∷◌, ◌++◌, length, suc, Option, None, Some, append_assoc, refl, sym, ap, subst, ◌∙◌, arith}
 use Rattle.gib_types.specs.Layout.{LaidOut, head_size}
 use Rattle.gib_types.specs.Tree.{Datum}
 use Rattle.gib_syntax.specs.Meaning.{Environment, value_in}
@@ -8,17 +8,29 @@ use Rattle.gib_packed.specs.Head.{address}
 use Rattle.gib_packed.specs.Decoding.{Dec}
 use Rattle.gib_core.specs.Tree.{Term, CoreTree}
 use Rattle.gib_code.specs.Program.{CodeTree}
-use Rattle.gib_core.specs.Low.{End, Field as StoredField, field_of}
-use Rattle.gib_machine.specs.Machine.{Slots, slot, set, Frame, Open as OpenRegion}
-use Rattle.gib_core.specs.Fits.{put, Sort, Outside, Absent, Scalar, Held, Placed, Loose, AtHead, Field, Scope, is_there, has_slot, tree_type, loosen_one, loosen, Dest, Nowhere, Empty, Open, IsDue, more, dest_type}
-use Rattle.gib_weave.specs.Environment.{Ctx, IsScalar, StandsAt, Has, HasAll, Fields, none, field, IsDest, Matches}
+use Rattle.gib_core.specs.Ending.{Within}
+use Rattle.gib_core.specs.Low.{Over, End, Field as StoredField, field_of}
+use Rattle.gib_machine.specs.Machine.{Slots, slot, end_at, set, Frame, Open as OpenRegion}
+use Rattle.gib_weave.specs.EndWords.{both, EndWord, HasEnd, IsTold}
+use Rattle.gib_core.specs.Fits.{put, Sort, Outside, Absent, Scalar, Held, Placed, Loose, AtHead, Field, Scope, is_settled, Line, is_there, has_slot, tree_type, loosen_one, loosen, Dest, Nowhere, Empty, Open, IsDue, more, dest_type}
+use Rattle.gib_weave.specs.Environment.{Given, AreGiven, AllClose, Ctx, IsScalar, StandsAt, Has, HasAll, Fields, none, field, IsDest, Matches}
 use Rattle.gib_weave.specs.Continuing.{Rest, Plain, Part, Meet, Leave, Last, KSide, KLast, RestCode, Kont, KEnd, KHere, KRegion, KScalar, KCall, KCallScalar, Goes, Under, AllUnder, Agrees, IsCode}
 use Rattle.gib_weave.specs.Places.{within, head_covers}
 use Rattle.gib_weave.specs.Stacks.{Waits, Stack}
-use Rattle.gib_weave.proofs.Basics.{by_test, put-same, put-other, set-same, set-other, set-length}
+use Rattle.gib_weave.proofs.Basics.{by_test, put-same, put-other, set-same, set-other, set-length, end-same, end-other, ends-length, both-other}
 
 clash : true ≡ false → ⊥
 clash h = absurd cc
+
+pub settled_there : (so : Sort) → is_settled so ≡ true → is_there so ≡ true
+settled_there Outside h = absurd (clash (sym h))
+settled_there Absent h = absurd (clash (sym h))
+settled_there (Scalar ty) h = refl
+settled_there Held h = refl
+settled_there (Placed u) h = refl
+settled_there (Loose u) h = refl
+settled_there (AtHead u) h = refl
+settled_there (Field u z x k p) h = refl
 
 -- one slot's change, as far as a line relies on it
 abbrev pub MovedOne : LaidOut → Store → Sort → ℕ → ℕ → Datum → Type 0
@@ -33,7 +45,24 @@ MovedOne laid s (Field t z x k p) w w' v = Unit {0}
 
 pub record Moved (laid : LaidOut) (s : Store) (sl sl' : Slots) (c : Ctx) : Type 0 where
   pub one : (y : ℕ) → MovedOne laid s (c.scope y) (slot sl y) (slot sl' y) (value_in c.env y)
-  pub long : length sl' ≡ length sl
+  pub long : length sl'.vars ≡ length sl.vars
+  pub ends : (y : ℕ) → HasEnd laid s (c.scope y) (slot sl y) (end_at sl y) (value_in c.env y) (c.pl y) → HasEnd laid s (c.scope y) (slot sl' y) (end_at sl' y) (value_in c.env y) (c.pl y)
+  pub same_ends : length sl'.ends ≡ length sl.ends
+  pub kept : (y : ℕ) → is_settled (c.scope y) ≡ true → 0 < end_at sl y → 0 < end_at sl' y
+
+-- an end is as it was
+end_moved : (laid : LaidOut) (s : Store) (t w w' e e' pl : ℕ) (v : Datum) → w' ≡ w → e' ≡ e → EndWord laid s t pl w e v → EndWord laid s t pl w' e' v
+end_moved laid s t w w' e e' pl v p q h = subst (λ (z : ℕ). EndWord laid s t pl z e' v) (sym p) (subst (λ (z : ℕ). EndWord laid s t pl w z v) (sym q) h)
+
+pub end_kept : (laid : LaidOut) (s : Store) (so : Sort) (w w' e e' : ℕ) (v : Datum) (pl : ℕ) → (is_there so ≡ true → w' ≡ w) → (is_there so ≡ true → e' ≡ e) → HasEnd laid s so w e v pl → HasEnd laid s so w' e' v pl
+end_kept laid s Outside w w' e e' v pl p q h = tt
+end_kept laid s Absent w w' e e' v pl p q h = tt
+end_kept laid s (Scalar ty) w w' e e' v pl p q h = tt
+end_kept laid s Held w w' e e' v pl p q h = tt
+end_kept laid s (Placed t) w w' e e' v pl p q h = end_moved laid s t w w' e e' pl v (p refl) (q refl) h
+end_kept laid s (Loose t) w w' e e' v pl p q h = end_moved laid s t w w' e e' pl v (p refl) (q refl) h
+end_kept laid s (AtHead t) w w' e e' v pl p q h = end_moved laid s t w w' e e' pl v (p refl) (q refl) h
+end_kept laid s (Field t z x k p') w w' e e' v pl p q h = tt
 
 pub moved_absent : (laid : LaidOut) (s : Store) (so : Sort) (w w' : ℕ) (v : Datum) → is_there so ≡ false → MovedOne laid s so w w' v
 moved_absent laid s Outside w w' v h = tt
@@ -76,24 +105,28 @@ pub HasAll-moved : {laid : LaidOut} {s : Store} {sl sl' : Slots} {c : Ctx} → M
 HasAll-moved {laid} {s} {sl} {sl'} {c} m h = record {
   has = λ y. Has-moved laid s c (c.scope y) (slot sl y) (slot sl' y) (value_in c.env y) (c.pl y) (c.hd y) (m.one y) (h.has y);
   wide = λ y e. subst (λ (n : ℕ). y < n) (sym m.long) (h.wide y e);
+  ends = λ y. m.ends y (h.ends y);
+  even = m.same_ends ∙ h.even ∙ sym m.long;
+  told = λ q e. let t = h.told q e in record { settled = t.settled; some = m.kept q t.settled t.some };
+  closes = h.closes;
 }
 
 pub Matches-moved : {laid : LaidOut} {s : Store} {sl sl' : Slots} {c : Ctx} {cur : ℕ} → Moved laid s sl sl' c → Matches laid s sl c cur → Matches laid s sl' c cur
 Matches-moved {laid} {s} {sl} {sl'} {c} {cur} m h = record { vars = HasAll-moved m h.vars; dest = IsDest-moved laid s sl sl' c cur c.dest m h.dest }
 
 Waits-moved : {core : CoreTree} {code : CodeTree} {s : Store} {sl sl' : Slots} {at x : ℕ} {so : Sort} {u : Rest} {c : Ctx} {after : Dest} {cur : ℕ} {k : Kont} → Moved code.laid s sl sl' c → Waits core code s sl at x so u c after cur k → Waits core code s sl' at x so u c after cur k
-Waits-moved m w = record { free = w.free; narrow = w.narrow; low = w.low; fits = w.fits; new = w.new; matches = Matches-moved m w.matches; under = w.under; calm = w.calm; kind = w.kind }
+Waits-moved m w = record { free = w.free; narrow = w.narrow; low = w.low; fits = w.fits; asked = w.asked; new = w.new; matches = Matches-moved m w.matches; given = w.given; under = w.under; calm = w.calm; kind = w.kind }
 
 -- the lines of this frame that wait rely on none of the changes
 abbrev pub AllMoved : LaidOut → Store → Slots → Slots → Kont → Type 0
 AllMoved laid s sl sl' (KEnd ty) = Unit {0}
 AllMoved laid s sl sl' (KSide y0 ty) = Unit {0}
 AllMoved laid s sl sl' (KLast l0 y0 s0) = slot sl' y0 ≡ slot sl y0
-AllMoved laid s sl sl' (KHere l x t u c k) = (slot sl' x ≡ slot sl x) × Moved laid s sl sl' c × AllMoved laid s sl sl' k
-AllMoved laid s sl sl' (KRegion l x t u c k) = (slot sl' x ≡ slot sl x) × Moved laid s sl sl' c × AllMoved laid s sl sl' k
+AllMoved laid s sl sl' (KHere l x t u c k) = (both sl' x ≡ both sl x) × Moved laid s sl sl' c × AllMoved laid s sl sl' k
+AllMoved laid s sl sl' (KRegion l x t u c k) = (both sl' x ≡ both sl x) × Moved laid s sl sl' c × AllMoved laid s sl sl' k
 AllMoved laid s sl sl' (KScalar l x ty u c k) = Moved laid s sl sl' c × AllMoved laid s sl sl' k
-AllMoved laid s sl sl' (KCall k) = Unit {0}
-AllMoved laid s sl sl' (KCallScalar x ty u c k) = Unit {0}
+AllMoved laid s sl sl' (KCall gs wc k) = Unit {0}
+AllMoved laid s sl sl' (KCallScalar x ty gs u c k) = Unit {0}
 
 pub Stack-moved : (core : CoreTree) (code : CodeTree) (s : Store) (k : Kont) (sl sl' : Slots) (fs : List Frame) (a : ℕ) (rs : List OpenRegion) → AllMoved code.laid s sl sl' k → Stack core code s k sl fs a rs → Stack core code s k sl' fs a rs
 Stack-moved core code s (KEnd ty) sl sl' [] a rs m h = h
@@ -108,12 +141,32 @@ Stack-moved core code s (KHere l x t u c k) sl sl' fs a rs m h = (m.0 ∙ h.0, h
 Stack-moved core code s (KRegion l x t u c k) sl sl' fs a [] m h = absurd h
 Stack-moved core code s (KRegion l x t u c k) sl sl' fs a (q ∷ rs) m h = (m.0 ∙ h.0, h.1, h.2, Waits-moved m.1 h.3, Stack-moved core code s k sl sl' fs c.front rs m.2 h.4)
 Stack-moved core code s (KScalar l x ty u c k) sl sl' fs a rs m h = (h.0, Waits-moved m.0 h.1, Stack-moved core code s k sl sl' fs c.front rs m.1 h.2)
-Stack-moved core code s (KCall k) sl sl' [] a rs m h = absurd h
-Stack-moved core code s (KCall k) sl sl' (f ∷ fs) a rs m h = h
-Stack-moved core code s (KCallScalar x ty u c k) sl sl' [] a rs m h = absurd h
-Stack-moved core code s (KCallScalar x ty u c k) sl sl' (f ∷ fs) a rs m h = h
+Stack-moved core code s (KCall gs wc k) sl sl' [] a rs m h = absurd h
+Stack-moved core code s (KCall gs wc k) sl sl' (f ∷ fs) a rs m h = h
+Stack-moved core code s (KCallScalar x ty gs u c k) sl sl' [] a rs m h = absurd h
+Stack-moved core code s (KCallScalar x ty gs u c k) sl sl' (f ∷ fs) a rs m h = h
 
 -- A line knows more.
+
+pub tree_settled : (i : Sort) (t : ℕ) → tree_type i ≡ Some t → is_settled i ≡ true
+tree_settled Outside t h = absurd cc
+tree_settled Absent t h = absurd cc
+tree_settled (Scalar ty) t h = refl
+tree_settled Held t h = absurd cc
+tree_settled (Placed u) t h = refl
+tree_settled (Loose u) t h = refl
+tree_settled (AtHead u) t h = refl
+tree_settled (Field u z x k p) t h = absurd cc
+
+pub goes_settled : (o i : Sort) → Goes o i → is_settled o ≡ true → is_settled i ≡ true
+goes_settled Outside i g h = absurd (clash (sym h))
+goes_settled Absent i g h = absurd (clash (sym h))
+goes_settled (Scalar ty) i g h = ap is_settled g
+goes_settled Held i g h = absurd (clash (sym h))
+goes_settled (Placed t) i g h = tree_settled i t g
+goes_settled (Loose t) i g h = tree_settled i t g
+goes_settled (AtHead t) i g h = ap is_settled g
+goes_settled (Field t z x k p) i g h = absurd (clash (sym h))
 
 pub tree_there : (i : Sort) (t : ℕ) → tree_type i ≡ Some t → is_there i ≡ true
 tree_there Outside t h = absurd cc
@@ -144,8 +197,14 @@ new_under {o} {sc} x u n = go (is_there (o.scope x)) refl
 
 -- a slot is set that the line does not rely on
 pub moved_set : {laid : LaidOut} {s : Store} {sl : Slots} {c : Ctx} (x w : ℕ) → is_there (c.scope x) ≡ false → Moved laid s sl (set sl x w) c
-moved_set {laid} {s} {sl} {c} x w n = record { one = λ y. one y; long = set-length sl x w }
+moved_set {laid} {s} {sl} {c} x w n = record { one = λ y. one y; long = set-length sl x w; ends = λ y. ends y; same_ends = ends-length sl x w 0; kept = λ y st p. subst (λ (z : ℕ). 0 < z) (sym (end-other sl x y w 0 (not_it y (settled_there (c.scope y) st)))) p }
   where
+    not_it : (y : ℕ) → is_there (c.scope y) ≡ true → y ≡ x → ⊥
+    not_it y h e = clash (sym h ∙ ap (λ z. is_there (c.scope z)) e ∙ n)
+
+    ends : (y : ℕ) → HasEnd laid s (c.scope y) (slot sl y) (end_at sl y) (value_in c.env y) (c.pl y) → HasEnd laid s (c.scope y) (slot (set sl x w) y) (end_at (set sl x w) y) (value_in c.env y) (c.pl y)
+    ends y = end_kept laid s (c.scope y) (slot sl y) (slot (set sl x w) y) (end_at sl y) (end_at (set sl x w) y) (value_in c.env y) (c.pl y) (λ h. set-other sl x y w (not_it y h)) (λ h. end-other sl x y w 0 (not_it y h))
+
     one : (y : ℕ) → MovedOne laid s (c.scope y) (slot sl y) (slot (set sl x w) y) (value_in c.env y)
     one y = by_test y x (λ b. MovedOne laid s (c.scope y) (slot sl y) (slot (set sl x w) y) (value_in c.env y))
         (λ e. moved_absent laid s (c.scope y) (slot sl y) (slot (set sl x w) y) (value_in c.env y) (ap (λ z. is_there (c.scope z)) e ∙ n))
@@ -158,11 +217,11 @@ pub all_moved_set : (laid : LaidOut) (s : Store) (sl : Slots) (sc : Scope) (env 
 all_moved_set laid s sl sc env (KEnd ty) x w u n = tt
 all_moved_set laid s sl sc env (KSide y0 ty) x w u n = tt
 all_moved_set laid s sl sc env (KLast l0 y0 s0) x w u n = set-other sl x y0 w (held sc x y0 u n)
-all_moved_set laid s sl sc env (KHere l y s' t c k) x w u n = (set-other sl x y w (held sc x y u.0 n), moved_set x w (new_under x u.1 n), all_moved_set laid s sl sc env k x w u.2 n)
-all_moved_set laid s sl sc env (KRegion l y s' t c k) x w u n = (set-other sl x y w (held sc x y u.0 n), moved_set x w (new_under x u.1 n), all_moved_set laid s sl sc env k x w u.2 n)
+all_moved_set laid s sl sc env (KHere l y s' t c k) x w u n = (both-other sl x y w 0 (held sc x y u.0 n), moved_set x w (new_under x u.1 n), all_moved_set laid s sl sc env k x w u.2 n)
+all_moved_set laid s sl sc env (KRegion l y s' t c k) x w u n = (both-other sl x y w 0 (held sc x y u.0 n), moved_set x w (new_under x u.1 n), all_moved_set laid s sl sc env k x w u.2 n)
 all_moved_set laid s sl sc env (KScalar l y ty t c k) x w u n = (moved_set x w (new_under x u.0 n), all_moved_set laid s sl sc env k x w u.1 n)
-all_moved_set laid s sl sc env (KCall k) x w u n = tt
-all_moved_set laid s sl sc env (KCallScalar y ty t c k) x w u n = tt
+all_moved_set laid s sl sc env (KCall gs wc k) x w u n = tt
+all_moved_set laid s sl sc env (KCallScalar y ty gs t c k) x w u n = tt
 
 -- what is there in one line is so in the other
 pub record Keeps (c c' : Ctx) : Type 0 where
@@ -190,6 +249,21 @@ Has-keeps laid s c c' (Field t z x con p) w v at hd k h = record {
   stands = h.stands;
 }
 
+pub closes_keeps : (laid : LaidOut) (s : Store) (c c' : Ctx) (os : List Over) → Keeps c c' → AllClose laid s c os → AllClose laid s c' os
+closes_keeps laid s c c' [] k h = tt
+closes_keeps laid s c c' (o ∷ os) k h = (
+  record {
+    tx = h.0.tx;
+    head = k.at_head o.tree h.0.tx h.0.head;
+    there = k.there o.field h.0.there;
+    ty = h.0.ty;
+    end = h.0.end;
+    tree = subst (λ (q : ℕ). Dec laid s q h.0.tx (value_in c'.env o.tree) h.0.end) (sym (k.heads o.tree h.0.tx h.0.head)) (subst (λ (q : Datum). Dec laid s (c.hd o.tree) h.0.tx q h.0.end) (sym (k.values o.tree (ap is_there h.0.head))) h.0.tree);
+    field = subst (λ (q : ℕ). Dec laid s q h.0.ty (value_in c'.env o.field) h.0.end) (sym (k.places o.field h.0.there)) (subst (λ (q : Datum). Dec laid s (c.pl o.field) h.0.ty q h.0.end) (sym (k.values o.field h.0.there)) h.0.field);
+  },
+  closes_keeps laid s c c' os k h.1,
+)
+
 pub Fields-keeps : {laid : LaidOut} {s : Store} {c c' : Ctx} {a z : ℕ} {xs ts : List ℕ} → Keeps c c' → Fields laid s c a xs ts z → Fields laid s c' a xs ts z
 Fields-keeps k none = none
 Fields-keeps {laid} {s} {c} {c'} {a = a} k (field {x = x} {y = y} {t = t} h p d f) =
@@ -211,11 +285,15 @@ pub bound-is : (env : Environment) (x : ℕ) (v : Datum) (y : ℕ) → value_in 
 bound-is env x v y = by_test y x (λ b. value_in ((x, v) ∷ env) y ≡ cond b v (value_in env y)) (λ e. ap (value_in ((x, v) ∷ env)) e ∙ bound-same env x v) (λ e. bound-other env x v y e)
 
 abbrev pub with_var : Ctx → ℕ → Sort → Datum → ℕ → Ctx
-with_var c x so v at = record { scope = put c.scope x so; env = (x, v) ∷ c.env; pl = put c.pl x at; hd = c.hd; dest = c.dest; front = c.front; head = c.head }
+with_var c x so v at = record { scope = put c.scope x so; env = (x, v) ∷ c.env; pl = put c.pl x at; hd = c.hd; dest = c.dest; front = c.front; head = c.head; line = c.line }
 
 -- the same with another destination
 abbrev pub with_dest : Ctx → Dest → Ctx
-with_dest c d = record { scope = c.scope; env = c.env; pl = c.pl; hd = c.hd; dest = d; front = c.front; head = c.head }
+with_dest c d = record { scope = c.scope; env = c.env; pl = c.pl; hd = c.hd; dest = d; front = c.front; head = c.head; line = c.line }
+
+-- the same with other ends
+abbrev pub with_line : Ctx → Line → Ctx
+with_line c ln = record { scope = c.scope; env = c.env; pl = c.pl; hd = c.hd; dest = c.dest; front = c.front; head = c.head; line = ln }
 
 pub not_there : (sc : Scope) (x : ℕ) → sc x ≡ Absent → is_there (sc x) ≡ false
 not_there sc x n = ap is_there n
@@ -239,10 +317,22 @@ pub absent_slot : (sc : Scope) (x : ℕ) → sc x ≡ Absent → has_slot (sc x)
 absent_slot sc x n = ap has_slot n
 
 -- a new variable, where its slot is as it should be and the others' are as they were
-pub HasAll-new : (laid : LaidOut) (s : Store) (sl sl' : Slots) (c : Ctx) (x : ℕ) (so : Sort) (v : Datum) (at : ℕ) → c.scope x ≡ Absent → length sl' ≡ length sl → ((y : ℕ) → (y ≡ x → ⊥) → slot sl' y ≡ slot sl y) → Has laid s (with_var c x so v at) so (slot sl' x) v at (c.hd x)
+pub HasAll-new : (laid : LaidOut) (s : Store) (sl sl' : Slots) (c : Ctx) (x : ℕ) (so : Sort) (v : Datum) (at : ℕ) → c.scope x ≡ Absent → length sl'.vars ≡ length sl.vars → ((y : ℕ) → (y ≡ x → ⊥) → slot sl' y ≡ slot sl y) → length sl'.ends ≡ length sl.ends → ((y : ℕ) → (y ≡ x → ⊥) → end_at sl' y ≡ end_at sl y) → Has laid s (with_var c x so v at) so (slot sl' x) v at (c.hd x) → HasEnd laid s so (slot sl' x) (end_at sl' x) v at
     → HasAll laid s sl c → HasAll laid s sl' (with_var c x so v at)
-HasAll-new laid s sl sl' c x so v at n len others h hs = record { has = has; wide = wide }
+HasAll-new laid s sl sl' c x so v at n len others lens other_ends h he hs = record { has = has; wide = wide; ends = ends; even = lens ∙ hs.even ∙ sym len; told = told; closes = closes_keeps laid s c c' c.line.overs (keeps_var c x so v at n) hs.closes }
   where
+    told : (q : ℕ) → c.line.told q ≡ true → IsTold sl' (put c.scope x so) q
+    told q e =
+        let t = hs.told q e in
+        let ne = other c.scope q x (settled_there (c.scope q) t.settled) n in
+        record { settled = ap is_settled (put-other c.scope x q so ne) ∙ t.settled; some = subst (λ (z : ℕ). 0 < z) (sym (other_ends q ne)) t.some }
+
+    ends : (y : ℕ) → HasEnd laid s (put c.scope x so y) (slot sl' y) (end_at sl' y) (value_in ((x, v) ∷ c.env) y) (put c.pl x at y)
+    ends y = subst (λ (q : Datum). HasEnd laid s (put c.scope x so y) (slot sl' y) (end_at sl' y) q (put c.pl x at y)) (sym (bound-is c.env x v y))
+        (by_test y x (λ b. HasEnd laid s (cond b so (c.scope y)) (slot sl' y) (end_at sl' y) (cond b v (value_in c.env y)) (cond b at (c.pl y)))
+        (λ e. subst (λ (z : ℕ). HasEnd laid s so (slot sl' z) (end_at sl' z) v at) (sym e) he)
+        (λ e. end_kept laid s (c.scope y) (slot sl y) (slot sl' y) (end_at sl y) (end_at sl' y) (value_in c.env y) (c.pl y) (λ i. others y e) (λ i. other_ends y e) (hs.ends y)))
+
     c' : Ctx
     c' = with_var c x so v at
 
@@ -253,23 +343,27 @@ HasAll-new laid s sl sl' c x so v at n len others h hs = record { has = has; wid
         (λ e. subst (λ (q : ℕ). Has laid s c' (c.scope y) q (value_in c.env y) (c.pl y) (c.hd y)) (sym (others y e))
         (Has-keeps laid s c c' (c.scope y) (slot sl y) (value_in c.env y) (c.pl y) (c.hd y) (keeps_var c x so v at n) (hs.has y))))
 
-    wide : (y : ℕ) → has_slot (put c.scope x so y) ≡ true → y < length sl'
+    wide : (y : ℕ) → has_slot (put c.scope x so y) ≡ true → y < length sl'.vars
     wide y = subst (λ (m : ℕ). has_slot (put c.scope x so y) ≡ true → y < m) (sym len)
-        (by_test y x (λ b. has_slot (cond b so (c.scope y)) ≡ true → y < length sl)
-        (λ e h'. subst (λ (z : ℕ). z < length sl) (sym e) (hs.wide x (absent_slot c.scope x n)))
+        (by_test y x (λ b. has_slot (cond b so (c.scope y)) ≡ true → y < length sl.vars)
+        (λ e h'. subst (λ (z : ℕ). z < length sl.vars) (sym e) (hs.wide x (absent_slot c.scope x n)))
         (λ e h'. hs.wide y h'))
 
-pub HasAll-bind : (laid : LaidOut) (s : Store) (sl : Slots) (c : Ctx) (x : ℕ) (so : Sort) (v : Datum) (w at : ℕ) → c.scope x ≡ Absent → Has laid s (with_var c x so v at) so w v at (c.hd x) → HasAll laid s sl c → HasAll laid s (set sl x w) (with_var c x so v at)
-HasAll-bind laid s sl c x so v w at n h hs =
-    HasAll-new laid s sl (set sl x w) c x so v at n (set-length sl x w) (λ y e. set-other sl x y w e)
-    (subst (λ (q : ℕ). Has laid s (with_var c x so v at) so q v at (c.hd x)) (sym (set-same sl x w (hs.wide x (absent_slot c.scope x n)))) h) hs
+pub HasAll-bind : (laid : LaidOut) (s : Store) (sl : Slots) (c : Ctx) (x : ℕ) (so : Sort) (v : Datum) (w at : ℕ) → c.scope x ≡ Absent → Has laid s (with_var c x so v at) so w v at (c.hd x) → HasEnd laid s so w 0 v at → HasAll laid s sl c → HasAll laid s (set sl x w) (with_var c x so v at)
+HasAll-bind laid s sl c x so v w at n h he hs =
+    HasAll-new laid s sl (set sl x w) c x so v at n (set-length sl x w) (λ y e. set-other sl x y w e) (ends-length sl x w 0) (λ y e. end-other sl x y w 0 e)
+    (subst (λ (q : ℕ). Has laid s (with_var c x so v at) so q v at (c.hd x)) (sym (set-same sl x w lt)) h)
+    (subst (λ (q : ℕ). HasEnd laid s so q (end_at (set sl x w) x) v at) (sym (set-same sl x w lt)) (subst (λ (q : ℕ). HasEnd laid s so w q v at) (sym (end-same sl x w 0 (let ev = hs.even in omega (arith, lt, ev)))) he)) hs
+  where
+    lt : x < length sl.vars
+    lt = hs.wide x (absent_slot c.scope x n)
 
 -- the same where the slot is as it should be
-pub HasAll-set : (laid : LaidOut) (s : Store) (sl : Slots) (c : Ctx) (x : ℕ) (so : Sort) (v : Datum) (at : ℕ) → c.scope x ≡ Absent → Has laid s (with_var c x so v at) so (slot sl x) v at (c.hd x) → HasAll laid s sl c → HasAll laid s sl (with_var c x so v at)
-HasAll-set laid s sl c x so v at n h hs = HasAll-new laid s sl sl c x so v at n refl (λ y e. refl) h hs
+pub HasAll-set : (laid : LaidOut) (s : Store) (sl : Slots) (c : Ctx) (x : ℕ) (so : Sort) (v : Datum) (at : ℕ) → c.scope x ≡ Absent → Has laid s (with_var c x so v at) so (slot sl x) v at (c.hd x) → HasEnd laid s so (slot sl x) (end_at sl x) v at → HasAll laid s sl c → HasAll laid s sl (with_var c x so v at)
+HasAll-set laid s sl c x so v at n h he hs = HasAll-new laid s sl sl c x so v at n refl (λ y e. refl) refl (λ y e. refl) h he hs
 
-pub HasAll-dest : {laid : LaidOut} {s : Store} {sl : Slots} {c c' : Ctx} → c'.scope ≡ c.scope → Keeps c c' → HasAll laid s sl c → ((y : ℕ) → value_in c'.env y ≡ value_in c.env y) → ((y : ℕ) → c'.pl y ≡ c.pl y) → ((y : ℕ) → c'.hd y ≡ c.hd y) → HasAll laid s sl c'
-HasAll-dest {laid} {s} {sl} {c} {c'} e k h ve pe he = record {
+pub HasAll-dest : {laid : LaidOut} {s : Store} {sl : Slots} {c c' : Ctx} → c'.scope ≡ c.scope → Keeps c c' → HasAll laid s sl c → ((y : ℕ) → value_in c'.env y ≡ value_in c.env y) → ((y : ℕ) → c'.pl y ≡ c.pl y) → ((y : ℕ) → c'.hd y ≡ c.hd y) → ((q : ℕ) → c'.line.told q ≡ true → IsTold sl c.scope q) → AllClose laid s c c'.line.overs → HasAll laid s sl c'
+HasAll-dest {laid} {s} {sl} {c} {c'} e k h ve pe he te ac = record {
   has = λ y.
       subst (λ (z : Scope). Has laid s c' (z y) (slot sl y) (value_in c'.env y) (c'.pl y) (c'.hd y)) (sym e)
       (subst (λ (q : ℕ). Has laid s c' (c.scope y) (slot sl y) (value_in c'.env y) (c'.pl y) q) (sym (he y))
@@ -277,7 +371,29 @@ HasAll-dest {laid} {s} {sl} {c} {c'} e k h ve pe he = record {
       (subst (λ (q : Datum). Has laid s c' (c.scope y) (slot sl y) q (c.pl y) (c.hd y)) (sym (ve y))
       (Has-keeps laid s c c' (c.scope y) (slot sl y) (value_in c.env y) (c.pl y) (c.hd y) k (h.has y)))));
   wide = λ y f. h.wide y (ap (λ (z : Scope). has_slot (z y)) (sym e) ∙ f);
+  ends = λ y.
+      subst (λ (z : Scope). HasEnd laid s (z y) (slot sl y) (end_at sl y) (value_in c'.env y) (c'.pl y)) (sym e)
+      (subst (λ (q : ℕ). HasEnd laid s (c.scope y) (slot sl y) (end_at sl y) (value_in c'.env y) q) (sym (pe y))
+      (subst (λ (q : Datum). HasEnd laid s (c.scope y) (slot sl y) (end_at sl y) q (c.pl y)) (sym (ve y)) (h.ends y)));
+  even = h.even;
+  told = λ q f. let t = te q f in record { settled = ap (λ (z : Scope). is_settled (z q)) e ∙ t.settled; some = t.some };
+  closes = closes_keeps laid s c c' c'.line.overs k ac;
 }
+
+pub keeps_line : (c : Ctx) (ln : Line) → Keeps c (with_line c ln)
+keeps_line c ln = record { there = λ y h. h; places = λ y h. refl; values = λ y h. refl; at_head = λ y o e. e; heads = λ y o e. refl }
+
+-- other ends are told
+pub HasAll-line : {laid : LaidOut} {s : Store} {sl : Slots} {c : Ctx} (ln : Line) → ((q : ℕ) → ln.told q ≡ true → IsTold sl c.scope q) → AllClose laid s c ln.overs → HasAll laid s sl c → HasAll laid s sl (with_line c ln)
+HasAll-line {c = c} ln te ac h = HasAll-dest {c = c} {c' = with_line c ln} refl (keeps_line c ln) h (λ y. refl) (λ y. refl) (λ y. refl) te ac
+
+pub IsDest-line : (laid : LaidOut) (s : Store) (sl : Slots) (c : Ctx) (cur : ℕ) (d : Dest) (ln : Line) → IsDest laid s sl c d cur → IsDest laid s sl (with_line c ln) d cur
+IsDest-line laid s sl c cur (Nowhere ty) ln h = tt
+IsDest-line laid s sl c cur (Empty t) ln h = h
+IsDest-line laid s sl c cur (Open t x k xs dues) ln h = record { con = h.con; slot = h.slot; sort = h.sort; leads = h.leads; types = h.types; all = h.all; fields = Fields-keeps (keeps_line c ln) h.fields }
+
+pub Matches-line : {laid : LaidOut} {s : Store} {sl : Slots} {c : Ctx} {cur : ℕ} (ln : Line) → ((q : ℕ) → ln.told q ≡ true → IsTold sl c.scope q) → AllClose laid s c ln.overs → Matches laid s sl c cur → Matches laid s sl (with_line c ln) cur
+Matches-line {laid} {s} {sl} {c} {cur} ln te ac m = record { vars = HasAll-line ln te ac m.vars; dest = IsDest-line laid s sl c cur c.dest ln m.dest }
 
 pub IsDest-bind : (laid : LaidOut) (s : Store) (sl : Slots) (c : Ctx) (cur x : ℕ) (so : Sort) (v : Datum) (at : ℕ) (d : Dest) → c.scope x ≡ Absent → IsDest laid s sl c d cur → IsDest laid s sl (with_var c x so v at) d cur
 IsDest-bind laid s sl c cur x so v at (Nowhere ty) n h = tt
@@ -383,8 +499,8 @@ all_under_goes sc sc' env env' (KLast l0 y0 s0) g e u = subst (λ (z : Sort). Go
 all_under_goes sc sc' env env' (KHere l x s t c k) g e u = (subst (λ (z : Sort). Goes z (sc' x)) u.0 (g x), under_goes g e u.1, all_under_goes sc sc' env env' k g e u.2)
 all_under_goes sc sc' env env' (KRegion l x s t c k) g e u = (subst (λ (z : Sort). Goes z (sc' x)) u.0 (g x), under_goes g e u.1, all_under_goes sc sc' env env' k g e u.2)
 all_under_goes sc sc' env env' (KScalar l x ty t c k) g e u = (under_goes g e u.0, all_under_goes sc sc' env env' k g e u.1)
-all_under_goes sc sc' env env' (KCall k) g e u = tt
-all_under_goes sc sc' env env' (KCallScalar x ty t c k) g e u = tt
+all_under_goes sc sc' env env' (KCall gs wc k) g e u = tt
+all_under_goes sc sc' env env' (KCallScalar x ty gs t c k) g e u = tt
 
 pub goes_new : (sc : Scope) (x : ℕ) (so : Sort) → sc x ≡ Absent → (y : ℕ) → Goes (sc y) (put sc x so y)
 goes_new sc x so n y = by_test y x (λ b. Goes (sc y) (cond b so (sc y))) (λ e. goes-absent (sc y) so (ap (λ z. is_there (sc z)) e ∙ ap is_there n)) (λ e. goes-refl (sc y))
@@ -421,24 +537,47 @@ loosen_field true (Field u z' x' k' p') t z x k p e = e
 pub agrees_loosen : (fs : List StoredField) (sc : Scope) (m : ℕ → Bool) → Agrees fs sc → Agrees fs (loosen m sc)
 agrees_loosen fs sc m h = record { agrees = λ y t z o k p e. h.agrees y t z o k p (loosen_field (m y) (sc y) t z o k p e) }
 
-pub code_put : {core : CoreTree} {code : CodeTree} {sc : Scope} {at : ℕ} {u : Term} {e : End} (x : ℕ) (so : Sort) → is_field so ≡ false → IsCode core code sc at u e → IsCode core code (put sc x so) at u e
+pub code_put : {core : CoreTree} {code : CodeTree} {w : Within} {sc : Scope} {at : ℕ} {u : Term} {e : End} (x : ℕ) (so : Sort) → is_field so ≡ false → IsCode core code w sc at u e → IsCode core code w (put sc x so) at u e
 code_put {sc = sc} x so n l = record { fields = l.fields; until = l.until; low = l.low; agree = agrees_put l.fields sc x so n l.agree }
 
-pub code_loosen : {core : CoreTree} {code : CodeTree} {sc : Scope} {at : ℕ} {u : Term} {e : End} (m : ℕ → Bool) → IsCode core code sc at u e → IsCode core code (loosen m sc) at u e
+pub code_loosen : {core : CoreTree} {code : CodeTree} {w : Within} {sc : Scope} {at : ℕ} {u : Term} {e : End} (m : ℕ → Bool) → IsCode core code w sc at u e → IsCode core code w (loosen m sc) at u e
 code_loosen {sc = sc} m l = record { fields = l.fields; until = l.until; low = l.low; agree = agrees_loosen l.fields sc m l.agree }
 
 -- The same of what is next in a line.
 
-pub rest_code_put : (core : CoreTree) (code : CodeTree) (sc : Scope) (at : ℕ) (u : Rest) (e : End) (x : ℕ) (so : Sort) → is_field so ≡ false → RestCode core code sc at u e → RestCode core code (put sc x so) at u e
-rest_code_put core code sc at (Plain u) e x so n l = code_put x so n l
-rest_code_put core code sc at (Part s r) e x so n l = (l.0, l.1, l.2, agrees_put l.0 sc x so n l.3, rest_code_put core code sc l.1 r e x so n l.4)
-rest_code_put core code sc at (Meet p s u) e x so n l = record { fields = l.fields; until = l.until; join = l.join; side = l.side; back = l.back; next = code_put x so n l.next; agree = agrees_put l.fields sc x so n l.agree; label = l.label; kind = l.kind; variable = l.variable }
-rest_code_put core code sc at (Leave p u) e x so n l = (l.0, code_put x so n l.1)
-rest_code_put core code sc at (Last y ty) e x so n l = l
+pub rest_code_put : (core : CoreTree) (code : CodeTree) (w : Within) (sc : Scope) (at : ℕ) (u : Rest) (e : End) (x : ℕ) (so : Sort) → is_field so ≡ false → RestCode core code w sc at u e → RestCode core code w (put sc x so) at u e
+rest_code_put core code w sc at (Plain u) e x so n l = code_put x so n l
+rest_code_put core code w sc at (Part wi s r) e x so n l = (l.0, l.1, l.2, agrees_put l.0 sc x so n l.3, rest_code_put core code w sc l.1 r e x so n l.4)
+rest_code_put core code w sc at (Meet p s u) e x so n l = record { fields = l.fields; until = l.until; join = l.join; side = l.side; back = l.back; next = code_put x so n l.next; agree = agrees_put l.fields sc x so n l.agree; label = l.label; kind = l.kind; variable = l.variable }
+rest_code_put core code w sc at (Leave p u) e x so n l = (l.0, code_put x so n l.1)
+rest_code_put core code w sc at (Last y ty) e x so n l = l
 
-pub rest_code_loosen : (core : CoreTree) (code : CodeTree) (sc : Scope) (at : ℕ) (u : Rest) (e : End) (m : ℕ → Bool) → RestCode core code sc at u e → RestCode core code (loosen m sc) at u e
-rest_code_loosen core code sc at (Plain u) e m l = code_loosen m l
-rest_code_loosen core code sc at (Part s r) e m l = (l.0, l.1, l.2, agrees_loosen l.0 sc m l.3, rest_code_loosen core code sc l.1 r e m l.4)
-rest_code_loosen core code sc at (Meet p s u) e m l = record { fields = l.fields; until = l.until; join = l.join; side = l.side; back = l.back; next = code_loosen m l.next; agree = agrees_loosen l.fields sc m l.agree; label = l.label; kind = l.kind; variable = l.variable }
-rest_code_loosen core code sc at (Leave p u) e m l = (l.0, code_loosen m l.1)
-rest_code_loosen core code sc at (Last y ty) e m l = l
+pub rest_code_loosen : (core : CoreTree) (code : CodeTree) (w : Within) (sc : Scope) (at : ℕ) (u : Rest) (e : End) (m : ℕ → Bool) → RestCode core code w sc at u e → RestCode core code w (loosen m sc) at u e
+rest_code_loosen core code w sc at (Plain u) e m l = code_loosen m l
+rest_code_loosen core code w sc at (Part wi s r) e m l = (l.0, l.1, l.2, agrees_loosen l.0 sc m l.3, rest_code_loosen core code w sc l.1 r e m l.4)
+rest_code_loosen core code w sc at (Meet p s u) e m l = record { fields = l.fields; until = l.until; join = l.join; side = l.side; back = l.back; next = code_loosen m l.next; agree = agrees_loosen l.fields sc m l.agree; label = l.label; kind = l.kind; variable = l.variable }
+rest_code_loosen core code w sc at (Leave p u) e m l = (l.0, code_loosen m l.1)
+rest_code_loosen core code w sc at (Last y ty) e m l = l
+
+-- What a frame was given.
+
+goes_tree : (o i : Sort) (t : ℕ) → Goes o i → tree_type o ≡ Some t → tree_type i ≡ Some t
+goes_tree Outside i t g h = absurd cc
+goes_tree Absent i t g h = absurd cc
+goes_tree (Scalar ty) i t g h = absurd cc
+goes_tree Held i t g h = absurd cc
+goes_tree (Placed u) i t g h = g ∙ h
+goes_tree (Loose u) i t g h = g ∙ h
+goes_tree (AtHead u) i t g h = ap tree_type g ∙ h
+goes_tree (Field u z x k p) i t g h = absurd cc
+
+-- lines that know more know them too: a variable bound, reached, or cased
+pub given_keeps : (c c' : Ctx) (j : ℕ) (gs : List (Option Given)) → Keeps c c' → ((y : ℕ) → Goes (c.scope y) (c'.scope y)) → AreGiven c j gs → AreGiven c' j gs
+given_keeps c c' j [] k go g = tt
+given_keeps c c' j (None ∷ gs) k go g = given_keeps c c' (suc j) gs k go g
+given_keeps c c' j (Some x ∷ gs) k go g =
+    let th = tree_there (c.scope j) x.t g.0 in
+    (goes_tree (c.scope j) (c'.scope j) x.t (go j) g.0, k.places j th ∙ g.1, k.values j th ∙ g.2, given_keeps c c' (suc j) gs k go g.3)
+
+pub given_bind : (c : Ctx) (x : ℕ) (so : Sort) (v : Datum) (at : ℕ) (gs : List (Option Given)) → c.scope x ≡ Absent → AreGiven c 0 gs → AreGiven (with_var c x so v at) 0 gs
+given_bind c x so v at gs n g = given_keeps c (with_var c x so v at) 0 gs (keeps_var c x so v at n) (goes_new c.scope x so n) g

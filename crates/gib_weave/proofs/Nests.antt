@@ -1,5 +1,5 @@
 -- A body has no more regions and `par`s open at a time than its code says.
-use Rattle.std.proofs.Common.{◌≡◌, ℕ, zero, suc, ◌+◌, ◌-◌, ◌≤◌, List, [], ◌∷◌, ◌++◌, Option, Some, None, refl, ap, ◌∙◌, arith}
+use Rattle.std.proofs.Common.{Bool, true, false, cond, ◌≡◌, ℕ, zero, suc, ◌+◌, ◌-◌, ◌≤◌, List, [], ◌∷◌, ◌++◌, Option, Some, None, refl, ap, ◌∙◌, arith}
 use Rattle.std.specs.Prelude.{slice_get}
 use Rattle.gib_types.specs.declared.table.Ty.{Ty}
 use Rattle.gib_types.specs.declared.table.Ty.TheVariants.{Whole, Truth, Tree}
@@ -13,7 +13,13 @@ use Rattle.gib_code.specs.declared.instruction.Arm.{Arm}
 use Rattle.gib_code.specs.declared.instruction.Operand.{Operand}
 use Rattle.gib_code.specs.Instruction.{Instruction}
 use Rattle.gib_code.specs.Program.{CodeTree, IsAt, AreAt, none, one_more}
+use Rattle.gib_core.specs.declared.atom.Atom.{Atom}
 use Rattle.gib_core.specs.Low as low
+use Rattle.gib_core.specs.declared.atom.Ended.{Ended}
+use Rattle.gib_core.specs.Ending.{Within, within_par, ended, has_ended}
+use Rattle.gib_core.specs.declared.atom.Atom.{Atom}
+use Rattle.gib_core.specs.declared.atom.Atom.TheVariants as atom
+use Rattle.gib_code.specs.Instruction as i
 use Rattle.gib_core.specs.Low.{Low, LowArms, LowBind, LowSide, End, Returns, To, Field, ending, giving, reaching, scalar_reads, first_reach, arm_opening, laid_of, with_fields}
 use Rattle.gib_machine.specs.Machine.{open_behind, nesting_from, nesting}
 use Rattle.gib_weave.specs.Continuing.{nest, bind_nest, side_nest, branches_nest}
@@ -54,17 +60,39 @@ plain_append : (is js : List Instruction) → ArePlain is → ArePlain js → Ar
 plain_append [] js p q = q
 plain_append (i ∷ is) js p q = (p.0, plain_append is js p.1 q)
 
-plain_ending : (e : End) → IsPlain (ending e)
-plain_ending Returns = λ n. refl
-plain_ending (To l d) = λ n. refl
+plain_overs : (os : List low.Over) (is : List Instruction) → ArePlain is → ArePlain (low.over_all os ++ is)
+plain_overs [] is p = p
+plain_overs (o ∷ os) is p = ((λ n. refl), plain_overs os is p)
+
+plain_ending : (e : End) → ArePlain (ending e)
+plain_ending (Returns os) = plain_overs os (i.Return ∷ []) ((λ n. refl), tt)
+plain_ending (To l d) = ((λ n. refl), tt)
+
+plain_gots : (es : List Ended) (f k : ℕ) (xs : List Atom) → ArePlain (low.got_from es f k xs)
+plain_gots es f k [] = tt
+plain_gots es f k (atom.Variable z ∷ xs) = by (has_ended es f k) (plain_gots es f (suc k) xs)
+  where
+    by : (b : Bool) → ArePlain (low.got_from es f (suc k) xs) → ArePlain (cond b (i.Got z.0 k ∷ low.got_from es f (suc k) xs) (low.got_from es f (suc k) xs))
+    by true r = ((λ n. refl), r)
+    by false r = r
+plain_gots es f k (atom.Whole z ∷ xs) = plain_gots es f (suc k) xs
+plain_gots es f k (atom.Truth b ∷ xs) = plain_gots es f (suc k) xs
+
+plain_all_gots : (w : Within) (core : CoreTree) (f : ℕ) (xs : List Atom) → ArePlain (low.gots w core f xs)
+plain_all_gots w core f xs = by w.par
+  where
+    by : (b : Bool) → ArePlain (cond b [] (low.got_from (ended core) f 0 xs))
+    by true = tt
+    by false = plain_gots (ended core) f 0 xs
 
 plain_giving : (s : Operand) (e : End) → ArePlain (giving s e)
-plain_giving s Returns = ((λ n. refl), tt)
+plain_giving s (Returns os) = plain_overs os (i.Give s ∷ []) ((λ n. refl), tt)
 plain_giving s (To l d) = ((λ n. refl), ((λ n. refl), tt))
 
 plain_reaching : (fs : List Field) (y : Variable) (access : Access) → IsPlain (reaching fs y access)
 plain_reaching fs y by.Offset = λ n. refl
 plain_reaching fs y (by.Skip z) = λ n. refl
+plain_reaching fs y (by.End z) = λ n. refl
 
 plain_reads : (x p : ℕ) (ts : List Ty) (ys : List Variable) → ArePlain (scalar_reads x p ts ys)
 plain_reads x p [] ys = tt
@@ -103,87 +131,91 @@ module _ (core : CoreTree) (code : CodeTree) where
     pub back : opened z ≡ opened a
     pub below : opened a + n ≤ nesting code
 
+  leaf_plain : {must : Bool} {x size many l m : ℕ} → low.LeafAt code must x size many l m → opened m ≡ opened l
+  leaf_plain (low.no_leaf never) = refl
+  leaf_plain {l = l} (low.leaf mst h e) = one_plain l _ e (λ n. refl)
+
   simple : (a z : ℕ) → opened z ≡ opened a → Level a z 0
   simple a z e = record { back = e; below = let h = most_open a 0 code.instructions in omega (arith, h) }
 
   mutual
-    level : (fs : List Field) (a : ℕ) (t : Term) (e : End) (z : ℕ) → Low core code fs a t e z → Level a z (nest t)
-    level fs a _ e z (low.write h) = simple a z (plain a _ z h ((λ n. refl), (plain_ending e, tt)))
-    level fs a _ e z (low.point h) = simple a z (plain a _ z h ((λ n. refl), (plain_ending e, tt)))
-    level fs a _ e z (low.call h) = simple a z (plain a _ z h ((λ n. refl), (plain_ending e, tt)))
-    level fs a _ e z (low.give {x = x} h) = simple a z (plain a _ z h (plain_giving (low.operand x) e))
-    level fs a _ e z (low.branch {l = l} {u = u} {v = v} h lu lv) =
+    level : (w : Within) (fs : List Field) (a : ℕ) (t : Term) (e : End) (z : ℕ) → Low core code w fs a t e z → Level a z (nest t)
+    level w fs a _ e z (low.write h) = simple a z (plain a _ z h ((λ n. refl), plain_ending e))
+    level w fs a _ e z (low.point h) = simple a z (plain a _ z h ((λ n. refl), plain_ending e))
+    level w fs a _ e z (low.call {f = f} {xs = xs} h) = simple a z (plain a _ z h ((λ n. refl), plain_append _ _ (plain_all_gots w core f.0 xs) (plain_ending e)))
+    level w fs a _ e z (low.give {x = x} h) = simple a z (plain a _ z h (plain_giving (low.operand x) e))
+    level w fs a _ e z (low.branch {l = l} {u = u} {v = v} h lu lv) =
         let s = one_plain a _ h (λ n. refl) in
-        let i = level fs (a + 1) u e l lu in
-        let j = level fs l v e z lv in
+        let i = level w fs (a + 1) u e l lu in
+        let j = level w fs l v e z lv in
         let p = i.below in
         let q = j.below in
         let r = i.back in
         record { back = j.back ∙ (r ∙ s); below = omega (arith, p, q, r, s) }
-    level fs a _ e z (low.case {x = x} {bs = bs} {arms = arms} h la) =
+    level w fs a _ e z (low.case {x = x} {bs = bs} {arms = arms} h la) =
         let s = one_plain a _ h (λ n. refl) in
-        let i = arms_level fs (low.slot_of x) (a + 1) arms bs e z la in
+        let i = arms_level w fs (low.slot_of x) (a + 1) arms bs e z la in
         let p = i.below in
         record { back = i.back ∙ s; below = omega (arith, p, s) }
-    level fs a _ e z (low.binding {m = m} {b = b} {u = u} lb lu) =
-        let i = bind_level fs a b m lb in
-        let j = level fs m u e z lu in
+    level w fs a _ e z (low.binding {m = m} {b = b} {u = u} lb lu) =
+        let i = bind_level w fs a b m lb in
+        let j = level w fs m u e z lu in
         let p = i.below in
         let q = j.below in
         let r = i.back in
         record { back = j.back ∙ r; below = omega (arith, p, q, r) }
 
-    arms_level : (fs : List Field) (x a : ℕ) (arms : List Arm) (bs : Branches) (e : End) (z : ℕ) → LowArms core code fs x a arms bs e z → Level a z (branches_nest bs)
-    arms_level fs x a _ _ e _ low.no_arm = simple a a refl
-    arms_level fs x a _ _ e z (low.arm {m = m} {l = l} {c = c} {ys = ys} {u = u} {bs = bs} {arms = arms} h lu others) =
-        let s = plain a _ m h (plain_opening (laid_of core) x c.0 ys) in
-        let i = level (with_fields x (fields_at core.table c.0) ys fs) m u e l lu in
-        let j = arms_level fs x l arms bs e z others in
+    arms_level : (w : Within) (fs : List Field) (x a : ℕ) (arms : List Arm) (bs : Branches) (e : End) (z : ℕ) → LowArms core code w fs x a arms bs e z → Level a z (branches_nest bs)
+    arms_level w fs x a _ _ e _ low.no_arm = simple a a refl
+    arms_level w fs x a _ _ e z (low.arm {m = m} {n = n'} {l = l} {c = c} {ys = ys} {u = u} {bs = bs} {arms = arms} h lf lu others) =
+        let s = leaf_plain lf ∙ plain a _ m h (plain_opening (laid_of core) x c.0 ys) in
+        let i = level w (with_fields x (fields_at core.table c.0) ys fs) n' u (low.arm_end w core x c ys u e) l lu in
+        let j = arms_level w fs x l arms bs e z others in
         let p = i.below in
         let q = j.below in
         let r = i.back in
         record { back = j.back ∙ (r ∙ s); below = omega (arith, p, q, r, s) }
 
-    bind_level : (fs : List Field) (a : ℕ) (b : Bind) (z : ℕ) → LowBind core code fs a b z → Level a z (bind_nest b)
-    bind_level fs a _ _ (low.past h) = simple a (a + 1) (one_plain a _ h (λ n. refl))
-    bind_level fs a _ z (low.one {s = s} ls) = side_level fs a s z ls
-    bind_level fs a _ z (low.in_turn {m = m} {l = l} {r = r} ll lr) =
-        let i = side_level fs a l m ll in
-        let j = side_level fs m r z lr in
+    bind_level : (w : Within) (fs : List Field) (a : ℕ) (b : Bind) (z : ℕ) → LowBind core code w fs a b z → Level a z (bind_nest b)
+    bind_level w fs a _ _ (low.past h) = simple a (a + 1) (one_plain a _ h (λ n. refl))
+    bind_level w fs a _ z (low.one {s = s} ls) = side_level w fs a s z ls
+    bind_level w fs a _ z (low.in_turn {m = m} {l = l} {r = r} ll lr) =
+        let i = side_level (within_par w) fs a l m ll in
+        let j = side_level (within_par w) fs m r z lr in
         let p = i.below in
         let q = j.below in
         let k = i.back in
         record { back = j.back ∙ k; below = omega (arith, p, q, k) }
-    bind_level fs a _ _ (low.forked {m = m} {z = z} {l = l} {c = c} {x = x} {ty = ty} {u = u} hf ll hj lr hb) =
+    bind_level w fs a _ _ (low.forked {m = m} {z = z} {l = l} {c = c} {x = x} {ty = ty} {u = u} hf ll hj lr hb) =
         let f : opened (a + 1) ≡ suc (opened a) = one_step a _ hf in
-        let i = side_level fs (a + 1) l m ll in
+        let i = side_level (within_par w) fs (a + 1) l m ll in
         let g = one_plain m _ hj (λ n. refl) in
-        let j = side_level fs (m + 1) (On c x ty u) z lr in
+        let j = side_level (within_par w) fs (m + 1) (On c x ty u) z lr in
         let b : opened (z + 1) ≡ opened z - 1 = one_step z _ hb in
         let p = i.below in
         let q = j.below in
         let r = i.back in
         let s = j.back in
         record { back = omega (arith, f, r, g, s, b); below = omega (arith, p, q, r, f, g) }
-    bind_level fs a _ _ (low.prim h) = simple a (a + 1) (one_plain a _ h (λ n. refl))
-    bind_level fs a _ _ (low.reach {y = y} {access = access} h) = simple a (a + 1) (one_plain a _ h (plain_reaching fs y access))
+    bind_level w fs a _ _ (low.prim h) = simple a (a + 1) (one_plain a _ h (λ n. refl))
+    bind_level w fs a _ _ (low.reach {y = y} {access = access} h) = simple a (a + 1) (one_plain a _ h (plain_reaching fs y access))
 
-    side_level : (fs : List Field) (a : ℕ) (s : Side) (z : ℕ) → LowSide core code fs a s z → Level a z (side_nest s)
-    side_level fs a _ z (low.here {u = u} h lu) =
+    side_level : (w : Within) (fs : List Field) (a : ℕ) (s : Side) (z : ℕ) → LowSide core code w fs a s z → Level a z (side_nest s)
+    side_level w fs a _ z (low.here {u = u} h lu) =
         let s = one_plain a _ h (λ n. refl) in
-        let i = level fs (a + 1) u (To z 0) z lu in
+        let i = level w fs (a + 1) u (To z 0) z lu in
         let p = i.below in
         record { back = i.back ∙ s; below = omega (arith, p, s) }
-    side_level fs a _ _ (low.region {z = z} {u = u} hb lu hd) =
+    side_level w fs a _ _ (low.region {z = z} {u = u} hb lu hd) =
         let f : opened (a + 1) ≡ suc (opened a) = one_step a _ hb in
-        let i = level fs (a + 1) u (To z 0) z lu in
+        let i = level w fs (a + 1) u (To z 0) z lu in
         let g : opened (z + 1) ≡ opened z - 1 = one_step z _ hd in
         let p = i.below in
         let r = i.back in
         record { back = omega (arith, f, r, g); below = omega (arith, p, f) }
-    side_level fs a _ _ (low.scalar_call h) = simple a (a + 1) (one_plain a _ h (λ n. refl))
-    side_level fs a _ z (low.scalar {x = x} {u = u} o lu) = level fs a u (To z x.0) z lu
+    side_level w fs a _ z (low.scalar_call {f = f} {xs = xs} h) = simple a z (plain a _ z h ((λ n. refl), plain_all_gots w core f.0 xs))
+    side_level w fs a _ z (low.scalar {x = x} {u = u} o lu) = level w fs a u (To z x.0) z lu
 
   -- So a term has, wherever its code stands.
-  pub nests_within : (fs : List Field) (a : ℕ) (t : Term) (e : End) (z : ℕ) → Low core code fs a t e z → nest t ≤ nesting code
-  nests_within fs a t e z lo = let h = (level fs a t e z lo).below in omega (arith, h)
+  pub nests_within : (w : Within) (fs : List Field) (a : ℕ) (t : Term) (e : End) (z : ℕ) → Low core code w fs a t e z → nest t ≤ nesting code
+  nests_within w fs a t e z lo = let h = (level w fs a t e z lo).below in omega (arith, h)

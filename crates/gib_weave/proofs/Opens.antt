@@ -21,47 +21,50 @@ use Rattle.gib_code.specs.Program.{CodeTree, IsAt}
 use Rattle.gib_core.specs.Low.{To}
 use Rattle.gib_machine.specs.Machine.{Slots, set, Frame, Open as OpenRegion, next, begins, sets, cursor, latest, places, HeadOf}
 use Rattle.gib_weave.proofs.Counts.{goes_on_counted, Paid, item_counted, turn_counted, turned_counted, tail_counted, chunk_counted}
-use Rattle.gib_core.specs.Fits.{Held, Placed, Dest, Empty, Open, dest_type, more, packed_due, cased}
+use Rattle.gib_core.specs.Fits.{Held, Placed, Dest, Empty, Open, dest_type, more, packed_due, cased, put, Inner, new_line, none_of, side_tells}
 use Rattle.gib_weave.specs.Environment.{Ctx, Fields, none, IsDest}
 use Rattle.gib_packed.specs.Reaching.{Turns, there, turn as redirected}
-use Rattle.gib_weave.specs.Continuing.{Rest, Plain, Part, RestCode, rest_cased, Kont, KHere, KRegion, end_of, due, IsCode}
+use Rattle.gib_weave.specs.Continuing.{given_of, Rest, Plain, Part, RestCode, rest_cased, Kont, KHere, KRegion, end_of, due, IsCode}
 use Rattle.gib_weave.specs.Owing.{Owed, rest_means, means}
 use Rattle.gib_weave.specs.Paying.{Share, Counted, left_costs}
 use Rattle.gib_weave.specs.Places.{within, Owned, with_chunk, head_covers, kont_covers, rest_covers, tail_covers, covers, TailsHaveRoom, IsSmall, Apart, put_all, AllFresh}
 use Rattle.gib_weave.specs.Sound.{counts, AtRest, AtTerm, at_term, Safe, rests, Moves, silent, draws}
 use Rattle.gib_weave.specs.Starting.{AreBodies}
-use Rattle.gib_weave.proofs.Basics.{put-same, set-same, put_all-holds, put_all-grows, put_all-small}
+use Rattle.gib_weave.proofs.Basics.{put-same, set-same, put_all-holds, put_all-grows, put_all-small, both-same}
 use Rattle.gib_weave.proofs.Items.{safe_turning}
 use Rattle.gib_weave.proofs.Grow.{Stack-grows, Matches-grows}
-use Rattle.gib_weave.proofs.Move.{moved_set, all_moved_set, Stack-moved, Matches-moved, covers_head, not_there, absent_slot, code_put}
+use Rattle.gib_weave.proofs.Move.{given_keeps, goes_new, moved_set, all_moved_set, Stack-moved, Matches-moved, covers_head, not_there, absent_slot, code_put}
 use Rattle.gib_weave.proofs.Places.{Apart-less, Apart-put_all, Apart-fresh, Apart-open, open-grows, open-small, within_front, within_redirect, within_chunk, chunk_room, rest_room, Splits, SplitsAt, splits}
-use Rattle.gib_weave.proofs.Lines.{loosened, holding, HasAll-hold, all_under_hold, under_holding, all_calm_less, or_left, or_right, calm_loosened, resume-with, waiting}
+use Rattle.gib_weave.proofs.Lines.{opening, keeps_opening, HasAll-open, pend, keeps_holding, loosened, holding, HasAll-hold, all_under_hold, under_holding, all_calm_less, or_left, or_right, calm_loosened, resume-with, waiting}
+use Rattle.gib_core.specs.Ending.{Within}
+use Rattle.gib_weave.proofs.Tolds.{unheld, side_settled}
 use Rattle.gib_weave.proofs.Turns.{some_region, Stack-turn}
 use Rattle.gib_weave.proofs.Ends.{Levels, at_rest, step_is, widen}
 
 module _ (core : CoreTree) (code : CodeTree) (owed : Owed) (own : Owned) (sh : Share) (lv : Levels) (ty : Ty) (rm : ℕ) where
-  pub does_here : (s : Store) (ip : ℕ) (sl : Slots) (fs : List Frame) (n : ℕ) (rs : List OpenRegion) (ts : List ℕ) (x : Variable) (xt : Ty) (l : ℕ) (t : Term) (u : Rest) (c : Ctx) (k : Kont) → IsAt code ip (Here x.0) → IsCode core code c.scope (ip + 1) t (To l 0) → RestCode core code c.scope l u (end_of k)
-      → AtRest core code owed own sh s (at_rest lv ty rm ip sl fs n rs ts) (Part (On kind.Here x xt t) u) c k → Moves core code owed own sh s (at_rest lv ty rm ip sl fs n rs ts)
-  does_here s ip sl fs n rs ts x xt l t u c k e lt lu at =
+  pub does_here : (s : Store) (ip : ℕ) (sl : Slots) (fs : List Frame) (n : ℕ) (rs : List OpenRegion) (ts : List ℕ) (x : Variable) (xt : Ty) (l : ℕ) (wi : Within) (t : Term) (u : Rest) (c : Ctx) (k : Kont) → IsAt code ip (Here x.0) → IsCode core code wi c.scope (ip + 1) t (To l 0) → RestCode core code c.line.within c.scope l u (end_of c.line.overs k)
+      → AtRest core code owed own sh s (at_rest lv ty rm ip sl fs n rs ts) (Part wi (On kind.Here x xt t) u) c k → Moves core code owed own sh s (at_rest lv ty rm ip sl fs n rs ts)
+  does_here s ip sl fs n rs ts x xt l wi t u c k e lt lu at =
       let w = cursor rs in
       let st = at.fits.0 in
       let new = at.fits.3 in
-      let whole = Part (On kind.Here x xt t) u in
-      silent (step_is core code owed own sh lv ty rm (at_rest lv ty rm ip sl fs n rs ts) (Here x.0) refl e) (rests (at_term {u = Plain t} {c = holding c x.0 (Empty st) w 0} {k = KHere l x.0 st u (loosened (cased t) c) k} record {
+      let whole = Part wi (On kind.Here x xt t) u in
+      silent (step_is core code owed own sh lv ty rm (at_rest lv ty rm ip sl fs n rs ts) (Here x.0) refl e) (rests (at_term {u = Plain t} {c = holding wi c x.0 (Empty st) w 0} {k = KHere l x.0 st u (loosened (cased t) (pend (side_tells wi core t) none_of c)) k} record {
         ready = refl;
         low = code_put x.0 Held refl lt;
         fits = at.fits.4;
         kind = refl;
-        matches = record { vars = HasAll-hold code.laid s sl c x.0 w (Empty st) w 0 new at.matches.vars; dest = refl };
+        matches = record { vars = HasAll-hold wi code.laid s sl c x.0 w (Empty st) w 0 new at.matches.vars; dest = refl };
         stack = (
-          set-same sl x.0 w (at.matches.vars.wide x.0 (absent_slot c.scope x.0 new)),
+          both-same sl x.0 w (at.matches.vars.wide x.0 (absent_slot c.scope x.0 new)) at.matches.vars.even,
           at.fits.2,
-          waiting core code s (set sl x.0 w) l x.0 (Placed st) t u c (more c.dest x.0) w k lu at.fits.5 new (Matches-moved (moved_set x.0 w (not_there c.scope x.0 new)) at.matches) at.under (all_calm_less (rest_cased whole) (rest_cased u) k (λ y h. or_right (cased t y) (rest_cased u y) h) at.calm) at.kind at.free (let h = at.narrow in omega (arith, h)),
+          waiting core code s (set sl x.0 w) l x.0 (Placed st) t (side_tells wi core t) none_of u c (more c.dest x.0) w k lu at.fits.5 (λ q e. unheld c.scope x.0 q (side_settled wi core (Inner (side_tells wi core t)) t (put c.scope x.0 Held) (Empty st) (new_line wi) at.fits.4 q e)) new (Matches-moved (moved_set x.0 w (not_there c.scope x.0 new)) at.matches) at.under at.given (all_calm_less (rest_cased whole) (rest_cased u) k (λ y h. or_right (cased t y) (rest_cased u y) h) at.calm) at.kind at.free (let h = at.narrow in omega (arith, h)),
           Stack-moved core code s k sl (set sl x.0 w) fs c.front rs (all_moved_set code.laid s sl c.scope c.env k x.0 w at.under (not_there c.scope x.0 new)) at.stack,
         );
-        under = (put-same c.scope x.0 Held, under_holding (cased t) c x.0 new, all_under_hold c.scope c.env k x.0 new at.under);
-        calm = (calm_loosened (cased t) c, all_calm_less (rest_cased whole) (cased t) k (λ y h. or_left (cased t y) (rest_cased u y) h) at.calm);
-        places = Apart-less at.places (λ q. let h = covers_head code.laid c (loosened (cased t) c) c.dest q refl in omega arith);
+        under = (put-same c.scope x.0 Held, under_holding (cased t) (pend (side_tells wi core t) none_of c) x.0 new, all_under_hold c.scope c.env k x.0 new at.under);
+        given = given_keeps c (holding wi c x.0 (Empty st) w 0) 0 (given_of k) (keeps_holding wi c x.0 (Empty st) w 0 new) (goes_new c.scope x.0 Held new) at.given;
+        calm = (calm_loosened (cased t) (pend (side_tells wi core t) none_of c), all_calm_less (rest_cased whole) (cased t) k (λ y h. or_left (cased t y) (rest_cased u y) h) at.calm);
+        places = Apart-less at.places (λ q. let h = covers_head code.laid c (loosened (cased t) (pend (side_tells wi core t) none_of c)) c.dest q refl in omega arith);
         rooms = at.rooms;
         tail_rooms = at.tail_rooms;
         small = at.small;
@@ -79,31 +82,32 @@ module _ (core : CoreTree) (code : CodeTree) (owed : Owed) (own : Owned) (sh : S
       }))
 
   -- a region begins at a
-  region_at : (s s' : Store) (ip : ℕ) (sl : Slots) (fs : List Frame) (n : ℕ) (rs : List OpenRegion) (ts ts' : List ℕ) (x : Variable) (xt : Ty) (l a : ℕ) (t : Term) (u : Rest) (c : Ctx) (k : Kont) (sh' : Share) → IsCode core code c.scope (ip + 1) t (To l 0) → IsAt code l Done → RestCode core code c.scope (l + 1) u (end_of k)
-      → (at : AtRest core code owed own sh s (at_rest lv ty (suc rm) ip sl fs n rs ts) (Part (On kind.Region x xt t) u) c k) → Grows s s' → IsSmall s' → 9 ≤ rest a → TailsHaveRoom ts'
+  region_at : (s s' : Store) (ip : ℕ) (sl : Slots) (fs : List Frame) (n : ℕ) (rs : List OpenRegion) (ts ts' : List ℕ) (x : Variable) (xt : Ty) (l a : ℕ) (wi : Within) (t : Term) (u : Rest) (c : Ctx) (k : Kont) (sh' : Share) → IsCode core code wi c.scope (ip + 1) t (To l 0) → IsAt code l Done → RestCode core code c.line.within c.scope (l + 1) u (end_of c.line.overs k)
+      → (at : AtRest core code owed own sh s (at_rest lv ty (suc rm) ip sl fs n rs ts) (Part wi (On kind.Region x xt t) u) c k) → Grows s s' → IsSmall s' → 9 ≤ rest a → TailsHaveRoom ts'
       → Apart own s' (λ q. head_covers code.laid c c.dest q + (kont_covers code.laid k q + ((within a (rest a) q + rest_covers rs q) + tail_covers ts' q)))
-      → Counted (record { start = a; cur = a } ∷ rs) (left_costs core n lv.level (Plain t) c.env (KRegion l x.0 at.fits.0 u (loosened (cased t) c) k)) sh'
+      → Counted (record { start = a; cur = a } ∷ rs) (left_costs core n lv.level (Plain t) c.env (KRegion l x.0 at.fits.0 u (loosened (cased t) (pend (side_tells wi core t) none_of c)) k)) sh'
       → Safe core code owed own sh' s' (at_rest lv ty rm (ip + 1) (set sl x.0 a) fs n (record { start = a; cur = a } ∷ rs) ts')
-  region_at s s' ip sl fs n rs ts ts' x xt l a t u c k sh' lt ed lu at g sm room9 tr ap9 counted =
+  region_at s s' ip sl fs n rs ts ts' x xt l a wi t u c k sh' lt ed lu at g sm room9 tr ap9 counted =
       let st = at.fits.0 in
       let new = at.fits.2 in
-      let whole = Part (On kind.Region x xt t) u in
-      rests (at_term {u = Plain t} {c = holding c x.0 (Empty st) a 0} {k = KRegion l x.0 st u (loosened (cased t) c) k} record {
+      let whole = Part wi (On kind.Region x xt t) u in
+      rests (at_term {u = Plain t} {c = holding wi c x.0 (Empty st) a 0} {k = KRegion l x.0 st u (loosened (cased t) (pend (side_tells wi core t) none_of c)) k} record {
         ready = refl;
         low = code_put x.0 Held refl lt;
         fits = at.fits.3;
         kind = refl;
-        matches = record { vars = HasAll-hold code.laid s' sl c x.0 a (Empty st) a 0 new (Matches-grows g at.matches).vars; dest = refl };
+        matches = record { vars = HasAll-hold wi code.laid s' sl c x.0 a (Empty st) a 0 new (Matches-grows g at.matches).vars; dest = refl };
         stack = (
-          set-same sl x.0 a (at.matches.vars.wide x.0 (absent_slot c.scope x.0 new)),
+          both-same sl x.0 a (at.matches.vars.wide x.0 (absent_slot c.scope x.0 new)) at.matches.vars.even,
           refl,
           ed,
-          waiting core code s' (set sl x.0 a) (l + 1) x.0 (Placed st) t u c c.dest (cursor rs) k lu at.fits.4 new (Matches-moved (moved_set x.0 a (not_there c.scope x.0 new)) (Matches-grows g at.matches)) at.under (all_calm_less (rest_cased whole) (rest_cased u) k (λ y h. or_right (cased t y) (rest_cased u y) h) at.calm) at.kind at.free (let h = at.narrow in omega (arith, h)),
+          waiting core code s' (set sl x.0 a) (l + 1) x.0 (Placed st) t (side_tells wi core t) none_of u c c.dest (cursor rs) k lu at.fits.4 (λ q e. unheld c.scope x.0 q (side_settled wi core (Inner (side_tells wi core t)) t (put c.scope x.0 Held) (Empty st) (new_line wi) at.fits.3 q e)) new (Matches-moved (moved_set x.0 a (not_there c.scope x.0 new)) (Matches-grows g at.matches)) at.under at.given (all_calm_less (rest_cased whole) (rest_cased u) k (λ y h. or_right (cased t y) (rest_cased u y) h) at.calm) at.kind at.free (let h = at.narrow in omega (arith, h)),
           Stack-moved core code s' k sl (set sl x.0 a) fs c.front rs (all_moved_set code.laid s' sl c.scope c.env k x.0 a at.under (not_there c.scope x.0 new)) (Stack-grows core code k sl fs c.front rs g at.stack),
         );
-        under = (put-same c.scope x.0 Held, under_holding (cased t) c x.0 new, all_under_hold c.scope c.env k x.0 new at.under);
-        calm = (calm_loosened (cased t) c, all_calm_less (rest_cased whole) (cased t) k (λ y h. or_left (cased t y) (rest_cased u y) h) at.calm);
-        places = Apart-less ap9 (λ q. let h = covers_head code.laid c (loosened (cased t) c) c.dest q refl in omega arith);
+        under = (put-same c.scope x.0 Held, under_holding (cased t) (pend (side_tells wi core t) none_of c) x.0 new, all_under_hold c.scope c.env k x.0 new at.under);
+        given = given_keeps c (holding wi c x.0 (Empty st) a 0) 0 (given_of k) (keeps_holding wi c x.0 (Empty st) a 0 new) (goes_new c.scope x.0 Held new) at.given;
+        calm = (calm_loosened (cased t) (pend (side_tells wi core t) none_of c), all_calm_less (rest_cased whole) (cased t) k (λ y h. or_left (cased t y) (rest_cased u y) h) at.calm);
+        places = Apart-less ap9 (λ q. let h = covers_head code.laid c (loosened (cased t) (pend (side_tells wi core t) none_of c)) c.dest q refl in omega arith);
         rooms = (room9, at.rooms);
         tail_rooms = tr;
         small = sm;
@@ -121,19 +125,19 @@ module _ (core : CoreTree) (code : CodeTree) (owed : Owed) (own : Owned) (sh : S
       })
 
 module _ (core : CoreTree) (code : CodeTree) (owed : Owed) (own : Owned) (sh : Share) (lv : Levels) (ty : Ty) where
-  pub does_region : (rm : ℕ) → (s : Store) (ip : ℕ) (sl : Slots) (fs : List Frame) (n : ℕ) (rs : List OpenRegion) (ts : List ℕ) (x : Variable) (xt : Ty) (l : ℕ) (t : Term) (u : Rest) (c : Ctx) (k : Kont) → IsAt code ip (Begin x.0) → IsCode core code c.scope (ip + 1) t (To l 0) → IsAt code l Done → RestCode core code c.scope (l + 1) u (end_of k)
-      → AtRest core code owed own sh s (at_rest lv ty rm ip sl fs n rs ts) (Part (On kind.Region x xt t) u) c k → Moves core code owed own sh s (at_rest lv ty rm ip sl fs n rs ts)
-  does_region zero s ip sl fs n rs ts x xt l t u c k e lt ed lu at = absurd (let h = at.nests.0 in omega (arith, h))
-  does_region (suc rm) s ip sl fs n rs ts x xt l t u c k e lt ed lu at = go (latest ts) refl (splits ts)
+  pub does_region : (rm : ℕ) → (s : Store) (ip : ℕ) (sl : Slots) (fs : List Frame) (n : ℕ) (rs : List OpenRegion) (ts : List ℕ) (x : Variable) (xt : Ty) (l : ℕ) (wi : Within) (t : Term) (u : Rest) (c : Ctx) (k : Kont) → IsAt code ip (Begin x.0) → IsCode core code wi c.scope (ip + 1) t (To l 0) → IsAt code l Done → RestCode core code c.line.within c.scope (l + 1) u (end_of c.line.overs k)
+      → AtRest core code owed own sh s (at_rest lv ty rm ip sl fs n rs ts) (Part wi (On kind.Region x xt t) u) c k → Moves core code owed own sh s (at_rest lv ty rm ip sl fs n rs ts)
+  does_region zero s ip sl fs n rs ts x xt l wi t u c k e lt ed lu at = absurd (let h = at.nests.0 in omega (arith, h))
+  does_region (suc rm) s ip sl fs n rs ts x xt l wi t u c k e lt ed lu at = go (latest ts) refl (splits ts)
     where
       behind : Kont
-      behind = KRegion l x.0 at.fits.0 u (loosened (cased t) c) k
+      behind = KRegion l x.0 at.fits.0 u (loosened (cased t) (pend (side_tells wi core t) none_of c)) k
 
       in_chunk : (d : ℕ) → Paid (record { start = 4096 * d; cur = 4096 * d } ∷ rs) (left_costs core n lv.level (Plain t) c.env behind) sh 1
-      in_chunk d = chunk_counted (record { start = 4096 * d; cur = 4096 * d }) rs (left_costs core n lv.level (Part (On kind.Region x xt t) u) c.env k) (left_costs core n lv.level (Plain t) c.env behind) sh d refl (record { regions = omega arith; items = omega arith }) at.counted
+      in_chunk d = chunk_counted (record { start = 4096 * d; cur = 4096 * d }) rs (left_costs core n lv.level (Part wi (On kind.Region x xt t) u) c.env k) (left_costs core n lv.level (Plain t) c.env behind) sh d refl (record { regions = omega arith; items = omega arith }) at.counted
 
       in_tail : (a : ℕ) → Paid (record { start = a; cur = a } ∷ rs) (left_costs core n lv.level (Plain t) c.env behind) sh 0
-      in_tail a = tail_counted (record { start = a; cur = a }) rs (left_costs core n lv.level (Part (On kind.Region x xt t) u) c.env k) (left_costs core n lv.level (Plain t) c.env behind) sh (record { regions = omega arith; items = omega arith }) at.counted
+      in_tail a = tail_counted (record { start = a; cur = a }) rs (left_costs core n lv.level (Part wi (On kind.Region x xt t) u) c.env k) (left_costs core n lv.level (Plain t) c.env behind) sh (record { regions = omega arith; items = omega arith }) at.counted
 
       asks : (o : Option (List ℕ × ℕ)) → latest ts ≡ o → next code (at_rest lv ty (suc rm) ip sl fs n rs ts) ≡ begins (at_rest lv ty rm ip sl fs n rs ts) (λ t a. sets t x.0 a) o
       asks o q = step_is core code owed own sh lv ty rm (at_rest lv ty (suc rm) ip sl fs n rs ts) (Begin x.0) refl e ∙ ap (begins (at_rest lv ty rm ip sl fs n rs ts) (λ t a. sets t x.0 a)) q
@@ -142,14 +146,14 @@ module _ (core : CoreTree) (code : CodeTree) (owed : Owed) (own : Owned) (sh : S
       go None q h =
           let none_left : ts ≡ [] = subst (λ (z : Option (List ℕ × ℕ)). SplitsAt ts z) q h in
           draws (λ d. (in_chunk d).share) (asks None q) (λ d new. (in_chunk d).spends) (λ d new.
-          region_at core code owed (with_chunk own d) sh lv ty rm s (open_chunk s d) ip sl fs n rs ts [] x xt l (4096 * d) t u c k (in_chunk d).share lt ed lu (widen (λ q. omega arith) at) (open-grows s d new) (open-small s d new at.small) (omega arith) tt
+          region_at core code owed (with_chunk own d) sh lv ty rm s (open_chunk s d) ip sl fs n rs ts [] x xt l (4096 * d) wi t u c k (in_chunk d).share lt ed lu (widen (λ q. omega arith) at) (open-grows s d new) (open-small s d new at.small) (omega arith) tt
           (Apart-open d new at.places (λ q. let i : rest (4096 * d) ≡ 4096 = omega arith in let j = ap (λ (z : ℕ). within (4096 * d) z q) i in let f = ap (λ (z : List ℕ). tail_covers z q) none_left in omega (arith, j, f)))
           (in_chunk d).counted)
       go (Some p) q h =
           let sp : Splits ts p = subst (λ (z : Option (List ℕ × ℕ)). SplitsAt ts z) q h in
           let ro = sp.rooms at.tail_rooms in
           silent (asks (Some p) q)
-          (counts (in_tail p.1).spends (region_at core code owed own sh lv ty rm s s ip sl fs n rs ts p.0 x xt l p.1 t u c k (in_tail p.1).share lt ed lu at (record { kept = λ q b h. h }) at.small ro.1 ro.0
+          (counts (in_tail p.1).spends (region_at core code owed own sh lv ty rm s s ip sl fs n rs ts p.0 x xt l p.1 wi t u c k (in_tail p.1).share lt ed lu at (record { kept = λ q b h. h }) at.small ro.1 ro.0
           (Apart-less at.places (λ q. let i = sp.covers q in omega (arith, i)))
           (in_tail p.1).counted))
 
@@ -191,7 +195,7 @@ pub size_small : (laid : LaidOut) → IsTable laid.table → (k : ℕ) → head_
 size_small laid t k = small_layout (is_among laid.with_offsets k) (fields_at laid.table k) (few_fields laid.table t k)
 
 module _ (core : CoreTree) (code : CodeTree) (ok : AreBodies core code) (owed : Owed) (own : Owned) (sh : Share) (lv : Levels) (ty : Ty) (rm : ℕ) where
-  head_at : (s s' : Store) (ip : ℕ) (sl : Slots) (fs : List Frame) (n : ℕ) (r r' : OpenRegion) (rs : List OpenRegion) (ts : List ℕ) (h : Variable) (kk : ConId) (a : ℕ) (t : Term) (c : Ctx) (k : Kont) (sh' : Share) → IsCode core code c.scope (ip + 1) t (end_of k)
+  head_at : (s s' : Store) (ip : ℕ) (sl : Slots) (fs : List Frame) (n : ℕ) (r r' : OpenRegion) (rs : List OpenRegion) (ts : List ℕ) (h : Variable) (kk : ConId) (a : ℕ) (t : Term) (c : Ctx) (k : Kont) (sh' : Share) → IsCode core code c.line.within c.scope (ip + 1) t (end_of c.line.overs k)
       → AtTerm core code owed own sh s (at_rest lv ty rm ip sl fs n (r ∷ rs) ts) (Then (Past h kk) t) c k → Grows s s' → IsSmall s' → r'.start ≡ r.start → r'.cur ≡ a + head_size code.laid kk.0 → 9 ≤ rest r'.cur → Turns s' r.cur a
       → Apart own s' (λ q. within a (head_size code.laid kk.0) q + (kont_covers code.laid k q + (rest_covers (r' ∷ rs) q + tail_covers ts q)))
       → Counted (r' ∷ rs) (left_costs core n lv.level (Plain t) c.env k) sh'
@@ -202,13 +206,13 @@ module _ (core : CoreTree) (code : CodeTree) (ok : AreBodies core code) (owed : 
       let dues = packed_due (fields_at core.table kk.0) in
       let packed : is_scalar (due k) ≡ false = sym (ap is_scalar at.kind) ∙ ap (λ (z : Dest). is_scalar (dest_type z)) at.fits.1 in
       let front : c.front ≡ r.cur = subst (λ (z : Dest). IsDest code.laid s sl c z r.cur) at.fits.1 at.matches.dest in
-      rests (at_term {u = Plain t} {c = holding c h.0 (Open st h.0 kk.0 [] dues) c.front a} {k = k} record {
+      rests (at_term {u = Plain t} {c = opening c h.0 (Open st h.0 kk.0 [] dues) c.front a} {k = k} record {
         ready = refl;
         low = code_put h.0 Held refl lt;
         fits = at.fits.4;
         kind = sym (ap dest_type at.fits.1) ∙ at.kind;
         matches = record {
-          vars = HasAll-hold code.laid s' sl c h.0 a (Open st h.0 kk.0 [] dues) c.front a new (Matches-grows g at.matches).vars;
+          vars = HasAll-open code.laid s' sl c h.0 a (Open st h.0 kk.0 [] dues) c.front a new (Matches-grows g at.matches).vars;
           dest = record {
             con = subst (λ (z : LaidOut). con_at z.table st kk.0 ≡ Some kk.0) (sym ok.laid) at.fits.2;
             slot = set-same sl h.0 a (at.matches.vars.wide h.0 (absent_slot c.scope h.0 new));
@@ -216,11 +220,12 @@ module _ (core : CoreTree) (code : CodeTree) (ok : AreBodies core code) (owed : 
             leads = subst (λ (z : ℕ). Turns s' z a) (sym front) ld;
             types = [];
             all = ap (λ (z : LaidOut). packed_due (fields_at z.table kk.0)) (sym ok.laid);
-            fields = subst (λ (z : ℕ). Fields code.laid s' (holding c h.0 (Open st h.0 kk.0 [] dues) c.front a) (a + head_size code.laid kk.0) [] [] z) (sym ec) none;
+            fields = subst (λ (z : ℕ). Fields code.laid s' (opening c h.0 (Open st h.0 kk.0 [] dues) c.front a) (a + head_size code.laid kk.0) [] [] z) (sym ec) none;
           };
         };
         stack = Stack-turn core code s' k (set sl h.0 a) fs c.front r r' rs es packed (Stack-moved core code s' k sl (set sl h.0 a) fs c.front (r ∷ rs) (all_moved_set code.laid s' sl c.scope c.env k h.0 a at.under (not_there c.scope h.0 new)) (Stack-grows core code k sl fs c.front (r ∷ rs) g at.stack));
         under = all_under_hold c.scope c.env k h.0 new at.under;
+        given = given_keeps c (opening c h.0 (Open st h.0 kk.0 [] dues) c.front a) 0 (given_of k) (keeps_opening c h.0 (Open st h.0 kk.0 [] dues) c.front a new) (goes_new c.scope h.0 Held new) at.given;
         calm = at.calm;
         places = ap9;
         rooms = (room9, at.rooms.1);
@@ -240,7 +245,7 @@ module _ (core : CoreTree) (code : CodeTree) (ok : AreBodies core code) (owed : 
       })
 
 module _ (core : CoreTree) (code : CodeTree) (ok : AreBodies core code) (owed : Owed) (own : Owned) (sh : Share) (lv : Levels) (ty : Ty) (rm : ℕ) where
-  pub does_past : (s : Store) (ip : ℕ) (sl : Slots) (fs : List Frame) (n : ℕ) (rs : List OpenRegion) (ts : List ℕ) (h : Variable) (kk : ConId) (t : Term) (c : Ctx) (k : Kont) → IsAt code ip (i.Past h.0 kk.0) → IsCode core code c.scope (ip + 1) t (end_of k)
+  pub does_past : (s : Store) (ip : ℕ) (sl : Slots) (fs : List Frame) (n : ℕ) (rs : List OpenRegion) (ts : List ℕ) (h : Variable) (kk : ConId) (t : Term) (c : Ctx) (k : Kont) → IsAt code ip (i.Past h.0 kk.0) → IsCode core code c.line.within c.scope (ip + 1) t (end_of c.line.overs k)
       → AtTerm core code owed own sh s (at_rest lv ty rm ip sl fs n rs ts) (Then (Past h kk) t) c k → Moves core code owed own sh s (at_rest lv ty rm ip sl fs n rs ts)
   does_past s ip sl fs n [] ts h kk t c k e lt at = absurd (some_region core code s k sl fs c.front (sym (ap is_scalar at.kind) ∙ ap (λ (z : Dest). is_scalar (dest_type z)) at.fits.1) at.stack)
   does_past s ip sl fs n (r ∷ rs) ts h kk t c k e lt at = go (nat_le (head_size code.laid kk.0 + 9) (rest r.cur)) refl

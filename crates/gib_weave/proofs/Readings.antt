@@ -1,5 +1,5 @@
 -- Tags and numbers are read, and values skipped.
-use Rattle.std.proofs.Common.{◌≡◌, ℕ, suc, ◌+◌, ◌*◌, ◌<◌, ◌≤◌, ◌^◌, Bool, true, false, List, [], ◌∷◌, cond, eqb, nat_lt, nat_le, max, ◌%◌, slice_get, Some, refl, sym, ap, subst, ◌∙◌, arith}
+use Rattle.std.proofs.Common.{◌≡◌, ℕ, suc, ◌+◌, ◌*◌, ◌<◌, ◌≤◌, ◌^◌, Bool, true, false, List, [], ◌∷◌, cond, eqb, nat_lt, nat_le, max, ◌%◌, slice_get, Some, refl, sym, ap, subst, ◌∙◌, arith, slice_set, get_or, length}
 use Rattle.std.specs.Int.{w64, from_le_bytes}
 use Rattle.std.proofs.lemmas.Bool.Decides.{nat_tests}
 use Rattle.gib_types.specs.Table.{fields_at, con_at}
@@ -15,9 +15,11 @@ use Rattle.gib_packed.proofs.SpanLemmas.{Dec-span, Span-height}
 use Rattle.gib_core.specs.Tree.{CoreTree}
 use Rattle.gib_code.specs.declared.instruction.Arm.{Arm}
 use Rattle.gib_code.specs.Program.{CodeTree}
-use Rattle.gib_machine.specs.Machine.{State, Get, next, Ready, Looking, Following, SkipTurn, doing, looked, skip_on, skipped, set, label_of, arms_of}
+use Rattle.gib_machine.specs.Machine.{State, Get, next, Ready, Looking, Following, SkipTurn, doing, looked, skip_on, skipped, label_of, arms_of, slide, passes, tell}
 use Rattle.gib_weave.specs.Owing.{Owed}
 use Rattle.gib_weave.proofs.Numbers.{follows_number, turns_number}
+use Rattle.std.proofs.lemmas.List.{length-set}
+use Rattle.gib_weave.proofs.EndWords.{Walked, no_walk, walk_redirect, walk_indirect}
 use Rattle.gib_weave.specs.Paying.{Share}
 use Rattle.gib_weave.specs.Places.{Owned, IsSmall}
 use Rattle.gib_weave.specs.Sound.{Safe, moves, Moves, get}
@@ -60,9 +62,9 @@ module _ (core : CoreTree) (code : CodeTree) (owed : Owed) (own : Owned) (sh : S
 
   -- what comes at a head: it may be where the look began, or that is no head
   pub record Heads (s : Store) (m : State) (x : ℕ) (arms : List Arm) (t start : ℕ) (v : Datum) : Type 0 where
-    pub at_head : (a k z : ℕ) (vs : Data) (places : List ℕ) → v ≡ con k vs → k < 254 → con_at code.laid.table t k ≡ Some k → Holds s a (head_bytes code.laid k places vs)
+    pub at_head : (es : List ℕ) (a k z : ℕ) (vs : Data) (places : List ℕ) → Walked code.laid s t start a v m.words.ends es x → v ≡ con k vs → k < 254 → con_at code.laid.table t k ≡ Some k → Holds s a (head_bytes code.laid k places vs)
         → Decs code.laid s (a + head_size code.laid k) (fields_at code.laid.table k) vs places z → ((tag : ℕ) → s start ≡ byte tag → tag < 254 → a ≡ start)
-        → Safe core code owed own sh s (record m { words = set m.words x a; ip = label_of arms k; doing = Ready })
+        → Safe core code owed own sh s (record m { words = record { vars = slice_set m.words.vars x a; ends = es }; ip = label_of arms k; doing = Ready })
 
   -- the tag at a place, and what follows it
   pub record Looks (s : Store) (m : State) (x : ℕ) (arms : List Arm) (a : ℕ) : Type 0 where
@@ -78,18 +80,27 @@ module _ (core : CoreTree) (code : CodeTree) (owed : Owed) (own : Owned) (sh : S
   same_byte e = cc
 
   -- where the look began there is no head
-  from_pointer : (s : Store) (m : State) (x : ℕ) (arms : List Arm) (t start b : ℕ) (v : Datum) (tag : ℕ) → s start ≡ byte tag → 254 ≤ tag → Heads s m x arms t start v → Heads s m x arms t b v
-  from_pointer s m x arms t start b v tag e big h = record { at_head = λ a k z vs places ev sm kc hb ds at_start. h.at_head a k z vs places ev sm kc hb ds (λ tag' e' lt. let f : tag ≡ tag' = same_byte (sym e ∙ e') in absurd (omega (arith, f, lt, big))) }
+  not_head : (s : Store) (start tag a : ℕ) → s start ≡ byte tag → 254 ≤ tag → (tag' : ℕ) → s start ≡ byte tag' → tag' < 254 → a ≡ start
+  not_head s start tag a e big tag' e' lt = let f : tag ≡ tag' = same_byte (sym e ∙ e') in absurd (omega (arith, f, lt, big))
 
-  looked_head : (s : Store) (m : State) (x : ℕ) (arms : List Arm) (a k : ℕ) → k < 254 → Safe core code owed own sh s (record m { words = set m.words x a; ip = label_of arms k; doing = Ready }) → Safe core code owed own sh s (looked m x arms a k)
+  looked_head : (s : Store) (m : State) (x : ℕ) (arms : List Arm) (a k : ℕ) → k < 254 → Safe core code owed own sh s (record m { words = slide m.words x a; ip = label_of arms k; doing = Ready }) → Safe core code owed own sh s (looked m x arms a k)
   looked_head s m x arms a k lt g =
       let e : nat_lt k 254 ≡ true = grind (arith, nat_tests) in
-      subst (λ (b : Bool). Safe core code owed own sh s (cond b (record m { words = set m.words x a; ip = label_of arms k; doing = Ready }) (doing m (Following x (a + 1) 0 7)))) (sym e) g
+      subst (λ (b : Bool). Safe core code owed own sh s (cond b (record m { words = slide m.words x a; ip = label_of arms k; doing = Ready }) (passes (doing m (Following x (a + 1) 0 7)) x a (eqb k 254)))) (sym e) g
 
-  pub looks : (s : Store) (m : State) (x : ℕ) (arms : List Arm) (a t z : ℕ) (v : Datum) → arms_of (slice_get code.instructions m.ip) ≡ arms → Dec code.laid s a t v z → Heads s m x arms t a v → Looks s m x arms a
-  looks s m x arms a t z v q (d.redirect {b = b} pt dec) h = record { tag = 255; known = first pt.bytes; goes = goes_to s m x arms a 255 b q pt (looks s m x arms b t z v q dec (from_pointer s m x arms t a b v 255 (first pt.bytes) (omega arith) h)) }
-  looks s m x arms a t z v q (d.indirect {b = b} {y = y} pt dec e) h = record { tag = 254; known = first pt.bytes; goes = goes_to s m x arms a 254 b q pt (looks s m x arms b t y v q dec (from_pointer s m x arms t a b v 254 (first pt.bytes) (omega arith) h)) }
-  looks s m x arms a t z v q (d.head {k = k} {vs = vs} {places = places} sm kc hb ds) h = record { tag = k; known = first hb; goes = looked_head s m x arms a k sm (h.at_head a k z vs places refl sm kc hb ds (λ tag e lt. refl)) }
+  pub looks : (s : Store) (m : State) (x : ℕ) (arms : List Arm) (a t z : ℕ) (v : Datum) → x < length m.words.ends → arms_of (slice_get code.instructions m.ip) ≡ arms → Dec code.laid s a t v z → Heads s m x arms t a v → Looks s m x arms a
+  looks s m x arms a t z v lt q (d.redirect {b = b} pt dec) h = record {
+    tag = 255;
+    known = first pt.bytes;
+    goes = goes_to s m x arms a 255 b q pt (looks s m x arms b t z v lt q dec (record { at_head = λ es a' k z' vs places w ev sm kc hb ds at_start. h.at_head es a' k z' vs places (walk_redirect pt w) ev sm kc hb ds (not_head s a 255 a' (first pt.bytes) (omega arith)) }));
+  }
+  looks s m x arms a t z v lt q (d.indirect {b = b} {y = y} pt dec e) h = record {
+    tag = 254;
+    known = first pt.bytes;
+    goes = goes_to s (passes m x a true) x arms a 254 b q pt (looks s (passes m x a true) x arms b t y v (let i = length-set m.words.ends x (tell (get_or m.words.ends x 0) (a + 9)) in omega (arith, lt, i)) q dec
+        (record { at_head = λ es a' k z' vs places w ev sm kc hb ds at_start. h.at_head es a' k z' vs places (walk_indirect lt pt dec w) ev sm kc hb ds (not_head s a 254 a' (first pt.bytes) (omega arith)) }));
+  }
+  looks s m x arms a t z v lt q (d.head {k = k} {vs = vs} {places = places} sm kc hb ds) h = record { tag = k; known = first hb; goes = looked_head s m x arms a k sm (h.at_head m.words.ends a k z vs places (no_walk m.words.ends x) refl sm kc hb ds (λ tag e lt. refl)) }
 
   -- Skipping.
 

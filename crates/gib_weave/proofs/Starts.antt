@@ -15,10 +15,12 @@ use Rattle.gib_code.specs.declared.instruction.Entry.{Entry}
 use Rattle.gib_code.specs.Program.{CodeTree}
 use Rattle.gib_core.specs.Low as low
 use Rattle.gib_core.specs.Low.{Low, LowFunctions, IsLowered, End, Returns, function_number, laid_of, Field as StoredField}
-use Rattle.gib_machine.specs.Machine.{times, nesting, widest, Slots, slot, Open as OpenRegion, State, Opening, begins, latest, cursor, frame_words, start_at, slots_at}
+use Rattle.gib_machine.specs.Machine.{times, nesting, widest, Slots, slot, Open as OpenRegion, State, Opening, begins, latest, cursor, frame, start_at, slots_at}
 use Rattle.gib_core.specs.Cost.{Cost, plus, one_region}
 use Rattle.gib_weave.proofs.Counts.{goes_on_counted, same_most, Paid, tail_counted, chunk_counted}
-use Rattle.gib_core.specs.Fits.{Sort, Outside, Absent, Scalar, Placed, Field, Scope, Dest, dest_of, dest_type, param_sort, body_scope, AllFit}
+use Rattle.gib_core.specs.Ending.{Within, within_function, within_main}
+use Rattle.gib_weave.proofs.Lines.{no_told}
+use Rattle.gib_core.specs.Fits.{AtEnd, new_line, body_needs, none_of, Sort, Outside, Absent, Scalar, Placed, Field, Scope, Dest, dest_of, dest_type, param_sort, body_scope, AllFit}
 use Rattle.gib_weave.specs.Environment.{Ctx, Has, HasAll, IsDest}
 use Rattle.gib_weave.specs.Continuing.{Plain, KEnd, Agrees}
 use Rattle.gib_weave.specs.Paying.{Share, AtMost, Counted, left_costs, region_of}
@@ -30,7 +32,7 @@ use Rattle.gib_weave.proofs.Basics.{by_test}
 use Rattle.gib_weave.proofs.Move.{is_field}
 use Rattle.gib_weave.proofs.Places.{Apart-less, Apart-open, open-grows, open-small, SplitsAt, splits}
 use Rattle.gib_weave.proofs.Grow.{StandsAt-grows}
-use Rattle.gib_weave.proofs.Binds.{frame-length, no_slot, nothing_bound, result_dest, result_type, no_result_cover}
+use Rattle.gib_weave.proofs.Binds.{frame-length, body_end, no_slot, nothing_bound, result_dest, result_type, no_result_cover}
 use Rattle.gib_weave.proofs.Ends.{at_rest}
 use Rattle.gib_weave.proofs.Nests.{nests_within}
 
@@ -59,7 +61,7 @@ no_fields fs n ps = record { agrees = λ y t z x k p e. absurd (clash (sym (ap i
 pub record Found (core : CoreTree) (code : CodeTree) (es : List Entry) (i : ℕ) (g : FunctionTerm) : Type 0 where
   pub until : ℕ
   pub slots : slots_at es i ≡ length g.parameters + length (binders g.body)
-  pub low : Low core code [] (start_at es i) g.body Returns until
+  pub low : Low core code (within_function core g) [] (start_at es i) g.body (Returns []) until
 
 none_some : {g : FunctionTerm} → ◌≡◌ {A = Option FunctionTerm} None (Some g) → ⊥
 none_some e = absurd cc
@@ -71,17 +73,17 @@ found : (core : CoreTree) (code : CodeTree) (a : ℕ) (gs : List FunctionTerm) (
 found core code a _ _ (low.main nm rs st sl lo) f g e = absurd (none_some e)
 found core code a _ _ (low.function {z = z} {g = h} {gs = gs} {e = e} {es = es} nm rs st sl lo later) f g eq =
     by_test h.name.0 f (λ b. cond b (Some h) (function_at gs f) ≡ Some g → Found core code (e ∷ es) (cond b 0 (suc (function_number gs f))) g)
-    (λ q r. subst (λ (k : FunctionTerm). Found core code (e ∷ es) 0 k) (some_is r) (record { until = z; slots = sl; low = subst (λ (n : ℕ). Low core code [] n h.body Returns z) (sym st) lo }))
+    (λ q r. subst (λ (k : FunctionTerm). Found core code (e ∷ es) 0 k) (some_is r) (record { until = z; slots = sl; low = subst (λ (n : ℕ). Low core code (within_function core h) [] n h.body (Returns []) z) (sym st) lo }))
     (λ q r. let i = found core code z gs es later f g r in record { until = i.until; slots = i.slots; low = i.low })
     eq
 
 record MainFound (core : CoreTree) (code : CodeTree) (es : List Entry) (i : ℕ) : Type 0 where
   pub until : ℕ
   pub slots : slots_at es i ≡ 1 + length (binders core.main.body)
-  pub low : Low core code [] (start_at es i) core.main.body Returns until
+  pub low : Low core code (within_main core) [] (start_at es i) core.main.body (Returns []) until
 
 main_found : (core : CoreTree) (code : CodeTree) (a : ℕ) (gs : List FunctionTerm) (es : List Entry) → LowFunctions core code a gs es → MainFound core code es (length gs)
-main_found core code a _ _ (low.main nm rs st sl lo) = record { until = length code.instructions; slots = sl; low = subst (λ (n : ℕ). Low core code [] n core.main.body Returns (length code.instructions)) (sym st) lo }
+main_found core code a _ _ (low.main nm rs st sl lo) = record { until = length code.instructions; slots = sl; low = subst (λ (n : ℕ). Low core code (within_main core) [] n core.main.body (Returns []) (length code.instructions)) (sym st) lo }
 main_found core code a _ _ (low.function {z = z} {gs = gs} {es = es} nm rs st sl lo later) = let i = main_found core code z gs es later in record { until = i.until; slots = i.slots; low = i.low }
 
 pub lowered_bodies : (core : CoreTree) (code : CodeTree) → IsLowered core code → AllFit core → AreBodies core code
@@ -94,9 +96,9 @@ lowered_bodies core code lo fit = record {
       let n = slots_at code.functions (function_number core.functions f) in
       record {
         low = record { fields = []; until = i.until; low = i.low; agree = no_fields [] n g.parameters };
-        fits = subst (λ (m : ℕ). Rattle.gib_core.specs.Fits.Fits core g.body (body_scope m g.parameters) (dest_of g.result)) (sym i.slots) ft.fits;
+        fits = subst (λ (m : ℕ). Rattle.gib_core.specs.Fits.Fits core (body_needs core f) g.body (body_scope m g.parameters) (dest_of g.result) (new_line (within_function core g))) (sym i.slots) ft.fits;
         enough = subst (λ (m : ℕ). length g.parameters ≤ m) (sym i.slots) ft.enough;
-        nests = nests_within core code [] _ g.body Returns i.until i.low;
+        nests = nests_within core code (within_function core g) [] _ g.body (Returns []) i.until i.low;
       };
 }
 
@@ -106,8 +108,8 @@ lowered_main core code lo fit =
     let n = slots_at code.functions (length core.functions) in
     record {
       low = record { fields = []; until = i.until; low = i.low; agree = no_fields [] n (core.main.parameter ∷ []) };
-      fits = subst (λ (m : ℕ). Rattle.gib_core.specs.Fits.Fits core core.main.body (body_scope m (core.main.parameter ∷ [])) (dest_of core.main.result)) (sym i.slots) fit.main.fits;
-      nests = nests_within core code [] _ core.main.body Returns i.until i.low;
+      fits = subst (λ (m : ℕ). Rattle.gib_core.specs.Fits.Fits core (AtEnd none_of) core.main.body (body_scope m (core.main.parameter ∷ [])) (dest_of core.main.result) (new_line (within_main core))) (sym i.slots) fit.main.fits;
+      nests = nests_within core code (within_main core) [] _ core.main.body (Returns []) i.until i.low;
     }
 
 -- The root.
@@ -122,16 +124,16 @@ argument_grows laid s r Whole w v g h = h
 argument_grows laid s r Truth w v g h = h
 argument_grows laid s r (Tree t) w v g h = StandsAt-grows g h
 
-abbrev main_line : ℕ → Ty → ℕ → Datum → Dest → ℕ → Ctx
-main_line n p w v d a = record { scope = body_scope n (p ∷ []); env = (0, v) ∷ []; pl = λ y. slot (frame_words n (w ∷ [])) y; hd = λ y. 0; dest = d; front = a; head = 0 }
+abbrev main_line : Within → ℕ → Ty → ℕ → Datum → Dest → ℕ → Ctx
+main_line wi n p w v d a = record { scope = body_scope n (p ∷ []); env = (0, v) ∷ []; pl = λ y. slot (frame n (w ∷ [])) y; hd = λ y. 0; dest = d; front = a; head = 0; line = new_line wi }
 
-main_has : (laid : LaidOut) (s : Store) (c : Ctx) (n : ℕ) (p : Ty) (w : ℕ) (v : Datum) (y : ℕ) → IsArgument laid s p w v → Has laid s c (body_scope n (p ∷ []) y) (slot (frame_words n (w ∷ [])) y) (value_in ((0, v) ∷ []) y) (slot (frame_words n (w ∷ [])) y) 0
+main_has : (laid : LaidOut) (s : Store) (c : Ctx) (n : ℕ) (p : Ty) (w : ℕ) (v : Datum) (y : ℕ) → IsArgument laid s p w v → Has laid s c (body_scope n (p ∷ []) y) (slot (frame n (w ∷ [])) y) (value_in ((0, v) ∷ []) y) (slot (frame n (w ∷ [])) y) 0
 main_has laid s c zero p w v y h = tt
 main_has laid s c (suc n) p w v zero h = argument_has laid s c p w v h
-main_has laid s c (suc n) p w v (suc y) h = nothing_bound laid s c n y (slot (frame_words n []) y) (slot (frame_words n []) y) 0 _
+main_has laid s c (suc n) p w v (suc y) h = nothing_bound laid s c n y (slot (frame n []) y) (slot (frame n []) y) 0 _
 
-main_vars : (laid : LaidOut) (s : Store) (n : ℕ) (p : Ty) (w : ℕ) (v : Datum) (d : Dest) (a : ℕ) → IsArgument laid s p w v → HasAll laid s (frame_words n (w ∷ [])) (main_line n p w v d a)
-main_vars laid s n p w v d a h = record { has = λ y. main_has laid s (main_line n p w v d a) n p w v y h; wide = λ y g. subst (λ (q : ℕ). y < q) (sym (frame-length n (w ∷ []))) (no_slot n (p ∷ []) y g) }
+main_vars : (wi : Within) (laid : LaidOut) (s : Store) (n : ℕ) (p : Ty) (w : ℕ) (v : Datum) (d : Dest) (a : ℕ) → IsArgument laid s p w v → HasAll laid s (frame n (w ∷ [])) (main_line wi n p w v d a)
+main_vars wi laid s n p w v d a h = record { has = λ y. main_has laid s (main_line wi n p w v d a) n p w v y h; wide = λ y g. subst (λ (q : ℕ). y < q) (sym (frame-length n (w ∷ []))) (no_slot n (p ∷ []) y g); ends = λ y. body_end laid s n (p ∷ []) y (w ∷ []) _; even = frame-length n [] ∙ sym (frame-length n (w ∷ [])); told = λ q e. absurd (no_told e); closes = tt }
 
 root_of : (ty : Ty) (a : ℕ) → IsRoot ty a (record { start = a; cur = a } ∷ [])
 root_of Whole a = tt
@@ -140,20 +142,21 @@ root_of (Tree t) a = refl
 
 module _ (core : CoreTree) (code : CodeTree) (main : IsMain core code) (own : Owned) (w depth level rm : ℕ) (v : Datum) where
   -- main's body is next
-  begun : (s : Store) (rs : List OpenRegion) (tails : List ℕ) (a : ℕ) → IsArgument code.laid s core.main.parameter w v → IsRoot core.main.result a rs → IsDest code.laid s (frame_words (slots_at code.functions (length core.functions)) (w ∷ [])) (main_line (slots_at code.functions (length core.functions)) core.main.parameter w v (dest_of core.main.result) a) (dest_of core.main.result) (cursor rs)
+  begun : (s : Store) (rs : List OpenRegion) (tails : List ℕ) (a : ℕ) → IsArgument code.laid s core.main.parameter w v → IsRoot core.main.result a rs → IsDest code.laid s (frame (slots_at code.functions (length core.functions)) (w ∷ [])) (main_line (within_main core) (slots_at code.functions (length core.functions)) core.main.parameter w v (dest_of core.main.result) a) (dest_of core.main.result) (cursor rs)
       → Rattle.gib_weave.specs.Places.HaveRoom rs → TailsHaveRoom tails → Apart own s (λ q. rest_covers rs q + tail_covers tails q) → IsSmall s → times (suc depth) (nesting code) ≤ rm → (sh : Share) → Counted rs (left_costs core depth level (Plain core.main.body) ((0, v) ∷ []) (KEnd core.main.result)) sh
-      → Safe core code (record { ty = core.main.result; all = core_run core depth v; sides = [] }) own sh s (at_rest (record { level = level; pars = []; side = None; width = widest code.functions }) core.main.result rm (start_at code.functions (length core.functions)) (frame_words (slots_at code.functions (length core.functions)) (w ∷ [])) [] depth rs tails)
+      → Safe core code (record { ty = core.main.result; all = core_run core depth v; sides = [] }) own sh s (at_rest (record { level = level; pars = []; side = None; width = widest code.functions; gave = [] }) core.main.result rm (start_at code.functions (length core.functions)) (frame (slots_at code.functions (length core.functions)) (w ∷ [])) [] depth rs tails)
   begun s rs tails a arg ro de rooms tr ap9 sm le sh counted =
       let n = slots_at code.functions (length core.functions) in
-      let c = main_line n core.main.parameter w v (dest_of core.main.result) a in
+      let c = main_line (within_main core) n core.main.parameter w v (dest_of core.main.result) a in
       rests (at_term {u = Plain core.main.body} {c = c} {k = KEnd core.main.result} record {
         ready = refl;
         low = main.low;
         fits = main.fits;
         kind = result_type core.main.result;
-        matches = record { vars = main_vars code.laid s n core.main.parameter w v (dest_of core.main.result) a arg; dest = de };
+        matches = record { vars = main_vars (within_main core) code.laid s n core.main.parameter w v (dest_of core.main.result) a arg; dest = de };
         stack = ro;
         under = tt;
+        given = tt;
         calm = tt;
         places = Apart-less ap9 (λ q. let i = no_result_cover code.laid c core.main.result q in omega (arith, i));
         rooms = rooms;
@@ -190,7 +193,7 @@ pub root_starts : (core : CoreTree) (code : CodeTree) → IsMain core code → (
 root_starts core code main own s w depth level v tails arg tr ap9 sm sh counted = go core.main.result refl
   where
     from_ty : Ty → State
-    from_ty u = record { ip = start_at code.functions (length core.functions); words = frame_words (slots_at code.functions (length core.functions)) (w ∷ []); frames = []; depth = depth; level = level; pars = []; side = None; regions = []; tails = tails; room = suc (times (suc depth) (nesting code)); width = widest code.functions; result = core.main.result; doing = first_doing u }
+    from_ty u = record { ip = start_at code.functions (length core.functions); words = frame (slots_at code.functions (length core.functions)) (w ∷ []); frames = []; depth = depth; level = level; pars = []; side = None; regions = []; tails = tails; room = suc (times (suc depth) (nesting code)); width = widest code.functions; gave = []; result = core.main.result; doing = first_doing u }
 
     scalar_root : (u : Ty) (a : ℕ) → is_scalar u ≡ true → IsRoot u a []
     scalar_root Whole a h = tt
@@ -202,7 +205,7 @@ root_starts core code main own s w depth level v tails arg tr ap9 sm sh counted 
     scalar_dest laid sl c Truth h = tt
     scalar_dest laid sl c (Tree t) h = absurd cc
 
-    scalar : (u : Ty) → core.main.result ≡ u → is_scalar u ≡ true → Safe core code (record { ty = core.main.result; all = core_run core depth v; sides = [] }) own sh s (at_rest (record { level = level; pars = []; side = None; width = widest code.functions }) core.main.result (suc (times (suc depth) (nesting code))) (start_at code.functions (length core.functions)) (frame_words (slots_at code.functions (length core.functions)) (w ∷ [])) [] depth [] tails)
+    scalar : (u : Ty) → core.main.result ≡ u → is_scalar u ≡ true → Safe core code (record { ty = core.main.result; all = core_run core depth v; sides = [] }) own sh s (at_rest (record { level = level; pars = []; side = None; width = widest code.functions; gave = [] }) core.main.result (suc (times (suc depth) (nesting code))) (start_at code.functions (length core.functions)) (frame (slots_at code.functions (length core.functions)) (w ∷ [])) [] depth [] tails)
     scalar u e h = begun core code main own w depth level (suc (times (suc depth) (nesting code))) v s [] tails 0 arg (scalar_root core.main.result 0 (ap is_scalar e ∙ h)) (scalar_dest code.laid _ _ core.main.result (ap is_scalar e ∙ h)) tt tr (Apart-less ap9 (λ q. omega arith)) sm (omega arith) sh (goes_on_counted (record { regions = omega arith; items = omega arith }) counted)
 
     left : Cost
@@ -214,16 +217,16 @@ root_starts core code main own s w depth level v tails arg tr ap9 sm sh counted 
     in_tail : (t : Ty) → core.main.result ≡ t → first_doing t ≡ Opening → (a : ℕ) → Paid (record { start = a; cur = a } ∷ []) (left_costs core depth level (Plain core.main.body) ((0, v) ∷ []) (KEnd core.main.result)) sh 0
     in_tail t e f a = tail_counted (record { start = a; cur = a }) [] (root_costs core depth level v core.main.result) left sh (dearer core depth level v t e f) counted
 
-    packed : (o : Option (List ℕ × ℕ)) → latest tails ≡ o → SplitsAt tails o → (t : Ty) → core.main.result ≡ t → first_doing t ≡ Opening → Safe core code (record { ty = core.main.result; all = core_run core depth v; sides = [] }) own sh s (record { ip = start_at code.functions (length core.functions); words = frame_words (slots_at code.functions (length core.functions)) (w ∷ []); frames = []; depth = depth; level = level; pars = []; side = None; regions = []; tails = tails; room = suc (times (suc depth) (nesting code)); width = widest code.functions; result = core.main.result; doing = Opening })
+    packed : (o : Option (List ℕ × ℕ)) → latest tails ≡ o → SplitsAt tails o → (t : Ty) → core.main.result ≡ t → first_doing t ≡ Opening → Safe core code (record { ty = core.main.result; all = core_run core depth v; sides = [] }) own sh s (record { ip = start_at code.functions (length core.functions); words = frame (slots_at code.functions (length core.functions)) (w ∷ []); frames = []; depth = depth; level = level; pars = []; side = None; regions = []; tails = tails; room = suc (times (suc depth) (nesting code)); width = widest code.functions; gave = []; result = core.main.result; doing = Opening })
     packed None q h t e f =
-        moves (draws (λ d. (in_chunk t e f d).share) (ap (begins (record { ip = start_at code.functions (length core.functions); words = frame_words (slots_at code.functions (length core.functions)) (w ∷ []); frames = []; depth = depth; level = level; pars = []; side = None; regions = []; tails = tails; room = times (suc depth) (nesting code); width = widest code.functions; result = core.main.result; doing = Opening }) (λ t a. t)) q)
+        moves (draws (λ d. (in_chunk t e f d).share) (ap (begins (record { ip = start_at code.functions (length core.functions); words = frame (slots_at code.functions (length core.functions)) (w ∷ []); frames = []; depth = depth; level = level; pars = []; side = None; regions = []; tails = tails; room = times (suc depth) (nesting code); width = widest code.functions; gave = []; result = core.main.result; doing = Opening }) (λ t a. t)) q)
         (λ d new. (in_chunk t e f d).spends)
         (λ d new. begun core code main (with_chunk own d) w depth level (times (suc depth) (nesting code)) v (open_chunk s d) (record { start = 4096 * d; cur = 4096 * d } ∷ []) [] (4096 * d) (argument_grows code.laid s (open_chunk s d) core.main.parameter w v (open-grows s d new) arg)
         (root_of core.main.result (4096 * d)) (result_dest code.laid (open_chunk s d) _ _ core.main.result (4096 * d) refl) (omega arith, tt) tt
         (Apart-open d new ap9 (λ q. let i : rest (4096 * d) ≡ 4096 = omega arith in let j = ap (λ (z : ℕ). within (4096 * d) z q) i in omega (arith, j))) (open-small s d new sm) (omega arith) (in_chunk t e f d).share (in_chunk t e f d).counted))
     packed (Some p) q h t e f =
         let ro = h.rooms tr in
-        moves (silent (ap (begins (record { ip = start_at code.functions (length core.functions); words = frame_words (slots_at code.functions (length core.functions)) (w ∷ []); frames = []; depth = depth; level = level; pars = []; side = None; regions = []; tails = tails; room = times (suc depth) (nesting code); width = widest code.functions; result = core.main.result; doing = Opening }) (λ t a. t)) q)
+        moves (silent (ap (begins (record { ip = start_at code.functions (length core.functions); words = frame (slots_at code.functions (length core.functions)) (w ∷ []); frames = []; depth = depth; level = level; pars = []; side = None; regions = []; tails = tails; room = times (suc depth) (nesting code); width = widest code.functions; gave = []; result = core.main.result; doing = Opening }) (λ t a. t)) q)
         (counts (in_tail t e f p.1).spends (begun core code main own w depth level (times (suc depth) (nesting code)) v s (record { start = p.1; cur = p.1 } ∷ []) p.0 p.1 arg
         (root_of core.main.result p.1) (result_dest code.laid s _ _ core.main.result p.1 refl) (ro.1, tt) ro.0
         (Apart-less ap9 (λ q. let i = h.covers q in omega (arith, i))) sm (omega arith) (in_tail t e f p.1).share (in_tail t e f p.1).counted)))

@@ -1,5 +1,5 @@
 -- What a call of a weave leaves, by its answer.
-use Rattle.std.specs.Prelude.{◌≡◌, ℕ, zero, suc, ◌≤◌, List, [], ◌∷◌, ◌++◌, length, Bool, ◌&&◌, true, false, nat_eq, Option, Some, None, Result, Ok, Err}
+use Rattle.std.specs.Prelude.{◌≡◌, ℕ, zero, suc, List, [], ◌∷◌, ◌++◌, Bool, ◌&&◌, true, false, nat_eq, Option, Some, None, Result, Ok, Err}
 use Rattle.std.specs.Ordering.{nat_cmp}
 use Rattle.std.specs.BTreeSet.{BTreeSet, contains}
 use Rattle.gib_mem.specs.Memory.{Memory}
@@ -8,6 +8,7 @@ use Rattle.gib_code.specs.Program.{CodeTree, Runs}
 use Rattle.gib_machine.specs.Machine.{Waiting, Ask, Silent, Get, Put, Draw, AtFork, AtJoin, Ended, left_starts, right_of, widest}
 use Rattle.gib_machine.specs.Starting.{waiting_of}
 use Rattle.gib_machine.specs.Stepping.{Can}
+use Rattle.gib_machine.specs.Frames.{FitsFrame}
 use Rattle.gib_weave.specs.declared.sides.RightSide.{RightSide}
 use Rattle.gib_weave.specs.declared.sides.RightSide.TheVariants as side
 use Rattle.gib_weave.specs.declared.sides.Newest.{Newest}
@@ -46,10 +47,10 @@ AreBegunFirst (suc k) (side.Begun n ∷ xs) = AreBegunFirst k xs
 abbrev pub IsOldest : List Status → Waiting → Type 0
 IsOldest sts x = (sts' : List Status) × Stolen 0 sts x sts'
 
--- Each side that waits has no more words than a frame of this width.
+-- Each side that waits fits a frame of this width.
 abbrev pub AreNarrow : ℕ → List Status → Type 0
 AreNarrow width [] = Unit {0}
-AreNarrow width (Waits x ∷ sts) = (length x.words ≤ width) × AreNarrow width sts
+AreNarrow width (Waits x ∷ sts) = FitsFrame width x.words × AreNarrow width sts
 AreNarrow width (w.Runs n ∷ sts) = AreNarrow width sts
 
 -- How far a right side is.

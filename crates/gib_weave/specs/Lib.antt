@@ -1,4 +1,5 @@
 pub mod Environment
+pub mod EndWords
 pub mod Continuing
 pub mod Owing
 pub mod Paying
@@ -15,3 +16,4 @@ pub mod Applied
 pub mod Woven
 pub mod Bytes
 pub mod Worked
+pub mod Summing

@@ -26,8 +26,8 @@ kont_covers laid (KLast l y s) q = 0
 kont_covers laid (KHere l x s u c k) q = head_covers laid c c.dest q + kont_covers laid k q
 kont_covers laid (KRegion l x s u c k) q = head_covers laid c c.dest q + kont_covers laid k q
 kont_covers laid (KScalar l x ty u c k) q = head_covers laid c c.dest q + kont_covers laid k q
-kont_covers laid (KCall k) q = kont_covers laid k q
-kont_covers laid (KCallScalar x ty u c k) q = head_covers laid c c.dest q + kont_covers laid k q
+kont_covers laid (KCall gs c k) q = kont_covers laid k q
+kont_covers laid (KCallScalar x ty gs u c k) q = head_covers laid c c.dest q + kont_covers laid k q
 
 -- The rests of their chunks behind the cursors.
 abbrev pub rest_covers : List OpenRegion → ℕ → ℕ
@@ -85,7 +85,7 @@ pub record IsNew (s : Store) (c : ℕ) : Type 0 where
 -- There is room for what is next in a line, and w more; the room that it leaves behind.
 abbrev pub HasRoom : ℕ → Rest → ℕ → Type 0
 HasRoom w (Plain u) r = nest u + w ≤ r
-HasRoom w (Part s u) r = (side_nest s + w ≤ r) × HasRoom w u r
+HasRoom w (Part wi s u) r = (side_nest s + w ≤ r) × HasRoom w u r
 HasRoom w (Meet p s u) r = (side_nest s + w ≤ r) × (nest u + w ≤ suc r)
 HasRoom w (Leave p u) r = nest u + w ≤ suc r
 HasRoom w (Last y ty) r = Unit {0}
@@ -93,7 +93,7 @@ HasRoom w (Last y ty) r = Unit {0}
 -- The room that is left behind a line, when so much is now.
 abbrev pub freed : Rest → ℕ → ℕ
 freed (Plain u) r = r
-freed (Part s u) r = freed u r
+freed (Part wi s u) r = freed u r
 freed (Meet p s u) r = suc r
 freed (Leave p u) r = suc r
 freed (Last y ty) r = r
@@ -106,8 +106,8 @@ AllRoom w n r (KLast l y s) = Unit {0}
 AllRoom w n r (KHere l x s u c k) = HasRoom (times n w) u r × AllRoom w n (freed u r) k
 AllRoom w n r (KRegion l x s u c k) = HasRoom (times n w) u (suc r) × AllRoom w n (freed u (suc r)) k
 AllRoom w n r (KScalar l x ty u c k) = HasRoom (times n w) u r × AllRoom w n (freed u r) k
-AllRoom w n r (KCall k) = AllRoom w (suc n) r k
-AllRoom w n r (KCallScalar x ty u c k) = HasRoom (times (suc n) w) u r × AllRoom w (suc n) (freed u r) k
+AllRoom w n r (KCall gs c k) = AllRoom w (suc n) r k
+AllRoom w n r (KCallScalar x ty gs u c k) = HasRoom (times (suc n) w) u r × AllRoom w (suc n) (freed u r) k
 
 -- With a chunk that was drawn.
 abbrev pub with_chunk : Owned → ℕ → Owned

@@ -18,8 +18,8 @@ use Rattle.gib_region.specs.Count.{Count, Balanced}
 use Rattle.gib_core.specs.Cost.{Cost, plus, own}
 use Rattle.gib_machine.specs.Machine.{State, Ready, Over, Unwinding, Par, Waiting, times, nesting, left_starts, right_of, side_start, takes, joins, Ask, Silent, Get, Put, Draw, AtFork, AtJoin, Ended, next, cursor}
 use Rattle.gib_machine.specs.Levels.{lefts}
-use Rattle.gib_weave.specs.Environment.{Ctx, Matches, StandsAt}
-use Rattle.gib_weave.specs.Continuing.{AllCalm, AllUnder, Kont, Next, Plain, Rest, RestCode, RestFits, due, end_of, pars_of, rest_cased, rest_nest, rest_pars, root, side_of}
+use Rattle.gib_weave.specs.Environment.{Ctx, Matches, StandsAt, AreGiven}
+use Rattle.gib_weave.specs.Continuing.{AllCalm, AllUnder, Kont, Next, Plain, Rest, RestCode, RestFits, due, end_of, pars_of, rest_cased, rest_nest, rest_pars, root, side_of, given_of, needs_of}
 use Rattle.gib_weave.specs.Owing.{Debt, Owed, level_after, rest_means, rest_sides, resume, sides_of}
 use Rattle.gib_weave.specs.Paying.{AtMost, Counted, Share, Spends, left_costs, new_share, with_count, with_rest, with_side}
 use Rattle.gib_weave.specs.Places.{AllFresh, AllRoom, Apart, HasRoom, HaveRoom, IsNew, IsSmall, Owned, TailsHaveRoom, covers, freed, put_all, with_chunk}
@@ -28,12 +28,13 @@ use Rattle.gib_weave.specs.Stacks.{Stack}
 -- A task at what is next in a line.
 pub record AtRest (core : CoreTree) (code : CodeTree) (owed : Owed) (own : Owned) (sh : Share) (s : Store) (m : State) (u : Rest) (c : Ctx) (k : Kont) : Type 0 where
   pub ready : m.doing ≡ Ready
-  pub low : RestCode core code c.scope m.ip u (end_of k)
-  pub fits : RestFits core u c.scope c.dest
+  pub low : RestCode core code c.line.within c.scope m.ip u (end_of c.line.overs k)
+  pub fits : RestFits core (needs_of k) u c.scope c.dest c.line
   pub kind : dest_type c.dest ≡ due k
   pub matches : Matches code.laid s m.words c (cursor m.regions)
   pub stack : Stack core code s k m.words m.frames c.front m.regions
   pub under : AllUnder c.scope c.env k
+  pub given : AreGiven c 0 (given_of k)
   pub calm : AllCalm (rest_cased u) k
   pub places : Apart own s (covers code.laid c k m)
   pub rooms : HaveRoom m.regions

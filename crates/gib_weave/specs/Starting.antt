@@ -9,16 +9,17 @@ use Rattle.gib_mem.specs.Memory.{Store}
 use Rattle.gib_core.specs.Tree.{FunctionTerm, CoreTree}
 use Rattle.gib_core.specs.Meaning.{function_at}
 use Rattle.gib_code.specs.Program.{CodeTree}
-use Rattle.gib_core.specs.Fits.{Fits, body_scope, dest_of}
+use Rattle.gib_core.specs.Fits.{Fits, AtEnd, body_needs, new_line, none_of, body_scope, dest_of}
+use Rattle.gib_core.specs.Ending.{within_function, within_main}
 use Rattle.gib_core.specs.Low.{laid_of, Returns, function_number}
-use Rattle.gib_machine.specs.Machine.{State, Doing, Ready, nesting, widest, whole_room, start_at, slots_at, frame_words, Opening}
+use Rattle.gib_machine.specs.Machine.{State, Doing, Ready, nesting, widest, whole_room, start_at, slots_at, frame, Opening}
 use Rattle.gib_weave.specs.Environment.{IsScalar, StandsAt}
 use Rattle.gib_weave.specs.Continuing.{IsCode, nest}
 
 -- The code of a function's body stands, and the body fits.
-pub record IsBody (core : CoreTree) (code : CodeTree) (g : FunctionTerm) (i : ℕ) : Type 0 where
-  pub low : IsCode core code (body_scope (slots_at code.functions i) g.parameters) (start_at code.functions i) g.body Returns
-  pub fits : Fits core g.body (body_scope (slots_at code.functions i) g.parameters) (dest_of g.result)
+pub record IsBody (core : CoreTree) (code : CodeTree) (f : ℕ) (g : FunctionTerm) (i : ℕ) : Type 0 where
+  pub low : IsCode core code (within_function core g) (body_scope (slots_at code.functions i) g.parameters) (start_at code.functions i) g.body (Returns [])
+  pub fits : Fits core (body_needs core f) g.body (body_scope (slots_at code.functions i) g.parameters) (dest_of g.result) (new_line (within_function core g))
   pub enough : length g.parameters ≤ slots_at code.functions i
   pub nests : nest g.body ≤ nesting code
 
@@ -26,12 +27,12 @@ pub record IsBody (core : CoreTree) (code : CodeTree) (g : FunctionTerm) (i : �
 pub record AreBodies (core : CoreTree) (code : CodeTree) : Type 0 where
   pub laid : code.laid ≡ laid_of core
   pub table : IsTable code.laid.table
-  pub bodies : (f : ℕ) (g : FunctionTerm) → function_at core.functions f ≡ Some g → IsBody core code g (function_number core.functions f)
+  pub bodies : (f : ℕ) (g : FunctionTerm) → function_at core.functions f ≡ Some g → IsBody core code f g (function_number core.functions f)
 
 -- Main's code stands, and main fits.
 pub record IsMain (core : CoreTree) (code : CodeTree) : Type 0 where
-  pub low : IsCode core code (body_scope (slots_at code.functions (length core.functions)) (core.main.parameter ∷ [])) (start_at code.functions (length core.functions)) core.main.body Returns
-  pub fits : Fits core core.main.body (body_scope (slots_at code.functions (length core.functions)) (core.main.parameter ∷ [])) (dest_of core.main.result)
+  pub low : IsCode core code (within_main core) (body_scope (slots_at code.functions (length core.functions)) (core.main.parameter ∷ [])) (start_at code.functions (length core.functions)) core.main.body (Returns [])
+  pub fits : Fits core (AtEnd none_of) core.main.body (body_scope (slots_at code.functions (length core.functions)) (core.main.parameter ∷ [])) (dest_of core.main.result) (new_line (within_main core))
   pub nests : nest core.main.body ≤ nesting code
 
 -- A word is the argument.
@@ -50,7 +51,7 @@ first_doing (Tree t) = Opening
 abbrev pub root_start : CoreTree → CodeTree → (w depth level : ℕ) → List ℕ → State
 root_start core code w depth level tails = record {
   ip = start_at code.functions (length core.functions);
-  words = frame_words (slots_at code.functions (length core.functions)) (w ∷ []);
+  words = frame (slots_at code.functions (length core.functions)) (w ∷ []);
   frames = [];
   depth = depth;
   level = level;
@@ -60,6 +61,7 @@ root_start core code w depth level tails = record {
   tails = tails;
   room = whole_room code depth;
   width = widest code.functions;
+  gave = [];
   result = core.main.result;
   doing = first_doing core.main.result;
 }

@@ -2,9 +2,8 @@
 use Rattle.std.specs.Prelude.{◌≡◌, ℕ, zero, suc, ◌+◌, ◌<◌, ◌≤◌, ◌^◌, List, [], ◌∷◌, ◌++◌, length, get_or, slice_get, slice_set, Option, Some, None, Bool, true, false, ◌&&◌, nat_lt, if◌then◌else◌}
 use Rattle.gib_types.specs.declared.table.Ty.{Ty}
 use Rattle.gib_syntax.specs.Meaning.{Outcome}
-use Rattle.gib_mem.specs.Memory.{Memory, Store, absent, after_puts, after_draw, Reads, AreKnown, Owned as Cells}
+use Rattle.gib_mem.specs.Memory.{Memory, Store, absent, after_puts, after_draw, Reads, AreKnown, Owned as Cells, IsBounded}
 use Rattle.gib_region.specs.Region.{Draws}
-use Rattle.gib_mem.specs.Memory.{IsBounded}
 use Rattle.gib_core.specs.Tree.{CoreTree}
 use Rattle.gib_code.specs.declared.answer.Answer.{Answer}
 use Rattle.gib_code.specs.Program.{CodeTree}

@@ -1,4 +1,4 @@
-use Rattle.std.proofs.Common.{◌≡◌, ℕ, suc, ap, sym, ◌∙◌, drop, false, add-one}
+use Rattle.std.proofs.Common.{◌≡◌, ℕ, suc, ap, sym, ◌∙◌, drop, add-one}
 use Rattle.std.specs.Prelude.{None}
 use Rattle.gib_machine.specs.contracts.state.Machine.{the_view}
 use Rattle.gib_machine.specs.Machine.{State, Ready, answered, unwinding, joins}
