@@ -133,8 +133,8 @@ module _ (s : Shape) (words : List Text) (is : AllOf (Known s.rules) s.rules) (s
   target_there (ByOption id) reads = refl
 
   -- One lemma for all forms.
-  plan_there : (job : Job) (second third : Option Text) (target : Target) → Reads s (codes "source") → MayRead s second → MayRead s third → MayWrite s target → is_some (planned job second third target rows) ≡ true
-  plan_there job second third target source other further written =
+  plan_there : (job : Job) (second third : Option Text) (target : Target) (pack : Option Text) → Reads s (codes "source") → MayRead s second → MayRead s third → MayWrite s target → is_some (planned job second third target pack rows) ≡ true
+  plan_there job second third target pack source other further written =
       let first = mapped _ (file_of (codes "source") rows) (source_there (codes "source") source) in
       let both = joined _ (file_in second rows) first (file_there second other) in
       joined _ (target_in target rows) (joined _ (file_in third rows) both (file_there third further)) (target_there target written)
@@ -147,39 +147,39 @@ module _ (s : Shape) (words : List Text) (is : AllOf (Known s.rules) s.rules) (s
 
 run_asks : Asks (built_form run_form)
 unfolding clap_on_literals
-run_asks words passes = plan_there (built_form run_form) words ((refl, refl), ((refl, refl), ((refl, refl), ((refl, refl), ((refl, refl), ((refl, refl), ((refl, refl), ((refl, refl), tt)))))))) refl passes Run (Some (codes "input")) None (ByOption (codes "image")) (_, refl, refl, refl) (_, refl, refl, refl) tt tt
+run_asks words passes = plan_there (built_form run_form) words ((refl, refl), ((refl, refl), ((refl, refl), ((refl, refl), ((refl, refl), ((refl, refl), ((refl, refl), ((refl, refl), ((refl, refl), tt))))))))) refl passes Run (Some (codes "input")) None (ByOption (codes "image")) (Some (codes "pack")) (_, refl, refl, refl) (_, refl, refl, refl) tt tt
 
 plain_asks : Asks (built_form plain_form)
 unfolding clap_on_literals
-plain_asks words passes = plan_there (built_form plain_form) words ((refl, refl), ((refl, refl), ((refl, refl), tt))) refl passes Plain (Some (codes "input")) None NoTarget (_, refl, refl, refl) (_, refl, refl, refl) tt tt
+plain_asks words passes = plan_there (built_form plain_form) words ((refl, refl), ((refl, refl), ((refl, refl), tt))) refl passes Plain (Some (codes "input")) None NoTarget None (_, refl, refl, refl) (_, refl, refl, refl) tt tt
 
 check_asks : Asks (built_form check_form)
 unfolding clap_on_literals
-check_asks words passes = plan_there (built_form check_form) words ((refl, refl), tt) refl passes Check None None NoTarget (_, refl, refl, refl) tt tt tt
+check_asks words passes = plan_there (built_form check_form) words ((refl, refl), tt) refl passes Check None None NoTarget None (_, refl, refl, refl) tt tt tt
 
 core_asks : Asks (built_form core_form)
 unfolding clap_on_literals
-core_asks words passes = plan_there (built_form core_form) words ((refl, refl), ((refl, refl), ((refl, refl), tt))) refl passes Core None None NoTarget (_, refl, refl, refl) tt tt tt
+core_asks words passes = plan_there (built_form core_form) words ((refl, refl), ((refl, refl), ((refl, refl), tt))) refl passes Core None None NoTarget None (_, refl, refl, refl) tt tt tt
 
 code_asks : Asks (built_form code_form)
 unfolding clap_on_literals
-code_asks words passes = plan_there (built_form code_form) words ((refl, refl), ((refl, refl), tt)) refl passes Code None None NoTarget (_, refl, refl, refl) tt tt tt
+code_asks words passes = plan_there (built_form code_form) words ((refl, refl), ((refl, refl), tt)) refl passes Code None None NoTarget None (_, refl, refl, refl) tt tt tt
 
 pack_asks : Asks (built_form pack_form)
 unfolding clap_on_literals
-pack_asks words passes = plan_there (built_form pack_form) words ((refl, refl), ((refl, refl), ((refl, refl), ((refl, refl), ((refl, refl), tt))))) refl passes Pack (Some (codes "text")) None (AtPlace (codes "target")) (_, refl, refl, refl) (_, refl, refl, refl) tt (_, refl, refl, refl)
+pack_asks words passes = plan_there (built_form pack_form) words ((refl, refl), ((refl, refl), ((refl, refl), ((refl, refl), ((refl, refl), tt))))) refl passes Pack (Some (codes "text")) None (AtPlace (codes "target")) None (_, refl, refl, refl) (_, refl, refl, refl) tt (_, refl, refl, refl)
 
 show_asks : Asks (built_form show_form)
 unfolding clap_on_literals
-show_asks words passes = plan_there (built_form show_form) words ((refl, refl), ((refl, refl), ((refl, refl), tt))) refl passes Show (Some (codes "file")) None NoTarget (_, refl, refl, refl) (_, refl, refl, refl) tt tt
+show_asks words passes = plan_there (built_form show_form) words ((refl, refl), ((refl, refl), ((refl, refl), tt))) refl passes Show (Some (codes "file")) None NoTarget None (_, refl, refl, refl) (_, refl, refl, refl) tt tt
 
 trace_asks : Asks (built_form trace_form)
 unfolding clap_on_literals
-trace_asks words passes = plan_there (built_form trace_form) words ((refl, refl), ((refl, refl), ((refl, refl), ((refl, refl), ((refl, refl), ((refl, refl), ((refl, refl), ((refl, refl), tt)))))))) refl passes Trace (Some (codes "input")) None (AtPlace (codes "journal")) (_, refl, refl, refl) (_, refl, refl, refl) tt (_, refl, refl, refl)
+trace_asks words passes = plan_there (built_form trace_form) words ((refl, refl), ((refl, refl), ((refl, refl), ((refl, refl), ((refl, refl), ((refl, refl), ((refl, refl), ((refl, refl), tt)))))))) refl passes Trace (Some (codes "input")) None (AtPlace (codes "journal")) None (_, refl, refl, refl) (_, refl, refl, refl) tt (_, refl, refl, refl)
 
 replay_asks : Asks (built_form replay_form)
 unfolding clap_on_literals
-replay_asks words passes = plan_there (built_form replay_form) words ((refl, refl), ((refl, refl), ((refl, refl), ((refl, refl), tt)))) refl passes Replay (Some (codes "input")) (Some (codes "journal")) (ByOption (codes "image")) (_, refl, refl, refl) (_, refl, refl, refl) (_, refl, refl, refl) tt
+replay_asks words passes = plan_there (built_form replay_form) words ((refl, refl), ((refl, refl), ((refl, refl), ((refl, refl), tt)))) refl passes Replay (Some (codes "input")) (Some (codes "journal")) (ByOption (codes "image")) None (_, refl, refl, refl) (_, refl, refl, refl) (_, refl, refl, refl) tt
 
 gen_asks : Asks built_gen
 unfolding clap_on_literals

@@ -9,7 +9,7 @@ use Rattle.gib_app.specs.declared.made.End.{End as KeptEnd}
 use Rattle.gib_app.specs.declared.made.End.TheVariants as ends
 use Rattle.gib_app.specs.declared.made.Made.{Made}
 use Rattle.gib_app.specs.declared.made.Reason.{Reason}
-use Rattle.gib_app.specs.declared.made.Reason.TheVariants.{Meant, Full}
+use Rattle.gib_app.specs.declared.made.Reason.TheVariants.{Meant, Full, Long}
 use Rattle.gib_app.specs.declared.plan.Job.{Job}
 use Rattle.gib_app.specs.declared.plan.Job.TheVariants.{Run, Plain, Check, Core, Code, Pack, Show, Gen, Trace, Replay}
 use Rattle.gib_app.specs.declared.plan.Options.{Options}
@@ -39,9 +39,11 @@ pub does_accepts : (job : Job) (o : Options) (p : ProgramTree) (names : List (Li
 does_accepts Run o p names given file (Prints text) h = (h.1.value, h.1.is_input)
 does_accepts Run o p names given file (NoValue (Meant why)) h = (h.1.value, h.1.is_input)
 does_accepts Run o p names given file (NoValue Full) h = (h.1.value, h.1.is_input)
+does_accepts Run o p names given file (NoValue Long) h = (h.1.value, h.1.is_input)
 does_accepts Plain o p names given file (Prints text) h = (h.1.value, h.1.is_input)
 does_accepts Plain o p names given file (NoValue (Meant why)) h = (h.1.value, h.1.is_input)
 does_accepts Plain o p names given file (NoValue Full) h = absurd h
+does_accepts Plain o p names given file (NoValue Long) h = absurd h
 does_accepts Check o p names given file e h = tt {0}
 does_accepts Core o p names given file e h = tt {0}
 does_accepts Code o p names given file e h = tt {0}
@@ -52,12 +54,15 @@ does_accepts Show o p names given file (NoValue reason) h = absurd h
 does_accepts Gen o p names given file (Prints text) h = (h.1.value, h.1.is_input)
 does_accepts Gen o p names given file (NoValue (Meant why)) h = (h.1.value, h.1.is_input)
 does_accepts Gen o p names given file (NoValue Full) h = (h.1.value, h.1.is_input)
+does_accepts Gen o p names given file (NoValue Long) h = absurd h
 does_accepts Trace o p names given file (Prints text) h = (h.1.value, h.1.is_input)
 does_accepts Trace o p names given file (NoValue (Meant why)) h = (h.1.value, h.1.is_input)
 does_accepts Trace o p names given file (NoValue Full) h = (h.1.value, h.1.is_input)
+does_accepts Trace o p names given file (NoValue Long) h = absurd h
 does_accepts Replay o p names given file (Prints text) h = on_happens p given.second (journal_in given) (IsShownEnd p names o.image file text) (λ v settings lines e. inl (e.memory, e.ends_with, e.ended)) h
 does_accepts Replay o p names given file (NoValue (Meant why)) h = on_happens p given.second (journal_in given) (IsValueless p why) (λ v settings lines e. inl (e.memory, stopped why, e.ended)) h.1
 does_accepts Replay o p names given file (NoValue Full) h = on_happens p given.second (journal_in given) (LacksChunks p) (λ v settings lines e. inr e) h.1
+does_accepts Replay o p names given file (NoValue Long) h = absurd h
 
 -- a file whose value is shown is not too long
 pub shown_short : {names : List (List ℕ)} (p : ProgramTree) (skips : Bool) (v : Datum) (bytes : List ℕ) → IsShownValue p names skips v bytes → length bytes ≤ 268435480
@@ -83,22 +88,26 @@ full_runs Replay o p names given file h = inr refl
 pub lacks_runs : (p : ProgramTree) (names : List (List ℕ)) (o : Options) (input : List ℕ) (why : Reason) → LacksValue p names o.skips o.depth (run_forks o) o.chunks input why → Runs p names o input None (NoValue why)
 lacks_runs p names o input (Meant why) h = (refl, h)
 lacks_runs p names o input Full h = (refl, h)
+lacks_runs p names o input Long h = absurd h
 
 pub lacks_sums : (p : ProgramTree) (names : List (List ℕ)) (o : Options) (input : List ℕ) (why : Reason) → LacksValue p names o.skips o.depth (run_forks o) o.chunks input why → Sums p names o input None (NoValue why)
 lacks_sums p names o input (Meant why) h = (refl, h)
 lacks_sums p names o input Full h = (refl, h)
+lacks_sums p names o input Long h = absurd h
 
 -- a trace whose chunks run out
 
 pub fills_traces : (p : ProgramTree) (names : List (List ℕ)) (o : Options) (input : List ℕ) (why : Reason) → OnlyFull (FillsUp p names o.skips o.depth o.fork o.chunks input) why → Traces p names o input None (NoValue why)
 fills_traces p names o input (Meant why) h = absurd h
 fills_traces p names o input Full h = (refl, h)
+fills_traces p names o input Long h = absurd h
 
 -- a replay whose journal leads to where chunks run out
 pub fills_replays : (p : ProgramTree) (names : List (List ℕ)) (image : Bool) (input bytes : List ℕ) (why : Reason) → OnlyFull (OnJournal p names input bytes (LacksChunks p)) why →
     Replays p names image (record { second = input; further = bytes ∷ [] }) None (NoValue why)
 fills_replays p names image input bytes (Meant why) h = absurd h
 fills_replays p names image input bytes Full h = (refl, h)
+fills_replays p names image input bytes Long h = absurd h
 
 -- what a job made that makes no file and ends without a value
 pub ends_without : (made : Made) (why : Reason) (P : Option (List ℕ) → End → Type 0) → made.file ≡ None → made.end ≡ ends.NoValue why → P None (NoValue why) → EndsBy (file_of made) made.end P
@@ -106,38 +115,3 @@ ends_without made why P file end' h =
     let none : file_of made ≡ None = cc in
     let E : Option (List ℕ) → KeptEnd → Type 0 = λ f e. EndsBy f e P in
     subst₂ E (sym none) (sym end') h
-
--- the options of a trace are its settings alone
-trace_without : {names : List (List ℕ)} (p : ProgramTree) (o : Options) (input bytes : List ℕ) → IsTrace p names o input bytes → IsTrace p names (without_image o) input bytes
-trace_without p o input bytes h = record {
-  value = h.value;
-  settings = h.settings;
-  lines = h.lines;
-  memory = h.memory;
-  ends_with = h.ends_with;
-  is_input = h.is_input;
-  set = record { depth = h.set.depth; chunks = h.set.chunks; fork = h.set.fork; skips = h.set.skips };
-  are = h.are;
-  text_is = h.text_is;
-  ended = h.ended;
-}
-
--- without a value, an image makes no difference
-pub no_image : (job : Job) (o : Options) (p : ProgramTree) (names : List (List ℕ)) (given : Contents) (file : Option (List ℕ)) (reason : Reason) → Does job o p names given file (NoValue reason) →
-    Does job (without_image o) p names given file (NoValue reason)
-no_image Run o p names given file (Meant why) h = h
-no_image Run o p names given file Full h = h
-no_image Plain o p names given file (Meant why) h = h
-no_image Plain o p names given file Full h = h
-no_image Check o p names given file reason h = h
-no_image Core o p names given file reason h = h
-no_image Code o p names given file reason h = h
-no_image Pack o p names given file reason h = h
-no_image Show o p names given file reason h = h
-no_image Gen o p names given file (Meant why) h = h
-no_image Gen o p names given file Full h = h
-no_image Trace o p names given None (Meant why) h = absurd h.0
-no_image Trace o p names given (Some bytes) (Meant why) h = (trace_without p o given.second bytes h.0, h.1)
-no_image Trace o p names given file Full h = h
-no_image Replay o p names given file (Meant why) h = h
-no_image Replay o p names given file Full h = h

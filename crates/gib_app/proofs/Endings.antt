@@ -1,12 +1,13 @@
 -- From the stop of a call to its answer, and from the status that is due to the one that is answered.
-use Rattle.std.proofs.Common.{◌≡◌, ◌∙◌, refl, ap, ap₂, ℕ, List, [], ◌∷◌, length, Option, Some, None, MatchOption, ◌⊎◌, inl, inr, subst, sym, Bool, false}
+use Rattle.std.proofs.Common.{◌≡◌, ◌∙◌, refl, ap, ap₂, ℕ, List, [], ◌∷◌, length, Option, Some, None, MatchOption, ◌⊎◌, inl, inr, subst, sym, arith, ◌≤◌, ◌<◌, ◌++◌, Bool, true, false}
 use Rattle.gib_base.specs.Lexed.{Lexed, IsLexed}
 use Rattle.gib_base.specs.declared.token.Token.{Token}
 use Rattle.gib_types.specs.Tree.{Datum}
 use Rattle.gib_syntax.specs.Tree.{ProgramTree}
 use Rattle.gib_syntax.specs.Spelling.{Places, Derives, IsPlacedProgram, places_of}
-use Rattle.gib_syntax.specs.Declarations.{table_of_program, input_type}
-use Rattle.gib_syntax.specs.Meaning.{Stops, run}
+use Rattle.gib_syntax.specs.Declarations.{table_of_program, input_type, output_type}
+use Rattle.gib_file.specs.Framed.{File2}
+use Rattle.gib_syntax.specs.Meaning.{Outcome, Gives, Stops, run}
 use Rattle.gib_syntax.specs.Meaning.{Reason as Meaning}
 use Rattle.gib_edge.specs.Causes.{Rose, IsAllOf, Appends, AppendsPart, PutsPieces, PutsSomePieces}
 use Rattle.gib_edge.specs.Views.{Held, Has, Missing, ShelfView, SinkView}
@@ -22,17 +23,17 @@ use Rattle.gib_app.specs.declared.plan.Job.{Job}
 use Rattle.gib_app.specs.declared.plan.Job.TheVariants.{Run, Plain, Check, Core, Code, Pack, Show, Gen, Trace, Replay}
 use Rattle.gib_app.specs.declared.plan.Options.{Options}
 use Rattle.gib_app.specs.declared.made.Reason.{Reason}
-use Rattle.gib_app.specs.declared.made.Reason.TheVariants.{Meant, Full}
+use Rattle.gib_app.specs.declared.made.Reason.TheVariants.{Meant, Full, Long}
 use Rattle.gib_app.specs.Plan.{Document, Write, Plan, Files, bytes_in, Contents}
-use Rattle.gib_app.specs.Writes.{at_reading, with_write, IsStuckIn, IsNamedIn}
+use Rattle.gib_app.specs.Writes.{at_reading, with_write, writes_of, job_writes, IsStuckIn, IsNamedIn}
 use Rattle.gib_app.specs.Words.{asked}
-use Rattle.gib_app.specs.Running.{IsInput, IsProgram, IsSource, IsNoProgram, IsOutput, IsSummary, MeansNone, IsShownValue}
+use Rattle.gib_app.specs.Running.{IsInput, IsProgram, IsSource, IsNoProgram, IsOutput, IsSummary, IsPackedResult, IsLongResult, MeansNone, IsShownValue}
 use Rattle.gib_app.specs.Replaying.{journal_in}
 use Rattle.gib_app.specs.Packing.{IsPackedBy}
 use Rattle.gib_app.specs.SourceFaults.{IsSourceFault}
 use Rattle.gib_app.specs.Formats.{inputs_of, Accepts, Refuses}
 use Rattle.gib_app.specs.Formats.{Input as PlanInput}
-use Rattle.gib_app.specs.Jobs.{End, Prints, Does, without_image}
+use Rattle.gib_app.specs.Jobs.{End, Prints, Does, DoesPack, DoesAll, PacksResult, without_image}
 use Rattle.gib_app.specs.Jobs.{NoValue as Without}
 use Rattle.gib_app.specs.Causes.{AreFurther, AreGiven, AreReached, AreUnread, first_of, further_of, OnProgram, OnSource, OnBoth, OnReached, IsMade, HasNoValue, EndsWithout, AsksSource, AsksProgram, IsPrinted, IsPrintedInPart, IsUnwritten, FailsToRead, FailsToWrite}
 use Rattle.gib_app.specs.Lines.{line}
@@ -42,6 +43,7 @@ use Rattle.gib_app.specs.Performing.{IsCallStop}
 use Rattle.gib_app.proofs.Performing.{map_both}
 use Rattle.gib_app.proofs.Replays.{OneValue, gives_or_stops, some_or_none, one_reason, one_why, shown_or_valueless, shown_or_full, one_valueless, valueless_or_full}
 use Rattle.gib_app.proofs.Doing.{does_accepts, full_runs}
+use Rattle.gib_app.proofs.Fitting.{valueless_packs}
 use Rattle.gib_app.proofs.Making.{reached_all}
 
 map_asked : (o : Option Plan) (P Q : Plan → Type 0) → ((r : Plan) → P r → Q r) → MatchOption o ⊥ P → MatchOption o ⊥ Q
@@ -83,6 +85,7 @@ IsCause tells words before now out_before out_now status.WriteFault = IsWriteCau
 IsCause tells words before now out_before out_now status.Input =
     MatchOption (asked words) ⊥ (λ plan. OnReached (at_reading tells before.kept plan) plan (λ p names given. Accepts plan.job plan.options p names given → ⊥))
 IsCause tells words before now out_before out_now status.Trap = AsksProgram tells words before.kept (HasNoValue (Meant why.Trap))
+IsCause tells words before now out_before out_now status.Long = AsksProgram tells words before.kept (HasNoValue Long)
 
 -- the files that a plan reads
 abbrev pub K : Bool → ShelfView → Plan → Files
@@ -118,6 +121,7 @@ cause_of tells words before now out_before out_now status.Input said h =
     map_asked (asked words) (λ r. OnReached (K tells before r) r (Refused r h.0)) (λ r. OnReached (K tells before r) r (λ p names given. Accepts r.job r.options p names given → ⊥))
     (λ r k. map_reached (K tells before r) r (Refused r h.0) (λ p names given. Accepts r.job r.options p names given → ⊥) (λ p names given both. both.1) k) h.1
 cause_of tells words before now out_before out_now status.Trap said h = without_of tells words before now (Meant why.Trap) h.0
+cause_of tells words before now out_before out_now status.Long said h = without_of tells words before now Long h.0
 
 -- From the stop of a call to its status and its line
 pub ending_of : (tells : Bool) (words : List (List ℕ)) (before now : ShelfView) (out_before out_now : SinkView) (stop : Stop) → IsCallStop tells words before now out_before out_now stop →
@@ -129,6 +133,7 @@ ending_of tells words before now out_before out_now (Input fault) h = (fault, h,
 ending_of tells words before now out_before out_now (NoValue (Meant why.Deep)) h = (h, refl)
 ending_of tells words before now out_before out_now (NoValue (Meant why.Trap)) h = (h, refl)
 ending_of tells words before now out_before out_now (NoValue Full) h = (h, refl)
+ending_of tells words before now out_before out_now (NoValue Long) h = (h, refl)
 ending_of tells words before now out_before out_now Memory h = refl
 ending_of tells words before now out_before out_now (Unwritten name) h = inl (name.now, h.0, h.1, refl)
 ending_of tells words before now out_before out_now Unput h = inr (h.0, h.1, h.2, refl)
@@ -158,6 +163,15 @@ together laws source P Q a b =
     let L : Lexed → Type 0 = λ x. Q b.program x.names in
     let R : ProgramTree → Type 0 = λ x. Q x a.lexed.names in
     (a.program, a.lexed.names, a.holds, subst R ep (subst L el b.holds))
+
+-- both hold of the program of a source
+pub joined : Laws → (source : List ℕ) (P Q : ProgramTree → List (List ℕ) → Type 0) → OnProgram source P → OnProgram source Q → OnProgram source (λ p names. P p names × Q p names)
+joined laws source P Q a b =
+    let el = same_lexed laws source b.lexed a.lexed b.program a.program b.is_program a.is_program in
+    let ep = same_program laws source b.lexed a.lexed b.program a.program b.is_program a.is_program in
+    let L : Lexed → Type 0 = λ x. Q b.program x.names in
+    let R : ProgramTree → Type 0 = λ x. Q x a.lexed.names in
+    record { lexed = a.lexed; program = a.program; is_program = a.is_program; holds = (a.holds, subst R ep (subst L el b.holds)) }
 
 pub same_bytes : (o : Held) (a b : List ℕ) → o ≡ Has a → IsAllOf o b → b ≡ a
 same_bytes o a b e h = let P : Held → Type 0 = λ x. IsAllOf x b in subst P e h
@@ -278,7 +292,30 @@ stuck_named tells kept [] before now name h = absurd h
 stuck_named tells kept (w ∷ ws) before now name (inl h) = (inl h.0, h.1.rose)
 stuck_named tells kept (w ∷ ws) before now name (inr h) = let k = stuck_named tells (with_write tells kept w) ws before now name h in (inr k.0, k.1)
 
--- so it is the file of the job that is not written
+-- one file of two: its bytes, its name, and its count, which rose
+stuck_one : (tells : Bool) (kept : Files) (file target : Option (List ℕ)) (before now : ShelfView) (name : List ℕ) → IsStuckIn tells kept (writes_of file target) before now name →
+    (bytes : List ℕ) × (file ≡ Some bytes) × (target ≡ Some name) × Rose (before.writes name) (now.writes name)
+stuck_one tells kept None target before now name h = absurd h
+stuck_one tells kept (Some bytes) None before now name h = absurd h
+stuck_one tells kept (Some bytes) (Some other) before now name (inl h) = (bytes, refl, ap Some h.0, h.1.rose)
+stuck_one tells kept (Some bytes) (Some other) before now name (inr h) = absurd h
+
+abbrev StuckOfTwo : (file target packed pack : Option (List ℕ)) → ShelfView → ShelfView → List ℕ → Type 0
+StuckOfTwo file target packed pack before now name =
+    ((bytes : List ℕ) × (file ≡ Some bytes) × (target ≡ Some name) × Rose (before.writes name) (now.writes name))
+    ⊎ ((bytes : List ℕ) × (packed ≡ Some bytes) × (pack ≡ Some name) × Rose (before.writes name) (now.writes name))
+
+stuck_two : (tells : Bool) (kept : Files) (file target packed pack : Option (List ℕ)) (before now : ShelfView) (name : List ℕ) → IsStuckIn tells kept (writes_of file target ++ writes_of packed pack) before now name →
+    StuckOfTwo file target packed pack before now name
+stuck_two tells kept None target packed pack before now name h = inr (stuck_one tells kept packed pack before now name h)
+stuck_two tells kept (Some bytes) None packed pack before now name h = inr (stuck_one tells kept packed pack before now name h)
+stuck_two tells kept (Some bytes) (Some other) packed pack before now name (inl h) = inl (bytes, refl, ap Some h.0, h.1.rose)
+stuck_two tells kept (Some bytes) (Some other) packed pack before now name (inr h) = inr (stuck_one tells (with_write tells kept (record { name = other; bytes = bytes })) packed pack before now name h)
+
+of_two : (tells : Bool) (before now : ShelfView) (r : Plan) (p : ProgramTree) (names : List (List ℕ)) (given : Contents) (name : List ℕ) (u : IsUnwritten tells before now r p names given name) → StuckOfTwo u.file r.target u.packed r.pack before now name
+of_two tells before now r p names given name u = stuck_two tells (K tells before r) u.file r.target u.packed r.pack before now name u.stuck
+
+-- so it is a file of the job that is not written
 of_job : (tells : Bool) (before now : ShelfView) (r : Plan) (name : List ℕ) → FirstWritten before now r → FailsToWrite tells before now r name → OnBoth (K tells before r) r (λ p names given. IsUnwritten tells before now r p names given name)
 of_job tells before now r name wrote (inl h) = let k = stuck_named tells before.kept r.first before now name h in absurd (wrote name k.0 k.1)
 of_job tells before now r name wrote (inr h) = h
@@ -304,6 +341,47 @@ one_meaning laws p names depth input x y a b =
 
 one_cause : Laws → (p : ProgramTree) (names : List (List ℕ)) (depth : ℕ) (input : List ℕ) (x y : Why) → MeansNone p names depth input (means_why x) → MeansNone p names depth input (means_why y) → x ≡ y
 one_cause laws p names depth input x y a b = one_reason x y (one_meaning laws p names depth input (means_why x) (means_why y) a b)
+
+-- a result with too long a packed file is a value
+long_well : Laws → (p : ProgramTree) (names : List (List ℕ)) (depth : ℕ) (input : List ℕ) (meant : Meaning) → IsLongResult p names depth input → MeansNone p names depth input meant → ⊥
+long_well laws p names depth input meant o d =
+    let v = laws.filed (table_of_program p) _ (input_type p) d.value o.value input d.is_input.file o.is_input.file in
+    let S : Datum → Type 0 = λ x. run p depth x ≡ Stops meant in
+    gives_or_stops (run p depth o.value) o.result meant o.means (subst S v d.means)
+
+pub one_given : (o : Outcome) (u v : Datum) → o ≡ Gives u → o ≡ Gives v → u ≡ v
+one_given o u v e f = let both = sym e ∙ f in cc
+
+-- a packed file that is made is not too long
+pub packed_or_long : Laws → (p : ProgramTree) (names : List (List ℕ)) (depth : ℕ) (input bytes : List ℕ) → IsPackedResult p names depth input bytes → IsLongResult p names depth input → ⊥
+packed_or_long laws p names depth input bytes a b =
+    let v = laws.filed (table_of_program p) _ (input_type p) a.value b.value input a.is_input.file b.is_input.file in
+    let M : Datum → Type 0 = λ x. run p depth x ≡ Gives a.result in
+    let same = one_given (run p depth b.value) a.result b.result (subst M v a.means) b.means in
+    let F : Datum → Type 0 = λ x. File2 (table_of_program p) names (output_type p) x bytes in
+    let long = b.long bytes (subst F same a.file) in
+    let few = a.few in
+    omega (arith, long, few)
+
+-- where a text is due with a packed file that is asked for, that file is not too long
+packs_or_long : Laws → (job : Job) (o : Options) (p : ProgramTree) (names : List (List ℕ)) (given : Contents) (text : List ℕ) (packed file : Option (List ℕ)) → DoesPack job o p names given packed (Prints text) → Does job o p names given file (Without Long) → ⊥
+packs_or_long laws Run o p names given text packed file h k =
+    let d = subst (λ (b : Bool). PacksResult b p names o.depth given.second packed (Prints text)) k.2 h in
+    packed_or_long laws p names o.depth given.second d.0 d.2 k.1
+packs_or_long laws Plain o p names given text packed file h k = k
+packs_or_long laws Check o p names given text packed file h k = k
+packs_or_long laws Core o p names given text packed file h k = k
+packs_or_long laws Code o p names given text packed file h k = k
+packs_or_long laws Pack o p names given text packed file h k = k
+packs_or_long laws Show o p names given text packed file h k = k
+packs_or_long laws Gen o p names given text packed file h k = k
+packs_or_long laws Trace o p names given text packed file h k = k
+packs_or_long laws Replay o p names given text packed file h k = k
+
+-- a packed file is made where there is a text
+packed_text : (job : Job) (o : Options) (p : ProgramTree) (names : List (List ℕ)) (given : Contents) (bytes : List ℕ) (e : End) → DoesPack job o p names given (Some bytes) e → (text : List ℕ) × (e ≡ Prints text)
+packed_text job o p names given bytes (Prints text) h = (text, refl)
+packed_text job o p names given bytes (Without reason) h = absurd (some_or_none bytes (valueless_packs job o p names given (Some bytes) reason h))
 
 -- without chunks no file is made
 full_no_file : (job : Job) (o : Options) (p : ProgramTree) (names : List (List ℕ)) (given : Contents) (bytes : List ℕ) → Does job o p names given (Some bytes) (Without Full) → ⊥
@@ -333,7 +411,7 @@ module _ (laws : Laws) (o : Options) (p : ProgramTree) (names : List (List ℕ))
   text_or_none Trace text x file other h k = runs_well laws p names o.depth given.second text (means_why x) h.1 k.1
   text_or_none Replay text x file other h k = shown_or_valueless laws.filed p names given.second (journal_in given) false file text x h k.1
 
-  none_or_text : (job : Job) (x : Why) (text : List ℕ) (file other : Option (List ℕ)) → Does (ends_as job) o p names given file (Without (Meant x)) → Does job o p names given other (Prints text) → ⊥
+  none_or_text : (job : Job) (x : Why) (text : List ℕ) (file other : Option (List ℕ)) → Does (ends_as job) (without_image o) p names given file (Without (Meant x)) → Does job o p names given other (Prints text) → ⊥
   none_or_text Run x text file other h k = runs_well laws p names o.depth given.second text (means_why x) k.1 h.1
   none_or_text Plain x text file other h k = runs_well laws p names o.depth given.second text (means_why x) k.1 h.1
   none_or_text Check x text file other h k = h
@@ -346,7 +424,7 @@ module _ (laws : Laws) (o : Options) (p : ProgramTree) (names : List (List ℕ))
   none_or_text Replay x text file other h k = shown_or_valueless laws.filed p names given.second (journal_in given) o.image other text x k h.1
 
   -- without a value, the reason is one
-  one_end : (job : Job) (x y : Why) (file other : Option (List ℕ)) → Does (ends_as job) o p names given file (Without (Meant x)) → Does job o p names given other (Without (Meant y)) → x ≡ y
+  one_end : (job : Job) (x y : Why) (file other : Option (List ℕ)) → Does (ends_as job) (without_image o) p names given file (Without (Meant x)) → Does job o p names given other (Without (Meant y)) → x ≡ y
   one_end Run x y file other h k = one_cause laws p names o.depth given.second x y h.1 k.1
   one_end Plain x y file other h k = one_cause laws p names o.depth given.second x y h.1 k.1
   one_end Check x y file other h k = absurd h
@@ -358,11 +436,25 @@ module _ (laws : Laws) (o : Options) (p : ProgramTree) (names : List (List ℕ))
   one_end Trace x y file other h k = one_cause laws p names o.depth given.second x y h.1 k.1
   one_end Replay x y file other h k = one_valueless laws.filed p names given.second (journal_in given) x y h.1 k.1
 
+  -- a result with too long a packed file is a value
+  long_or_none : (job : Job) (x : Why) (file other : Option (List ℕ)) → Does (ends_as job) (without_image o) p names given file (Without (Meant x)) → Does job o p names given other (Without Long) → ⊥
+  long_or_none Run x file other h k = long_well laws p names o.depth given.second (means_why x) k.1 h.1
+  long_or_none Plain x file other h k = k
+  long_or_none Check x file other h k = k
+  long_or_none Core x file other h k = k
+  long_or_none Code x file other h k = k
+  long_or_none Pack x file other h k = k
+  long_or_none Show x file other h k = k
+  long_or_none Gen x file other h k = k
+  long_or_none Trace x file other h k = k
+  long_or_none Replay x file other h k = k
+
   -- where a file is made, there is a value, or the file is one without
-  file_or_none : (job : Job) (x : Why) (bytes : List ℕ) (e : End) (file : Option (List ℕ)) → Does job o p names given (Some bytes) e → Does (ends_as job) o p names given file (Without (Meant x)) → e ≡ Without (Meant x)
+  file_or_none : (job : Job) (x : Why) (bytes : List ℕ) (e : End) (file : Option (List ℕ)) → Does job o p names given (Some bytes) e → Does (ends_as job) (without_image o) p names given file (Without (Meant x)) → e ≡ Without (Meant x)
   file_or_none job x bytes (Prints text) file h k = absurd (none_or_text job x text file (Some bytes) k h)
   file_or_none job x bytes (Without (Meant y)) file h k = ap (λ (z : Why). Without (Meant z)) (sym (one_end job x y file (Some bytes) k h))
   file_or_none job x bytes (Without Full) file h k = absurd (full_no_file job o p names given bytes h)
+  file_or_none job x bytes (Without Long) file h k = absurd (long_or_none job x file (Some bytes) k h)
 
   -- a replay that prints, or that ends without a value, has its chunks
   text_or_full : (any : Options) (text : List ℕ) (file other : Option (List ℕ)) → Does Replay any p names given file (Prints text) → Does Replay o p names given other (Without Full) → ⊥
@@ -376,6 +468,7 @@ module _ (laws : Laws) (o : Options) (p : ProgramTree) (names : List (List ℕ))
   file_or_full bytes (Prints text) other h k = text_or_full o text (Some bytes) other h k
   file_or_full bytes (Without (Meant x)) other h k = some_or_none bytes h.0
   file_or_full bytes (Without Full) other h k = some_or_none bytes h.0
+  file_or_full bytes (Without Long) other h k = h
 
 -- a job accepts what it is due to end with
 ends_accept : (job : Job) (o : Options) (p : ProgramTree) (names : List (List ℕ)) (given : Contents) (file : Option (List ℕ)) (e : End) → Does (ends_as job) o p names given file e → Accepts job o p names given
@@ -458,20 +551,60 @@ done_due laws tells words before now a b due status.Depth h = absurd (done_or_no
 done_due laws tells words before now a b due status.Trap h = absurd (done_or_none laws tells words before now a b why.Trap due h)
 done_due laws tells words before now a b due status.Full h = inr (inr refl)
 done_due laws tells words before now a b due status.Memory h = inr (inl refl)
+done_due laws tells words before now a b due status.Long h =
+    let k = both_asked (asked words) (DueAll tells before now a b) (λ r. OnBoth (K tells before r) r (HasNoValue Long r)) due h in
+    let both = clash laws tells before now k.0 (HasText k.0) (HasNoValue Long k.0) k.1.0 k.2 in
+    absurd (packs_or_long laws k.0.job k.0.options both.0 both.1 both.2 both.3.1 both.3.3.0 both.4.0 both.3.3.1 both.4.1)
 done_due laws tells words before now a b due status.ReadFault h =
     let k = both_asked (asked words) (DueAll tells before now a b) (Fails tells before now) due h in
     absurd (read_both tells before now k.0 (HasText k.0) k.2.0 k.1.0 k.2.1)
 done_due laws tells words before now a b due status.WriteFault (inl h) =
     let k = both_asked (asked words) (DueAll tells before now a b) (Somewhere tells before now) due h.0 in
     let on = of_job tells before now k.0 k.2.0 k.1.0.first_written k.2.1 in
-    let found = on.holds.holds in
-    absurd (k.1.1.target k.2.0 found.0 found.2.rose)
+    absurd (elim (of_two tells before now k.0 on.holds.program on.holds.lexed.names on.given k.2.0 on.holds.holds) [
+      | inl found ↦ k.1.1.target k.2.0 found.2 found.3
+      | inr found ↦ k.1.1.pack k.2.0 found.2 found.3
+    ])
 done_due laws tells words before now a b due status.WriteFault (inr h) =
     let k = both_asked (asked words) (DueAll tells before now a b) (λ r. OnBoth (K tells before r) r (Front tells before now a b r)) due h.0 in
     absurd (k.1.1.out h.1)
 done_due laws tells words before now a b due status.Input h =
     let k = both_asked (asked words) (DueAll tells before now a b) (λ r. OnReached (K tells before r) r (Unfit r)) due h in
     absurd (fit_or_unfit laws tells before now k.0 (HasText k.0) (λ p names given d. accepts_without k.0.job k.0.options p names given (ends_accept k.0.job (without_image k.0.options) p names given d.0 (Prints d.1) d.2)) k.1.0 k.2)
+
+-- a job that accepts its inputs is due: it ends with a text, or without a value
+
+abbrev pub DueFit : Bool → ShelfView → ShelfView → SinkView → SinkView → Plan → Type 0
+DueFit tells before now a b r = DueOfFiles tells before now r (λ p names given. Accepts r.job r.options p names given) × TakesAll before now a b r
+
+pub fit_ends : Laws → (tells : Bool) (words : List (List ℕ)) (before now : ShelfView) (a b : SinkView) → MatchOption (asked words) ⊥ (DueFit tells before now a b) → (end' : Status) → IsCause tells words before now a b end' →
+    (end' ≡ status.Done) ⊎ (end' ≡ status.Depth) ⊎ (end' ≡ status.Trap) ⊎ (end' ≡ status.Memory) ⊎ (end' ≡ status.Long) ⊎ (end' ≡ status.Full)
+fit_ends laws tells words before now a b due status.Done h = inl refl
+fit_ends laws tells words before now a b due status.Depth h = inr (inl refl)
+fit_ends laws tells words before now a b due status.Trap h = inr (inr (inl refl))
+fit_ends laws tells words before now a b due status.Memory h = inr (inr (inr (inl refl)))
+fit_ends laws tells words before now a b due status.Long h = inr (inr (inr (inr (inl refl))))
+fit_ends laws tells words before now a b due status.Full h = inr (inr (inr (inr (inr refl))))
+fit_ends laws tells words before now a b due status.Source h =
+    let k = both_asked (asked words) (DueFit tells before now a b) (λ r. OnSource (K tells before r) r.source IsNoProgram) due h in
+    absurd (no_program tells before now k.0 (λ p names given. Accepts k.0.job k.0.options p names given) k.1.0 k.2)
+fit_ends laws tells words before now a b due status.Usage h = absurd (none_asked (asked words) (DueFit tells before now a b) h due)
+fit_ends laws tells words before now a b due status.ReadFault h =
+    let k = both_asked (asked words) (DueFit tells before now a b) (Fails tells before now) due h in
+    absurd (read_both tells before now k.0 (λ p names given. Accepts k.0.job k.0.options p names given) k.2.0 k.1.0 k.2.1)
+fit_ends laws tells words before now a b due status.WriteFault (inl h) =
+    let k = both_asked (asked words) (DueFit tells before now a b) (Somewhere tells before now) due h.0 in
+    let on = of_job tells before now k.0 k.2.0 k.1.0.first_written k.2.1 in
+    absurd (elim (of_two tells before now k.0 on.holds.program on.holds.lexed.names on.given k.2.0 on.holds.holds) [
+      | inl found ↦ k.1.1.target k.2.0 found.2 found.3
+      | inr found ↦ k.1.1.pack k.2.0 found.2 found.3
+    ])
+fit_ends laws tells words before now a b due status.WriteFault (inr h) =
+    let k = both_asked (asked words) (DueFit tells before now a b) (λ r. OnBoth (K tells before r) r (Front tells before now a b r)) due h.0 in
+    absurd (k.1.1.out h.1)
+fit_ends laws tells words before now a b due status.Input h =
+    let k = both_asked (asked words) (DueFit tells before now a b) (λ r. OnReached (K tells before r) r (Unfit r)) due h in
+    absurd (fit_or_unfit laws tells before now k.0 (λ p names given. Accepts k.0.job k.0.options p names given) (λ p names given d. d) k.1.0 k.2)
 
 -- a refusal of the source is due
 
@@ -493,6 +626,9 @@ source_due tells words before now a b due status.Depth h = absurd (source_or_non
 source_due tells words before now a b due status.Trap h = absurd (source_or_none tells words before now why.Trap due h)
 source_due tells words before now a b due status.Full h = inr (inr refl)
 source_due tells words before now a b due status.Memory h = inr (inl refl)
+source_due tells words before now a b due status.Long h =
+    let k = both_asked (asked words) (DueRefusal tells before now) (λ r. OnBoth (K tells before r) r (HasNoValue Long r)) due h in
+    absurd (a_program tells before now k.0 (HasNoValue Long k.0) k.1 k.2)
 source_due tells words before now a b due status.ReadFault h =
     let k = both_asked (asked words) (DueRefusal tells before now) (Fails tells before now) due h in
     absurd (read_one tells before now k.0 k.2.0 k.1 k.2.1)
@@ -534,6 +670,10 @@ none_due laws tells words before now a b x due status.Usage h = absurd (none_ask
 none_due laws tells words before now a b x due status.Depth h = inl (ap told_by (sym (none_or_none laws tells words before now x why.Deep due h)))
 none_due laws tells words before now a b x due status.Full h = inr (inr refl)
 none_due laws tells words before now a b x due status.Memory h = inr (inl refl)
+none_due laws tells words before now a b x due status.Long h =
+    let k = both_asked (asked words) (DueNone tells before now x) (λ r. OnBoth (K tells before r) r (HasNoValue Long r)) due h in
+    let both = clash laws tells before now k.0 (DueWithout before now (Meant x) k.0) (HasNoValue Long k.0) k.1 k.2 in
+    absurd (long_or_none laws k.0.options both.0 both.1 both.2 k.0.job x both.3.0.0 both.4.0 both.3.0.1 both.4.1)
 none_due laws tells words before now a b x due status.ReadFault h =
     let k = both_asked (asked words) (DueNone tells before now x) (Fails tells before now) due h in
     absurd (read_both tells before now k.0 (DueWithout before now (Meant x) k.0) k.2.0 k.1 k.2.1)
@@ -541,17 +681,24 @@ none_due laws tells words before now a b x due status.WriteFault (inl h) =
     let k = both_asked (asked words) (DueNone tells before now x) (Somewhere tells before now) due h.0 in
     let on = of_job tells before now k.0 k.2.0 k.1.first_written k.2.1 in
     let both = clash laws tells before now k.0 (DueWithout before now (Meant x) k.0) (λ p names given. IsUnwritten tells before now k.0 p names given k.2.0) k.1 on in
-    let made = both.4.1 in
-    let D : End → Type 0 = Does k.0.job k.0.options both.0 both.1 both.2 (Some made.0) in
-    let valueless = subst D (file_or_none laws k.0.options both.0 both.1 both.2 k.0.job x made.0 made.1 both.3.0.0 made.2 both.3.0.1) made.2 in
-    absurd (both.3.1 k.2.0 made.0 both.4.0 valueless both.4.2.rose)
+    let u = both.4 in
+    absurd (elim (of_two tells before now k.0 both.0 both.1 both.2 k.2.0 u) [
+      | inl found ↦
+          let made = subst (λ (f : Option (List ℕ)). Does k.0.job k.0.options both.0 both.1 both.2 f u.ending) found.1 u.does.0 in
+          let D : End → Type 0 = Does k.0.job k.0.options both.0 both.1 both.2 (Some found.0) in
+          let valueless = subst D (file_or_none laws k.0.options both.0 both.1 both.2 k.0.job x found.0 u.ending both.3.0.0 made both.3.0.1) made in
+          both.3.1 k.2.0 found.0 found.2 valueless found.3
+      | inr found ↦
+          let text = packed_text k.0.job k.0.options both.0 both.1 both.2 found.0 u.ending (subst (λ (f : Option (List ℕ)). DoesPack k.0.job k.0.options both.0 both.1 both.2 f u.ending) found.1 u.does.1) in
+          none_or_text laws k.0.options both.0 both.1 both.2 k.0.job x text.0 both.3.0.0 u.file both.3.0.1 (subst (Does k.0.job k.0.options both.0 both.1 both.2 u.file) text.1 u.does.0)
+    ])
 none_due laws tells words before now a b x due status.WriteFault (inr h) =
     let k = both_asked (asked words) (DueNone tells before now x) (λ r. OnBoth (K tells before r) r (Front tells before now a b r)) due h.0 in
     let both = clash laws tells before now k.0 (DueWithout before now (Meant x) k.0) (Front tells before now a b k.0) k.1 k.2 in
     absurd (none_or_text laws k.0.options both.0 both.1 both.2 k.0.job x both.4.0 both.3.0.0 both.4.1.ended.file both.3.0.1 both.4.1.ended.does)
 none_due laws tells words before now a b x due status.Input h =
     let k = both_asked (asked words) (DueNone tells before now x) (λ r. OnReached (K tells before r) r (Unfit r)) due h in
-    absurd (fit_or_unfit laws tells before now k.0 (DueWithout before now (Meant x) k.0) (λ p names given d. ends_accept k.0.job k.0.options p names given d.0.0 (Without (Meant x)) d.0.1) k.1 k.2)
+    absurd (fit_or_unfit laws tells before now k.0 (DueWithout before now (Meant x) k.0) (λ p names given d. accepts_without k.0.job k.0.options p names given (ends_accept k.0.job (without_image k.0.options) p names given d.0.0 (Without (Meant x)) d.0.1)) k.1 k.2)
 none_due laws tells words before now a b x due status.Trap h = inl (ap told_by (sym (none_or_none laws tells words before now x why.Trap due h)))
 
 -- want of chunks is due, which a replay tells
@@ -571,7 +718,7 @@ full_or_none laws tells words before now x due h =
     let k = both_asked (asked words) (DueFull tells before now) (Lacking tells before x) due h in
     let r = k.0 in
     let both = clash laws tells before now r (DueWithout before now Full r) (Valueless x r) k.1.1 k.2 in
-    let full = ends_replay r.job r.options both.0 both.1 both.2 both.3.0.0 (Without Full) k.1.0 both.3.0.1 in
+    let full = ends_replay r.job (without_image r.options) both.0 both.1 both.2 both.3.0.0 (Without Full) k.1.0 both.3.0.1 in
     let valueless = as_replay r.job r.options both.0 both.1 both.2 both.4.0 (Without (Meant x)) k.1.0 both.4.1 in
     none_or_full laws r.options both.0 both.1 both.2 x both.4.0 both.3.0.0 valueless full
 
@@ -580,7 +727,7 @@ full_due laws tells words before now a b due status.Done h =
     let k = both_asked (asked words) (DueFull tells before now) (λ r. OnBoth (K tells before r) r (Whole tells before now a b r)) due h in
     let r = k.0 in
     let both = clash laws tells before now r (DueWithout before now Full r) (Whole tells before now a b r) k.1.1 k.2 in
-    let full = ends_replay r.job r.options both.0 both.1 both.2 both.3.0.0 (Without Full) k.1.0 both.3.0.1 in
+    let full = ends_replay r.job (without_image r.options) both.0 both.1 both.2 both.3.0.0 (Without Full) k.1.0 both.3.0.1 in
     let text = as_replay r.job r.options both.0 both.1 both.2 both.4.1.ended.file (Prints both.4.0) k.1.0 both.4.1.ended.does in
     absurd (text_or_full laws r.options both.0 both.1 both.2 r.options both.4.0 both.4.1.ended.file both.3.0.0 text full)
 full_due laws tells words before now a b due status.Source h =
@@ -591,6 +738,10 @@ full_due laws tells words before now a b due status.Depth h = absurd (full_or_no
 full_due laws tells words before now a b due status.Trap h = absurd (full_or_none laws tells words before now why.Trap due h)
 full_due laws tells words before now a b due status.Full h = inl refl
 full_due laws tells words before now a b due status.Memory h = inr (inl refl)
+full_due laws tells words before now a b due status.Long h =
+    let k = both_asked (asked words) (DueFull tells before now) (λ r. OnBoth (K tells before r) r (HasNoValue Long r)) due h in
+    let both = clash laws tells before now k.0 (DueWithout before now Full k.0) (HasNoValue Long k.0) k.1.1 k.2 in
+    absurd (as_replay k.0.job k.0.options both.0 both.1 both.2 both.4.0 (Without Long) k.1.0 both.4.1)
 full_due laws tells words before now a b due status.ReadFault h =
     let k = both_asked (asked words) (DueFull tells before now) (Fails tells before now) due h in
     absurd (read_both tells before now k.0 (DueWithout before now Full k.0) k.2.0 k.1.1 k.2.1)
@@ -599,19 +750,26 @@ full_due laws tells words before now a b due status.WriteFault (inl h) =
     let r = k.0 in
     let on = of_job tells before now r k.2.0 k.1.1.first_written k.2.1 in
     let both = clash laws tells before now r (DueWithout before now Full r) (λ p names given. IsUnwritten tells before now r p names given k.2.0) k.1.1 on in
-    let made = both.4.1 in
-    let full = ends_replay r.job r.options both.0 both.1 both.2 both.3.0.0 (Without Full) k.1.0 both.3.0.1 in
-    absurd (file_or_full laws r.options both.0 both.1 both.2 made.0 made.1 both.3.0.0 (as_replay r.job r.options both.0 both.1 both.2 (Some made.0) made.1 k.1.0 made.2) full)
+    let full = ends_replay r.job (without_image r.options) both.0 both.1 both.2 both.3.0.0 (Without Full) k.1.0 both.3.0.1 in
+    let u = both.4 in
+    absurd (elim (of_two tells before now r both.0 both.1 both.2 k.2.0 u) [
+      | inl found ↦
+          let made = subst (λ (f : Option (List ℕ)). Does r.job r.options both.0 both.1 both.2 f u.ending) found.1 u.does.0 in
+          file_or_full laws r.options both.0 both.1 both.2 found.0 u.ending both.3.0.0 (as_replay r.job r.options both.0 both.1 both.2 (Some found.0) u.ending k.1.0 made) full
+      | inr found ↦
+          let packs = subst (λ (j : Job). DoesPack j r.options both.0 both.1 both.2 u.packed u.ending) k.1.0 u.does.1 in
+          some_or_none found.0 (sym found.1 ∙ packs)
+    ])
 full_due laws tells words before now a b due status.WriteFault (inr h) =
     let k = both_asked (asked words) (DueFull tells before now) (λ r. OnBoth (K tells before r) r (Front tells before now a b r)) due h.0 in
     let r = k.0 in
     let both = clash laws tells before now r (DueWithout before now Full r) (Front tells before now a b r) k.1.1 k.2 in
-    let full = ends_replay r.job r.options both.0 both.1 both.2 both.3.0.0 (Without Full) k.1.0 both.3.0.1 in
+    let full = ends_replay r.job (without_image r.options) both.0 both.1 both.2 both.3.0.0 (Without Full) k.1.0 both.3.0.1 in
     let text = as_replay r.job r.options both.0 both.1 both.2 both.4.1.ended.file (Prints both.4.0) k.1.0 both.4.1.ended.does in
     absurd (text_or_full laws r.options both.0 both.1 both.2 r.options both.4.0 both.4.1.ended.file both.3.0.0 text full)
 full_due laws tells words before now a b due status.Input h =
     let k = both_asked (asked words) (DueFull tells before now) (λ r. OnReached (K tells before r) r (Unfit r)) due h in
-    absurd (fit_or_unfit laws tells before now k.0 (DueWithout before now Full k.0) (λ p names given d. ends_accept k.0.job k.0.options p names given d.0.0 (Without Full) d.0.1) k.1.1 k.2)
+    absurd (fit_or_unfit laws tells before now k.0 (DueWithout before now Full k.0) (λ p names given d. accepts_without k.0.job k.0.options p names given (ends_accept k.0.job (without_image k.0.options) p names given d.0.0 (Without Full) d.0.1)) k.1.1 k.2)
 
 -- a refusal of the inputs is due
 
@@ -702,6 +860,9 @@ input_due laws tells words before now a b due status.Depth h = absurd (input_or_
 input_due laws tells words before now a b due status.Trap h = absurd (input_or_none laws tells words before now why.Trap due h)
 input_due laws tells words before now a b due status.Full h = inr (inr refl)
 input_due laws tells words before now a b due status.Memory h = inr (inl refl)
+input_due laws tells words before now a b due status.Long h =
+    let k = both_asked (asked words) (DueRefused tells before now) (λ r. OnBoth (K tells before r) r (HasNoValue Long r)) due h in
+    absurd (unfit_both laws tells before now k.0 (HasNoValue Long k.0) (λ p names given f. does_accepts k.0.job k.0.options p names given f.0 (Without Long) f.1) k.1 k.2)
 input_due laws tells words before now a b due status.ReadFault h =
     let k = both_asked (asked words) (DueRefused tells before now) (Fails tells before now) due h in
     absurd (unfit_read laws tells before now k.0 k.2.0 k.1 k.2.1)
@@ -710,7 +871,7 @@ input_due laws tells words before now a b due status.WriteFault (inl h) =
     let r = k.0 in
     let on = of_job tells before now r k.2.0 (unfit_first laws tells before now r k.1) k.2.1 in
     absurd (unfit_both laws tells before now r (λ p names given. IsUnwritten tells before now r p names given k.2.0)
-    (λ p names given u. does_accepts r.job r.options p names given (Some u.1.0) u.1.1 u.1.2) k.1 on)
+    (λ p names given u. does_accepts r.job r.options p names given u.file u.ending u.does.0) k.1 on)
 input_due laws tells words before now a b due status.WriteFault (inr h) =
     let k = both_asked (asked words) (DueRefused tells before now) (λ r. OnBoth (K tells before r) r (Front tells before now a b r)) due h.0 in
     let r = k.0 in
@@ -794,6 +955,9 @@ read_due laws tells words before now a b due status.Depth h = absurd (read_or_no
 read_due laws tells words before now a b due status.Trap h = absurd (read_or_none tells words before now why.Trap due h)
 read_due laws tells words before now a b due status.Full h = inr (inr refl)
 read_due laws tells words before now a b due status.Memory h = inr (inl refl)
+read_due laws tells words before now a b due status.Long h =
+    let k = both_asked (asked words) (DueMissing tells before now) (λ r. OnBoth (K tells before r) r (HasNoValue Long r)) due h in
+    absurd (missing_both tells before now k.0 (HasNoValue Long k.0) k.1 k.2)
 read_due laws tells words before now a b due status.ReadFault h = inl refl
 read_due laws tells words before now a b due status.WriteFault (inl h) =
     let k = both_asked (asked words) (DueMissing tells before now) (Somewhere tells before now) due h.0 in
@@ -815,10 +979,102 @@ usage_due tells words before now a b due status.Depth h = absurd (none_asked (as
 usage_due tells words before now a b due status.Trap h = absurd (none_asked (asked words) (Lacking tells before why.Trap) due h)
 usage_due tells words before now a b due status.Full h = inr (inr refl)
 usage_due tells words before now a b due status.Memory h = inr (inl refl)
+usage_due tells words before now a b due status.Long h = absurd (none_asked (asked words) (λ r. OnBoth (K tells before r) r (HasNoValue Long r)) due h)
 usage_due tells words before now a b due status.ReadFault h = absurd (none_asked (asked words) (Fails tells before now) due h)
 usage_due tells words before now a b due status.WriteFault (inl h) = absurd (none_asked (asked words) (Somewhere tells before now) due h.0)
 usage_due tells words before now a b due status.WriteFault (inr h) = absurd (none_asked (asked words) (λ r. OnBoth (K tells before r) r (Front tells before now a b r)) due h.0)
 usage_due tells words before now a b due status.Input h = absurd (none_asked (asked words) (λ r. OnReached (K tells before r) r (Unfit r)) due h)
+
+-- too long a result is due
+
+abbrev pub DueLong : Bool → ShelfView → ShelfView → Plan → Type 0
+DueLong tells before now r = (r.job ≡ Run) × DueOfFiles tells before now r (DueWithout before now Long r)
+
+-- what a job does and makes, where it is a run
+as_run : (job : Job) (o : Options) (p : ProgramTree) (names : List (List ℕ)) (given : Contents) (file : Option (List ℕ)) (e : End) → job ≡ Run → Does job o p names given file e → Does Run o p names given file e
+as_run job o p names given file e is h = let P : Job → Type 0 = λ j. Does j o p names given file e in subst P is h
+
+packs_run : (job : Job) (o : Options) (p : ProgramTree) (names : List (List ℕ)) (given : Contents) (packed : Option (List ℕ)) (e : End) → job ≡ Run → DoesPack job o p names given packed e → DoesPack Run o p names given packed e
+packs_run job o p names given packed e is h = let P : Job → Type 0 = λ j. DoesPack j o p names given packed e in subst P is h
+
+-- so it is with a run, where it may leave out an image
+abbrev LongRun : Options → ProgramTree → List (List ℕ) → Contents → Type 0
+LongRun o p names given = IsLongResult p names o.depth given.second × (o.packs ≡ true)
+
+long_run : (job : Job) (o : Options) (p : ProgramTree) (names : List (List ℕ)) (given : Contents) (file : Option (List ℕ)) → job ≡ Run → Does (ends_as job) (without_image o) p names given file (Without Long) → LongRun o p names given
+long_run job o p names given file is h =
+    let P : Job → Type 0 = λ j. Does (ends_as j) (without_image o) p names given file (Without Long) in
+    let k = subst P is h in
+    (k.1, k.2)
+
+module _ (laws : Laws) (o : Options) (p : ProgramTree) (names : List (List ℕ)) (given : Contents) (long : LongRun o p names given) where
+  long_or_text : (job : Job) → job ≡ Run → (text : List ℕ) (packed : Option (List ℕ)) → DoesPack job o p names given packed (Prints text) → ⊥
+  long_or_text job is text packed d =
+      let k = subst (λ (b : Bool). PacksResult b p names o.depth given.second packed (Prints text)) long.1 (packs_run job o p names given packed (Prints text) is d) in
+      packed_or_long laws p names o.depth given.second k.0 k.2 long.0
+
+  long_lacks : (job : Job) → job ≡ Run → (x : Why) (file : Option (List ℕ)) → Does job o p names given file (Without (Meant x)) → ⊥
+  long_lacks job is x file d = long_well laws p names o.depth given.second (means_why x) long.0 (as_run job o p names given file (Without (Meant x)) is d).1
+
+  -- where it makes a file, it ends so
+  long_file : (job : Job) → job ≡ Run → (bytes : List ℕ) (packed : Option (List ℕ)) (e : End) → Does job o p names given (Some bytes) e → DoesPack job o p names given packed e → e ≡ Without Long
+  long_file job is bytes packed (Prints text) h d = absurd (long_or_text job is text packed d)
+  long_file job is bytes packed (Without (Meant x)) h d = absurd (long_lacks job is x (Some bytes) h)
+  long_file job is bytes packed (Without Full) h d = absurd (full_no_file job o p names given bytes h)
+  long_file job is bytes packed (Without Long) h d = refl
+
+long_or_lacking : Laws → (tells : Bool) (words : List (List ℕ)) (before now : ShelfView) (x : Why) → MatchOption (asked words) ⊥ (DueLong tells before now) → MatchOption (asked words) ⊥ (Lacking tells before x) → ⊥
+long_or_lacking laws tells words before now x due h =
+    let k = both_asked (asked words) (DueLong tells before now) (Lacking tells before x) due h in
+    let r = k.0 in
+    let both = clash laws tells before now r (DueWithout before now Long r) (Valueless x r) k.1.1 k.2 in
+    let long = long_run r.job r.options both.0 both.1 both.2 both.3.0.0 k.1.0 both.3.0.1 in
+    long_lacks laws r.options both.0 both.1 both.2 long r.job k.1.0 x both.4.0 both.4.1
+
+pub long_due : Laws → (tells : Bool) (words : List (List ℕ)) (before now : ShelfView) (a b : SinkView) → MatchOption (asked words) ⊥ (DueLong tells before now) → (end' : Status) → IsCause tells words before now a b end' → (end' ≡ status.Long) ⊎ (end' ≡ status.Memory) ⊎ (end' ≡ status.Full)
+long_due laws tells words before now a b due status.Done h =
+    let k = both_asked (asked words) (DueLong tells before now) (λ r. OnBoth (K tells before r) r (Whole tells before now a b r)) due h in
+    let r = k.0 in
+    let both = clash laws tells before now r (DueWithout before now Long r) (Whole tells before now a b r) k.1.1 k.2 in
+    let long = long_run r.job r.options both.0 both.1 both.2 both.3.0.0 k.1.0 both.3.0.1 in
+    absurd (long_or_text laws r.options both.0 both.1 both.2 long r.job k.1.0 both.4.0 both.4.1.ended.packed both.4.1.ended.packs)
+long_due laws tells words before now a b due status.Source h =
+    let k = both_asked (asked words) (DueLong tells before now) (λ r. OnSource (K tells before r) r.source IsNoProgram) due h in
+    absurd (no_program tells before now k.0 (DueWithout before now Long k.0) k.1.1 k.2)
+long_due laws tells words before now a b due status.Usage h = absurd (none_asked (asked words) (DueLong tells before now) h due)
+long_due laws tells words before now a b due status.Depth h = absurd (long_or_lacking laws tells words before now why.Deep due h)
+long_due laws tells words before now a b due status.Trap h = absurd (long_or_lacking laws tells words before now why.Trap due h)
+long_due laws tells words before now a b due status.Long h = inl refl
+long_due laws tells words before now a b due status.Full h = inr (inr refl)
+long_due laws tells words before now a b due status.Memory h = inr (inl refl)
+long_due laws tells words before now a b due status.ReadFault h =
+    let k = both_asked (asked words) (DueLong tells before now) (Fails tells before now) due h in
+    absurd (read_both tells before now k.0 (DueWithout before now Long k.0) k.2.0 k.1.1 k.2.1)
+long_due laws tells words before now a b due status.WriteFault (inl h) =
+    let k = both_asked (asked words) (DueLong tells before now) (Somewhere tells before now) due h.0 in
+    let r = k.0 in
+    let on = of_job tells before now r k.2.0 k.1.1.first_written k.2.1 in
+    let both = clash laws tells before now r (DueWithout before now Long r) (λ p names given. IsUnwritten tells before now r p names given k.2.0) k.1.1 on in
+    let long = long_run r.job r.options both.0 both.1 both.2 both.3.0.0 k.1.0 both.3.0.1 in
+    let u = both.4 in
+    absurd (elim (of_two tells before now r both.0 both.1 both.2 k.2.0 u) [
+      | inl found ↦
+          let made = subst (λ (f : Option (List ℕ)). Does r.job r.options both.0 both.1 both.2 f u.ending) found.1 u.does.0 in
+          let D : End → Type 0 = Does r.job r.options both.0 both.1 both.2 (Some found.0) in
+          both.3.1 k.2.0 found.0 found.2 (subst D (long_file laws r.options both.0 both.1 both.2 long r.job k.1.0 found.0 u.packed u.ending made u.does.1) made) found.3
+      | inr found ↦
+          let text = packed_text r.job r.options both.0 both.1 both.2 found.0 u.ending (subst (λ (f : Option (List ℕ)). DoesPack r.job r.options both.0 both.1 both.2 f u.ending) found.1 u.does.1) in
+          long_or_text laws r.options both.0 both.1 both.2 long r.job k.1.0 text.0 u.packed (subst (DoesPack r.job r.options both.0 both.1 both.2 u.packed) text.1 u.does.1)
+    ])
+long_due laws tells words before now a b due status.WriteFault (inr h) =
+    let k = both_asked (asked words) (DueLong tells before now) (λ r. OnBoth (K tells before r) r (Front tells before now a b r)) due h.0 in
+    let r = k.0 in
+    let both = clash laws tells before now r (DueWithout before now Long r) (Front tells before now a b r) k.1.1 k.2 in
+    let long = long_run r.job r.options both.0 both.1 both.2 both.3.0.0 k.1.0 both.3.0.1 in
+    absurd (long_or_text laws r.options both.0 both.1 both.2 long r.job k.1.0 both.4.0 both.4.1.ended.packed both.4.1.ended.packs)
+long_due laws tells words before now a b due status.Input h =
+    let k = both_asked (asked words) (DueLong tells before now) (λ r. OnReached (K tells before r) r (Unfit r)) due h in
+    absurd (fit_or_unfit laws tells before now k.0 (DueWithout before now Long k.0) (λ p names given d. accepts_without k.0.job k.0.options p names given (ends_accept k.0.job (without_image k.0.options) p names given d.0.0 (Without Long) d.0.1)) k.1.1 k.2)
 
 pub due_ends : Laws → (tells : Bool) (words : List (List ℕ)) (before now : ShelfView) (a b : SinkView) (end' : Status) → IsCause tells words before now a b end' → (due : Status) → IsDue tells words before now a b due → (end' ≡ due) ⊎ (end' ≡ status.Memory) ⊎ (end' ≡ status.Full)
 due_ends laws tells words before now a b end' h status.Done due = done_due laws tells words before now a b due end' h
@@ -828,6 +1084,7 @@ due_ends laws tells words before now a b end' h status.Depth due = none_due laws
 due_ends laws tells words before now a b end' h status.Trap due = none_due laws tells words before now a b why.Trap due end' h
 due_ends laws tells words before now a b end' h status.Full due = full_due laws tells words before now a b due end' h
 due_ends laws tells words before now a b end' h status.Memory due = absurd due
+due_ends laws tells words before now a b end' h status.Long due = long_due laws tells words before now a b due end' h
 due_ends laws tells words before now a b end' h status.ReadFault due = read_due laws tells words before now a b due end' h
 due_ends laws tells words before now a b end' h status.WriteFault due = absurd due
 due_ends laws tells words before now a b end' h status.Input due = input_due laws tells words before now a b due end' h
@@ -873,7 +1130,7 @@ module _ (laws : Laws) (tells : Bool) (before now : ShelfView) where
       let full = both.4 in
       elim (run_or_replay r p names given full.0 full.1) [
         | inl run ↦ run
-        | inr is ↦ absurd (none_or_full laws r.options p names given x valueless.0 full.0 (ends_replay r.job r.options p names given valueless.0 (Without (Meant x)) is valueless.1)
+        | inr is ↦ absurd (none_or_full laws r.options p names given x valueless.0 full.0 (ends_replay r.job (without_image r.options) p names given valueless.0 (Without (Meant x)) is valueless.1)
             (as_replay r.job r.options p names given full.0 (Without Full) is full.1))
       ]
 
@@ -888,6 +1145,7 @@ scarce laws tells words before now a b status.Depth due h = inr (map_two (asked 
 scarce laws tells words before now a b status.Trap due h = inr (map_two (asked words) (DueNone tells before now why.Trap) (Drained tells before) Scarce (none_or_scarce laws tells before now why.Trap) due h)
 scarce laws tells words before now a b status.Full due h = inl refl
 scarce laws tells words before now a b status.Memory due h = absurd due
+scarce laws tells words before now a b status.Long due h = inr (map_two (asked words) (DueLong tells before now) (Drained tells before) Scarce (λ r d full. inl d.0) due h)
 scarce laws tells words before now a b status.ReadFault due h =
     let k = both_asked (asked words) (DueMissing tells before now) (Drained tells before) due h in
     absurd (missing_both tells before now k.0 (HasNoValue Full k.0) k.1 k.2)

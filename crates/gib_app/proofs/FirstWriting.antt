@@ -30,7 +30,7 @@ others_after tells kept (w ∷ ws) name no' = others_after tells (with_write tel
 
 -- ---- What a write that failed leaves, where what was before is told otherwise
 
-stuck_from : (tells : Bool) (f g : Files) (writes : List Write) (a b now : ShelfView) (name : List ℕ) → ((other : List ℕ) → g other ≡ f other) → ((other : List ℕ) → b.writes other ≡ a.writes other)
+pub stuck_from : (tells : Bool) (f g : Files) (writes : List Write) (a b now : ShelfView) (name : List ℕ) → ((other : List ℕ) → g other ≡ f other) → ((other : List ℕ) → b.writes other ≡ a.writes other)
     → IsStuckIn tells g writes b now name → IsStuckIn tells f writes a now name
 stuck_from tells f g [] a b now name e q h = h
 stuck_from tells f g (w ∷ ws) a b now name e q (inl h) =
@@ -111,7 +111,7 @@ take_none : (n : ℕ) → take n nothing ≡ nothing
 take_none zero = refl
 take_none (suc n) = refl
 
-abbrev Cause : Bool → Files → List Write → ShelfView → ShelfView → Stop → Type 0
+abbrev pub Cause : Bool → Files → List Write → ShelfView → ShelfView → Stop → Type 0
 Cause tells kept writes before now = StopsBy (λ fault. ⊥) (λ name. ⊥) (λ fault. ⊥) (λ reason. ⊥) (λ name. IsStuckIn tells kept writes before now name)
 
 module _ (tells : Bool) (before mid now : ShelfView) (w : Write) (ws : List Write) where
@@ -199,3 +199,8 @@ module _ (tells : Bool) (before now : ShelfView) (w : Write) (ws : List Write) w
     counts = k.counts;
     once = added_front before.calls now.calls (WriteOf w.name ∷ []) (first_calls ws) k.once;
   }
+
+-- The first of several writes stands, where no other has its name.
+pub written_first : (tells : Bool) (kept now : Files) (name bytes : List ℕ) (ws : List Write) → (IsNamedIn ws name → ⊥) → AreMade tells kept now (record { name = name; bytes = bytes } ∷ ws) → now name ≡ told tells bytes
+written_first tells kept now name bytes ws no' h =
+    h name ∙ others_after tells (with_write tells kept (record { name = name; bytes = bytes })) ws name no' ∙ ap (λ (b : Bool). cond b (told tells bytes) (kept name)) ((bytes_eq-Decides name name).1 refl)

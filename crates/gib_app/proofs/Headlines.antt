@@ -1,41 +1,70 @@
 -- The promise of `run`, from how a call ends.
-use Rattle.std.proofs.Common.{◌≡◌, ◌∙◌, refl, ℕ, List, [], ◌++◌, Option, Some, None, IfSome, MatchOption, ◌⊎◌, inl, inr, subst, sym, ap, Bool, true, false}
+use Rattle.std.proofs.Common.{◌≡◌, ◌∙◌, refl, ℕ, List, [], ◌∷◌, ◌++◌, Option, Some, None, IfSome, MatchOption, ◌⊎◌, inl, inr, subst, subst₂, sym, ap, Bool, true, false, true≢false}
 use Rattle.gib_types.specs.Tree.{Datum}
 use Rattle.gib_syntax.specs.Tree.{ProgramTree}
-use Rattle.gib_syntax.specs.Declarations.{table_of_program, input_type}
+use Rattle.gib_types.specs.Table.{Table}
+use Rattle.gib_types.specs.declared.table.Ty.{Ty}
+use Rattle.gib_file.specs.Framed.{File2}
+use Rattle.gib_syntax.specs.Declarations.{table_of_program, input_type, output_type}
 use Rattle.gib_syntax.specs.Meaning.{Reason, Deep, Trap, Outcome, Gives, Stops, run}
 use Rattle.gib_code.specs.declared.answer.Reason.{Reason as Why}
 use Rattle.gib_code.specs.declared.answer.Reason.TheVariants as why
 use Rattle.gib_weave.specs.Sound.{means_why}
-use Rattle.gib_edge.specs.Causes.{told}
-use Rattle.gib_edge.specs.Views.{ShelfView, SinkView}
+use Rattle.gib_edge.specs.Causes.{Rose, told}
+use Rattle.gib_edge.specs.Views.{Has, ShelfView, SinkView}
 use Rattle.gib_app.specs.declared.status.Status.{Status}
 use Rattle.gib_app.specs.declared.status.Status.TheVariants as status
-use Rattle.gib_app.specs.declared.made.Reason.TheVariants.{Meant, Full}
+use Rattle.gib_app.specs.declared.made.Reason.TheVariants.{Meant, Full, Long}
 use Rattle.gib_app.specs.declared.plan.Options.{Options}
-use Rattle.gib_app.specs.Plan.{Document, Plan, Files, bytes_in, Contents}
-use Rattle.gib_app.specs.Writes.{at_reading, AreMade, writes_of}
-use Rattle.gib_app.specs.Formats.{inputs_of}
+use Rattle.gib_app.specs.declared.plan.Job.TheVariants.{Run}
+use Rattle.gib_app.specs.Plan.{Document, Write, Plan, Files, bytes_in, Contents}
+use Rattle.gib_app.specs.Writes.{at_reading, AreMade, IsNamedIn, writes_of}
+use Rattle.gib_app.specs.Formats.{inputs_of, Accepts}
 use Rattle.gib_app.specs.Words.{asked}
-use Rattle.gib_app.specs.Running.{IsOutput, IsRunImage, MeansNone, text_line}
-use Rattle.gib_app.specs.Jobs.{MakesImage, run_forks}
+use Rattle.gib_app.specs.Running.{IsOutput, IsRunImage, IsPackedResult, IsLongResult, MeansNone, text_line}
+use Rattle.gib_app.specs.Jobs.{Prints, MakesImage, PacksResult, run_forks}
 use Rattle.gib_app.specs.Causes.{OnProgram, OnBoth, EndsWithout, AsksProgram, IsStored, IsUnread}
 use Rattle.gib_app.specs.Ending.{IsEnding, HasText, DueOfFiles, DueWithout, TakesAll}
-use Rattle.gib_app.specs.Headline.{run_plan, IsRun, Given, IsResult, IsResultImage, HasNoResult, IsTooDeep, DividesByZero, IsTooBig, NoneFailed}
+use Rattle.gib_app.specs.Headline.{IsRun, IsPackingRun, Given, IsResult, IsResultImage, IsResultFile, HasLongFile, HasNoResult, IsTooDeep, DividesByZero, IsTooBig, NoneFailed, NoWriteFailed}
 use Rattle.gib_app.proofs.Performing.{asked_of}
-use Rattle.gib_app.proofs.Writing.{written_here}
+use Rattle.gib_app.proofs.Fitting.{image_asked, packs_agrees, valueless_packs}
+use Rattle.gib_app.proofs.FirstWriting.{others_after, written_first}
+use Rattle.gib_app.proofs.JobWriting.{named_of_two, one_named}
+use Rattle.gib_app.proofs.Writing.{written_last}
 use Rattle.gib_app.proofs.Replays.{some_or_none}
-use Rattle.gib_app.proofs.Endings.{Laws, Whole, DueAll, DueNone, same_bytes, same_given, together, runs_well, one_meaning, told_by, cause_of, none_due, due_ends}
+use Rattle.gib_app.proofs.Endings.{Laws, Whole, DueAll, DueFit, DueLong, DueNone, same_bytes, same_given, together, joined, runs_well, one_given, packed_or_long, one_meaning, told_by, cause_of, fit_ends, long_due, none_due, due_ends}
+
+-- A run of one document on another, with an image and a packed file of its result, or none.
+
+abbrev any_plan : Document → Document → (image pack : Option (List ℕ)) → Options → Plan
+any_plan program packed image pack options = record { first = []; source = program; inputs = packed ∷ []; target = image; pack = pack; job = Run; options = options }
+
+record AnyRun (words : List (List ℕ)) (files : ShelfView) (out : SinkView) (source input : List ℕ) (options : Options) (front : List ℕ) : Type 0 where
+  program : Document
+  packed : Document
+  image : Option (List ℕ)
+  pack : Option (List ℕ)
+  asks : asked words ≡ Some (any_plan program packed image pack options)
+  source_is : bytes_in files.kept program ≡ Has source
+  input_is : bytes_in files.kept packed ≡ Has input
+  front_is : out.taken ≡ Some front
+
+record NoFault (program packed : Document) (image pack : Option (List ℕ)) (before now : ShelfView) (out_before out_now : SinkView) : Type 0 where
+  program_read : (name : List ℕ) → IsUnread before now program name → ⊥
+  packed_read : (name : List ℕ) → IsUnread before now packed name → ⊥
+  image_written : (name : List ℕ) → image ≡ Some name → Rose (before.writes name) (now.writes name) → ⊥
+  packed_written : (name : List ℕ) → pack ≡ Some name → Rose (before.writes name) (now.writes name) → ⊥
+  put : Rose out_before.faults out_now.faults → ⊥
 
 asked_is : (o : Option Plan) (r : Plan) (P : Plan → Type 0) → o ≡ Some r → MatchOption o ⊥ P → P r
 asked_is o r P e h = let Q : Option Plan → Type 0 = λ x. MatchOption x ⊥ P in subst Q e h
 
 -- what holds of the files of a run holds of their bytes
-of_files : (words : List (List ℕ)) (before : ShelfView) (out : SinkView) (source input : List ℕ) (options : Options) (front : List ℕ) (r : IsRun words before out source input options front)
-    (P : ProgramTree → List (List ℕ) → Contents → Type 0) → OnBoth before.kept (run_plan r.program r.packed r.image options) P → OnProgram source (λ p names. P p names (record { second = input; further = [] }))
+of_files : (words : List (List ℕ)) (before : ShelfView) (out : SinkView) (source input : List ℕ) (options : Options) (front : List ℕ) (r : AnyRun words before out source input options front)
+    (P : ProgramTree → List (List ℕ) → Contents → Type 0) → OnBoth before.kept (any_plan r.program r.packed r.image r.pack options) P → OnProgram source (λ p names. P p names (record { second = input; further = [] }))
 of_files words before out source input options front r P h =
     let es = same_bytes (bytes_in before.kept r.program) source h.source r.source_is h.source_held in
-    let ei = same_given before.kept (inputs_of (run_plan r.program r.packed r.image options)) (record { second = input; further = [] }) h.given (r.input_is, refl) h.given_held in
+    let ei = same_given before.kept (inputs_of (any_plan r.program r.packed r.image r.pack options)) (record { second = input; further = [] }) h.given (r.input_is, refl) h.given_held in
     let S : List ℕ → Type 0 = λ s. OnProgram s (λ p names. P p names h.given) in
     let I : Contents → Type 0 = λ i. OnProgram source (λ p names. P p names i) in
     subst I ei (subst S es h.holds)
@@ -86,10 +115,10 @@ of_none source input depth meant h = record {
   holds = record { value = h.given.value; is_input = record { short = h.given.short; file = h.given.file }; means = h.means };
 }
 
-pub run_done : (tells : Bool) (words : List (List ℕ)) (before now : ShelfView) (out out_now : SinkView) (source input : List ℕ) (options : Options) (front said : List ℕ) →
-    IsRun words before out source input options front → IsEnding tells words before now out out_now status.Done said → (output : List ℕ) × IsResult source input options.depth output × (out_now.taken ≡ Some (front ++ output))
-run_done tells words before now out out_now source input options front said r h =
-    let plan = run_plan r.program r.packed r.image options in
+any_done : (tells : Bool) (words : List (List ℕ)) (before now : ShelfView) (out out_now : SinkView) (source input : List ℕ) (options : Options) (front said : List ℕ) →
+    AnyRun words before out source input options front → IsEnding tells words before now out out_now status.Done said → (output : List ℕ) × IsResult source input options.depth output × (out_now.taken ≡ Some (front ++ output))
+any_done tells words before now out out_now source input options front said r h =
+    let plan = any_plan r.program r.packed r.image r.pack options in
     let P : Plan → Type 0 = λ q. OnBoth (at_reading tells before.kept q) q (Whole tells before now out out_now q) in
     let on = of_files words before out source input options front r (Whole tells before now out out_now plan) (asked_is (asked words) plan P r.asks h.0) in
     let T : Option (List ℕ) → Type 0 = λ t. IfSome t (λ first. out_now.taken ≡ Some (first ++ on.holds.0)) in (
@@ -98,63 +127,174 @@ run_done tells words before now out out_now source input options front said r h 
       subst T r.front_is on.holds.2,
     )
 
-image_there : {names : List (List ℕ)} (tells : Bool) (before now : Files) (name : List ℕ) (asked_for : Bool) (p : ProgramTree) (skips : Bool) (depth chunks : ℕ) (input : List ℕ) (file : Option (List ℕ)) → IsStored (Some name) file
-    → AreMade tells before now (writes_of file (Some name)) → MakesImage asked_for p names skips depth chunks input file → (bytes : List ℕ) × (now name ≡ told tells bytes) × IsRunImage p names skips depth chunks input bytes
-image_there tells before now name asked_for p skips depth chunks input None stored written made = absurd stored
-image_there tells before now name false p skips depth chunks input (Some bytes) stored written made = cc
-image_there tells before now name true p skips depth chunks input (Some bytes) stored written made = (bytes, written_here tells before now name bytes written, made)
+-- a packed file of the result, and one that is too long
 
-pub run_image : (tells : Bool) (words : List (List ℕ)) (before now : ShelfView) (out out_now : SinkView) (source input : List ℕ) (options : Options) (front said name : List ℕ) →
-    (r : IsRun words before out source input options front) → r.image ≡ Some name → IsEnding tells words before now out out_now status.Done said →
+file_result : (source input : List ℕ) (depth : ℕ) (bytes : List ℕ) → OnProgram source (λ p names. IsPackedResult p names depth input bytes) → IsResultFile source input depth bytes
+file_result source input depth bytes on = record {
+  given = record {
+    lexed = on.lexed;
+    program = on.program;
+    value = on.holds.value;
+    spelled = on.is_program.spelled;
+    typed = on.is_program.typed;
+    short = on.holds.is_input.short;
+    file = on.holds.is_input.file;
+  };
+  result = on.holds.result;
+  means = on.holds.means;
+  file = on.holds.file;
+  few = on.holds.few;
+}
+
+result_file : (source input : List ℕ) (depth : ℕ) (bytes : List ℕ) → IsResultFile source input depth bytes → OnProgram source (λ p names. IsPackedResult p names depth input bytes)
+result_file source input depth bytes h = record {
+  lexed = h.given.lexed;
+  program = h.given.program;
+  is_program = record { spelled = h.given.spelled; typed = h.given.typed };
+  holds = record { value = h.given.value; result = h.result; is_input = record { short = h.given.short; file = h.given.file }; means = h.means; file = h.file; few = h.few };
+}
+
+long_result : (source input : List ℕ) (depth : ℕ) → HasLongFile source input depth → OnProgram source (λ p names. IsLongResult p names depth input)
+long_result source input depth h = record {
+  lexed = h.given.lexed;
+  program = h.given.program;
+  is_program = record { spelled = h.given.spelled; typed = h.given.typed };
+  holds = record { value = h.given.value; result = h.result; is_input = record { short = h.given.short; file = h.given.file }; means = h.means; long = h.long };
+}
+
+image_result : (source input : List ℕ) (skips : Bool) (depth chunks : ℕ) (bytes : List ℕ) → OnProgram source (λ p names. IsRunImage p names skips depth chunks input bytes) → IsResultImage source input skips depth chunks bytes
+image_result source input skips depth chunks bytes on = record {
+  given = record {
+    lexed = on.lexed;
+    program = on.program;
+    value = on.holds.value;
+    spelled = on.is_program.spelled;
+    typed = on.is_program.typed;
+    short = on.holds.is_input.short;
+    file = on.holds.is_input.file;
+  };
+  result = on.holds.result;
+  means = on.holds.means;
+  image = on.holds.image;
+  few = on.holds.few;
+}
+
+image_there : {names : List (List ℕ)} (tells : Bool) (before now : Files) (name : List ℕ) (asked_for : Bool) (p : ProgramTree) (skips : Bool) (depth chunks : ℕ) (input : List ℕ) (file : Option (List ℕ)) (ws : List Write) → (IsNamedIn ws name → ⊥)
+    → IsStored (Some name) file → AreMade tells before now (writes_of file (Some name) ++ ws) → MakesImage asked_for p names skips depth chunks input file → (bytes : List ℕ) × (now name ≡ told tells bytes) × IsRunImage p names skips depth chunks input bytes
+image_there tells before now name asked_for p skips depth chunks input None ws no' stored written made = absurd stored
+image_there tells before now name false p skips depth chunks input (Some bytes) ws no' stored written made = cc
+image_there tells before now name true p skips depth chunks input (Some bytes) ws no' stored written made = (bytes, written_first tells before now name bytes ws no' written, made)
+
+any_image : (tells : Bool) (words : List (List ℕ)) (before now : ShelfView) (out out_now : SinkView) (source input : List ℕ) (options : Options) (front said name : List ℕ) →
+    (r : AnyRun words before out source input options front) → r.image ≡ Some name → (r.pack ≡ Some name → ⊥) → IsEnding tells words before now out out_now status.Done said →
     (bytes : List ℕ) × (now.kept name ≡ told tells bytes) × IsResultImage source input options.skips options.depth options.chunks bytes
-run_image tells words before now out out_now source input options front said name r named h =
-    let plan = run_plan r.program r.packed r.image options in
+any_image tells words before now out out_now source input options front said name r named other h =
+    let plan = any_plan r.program r.packed r.image r.pack options in
     let P : Plan → Type 0 = λ q. OnBoth (at_reading tells before.kept q) q (Whole tells before now out out_now q) in
     let on = of_files words before out source input options front r (Whole tells before now out out_now plan) (asked_is (asked words) plan P r.asks h.0) in
     let made = on.holds.1 in
     let S : Option (List ℕ) → Type 0 = λ t. IsStored t made.ended.file in
-    let W : Option (List ℕ) → Type 0 = λ t. AreMade tells before.kept now.kept (writes_of made.ended.file t) in
-    let there = image_there {names = on.lexed.names} tells before.kept now.kept name options.image on.program options.skips options.depth options.chunks input made.ended.file (subst S named made.stored) (subst W named made.ended.written) made.ended.does.0 in
-    let is = there.2 in (
-      there.0,
-      there.1,
+    let W : Option (List ℕ) → Type 0 = λ t. AreMade tells before.kept now.kept (writes_of made.ended.file t ++ writes_of made.ended.packed r.pack) in
+    let there = image_there {names = on.lexed.names} tells before.kept now.kept name options.image on.program options.skips options.depth options.chunks input made.ended.file
+    (writes_of made.ended.packed r.pack) (λ i. other (one_named made.ended.packed r.pack name i)) (subst S named made.stored) (subst W named made.ended.written) made.ended.does.0 in
+    (there.0, there.1, image_result source input options.skips options.depth options.chunks there.0 (record { lexed = on.lexed; program = on.program; is_program = on.is_program; holds = there.2 }))
+
+packed_there : {names : List (List ℕ)} (tells : Bool) (before now : Files) (name : List ℕ) (asked_for : Bool) (p : ProgramTree) (depth : ℕ) (input text : List ℕ) (packed : Option (List ℕ)) (ws : List Write) → IsStored (Some name) packed
+    → AreMade tells before now (ws ++ writes_of packed (Some name)) → PacksResult asked_for p names depth input packed (Prints text) → (bytes : List ℕ) × (now name ≡ told tells bytes) × IsPackedResult p names depth input bytes
+packed_there tells before now name asked_for p depth input text None ws stored written made = absurd stored
+packed_there tells before now name false p depth input text (Some bytes) ws stored written made = cc
+packed_there {names} tells before now name true p depth input text (Some bytes) ws stored written made =
+    let same : made.0 ≡ bytes = let e = made.1 in cc in
+    (bytes, written_last tells before now ws name bytes written, subst (IsPackedResult p names depth input) same made.2)
+
+any_packed : (tells : Bool) (words : List (List ℕ)) (before now : ShelfView) (out out_now : SinkView) (source input : List ℕ) (options : Options) (front said name : List ℕ) →
+    (r : AnyRun words before out source input options front) → r.pack ≡ Some name → IsEnding tells words before now out out_now status.Done said →
+    (bytes : List ℕ) × (now.kept name ≡ told tells bytes) × IsResultFile source input options.depth bytes
+any_packed tells words before now out out_now source input options front said name r named h =
+    let plan = any_plan r.program r.packed r.image r.pack options in
+    let P : Plan → Type 0 = λ q. OnBoth (at_reading tells before.kept q) q (Whole tells before now out out_now q) in
+    let on = of_files words before out source input options front r (Whole tells before now out out_now plan) (asked_is (asked words) plan P r.asks h.0) in
+    let made = on.holds.1 in
+    let S : Option (List ℕ) → Type 0 = λ t. IsStored t made.ended.packed in
+    let W : Option (List ℕ) → Type 0 = λ t. AreMade tells before.kept now.kept (writes_of made.ended.file r.image ++ writes_of made.ended.packed t) in
+    let there = packed_there {names = on.lexed.names} tells before.kept now.kept name options.packs on.program options.depth input on.holds.0 made.ended.packed
+    (writes_of made.ended.file r.image) (subst S named made.stored_packed) (subst W named made.ended.written) made.ended.packs in
+    (there.0, there.1, file_result source input options.depth there.0 (record { lexed = on.lexed; program = on.program; is_program = on.is_program; holds = there.2 }))
+
+any_long : (tells : Bool) (words : List (List ℕ)) (before now : ShelfView) (out out_now : SinkView) (source input : List ℕ) (options : Options) (front said : List ℕ) →
+    (r : AnyRun words before out source input options front) → IsEnding tells words before now out out_now status.Long said →
+    HasLongFile source input options.depth × (options.packs ≡ true) × ((name : List ℕ) → (r.image ≡ Some name → ⊥) → now.kept name ≡ before.kept name)
+any_long tells words before now out out_now source input options front said r h =
+    let plan = any_plan r.program r.packed r.image r.pack options in
+    let P : Plan → Type 0 = λ q. OnBoth (at_reading tells before.kept q) q (EndsWithout tells before now Long q) in
+    let on = of_files words before out source input options front r (EndsWithout tells before now Long plan) (asked_is (asked words) plan P r.asks h.0) in
+    let ended = on.holds in
+    let long = ended.does.1 in
+    let none = valueless_packs Run options on.program on.lexed.names (record { second = input; further = [] }) ended.packed Long ended.packs in
+    let W : Option (List ℕ) → Type 0 = λ q. AreMade tells before.kept now.kept (writes_of ended.file r.image ++ writes_of q r.pack) in
+    let written : W None = subst W none ended.written in (
       record {
         given = record {
           lexed = on.lexed;
           program = on.program;
-          value = is.value;
+          value = long.value;
           spelled = on.is_program.spelled;
           typed = on.is_program.typed;
-          short = is.is_input.short;
-          file = is.is_input.file;
+          short = long.is_input.short;
+          file = long.is_input.file;
         };
-        result = is.result;
-        means = is.means;
-        image = is.image;
-        few = is.few;
+        result = long.result;
+        means = long.means;
+        long = long.long;
       },
+      ended.does.2,
+      λ name other. written name ∙ others_after tells before.kept (writes_of ended.file r.image ++ []) name
+          (λ i. elim (named_of_two (writes_of ended.file r.image) [] name i) [
+            | inl j ↦ other (one_named ended.file r.image name j)
+            | inr j ↦ j
+          ]),
     )
 
-run_none : (tells : Bool) (words : List (List ℕ)) (before now : ShelfView) (out : SinkView) (source input : List ℕ) (options : Options) (front : List ℕ) (x : Why) →
-    IsRun words before out source input options front → AsksProgram tells words before.kept (EndsWithout tells before now (Meant x)) → HasNoResult source input options.depth (means_why x)
-run_none tells words before now out source input options front x r h =
-    let plan = run_plan r.program r.packed r.image options in
+asked_image : {names : List (List ℕ)} (tells : Bool) (before now : Files) (name : List ℕ) (asked_for : Bool) (p : ProgramTree) (skips : Bool) (depth chunks : ℕ) (input : List ℕ) (file : Option (List ℕ)) → asked_for ≡ true →
+    AreMade tells before now (writes_of file (Some name) ++ []) → MakesImage asked_for p names skips depth chunks input file → (bytes : List ℕ) × (now name ≡ told tells bytes) × IsRunImage p names skips depth chunks input bytes
+asked_image tells before now name false p skips depth chunks input file on written made = absurd (true≢false (sym on))
+asked_image tells before now name true p skips depth chunks input None on written made = absurd made
+asked_image tells before now name true p skips depth chunks input (Some bytes) on written made = (bytes, written_first tells before now name bytes [] (λ i. i) written, made)
+
+any_long_image : (tells : Bool) (words : List (List ℕ)) (before now : ShelfView) (out out_now : SinkView) (source input : List ℕ) (options : Options) (front said name : List ℕ) →
+    (r : AnyRun words before out source input options front) → r.image ≡ Some name → IsEnding tells words before now out out_now status.Long said →
+    (bytes : List ℕ) × (now.kept name ≡ told tells bytes) × IsResultImage source input options.skips options.depth options.chunks bytes
+any_long_image tells words before now out out_now source input options front said name r named h =
+    let plan = any_plan r.program r.packed r.image r.pack options in
+    let P : Plan → Type 0 = λ q. OnBoth (at_reading tells before.kept q) q (EndsWithout tells before now Long q) in
+    let on = of_files words before out source input options front r (EndsWithout tells before now Long plan) (asked_is (asked words) plan P r.asks h.0) in
+    let ended = on.holds in
+    let none = valueless_packs Run options on.program on.lexed.names (record { second = input; further = [] }) ended.packed Long ended.packs in
+    let W : Option (List ℕ) → Option (List ℕ) → Type 0 = λ t q. AreMade tells before.kept now.kept (writes_of ended.file t ++ writes_of q r.pack) in
+    let written : W (Some name) None = subst₂ W named none ended.written in
+    let there = asked_image {names = on.lexed.names} tells before.kept now.kept name options.image on.program options.skips options.depth options.chunks input ended.file (image_asked words plan name r.asks refl named) written ended.does.0 in
+    (there.0, there.1, image_result source input options.skips options.depth options.chunks there.0 (record { lexed = on.lexed; program = on.program; is_program = on.is_program; holds = there.2 }))
+
+any_none : (tells : Bool) (words : List (List ℕ)) (before now : ShelfView) (out : SinkView) (source input : List ℕ) (options : Options) (front : List ℕ) (x : Why) →
+    AnyRun words before out source input options front → AsksProgram tells words before.kept (EndsWithout tells before now (Meant x)) → HasNoResult source input options.depth (means_why x)
+any_none tells words before now out source input options front x r h =
+    let plan = any_plan r.program r.packed r.image r.pack options in
     let P : Plan → Type 0 = λ q. OnBoth (at_reading tells before.kept q) q (EndsWithout tells before now (Meant x) q) in
     let on = of_files words before out source input options front r (EndsWithout tells before now (Meant x) plan) (asked_is (asked words) plan P r.asks h) in
     none_of source input options.depth (means_why x) (record { lexed = on.lexed; program = on.program; is_program = on.is_program; holds = on.holds.does.1 })
 
-pub run_deep : (tells : Bool) (words : List (List ℕ)) (before now : ShelfView) (out out_now : SinkView) (source input : List ℕ) (options : Options) (front said : List ℕ) →
-    IsRun words before out source input options front → IsEnding tells words before now out out_now status.Depth said → IsTooDeep source input options.depth
-run_deep tells words before now out out_now source input options front said r h = run_none tells words before now out source input options front why.Deep r h.0
+any_deep : (tells : Bool) (words : List (List ℕ)) (before now : ShelfView) (out out_now : SinkView) (source input : List ℕ) (options : Options) (front said : List ℕ) →
+    AnyRun words before out source input options front → IsEnding tells words before now out out_now status.Depth said → IsTooDeep source input options.depth
+any_deep tells words before now out out_now source input options front said r h = any_none tells words before now out source input options front why.Deep r h.0
 
-pub run_trapped : (tells : Bool) (words : List (List ℕ)) (before now : ShelfView) (out out_now : SinkView) (source input : List ℕ) (options : Options) (front said : List ℕ) →
-    IsRun words before out source input options front → IsEnding tells words before now out out_now status.Trap said → DividesByZero source input options.depth
-run_trapped tells words before now out out_now source input options front said r h = run_none tells words before now out source input options front why.Trap r h.0
+any_trapped : (tells : Bool) (words : List (List ℕ)) (before now : ShelfView) (out out_now : SinkView) (source input : List ℕ) (options : Options) (front said : List ℕ) →
+    AnyRun words before out source input options front → IsEnding tells words before now out out_now status.Trap said → DividesByZero source input options.depth
+any_trapped tells words before now out out_now source input options front said r h = any_none tells words before now out source input options front why.Trap r h.0
 
-pub run_full : (tells : Bool) (words : List (List ℕ)) (before now : ShelfView) (out out_now : SinkView) (source input : List ℕ) (options : Options) (front said : List ℕ) →
-    IsRun words before out source input options front → IsEnding tells words before now out out_now status.Full said → IsTooBig source input options.skips options.depth (run_forks options) options.chunks
-run_full tells words before now out out_now source input options front said r h =
-    let plan = run_plan r.program r.packed r.image options in
+any_full : (tells : Bool) (words : List (List ℕ)) (before now : ShelfView) (out out_now : SinkView) (source input : List ℕ) (options : Options) (front said : List ℕ) →
+    AnyRun words before out source input options front → IsEnding tells words before now out out_now status.Full said → IsTooBig source input options.skips options.depth (run_forks options) options.chunks
+any_full tells words before now out out_now source input options front said r h =
+    let plan = any_plan r.program r.packed r.image r.pack options in
     let P : Plan → Type 0 = λ q. OnBoth (at_reading tells before.kept q) q (EndsWithout tells before now Full q) in
     let on = of_files words before out source input options front r (EndsWithout tells before now Full plan) (asked_is (asked words) plan P r.asks h.0) in
     record {
@@ -174,9 +314,9 @@ packed_read : (before now : ShelfView) (d : Document) → ((name : List ℕ) →
 packed_read before now d quiet name (inl h) = quiet name h
 packed_read before now d quiet name (inr h) = h
 
-due_of : (tells : Bool) (words : List (List ℕ)) (before now : ShelfView) (out out_now : SinkView) (source input : List ℕ) (options : Options) (front : List ℕ) (r : IsRun words before out source input options front) →
-    NoneFailed r.program r.packed r.image before now out out_now → (P : ProgramTree → List (List ℕ) → Contents → Type 0) → OnProgram source (λ p names. P p names (record { second = input; further = [] })) →
-    DueOfFiles tells before now (run_plan r.program r.packed r.image options) P
+due_of : (tells : Bool) (words : List (List ℕ)) (before now : ShelfView) (out out_now : SinkView) (source input : List ℕ) (options : Options) (front : List ℕ) (r : AnyRun words before out source input options front) →
+    NoFault r.program r.packed r.image r.pack before now out out_now → (P : ProgramTree → List (List ℕ) → Contents → Type 0) → OnProgram source (λ p names. P p names (record { second = input; further = [] })) →
+    DueOfFiles tells before now (any_plan r.program r.packed r.image r.pack options) P
 due_of tells words before now out out_now source input options front r quiet P on = record {
   source = source;
   given = record { second = input; further = [] };
@@ -188,88 +328,108 @@ due_of tells words before now out out_now source input options front r quiet P o
   holds = on;
 }
 
-pub run_ends_done : Laws → (tells : Bool) (words : List (List ℕ)) (before now : ShelfView) (out out_now : SinkView) (source input : List ℕ) (options : Options) (front output said : List ℕ) (end' : Status) →
-    (r : IsRun words before out source input options front) → NoneFailed r.program r.packed r.image before now out out_now → IsResult source input options.depth output →
+-- the text of a run is due, with the packed file that is asked for
+text_due : Laws → (source input : List ℕ) (options : Options) (output : List ℕ) (b : Bool) → options.packs ≡ b → (options.packs ≡ true → (bytes : List ℕ) × IsResultFile source input options.depth bytes) →
+    OnProgram source (λ p names. IsOutput p names options.depth input output) →
+    OnProgram source (λ p names. IsOutput p names options.depth input output × ((packed : Option (List ℕ)) × PacksResult options.packs p names options.depth input packed (Prints output)))
+text_due laws source input options output false off packs on =
+    let P : Bool → Type 0 = λ x. PacksResult x on.program on.lexed.names options.depth input None (Prints output) in
+    record { lexed = on.lexed; program = on.program; is_program = on.is_program; holds = (on.holds, (None, subst P (sym off) refl)) }
+text_due laws source input options output true asks packs on =
+    let file = packs asks in
+    let both = joined laws source (λ p names. IsOutput p names options.depth input output) (λ p names. IsPackedResult p names options.depth input file.0) on (result_file source input options.depth file.0 file.1) in
+    let P : Bool → Type 0 = λ x. PacksResult x both.program both.lexed.names options.depth input (Some file.0) (Prints output) in
+    record { lexed = both.lexed; program = both.program; is_program = both.is_program; holds = (both.holds.0, (Some file.0, subst P (sym asks) (file.0, refl, both.holds.1))) }
+
+any_ends_done : Laws → (tells : Bool) (words : List (List ℕ)) (before now : ShelfView) (out out_now : SinkView) (source input : List ℕ) (options : Options) (front output said : List ℕ) (end' : Status) →
+    (r : AnyRun words before out source input options front) → NoFault r.program r.packed r.image r.pack before now out out_now → IsResult source input options.depth output →
+    (options.packs ≡ true → (bytes : List ℕ) × IsResultFile source input options.depth bytes) →
     IsEnding tells words before now out out_now end' said → (end' ≡ status.Done) ⊎ (end' ≡ status.Memory) ⊎ (end' ≡ status.Full)
-run_ends_done laws tells words before now out out_now source input options front output said end' r quiet h ends =
-    let plan = run_plan r.program r.packed r.image options in
-    let on = output_of source input options.depth output h in
-    let takes : TakesAll before now out out_now plan = record { target = quiet.image_written; out = quiet.put } in
+any_ends_done laws tells words before now out out_now source input options front output said end' r quiet h packs ends =
+    let plan = any_plan r.program r.packed r.image r.pack options in
+    let on = text_due laws source input options output options.packs refl packs (output_of source input options.depth output h) in
+    let takes : TakesAll before now out out_now plan = record { target = quiet.image_written; pack = quiet.packed_written; out = quiet.put } in
     let due = due_of tells words before now out out_now source input options front r quiet (HasText plan)
-    (record { lexed = on.lexed; program = on.program; is_program = on.is_program; holds = (None, output, (refl, on.holds)) }) in
+    (record { lexed = on.lexed; program = on.program; is_program = on.is_program; holds = (None, output, (refl, on.holds.0), on.holds.1) }) in
     due_ends laws tells words before now out out_now end' (cause_of tells words before now out out_now end' said ends) status.Done (asked_of (asked words) plan (DueAll tells before now out out_now) r.asks (due, takes))
 
-run_ends_none : Laws → (tells : Bool) (words : List (List ℕ)) (before now : ShelfView) (out out_now : SinkView) (source input : List ℕ) (options : Options) (front said : List ℕ) (end' : Status) (x : Why) →
-    (r : IsRun words before out source input options front) → NoneFailed r.program r.packed r.image before now out out_now → HasNoResult source input options.depth (means_why x) →
+any_ends_long : Laws → (tells : Bool) (words : List (List ℕ)) (before now : ShelfView) (out out_now : SinkView) (source input : List ℕ) (options : Options) (front said : List ℕ) (end' : Status) →
+    (r : AnyRun words before out source input options front) → NoFault r.program r.packed r.image r.pack before now out out_now → HasLongFile source input options.depth → options.packs ≡ true →
+    IsEnding tells words before now out out_now end' said → (end' ≡ status.Long) ⊎ (end' ≡ status.Memory) ⊎ (end' ≡ status.Full)
+any_ends_long laws tells words before now out out_now source input options front said end' r quiet h packs ends =
+    let plan = any_plan r.program r.packed r.image r.pack options in
+    let on = long_result source input options.depth h in
+    let due = due_of tells words before now out out_now source input options front r quiet (DueWithout before now Long plan)
+    (record { lexed = on.lexed; program = on.program; is_program = on.is_program; holds = ((None, (refl, on.holds, packs)), λ name bytes named does. quiet.image_written name named) }) in
+    long_due laws tells words before now out out_now (asked_of (asked words) plan (DueLong tells before now) r.asks (refl, due)) end' (cause_of tells words before now out out_now end' said ends)
+
+any_ends_none : Laws → (tells : Bool) (words : List (List ℕ)) (before now : ShelfView) (out out_now : SinkView) (source input : List ℕ) (options : Options) (front said : List ℕ) (end' : Status) (x : Why) →
+    (r : AnyRun words before out source input options front) → NoFault r.program r.packed r.image r.pack before now out out_now → HasNoResult source input options.depth (means_why x) →
     IsEnding tells words before now out out_now end' said → (end' ≡ told_by x) ⊎ (end' ≡ status.Memory) ⊎ (end' ≡ status.Full)
-run_ends_none laws tells words before now out out_now source input options front said end' x r quiet h ends =
-    let plan = run_plan r.program r.packed r.image options in
+any_ends_none laws tells words before now out out_now source input options front said end' x r quiet h ends =
+    let plan = any_plan r.program r.packed r.image r.pack options in
     let on = of_none source input options.depth (means_why x) h in
     let due = due_of tells words before now out out_now source input options front r quiet (DueWithout before now (Meant x) plan)
     (record { lexed = on.lexed; program = on.program; is_program = on.is_program; holds = ((None, (refl, on.holds)), λ name bytes named does. absurd (some_or_none bytes does.0)) }) in
     none_due laws tells words before now out out_now x (asked_of (asked words) plan (DueNone tells before now x) r.asks due) end' (cause_of tells words before now out out_now end' said ends)
 
-pub run_ends_deep : Laws → (tells : Bool) (words : List (List ℕ)) (before now : ShelfView) (out out_now : SinkView) (source input : List ℕ) (options : Options) (front said : List ℕ) (end' : Status) →
-    (r : IsRun words before out source input options front) → NoneFailed r.program r.packed r.image before now out out_now → IsTooDeep source input options.depth →
+any_ends_deep : Laws → (tells : Bool) (words : List (List ℕ)) (before now : ShelfView) (out out_now : SinkView) (source input : List ℕ) (options : Options) (front said : List ℕ) (end' : Status) →
+    (r : AnyRun words before out source input options front) → NoFault r.program r.packed r.image r.pack before now out out_now → IsTooDeep source input options.depth →
     IsEnding tells words before now out out_now end' said → (end' ≡ status.Depth) ⊎ (end' ≡ status.Memory) ⊎ (end' ≡ status.Full)
-run_ends_deep laws tells words before now out out_now source input options front said end' r quiet h ends =
-    run_ends_none laws tells words before now out out_now source input options front said end' why.Deep r quiet h ends
+any_ends_deep laws tells words before now out out_now source input options front said end' r quiet h ends =
+    any_ends_none laws tells words before now out out_now source input options front said end' why.Deep r quiet h ends
 
-pub run_ends_trapped : Laws → (tells : Bool) (words : List (List ℕ)) (before now : ShelfView) (out out_now : SinkView) (source input : List ℕ) (options : Options) (front said : List ℕ) (end' : Status) →
-    (r : IsRun words before out source input options front) → NoneFailed r.program r.packed r.image before now out out_now → DividesByZero source input options.depth →
+any_ends_trapped : Laws → (tells : Bool) (words : List (List ℕ)) (before now : ShelfView) (out out_now : SinkView) (source input : List ℕ) (options : Options) (front said : List ℕ) (end' : Status) →
+    (r : AnyRun words before out source input options front) → NoFault r.program r.packed r.image r.pack before now out out_now → DividesByZero source input options.depth →
     IsEnding tells words before now out out_now end' said → (end' ≡ status.Trap) ⊎ (end' ≡ status.Memory) ⊎ (end' ≡ status.Full)
-run_ends_trapped laws tells words before now out out_now source input options front said end' r quiet h ends =
-    run_ends_none laws tells words before now out out_now source input options front said end' why.Trap r quiet h ends
+any_ends_trapped laws tells words before now out out_now source input options front said end' r quiet h ends =
+    any_ends_none laws tells words before now out out_now source input options front said end' why.Trap r quiet h ends
 
 -- Chunks that are enough do not run out
 
--- an outcome is a value, or none for a reason that a run tells
-value_or_none : (o : Outcome) → ((v : Datum) × (o ≡ Gives v)) ⊎ ((x : Why) × (o ≡ Stops (means_why x)))
-value_or_none (Gives v) = inl (v, refl)
-value_or_none (Stops Deep) = inr (why.Deep, refl)
-value_or_none (Stops Trap) = inr (why.Trap, refl)
-
--- the status is not that of want of chunks
-without_full : (end' s : Status) → (end' ≡ status.Full → ⊥) → (end' ≡ s) ⊎ (end' ≡ status.Memory) ⊎ (end' ≡ status.Full) → (end' ≡ s) ⊎ (end' ≡ status.Memory)
-without_full end' s never (inl e) = inl e
-without_full end' s never (inr (inl e)) = inr e
-without_full end' s never (inr (inr e)) = absurd (never e)
-
 -- the statuses of a run whose chunks are enough
-abbrev IsFitting : Status → Type 0
-IsFitting s = (s ≡ status.Done) ⊎ (s ≡ status.Depth) ⊎ (s ≡ status.Trap) ⊎ (s ≡ status.Memory)
+abbrev IsFitting : Options → Status → Type 0
+IsFitting options s = (s ≡ status.Done) ⊎ (s ≡ status.Depth) ⊎ (s ≡ status.Trap) ⊎ (s ≡ status.Memory) ⊎ ((s ≡ status.Long) × (options.packs ≡ true))
 
-fitting_done : (end' : Status) → (end' ≡ status.Done) ⊎ (end' ≡ status.Memory) → IsFitting end'
-fitting_done end' (inl e) = inl e
-fitting_done end' (inr e) = inr (inr (inr e))
-
-fitting_none : (end' : Status) (x : Why) → (end' ≡ told_by x) ⊎ (end' ≡ status.Memory) → IsFitting end'
-fitting_none end' why.Deep (inl e) = inr (inl e)
-fitting_none end' why.Trap (inl e) = inr (inr (inl e))
-fitting_none end' why.Deep (inr e) = inr (inr (inr e))
-fitting_none end' why.Trap (inr e) = inr (inr (inr e))
-
-fits_by : Laws → (tells : Bool) (words : List (List ℕ)) (before now : ShelfView) (out out_now : SinkView) (source input : List ℕ) (options : Options) (front said : List ℕ) (end' : Status) →
-    (r : IsRun words before out source input options front) → NoneFailed r.program r.packed r.image before now out out_now → (g : Given source input) → (end' ≡ status.Full → ⊥) →
-    ((v : Datum) × (run g.program options.depth g.value ≡ Gives v)) ⊎ ((x : Why) × (run g.program options.depth g.value ≡ Stops (means_why x))) →
-    IsEnding tells words before now out out_now end' said → IsFitting end'
-fits_by laws tells words before now out out_now source input options front said end' r quiet g never (inl gives) ends =
-    fitting_done end'
-    (without_full end' status.Done never
-    (run_ends_done laws tells words before now out out_now source input options front (text_line g.program g.lexed.names gives.0) said end' r quiet
-    (record { given = g; result = gives.0; means = gives.1; is_text = refl }) ends))
-fits_by laws tells words before now out out_now source input options front said end' r quiet g never (inr stops) ends =
-    fitting_none end' stops.0
-    (without_full end' (told_by stops.0) never
-    (run_ends_none laws tells words before now out out_now source input options front said end' stops.0 r quiet (record { given = g; means = stops.1 }) ends))
-
-pub run_fits : Laws → (tells : Bool) (words : List (List ℕ)) (before now : ShelfView) (out out_now : SinkView) (source input : List ℕ) (options : Options) (front said : List ℕ) (end' : Status) →
-    (r : IsRun words before out source input options front) → NoneFailed r.program r.packed r.image before now out out_now → Given source input → (IsTooBig source input options.skips options.depth (run_forks options) options.chunks → ⊥) →
-    IsEnding tells words before now out out_now end' said → (end' ≡ status.Done) ⊎ (end' ≡ status.Depth) ⊎ (end' ≡ status.Trap) ⊎ (end' ≡ status.Memory)
-run_fits laws tells words before now out out_now source input options front said end' r quiet g fits ends =
+any_fits : Laws → (tells : Bool) (words : List (List ℕ)) (before now : ShelfView) (out out_now : SinkView) (source input : List ℕ) (options : Options) (front said : List ℕ) (end' : Status) →
+    (r : AnyRun words before out source input options front) → NoFault r.program r.packed r.image r.pack before now out out_now → Given source input → (IsTooBig source input options.skips options.depth (run_forks options) options.chunks → ⊥) →
+    IsEnding tells words before now out out_now end' said → IsFitting options end'
+any_fits laws tells words before now out out_now source input options front said end' r quiet g fits ends =
+    let plan = any_plan r.program r.packed r.image r.pack options in
     let E : Status → Type 0 = λ s. IsEnding tells words before now out out_now s said in
-    let never : end' ≡ status.Full → ⊥ = λ e. fits (run_full tells words before now out out_now source input options front said r (subst E e ends)) in
-    fits_by laws tells words before now out out_now source input options front said end' r quiet g never (value_or_none (run g.program options.depth g.value)) ends
+    let takes : TakesAll before now out out_now plan = record { target = quiet.image_written; pack = quiet.packed_written; out = quiet.put } in
+    let due = due_of tells words before now out out_now source input options front r quiet (λ p names given. Accepts plan.job plan.options p names given)
+    (record { lexed = g.lexed; program = g.program; is_program = record { spelled = g.spelled; typed = g.typed }; holds = (g.value, record { short = g.short; file = g.file }) }) in
+    elim (fit_ends laws tells words before now out out_now (asked_of (asked words) plan (DueFit tells before now out out_now) r.asks (due, takes)) end' (cause_of tells words before now out out_now end' said ends)) [
+      | inl e ↦ inl e
+      | inr (inl e) ↦ inr (inl e)
+      | inr (inr (inl e)) ↦ inr (inr (inl e))
+      | inr (inr (inr (inl e))) ↦ inr (inr (inr (inl e)))
+      | inr (inr (inr (inr (inl e)))) ↦ inr (inr (inr (inr (e, (any_long tells words before now out out_now source input options front said r (subst E e ends)).1))))
+      | inr (inr (inr (inr (inr e)))) ↦ absurd (fits (any_full tells words before now out out_now source input options front said r (subst E e ends)))
+    ]
+
+-- The packed file is one too, or is too long
+
+pub one_packed : Laws → ((table : Table) (names : List (List ℕ)) (ty : Ty) (v : Datum) (a b : List ℕ) → File2 table names ty v a → File2 table names ty v b → a ≡ b) →
+    (source input : List ℕ) (depth : ℕ) (bytes other : List ℕ) → IsResultFile source input depth bytes → IsResultFile source input depth other → bytes ≡ other
+one_packed laws second source input depth bytes other h k =
+    let both = together laws source (λ p names. IsPackedResult p names depth input bytes) (λ p names. IsPackedResult p names depth input other)
+    (result_file source input depth bytes h) (result_file source input depth other k) in
+    let p = both.0 in
+    let names = both.1 in
+    let a = both.2 in
+    let b = both.3 in
+    let same = laws.filed (table_of_program p) _ (input_type p) b.value a.value input b.is_input.file a.is_input.file in
+    let M : Datum → Type 0 = λ x. run p depth x ≡ Gives b.result in
+    let u = one_given (run p depth a.value) a.result b.result a.means (subst M same b.means) in
+    let F : Datum → Type 0 = λ x. File2 (table_of_program p) names (output_type p) x bytes in
+    second (table_of_program p) names (output_type p) b.result bytes other (subst F u a.file) b.file
+
+pub short_or_long : Laws → (source input : List ℕ) (depth : ℕ) (bytes : List ℕ) → IsResultFile source input depth bytes → HasLongFile source input depth → ⊥
+short_or_long laws source input depth bytes h k =
+    let both = together laws source (λ p names. IsPackedResult p names depth input bytes) (λ p names. IsLongResult p names depth input) (result_file source input depth bytes h) (long_result source input depth k) in
+    packed_or_long laws both.0 both.1 depth input bytes both.2 both.3
 
 one_value : (r : Outcome) (u v : Datum) → r ≡ Gives u → r ≡ Gives v → u ≡ v
 one_value r u v e f = let both = sym e ∙ f in cc
@@ -304,3 +464,152 @@ not_either laws source input depth h k =
     let both = together laws source (λ p names. MeansNone p names depth input Deep) (λ p names. MeansNone p names depth input Trap)
     (of_none source input depth Deep h) (of_none source input depth Trap k) in
     two_reasons (one_meaning laws both.0 both.1 depth input Deep Trap both.2 both.3)
+
+-- ---- A run without a packed file of its result
+
+no_pack : (name : List ℕ) → None ≡ Some name → ⊥
+no_pack name e = some_or_none name (sym e)
+
+module _ (words : List (List ℕ)) (before : ShelfView) (out : SinkView) (source input : List ℕ) (options : Options) (front : List ℕ) (r : IsRun words before out source input options front) where
+  abbrev bare : AnyRun words before out source input options front
+  bare = record { program = r.program; packed = r.packed; image = r.image; pack = None; asks = r.asks; source_is = r.source_is; input_is = r.input_is; front_is = r.front_is }
+
+  bare_packs : {X : Type 0} → options.packs ≡ true → X
+  bare_packs on = absurd (true≢false (sym on ∙ packs_agrees words (any_plan r.program r.packed r.image None options) r.asks refl))
+
+  bare_quiet : (now : ShelfView) (out_now : SinkView) → NoneFailed r.program r.packed r.image before now out out_now → NoFault r.program r.packed r.image None before now out out_now
+  bare_quiet now out_now q = record { program_read = q.program_read; packed_read = q.packed_read; image_written = q.image_written; packed_written = λ name e h. no_pack name e; put = q.put }
+
+pub run_done : (tells : Bool) (words : List (List ℕ)) (before now : ShelfView) (out out_now : SinkView) (source input : List ℕ) (options : Options) (front said : List ℕ) → IsRun words before out source input options front → IsEnding tells words before now out out_now status.Done said → (output : List ℕ) × IsResult source input options.depth output × (out_now.taken ≡ Some (front ++ output))
+run_done tells words before now out out_now source input options front said r h = any_done tells words before now out out_now source input options front said (bare words before out source input options front r) h
+
+pub run_image : (tells : Bool) (words : List (List ℕ)) (before now : ShelfView) (out out_now : SinkView) (source input : List ℕ) (options : Options) (front said name : List ℕ) → (r : IsRun words before out source input options front) → r.image ≡ Some name → IsEnding tells words before now out out_now status.Done said →
+    (bytes : List ℕ) × (now.kept name ≡ told tells bytes) × IsResultImage source input options.skips options.depth options.chunks bytes
+run_image tells words before now out out_now source input options front said name r named h = any_image tells words before now out out_now source input options front said name (bare words before out source input options front r) named (no_pack name) h
+
+pub run_deep : (tells : Bool) (words : List (List ℕ)) (before now : ShelfView) (out out_now : SinkView) (source input : List ℕ) (options : Options) (front said : List ℕ) → IsRun words before out source input options front → IsEnding tells words before now out out_now status.Depth said → IsTooDeep source input options.depth
+run_deep tells words before now out out_now source input options front said r h = any_deep tells words before now out out_now source input options front said (bare words before out source input options front r) h
+
+pub run_trapped : (tells : Bool) (words : List (List ℕ)) (before now : ShelfView) (out out_now : SinkView) (source input : List ℕ) (options : Options) (front said : List ℕ) → IsRun words before out source input options front → IsEnding tells words before now out out_now status.Trap said → DividesByZero source input options.depth
+run_trapped tells words before now out out_now source input options front said r h = any_trapped tells words before now out out_now source input options front said (bare words before out source input options front r) h
+
+pub run_full : (tells : Bool) (words : List (List ℕ)) (before now : ShelfView) (out out_now : SinkView) (source input : List ℕ) (options : Options) (front said : List ℕ) → IsRun words before out source input options front → IsEnding tells words before now out out_now status.Full said → IsTooBig source input options.skips options.depth (run_forks options) options.chunks
+run_full tells words before now out out_now source input options front said r h = any_full tells words before now out out_now source input options front said (bare words before out source input options front r) h
+
+pub run_ends_done : Laws → (tells : Bool) (words : List (List ℕ)) (before now : ShelfView) (out out_now : SinkView) (source input : List ℕ) (options : Options) (front output said : List ℕ) (end' : Status) →
+    (r : IsRun words before out source input options front) → NoneFailed r.program r.packed r.image before now out out_now → IsResult source input options.depth output → IsEnding tells words before now out out_now end' said → (end' ≡ status.Done) ⊎ (end' ≡ status.Memory) ⊎ (end' ≡ status.Full)
+run_ends_done laws tells words before now out out_now source input options front output said end' r quiet h ends =
+    any_ends_done laws tells words before now out out_now source input options front output said end' (bare words before out source input options front r) (bare_quiet words before out source input options front r now out_now quiet) h
+    (λ on. bare_packs words before out source input options front r on) ends
+
+pub run_ends_deep : Laws → (tells : Bool) (words : List (List ℕ)) (before now : ShelfView) (out out_now : SinkView) (source input : List ℕ) (options : Options) (front said : List ℕ) (end' : Status) →
+    (r : IsRun words before out source input options front) → NoneFailed r.program r.packed r.image before now out out_now → IsTooDeep source input options.depth → IsEnding tells words before now out out_now end' said → (end' ≡ status.Depth) ⊎ (end' ≡ status.Memory) ⊎ (end' ≡ status.Full)
+run_ends_deep laws tells words before now out out_now source input options front said end' r quiet h ends =
+    any_ends_deep laws tells words before now out out_now source input options front said end' (bare words before out source input options front r) (bare_quiet words before out source input options front r now out_now quiet) h ends
+
+pub run_ends_trapped : Laws → (tells : Bool) (words : List (List ℕ)) (before now : ShelfView) (out out_now : SinkView) (source input : List ℕ) (options : Options) (front said : List ℕ) (end' : Status) →
+    (r : IsRun words before out source input options front) → NoneFailed r.program r.packed r.image before now out out_now → DividesByZero source input options.depth → IsEnding tells words before now out out_now end' said → (end' ≡ status.Trap) ⊎ (end' ≡ status.Memory) ⊎ (end' ≡ status.Full)
+run_ends_trapped laws tells words before now out out_now source input options front said end' r quiet h ends =
+    any_ends_trapped laws tells words before now out out_now source input options front said end' (bare words before out source input options front r) (bare_quiet words before out source input options front r now out_now quiet) h ends
+
+pub run_fits : Laws → (tells : Bool) (words : List (List ℕ)) (before now : ShelfView) (out out_now : SinkView) (source input : List ℕ) (options : Options) (front said : List ℕ) (end' : Status) →
+    (r : IsRun words before out source input options front) → NoneFailed r.program r.packed r.image before now out out_now → Given source input → (IsTooBig source input options.skips options.depth (run_forks options) options.chunks → ⊥) → IsEnding tells words before now out out_now end' said →
+    (end' ≡ status.Done) ⊎ (end' ≡ status.Depth) ⊎ (end' ≡ status.Trap) ⊎ (end' ≡ status.Memory)
+run_fits laws tells words before now out out_now source input options front said end' r quiet g fits ends =
+    elim (any_fits laws tells words before now out out_now source input options front said end' (bare words before out source input options front r) (bare_quiet words before out source input options front r now out_now quiet) g fits ends) [
+      | inl e ↦ inl e
+      | inr (inl e) ↦ inr (inl e)
+      | inr (inr (inl e)) ↦ inr (inr (inl e))
+      | inr (inr (inr (inl e))) ↦ inr (inr (inr e))
+      | inr (inr (inr (inr e))) ↦ bare_packs words before out source input options front r e.1
+    ]
+
+-- ---- A run with one
+
+same_name : (a b : List ℕ) → Some a ≡ Some b → a ≡ b
+same_name a b e = cc
+
+module _ (words : List (List ℕ)) (before : ShelfView) (out : SinkView) (source input : List ℕ) (options : Options) (front : List ℕ) (r : IsPackingRun words before out source input options front) where
+  abbrev with_pack : AnyRun words before out source input options front
+  with_pack = record { program = r.program; packed = r.packed; image = r.image; pack = Some r.pack; asks = r.asks; source_is = r.source_is; input_is = r.input_is; front_is = r.front_is }
+
+  pack_on : options.packs ≡ true
+  pack_on = packs_agrees words (any_plan r.program r.packed r.image (Some r.pack) options) r.asks refl
+
+  pack_quiet : (now : ShelfView) (out_now : SinkView) → NoWriteFailed r.program r.packed r.image r.pack before now out out_now → NoFault r.program r.packed r.image (Some r.pack) before now out out_now
+  pack_quiet now out_now q = record {
+    program_read = q.others.program_read;
+    packed_read = q.others.packed_read;
+    image_written = q.others.image_written;
+    packed_written = λ name e h. q.packed_written (subst (λ (n : List ℕ). Rose (before.writes n) (now.writes n)) (sym (same_name r.pack name e)) h);
+    put = q.others.put;
+  }
+
+pub pack_done : (tells : Bool) (words : List (List ℕ)) (before now : ShelfView) (out out_now : SinkView) (source input : List ℕ) (options : Options) (front said : List ℕ) → IsPackingRun words before out source input options front → IsEnding tells words before now out out_now status.Done said → (output : List ℕ) × IsResult source input options.depth output × (out_now.taken ≡ Some (front ++ output))
+pack_done tells words before now out out_now source input options front said r h = any_done tells words before now out out_now source input options front said (with_pack words before out source input options front r) h
+
+pub pack_packed : (tells : Bool) (words : List (List ℕ)) (before now : ShelfView) (out out_now : SinkView) (source input : List ℕ) (options : Options) (front said : List ℕ) → (r : IsPackingRun words before out source input options front) → IsEnding tells words before now out out_now status.Done said → (bytes : List ℕ) × (now.kept r.pack ≡ told tells bytes) × IsResultFile source input options.depth bytes
+pack_packed tells words before now out out_now source input options front said r h = any_packed tells words before now out out_now source input options front said r.pack (with_pack words before out source input options front r) refl h
+
+pub pack_image : (tells : Bool) (words : List (List ℕ)) (before now : ShelfView) (out out_now : SinkView) (source input : List ℕ) (options : Options) (front said name : List ℕ) → (r : IsPackingRun words before out source input options front) → r.image ≡ Some name → (r.pack ≡ name → ⊥) → IsEnding tells words before now out out_now status.Done said →
+    (bytes : List ℕ) × (now.kept name ≡ told tells bytes) × IsResultImage source input options.skips options.depth options.chunks bytes
+pack_image tells words before now out out_now source input options front said name r named other h = any_image tells words before now out out_now source input options front said name (with_pack words before out source input options front r) named (λ e. other (same_name r.pack name e)) h
+
+pub pack_long : (tells : Bool) (words : List (List ℕ)) (before now : ShelfView) (out out_now : SinkView) (source input : List ℕ) (options : Options) (front said : List ℕ) → IsPackingRun words before out source input options front → IsEnding tells words before now out out_now status.Long said → HasLongFile source input options.depth
+pack_long tells words before now out out_now source input options front said r h = (any_long tells words before now out out_now source input options front said (with_pack words before out source input options front r) h).0
+
+pub pack_long_image : (tells : Bool) (words : List (List ℕ)) (before now : ShelfView) (out out_now : SinkView) (source input : List ℕ) (options : Options) (front said name : List ℕ) → (r : IsPackingRun words before out source input options front) → r.image ≡ Some name → IsEnding tells words before now out out_now status.Long said →
+    (bytes : List ℕ) × (now.kept name ≡ told tells bytes) × IsResultImage source input options.skips options.depth options.chunks bytes
+pack_long_image tells words before now out out_now source input options front said name r named h = any_long_image tells words before now out out_now source input options front said name (with_pack words before out source input options front r) named h
+
+pub pack_unwritten : (tells : Bool) (words : List (List ℕ)) (before now : ShelfView) (out out_now : SinkView) (source input : List ℕ) (options : Options) (front said name : List ℕ) → (r : IsPackingRun words before out source input options front) → (r.image ≡ Some name → ⊥) → IsEnding tells words before now out out_now status.Long said → now.kept name ≡ before.kept name
+pack_unwritten tells words before now out out_now source input options front said name r other h = (any_long tells words before now out out_now source input options front said (with_pack words before out source input options front r) h).2 name other
+
+pub pack_deep : (tells : Bool) (words : List (List ℕ)) (before now : ShelfView) (out out_now : SinkView) (source input : List ℕ) (options : Options) (front said : List ℕ) → IsPackingRun words before out source input options front → IsEnding tells words before now out out_now status.Depth said → IsTooDeep source input options.depth
+pack_deep tells words before now out out_now source input options front said r h = any_deep tells words before now out out_now source input options front said (with_pack words before out source input options front r) h
+
+pub pack_trapped : (tells : Bool) (words : List (List ℕ)) (before now : ShelfView) (out out_now : SinkView) (source input : List ℕ) (options : Options) (front said : List ℕ) → IsPackingRun words before out source input options front → IsEnding tells words before now out out_now status.Trap said → DividesByZero source input options.depth
+pack_trapped tells words before now out out_now source input options front said r h = any_trapped tells words before now out out_now source input options front said (with_pack words before out source input options front r) h
+
+pub pack_full : (tells : Bool) (words : List (List ℕ)) (before now : ShelfView) (out out_now : SinkView) (source input : List ℕ) (options : Options) (front said : List ℕ) → IsPackingRun words before out source input options front → IsEnding tells words before now out out_now status.Full said → IsTooBig source input options.skips options.depth (run_forks options) options.chunks
+pack_full tells words before now out out_now source input options front said r h = any_full tells words before now out out_now source input options front said (with_pack words before out source input options front r) h
+
+-- The text of the value that a packed file is of.
+pub file_text : (source input : List ℕ) (depth : ℕ) (bytes : List ℕ) → IsResultFile source input depth bytes → (output : List ℕ) × IsResult source input depth output
+file_text source input depth bytes h = (text_line h.given.program h.given.lexed.names h.result, record { given = h.given; result = h.result; means = h.means; is_text = refl })
+
+pub long_text : (source input : List ℕ) (depth : ℕ) → HasLongFile source input depth → (output : List ℕ) × IsResult source input depth output
+long_text source input depth h = (text_line h.given.program h.given.lexed.names h.result, record { given = h.given; result = h.result; means = h.means; is_text = refl })
+
+pub pack_ends_done : Laws → (tells : Bool) (words : List (List ℕ)) (before now : ShelfView) (out out_now : SinkView) (source input : List ℕ) (options : Options) (front bytes said : List ℕ) (end' : Status) →
+    (r : IsPackingRun words before out source input options front) → NoWriteFailed r.program r.packed r.image r.pack before now out out_now → IsResultFile source input options.depth bytes → IsEnding tells words before now out out_now end' said → (end' ≡ status.Done) ⊎ (end' ≡ status.Memory) ⊎ (end' ≡ status.Full)
+pack_ends_done laws tells words before now out out_now source input options front bytes said end' r quiet h ends =
+    let shown = file_text source input options.depth bytes h in
+    any_ends_done laws tells words before now out out_now source input options front shown.0 said end' (with_pack words before out source input options front r) (pack_quiet words before out source input options front r now out_now quiet) shown.1 (λ on. (bytes, h)) ends
+
+pub pack_ends_long : Laws → (tells : Bool) (words : List (List ℕ)) (before now : ShelfView) (out out_now : SinkView) (source input : List ℕ) (options : Options) (front said : List ℕ) (end' : Status) →
+    (r : IsPackingRun words before out source input options front) → NoWriteFailed r.program r.packed r.image r.pack before now out out_now → HasLongFile source input options.depth → IsEnding tells words before now out out_now end' said → (end' ≡ status.Long) ⊎ (end' ≡ status.Memory) ⊎ (end' ≡ status.Full)
+pack_ends_long laws tells words before now out out_now source input options front said end' r quiet h ends =
+    any_ends_long laws tells words before now out out_now source input options front said end' (with_pack words before out source input options front r) (pack_quiet words before out source input options front r now out_now quiet) h (pack_on words before out source input options front r) ends
+
+pub pack_ends_deep : Laws → (tells : Bool) (words : List (List ℕ)) (before now : ShelfView) (out out_now : SinkView) (source input : List ℕ) (options : Options) (front said : List ℕ) (end' : Status) →
+    (r : IsPackingRun words before out source input options front) → NoWriteFailed r.program r.packed r.image r.pack before now out out_now → IsTooDeep source input options.depth → IsEnding tells words before now out out_now end' said → (end' ≡ status.Depth) ⊎ (end' ≡ status.Memory) ⊎ (end' ≡ status.Full)
+pack_ends_deep laws tells words before now out out_now source input options front said end' r quiet h ends =
+    any_ends_deep laws tells words before now out out_now source input options front said end' (with_pack words before out source input options front r) (pack_quiet words before out source input options front r now out_now quiet) h ends
+
+pub pack_ends_trapped : Laws → (tells : Bool) (words : List (List ℕ)) (before now : ShelfView) (out out_now : SinkView) (source input : List ℕ) (options : Options) (front said : List ℕ) (end' : Status) →
+    (r : IsPackingRun words before out source input options front) → NoWriteFailed r.program r.packed r.image r.pack before now out out_now → DividesByZero source input options.depth → IsEnding tells words before now out out_now end' said → (end' ≡ status.Trap) ⊎ (end' ≡ status.Memory) ⊎ (end' ≡ status.Full)
+pack_ends_trapped laws tells words before now out out_now source input options front said end' r quiet h ends =
+    any_ends_trapped laws tells words before now out out_now source input options front said end' (with_pack words before out source input options front r) (pack_quiet words before out source input options front r now out_now quiet) h ends
+
+pub pack_fits : Laws → (tells : Bool) (words : List (List ℕ)) (before now : ShelfView) (out out_now : SinkView) (source input : List ℕ) (options : Options) (front said : List ℕ) (end' : Status) →
+    (r : IsPackingRun words before out source input options front) → NoWriteFailed r.program r.packed r.image r.pack before now out out_now → Given source input → (IsTooBig source input options.skips options.depth (run_forks options) options.chunks → ⊥) → IsEnding tells words before now out out_now end' said →
+    (end' ≡ status.Done) ⊎ (end' ≡ status.Depth) ⊎ (end' ≡ status.Trap) ⊎ (end' ≡ status.Memory) ⊎ (end' ≡ status.Long)
+pack_fits laws tells words before now out out_now source input options front said end' r quiet g fits ends =
+    elim (any_fits laws tells words before now out out_now source input options front said end' (with_pack words before out source input options front r) (pack_quiet words before out source input options front r now out_now quiet) g fits ends) [
+      | inl e ↦ inl e
+      | inr (inl e) ↦ inr (inl e)
+      | inr (inr (inl e)) ↦ inr (inr (inl e))
+      | inr (inr (inr (inl e))) ↦ inr (inr (inr (inl e)))
+      | inr (inr (inr (inr e))) ↦ inr (inr (inr (inr e.0)))
+    ]

@@ -4,7 +4,7 @@ use Rattle.gib_types.specs.declared.table.Ty.{Ty}
 use Rattle.gib_types.specs.Layout.{LaidOut}
 use Rattle.gib_types.specs.Tree.{Datum}
 use Rattle.std.specs.Int.{w64, to_le_bytes}
-use Rattle.gib_mem.specs.Memory.{Memory, Store, look_of, with_drawn, IsBounded}
+use Rattle.gib_mem.specs.Memory.{Memory, Store, look_of, IsBounded}
 use Rattle.gib_value.specs.Text.{AreHeld}
 use Rattle.gib_packed.specs.Stands.{Stands}
 use Rattle.gib_packed.specs.declared.root.Root.{Root}
@@ -34,10 +34,6 @@ WrittenIsRead = (laid : LaidOut) (m : Memory) (place : Root) (ty : Ty) (v : Datu
 pub image_stands : WrittenIsRead → (laid : LaidOut) (m : Memory) (place : Root) (bytes : List ℕ) → IsBounded m → m.drawn ≤ 65536 → bytes ≡ image_of m place
     → (ty : Ty) (v : Datum) → Stands laid m.cells place ty v → IsImageOf laid ty bytes v
 image_stands law laid m place bytes bounded few is ty v stands = subst (λ (l : List ℕ). IsImageOf laid ty l v) (sym is) (law laid m place ty v bounded few stands)
-
--- The chunks of a memory of one owner are counted, and all stays.
-pub counted : (a b : Memory) (n : ℕ) → b ≡ with_drawn a n → n ≡ a.drawn → b ≡ a
-counted a b n e f = e ∙ ap (with_drawn a) f
 
 pub file_shown : (laid : LaidOut) (m : Memory) (place : Root) (bytes : List ℕ) (ty : Ty) (v : Datum) → bytes ≡ image_of m place → IsImageOf laid ty bytes v → IsImageOf laid ty (image_of m place) v
 file_shown laid m place bytes ty v is h = subst (λ (l : List ℕ). IsImageOf laid ty l v) is h
@@ -73,7 +69,7 @@ image_few laid m place bytes bounded is ty v image =
     omega (arith, long, size, same, order)
 
 -- The image of the memory that a run leaves, where one is asked for.
-image_made : {names : List (List ℕ)} (b : Bool) (p : ProgramTree) (o : Options) (input : List ℕ) (laid : LaidOut) (m : Memory) (place : Root) (s : StandsMeant p names o.depth input laid m.cells place)
+pub image_made : {names : List (List ℕ)} (b : Bool) (p : ProgramTree) (o : Options) (input : List ℕ) (laid : LaidOut) (m : Memory) (place : Root) (s : StandsMeant p names o.depth input laid m.cells place)
     → IsBounded m → laid ≡ layouts_of o.skips p → m.limit ≡ o.chunks → (file : Option (List ℕ)) → IsImageFile b laid (output_type p) m place s.result file
     → MakesImage b p names o.skips o.depth o.chunks input file
 image_made false p o input laid m place s bounded same limit file h = h

@@ -120,6 +120,7 @@ unread_replays p names image input file (ends.Prints text) h = h
 unread_replays p names image input file (ends.Value value) h = h
 unread_replays p names image input file (ends.NoValue (reason.Meant why)) h = h
 unread_replays p names image input file (ends.NoValue reason.Full) h = h
+unread_replays p names image input file (ends.NoValue reason.Long) h = h
 
 -- ---- Why they leave nothing
 
@@ -127,6 +128,7 @@ nowhere_full : (l : LoweredParts) (v : Datum) (settings : Settings) (lines : Lis
     → OnlyFull ((n : ℕ) × StopsAt l.code (start_by (engine_of l) settings (loaded_by (engine_of l) settings v)) lines n event.Full) why → OnlyFull (LacksBy (engine_of l) v settings lines) why
 nowhere_full l v settings lines goes (reason.Meant why) h = h
 nowhere_full l v settings lines goes reason.Full h = inr (goes, h.0, h.1)
+nowhere_full l v settings lines goes reason.Long h = h
 
 -- The events lead a loaded value to no end.
 pub loaded_stops : (l : LoweredParts) (v : Datum) (settings : Settings) (lines : List Line) (m : Memory) (place : Root) (tails : List ℕ) (stop : Stop) → IsLoaded l settings.chunks v m place tails
@@ -205,6 +207,7 @@ module _ {names : List (List ℕ)} (one : OneValue) (p : ProgramTree) (input byt
   full : (why : Reason) → OnlyFull (LacksBy (engine_for p settings.skips) v settings lines) why → OnlyFull (OnJournal p names input bytes (LacksChunks p)) why
   full (reason.Meant why) h = h
   full reason.Full h = on (LacksChunks p) h
+  full reason.Long h = h
 
   ends_nowhere : (stop : Stop) → StopsTo (engine_for p settings.skips) v settings lines stop → IsNotReplayed p names input bytes stop
   ends_nowhere stop h = stops_with _ _ _ _ never full stop h

@@ -138,6 +138,7 @@ traced_stops {names} p o input s l of short packed file stop ends = stops_with _
   where
     fills : (why : Reason) → OnlyFull (Tight o.chunks (run_cost (core_of l.core) o.depth o.fork packed.0)) why → OnlyFull (FillsUp p names o.skips o.depth o.fork o.chunks input) why
     fills (reason.Meant other) h = h
+    fills reason.Long h = absurd h
     fills reason.Full h = record {
       value = packed.0;
       is_input = input_of p input s short file packed.0 packed.1;

@@ -28,6 +28,9 @@ mod Refusals
 mod InputLaws
 mod Writing
 mod FirstWriting
+mod JobWriting
+mod PackedRuns
+mod Remaining
 mod Staging
 mod Stopped
 mod Leading

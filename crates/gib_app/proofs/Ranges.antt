@@ -5,7 +5,7 @@ use Rattle.std.specs.List.{list_all}
 use Rattle.std.specs.Option.{option_map_or}
 use Rattle.std.specs.Str.{bytes_eq}
 use Rattle.std.specs.Str.Parse.{digits_value, without_leading_plus}
-use Rattle.std.proofs.lemmas.Bool.{le-leb}
+use Rattle.std.proofs.lemmas.Bool.{le-leb, leb-true}
 use Rattle.std.proofs.lemmas.Slice.Eq.{bytes_eq-Decides}
 use Rattle.clap.specs.Facts.{parser_of_value}
 use Rattle.clap.specs.Values.{read_as, reading_of}
@@ -26,7 +26,7 @@ use Rattle.gib_app.specs.declared.plan.Job.TheVariants.{Run, Plain, Check, Core,
 use Rattle.gib_app.specs.declared.plan.Options.{Options}
 use Rattle.gib_app.specs.Plan.{Document, Plan}
 use Rattle.gib_app.specs.Ranges.{AreInRange, AreOfRun, AreOfMade}
-use Rattle.gib_app.specs.Words.{Target, NoTarget, AtPlace, ByOption, Form, app_for, asked, asked_by_command, byte_of, byte_or, command_set, file_in, file_of, gen_app, made_plan, made_requested, number_in, number_or, options_of, planned, requested, target_in, usual, with_value, word_of}
+use Rattle.gib_app.specs.Words.{Target, NoTarget, AtPlace, ByOption, Form, app_for, asked, asked_by_command, byte_of, byte_or, command_set, file_in, file_of, gen_app, made_plan, made_requested, number_in, number_or, options_of, pack_in, planned, requested, target_in, usual, with_value, word_of}
 use Rattle.gib_app.specs.Words.{check_form, code_form, core_form, pack_form, plain_form, replay_form, run_form, show_form, trace_form}
 use Rattle.gib_app.proofs.Asking.{found_in}
 use Rattle.gib_app.proofs.Filling.{AllFilled, AllKnown, AllOf, Filled, Known, is_valued, level_filled}
@@ -133,11 +133,11 @@ module _ (s : Shape) (words : List Text) (is : AllOf (Known s.rules) s.rules) (p
 abbrev InRange : Plan → Type 0
 InRange plan = AreInRange plan.job plan.options
 
-planned_within : (job : Job) (second third : Option Text) (target : Target) (rows : List Row) → AreInRange job (options_of rows) → MatchOption (planned job second third target rows) ⊤ InRange
-planned_within job second third target rows h = go (file_of (codes "source") rows) (file_in second rows) (file_in third rows) (target_in target rows)
+planned_within : (job : Job) (second third : Option Text) (target : Target) (pack : Option Text) (rows : List Row) → AreInRange job (options_of rows) → MatchOption (planned job second third target pack rows) ⊤ InRange
+planned_within job second third target pack rows h = go (file_of (codes "source") rows) (file_in second rows) (file_in third rows) (target_in target rows)
   where
     go : (s : Option Document) (t w : Option (Option Document)) (u : Option (Option Text))
-        → MatchOption (with_value (with_value (with_value (option_map (λ s t w u. record { first = []; source = s; inputs = option_to_list t ++ option_to_list w; target = u; job = job; options = options_of rows }) s) t) w) u) ⊤ InRange
+        → MatchOption (with_value (with_value (with_value (option_map (λ s t w u. record { first = []; source = s; inputs = option_to_list t ++ option_to_list w; target = u; pack = pack_in pack rows; job = job; options = options_of rows }) s) t) w) u) ⊤ InRange
     go None t w u = tt
     go (Some s) None w u = tt
     go (Some s) (Some t) None u = tt
@@ -167,46 +167,46 @@ built_gen = built_leaf (inherited (with_leaf_noted (marked_built command_set.top
 run_keeps : Keeps (built_form run_form)
 unfolding clap_on_literals
 run_keeps words passes =
-    planned_within Run (Some (codes "input")) None (ByOption (codes "image")) (rows_after (built_form run_form).rules [] words)
-    (run_within (built_form run_form) words ((refl, refl), ((refl, refl), ((refl, refl), ((refl, refl), ((refl, refl), ((refl, refl), ((refl, refl), ((refl, refl), tt)))))))) passes (_, refl, refl, refl) (_, refl, refl, refl) (_, refl, refl, refl) (_, refl, refl, refl))
+    planned_within Run (Some (codes "input")) None (ByOption (codes "image")) (Some (codes "pack")) (rows_after (built_form run_form).rules [] words)
+    (run_within (built_form run_form) words ((refl, refl), ((refl, refl), ((refl, refl), ((refl, refl), ((refl, refl), ((refl, refl), ((refl, refl), ((refl, refl), ((refl, refl), tt))))))))) passes (_, refl, refl, refl) (_, refl, refl, refl) (_, refl, refl, refl) (_, refl, refl, refl))
 
 plain_keeps : Keeps (built_form plain_form)
 unfolding clap_on_literals
 plain_keeps words passes =
-    planned_within Plain (Some (codes "input")) None NoTarget (rows_after (built_form plain_form).rules [] words)
+    planned_within Plain (Some (codes "input")) None NoTarget None (rows_after (built_form plain_form).rules [] words)
     (number_within (built_form plain_form) words ((refl, refl), ((refl, refl), ((refl, refl), tt))) passes (codes "depth") 1 1000000 10000 (_, refl, refl, refl) (omega arith, omega arith))
 
 check_keeps : Keeps (built_form check_form)
 unfolding clap_on_literals
-check_keeps words passes = planned_within Check None None NoTarget (rows_after (built_form check_form).rules [] words) tt
+check_keeps words passes = planned_within Check None None NoTarget None (rows_after (built_form check_form).rules [] words) tt
 
 core_keeps : Keeps (built_form core_form)
 unfolding clap_on_literals
 core_keeps words passes =
-    planned_within Core None None NoTarget (rows_after (built_form core_form).rules [] words)
+    planned_within Core None None NoTarget None (rows_after (built_form core_form).rules [] words)
     (number_within (built_form core_form) words ((refl, refl), ((refl, refl), ((refl, refl), tt))) passes (codes "pass") 1 4 4 (_, refl, refl, refl) (omega arith, omega arith))
 
 code_keeps : Keeps (built_form code_form)
 unfolding clap_on_literals
-code_keeps words passes = planned_within Code None None NoTarget (rows_after (built_form code_form).rules [] words) tt
+code_keeps words passes = planned_within Code None None NoTarget None (rows_after (built_form code_form).rules [] words) tt
 
 pack_keeps : Keeps (built_form pack_form)
 unfolding clap_on_literals
-pack_keeps words passes = planned_within Pack (Some (codes "text")) None (AtPlace (codes "target")) (rows_after (built_form pack_form).rules [] words) tt
+pack_keeps words passes = planned_within Pack (Some (codes "text")) None (AtPlace (codes "target")) None (rows_after (built_form pack_form).rules [] words) tt
 
 show_keeps : Keeps (built_form show_form)
 unfolding clap_on_literals
-show_keeps words passes = planned_within Show (Some (codes "file")) None NoTarget (rows_after (built_form show_form).rules [] words) tt
+show_keeps words passes = planned_within Show (Some (codes "file")) None NoTarget None (rows_after (built_form show_form).rules [] words) tt
 
 trace_keeps : Keeps (built_form trace_form)
 unfolding clap_on_literals
 trace_keeps words passes =
-    planned_within Trace (Some (codes "input")) None (AtPlace (codes "journal")) (rows_after (built_form trace_form).rules [] words)
+    planned_within Trace (Some (codes "input")) None (AtPlace (codes "journal")) None (rows_after (built_form trace_form).rules [] words)
     (run_within (built_form trace_form) words ((refl, refl), ((refl, refl), ((refl, refl), ((refl, refl), ((refl, refl), ((refl, refl), ((refl, refl), ((refl, refl), tt)))))))) passes (_, refl, refl, refl) (_, refl, refl, refl) (_, refl, refl, refl) (_, refl, refl, refl))
 
 replay_keeps : Keeps (built_form replay_form)
 unfolding clap_on_literals
-replay_keeps words passes = planned_within Replay (Some (codes "input")) (Some (codes "journal")) (ByOption (codes "image")) (rows_after (built_form replay_form).rules [] words) tt
+replay_keeps words passes = planned_within Replay (Some (codes "input")) (Some (codes "journal")) (ByOption (codes "image")) None (rows_after (built_form replay_form).rules [] words) tt
 
 gen_known : AllOf (Known built_gen.rules) built_gen.rules
 unfolding clap_on_literals
@@ -264,8 +264,19 @@ asked_within (program ∷ word ∷ further) = command_within (program ∷ word �
 pub in_range : (words : List (List ℕ)) (plan : Plan) → asked words ≡ Some plan → AreInRange plan.job plan.options
 in_range words plan e = let Q : Option Plan → Type 0 = λ x. MatchOption x ⊤ InRange in subst Q e (asked_within words)
 
+-- A run by workers has settings.
+pub run_settings : (o : Options) → AreOfRun o → are_settings o.depth o.chunks o.fork ≡ true
+run_settings o run = rw (le-leb _ _ run.depth_least, le-leb _ _ run.depth_most, le-leb _ _ run.chunks_least, le-leb _ _ run.chunks_most, le-leb _ _ run.fork_most) refl
+
+-- The settings of a journal have no more chunks than an image may have.
+pub few_chunks : (depth chunks fork : ℕ) → are_settings depth chunks fork ≡ true → chunks ≤ 65536
+few_chunks depth chunks fork e =
+    let rest = (both (nat_le 1 depth) _ e).1 in
+    let more = (both (nat_le depth 1000000) _ rest).1 in
+    let last = (both (nat_le 16 chunks) _ more).1 in
+    leb-true _ _ (both (nat_le chunks 65536) _ last).0
+
 pub have_settings : (words : List (List ℕ)) (plan : Plan) → asked words ≡ Some plan → plan.job ≡ Trace → are_settings plan.options.depth plan.options.chunks plan.options.fork ≡ true
 have_settings words plan e is =
     let J : Job → Type 0 = λ job. AreInRange job plan.options in
-    let run : AreOfRun plan.options = subst J is (in_range words plan e) in
-    rw (le-leb _ _ run.depth_least, le-leb _ _ run.depth_most, le-leb _ _ run.chunks_least, le-leb _ _ run.chunks_most, le-leb _ _ run.fork_most) refl
+    run_settings plan.options (subst J is (in_range words plan e))

@@ -47,12 +47,15 @@ told_is false bytes journal held e f = let both = sym e ∙ f in cc
 
 -- a trace that ends makes the journal, which is what stands there
 left_by : (tells : Bool) (before left : Files) (name journal : List ℕ) (o : Options) (p : ProgramTree) (names : List (List ℕ)) (given : Contents) (file : Option (List ℕ)) (e : End) → left name ≡ Has journal →
-    AreMade tells before left (writes_of file (Some name)) → (file ≡ None → ⊥) → Does Trace o p names given file e → Does Trace o p names given (Some journal) e
+    AreMade tells before left (writes_of file (Some name) ++ []) → (file ≡ None → ⊥) → Does Trace o p names given file e → Does Trace o p names given (Some journal) e
 left_by tells before left name journal o p names given None e is made stored h = absurd (stored refl)
 left_by tells before left name journal o p names given (Some bytes) e is made stored h =
     let same = told_is tells bytes journal (left name) (written_here tells before left name bytes made) is in
     let F : List ℕ → Type 0 = λ x. Does Trace o p names given (Some x) e in
     subst F same h
+
+no_pack : (file : List ℕ) → None ≡ Some file → ⊥
+no_pack file e = cc
 
 is_stored : (name : List ℕ) (file : Option (List ℕ)) → IsStored (Some name) file → file ≡ None → ⊥
 is_stored name None h e = h
@@ -107,6 +110,10 @@ module _ (laws : Laws) (tells : Bool) (words again : List (List ℕ)) (before le
     holds = on;
   }
 
+  -- it wrote the journal alone
+  one_written : (name : List ℕ) (file packed : Option (List ℕ)) → packed ≡ None → AreMade tells before.kept left.kept (writes_of file (Some name) ++ writes_of packed None) → AreMade tells before.kept left.kept (writes_of file (Some name) ++ [])
+  one_written name file packed none made = let P : Option (List ℕ) → Type 0 = λ q. AreMade tells before.kept left.kept (writes_of file (Some name) ++ writes_of q None) in subst P none made
+
   -- what the first call made
   abbrev Traced : List ℕ → ProgramTree → List (List ℕ) → Type 0
   Traced text p names = Does Trace r.options p names given (Some r.journal) (Prints text)
@@ -125,12 +132,12 @@ module _ (laws : Laws) (tells : Bool) (words again : List (List ℕ)) (before le
           lexed = on.lexed;
           program = on.program;
           is_program = on.is_program;
-          holds = left_by tells before.kept left.kept r.name r.journal r.options on.program on.lexed.names given made.ended.file (Prints text) r.journal_left made.ended.written (is_stored r.name made.ended.file made.stored) made.ended.does;
+          holds = left_by tells before.kept left.kept r.name r.journal r.options on.program on.lexed.names given made.ended.file (Prints text) r.journal_left (one_written r.name made.ended.file made.ended.packed made.ended.packs made.ended.written) (is_stored r.name made.ended.file made.stored) made.ended.does;
         },
       )
 
   again_printed : (text : List ℕ) (p : ProgramTree) (names : List (List ℕ)) → Traced text p names → HasText second p names given_again
-  again_printed text p names h = (None, text, replays_again laws.filed p names r.options r.others given r.journal (Prints text) r.short h)
+  again_printed text p names h = (None, text, replays_again laws.filed p names r.options r.others given r.journal (Prints text) r.short h, (None, refl))
 
   -- what the second call put, where it ends well
   put_again : (said : List ℕ) (text front_later : List ℕ) → OnProgram r.source (Traced text) → out_later.taken ≡ Some front_later → IsEnding tells again later now out_later out_now status.Done said → out_now.taken ≡ Some (front_later ++ text)
@@ -153,7 +160,7 @@ module _ (laws : Laws) (tells : Bool) (words again : List (List ℕ)) (before le
       let one = traced said h in
       let text = one.0 in
       let due = due_of quiet (HasText second) (map_program r.source (Traced text) (λ p names. HasText second p names given_again) (again_printed text) one.2) in
-      let takes : TakesAll later now out_later out_now second = record { target = quiet.image_written; out = quiet.put } in
+      let takes : TakesAll later now out_later out_now second = record { target = quiet.image_written; pack = λ file named. absurd (no_pack file named); out = quiet.put } in
       let is = ends_as_due laws tells again later now out_later out_now end' said_later k status.Done (asked_of (asked again) second (DueAll tells later now out_later out_now) r.replays (due, takes)) in
       let E : Status → Type 0 = λ s. IsEnding tells again later now out_later out_now s said_later in
       elim (due_alone again r.program r.packed r.name r.image r.others r.replays status.Done end' is) [
@@ -174,7 +181,7 @@ module _ (laws : Laws) (tells : Bool) (words again : List (List ℕ)) (before le
         lexed = on.lexed;
         program = on.program;
         is_program = on.is_program;
-        holds = left_by tells before.kept left.kept r.name r.journal r.options on.program on.lexed.names given ended.file (NoValue (Meant x)) r.journal_left ended.written (makes_some r.options on.program on.lexed.names given x ended.file ended.does) ended.does;
+        holds = left_by tells before.kept left.kept r.name r.journal r.options on.program on.lexed.names given ended.file (NoValue (Meant x)) r.journal_left (one_written r.name ended.file ended.packed ended.packs ended.written) (makes_some r.options on.program on.lexed.names given x ended.file ended.does) ended.does;
       }
 
   again_valueless : NoneFails r.program r.packed r.name r.image later now out_later out_now → (x : Why) (p : ProgramTree) (names : List (List ℕ)) → Valueless x p names → DueWithout later now (Meant x) second p names given_again

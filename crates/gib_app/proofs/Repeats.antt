@@ -15,7 +15,7 @@ use Rattle.gib_weave.specs.Sound.{IsAnswer, means_why}
 use Rattle.gib_syntax.specs.Tree.{ProgramTree}
 use Rattle.gib_syntax.specs.Declarations.{table_of_program, input_type, output_type}
 use Rattle.gib_syntax.specs.Meaning.{Outcome, Gives, Stops, run}
-use Rattle.gib_app.specs.declared.made.Reason.TheVariants.{Meant, Full}
+use Rattle.gib_app.specs.declared.made.Reason.TheVariants.{Meant, Full, Long}
 use Rattle.gib_app.specs.declared.plan.Job.TheVariants.{Replay, Trace}
 use Rattle.gib_app.specs.declared.plan.Options.{Options}
 use Rattle.gib_app.specs.Cores.{layouts_of}
@@ -101,6 +101,7 @@ module _ (one : OneValue) (p : ProgramTree) (names : List (List ℕ)) where
   replays_again o a given bytes (Prints text) short h = shown_again one p names o given.second bytes short h.0 text h.1
   replays_again o a given bytes (NoValue (Meant why)) short h = (refl, stopped_again one p names o given.second bytes short h.0 why h.1)
   replays_again o a given bytes (NoValue Full) short h = absurd (some_or_none bytes h.0)
+  replays_again o a given bytes (NoValue Long) short h = absurd h
 
   -- and to no other one
   one_end : (o a : Options) (given : Contents) (file other : Option (List ℕ)) (e f : End) → Does Replay o p names given file e → Does Replay a p names given other f → e ≡ f
@@ -118,6 +119,10 @@ module _ (one : OneValue) (p : ProgramTree) (names : List (List ℕ)) where
   one_end o a given file other (NoValue Full) (Prints y) h k = absurd (shown_or_full one p names given.second (journal_in given) a.image other y k h.1)
   one_end o a given file other (NoValue Full) (NoValue (Meant why)) h k = absurd (valueless_or_full one p names given.second (journal_in given) why k.1 h.1)
   one_end o a given file other (NoValue Full) (NoValue Full) h k = refl
+  one_end o a given file other (Prints x) (NoValue Long) h k = absurd k
+  one_end o a given file other (NoValue (Meant why)) (NoValue Long) h k = absurd k
+  one_end o a given file other (NoValue Full) (NoValue Long) h k = absurd k
+  one_end o a given file other (NoValue Long) e h k = absurd h
 
   pub same_end : (o a : Options) (given : Contents) (bytes : List ℕ) (file : Option (List ℕ)) (e f : End) → length bytes ≤ 16777216 → Does Trace o p names given (Some bytes) e →
       Does Replay a p names (record { second = given.second; further = bytes ∷ [] }) file f → e ≡ f

@@ -181,6 +181,7 @@ lacks_meant p skips depth forks chunks input v l of is reason.Full h = record {
   is_input = is;
   tight = subst (λ (c : CoreTree). Tight chunks (run_cost c depth forks v)) of.core h;
 }
+lacks_meant p skips depth forks chunks input v l of is reason.Long h = h
 
 pub stop_meant : {names : List (List ℕ)} (p : ProgramTree) (skips : Bool) (depth forks chunks : ℕ) (input : List ℕ) (v : Datum) (l : LoweredParts) → IsOfProgram p skips l → IsInput p names v input → (why : Stop)
     → Halts (core_run (core_of l.core) depth v) chunks (run_cost (core_of l.core) depth forks v) why → IsMachineStop p names skips depth forks chunks input why

@@ -1,5 +1,5 @@
 -- What names hold after writes.
-use Rattle.std.proofs.Common.{◌≡◌, ◌≢◌, ◌∙◌, refl, sym, subst, ap, ℕ, List, [], ◌∷◌, length, take, Bool, true, false, cond, Option, Some, None, bytes_eq, true≢false}
+use Rattle.std.proofs.Common.{◌≡◌, ◌≢◌, ◌∙◌, refl, sym, subst, ap, ℕ, List, [], ◌∷◌, length, take, Bool, true, false, cond, ◌++◌, Option, Some, None, bytes_eq, true≢false}
 use Rattle.std.proofs.lemmas.Slice.Eq.{bytes_eq-Decides}
 use Rattle.gib_edge.specs.Causes.{told}
 use Rattle.gib_edge.specs.Views.{Held}
@@ -30,6 +30,7 @@ stays_from tells first f g now status.ReadFault e h = made_from tells f g now fi
 stays_from tells first f g now status.WriteFault e h = h
 stays_from tells first f g now status.Input e h = made_from tells f g now first e h
 stays_from tells first f g now status.Trap e h = h
+stays_from tells first f g now status.Long e h = h
 
 pub take_all : {X : Type 0} (xs : List X) → take (length xs) xs ≡ xs
 take_all [] = refl
@@ -47,6 +48,7 @@ all_stay tells first before now status.ReadFault h = h
 all_stay tells first before now status.WriteFault h = tt
 all_stay tells first before now status.Input h = h
 all_stay tells first before now status.Trap h = tt
+all_stay tells first before now status.Long h = tt
 
 -- One write.
 
@@ -77,3 +79,11 @@ made_no_file tells kept now file target e h = let P : Option (List ℕ) → Type
 
 pub written_here : (tells : Bool) (kept now : Files) (name bytes : List ℕ) → AreMade tells kept now (record { name = name; bytes = bytes } ∷ []) → now name ≡ told tells bytes
 written_here tells kept now name bytes h = h name ∙ ap (λ (b : Bool). cond b (told tells bytes) (kept name)) ((bytes_eq-Decides name name).1 refl)
+
+-- The last of several writes stands.
+pub written_last : (tells : Bool) (kept now : Files) (writes : List Write) (name bytes : List ℕ) → AreMade tells kept now (writes ++ record { name = name; bytes = bytes } ∷ []) → now name ≡ told tells bytes
+written_last tells kept now writes name bytes h = h name ∙ go writes kept
+  where
+    go : (ws : List Write) (f : Files) → after tells f (ws ++ record { name = name; bytes = bytes } ∷ []) name ≡ told tells bytes
+    go [] f = ap (λ (b : Bool). cond b (told tells bytes) (f name)) ((bytes_eq-Decides name name).1 refl)
+    go (w ∷ ws) f = go ws (with_write tells f w)

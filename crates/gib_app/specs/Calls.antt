@@ -29,9 +29,13 @@ first_calls writes = map (λ write. WriteOf write.name) writes
 abbrev pub reads_of : Plan → List Call
 reads_of plan = read_calls plan.source 1048576 ++ input_calls (inputs_of plan)
 
--- All calls of a plan: the first writes, then the read of its source and those of its inputs, then the write of its file.
+-- The writes of what its job makes.
+abbrev pub job_calls : Plan → List Call
+job_calls plan = write_calls plan.target ++ write_calls plan.pack
+
+-- All calls of a plan: the first writes, then the read of its source and those of its inputs, then the writes of what its job makes.
 abbrev pub calls_of : Plan → List Call
-calls_of plan = first_calls plan.first ++ (reads_of plan ++ write_calls plan.target)
+calls_of plan = first_calls plan.first ++ (reads_of plan ++ job_calls plan)
 
 -- The calls that the words ask for.
 abbrev pub calls_asked : List (List ℕ) → List Call

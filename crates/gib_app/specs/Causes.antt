@@ -7,11 +7,11 @@ use Rattle.gib_types.specs.Tree.{Datum}
 use Rattle.gib_syntax.specs.Tree.{ProgramTree}
 use Rattle.gib_app.specs.declared.made.Reason.{Reason}
 use Rattle.gib_app.specs.Plan.{Document, BuiltIn, Named, Plan, Files, bytes_in, Contents}
-use Rattle.gib_app.specs.Writes.{at_reading, AreWritten, IsStuck, IsStuckIn}
+use Rattle.gib_app.specs.Writes.{at_reading, job_writes, AreWritten, IsStuckIn}
 use Rattle.gib_app.specs.Words.{asked}
 use Rattle.gib_app.specs.Running.{IsInput, IsProgram, IsSource}
 use Rattle.gib_app.specs.Formats.{Input, inputs_of}
-use Rattle.gib_app.specs.Jobs.{End, Prints, NoValue, Does}
+use Rattle.gib_app.specs.Jobs.{End, Prints, NoValue, Does, DoesPack, DoesAll}
 
 -- How often reads or writes of names have failed.
 abbrev pub Counts : Type 0
@@ -78,11 +78,13 @@ OnBoth kept plan P = OnFiles kept plan.source (inputs_of plan) (λ source given.
 abbrev pub AsksProgram : Bool → List (List ℕ) → Files → (Plan → ProgramTree → List (List ℕ) → Contents → Type 0) → Type 0
 AsksProgram tells words kept P = MatchOption (asked words) ⊥ (λ plan. OnBoth (at_reading tells kept plan) plan (P plan))
 
--- The job was done and ends so; the file that it made, if any, was written.
+-- The job was done and ends so; the file that it made, if any, was written, and then the packed file of its result, if it made one.
 pub record IsEnded (tells : Bool) (before now : Files) (plan : Plan) (p : ProgramTree) (names : List (List ℕ)) (given : Contents) (end : End) : Type 0 where
   pub file : Option (List ℕ)
+  pub packed : Option (List ℕ)
   pub does : Does plan.job plan.options p names given file end
-  pub written : AreWritten tells before now plan file
+  pub packs : DoesPack plan.job plan.options p names given packed end
+  pub written : AreWritten tells before now plan file packed
 
 -- Where there is a target, a file was made.
 abbrev pub IsStored : (target file : Option (List ℕ)) → Type 0
@@ -90,18 +92,15 @@ IsStored None file = Unit {0}
 IsStored (Some name) None = ⊥
 IsStored (Some name) (Some bytes) = Unit {0}
 
--- The job was done and ends with a text; the file that it made is written.
+-- The job was done and ends with a text; the files that it made are written, and each that is asked for is one of them.
 pub record IsMade (tells : Bool) (before now : Files) (plan : Plan) (p : ProgramTree) (names : List (List ℕ)) (given : Contents) (text : List ℕ) : Type 0 where
   pub ended : IsEnded tells before now plan p names given (Prints text)
   pub stored : IsStored plan.target ended.file
+  pub stored_packed : IsStored plan.pack ended.packed
 
 -- The job ends without a value, for this reason.
 abbrev pub HasNoValue : Reason → Plan → ProgramTree → List (List ℕ) → Contents → Type 0
 HasNoValue reason plan p names given = (file : Option (List ℕ)) × Does plan.job plan.options p names given file (NoValue reason)
-
--- The job makes a file.
-abbrev pub HasFile : Plan → ProgramTree → List (List ℕ) → Contents → Type 0
-HasFile plan p names given = (bytes : List ℕ) × (end : End) × Does plan.job plan.options p names given (Some bytes) end
 
 -- What the words ask for was made, and `out` took it, whole and nothing else, in pieces; what is to be written is written.
 abbrev pub IsPrinted : Bool → List (List ℕ) → ShelfView → ShelfView → SinkView → SinkView → Type 0
@@ -117,16 +116,19 @@ IsPrintedInPart tells words before now out_before out_now =
     (λ plan p names given. (text : List ℕ) × IsMade tells before.kept now.kept plan p names given text
     × AppendsPart out_before.taken out_now.taken text × PutsSomePieces out_before out_now (length text))
 
--- The job ends without a value, for this reason; the file that it made, if any, is written.
+-- The job ends without a value, for this reason; the file that it made, if any, is written, and no packed file of a result.
 abbrev pub EndsWithout : Bool → ShelfView → ShelfView → Reason → Plan → ProgramTree → List (List ℕ) → Contents → Type 0
 EndsWithout tells before now reason plan p names given = IsEnded tells before.kept now.kept plan p names given (NoValue reason)
 
--- The job makes a file that is to be written under this name, and that fails.
-abbrev pub IsUnwritten : Bool → ShelfView → ShelfView → Plan → ProgramTree → List (List ℕ) → Contents → List ℕ → Type 0
-IsUnwritten tells before now plan p names given name =
-    (plan.target ≡ Some name) × HasFile plan p names given × IsStuck (at_reading tells before.kept plan) before now name
+-- The job makes a file that is to be written under this name, or the packed file of its result, and that write fails.
+pub record IsUnwritten (tells : Bool) (before now : ShelfView) (plan : Plan) (p : ProgramTree) (names : List (List ℕ)) (given : Contents) (name : List ℕ) : Type 0 where
+  pub file : Option (List ℕ)
+  pub packed : Option (List ℕ)
+  pub ending : End
+  pub does : DoesAll plan.job plan.options p names given file packed ending
+  pub stuck : IsStuckIn tells (at_reading tells before.kept plan) (job_writes plan file packed) before now name
 
--- The file of this name could not be written: it is one of the first, or that of the job.
+-- The file of this name could not be written: it is one of the first, or one that the job made.
 abbrev pub FailsToWrite : Bool → ShelfView → ShelfView → Plan → List ℕ → Type 0
 FailsToWrite tells before now plan name =
     IsStuckIn tells before.kept plan.first before now name

@@ -1,10 +1,10 @@
--- The core of a program after each pass, and how its values lie in memory. Fields are reached by offsets that heads store; with
--- the flag `--skips`, each from the end of the field before it.
+-- The core of a program after each pass, and how its values lie in memory. A field is reached at the end of the field before it,
+-- where a call told that, and else by an offset that its head stores; with the flag `--skips`, each by a walk over the field before it.
 use Rattle.std.specs.Prelude.{ℕ, nat_lt, Bool, if◌then◌else◌}
 use Rattle.gib_types.specs.Layout.{LaidOut}
 use Rattle.gib_syntax.specs.Tree.{ProgramTree}
 use Rattle.gib_core.specs.declared.atom.AccessMode.{AccessMode}
-use Rattle.gib_core.specs.declared.atom.AccessMode.TheVariants.{Skips, Offsets}
+use Rattle.gib_core.specs.declared.atom.AccessMode.TheVariants.{Skips, Ends}
 use Rattle.gib_core.specs.Tree.{CoreTree}
 use Rattle.gib_core.specs.Inferring.{infer_program}
 use Rattle.gib_core.specs.Low.{laid_of}
@@ -14,7 +14,7 @@ use Rattle.gib_place.specs.Numbering.{place_core}
 
 -- How fields are reached, by whether the flag is given.
 abbrev pub mode_of : Bool → AccessMode
-mode_of skips = if skips then Skips else Offsets
+mode_of skips = if skips then Skips else Ends
 
 -- The core of a program whose values are built where they belong.
 abbrev pub placed_program : ProgramTree → CoreTree
@@ -33,6 +33,6 @@ core_after skips pass p =
     if nat_lt pass 4 then reached_program skips p else mark_core (reached_program skips p)
 
 -- How the heads of a program's values lie in region memory: as in the core that runs. A constructor stores offsets where an arm
--- of it uses a packed field but the first; with the flag none does.
+-- of it uses a packed field but the first whose place no end tells; with the flag none does.
 abbrev pub layouts_of : Bool → ProgramTree → LaidOut
 layouts_of skips p = laid_of (core_after skips 4 p)

@@ -11,7 +11,7 @@ use Rattle.gib_app.specs.declared.plan.Job.{Job}
 use Rattle.gib_app.specs.declared.plan.Job.TheVariants.{Run, Gen, Trace, Replay}
 use Rattle.gib_app.specs.declared.source_fault.SourceFault.{SourceFault}
 use Rattle.gib_app.specs.declared.status.Status.{Status}
-use Rattle.gib_app.specs.declared.status.Status.TheVariants.{Done, Source, Usage, Depth, Full, Memory, ReadFault, WriteFault, Input, Trap}
+use Rattle.gib_app.specs.declared.status.Status.TheVariants.{Done, Source, Usage, Depth, Full, Memory, ReadFault, WriteFault, Input, Trap, Long}
 use Rattle.gib_app.specs.declared.made.Reason.{Reason}
 use Rattle.gib_app.specs.declared.made.Reason.TheVariants as reason
 use Rattle.gib_app.specs.declared.made.Reason.TheVariants.{Meant}
@@ -23,8 +23,8 @@ use Rattle.gib_app.specs.SourceFaults.{IsSourceFault}
 use Rattle.gib_app.specs.Formats.{inputs_of, Accepts, Refuses}
 use Rattle.gib_app.specs.Formats.{Input as PlanInput}
 use Rattle.gib_app.specs.Lines.{line, source_text, input_text}
-use Rattle.gib_app.specs.Jobs.{Prints, NoValue, Does, without_image}
-use Rattle.gib_app.specs.Causes.{Counts, OnProgram, OnReached, EndsWithout, AsksSource, AsksProgram, IsPrinted, IsPrintedInPart, IsUnread, AreUnread, first_of, further_of, FailsToRead, FailsToWrite}
+use Rattle.gib_app.specs.Jobs.{End, Prints, NoValue, Does, DoesPack, DoesAll, without_image}
+use Rattle.gib_app.specs.Causes.{Counts, OnProgram, OnBoth, OnReached, EndsWithout, AsksSource, AsksProgram, IsPrinted, IsPrintedInPart, IsUnread, AreUnread, first_of, further_of, FailsToRead, FailsToWrite}
 
 -- A file that is to be written could not be, `out` was not asked, and the line names the file; or `out` took a front of what
 -- is printed, and its count rose.
@@ -37,7 +37,8 @@ IsWriteEnding tells words before now out_before out_now said =
 
 -- Why a call ends with a status, and the line that tells it: what is asked for was made, put and written; the source is no
 -- program, by this fault; the words are not taken; the meaning runs out of depth; chunks may run out; this file could not be read,
--- or not be written; the inputs are none that the job accepts, by this fault; the meaning is a division by 0. Want of memory is free.
+-- or not be written; the inputs are none that the job accepts, by this fault; the meaning is a division by 0; the packed file of the
+-- result would be too long. Want of memory is free.
 abbrev pub IsEnding : Bool → List (List ℕ) → ShelfView → ShelfView → SinkView → SinkView → Status → List ℕ → Type 0
 IsEnding tells words before now out_before out_now Done said = IsPrinted tells words before now out_before out_now × (said ≡ [])
 IsEnding tells words before now out_before out_now Source said =
@@ -55,6 +56,8 @@ IsEnding tells words before now out_before out_now Input said =
     (λ plan. OnReached (at_reading tells before.kept plan) plan (λ p names given. Refuses plan.job plan.options p names given fault × (Accepts plan.job plan.options p names given → ⊥)))
     × (said ≡ line (input_text fault))
 IsEnding tells words before now out_before out_now Trap said = AsksProgram tells words before.kept (EndsWithout tells before now (Meant why.Trap)) × (said ≡ line (codes "division by zero"))
+IsEnding tells words before now out_before out_now Long said =
+    AsksProgram tells words before.kept (EndsWithout tells before now reason.Long) × (said ≡ line (codes "result longer than 16777216 bytes"))
 
 -- Not the name of a file that the words ask to write.
 abbrev pub IsNoTarget : List (List ℕ) → List ℕ → Type 0
@@ -77,11 +80,27 @@ StaysAfter tells first before now ReadFault = AreMade tells before now first
 StaysAfter tells first before now WriteFault = ⊤
 StaysAfter tells first before now Input = AreMade tells before now first
 StaysAfter tells first before now Trap = ⊤
+StaysAfter tells first before now Long = ⊤
+
+-- The job makes both files, of which this is the first.
+abbrev pub MakesBoth : List ℕ → Plan → ProgramTree → List (List ℕ) → Contents → Type 0
+MakesBoth bytes plan p names given = (packed : List ℕ) × (end : End) × DoesAll plan.job plan.options p names given (Some bytes) (Some packed) end
+
+-- Both files of a job are asked for and were made, and memory ran out between their writes: the first one was written, and nothing behind it.
+pub record IsBetween (tells : Bool) (kept now : Files) (plan : Plan) (status : Status) : Type 0 where
+  pub is : status ≡ Memory
+  pub name : List ℕ
+  pub named : plan.target ≡ Some name
+  pub pack : List ℕ
+  pub asks : plan.pack ≡ Some pack
+  pub bytes : List ℕ
+  pub both : OnBoth kept plan (MakesBoth bytes plan)
+  pub made : AreMade tells kept now (record { name = name; bytes = bytes } ∷ [])
 
 -- What names hold stays, but for the files that are to be written; and where no job was done, for those that are written first.
 pub record FilesStay (tells : Bool) (words : List (List ℕ)) (before now : Files) (status : Status) : Type 0 where
   pub others : (name : List ℕ) → IsNoTarget words name → now name ≡ before name
-  pub same : StaysAfter tells (first_asked words) before now status
+  pub same : StaysAfter tells (first_asked words) before now status ⊎ MatchOption (asked words) ⊥ (λ plan. IsBetween tells (at_reading tells before plan) now plan status)
 
 -- Counts of reads stay, but where a file could not be read.
 abbrev pub ReadsStay : Counts → Counts → Status → Type 0
@@ -101,9 +120,11 @@ abbrev pub ends_as : Job → Job
 ends_as Trace = Run
 ends_as job = job
 
--- The job ends with a text, where it may leave out an image.
+-- The job ends with a text, where it may leave out an image, and the packed file of its result, where that is asked for, is not too long.
 abbrev pub HasText : Plan → ProgramTree → List (List ℕ) → Contents → Type 0
-HasText plan p names given = (file : Option (List ℕ)) × (text : List ℕ) × Does (ends_as plan.job) (without_image plan.options) p names given file (Prints text)
+HasText plan p names given =
+    (file : Option (List ℕ)) × (text : List ℕ) × Does (ends_as plan.job) (without_image plan.options) p names given file (Prints text)
+    × ((packed : Option (List ℕ)) × DoesPack plan.job plan.options p names given packed (Prints text))
 
 -- The bytes of further inputs, which are told.
 abbrev pub AreFurtherTold : Files → List PlanInput → List (List ℕ) → Type 0
@@ -169,15 +190,17 @@ DueMissing tells before now plan =
     ⊎ (DueOfSource tells before now plan IsSource × IsMissing (at_reading tells before.kept plan) (inputs_of plan))
     ⊎ DueOfSource tells before now plan (LacksFurther tells before now plan)
 
--- The counts of `out` and of the file that is to be written did not rise.
+-- The counts of `out` and of the files that are to be written did not rise.
 pub record TakesAll (before now : ShelfView) (out_before out_now : SinkView) (plan : Plan) : Type 0 where
   pub target : (name : List ℕ) → plan.target ≡ Some name → Rose (before.writes name) (now.writes name) → ⊥
+  pub pack : (name : List ℕ) → plan.pack ≡ Some name → Rose (before.writes name) (now.writes name) → ⊥
   pub out : Rose out_before.faults out_now.faults → ⊥
 
--- The job ends without a value for this reason, and where it makes a file then, the count of its name did not rise.
+-- The job ends without a value for this reason, where it may leave out an image; and where it makes a file then, the count of its name
+-- did not rise.
 abbrev pub DueWithout : ShelfView → ShelfView → Reason → Plan → ProgramTree → List (List ℕ) → Contents → Type 0
 DueWithout before now reason plan p names given =
-    ((file : Option (List ℕ)) × Does (ends_as plan.job) plan.options p names given file (NoValue reason))
+    ((file : Option (List ℕ)) × Does (ends_as plan.job) (without_image plan.options) p names given file (NoValue reason))
     × ((name bytes : List ℕ) → plan.target ≡ Some name → Does plan.job plan.options p names given (Some bytes) (NoValue reason) → Rose (before.writes name) (now.writes name) → ⊥)
 
 -- The inputs are none that the job accepts; or the first is none for a replay, whatever the journal is.
@@ -202,6 +225,8 @@ IsDue tells words before now out_before out_now ReadFault = MatchOption (asked w
 IsDue tells words before now out_before out_now WriteFault = ⊥
 IsDue tells words before now out_before out_now Input = MatchOption (asked words) ⊥ (DueRefused tells before now)
 IsDue tells words before now out_before out_now Trap = MatchOption (asked words) ⊥ (λ plan. DueOfFiles tells before now plan (DueWithout before now (Meant why.Trap) plan))
+IsDue tells words before now out_before out_now Long =
+    MatchOption (asked words) ⊥ (λ plan. (plan.job ≡ Run) × DueOfFiles tells before now plan (DueWithout before now reason.Long plan))
 
 -- The words ask for `run`, `gen` or `trace`: of the other jobs `replay` alone uses chunks of region memory, and its journal tells
 -- whether these run out.

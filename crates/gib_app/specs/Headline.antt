@@ -1,9 +1,9 @@
 -- What a call of `run` promises, in the fewest words: a reader may begin here.
-use Rattle.std.specs.Prelude.{◌≡◌, ◌≤◌, Bool, ℕ, List, [], ◌∷◌, ◌++◌, length, Option, Some}
+use Rattle.std.specs.Prelude.{◌≡◌, ◌≤◌, ◌<◌, Bool, ℕ, List, [], ◌∷◌, ◌++◌, length, Option, None, Some}
 use Rattle.gib_base.specs.Lexed.{Lexed}
 use Rattle.gib_types.specs.Tree.{Datum}
 use Rattle.gib_value.specs.Text.{text}
-use Rattle.gib_file.specs.Framed.{File}
+use Rattle.gib_file.specs.Framed.{File, File2}
 use Rattle.gib_syntax.specs.Tree.{ProgramTree}
 use Rattle.gib_syntax.specs.Source.{Spells}
 use Rattle.gib_syntax.specs.Declarations.{table_of_program, input_type, output_type}
@@ -23,7 +23,7 @@ use Rattle.gib_app.specs.Causes.{IsUnread}
 
 -- To run the program of one document on the packed value of another, and to write the image of region memory under a name.
 abbrev pub run_plan : Document → Document → Option (List ℕ) → Options → Plan
-run_plan program packed image options = record { first = []; source = program; inputs = packed ∷ []; target = image; job = Run; options = options }
+run_plan program packed image options = record { first = []; source = program; inputs = packed ∷ []; target = image; pack = None; job = Run; options = options }
 
 -- The words ask for that, within a depth of calls and a number of chunks. These are the bytes of both documents, and
 -- those that `out` has taken so far. A document is a file by its name; where there are no words, both are built in. An image may
@@ -86,3 +86,41 @@ pub record NoneFailed (program packed : Document) (image : Option (List ℕ)) (b
   pub packed_read : (name : List ℕ) → IsUnread before now packed name → ⊥
   pub image_written : (name : List ℕ) → image ≡ Some name → Rose (before.writes name) (now.writes name) → ⊥
   pub put : Rose out_before.faults out_now.faults → ⊥
+
+-- ---- With the packed file of the result
+
+-- To run it so, and to write the packed file of the result under a second name, behind the image, where that is asked for.
+abbrev pub packing_plan : Document → Document → (image : Option (List ℕ)) → (pack : List ℕ) → Options → Plan
+packing_plan program packed image pack options = record { first = []; source = program; inputs = packed ∷ []; target = image; pack = Some pack; job = Run; options = options }
+
+-- The words ask for that; all else is as above.
+pub record IsPackingRun (words : List (List ℕ)) (files : ShelfView) (out : SinkView) (source input : List ℕ) (options : Options) (front : List ℕ) : Type 0 where
+  pub program : Document
+  pub packed : Document
+  pub image : Option (List ℕ)
+  pub pack : List ℕ
+  pub asks : asked words ≡ Some (packing_plan program packed image pack options)
+  pub source_is : bytes_in files.kept program ≡ Has source
+  pub input_is : bytes_in files.kept packed ≡ Has input
+  pub front_is : out.taken ≡ Some front
+
+-- The bytes are the packed file, of version 2, of the value that the program means on the input within the depth, which is of the type of
+-- main's result, and are no more than 16,777,216.
+pub record IsResultFile (source input : List ℕ) (depth : ℕ) (bytes : List ℕ) : Type 0 where
+  pub given : Given source input
+  pub result : Datum
+  pub means : run given.program depth given.value ≡ Gives result
+  pub file : File2 (table_of_program given.program) given.lexed.names (output_type given.program) result bytes
+  pub few : length bytes ≤ 16777216
+
+-- The program means a value on the input within the depth whose packed file has more bytes.
+pub record HasLongFile (source input : List ℕ) (depth : ℕ) : Type 0 where
+  pub given : Given source input
+  pub result : Datum
+  pub means : run given.program depth given.value ≡ Gives result
+  pub long : (bytes : List ℕ) → File2 (table_of_program given.program) given.lexed.names (output_type given.program) result bytes → 16777216 < length bytes
+
+-- None of these failed, nor the write of the packed file of the result.
+pub record NoWriteFailed (program packed : Document) (image : Option (List ℕ)) (pack : List ℕ) (before now : ShelfView) (out_before out_now : SinkView) : Type 0 where
+  pub others : NoneFailed program packed image before now out_before out_now
+  pub packed_written : Rose (before.writes pack) (now.writes pack) → ⊥

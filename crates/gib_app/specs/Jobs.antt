@@ -9,9 +9,9 @@ use Rattle.gib_app.specs.declared.plan.Job.{Job}
 use Rattle.gib_app.specs.declared.plan.Job.TheVariants.{Run, Plain, Check, Core, Code, Pack, Show, Gen, Trace, Replay}
 use Rattle.gib_app.specs.declared.plan.Options.{Options}
 use Rattle.gib_app.specs.declared.made.Reason.{Reason}
-use Rattle.gib_app.specs.declared.made.Reason.TheVariants.{Meant, Full}
+use Rattle.gib_app.specs.declared.made.Reason.TheVariants.{Meant, Full, Long}
 use Rattle.gib_app.specs.Plan.{Contents}
-use Rattle.gib_app.specs.Running.{IsOutput, IsSummary, IsRunImage, MeansNone, FillsUp, IsShown}
+use Rattle.gib_app.specs.Running.{IsOutput, IsSummary, IsRunImage, IsPackedResult, IsLongResult, MeansNone, FillsUp, IsShown}
 use Rattle.gib_app.specs.Packing.{IsPackedBy}
 use Rattle.gib_app.specs.Cores.{core_after}
 use Rattle.gib_app.specs.Replaying.{journal_in, IsTrace, OnJournal, IsShownEnd, IsValueless, LacksChunks}
@@ -35,6 +35,7 @@ abbrev pub Means : ProgramTree → List (List ℕ) → ℕ → List ℕ → Opti
 Means p names depth input file (Prints text) = (file ≡ None) × IsOutput p names depth input text
 Means p names depth input file (NoValue (Meant why)) = (file ≡ None) × MeansNone p names depth input (means_why why)
 Means p names depth input file (NoValue Full) = ⊥
+Means p names depth input file (NoValue Long) = ⊥
 
 -- Where an image is asked for, it is the file that a run makes; else there is none.
 abbrev pub MakesImage : Bool → ProgramTree → List (List ℕ) → (skips : Bool) → (depth chunks : ℕ) → List ℕ → Option (List ℕ) → Type 0
@@ -46,11 +47,14 @@ MakesImage true p names skips depth chunks input (Some bytes) = IsRunImage p nam
 abbrev pub run_forks : Options → ℕ
 run_forks options = if nat_lt 1 options.workers then options.fork else 0
 
--- `run`: the same, and its image, where that is asked for; or so many chunks of memory may not be enough.
+-- `run`: the same, and its image, where that is asked for; or so many chunks of memory may not be enough; or the packed file of the value,
+-- where that is asked for, would be too long: the image is made then too.
 abbrev pub Runs : ProgramTree → List (List ℕ) → Options → List ℕ → Option (List ℕ) → End → Type 0
 Runs p names options input file (Prints text) = MakesImage options.image p names options.skips options.depth options.chunks input file × IsOutput p names options.depth input text
 Runs p names options input file (NoValue (Meant why)) = (file ≡ None) × MeansNone p names options.depth input (means_why why)
 Runs p names options input file (NoValue Full) = (file ≡ None) × FillsUp p names options.skips options.depth (run_forks options) options.chunks input
+Runs p names options input file (NoValue Long) =
+    MakesImage options.image p names options.skips options.depth options.chunks input file × IsLongResult p names options.depth input × (options.packs ≡ true)
 
 -- `pack`: the packed file of the value whose text, or whose packed file, this is.
 abbrev pub Packs : ProgramTree → List (List ℕ) → Options → List ℕ → Option (List ℕ) → End → Type 0
@@ -63,6 +67,7 @@ abbrev pub Sums : ProgramTree → List (List ℕ) → Options → List ℕ → O
 Sums p names options input file (Prints text) = (file ≡ None) × IsSummary p names options.number options.levels options.depth input text
 Sums p names options input file (NoValue (Meant why)) = (file ≡ None) × MeansNone p names options.depth input (means_why why)
 Sums p names options input file (NoValue Full) = (file ≡ None) × FillsUp p names options.skips options.depth (run_forks options) options.chunks input
+Sums p names options input file (NoValue Long) = ⊥
 
 -- The journal of a run on the input, where there is a file.
 abbrev pub MakesTrace : ProgramTree → List (List ℕ) → Options → List ℕ → Option (List ℕ) → Type 0
@@ -74,6 +79,7 @@ abbrev pub Traces : ProgramTree → List (List ℕ) → Options → List ℕ →
 Traces p names options input file (Prints text) = MakesTrace p names options input file × IsOutput p names options.depth input text
 Traces p names options input file (NoValue (Meant why)) = MakesTrace p names options input file × MeansNone p names options.depth input (means_why why)
 Traces p names options input file (NoValue Full) = (file ≡ None) × FillsUp p names options.skips options.depth options.fork options.chunks input
+Traces p names options input file (NoValue Long) = ⊥
 
 -- `replay`: the text of the value to which the events of the journal lead, and its image, where that is asked for; or they lead to a
 -- root that ended without a value; or to where chunks run out.
@@ -81,6 +87,7 @@ abbrev pub Replays : ProgramTree → List (List ℕ) → (image : Bool) → Cont
 Replays p names image given file (Prints text) = OnJournal p names given.second (journal_in given) (IsShownEnd p names image file text)
 Replays p names image given file (NoValue (Meant why)) = (file ≡ None) × OnJournal p names given.second (journal_in given) (IsValueless p why)
 Replays p names image given file (NoValue Full) = (file ≡ None) × OnJournal p names given.second (journal_in given) (LacksChunks p)
+Replays p names image given file (NoValue Long) = ⊥
 
 -- What a job with these options makes, for the program with these names, of the bytes of its inputs: a file, or none, and its
 -- end.
@@ -95,6 +102,33 @@ Does Show options p names given = OnlyPrints (IsShown p names options.skips give
 Does Gen options p names given = Sums p names options given.second
 Does Trace options p names given = Traces p names options given.second
 Does Replay options p names given = Replays p names options.image given
+
+-- The packed file of the value that a run means, where that is asked for and the run ends with a text; else there is none.
+abbrev pub PacksResult : Bool → ProgramTree → List (List ℕ) → (depth : ℕ) → List ℕ → Option (List ℕ) → End → Type 0
+PacksResult false p names depth input packed end = packed ≡ None
+PacksResult true p names depth input packed (Prints text) = (bytes : List ℕ) × (packed ≡ Some bytes) × IsPackedResult p names depth input bytes
+PacksResult true p names depth input packed (NoValue reason) = packed ≡ None
+
+-- Both files of a run and its end.
+abbrev pub RunsBoth : ProgramTree → List (List ℕ) → Options → List ℕ → (file packed : Option (List ℕ)) → End → Type 0
+RunsBoth p names options input file packed end = Runs p names options input file end × PacksResult options.packs p names options.depth input packed end
+
+-- The packed file of its result that a job makes where it ends so, or none: `run` alone makes one.
+abbrev pub DoesPack : Job → Options → ProgramTree → List (List ℕ) → Contents → Option (List ℕ) → End → Type 0
+DoesPack Run options p names given packed end = PacksResult options.packs p names options.depth given.second packed end
+DoesPack Plain options p names given packed end = packed ≡ None
+DoesPack Check options p names given packed end = packed ≡ None
+DoesPack Core options p names given packed end = packed ≡ None
+DoesPack Code options p names given packed end = packed ≡ None
+DoesPack Pack options p names given packed end = packed ≡ None
+DoesPack Show options p names given packed end = packed ≡ None
+DoesPack Gen options p names given packed end = packed ≡ None
+DoesPack Trace options p names given packed end = packed ≡ None
+DoesPack Replay options p names given packed end = packed ≡ None
+
+-- Both files and the end of a job.
+abbrev pub DoesAll : Job → Options → ProgramTree → List (List ℕ) → Contents → (file packed : Option (List ℕ)) → End → Type 0
+DoesAll job options p names given file packed end = Does job options p names given file end × DoesPack job options p names given packed end
 
 -- The same options, without an image.
 abbrev pub without_image : Options → Options

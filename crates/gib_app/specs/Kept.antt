@@ -8,6 +8,7 @@ use Rattle.gib_app.specs.declared.plan.Plan.{Plan as KeptPlan}
 use Rattle.gib_app.specs.declared.made.End.{End as KeptEnd}
 use Rattle.gib_app.specs.declared.made.End.TheVariants as ends
 use Rattle.gib_app.specs.declared.jobs.Given.{Given}
+use Rattle.gib_app.specs.declared.made.Finished.{Finished}
 use Rattle.gib_app.specs.declared.made.Made.{Made}
 use Rattle.gib_app.specs.declared.made.Valued.{Valued}
 use Rattle.gib_app.specs.declared.plan.Input.{Input as KeptInput}
@@ -17,6 +18,8 @@ use Rattle.gib_app.specs.declared.plan.Options.{Options}
 use Rattle.gib_app.specs.Plan.{Document, BuiltIn, Named, Write, Plan, Contents}
 use Rattle.gib_app.specs.Words.{made_source, made_input, first_writes}
 use Rattle.gib_app.specs.Jobs.{End, Prints, NoValue}
+use Rattle.gib_mem.specs.Memory.{Grows}
+use Rattle.gib_arena.specs.Sole.{sole_memory}
 use Rattle.gib_app.specs.MachineRun.{StandsMeant, cells_of}
 use Rattle.gib_app.specs.Running.{text_line}
 
@@ -48,6 +51,7 @@ plan_of plan = record {
   source = document_of plan.source;
   inputs = inputs_with (option_map document_of plan.second) (option_map document_of plan.third);
   target = option_map (λ name. name.now) plan.target;
+  pack = option_map (λ name. name.now) plan.pack;
   job = plan.job;
   options = plan.options;
 }
@@ -59,6 +63,10 @@ contents_of given = record { second = given.second.now; further = option_to_list
 -- The file that a job made.
 abbrev pub file_of : Made → Option (List ℕ)
 file_of made = option_map (λ bytes. bytes.items) made.file
+
+-- The packed file of the result of a job.
+abbrev pub packed_of : Finished → Option (List ℕ)
+packed_of finished = option_map (λ bytes. bytes.items) finished.packed
 
 -- The text of a value in region memory, with a line feed: the value stands for the root, and some program means it on some input.
 pub record IsTextOf (value : Valued) (text : List ℕ) : Type 0 where
@@ -75,3 +83,17 @@ abbrev pub EndsBy : Option (List ℕ) → KeptEnd → (Option (List ℕ) → End
 EndsBy file (ends.Prints text) P = P file (Prints text.items)
 EndsBy file (ends.Value value) P = (file ≡ None) × (text : List ℕ) × IsTextOf value text × P file (Prints text)
 EndsBy file (ends.NoValue reason) P = P file (NoValue reason)
+
+-- The same of both files of a job.
+abbrev pub EndsByBoth : (file packed : Option (List ℕ)) → KeptEnd → (Option (List ℕ) → Option (List ℕ) → End → Type 0) → Type 0
+EndsByBoth file packed (ends.Prints text) P = P file packed (Prints text.items)
+EndsByBoth file packed (ends.Value value) P = (file ≡ None) × (packed ≡ None) × (text : List ℕ) × IsTextOf value text × P file packed (Prints text)
+EndsByBoth file packed (ends.NoValue reason) P = P file packed (NoValue reason)
+
+-- It is the same value with the same names: its memory knows all that it knew, and has no more chunks than it had.
+pub record StandsAgain (old new : Valued) : Type 0 where
+  pub names : new.names ≡ old.names
+  pub lowered : new.ran.lowered ≡ old.ran.lowered
+  pub root : new.ran.root ≡ old.ran.root
+  pub known : Grows (cells_of old.ran.memory) (cells_of new.ran.memory)
+  pub limit : (sole_memory new.ran.memory).limit ≡ (sole_memory old.ran.memory).limit

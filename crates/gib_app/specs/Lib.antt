@@ -20,6 +20,7 @@ pub mod MachineRun
 pub mod Workers
 pub mod Kept
 pub mod Imaging
+pub mod Remains
 pub mod PassFaults
 pub mod Stopping
 pub mod Readings

@@ -46,6 +46,7 @@ program_cost p skips depth forks v = run_cost (core_after skips 4 p) depth forks
 abbrev pub LacksValue : ProgramTree → List (List ℕ) → (skips : Bool) → (depth forks chunks : ℕ) → (input : List ℕ) → Reason → Type 0
 LacksValue p names skips depth forks chunks input (reason.Meant why) = MeansNone p names depth input (means_why why)
 LacksValue p names skips depth forks chunks input reason.Full = FillsUp p names skips depth forks chunks input
+LacksValue p names skips depth forks chunks input reason.Long = ⊥
 
 -- Why a run leaves no root.
 abbrev pub IsMachineStop : ProgramTree → List (List ℕ) → (skips : Bool) → (depth forks chunks : ℕ) → (input : List ℕ) → Stop → Type 0
@@ -62,6 +63,7 @@ pub record IsRootOf (laid : LaidOut) (s : Store) (ty : Ty) (owed : Outcome) (pla
 abbrev pub Lacks : Outcome → (chunks : ℕ) → Cost → Reason → Type 0
 Lacks owed chunks most (reason.Meant why) = owed ≡ Stops (means_why why)
 Lacks owed chunks most reason.Full = Tight chunks most
+Lacks owed chunks most reason.Long = ⊥
 
 -- Why a run leaves no root, where this outcome was owed, and the run costs so much at most.
 abbrev pub Halts : Outcome → (chunks : ℕ) → Cost → Stop → Type 0

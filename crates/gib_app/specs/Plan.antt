@@ -15,12 +15,13 @@ pub record Write : Type 0 where
   pub bytes : List ℕ
 
 -- The first writes are made, one after another; the source is read, then the inputs in their order; a job is done with them; the
--- file that it makes is written under the target's name.
+-- file that it makes is written under the target's name, and then the packed file of its result under the name that stands for it.
 pub record Plan : Type 0 where
   pub first : List Write
   pub source : Document
   pub inputs : List Document
   pub target : Option (List ℕ)
+  pub pack : Option (List ℕ)
   pub job : Job
   pub options : Options
 

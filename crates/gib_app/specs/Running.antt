@@ -1,8 +1,8 @@
 -- What a source and a packed file are, and what a program means on a file.
-use Rattle.std.specs.Prelude.{◌≡◌, ◌⊎◌, Bool, ℕ, ◌≤◌, List, [], ◌∷◌, ◌++◌, length}
+use Rattle.std.specs.Prelude.{◌≡◌, ◌⊎◌, Bool, ℕ, ◌≤◌, ◌<◌, List, [], ◌∷◌, ◌++◌, length}
 use Rattle.gib_base.specs.Lexed.{Lexed}
 use Rattle.gib_types.specs.Tree.{Datum}
-use Rattle.gib_file.specs.Framed.{File}
+use Rattle.gib_file.specs.Framed.{File, File2}
 use Rattle.gib_value.specs.Text.{text}
 use Rattle.gib_syntax.specs.Tree.{ProgramTree}
 use Rattle.gib_syntax.specs.Source.{Spells}
@@ -64,6 +64,24 @@ pub record IsRunImage (p : ProgramTree) (names : List (List ℕ)) (skips : Bool)
   pub means : run p depth value ≡ Gives result
   pub image : IsImageOf (layouts_of skips p) (output_type p) bytes result
   pub few : chunk_count bytes ≤ chunks
+
+-- The bytes are the packed file of version 2 of the value that the program means on the input within the depth, and are no more than
+-- 16,777,216.
+pub record IsPackedResult (p : ProgramTree) (names : List (List ℕ)) (depth : ℕ) (input bytes : List ℕ) : Type 0 where
+  pub value : Datum
+  pub result : Datum
+  pub is_input : IsInput p names value input
+  pub means : run p depth value ≡ Gives result
+  pub file : File2 (table_of_program p) names (output_type p) result bytes
+  pub few : length bytes ≤ 16777216
+
+-- The program means a value on the input within the depth, and its packed file of version 2 is longer.
+pub record IsLongResult (p : ProgramTree) (names : List (List ℕ)) (depth : ℕ) (input : List ℕ) : Type 0 where
+  pub value : Datum
+  pub result : Datum
+  pub is_input : IsInput p names value input
+  pub means : run p depth value ≡ Gives result
+  pub long : (bytes : List ℕ) → File2 (table_of_program p) names (output_type p) result bytes → 16777216 < length bytes
 
 -- The program means no value on the input within the depth, for this reason.
 pub record MeansNone (p : ProgramTree) (names : List (List ℕ)) (depth : ℕ) (input : List ℕ) (why : Reason) : Type 0 where

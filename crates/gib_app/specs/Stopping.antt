@@ -23,6 +23,7 @@ answer_for (Input fault) = record { status = status.Input; said = input_text fau
 answer_for (NoValue (reason.Meant why.Deep)) = record { status = status.Depth; said = codes "depth" }
 answer_for (NoValue (reason.Meant why.Trap)) = record { status = status.Trap; said = codes "division by zero" }
 answer_for (NoValue reason.Full) = record { status = status.Full; said = codes "chunks" }
+answer_for (NoValue reason.Long) = record { status = status.Long; said = codes "result longer than 16777216 bytes" }
 answer_for Memory = record { status = status.Memory; said = codes "memory" }
 answer_for (Unwritten name) = record { status = status.WriteFault; said = codes "cannot write " ++ name.now }
 answer_for Unput = record { status = status.WriteFault; said = codes "cannot write" }

@@ -59,6 +59,10 @@ pass = number (codes "pass") 1 4
 abbrev pub image : Rule
 image = record (new_rule (codes "image")) { long = Some (codes "image") }
 
+-- Under which name the packed file of the result is written.
+abbrev pub pack : Rule
+pack = record (new_rule (codes "pack")) { long = Some (codes "pack") }
+
 -- A number from `least` to `most` by its place, which has to be there.
 abbrev pub numeral : Text → ℕ → ℕ → Rule
 numeral id least most = record (positional id) { parser = Some (Unsigned least most) }
@@ -115,7 +119,7 @@ flag_of id rows = option_map_or (λ value. bytes_eq value (codes "true")) (word_
 
 -- The options where none is given.
 abbrev pub usual : Options
-usual = record { workers = 1; depth = 10000; chunks = 1024; fork = 4; pass = 4; image = false; skips = false; number = 0; levels = 0; repacks = false; first_version = false }
+usual = record { workers = 1; depth = 10000; chunks = 1024; fork = 4; pass = 4; image = false; packs = false; skips = false; number = 0; levels = 0; repacks = false; first_version = false }
 
 -- All options.
 abbrev pub options_of : List Row → Options
@@ -126,6 +130,7 @@ options_of rows = record {
   fork = number_or (codes "fork") usual.fork rows;
   pass = number_or (codes "pass") usual.pass rows;
   image = is_some (word_of (codes "image") rows);
+  packs = is_some (word_of (codes "pack") rows);
   skips = flag_of (codes "skips") rows;
   number = number_or (codes "number") usual.number rows;
   levels = byte_or (codes "levels") usual.levels rows;
@@ -156,6 +161,11 @@ target_in NoTarget rows = Some None
 target_in (AtPlace id) rows = option_map Some (word_of id rows)
 target_in (ByOption id) rows = Some (word_of id rows)
 
+-- The name under which the packed file of a result is written: that of an option, where a command has it. It may be left out.
+abbrev pub pack_in : Option Text → List Row → Option Text
+pack_in None rows = None
+pack_in (Some id) rows = word_of id rows
+
 -- ---- What is made
 
 -- The text of the program that is made of a number.
@@ -178,18 +188,21 @@ made_plan options source input = record {
   source = BuiltIn (made_source options.number);
   inputs = BuiltIn (made_input options.number options.levels) ∷ [];
   target = None;
+  pack = None;
   job = Gen;
   options = options;
 }
 
 -- ---- Commands
 
--- A command: its name, its arguments behind the source (the second file, the third, the file that is written, options), and its job.
+-- A command: its name, its arguments behind the source (the second file, the third, the file that is written, options), which option
+-- names the packed file of its result, if one does, and its job.
 pub record Form : Type 0 where
   pub name : Text
   pub second : Option Text
   pub third : Option Text
   pub target : Target
+  pub pack : Option Text
   pub options : List Rule
   pub job : Job
 
@@ -209,47 +222,47 @@ abbrev pub arguments_of : Form → List Rule
 arguments_of form = positional (codes "source") ∷ (place_of form.second ++ (place_of form.third ++ (target_place form.target ++ form.options)))
 
 -- What a command asks for.
-abbrev pub planned : Job → (second third : Option Text) → Target → List Row → Option Plan
-planned job second third target rows =
+abbrev pub planned : Job → (second third : Option Text) → Target → (pack : Option Text) → List Row → Option Plan
+planned job second third target pack rows =
     with_value (with_value (with_value
-    (option_map (λ s t w u. record { first = []; source = s; inputs = option_to_list t ++ option_to_list w; target = u; job = job; options = options_of rows }) (file_of (codes "source") rows))
+    (option_map (λ s t w u. record { first = []; source = s; inputs = option_to_list t ++ option_to_list w; target = u; pack = pack_in pack rows; job = job; options = options_of rows }) (file_of (codes "source") rows))
     (file_in second rows)) (file_in third rows)) (target_in target rows)
 
--- `run SOURCE INPUT [--workers N] [--depth N] [--chunks N] [--fork N] [--skips] [--image FILE]`.
+-- `run SOURCE INPUT [--workers N] [--depth N] [--chunks N] [--fork N] [--skips] [--image FILE] [--pack FILE]`.
 abbrev pub run_form : Form
-run_form = record { name = codes "run"; second = Some (codes "input"); third = None; target = ByOption (codes "image"); options = workers ∷ depth ∷ chunks ∷ fork ∷ skips ∷ image ∷ []; job = Run }
+run_form = record { name = codes "run"; second = Some (codes "input"); third = None; target = ByOption (codes "image"); pack = Some (codes "pack"); options = workers ∷ depth ∷ chunks ∷ fork ∷ skips ∷ image ∷ pack ∷ []; job = Run }
 
 -- `plain SOURCE INPUT [--depth N]`.
 abbrev pub plain_form : Form
-plain_form = record { name = codes "plain"; second = Some (codes "input"); third = None; target = NoTarget; options = depth ∷ []; job = Plain }
+plain_form = record { name = codes "plain"; second = Some (codes "input"); third = None; target = NoTarget; pack = None; options = depth ∷ []; job = Plain }
 
 -- `check SOURCE`.
 abbrev pub check_form : Form
-check_form = record { name = codes "check"; second = None; third = None; target = NoTarget; options = []; job = Check }
+check_form = record { name = codes "check"; second = None; third = None; target = NoTarget; pack = None; options = []; job = Check }
 
 -- `core SOURCE [--pass P] [--skips]`.
 abbrev pub core_form : Form
-core_form = record { name = codes "core"; second = None; third = None; target = NoTarget; options = pass ∷ skips ∷ []; job = Core }
+core_form = record { name = codes "core"; second = None; third = None; target = NoTarget; pack = None; options = pass ∷ skips ∷ []; job = Core }
 
 -- `code SOURCE [--skips]`.
 abbrev pub code_form : Form
-code_form = record { name = codes "code"; second = None; third = None; target = NoTarget; options = skips ∷ []; job = Code }
+code_form = record { name = codes "code"; second = None; third = None; target = NoTarget; pack = None; options = skips ∷ []; job = Code }
 
 -- `pack SOURCE TEXT TARGET [--from] [--v1]`: with `--from` TEXT is a packed file.
 abbrev pub pack_form : Form
-pack_form = record { name = codes "pack"; second = Some (codes "text"); third = None; target = AtPlace (codes "target"); options = from ∷ v1 ∷ []; job = Pack }
+pack_form = record { name = codes "pack"; second = Some (codes "text"); third = None; target = AtPlace (codes "target"); pack = None; options = from ∷ v1 ∷ []; job = Pack }
 
 -- `show SOURCE FILE [--skips]`.
 abbrev pub show_form : Form
-show_form = record { name = codes "show"; second = Some (codes "file"); third = None; target = NoTarget; options = skips ∷ []; job = Show }
+show_form = record { name = codes "show"; second = Some (codes "file"); third = None; target = NoTarget; pack = None; options = skips ∷ []; job = Show }
 
 -- `trace SOURCE INPUT JOURNAL [--workers N] [--depth N] [--chunks N] [--fork N] [--skips]`: the journal is written.
 abbrev pub trace_form : Form
-trace_form = record { name = codes "trace"; second = Some (codes "input"); third = None; target = AtPlace (codes "journal"); options = workers ∷ depth ∷ chunks ∷ fork ∷ skips ∷ []; job = Trace }
+trace_form = record { name = codes "trace"; second = Some (codes "input"); third = None; target = AtPlace (codes "journal"); pack = None; options = workers ∷ depth ∷ chunks ∷ fork ∷ skips ∷ []; job = Trace }
 
 -- `replay SOURCE INPUT JOURNAL [--image FILE]`.
 abbrev pub replay_form : Form
-replay_form = record { name = codes "replay"; second = Some (codes "input"); third = Some (codes "journal"); target = ByOption (codes "image"); options = image ∷ []; job = Replay }
+replay_form = record { name = codes "replay"; second = Some (codes "input"); third = Some (codes "journal"); target = ByOption (codes "image"); pack = None; options = image ∷ []; job = Replay }
 
 -- `gen NUMBER LEVELS SOURCE INPUT [--workers N] [--depth N] [--chunks N] [--fork N] [--skips]`: both files are made.
 abbrev pub gen_arguments : List Rule
@@ -281,7 +294,7 @@ command_set = with_subcommand (fold (λ app form. with_subcommand app (app_for f
 
 -- The product's own program on its own input.
 abbrev pub sample : Plan
-sample = record { first = []; source = BuiltIn sample_source; inputs = BuiltIn sample_input ∷ []; target = None; job = Run; options = usual }
+sample = record { first = []; source = BuiltIn sample_source; inputs = BuiltIn sample_input ∷ []; target = None; pack = None; job = Run; options = usual }
 
 -- Whether words are taken, the program's name first: at most one, or those that clap takes.
 abbrev pub taken : List Text → Bool
@@ -295,7 +308,7 @@ made_requested rows = with_value (option_map (made_plan (options_of rows)) (word
 
 -- What the matches of a command whose files are read ask for, by its name.
 abbrev pub read_requested : Text → List Row → Option Plan
-read_requested name rows = option_and_then (λ form. planned form.job form.second form.third form.target rows) (find (λ form. bytes_eq form.name name) forms)
+read_requested name rows = option_and_then (λ form. planned form.job form.second form.third form.target form.pack rows) (find (λ form. bytes_eq form.name name) forms)
 
 -- What the matches of a command, by its name, ask for.
 abbrev pub requested : Text → List Row → Option Plan

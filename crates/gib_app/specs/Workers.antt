@@ -29,6 +29,7 @@ use Rattle.gib_app.specs.declared.input_fault.InputFault.{InputFault}
 use Rattle.gib_app.specs.declared.input_fault.InputFault.TheVariants.{Long, Packed, Image, Text, Journal}
 use Rattle.gib_app.specs.declared.input_fault.JournalFault.TheVariants as journal
 use Rattle.gib_app.specs.declared.made.Reason.{Reason}
+use Rattle.gib_app.specs.declared.made.Reason.TheVariants as reason
 use Rattle.gib_app.specs.declared.made.Reason.TheVariants.{Meant, Full}
 use Rattle.gib_app.specs.declared.plan.Options.{Options}
 use Rattle.gib_app.specs.declared.stop.Stop.{Stop}
@@ -105,6 +106,7 @@ IsFaultBy e v settings lines fault = GoesInto e settings v × LeadsNowhere e.cod
 abbrev pub OnlyFull : Type 0 → Reason → Type 0
 OnlyFull T (Meant why) = ⊥
 OnlyFull T Full = T
+OnlyFull T reason.Long = ⊥
 
 -- Why the events of a journal lead a weave to no end, as a stop.
 abbrev pub LeavesOpen : CodeTree → Weave → List Line → Stop → Type 0

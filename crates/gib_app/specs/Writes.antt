@@ -1,5 +1,5 @@
 -- What names hold after files were written, and where one of them could not be.
-use Rattle.std.specs.Prelude.{◌≡◌, ◌⊎◌, ℕ, List, [], ◌∷◌, Option, Some, None, Bool, if◌then◌else◌, bytes_eq}
+use Rattle.std.specs.Prelude.{◌≡◌, ◌⊎◌, ℕ, List, [], ◌∷◌, ◌++◌, Option, Some, None, Bool, if◌then◌else◌, bytes_eq}
 use Rattle.gib_edge.specs.Causes.{Rose, IsUntold, told}
 use Rattle.gib_edge.specs.Views.{ShelfView}
 use Rattle.gib_app.specs.Plan.{Write, Plan, Files}
@@ -42,12 +42,16 @@ IsNamedIn (write ∷ rest) name = (write.name ≡ name) ⊎ IsNamedIn rest name
 
 -- A plan writes under this name: before it reads, or what its job makes.
 abbrev pub IsTarget : Plan → List ℕ → Type 0
-IsTarget plan name = IsNamedIn plan.first name ⊎ (plan.target ≡ Some name)
+IsTarget plan name = IsNamedIn plan.first name ⊎ (plan.target ≡ Some name) ⊎ (plan.pack ≡ Some name)
 
 -- What names hold when a plan's source and inputs are read.
 abbrev pub at_reading : Bool → Files → Plan → Files
 at_reading tells kept plan = after tells kept plan.first
 
--- A plan's first writes were made, and then that of its file, if it has one.
-abbrev pub AreWritten : Bool → (before now : Files) → Plan → Option (List ℕ) → Type 0
-AreWritten tells before now plan file = AreMade tells (at_reading tells before plan) now (writes_of file plan.target)
+-- The writes of what a plan's job made: its file, if it has one, and then the packed file of its result, if it has one.
+abbrev pub job_writes : Plan → (file packed : Option (List ℕ)) → List Write
+job_writes plan file packed = writes_of file plan.target ++ writes_of packed plan.pack
+
+-- A plan's first writes were made, and then those of its job.
+abbrev pub AreWritten : Bool → (before now : Files) → Plan → (file packed : Option (List ℕ)) → Type 0
+AreWritten tells before now plan file packed = AreMade tells (at_reading tells before plan) now (job_writes plan file packed)

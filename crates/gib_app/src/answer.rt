@@ -183,6 +183,7 @@ fn without_value(reason: Reason) -> Answer<'static>
             Answer::new(Status::Trap, only(b"division by zero"))
         }
         Reason::Full => Answer::new(Status::Full, only(b"chunks")),
+        Reason::Long => Answer::new(Status::Long, only(b"result longer than 16777216 bytes")),
     }
 }
 

@@ -3,7 +3,7 @@
 ghost use Rattle.std.specs.Prelude.{◌≡◌, [], ◌∷◌, IfOk, codes, false, true, fold};
 ghost use Rattle.clap.specs.Walk.{rule_of};
 ghost use Rattle.clap.specs.Simple.{App, app_of, new_app, with_rule, with_subcommand};
-ghost use Rattle.gib_app.specs.Words.{app_for, bare_program, chunks, command_set, depth, fork, from, gen_app, image, numeral, pass, positional, skips, v1, workers};
+ghost use Rattle.gib_app.specs.Words.{app_for, bare_program, chunks, command_set, depth, fork, from, gen_app, image, numeral, pack, pass, positional, skips, v1, workers};
 ghost use Rattle.gib_app.specs.Words.{check_form, code_form, core_form, pack_form, plain_form, replay_form, run_form, show_form, trace_form};
 
 use clap::builder::ValueParser;
@@ -84,6 +84,14 @@ fn image<'a>(alloc: Global) -> Arg<'a>
     Arg::new(alloc, "image").long("image")
 }
 
+/// `--pack FILE`, under which name the packed file of the result is written.
+fn pack<'a>(alloc: Global) -> Arg<'a>
+    ensures rule { rule_of result ≡ pack }
+    ensures local { result.global ≡ false }
+{
+    Arg::new(alloc, "pack").long("pack")
+}
+
 /// `--skips`, whether fields are reached from the end of the field before them.
 fn skips<'a>(alloc: Global) -> Arg<'a>
     ensures rule { rule_of result ≡ skips }
@@ -133,11 +141,13 @@ fn with_run_options<'a>(alloc: Global, command: Command<'a>) -> Result<Command<'
         .arg(skips(alloc))
 }
 
-/// `run SOURCE INPUT [--workers N] [--depth N] [--chunks N] [--fork N] [--skips] [--image FILE]`.
+/// `run SOURCE INPUT [--workers N] [--depth N] [--chunks N] [--fork N] [--skips] [--image FILE] [--pack FILE]`.
 fn run_command<'a>(alloc: Global) -> Result<Command<'a>, AllocError>
     ensures { IfOk result (λ command. app_of command ≡ app_for run_form) }
 {
-    with_run_options(alloc, on_both(alloc, "run", "input")?)?.arg(image(alloc))
+    with_run_options(alloc, on_both(alloc, "run", "input")?)?
+        .arg(image(alloc))?
+        .arg(pack(alloc))
 }
 
 /// `plain SOURCE INPUT [--depth N]`.

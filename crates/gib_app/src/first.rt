@@ -1,8 +1,10 @@
 //! Makes and writes the files that a plan writes before it reads.
 
 ghost use Rattle.std.specs.Prelude.{◌≡◌, [], ◌∷◌, IfErr, OnOk};
+ghost use Rattle.gib_app.specs.Ending.{StaysAfter};
 ghost use Rattle.gib_app.specs.FirstWrites.{HasWritten, HasStuck};
 ghost use Rattle.gib_app.specs.Kept.{plan_of};
+ghost use Rattle.gib_app.specs.Stopping.{answer_for};
 ghost use Rattle.gib_app.specs.Words.{first_writes};
 
 use crate::plan::{MadeNames, Options, Plan};
@@ -12,7 +14,7 @@ use gib_gen::make;
 use std::alloc::Global;
 
 /// Writes a file.
-fn write_named<'a, S: Shelf>(
+pub fn write_named<'a, S: Shelf>(
     alloc: Global,
     shelf: &mut S,
     name: &'a str,
@@ -20,6 +22,7 @@ fn write_named<'a, S: Shelf>(
 ) -> Result<(), Stop<'a>>
     ensures written { OnOk result (HasWritten S.tells (S.view shelf.old) (S.view shelf.new) (record { name = name.entry.now; bytes = bytes.now } ∷ [])) }
     ensures stuck { IfErr result (HasStuck S.tells (S.view shelf.old) (S.view shelf.new) (record { name = name.entry.now; bytes = bytes.now } ∷ [])) }
+    ensures same { IfErr result (λ stop. StaysAfter S.tells [] (S.view shelf.old).kept (S.view shelf.new).kept (answer_for stop).status) }
 {
     match shelf.write(alloc, name, bytes) {
         Ok(()) => Ok(()),

@@ -37,7 +37,7 @@ fn of_image(fault: ReadFault) -> Stop<'static>
     }
 }
 
-/// The value of the type of main's result of which the bytes are an image, written where fields are reached by offsets, or by skips.
+/// The value of the type of main's result of which the bytes are an image, written where fields are reached by ends and offsets, or by skips.
 ///
 /// # Errors
 ///

@@ -1,16 +1,18 @@
 //! The image of what a run leaves, and its text.
 
-ghost use Rattle.std.specs.Prelude.{◌≡◌, ◌<◌, ◌*◌, ℕ, List, true, IfOk};
+ghost use Rattle.std.specs.Prelude.{◌≡◌, ◌<◌, ◌≤◌, ◌*◌, ℕ, List, true, option_map, IfOk};
 ghost use Rattle.gib_mem.specs.Memory.{IsThere};
 ghost use Rattle.gib_types.specs.declared.table.Ty.{Ty as Type_of};
 ghost use Rattle.gib_types.specs.Tree.{Datum};
 ghost use Rattle.gib_value.specs.Text.{AreHeld};
 ghost use Rattle.gib_packed.specs.Stands.{Stands};
 ghost use Rattle.gib_print.specs.Image.{IsImageOf, image_of as memory_image};
+ghost use Rattle.gib_syntax.specs.Declarations.{output_type};
 ghost use Rattle.gib_syntax.specs.Tree.{ProgramTree};
 ghost use Rattle.gib_app.specs.Imaging.{IsShownWith};
 ghost use Rattle.gib_app.specs.Kept.{file_of};
 ghost use Rattle.gib_app.specs.MachineRun.{StandsMeant};
+ghost use Rattle.gib_app.specs.Replaying.{IsImageFile};
 ghost use Rattle.gib_app.specs.Running.{text_line};
 
 use crate::buffer::Buffer;
@@ -24,17 +26,15 @@ use gib_print::image;
 use gib_print::law::written_is_read;
 use std::alloc::{AllocError, Global};
 
-/// How many chunks an image has at most.
-const MOST_CHUNKS: u32 = 65_536;
-
-/// The image of the memory that a run leaves. The memory stays.
+/// The image of the memory that a run leaves, of no more chunks than an image may have. The memory stays.
 ///
 /// # Errors
 ///
-/// Want of memory; also where there are more chunks than an image may have, which no words ask for.
+/// Want of memory.
 fn image_of<M: Mem>(alloc: Global, ran: &mut Ran<M>) -> Result<Vec<u8>, Memory>
     requires alone { (M.view ran.old.memory).alone ≡ true }
     requires there { (q : ℕ) → q < 4096 * (M.view ran.old.memory).drawn → IsThere ((M.view ran.old.memory).cells q) }
+    requires few { (M.view ran.old.memory).limit ≤ 65536 }
     ensures image { IfOk result (λ bytes. (ty : Type_of) (v : Datum)
         → Stands ran.old.lowered.code.laid (M.view ran.old.memory).cells ran.old.root ty v → IsImageOf ran.old.lowered.code.laid ty bytes.items v) }
     ensures bytes { IfOk result (λ bytes. bytes.items ≡ memory_image (M.view ran.old.memory) ran.old.root) }
@@ -43,9 +43,6 @@ fn image_of<M: Mem>(alloc: Global, ran: &mut Ran<M>) -> Result<Vec<u8>, Memory>
     ensures root { ran.new.root ≡ ran.old.root }
 {
     written_is_read();
-    if ran.memory.chunks() > MOST_CHUNKS {
-        return Err(AllocError);
-    }
     image(alloc, &mut ran.memory, ran.root)
 }
 
@@ -74,6 +71,7 @@ fn imaged<M: Mem + Drop>(alloc: Global, mut ran: Ran<M>, names: &Names) -> Resul
     requires there { (q : ℕ) → q < 4096 * (M.view ran.memory).drawn → IsThere ((M.view ran.memory).cells q) }
     requires names { AreHeld ran.lowered.code.laid.table names.now }
     requires stands { (p : ProgramTree) × (depth : ℕ) × (input : List ℕ) × StandsMeant p names.now depth input ran.lowered.code.laid (M.view ran.memory).cells ran.root }
+    requires few { (M.view ran.memory).limit ≤ 65536 }
     ensures { (p : ProgramTree) (depth : ℕ) (input : List ℕ) (s : StandsMeant p names.now depth input ran.lowered.code.laid (M.view ran.memory).cells ran.root)
         → IfOk result (λ made. IsShownWith true ran.lowered.code.laid (M.view ran.memory) ran.root p names.now s.result (file_of made) made.end) }
 {
@@ -93,6 +91,7 @@ fn imaged<M: Mem + Drop>(alloc: Global, mut ran: Ran<M>, names: &Names) -> Resul
 pub fn with_image(alloc: Global, mut value: Valued) -> Result<Made, Memory>
     requires names { AreHeld value.ran.lowered.code.laid.table value.names }
     requires stands { (p : ProgramTree) × (depth : ℕ) × (input : List ℕ) × StandsMeant p value.names depth input value.ran.lowered.code.laid (⟦<SoleMem as Mem>⟧.view value.ran.memory).cells value.ran.root }
+    requires few { (⟦<SoleMem as Mem>⟧.view value.ran.memory).limit ≤ 65536 }
     ensures { (p : ProgramTree) (depth : ℕ) (input : List ℕ) (s : StandsMeant p value.names depth input value.ran.lowered.code.laid (⟦<SoleMem as Mem>⟧.view value.ran.memory).cells value.ran.root)
         → IfOk result (λ made. IsShownWith true value.ran.lowered.code.laid (⟦<SoleMem as Mem>⟧.view value.ran.memory) value.ran.root p value.names s.result (file_of made) made.end) }
 {
@@ -113,6 +112,7 @@ pub fn shown(
 ) -> Result<Made, Memory>
     requires names { AreHeld ran.lowered.code.laid.table names.now }
     requires stands { (p : ProgramTree) × (depth : ℕ) × (input : List ℕ) × StandsMeant p names.now depth input ran.lowered.code.laid (⟦<PlainMem as Mem>⟧.view ran.memory).cells ran.root }
+    requires few { (⟦<PlainMem as Mem>⟧.view ran.memory).limit ≤ 65536 }
     ensures { (p : ProgramTree) (depth : ℕ) (input : List ℕ) (s : StandsMeant p names.now depth input ran.lowered.code.laid (⟦<PlainMem as Mem>⟧.view ran.memory).cells ran.root)
         → IfOk result (λ made. IsShownWith image ran.lowered.code.laid (⟦<PlainMem as Mem>⟧.view ran.memory) ran.root p names.now s.result (file_of made) made.end) }
 {
@@ -122,6 +122,48 @@ pub fn shown(
     }
     match text_of(alloc, &mut ran, names) {
         Ok(text) => Ok(only_prints(text)),
+        Err(memory) => Err(memory),
+    }
+}
+
+/// What a run over an arena makes that leaves a value: its text, and its image, where that is asked for.
+///
+/// # Errors
+///
+/// Want of memory.
+pub fn with_text(alloc: Global, mut value: Valued, image: bool) -> Result<Made, Memory>
+    requires names { AreHeld value.ran.lowered.code.laid.table value.names }
+    requires stands { (p : ProgramTree) × (depth : ℕ) × (input : List ℕ) × StandsMeant p value.names depth input value.ran.lowered.code.laid (⟦<SoleMem as Mem>⟧.view value.ran.memory).cells value.ran.root }
+    requires few { (⟦<SoleMem as Mem>⟧.view value.ran.memory).limit ≤ 65536 }
+    ensures { (p : ProgramTree) (depth : ℕ) (input : List ℕ) (s : StandsMeant p value.names depth input value.ran.lowered.code.laid (⟦<SoleMem as Mem>⟧.view value.ran.memory).cells value.ran.root)
+        → IfOk result (λ made. IsShownWith image value.ran.lowered.code.laid (⟦<SoleMem as Mem>⟧.view value.ran.memory) value.ran.root p value.names s.result (file_of made) made.end) }
+{
+    if image {
+        return with_image(alloc, value);
+    }
+    match text_of(alloc, &mut value.ran, &value.names) {
+        Ok(text) => Ok(only_prints(text)),
+        Err(memory) => Err(memory),
+    }
+}
+
+/// The image of what a run over an arena leaves, where that is asked for, without its text.
+///
+/// # Errors
+///
+/// Want of memory.
+pub fn image_alone(alloc: Global, mut value: Valued, image: bool) -> Result<Option<Vec<u8>>, Memory>
+    requires stands { (p : ProgramTree) × (depth : ℕ) × (input : List ℕ) × StandsMeant p value.names depth input value.ran.lowered.code.laid (⟦<SoleMem as Mem>⟧.view value.ran.memory).cells value.ran.root }
+    requires few { (⟦<SoleMem as Mem>⟧.view value.ran.memory).limit ≤ 65536 }
+    ensures { (p : ProgramTree) (depth : ℕ) (input : List ℕ) (s : StandsMeant p value.names depth input value.ran.lowered.code.laid (⟦<SoleMem as Mem>⟧.view value.ran.memory).cells value.ran.root)
+        → IfOk result (λ file. IsImageFile image value.ran.lowered.code.laid (output_type p) (⟦<SoleMem as Mem>⟧.view value.ran.memory) value.ran.root s.result (option_map (λ bytes. bytes.items) file)) }
+{
+    if !image {
+        return Ok(None);
+    }
+    value.ran.memory.owns_all();
+    match image_of(alloc, &mut value.ran) {
+        Ok(bytes) => Ok(Some(bytes)),
         Err(memory) => Err(memory),
     }
 }

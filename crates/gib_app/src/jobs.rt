@@ -1,10 +1,11 @@
 //! The jobs, one file each.
 
-ghost use Rattle.std.specs.Prelude.{◌≡◌, ◌≤◌, length, IfOk, IfErr, IfSome};
+ghost use Rattle.std.specs.Prelude.{◌≡◌, ◌≤◌, length, None, Ok, Err, IfOk, IfErr, IfSome};
 ghost use Rattle.gib_syntax.specs.Parts.{program_of};
 ghost use Rattle.gib_app.specs.Formats.{most_of};
-ghost use Rattle.gib_app.specs.Jobs.{Does, Replays};
-ghost use Rattle.gib_app.specs.Kept.{EndsBy, contents_of, file_of};
+ghost use Rattle.gib_app.specs.Jobs.{Does, DoesAll, Replays};
+ghost use Rattle.gib_app.specs.Kept.{EndsBy, EndsByBoth, contents_of, file_of, packed_of};
+ghost use Rattle.gib_app.specs.Ranges.{AreInRange};
 ghost use Rattle.gib_app.specs.Stops.{IsReady, IsReplayStop, FailsTo};
 
 pub mod check;
@@ -19,7 +20,7 @@ pub mod show;
 pub mod trace;
 
 use crate::compile::Compiled;
-use crate::made::Made;
+use crate::made::{Finished, Made};
 use crate::plan::{Job, Options};
 use crate::runtime::Runtime;
 use crate::stop::Stop;
@@ -68,6 +69,7 @@ fn do_beside<R: Threads + Wait + Sync, G: Gate + Sync>(
     requires ready { IsReady (program_of compiled.now.typed) compiled.now.names }
     requires most { length given.second.now ≤ most_of job }
     requires short { IfSome given.journal (λ j. length j.now ≤ 16777216) }
+    requires range { AreInRange job options }
     ensures made { IfOk result (λ made. EndsBy (file_of made) made.end (Does job options (program_of compiled.now.typed) compiled.now.names (contents_of given.entry))) }
     ensures stop { IfErr result (FailsTo job options (program_of compiled.now.typed) compiled.now.names (contents_of given.entry)) }
 {
@@ -85,6 +87,17 @@ fn do_beside<R: Threads + Wait + Sync, G: Gate + Sync>(
     }
 }
 
+/// What a job made that makes no packed file of its result.
+pub fn unpacked(made: Result<Made, Stop<'static>>) -> Result<Finished, Stop<'static>>
+    ensures made { IfOk result (λ finished. (made.entry ≡ Ok finished.made) × (finished.packed ≡ None)) }
+    ensures stop { IfErr result (λ stop. made.entry ≡ Err stop) }
+{
+    match made {
+        Ok(made) => Ok(Finished { made, packed: None }),
+        Err(stop) => Err(stop),
+    }
+}
+
 /// What a job makes, for a program, of the bytes of its inputs.
 ///
 /// # Errors
@@ -97,15 +110,16 @@ pub fn do_job<R: Threads + Wait + Sync, G: Gate + Sync>(
     job: Job,
     options: Options,
     given: Given<'_>,
-) -> Result<Made, Stop<'static>>
+) -> Result<Finished, Stop<'static>>
     requires ready { IsReady (program_of compiled.typed) compiled.names }
     requires most { length given.second.now ≤ most_of job }
     requires short { IfSome given.journal (λ j. length j.now ≤ 16777216) }
-    ensures made { IfOk result (λ made. EndsBy (file_of made) made.end (Does job options (program_of compiled.typed) compiled.names (contents_of given.entry))) }
+    requires range { AreInRange job options }
+    ensures made { IfOk result (λ finished. EndsByBoth (file_of finished.made) (packed_of finished) finished.made.end (DoesAll job options (program_of compiled.typed) compiled.names (contents_of given.entry))) }
     ensures stop { IfErr result (FailsTo job options (program_of compiled.typed) compiled.names (contents_of given.entry)) }
 {
     match job {
         Job::Run => run::run(alloc, runtime, compiled, options, given.second),
-        _ => do_beside(alloc, runtime, &compiled, job, options, given),
+        _ => unpacked(do_beside(alloc, runtime, &compiled, job, options, given)),
     }
 }

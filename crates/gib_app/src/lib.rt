@@ -22,6 +22,7 @@ mod make;
 pub mod matches;
 pub mod option_law;
 mod packed;
+mod packed_result;
 mod perform;
 pub mod plan;
 mod printing;

@@ -47,7 +47,7 @@ fn mode_of(skips: bool) -> AccessMode
     if skips {
         AccessMode::Skips
     } else {
-        AccessMode::Offsets
+        AccessMode::Ends
     }
 }
 

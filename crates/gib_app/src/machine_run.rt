@@ -208,7 +208,7 @@ fn run_survey<R: Threads + Wait + Sync, G: Gate + Sync>(
 }
 
 /// Runs a program on the bytes of a packed file with the depth, the chunks of 4,096 bytes, the workers and the forks of the options; fields are
-/// reached by offsets, or by skips. What the program means stands for the root, in the memory that is handed back, whatever the workers do.
+/// reached by ends and offsets, or by skips. What the program means stands for the root, in the memory that is handed back, whatever the workers do.
 ///
 /// # Errors
 ///

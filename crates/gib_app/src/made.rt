@@ -11,6 +11,8 @@ pub enum Reason {
     Meant(gib_code::Reason),
     /// So many chunks of region memory may not be enough for what the run costs; in a replay they are not.
     Full,
+    /// The packed file of the value, which is asked for, would be too long.
+    Long,
 }
 
 /// A value in region memory, with the names of its program.
@@ -35,4 +37,11 @@ pub enum End {
 pub struct Made {
     pub file: Option<Vec<u8>>,
     pub end: End,
+}
+
+/// What a job made, and the packed file of its result, where that is asked for: it is written behind the other one.
+#[derive(Drop)]
+pub struct Finished {
+    pub made: Made,
+    pub packed: Option<Vec<u8>>,
 }

@@ -6,15 +6,16 @@ ghost use Rattle.gib_app.specs.Formats.{most_of, inputs_of};
 ghost use Rattle.gib_app.specs.Causes.{AreFurther, AreGiven, OnSource, first_of, further_of};
 ghost use Rattle.gib_app.specs.Calls.{read_calls, input_calls, reads_of};
 ghost use Rattle.gib_app.specs.Readings.{HasRead, HasStopped};
-ghost use Rattle.gib_app.specs.Kept.{contents_of, document_of, plan_of, file_of};
+ghost use Rattle.gib_app.specs.Kept.{contents_of, document_of, plan_of, file_of, packed_of};
 ghost use Rattle.gib_app.specs.Stops.{IsCompiled, IsReady, IsSourceStop, IsInputStop, IsFurtherStop, IsInputsStop, IsMakeStop};
 ghost use Rattle.gib_app.specs.Performing.{IsDone};
+ghost use Rattle.gib_app.specs.Ranges.{AreInRange};
 
 use crate::compile::{Compiled, compile};
 use crate::documents::read_document;
 use crate::input_fault::InputFault;
 use crate::jobs::{Given, do_job};
-use crate::made::Made;
+use crate::made::Finished;
 use crate::packed::survey_input;
 use crate::plan::{Document, Plan};
 use crate::runtime::Runtime;
@@ -181,8 +182,9 @@ pub fn make<'a, R: Threads + Wait + Sync, S: Shelf, G: Gate + Sync>(
     runtime: Runtime<'_, R, G>,
     shelf: &mut S,
     plan: Plan<'a>,
-) -> Result<Made, Stop<'a>>
-    ensures made { IfOk result (λ made. IsDone (S.view shelf.old).kept (plan_of plan.entry) (file_of made) made.end) }
+) -> Result<Finished, Stop<'a>>
+    requires range { AreInRange plan.job plan.options }
+    ensures made { IfOk result (λ finished. IsDone (S.view shelf.old).kept (plan_of plan.entry) (file_of finished.made) (packed_of finished) finished.made.end) }
     ensures stop { IfErr result (IsMakeStop (S.view shelf.old) (S.view shelf.new) (plan_of plan.entry)) }
     ensures read { OnOk result (HasRead (S.view shelf.old) (S.view shelf.new) (reads_of (plan_of plan.entry))) }
     ensures stopped { IfErr result (HasStopped (S.view shelf.old) (S.view shelf.new) (reads_of (plan_of plan.entry))) }
@@ -203,7 +205,7 @@ pub fn make<'a, R: Threads + Wait + Sync, S: Shelf, G: Gate + Sync>(
         plan.options,
         given(&inputs),
     ) {
-        Ok(made) => Ok(made),
+        Ok(finished) => Ok(finished),
         Err(stop) => Err(stop),
     }
 }

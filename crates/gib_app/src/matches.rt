@@ -1,6 +1,6 @@
 //! What the matches of a command ask for.
 
-ghost use Rattle.std.specs.Prelude.{◌≡◌, None, Some, is_some, option_map, option_and_then};
+ghost use Rattle.std.specs.Prelude.{◌≡◌, None, Some, codes, is_some, option_map, option_and_then};
 ghost use Rattle.clap.specs.Walk.{rows_of};
 ghost use Rattle.clap.specs.Simple.{subcommand_rows_of};
 ghost use Rattle.clap.specs.Matches.{found_of};
@@ -22,6 +22,7 @@ pub fn usual() -> Options
         fork: 4,
         pass: 4,
         image: false,
+        packs: false,
         skips: false,
         number: 0,
         levels: 0,
@@ -105,6 +106,7 @@ fn options(matches: &ArgMatches<'_>) -> Options
         fork: number_or(matches, "fork", usual.fork),
         pass: number_or(matches, "pass", usual.pass),
         image: is_given(matches, "image"),
+        packs: is_given(matches, "pack"),
         skips: flag(matches, "skips"),
         number: number_or(matches, "number", usual.number),
         levels: byte_or(matches, "levels", usual.levels),
@@ -115,7 +117,7 @@ fn options(matches: &ArgMatches<'_>) -> Options
 
 /// A job on a source alone.
 fn on_source<'a>(matches: &ArgMatches<'a>, job: Job) -> Option<Plan<'a>>
-    ensures { option_map plan_of result ≡ planned job None None NoTarget (rows_of (found_of matches.now)) }
+    ensures { option_map plan_of result ≡ planned job None None NoTarget None (rows_of (found_of matches.now)) }
 {
     Some(Plan {
         first: None,
@@ -123,6 +125,7 @@ fn on_source<'a>(matches: &ArgMatches<'a>, job: Job) -> Option<Plan<'a>>
         second: None,
         third: None,
         target: None,
+        pack: None,
         job,
         options: options(matches),
     })
@@ -130,7 +133,7 @@ fn on_source<'a>(matches: &ArgMatches<'a>, job: Job) -> Option<Plan<'a>>
 
 /// A job on a source and a second file.
 fn on_both<'a>(matches: &ArgMatches<'a>, job: Job, second: &str) -> Option<Plan<'a>>
-    ensures { option_map plan_of result ≡ planned job (Some second.now) None NoTarget (rows_of (found_of matches.now)) }
+    ensures { option_map plan_of result ≡ planned job (Some second.now) None NoTarget None (rows_of (found_of matches.now)) }
 {
     Some(Plan {
         first: None,
@@ -138,6 +141,7 @@ fn on_both<'a>(matches: &ArgMatches<'a>, job: Job, second: &str) -> Option<Plan<
         second: Some(file(matches, second)?),
         third: None,
         target: None,
+        pack: None,
         job,
         options: options(matches),
     })
@@ -145,7 +149,7 @@ fn on_both<'a>(matches: &ArgMatches<'a>, job: Job, second: &str) -> Option<Plan<
 
 /// A job on a source and a second file, that makes a file.
 fn to_target<'a>(matches: &ArgMatches<'a>, job: Job, second: &str, target: &str) -> Option<Plan<'a>>
-    ensures { option_map plan_of result ≡ planned job (Some second.now) None (AtPlace target.now) (rows_of (found_of matches.now)) }
+    ensures { option_map plan_of result ≡ planned job (Some second.now) None (AtPlace target.now) None (rows_of (found_of matches.now)) }
 {
     Some(Plan {
         first: None,
@@ -153,22 +157,24 @@ fn to_target<'a>(matches: &ArgMatches<'a>, job: Job, second: &str, target: &str)
         second: Some(file(matches, second)?),
         third: None,
         target: Some(word(matches, target)?),
+        pack: None,
         job,
         options: options(matches),
     })
 }
 
-/// A job on a source and a second file, that makes a file where an option names one.
-fn to_option<'a>(matches: &ArgMatches<'a>, job: Job, second: &str, target: &str) -> Option<Plan<'a>>
-    ensures { option_map plan_of result ≡ planned job (Some second.now) None (ByOption target.now) (rows_of (found_of matches.now)) }
+/// To run a program on an input: options name the image of its memory and the packed file of its result.
+fn to_run<'a>(matches: &ArgMatches<'a>) -> Option<Plan<'a>>
+    ensures { option_map plan_of result ≡ planned Job.Run (Some (codes "input")) None (ByOption (codes "image")) (Some (codes "pack")) (rows_of (found_of matches.now)) }
 {
     Some(Plan {
         first: None,
         source: file(matches, "source")?,
-        second: Some(file(matches, second)?),
+        second: Some(file(matches, "input")?),
         third: None,
-        target: word(matches, target),
-        job,
+        target: word(matches, "image"),
+        pack: word(matches, "pack"),
+        job: Job::Run,
         options: options(matches),
     })
 }
@@ -181,7 +187,7 @@ fn on_three<'a>(
     third: &str,
     target: &str,
 ) -> Option<Plan<'a>>
-    ensures { option_map plan_of result ≡ planned job (Some second.now) (Some third.now) (ByOption target.now) (rows_of (found_of matches.now)) }
+    ensures { option_map plan_of result ≡ planned job (Some second.now) (Some third.now) (ByOption target.now) None (rows_of (found_of matches.now)) }
 {
     Some(Plan {
         first: None,
@@ -189,6 +195,7 @@ fn on_three<'a>(
         second: Some(file(matches, second)?),
         third: Some(file(matches, third)?),
         target: word(matches, target),
+        pack: None,
         job,
         options: options(matches),
     })
@@ -208,6 +215,7 @@ fn to_make<'a>(matches: &ArgMatches<'a>) -> Option<Plan<'a>>
         second: Some(Document::MadeInput(options.number, options.levels)),
         third: None,
         target: None,
+        pack: None,
         job: Job::Gen,
         options,
     })
@@ -218,7 +226,7 @@ fn read_plan<'a>(name: &str, matches: &ArgMatches<'a>) -> Option<Plan<'a>>
     ensures { option_map plan_of result ≡ read_requested name.now (rows_of (found_of matches.now)) }
 {
     match name {
-        "run" => to_option(matches, Job::Run, "input", "image"),
+        "run" => to_run(matches),
         "plain" => on_both(matches, Job::Plain, "input"),
         "check" => on_source(matches, Job::Check),
         "core" => on_source(matches, Job::Core),

@@ -1,59 +1,78 @@
 //! Does a plan, up to what is printed.
 
-ghost use Rattle.std.specs.Prelude.{◌≡◌, ◌≤◌, ℕ, List, [], IfOk, IfErr, OnOk, OnErr};
-ghost use Rattle.gib_app.specs.Writes.{AreMade, writes_of};
+ghost use Rattle.std.specs.Prelude.{◌≡◌, ◌≤◌, ◌⊎◌, ℕ, List, [], Some, option_map, IfOk, IfErr, OnOk};
+ghost use Rattle.gib_app.specs.Writes.{AreMade, writes_of, job_writes};
+ghost use Rattle.gib_app.specs.FirstWrites.{HasWritten, HasStuck};
 ghost use Rattle.gib_app.specs.Ending.{ReadsStay, StaysAfter, WritesStay};
-ghost use Rattle.gib_app.specs.Performing.{IsPerformed, IsWriteStop, OthersStay, StopFiles};
+ghost use Rattle.gib_app.specs.Performing.{IsHalfway, IsPerformed, OthersStay, StopFiles};
 ghost use Rattle.gib_edge.specs.Causes.{AppendsPart};
-ghost use Rattle.gib_app.specs.Calls.{write_calls, calls_of};
-ghost use Rattle.gib_app.specs.Kept.{plan_of, file_of};
+ghost use Rattle.gib_app.specs.Calls.{calls_of};
+ghost use Rattle.gib_app.specs.Kept.{plan_of, file_of, packed_of};
 ghost use Rattle.gib_app.specs.declared.made.Valued.{Valued as Values};
 ghost use Rattle.gib_app.specs.Stopping.{answer_for};
 ghost use Rattle.gib_app.specs.Stops.{IsStop};
+ghost use Rattle.gib_app.specs.Words.{asked};
 
-use crate::first::write_first;
-use crate::made::{End, Made};
+use crate::first::{write_first, write_named};
+use crate::made::{End, Finished};
 use crate::make::make;
 use crate::plan::Plan;
 use crate::runtime::Runtime;
 use crate::stop::Stop;
-use gib_edge::outside::{Gate, Shelf, ShelfFault};
+use gib_edge::outside::{Gate, Shelf};
 use std::alloc::Global;
 use std::sync::Wait;
 use std::thread::Threads;
 
-/// Writes the file that a job made, where there is one.
+/// Writes a file under a name, where there are both.
 fn write_file<'a, S: Shelf>(
     alloc: Global,
     shelf: &mut S,
-    plan: Plan<'a>,
-    made: &Made,
+    name: Option<&'a str>,
+    file: &Option<Vec<u8>>,
 ) -> Result<(), Stop<'a>>
-    ensures written { OnOk result (AreMade S.tells (S.view shelf.old).kept (S.view shelf.new).kept (writes_of (file_of made.now) (plan_of plan.entry).target)) }
-    ensures stop { IfErr result (IsWriteStop (S.view shelf.old) (S.view shelf.new) (plan_of plan.entry) (file_of made.now)) }
-    ensures others { OthersStay (plan_of plan.entry) (S.view shelf.old).kept (S.view shelf.new).kept }
+    ensures written { OnOk result (HasWritten S.tells (S.view shelf.old) (S.view shelf.new) (writes_of (option_map (λ bytes. bytes.items) file.now) (option_map (λ name. name.now) name.entry))) }
+    ensures stuck { IfErr result (HasStuck S.tells (S.view shelf.old) (S.view shelf.new) (writes_of (option_map (λ bytes. bytes.items) file.now) (option_map (λ name. name.now) name.entry))) }
     ensures same { IfErr result (λ stop. StaysAfter S.tells [] (S.view shelf.old).kept (S.view shelf.new).kept (answer_for stop).status) }
-    ensures reads { (name : List ℕ) → (S.view shelf.new).reads name ≡ (S.view shelf.old).reads name }
-    ensures later { (name : List ℕ) → (S.view shelf.old).writes name ≤ (S.view shelf.new).writes name }
-    ensures quiet { OnOk result ((name : List ℕ) → (S.view shelf.new).writes name ≡ (S.view shelf.old).writes name) }
-    ensures writes { IfErr result (λ stop. WritesStay (S.view shelf.old).writes (S.view shelf.new).writes (answer_for stop).status) }
-    ensures once { AppendsPart (S.view shelf.old).calls (S.view shelf.new).calls (write_calls (plan_of plan.entry).target) }
+    ensures named { IfErr result (λ _. (n : List ℕ) × (option_map (λ name. name.now) name.entry ≡ Some n)) }
+    ensures there { IfErr result (λ _. (bytes : List ℕ) × (option_map (λ bytes. bytes.items) file.now ≡ Some bytes)) }
 {
-    let Some(name) = plan.target else {
+    let Some(name) = name else {
         return Ok(());
     };
-    let Some(bytes) = &made.file else {
+    let Some(bytes) = file else {
         return Ok(());
     };
-    match shelf.write(alloc, name, bytes) {
+    match write_named(alloc, shelf, name, bytes) {
         Ok(()) => Ok(()),
-        Err(ShelfFault::Failed) => Err(Stop::Unwritten(name)),
-        Err(ShelfFault::Memory) => Err(Stop::Memory),
+        Err(stop) => Err(stop),
     }
 }
 
-/// Does a plan: its first writes are made; its job is done and the file that it makes is written, also where there is no value to
-/// print.
+/// Writes what a job made: its file, and then the packed file of its result, where there are such.
+fn write_files<'a, S: Shelf>(
+    alloc: Global,
+    shelf: &mut S,
+    plan: Plan<'a>,
+    finished: &Finished,
+) -> Result<(), Stop<'a>>
+    ensures written { OnOk result (HasWritten S.tells (S.view shelf.old) (S.view shelf.new) (job_writes (plan_of plan.entry) (file_of finished.now.made) (packed_of finished.now))) }
+    ensures stuck { IfErr result (HasStuck S.tells (S.view shelf.old) (S.view shelf.new) (job_writes (plan_of plan.entry) (file_of finished.now.made) (packed_of finished.now))) }
+    ensures same { IfErr result (λ stop. StaysAfter S.tells [] (S.view shelf.old).kept (S.view shelf.new).kept (answer_for stop).status
+        ⊎ IsHalfway S.tells (S.view shelf.old).kept (S.view shelf.new).kept (plan_of plan.entry) (file_of finished.now.made) (packed_of finished.now) (answer_for stop).status) }
+{
+    match write_file(alloc, shelf, plan.target, &finished.made.file) {
+        Ok(()) => {}
+        Err(stop) => return Err(stop),
+    }
+    match write_file(alloc, shelf, plan.pack, &finished.packed) {
+        Ok(()) => Ok(()),
+        Err(stop) => Err(stop),
+    }
+}
+
+/// Does a plan that words ask for: its first writes are made; its job is done and the files that it makes are written, also where there is
+/// no value to print.
 ///
 /// # Errors
 ///
@@ -65,6 +84,7 @@ pub fn perform<'a, R: Threads + Wait + Sync, S: Shelf, G: Gate + Sync>(
     shelf: &mut S,
     plan: Plan<'a>,
 ) -> Result<End, Stop<'a>>
+    requires asked { (words : List (List ℕ)) × (asked words ≡ Some (plan_of plan)) }
     ensures done { IfOk result (λ end. IsPerformed S.tells (S.view shelf.old).kept (S.view shelf.new).kept (plan_of plan.entry) end) }
     ensures value { IfOk result (λ end. (value : Values) → end ≡ End.Value value → AreMade S.tells (S.view shelf.old).kept (S.view shelf.new).kept (plan_of plan.entry).first) }
     ensures stop { IfErr result (IsStop S.tells (S.view shelf.old) (S.view shelf.new) (plan_of plan.entry)) }
@@ -82,12 +102,12 @@ pub fn perform<'a, R: Threads + Wait + Sync, S: Shelf, G: Gate + Sync>(
         Ok(()) => {}
         Err(stop) => return Err(stop),
     }
-    let made = match make(alloc, runtime, shelf, plan) {
-        Ok(made) => made,
+    let finished = match make(alloc, runtime, shelf, plan) {
+        Ok(finished) => finished,
         Err(stop) => return Err(stop),
     };
-    match write_file(alloc, shelf, plan, &made) {
-        Ok(()) => Ok(made.end),
+    match write_files(alloc, shelf, plan, &finished) {
+        Ok(()) => Ok(finished.made.end),
         Err(stop) => Err(stop),
     }
 }

@@ -70,7 +70,9 @@ pub struct Options {
     pub pass: u32,
     /// Whether the image of region memory is written.
     pub image: bool,
-    /// Whether fields are reached from the end of the field before them, and not by offsets that heads store.
+    /// Whether the packed file of the result is written.
+    pub packs: bool,
+    /// Whether fields are reached by a walk over the field before them, and not by ends that calls tell or offsets that heads store.
     pub skips: bool,
     /// What a program and its input are made of.
     pub number: u32,
@@ -97,7 +99,8 @@ pub struct Input<'a> {
 }
 
 /// What to do: a source and an input are made and written, where they have names; the source is read, then the second file and the
-/// third; the job is done with them; the file that it makes is written under the target's name.
+/// third; the job is done with them; the file that it makes is written under the target's name, and then the packed file of its result
+/// under the name `pack`.
 #[derive(Clone, Copy, Debug)]
 pub struct Plan<'a> {
     pub first: Option<MadeNames<'a>>,
@@ -105,6 +108,7 @@ pub struct Plan<'a> {
     pub second: Option<Document<'a>>,
     pub third: Option<Document<'a>>,
     pub target: Option<&'a str>,
+    pub pack: Option<&'a str>,
     pub job: Job,
     pub options: Options,
 }

@@ -66,6 +66,7 @@ fn replay_survey(
     requires ty { survey.ty ≡ (core_of lowered.now.core).main.parameter }
     ensures ends { IfOk result (λ made. (v : Datum) → Packed survey.entry.table survey.entry.ty v survey.entry.bytes
         → IsEndBy (engine_of lowered.now) v journal.now.settings journal.now.lines.all.items (⟦<PlainMem as Mem>⟧.view made.memory) made.answer) }
+    ensures limit { IfOk result (λ made. (⟦<PlainMem as Mem>⟧.view made.memory).limit ≤ 65536) }
     ensures stop { IfErr result (λ stop. (v : Datum) → Packed survey.entry.table survey.entry.ty v survey.entry.bytes
         → StopsTo (engine_of lowered.now) v journal.now.settings journal.now.lines.all.items stop) }
 {
@@ -115,6 +116,7 @@ pub fn replay_packed(
     requires short { length file.now ≤ FILE_BYTES }
     requires few { length bytes.now ≤ FILE_BYTES }
     ensures ends { IfOk result (λ run. IsReplayed (program_of typed.now) names.now file.now bytes.now run.lowered.code.laid (⟦<PlainMem as Mem>⟧.view run.replayed.memory) run.replayed.answer) }
+    ensures limit { IfOk result (λ run. (⟦<PlainMem as Mem>⟧.view run.replayed.memory).limit ≤ 65536) }
     ensures stop { IfErr result (IsNotReplayed (program_of typed.now) names.now file.now bytes.now) }
 {
     one_file();

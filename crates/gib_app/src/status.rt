@@ -25,6 +25,8 @@ pub enum Status {
     Input,
     /// The program divides by 0.
     Trap,
+    /// The packed file of the result would be too long.
+    Long,
 }
 
 impl Status {
@@ -45,6 +47,7 @@ impl Status {
             Status::WriteFault => 7,
             Status::Input => 8,
             Status::Trap => 9,
+            Status::Long => 10,
         }
     }
 }

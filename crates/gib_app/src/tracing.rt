@@ -10,6 +10,7 @@ ghost use Rattle.gib_locked.specs.Limits.{are_settings};
 ghost use Rattle.gib_lower.specs.Lowering.{lower_program};
 ghost use Rattle.gib_syntax.specs.Parts.{program_of};
 ghost use Rattle.gib_app.specs.Cores.{core_after, layouts_of};
+ghost use Rattle.gib_app.specs.Ranges.{AreOfRun};
 ghost use Rattle.gib_app.specs.Replaying.{IsSetBy};
 ghost use Rattle.gib_app.specs.Workers.{IsEndBy, IsTraced, IsTraceStop, IsWorkersStop, engine_of};
 
@@ -41,7 +42,7 @@ pub struct TracedRun {
     pub traced: Traced,
 }
 
-/// What workers start with; none exactly where an option is past its limits, which no words ask for (`option_law`).
+/// What workers start with; none exactly where an option is past its limits.
 fn settings_of(options: Options) -> Option<Settings>
     ensures { MatchOption result (are_settings options.depth options.chunks options.fork ≡ false) (IsSetBy options) }
 {
@@ -58,6 +59,7 @@ fn trace_survey<R: Threads + Wait + Sync, G: Gate + Sync>(
 ) -> Result<Traced, Stop<'static>>
     requires table { survey.table ≡ lowered.now.code.laid.table }
     requires ty { survey.ty ≡ (core_of lowered.now.core).main.parameter }
+    requires range { AreOfRun options }
     ensures ends { IfOk result (λ made. (v : Datum) → Packed survey.entry.table survey.entry.ty v survey.entry.bytes
         → IsEndBy (engine_of lowered.now) v made.journal.settings made.journal.lines.all.items (⟦<PlainMem as Mem>⟧.view made.memory) made.answer) }
     ensures set { IfOk result (λ made. IsSetBy options made.journal.settings) }
@@ -66,12 +68,8 @@ fn trace_survey<R: Threads + Wait + Sync, G: Gate + Sync>(
         → IsWorkersStop (Tight options.chunks (run_cost (core_of lowered.now.core) options.depth options.fork v)) stop) }
 {
     let _packed = survey.payload();
-    // No words ask for options past their limits, or for no worker.
-    if options.workers == 0 {
-        return Err(Stop::Memory);
-    }
     let Some(settings) = settings_of(options) else {
-        return Err(Stop::Memory);
+        unreachable!()
     };
     let loaded = match load_input(alloc, lowered, survey, options.chunks) {
         Ok(loaded) => loaded,
@@ -99,7 +97,7 @@ fn trace_survey<R: Threads + Wait + Sync, G: Gate + Sync>(
 /// # Errors
 ///
 /// `Input` where the bytes are no packed file of a value of the type of main's parameter; else `NoValue(Full)` where so many chunks may
-/// not be enough. `Memory`: want of memory; also where an option is past its limits, which no words ask for.
+/// not be enough. `Memory`: want of memory.
 pub fn trace_packed<R: Threads + Wait + Sync, G: Gate + Sync>(
     alloc: Global,
     runtime: Runtime<'_, R, G>,
@@ -109,6 +107,7 @@ pub fn trace_packed<R: Threads + Wait + Sync, G: Gate + Sync>(
     options: Options,
 ) -> Result<TracedRun, Stop<'static>>
     requires short { length file.now ≤ FILE_BYTES }
+    requires range { AreOfRun options }
     ensures ends { IfOk result (λ run. IsTraced (program_of typed.now) names.now options file.now run.traced.journal.settings run.traced.journal.lines.all.items
         (⟦<PlainMem as Mem>⟧.view run.traced.memory) run.traced.answer) }
     // It is the code of the program's core that ran, in a memory of so many chunks.

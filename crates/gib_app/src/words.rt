@@ -23,6 +23,7 @@ fn sample() -> Plan<'static>
         second: Some(Document::BuiltIn(SAMPLE_INPUT)),
         third: None,
         target: None,
+        pack: None,
         job: Job::Run,
         options: usual(),
     }

@@ -1,28 +1,37 @@
 //! `run`: prints what a program means on an input.
 
-ghost use Rattle.std.specs.Prelude.{◌≡◌, ◌≤◌, ℕ, List, length, IfOk, IfErr};
+ghost use Rattle.std.specs.Prelude.{◌≡◌, ◌≤◌, ℕ, List, length, true, Some, None, IfOk, IfErr};
 ghost use Rattle.gib_value.specs.Text.{AreHeld};
+ghost use Rattle.gib_syntax.specs.Declarations.{output_type};
 ghost use Rattle.gib_syntax.specs.Tree.{ProgramTree};
 ghost use Rattle.gib_syntax.specs.Parts.{program_of};
 ghost use Rattle.gib_app.specs.declared.plan.Options.{Options as OptionValues};
 ghost use Rattle.gib_app.specs.Cores.{layouts_of};
-ghost use Rattle.gib_app.specs.Jobs.{Runs};
-ghost use Rattle.gib_app.specs.Kept.{EndsBy, file_of};
+ghost use Rattle.gib_app.specs.Imaging.{IsShownWith};
+ghost use Rattle.gib_app.specs.Jobs.{Runs, RunsBoth};
+ghost use Rattle.gib_app.specs.Kept.{EndsBy, EndsByBoth, file_of, packed_of};
 ghost use Rattle.gib_app.specs.MachineRun.{StandsMeant};
+ghost use Rattle.gib_app.specs.Ranges.{AreOfRun};
+ghost use Rattle.gib_app.specs.Remains.{ComesOfMemory, IsLeft};
+ghost use Rattle.gib_app.specs.Replaying.{IsImageFile};
 ghost use Rattle.gib_app.specs.Stops.{IsReady, IsRunStop};
 
 use crate::compile::Compiled;
-use crate::imaging::with_image;
+use crate::imaging::{image_alone, with_image, with_text};
+use crate::jobs::unpacked;
 use crate::machine_run::run_packed;
-use crate::made::{End, Made, Valued};
+use crate::made::{End, Finished, Made, Reason, Valued};
+use crate::packed_result::packed_result;
 use crate::plan::Options;
 use crate::printing::of_stop;
 use crate::runtime::Runtime;
 use crate::stop::Stop;
 use gib_arena::SoleMem;
 use gib_base::limits::FILE_BYTES;
+use gib_compact::CompactFault;
 use gib_edge::outside::Gate;
 use gib_mem::Mem;
+use gib_types::Ty;
 use std::alloc::Global;
 use std::sync::Wait;
 use std::thread::Threads;
@@ -31,9 +40,13 @@ use std::thread::Threads;
 fn finish(alloc: Global, value: Valued, image: bool) -> Result<Made, Stop<'static>>
     requires names { AreHeld value.ran.lowered.code.laid.table value.names }
     requires stands { (p : ProgramTree) × (depth : ℕ) × (input : List ℕ) × StandsMeant p value.names depth input value.ran.lowered.code.laid (⟦<SoleMem as Mem>⟧.view value.ran.memory).cells value.ran.root }
+    requires few { (⟦<SoleMem as Mem>⟧.view value.ran.memory).limit ≤ 65536 }
     ensures made { (p : ProgramTree) (options : OptionValues) (input : List ℕ) → value.ran.lowered.code.laid ≡ layouts_of options.skips p → options.image ≡ image → (⟦<SoleMem as Mem>⟧.view value.ran.memory).limit ≡ options.chunks
         → (s : StandsMeant p value.names options.depth input value.ran.lowered.code.laid (⟦<SoleMem as Mem>⟧.view value.ran.memory).cells value.ran.root)
         → IfOk result (λ made. EndsBy (file_of made) made.end (Runs p value.names options input)) }
+    // It comes from the memory that the run left.
+    ensures region { (p : ProgramTree) (options : OptionValues) (input : List ℕ) → options.image ≡ image → IsLeft p value.names options input value
+        → IfOk result (λ made. ComesOfMemory p value.names options input (file_of made) made.end) }
     ensures memory { IfErr result (λ stop. stop ≡ Stop.Memory) }
 {
     if !image {
@@ -48,6 +61,107 @@ fn finish(alloc: Global, value: Valued, image: bool) -> Result<Made, Stop<'stati
     }
 }
 
+/// A packed file of a result, with the text of it, and the image of its memory, where that is asked for.
+fn with_packed(
+    alloc: Global,
+    value: Valued,
+    image: bool,
+    packed: Vec<u8>,
+) -> Result<Finished, Stop<'static>>
+    requires names { AreHeld value.ran.lowered.code.laid.table value.names }
+    requires stands { (p : ProgramTree) × (depth : ℕ) × (input : List ℕ) × StandsMeant p value.names depth input value.ran.lowered.code.laid (⟦<SoleMem as Mem>⟧.view value.ran.memory).cells value.ran.root }
+    requires few { (⟦<SoleMem as Mem>⟧.view value.ran.memory).limit ≤ 65536 }
+    ensures shown { (p : ProgramTree) (depth : ℕ) (input : List ℕ) (s : StandsMeant p value.names depth input value.ran.lowered.code.laid (⟦<SoleMem as Mem>⟧.view value.ran.memory).cells value.ran.root)
+        → IfOk result (λ finished. IsShownWith image value.ran.lowered.code.laid (⟦<SoleMem as Mem>⟧.view value.ran.memory) value.ran.root p value.names s.result (file_of finished.made) finished.made.end) }
+    ensures packed { IfOk result (λ finished. packed_of finished ≡ Some packed.items) }
+    ensures memory { IfErr result (λ stop. stop ≡ Stop.Memory) }
+{
+    match with_text(alloc, value, image) {
+        Ok(made) => Ok(Finished {
+            made,
+            packed: Some(packed),
+        }),
+        Err(_) => Err(Stop::Memory),
+    }
+}
+
+/// What a run makes whose result would have too long a packed file: the image of its memory, where that is asked for.
+fn without_packed(alloc: Global, value: Valued, image: bool) -> Result<Finished, Stop<'static>>
+    requires stands { (p : ProgramTree) × (depth : ℕ) × (input : List ℕ) × StandsMeant p value.names depth input value.ran.lowered.code.laid (⟦<SoleMem as Mem>⟧.view value.ran.memory).cells value.ran.root }
+    requires few { (⟦<SoleMem as Mem>⟧.view value.ran.memory).limit ≤ 65536 }
+    ensures image { (p : ProgramTree) (depth : ℕ) (input : List ℕ) (s : StandsMeant p value.names depth input value.ran.lowered.code.laid (⟦<SoleMem as Mem>⟧.view value.ran.memory).cells value.ran.root)
+        → IfOk result (λ finished. IsImageFile image value.ran.lowered.code.laid (output_type p) (⟦<SoleMem as Mem>⟧.view value.ran.memory) value.ran.root s.result (file_of finished.made)) }
+    ensures long { IfOk result (λ finished. (finished.made.end ≡ End.NoValue Reason.Long) × (packed_of finished ≡ None)) }
+    ensures memory { IfErr result (λ stop. stop ≡ Stop.Memory) }
+{
+    match image_alone(alloc, value, image) {
+        Ok(file) => Ok(Finished {
+            made: Made {
+                file,
+                end: End::NoValue(Reason::Long),
+            },
+            packed: None,
+        }),
+        Err(_) => Err(Stop::Memory),
+    }
+}
+
+/// What a run makes that leaves a value of this type, whose packed file is asked for. That is counted before the text is made, which
+/// may then be of any length; and the text is made before anything is written, so that memory cannot run out for it behind a write.
+fn finish_packed<R: Threads + Sync>(
+    alloc: Global,
+    threads: &R,
+    value: Valued,
+    ty: Ty,
+    options: Options,
+) -> Result<Finished, Stop<'static>>
+    requires names { AreHeld value.ran.lowered.code.laid.table value.names }
+    requires stands { (p : ProgramTree) × (depth : ℕ) × (input : List ℕ) × (ty ≡ output_type p) × StandsMeant p value.names depth input value.ran.lowered.code.laid (⟦<SoleMem as Mem>⟧.view value.ran.memory).cells value.ran.root }
+    requires packs { options.packs ≡ true }
+    requires few { (⟦<SoleMem as Mem>⟧.view value.ran.memory).limit ≤ 65536 }
+    ensures made { (p : ProgramTree) (input : List ℕ) → ty ≡ output_type p → value.ran.lowered.code.laid ≡ layouts_of options.skips p → (⟦<SoleMem as Mem>⟧.view value.ran.memory).limit ≡ options.chunks
+        → (s : StandsMeant p value.names options.depth input value.ran.lowered.code.laid (⟦<SoleMem as Mem>⟧.view value.ran.memory).cells value.ran.root)
+        → IfOk result (λ finished. EndsByBoth (file_of finished.made) (packed_of finished) finished.made.end (RunsBoth p value.names options input)) }
+    // It comes from the memory that the run left.
+    ensures region { (p : ProgramTree) (input : List ℕ) → IsLeft p value.names options input value
+        → IfOk result (λ finished. ComesOfMemory p value.names options input (file_of finished.made) finished.made.end) }
+    ensures memory { IfErr result (λ stop. stop ≡ Stop.Memory) }
+{
+    let (packed, value) = packed_result(alloc, threads, value, ty, options.workers);
+    match packed {
+        Ok(packed) => with_packed(alloc, value, options.image, packed),
+        Err(fault) => match fault {
+            CompactFault::Long => without_packed(alloc, value, options.image),
+            CompactFault::Memory => Err(Stop::Memory),
+        },
+    }
+}
+
+/// What a run makes that leaves a value of this type: its image and its packed file too, where these are asked for.
+fn finish_run<R: Threads + Sync>(
+    alloc: Global,
+    threads: &R,
+    value: Valued,
+    ty: Ty,
+    options: Options,
+) -> Result<Finished, Stop<'static>>
+    requires names { AreHeld value.ran.lowered.code.laid.table value.names }
+    requires stands { (p : ProgramTree) × (depth : ℕ) × (input : List ℕ) × (ty ≡ output_type p) × StandsMeant p value.names depth input value.ran.lowered.code.laid (⟦<SoleMem as Mem>⟧.view value.ran.memory).cells value.ran.root }
+    requires few { (⟦<SoleMem as Mem>⟧.view value.ran.memory).limit ≤ 65536 }
+    ensures made { (p : ProgramTree) (input : List ℕ) → ty ≡ output_type p → value.ran.lowered.code.laid ≡ layouts_of options.skips p → (⟦<SoleMem as Mem>⟧.view value.ran.memory).limit ≡ options.chunks
+        → (s : StandsMeant p value.names options.depth input value.ran.lowered.code.laid (⟦<SoleMem as Mem>⟧.view value.ran.memory).cells value.ran.root)
+        → IfOk result (λ finished. EndsByBoth (file_of finished.made) (packed_of finished) finished.made.end (RunsBoth p value.names options input)) }
+    // It comes from the memory that the run left.
+    ensures region { (p : ProgramTree) (input : List ℕ) → IsLeft p value.names options input value
+        → IfOk result (λ finished. ComesOfMemory p value.names options input (file_of finished.made) finished.made.end) }
+    ensures memory { IfErr result (λ stop. stop ≡ Stop.Memory) }
+{
+    if options.packs {
+        return finish_packed(alloc, threads, value, ty, options);
+    }
+    unpacked(finish(alloc, value, options.image))
+}
+
 /// What a program means on the bytes of an input, within the depth, in memory of so many chunks, by so many workers.
 ///
 /// # Errors
@@ -59,15 +173,21 @@ pub fn run<R: Threads + Wait + Sync, G: Gate + Sync>(
     compiled: Compiled,
     options: Options,
     input: &[u8],
-) -> Result<Made, Stop<'static>>
+) -> Result<Finished, Stop<'static>>
     requires ready { IsReady (program_of compiled.typed) compiled.names }
     requires short { length input.now ≤ FILE_BYTES }
-    ensures made { IfOk result (λ made. EndsBy (file_of made) made.end (Runs (program_of compiled.typed) compiled.names options input.now)) }
+    requires range { AreOfRun options }
+    ensures made { IfOk result (λ finished. EndsByBoth (file_of finished.made) (packed_of finished) finished.made.end (RunsBoth (program_of compiled.typed) compiled.names options input.now)) }
+    // What is printed stands in the region memory that the run left, in as many chunks as are asked for, and where an image is asked for, it is
+    // of that memory.
+    ensures region { IfOk result (λ finished. ComesOfMemory (program_of compiled.typed) compiled.names options input.now (file_of finished.made) finished.made.end) }
     ensures stop { IfErr result (IsRunStop (program_of compiled.typed) compiled.names input.now) }
 {
+    let threads = runtime.threads;
     let Compiled { typed, names } = compiled;
+    let ty = typed.output_type();
     match run_packed(alloc, runtime, &typed, &names, input, options) {
-        Ok(ran) => finish(alloc, Valued { ran, names }, options.image),
-        Err(stop) => of_stop(stop),
+        Ok(ran) => finish_run(alloc, threads, Valued { ran, names }, ty, options),
+        Err(stop) => unpacked(of_stop(stop)),
     }
 }

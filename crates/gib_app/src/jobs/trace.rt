@@ -8,6 +8,7 @@ ghost use Rattle.gib_app.specs.declared.plan.Options.{Options as OptionValues};
 ghost use Rattle.gib_app.specs.Cores.{layouts_of};
 ghost use Rattle.gib_app.specs.Jobs.{Traces};
 ghost use Rattle.gib_app.specs.Kept.{EndsBy, file_of};
+ghost use Rattle.gib_app.specs.Ranges.{AreOfRun};
 ghost use Rattle.gib_app.specs.Stops.{IsReady, IsRunStop};
 ghost use Rattle.gib_app.specs.Workers.{IsTraced};
 
@@ -80,6 +81,7 @@ pub fn trace<R: Threads + Wait + Sync, G: Gate + Sync>(
 ) -> Result<Made, Stop<'static>>
     requires ready { IsReady (program_of compiled.now.typed) compiled.now.names }
     requires short { length input.now ≤ FILE_BYTES }
+    requires range { AreOfRun options }
     ensures made { IfOk result (λ made. EndsBy (file_of made) made.end (Traces (program_of compiled.now.typed) compiled.now.names options input.now)) }
     ensures stop { IfErr result (IsRunStop (program_of compiled.now.typed) compiled.now.names input.now) }
 {

@@ -1,4 +1,4 @@
-use Rattle.std.proofs.Common.{◌≡◌, ◌∙◌, Err, ap, subst, sym}
+use Rattle.std.proofs.Common.{◌≡◌, ◌∙◌, Err, Ok, ap, subst, sym}
 use Rattle.gib_types.specs.declared.table.Ty.{Ty}
 use Rattle.gib_types.specs.Layout.{LaidOut}
 use Rattle.gib_print.specs.ImageReading.{ReadsTo}
@@ -22,3 +22,11 @@ returns-clause-stop c = λ names.
     let read = subst T c.output_type.ensures (subst L laid c.in-Err-read_image.ensures.reads) in
     let S : Stop → Type 0 = IsShowStop p names skips bytes in
     subst S (sym c.of_image.ensures) (image_stops c.a_value_is_not_refused.ensures p names skips bytes c.requires.sign c.requires.short fault read)
+
+pub returns-in-Ok-read_image-clause-read : goal.returns-in-Ok-read_image-clause-read
+returns-in-Ok-read_image-clause-read c =
+    let p = program_of c.args.typed.now in
+    let laid : c.layouts-layouts.result.now ≡ layouts_of c.args.skips p = c.layouts-layouts.ensures ∙ ap (λ (x : CodeTree). x.laid) c.code.ensures.value ∙ c.in-Ok.ensures.laid in
+    let L : LaidOut → Type 0 = λ l. ReadsTo l c.output_type.result c.args.bytes.now (Ok c.in-Ok-read_image.value) in
+    let T : Ty → Type 0 = λ t. ReadsTo (layouts_of c.args.skips p) t c.args.bytes.now (Ok c.in-Ok-read_image.value) in
+    subst T c.output_type.ensures (subst L laid c.in-Ok-read_image.ensures.reads)

@@ -1,10 +1,10 @@
 use Rattle.std.proofs.Common.{refl, subst}
 use Rattle.gib_syntax.specs.Parts.{program_of}
-use Rattle.gib_app.specs.declared.made.Made.{Made}
+use Rattle.gib_app.specs.declared.made.Finished.{Finished}
 use Rattle.gib_app.specs.Calls.{input_calls, read_calls, reads_of}
 use Rattle.gib_app.specs.Formats.{inputs_of}
-use Rattle.gib_app.specs.Jobs.{Does}
-use Rattle.gib_app.specs.Kept.{document_of, plan_of, EndsBy, file_of}
+use Rattle.gib_app.specs.Jobs.{DoesAll}
+use Rattle.gib_app.specs.Kept.{document_of, plan_of, EndsByBoth, file_of, packed_of}
 use Rattle.gib_app.specs.Plan.{Contents}
 use Rattle.gib_app.specs.Stops.{FailsTo}
 use Rattle.gib_app.proofs.AfterReads.{both_read, stopped_behind, stopped_in_front, stopped_next}
@@ -45,9 +45,9 @@ returns-in-Ok-do_job-clause-made g c =
     let kept = (g.S.Shelf.view c.args.shelf.now).kept in
     let r = plan_of c.args.plan in
     let p = program_of c.in-Ok.compiled.typed in
-    let made : Made = c.in-Ok-do_job.made in
-    let P : Contents → Type 0 = λ given. EndsBy (file_of made) made.end (Does r.job r.options p c.in-Ok.compiled.names given) in
-    on_both kept r (document_of c.args.plan.source) p c.in-Ok.compiled.names _ (λ q ns given. EndsBy _ _ (Does r.job r.options q ns given)) refl
+    let done' : Finished = c.in-Ok-do_job.finished in
+    let P : Contents → Type 0 = λ given. EndsByBoth (file_of done'.made) (packed_of done') done'.made.end (DoesAll r.job r.options p c.in-Ok.compiled.names given) in
+    on_both kept r (document_of c.args.plan.source) p c.in-Ok.compiled.names _ (λ q ns given. EndsByBoth _ _ _ (DoesAll r.job r.options q ns given)) refl
     c.in-Ok.ensures.compiled (held_before kept (g.S.Shelf.view c.load_program.new.shelf).kept (inputs_of r) _ c.in-Ok.ensures.read.same c.in-Ok-read_inputs.ensures.bytes)
     (subst P c.given.ensures.contents c.in-Ok-do_job.ensures.made)
 

@@ -29,4 +29,4 @@ returns-in_default c =
         ),
       ),
     ) in
-    sym (ap (option_and_then (λ (form : Form). planned form.job form.second form.third form.target rows)) none)
+    sym (ap (option_and_then (λ (form : Form). planned form.job form.second form.third form.target form.pack rows)) none)

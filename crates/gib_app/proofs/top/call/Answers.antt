@@ -7,7 +7,7 @@ use Rattle.gib_app.specs.Words.{asked, bytes_of}
 use Rattle.gib_app.specs.Kept.{plan_of}
 use Rattle.gib_app.specs.Performing.{IsPerformed}
 use Rattle.gib_app.specs.declared.status.Status.TheVariants as status
-use Rattle.gib_app.proofs.Performing.{others_stay, unput_files, value_files, valueless_files, prints, prints_part, prints_value, prints_value_part}
+use Rattle.gib_app.proofs.Performing.{files_of, others_stay, unput_files, value_files, valueless_files, prints, prints_part, prints_value, prints_value_part}
 use Rattle.gib_app.proofs.top.call.Goals as goal
 
 pub returns-in-Ok-put_all-clause-done : goal.returns-in-Ok-put_all-clause-done
@@ -22,7 +22,7 @@ returns-in-Ok-put_all-clause-done g c =
     let D : KeptEnd → Type 0 = IsPerformed g.S.Shelf.tells before.kept now'.kept (plan_of c.in-Some.plan) in
     let T : List ℕ → Type 0 = λ bytes. Appends a.taken b.taken bytes × PutsPieces a b (length bytes) in
     let put = subst T c.deref.ensures.value (c.in-Ok-put_all.ensures.ok, c.in-Ok-put_all.ensures.pieces) in
-    prints g.S.Shelf.tells words before now' a b (plan_of c.in-Some.plan) _ c.in-Ok-Prints.text.items e (λ file P h. h) (subst D c.in-Ok-Prints.field-0-is c.in-Ok-Prints.ensures.done) put.0 put.1
+    prints g.S.Shelf.tells words before now' a b (plan_of c.in-Some.plan) _ c.in-Ok-Prints.text.items e (λ file packed P h. h) (subst D c.in-Ok-Prints.field-0-is c.in-Ok-Prints.ensures.done) put.0 put.1
 
 pub returns-in-Ok-Prints-clause-stop : goal.returns-in-Ok-Prints-clause-stop
 returns-in-Ok-Prints-clause-stop g c =
@@ -36,7 +36,7 @@ returns-in-Ok-Prints-clause-stop g c =
     let D : KeptEnd → Type 0 = IsPerformed g.S.Shelf.tells before.kept now'.kept (plan_of c.in-Some.plan) in
     let T : List ℕ → Type 0 = λ bytes. AppendsPart a.taken b.taken bytes × PutsSomePieces a b (length bytes) in
     let put = subst T c.deref.ensures.value (c.in-Err-put_all.ensures.part, c.in-Err-put_all.ensures.some) in (
-      prints_part g.S.Shelf.tells words before now' a b (plan_of c.in-Some.plan) _ c.in-Ok-Prints.text.items e (λ file P h. h) (subst D c.in-Ok-Prints.field-0-is c.in-Ok-Prints.ensures.done) put.0 put.1,
+      prints_part g.S.Shelf.tells words before now' a b (plan_of c.in-Some.plan) _ c.in-Ok-Prints.text.items e (λ file packed P h. h) (subst D c.in-Ok-Prints.field-0-is c.in-Ok-Prints.ensures.done) put.0 put.1,
       c.in-Err-put_all.ensures.cause.failed,
       c.in-Ok-Prints.ensures.writes_quiet,
     )
@@ -105,3 +105,30 @@ returns-in-Ok-NoValue-clause-same g c =
     let M : Option KeptPlan → Type 0 = λ o. MatchOption o (asked words ≡ None) (λ r. asked words ≡ Some (plan_of r)) in
     let e = subst M c.in-Some.is c.in-Ok.ensures in
     valueless_files g.S.Shelf.tells words (plan_of c.in-Some.plan) (g.S.Shelf.view c.args.shelf.now).kept (g.S.Shelf.view c.perform.new.shelf).kept c.in-Ok-NoValue.reason e c.in-Ok-NoValue.ensures.others
+
+pub perform-requires-clause-asked : goal.perform-requires-clause-asked
+perform-requires-clause-asked g c κs within =
+    let words = bytes_of c.args.words.now in
+    let M : Option KeptPlan → Type 0 = λ o. MatchOption o (asked words ≡ None) (λ r. asked words ≡ Some (plan_of r)) in
+    (words, subst M c.in-Some.is c.in-Ok.ensures)
+
+pub returns-in-Ok-Prints-clause-others : goal.returns-in-Ok-Prints-clause-others
+returns-in-Ok-Prints-clause-others g c =
+    let words = bytes_of c.args.words.now in
+    let M : Option KeptPlan → Type 0 = λ o. MatchOption o (asked words ≡ None) (λ r. asked words ≡ Some (plan_of r)) in
+    let e = subst M c.in-Some.is c.in-Ok.ensures in
+    others_stay words (plan_of c.in-Some.plan) (g.S.Shelf.view c.args.shelf.now).kept (g.S.Shelf.view c.perform.new.shelf).kept e c.in-Ok-Prints.ensures.others
+
+pub returns-in-Ok-Prints-clause-same : goal.returns-in-Ok-Prints-clause-same
+returns-in-Ok-Prints-clause-same g c =
+    let words = bytes_of c.args.words.now in
+    let M : Option KeptPlan → Type 0 = λ o. MatchOption o (asked words ≡ None) (λ r. asked words ≡ Some (plan_of r)) in
+    let e = subst M c.in-Some.is c.in-Ok.ensures in
+    unput_files g.S.Shelf.tells words (plan_of c.in-Some.plan) (g.S.Shelf.view c.args.shelf.now).kept (g.S.Shelf.view c.perform.new.shelf).kept e c.in-Ok-Prints.ensures.others
+
+pub returns-clause-same : goal.returns-clause-same
+returns-clause-same g c =
+    let words = bytes_of c.args.words.now in
+    let M : Option KeptPlan → Type 0 = λ o. MatchOption o (asked words ≡ None) (λ r. asked words ≡ Some (plan_of r)) in
+    let e = subst M c.in-Some.is c.in-Ok.ensures in
+    files_of g.S.Shelf.tells words (plan_of c.in-Some.plan) (g.S.Shelf.view c.args.shelf.now).kept (g.S.Shelf.view c.perform.new.shelf).kept c.in-Err-perform.stop e c.in-Err-perform.ensures.others c.in-Err-perform.ensures.same

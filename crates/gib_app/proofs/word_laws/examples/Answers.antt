@@ -85,3 +85,19 @@ returns-clause-replay_depth c = refl
 pub returns-clause-repack : goal.returns-clause-repack
 unfolding clap_on_literals
 returns-clause-repack c = refl
+
+pub returns-clause-packed : goal.returns-clause-packed
+unfolding clap_on_literals
+returns-clause-packed c = refl
+
+pub returns-clause-image_packed : goal.returns-clause-image_packed
+unfolding clap_on_literals
+returns-clause-image_packed c = refl
+
+pub returns-clause-packed_twice : goal.returns-clause-packed_twice
+unfolding clap_on_literals
+returns-clause-packed_twice c = refl
+
+pub returns-clause-trace_packed : goal.returns-clause-trace_packed
+unfolding clap_on_literals
+returns-clause-trace_packed c = refl

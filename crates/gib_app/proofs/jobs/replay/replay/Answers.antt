@@ -1,4 +1,4 @@
-use Rattle.std.proofs.Common.{[], ◌∷◌, ap}
+use Rattle.std.proofs.Common.{◌≤◌, [], ◌∷◌, ap, sym, subst}
 use Rattle.gib_mem.specs.Memory.{Memory}
 use Rattle.gib_mem.specs.Plain.{plain_memory}
 use Rattle.gib_mem.specs.declared.plain.PlainMem.{PlainMem}
@@ -44,3 +44,6 @@ returns-in-Ok-shown-clause-made c =
     let there = c.in-Ok-ran_of.ensures.some.0 in
     shown_replays p c.args.compiled.now.names c.args.image c.args.file.now c.args.journal.now ran.lowered.code.laid (view ran.memory) run.replayed.answer ran.root on there (file_of made) made.end
     (c.in-Ok-shown.ensures p on.settings.depth c.args.file.now (replayed_stands p c.args.file.now c.args.journal.now ran.lowered.code.laid (view ran.memory) run.replayed.answer ran.root on there))
+
+pub shown-requires-clause-few : goal.shown-requires-clause-few
+shown-requires-clause-few c = subst (λ (m : Memory). m.limit ≤ 65536) (sym (ap view c.in-Ok-ran_of.ensures.some.1)) c.in-Ok.ensures.limit

@@ -1,0 +1,168 @@
+-- What a run makes whose result is packed.
+use Rattle.std.proofs.Common.{◌≡◌, ◌∙◌, ◌≤◌, ◌<◌, refl, ap, sym, subst, subst₂, ℕ, List, length, Option, Some, None, Bool, true, false, Result, Ok, Err, IfOk, IfErr}
+use Rattle.gib_types.specs.Layout.{LaidOut}
+use Rattle.gib_types.specs.Table.{Table}
+use Rattle.gib_types.specs.Tree.{Datum}
+use Rattle.gib_value.specs.Text.{AreHeld}
+use Rattle.gib_file.specs.Framed.{File2}
+use Rattle.gib_mem.specs.Memory.{Memory, Store, Grows}
+use Rattle.gib_packed.specs.Stands.{Stands}
+use Rattle.gib_packed.specs.declared.root.Root.{Root}
+use Rattle.gib_packed.proofs.Grow.{Stands-grows}
+use Rattle.gib_arena.specs.Sole.{sole_memory, sole_bounded}
+use Rattle.gib_core.specs.LoweredParts.{LoweredParts}
+use Rattle.gib_syntax.specs.Tree.{ProgramTree}
+use Rattle.gib_syntax.specs.Declarations.{table_of_program, output_type}
+use Rattle.gib_app.specs.declared.made.End.{End as KeptEnd}
+use Rattle.gib_app.specs.declared.made.End.TheVariants as ends
+use Rattle.gib_app.specs.declared.made.Finished.{Finished}
+use Rattle.gib_app.specs.declared.made.Made.{Made}
+use Rattle.gib_app.specs.declared.made.Reason.TheVariants.{Long}
+use Rattle.gib_app.specs.declared.made.Valued.{Valued}
+use Rattle.gib_app.specs.declared.plan.Options.{Options}
+use Rattle.gib_app.specs.declared.stop.Stop.{Stop}
+use Rattle.gib_app.specs.Cores.{layouts_of}
+use Rattle.gib_app.specs.Imaging.{IsShownWith}
+use Rattle.gib_app.specs.declared.plan.Job.{Job}
+use Rattle.gib_app.specs.declared.plan.Job.TheVariants.{Run, Plain, Check, Core, Code, Pack, Show, Gen, Trace, Replay}
+use Rattle.gib_app.specs.Plan.{Contents}
+use Rattle.gib_app.specs.Jobs.{End, Prints, NoValue, Does, DoesAll, PacksResult, Runs, RunsBoth}
+use Rattle.gib_app.specs.Kept.{EndsBy, EndsByBoth, StandsAgain, file_of, packed_of}
+use Rattle.gib_app.specs.MachineRun.{StandsMeant, cells_of}
+use Rattle.gib_app.specs.Replaying.{IsImageFile}
+use Rattle.gib_app.specs.Running.{text_line, IsInput}
+use Rattle.gib_app.proofs.Imaged.{image_made, shown_runs}
+
+-- What holds where a call is well, holds of what it gives.
+pub ok_is : {T E : Type 0} (r : Result T E) (x : T) (P : T → Type 0) → r ≡ Ok x → IfOk r P → P x
+ok_is {T} {E} r x P e h = subst (λ (q : Result T E). IfOk q P) e h
+
+-- ---- The value that comes back
+
+-- A value stands in a memory that knows more.
+abbrev pub stands_later : {names : List (List ℕ)} (p : ProgramTree) (depth : ℕ) (input : List ℕ) (old new : Valued) → StandsAgain old new → StandsMeant p names depth input old.ran.lowered.code.laid (cells_of old.ran.memory) old.ran.root
+    → StandsMeant p names depth input new.ran.lowered.code.laid (cells_of new.ran.memory) new.ran.root
+stands_later p depth input old new again s =
+    let one = Stands-grows again.known s.stands in
+    let two = subst (λ (l : LoweredParts). Stands l.code.laid (cells_of new.ran.memory) old.ran.root (output_type p) s.result) (sym again.lowered) one in
+    record {
+      value = s.value;
+      result = s.result;
+      is_input = s.is_input;
+      means = s.means;
+      table = ap (λ (l : LoweredParts). l.code.laid.table) again.lowered ∙ s.table;
+      stands = subst (λ (r : Root). Stands new.ran.lowered.code.laid (cells_of new.ran.memory) r (output_type p) s.result) (sym again.root) two;
+    }
+
+-- The same with the names that come back.
+abbrev pub stands_named : (p : ProgramTree) (depth : ℕ) (input : List ℕ) (old new : Valued) → StandsAgain old new → StandsMeant p old.names depth input old.ran.lowered.code.laid (cells_of old.ran.memory) old.ran.root
+    → StandsMeant p new.names depth input new.ran.lowered.code.laid (cells_of new.ran.memory) new.ran.root
+stands_named p depth input old new again s =
+    let later = stands_later {names = old.names} p depth input old new again s in
+    record {
+      value = s.value;
+      result = s.result;
+      is_input = subst (λ (ns : List (List ℕ)). IsInput p ns s.value input) (sym again.names) s.is_input;
+      means = s.means;
+      table = later.table;
+      stands = later.stands;
+    }
+
+pub held_again : (old new : Valued) → StandsAgain old new → AreHeld old.ran.lowered.code.laid.table old.names → AreHeld new.ran.lowered.code.laid.table new.names
+held_again old new again held = subst₂ (λ (t : Table) (ns : List (List ℕ)). AreHeld t ns) (ap (λ (l : LoweredParts). l.code.laid.table) (sym again.lowered)) (sym again.names) held
+
+-- ---- How a run ends whose result is packed
+
+module _ (p : ProgramTree) (o : Options) (input : List ℕ) (old new : Valued) (again : StandsAgain old new) (laid : old.ran.lowered.code.laid ≡ layouts_of o.skips p) (limit : (sole_memory old.ran.memory).limit ≡ o.chunks) (packs : o.packs ≡ true)
+    (s : StandsMeant p old.names o.depth input old.ran.lowered.code.laid (cells_of old.ran.memory) old.ran.root) where
+  laid_again : new.ran.lowered.code.laid ≡ layouts_of o.skips p
+  laid_again = ap (λ (l : LoweredParts). l.code.laid) again.lowered ∙ laid
+
+  with_file : (bytes : List ℕ) → File2 (table_of_program p) old.names (output_type p) s.result bytes → length bytes ≤ 16777216 → (file packed : Option (List ℕ)) (e : KeptEnd) →
+      IsShownWith o.image new.ran.lowered.code.laid (sole_memory new.ran.memory) new.ran.root p old.names s.result file e → packed ≡ Some bytes → EndsByBoth file packed e (RunsBoth p old.names o input)
+  with_file bytes is_file few file packed (ends.Prints text) h made =
+      let P : Bool → Type 0 = λ b. PacksResult b p old.names o.depth input packed (Prints text.items) in (
+        shown_runs p old.names o input new.ran.lowered.code.laid (sole_memory new.ran.memory) new.ran.root (stands_later {names = old.names} p o.depth input old new again s)
+            (sole_bounded new.ran.memory) laid_again (again.limit ∙ limit) o.image refl file (ends.Prints text) h,
+        subst P (sym packs) (bytes, made, record { value = s.value; result = s.result; is_input = s.is_input; means = s.means; file = is_file; few = few }),
+      )
+  with_file bytes is_file few file packed (ends.Value value) h made = absurd h
+  with_file bytes is_file few file packed (ends.NoValue reason) h made = absurd h
+
+  without_file : ((bytes : List ℕ) → File2 (table_of_program p) old.names (output_type p) s.result bytes → 16777216 < length bytes) → (file packed : Option (List ℕ)) (e : KeptEnd) →
+      IsImageFile o.image new.ran.lowered.code.laid (output_type p) (sole_memory new.ran.memory) new.ran.root s.result file → e ≡ ends.NoValue Long → packed ≡ None → EndsByBoth file packed e (RunsBoth p old.names o input)
+  without_file long file packed e h is none =
+      let E : KeptEnd → Type 0 = λ x. EndsByBoth file packed x (RunsBoth p old.names o input) in
+      let P : Bool → Type 0 = λ b. PacksResult b p old.names o.depth input packed (NoValue Long) in
+      let image = image_made {names = old.names} o.image p o input new.ran.lowered.code.laid (sole_memory new.ran.memory) new.ran.root (stands_later {names = old.names} p o.depth input old new again s)
+      (sole_bounded new.ran.memory) laid_again (again.limit ∙ limit) file h in
+      let there : E (ends.NoValue Long) = (
+        (image, record { value = s.value; result = s.result; is_input = s.is_input; means = s.means; long = long }, packs),
+        subst P (sym packs) none,
+      ) in
+      subst E (sym is) there
+
+  pub packed_run : (bytes : List ℕ) → File2 (table_of_program p) old.names (output_type p) s.result bytes → length bytes ≤ 16777216 → (r : Result Finished Stop)
+      → IfOk r (λ finished. IsShownWith o.image new.ran.lowered.code.laid (sole_memory new.ran.memory) new.ran.root p new.names s.result (file_of finished.made) finished.made.end) → IfOk r (λ finished. packed_of finished ≡ Some bytes)
+      → IfOk r (λ finished. EndsByBoth (file_of finished.made) (packed_of finished) finished.made.end (RunsBoth p old.names o input))
+  packed_run bytes is_file few (Ok finished) h made =
+      let S : List (List ℕ) → Type 0 = λ ns. IsShownWith o.image new.ran.lowered.code.laid (sole_memory new.ran.memory) new.ran.root p ns s.result (file_of finished.made) finished.made.end in
+      with_file bytes is_file few (file_of finished.made) (packed_of finished) finished.made.end (subst S again.names h) made
+  packed_run bytes is_file few (Err stop) h made = tt {0}
+
+  pub long_run : ((bytes : List ℕ) → File2 (table_of_program p) old.names (output_type p) s.result bytes → 16777216 < length bytes) → (r : Result Finished Stop)
+      → IfOk r (λ finished. IsImageFile o.image new.ran.lowered.code.laid (output_type p) (sole_memory new.ran.memory) new.ran.root s.result (file_of finished.made)) → IfOk r (λ finished. (finished.made.end ≡ ends.NoValue Long) × (packed_of finished ≡ None))
+      → IfOk r (λ finished. EndsByBoth (file_of finished.made) (packed_of finished) finished.made.end (RunsBoth p old.names o input))
+  long_run long (Ok finished) h none = without_file long (file_of finished.made) (packed_of finished) finished.made.end h none.0 none.1
+  long_run long (Err stop) h none = tt {0}
+
+-- ---- What makes no packed file
+
+-- Both files and the end of what makes none.
+pub ends_alone : (file packed : Option (List ℕ)) (e : KeptEnd) (P : Option (List ℕ) → End → Type 0) (Q : Option (List ℕ) → Option (List ℕ) → End → Type 0) → packed ≡ None → ((f : Option (List ℕ)) (x : End) → P f x → Q f None x)
+    → EndsBy file e P → EndsByBoth file packed e Q
+ends_alone file packed (ends.Prints text) P Q none go h = subst (λ (q : Option (List ℕ)). Q file q (Prints text.items)) (sym none) (go file (Prints text.items) h)
+ends_alone file packed (ends.Value value) P Q none go h = (h.0, none, h.1, h.2, subst (λ (q : Option (List ℕ)). Q file q (Prints h.1)) (sym none) (go file (Prints h.1) h.3))
+ends_alone file packed (ends.NoValue reason) P Q none go h = subst (λ (q : Option (List ℕ)). Q file q (NoValue reason)) (sym none) (go file (NoValue reason) h)
+
+pub finished_alone : (made : Result Made Stop) (r : Result Finished Stop) (P : Option (List ℕ) → End → Type 0) (Q : Option (List ℕ) → Option (List ℕ) → End → Type 0) → IfOk r (λ finished. (made ≡ Ok finished.made) × (finished.packed ≡ None)) → ((f : Option (List ℕ)) (x : End) → P f x → Q f None x)
+    → IfOk made (λ m. EndsBy (file_of m) m.end P) → IfOk r (λ finished. EndsByBoth (file_of finished.made) (packed_of finished) finished.made.end Q)
+finished_alone made (Ok finished) P Q is go h =
+    let M : Result Made Stop → Type 0 = λ m. IfOk m (λ x. EndsBy (file_of x) x.end P) in
+    let none : packed_of finished ≡ None = let e = is.1 in cc in
+    ends_alone (file_of finished.made) (packed_of finished) finished.made.end P Q none go (subst M is.0 h)
+finished_alone made (Err stop) P Q is go h = tt {0}
+
+pub stopped_alone : (made : Result Made Stop) (r : Result Finished Stop) (I : Stop → Type 0) → IfErr r (λ stop. made ≡ Err stop) → IfErr made I → IfErr r I
+stopped_alone made (Ok finished) I is h = tt {0}
+stopped_alone made (Err stop) I is h = let M : Result Made Stop → Type 0 = λ m. IfErr m I in subst M is h
+
+-- A run that is asked for none makes none.
+pub runs_alone : (p : ProgramTree) (names : List (List ℕ)) (o : Options) (input : List ℕ) → o.packs ≡ false → (f : Option (List ℕ)) (x : End) → Runs p names o input f x → RunsBoth p names o input f None x
+runs_alone p names o input off f x h = (h, let P : Bool → Type 0 = λ b. PacksResult b p names o.depth input None x in subst P (sym off) refl)
+
+-- Nor does one that ends without a value.
+abbrev pub RunsValueless : ProgramTree → List (List ℕ) → Options → List ℕ → Option (List ℕ) → End → Type 0
+RunsValueless p names o input f (Prints text) = ⊥
+RunsValueless p names o input f (NoValue reason) = Runs p names o input f (NoValue reason)
+
+pub runs_valueless : (p : ProgramTree) (names : List (List ℕ)) (o : Options) (input : List ℕ) (f : Option (List ℕ)) (x : End) → RunsValueless p names o input f x → RunsBoth p names o input f None x
+runs_valueless p names o input f (Prints text) h = absurd h
+runs_valueless p names o input f (NoValue reason) h = (h, go o.packs)
+  where
+    go : (b : Bool) → PacksResult b p names o.depth input None (NoValue reason)
+    go false = refl
+    go true = refl
+
+-- Of the jobs a run alone makes one.
+pub does_alone : (job : Job) (o : Options) (p : ProgramTree) (names : List (List ℕ)) (given : Contents) → (job ≡ Run → ⊥) → (f : Option (List ℕ)) (x : End) → Does job o p names given f x → DoesAll job o p names given f None x
+does_alone Run o p names given other f x h = absurd (other refl)
+does_alone Plain o p names given other f x h = (h, refl)
+does_alone Check o p names given other f x h = (h, refl)
+does_alone Core o p names given other f x h = (h, refl)
+does_alone Code o p names given other f x h = (h, refl)
+does_alone Pack o p names given other f x h = (h, refl)
+does_alone Show o p names given other f x h = (h, refl)
+does_alone Gen o p names given other f x h = (h, refl)
+does_alone Trace o p names given other f x h = (h, refl)
+does_alone Replay o p names given other f x h = (h, refl)

@@ -1,0 +1,149 @@
+-- That what a run makes comes from the region memory that it left.
+use Rattle.std.proofs.Common.{◌≡◌, ◌∙◌, refl, ap, ℕ, List, Option, Some, None, Bool, Result, Ok, Err, IfOk, sym, subst, subst₂}
+use Rattle.std.specs.Prelude.{⊤}
+use Rattle.gib_types.specs.Layout.{LaidOut}
+use Rattle.gib_mem.specs.Memory.{Memory, IsBounded}
+use Rattle.gib_packed.specs.declared.root.Root.{Root}
+use Rattle.gib_arena.specs.Sole.{sole_memory, sole_bounded}
+use Rattle.gib_code.specs.Program.{CodeTree}
+use Rattle.gib_core.specs.LoweredParts.{LoweredParts}
+use Rattle.gib_lower.specs.Lowering.{lower_program}
+use Rattle.gib_syntax.specs.Tree.{ProgramTree}
+use Rattle.gib_syntax.specs.Declarations.{output_type}
+use Rattle.gib_app.specs.declared.made.End.{End as KeptEnd}
+use Rattle.gib_app.specs.declared.made.End.TheVariants as ends
+use Rattle.gib_app.specs.declared.made.Finished.{Finished}
+use Rattle.gib_app.specs.declared.made.Made.{Made}
+use Rattle.gib_app.specs.declared.made.Reason.{Reason}
+use Rattle.gib_app.specs.declared.made.Reason.TheVariants as reason
+use Rattle.gib_app.specs.declared.made.Valued.{Valued}
+use Rattle.gib_app.specs.declared.plan.Options.{Options}
+use Rattle.gib_app.specs.declared.stop.Stop.{Stop}
+use Rattle.gib_app.specs.Cores.{core_after, layouts_of}
+use Rattle.gib_app.specs.Imaging.{IsShownWith}
+use Rattle.gib_app.specs.Jobs.{End, Prints, NoValue, run_forks}
+use Rattle.gib_app.specs.Kept.{EndsBy, StandsAgain, file_of, packed_of}
+use Rattle.gib_app.specs.MachineRun.{StandsMeant, LacksValue, cells_of}
+use Rattle.gib_app.specs.Remains.{Remains, IsLeft, ComesOfMemory}
+use Rattle.gib_app.specs.Replaying.{IsImageFile}
+use Rattle.gib_app.specs.Stops.{reason_of}
+use Rattle.gib_app.proofs.Imaged.{stands_again}
+use Rattle.gib_app.proofs.PackedRuns.{stands_named}
+use Rattle.gib_app.proofs.Stopped.{StopsJob, RunRefused, stopped_made}
+
+-- ---- What stands by the layouts of the code stands by those of the program, and the other way round
+
+abbrev pub laid_left : (p : ProgramTree) (names : List (List ℕ)) (o : Options) (input : List ℕ) (value : Valued) → IsLeft p names o input value → value.ran.lowered.code.laid ≡ layouts_of o.skips p
+laid_left p names o input value left = ap (λ (c : CodeTree). c.laid) left.code
+
+abbrev pub stands_left : (p : ProgramTree) (names : List (List ℕ)) (o : Options) (input : List ℕ) (value : Valued) → IsLeft p names o input value
+    → StandsMeant p names o.depth input value.ran.lowered.code.laid (cells_of value.ran.memory) value.ran.root
+stands_left p names o input value left =
+    let m = sole_memory value.ran.memory in
+    stands_again {names = names} p o.depth input (layouts_of o.skips p) value.ran.lowered.code.laid m m value.ran.root value.ran.root (laid_left p names o input value left) refl refl left.remains.stands
+
+-- What a run leaves that stands by the layouts of its code.
+pub is_left : (p : ProgramTree) (names : List (List ℕ)) (o : Options) (input : List ℕ) (value : Valued) → value.ran.lowered.code ≡ lower_program (core_after o.skips 4 p)
+    → (sole_memory value.ran.memory).limit ≡ o.chunks → StandsMeant p names o.depth input value.ran.lowered.code.laid (cells_of value.ran.memory) value.ran.root → IsLeft p names o input value
+is_left p names o input value code limit s =
+    let m = sole_memory value.ran.memory in
+    let laid = value.ran.lowered.code.laid in
+    record {
+      code = code;
+      remains = record {
+        stands = stands_again {names = names} p o.depth input laid (layouts_of o.skips p) m m value.ran.root value.ran.root (sym (ap (λ (c : CodeTree). c.laid) code)) refl refl s;
+        bounded = sole_bounded value.ran.memory;
+        limit = limit;
+      };
+    }
+
+-- It is left with the value that comes back from packing.
+pub left_again : (p : ProgramTree) (o : Options) (input : List ℕ) (old new : Valued) → StandsAgain old new → IsLeft p old.names o input old → IsLeft p new.names o input new
+left_again p o input old new again left =
+    is_left p new.names o input new (ap (λ (l : LoweredParts). l.code) again.lowered ∙ left.code) (again.limit ∙ left.remains.limit)
+    (stands_named p o.depth input old new again (stands_left p old.names o input old left))
+
+-- ---- What is made of such a memory
+
+module _ (p : ProgramTree) (names : List (List ℕ)) (o : Options) (input : List ℕ) (value : Valued) (left : IsLeft p names o input value) where
+  imaged_here : (b : Bool) → o.image ≡ b → (file : Option (List ℕ)) → IsImageFile b value.ran.lowered.code.laid (output_type p) (sole_memory value.ran.memory) value.ran.root left.remains.stands.result file
+      → IsImageFile o.image (layouts_of o.skips p) (output_type p) (sole_memory value.ran.memory) value.ran.root left.remains.stands.result file
+  imaged_here b asked file h =
+      let P : Bool → LaidOut → Type 0 = λ x l. IsImageFile x l (output_type p) (sole_memory value.ran.memory) value.ran.root left.remains.stands.result file in
+      subst₂ P (sym asked) (laid_left p names o input value left) h
+
+  pub shown_here : (b : Bool) → o.image ≡ b → (file : Option (List ℕ)) (e : KeptEnd)
+      → IsShownWith b value.ran.lowered.code.laid (sole_memory value.ran.memory) value.ran.root p names left.remains.stands.result file e → ComesOfMemory p names o input file e
+  shown_here b asked file (ends.Prints text) h = record {
+    memory = sole_memory value.ran.memory;
+    place = value.ran.root;
+    remains = left.remains;
+    is_text = h.1;
+    is_file = imaged_here b asked file h.0;
+  }
+  shown_here b asked file (ends.Value other) h = absurd h
+  shown_here b asked file (ends.NoValue reason) h = absurd h
+
+  pub long_here : (file : Option (List ℕ)) (e : KeptEnd) → IsImageFile o.image value.ran.lowered.code.laid (output_type p) (sole_memory value.ran.memory) value.ran.root left.remains.stands.result file
+      → e ≡ ends.NoValue reason.Long → ComesOfMemory p names o input file e
+  long_here file e h is =
+      let there : ComesOfMemory p names o input file (ends.NoValue reason.Long) = record {
+        memory = sole_memory value.ran.memory;
+        place = value.ran.root;
+        remains = left.remains;
+        is_file = imaged_here o.image refl file h;
+      } in
+      subst (ComesOfMemory p names o input file) (sym is) there
+
+-- ---- What is made of the value that comes back from packing
+
+module _ (p : ProgramTree) (o : Options) (input : List ℕ) (old new : Valued) (again : StandsAgain old new) (left : IsLeft p new.names o input new) where
+  comes_named : (file : Option (List ℕ)) (e : KeptEnd) → ComesOfMemory p new.names o input file e → ComesOfMemory p old.names o input file e
+  comes_named file e h = subst (λ (ns : List (List ℕ)). ComesOfMemory p ns o input file e) again.names h
+
+  pub packed_comes : (r : Result Finished Stop)
+      → IfOk r (λ finished. IsShownWith o.image new.ran.lowered.code.laid (sole_memory new.ran.memory) new.ran.root p new.names left.remains.stands.result (file_of finished.made) finished.made.end)
+      → IfOk r (λ finished. ComesOfMemory p old.names o input (file_of finished.made) finished.made.end)
+  packed_comes (Ok finished) h = comes_named (file_of finished.made) finished.made.end (shown_here p new.names o input new left o.image refl (file_of finished.made) finished.made.end h)
+  packed_comes (Err stop) h = tt {0}
+
+  pub long_comes : (r : Result Finished Stop)
+      → IfOk r (λ finished. IsImageFile o.image new.ran.lowered.code.laid (output_type p) (sole_memory new.ran.memory) new.ran.root left.remains.stands.result (file_of finished.made))
+      → IfOk r (λ finished. (finished.made.end ≡ ends.NoValue reason.Long) × (packed_of finished ≡ None))
+      → IfOk r (λ finished. ComesOfMemory p old.names o input (file_of finished.made) finished.made.end)
+  long_comes (Ok finished) h is = comes_named (file_of finished.made) finished.made.end (long_here p new.names o input new left (file_of finished.made) finished.made.end h is.0)
+  long_comes (Err stop) h is = tt {0}
+
+-- ---- What is made without a packed file
+
+pub comes_alone : (Q : Option (List ℕ) → KeptEnd → Type 0) (made : Result Made Stop) (r : Result Finished Stop) → IfOk r (λ finished. (made ≡ Ok finished.made) × (finished.packed ≡ None))
+    → IfOk made (λ m. Q (file_of m) m.end) → IfOk r (λ finished. Q (file_of finished.made) finished.made.end)
+comes_alone Q made (Ok finished) is h = let M : Result Made Stop → Type 0 = λ m. IfOk m (λ x. Q (file_of x) x.end) in subst M is.0 h
+comes_alone Q made (Err stop) is h = tt {0}
+
+-- Without a value nothing comes from there, where not for the length of its packed file.
+abbrev NotLong : Option (List ℕ) → End → Type 0
+NotLong file (Prints text) = ⊥
+NotLong file (NoValue (reason.Meant why)) = ⊤
+NotLong file (NoValue reason.Full) = ⊤
+NotLong file (NoValue reason.Long) = ⊥
+
+lacks_not_long : (p : ProgramTree) (names : List (List ℕ)) (o : Options) (input : List ℕ) (why : Reason) → LacksValue p names o.skips o.depth (run_forks o) o.chunks input why → NotLong None (NoValue why)
+lacks_not_long p names o input (reason.Meant why) h = tt {0}
+lacks_not_long p names o input reason.Full h = tt {0}
+lacks_not_long p names o input reason.Long h = absurd h
+
+comes_without : (p : ProgramTree) (names : List (List ℕ)) (o : Options) (input : List ℕ) (file : Option (List ℕ)) (e : KeptEnd) → EndsBy file e NotLong → ComesOfMemory p names o input file e
+comes_without p names o input file (ends.Prints text) h = absurd h
+comes_without p names o input file (ends.Value value) h = absurd h.3
+comes_without p names o input file (ends.NoValue (reason.Meant why)) h = tt {0}
+comes_without p names o input file (ends.NoValue reason.Full) h = tt {0}
+comes_without p names o input file (ends.NoValue reason.Long) h = absurd h
+
+pub stopped_comes : (p : ProgramTree) (names : List (List ℕ)) (o : Options) (input : List ℕ) (s : Stop) (r : Result Made Stop)
+    → StopsJob (RunRefused p names input) (LacksValue p names o.skips o.depth (run_forks o) o.chunks input) s
+    → IfOk r (λ made. (why : Reason) × (reason_of s ≡ Some why) × (made.file ≡ None) × (made.end ≡ ends.NoValue why)) → IfOk r (λ made. ComesOfMemory p names o input (file_of made) made.end)
+stopped_comes p names o input s (Ok made) h of =
+    comes_without p names o input (file_of made) made.end
+    (stopped_made (RunRefused p names input) (LacksValue p names o.skips o.depth (run_forks o) o.chunks input) NotLong s (Ok made) h of (lacks_not_long p names o input))
+stopped_comes p names o input s (Err other) h of = tt {0}

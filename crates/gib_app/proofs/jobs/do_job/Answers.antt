@@ -1,0 +1,18 @@
+use Rattle.gib_syntax.specs.Parts.{program_of}
+use Rattle.gib_app.specs.Jobs.{Does, DoesAll}
+use Rattle.gib_app.specs.Kept.{contents_of}
+use Rattle.gib_app.specs.Stops.{FailsTo}
+use Rattle.gib_app.proofs.PackedRuns.{does_alone, finished_alone, stopped_alone}
+use Rattle.gib_app.proofs.jobs.do_job.Goals as goal
+
+pub returns : goal.returns
+returns g c =
+    let job = c.args.job in
+    let o = c.args.options in
+    let p = program_of c.args.compiled.typed in
+    let names = c.args.compiled.names in
+    let given = contents_of c.args.given in
+    record {
+      made = finished_alone c.do_beside.result c.unpacked.result (Does job o p names given) (DoesAll job o p names given) c.unpacked.ensures.made (does_alone job o p names given c.in_default.not-Run) c.do_beside.ensures.made;
+      stop = stopped_alone c.do_beside.result c.unpacked.result (FailsTo job o p names given) c.unpacked.ensures.stop c.do_beside.ensures.stop;
+    }

@@ -1,0 +1,71 @@
+use Rattle.std.proofs.Common.{◌≡◌, ◌∙◌, ◌≤◌, List, ℕ, length, Err, ap, arith, sym, subst, subst₂}
+use Rattle.gib_types.specs.Table.{Table}
+use Rattle.gib_types.specs.declared.table.Ty.{Ty}
+use Rattle.gib_file.specs.Framed.{File2}
+use Rattle.gib_packed.specs.Stands.{Stands}
+use Rattle.gib_compact.specs.declared.fault.CompactFault.{CompactFault}
+use Rattle.gib_app.specs.MachineRun.{cells_of}
+use Rattle.gib_app.proofs.PackedRuns.{ok_is, stands_named, packed_run, long_run}
+use Rattle.gib_app.proofs.Remaining.{left_again, stands_left, packed_comes, long_comes}
+use Rattle.gib_app.proofs.jobs.run.finish_packed.Goals as goal
+
+pub with_packed-requires-clause-stands : goal.with_packed-requires-clause-stands
+with_packed-requires-clause-stands g c =
+    let r = c.requires.stands in
+    (r.0, r.1, r.2, stands_named r.0 r.1 r.2 c.args.value c.packed_result-packed.result.1 c.packed_result-packed.ensures.again r.4)
+
+pub with_packed-requires-clause-few : goal.with_packed-requires-clause-few
+with_packed-requires-clause-few g c = let same = c.packed_result-packed.ensures.again.limit in let few = c.requires.few in omega (arith, same, few)
+
+pub without_packed-requires-clause-stands : goal.without_packed-requires-clause-stands
+without_packed-requires-clause-stands g c =
+    let r = c.requires.stands in
+    (r.0, r.1, r.2, stands_named r.0 r.1 r.2 c.args.value c.packed_result-packed.result.1 c.packed_result-packed.ensures.again r.4)
+
+pub without_packed-requires-clause-few : goal.without_packed-requires-clause-few
+without_packed-requires-clause-few g c = let same = c.packed_result-packed.ensures.again.limit in let few = c.requires.few in omega (arith, same, few)
+
+pub returns-in-Ok-clause-made : goal.returns-in-Ok-clause-made
+returns-in-Ok-clause-made g c = λ p input ty laid limit s.
+    let value = c.args.value in
+    let o = c.args.options in
+    let new = c.packed_result-packed.result.1 in
+    let again = c.packed_result-packed.ensures.again in
+    let S : Ty → Type 0 = λ t. Stands value.ran.lowered.code.laid (cells_of value.ran.memory) value.ran.root t s.result in
+    let file = ok_is _ _ (λ file. File2 value.ran.lowered.code.laid.table value.names c.args.ty s.result file.items) c.in-Ok.is (c.packed_result-packed.ensures.file s.result (subst S (sym ty) s.stands)) in
+    let few = ok_is _ _ (λ file. length file.items ≤ 16777216) c.in-Ok.is c.packed_result-packed.ensures.few in
+    let F : Table → Ty → Type 0 = λ t y. File2 t value.names y s.result c.in-Ok.packed.items in
+    packed_run p o input value new again laid limit c.requires.packs s c.in-Ok.packed.items (subst₂ F s.table ty file) few c.with_packed.result
+    (c.with_packed.ensures.shown p o.depth input (stands_named p o.depth input value new again s)) c.with_packed.ensures.packed
+
+pub returns-in-Long-clause-made : goal.returns-in-Long-clause-made
+returns-in-Long-clause-made g c = λ p input ty laid limit s.
+    let value = c.args.value in
+    let o = c.args.options in
+    let new = c.packed_result-packed.result.1 in
+    let again = c.packed_result-packed.ensures.again in
+    let S : Ty → Type 0 = λ t. Stands value.ran.lowered.code.laid (cells_of value.ran.memory) value.ran.root t s.result in
+    let failed = c.in-Err.is ∙ ap (λ (f : CompactFault). Err f) c.in-Long.is in
+    long_run p o input value new again laid limit c.requires.packs s
+    (λ bytes f.
+    let F : Table → Ty → Type 0 = λ t y. File2 t value.names y s.result bytes in
+    c.packed_result-packed.ensures.long s.result bytes (subst S (sym ty) s.stands) failed (subst₂ F (sym s.table) (sym ty) f))
+    c.without_packed.result (c.without_packed.ensures.image p o.depth input (stands_named p o.depth input value new again s)) c.without_packed.ensures.long
+
+pub returns-in-Ok-clause-region : goal.returns-in-Ok-clause-region
+returns-in-Ok-clause-region g c = λ p input left.
+    let old = c.args.value in
+    let o = c.args.options in
+    let new = c.packed_result-packed.result.1 in
+    let again = c.packed_result-packed.ensures.again in
+    let there = left_again p o input old new again left in
+    packed_comes p o input old new again there c.with_packed.result (c.with_packed.ensures.shown p o.depth input (stands_left p new.names o input new there))
+
+pub returns-in-Long-clause-region : goal.returns-in-Long-clause-region
+returns-in-Long-clause-region g c = λ p input left.
+    let old = c.args.value in
+    let o = c.args.options in
+    let new = c.packed_result-packed.result.1 in
+    let again = c.packed_result-packed.ensures.again in
+    let there = left_again p o input old new again left in
+    long_comes p o input old new again there c.without_packed.result (c.without_packed.ensures.image p o.depth input (stands_left p new.names o input new there)) c.without_packed.ensures.long

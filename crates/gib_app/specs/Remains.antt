@@ -1,0 +1,53 @@
+-- What a run leaves in region memory, and that what it makes comes from there.
+use Rattle.std.specs.Prelude.{◌≡◌, ⊤, ℕ, List, Option}
+use Rattle.gib_arena.specs.Sole.{sole_memory}
+use Rattle.gib_lower.specs.Lowering.{lower_program}
+use Rattle.gib_mem.specs.Memory.{Memory, IsBounded}
+use Rattle.gib_packed.specs.declared.root.Root.{Root}
+use Rattle.gib_syntax.specs.Declarations.{output_type}
+use Rattle.gib_syntax.specs.Tree.{ProgramTree}
+use Rattle.gib_app.specs.declared.made.End.{End as KeptEnd}
+use Rattle.gib_app.specs.declared.made.End.TheVariants as ends
+use Rattle.gib_app.specs.declared.made.Reason.TheVariants.{Meant, Full, Long}
+use Rattle.gib_app.specs.declared.made.Valued.{Valued}
+use Rattle.gib_app.specs.declared.plan.Options.{Options}
+use Rattle.gib_app.specs.Cores.{core_after, layouts_of}
+use Rattle.gib_app.specs.MachineRun.{StandsMeant}
+use Rattle.gib_app.specs.Replaying.{IsImageFile}
+use Rattle.gib_app.specs.Running.{text_line}
+
+-- In a memory of as many chunks as are asked for, the value that the program means on the input stands for the root, with heads that lie as
+-- those of the program's core.
+pub record Remains (p : ProgramTree) (names : List (List ℕ)) (options : Options) (input : List ℕ) (memory : Memory) (place : Root) : Type 0 where
+  pub stands : StandsMeant p names options.depth input (layouts_of options.skips p) memory.cells place
+  pub bounded : IsBounded memory
+  pub limit : memory.limit ≡ options.chunks
+
+-- That memory as the code of the program's core left it, with its root.
+pub record IsLeft (p : ProgramTree) (names : List (List ℕ)) (options : Options) (input : List ℕ) (value : Valued) : Type 0 where
+  pub code : value.ran.lowered.code ≡ lower_program (core_after options.skips 4 p)
+  pub remains : Remains p names options input (sole_memory value.ran.memory) value.ran.root
+
+-- The text is that of the value in such a memory; where an image is asked for, the file is that of this very memory.
+pub record IsShownOf (p : ProgramTree) (names : List (List ℕ)) (options : Options) (input : List ℕ) (file : Option (List ℕ)) (text : List ℕ) : Type 0 where
+  pub memory : Memory
+  pub place : Root
+  pub remains : Remains p names options input memory place
+  pub is_text : text ≡ text_line p names remains.stands.result
+  pub is_file : IsImageFile options.image (layouts_of options.skips p) (output_type p) memory place remains.stands.result file
+
+-- Where an image is asked for, the file is that of such a memory.
+pub record IsImagedOf (p : ProgramTree) (names : List (List ℕ)) (options : Options) (input : List ℕ) (file : Option (List ℕ)) : Type 0 where
+  pub memory : Memory
+  pub place : Root
+  pub remains : Remains p names options input memory place
+  pub is_file : IsImageFile options.image (layouts_of options.skips p) (output_type p) memory place remains.stands.result file
+
+-- What a run makes comes from the region memory that it left: the value is printed from there; or its text was made before a file is
+-- written, and then an image is of that memory, as it is where the packed file of the value would be too long.
+abbrev pub ComesOfMemory : ProgramTree → List (List ℕ) → Options → List ℕ → Option (List ℕ) → KeptEnd → Type 0
+ComesOfMemory p names options input file (ends.Prints text) = IsShownOf p names options input file text.items
+ComesOfMemory p names options input file (ends.Value value) = IsLeft p names options input value
+ComesOfMemory p names options input file (ends.NoValue (Meant why)) = ⊤
+ComesOfMemory p names options input file (ends.NoValue Full) = ⊤
+ComesOfMemory p names options input file (ends.NoValue Long) = IsImagedOf p names options input file
