@@ -33,8 +33,8 @@ main %0:Tree : Tree
   call add1 %0
 ";
 
-/// Its core, with values built where they belong: pieces, each with when it is there: always, where fields are reached by offsets or
-/// by skips, or where sides are marked.
+/// Its core, with values built where they belong: pieces, each with when it is there: always, where fields are reached by ends and
+/// offsets or by skips, or where sides are marked.
 const ADD_ONE_PLACED: [(&str, &str); 6] = [
     (
         "fun add1 %0:Tree : Tree
@@ -47,7 +47,7 @@ const ADD_ONE_PLACED: [(&str, &str); 6] = [
 ",
         "",
     ),
-    ("      reach %5 by offset\n", "offsets"),
+    ("      reach %5 by offset\n", "ends"),
     ("      reach %5 by skip %4\n", "skips"),
     (
         "      past %6 Node
@@ -86,7 +86,7 @@ const ADD_ONE_CODE: [(&str, &str); 4] = [
         "6 first %4 %0 9
 7 offset %5 %0 1
 ",
-        "offsets",
+        "ends",
     ),
     (
         "6 first %4 %0 1
@@ -134,7 +134,7 @@ main %0:Tree : Int
 ";
 
 /// Its core, with values built where they belong, in the same way.
-const RIGHT_PLACED: [(&str, &str); 4] = [
+const RIGHT_PLACED: [(&str, &str); 8] = [
     (
         "fun right %0:Tree : Int
   case %0
@@ -144,20 +144,117 @@ const RIGHT_PLACED: [(&str, &str); 4] = [
 ",
         "",
     ),
-    ("      reach %3 by offset\n", "offsets"),
+    ("      reach %3 by offset\n", "ends"),
     ("      reach %3 by skip %2\n", "skips"),
     (
         "      scalar %4
-        call right %3
+        call right %3",
+        "",
+    ),
+    (" ends %3", "ends"),
+    (
+        "
       give %4
 main %0:Tree : Int
   scalar %1
-    call right %0
+    call right %0",
+        "",
+    ),
+    (" ends %0", "ends"),
+    (
+        "
   give %1
 ",
         "",
     ),
 ];
+
+/// A function that walks both fields: the end of the first one, which its call tells, is where the second begins.
+pub const SUM: &str =
+    "data Tree = Leaf Int | Node Tree Tree ; fun sum (t : Tree) : Int = case t of { Leaf n -> n ; Node l r -> (sum l + sum r) } ; main (t : Tree) : Int = sum t ;";
+
+/// Its core.
+const SUM_INFERRED: &str = "fun sum %0:Tree : Int
+  case %0
+    Leaf %1
+      give %1
+    Node %2 %3
+      scalar %4
+        call sum %2
+      scalar %5
+        call sum %3
+      prim %6 = %4 + %5
+      give %6
+main %0:Tree : Int
+  scalar %1
+    call sum %0
+  give %1
+";
+
+/// Its core, with values built where they belong, in the same way.
+const SUM_PLACED: [(&str, &str); 9] = [
+    (
+        "fun sum %0:Tree : Int
+  case %0
+    Leaf %1
+      give %1
+    Node %2 %3
+",
+        "",
+    ),
+    ("      reach %3 by skip %2\n", "skips"),
+    (
+        "      scalar %4
+        call sum %2",
+        "",
+    ),
+    (" ends %2\n      reach %3 by end %2", "ends"),
+    (
+        "
+      scalar %5
+        call sum %3",
+        "",
+    ),
+    (" ends %3", "ends"),
+    (
+        "
+      prim %6 = %4 + %5
+      give %6
+main %0:Tree : Int
+  scalar %1
+    call sum %0",
+        "",
+    ),
+    (" ends %0", "ends"),
+    (
+        "
+  give %1
+",
+        "",
+    ),
+];
+
+/// Its code, with fields reached by ends: its leaves tell where they end, each call what it walked, and the node ends where its second
+/// field does.
+const SUM_CODE: &str = "sum 7
+0 switch %0 1 4
+1 whole %1 %0 1
+2 leafend %0 9
+3 give %1
+4 first %2 %0 1
+5 callv %4 sum %2
+6 got %2 0
+7 end %3 %2
+8 callv %5 sum %3
+9 got %3 0
+10 add %6 %4 %5
+11 over %0 %3
+12 give %6
+main 2
+13 callv %1 sum %0
+14 got %0 0
+15 give %1
+";
 
 /// A program with each construct: an arm before another in the text but not in the declaration, fields out of
 /// their order in memory, scalars and packed values in each place where an expression may stand.
@@ -331,7 +428,7 @@ const EACH_PLACED: [(&str, &str); 14] = [
 ",
         "",
     ),
-    ("        reach %5 by offset\n", "offsets"),
+    ("        reach %5 by offset\n", "ends"),
     ("        reach %5 by skip %4\n", "skips"),
     ("        par", ""),
     (" fork", "mark"),
@@ -386,7 +483,7 @@ fun turn %0:Row %1:Bool : Row
 ",
         "",
     ),
-    ("      reach %9 by offset\n", "offsets"),
+    ("      reach %9 by offset\n", "ends"),
     ("      reach %9 by skip %8\n", "skips"),
     (
         "      past %10 Cell
@@ -434,7 +531,7 @@ fun deep %0:Mark : Row
 ",
         "",
     ),
-    ("            reach %11 by offset\n", "offsets"),
+    ("            reach %11 by offset\n", "ends"),
     ("            reach %11 by skip %10\n", "skips"),
     (
         "            prim %12 = %9 == %3
@@ -480,7 +577,7 @@ fn text_of(
     let mut text = String::new(alloc);
     for (piece, when) in pieces {
         let there = match *when {
-            "offsets" => pass >= 3 && !skips,
+            "ends" => pass >= 3 && !skips,
             "skips" => pass >= 3 && skips,
             "mark" => pass >= 4,
             _ => true,
@@ -515,7 +612,7 @@ struct Cores<'a> {
     pieces: &'a [(&'a str, &'a str)],
 }
 
-/// The text of a core after a pass, with fields reached by offsets or by skips.
+/// The text of a core after a pass, with fields reached by ends and offsets or by skips.
 fn core_of(alloc: Global, cores: &Cores<'_>, pass: u32, skips: bool) -> Result<String, AllocError> {
     if pass == 1 {
         String::from_str(alloc, cores.inferred)
@@ -524,8 +621,8 @@ fn core_of(alloc: Global, cores: &Cores<'_>, pass: u32, skips: bool) -> Result<S
     }
 }
 
-/// Whether `core` prints the core of a source after a pass, whose number is also given as a word, with fields reached by offsets and by
-/// skips.
+/// Whether `core` prints the core of a source after a pass, whose number is also given as a word, with fields reached by ends and
+/// offsets and by skips.
 fn prints_pass<R: Threads + Wait + Sync>(
     rt: &R,
     alloc: Global,
@@ -533,12 +630,12 @@ fn prints_pass<R: Threads + Wait + Sync>(
     pass: u32,
     word: &str,
 ) -> Result<bool, AllocError> {
-    let offsets = core_of(alloc, cores, pass, false)?;
+    let ends = core_of(alloc, cores, pass, false)?;
     let skips = core_of(alloc, cores, pass, true)?;
     let usual = ["gib", "core", "a.gib", "--pass", word];
     let skipping = ["gib", "core", "--skips", "a.gib", "--pass", word];
     Ok(
-        prints(rt, alloc, cores.source, &usual, &offsets)?
+        prints(rt, alloc, cores.source, &usual, &ends)?
             && prints(rt, alloc, cores.source, &skipping, &skips)?,
     )
 }
@@ -562,7 +659,7 @@ fn prints_each_pass<R: Threads + Wait + Sync>(
 }
 
 /// The programs whose cores are shown.
-const PRINTED: [Cores<'static>; 3] = [
+const PRINTED: [Cores<'static>; 4] = [
     Cores {
         source: ADD_ONE,
         inferred: ADD_ONE_INFERRED,
@@ -572,6 +669,11 @@ const PRINTED: [Cores<'static>; 3] = [
         source: RIGHT,
         inferred: RIGHT_INFERRED,
         pieces: &RIGHT_PLACED,
+    },
+    Cores {
+        source: SUM,
+        inferred: SUM_INFERRED,
+        pieces: &SUM_PLACED,
     },
     Cores {
         source: EACH,
@@ -592,7 +694,7 @@ fn a_core_is_printed_after_each_pass(rt: HostRuntime) -> Result<(), Fail> {
     Ok(())
 }
 
-/// Whether these words print the code of the first program, with fields reached by offsets or by skips.
+/// Whether these words print the code of the first program, with fields reached by ends and offsets or by skips.
 fn prints_code<R: Threads + Wait + Sync>(
     rt: &R,
     alloc: Global,
@@ -608,6 +710,7 @@ fn code_is_printed_with_its_labels(rt: HostRuntime) -> Result<(), Fail> {
     let alloc = rt.alloc();
     assert!(rt; prints_code(&rt, alloc, &["gib", "code", "a.gib"], false)?);
     assert!(rt; prints_code(&rt, alloc, &["gib", "code", "--skips", "a.gib"], true)?);
+    assert!(rt; prints(&rt, alloc, SUM, &["gib", "code", "a.gib"], SUM_CODE)?);
     Ok(())
 }
 

@@ -240,12 +240,12 @@ fn divisions_end_as_they_mean(rt: HostRuntime) -> Result<(), Fail> {
 const STOLEN: [(&str, &str, Status); 2] = [
     (
         DIVIDES_LEFT,
-        "gibj 2\ndepth 3 chunks 16 fork 4 skips 0\nfork 0\nsteal 0\nstep 1 13\nfinish 1\nstep 0 2\njoin 0\nfinish 0\nend\n",
+        "gibj 3\ndepth 3 chunks 16 fork 4 skips 0\nfork 0\nsteal 0\nstep 1 13\nfinish 1\nstep 0 2\njoin 0\nfinish 0\nend\n",
         Status::Trap,
     ),
     (
         DIVIDES_RIGHT,
-        "gibj 2\ndepth 3 chunks 16 fork 4 skips 0\nfork 0\nsteal 0\nstep 1 2\nfinish 1\nstep 0 13\njoin 0\nfinish 0\nend\n",
+        "gibj 3\ndepth 3 chunks 16 fork 4 skips 0\nfork 0\nsteal 0\nstep 1 2\nfinish 1\nstep 0 13\njoin 0\nfinish 0\nend\n",
         Status::Depth,
     ),
 ];
@@ -254,12 +254,12 @@ const STOLEN: [(&str, &str, Status); 2] = [
 const TAKEN: [(&str, &str, Status); 2] = [
     (
         DIVIDES_LEFT,
-        "gibj 2\ndepth 3 chunks 16 fork 4 skips 0\nfork 0\nstep 0 2\ntake 0\nfinish 0\nend\n",
+        "gibj 3\ndepth 3 chunks 16 fork 4 skips 0\nfork 0\nstep 0 2\ntake 0\nfinish 0\nend\n",
         Status::Trap,
     ),
     (
         DIVIDES_RIGHT,
-        "gibj 2\ndepth 3 chunks 16 fork 4 skips 0\nfork 0\nstep 0 13\ntake 0\nfinish 0\nend\n",
+        "gibj 3\ndepth 3 chunks 16 fork 4 skips 0\nfork 0\nstep 0 13\ntake 0\nfinish 0\nend\n",
         Status::Depth,
     ),
 ];

@@ -12,7 +12,7 @@ use std::thread::Threads;
 pub const CHUNK: usize = 4096;
 
 /// The first line of a journal.
-pub const HEADER: &str = "gibj 2\n";
+pub const HEADER: &str = "gibj 3\n";
 
 /// How a call ended, the files after it, and what it put.
 #[derive(Drop)]

@@ -176,6 +176,47 @@ fn a_run_writes_its_image(rt: HostRuntime) -> Result<(), Fail> {
     Ok(())
 }
 
+/// The words of a run whose image is written, where ends reach fields.
+const WORDS_WITH_ENDS: [&str; 8] = [
+    "gib", "run", "a.gib", "a.gbp", "--image", "m.gbi", "--chunks", "16",
+];
+
+/// Runs whose heads need no offsets, since each call tells where the next field begins.
+const WITHOUT_OFFSETS: [Row<'static>; 2] = [
+    // The input is loaded into as many bytes as its payload has.
+    Row {
+        source: "data Tree = Leaf Int | Node Tree Tree ; fun sum (t : Tree) : Int = case t of { Leaf n -> n ; Node l r -> (sum l + sum r) } ; main (t : Tree) : Int = sum t ;",
+        payload: TWO_LEAVES,
+        kind: 0,
+        root: 3,
+        chunks: &[TWO_LEAVES],
+        text: "3\n",
+    },
+    // Both fields are indirections: the first one ends behind its address, and not where it leads.
+    Row {
+        source: "data Tree = Leaf Int | Node Tree Tree ; fun sum (t : Tree) : Int = case t of { Leaf n -> n ; Node l r -> (sum l + sum r) } ; main (t : Tree) : Int = sum (Node t t) ;",
+        payload: TWO_LEAVES,
+        kind: 0,
+        root: 6,
+        chunks: &[
+            b"\x01\x00\x01\0\0\0\0\0\0\0\x00\x02\0\0\0\0\0\0\0\x01\xfe\0\0\0\0\0\0\0\0\xfe\0\0\0\0\0\0\0\0",
+        ],
+        text: "6\n",
+    },
+];
+
+#[test]
+fn a_walk_that_tells_ends_needs_no_offsets(rt: HostRuntime) -> Result<(), Fail> {
+    for row in &WITHOUT_OFFSETS {
+        assert!(rt;
+            writes_image(&rt, rt.alloc(), &WORDS_WITH_ENDS, row, "m.gbi")?,
+            "{}",
+            row.source
+        );
+    }
+    Ok(())
+}
+
 /// Calls of the shelf that fail, with how a run ends, and whether it wrote its image and its value.
 const FAILING: [(u64, Status, &str, bool); 4] = [
     (0, Status::ReadFault, "gib: cannot read a.gib\n", false),

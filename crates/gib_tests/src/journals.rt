@@ -146,7 +146,7 @@ const ADDED: [Row<'static>; 8] = [
     Row {
         source: ADD_ONE,
         payload: TWO_LEAVES,
-        journal: "gibj 2\ndepth 10000 chunks 1024 fork 4 skips 0\nstep 0 7\nfork 0\nsteal 0\nstep 1 13\nfinish 1\nstep 0 11\njoin 0\nstep 0 6\nfinish 0\nend\n",
+        journal: "gibj 3\ndepth 10000 chunks 1024 fork 4 skips 0\nstep 0 7\nfork 0\nsteal 0\nstep 1 13\nfinish 1\nstep 0 11\njoin 0\nstep 0 6\nfinish 0\nend\n",
         kind: 2,
         root: 27,
         chunks: &[
@@ -158,7 +158,7 @@ const ADDED: [Row<'static>; 8] = [
     Row {
         source: ADD_ONE,
         payload: TWO_LEAVES,
-        journal: "gibj 2\ndepth 10000 chunks 16 fork 4 skips 0\nstep 0 7\nfork 0\nsteal 0\nstep 1 13\nfinish 1\nstep 0 11\njoin 0\nstep 0 6\nfinish 0\nend\n",
+        journal: "gibj 3\ndepth 10000 chunks 16 fork 4 skips 0\nstep 0 7\nfork 0\nsteal 0\nstep 1 13\nfinish 1\nstep 0 11\njoin 0\nstep 0 6\nfinish 0\nend\n",
         kind: 2,
         root: 27,
         chunks: &[
@@ -171,7 +171,7 @@ const ADDED: [Row<'static>; 8] = [
     Row {
         source: ADD_ONE,
         payload: TWO_LEAVES,
-        journal: "gibj 2\ndepth 10000 chunks 16 fork 4 skips 0\nstep 0 7\nfork 0\nstep 0 11\ntake 0\nstep 0 16\nfinish 0\nend\n",
+        journal: "gibj 3\ndepth 10000 chunks 16 fork 4 skips 0\nstep 0 7\nfork 0\nstep 0 11\ntake 0\nstep 0 16\nfinish 0\nend\n",
         kind: 2,
         root: 27,
         chunks: &[
@@ -183,7 +183,7 @@ const ADDED: [Row<'static>; 8] = [
     Row {
         source: ADD_ONE,
         payload: TWO_LEAVES,
-        journal: "gibj 2\ndepth 10000 chunks 16 fork 0 skips 0\nstep 0 36\nfinish 0\nend\n",
+        journal: "gibj 3\ndepth 10000 chunks 16 fork 0 skips 0\nstep 0 36\nfinish 0\nend\n",
         kind: 2,
         root: 27,
         chunks: &[
@@ -195,7 +195,7 @@ const ADDED: [Row<'static>; 8] = [
     Row {
         source: ADD_ONE,
         payload: TWO_LEAVES,
-        journal: "gibj 2\ndepth 10000 chunks 16 fork 4 skips 1\nstep 0 6\nfork 0\nsteal 0\nstep 1 13\nfinish 1\nstep 0 11\njoin 0\nstep 0 5\nfinish 0\nend\n",
+        journal: "gibj 3\ndepth 10000 chunks 16 fork 4 skips 1\nstep 0 6\nfork 0\nsteal 0\nstep 1 13\nfinish 1\nstep 0 11\njoin 0\nstep 0 5\nfinish 0\nend\n",
         kind: 2,
         root: 19,
         chunks: &[
@@ -208,7 +208,7 @@ const ADDED: [Row<'static>; 8] = [
     Row {
         source: ADD_ONE,
         payload: FOUR_LEAVES,
-        journal: "gibj 2\ndepth 10000 chunks 16 fork 4 skips 0\nstep 0 7\nfork 0\nstep 0 4\nsteal 0\nstep 0 3\nfork 0\nstep 0 3\nsteal 0\nstep 1 8\nfork 1\nstep 1 3\nsteal 1\nstep 0 8\nstep 3 4\nstep 2 4\nstep 3 4\nstep 2 9\nfinish 2\nstep 3 5\nfinish 3\nstep 1 8\njoin 1\nstep 1 7\nfinish 1\njoin 0\nstep 0 6\njoin 0\nstep 0 6\nfinish 0\nend\n",
+        journal: "gibj 3\ndepth 10000 chunks 16 fork 4 skips 0\nstep 0 7\nfork 0\nstep 0 4\nsteal 0\nstep 0 3\nfork 0\nstep 0 3\nsteal 0\nstep 1 8\nfork 1\nstep 1 3\nsteal 1\nstep 0 8\nstep 3 4\nstep 2 4\nstep 3 4\nstep 2 9\nfinish 2\nstep 3 5\nfinish 3\nstep 1 8\njoin 1\nstep 1 7\nfinish 1\njoin 0\nstep 0 6\njoin 0\nstep 0 6\nfinish 0\nend\n",
         kind: 2,
         root: 63,
         chunks: &[
@@ -223,7 +223,7 @@ const ADDED: [Row<'static>; 8] = [
     Row {
         source: ADD_ONE,
         payload: FOUR_LEAVES,
-        journal: "gibj 2\ndepth 10000 chunks 16 fork 4 skips 0\nstep 0 7\nfork 0\nstep 0 7\nfork 0\nstep 0 11\ntake 0\nsteal 0\nstep 0 7\nstep 1 2\nstep 0 9\nstep 1 6\nfork 1\nstep 1 11\ntake 1\nstep 1 17\nfinish 1\njoin 0\nstep 0 6\nfinish 0\nend\n",
+        journal: "gibj 3\ndepth 10000 chunks 16 fork 4 skips 0\nstep 0 7\nfork 0\nstep 0 7\nfork 0\nstep 0 11\ntake 0\nsteal 0\nstep 0 7\nstep 1 2\nstep 0 9\nstep 1 6\nfork 1\nstep 1 11\ntake 1\nstep 1 17\nfinish 1\njoin 0\nstep 0 6\nfinish 0\nend\n",
         kind: 2,
         root: 63,
         chunks: &[
@@ -236,7 +236,7 @@ const ADDED: [Row<'static>; 8] = [
     Row {
         source: ADD_ONE,
         payload: FOUR_LEAVES,
-        journal: "gibj 2\ndepth 10000 chunks 16 fork 1 skips 0\nstep 0 7\nfork 0\nstep 0 15\nsteal 0\nstep 1 21\nstep 0 21\nstep 1 17\nfinish 1\njoin 0\nstep 0 6\nfinish 0\nend\n",
+        journal: "gibj 3\ndepth 10000 chunks 16 fork 1 skips 0\nstep 0 7\nfork 0\nstep 0 15\nsteal 0\nstep 1 21\nstep 0 21\nstep 1 17\nfinish 1\njoin 0\nstep 0 6\nfinish 0\nend\n",
         kind: 2,
         root: 63,
         chunks: &[
@@ -252,7 +252,7 @@ const MADE: [Row<'static>; 10] = [
     Row {
         source: SUM,
         payload: FOUR_LEAVES,
-        journal: "gibj 2\ndepth 10000 chunks 16 fork 4 skips 0\nstep 0 5\nfork 0\nstep 0 5\nfork 0\nstep 0 2\nsteal 0\nstep 0 3\nsteal 0\nstep 2 6\nfinish 2\nstep 1 5\nfork 1\nstep 1 5\nsteal 1\njoin 0\nstep 0 2\nstep 3 6\nfinish 3\njoin 1\nstep 1 3\nfinish 1\njoin 0\nstep 0 3\nfinish 0\nend\n",
+        journal: "gibj 3\ndepth 10000 chunks 16 fork 4 skips 0\nstep 0 5\nfork 0\nstep 0 5\nfork 0\nstep 0 2\nsteal 0\nstep 0 3\nsteal 0\nstep 2 6\nfinish 2\nstep 1 5\nfork 1\nstep 1 5\nsteal 1\njoin 0\nstep 0 2\nstep 3 6\nfinish 3\njoin 1\nstep 1 3\nfinish 1\njoin 0\nstep 0 3\nfinish 0\nend\n",
         kind: 0,
         root: 10,
         chunks: &[
@@ -264,7 +264,7 @@ const MADE: [Row<'static>; 10] = [
     Row {
         source: HAS_TWO,
         payload: TWO_LEAVES,
-        journal: "gibj 2\ndepth 10000 chunks 16 fork 4 skips 0\nstep 0 5\nfork 0\nstep 0 4\nsteal 0\nstep 0 2\nstep 1 7\nfinish 1\njoin 0\nstep 0 3\nfinish 0\nend\n",
+        journal: "gibj 3\ndepth 10000 chunks 16 fork 4 skips 0\nstep 0 5\nfork 0\nstep 0 4\nsteal 0\nstep 0 2\nstep 1 7\nfinish 1\njoin 0\nstep 0 3\nfinish 0\nend\n",
         kind: 1,
         root: 1,
         chunks: &[b"\x01\x12\0\0\0\0\0\0\0\0\x01\0\0\0\0\0\0\0\0\x02"],
@@ -274,7 +274,7 @@ const MADE: [Row<'static>; 10] = [
     Row {
         source: GROW,
         payload: TWO_LEAVES,
-        journal: "gibj 2\ndepth 10000 chunks 16 fork 4 skips 0\nstep 0 6\nfork 0\nstep 0 7\nsteal 0\nstep 0 3\nstep 1 7\nstep 0 2\nstep 1 6\nfinish 1\njoin 0\nstep 0 31\nfinish 0\nend\n",
+        journal: "gibj 3\ndepth 10000 chunks 16 fork 4 skips 0\nstep 0 6\nfork 0\nstep 0 7\nsteal 0\nstep 0 3\nstep 1 7\nstep 0 2\nstep 1 6\nfinish 1\njoin 0\nstep 0 31\nfinish 0\nend\n",
         kind: 2,
         root: 27,
         chunks: &[
@@ -288,7 +288,7 @@ const MADE: [Row<'static>; 10] = [
     Row {
         source: FLIP,
         payload: FOUR_LEAVES,
-        journal: "gibj 2\ndepth 10000 chunks 16 fork 4 skips 0\nstep 0 7\nfork 0\nstep 0 7\nfork 0\nstep 0 2\nsteal 0\nstep 0 1\nsteal 0\nstep 0 6\nstep 1 8\nfork 1\nstep 1 9\ntake 1\nstep 1 2\nstep 2 4\nstep 1 3\nstep 2 2\nstep 1 10\nfinish 1\nstep 2 5\nfinish 2\njoin 0\nstep 0 6\njoin 0\nstep 0 6\nfinish 0\nend\n",
+        journal: "gibj 3\ndepth 10000 chunks 16 fork 4 skips 0\nstep 0 7\nfork 0\nstep 0 7\nfork 0\nstep 0 2\nsteal 0\nstep 0 1\nsteal 0\nstep 0 6\nstep 1 8\nfork 1\nstep 1 9\ntake 1\nstep 1 2\nstep 2 4\nstep 1 3\nstep 2 2\nstep 1 10\nfinish 1\nstep 2 5\nfinish 2\njoin 0\nstep 0 6\njoin 0\nstep 0 6\nfinish 0\nend\n",
         kind: 2,
         root: 63,
         chunks: &[
@@ -302,7 +302,7 @@ const MADE: [Row<'static>; 10] = [
     Row {
         source: BUILD,
         payload: TWO,
-        journal: "gibj 2\ndepth 10000 chunks 16 fork 4 skips 0\nstep 0 5\nfork 0\nstep 0 6\nfork 0\nstep 0 6\nsteal 0\nstep 0 4\ntake 0\nstep 0 8\nstep 1 7\nfork 1\nstep 1 10\ntake 1\nstep 1 15\nfinish 1\nstep 0 6\njoin 0\nstep 0 5\nfinish 0\nend\n",
+        journal: "gibj 3\ndepth 10000 chunks 16 fork 4 skips 0\nstep 0 5\nfork 0\nstep 0 6\nfork 0\nstep 0 6\nsteal 0\nstep 0 4\ntake 0\nstep 0 8\nstep 1 7\nfork 1\nstep 1 10\ntake 1\nstep 1 15\nfinish 1\nstep 0 6\njoin 0\nstep 0 5\nfinish 0\nend\n",
         kind: 2,
         root: 0,
         chunks: &[
@@ -315,7 +315,7 @@ const MADE: [Row<'static>; 10] = [
     Row {
         source: SUM_AND_LIST,
         payload: TWO_LEAVES,
-        journal: "gibj 2\ndepth 10000 chunks 16 fork 4 skips 0\nstep 0 2\nfork 0\nstep 0 3\nsteal 0\nstep 0 9\nstep 1 31\nstep 0 5\nstep 1 11\nfinish 1\njoin 0\nstep 0 5\nfinish 0\nend\n",
+        journal: "gibj 3\ndepth 10000 chunks 16 fork 4 skips 0\nstep 0 2\nfork 0\nstep 0 3\nsteal 0\nstep 0 9\nstep 1 31\nstep 0 9\nstep 1 16\nfinish 1\njoin 0\nstep 0 5\nfinish 0\nend\n",
         kind: 2,
         root: 27,
         chunks: &[
@@ -329,14 +329,14 @@ const MADE: [Row<'static>; 10] = [
     Row {
         source: TWICE_FORKED,
         payload: TWO_LEAVES,
-        journal: "gibj 2\ndepth 10000 chunks 16 fork 4 skips 0\nstep 0 1\nfork 0\nstep 0 13\nsteal 0\nstep 0 8\nstep 1 29\nstep 0 13\nstep 1 6\nfinish 1\njoin 0\nstep 0 1\nfork 0\nstep 0 33\nsteal 0\nstep 2 35\nfinish 2\njoin 0\nstep 0 5\nfinish 0\nend\n",
+        journal: "gibj 3\ndepth 10000 chunks 16 fork 4 skips 0\nstep 0 1\nfork 0\nstep 0 13\nsteal 0\nstep 0 8\nstep 1 29\nstep 0 16\nstep 1 9\nfinish 1\njoin 0\nstep 0 1\nfork 0\nstep 0 36\nsteal 0\nstep 2 38\nfinish 2\njoin 0\nstep 0 4\nfinish 0\nend\n",
         kind: 2,
-        root: 27,
+        root: 19,
         chunks: &[
-            b"\x01\x12\0\0\0\0\0\0\0\0\x01\0\0\0\0\0\0\0\0\x02\0\0\0\0\0\0\0\x01\x3f\0\0\0\0\0\0\0\x01\x36\0\0\0\0\0\0\0\0\x6f\0\0\0\0\0\0\0\0\x70\0\0\0\0\0\0\0\xfe\0\x30",
-            b"\x01\x12\x10\0\0\0\0\0\0\0\x0b\0\0\0\0\0\0\0\0\x0c",
-            b"\x01\x12\x20\0\0\0\0\0\0\0\x15\0\0\0\0\0\0\0\0\x16",
-            b"\x01\x12\x30\0\0\0\0\0\0\0\xdd\0\0\0\0\0\0\0\0\xde",
+            b"\x01\0\x01\0\0\0\0\0\0\0\0\x02\0\0\0\0\0\0\0\x01\x01\0\x6f\0\0\0\0\0\0\0\0\x70\0\0\0\0\0\0\0\xfe\0\x30",
+            b"\x01\0\x0b\0\0\0\0\0\0\0\0\x0c",
+            b"\x01\0\x15\0\0\0\0\0\0\0\0\x16",
+            b"\x01\0\xdd\0\0\0\0\0\0\0\0\xde",
         ],
         text: "(Node (Node (Leaf 111) (Leaf 112)) (Node (Leaf 221) (Leaf 222)))\n",
     },
@@ -344,7 +344,7 @@ const MADE: [Row<'static>; 10] = [
     Row {
         source: NESTED,
         payload: FIVE,
-        journal: "gibj 2\ndepth 40 chunks 16 fork 4 skips 0\nfork 0\nstep 0 1\nfork 0\nstep 0 24\nsteal 0\nstep 0 5\ntake 0\nstep 0 12\nstep 1 1\nfork 1\nsteal 1\nstep 1 5\nstep 2 10\nfinish 2\nstep 1 4\njoin 1\nstep 1 3\nfinish 1\njoin 0\nstep 0 2\nfinish 0\nend\n",
+        journal: "gibj 3\ndepth 40 chunks 16 fork 4 skips 0\nfork 0\nstep 0 1\nfork 0\nstep 0 24\nsteal 0\nstep 0 5\ntake 0\nstep 0 12\nstep 1 1\nfork 1\nsteal 1\nstep 1 5\nstep 2 10\nfinish 2\nstep 1 4\njoin 1\nstep 1 3\nfinish 1\njoin 0\nstep 0 2\nfinish 0\nend\n",
         kind: 0,
         root: 0,
         chunks: &[],
@@ -354,7 +354,7 @@ const MADE: [Row<'static>; 10] = [
     Row {
         source: PLUS_ONE,
         payload: FIVE,
-        journal: "gibj 2\ndepth 10000 chunks 1024 fork 4 skips 0\nstep 0 2\nfinish 0\nend\n",
+        journal: "gibj 3\ndepth 10000 chunks 1024 fork 4 skips 0\nstep 0 2\nfinish 0\nend\n",
         kind: 0,
         root: 6,
         chunks: &[],
@@ -363,7 +363,7 @@ const MADE: [Row<'static>; 10] = [
     Row {
         source: LEFT_DEEPER,
         payload: ZERO,
-        journal: "gibj 2\ndepth 6 chunks 16 fork 4 skips 0\nfork 0\nsteal 0\nstep 1 10\nfinish 1\nstep 0 29\njoin 0\nstep 0 2\nfinish 0\nend\n",
+        journal: "gibj 3\ndepth 6 chunks 16 fork 4 skips 0\nfork 0\nsteal 0\nstep 1 10\nfinish 1\nstep 0 29\njoin 0\nstep 0 2\nfinish 0\nend\n",
         kind: 0,
         root: 0,
         chunks: &[],
@@ -394,27 +394,27 @@ const DEEP: [(&str, &[u8], &str); 5] = [
     (
         LEFT_DEEPER,
         ZERO,
-        "gibj 2\ndepth 3 chunks 16 fork 4 skips 0\nfork 0\nsteal 0\nstep 1 10\nfinish 1\nstep 0 13\njoin 0\nfinish 0\nend\n",
+        "gibj 3\ndepth 3 chunks 16 fork 4 skips 0\nfork 0\nsteal 0\nstep 1 10\nfinish 1\nstep 0 13\njoin 0\nfinish 0\nend\n",
     ),
     (
         LEFT_DEEPER,
         ZERO,
-        "gibj 2\ndepth 3 chunks 16 fork 4 skips 0\nfork 0\nstep 0 13\ntake 0\nfinish 0\nend\n",
+        "gibj 3\ndepth 3 chunks 16 fork 4 skips 0\nfork 0\nstep 0 13\ntake 0\nfinish 0\nend\n",
     ),
     (
         RIGHT_DEEPER,
         ZERO,
-        "gibj 2\ndepth 3 chunks 16 fork 4 skips 0\nfork 0\nsteal 0\nstep 1 13\nfinish 1\nstep 0 9\njoin 0\nfinish 0\nend\n",
+        "gibj 3\ndepth 3 chunks 16 fork 4 skips 0\nfork 0\nsteal 0\nstep 1 13\nfinish 1\nstep 0 9\njoin 0\nfinish 0\nend\n",
     ),
     (
         RIGHT_DEEPER,
         ZERO,
-        "gibj 2\ndepth 3 chunks 16 fork 4 skips 0\nfork 0\nstep 0 9\ntake 0\nstep 0 13\nfinish 0\nend\n",
+        "gibj 3\ndepth 3 chunks 16 fork 4 skips 0\nfork 0\nstep 0 9\ntake 0\nstep 0 13\nfinish 0\nend\n",
     ),
     (
         NESTED,
         FIVE,
-        "gibj 2\ndepth 4 chunks 16 fork 4 skips 0\nfork 0\nstep 0 1\nfork 0\nstep 0 13\ntake 0\nsteal 0\nstep 1 1\nfork 1\nstep 1 7\nsteal 1\nstep 1 2\nstep 2 10\nfinish 2\njoin 1\nstep 1 3\nfinish 1\njoin 0\nfinish 0\nend\n",
+        "gibj 3\ndepth 4 chunks 16 fork 4 skips 0\nfork 0\nstep 0 1\nfork 0\nstep 0 13\ntake 0\nsteal 0\nstep 1 1\nfork 1\nstep 1 7\nsteal 1\nstep 1 2\nstep 2 10\nfinish 2\njoin 1\nstep 1 3\nfinish 1\njoin 0\nfinish 0\nend\n",
     ),
 ];
 
@@ -443,102 +443,102 @@ const NOT_ENABLED: [(&str, &[u8], &str, &str); 15] = [
     (
         ADD_ONE,
         TWO_LEAVES,
-        "gibj 2\ndepth 10000 chunks 16 fork 4 skips 0\nstep 0 7\nfork 0\nsteal 0\nstep 1 13\njoin 0\nstep 0 11\nfinish 1\nstep 0 6\nfinish 0\nend\n",
+        "gibj 3\ndepth 10000 chunks 16 fork 4 skips 0\nstep 0 7\nfork 0\nsteal 0\nstep 1 13\njoin 0\nstep 0 11\nfinish 1\nstep 0 6\nfinish 0\nend\n",
         "gib: input: event not enabled at line 7\n",
     ),
     // The same, at the join.
     (
         ADD_ONE,
         TWO_LEAVES,
-        "gibj 2\ndepth 10000 chunks 16 fork 4 skips 0\nstep 0 7\nfork 0\nsteal 0\nstep 1 13\nstep 0 11\njoin 0\nfinish 1\nstep 0 6\nfinish 0\nend\n",
+        "gibj 3\ndepth 10000 chunks 16 fork 4 skips 0\nstep 0 7\nfork 0\nsteal 0\nstep 1 13\nstep 0 11\njoin 0\nfinish 1\nstep 0 6\nfinish 0\nend\n",
         "gib: input: event not enabled at line 8\n",
     ),
     // Nothing to steal.
     (
         ADD_ONE,
         TWO_LEAVES,
-        "gibj 2\ndepth 10000 chunks 1024 fork 4 skips 0\nsteal 0\nfinish 0\nend\n",
+        "gibj 3\ndepth 10000 chunks 1024 fork 4 skips 0\nsteal 0\nfinish 0\nend\n",
         "gib: input: event not enabled at line 3\n",
     ),
     // No such task.
     (
         PLUS_ONE,
         FIVE,
-        "gibj 2\ndepth 10000 chunks 16 fork 4 skips 0\nstep 9 1\nfinish 0\nend\n",
+        "gibj 3\ndepth 10000 chunks 16 fork 4 skips 0\nstep 9 1\nfinish 0\nend\n",
         "gib: input: event not enabled at line 3\n",
     ),
     // A step too many.
     (
         PLUS_ONE,
         FIVE,
-        "gibj 2\ndepth 10000 chunks 16 fork 4 skips 0\nstep 0 3\nfinish 0\nend\n",
+        "gibj 3\ndepth 10000 chunks 16 fork 4 skips 0\nstep 0 3\nfinish 0\nend\n",
         "gib: input: event not enabled at line 3\n",
     ),
     (
         ADD_ONE,
         TWO_LEAVES,
-        "gibj 2\ndepth 10000 chunks 16 fork 4 skips 0\nstep 0 9223372036854775807\nend\n",
+        "gibj 3\ndepth 10000 chunks 16 fork 4 skips 0\nstep 0 9223372036854775807\nend\n",
         "gib: input: event not enabled at line 3\n",
     ),
     // A step too few.
     (
         ADD_ONE,
         TWO_LEAVES,
-        "gibj 2\ndepth 10000 chunks 16 fork 4 skips 0\nstep 0 6\nfork 0\nend\n",
+        "gibj 3\ndepth 10000 chunks 16 fork 4 skips 0\nstep 0 6\nfork 0\nend\n",
         "gib: input: event not enabled at line 4\n",
     ),
     (
         PLUS_ONE,
         FIVE,
-        "gibj 2\ndepth 10000 chunks 16 fork 4 skips 0\nstep 0 1\nfinish 0\nend\n",
+        "gibj 3\ndepth 10000 chunks 16 fork 4 skips 0\nstep 0 1\nfinish 0\nend\n",
         "gib: input: event not enabled at line 4\n",
     ),
     // No fork may be nested.
     (
         ADD_ONE,
         TWO_LEAVES,
-        "gibj 2\ndepth 10000 chunks 16 fork 0 skips 0\nstep 0 7\nfork 0\nend\n",
+        "gibj 3\ndepth 10000 chunks 16 fork 0 skips 0\nstep 0 7\nfork 0\nend\n",
         "gib: input: event not enabled at line 4\n",
     ),
     // A side is stolen once.
     (
         ADD_ONE,
         TWO_LEAVES,
-        "gibj 2\ndepth 10000 chunks 16 fork 4 skips 0\nstep 0 7\nfork 0\nsteal 0\nsteal 0\nend\n",
+        "gibj 3\ndepth 10000 chunks 16 fork 4 skips 0\nstep 0 7\nfork 0\nsteal 0\nsteal 0\nend\n",
         "gib: input: event not enabled at line 6\n",
     ),
     // A side that was stolen is not taken.
     (
         ADD_ONE,
         TWO_LEAVES,
-        "gibj 2\ndepth 10000 chunks 16 fork 4 skips 0\nstep 0 7\nfork 0\nsteal 0\nstep 0 11\ntake 0\nend\n",
+        "gibj 3\ndepth 10000 chunks 16 fork 4 skips 0\nstep 0 7\nfork 0\nsteal 0\nstep 0 11\ntake 0\nend\n",
         "gib: input: event not enabled at line 7\n",
     ),
     // A task finishes once.
     (
         ADD_ONE,
         TWO_LEAVES,
-        "gibj 2\ndepth 10000 chunks 16 fork 4 skips 0\nstep 0 7\nfork 0\nsteal 0\nstep 1 13\nfinish 1\nfinish 1\nend\n",
+        "gibj 3\ndepth 10000 chunks 16 fork 4 skips 0\nstep 0 7\nfork 0\nsteal 0\nstep 1 13\nfinish 1\nfinish 1\nend\n",
         "gib: input: event not enabled at line 8\n",
     ),
     // A joined task is no more.
     (
         ADD_ONE,
         TWO_LEAVES,
-        "gibj 2\ndepth 10000 chunks 16 fork 4 skips 0\nstep 0 7\nfork 0\nsteal 0\nstep 1 13\nfinish 1\nstep 0 11\njoin 0\nstep 1 1\nend\n",
+        "gibj 3\ndepth 10000 chunks 16 fork 4 skips 0\nstep 0 7\nfork 0\nsteal 0\nstep 1 13\nfinish 1\nstep 0 11\njoin 0\nstep 1 1\nend\n",
         "gib: input: event not enabled at line 10\n",
     ),
     // Nothing follows the end of the root.
     (
         PLUS_ONE,
         FIVE,
-        "gibj 2\ndepth 10000 chunks 16 fork 4 skips 0\nstep 0 2\nfinish 0\nfinish 0\nend\n",
+        "gibj 3\ndepth 10000 chunks 16 fork 4 skips 0\nstep 0 2\nfinish 0\nfinish 0\nend\n",
         "gib: input: event not enabled at line 5\n",
     ),
     (
         ADD_ONE,
         TWO_LEAVES,
-        "gibj 2\ndepth 10000 chunks 16 fork 4 skips 0\nstep 0 7\nfork 0\nsteal 0\nstep 1 13\nfinish 1\nstep 0 11\njoin 0\nstep 0 6\nfinish 0\nstep 0 1\nend\n",
+        "gibj 3\ndepth 10000 chunks 16 fork 4 skips 0\nstep 0 7\nfork 0\nsteal 0\nstep 1 13\nfinish 1\nstep 0 11\njoin 0\nstep 0 6\nfinish 0\nstep 0 1\nend\n",
         "gib: input: event not enabled at line 12\n",
     ),
 ];
@@ -568,14 +568,14 @@ const NOT_ENDED: [(&str, &[u8], &str, Status, &str); 5] = [
     (
         ADD_ONE,
         TWO_LEAVES,
-        "gibj 2\ndepth 10000 chunks 16 fork 4 skips 0\nend\n",
+        "gibj 3\ndepth 10000 chunks 16 fork 4 skips 0\nend\n",
         Status::Input,
         "gib: input: journal not ended\n",
     ),
     (
         ADD_ONE,
         TWO_LEAVES,
-        "gibj 2\ndepth 10000 chunks 16 fork 4 skips 0\nstep 0 7\nfork 0\nsteal 0\nstep 1 13\nfinish 1\nstep 0 11\njoin 0\nstep 0 6\nend\n",
+        "gibj 3\ndepth 10000 chunks 16 fork 4 skips 0\nstep 0 7\nfork 0\nsteal 0\nstep 1 13\nfinish 1\nstep 0 11\njoin 0\nstep 0 6\nend\n",
         Status::Input,
         "gib: input: journal not ended\n",
     ),
@@ -583,7 +583,7 @@ const NOT_ENDED: [(&str, &[u8], &str, Status, &str); 5] = [
     (
         SPREAD,
         SIXTEEN,
-        "gibj 2\ndepth 10000 chunks 16 fork 4 skips 0\nstep 0 9223372036854775807\nfinish 0\nend\n",
+        "gibj 3\ndepth 10000 chunks 16 fork 4 skips 0\nstep 0 9223372036854775807\nfinish 0\nend\n",
         Status::Full,
         "gib: chunks\n",
     ),
@@ -591,14 +591,14 @@ const NOT_ENDED: [(&str, &[u8], &str, Status, &str); 5] = [
     (
         PLUS_ONE,
         FIVE,
-        "gibj 2\ndepth 10000 chunks 16 fork 4 skips 0\nstep 0 2\nfinish 0\n",
+        "gibj 3\ndepth 10000 chunks 16 fork 4 skips 0\nstep 0 2\nfinish 0\n",
         Status::Input,
         "gib: input: bad journal at line 5\n",
     ),
     (
         PLUS_ONE,
         FIVE,
-        "gibj 2\ndepth 10000 chunks 16 fork 4 skips 0\nstep 0 1\nstep 0 1\nfinish 0\nend\n",
+        "gibj 3\ndepth 10000 chunks 16 fork 4 skips 0\nstep 0 1\nstep 0 1\nfinish 0\nend\n",
         Status::Input,
         "gib: input: bad journal at line 4\n",
     ),

@@ -40,6 +40,8 @@ mod meanings;
 #[cfg(test)]
 mod meeting;
 #[cfg(test)]
+mod packed_results;
+#[cfg(test)]
 mod parsing;
 #[cfg(test)]
 mod placing;

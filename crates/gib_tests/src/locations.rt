@@ -1,6 +1,6 @@
 //! What the location checker says of the cores of programs.
 
-use crate::cores::{ADD_ONE, EACH, RIGHT};
+use crate::cores::{ADD_ONE, EACH, RIGHT, SUM};
 use crate::programs::compile;
 use gib_access::reach;
 use gib_core::{AccessMode, Core};
@@ -41,12 +41,9 @@ fn is_broken_at(alloc: Global, source: &str, rule: u8, term: u64) -> bool {
 
 #[test]
 fn cores_whose_fields_are_reached_meet_the_build_rules(rt: HostRuntime) -> Result<(), Fail> {
-    for source in &[ADD_ONE, RIGHT, EACH] {
+    for source in &[ADD_ONE, RIGHT, SUM, EACH] {
         assert!(rt; is_built(rt.alloc(), source, AccessMode::Skips), "{source}");
-        assert!(rt;
-            is_built(rt.alloc(), source, AccessMode::Offsets),
-            "{source}"
-        );
+        assert!(rt; is_built(rt.alloc(), source, AccessMode::Ends), "{source}");
     }
     Ok(())
 }

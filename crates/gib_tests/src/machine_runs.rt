@@ -53,6 +53,7 @@ const ALONE: Options = Options {
     fork: 4,
     pass: 4,
     image: false,
+    packs: false,
     skips: true,
     number: 0,
     levels: 0,

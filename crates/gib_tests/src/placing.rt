@@ -96,7 +96,7 @@ fn program(alloc: Global, is_par: bool, fields: (u32, u32)) -> Result<Core, Memo
         body,
     };
     let types = trees(alloc)?;
-    Ok(Core::new(types, terms, Vec::new(alloc), main, Vec::new(alloc)))
+    Ok(Core::new(types, terms, Vec::new(alloc), main, Vec::new(alloc), false))
 }
 
 fn names(alloc: Global) -> Result<Names, Fail> {

@@ -213,8 +213,8 @@ const PROGRAMS: [(&str, &str, &[u8], Status, &str, &str); 21] = [
     ),
 ];
 
-/// Whether a run and a plain run of a program on a payload both end so.
-fn both_end<R: Threads + Wait + Sync>(
+/// Whether a run, a run by eight workers and a plain run of a program on a payload all end so.
+fn all_end<R: Threads + Wait + Sync>(
     rt: &R,
     alloc: Global,
     program: (&str, &str),
@@ -225,8 +225,13 @@ fn both_end<R: Threads + Wait + Sync>(
     let input = packed(alloc, payload)?;
     let files = two_files(&source, "a.gbp", &input);
     let run = ["gib", "run", "a.gib", "a.gbp", "--chunks", "16"];
+    let crew = ["gib", "run", "a.gib", "a.gbp", "--workers", "8"];
     let plain = ["gib", "plain", "a.gib", "a.gbp"];
-    Ok(ends(rt, alloc, &run, &files, end)? && ends(rt, alloc, &plain, &files, end)?)
+    Ok(
+        ends(rt, alloc, &run, &files, end)?
+            && ends(rt, alloc, &crew, &files, end)?
+            && ends(rt, alloc, &plain, &files, end)?,
+    )
 }
 
 #[test]
@@ -238,7 +243,7 @@ fn programs_end_as_they_mean(rt: HostRuntime) -> Result<(), Fail> {
             err,
         };
         assert!(rt;
-            both_end(&rt, rt.alloc(), (types, rest), payload, end)?,
+            all_end(&rt, rt.alloc(), (types, rest), payload, end)?,
             "{rest}"
         );
     }

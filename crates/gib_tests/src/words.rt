@@ -80,6 +80,7 @@ fn push_options(line: &mut String, alloc: Global, options: &Options) -> Result<(
     push_number(line, alloc, "chunks", options.chunks, 1_024)?;
     push_number(line, alloc, "pass", options.pass, 4)?;
     push_set(line, " image", options.image)?;
+    push_set(line, " packs", options.packs)?;
     push_set(line, " skips", options.skips)
 }
 
@@ -93,6 +94,7 @@ fn shown(alloc: Global, plan: Option<Plan<'_>>) -> Result<String, AllocError> {
     push_name(&mut line, name_of(plan.second))?;
     push_name(&mut line, name_of(plan.third))?;
     push_name(&mut line, plan.target)?;
+    push_name(&mut line, plan.pack)?;
     push_options(&mut line, alloc, &plan.options)?;
     Ok(line)
 }
@@ -141,7 +143,7 @@ fn no_words_ask_for_the_sample(rt: HostRuntime) -> Result<(), Fail> {
 }
 
 /// Words, and what they ask for.
-const COMMANDS: [(&[&str], &str); 57] = [
+const COMMANDS: [(&[&str], &str); 62] = [
     (&["run", "s", "i"], "run s i"),
     (&["plain", "s", "i"], "plain s i"),
     (&["check", "s"], "check s"),
@@ -192,6 +194,18 @@ const COMMANDS: [(&[&str], &str); 57] = [
         &["run", "--chunks", "20", "s", "i", "--depth", "3"],
         "run s i depth 3 chunks 20",
     ),
+    // The packed file of the result, alone and behind an image.
+    (&["run", "s", "i", "--pack", "o"], "run s i o packs"),
+    (
+        &["run", "--pack=o", "s", "i", "--image", "m"],
+        "run s i m o image packs",
+    ),
+    (&["run", "s", "i", "--pack"], "not taken"),
+    (
+        &["run", "s", "i", "--pack", "o", "--pack", "o"],
+        "not taken",
+    ),
+    (&["plain", "s", "i", "--pack", "o"], "not taken"),
     // The image of memory.
     (&["run", "s", "i", "--image", "m"], "run s i m image"),
     (&["run", "--image=m", "s", "i"], "run s i m image"),

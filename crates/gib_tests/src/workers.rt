@@ -151,7 +151,7 @@ fn writes<R: Threads + Wait + Sync>(
 fn a_run_without_forks_has_a_short_journal(rt: HostRuntime) -> Result<(), Fail> {
     let alloc = rt.alloc();
     let journal =
-        "gibj 2\ndepth 10000 chunks 1024 fork 4 skips 0\nstep 0 2\nfinish 0\nend\n".as_bytes();
+        "gibj 3\ndepth 10000 chunks 1024 fork 4 skips 0\nstep 0 2\nfinish 0\nend\n".as_bytes();
     assert!(rt; writes(&rt, alloc, PLUS_ONE, FIVE, "6\n", journal)?);
     Ok(())
 }
@@ -161,7 +161,7 @@ fn a_run_without_forks_has_a_short_journal(rt: HostRuntime) -> Result<(), Fail> 
 fn a_worker_has_its_own_tasks_first(rt: HostRuntime) -> Result<(), Fail> {
     let alloc = rt.alloc();
     let journal =
-        "gibj 2\ndepth 10000 chunks 1024 fork 4 skips 0\nstep 0 7\nfork 0\nstep 0 11\ntake 0\nstep 0 16\nfinish 0\nend\n".as_bytes();
+        "gibj 3\ndepth 10000 chunks 1024 fork 4 skips 0\nstep 0 7\nfork 0\nstep 0 11\ntake 0\nstep 0 16\nfinish 0\nend\n".as_bytes();
     assert!(rt;
         writes(
             &rt,
