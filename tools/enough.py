@@ -135,7 +135,9 @@ class Writer:
             self.block(level, below, atom(words[1]) + " = ", inside)
 
     def last(self, level, words, below, target, forks, counts, behind):
-        """The line that ends a block."""
+        """The line that ends a block. Which ends a call tells says nothing of its value."""
+        if "ends" in words[2:]:
+            words = words[: words.index("ends", 2)]
         kind, given = words[0], [atom(word) for word in words[1:]]
         if kind == "write":
             made = self.schema.by_name[self.heads[words[1]]]

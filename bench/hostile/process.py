@@ -18,7 +18,8 @@ STATUSES = {
     'run': {0, 1, 3, 4, 8, 9}, 'trace': {0, 1, 3, 4, 8, 9}, 'replay': {0, 1, 3, 4, 8, 9}, 'gen': {0, 3, 4}, 'walk': {2},
 }
 # The whole line of a status, or its front.
-LINES = {0: b'', 1: b'gib: source: ', 2: b'gib: usage\n', 3: b'gib: depth\n', 4: b'gib: chunks\n', 8: b'gib: input: ', 9: b'gib: division by zero\n'}
+LINES = {0: b'', 1: b'gib: source: ', 2: b'gib: usage\n', 3: b'gib: depth\n', 4: b'gib: chunks\n', 8: b'gib: input: ', 9: b'gib: division by zero\n',
+         10: b'gib: result longer than 16777216 bytes\n'}
 TREE = 'data Tree = Leaf Int | Node Tree Tree ; '
 KNOWN = [
     (TREE + 'fun add1 (t : Tree) : Tree = case t of { Leaf n -> Leaf (n + 1) ; Node l r -> let par a = add1 l and b = add1 r in Node a b } ; '

@@ -7,7 +7,6 @@ whether the row of an earlier run still holds.
 import hashlib
 import os
 import subprocess
-import tempfile
 import time
 import uuid
 from typing import NamedTuple
@@ -18,7 +17,7 @@ TRIES = 4
 PAUSE = 0.1
 
 # The statuses that the same source and input bring again. Whether chunks are enough may differ from run to run, so 4 is none of them.
-FINAL = ("0", "1", "2", "3", "8", "9")
+FINAL = ("0", "1", "2", "3", "8", "9", "10")
 
 # What `keep` may be, and how the name of a result ends.
 ENDINGS = {"text": ".txt", "packed": ".gbp"}
@@ -109,17 +108,11 @@ def call(work, words, printed):
 
 
 def make(work, name, part):
-    """Makes the result of a file at `part`. The one place that knows how a result becomes a packed file: here `run --pack` can
-    take the place of two calls."""
+    """Makes the result of a file at `part`."""
     run = ["run", work.source, name, *work.words]
     if work.keep == "text":
         return call(work, run, part)
-    with tempfile.NamedTemporaryFile(prefix="gib-many-") as text:
-        status, line = call(work, run, text.name)
-        if status == "0":
-            status, line = call(work, ["pack", work.source, text.name, part], os.devnull)
-            line = f"pack: {line}" if line else ""
-    return status, line
+    return call(work, [*run, "--pack", part], os.devnull)
 
 
 def remove(path):

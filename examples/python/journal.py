@@ -39,7 +39,7 @@ class Journal:
 
     def __init__(self, data):
         lines = data.decode("ascii", "replace").split("\n")
-        if lines[0] != "gibj 2":
+        if lines[0] != "gibj 3":
             raise Torn("this is no journal, and a picture of an image needs two files: the source, then its image")
         settings = SETTINGS.fullmatch(lines[1] if len(lines) > 1 else "")
         if not settings or lines[-2:] != ["end", ""]:
