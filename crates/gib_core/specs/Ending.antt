@@ -97,6 +97,7 @@ packed_from f k (ty.Whole ∷ ts) = packed_from f (suc k) ts
 packed_from f k (ty.Truth ∷ ts) = packed_from f (suc k) ts
 packed_from f k (ty.Tree t ∷ ts) = record { function = f; place = k } ∷ packed_from f (suc k) ts
 
+-- The packed parameters of all functions.
 abbrev pub all_packed : List FunctionTerm → List Ended
 all_packed [] = []
 all_packed (g ∷ gs) = packed_from g.name.0 0 g.parameters ++ all_packed gs
@@ -147,11 +148,14 @@ pub record Within : Type 0 where
   pub ends : Bool
   pub par : Bool
 
+-- In a function's body, and in main's, outside each `par`.
 abbrev pub within_function : CoreTree → FunctionTerm → Within
 within_function core g = record { ends = some_ended (ended core) g.name.0 || has_telling (ended core) g.body; par = false }
 
+-- In main's body; it has no ended parameter.
 abbrev pub within_main : CoreTree → Within
 within_main core = record { ends = has_telling (ended core) core.main.body; par = false }
 
+-- In a side of a `par`.
 abbrev pub within_par : Within → Within
 within_par w = record { ends = w.ends; par = true }

@@ -273,6 +273,7 @@ pub record Line : Type 0 where
   pub pending : ℕ → Bool
   pub called : ℕ → Bool
 
+-- No variable.
 abbrev pub none_of : ℕ → Bool
 none_of q = false
 
@@ -280,13 +281,15 @@ none_of q = false
 abbrev pub new_line : Within → Line
 new_line w = record { within = w; told = none_of; overs = []; pending = none_of; called = none_of }
 
--- It waits until these ends are told; they are.
+-- It waits until a side tells these ends.
 abbrev pub await : (ℕ → Bool) → Line → Line
 await f ln = record { within = ln.within; told = ln.told; overs = ln.overs; pending = f; called = ln.called }
 
+-- A side has told these ends, and nothing is waited for.
 abbrev pub tell_line : (ℕ → Bool) → Line → Line
 tell_line f ln = record { within = ln.within; told = λ q. ln.told q || f q; overs = ln.overs; pending = none_of; called = none_of }
 
+-- It waits for a call that gives ends at these parameters.
 abbrev pub await_call : (ℕ → Bool) → Line → Line
 await_call f ln = record { within = ln.within; told = ln.told; overs = ln.overs; pending = ln.pending; called = f }
 
@@ -309,6 +312,7 @@ abbrev pub is_leaf : Option Variable → Bool
 is_leaf None = true
 is_leaf (Some y) = false
 
+-- The line of an arm goes on with what is told there, and with what is told before its return.
 abbrev pub arm_line : CoreTree → ℕ → ConId → List Variable → Term → Line → Line
 arm_line core x c ys u ln = record {
   within = ln.within;
@@ -322,6 +326,7 @@ arm_line core x c ys u ln = record {
 abbrev pub and_also : (ℕ → Bool) → ℕ → ℕ → Bool
 and_also f x q = f q || q == x
 
+-- What is told once all of these were told, one after another.
 abbrev pub finally : (ℕ → Bool) → List Over → ℕ → Bool
 finally f [] = f
 finally f (o ∷ os) = finally (and_also f o.tree) os
@@ -336,6 +341,7 @@ pub data Needs : Type 0 where
   Inner : (f : ℕ → Bool) → Needs
   AtEnd : (f : ℕ → Bool) → Needs
 
+-- What must be told by the end of a line is told there, where these `over`s stand before its return.
 abbrev pub Meets : Needs → (ℕ → Bool) → List Over → Type 0
 Meets (Inner f) told os = (q : ℕ) → f q ≡ true → told q ≡ true
 Meets (AtEnd f) told os = Runs told os × ((q : ℕ) → f q ≡ true → finally told os q ≡ true)

@@ -176,7 +176,7 @@ pub fn types()
 
 /// A field is reached at the end that a call told before in the same line, outside each par.
 pub fn told()
-    // Both fields are summed: the parameter is ended, as R12a says.
+    // Both fields are summed, one after the other: so the parameter is ended.
     ensures both { let rest : Term = Then (Reach (v 3) (by.End (v 2))) (Then (sizes 5 3) (Then (Prim (v 6) o.Add (var 4) (var 5)) (Give (var 6)))) in
         let core = core_told (Then (sizes 4 2) rest) in
         (ended core ≡ record { function = 8; place = 0 } ∷ []) × (first_broken core ≡ None)
