@@ -148,7 +148,7 @@ pub record Within : Type 0 where
   pub ends : Bool
   pub par : Bool
 
--- In a function's body, and in main's, outside each `par`.
+-- In a function's body, outside each `par`.
 abbrev pub within_function : CoreTree → FunctionTerm → Within
 within_function core g = record { ends = some_ended (ended core) g.name.0 || has_telling (ended core) g.body; par = false }
 
