@@ -30,7 +30,7 @@ any-texts (k ∷ ks) text = ap (λ b. bytes_eq text k.items || b) (any-texts ks 
 
 -- a text that has a place is held there
 
-holds_at : (names : List (List ℕ)) (text : List ℕ) (i : ℕ) → slice_get names i ≡ Some text → holds names text ≡ true
+pub holds_at : (names : List (List ℕ)) (text : List ℕ) (i : ℕ) → slice_get names i ≡ Some text → holds names text ≡ true
 holds_at [] text i e = absurd cc
 holds_at (n ∷ names) text zero e =
     let same : bytes_eq text n ≡ true = (bytes_eq-Decides text n).1 (let f = e in cc) in

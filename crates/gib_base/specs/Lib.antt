@@ -4,3 +4,4 @@ pub mod Spelling
 pub mod Lexed
 pub mod Printing
 pub mod Entries
+pub mod Texts

@@ -39,6 +39,8 @@ sign_text sign.Close = codes ")"
 sign_text sign.Colon = codes ":"
 sign_text sign.OpenBrace = codes "{"
 sign_text sign.CloseBrace = codes "}"
+sign_text sign.OpenBracket = codes "["
+sign_text sign.CloseBracket = codes "]"
 sign_text sign.Arrow = codes "->"
 sign_text sign.Plus = codes "+"
 sign_text sign.Minus = codes "-"
@@ -90,7 +92,9 @@ single_of b =
     else (if b == 125 then sign.CloseBrace
     else (if b == 43 then sign.Plus
     else (if b == 42 then sign.Times
-    else sign.Less))))))))
+    else (if b == 91 then sign.OpenBracket
+    else (if b == 93 then sign.CloseBracket
+    else sign.Less))))))))))
 
 -- What a piece of a class is, by its first byte and the bytes behind it; no piece is of class `Other`.
 abbrev pub piece_in : Class → ℕ → List ℕ → Piece

@@ -7,6 +7,7 @@ pub mod limits;
 pub mod name;
 mod reversed;
 mod text;
+mod texts;
 pub mod token;
 
 pub use by_number::ByNumber;
@@ -14,6 +15,7 @@ pub use name::{Name, NameFault, Names};
 pub use reversed::Reversed;
 use std::alloc::AllocError;
 pub use text::{push_decimal, push_signed};
+pub use texts::{Copied, Texts};
 
 /// Want of memory, the one answer that no contract ties to a cause.
 pub type Memory = AllocError;

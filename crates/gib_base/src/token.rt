@@ -44,6 +44,10 @@ pub enum Sign {
     OpenBrace,
     /// `}`
     CloseBrace,
+    /// `[`
+    OpenBracket,
+    /// `]`
+    CloseBracket,
     /// `->`
     Arrow,
     /// `+`

@@ -7,3 +7,4 @@ pub mod Steps
 pub mod Fronts
 pub mod Written
 pub mod Again
+pub mod Differ

@@ -35,6 +35,8 @@ fn is_sign_byte(b: u8) -> bool
         || b == b'}'
         || b == b'+'
         || b == b'*'
+        || b == b'['
+        || b == b']'
         || b == b'<'
 }
 
@@ -215,6 +217,10 @@ fn single(b: u8) -> Sign
         Sign::Plus
     } else if b == b'*' {
         Sign::Times
+    } else if b == b'[' {
+        Sign::OpenBracket
+    } else if b == b']' {
+        Sign::CloseBracket
     } else {
         Sign::Less
     }

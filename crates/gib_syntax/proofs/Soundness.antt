@@ -22,7 +22,7 @@ use Rattle.gib_syntax.specs.declared.tree.TypeName.{TypeName}
 use Rattle.gib_syntax.specs.declared.tree.Operator.{Operator}
 use Rattle.gib_syntax.specs.declared.tree.Operator.TheVariants as o
 use Rattle.gib_syntax.specs.Tree.{Expression, Arguments, Arms, Var, Num, Bit, Paren, Op, Call, Make, Let, Par, If, Case, NoArgument, Argument, LastArm, NextArm, FunctionTree, ProgramTree}
-use Rattle.gib_syntax.specs.Spelling.{IsFine, AreFine, HasFine, IsFineFunction, IsFineProgram}
+use Rattle.gib_syntax.specs.Fine.{IsFine, AreFine, HasFine, IsFineFunction, IsFineProgram}
 use Rattle.gib_syntax.specs.Declarations.{number_of, place_of, next_place, AreDifferent, type_of_name, constructor_names, constructor_named, function_named, table_of_program, input_type, output_type}
 use Rattle.gib_syntax.specs.Typing.{Globals, globals_of, Scope, type_in, bound, BindsAll, parameter_types, result_type, operator_type, arm_names, Has, HaveAll, HaveArms, IsTypedFunction, IsTypedHere, IsTypedProgram}
 use Rattle.gib_syntax.specs.Meaning.{Outcome, Gives, Stops, Environment, value_in, bind, with_value, with_values, at_fields, number_in, is_true, is_made_by, operate, is_by_zero, outcome_unless, made, choose, eval, eval_all, eval_arms, names_of, calls, run, OutcomeHas}
@@ -80,10 +80,10 @@ agrees_step : (table : Table) (b : Bool) (s t : Ty) (v w : Datum) (rest : Option
 agrees_step table true s t v w rest h k e = subst (HasType table v) (same_Some s t e) h
 agrees_step table false s t v w rest h k e = k e
 
-agrees_bound : (table : Table) (scope : Scope) (env : Environment) (x : ℕ) (s : Ty) (v : Datum) → HasType table v s → Agrees table scope env → Agrees table ((x, s) ∷ scope) ((x, v) ∷ env)
+pub agrees_bound : (table : Table) (scope : Scope) (env : Environment) (x : ℕ) (s : Ty) (v : Datum) → HasType table v s → Agrees table scope env → Agrees table ((x, s) ∷ scope) ((x, v) ∷ env)
 agrees_bound table scope env x s v h agrees y t e = agrees_step table (x == y) s t v (value_in env y) (type_in scope y) h (agrees y t) e
 
-binds_agree : (table : Table) (xs : List Ident) (ts : List Ty) (vs : List Datum) (scope inner : Scope) (env : Environment) → BindsAll scope xs ts inner → HaveTypes table (data_of vs) ts → Agrees table scope env → Agrees table inner (bind xs vs env)
+pub binds_agree : (table : Table) (xs : List Ident) (ts : List Ty) (vs : List Datum) (scope inner : Scope) (env : Environment) → BindsAll scope xs ts inner → HaveTypes table (data_of vs) ts → Agrees table scope env → Agrees table inner (bind xs vs env)
 binds_agree table [] [] vs scope inner env b h agrees = subst (λ (s : Scope). Agrees table s env) (sym b) agrees
 binds_agree table [] (t ∷ ts) vs scope inner env b h agrees = absurd b
 binds_agree table (x ∷ xs) [] vs scope inner env b h agrees = absurd b
@@ -92,7 +92,7 @@ binds_agree table (x ∷ xs) (t ∷ ts) (v ∷ vs) scope inner env b h agrees =
     binds_agree table xs ts vs ((number_of x, t) ∷ scope) inner ((number_of x, v) ∷ env) b.1 h.1
     (agrees_bound table scope env (number_of x) t v h.0 agrees)
 
-data_list : (ws : Data) → data_of (list_of ws) ≡ ws
+pub data_list : (ws : Data) → data_of (list_of ws) ≡ ws
 data_list none = refl
 data_list (more w ws) = ap (more w) (data_list ws)
 
@@ -104,11 +104,11 @@ AllHave table [] (r ∷ rs) = ⊥
 AllHave table (t ∷ ts) [] = ⊥
 AllHave table (t ∷ ts) (r ∷ rs) = OutcomeHas table t r × AllHave table ts rs
 
-with_value_has : (table : Table) (s t : Ty) (r : Outcome) (go : Datum → Outcome) → OutcomeHas table s r → ((v : Datum) → HasType table v s → OutcomeHas table t (go v)) → OutcomeHas table t (with_value r go)
+pub with_value_has : (table : Table) (s t : Ty) (r : Outcome) (go : Datum → Outcome) → OutcomeHas table s r → ((v : Datum) → HasType table v s → OutcomeHas table t (go v)) → OutcomeHas table t (with_value r go)
 with_value_has table s t (Gives v) go h k = k v h
 with_value_has table s t (Stops why) go h k = tt {0}
 
-with_values_has : (table : Table) (ts : List Ty) (ty : Ty) (rs : List Outcome) (go : List Datum → Outcome) → AllHave table ts rs → ((vs : List Datum) → HaveTypes table (data_of vs) ts → OutcomeHas table ty (go vs)) → OutcomeHas table ty (with_values rs go)
+pub with_values_has : (table : Table) (ts : List Ty) (ty : Ty) (rs : List Outcome) (go : List Datum → Outcome) → AllHave table ts rs → ((vs : List Datum) → HaveTypes table (data_of vs) ts → OutcomeHas table ty (go vs)) → OutcomeHas table ty (with_values rs go)
 with_values_has table [] ty [] go h k = k [] (tt {0})
 with_values_has table [] ty (r ∷ rs) go h k = absurd h
 with_values_has table (t ∷ ts) ty [] go h k = absurd h
@@ -120,7 +120,7 @@ with_values_any table ty [] go k = k []
 with_values_any table ty (Stops why ∷ rs) go k = tt {0}
 with_values_any table ty (Gives v ∷ rs) go k = with_values_any table ty rs (λ vs. go (v ∷ vs)) (λ vs. k (v ∷ vs))
 
-made_has : (table : Table) (found : Option ℕ) (c x : ℕ) (rs : List Outcome) → constructor_named table x ≡ Some c → found ≡ Some c → AllHave table (fields_at table c) rs → OutcomeHas table (Tree (record { 0 = owner_at table c })) (made table found rs)
+pub made_has : (table : Table) (found : Option ℕ) (c x : ℕ) (rs : List Outcome) → constructor_named table x ≡ Some c → found ≡ Some c → AllHave table (fields_at table c) rs → OutcomeHas table (Tree (record { 0 = owner_at table c })) (made table found rs)
 made_has table None c x rs known e h = absurd cc
 made_has table (Some d) c x rs known e h =
     let is : c ≡ d = sym (same_Some d c e) in
@@ -129,11 +129,11 @@ made_has table (Some d) c x rs known e h =
     (λ _. with_values_has table (fields_at table c) (Tree (record { 0 = owner_at table c })) rs (λ vs. Gives (con c (data_of vs))) h
     (λ vs hs. (con_here table c x known, hs))))
 
-choose_has : (table : Table) (ty : Ty) (b : Bool) (r s : Outcome) → (b ≡ true → OutcomeHas table ty r) → (b ≡ false → OutcomeHas table ty s) → OutcomeHas table ty (choose b r s)
+pub choose_has : (table : Table) (ty : Ty) (b : Bool) (r s : Outcome) → (b ≡ true → OutcomeHas table ty r) → (b ≡ false → OutcomeHas table ty s) → OutcomeHas table ty (choose b r s)
 choose_has table ty true r s h k = h refl
 choose_has table ty false r s h k = k refl
 
-operate_has : (table : Table) (f : Operator) (x y : ℤ) → FitsSigned w64 x → FitsSigned w64 y → HasType table (operate f x y) (operator_type f)
+pub operate_has : (table : Table) (f : Operator) (x y : ℤ) → FitsSigned w64 x → FitsSigned w64 y → HasType table (operate f x y) (operator_type f)
 operate_has table o.Add x y h k = subst (FitsSigned w64) (sym (wrapping_add_is w64 x y h k)) (SFits-int_wrap w64 (x +ℤ y))
 operate_has table o.Subtract x y h k = subst (FitsSigned w64) (sym (wrapping_sub_is w64 x y h k)) (SFits-int_wrap w64 (x -ℤ y))
 operate_has table o.Multiply x y h k = subst (FitsSigned w64) (sym (wrapping_mul_is w64 x y h k)) (SFits-int_wrap w64 (x *ℤ y))
@@ -142,11 +142,11 @@ operate_has table o.Less x y h k = tt {0}
 operate_has table o.Quotient x y h k = read_sfits w64 (cast_unsigned w64 (int_div x y))
 operate_has table o.Remainder x y h k = sfits_le (mag_rem x y) h
 
-unless_has : (table : Table) (ty : Ty) (b : Bool) (v : Datum) → HasType table v ty → OutcomeHas table ty (outcome_unless b v)
+pub unless_has : (table : Table) (ty : Ty) (b : Bool) (v : Datum) → HasType table v ty → OutcomeHas table ty (outcome_unless b v)
 unless_has table ty true v h = tt {0}
 unless_has table ty false v h = h
 
-number_fits : (table : Table) (v : Datum) → HasType table v Whole → FitsSigned w64 (number_in v)
+pub number_fits : (table : Table) (v : Datum) → HasType table v Whole → FitsSigned w64 (number_in v)
 number_fits table (whole z) h = h
 number_fits table (truth b) h = absurd h
 number_fits table (con k vs) h = absurd h
@@ -157,15 +157,15 @@ number_fits table (con k vs) h = absurd h
 abbrev pub CallsHave : Globals → (ℕ → List Datum → Outcome) → Type 0
 CallsHave g call = (f : ℕ) (h : FunctionTree) (vs : List Datum) → function_named g.functions f ≡ Some h → HaveTypes g.table (data_of vs) (parameter_types g.table h) → OutcomeHas g.table (result_type g.table h) (call f vs)
 
-fine_arguments : (f : Ident) (xs : Arguments) → IsFine (Call f xs) → AreFine xs
+pub fine_arguments : (f : Ident) (xs : Arguments) → IsFine (Call f xs) → AreFine xs
 fine_arguments f NoArgument h = absurd h
 fine_arguments f (Argument a xs) h = h
 
-made_by : (found : Option ℕ) (c k : ℕ) (ws : Data) → found ≡ Some c → is_made_by found (con k ws) ≡ true → c ≡ k
+pub made_by : (found : Option ℕ) (c k : ℕ) (ws : Data) → found ≡ Some c → is_made_by found (con k ws) ≡ true → c ≡ k
 made_by None c k ws e h = absurd cc
 made_by (Some d) c k ws e h = sym (same_Some d c e) ∙ eqb-true d k h
 
-is_made : (found : Option ℕ) (k : ℕ) (ws : Data) → found ≡ Some k → is_made_by found (con k ws) ≡ true
+pub is_made : (found : Option ℕ) (k : ℕ) (ws : Data) → found ≡ Some k → is_made_by found (con k ws) ≡ true
 is_made None k ws e = absurd cc
 is_made (Some d) k ws e = eq-eqb d k (same_Some d k e)
 
@@ -174,7 +174,7 @@ true_or_false true e f = cc
 true_or_false false e f = cc
 
 -- one arm, where the value was made by its constructor
-arm_has : (g : Globals) (call : ℕ → List Datum → Outcome) (xs : List Ident) (e : Expression) (ty : Ty) (scope inner : Scope) (env : Environment) (c k : ℕ) (ws : Data) →
+pub arm_has : (g : Globals) (call : ℕ → List Datum → Outcome) (xs : List Ident) (e : Expression) (ty : Ty) (scope inner : Scope) (env : Environment) (c k : ℕ) (ws : Data) →
     ((inner : Scope) (env : Environment) → Agrees g.table inner env → Has g inner e ty → OutcomeHas g.table ty (eval g.table call e env)) →
     c ≡ k → BindsAll scope xs (fields_at g.table c) inner → Has g inner e ty → HaveTypes g.table ws (fields_at g.table k) → Agrees g.table scope env →
     OutcomeHas g.table ty (eval g.table call e (bind xs (list_of ws) env))
@@ -197,7 +197,7 @@ next_arm_step named_by c name k ws i None false is named there miss = absurd cc
 next_arm_step named_by c name k ws i (Some j) false is named there miss = (j, refl)
 
 -- a case on a value of a declared type is one on a constructor of that type
-case_has : (g : Globals) (call : ℕ → List Datum → Outcome) (arms : Arms) (ty : Ty) (env : Environment) (v : Datum) (t : TyId) → HasType g.table v (Tree t) →
+pub case_has : (g : Globals) (call : ℕ → List Datum → Outcome) (arms : Arms) (ty : Ty) (env : Environment) (v : Datum) (t : TyId) → HasType g.table v (Tree t) →
     ((k : ℕ) (ws : Data) → con_at g.table t.0 k ≡ Some k → HaveTypes g.table ws (fields_at g.table k) → OutcomeHas g.table ty (eval_arms g.table call arms (con k ws) env)) →
     OutcomeHas g.table ty (eval_arms g.table call arms v env)
 case_has g call arms ty env (whole z) t typed go = absurd typed
@@ -205,7 +205,7 @@ case_has g call arms ty env (truth b) t typed go = absurd typed
 case_has g call arms ty env (con k ws) t typed go = go k ws typed.0 typed.1
 
 mutual
-  eval_has : (g : Globals) (call : ℕ → List Datum → Outcome) (distinct : AreDifferent (constructor_names g.table)) (well : CallsHave g call) (e : Expression) (ty : Ty) (scope : Scope) (env : Environment) →
+  pub eval_has : (g : Globals) (call : ℕ → List Datum → Outcome) (distinct : AreDifferent (constructor_names g.table)) (well : CallsHave g call) (e : Expression) (ty : Ty) (scope : Scope) (env : Environment) →
       IsFine e → Agrees g.table scope env → Has g scope e ty → OutcomeHas g.table ty (eval g.table call e env)
   eval_has g call distinct well (Var x) ty scope env fine agrees h = agrees (number_of x) ty h
   eval_has g call distinct well (Num p n) ty scope env fine agrees h = subst (HasType g.table (whole (pos n))) (sym h) (fits_signed_from_abs w64 (pos n) fine)
@@ -243,7 +243,7 @@ mutual
       let there = h.2.each k own in
       arms_have g call distinct well arms ty scope env k ws there.0 (name_at g.table k) fine agrees typed (con_found g.table h.0.0 k distinct own) there.1 h.3)
 
-  arms_have : (g : Globals) (call : ℕ → List Datum → Outcome) (distinct : AreDifferent (constructor_names g.table)) (well : CallsHave g call) (arms : Arms) (ty : Ty) (scope : Scope) (env : Environment) (k : ℕ) (ws : Data) (i name : ℕ) →
+  pub arms_have : (g : Globals) (call : ℕ → List Datum → Outcome) (distinct : AreDifferent (constructor_names g.table)) (well : CallsHave g call) (arms : Arms) (ty : Ty) (scope : Scope) (env : Environment) (k : ℕ) (ws : Data) (i name : ℕ) →
       HasFine arms → Agrees g.table scope env → HaveTypes g.table ws (fields_at g.table k) → constructor_named g.table name ≡ Some k → place_of (arm_names arms) name ≡ Some i → HaveArms g scope arms ty →
       OutcomeHas g.table ty (eval_arms g.table call arms (con k ws) env)
   arms_have g call distinct well (LastArm c xs e) ty scope env k ws i name fine agrees typed named there h =
@@ -258,7 +258,7 @@ mutual
       (λ miss. let further = next_arm_step (constructor_named g.table) (number_of c) name k ws i (place_of (arm_names arms) name) (number_of c == name) (eqb-true (number_of c) name) named there miss in
       arms_have g call distinct well arms ty scope env k ws further.0 name fine.1 agrees typed named further.1 h.1)
 
-  all_have : (g : Globals) (call : ℕ → List Datum → Outcome) (distinct : AreDifferent (constructor_names g.table)) (well : CallsHave g call) (xs : Arguments) (ts : List Ty) (scope : Scope) (env : Environment) →
+  pub all_have : (g : Globals) (call : ℕ → List Datum → Outcome) (distinct : AreDifferent (constructor_names g.table)) (well : CallsHave g call) (xs : Arguments) (ts : List Ty) (scope : Scope) (env : Environment) →
       AreFine xs → Agrees g.table scope env → HaveAll g scope xs ts → AllHave g.table ts (eval_all g.table call xs env)
   all_have g call distinct well NoArgument [] scope env fine agrees h = tt {0}
   all_have g call distinct well NoArgument (t ∷ ts) scope env fine agrees h = absurd h
@@ -277,10 +277,10 @@ pub function_found : (P : FunctionTree → Type 0) (fs : List FunctionTree) (x :
 function_found P [] x h all e = absurd cc
 function_found P (f ∷ fs) x h all e = found_step P (number_of f.name == x) f h (function_named fs x) all.0 (λ k. function_found P fs x h all.1 k) e
 
-nothing_agrees : (table : Table) → Agrees table [] []
+pub nothing_agrees : (table : Table) → Agrees table [] []
 nothing_agrees table x t e = absurd cc
 
-body_has : (g : Globals) (call : ℕ → List Datum → Outcome) → AreDifferent (constructor_names g.table) → CallsHave g call → (qs : List Parameter) (result : TypeName) (body : Expression) (vs : List Datum) →
+pub body_has : (g : Globals) (call : ℕ → List Datum → Outcome) → AreDifferent (constructor_names g.table) → CallsHave g call → (qs : List Parameter) (result : TypeName) (body : Expression) (vs : List Datum) →
     IsFine body → IsTypedFunction g qs result body → HaveTypes g.table (data_of vs) (map (λ (q : Parameter). type_of_name g.table.types q.ty) qs) →
     OutcomeHas g.table (type_of_name g.table.types result) (eval g.table call body (bind (names_of qs) vs []))
 body_has g call distinct well qs result body vs fine typed hs =

@@ -8,7 +8,7 @@ use Rattle.gib_syntax.specs.declared.tree.FunctionDecl.{FunctionDecl}
 use Rattle.gib_syntax.specs.declared.tree.MainDecl.{MainDecl}
 use Rattle.gib_syntax.specs.Tree.{Expression, ConstructorTree, DataTree, FunctionTree, MainTree, ProgramTree}
 use Rattle.gib_syntax.specs.Arena.{tree_of}
-use Rattle.gib_syntax.specs.Spelling.{HasConstructor}
+use Rattle.gib_syntax.specs.Fine.{HasConstructor}
 
 -- The expressions of all bodies, and the declarations.
 pub record Parts : Type 0 where

@@ -5,28 +5,28 @@ use Rattle.gib_base.specs.declared.token.Token.{Token}
 use Rattle.gib_base.specs.declared.token.Token.TheVariants as t
 use Rattle.gib_syntax.specs.declared.tree.Ident.{Ident}
 use Rattle.gib_syntax.specs.declared.exprs.Arm.{Arm}
-use Rattle.gib_syntax.specs.declared.exprs.Node.{Node}
-use Rattle.gib_syntax.specs.declared.exprs.Node.TheVariants as n
-use Rattle.gib_syntax.specs.Tree.{Expression}
+use Rattle.gib_syntax.specs.declared.generic.GenericNode.{GenericNode as Node}
+use Rattle.gib_syntax.specs.declared.generic.GenericNode.TheVariants as n
+use Rattle.gib_syntax.specs.GenericTree.{GenericExpression}
 use Rattle.gib_syntax.specs.Spelling.{spell, spell_variables, spell_arms}
-use Rattle.gib_syntax.specs.Arena.{arms_from}
+use Rattle.gib_syntax.specs.GenericArena.{arms_from}
 
 -- One arm.
-abbrev pub spell_arm : (ℕ → Expression) → Arm → List Token → List Token
+abbrev pub spell_arm : (ℕ → GenericExpression) → Arm → List Token → List Token
 spell_arm f arm rest = t.Constructor arm.constructor.name ∷ spell_variables arm.variables.items (t.Sign s.Arrow ∷ spell (f arm.body.0) rest)
 
 -- Further arms, each behind a semicolon.
-abbrev pub spell_further : (ℕ → Expression) → List Arm → List Token → List Token
+abbrev pub spell_further : (ℕ → GenericExpression) → List Arm → List Token → List Token
 spell_further f [] rest = rest
 spell_further f (arm ∷ arms) rest = t.Sign s.Semicolon ∷ spell_arm f arm (spell_further f arms rest)
 
 -- All arms of a case.
-abbrev pub spell_all_arms : (ℕ → Expression) → List Arm → List Token → List Token
+abbrev pub spell_all_arms : (ℕ → GenericExpression) → List Arm → List Token → List Token
 spell_all_arms f [] rest = rest
 spell_all_arms f (arm ∷ arms) rest = spell_arms (arms_from f arm arms) rest
 
 -- A case of these arms.
-abbrev pub spell_case : (ℕ → Expression) → Ident → List Arm → List Token → List Token
+abbrev pub spell_case : (ℕ → GenericExpression) → Ident → List Arm → List Token → List Token
 spell_case f x arms rest = t.Sign s.Case ∷ t.Variable x.name ∷ t.Sign s.Of ∷ t.Sign s.OpenBrace ∷ spell_all_arms f arms (t.Sign s.CloseBrace ∷ rest)
 
 -- A word begins the expression.

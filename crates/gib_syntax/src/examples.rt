@@ -9,7 +9,9 @@ ghost use Rattle.gib_syntax.specs.declared.tree.Ident.{Ident};
 ghost use Rattle.gib_syntax.specs.declared.tree.Parameter.{Parameter};
 ghost use Rattle.gib_syntax.specs.declared.tree.TypeName.TheVariants as ty;
 ghost use Rattle.gib_syntax.specs.declared.tree.Operator.TheVariants as o;
-ghost use Rattle.gib_syntax.specs.Tree.{Expression, Var, Num, Paren, Op, Call, Let, Par, If, NoArgument, Argument, ProgramTree};
+ghost use Rattle.gib_syntax.specs.Tree.{Expression, Var, Num, Op, Call, Par, If, NoArgument, Argument, ProgramTree};
+ghost use Rattle.gib_syntax.specs.Forms.{WholeAt, VariableAt, DataAt, NoType, MoreTypes};
+ghost use Rattle.gib_syntax.specs.GenericTree.{GenericVar, GenericNum, GenericParen, GenericOp, GenericCall, GenericLet, GenericNoArgument, GenericArgument};
 ghost use Rattle.gib_syntax.specs.Spelling.{levels, spell};
 ghost use Rattle.gib_syntax.specs.Meaning.{Gives, Stops, Deep, Trap, run};
 
@@ -17,10 +19,14 @@ ghost use Rattle.gib_syntax.specs.Meaning.{Gives, Stops, Deep, Trap, run};
 /// `fun down (n : Int) : Int = if (n < 1) then 0 else down (n - 1) ; main (n : Int) : Int = down n ;`.
 pub fn examples()
     // In `let m = ((n + 1)) in down m` the deeper part has three levels: parentheses, sum, and `n`.
-    ensures levels { (p : Span) (down m n : Ident) → levels (Let p m (Paren p (Op p o.Add (Var n) (Num p 1))) (Call down (Argument (Var m) NoArgument))) ≡ 4 }
+    ensures levels { (p : Span) (down m n : Ident) → levels (GenericLet p m (GenericParen p (GenericOp p o.Add (GenericVar n) (GenericNum p 1)))
+        (GenericCall down NoType (GenericArgument (GenericVar m) GenericNoArgument))) ≡ 4 }
     // `(n + 1)` is five tokens.
-    ensures spelling { (p : Span) (n : Ident) → spell (Op p o.Add (Var n) (Num p 1)) []
+    ensures spelling { (p : Span) (n : Ident) → spell (GenericOp p o.Add (GenericVar n) (GenericNum p 1)) []
         ≡ t.Sign s.Open ∷ t.Variable n.name ∷ t.Sign s.Plus ∷ t.Number 1 ∷ t.Sign s.Close ∷ [] }
+    // `len [Int (List a)] n` is nine tokens.
+    ensures types { (p : Span) (len list a n : Ident) → spell (GenericCall len (MoreTypes (WholeAt p) (MoreTypes (DataAt p list (MoreTypes (VariableAt a) NoType)) NoType)) (GenericArgument (GenericVar n) GenericNoArgument)) []
+        ≡ t.Variable len.name ∷ t.Sign s.OpenBracket ∷ t.Sign s.Int ∷ t.Sign s.Open ∷ t.Constructor list.name ∷ t.Variable a.name ∷ t.Sign s.Close ∷ t.Sign s.CloseBracket ∷ t.Variable n.name ∷ [] }
     // The first program calls nothing, so it needs no depth; its sum wraps.
     ensures sum { (p : Span) →
         let n : Ident = record { name = record { 0 = 0 }; span = p } in

@@ -1,9 +1,11 @@
 //! Laws of programs: functions whose contracts are the laws.
 
-ghost use Rattle.std.specs.Prelude.{◌≡◌, ◌≤◌, ℕ};
+ghost use Rattle.std.specs.Prelude.{◌≡◌, ◌≤◌, ℕ, [], ◌∷◌};
 ghost use Rattle.gib_types.specs.Tree.{Datum, HasType};
 ghost use Rattle.gib_syntax.specs.Tree.{ProgramTree};
-ghost use Rattle.gib_syntax.specs.Spelling.{IsFineProgram};
+ghost use Rattle.gib_syntax.specs.Fine.{IsFineProgram};
+ghost use Rattle.gib_syntax.specs.Forms.{WrittenType, WrittenTypes};
+ghost use Rattle.gib_syntax.specs.Words.{stack_of, all_types, words_of, words_in};
 ghost use Rattle.gib_syntax.specs.Declarations.{table_of_program, input_type, output_type};
 ghost use Rattle.gib_syntax.specs.Typing.{IsTypedProgram};
 ghost use Rattle.gib_syntax.specs.Meaning.{Gives, run, OutcomeHas};
@@ -18,4 +20,10 @@ pub fn results_are_typed()
 /// A value that a program gives stays its value with more depth.
 pub fn more_depth_keeps_the_value()
     ensures { (p : ProgramTree) (m n : ℕ) (v result : Datum) → m ≤ n → run p m v ≡ Gives result → run p n v ≡ Gives result }
+{}
+
+/// The words of types read back as these types.
+pub fn runs_are_read()
+    ensures one { (x : WrittenType) → stack_of (words_of x) ≡ x ∷ [] }
+    ensures all { (xs : WrittenTypes) → all_types (stack_of (words_in xs)) ≡ xs }
 {}

@@ -3,15 +3,24 @@
 
 pub mod examples;
 pub mod exprs;
+pub mod generic;
 pub mod law;
 pub mod print;
+pub mod program;
 mod spelled;
 mod text;
 pub mod tree;
+mod type_tokens;
+pub mod written;
 
 pub use exprs::{Arm, Bound, ExprId, Exprs, Node};
+pub use generic::{GenericExprs, GenericNode};
 pub use print::print_program;
+pub use program::{
+    GenericConstructor, GenericData, GenericFunction, GenericMain, GenericParameter, GenericProgram,
+};
 pub use tree::{
     ConstructorDecl, DataDecl, FunctionDecl, Ident, MainDecl, Operator, Parameter, Program,
     TypeName,
 };
+pub use written::{Run, Word};

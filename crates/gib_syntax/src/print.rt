@@ -2,21 +2,26 @@
 //!
 //! Tokens are put from the last one to the first: each part goes before what follows it.
 
-ghost use Rattle.std.specs.Prelude.{◌≡◌, ◌<◌, ◌≤◌, [], ◌∷◌, ℕ, length, map, IfOk, OnOk};
+ghost use Rattle.std.specs.Prelude.{◌≡◌, ◌<◌, ◌≤◌, [], ◌∷◌, ◌++◌, ℕ, length, map, IfOk, OnOk};
 ghost use Rattle.std.specs.List.{AllByRecursion};
 ghost use Rattle.gib_base.specs.Spelling.{tokens_text};
-ghost use Rattle.gib_syntax.specs.Spelling.{spell, spell_operator, spell_bit, spell_variables, spell_arguments, spell_type, spell_types, spell_constructor, spell_constructors, spell_more, spell_data, spell_datas, spell_parameter, spell_parameters, spell_body, spell_function, spell_functions, spell_main, spell_program, levels_program};
+ghost use Rattle.gib_syntax.specs.Spelling.{spell, spell_operator, spell_bit, spell_variables, spell_arguments, spell_type, spell_written, spell_types, spell_type_arguments, spell_type_parameters, spell_constructor, spell_constructors, spell_more, spell_data, spell_datas, spell_parameter, spell_parameters, spell_body, spell_function, spell_functions, spell_main, spell_program, levels_program};
 ghost use Rattle.gib_syntax.specs.Printing.{spell_arm, spell_further, spell_all_arms, spell_case, IsWorded};
-ghost use Rattle.gib_syntax.specs.Arena.{IsArmBelow, ArmsBelow, Opens, tree_of, arguments_from};
-ghost use Rattle.gib_syntax.specs.Parts.{IsFunctionInside, constructor_tree, data_tree, function_tree, main_tree, program_of};
+ghost use Rattle.gib_syntax.specs.GenericArena.{IsArmBelow, ArmsBelow, Opens, tree_of, arguments_from};
+ghost use Rattle.gib_syntax.specs.Words.{run_words, stack_of, types_in, type_in, words_in, IsTypeRun, IsTypesRun};
+ghost use Rattle.gib_syntax.specs.Forms.{WrittenTypes};
+ghost use Rattle.gib_syntax.specs.GenericParts.{IsParameterInside, IsConstructorInside, IsDataInside, IsFunctionInside, constructor_in, data_in, parameter_in, function_in, main_in, generic_program_of};
 
-use crate::exprs::{Arm, ExprId, Exprs, Node};
+use crate::exprs::{Arm, ExprId};
+use crate::generic::{GenericExprs, GenericNode};
+use crate::program::{
+    GenericConstructor, GenericData, GenericFunction, GenericMain, GenericParameter, GenericProgram,
+};
 use crate::spelled::Spelled;
 use crate::text::text_of;
-use crate::tree::{
-    ConstructorDecl, DataDecl, FunctionDecl, Ident, MainDecl, Operator, Parameter, Program,
-    TypeName,
-};
+use crate::tree::{Ident, Operator};
+use crate::type_tokens::type_tokens;
+use crate::written::{Run, Word};
 use gib_base::token::{Sign, Token};
 use gib_base::{Memory, Names};
 use std::alloc::Global;
@@ -56,71 +61,115 @@ fn put_variables(names: &[Ident], out: &mut Spelled) -> Result<(), Memory>
     Ok(())
 }
 
-fn put_type(ty: TypeName, out: &mut Spelled) -> Result<(), Memory>
-    ensures { OnOk result (out.new ≡ spell_type ty out.old) }
+/// Tokens before the others.
+fn put_all(tokens: &[Token], out: &mut Spelled) -> Result<(), Memory>
+    ensures { OnOk result (out.new ≡ tokens.now ++ out.old) }
 {
-    match ty {
-        TypeName::Whole(_) => out.put_sign(Sign::Int),
-        TypeName::Truth(_) => out.put_sign(Sign::Bool),
-        TypeName::Declared(name) => out.put(Token::Constructor(name.name)),
-    }
-}
-
-fn put_types(types: &[TypeName], out: &mut Spelled) -> Result<(), Memory>
-    ensures { OnOk result (out.new ≡ spell_types types.now out.old) }
-{
-    let mut i = types.len();
-    'types: while i > 0 {
+    let mut i = tokens.len();
+    'tokens: while i > 0 {
         i -= 1;
-        put_type(types[i], out)?;
+        out.put(tokens[i])?;
     }
     Ok(())
 }
 
-fn put_parameter(parameter: Parameter, out: &mut Spelled) -> Result<(), Memory>
-    ensures { OnOk result (out.new ≡ spell_parameter parameter out.old) }
+/// The types that words spell.
+fn put_words(words: &[Word], out: &mut Spelled) -> Result<(), Memory>
+    ensures { (ws : WrittenTypes) → words.now ≡ words_in ws → OnOk result (out.new ≡ spell_written ws out.old) }
+{
+    let tokens = type_tokens(out.alloc(), words)?;
+    put_all(&tokens, out)
+}
+
+/// The types of a run.
+fn put_types(exprs: &GenericExprs, types: Run, out: &mut Spelled) -> Result<(), Memory>
+    requires { IsTypesRun exprs.now.words types }
+    ensures { OnOk result (out.new ≡ spell_types (stack_of (run_words exprs.now.words types)) out.old) }
+{
+    put_words(exprs.words(types), out)
+}
+
+/// The type of a run.
+fn put_type(exprs: &GenericExprs, ty: Run, out: &mut Spelled) -> Result<(), Memory>
+    requires { IsTypeRun exprs.now.words ty }
+    ensures { OnOk result (out.new ≡ spell_type (type_in exprs.now.words ty) out.old) }
+{
+    put_words(exprs.words(ty), out)
+}
+
+/// Type arguments, in brackets where there are some.
+fn put_type_arguments(exprs: &GenericExprs, types: Run, out: &mut Spelled) -> Result<(), Memory>
+    requires { IsTypesRun exprs.now.words types }
+    ensures { OnOk result (out.new ≡ spell_type_arguments (types_in exprs.now.words types) out.old) }
+{
+    let words = exprs.words(types);
+    if words.is_empty() {
+        return Ok(());
+    }
+    out.put_sign(Sign::CloseBracket)?;
+    put_words(words, out)?;
+    out.put_sign(Sign::OpenBracket)
+}
+
+fn put_parameter(
+    exprs: &GenericExprs,
+    parameter: GenericParameter,
+    out: &mut Spelled,
+) -> Result<(), Memory>
+    requires { IsParameterInside exprs.now.words parameter }
+    ensures { OnOk result (out.new ≡ spell_parameter (parameter_in exprs.now.words parameter) out.old) }
 {
     out.put_sign(Sign::Close)?;
-    put_type(parameter.ty, out)?;
+    put_type(exprs, parameter.ty, out)?;
     out.put_sign(Sign::Colon)?;
     out.put(Token::Variable(parameter.name.name))?;
     out.put_sign(Sign::Open)
 }
 
-fn put_parameters(parameters: &[Parameter], out: &mut Spelled) -> Result<(), Memory>
-    ensures { OnOk result (out.new ≡ spell_parameters parameters.now out.old) }
+fn put_parameters(
+    exprs: &GenericExprs,
+    parameters: &[GenericParameter],
+    out: &mut Spelled,
+) -> Result<(), Memory>
+    requires { AllByRecursion (IsParameterInside exprs.now.words) parameters.now }
+    ensures { OnOk result (out.new ≡ spell_parameters (map (parameter_in exprs.now.words) parameters.now) out.old) }
 {
     let mut i = parameters.len();
     'parameters: while i > 0 {
         i -= 1;
-        put_parameter(parameters[i], out)?;
+        put_parameter(exprs, parameters[i], out)?;
     }
     Ok(())
 }
 
-fn put_constructor(constructor: &ConstructorDecl, out: &mut Spelled) -> Result<(), Memory>
-    ensures { OnOk result (out.new ≡ spell_constructor (constructor_tree constructor.now) out.old) }
+fn put_constructor(
+    exprs: &GenericExprs,
+    constructor: &GenericConstructor,
+    out: &mut Spelled,
+) -> Result<(), Memory>
+    requires { IsConstructorInside exprs.now.words constructor.now }
+    ensures { OnOk result (out.new ≡ spell_constructor (constructor_in exprs.now.words constructor.now) out.old) }
 {
-    put_types(&constructor.fields, out)?;
+    put_types(exprs, constructor.fields, out)?;
     out.put(Token::Constructor(constructor.name.name))
 }
 
 /// An expression. This recurses as deep as expressions are nested, which the public call bounds.
 #[cycle(expressions)]
-fn put_expression(exprs: &Exprs, id: ExprId, out: &mut Spelled) -> Result<(), Memory>
-    requires { id.0 < length exprs.now }
+fn put_expression(exprs: &GenericExprs, id: ExprId, out: &mut Spelled) -> Result<(), Memory>
+    requires { id.0 < length exprs.now.nodes }
     ensures { OnOk result (out.new ≡ spell (tree_of exprs.now id.0) out.old) }
 {
     let node = exprs.node(id);
     match node {
-        Node::Variable(name) => out.put(Token::Variable(name.name)),
-        Node::Whole(_, value) => out.put(Token::Number(*value)),
-        Node::Truth(_, value) => put_bit(*value, out),
-        Node::Paren(_, inner) => {
+        GenericNode::Variable(name) => out.put(Token::Variable(name.name)),
+        GenericNode::Whole(_, value) => out.put(Token::Number(*value)),
+        GenericNode::Truth(_, value) => put_bit(*value, out),
+        GenericNode::Paren(_, inner) => {
             out.put_sign(Sign::Close)?;
             put_behind(exprs, Sign::Open, *inner, out)
         }
-        Node::Operation {
+        GenericNode::Operation {
             operator,
             left,
             right,
@@ -131,30 +180,38 @@ fn put_expression(exprs: &Exprs, id: ExprId, out: &mut Spelled) -> Result<(), Me
             put_operator(*operator, out)?;
             put_behind(exprs, Sign::Open, *left, out)
         }
-        Node::Call(name, arguments) => {
+        GenericNode::Call(name, types, arguments) => {
             put_arguments(exprs, id, arguments, out)?;
+            put_type_arguments(exprs, *types, out)?;
             out.put(Token::Variable(name.name))
         }
-        Node::Make(name, arguments) => {
+        GenericNode::Make(name, types, arguments) => {
             put_arguments(exprs, id, arguments, out)?;
+            put_type_arguments(exprs, *types, out)?;
             out.put(Token::Constructor(name.name))
         }
-        Node::Let { .. } | Node::LetPar { .. } | Node::If { .. } | Node::Case { .. } => {
-            put_worded(exprs, id, node, out)
-        }
+        GenericNode::Let { .. }
+        | GenericNode::LetPar { .. }
+        | GenericNode::If { .. }
+        | GenericNode::Case { .. } => { put_worded(exprs, id, node, out) }
     }
 }
 
 /// An expression that a word begins.
 #[cycle(expressions)]
-fn put_worded(exprs: &Exprs, id: ExprId, node: &Node, out: &mut Spelled) -> Result<(), Memory>
-    requires inside { id.0 < length exprs.now }
+fn put_worded(
+    exprs: &GenericExprs,
+    id: ExprId,
+    node: &GenericNode,
+    out: &mut Spelled,
+) -> Result<(), Memory>
+    requires inside { id.0 < length exprs.now.nodes }
     requires opens { Opens exprs.now id.0 node.now }
     requires worded { IsWorded node.now }
     ensures { OnOk result (out.new ≡ spell (tree_of exprs.now id.0) out.old) }
 {
     match node {
-        Node::Let {
+        GenericNode::Let {
             name,
             bound,
             body,
@@ -164,7 +221,7 @@ fn put_worded(exprs: &Exprs, id: ExprId, node: &Node, out: &mut Spelled) -> Resu
             put_binding(exprs, *name, *bound, out)?;
             out.put_sign(Sign::Let)
         }
-        Node::LetPar {
+        GenericNode::LetPar {
             left_name,
             left,
             right_name,
@@ -179,7 +236,7 @@ fn put_worded(exprs: &Exprs, id: ExprId, node: &Node, out: &mut Spelled) -> Resu
             out.put_sign(Sign::Par)?;
             out.put_sign(Sign::Let)
         }
-        Node::If {
+        GenericNode::If {
             condition,
             then_part,
             else_part,
@@ -189,7 +246,7 @@ fn put_worded(exprs: &Exprs, id: ExprId, node: &Node, out: &mut Spelled) -> Resu
             put_behind(exprs, Sign::Then, *then_part, out)?;
             put_behind(exprs, Sign::If, *condition, out)
         }
-        Node::Case { variable, arms, .. } => put_case(exprs, id, *variable, arms, out),
+        GenericNode::Case { variable, arms, .. } => put_case(exprs, id, *variable, arms, out),
         _ => unreachable!(),
     }
 }
@@ -197,13 +254,13 @@ fn put_worded(exprs: &Exprs, id: ExprId, node: &Node, out: &mut Spelled) -> Resu
 /// A case of these arms, the expression of the number.
 #[cycle(expressions)]
 fn put_case(
-    exprs: &Exprs,
+    exprs: &GenericExprs,
     whole: ExprId,
     variable: Ident,
     arms: &[Arm],
     out: &mut Spelled,
 ) -> Result<(), Memory>
-    requires whole { whole.0 < length exprs.now }
+    requires whole { whole.0 < length exprs.now.nodes }
     requires below { ArmsBelow arms.now whole.0 }
     ensures { OnOk result (out.new ≡ spell_case (tree_of exprs.now) variable arms.now out.old) }
 {
@@ -217,8 +274,8 @@ fn put_case(
 
 /// An expression behind a word or sign.
 #[cycle(expressions)]
-fn put_behind(exprs: &Exprs, sign: Sign, id: ExprId, out: &mut Spelled) -> Result<(), Memory>
-    requires { id.0 < length exprs.now }
+fn put_behind(exprs: &GenericExprs, sign: Sign, id: ExprId, out: &mut Spelled) -> Result<(), Memory>
+    requires { id.0 < length exprs.now.nodes }
     ensures { OnOk result (out.new ≡ Token.Sign sign ∷ spell (tree_of exprs.now id.0) out.old) }
 {
     put_expression(exprs, id, out)?;
@@ -227,8 +284,13 @@ fn put_behind(exprs: &Exprs, sign: Sign, id: ExprId, out: &mut Spelled) -> Resul
 
 /// A variable with what it is bound to.
 #[cycle(expressions)]
-fn put_binding(exprs: &Exprs, name: Ident, id: ExprId, out: &mut Spelled) -> Result<(), Memory>
-    requires { id.0 < length exprs.now }
+fn put_binding(
+    exprs: &GenericExprs,
+    name: Ident,
+    id: ExprId,
+    out: &mut Spelled,
+) -> Result<(), Memory>
+    requires { id.0 < length exprs.now.nodes }
     ensures { OnOk result (out.new ≡ Token.Variable name.name ∷ Token.Sign Sign.Equals ∷ spell (tree_of exprs.now id.0) out.old) }
 {
     put_behind(exprs, Sign::Equals, id, out)?;
@@ -238,12 +300,12 @@ fn put_binding(exprs: &Exprs, name: Ident, id: ExprId, out: &mut Spelled) -> Res
 /// Arguments of the expression of a number, each below it.
 #[cycle(expressions)]
 fn put_arguments(
-    exprs: &Exprs,
+    exprs: &GenericExprs,
     whole: ExprId,
     ids: &[ExprId],
     out: &mut Spelled,
 ) -> Result<(), Memory>
-    requires whole { whole.0 < length exprs.now }
+    requires whole { whole.0 < length exprs.now.nodes }
     requires below { AllByRecursion (λ a. a.0 < whole.0) ids.now }
     ensures { OnOk result (out.new ≡ spell_arguments (arguments_from (tree_of exprs.now) ids.now) out.old) }
 {
@@ -257,8 +319,8 @@ fn put_arguments(
 
 /// One arm.
 #[cycle(expressions)]
-fn put_arm(exprs: &Exprs, arm: &Arm, out: &mut Spelled) -> Result<(), Memory>
-    requires { arm.now.body.0 < length exprs.now }
+fn put_arm(exprs: &GenericExprs, arm: &Arm, out: &mut Spelled) -> Result<(), Memory>
+    requires { arm.now.body.0 < length exprs.now.nodes }
     ensures { OnOk result (out.new ≡ spell_arm (tree_of exprs.now) arm.now out.old) }
 {
     put_behind(exprs, Sign::Arrow, arm.body, out)?;
@@ -268,8 +330,13 @@ fn put_arm(exprs: &Exprs, arm: &Arm, out: &mut Spelled) -> Result<(), Memory>
 
 /// The arms of the case of a number, with a semicolon between two.
 #[cycle(expressions)]
-fn put_arms(exprs: &Exprs, whole: ExprId, arms: &[Arm], out: &mut Spelled) -> Result<(), Memory>
-    requires whole { whole.0 < length exprs.now }
+fn put_arms(
+    exprs: &GenericExprs,
+    whole: ExprId,
+    arms: &[Arm],
+    out: &mut Spelled,
+) -> Result<(), Memory>
+    requires whole { whole.0 < length exprs.now.nodes }
     requires below { ArmsBelow arms.now whole.0 }
     ensures { OnOk result (out.new ≡ spell_all_arms (tree_of exprs.now) arms.now out.old) }
 {
@@ -283,75 +350,121 @@ fn put_arms(exprs: &Exprs, whole: ExprId, arms: &[Arm], out: &mut Spelled) -> Re
 }
 
 /// Constructors, each behind a bar.
-fn put_more(constructors: &[ConstructorDecl], out: &mut Spelled) -> Result<(), Memory>
-    ensures { OnOk result (out.new ≡ spell_more (map constructor_tree constructors.now) out.old) }
+fn put_more(
+    exprs: &GenericExprs,
+    constructors: &[GenericConstructor],
+    out: &mut Spelled,
+) -> Result<(), Memory>
+    requires { AllByRecursion (IsConstructorInside exprs.now.words) constructors.now }
+    ensures { OnOk result (out.new ≡ spell_more (map (constructor_in exprs.now.words) constructors.now) out.old) }
 {
     let mut i = constructors.len();
     'more: while i > 0 {
         i -= 1;
-        put_constructor(&constructors[i], out)?;
+        put_constructor(exprs, &constructors[i], out)?;
         out.put_sign(Sign::Bar)?;
     }
     Ok(())
 }
 
-fn put_constructors(constructors: &[ConstructorDecl], out: &mut Spelled) -> Result<(), Memory>
-    ensures { OnOk result (out.new ≡ spell_constructors (map constructor_tree constructors.now) out.old) }
+fn put_constructors(
+    exprs: &GenericExprs,
+    constructors: &[GenericConstructor],
+    out: &mut Spelled,
+) -> Result<(), Memory>
+    requires { AllByRecursion (IsConstructorInside exprs.now.words) constructors.now }
+    ensures { OnOk result (out.new ≡ spell_constructors (map (constructor_in exprs.now.words) constructors.now) out.old) }
 {
     match constructors {
         [] => Ok(()),
         [first, rest @ ..] => {
-            put_more(rest, out)?;
-            put_constructor(first, out)
+            put_more(exprs, rest, out)?;
+            put_constructor(exprs, first, out)
         }
     }
 }
 
-fn put_data(declaration: &DataDecl, out: &mut Spelled) -> Result<(), Memory>
-    ensures { OnOk result (out.new ≡ spell_data (data_tree declaration.now) out.old) }
+fn put_data(
+    exprs: &GenericExprs,
+    declaration: &GenericData,
+    out: &mut Spelled,
+) -> Result<(), Memory>
+    requires { IsDataInside exprs.now.words declaration.now }
+    ensures { OnOk result (out.new ≡ spell_data (data_in exprs.now.words declaration.now) out.old) }
 {
     out.put_sign(Sign::Semicolon)?;
-    put_constructors(&declaration.constructors, out)?;
+    put_constructors(exprs, &declaration.constructors, out)?;
     out.put_sign(Sign::Equals)?;
+    put_variables(&declaration.variables, out)?;
     out.put(Token::Constructor(declaration.name.name))?;
     out.put_sign(Sign::Data)
 }
 
-fn put_datas(declarations: &[DataDecl], out: &mut Spelled) -> Result<(), Memory>
-    ensures { OnOk result (out.new ≡ spell_datas (map data_tree declarations.now) out.old) }
+fn put_datas(
+    exprs: &GenericExprs,
+    declarations: &[GenericData],
+    out: &mut Spelled,
+) -> Result<(), Memory>
+    requires { AllByRecursion (IsDataInside exprs.now.words) declarations.now }
+    ensures { OnOk result (out.new ≡ spell_datas (map (data_in exprs.now.words) declarations.now) out.old) }
 {
     let mut i = declarations.len();
     'datas: while i > 0 {
         i -= 1;
-        put_data(&declarations[i], out)?;
+        put_data(exprs, &declarations[i], out)?;
     }
     Ok(())
 }
 
 /// A result type and a body.
-fn put_body(exprs: &Exprs, ty: TypeName, body: ExprId, out: &mut Spelled) -> Result<(), Memory>
-    requires { body.0 < length exprs.now }
-    ensures { OnOk result (out.new ≡ spell_body ty (tree_of exprs.now body.0) out.old) }
+fn put_body(exprs: &GenericExprs, ty: Run, body: ExprId, out: &mut Spelled) -> Result<(), Memory>
+    requires ty { IsTypeRun exprs.now.words ty }
+    requires body { body.0 < length exprs.now.nodes }
+    ensures { OnOk result (out.new ≡ spell_body (type_in exprs.now.words ty) (tree_of exprs.now body.0) out.old) }
 {
     out.put_sign(Sign::Semicolon)?;
     put_behind(exprs, Sign::Equals, body, out)?;
-    put_type(ty, out)?;
+    put_type(exprs, ty, out)?;
     out.put_sign(Sign::Colon)
 }
 
-fn put_function(exprs: &Exprs, function: &FunctionDecl, out: &mut Spelled) -> Result<(), Memory>
-    requires { function.now.body.0 < length exprs.now }
-    ensures { OnOk result (out.new ≡ spell_function (function_tree (tree_of exprs.now) function.now) out.old) }
+/// Type parameters of a function, in brackets where there are some.
+fn put_type_parameters(names: &[Ident], out: &mut Spelled) -> Result<(), Memory>
+    ensures { OnOk result (out.new ≡ spell_type_parameters names.now out.old) }
+{
+    match names {
+        [] => Ok(()),
+        [first, rest @ ..] => {
+            out.put_sign(Sign::CloseBracket)?;
+            put_variables(rest, out)?;
+            out.put(Token::Variable(first.name))?;
+            out.put_sign(Sign::OpenBracket)
+        }
+    }
+}
+
+fn put_function(
+    exprs: &GenericExprs,
+    function: &GenericFunction,
+    out: &mut Spelled,
+) -> Result<(), Memory>
+    requires { IsFunctionInside exprs.now function.now }
+    ensures { OnOk result (out.new ≡ spell_function (function_in exprs.now function.now) out.old) }
 {
     put_body(exprs, function.result, function.body, out)?;
-    put_parameters(&function.parameters, out)?;
+    put_parameters(exprs, &function.parameters, out)?;
+    put_type_parameters(&function.variables, out)?;
     out.put(Token::Variable(function.name.name))?;
     out.put_sign(Sign::Fun)
 }
 
-fn put_functions(exprs: &Exprs, functions: &[FunctionDecl], out: &mut Spelled) -> Result<(), Memory>
-    requires { AllByRecursion (IsFunctionInside (length exprs.now)) functions.now }
-    ensures { OnOk result (out.new ≡ spell_functions (map (function_tree (tree_of exprs.now)) functions.now) out.old) }
+fn put_functions(
+    exprs: &GenericExprs,
+    functions: &[GenericFunction],
+    out: &mut Spelled,
+) -> Result<(), Memory>
+    requires { AllByRecursion (IsFunctionInside exprs.now) functions.now }
+    ensures { OnOk result (out.new ≡ spell_functions (map (function_in exprs.now) functions.now) out.old) }
 {
     let mut i = functions.len();
     'functions: while i > 0 {
@@ -361,23 +474,26 @@ fn put_functions(exprs: &Exprs, functions: &[FunctionDecl], out: &mut Spelled) -
     Ok(())
 }
 
-fn put_main(exprs: &Exprs, main: MainDecl, out: &mut Spelled) -> Result<(), Memory>
-    requires { main.body.0 < length exprs.now }
-    ensures { OnOk result (out.new ≡ spell_main (main_tree (tree_of exprs.now) main) out.old) }
+fn put_main(exprs: &GenericExprs, main: GenericMain, out: &mut Spelled) -> Result<(), Memory>
+    requires parameter { IsParameterInside exprs.now.words main.parameter }
+    requires ty { IsTypeRun exprs.now.words main.result }
+    requires body { main.body.0 < length exprs.now.nodes }
+    ensures { OnOk result (out.new ≡ spell_main (main_in exprs.now main) out.old) }
 {
     put_body(exprs, main.result, main.body, out)?;
-    put_parameter(main.parameter, out)?;
+    put_parameter(exprs, main.parameter, out)?;
     out.put_sign(Sign::Main)
 }
 
 /// The tokens of a program.
-fn tokens_of(alloc: Global, program: &Program) -> Result<Vec<Token>, Memory>
-    ensures { IfOk result (λ tokens. tokens.items ≡ spell_program (program_of program.now) []) }
+fn tokens_of(alloc: Global, program: &GenericProgram) -> Result<Vec<Token>, Memory>
+    ensures { IfOk result (λ tokens. tokens.items ≡ spell_program (generic_program_of program.now) []) }
 {
     let mut out = Spelled::new(alloc);
-    put_main(program.exprs(), program.main(), &mut out)?;
-    put_functions(program.exprs(), program.functions(), &mut out)?;
-    put_datas(program.data_decls(), &mut out)?;
+    let exprs = program.exprs();
+    put_main(exprs, program.main(), &mut out)?;
+    put_functions(exprs, program.functions(), &mut out)?;
+    put_datas(exprs, program.datas(), &mut out)?;
     Ok(out.into_tokens())
 }
 
@@ -386,10 +502,14 @@ fn tokens_of(alloc: Global, program: &Program) -> Result<Vec<Token>, Memory>
 /// # Errors
 ///
 /// Want of memory.
-pub fn print_program(alloc: Global, program: &Program, names: &Names) -> Result<Vec<u8>, Memory>
+pub fn print_program(
+    alloc: Global,
+    program: &GenericProgram,
+    names: &Names,
+) -> Result<Vec<u8>, Memory>
     // Printing recurses on expressions, and so its stack is bounded.
-    requires { levels_program (program_of program.now) ≤ 200 }
-    ensures { IfOk result (λ out. out.items ≡ tokens_text names.now (spell_program (program_of program.now) [])) }
+    requires { levels_program (generic_program_of program.now) ≤ 200 }
+    ensures { IfOk result (λ out. out.items ≡ tokens_text names.now (spell_program (generic_program_of program.now) [])) }
 {
     let tokens = tokens_of(alloc, program)?;
     text_of(alloc, &tokens, names)

@@ -8,6 +8,7 @@ use std::marker::Model;
 /// Tokens, each put before all that were put earlier.
 #[derive(Drop)]
 pub(crate) struct Spelled {
+    alloc: Global,
     tokens: Reversed<Token>,
 }
 
@@ -28,8 +29,14 @@ impl Spelled {
         ensures { result ≡ [] }
     {
         Spelled {
+            alloc,
             tokens: Reversed::new(alloc),
         }
+    }
+
+    /// The allocator of the tokens.
+    pub(crate) fn alloc(&self) -> Global {
+        self.alloc
     }
 
     /// One more token, before the others.

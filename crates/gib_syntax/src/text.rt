@@ -38,6 +38,8 @@ fn sign_text(sign: Sign) -> &'static [u8]
         Sign::Colon => b":",
         Sign::OpenBrace => b"{",
         Sign::CloseBrace => b"}",
+        Sign::OpenBracket => b"[",
+        Sign::CloseBracket => b"]",
         Sign::Arrow => b"->",
         Sign::Plus => b"+",
         Sign::Minus => b"-",

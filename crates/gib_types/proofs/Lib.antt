@@ -6,3 +6,7 @@ pub mod SampleLemmas
 pub mod Copied
 pub mod Naming
 pub mod FieldLemmas
+pub mod Counting
+pub mod Once
+pub mod Same
+pub mod Put

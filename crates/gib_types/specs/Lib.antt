@@ -7,3 +7,5 @@ pub mod Tree
 pub mod TreeCode
 pub mod Bytes
 pub mod Samples
+pub mod Form
+pub mod Types

@@ -7,6 +7,7 @@ pub mod law;
 pub mod layouts;
 pub mod sample;
 pub mod table;
+pub mod types;
 
 pub use fields::{first_type, further_types, items_at};
 pub use layouts::{Layout, Layouts};

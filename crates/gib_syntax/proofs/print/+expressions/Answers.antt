@@ -1,7 +1,7 @@
 use Rattle.std.proofs.Common.{◌≡◌, List, subst, ap, ◌∙◌}
 use Rattle.std.specs.Prelude.{OnOk}
 use Rattle.gib_base.specs.declared.token.Token.{Token}
-use Rattle.gib_syntax.specs.Arena.{tree_of}
+use Rattle.gib_syntax.specs.GenericArena.{tree_of}
 use Rattle.gib_syntax.specs.Printing.{spell_arm}
 use Rattle.gib_syntax.proofs.Printed.{all_arms_printed}
 use Rattle.gib_syntax.proofs.print.+expressions.Goals as goal

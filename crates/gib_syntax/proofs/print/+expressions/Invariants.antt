@@ -1,6 +1,6 @@
 use Rattle.std.proofs.Common.{◌≡◌, ◌≤◌, ◌+◌, ◌*◌, length, drop}
 use Rattle.gib_syntax.specs.Spelling.{spell_arguments}
-use Rattle.gib_syntax.specs.Arena.{arguments_from, tree_of}
+use Rattle.gib_syntax.specs.GenericArena.{arguments_from, tree_of}
 use Rattle.gib_syntax.specs.Printing.{spell_further}
 use Rattle.gib_syntax.proofs.print.+expressions.Given as goal
 

@@ -1,0 +1,144 @@
+//! Expressions with type arguments as nodes in a vector, each behind its parts, with the words of all types.
+
+ghost use Rattle.std.specs.Prelude.{◌≡◌};
+
+use crate::exprs::{Arm, ExprId};
+use crate::tree::{Ident, Operator};
+use crate::written::{Run, Word};
+use gib_base::{Memory, Span};
+use std::alloc::{AllocError, Global};
+use std::marker::Model;
+
+/// One expression, with its parts by their numbers. A span is that of the first token.
+#[derive(Debug, Drop)]
+pub enum GenericNode {
+    Variable(Ident),
+    Whole(Span, u64),
+    Truth(Span, bool),
+    /// An expression in parentheses.
+    Paren(Span, ExprId),
+    Operation {
+        span: Span,
+        operator: Operator,
+        left: ExprId,
+        right: ExprId,
+    },
+    /// A call of a function, with its type arguments and at least one argument.
+    Call(Ident, Run, Vec<ExprId>),
+    /// A constructor with its type arguments and its arguments.
+    Make(Ident, Run, Vec<ExprId>),
+    Let {
+        span: Span,
+        name: Ident,
+        bound: ExprId,
+        body: ExprId,
+    },
+    LetPar {
+        span: Span,
+        left_name: Ident,
+        left: ExprId,
+        right_name: Ident,
+        right: ExprId,
+        body: ExprId,
+    },
+    If {
+        span: Span,
+        condition: ExprId,
+        then_part: ExprId,
+        else_part: ExprId,
+    },
+    Case {
+        span: Span,
+        variable: Ident,
+        arms: Vec<Arm>,
+    },
+}
+
+/// Expressions, each behind its parts, with the words of the types that a program has.
+#[derive(Drop)]
+pub struct GenericExprs {
+    words: Vec<Word>,
+    nodes: Vec<GenericNode>,
+}
+
+impl Model for GenericExprs {
+    ghost use Rattle.gib_syntax.specs.GenericArena.{Arena, IsArena};
+
+    ghost Value = { Arena };
+
+    ghost view = { λ e. record { words = e.words.items; nodes = e.nodes.items } };
+
+    ghost invariant = { λ e. IsArena (record { words = e.words.items; nodes = e.nodes.items }) };
+}
+
+impl GenericExprs {
+    ghost use Rattle.std.specs.Prelude.{◌≡◌, ◌<◌, length, IfOk, OnErr};
+    ghost use Rattle.gib_syntax.specs.Words.{run_words, IsRunIn};
+    ghost use Rattle.gib_syntax.specs.GenericArena.{empty, PartsBelow, IsRunWithin, Opens, Grows, Makes};
+
+    /// No expressions and no words.
+    pub fn new(alloc: Global) -> GenericExprs
+        ensures { result ≡ empty }
+    {
+        GenericExprs {
+            words: Vec::new(alloc),
+            nodes: Vec::new(alloc),
+        }
+    }
+
+    /// How many expressions there are.
+    pub fn len(&self) -> usize
+        ensures { result ≡ length self.now.nodes }
+    {
+        self.nodes.len()
+    }
+
+    /// A node whose tree is the one of the number.
+    pub fn node(&self, id: ExprId) -> &GenericNode
+        requires { id.0 < length self.now.nodes }
+        ensures opens { Opens self.now id.0 result.now }
+        ensures within { IsRunWithin result.now self.now.words }
+    {
+        &self.nodes[id.0 as usize]
+    }
+
+    /// The words of a run; where it ends past the last word, those that are here.
+    pub fn words(&self, run: Run) -> &[Word]
+        ensures { result.now ≡ run_words self.now.words run }
+    {
+        let end = (run.end as usize).min(self.words.len());
+        let start = (run.start as usize).min(end);
+        &self.words[start..end]
+    }
+
+    /// One more expression, whose parts and types stand here already. Those that stand here stay as they are.
+    pub fn put(&mut self, node: GenericNode) -> Result<ExprId, Memory>
+        requires below { PartsBelow node (length self.old.nodes) }
+        requires within { IsRunWithin node self.old.words }
+        ensures made { IfOk result (λ id. Makes self.old self.new id.0 node) }
+        ensures same { OnErr result (self.new ≡ self.old) }
+    {
+        let Ok(number) = u32::try_from(self.nodes.len()) else {
+            return Err(AllocError);
+        };
+        self.nodes.push(node)?;
+        Ok(ExprId(number))
+    }
+
+    /// More words, with their run. Expressions and types that stand here stay as they are.
+    pub fn put_words(&mut self, words: &[Word]) -> Result<Run, Memory>
+        ensures grows { Grows self.old self.new }
+        ensures within { IfOk result (λ run. IsRunIn self.new.words run) }
+        ensures words { IfOk result (λ run. run_words self.new.words run ≡ words.now) }
+        ensures nodes { self.new.nodes ≡ self.old.nodes }
+    {
+        let Ok(start) = u32::try_from(self.words.len()) else {
+            return Err(AllocError);
+        };
+        let Ok(end) = u32::try_from(self.words.len() + words.len()) else {
+            return Err(AllocError);
+        };
+        self.words.extend_from_slice(words)?;
+        Ok(Run { start, end })
+    }
+}
