@@ -1,61 +1,97 @@
--- The rules of declarations, by the program's vectors.
-use Rattle.std.proofs.Common.{◌≡◌, ℕ, List, [], ◌∷◌, map, Ok, refl, sym, ap, ◌∙◌}
-use Rattle.gib_syntax.specs.declared.tree.DataDecl.{DataDecl}
-use Rattle.gib_syntax.specs.declared.tree.FunctionDecl.{FunctionDecl}
-use Rattle.gib_syntax.specs.declared.tree.MainDecl.{MainDecl}
-use Rattle.gib_syntax.specs.Arena.{tree_of}
-use Rattle.gib_syntax.specs.Parts.{Parts, data_tree, function_tree, program_of}
+-- The rules of declarations and of all, in their order.
+use Rattle.std.proofs.Common.{◌≡◌, List, [], ◌∷◌, map, Ok, refl, sym, ap, ap₂, ◌∙◌}
+use Rattle.gib_syntax.specs.declared.program.GenericData.{GenericData}
+use Rattle.gib_syntax.specs.declared.program.GenericFunction.{GenericFunction}
+use Rattle.gib_syntax.specs.declared.program.GenericMain.{GenericMain}
+use Rattle.gib_syntax.specs.Words.{type_in}
+use Rattle.gib_syntax.specs.GenericArena.{Arena}
+use Rattle.gib_syntax.specs.GenericParts.{GenericParts, generic_program_of, data_in, function_in, parameter_in}
 use Rattle.gib_check.specs.declared.fault.TypeFault.{TypeFault}
 use Rattle.gib_check.specs.Answers.{IsFaultOf}
 use Rattle.gib_check.specs.Faults.{Checked, and_then}
-use Rattle.gib_check.specs.FirstFault.{check_datas, check_fields, check_heads, check_head, check_declarations}
-use Rattle.gib_check.specs.Views.{tree_number, types_in}
+use Rattle.gib_check.specs.FirstFault.{check_datas, check_fields, check_heads, check_head, check_body, check_bodies, check_declarations, check_program}
+use Rattle.gib_check.specs.NameViews.{generic_globals, generic_tree}
 use Rattle.gib_check.proofs.Loops.{passed_on, along}
 
--- The rules over these data declarations, functions and main.
-abbrev rules_of : Parts → List DataDecl → List FunctionDecl → MainDecl → List ℕ → Checked (Unit {0})
-rules_of parts ds fs m types =
-    and_then (check_datas [] [] (map data_tree ds))
-    (λ _. and_then (check_fields types (map data_tree ds))
-    (λ _. and_then (check_heads types [] (map (function_tree (tree_of parts.exprs)) fs))
-    (λ _. check_head types (m.parameter ∷ []) m.result)))
+-- What the code sees of a program.
+pub record AreSeen (parts : GenericParts) (exprs : Arena) (datas : List GenericData) : Type 0 where
+  pub are_exprs : exprs ≡ parts.exprs
+  pub are_datas : datas ≡ parts.datas
 
-rules_are : (parts : Parts) → check_declarations (program_of parts) ≡ rules_of parts parts.data_decls parts.functions parts.main (types_in parts)
-unfolding check_declarations
-rules_are parts = refl
+datas_of : GenericParts → Checked (Unit {0})
+datas_of parts = check_datas [] [] (generic_program_of parts).datas
 
--- What was read of a program.
-pub record IsRead (parts : Parts) (ds : List DataDecl) (types : List ℕ) : Type 0 where
-  pub are_datas : ds ≡ parts.data_decls
-  pub are_types : types ≡ map tree_number (map data_tree ds)
+fields_of : GenericParts → Checked (Unit {0})
+fields_of parts = check_fields (generic_program_of parts).datas (generic_program_of parts).datas
 
-types_are : (parts : Parts) (ds : List DataDecl) (types : List ℕ) → IsRead parts ds types → types_in parts ≡ types
-types_are parts ds types h = sym (h.are_types ∙ ap (λ (z : List DataDecl). map tree_number (map data_tree z)) h.are_datas)
+heads_of : GenericParts → Checked (Unit {0})
+heads_of parts = check_heads (generic_program_of parts).datas [] (generic_program_of parts).functions
 
-rules_same : (parts : Parts) (ds : List DataDecl) (types : List ℕ) → IsRead parts ds types → check_datas [] [] (map data_tree ds) ≡ Ok (tt {0}) → check_declarations (program_of parts) ≡ and_then (check_fields types (map data_tree ds)) (λ _. and_then (check_heads types [] (map (function_tree (tree_of parts.exprs)) parts.functions)) (λ _. check_head types (parts.main.parameter ∷ []) parts.main.result))
-rules_same parts ds types h e =
-    rules_are parts
-    ∙ (λ i. rules_of parts (sym h.are_datas i) parts.functions parts.main (types_are parts ds types h i))
-    ∙ ap (λ z. and_then z (λ _. and_then (check_fields types (map data_tree ds)) (λ _. and_then (check_heads types [] (map (function_tree (tree_of parts.exprs)) parts.functions)) (λ _. check_head types (parts.main.parameter ∷ []) parts.main.result)))) e
+main_of : GenericParts → Checked (Unit {0})
+main_of parts = check_head (generic_program_of parts).datas [] ((generic_program_of parts).main.parameter ∷ []) (generic_program_of parts).main.result
 
-pub fields_fail : (parts : Parts) (ds : List DataDecl) (types : List ℕ) (e : TypeFault) → IsRead parts ds types → check_datas [] [] (map data_tree ds) ≡ Ok (tt {0}) → IsFaultOf e (check_fields types (map data_tree ds)) → IsFaultOf e (check_declarations (program_of parts))
-fields_fail parts ds types e h d f = along e _ _ (rules_same parts ds types h d) (passed_on e _ _ f)
+seen_datas : (parts : GenericParts) (exprs : Arena) (datas : List GenericData) → AreSeen parts exprs datas → datas_of parts ≡ check_datas [] [] (map (data_in exprs.words) datas)
+unfolding datas_of
+seen_datas parts exprs datas s = sym (ap₂ (λ (a : Arena) (ds : List GenericData). check_datas [] [] (map (data_in a.words) ds)) s.are_exprs s.are_datas)
 
-heads_same : (parts : Parts) (ds : List DataDecl) (types : List ℕ) → IsRead parts ds types → check_datas [] [] (map data_tree ds) ≡ Ok (tt {0}) → check_fields types (map data_tree ds) ≡ Ok (tt {0}) → check_declarations (program_of parts) ≡ and_then (check_heads types [] (map (function_tree (tree_of parts.exprs)) parts.functions)) (λ _. check_head types (parts.main.parameter ∷ []) parts.main.result)
-heads_same parts ds types h d k = rules_same parts ds types h d ∙ ap (λ z. and_then z (λ _. and_then (check_heads types [] (map (function_tree (tree_of parts.exprs)) parts.functions)) (λ _. check_head types (parts.main.parameter ∷ []) parts.main.result))) k
+seen_fields : (parts : GenericParts) (exprs : Arena) (datas : List GenericData) → AreSeen parts exprs datas → fields_of parts ≡ check_fields (generic_globals parts).datas (map (data_in parts.exprs.words) datas)
+unfolding fields_of
+seen_fields parts exprs datas s = sym (ap (λ (ds : List GenericData). check_fields (generic_globals parts).datas (map (data_in parts.exprs.words) ds)) s.are_datas)
 
-pub heads_fail : (parts : Parts) (ds : List DataDecl) (types : List ℕ) (fs : List FunctionDecl) (e : TypeFault) → IsRead parts ds types → check_datas [] [] (map data_tree ds) ≡ Ok (tt {0}) → check_fields types (map data_tree ds) ≡ Ok (tt {0}) → fs ≡ parts.functions → IsFaultOf e (check_heads types [] (map (function_tree (tree_of parts.exprs)) fs)) → IsFaultOf e (check_declarations (program_of parts))
-heads_fail parts ds types fs e h d k q f =
-    along e _ _ (heads_same parts ds types h d k ∙ ap (λ (z : List FunctionDecl). and_then (check_heads types [] (map (function_tree (tree_of parts.exprs)) z)) (λ _. check_head types (parts.main.parameter ∷ []) parts.main.result)) (sym q)) (passed_on e _ _ f)
+seen_heads : (parts : GenericParts) (functions : List GenericFunction) → functions ≡ parts.functions → heads_of parts ≡ check_heads (generic_globals parts).datas [] (map (function_in parts.exprs) functions)
+unfolding heads_of
+seen_heads parts functions e = sym (ap (λ (fs : List GenericFunction). check_heads (generic_globals parts).datas [] (map (function_in parts.exprs) fs)) e)
 
-main_same : (parts : Parts) (ds : List DataDecl) (types : List ℕ) (fs : List FunctionDecl) (m : MainDecl) → IsRead parts ds types → check_datas [] [] (map data_tree ds) ≡ Ok (tt {0}) → check_fields types (map data_tree ds) ≡ Ok (tt {0}) → fs ≡ parts.functions → check_heads types [] (map (function_tree (tree_of parts.exprs)) fs) ≡ Ok (tt {0}) → m ≡ parts.main → check_declarations (program_of parts) ≡ check_head types (m.parameter ∷ []) m.result
-main_same parts ds types fs m h d k q o w =
-    heads_same parts ds types h d k
-    ∙ ap (λ z. and_then z (λ _. check_head types (parts.main.parameter ∷ []) parts.main.result)) (ap (λ (z : List FunctionDecl). check_heads types [] (map (function_tree (tree_of parts.exprs)) z)) (sym q) ∙ o)
-    ∙ ap (λ (z : MainDecl). check_head types (z.parameter ∷ []) z.result) (sym w)
+seen_main : (parts : GenericParts) (main : GenericMain) → main ≡ parts.main → main_of parts ≡ check_head (generic_globals parts).datas [] (map (parameter_in parts.exprs.words) (main.parameter ∷ [])) (type_in parts.exprs.words main.result)
+unfolding main_of
+seen_main parts main e = sym (ap (λ (m : GenericMain). check_head (generic_globals parts).datas [] (map (parameter_in parts.exprs.words) (m.parameter ∷ [])) (type_in parts.exprs.words m.result)) e)
 
-pub main_fail : (parts : Parts) (ds : List DataDecl) (types : List ℕ) (fs : List FunctionDecl) (m : MainDecl) (e : TypeFault) → IsRead parts ds types → check_datas [] [] (map data_tree ds) ≡ Ok (tt {0}) → check_fields types (map data_tree ds) ≡ Ok (tt {0}) → fs ≡ parts.functions → check_heads types [] (map (function_tree (tree_of parts.exprs)) fs) ≡ Ok (tt {0}) → m ≡ parts.main → IsFaultOf e (check_head types (m.parameter ∷ []) m.result) → IsFaultOf e (check_declarations (program_of parts))
-main_fail parts ds types fs m e h d k q o w f = along e _ _ (main_same parts ds types fs m h d k q o w) f
+whole : (parts : GenericParts) → check_declarations (generic_program_of parts) ≡ and_then (datas_of parts) (λ _. and_then (fields_of parts) (λ _. and_then (heads_of parts) (λ _. main_of parts)))
+unfolding check_declarations datas_of fields_of heads_of main_of
+whole parts = refl
 
-pub all_kept : (parts : Parts) (ds : List DataDecl) (types : List ℕ) (fs : List FunctionDecl) (m : MainDecl) → IsRead parts ds types → check_datas [] [] (map data_tree ds) ≡ Ok (tt {0}) → check_fields types (map data_tree ds) ≡ Ok (tt {0}) → fs ≡ parts.functions → check_heads types [] (map (function_tree (tree_of parts.exprs)) fs) ≡ Ok (tt {0}) → m ≡ parts.main → check_head types (m.parameter ∷ []) m.result ≡ Ok (tt {0}) → check_declarations (program_of parts) ≡ Ok (tt {0})
-all_kept parts ds types fs m h d k q o w f = main_same parts ds types fs m h d k q o w ∙ f
+module _ (parts : GenericParts) (exprs : Arena) (datas : List GenericData) (s : AreSeen parts exprs datas) where
+  pub datas_fail : (e : TypeFault) → IsFaultOf e (check_datas [] [] (map (data_in exprs.words) datas)) → IsFaultOf e (check_declarations (generic_program_of parts))
+  datas_fail e h = along e _ _ (whole parts) (passed_on e _ _ (along e _ _ (seen_datas parts exprs datas s) h))
+
+  after_datas : check_datas [] [] (map (data_in exprs.words) datas) ≡ Ok (tt {0}) → check_declarations (generic_program_of parts) ≡ and_then (fields_of parts) (λ _. and_then (heads_of parts) (λ _. main_of parts))
+  after_datas h = whole parts ∙ ap (λ z. and_then z (λ _. and_then (fields_of parts) (λ _. and_then (heads_of parts) (λ _. main_of parts)))) (seen_datas parts exprs datas s ∙ h)
+
+  pub fields_fail : (e : TypeFault) → check_datas [] [] (map (data_in exprs.words) datas) ≡ Ok (tt {0}) → IsFaultOf e (check_fields (generic_globals parts).datas (map (data_in parts.exprs.words) datas)) → IsFaultOf e (check_declarations (generic_program_of parts))
+  fields_fail e d h = along e _ _ (after_datas d) (passed_on e _ _ (along e _ _ (seen_fields parts exprs datas s) h))
+
+  after_fields : check_datas [] [] (map (data_in exprs.words) datas) ≡ Ok (tt {0}) → check_fields (generic_globals parts).datas (map (data_in parts.exprs.words) datas) ≡ Ok (tt {0}) → check_declarations (generic_program_of parts) ≡ and_then (heads_of parts) (λ _. main_of parts)
+  after_fields d f = after_datas d ∙ ap (λ z. and_then z (λ _. and_then (heads_of parts) (λ _. main_of parts))) (seen_fields parts exprs datas s ∙ f)
+
+  pub heads_fail : (e : TypeFault) (functions : List GenericFunction) → functions ≡ parts.functions → check_datas [] [] (map (data_in exprs.words) datas) ≡ Ok (tt {0}) → check_fields (generic_globals parts).datas (map (data_in parts.exprs.words) datas) ≡ Ok (tt {0}) → IsFaultOf e (check_heads (generic_globals parts).datas [] (map (function_in parts.exprs) functions)) → IsFaultOf e (check_declarations (generic_program_of parts))
+  heads_fail e functions q d f h = along e _ _ (after_fields d f) (passed_on e _ _ (along e _ _ (seen_heads parts functions q) h))
+
+  pub after_heads : (functions : List GenericFunction) (main : GenericMain) → functions ≡ parts.functions → main ≡ parts.main → check_datas [] [] (map (data_in exprs.words) datas) ≡ Ok (tt {0}) → check_fields (generic_globals parts).datas (map (data_in parts.exprs.words) datas) ≡ Ok (tt {0}) → check_heads (generic_globals parts).datas [] (map (function_in parts.exprs) functions) ≡ Ok (tt {0}) → check_declarations (generic_program_of parts) ≡ check_head (generic_globals parts).datas [] (map (parameter_in parts.exprs.words) (main.parameter ∷ [])) (type_in parts.exprs.words main.result)
+  after_heads functions main q m d f h = after_fields d f ∙ ap (λ z. and_then z (λ _. main_of parts)) (seen_heads parts functions q ∙ h) ∙ seen_main parts main m
+
+-- All rules.
+bodies_of : GenericParts → Checked (Unit {0})
+bodies_of parts = check_bodies (generic_globals parts) (generic_program_of parts).functions
+
+all_whole : (parts : GenericParts) → check_program (generic_program_of parts) ≡ and_then (check_declarations (generic_program_of parts)) (λ _. and_then (bodies_of parts) (λ _. check_body (generic_globals parts) [] ((generic_program_of parts).main.parameter ∷ []) (generic_program_of parts).main.result (generic_program_of parts).main.body))
+unfolding check_program bodies_of
+all_whole parts = refl
+
+pub declarations_fail : (parts : GenericParts) (e : TypeFault) → IsFaultOf e (check_declarations (generic_program_of parts)) → IsFaultOf e (check_program (generic_program_of parts))
+declarations_fail parts e h = along e _ _ (all_whole parts) (passed_on e _ _ h)
+
+seen_bodies : (parts : GenericParts) (functions : List GenericFunction) → functions ≡ parts.functions → bodies_of parts ≡ check_bodies (generic_globals parts) (map (function_in parts.exprs) functions)
+unfolding bodies_of
+seen_bodies parts functions e = sym (ap (λ (fs : List GenericFunction). check_bodies (generic_globals parts) (map (function_in parts.exprs) fs)) e)
+
+pub bodies_fail : (parts : GenericParts) (e : TypeFault) (functions : List GenericFunction) → functions ≡ parts.functions → check_declarations (generic_program_of parts) ≡ Ok (tt {0}) → IsFaultOf e (check_bodies (generic_globals parts) (map (function_in parts.exprs) functions)) → IsFaultOf e (check_program (generic_program_of parts))
+bodies_fail parts e functions q d h =
+    along e _ _ (all_whole parts ∙ ap (λ z. and_then z (λ _. and_then (bodies_of parts) (λ _. check_body (generic_globals parts) [] ((generic_program_of parts).main.parameter ∷ []) (generic_program_of parts).main.result (generic_program_of parts).main.body))) d)
+    (passed_on e _ _ (along e _ _ (seen_bodies parts functions q) h))
+
+pub after_bodies : (parts : GenericParts) (functions : List GenericFunction) (main : GenericMain) → functions ≡ parts.functions → main ≡ parts.main → check_declarations (generic_program_of parts) ≡ Ok (tt {0}) → check_bodies (generic_globals parts) (map (function_in parts.exprs) functions) ≡ Ok (tt {0}) → check_program (generic_program_of parts) ≡ check_body (generic_globals parts) [] (map (parameter_in parts.exprs.words) (main.parameter ∷ [])) (type_in parts.exprs.words main.result) (generic_tree parts main.body.0)
+after_bodies parts functions main q m d h =
+    all_whole parts
+    ∙ ap (λ z. and_then z (λ _. and_then (bodies_of parts) (λ _. check_body (generic_globals parts) [] ((generic_program_of parts).main.parameter ∷ []) (generic_program_of parts).main.result (generic_program_of parts).main.body))) d
+    ∙ ap (λ z. and_then z (λ _. check_body (generic_globals parts) [] ((generic_program_of parts).main.parameter ∷ []) (generic_program_of parts).main.result (generic_program_of parts).main.body)) (seen_bodies parts functions q ∙ h)
+    ∙ sym (ap (λ (n : GenericMain). check_body (generic_globals parts) [] (map (parameter_in parts.exprs.words) (n.parameter ∷ [])) (type_in parts.exprs.words n.result) (generic_tree parts n.body.0)) m)

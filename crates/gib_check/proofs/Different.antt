@@ -18,7 +18,7 @@ cons_none y x ys e h = (λ i. cond (e i) (Some 0) (next_place (h i)))
 flip : (y x : ℕ) → eqb y x ≡ false → eqb x y ≡ false
 flip y x e = ne_eqb x y (λ q. eqb-false y x e (sym q))
 
-none_push : (ys : List ℕ) (x y : ℕ) → place_of ys y ≡ None → eqb x y ≡ false → place_of (ys ++ x ∷ []) y ≡ None
+pub none_push : (ys : List ℕ) (x y : ℕ) → place_of ys y ≡ None → eqb x y ≡ false → place_of (ys ++ x ∷ []) y ≡ None
 none_push [] x y h e = cons_none x y [] e refl
 none_push (z ∷ ys) x y h e = let p = none_cons z y ys h in cons_none z y (ys ++ x ∷ []) p.0 (none_push ys x y p.1 e)
 
@@ -27,11 +27,11 @@ different_push [] x h e = (refl, tt)
 different_push (y ∷ ys) x h e =
     let p = none_cons y x ys e in (none_push ys x y h.0 (flip y x p.0), different_push ys x h.1 p.1)
 
-none_front : (xs ys : List ℕ) (z : ℕ) → place_of (xs ++ ys) z ≡ None → place_of xs z ≡ None
+pub none_front : (xs ys : List ℕ) (z : ℕ) → place_of (xs ++ ys) z ≡ None → place_of xs z ≡ None
 none_front [] ys z h = refl
 none_front (x ∷ xs) ys z h = let p = none_cons x z (xs ++ ys) h in cons_none x z xs p.0 (none_front xs ys z p.1)
 
-none_in : (xs ys : List ℕ) (x z : ℕ) → place_of (xs ++ x ∷ ys) z ≡ None → eqb x z ≡ false
+pub none_in : (xs ys : List ℕ) (x z : ℕ) → place_of (xs ++ x ∷ ys) z ≡ None → eqb x z ≡ false
 none_in [] ys x z h = (none_cons x z ys h).0
 none_in (w ∷ xs) ys x z h = none_in xs ys x z (none_cons w z (xs ++ x ∷ ys) h).1
 

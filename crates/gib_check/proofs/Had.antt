@@ -9,7 +9,7 @@ use Rattle.gib_syntax.specs.Declarations.{number_of, function_named}
 use Rattle.gib_syntax.specs.Typing.{Globals, Scope, type_in, IsNew, bound, BindsAll, result_type, Has, HaveArms}
 use Rattle.gib_check.specs.declared.origin.TypeOrigin.{TypeOrigin}
 use Rattle.gib_check.specs.declared.origin.TypeOrigin.TheVariants.{Fixed, Variable}
-use Rattle.gib_check.specs.Faults.{fields_if}
+use Rattle.gib_check.specs.Origins.{fields_if}
 use Rattle.gib_check.specs.Origins.{type_from, outside, outside_arm, result_if, made_type, origin, origin_first}
 
 -- Outside of a binding whose variable's type comes from there.

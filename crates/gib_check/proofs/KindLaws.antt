@@ -1,21 +1,19 @@
 -- Where the rules are broken.
 use Rattle.std.proofs.Common.{◌≡◌, ℕ, ◌≤◌, Bool, true, false, ltb, eqb, List, Option, Some, None, Ok, Err, refl, sym, ap, ◌∙◌, subst, arith}
-use Rattle.std.specs.Prelude.{is_none}
-use Rattle.std.proofs.lemmas.Bool.{ltb-true, ltb-false, eqb-true, eqb-false, eq-eqb}
+use Rattle.std.specs.Prelude.{is_none, is_some}
+use Rattle.std.proofs.lemmas.Bool.{ltb-true, ltb-false, eqb-true, eqb-false}
 use Rattle.gib_base.specs.declared.Span.{Span}
-use Rattle.gib_types.specs.declared.table.Ty.{Ty}
-use Rattle.gib_types.specs.declared.table.Ty.TheVariants.{Whole, Truth, Tree}
-use Rattle.gib_types.specs.declared.table.TyId.{TyId}
-use Rattle.gib_types.specs.Table.{Table}
+use Rattle.gib_types.specs.Form.{Form, Forms, WholeForm, TruthForm, VariableForm, DataForm}
+use Rattle.gib_syntax.specs.GenericTree.{GenericRow}
 use Rattle.gib_syntax.specs.declared.tree.Ident.{Ident}
-use Rattle.gib_syntax.specs.Typing.{Covers}
+use Rattle.gib_syntax.specs.GenericTyping.{CoversType}
 use Rattle.gib_check.specs.declared.fault.Fault.{Fault}
 use Rattle.gib_check.specs.declared.fault.Kind.{Kind}
 use Rattle.gib_check.specs.declared.fault.Kind.TheVariants as kind
-use Rattle.gib_check.specs.declared.rules.Part.{Part}
-use Rattle.gib_check.specs.Faults.{Checked, allowed, found, same_type, wanted, declared_type, covers, covered}
+use Rattle.gib_check.specs.Faults.{Checked, allowed, found, FormPart, wanted, declared_type, covers, covered}
+use Rattle.gib_check.specs.SameForm.{same_form}
 use Rattle.gib_check.specs.Kinds.{fault, IsBrokenWhere}
-use Rattle.gib_check.proofs.Steps.{covers_is}
+use Rattle.gib_check.proofs.Steps.{covers_is, same_form_is, form_same}
 use Rattle.gib_check.proofs.Complete.{covers_ok}
 
 abbrev given : {A : Type 0} → A → Checked A
@@ -52,43 +50,47 @@ pub there : {A : Type 0} (o : Option A) → is_none o ≡ false → (x : A) × (
 there None e = absurd cc
 there (Some x) e = (x, refl)
 
-same_is : (a b : Ty) → same_type a b ≡ true → a ≡ b
-same_is Whole Whole e = refl
-same_is Whole Truth e = absurd cc
-same_is Whole (Tree t) e = absurd cc
-same_is Truth Whole e = absurd cc
-same_is Truth Truth e = refl
-same_is Truth (Tree t) e = absurd cc
-same_is (Tree s) Whole e = absurd cc
-same_is (Tree s) Truth e = absurd cc
-same_is (Tree s) (Tree t) e = let q = eqb-true s.0 t.0 e in ap (λ (n : ℕ). Tree (record { 0 = n })) q
-
-same_self : (a : Ty) → same_type a a ≡ true
-same_self Whole = refl
-same_self Truth = refl
-same_self (Tree t) = eq-eqb t.0 t.0 refl
-
 true_false : (b : Bool) → b ≡ true → b ≡ false → ⊥
 true_false b t f = let e = sym t ∙ f in cc
 
-pub wanted_broken : (due : Ty) (part : Part) → IsBrokenWhere (wanted due part) (part.ty ≡ due → ⊥) (fault kind.Shape part.place)
-wanted_broken due part =
-    allowed_broken (same_type part.ty due) kind.Shape part.place (tt {0}) (part.ty ≡ due → ⊥)
-    (λ e p. p (same_is part.ty due e))
-    (λ e same. true_false (same_type part.ty due) (subst (λ z. same_type part.ty z ≡ true) same (same_self part.ty)) e)
+abbrev is_data : Form → Bool
+is_data WholeForm = false
+is_data TruthForm = false
+is_data (VariableForm v) = false
+is_data (DataForm t ts) = true
 
-pub declared_broken : (t : Ty) (x : Ident) → IsBrokenWhere (declared_type t x) ((i : TyId) → t ≡ Tree i → ⊥) (fault kind.Shape x.span)
-declared_broken Whole x = record { broken = λ p. refl; only = λ g e. ((λ i q. (let z : Whole ≡ Tree i = q in cc)), sym (same_fault {A = ℕ} (fault kind.Shape x.span) g e)) }
-declared_broken Truth x = record { broken = λ p. refl; only = λ g e. ((λ i q. (let z : Truth ≡ Tree i = q in cc)), sym (same_fault {A = ℕ} (fault kind.Shape x.span) g e)) }
-declared_broken (Tree t) x = record { broken = λ p. absurd (p t refl); only = λ g e. absurd (over g e) } where
-  over : (g : Fault) → given t.0 ≡ refused g → ⊥
+pub wanted_broken : (due : Form) (part : FormPart) → IsBrokenWhere (wanted due part) (part.ty ≡ due → ⊥) (fault kind.Shape part.place)
+wanted_broken due part =
+    allowed_broken (same_form part.ty due) kind.Shape part.place (tt {0}) (part.ty ≡ due → ⊥)
+    (λ e p. p (same_form_is part.ty due e))
+    (λ e same. true_false (same_form part.ty due) (subst (λ z. same_form part.ty z ≡ true) same (form_same part.ty)) e)
+
+no_data : (t : Form) (i : ℕ) (ts : Forms) → (is_data t ≡ false) → t ≡ DataForm i ts → ⊥
+no_data t i ts e q = true_false (is_data t) (ap is_data q) e
+
+pub declared_broken : (t : Form) (x : Ident) → IsBrokenWhere (declared_type t x) ((i : ℕ) (ts : Forms) → t ≡ DataForm i ts → ⊥) (fault kind.Shape x.span)
+declared_broken WholeForm x = record { broken = λ p. refl; only = λ g e. ((λ i ts q. no_data WholeForm i ts refl q), sym (same_fault {A = ℕ × Forms} (fault kind.Shape x.span) g e)) }
+declared_broken TruthForm x = record { broken = λ p. refl; only = λ g e. ((λ i ts q. no_data TruthForm i ts refl q), sym (same_fault {A = ℕ × Forms} (fault kind.Shape x.span) g e)) }
+declared_broken (VariableForm v) x = record { broken = λ p. refl; only = λ g e. ((λ i ts q. no_data (VariableForm v) i ts refl q), sym (same_fault {A = ℕ × Forms} (fault kind.Shape x.span) g e)) }
+declared_broken (DataForm t ts) x = record { broken = λ p. absurd (p t ts refl); only = λ g e. absurd (over g e) } where
+  over : (g : Fault) → given {A = ℕ × Forms} (t, ts) ≡ refused g → ⊥
   over g e = cc
 
-pub covered_broken : (table : Table) (ty : ℕ) (names : List ℕ) (at : Span) → IsBrokenWhere (covered table ty names at) (Covers table ty names → ⊥) (fault kind.Arms at)
-covered_broken table ty names at =
-    allowed_broken (covers table ty names) kind.Arms at (tt {0}) (Covers table ty names → ⊥)
-    (λ e p. p (covers_is table ty names e))
-    (λ e h. true_false (covers table ty names) (covers_ok table ty names h) e)
+pub covered_broken : (rows : List GenericRow) (ty : ℕ) (names : List ℕ) (at : Span) → IsBrokenWhere (covered rows ty names at) (CoversType rows ty names → ⊥) (fault kind.Arms at)
+covered_broken rows ty names at =
+    allowed_broken (covers rows ty names) kind.Arms at (tt {0}) (CoversType rows ty names → ⊥)
+    (λ e p. p (covers_is rows ty names e))
+    (λ e h. true_false (covers rows ty names) (covers_ok rows ty names h) e)
+
+-- A test of what has to be there.
+pub some_broken : {A : Type 0} (o : Option A) (k : Kind) (at : Span) → IsBrokenWhere (allowed (is_some o) k at (tt {0})) (o ≡ None) (fault k at)
+some_broken {A = A} None k at = record { broken = λ e. refl; only = λ g e. (refl, sym (same_fault {A = Unit {0}} (fault k at) g e)) }
+some_broken {A = A} (Some x) k at = record { broken = λ e. absurd (clash e); only = λ g e. absurd (over g e) } where
+  clash : Some x ≡ None → ⊥
+  clash e = cc
+
+  over : (g : Fault) → given (tt {0}) ≡ refused g → ⊥
+  over g e = cc
 
 pub equal_broken : {A : Type 0} (m n : ℕ) (k : Kind) (at : Span) (x : A) → IsBrokenWhere (allowed (eqb m n) k at x) (m ≡ n → ⊥) (fault k at)
 equal_broken m n k at x = allowed_broken (eqb m n) k at x (m ≡ n → ⊥) (λ e p. p (eqb-true m n e)) (λ e same. eqb-false m n e same)

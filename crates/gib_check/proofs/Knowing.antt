@@ -10,7 +10,7 @@ use Rattle.gib_syntax.specs.Parts.{Parts, program_of}
 use Rattle.gib_syntax.specs.Typing.{Globals, globals_of, arm_names}
 use Rattle.gib_check.specs.declared.node_facts.NodeFacts.{NodeFacts as Facts}
 use Rattle.gib_check.specs.Origins.{origin, outside_arm}
-use Rattle.gib_check.specs.Faults.{fields_named}
+use Rattle.gib_check.specs.Origins.{fields_named}
 use Rattle.gib_check.specs.ArmPlaces.{place_named, place_in, case_names, arm_name}
 use Rattle.gib_check.specs.NodeFacts.{AreOf, AreFacts}
 use Rattle.gib_check.specs.Checked.{IsChecked}

@@ -1,21 +1,33 @@
 mod ArmNames
 mod ArmSteps
+mod BodySteps
 pub mod Complete
+mod Declaring
 pub mod Different
-pub mod Loops
-pub mod Opening
-pub mod Places
-pub mod Programs
-pub mod Rows
-pub mod Sound
-pub mod Steps
-pub mod RowRules
-pub mod Making
-mod Naming
-mod Numbering
-mod Passing
+mod Growing
 mod Had
 mod InScope
 mod KindLaws
 mod Knowing
-pub mod Declaring
+mod KnownWords
+pub mod Loops
+pub mod Making
+mod NameRows
+mod Naming
+mod Numbering
+pub mod Opening
+mod Passing
+pub mod Places
+mod PlainRows
+pub mod Programs
+mod Read
+mod RowLists
+pub mod RowRules
+mod SameNumber
+pub mod Sound
+mod Stacks
+mod States
+pub mod Steps
+mod TypedTables
+mod UseTypes
+mod Walking

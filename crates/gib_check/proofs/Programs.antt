@@ -1,50 +1,53 @@
 -- The rules of declarations and bodies, and typing.
-use Rattle.std.proofs.Common.{◌≡◌, ℕ, zero, suc, ◌+◌, ◌<◌, ◌≤◌, Bool, true, false, cond, eqb, ltb, List, [], ◌∷◌, ◌++◌, map, length, Option, Some, None, Ok, Err, refl, sym, ap, ◌∙◌, subst, arith}
+use Rattle.std.proofs.Common.{◌≡◌, ℕ, ◌+◌, ◌<◌, ◌≤◌, Bool, true, false, cond, eqb, ltb, List, [], ◌∷◌, ◌++◌, map, length, Option, Some, None, Ok, Err, refl, sym, ap, ◌∙◌, subst, arith}
 use Rattle.std.proofs.lemmas.Bool.{ltb-true, lt-ltb}
 use Rattle.std.proofs.lemmas.List.{append-nil, map-append, length-append, length-map}
 use Rattle.std.specs.Prelude.{is_none, slice_get}
 use Rattle.std.specs.List.{AllByRecursion}
-use Rattle.gib_types.specs.declared.table.Ty.{Ty}
-use Rattle.gib_types.specs.Table.{Row}
 use Rattle.gib_syntax.specs.declared.tree.Ident.{Ident}
-use Rattle.gib_syntax.specs.declared.tree.TypeName.{TypeName}
-use Rattle.gib_syntax.specs.declared.tree.Parameter.{Parameter}
-use Rattle.gib_syntax.specs.Tree.{Expression, ConstructorTree, DataTree, FunctionTree, ProgramTree}
-use Rattle.gib_syntax.specs.Declarations.{number_of, place_of, AreDifferent, type_names, type_written, type_or, type_of_name, row_in, rows_from, table_of_program}
-use Rattle.gib_syntax.specs.Typing.{Globals, globals_of, Scope, bound, BindsAll, Has, expressions, bindings, IsKnown, HasKnownType, IsTypedFunction, IsTypedHere, HasKnownFields, HasKnownConstructors, IsTypedProgram}
-use Rattle.gib_check.specs.declared.counts.Counts.{Counts}
+use Rattle.gib_syntax.specs.Declarations.{number_of, place_of, AreDifferent}
+use Rattle.gib_types.specs.Form.{Form}
+use Rattle.gib_syntax.specs.Forms.{WrittenType, written_place, formed}
+use Rattle.gib_syntax.specs.GenericTree.{GenericExpression, GenericConstructorTree, GenericDataTree, GenericParameterTree, GenericFunctionTree, GenericProgramTree, GenericRow, row_of, rows_of, GenericGlobals, globals_of_generic}
+use Rattle.gib_syntax.specs.GenericTyping.{FormScope, form_in, form_bound, BindsForms, IsKnownType, HasForm, generic_expressions, generic_bindings, variable_numbers, opaque, AreTypeVariables, HasKnownForm, IsTypedGenericFunction, IsTypedGenericHere, HasKnownGenericFields, IsKnownData, IsTypedGeneric}
 use Rattle.gib_check.specs.declared.fault.Fault.{Fault}
 use Rattle.gib_check.specs.declared.fault.Kind.TheVariants as kind
 use Rattle.gib_check.specs.declared.fault.TypeFault.{TypeFault}
 use Rattle.gib_check.specs.declared.fault.TypeFault.TheVariants as t
 use Rattle.gib_check.specs.Answers.{IsFaultOf}
-use Rattle.gib_check.specs.Checked.{IsFirst, IsMemory, IsMemoryOr}
-use Rattle.gib_check.specs.Faults.{Checked, and_then, allowed, place}
-use Rattle.gib_check.specs.FirstFault.{new_name, fewer, type_place, no_ninth, few_fields, known, check_constructors, check_datas, check_types, check_constructor_fields, check_fields, check_parameters, nothing_met, check_head, check_heads, with_parameters, check_body, check_bodies, check_declarations, check_program, fault_in, first_fault}
-use Rattle.gib_check.proofs.Different.{different_push, new_of, snoc, none_short, short_none}
-use Rattle.gib_check.proofs.Steps.{Holds, holds_ok, holds_err, then_holds, allowed_holds, found_holds, new_variable_holds, wanted_holds}
+use Rattle.gib_check.specs.Refusals.{IsFirst, IsMemory, IsMemoryOr}
+use Rattle.gib_check.specs.Faults.{Checked, and_then, allowed, known, place}
+use Rattle.gib_check.specs.FirstFault.{new_name, fewer, check_variables, no_ninth, few_fields, check_constructors, check_datas, check_types, check_constructor_fields, check_fields, check_parameters, check_head, check_heads, with_parameters, parameters_met, check_body, check_bodies, check_declarations, check_program, fault_in, first_fault}
+use Rattle.gib_check.proofs.Different.{different_push, new_of, snoc, none_short, short_none, none_push, none_front, none_in}
+use Rattle.gib_check.proofs.Steps.{Holds, holds_ok, holds_err, then_holds, allowed_holds, known_holds, wanted_holds}
 use Rattle.gib_check.proofs.Sound.{infer_sound}
-use Rattle.gib_check.proofs.Complete.{Yields, yields, yields_ok, then_yields, new_variable_ok, found_ok, wanted_ok, infer_ok}
+use Rattle.gib_check.proofs.Complete.{Yields, yields, yields_ok, then_yields, known_ok, wanted_ok, infer_ok}
 
-abbrev pub constructor_number : ConstructorTree → ℕ
+abbrev pub constructor_number : GenericConstructorTree → ℕ
 constructor_number c = number_of c.name
 
-abbrev pub data_number : DataTree → ℕ
+abbrev pub data_number : GenericDataTree → ℕ
 data_number d = number_of d.name
 
-abbrev pub function_name : FunctionTree → ℕ
-function_name f = number_of f.name
+abbrev pub function_number : GenericFunctionTree → ℕ
+function_number f = number_of f.name
+
+abbrev pub parameter_number : GenericParameterTree → ℕ
+parameter_number q = number_of q.name
 
 -- The names of all constructors.
-abbrev pub names_in : List DataTree → List ℕ
+abbrev pub names_in : List GenericDataTree → List ℕ
 names_in [] = []
 names_in (d ∷ ds) = map constructor_number d.constructors ++ names_in ds
 
-abbrev IsShort : ConstructorTree → Type 0
+abbrev IsShort : GenericConstructorTree → Type 0
 IsShort c = length c.fields ≤ 8
 
-abbrev AreShort : DataTree → Type 0
+abbrev AreShort : GenericDataTree → Type 0
 AreShort d = AllByRecursion IsShort d.constructors
+
+abbrev HasVariables : GenericDataTree → Type 0
+HasVariables d = AreTypeVariables d.variables
 
 none_is : (o : Option ℕ) → is_none o ≡ true → o ≡ None
 none_is None e = refl
@@ -62,30 +65,66 @@ fewer_holds most names x = record { by = λ u e. ltb-true (length names) most ((
 fewer_ok : (most : ℕ) (names : List ℕ) (x : Ident) → length names < most → fewer most names x ≡ Ok (tt {0})
 fewer_ok most names x h = ap (λ b. allowed b kind.Limit x.span (tt {0})) (lt-ltb (length names) most h)
 
-no_ninth_holds : (o : Option TypeName) → Holds (no_ninth o) (λ _. o ≡ None)
+no_ninth_holds : (o : Option WrittenType) → Holds (no_ninth o) (λ _. o ≡ None)
 no_ninth_holds None = holds_ok (tt {0}) refl
-no_ninth_holds (Some a) = holds_err (record { kind = kind.Limit; span = type_place a })
+no_ninth_holds (Some a) = holds_err (record { kind = kind.Limit; span = written_place a })
 
-few_fields_holds : (fields : List TypeName) → Holds (few_fields fields) (λ _. length fields ≤ 8)
+few_fields_holds : (fields : List WrittenType) → Holds (few_fields fields) (λ _. length fields ≤ 8)
 few_fields_holds fields = record { by = λ u e. none_short fields 8 ((no_ninth_holds (slice_get fields 8)).by u e) }
 
-few_fields_ok : (fields : List TypeName) → length fields ≤ 8 → few_fields fields ≡ Ok (tt {0})
+few_fields_ok : (fields : List WrittenType) → length fields ≤ 8 → few_fields fields ≡ Ok (tt {0})
 few_fields_ok fields h = ap no_ninth (short_none fields 8 h)
-
-known_holds : (types : List ℕ) (a : TypeName) → Holds (known types a) (λ t. type_written types a ≡ Some t)
-known_holds types a = found_holds (type_written types a) kind.Unknown (type_place a)
 
 long_push : (names : List ℕ) (x : ℕ) → length (names ++ x ∷ []) ≡ length names + 1
 long_push names x = length-append names (x ∷ []) ∙ omega arith
 
+-- Type variables.
+pub record VariablesHold (names : List ℕ) (vs : List Ident) : Type 0 where
+  pub differ : AreDifferent names → AreDifferent (names ++ variable_numbers vs)
+  pub few : length names ≤ 8 → length (names ++ variable_numbers vs) ≤ 8
+
+variables_hold : (names : List ℕ) (vs : List Ident) → Holds (check_variables names vs) (λ _. VariablesHold names vs)
+variables_hold names [] =
+    holds_ok (tt {0}) (record {
+      differ = λ h. subst AreDifferent (sym (append-nil names)) h;
+      few = λ h. subst (λ (z : List ℕ). length z ≤ 8) (sym (append-nil names)) h;
+    })
+variables_hold names (v ∷ vs) =
+    then_holds (new_name_holds names v) (λ _ p. then_holds (fewer_holds 8 names v) (λ _ l.
+    record {
+      by = λ u e. (let o = (variables_hold (names ++ number_of v ∷ []) vs).by u e in
+          let same = sym (snoc names (variable_numbers vs) (number_of v)) in
+          record {
+            differ = λ d. subst AreDifferent same (o.differ (different_push names (number_of v) d p));
+            few = λ d. subst (λ (z : List ℕ). length z ≤ 8) same (o.few (let g = long_push names (number_of v) in omega (arith, g, l)));
+          });
+    }))
+
+are_variables : (vs : List Ident) → VariablesHold [] vs → AreTypeVariables vs
+are_variables vs h = (let few = h.few (omega arith) in let long = length-map vs number_of in omega (arith, few, long), h.differ tt)
+
+variables_ok : (names : List ℕ) (vs : List Ident) → AreDifferent (names ++ variable_numbers vs) → length (names ++ variable_numbers vs) ≤ 8 → check_variables names vs ≡ Ok (tt {0})
+variables_ok names [] d l = refl
+variables_ok names (v ∷ vs) d l =
+    let k = length-append names (number_of v ∷ variable_numbers vs) in
+    let e = snoc names (variable_numbers vs) (number_of v) in
+    let all : Yields (check_variables names (v ∷ vs)) (λ _. Unit {0}) =
+    then_yields (yields (tt {0}) (new_name_ok names v (new_of names (variable_numbers vs) (number_of v) d))) (λ _ _.
+    then_yields (yields (tt {0}) (fewer_ok 8 names v (omega (arith, k, l)))) (λ _ _.
+    record { value = tt {0}; is = variables_ok (names ++ number_of v ∷ []) vs (subst AreDifferent e d) (subst (λ (z : List ℕ). length z ≤ 8) e l); so = tt })) in
+    all.is
+
+type_variables_ok : (vs : List Ident) → AreTypeVariables vs → check_variables [] vs ≡ Ok (tt {0})
+type_variables_ok vs h = variables_ok [] vs h.1 (let long = length-map vs number_of in let few = h.0 in omega (arith, few, long))
+
 -- Constructors of a type.
-pub record ConstructorsHold (names : List ℕ) (cs : List ConstructorTree) (out : List ℕ) : Type 0 where
+pub record ConstructorsHold (names : List ℕ) (cs : List GenericConstructorTree) (out : List ℕ) : Type 0 where
   pub is : out ≡ names ++ map constructor_number cs
   pub different : AreDifferent names → AreDifferent out
   pub few : length names ≤ 200 → length out ≤ 200
   pub short : AllByRecursion IsShort cs
 
-constructors_hold : (names : List ℕ) (cs : List ConstructorTree) → Holds (check_constructors names cs) (ConstructorsHold names cs)
+constructors_hold : (names : List ℕ) (cs : List GenericConstructorTree) → Holds (check_constructors names cs) (ConstructorsHold names cs)
 constructors_hold names [] = holds_ok names (record { is = sym (append-nil names); different = λ h. h; few = λ h. h; short = tt })
 constructors_hold names (c ∷ cs) =
     then_holds (fewer_holds 200 names c.name) (λ _ l. then_holds (new_name_holds names c.name) (λ _ p. then_holds (few_fields_holds c.fields) (λ _ q.
@@ -99,7 +138,7 @@ constructors_hold names (c ∷ cs) =
           });
     })))
 
-constructors_ok : (names : List ℕ) (cs : List ConstructorTree) → AreDifferent (names ++ map constructor_number cs) → length (names ++ map constructor_number cs) ≤ 200 → AllByRecursion IsShort cs → Yields (check_constructors names cs) (λ out. out ≡ names ++ map constructor_number cs)
+constructors_ok : (names : List ℕ) (cs : List GenericConstructorTree) → AreDifferent (names ++ map constructor_number cs) → length (names ++ map constructor_number cs) ≤ 200 → AllByRecursion IsShort cs → Yields (check_constructors names cs) (λ out. out ≡ names ++ map constructor_number cs)
 constructors_ok names [] h l s = yields_ok names (sym (append-nil names))
 constructors_ok names (c ∷ cs) h l s =
     let k = length-append names (number_of c.name ∷ map constructor_number cs) in
@@ -110,23 +149,25 @@ constructors_ok names (c ∷ cs) h l s =
     let o = constructors_ok (names ++ number_of c.name ∷ []) cs (subst AreDifferent e h) (subst (λ (z : List ℕ). length z ≤ 200) e l) s.1 in
     record { value = o.value; is = o.is; so = o.so ∙ sym e })))
 
--- Types with their constructors.
-pub record DatasHold (types constructors : List ℕ) (ds : List DataTree) : Type 0 where
+-- Types with their variables and constructors.
+pub record DatasHold (types constructors : List ℕ) (ds : List GenericDataTree) : Type 0 where
   pub types_differ : AreDifferent types → AreDifferent (types ++ map data_number ds)
   pub constructors_differ : AreDifferent constructors → AreDifferent (constructors ++ names_in ds)
   pub few : length constructors ≤ 200 → length (constructors ++ names_in ds) ≤ 200
   pub short : AllByRecursion AreShort ds
+  pub variables : AllByRecursion HasVariables ds
 
-datas_hold : (types constructors : List ℕ) (ds : List DataTree) → Holds (check_datas types constructors ds) (λ _. DatasHold types constructors ds)
+datas_hold : (types constructors : List ℕ) (ds : List GenericDataTree) → Holds (check_datas types constructors ds) (λ _. DatasHold types constructors ds)
 datas_hold types constructors [] =
     holds_ok (tt {0}) (record {
       types_differ = λ h. subst AreDifferent (sym (append-nil types)) h;
       constructors_differ = λ h. subst AreDifferent (sym (append-nil constructors)) h;
       few = λ h. subst (λ (z : List ℕ). length z ≤ 200) (sym (append-nil constructors)) h;
       short = tt;
+      variables = tt;
     })
 datas_hold types constructors (d ∷ ds) =
-    then_holds (new_name_holds types d.name) (λ _ p. then_holds (constructors_hold constructors d.constructors) (λ names c.
+    then_holds (new_name_holds types d.name) (λ _ p. then_holds (variables_hold [] d.variables) (λ _ v. then_holds (constructors_hold constructors d.constructors) (λ names c.
     record {
       by = λ u e. (let o = (datas_hold (types ++ number_of d.name ∷ []) names ds).by u e in
           let same : names ++ names_in ds ≡ constructors ++ names_in (d ∷ ds) = ap (λ z. z ++ names_in ds) c.is ∙ Rattle.std.proofs.Common.append_assoc constructors (map constructor_number d.constructors) (names_in ds) in
@@ -135,23 +176,17 @@ datas_hold types constructors (d ∷ ds) =
             constructors_differ = λ h. subst AreDifferent same (o.constructors_differ (c.different h));
             few = λ h. subst (λ (z : List ℕ). length z ≤ 200) same (o.few (c.few h));
             short = (c.short, o.short);
+            variables = (are_variables d.variables v, o.variables);
           });
-    }))
+    })))
 
 different_front : (xs ys : List ℕ) → AreDifferent (xs ++ ys) → AreDifferent xs
-different_front xs [] h = subst AreDifferent (append-nil xs) h
-different_front xs (y ∷ ys) h = front xs (y ∷ ys) h where
-  none_of : (xs ys : List ℕ) (z : ℕ) → place_of (xs ++ ys) z ≡ None → place_of xs z ≡ None
-  none_of [] ys z e = refl
-  none_of (x ∷ xs) ys z e = let p = Rattle.gib_check.proofs.Different.none_cons x z (xs ++ ys) e in Rattle.gib_check.proofs.Different.cons_none x z xs p.0 (none_of xs ys z p.1)
+different_front [] ys h = tt
+different_front (x ∷ xs) ys h = (none_front xs ys x h.0, different_front xs ys h.1)
 
-  front : (xs ys : List ℕ) → AreDifferent (xs ++ ys) → AreDifferent xs
-  front [] ys h = tt
-  front (x ∷ xs) ys h = (none_of xs ys x h.0, front xs ys h.1)
-
-datas_ok : (types constructors : List ℕ) (ds : List DataTree) → AreDifferent (types ++ map data_number ds) → AreDifferent (constructors ++ names_in ds) → length (constructors ++ names_in ds) ≤ 200 → AllByRecursion AreShort ds → check_datas types constructors ds ≡ Ok (tt {0})
-datas_ok types constructors [] ht hc l s = refl
-datas_ok types constructors (d ∷ ds) ht hc l s =
+datas_ok : (types constructors : List ℕ) (ds : List GenericDataTree) → AreDifferent (types ++ map data_number ds) → AreDifferent (constructors ++ names_in ds) → length (constructors ++ names_in ds) ≤ 200 → AllByRecursion AreShort ds → AllByRecursion HasVariables ds → check_datas types constructors ds ≡ Ok (tt {0})
+datas_ok types constructors [] ht hc l s v = refl
+datas_ok types constructors (d ∷ ds) ht hc l s v =
     let mine = map constructor_number d.constructors in
     let split : constructors ++ (mine ++ names_in ds) ≡ (constructors ++ mine) ++ names_in ds = sym (Rattle.std.proofs.Common.append_assoc constructors mine (names_in ds)) in
     let k = length-append (constructors ++ mine) (names_in ds) in
@@ -159,163 +194,206 @@ datas_ok types constructors (d ∷ ds) ht hc l s =
     let hc' : AreDifferent ((constructors ++ mine) ++ names_in ds) = subst AreDifferent split hc in
     let all : Yields (check_datas types constructors (d ∷ ds)) (λ _. Unit {0}) =
     then_yields (yields (tt {0}) (new_name_ok types d.name (new_of types (map data_number ds) (number_of d.name) ht))) (λ _ _.
+    then_yields (yields (tt {0}) (type_variables_ok d.variables v.0)) (λ _ _.
     then_yields (constructors_ok constructors d.constructors (different_front (constructors ++ mine) (names_in ds) hc') (omega (arith, k, l')) s.0) (λ names c.
-    record { value = tt {0}; is = datas_ok (types ++ number_of d.name ∷ []) names ds (subst AreDifferent (snoc types (map data_number ds) (number_of d.name)) ht) (subst (λ z. AreDifferent (z ++ names_in ds)) (sym c) hc') (subst (λ (z : List ℕ). length (z ++ names_in ds) ≤ 200) (sym c) l') s.1; so = tt })) in
+    record { value = tt {0}; is = datas_ok (types ++ number_of d.name ∷ []) names ds (subst AreDifferent (snoc types (map data_number ds) (number_of d.name)) ht) (subst (λ z. AreDifferent (z ++ names_in ds)) (sym c) hc') (subst (λ (z : List ℕ). length (z ++ names_in ds) ≤ 200) (sym c) l') s.1 v.1; so = tt }))) in
     all.is
 
 -- Field types.
-types_hold : (types : List ℕ) (fields : List TypeName) → Holds (check_types types fields) (λ _. AllByRecursion (IsKnown types) fields)
-types_hold types [] = holds_ok (tt {0}) tt
-types_hold types (a ∷ fields) = then_holds (known_holds types a) (λ t p. record { by = λ u e. ((t, p), (types_hold types fields).by u e) })
+types_hold : (datas : List GenericDataTree) (vars : List ℕ) (fields : List WrittenType) → Holds (check_types datas vars fields) (λ _. AllByRecursion (IsKnownType datas vars) fields)
+types_hold datas vars [] = holds_ok (tt {0}) tt
+types_hold datas vars (w ∷ fields) = then_holds (known_holds datas vars w) (λ _ p. record { by = λ u e. (p, (types_hold datas vars fields).by u e) })
 
-types_ok : (types : List ℕ) (fields : List TypeName) → AllByRecursion (IsKnown types) fields → check_types types fields ≡ Ok (tt {0})
-types_ok types [] h = refl
-types_ok types (a ∷ fields) h = ap (λ z. and_then z (λ _. check_types types fields)) (found_ok (type_written types a) kind.Unknown (type_place a) h.0.0 h.0.1) ∙ types_ok types fields h.1
+types_ok : (datas : List GenericDataTree) (vars : List ℕ) (fields : List WrittenType) → AllByRecursion (IsKnownType datas vars) fields → check_types datas vars fields ≡ Ok (tt {0})
+types_ok datas vars [] h = refl
+types_ok datas vars (w ∷ fields) h = ap (λ z. and_then z (λ _. check_types datas vars fields)) (known_ok datas vars w h.0) ∙ types_ok datas vars fields h.1
 
-abbrev KnownIn : List ℕ → ConstructorTree → Type 0
-KnownIn types c = AllByRecursion (IsKnown types) c.fields
+abbrev KnownIn : List GenericDataTree → List ℕ → GenericConstructorTree → Type 0
+KnownIn datas vars c = AllByRecursion (IsKnownType datas vars) c.fields
 
-constructor_fields_hold : (types : List ℕ) (cs : List ConstructorTree) → Holds (check_constructor_fields types cs) (λ _. AllByRecursion (KnownIn types) cs)
-constructor_fields_hold types [] = holds_ok (tt {0}) tt
-constructor_fields_hold types (c ∷ cs) = then_holds (types_hold types c.fields) (λ _ p. record { by = λ u e. (p, (constructor_fields_hold types cs).by u e) })
+constructor_fields_hold : (datas : List GenericDataTree) (vars : List ℕ) (cs : List GenericConstructorTree) → Holds (check_constructor_fields datas vars cs) (λ _. AllByRecursion (KnownIn datas vars) cs)
+constructor_fields_hold datas vars [] = holds_ok (tt {0}) tt
+constructor_fields_hold datas vars (c ∷ cs) = then_holds (types_hold datas vars c.fields) (λ _ p. record { by = λ u e. (p, (constructor_fields_hold datas vars cs).by u e) })
 
-abbrev KnownAll : List ℕ → DataTree → Type 0
-KnownAll types d = AllByRecursion (KnownIn types) d.constructors
+abbrev KnownAll : List GenericDataTree → GenericDataTree → Type 0
+KnownAll datas d = AllByRecursion (KnownIn datas (variable_numbers d.variables)) d.constructors
 
-fields_hold : (types : List ℕ) (ds : List DataTree) → Holds (check_fields types ds) (λ _. AllByRecursion (KnownAll types) ds)
-fields_hold types [] = holds_ok (tt {0}) tt
-fields_hold types (d ∷ ds) = then_holds (constructor_fields_hold types d.constructors) (λ _ p. record { by = λ u e. (p, (fields_hold types ds).by u e) })
+fields_hold : (datas ds : List GenericDataTree) → Holds (check_fields datas ds) (λ _. AllByRecursion (KnownAll datas) ds)
+fields_hold datas [] = holds_ok (tt {0}) tt
+fields_hold datas (d ∷ ds) = then_holds (constructor_fields_hold datas (variable_numbers d.variables) d.constructors) (λ _ p. record { by = λ u e. (p, (fields_hold datas ds).by u e) })
 
-unit_is : (u : Unit {0}) → u ≡ tt {0}
-unit_is u = refl
+constructor_fields_ok : (datas : List GenericDataTree) (vars : List ℕ) (cs : List GenericConstructorTree) → AllByRecursion (HasKnownGenericFields datas vars) cs → check_constructor_fields datas vars cs ≡ Ok (tt {0})
+constructor_fields_ok datas vars [] h = refl
+constructor_fields_ok datas vars (c ∷ cs) h = ap (λ z. and_then z (λ _. check_constructor_fields datas vars cs)) (types_ok datas vars c.fields h.0.1) ∙ constructor_fields_ok datas vars cs h.1
 
-constructor_fields_ok : (types : List ℕ) (cs : List ConstructorTree) → AllByRecursion (HasKnownFields types) cs → check_constructor_fields types cs ≡ Ok (tt {0})
-constructor_fields_ok types [] h = refl
-constructor_fields_ok types (c ∷ cs) h = ap (λ z. and_then z (λ _. check_constructor_fields types cs)) (types_ok types c.fields h.0.1) ∙ constructor_fields_ok types cs h.1
+fields_ok : (datas ds : List GenericDataTree) → AllByRecursion (IsKnownData datas) ds → check_fields datas ds ≡ Ok (tt {0})
+fields_ok datas [] h = refl
+fields_ok datas (d ∷ ds) h = ap (λ z. and_then z (λ _. check_fields datas ds)) (constructor_fields_ok datas (variable_numbers d.variables) d.constructors h.0.1) ∙ fields_ok datas ds h.1
 
-fields_ok : (types : List ℕ) (ds : List DataTree) → AllByRecursion (HasKnownConstructors types) ds → check_fields types ds ≡ Ok (tt {0})
-fields_ok types [] h = refl
-fields_ok types (d ∷ ds) h = ap (λ z. and_then z (λ _. check_fields types ds)) (constructor_fields_ok types d.constructors h.0) ∙ fields_ok types ds h.1
+short_of : (datas : List GenericDataTree) (vars : List ℕ) (cs : List GenericConstructorTree) → AllByRecursion (HasKnownGenericFields datas vars) cs → AllByRecursion IsShort cs
+short_of datas vars [] h = tt
+short_of datas vars (c ∷ cs) h = (h.0.0, short_of datas vars cs h.1)
 
-short_of : (types : List ℕ) (cs : List ConstructorTree) → AllByRecursion (HasKnownFields types) cs → AllByRecursion IsShort cs
-short_of types [] h = tt
-short_of types (c ∷ cs) h = (h.0.0, short_of types cs h.1)
+shorts_of : (datas ds : List GenericDataTree) → AllByRecursion (IsKnownData datas) ds → AllByRecursion AreShort ds
+shorts_of datas [] h = tt
+shorts_of datas (d ∷ ds) h = (short_of datas (variable_numbers d.variables) d.constructors h.0.1, shorts_of datas ds h.1)
 
-shorts_of : (types : List ℕ) (ds : List DataTree) → AllByRecursion (HasKnownConstructors types) ds → AllByRecursion AreShort ds
-shorts_of types [] h = tt
-shorts_of types (d ∷ ds) h = (short_of types d.constructors h.0, shorts_of types ds h.1)
+variables_of : (datas ds : List GenericDataTree) → AllByRecursion (IsKnownData datas) ds → AllByRecursion HasVariables ds
+variables_of datas [] h = tt
+variables_of datas (d ∷ ds) h = (h.0.0, variables_of datas ds h.1)
 
-join_constructors : (types : List ℕ) (cs : List ConstructorTree) → AllByRecursion IsShort cs → AllByRecursion (KnownIn types) cs → AllByRecursion (HasKnownFields types) cs
-join_constructors types [] h k = tt
-join_constructors types (c ∷ cs) h k = ((h.0, k.0), join_constructors types cs h.1 k.1)
+join_constructors : (datas : List GenericDataTree) (vars : List ℕ) (cs : List GenericConstructorTree) → AllByRecursion IsShort cs → AllByRecursion (KnownIn datas vars) cs → AllByRecursion (HasKnownGenericFields datas vars) cs
+join_constructors datas vars [] h k = tt
+join_constructors datas vars (c ∷ cs) h k = ((h.0, k.0), join_constructors datas vars cs h.1 k.1)
 
-join_datas : (types : List ℕ) (ds : List DataTree) → AllByRecursion AreShort ds → AllByRecursion (KnownAll types) ds → AllByRecursion (HasKnownConstructors types) ds
-join_datas types [] h k = tt
-join_datas types (d ∷ ds) h k = (join_constructors types d.constructors h.0 k.0, join_datas types ds h.1 k.1)
+join_datas : (datas ds : List GenericDataTree) → AllByRecursion AreShort ds → AllByRecursion HasVariables ds → AllByRecursion (KnownAll datas) ds → AllByRecursion (IsKnownData datas) ds
+join_datas datas [] h v k = tt
+join_datas datas (d ∷ ds) h v k = ((v.0, join_constructors datas (variable_numbers d.variables) d.constructors h.0 k.0), join_datas datas ds h.1 v.1 k.1)
 
 -- The names of the rows.
-abbrev row_name : Row → ℕ
-row_name r = r.name
+abbrev row_number : GenericRow → ℕ
+row_number r = r.name
 
-constructor_rows : (types : List ℕ) (owner : ℕ) (cs : List ConstructorTree) → map row_name (map (row_in types owner) cs) ≡ map constructor_number cs
-constructor_rows types owner [] = refl
-constructor_rows types owner (c ∷ cs) = ap (λ z. number_of c.name ∷ z) (constructor_rows types owner cs)
+constructor_rows : (d : GenericDataTree) (cs : List GenericConstructorTree) → map row_number (map (row_of d) cs) ≡ map constructor_number cs
+constructor_rows d [] = refl
+constructor_rows d (c ∷ cs) = ap (λ z. number_of c.name ∷ z) (constructor_rows d cs)
 
-pub names_rows : (types : List ℕ) (owner : ℕ) (ds : List DataTree) → map row_name (rows_from types owner ds) ≡ names_in ds
-names_rows types owner [] = refl
-names_rows types owner (d ∷ ds) =
-    map-append row_name (map (row_in types owner) d.constructors) (rows_from types (suc owner) ds)
-    ∙ (λ i. constructor_rows types owner d.constructors i ++ names_rows types (suc owner) ds i)
+pub names_rows : (ds : List GenericDataTree) → map row_number (rows_of ds) ≡ names_in ds
+names_rows [] = refl
+names_rows (d ∷ ds) =
+    map-append row_number (map (row_of d) d.constructors) (rows_of ds)
+    ∙ (λ i. constructor_rows d d.constructors i ++ names_rows ds i)
 
-pub rows_long : (types : List ℕ) (ds : List DataTree) → length (rows_from types 0 ds) ≡ length (names_in ds)
-rows_long types ds = sym (length-map (rows_from types 0 ds) row_name) ∙ ap (λ (z : List ℕ). length z) (names_rows types 0 ds)
+pub rows_long : (ds : List GenericDataTree) → length (rows_of ds) ≡ length (names_in ds)
+rows_long ds = sym (length-map (rows_of ds) row_number) ∙ ap (λ (z : List ℕ). length z) (names_rows ds)
 
 -- What is typed of the data declarations.
-pub record DatasTyped (p : ProgramTree) : Type 0 where
-  pub types_differ : AreDifferent (type_names p)
-  pub constructors_differ : AreDifferent (map row_name (table_of_program p).rows)
-  pub few : length (table_of_program p).rows ≤ 200
-  pub fields : AllByRecursion (HasKnownConstructors (type_names p)) p.datas
+pub record DatasTyped (p : GenericProgramTree) : Type 0 where
+  pub types_differ : AreDifferent (map data_number p.datas)
+  pub constructors_differ : AreDifferent (map row_number (rows_of p.datas))
+  pub few : length (rows_of p.datas) ≤ 200
+  pub datas : AllByRecursion (IsKnownData p.datas) p.datas
 
-pub datas_typed : (p : ProgramTree) → check_datas [] [] p.datas ≡ Ok (tt {0}) → check_fields (type_names p) p.datas ≡ Ok (tt {0}) → DatasTyped p
+pub datas_typed : (p : GenericProgramTree) → check_datas [] [] p.datas ≡ Ok (tt {0}) → check_fields p.datas p.datas ≡ Ok (tt {0}) → DatasTyped p
 datas_typed p e f =
     let h = (datas_hold [] [] p.datas).by (tt {0}) e in
-    let k = (fields_hold (type_names p) p.datas).by (tt {0}) f in
-    let long = rows_long (type_names p) p.datas in
+    let k = (fields_hold p.datas p.datas).by (tt {0}) f in
+    let long = rows_long p.datas in
     let few = h.few (omega arith) in
     record {
       types_differ = h.types_differ tt;
-      constructors_differ = subst AreDifferent (sym (names_rows (type_names p) 0 p.datas)) (h.constructors_differ tt);
+      constructors_differ = subst AreDifferent (sym (names_rows p.datas)) (h.constructors_differ tt);
       few = omega (arith, long, few);
-      fields = join_datas (type_names p) p.datas h.short k;
+      datas = join_datas p.datas p.datas h.short h.variables k;
     }
 
 -- Parameters.
-abbrev parameter_name : Parameter → Ident
+abbrev parameter_name : GenericParameterTree → Ident
 parameter_name q = q.name
 
-abbrev parameter_type : List ℕ → Parameter → Ty
-parameter_type types q = type_of_name types q.ty
+abbrev parameter_form : GenericParameterTree → Form
+parameter_form q = formed opaque q.ty
 
-pub record ParametersHold (types : List ℕ) (scope : Scope) (n : Counts) (qs : List Parameter) : Type 0 where
-  pub known : AllByRecursion (HasKnownType types) qs
-  pub binds : BindsAll scope (map parameter_name qs) (map (parameter_type types) qs) (with_parameters types qs scope)
-  pub few : n.variables ≤ 200 → n.variables + length qs ≤ 200
+pub record ParametersHold (datas : List GenericDataTree) (vars names : List ℕ) (qs : List GenericParameterTree) : Type 0 where
+  pub known : AllByRecursion (HasKnownForm datas vars) qs
+  pub differ : AreDifferent names → AreDifferent (names ++ map parameter_number qs)
+  pub few : length names ≤ 200 → length (names ++ map parameter_number qs) ≤ 200
 
-parameters_hold : (types : List ℕ) (scope : Scope) (n : Counts) (qs : List Parameter) → Holds (check_parameters types scope n qs) (λ _. ParametersHold types scope n qs)
-parameters_hold types scope n [] = holds_ok (tt {0}) (record { known = tt; binds = refl; few = λ h. omega (arith, h) })
-parameters_hold types scope n (q ∷ qs) =
-    then_holds (new_variable_holds scope n q.name) (λ m p. then_holds (known_holds types q.ty) (λ t k.
+parameters_hold : (datas : List GenericDataTree) (vars names : List ℕ) (qs : List GenericParameterTree) → Holds (check_parameters datas vars names qs) (λ _. ParametersHold datas vars names qs)
+parameters_hold datas vars names [] =
+    holds_ok (tt {0}) (record {
+      known = tt;
+      differ = λ h. subst AreDifferent (sym (append-nil names)) h;
+      few = λ h. subst (λ (z : List ℕ). length z ≤ 200) (sym (append-nil names)) h;
+    })
+parameters_hold datas vars names (q ∷ qs) =
+    then_holds (new_name_holds names q.name) (λ _ p. then_holds (fewer_holds 200 names q.name) (λ _ l. then_holds (known_holds datas vars q.ty) (λ _ k.
     record {
-      by = λ u e. (let s : t ≡ type_of_name types q.ty = sym (ap type_or k) in
-          let o = (parameters_hold types (bound q.name (type_of_name types q.ty) scope) m qs).by u (ap (λ z. check_parameters types (bound q.name z scope) m qs) (sym s) ∙ e) in
-          let v : m.variables ≡ n.variables + 1 = sym (ap (λ (z : Counts). z.variables) p.2) in let p1 = p.1 in
-          record { known = ((t, k), o.known); binds = (p.0, o.binds); few = λ h. (let w = o.few (omega (arith, v, p1)) in omega (arith, v, w)) });
-    }))
+      by = λ u e. (let o = (parameters_hold datas vars (names ++ number_of q.name ∷ []) qs).by u e in
+          let same = sym (snoc names (map parameter_number qs) (number_of q.name)) in
+          record {
+            known = (k, o.known);
+            differ = λ d. subst AreDifferent same (o.differ (different_push names (number_of q.name) d p));
+            few = λ d. subst (λ (z : List ℕ). length z ≤ 200) same (o.few (let g = long_push names (number_of q.name) in omega (arith, g, l)));
+          });
+    })))
 
-parameters_ok : (types : List ℕ) (scope : Scope) (n : Counts) (qs : List Parameter) (inner : Scope) → AllByRecursion (HasKnownType types) qs → BindsAll scope (map parameter_name qs) (map (parameter_type types) qs) inner → n.variables + length qs ≤ 200 → check_parameters types scope n qs ≡ Ok (tt {0})
-parameters_ok types scope n [] inner h b l = refl
-parameters_ok types scope n (q ∷ qs) inner h b l =
-    let m : Counts = record n { variables = n.variables + 1 } in
-    let s : type_of_name types q.ty ≡ h.0.0 = ap type_or h.0.1 in
-    ap (λ z. and_then z (λ m. and_then (known types q.ty) (λ t. check_parameters types (bound q.name t scope) m qs))) (new_variable_ok scope n q.name b.0 (omega (arith, l)))
-    ∙ ap (λ z. and_then z (λ t. check_parameters types (bound q.name t scope) m qs)) (found_ok (type_written types q.ty) kind.Unknown (type_place q.ty) h.0.0 h.0.1)
-    ∙ ap (λ z. check_parameters types (bound q.name z scope) m qs) (sym s)
-    ∙ parameters_ok types (bound q.name (type_of_name types q.ty) scope) m qs inner h.1 b.1 (omega (arith, l))
+parameters_ok : (datas : List GenericDataTree) (vars names : List ℕ) (qs : List GenericParameterTree) → AllByRecursion (HasKnownForm datas vars) qs → AreDifferent (names ++ map parameter_number qs) → length (names ++ map parameter_number qs) ≤ 200 → check_parameters datas vars names qs ≡ Ok (tt {0})
+parameters_ok datas vars names [] h d l = refl
+parameters_ok datas vars names (q ∷ qs) h d l =
+    let k = length-append names (number_of q.name ∷ map parameter_number qs) in
+    let e = snoc names (map parameter_number qs) (number_of q.name) in
+    let all : Yields (check_parameters datas vars names (q ∷ qs)) (λ _. Unit {0}) =
+    then_yields (yields (tt {0}) (new_name_ok names q.name (new_of names (map parameter_number qs) (number_of q.name) d))) (λ _ _.
+    then_yields (yields (tt {0}) (fewer_ok 200 names q.name (omega (arith, k, l)))) (λ _ _.
+    then_yields (yields (tt {0}) (known_ok datas vars q.ty h.0)) (λ _ _.
+    record { value = tt {0}; is = parameters_ok datas vars (names ++ number_of q.name ∷ []) qs h.1 (subst AreDifferent e d) (subst (λ (z : List ℕ). length z ≤ 200) e l); so = tt }))) in
+    all.is
 
-scope_is : (types : List ℕ) (scope : Scope) (qs : List Parameter) (inner : Scope) → BindsAll scope (map parameter_name qs) (map (parameter_type types) qs) inner → inner ≡ with_parameters types qs scope
-scope_is types scope [] inner b = b
-scope_is types scope (q ∷ qs) inner b = scope_is types (bound q.name (type_of_name types q.ty) scope) qs inner b.1
+-- Parameters of different names are bound.
+not_here : (x y : ℕ) (t : Form) (scope : FormScope) → eqb x y ≡ false → form_in scope y ≡ None → form_in ((x, t) ∷ scope) y ≡ None
+not_here x y t scope e h = ap (λ b. cond b (Some t) (form_in scope y)) e ∙ h
+
+here_not : (x y : ℕ) (t : Form) (scope : FormScope) → form_in ((x, t) ∷ scope) y ≡ None → (eqb x y ≡ false) × (form_in scope y ≡ None)
+here_not x y t scope e = split (eqb x y) e where
+  split : (b : Bool) → cond b (Some t) (form_in scope y) ≡ None → (b ≡ false) × (form_in scope y ≡ None)
+  split true e = absurd cc
+  split false e = (refl, e)
+
+binds_different : (names : List ℕ) (scope : FormScope) (qs : List GenericParameterTree) → ((y : ℕ) → place_of names y ≡ None → form_in scope y ≡ None) → AreDifferent (names ++ map parameter_number qs) → BindsForms scope (map parameter_name qs) (map parameter_form qs) (with_parameters qs scope)
+binds_different names scope [] same d = refl
+binds_different names scope (q ∷ qs) same d =
+    let x = number_of q.name in (
+      same x (new_of names (map parameter_number qs) x d),
+      binds_different (names ++ x ∷ []) (form_bound q.name (parameter_form q) scope) qs
+          (λ y e. not_here x y (parameter_form q) scope (none_in names [] x y e) (same y (none_front names (x ∷ []) y e)))
+          (subst AreDifferent (snoc names (map parameter_number qs) x) d),
+    )
+
+different_binds : (names : List ℕ) (scope inner : FormScope) (qs : List GenericParameterTree) → ((y : ℕ) → form_in scope y ≡ None → place_of names y ≡ None) → AreDifferent names → BindsForms scope (map parameter_name qs) (map parameter_form qs) inner → AreDifferent (names ++ map parameter_number qs)
+different_binds names scope inner [] same d b = subst AreDifferent (sym (append-nil names)) d
+different_binds names scope inner (q ∷ qs) same d b =
+    let x = number_of q.name in
+    subst AreDifferent (sym (snoc names (map parameter_number qs) x))
+    (different_binds (names ++ x ∷ []) (form_bound q.name (parameter_form q) scope) inner qs
+    (λ y e. (let h = here_not x y (parameter_form q) scope e in none_push names x y (same y h.1) h.0))
+    (different_push names x d (same x b.0)) b.1)
+
+scope_is : (scope inner : FormScope) (qs : List GenericParameterTree) → BindsForms scope (map parameter_name qs) (map parameter_form qs) inner → inner ≡ with_parameters qs scope
+scope_is scope inner [] b = b
+scope_is scope inner (q ∷ qs) b = scope_is (form_bound q.name (parameter_form q) scope) inner qs b.1
 
 -- Heads.
-pub record HeadHolds (types : List ℕ) (qs : List Parameter) (result : TypeName) : Type 0 where
-  pub parameters : ParametersHold types [] nothing_met qs
-  pub known : IsKnown types result
+pub record HeadHolds (datas : List GenericDataTree) (vs : List Ident) (qs : List GenericParameterTree) (result : WrittenType) : Type 0 where
+  pub variables : AreTypeVariables vs
+  pub parameters : ParametersHold datas (variable_numbers vs) [] qs
+  pub known : IsKnownType datas (variable_numbers vs) result
 
-head_holds : (types : List ℕ) (qs : List Parameter) (result : TypeName) → Holds (check_head types qs result) (λ _. HeadHolds types qs result)
-head_holds types qs result =
-    then_holds (parameters_hold types [] nothing_met qs) (λ _ p. then_holds (known_holds types result) (λ t k. holds_ok (tt {0}) (record { parameters = p; known = (t, k) })))
+head_holds : (datas : List GenericDataTree) (vs : List Ident) (qs : List GenericParameterTree) (result : WrittenType) → Holds (check_head datas vs qs result) (λ _. HeadHolds datas vs qs result)
+head_holds datas vs qs result =
+    then_holds (variables_hold [] vs) (λ _ v. then_holds (parameters_hold datas (variable_numbers vs) [] qs) (λ _ p.
+    record { by = λ u e. record { variables = are_variables vs v; parameters = p; known = (known_holds datas (variable_numbers vs) result).by u e } }))
 
-abbrev HasHead : List ℕ → FunctionTree → Type 0
-HasHead types f = HeadHolds types f.parameters f.result
+abbrev HasHead : List GenericDataTree → GenericFunctionTree → Type 0
+HasHead datas f = HeadHolds datas f.variables f.parameters f.result
 
-pub record HeadsHold (types names : List ℕ) (fs : List FunctionTree) : Type 0 where
-  pub differ : AreDifferent names → AreDifferent (names ++ map function_name fs)
-  pub few : length names ≤ 1000 → length (names ++ map function_name fs) ≤ 1000
-  pub heads : AllByRecursion (HasHead types) fs
+pub record HeadsHold (datas : List GenericDataTree) (names : List ℕ) (fs : List GenericFunctionTree) : Type 0 where
+  pub differ : AreDifferent names → AreDifferent (names ++ map function_number fs)
+  pub few : length names ≤ 1000 → length (names ++ map function_number fs) ≤ 1000
+  pub heads : AllByRecursion (HasHead datas) fs
 
-heads_hold : (types names : List ℕ) (fs : List FunctionTree) → Holds (check_heads types names fs) (λ _. HeadsHold types names fs)
-heads_hold types names [] =
+heads_hold : (datas : List GenericDataTree) (names : List ℕ) (fs : List GenericFunctionTree) → Holds (check_heads datas names fs) (λ _. HeadsHold datas names fs)
+heads_hold datas names [] =
     holds_ok (tt {0}) (record {
       differ = λ h. subst AreDifferent (sym (append-nil names)) h;
       few = λ h. subst (λ (z : List ℕ). length z ≤ 1000) (sym (append-nil names)) h;
       heads = tt;
     })
-heads_hold types names (f ∷ fs) =
-    then_holds (fewer_holds 1000 names f.name) (λ _ l. then_holds (new_name_holds names f.name) (λ _ p. then_holds (head_holds types f.parameters f.result) (λ _ h.
+heads_hold datas names (f ∷ fs) =
+    then_holds (fewer_holds 1000 names f.name) (λ _ l. then_holds (new_name_holds names f.name) (λ _ p. then_holds (head_holds datas f.variables f.parameters f.result) (λ _ h.
     record {
-      by = λ u e. (let o = (heads_hold types (names ++ number_of f.name ∷ []) fs).by u e in
-          let same = sym (snoc names (map function_name fs) (number_of f.name)) in
+      by = λ u e. (let o = (heads_hold datas (names ++ number_of f.name ∷ []) fs).by u e in
+          let same = sym (snoc names (map function_number fs) (number_of f.name)) in
           record {
             differ = λ d. subst AreDifferent same (o.differ (different_push names (number_of f.name) d p));
             few = λ d. subst (λ (z : List ℕ). length z ≤ 1000) same (o.few (let g = long_push names (number_of f.name) in omega (arith, g, l)));
@@ -324,142 +402,144 @@ heads_hold types names (f ∷ fs) =
     })))
 
 -- Bodies.
-pub record BodyHolds (g : Globals) (qs : List Parameter) (result : TypeName) (body : Expression) : Type 0 where
-  pub has : Has g (with_parameters g.table.types qs []) body (type_of_name g.table.types result)
-  pub expressions : expressions body ≤ 2000
-  pub few : length qs ≤ 200 → length qs + bindings body ≤ 200
+pub record BodyHolds (g : GenericGlobals) (vs : List Ident) (qs : List GenericParameterTree) (result : WrittenType) (body : GenericExpression) : Type 0 where
+  pub has : HasForm g (variable_numbers vs) opaque (with_parameters qs []) body (formed opaque result)
+  pub expressions : generic_expressions body ≤ 2000
+  pub few : length qs ≤ 200 → length qs + generic_bindings body ≤ 200
 
-body_holds : (g : Globals) (qs : List Parameter) (result : TypeName) (body : Expression) → Holds (check_body g qs result body) (λ _. BodyHolds g qs result body)
-body_holds g qs result body =
-    then_holds (infer_sound g (with_parameters g.table.types qs []) (record { variables = length qs; expressions = 0 }) body) (λ r s.
+body_holds : (g : GenericGlobals) (vs : List Ident) (qs : List GenericParameterTree) (result : WrittenType) (body : GenericExpression) → Holds (check_body g vs qs result body) (λ _. BodyHolds g vs qs result body)
+body_holds g vs qs result body =
+    then_holds (infer_sound g (variable_numbers vs) opaque (with_parameters qs []) (parameters_met qs) body) (λ r s.
     record {
-      by = λ u e. (let w = (wanted_holds (type_of_name g.table.types result) (record { ty = r.0; place = place body })).by u e in
+      by = λ u e. (let w = (wanted_holds (formed opaque result) (record { ty = r.0; place = place body })).by u e in
           let se = s.expressions in let sv = s.variables in let short = s.short (omega arith) in
           record {
-            has = subst (λ z. Has g (with_parameters g.table.types qs []) body z) w s.has;
+            has = subst (λ z. HasForm g (variable_numbers vs) opaque (with_parameters qs []) body z) w s.has;
             expressions = omega (arith, se, short);
             few = λ h. (let f = s.few h in omega (arith, sv, f));
           });
     })
 
-abbrev HasBody : Globals → FunctionTree → Type 0
-HasBody g f = BodyHolds g f.parameters f.result f.body
+abbrev HasBody : GenericGlobals → GenericFunctionTree → Type 0
+HasBody g f = BodyHolds g f.variables f.parameters f.result f.body
 
-bodies_hold : (g : Globals) (fs : List FunctionTree) → Holds (check_bodies g fs) (λ _. AllByRecursion (HasBody g) fs)
+bodies_hold : (g : GenericGlobals) (fs : List GenericFunctionTree) → Holds (check_bodies g fs) (λ _. AllByRecursion (HasBody g) fs)
 bodies_hold g [] = holds_ok (tt {0}) tt
-bodies_hold g (f ∷ fs) = then_holds (body_holds g f.parameters f.result f.body) (λ _ p. record { by = λ u e. (p, (bodies_hold g fs).by u e) })
+bodies_hold g (f ∷ fs) = then_holds (body_holds g f.variables f.parameters f.result f.body) (λ _ p. record { by = λ u e. (p, (bodies_hold g fs).by u e) })
 
-typed_function : (g : Globals) (qs : List Parameter) (result : TypeName) (body : Expression) → HeadHolds g.table.types qs result → BodyHolds g qs result body → IsTypedFunction g qs result body
-typed_function g qs result body h b =
-    let few = h.parameters.few (omega arith) in
+typed_function : (g : GenericGlobals) (vs : List Ident) (qs : List GenericParameterTree) (result : WrittenType) (body : GenericExpression) → HeadHolds g.datas vs qs result → BodyHolds g vs qs result body → IsTypedGenericFunction g vs qs result body
+typed_function g vs qs result body h b =
+    let few = h.parameters.few (omega arith) in let long = length-map qs parameter_number in
     record {
+      type_variables = h.variables;
       known = h.parameters.known;
       known_result = h.known;
-      scope = with_parameters g.table.types qs [];
-      bound = h.parameters.binds;
+      scope = with_parameters qs [];
+      bound = binds_different [] [] qs (λ y e. refl) (h.parameters.differ tt);
       typed = b.has;
-      few_variables = b.few (omega (arith, few));
+      few_variables = b.few (omega (arith, few, long));
       few_expressions = b.expressions;
     }
 
-typed_functions : (g : Globals) (fs : List FunctionTree) → AllByRecursion (HasHead g.table.types) fs → AllByRecursion (HasBody g) fs → AllByRecursion (IsTypedHere g) fs
+typed_functions : (g : GenericGlobals) (fs : List GenericFunctionTree) → AllByRecursion (HasHead g.datas) fs → AllByRecursion (HasBody g) fs → AllByRecursion (IsTypedGenericHere g) fs
 typed_functions g [] h b = tt
-typed_functions g (f ∷ fs) h b = (typed_function g f.parameters f.result f.body h.0 b.0, typed_functions g fs h.1 b.1)
+typed_functions g (f ∷ fs) h b = (typed_function g f.variables f.parameters f.result f.body h.0 b.0, typed_functions g fs h.1 b.1)
 
 -- The declarations are typed.
-pub record DeclarationsTyped (p : ProgramTree) : Type 0 where
+pub record DeclarationsTyped (p : GenericProgramTree) : Type 0 where
   pub datas : DatasTyped p
-  pub heads : HeadsHold (type_names p) [] p.functions
-  pub main : HeadHolds (type_names p) (p.main.parameter ∷ []) p.main.result
+  pub heads : HeadsHold p.datas [] p.functions
+  pub main : HeadHolds p.datas [] (p.main.parameter ∷ []) p.main.result
 
-pub declarations_hold : (p : ProgramTree) → Holds (check_declarations p) (λ _. DeclarationsTyped p)
+pub declarations_hold : (p : GenericProgramTree) → Holds (check_declarations p) (λ _. DeclarationsTyped p)
 unfolding check_declarations
 declarations_hold p =
-    then_holds datas (λ _ d. then_holds fields (λ _ k. then_holds (heads_hold (type_names p) [] p.functions) (λ _ h.
-    record { by = λ u e. record { datas = datas_typed p d k; heads = h; main = (head_holds (type_names p) (p.main.parameter ∷ []) p.main.result).by u e } }))) where
+    then_holds datas (λ _ d. then_holds fields (λ _ k. then_holds (heads_hold p.datas [] p.functions) (λ _ h.
+    record { by = λ u e. record { datas = datas_typed p d k; heads = h; main = (head_holds p.datas [] (p.main.parameter ∷ []) p.main.result).by u e } }))) where
       datas : Holds (check_datas [] [] p.datas) (λ _. check_datas [] [] p.datas ≡ Ok (tt {0}))
       datas = record { by = λ u q. q }
 
-      fields : Holds (check_fields (type_names p) p.datas) (λ _. check_fields (type_names p) p.datas ≡ Ok (tt {0}))
+      fields : Holds (check_fields p.datas p.datas) (λ _. check_fields p.datas p.datas ≡ Ok (tt {0}))
       fields = record { by = λ u q. q }
 
 -- A program that breaks no rule is typed.
-program_holds : (p : ProgramTree) → Holds (check_program p) (λ _. IsTypedProgram p)
+program_holds : (p : GenericProgramTree) → Holds (check_program p) (λ _. IsTypedGeneric p)
 unfolding check_program
 program_holds p =
-    then_holds (declarations_hold p) (λ _ d. then_holds (bodies_hold (globals_of p) p.functions) (λ _ b.
+    then_holds (declarations_hold p) (λ _ d. then_holds (bodies_hold (globals_of_generic p) p.functions) (λ _ b.
     record {
-      by = λ u e. (let w = (body_holds (globals_of p) (p.main.parameter ∷ []) p.main.result p.main.body).by u e in
-          let few = d.heads.few (omega arith) in let long = length-map p.functions function_name in
+      by = λ u e. (let w = (body_holds (globals_of_generic p) [] (p.main.parameter ∷ []) p.main.result p.main.body).by u e in
+          let few = d.heads.few (omega arith) in let long = length-map p.functions function_number in
           record {
             types_differ = d.datas.types_differ;
             constructors_differ = d.datas.constructors_differ;
             few_constructors = d.datas.few;
-            fields = d.datas.fields;
+            datas = d.datas.datas;
             functions_differ = d.heads.differ tt;
             few_functions = omega (arith, few, long);
-            functions = typed_functions (globals_of p) p.functions d.heads.heads b;
-            main = typed_function (globals_of p) (p.main.parameter ∷ []) p.main.result p.main.body d.main w;
+            functions = typed_functions (globals_of_generic p) p.functions d.heads.heads b;
+            main = typed_function (globals_of_generic p) [] (p.main.parameter ∷ []) p.main.result p.main.body d.main w;
           });
     }))
 
-pub program_typed : (p : ProgramTree) → check_program p ≡ Ok (tt {0}) → IsTypedProgram p
+pub program_typed : (p : GenericProgramTree) → check_program p ≡ Ok (tt {0}) → IsTypedGeneric p
 program_typed p e = (program_holds p).by (tt {0}) e
 
-head_ok : (g : Globals) (qs : List Parameter) (result : TypeName) (body : Expression) → IsTypedFunction g qs result body → check_head g.table.types qs result ≡ Ok (tt {0})
-head_ok g qs result body h =
-    let few = h.few_variables in
-    ap (λ z. and_then z (λ _. and_then (known g.table.types result) (λ _. Ok (tt {0})))) (parameters_ok g.table.types [] nothing_met qs h.scope h.known h.bound (omega (arith, few)))
-    ∙ ap (λ (z : Checked Ty). and_then z (λ _. Ok (tt {0}))) (found_ok (type_written g.table.types result) kind.Unknown (type_place result) h.known_result.0 h.known_result.1)
+head_ok : (g : GenericGlobals) (vs : List Ident) (qs : List GenericParameterTree) (result : WrittenType) (body : GenericExpression) → IsTypedGenericFunction g vs qs result body → check_head g.datas vs qs result ≡ Ok (tt {0})
+head_ok g vs qs result body h =
+    let few = h.few_variables in let long = length-map qs parameter_number in
+    ap (λ z. and_then z (λ _. and_then (check_parameters g.datas (variable_numbers vs) [] qs) (λ _. known g.datas (variable_numbers vs) result))) (type_variables_ok vs h.type_variables)
+    ∙ ap (λ z. and_then z (λ _. known g.datas (variable_numbers vs) result))
+    (parameters_ok g.datas (variable_numbers vs) [] qs h.known (different_binds [] [] h.scope qs (λ y e. refl) tt h.bound) (omega (arith, few, long)))
+    ∙ known_ok g.datas (variable_numbers vs) result h.known_result
 
-heads_ok : (g : Globals) (names : List ℕ) (fs : List FunctionTree) → AreDifferent (names ++ map function_name fs) → length (names ++ map function_name fs) ≤ 1000 → AllByRecursion (IsTypedHere g) fs → check_heads g.table.types names fs ≡ Ok (tt {0})
+heads_ok : (g : GenericGlobals) (names : List ℕ) (fs : List GenericFunctionTree) → AreDifferent (names ++ map function_number fs) → length (names ++ map function_number fs) ≤ 1000 → AllByRecursion (IsTypedGenericHere g) fs → check_heads g.datas names fs ≡ Ok (tt {0})
 heads_ok g names [] d l h = refl
 heads_ok g names (f ∷ fs) d l h =
-    let k = length-append names (number_of f.name ∷ map function_name fs) in
-    let e = snoc names (map function_name fs) (number_of f.name) in
-    let all : Yields (check_heads g.table.types names (f ∷ fs)) (λ _. Unit {0}) =
+    let k = length-append names (number_of f.name ∷ map function_number fs) in
+    let e = snoc names (map function_number fs) (number_of f.name) in
+    let all : Yields (check_heads g.datas names (f ∷ fs)) (λ _. Unit {0}) =
     then_yields (yields (tt {0}) (fewer_ok 1000 names f.name (omega (arith, k, l)))) (λ _ _.
-    then_yields (yields (tt {0}) (new_name_ok names f.name (new_of names (map function_name fs) (number_of f.name) d))) (λ _ _.
-    then_yields (yields (tt {0}) (head_ok g f.parameters f.result f.body h.0)) (λ _ _.
+    then_yields (yields (tt {0}) (new_name_ok names f.name (new_of names (map function_number fs) (number_of f.name) d))) (λ _ _.
+    then_yields (yields (tt {0}) (head_ok g f.variables f.parameters f.result f.body h.0)) (λ _ _.
     record { value = tt {0}; is = heads_ok g (names ++ number_of f.name ∷ []) fs (subst AreDifferent e d) (subst (λ (z : List ℕ). length z ≤ 1000) e l) h.1; so = tt }))) in
     all.is
 
-body_ok : (g : Globals) (qs : List Parameter) (result : TypeName) (body : Expression) → IsTypedFunction g qs result body → check_body g qs result body ≡ Ok (tt {0})
-body_ok g qs result body h =
-    let scope = with_parameters g.table.types qs [] in
-    let has : Has g scope body (type_of_name g.table.types result) = subst (λ z. Has g z body (type_of_name g.table.types result)) (scope_is g.table.types [] qs h.scope h.bound) h.typed in
+body_ok : (g : GenericGlobals) (vs : List Ident) (qs : List GenericParameterTree) (result : WrittenType) (body : GenericExpression) → IsTypedGenericFunction g vs qs result body → check_body g vs qs result body ≡ Ok (tt {0})
+body_ok g vs qs result body h =
+    let scope = with_parameters qs [] in
+    let has : HasForm g (variable_numbers vs) opaque scope body (formed opaque result) = subst (λ z. HasForm g (variable_numbers vs) opaque z body (formed opaque result)) (scope_is [] h.scope qs h.bound) h.typed in
     let fe = h.few_expressions in let fv = h.few_variables in
-    let all : Yields (check_body g qs result body) (λ _. Unit {0}) =
-    then_yields (infer_ok g scope (record { variables = length qs; expressions = 0 }) body (type_of_name g.table.types result) has (omega (arith, fe)) (omega (arith, fv))) (λ r s.
-    record { value = tt {0}; is = wanted_ok (type_of_name g.table.types result) (record { ty = r.0; place = place body }) s.type; so = tt }) in
+    let all : Yields (check_body g vs qs result body) (λ _. Unit {0}) =
+    then_yields (infer_ok g (variable_numbers vs) opaque scope (parameters_met qs) body (formed opaque result) has (omega (arith, fe)) (omega (arith, fv))) (λ r s.
+    record { value = tt {0}; is = wanted_ok (formed opaque result) (record { ty = r.0; place = place body }) s.type; so = tt }) in
     all.is
 
-bodies_ok : (g : Globals) (fs : List FunctionTree) → AllByRecursion (IsTypedHere g) fs → check_bodies g fs ≡ Ok (tt {0})
+bodies_ok : (g : GenericGlobals) (fs : List GenericFunctionTree) → AllByRecursion (IsTypedGenericHere g) fs → check_bodies g fs ≡ Ok (tt {0})
 bodies_ok g [] h = refl
-bodies_ok g (f ∷ fs) h = ap (λ z. and_then z (λ _. check_bodies g fs)) (body_ok g f.parameters f.result f.body h.0) ∙ bodies_ok g fs h.1
+bodies_ok g (f ∷ fs) h = ap (λ z. and_then z (λ _. check_bodies g fs)) (body_ok g f.variables f.parameters f.result f.body h.0) ∙ bodies_ok g fs h.1
 
 -- A typed program breaks no rule.
-declarations_yield : (p : ProgramTree) → IsTypedProgram p → Yields (check_declarations p) (λ _. Unit {0})
+declarations_yield : (p : GenericProgramTree) → IsTypedGeneric p → Yields (check_declarations p) (λ _. Unit {0})
 unfolding check_declarations
 declarations_yield p h =
-    let types = type_names p in
-    let g = globals_of p in
-    let few = h.few_constructors in let long = rows_long types p.datas in
-    let fewf = h.few_functions in let longf = length-map p.functions function_name in
-    then_yields (yields (tt {0}) (datas_ok [] [] p.datas h.types_differ (subst AreDifferent (names_rows types 0 p.datas) h.constructors_differ) (omega (arith, few, long)) (shorts_of types p.datas h.fields))) (λ _ _.
-    then_yields (yields (tt {0}) (fields_ok types p.datas h.fields)) (λ _ _.
+    let g = globals_of_generic p in
+    let few = h.few_constructors in let long = rows_long p.datas in
+    let fewf = h.few_functions in let longf = length-map p.functions function_number in
+    then_yields (yields (tt {0}) (datas_ok [] [] p.datas h.types_differ (subst AreDifferent (names_rows p.datas) h.constructors_differ) (omega (arith, few, long)) (shorts_of p.datas p.datas h.datas) (variables_of p.datas p.datas h.datas))) (λ _ _.
+    then_yields (yields (tt {0}) (fields_ok p.datas p.datas h.datas)) (λ _ _.
     then_yields (yields (tt {0}) (heads_ok g [] p.functions h.functions_differ (omega (arith, fewf, longf)) h.functions)) (λ _ _.
-    record { value = tt {0}; is = head_ok g (p.main.parameter ∷ []) p.main.result p.main.body h.main; so = tt })))
+    record { value = tt {0}; is = head_ok g [] (p.main.parameter ∷ []) p.main.result p.main.body h.main; so = tt })))
 
-program_yields : (p : ProgramTree) → IsTypedProgram p → Yields (check_program p) (λ _. Unit {0})
+program_yields : (p : GenericProgramTree) → IsTypedGeneric p → Yields (check_program p) (λ _. Unit {0})
 unfolding check_program
 program_yields p h =
-    let g = globals_of p in
+    let g = globals_of_generic p in
     then_yields (declarations_yield p h) (λ _ _.
     then_yields (yields (tt {0}) (bodies_ok g p.functions h.functions)) (λ _ _.
-    record { value = tt {0}; is = body_ok g (p.main.parameter ∷ []) p.main.result p.main.body h.main; so = tt }))
+    record { value = tt {0}; is = body_ok g [] (p.main.parameter ∷ []) p.main.result p.main.body h.main; so = tt }))
 
-pub typed_program : (p : ProgramTree) → IsTypedProgram p → check_program p ≡ Ok (tt {0})
+pub typed_program : (p : GenericProgramTree) → IsTypedGeneric p → check_program p ≡ Ok (tt {0})
 typed_program p h = (program_yields p h).is
 
 abbrev refusal : Fault → Checked (Unit {0})
@@ -470,21 +550,21 @@ no_fault (Ok u) e = refl
 no_fault (Err f) e = absurd cc
 
 -- A refusal is the first broken rule, and none is met where the program is typed.
-pub refused_first : (p : ProgramTree) (e : TypeFault) → IsFaultOf e (check_program p) → IsFirst p e
+pub refused_first : (p : GenericProgramTree) (e : TypeFault) → IsFaultOf e (check_program p) → IsFirst p e
 refused_first p t.Memory h = tt
 refused_first p (t.Broken fault) h = ap fault_in h
 
-pub refused_memory : (p : ProgramTree) (e : TypeFault) → IsFaultOf e (check_program p) → IsTypedProgram p → IsMemory e
+pub refused_memory : (p : GenericProgramTree) (e : TypeFault) → IsFaultOf e (check_program p) → IsTypedGeneric p → IsMemory e
 refused_memory p t.Memory h k = tt
 refused_memory p (t.Broken fault) h k = let both = sym h ∙ typed_program p k in absurd (no_both fault both) where
   no_both : (fault : Fault) → refusal fault ≡ Ok (tt {0}) → ⊥
   no_both fault e = absurd cc
 
 -- Where a rule is broken, a typed program is not answered.
-pub broken_no_answer : (p : ProgramTree) (fault : Fault) → check_program p ≡ Ok (tt {0}) → first_fault p ≡ Some fault → ⊥
+pub broken_no_answer : (p : GenericProgramTree) (fault : Fault) → check_program p ≡ Ok (tt {0}) → first_fault p ≡ Some fault → ⊥
 broken_no_answer p fault ok e = let clash : None ≡ Some fault = sym (ap fault_in ok) ∙ e in cc
 
 -- Where a rule is broken, a refusal is for it.
-pub broken_told : (p : ProgramTree) (fault : Fault) (answer : TypeFault) → IsFaultOf answer (check_program p) → first_fault p ≡ Some fault → IsMemoryOr fault answer
+pub broken_told : (p : GenericProgramTree) (fault : Fault) (answer : TypeFault) → IsFaultOf answer (check_program p) → first_fault p ≡ Some fault → IsMemoryOr fault answer
 broken_told p fault t.Memory h e = tt
 broken_told p fault (t.Broken other) h e = let same : Some other ≡ Some fault = sym (ap fault_in h) ∙ e in cc

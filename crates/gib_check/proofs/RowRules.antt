@@ -1,5 +1,5 @@
 -- The table of a typed program keeps its rules.
-use Rattle.std.proofs.Common.{◌≡◌, ℕ, zero, suc, ◌+◌, ◌<◌, ◌≤◌, Bool, true, false, cond, eqb, List, [], ◌∷◌, ◌++◌, map, length, Option, Some, None, refl, sym, ap, ◌∙◌, subst, arith}
+use Rattle.std.proofs.Common.{◌≡◌, ℕ, zero, suc, ◌+◌, ◌<◌, ◌≤◌, cond, List, [], ◌∷◌, ◌++◌, map, length, Option, Some, None, refl, sym, ap, ◌∙◌, subst, arith}
 use Rattle.std.proofs.lemmas.Bool.{eq-eqb}
 use Rattle.std.proofs.lemmas.List.{length-map}
 use Rattle.std.specs.Prelude.{slice_get}
@@ -9,12 +9,11 @@ use Rattle.gib_types.specs.Table.{Row, if_owned, IsTyBelow, IsRow, IsTable}
 use Rattle.gib_syntax.specs.declared.tree.TypeName.{TypeName}
 use Rattle.gib_syntax.specs.declared.tree.TypeName.TheVariants as ty
 use Rattle.gib_syntax.specs.Tree.{ConstructorTree, DataTree, ProgramTree}
-use Rattle.gib_syntax.specs.Spelling.{HasConstructor}
+use Rattle.gib_syntax.specs.Fine.{HasConstructor}
 use Rattle.gib_syntax.specs.Declarations.{number_of, place_of, tree_type, type_names, type_or, type_of_name, row_in, rows_from, table_of_program}
 use Rattle.gib_syntax.specs.Typing.{IsKnown, HasKnownFields, HasKnownConstructors}
 use Rattle.gib_check.proofs.Different.{different_places, place_within}
-use Rattle.gib_check.proofs.Programs.{DatasTyped, data_number, declarations_hold}
-use Rattle.gib_check.specs.FirstFault.{check_declarations}
+use Rattle.gib_check.proofs.PlainRows.{DatasTyped, data_number}
 
 all_at : {A : Type 0} (P : A → Type 0) (xs : List A) (i : ℕ) (x : A) → AllByRecursion P xs → slice_get xs i ≡ Some x → P x
 all_at P [] i x h e = absurd cc
@@ -138,7 +137,3 @@ table_is p t h =
           let w : o.row.owner ≡ k = o.owned ∙ omega arith in
           (o.con, ap (if_owned k o.con) o.is ∙ ap (λ b. cond b (Some o.con) None) (eq-eqb o.row.owner k w)));
     }
-
--- Declarations that break no rule make a table.
-pub checked_table : (p : ProgramTree) → check_declarations p ≡ Rattle.std.proofs.Common.Ok (tt {0}) → AllByRecursion HasConstructor p.datas → IsTable (table_of_program p)
-checked_table p e h = table_is p ((declarations_hold p).by (tt {0}) e).datas h

@@ -1,21 +1,22 @@
 -- What each rule says where it is kept.
-use Rattle.std.proofs.Common.{◌≡◌, ℕ, zero, suc, ◌+◌, ◌<◌, ◌≤◌, Bool, true, false, cond, eqb, ltb, not, ◌&&◌, ◌||◌, List, [], ◌∷◌, length, Option, Some, None, Ok, Err, refl, sym, ap, ◌∙◌, subst, arith}
+use Rattle.std.proofs.Common.{◌≡◌, ℕ, zero, suc, ◌+◌, ◌<◌, ◌≤◌, ◌==◌, Bool, true, false, eqb, ltb, not, ◌&&◌, ◌||◌, List, [], ◌∷◌, length, Option, Some, None, Ok, Err, refl, sym, ap, ◌∙◌, subst, arith}
 use Rattle.std.proofs.lemmas.Bool.{eqb-true, eq-eqb, ltb-true}
+use Rattle.std.proofs.lemmas.List.{length-map}
 use Rattle.std.specs.Prelude.{is_some, is_none, slice_get}
 use Rattle.std.specs.List.{list_all, AllByRecursion}
 use Rattle.gib_base.specs.declared.Span.{Span}
-use Rattle.gib_types.specs.declared.table.Ty.{Ty}
-use Rattle.gib_types.specs.declared.table.Ty.TheVariants.{Whole, Truth, Tree}
-use Rattle.gib_types.specs.Table.{Row, Table, if_owned, owner_at, name_of}
 use Rattle.gib_syntax.specs.declared.tree.Ident.{Ident}
-use Rattle.gib_syntax.specs.Declarations.{number_of, place_of, AreDifferent, constructor_named}
-use Rattle.gib_syntax.specs.Typing.{Scope, type_in, IsNew, bound, BindsAll, Covers}
+use Rattle.gib_syntax.specs.Declarations.{number_of, place_of, AreDifferent}
+use Rattle.gib_types.specs.Form.{Form, Forms, WholeForm, TruthForm, VariableForm, DataForm, NoForm, MoreForms}
+use Rattle.gib_check.specs.SameForm.{same_form, same_forms}
+use Rattle.gib_syntax.specs.Forms.{WrittenType, WrittenTypes, WholeAt, TruthAt, VariableAt, DataAt, NoType, MoreTypes, formed, assign, count_written}
+use Rattle.gib_syntax.specs.GenericTree.{GenericDataTree, GenericRow, place_named, data_named}
+use Rattle.gib_syntax.specs.GenericTyping.{FormScope, form_in, form_bound, BindsForms, IsKnownType, AreKnownTypes, CoversType}
 use Rattle.gib_check.specs.declared.counts.Counts.{Counts}
 use Rattle.gib_check.specs.declared.fault.Fault.{Fault}
 use Rattle.gib_check.specs.declared.fault.Kind.{Kind}
 use Rattle.gib_check.specs.declared.fault.Kind.TheVariants as kind
-use Rattle.gib_check.specs.declared.rules.Part.{Part}
-use Rattle.gib_check.specs.Faults.{Checked, and_then, allowed, found, one_more, new_variable, as_many, same_type, wanted, all_wanted, all_of, declared_type, ArmHead, all_declared, is_of, are_different, is_there, covers, covered, fields_named, all_counted, bind_all}
+use Rattle.gib_check.specs.Faults.{Checked, and_then, allowed, found, FormPart, one_more, new_variable, as_many, known, all_known, row_at, row_named, wanted, all_wanted, all_of, declared_type, ArmHead, is_of, are_different, is_there, covers, covered, field_count, fields_if, all_counted, bind_all}
 
 -- What is answered is so.
 pub record Holds {A : Type 0} (c : Checked A) (P : A → Type 0) : Type 0 where
@@ -60,7 +61,7 @@ none_is : {A : Type 0} (o : Option A) → is_none o ≡ true → o ≡ None
 none_is None e = refl
 none_is (Some x) e = absurd cc
 
-some_is : {A : Type 0} (o : Option A) → is_some o ≡ true → (x : A) × (o ≡ Some x)
+pub some_is : {A : Type 0} (o : Option A) → is_some o ≡ true → (x : A) × (o ≡ Some x)
 some_is None e = absurd cc
 some_is (Some x) e = (x, refl)
 
@@ -68,79 +69,31 @@ not_some : {A : Type 0} (o : Option A) → not (is_some o) ≡ true → o ≡ No
 not_some None e = refl
 not_some (Some x) e = absurd cc
 
-pub new_variable_holds : (scope : Scope) (n : Counts) (x : Ident) → Holds (new_variable scope n x) (λ m. IsNew scope x × (n.variables < 200) × (record n { variables = n.variables + 1 } ≡ m))
+-- The name is not in scope.
+abbrev pub IsNew : FormScope → Ident → Type 0
+IsNew scope x = form_in scope (number_of x) ≡ None
+
+pub new_variable_holds : (scope : FormScope) (n : Counts) (x : Ident) → Holds (new_variable scope n x) (λ m. IsNew scope x × (n.variables < 200) × (record n { variables = n.variables + 1 } ≡ m))
 new_variable_holds scope n x =
-    then_holds (allowed_holds (is_none (type_in scope (number_of x))) kind.Twice x.span (tt {0}))
-    (λ _ p. record { by = λ m e. let h = (allowed_holds (ltb n.variables 200) kind.Limit x.span (record n { variables = n.variables + 1 })).by m e in (none_is (type_in scope (number_of x)) p.0, ltb-true n.variables 200 h.0, h.1) })
+    then_holds (allowed_holds (is_none (form_in scope (number_of x))) kind.Twice x.span (tt {0}))
+    (λ _ p. record { by = λ m e. let h = (allowed_holds (ltb n.variables 200) kind.Limit x.span (record n { variables = n.variables + 1 })).by m e in (none_is (form_in scope (number_of x)) p.0, ltb-true n.variables 200 h.0, h.1) })
 
-pub as_many_holds : (n : ℕ) (ts : List Ty) (at : Ident) → Holds (as_many n ts at) (λ _. n ≡ length ts)
-as_many_holds n ts at = record { by = λ x e. eqb-true n (length ts) ((allowed_holds (eqb n (length ts)) kind.Count at.span (tt {0})).by x e).0 }
+pub as_many_holds : (n due : ℕ) (at : Ident) → Holds (as_many n due at) (λ _. n ≡ due)
+as_many_holds n due at = record { by = λ x e. eqb-true n due ((allowed_holds (eqb n due) kind.Count at.span (tt {0})).by x e).0 }
 
-pub same_type_is : (a b : Ty) → same_type a b ≡ true → a ≡ b
-same_type_is Whole Whole e = refl
-same_type_is Whole Truth e = absurd cc
-same_type_is Whole (Tree t) e = absurd cc
-same_type_is Truth Whole e = absurd cc
-same_type_is Truth Truth e = refl
-same_type_is Truth (Tree t) e = absurd cc
-same_type_is (Tree s) Whole e = absurd cc
-same_type_is (Tree s) Truth e = absurd cc
-same_type_is (Tree s) (Tree t) e = ap (λ k. Tree (record { 0 = k })) (eqb-true s.0 t.0 e)
+-- A written type without a fault is known.
+mutual
+  pub known_holds : (datas : List GenericDataTree) (vars : List ℕ) (w : WrittenType) → Holds (known datas vars w) (λ _. IsKnownType datas vars w)
+  known_holds datas vars (WholeAt p) = holds_ok (tt {0}) tt
+  known_holds datas vars (TruthAt p) = holds_ok (tt {0}) tt
+  known_holds datas vars (VariableAt x) = record { by = λ u e. some_is (place_of vars (number_of x)) ((allowed_holds (is_some (place_of vars (number_of x))) kind.Unknown x.span (tt {0})).by u e).0 }
+  known_holds datas vars (DataAt p x ws) =
+      then_holds (found_holds (data_named datas (number_of x)) kind.Unknown x.span) (λ d q. then_holds (as_many_holds (count_written ws) (length d.variables) x) (λ _ l.
+      record { by = λ u e. (d, q, l, (all_known_holds datas vars ws).by u e) }))
 
-pub type_same : (a : Ty) → same_type a a ≡ true
-type_same Whole = refl
-type_same Truth = refl
-type_same (Tree s) = eq-eqb s.0 s.0 refl
-
-pub wanted_holds : (due : Ty) (part : Part) → Holds (wanted due part) (λ _. part.ty ≡ due)
-wanted_holds due part = record { by = λ x e. same_type_is part.ty due ((allowed_holds (same_type part.ty due) kind.Shape part.place (tt {0})).by x e).0 }
-
--- Parts have these types, as far as both go.
-abbrev pub PartsHave : List Part → List Ty → Type 0
-PartsHave [] ts = Unit {0}
-PartsHave (part ∷ parts) [] = Unit {0}
-PartsHave (part ∷ parts) (t ∷ ts) = (part.ty ≡ t) × PartsHave parts ts
-
-pub all_wanted_holds : (parts : List Part) (ts : List Ty) → Holds (all_wanted parts ts) (λ _. PartsHave parts ts)
-all_wanted_holds [] ts = holds_ok (tt {0}) tt
-all_wanted_holds (part ∷ parts) [] = holds_ok (tt {0}) tt
-all_wanted_holds (part ∷ parts) (t ∷ ts) = then_holds (wanted_holds t part) (λ _ p. record { by = λ x e. (p, (all_wanted_holds parts ts).by x e) })
-
--- Each part has the type.
-abbrev pub EachHas : Ty → List Part → Type 0
-EachHas t [] = Unit {0}
-EachHas t (part ∷ parts) = (part.ty ≡ t) × EachHas t parts
-
-pub all_of_holds : (t : Ty) (parts : List Part) → Holds (all_of t parts) (λ _. EachHas t parts)
-all_of_holds t [] = holds_ok (tt {0}) tt
-all_of_holds t (part ∷ parts) = then_holds (wanted_holds t part) (λ _ p. record { by = λ x e. (p, (all_of_holds t parts).by x e) })
-
-pub declared_type_holds : (s : Ty) (x : Ident) → Holds (declared_type s x) (λ t. s ≡ Tree (record { 0 = t }))
-declared_type_holds Whole x = holds_err (record { kind = kind.Shape; span = x.span })
-declared_type_holds Truth x = holds_err (record { kind = kind.Shape; span = x.span })
-declared_type_holds (Tree t) x = holds_ok t.0 refl
-
--- The constructor of each arm is declared.
-abbrev pub AllDeclared : Table → List ArmHead → Type 0
-AllDeclared table [] = Unit {0}
-AllDeclared table (h ∷ hs) = ((c : ℕ) × (constructor_named table (number_of h.constructor) ≡ Some c)) × AllDeclared table hs
-
-pub all_declared_holds : (table : Table) (hs : List ArmHead) → Holds (all_declared table hs) (λ _. AllDeclared table hs)
-all_declared_holds table [] = holds_ok (tt {0}) tt
-all_declared_holds table (h ∷ hs) =
-    then_holds (found_holds (constructor_named table (number_of h.constructor)) kind.Unknown h.constructor.span)
-    (λ c p. record { by = λ x e. ((c, p), (all_declared_holds table hs).by x e) })
-
--- Each arm has as many variables as fields.
-abbrev pub AllCounted : Table → List ArmHead → Type 0
-AllCounted table [] = Unit {0}
-AllCounted table (h ∷ hs) = (length h.variables ≡ length (fields_named table h.constructor)) × AllCounted table hs
-
-pub all_counted_holds : (table : Table) (hs : List ArmHead) → Holds (all_counted table hs) (λ _. AllCounted table hs)
-all_counted_holds table [] = holds_ok (tt {0}) tt
-all_counted_holds table (h ∷ hs) =
-    then_holds (as_many_holds (length h.variables) (fields_named table h.constructor) h.constructor)
-    (λ _ p. record { by = λ x e. (p, (all_counted_holds table hs).by x e) })
+  pub all_known_holds : (datas : List GenericDataTree) (vars : List ℕ) (ws : WrittenTypes) → Holds (all_known datas vars ws) (λ _. AreKnownTypes datas vars ws)
+  all_known_holds datas vars NoType = holds_ok (tt {0}) tt
+  all_known_holds datas vars (MoreTypes w ws) = then_holds (known_holds datas vars w) (λ _ k. record { by = λ u e. (k, (all_known_holds datas vars ws).by u e) })
 
 and_left : (a b : Bool) → (a && b) ≡ true → a ≡ true
 and_left true b e = refl
@@ -150,15 +103,119 @@ and_right : (a b : Bool) → (a && b) ≡ true → b ≡ true
 and_right true b e = e
 and_right false b e = absurd cc
 
-of_is : (table : Table) (ty : ℕ) (o : Option ℕ) → is_of table ty o ≡ true → (c : ℕ) × (o ≡ Some c) × (owner_at table c ≡ ty)
-of_is table ty None e = absurd cc
-of_is table ty (Some c) e = (c, refl, eqb-true (owner_at table c) ty e)
+both_true : (a b : Bool) → a ≡ true → b ≡ true → (a && b) ≡ true
+both_true true true e f = refl
+both_true true false e f = absurd cc
+both_true false b e f = absurd cc
 
-own_all : (table : Table) (ty : ℕ) (names : List ℕ) → list_all (λ k. is_of table ty (constructor_named table k)) names ≡ true → AllByRecursion (λ k. (c : ℕ) × (constructor_named table k ≡ Some c) × (owner_at table c ≡ ty)) names
-own_all table ty [] e = tt
-own_all table ty (k ∷ names) e = (
-  of_is table ty (constructor_named table k) (and_left _ (list_all (λ k. is_of table ty (constructor_named table k)) names) e),
-  own_all table ty names (and_right (is_of table ty (constructor_named table k)) _ e),
+-- Types that are the same.
+mutual
+  pub same_form_is : (a b : Form) → same_form a b ≡ true → a ≡ b
+  same_form_is WholeForm WholeForm e = refl
+  same_form_is WholeForm TruthForm e = absurd cc
+  same_form_is WholeForm (VariableForm y) e = absurd cc
+  same_form_is WholeForm (DataForm u us) e = absurd cc
+  same_form_is TruthForm WholeForm e = absurd cc
+  same_form_is TruthForm TruthForm e = refl
+  same_form_is TruthForm (VariableForm y) e = absurd cc
+  same_form_is TruthForm (DataForm u us) e = absurd cc
+  same_form_is (VariableForm x) WholeForm e = absurd cc
+  same_form_is (VariableForm x) TruthForm e = absurd cc
+  same_form_is (VariableForm x) (VariableForm y) e = ap VariableForm (eqb-true x y e)
+  same_form_is (VariableForm x) (DataForm u us) e = absurd cc
+  same_form_is (DataForm t ts) WholeForm e = absurd cc
+  same_form_is (DataForm t ts) TruthForm e = absurd cc
+  same_form_is (DataForm t ts) (VariableForm y) e = absurd cc
+  same_form_is (DataForm t ts) (DataForm u us) e =
+      ap (λ z. DataForm z ts) (eqb-true t u (and_left (t == u) (same_forms ts us) e)) ∙ ap (DataForm u) (same_forms_are ts us (and_right (t == u) (same_forms ts us) e))
+
+  pub same_forms_are : (as' bs : Forms) → same_forms as' bs ≡ true → as' ≡ bs
+  same_forms_are NoForm NoForm e = refl
+  same_forms_are NoForm (MoreForms g gs) e = absurd cc
+  same_forms_are (MoreForms f fs) NoForm e = absurd cc
+  same_forms_are (MoreForms f fs) (MoreForms g gs) e =
+      ap (λ z. MoreForms z fs) (same_form_is f g (and_left (same_form f g) (same_forms fs gs) e)) ∙ ap (MoreForms g) (same_forms_are fs gs (and_right (same_form f g) (same_forms fs gs) e))
+
+mutual
+  pub form_same : (a : Form) → same_form a a ≡ true
+  form_same WholeForm = refl
+  form_same TruthForm = refl
+  form_same (VariableForm x) = eq-eqb x x refl
+  form_same (DataForm t ts) = both_true (t == t) (same_forms ts ts) (eq-eqb t t refl) (forms_same ts)
+
+  forms_same : (as' : Forms) → same_forms as' as' ≡ true
+  forms_same NoForm = refl
+  forms_same (MoreForms f fs) = both_true (same_form f f) (same_forms fs fs) (form_same f) (forms_same fs)
+
+pub wanted_holds : (due : Form) (part : FormPart) → Holds (wanted due part) (λ _. part.ty ≡ due)
+wanted_holds due part = record { by = λ x e. same_form_is part.ty due ((allowed_holds (same_form part.ty due) kind.Shape part.place (tt {0})).by x e).0 }
+
+-- Parts have these types, as far as both go.
+abbrev pub PartsHave : List FormPart → List Form → Type 0
+PartsHave [] ts = Unit {0}
+PartsHave (part ∷ parts) [] = Unit {0}
+PartsHave (part ∷ parts) (t ∷ ts) = (part.ty ≡ t) × PartsHave parts ts
+
+pub all_wanted_holds : (parts : List FormPart) (ts : List Form) → Holds (all_wanted parts ts) (λ _. PartsHave parts ts)
+all_wanted_holds [] ts = holds_ok (tt {0}) tt
+all_wanted_holds (part ∷ parts) [] = holds_ok (tt {0}) tt
+all_wanted_holds (part ∷ parts) (t ∷ ts) = then_holds (wanted_holds t part) (λ _ p. record { by = λ x e. (p, (all_wanted_holds parts ts).by x e) })
+
+-- Each part has the type.
+abbrev pub EachHas : Form → List FormPart → Type 0
+EachHas t [] = Unit {0}
+EachHas t (part ∷ parts) = (part.ty ≡ t) × EachHas t parts
+
+pub all_of_holds : (t : Form) (parts : List FormPart) → Holds (all_of t parts) (λ _. EachHas t parts)
+all_of_holds t [] = holds_ok (tt {0}) tt
+all_of_holds t (part ∷ parts) = then_holds (wanted_holds t part) (λ _ p. record { by = λ x e. (p, (all_of_holds t parts).by x e) })
+
+pub declared_type_holds : (s : Form) (x : Ident) → Holds (declared_type s x) (λ t. s ≡ DataForm t.0 t.1)
+declared_type_holds WholeForm x = holds_err (record { kind = kind.Shape; span = x.span })
+declared_type_holds TruthForm x = holds_err (record { kind = kind.Shape; span = x.span })
+declared_type_holds (VariableForm v) x = holds_err (record { kind = kind.Shape; span = x.span })
+declared_type_holds (DataForm t ts) x = holds_ok (t, ts) refl
+
+-- A row by its name is one by its place.
+pub row_split : (rows : List GenericRow) (o : Option ℕ) (row : GenericRow) → row_at rows o ≡ Some row → (c : ℕ) × (o ≡ Some c) × (slice_get rows c ≡ Some row)
+row_split rows None row e = absurd cc
+row_split rows (Some c) row e = (c, refl, e)
+
+pub row_join : (rows : List GenericRow) (o : Option ℕ) (c : ℕ) (row : GenericRow) → o ≡ Some c → slice_get rows c ≡ Some row → row_at rows o ≡ Some row
+row_join rows o c row e q = ap (row_at rows) e ∙ q
+
+-- The constructor of each arm is declared.
+abbrev pub AllDeclared : List GenericRow → List ArmHead → Type 0
+AllDeclared rows [] = Unit {0}
+AllDeclared rows (h ∷ hs) = ((row : GenericRow) × (row_named rows (number_of h.constructor) ≡ Some row)) × AllDeclared rows hs
+
+-- Each arm has as many variables as fields.
+abbrev pub AllCounted : List GenericRow → List ArmHead → Type 0
+AllCounted rows [] = Unit {0}
+AllCounted rows (h ∷ hs) = (length h.variables ≡ field_count (row_named rows (number_of h.constructor))) × AllCounted rows hs
+
+pub all_counted_holds : (rows : List GenericRow) (hs : List ArmHead) → Holds (all_counted rows hs) (λ _. AllCounted rows hs)
+all_counted_holds rows [] = holds_ok (tt {0}) tt
+all_counted_holds rows (h ∷ hs) =
+    then_holds (as_many_holds (length h.variables) (field_count (row_named rows (number_of h.constructor))) h.constructor)
+    (λ _ p. record { by = λ x e. (p, (all_counted_holds rows hs).by x e) })
+
+-- A constructor of the type has the name.
+abbrev pub IsOwn : List GenericRow → ℕ → ℕ → Type 0
+IsOwn rows t k = (c : ℕ) × (row : GenericRow) × (place_named rows k ≡ Some c) × (slice_get rows c ≡ Some row) × (row.owner ≡ t)
+
+of_is : (ty : ℕ) (o : Option GenericRow) → is_of ty o ≡ true → (row : GenericRow) × (o ≡ Some row) × (row.owner ≡ ty)
+of_is ty None e = absurd cc
+of_is ty (Some row) e = (row, refl, eqb-true row.owner ty e)
+
+own_is : (rows : List GenericRow) (ty k : ℕ) → is_of ty (row_named rows k) ≡ true → IsOwn rows ty k
+own_is rows ty k e = let o = of_is ty (row_named rows k) e in let p = row_split rows (place_named rows k) o.0 o.1 in (p.0, o.0, p.1, p.2, o.2)
+
+own_all : (rows : List GenericRow) (ty : ℕ) (names : List ℕ) → list_all (λ k. is_of ty (row_named rows k)) names ≡ true → AllByRecursion (IsOwn rows ty) names
+own_all rows ty [] e = tt
+own_all rows ty (k ∷ names) e = (
+  own_is rows ty k (and_left _ (list_all (λ k. is_of ty (row_named rows k)) names) e),
+  own_all rows ty names (and_right (is_of ty (row_named rows k)) _ e),
 )
 
 pub different_is : (names : List ℕ) → are_different names ≡ true → AreDifferent names
@@ -169,49 +226,44 @@ there_one : (b : Bool) (o : Option ℕ) → (not b || is_some o) ≡ true → b 
 there_one true o e t = some_is o e
 there_one false o e t = absurd cc
 
-owned_is : (ty c : ℕ) (o : Option Row) → if_owned ty c o ≡ Some c → (row : Row) × (o ≡ Some row) × (eqb row.owner ty ≡ true)
-owned_is ty c None e = absurd cc
-owned_is ty c (Some row) e = (row, refl, owned (eqb row.owner ty) e) where
-  owned : (b : Bool) → cond b (Some c) None ≡ Some c → b ≡ true
-  owned true e = refl
-  owned false e = absurd cc
-
-each_there : (ty : ℕ) (names : List ℕ) (rows : List Row) (c : ℕ) (row : Row) → list_all (is_there ty names) rows ≡ true → slice_get rows c ≡ Some row → is_there ty names row ≡ true
+each_there : (ty : ℕ) (names : List ℕ) (rows : List GenericRow) (c : ℕ) (row : GenericRow) → list_all (is_there ty names) rows ≡ true → slice_get rows c ≡ Some row → is_there ty names row ≡ true
 each_there ty names [] c row e q = absurd cc
 each_there ty names (r ∷ rows) zero row e q =
     let same : r ≡ row = cc in subst (λ z. is_there ty names z ≡ true) same (and_left (is_there ty names r) (list_all (is_there ty names) rows) e)
 each_there ty names (r ∷ rows) (suc c) row e q = each_there ty names rows c row (and_right (is_there ty names r) (list_all (is_there ty names) rows) e) q
 
-pub covers_is : (table : Table) (ty : ℕ) (names : List ℕ) → covers table ty names ≡ true → Covers table ty names
-covers_is table ty names e =
-    let own = list_all (λ k. is_of table ty (constructor_named table k)) names in
-    let rest = and_right own (are_different names && list_all (is_there ty names) table.rows) e in
+pub covers_is : (rows : List GenericRow) (ty : ℕ) (names : List ℕ) → covers rows ty names ≡ true → CoversType rows ty names
+covers_is rows ty names e =
+    let own = list_all (λ k. is_of ty (row_named rows k)) names in
+    let rest = and_right own (are_different names && list_all (is_there ty names) rows) e in
     record {
-      own = own_all table ty names (and_left own (are_different names && list_all (is_there ty names) table.rows) e);
-      each = λ c q. (let o = owned_is ty c (slice_get table.rows c) q in
-          let there = there_one (eqb o.0.owner ty) (place_of names o.0.name) (each_there ty names table.rows c o.0 (and_right (are_different names) (list_all (is_there ty names) table.rows) rest) o.1) o.2 in
-          subst (λ z. (i : ℕ) × (place_of names (name_of z) ≡ Some i)) (sym o.1) there);
-      once = different_is names (and_left (are_different names) (list_all (is_there ty names) table.rows) rest);
+      own = own_all rows ty names (and_left own (are_different names && list_all (is_there ty names) rows) e);
+      each = λ c row q o. there_one (row.owner == ty) (place_of names row.name) (each_there ty names rows c row (and_right (are_different names) (list_all (is_there ty names) rows) rest) q) (eq-eqb row.owner ty o);
+      once = different_is names (and_left (are_different names) (list_all (is_there ty names) rows) rest);
     }
 
-pub covered_holds : (table : Table) (ty : ℕ) (names : List ℕ) (at : Span) → Holds (covered table ty names at) (λ _. Covers table ty names)
-covered_holds table ty names at = record { by = λ x e. covers_is table ty names ((allowed_holds (covers table ty names) kind.Arms at (tt {0})).by x e).0 }
+pub covered_holds : (rows : List GenericRow) (ty : ℕ) (names : List ℕ) (at : Span) → Holds (covered rows ty names at) (λ _. CoversType rows ty names)
+covered_holds rows ty names at = record { by = λ x e. covers_is rows ty names ((allowed_holds (covers rows ty names) kind.Arms at (tt {0})).by x e).0 }
+
+pub fields_long : (o : Option GenericRow) (ts : Forms) → length (fields_if o ts) ≡ field_count o
+fields_long None ts = refl
+fields_long (Some row) ts = length-map row.fields (formed (assign row.variables ts))
 
 -- Variables were bound, one for each type.
-pub record Bound (scope : Scope) (n : Counts) (xs : List Ident) (ts : List Ty) (inner : Scope) (m : Counts) : Type 0 where
-  pub binds : BindsAll scope xs ts inner
+pub record Bound (scope : FormScope) (n : Counts) (xs : List Ident) (ts : List Form) (inner : FormScope) (m : Counts) : Type 0 where
+  pub binds : BindsForms scope xs ts inner
   pub variables : m.variables ≡ n.variables + length xs
   pub expressions : m.expressions ≡ n.expressions
   pub few : n.variables ≤ 200 → m.variables ≤ 200
 
-pub bind_all_holds : (scope : Scope) (n : Counts) (xs : List Ident) (ts : List Ty) → length xs ≡ length ts → Holds (bind_all scope n xs ts) (λ r. Bound scope n xs ts r.0 r.1)
+pub bind_all_holds : (scope : FormScope) (n : Counts) (xs : List Ident) (ts : List Form) → length xs ≡ length ts → Holds (bind_all scope n xs ts) (λ r. Bound scope n xs ts r.0 r.1)
 bind_all_holds scope n [] [] l = holds_ok (scope, n) (record { binds = refl; variables = omega arith; expressions = refl; few = λ h. h })
 bind_all_holds scope n [] (t ∷ ts) l = absurd (omega (arith, l))
 bind_all_holds scope n (x ∷ xs) [] l = absurd (omega (arith, l))
 bind_all_holds scope n (x ∷ xs) (t ∷ ts) l =
     then_holds (new_variable_holds scope n x) (λ m p.
     record {
-      by = λ r e. let o = (bind_all_holds (bound x t scope) m xs ts (omega (arith, l))).by r e in
+      by = λ r e. let o = (bind_all_holds (form_bound x t scope) m xs ts (omega (arith, l))).by r e in
           let v : m.variables ≡ n.variables + 1 = sym (ap (λ (z : Counts). z.variables) p.2) in
           let x' : m.expressions ≡ n.expressions = sym (ap (λ (z : Counts). z.expressions) p.2) in
           record { binds = (p.0, o.binds); variables = (let q = o.variables in omega (arith, q, v)); expressions = o.expressions ∙ x'; few = λ h. o.few (let q = p.1 in omega (arith, q, v)) };

@@ -6,7 +6,13 @@ pub mod Faults
 pub mod FirstFault
 pub mod Functions
 pub mod InScope
+pub mod Judging
 pub mod Kinds
+pub mod Knowing
+pub mod NameViews
 pub mod NodeFacts
 pub mod Origins
+pub mod ReadingSteps
+pub mod Refusals
+pub mod SameForm
 pub mod Views

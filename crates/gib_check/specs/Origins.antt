@@ -2,14 +2,22 @@
 use Rattle.std.specs.Prelude.{ℕ, ◌==◌, if◌then◌else◌, List, [], ◌∷◌, Option, Some, None}
 use Rattle.gib_types.specs.declared.table.Ty.{Ty}
 use Rattle.gib_types.specs.declared.table.Ty.TheVariants.{Whole, Truth, Tree}
-use Rattle.gib_types.specs.Table.{Table, owner_at}
+use Rattle.gib_types.specs.Table.{Table, owner_at, fields_at}
 use Rattle.gib_syntax.specs.declared.tree.Ident.{Ident}
 use Rattle.gib_syntax.specs.Tree.{Expression, Arms, Var, Num, Bit, Paren, Op, Call, Make, Let, Par, If, Case, LastArm, NextArm, FunctionTree}
 use Rattle.gib_syntax.specs.Declarations.{number_of, constructor_named, function_named}
 use Rattle.gib_syntax.specs.Typing.{Globals, Scope, type_in, result_type, operator_type}
 use Rattle.gib_check.specs.declared.origin.TypeOrigin.{TypeOrigin}
 use Rattle.gib_check.specs.declared.origin.TypeOrigin.TheVariants.{Fixed, Variable}
-use Rattle.gib_check.specs.Faults.{fields_named}
+
+-- The types of the fields of a constructor, none where it is not declared.
+abbrev pub fields_if : Table → Option ℕ → List Ty
+fields_if table None = []
+fields_if table (Some c) = fields_at table c
+
+-- The types of the fields of the constructor of a name, none where it is not declared.
+abbrev pub fields_named : Table → Ident → List Ty
+fields_named table k = fields_if table (constructor_named table (number_of k))
 
 -- The type that comes from there, where these variables are in scope.
 abbrev pub type_from : Scope → TypeOrigin → Option Ty

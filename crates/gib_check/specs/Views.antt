@@ -1,18 +1,14 @@
--- The parts of a program, as the definitions see them.
-use Rattle.std.specs.Prelude.{◌≡◌, ℕ, ◌==◌, Bool, not, ◌||◌, is_some, List, [], ◌∷◌, map, Ok}
-use Rattle.gib_types.specs.Table.{Row, Table, owner_at, name_at}
-use Rattle.gib_syntax.specs.declared.exprs.Arm.{Arm}
+-- The parts of a program without type parameters, as the definitions see them.
+use Rattle.std.specs.Prelude.{◌≡◌, ℕ, List, map}
+use Rattle.gib_types.specs.Table.{Row, Table}
 use Rattle.gib_syntax.specs.declared.tree.FunctionDecl.{FunctionDecl}
 use Rattle.gib_syntax.specs.Tree.{Expression, DataTree, FunctionTree}
 use Rattle.gib_syntax.specs.Arena.{tree_of}
 use Rattle.gib_syntax.specs.Parts.{Parts, function_tree, program_of}
-use Rattle.gib_syntax.specs.Declarations.{number_of, place_of, type_names, table_of_program, constructor_names}
-use Rattle.gib_syntax.specs.Typing.{Globals, globals_of, Scope}
-use Rattle.gib_check.specs.declared.counts.Counts.{Counts}
-use Rattle.gib_check.specs.declared.rules.Part.{Part}
+use Rattle.gib_syntax.specs.Declarations.{number_of, type_names, table_of_program, constructor_names}
+use Rattle.gib_syntax.specs.Typing.{Globals, globals_of}
 use Rattle.gib_check.specs.declared.functions.FunctionHead.{FunctionHead}
 use Rattle.gib_check.specs.Functions.{head_of, head_in}
-use Rattle.gib_check.specs.Faults.{Checked, and_then, place, ArmHead, infer, infer_arm}
 
 -- The table of a program's types and constructors.
 abbrev pub table_in : Parts → Table
@@ -58,19 +54,3 @@ pub record IsDeclared (parts : Parts) (table : Table) (types constructors functi
   pub are_constructors : constructors ≡ constructor_names (table_in parts)
   pub are_functions : functions ≡ map function_name parts.functions
   pub are_heads : map head_of heads ≡ map (head_in (types_in parts)) parts.functions
-
--- An arm without its expression.
-abbrev pub arm_head : Arm → ArmHead
-arm_head arm = record { constructor = arm.constructor; variables = arm.variables.items }
-
--- The constructor of a number is of another type, or has one of the names.
-abbrev pub is_there_at : Table → ℕ → List ℕ → ℕ → Bool
-is_there_at table ty names con = not (owner_at table con == ty) || is_some (place_of names (name_at table con))
-
--- The results of arms, in the order of the text.
-abbrev pub infer_each_arm : Globals → (ℕ → Expression) → Scope → Counts → List Arm → Checked (List Part × Counts)
-infer_each_arm g f scope n [] = Ok ([], n)
-infer_each_arm g f scope n (arm ∷ arms) =
-    and_then (infer_arm g.table scope n arm.constructor arm.variables.items (λ inner m. infer g inner m (f arm.body.0)))
-    (λ x. and_then (infer_each_arm g f scope x.1 arms)
-    (λ r. Ok (record { ty = x.0; place = place (f arm.body.0) } ∷ r.0, r.1)))

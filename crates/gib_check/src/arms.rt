@@ -1,40 +1,61 @@
 //! The arms of a `case`, before their expressions are looked at.
 
-ghost use Rattle.std.specs.Prelude.{◌≡◌, ◌<◌, length, map, is_some};
+ghost use Rattle.std.specs.Prelude.{◌≡◌, map, is_some};
 ghost use Rattle.std.specs.List.{list_all};
-ghost use Rattle.gib_syntax.specs.Declarations.{place_of, constructor_named};
+ghost use Rattle.gib_syntax.specs.Declarations.{place_of};
+ghost use Rattle.gib_syntax.specs.GenericParts.{GenericParts};
 ghost use Rattle.gib_check.specs.Answers.{Gives};
 ghost use Rattle.gib_check.specs.Faults as rule;
-ghost use Rattle.gib_check.specs.Views.{table_in, arm_head, is_there_at};
+ghost use Rattle.gib_check.specs.NameViews.{generic_globals, row_in};
+ghost use Rattle.gib_check.specs.Judging.{arm_head};
 
-use crate::declared::Declared;
 use crate::fault::{Kind, TypeFault};
+use crate::named::{Named, RowDecl};
 use crate::rules::{as_many, broken};
 use gib_base::{Name, Span};
 use gib_syntax::Arm;
-use gib_types::ConId;
+
+/// How many fields the constructor of a name has, none where it is not declared.
+fn field_count(named: &Named, name: Name) -> usize
+    ensures { result ≡ rule.field_count (rule.row_named (generic_globals named.now).rows name.0) }
+{
+    match named.row(name) {
+        Some(row) => row.count,
+        None => 0,
+    }
+}
+
+/// Whether the constructor of a name is of the type.
+fn is_of(named: &Named, name: Name, ty: u32) -> bool
+    ensures { result ≡ rule.is_of ty (rule.row_named (generic_globals named.now).rows name.0) }
+{
+    match named.row(name) {
+        Some(row) => row.owner.0 == ty,
+        None => false,
+    }
+}
 
 /// The constructor of each arm is declared.
-pub fn all_declared(declared: &Declared, arms: &[Arm]) -> Result<(), TypeFault>
-    ensures { Gives (λ _. tt {0}) result (rule.all_declared (table_in declared.now) (map arm_head arms.now)) }
+pub fn all_declared(named: &Named, arms: &[Arm]) -> Result<(), TypeFault>
+    ensures { Gives (λ _. tt {0}) result (rule.all_declared (generic_globals named.now).rows (map arm_head arms.now)) }
 {
     let mut rest = arms;
     'arms: while let [arm, after @ ..] = rest {
-        declared.constructor(arm.constructor)?;
+        named.constructor(arm.constructor)?;
         rest = after;
     }
     Ok(())
 }
 
 /// Each arm has as many variables as its constructor has fields.
-pub fn all_counted(declared: &Declared, arms: &[Arm]) -> Result<(), TypeFault>
-    ensures { Gives (λ _. tt {0}) result (rule.all_counted (table_in declared.now) (map arm_head arms.now)) }
+pub fn all_counted(named: &Named, arms: &[Arm]) -> Result<(), TypeFault>
+    ensures { Gives (λ _. tt {0}) result (rule.all_counted (generic_globals named.now).rows (map arm_head arms.now)) }
 {
     let mut rest = arms;
     'arms: while let [arm, after @ ..] = rest {
         as_many(
             arm.variables.len(),
-            declared.fields_named(arm.constructor),
+            field_count(named, arm.constructor.name),
             arm.constructor,
         )?;
         rest = after;
@@ -43,12 +64,12 @@ pub fn all_counted(declared: &Declared, arms: &[Arm]) -> Result<(), TypeFault>
 }
 
 /// Whether the constructors of all arms are of the type.
-fn all_own(declared: &Declared, ty: u32, arms: &[Arm]) -> bool
-    ensures { result ≡ list_all (λ k. rule.is_of (table_in declared.now) ty (constructor_named (table_in declared.now) k)) (rule.head_names (map arm_head arms.now)) }
+fn all_own(named: &Named, ty: u32, arms: &[Arm]) -> bool
+    ensures { result ≡ list_all (λ k. rule.is_of ty (rule.row_named (generic_globals named.now).rows k)) (rule.head_names (map arm_head arms.now)) }
 {
     let mut rest = arms;
     'arms: while let [arm, after @ ..] = rest {
-        if !declared.is_of(arm.constructor.name, ty) {
+        if !is_of(named, arm.constructor.name, ty) {
             return false;
         }
         rest = after;
@@ -85,50 +106,48 @@ fn are_different(arms: &[Arm]) -> bool
 }
 
 /// Whether a constructor is of another type, or has an arm.
-fn is_there(declared: &Declared, ty: u32, arms: &[Arm], con: ConId) -> bool
-    requires { con.0 < length (table_in declared.now).rows }
-    ensures { result ≡ is_there_at (table_in declared.now) ty (rule.head_names (map arm_head arms.now)) con.0 }
+fn is_there(ty: u32, arms: &[Arm], row: RowDecl) -> bool
+    ensures { (parts : GenericParts) → result ≡ rule.is_there ty (rule.head_names (map arm_head arms.now)) (row_in parts row) }
 {
-    if declared.owner(con).0 == ty {
-        is_among(arms, declared.name(con))
+    if row.owner.0 == ty {
+        is_among(arms, row.name)
     } else {
         true
     }
 }
 
 /// Whether each constructor of the type has an arm.
-fn all_there(declared: &Declared, ty: u32, arms: &[Arm]) -> bool
-    ensures { result ≡ list_all (rule.is_there ty (rule.head_names (map arm_head arms.now))) (table_in declared.now).rows }
+fn all_there(named: &Named, ty: u32, arms: &[Arm]) -> bool
+    ensures { result ≡ list_all (rule.is_there ty (rule.head_names (map arm_head arms.now))) (generic_globals named.now).rows }
 {
-    let count = declared.count();
-    let mut con = 0;
-    'constructors: while con < count {
-        if !is_there(declared, ty, arms, ConId(con)) {
+    let mut rest = named.rows();
+    'constructors: while let [row, after @ ..] = rest {
+        if !is_there(ty, arms, *row) {
             return false;
         }
-        con += 1;
+        rest = after;
     }
     true
 }
 
 /// Whether the arms are those of the type.
-fn covers(declared: &Declared, ty: u32, arms: &[Arm]) -> bool
-    ensures { result ≡ rule.covers (table_in declared.now) ty (rule.head_names (map arm_head arms.now)) }
+fn covers(named: &Named, ty: u32, arms: &[Arm]) -> bool
+    ensures { result ≡ rule.covers (generic_globals named.now).rows ty (rule.head_names (map arm_head arms.now)) }
 {
-    if !all_own(declared, ty, arms) {
+    if !all_own(named, ty, arms) {
         return false;
     }
     if !are_different(arms) {
         return false;
     }
-    all_there(declared, ty, arms)
+    all_there(named, ty, arms)
 }
 
 /// The arms are those of the type.
-pub fn covered(declared: &Declared, ty: u32, arms: &[Arm], at: Span) -> Result<(), TypeFault>
-    ensures { Gives (λ _. tt {0}) result (rule.covered (table_in declared.now) ty (rule.head_names (map arm_head arms.now)) at) }
+pub fn covered(named: &Named, ty: u32, arms: &[Arm], at: Span) -> Result<(), TypeFault>
+    ensures { Gives (λ _. tt {0}) result (rule.covered (generic_globals named.now).rows ty (rule.head_names (map arm_head arms.now)) at) }
 {
-    if covers(declared, ty, arms) {
+    if covers(named, ty, arms) {
         Ok(())
     } else {
         Err(broken(Kind::Arms, at))

@@ -1,33 +1,38 @@
 //! Bodies of functions.
 
 ghost use Rattle.std.specs.Prelude.{◌≡◌, ◌<◌, length, map, IfOk};
+ghost use Rattle.std.specs.List.{AllByRecursion};
+ghost use Rattle.gib_syntax.specs.GenericParts.{parameter_in, function_in, IsFunctionInside};
+ghost use Rattle.gib_syntax.specs.Words.{type_in};
 ghost use Rattle.gib_check.specs.Answers.{Gives};
 ghost use Rattle.gib_check.specs.FirstFault as rule;
-ghost use Rattle.gib_check.specs.Views.{types_in, globals_in, functions_in, tree_in};
+ghost use Rattle.gib_check.specs.Judging.{in_scope};
+ghost use Rattle.gib_check.specs.NameViews.{generic_globals, generic_tree};
 
-use crate::counts::Counts;
-use crate::declared::Declared;
 use crate::fault::TypeFault;
+use crate::named::Named;
 use crate::parts::part;
+use crate::reading::Meaning;
 use crate::rules::wanted;
 use crate::state::State;
-use crate::variables::Variables;
 use crate::walk::infer;
 use gib_base::Memory;
-use gib_syntax::{ExprId, Parameter, TypeName};
+use gib_syntax::{ExprId, GenericFunction, GenericParameter, Ident, Run};
 use std::alloc::Global;
 
 /// Puts parameters into the scope.
 fn push_parameters(
-    declared: &Declared,
-    scope: &mut Variables,
-    parameters: &[Parameter],
+    named: &Named,
+    state: &mut State,
+    parameters: &[GenericParameter],
 ) -> Result<(), Memory>
-    ensures { IfOk result (λ _. scope.new ≡ rule.with_parameters (types_in declared.now) parameters.now scope.old) }
+    ensures scope { IfOk result (λ _. (in_scope state.new) ≡ rule.with_parameters (map (parameter_in named.now.exprs.words) parameters.now) (in_scope state.old)) }
+    ensures counts { IfOk result (λ _. state.new.counts ≡ state.old.counts) }
 {
     let mut rest = parameters;
     'parameters: while let [parameter, after @ ..] = rest {
-        scope.push(parameter.name, declared.type_named(parameter.ty))?;
+        let ty = state.read_first(&Meaning::Opaque, named.words(parameter.ty))?;
+        state.enter(parameter.name, ty)?;
         rest = after;
     }
     Ok(())
@@ -36,40 +41,41 @@ fn push_parameters(
 /// A body, in the scope of its parameters.
 pub fn check_body(
     alloc: Global,
-    declared: &Declared,
-    parameters: &[Parameter],
-    result_name: TypeName,
+    named: &Named,
+    variables: &[Ident],
+    parameters: &[GenericParameter],
+    result_type: Run,
     body: ExprId,
 ) -> Result<(), TypeFault>
-    requires { body.0 < length declared.now.exprs }
-    ensures { Gives (λ _. tt {0}) result (rule.check_body (globals_in declared.now) parameters.now result_name (tree_in declared.now body.0)) }
+    requires { body.0 < length named.now.exprs.nodes }
+    ensures { Gives (λ _. tt {0}) result (rule.check_body (generic_globals named.now) variables.now (map (parameter_in named.now.exprs.words) parameters.now) (type_in named.now.exprs.words result_type) (generic_tree named.now body.0)) }
 {
-    let Ok(variables) = u32::try_from(parameters.len()) else {
+    let Ok(count) = u32::try_from(parameters.len()) else {
         return Err(TypeFault::Memory);
     };
-    let mut state = State {
-        alloc,
-        scope: Variables::new(alloc),
-        counts: Counts {
-            variables,
-            expressions: 0,
-        },
-    };
-    push_parameters(declared, &mut state.scope, parameters)?;
-    let ty = infer(declared, &mut state, body)?;
-    wanted(declared.type_named(result_name), part(declared, body, ty))?;
-    Ok(())
+    let mut state = State::new(alloc, count);
+    state.meet_plain()?;
+    push_parameters(named, &mut state, parameters)?;
+    let ty = infer(named, variables, &mut state, body)?;
+    let due = state.read_first(&Meaning::Opaque, named.words(result_type))?;
+    wanted(state.types(), due, part(named, body, ty))
 }
 
-/// The bodies of the functions but main, in the order of the text.
-pub fn check_bodies(alloc: Global, declared: &Declared) -> Result<(), TypeFault>
-    ensures { Gives (λ _. tt {0}) result (rule.check_bodies (globals_in declared.now) (functions_in declared.now)) }
+/// The bodies of functions, in the order of the text.
+pub fn check_bodies(
+    alloc: Global,
+    named: &Named,
+    functions: &[GenericFunction],
+) -> Result<(), TypeFault>
+    requires { AllByRecursion (IsFunctionInside named.now.exprs) functions.now }
+    ensures { Gives (λ _. tt {0}) result (rule.check_bodies (generic_globals named.now) (map (function_in named.now.exprs) functions.now)) }
 {
-    let mut rest = declared.functions();
+    let mut rest = functions;
     'functions: while let [function, after @ ..] = rest {
         check_body(
             alloc,
-            declared,
+            named,
+            &function.variables,
             &function.parameters,
             function.result,
             function.body,

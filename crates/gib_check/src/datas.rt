@@ -1,19 +1,22 @@
-//! Data declarations: names, counts of fields, field types.
+//! Data declarations: names, type variables, counts of fields, field types.
 
-ghost use Rattle.std.specs.Prelude.{◌≡◌, [], map, IfOk};
-ghost use Rattle.gib_syntax.specs.Parts.{data_tree, constructor_tree};
+ghost use Rattle.std.specs.Prelude.{[], map};
+ghost use Rattle.std.specs.List.{AllByRecursion};
+ghost use Rattle.gib_syntax.specs.GenericParts.{data_in, constructor_in, IsDataInside, IsConstructorInside};
+ghost use Rattle.gib_syntax.specs.GenericTyping.{variable_numbers};
+ghost use Rattle.gib_syntax.specs.Words.{stack_of};
 ghost use Rattle.gib_check.specs.Answers.{Gives};
 ghost use Rattle.gib_check.specs.FirstFault as rule;
-ghost use Rattle.gib_check.specs.Views.{tree_number};
+ghost use Rattle.gib_check.specs.NameViews.{generic_globals};
 
-use crate::declared::type_written;
 use crate::fault::{Kind, TypeFault};
+use crate::known::all_known;
+use crate::named::Named;
 use crate::names::NameList;
+use crate::reading::type_places;
 use crate::rules::broken;
-use gib_base::Span;
-use gib_base::limits::{CONSTRUCTORS, FIELDS};
-use gib_syntax::{ConstructorDecl, DataDecl, Ident, TypeName};
-use gib_types::Ty;
+use gib_base::limits::{CONSTRUCTORS, FIELDS, TYPE_PARAMETERS};
+use gib_syntax::{GenericConstructor, GenericData, GenericExprs, Ident, Word};
 use std::alloc::Global;
 
 /// A name that is none of the names before it.
@@ -37,79 +40,68 @@ pub fn fewer(most: u32, names: &NameList, x: Ident) -> Result<(), TypeFault>
     }
 }
 
-/// Where a type is written.
-fn type_place(written: TypeName) -> Span
-    ensures { result ≡ rule.type_place written }
+/// The type variables of a declaration.
+pub fn check_variables(alloc: Global, variables: &[Ident]) -> Result<(), TypeFault>
+    ensures { Gives (λ _. tt {0}) result (rule.check_variables [] variables.now) }
 {
-    match written {
-        TypeName::Whole(span) => span,
-        TypeName::Truth(span) => span,
-        TypeName::Declared(x) => x.span,
+    let mut names = NameList::new(alloc);
+    let mut rest = variables;
+    'variables: while let [variable, after @ ..] = rest {
+        new_name(&names, *variable)?;
+        fewer(TYPE_PARAMETERS, &names, *variable)?;
+        names.push(variable.name)?;
+        rest = after;
     }
+    Ok(())
 }
 
 /// At most eight fields.
-fn few_fields(fields: &[TypeName]) -> Result<(), TypeFault>
-    ensures { Gives (λ _. tt {0}) result (rule.few_fields fields.now) }
+fn few_fields(alloc: Global, fields: &[Word]) -> Result<(), TypeFault>
+    ensures { Gives (λ _. tt {0}) result (rule.few_fields (stack_of fields.now)) }
 {
-    match fields.get(FIELDS as usize) {
-        Some(ninth) => Err(broken(Kind::Limit, type_place(*ninth))),
+    let places = type_places(alloc, fields)?;
+    match places.get(FIELDS as usize) {
+        Some(ninth) => Err(broken(Kind::Limit, *ninth)),
         None => Ok(()),
-    }
-}
-
-/// `Int`, `Bool` or a declared type.
-pub fn known(types: &NameList, written: TypeName) -> Result<Ty, TypeFault>
-    ensures { Gives (λ t. t) result (rule.known types.now written) }
-{
-    match type_written(types, written) {
-        Some(ty) => Ok(ty),
-        None => Err(broken(Kind::Unknown, type_place(written))),
     }
 }
 
 /// The constructors of a type, behind those of these names.
 fn check_constructors(
+    alloc: Global,
+    exprs: &GenericExprs,
     names: &mut NameList,
-    constructors: &[ConstructorDecl],
+    constructors: &[GenericConstructor],
 ) -> Result<(), TypeFault>
-    ensures { Gives (λ _. names.new) result (rule.check_constructors names.old (map constructor_tree constructors.now)) }
+    ensures { Gives (λ _. names.new) result (rule.check_constructors names.old (map (constructor_in exprs.now.words) constructors.now)) }
 {
     let mut rest = constructors;
     'constructors: while let [constructor, after @ ..] = rest {
         fewer(CONSTRUCTORS, names, constructor.name)?;
         new_name(names, constructor.name)?;
-        few_fields(&constructor.fields)?;
+        few_fields(alloc, exprs.words(constructor.fields))?;
         names.push(constructor.name.name)?;
         rest = after;
     }
     Ok(())
 }
 
-/// Types and constructors; gives the names of the types, in the order of the text.
-pub fn check_datas(alloc: Global, datas: &[DataDecl]) -> Result<NameList, TypeFault>
-    ensures read { Gives (λ _. tt {0}) result (rule.check_datas [] [] (map data_tree datas.now)) }
-    ensures names { IfOk result (λ names. names ≡ map tree_number (map data_tree datas.now)) }
+/// Types, their variables and constructors.
+pub fn check_datas(
+    alloc: Global,
+    exprs: &GenericExprs,
+    datas: &[GenericData],
+) -> Result<(), TypeFault>
+    ensures { Gives (λ _. tt {0}) result (rule.check_datas [] [] (map (data_in exprs.now.words) datas.now)) }
 {
     let mut types = NameList::new(alloc);
     let mut constructors = NameList::new(alloc);
     let mut rest = datas;
-    'datas: while let [data, after @ ..] = rest {
-        new_name(&types, data.name)?;
-        check_constructors(&mut constructors, &data.constructors)?;
-        types.push(data.name.name)?;
-        rest = after;
-    }
-    Ok(types)
-}
-
-/// Field types of a constructor.
-fn check_types(types: &NameList, fields: &[TypeName]) -> Result<(), TypeFault>
-    ensures { Gives (λ _. tt {0}) result (rule.check_types types.now fields.now) }
-{
-    let mut rest = fields;
-    'fields: while let [field, after @ ..] = rest {
-        known(types, *field)?;
+    'datas: while let [declaration, after @ ..] = rest {
+        new_name(&types, declaration.name)?;
+        check_variables(alloc, &declaration.variables)?;
+        check_constructors(alloc, exprs, &mut constructors, &declaration.constructors)?;
+        types.push(declaration.name.name)?;
         rest = after;
     }
     Ok(())
@@ -117,26 +109,29 @@ fn check_types(types: &NameList, fields: &[TypeName]) -> Result<(), TypeFault>
 
 /// Field types of constructors.
 fn check_constructor_fields(
-    types: &NameList,
-    constructors: &[ConstructorDecl],
+    named: &Named,
+    variables: &[Ident],
+    constructors: &[GenericConstructor],
 ) -> Result<(), TypeFault>
-    ensures { Gives (λ _. tt {0}) result (rule.check_constructor_fields types.now (map constructor_tree constructors.now)) }
+    requires { AllByRecursion (IsConstructorInside named.now.exprs.words) constructors.now }
+    ensures { Gives (λ _. tt {0}) result (rule.check_constructor_fields (generic_globals named.now).datas (variable_numbers variables.now) (map (constructor_in named.now.exprs.words) constructors.now)) }
 {
     let mut rest = constructors;
     'constructors: while let [constructor, after @ ..] = rest {
-        check_types(types, &constructor.fields)?;
+        all_known(named, variables, constructor.fields)?;
         rest = after;
     }
     Ok(())
 }
 
 /// Field types, in the order of the text.
-pub fn check_fields(types: &NameList, datas: &[DataDecl]) -> Result<(), TypeFault>
-    ensures { Gives (λ _. tt {0}) result (rule.check_fields types.now (map data_tree datas.now)) }
+pub fn check_fields(named: &Named, datas: &[GenericData]) -> Result<(), TypeFault>
+    requires { AllByRecursion (IsDataInside named.now.exprs.words) datas.now }
+    ensures { Gives (λ _. tt {0}) result (rule.check_fields (generic_globals named.now).datas (map (data_in named.now.exprs.words) datas.now)) }
 {
     let mut rest = datas;
-    'datas: while let [data, after @ ..] = rest {
-        check_constructor_fields(types, &data.constructors)?;
+    'datas: while let [declaration, after @ ..] = rest {
+        check_constructor_fields(named, &declaration.variables, &declaration.constructors)?;
         rest = after;
     }
     Ok(())

@@ -1,19 +1,14 @@
 //! What a program declares, beside the program.
 
-ghost use Rattle.std.specs.Prelude.{◌≡◌, ◌<◌, length, map, slice_get, Some, None, IfOk, MatchOption};
+ghost use Rattle.std.specs.Prelude.{◌≡◌, ◌<◌, length, slice_get, Some, None, IfOk, MatchOption};
 ghost use Rattle.gib_syntax.specs.Declarations.{type_written, type_of_name, constructor_named, function_named};
-ghost use Rattle.gib_check.specs.Answers.{Gives};
-ghost use Rattle.gib_check.specs.Faults as rule;
 ghost use Rattle.gib_check.specs.Functions.{IsNumberOf, IsHeadOf};
 ghost use Rattle.gib_syntax.specs.Tree.{FunctionTree};
-ghost use Rattle.gib_check.specs.Origins.{made_type, result_if};
-ghost use Rattle.gib_check.specs.Views.{table_in, types_in, functions_in, tree_in};
+ghost use Rattle.gib_check.specs.Origins.{made_type, result_if, fields_named};
+ghost use Rattle.gib_check.specs.Views.{table_in, types_in, functions_in};
 
-use crate::fault::{Kind, TypeFault};
-use crate::functions::{FunctionHead, FunctionId, list_heads};
-use crate::heads::list_functions;
+use crate::functions::{FunctionHead, FunctionId, list_functions, list_heads};
 use crate::names::NameList;
-use crate::rules::broken;
 use crate::tables::make_table;
 use gib_base::{Memory, Name};
 use gib_syntax::{ExprId, FunctionDecl, Ident, MainDecl, Node, Program, TypeName};
@@ -44,12 +39,10 @@ impl Model for Declared {
 }
 
 impl Declared {
-    ghost use Rattle.std.specs.Prelude.{IfSome};
-    ghost use Rattle.gib_syntax.specs.Arena.{Opens, tree_of};
-    ghost use Rattle.gib_syntax.specs.Parts.{IsFunctionInside, function_tree};
+    ghost use Rattle.gib_syntax.specs.Arena.{Opens};
+    ghost use Rattle.gib_syntax.specs.Parts.{IsFunctionInside};
     ghost use Rattle.std.specs.List.{AllByRecursion};
-    ghost use Rattle.gib_syntax.specs.Typing.{parameter_types};
-    ghost use Rattle.gib_types.specs.Table.{fields_at, owner_at, name_at, IsTable};
+    ghost use Rattle.gib_types.specs.Table.{IsTable};
 
     /// A program with the names of its types.
     pub fn make(alloc: Global, program: Program, types: NameList) -> Result<Declared, Memory>
@@ -160,75 +153,13 @@ impl Declared {
         }
     }
 
-    /// The constructor of a name.
-    pub fn constructor(&self, k: Ident) -> Result<ConId, TypeFault>
-        ensures named { Gives (λ c. c.0) result (rule.constructor (table_in self.now) k) }
-        ensures within { IfOk result (λ c. c.0 < length (table_in self.now).rows) }
-    {
-        match self.constructors.place(k.name) {
-            Some(place) => Ok(ConId(place)),
-            None => Err(broken(Kind::Unknown, k.span)),
-        }
-    }
-
-    /// The types of a constructor's fields.
-    pub fn fields(&self, con: ConId) -> &[Ty]
-        requires { con.0 < length (table_in self.now).rows }
-        ensures { result.now ≡ fields_at (table_in self.now) con.0 }
-    {
-        self.table.fields(con)
-    }
-
-    /// The type that a constructor belongs to.
-    pub fn owner(&self, con: ConId) -> TyId
-        requires { con.0 < length (table_in self.now).rows }
-        ensures { result.0 ≡ owner_at (table_in self.now) con.0 }
-    {
-        self.table.type_of(con)
-    }
-
-    /// How many constructors there are.
-    pub fn count(&self) -> u32
-        ensures { result ≡ length (table_in self.now).rows }
-    {
-        self.table.len()
-    }
-
-    /// The name of a constructor.
-    pub fn name(&self, con: ConId) -> Name
-        requires { con.0 < length (table_in self.now).rows }
-        ensures { result.0 ≡ name_at (table_in self.now) con.0 }
-    {
-        self.table.name_of(con)
-    }
-
-    /// Whether the constructor of a name is of the type.
-    pub fn is_of(&self, name: Name, ty: u32) -> bool
-        ensures { result ≡ rule.is_of (table_in self.now) ty (constructor_named (table_in self.now) name.0) }
-    {
-        match self.constructors.place(name) {
-            Some(place) => self.table.type_of(ConId(place)).0 == ty,
-            None => false,
-        }
-    }
-
     /// The types of the fields of the constructor of a name, none where it is not declared.
     pub fn fields_named(&self, k: Ident) -> &[Ty]
-        ensures { result.now ≡ rule.fields_named (table_in self.now) k }
+        ensures { result.now ≡ fields_named (table_in self.now) k }
     {
         match self.constructors.place(k.name) {
             Some(place) => self.table.fields(ConId(place)),
             None => &[],
-        }
-    }
-
-    /// The function of a name.
-    pub fn function(&self, f: Ident) -> Result<&FunctionDecl, TypeFault>
-        ensures { Gives (λ d. function_tree (tree_of self.now.exprs) d.now) result (rule.function (functions_in self.now) f) }
-    {
-        match self.functions.place(f.name) {
-            Some(place) => Ok(&self.program.functions()[place as usize]),
-            None => Err(broken(Kind::Unknown, f.span)),
         }
     }
 
@@ -237,19 +168,6 @@ impl Declared {
         ensures { result ≡ type_of_name (types_in self.now) written }
     {
         type_of_name(&self.types, written)
-    }
-
-    /// The types of a function's parameters.
-    pub fn parameter_types(&self, alloc: Global, function: &FunctionDecl) -> Result<Vec<Ty>, Memory>
-        ensures { IfOk result (λ types. types.items ≡ parameter_types (table_in self.now) (function_tree (tree_of self.now.exprs) function.now)) }
-    {
-        let mut types = Vec::new(alloc);
-        let mut rest = function.parameters.as_slice();
-        'parameters: while let [parameter, after @ ..] = rest {
-            types.push(self.type_named(parameter.ty))?;
-            rest = after;
-        }
-        Ok(types)
     }
 }
 

@@ -2,6 +2,7 @@
 
 ghost use Rattle.std.specs.Prelude.{◌≡◌, map, IfOk};
 ghost use Rattle.gib_check.specs.Functions.{parameter_type, head_of, head_in};
+ghost use Rattle.gib_check.specs.Views.{function_name};
 
 use crate::declared::type_of_name;
 use crate::names::NameList;
@@ -63,4 +64,17 @@ pub fn list_heads(
         rest = after;
     }
     Ok(heads)
+}
+
+/// The names of the functions, in the order of the text.
+pub fn list_functions(alloc: Global, functions: &[FunctionDecl]) -> Result<NameList, Memory>
+    ensures { IfOk result (λ names. names ≡ map function_name functions.now) }
+{
+    let mut names = NameList::new(alloc);
+    let mut rest = functions;
+    'functions: while let [function, after @ ..] = rest {
+        names.push(function.name.name)?;
+        rest = after;
+    }
+    Ok(names)
 }

@@ -1,89 +1,85 @@
-//! Heads of functions: names, parameters, results.
+//! Heads of functions: names, type variables, parameters, results.
 
-ghost use Rattle.std.specs.Prelude.{◌≡◌, ℕ, [], map, IfOk};
-ghost use Rattle.gib_syntax.specs.Parts.{function_tree};
-ghost use Rattle.gib_syntax.specs.Tree.{Expression};
+ghost use Rattle.std.specs.Prelude.{[], map};
+ghost use Rattle.std.specs.List.{AllByRecursion};
+ghost use Rattle.gib_syntax.specs.GenericParts.{parameter_in, function_in, IsParameterInside, IsFunctionInside};
+ghost use Rattle.gib_syntax.specs.GenericTyping.{variable_numbers};
+ghost use Rattle.gib_syntax.specs.Words.{IsTypeRun, type_in};
 ghost use Rattle.gib_check.specs.Answers.{Gives};
 ghost use Rattle.gib_check.specs.FirstFault as rule;
-ghost use Rattle.gib_check.specs.Views.{function_name};
+ghost use Rattle.gib_check.specs.NameViews.{generic_globals};
 
-use crate::counts::Counts;
-use crate::datas::{fewer, known, new_name};
+use crate::datas::{check_variables, fewer, new_name};
 use crate::fault::TypeFault;
+use crate::known::known;
+use crate::named::Named;
 use crate::names::NameList;
-use crate::rules::new_variable;
-use crate::variables::Variables;
-use gib_base::Memory;
-use gib_base::limits::FUNCTIONS;
-use gib_syntax::{FunctionDecl, Parameter, TypeName};
+use gib_base::limits::{FUNCTIONS, VARIABLES};
+use gib_syntax::{GenericFunction, GenericParameter, Ident, Run};
 use std::alloc::Global;
 
 /// Parameters: the name of each, then its type.
 fn check_parameters(
     alloc: Global,
-    types: &NameList,
-    parameters: &[Parameter],
+    named: &Named,
+    variables: &[Ident],
+    parameters: &[GenericParameter],
 ) -> Result<(), TypeFault>
-    ensures { Gives (λ _. tt {0}) result (rule.check_parameters types.now [] rule.nothing_met parameters.now) }
+    requires { AllByRecursion (IsParameterInside named.now.exprs.words) parameters.now }
+    ensures { Gives (λ _. tt {0}) result (rule.check_parameters (generic_globals named.now).datas (variable_numbers variables.now) [] (map (parameter_in named.now.exprs.words) parameters.now)) }
 {
-    let mut counts = Counts {
-        variables: 0,
-        expressions: 0,
-    };
-    let mut scope = Variables::new(alloc);
+    let mut names = NameList::new(alloc);
     let mut rest = parameters;
     'parameters: while let [parameter, after @ ..] = rest {
-        new_variable(&scope, &mut counts, parameter.name)?;
-        let ty = known(types, parameter.ty)?;
-        scope.push(parameter.name, ty)?;
+        new_name(&names, parameter.name)?;
+        fewer(VARIABLES, &names, parameter.name)?;
+        known(named, variables, parameter.ty)?;
+        names.push(parameter.name.name)?;
         rest = after;
     }
     Ok(())
 }
 
-/// The parameters and the result of a function, or of main.
+/// The type variables, the parameters and the result of a function, or of main.
 pub fn check_head(
     alloc: Global,
-    types: &NameList,
-    parameters: &[Parameter],
-    result_name: TypeName,
+    named: &Named,
+    variables: &[Ident],
+    parameters: &[GenericParameter],
+    result_type: Run,
 ) -> Result<(), TypeFault>
-    ensures { Gives (λ _. tt {0}) result (rule.check_head types.now parameters.now result_name) }
+    requires parameters { AllByRecursion (IsParameterInside named.now.exprs.words) parameters.now }
+    requires result { IsTypeRun named.now.exprs.words result_type }
+    ensures { Gives (λ _. tt {0}) result (rule.check_head (generic_globals named.now).datas variables.now (map (parameter_in named.now.exprs.words) parameters.now) (type_in named.now.exprs.words result_type)) }
 {
-    check_parameters(alloc, types, parameters)?;
-    known(types, result_name)?;
-    Ok(())
+    check_variables(alloc, variables)?;
+    check_parameters(alloc, named, variables, parameters)?;
+    known(named, variables, result_type)
 }
 
 /// Heads of functions, in the order of the text.
 pub fn check_heads(
     alloc: Global,
-    types: &NameList,
-    functions: &[FunctionDecl],
+    named: &Named,
+    functions: &[GenericFunction],
 ) -> Result<(), TypeFault>
-    ensures { (f : ℕ → Expression) → Gives (λ _. tt {0}) result (rule.check_heads types.now [] (map (function_tree f) functions.now)) }
+    requires { AllByRecursion (IsFunctionInside named.now.exprs) functions.now }
+    ensures { Gives (λ _. tt {0}) result (rule.check_heads (generic_globals named.now).datas [] (map (function_in named.now.exprs) functions.now)) }
 {
     let mut names = NameList::new(alloc);
     let mut rest = functions;
     'functions: while let [function, after @ ..] = rest {
         fewer(FUNCTIONS, &names, function.name)?;
         new_name(&names, function.name)?;
-        check_head(alloc, types, &function.parameters, function.result)?;
+        check_head(
+            alloc,
+            named,
+            &function.variables,
+            &function.parameters,
+            function.result,
+        )?;
         names.push(function.name.name)?;
         rest = after;
     }
     Ok(())
-}
-
-/// The names of the functions, in the order of the text.
-pub fn list_functions(alloc: Global, functions: &[FunctionDecl]) -> Result<NameList, Memory>
-    ensures { IfOk result (λ names. names ≡ map function_name functions.now) }
-{
-    let mut names = NameList::new(alloc);
-    let mut rest = functions;
-    'functions: while let [function, after @ ..] = rest {
-        names.push(function.name.name)?;
-        rest = after;
-    }
-    Ok(names)
 }

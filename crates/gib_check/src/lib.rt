@@ -1,16 +1,15 @@
-//! The type check: which programs are typed, and else which rule is broken first.
+//! The type check: which programs with type parameters are typed, and else which rule is broken first; and what a typed
+//! program without type parameters tells.
 #![tactic(auto)]
 
 ghost use Rattle.std.specs.Prelude.{◌≡◌, Some, IfOk, IfErr, MatchResult};
-ghost use Rattle.gib_syntax.specs.Parts.{program_of};
-ghost use Rattle.gib_syntax.specs.Typing.{IsTypedProgram};
-ghost use Rattle.gib_types.specs.Table.{IsTable};
+ghost use Rattle.gib_syntax.specs.GenericParts.{generic_program_of};
+ghost use Rattle.gib_syntax.specs.GenericTyping.{IsTypedGeneric};
 ghost use Rattle.gib_check.specs.Answers.{Gives};
 ghost use Rattle.gib_check.specs.declared.fault.Fault.{Fault};
-ghost use Rattle.gib_check.specs.Checked.{IsMemory, IsMemoryOr, IsFirst};
+ghost use Rattle.gib_check.specs.Refusals.{IsMemory, IsMemoryOr, IsFirst};
 ghost use Rattle.gib_check.specs.FirstFault.{first_fault};
 ghost use Rattle.gib_check.specs.FirstFault as rule;
-ghost use Rattle.gib_check.specs.Views.{table_in, types_in};
 
 mod arm_index;
 mod arms;
@@ -20,62 +19,65 @@ mod datas;
 mod declared;
 pub mod fault;
 pub mod functions;
+pub mod generic;
 mod heads;
 pub mod kinds;
+mod known;
 pub mod laws;
+mod named;
 mod names;
 mod node_facts;
 pub mod origin;
 mod parts;
+mod reading;
 mod rules;
+mod stack;
 mod state;
 mod tables;
 pub mod typed;
-pub mod variables;
+mod uses;
+mod variables;
 mod walk;
 
 use bodies::{check_bodies, check_body};
 pub use counts::Counts;
 use datas::{check_datas, check_fields};
-use declared::Declared;
 pub use fault::{Fault, Kind, TypeFault};
 pub use functions::FunctionId;
-use gib_syntax::Program;
+pub use generic::Generic;
+use gib_syntax::GenericProgram;
 use heads::{check_head, check_heads};
-use names::NameList;
+use named::Named;
+pub use names::NameList;
 pub use origin::TypeOrigin;
+pub use stack::Stack;
 use std::alloc::Global;
 pub use typed::Typed;
 
-/// Types and constructors, field types, and heads of functions; gives the names of the types.
+/// Types and constructors, field types, and heads of functions.
 #[tactic(auto, unfolding(crate::specs::FirstFault::check_declarations))]
-fn check_declarations(alloc: Global, program: &Program) -> Result<NameList, TypeFault>
-    ensures read { Gives (λ _. tt {0}) result (rule.check_declarations (program_of program.now)) }
-    ensures types { IfOk result (λ types. types ≡ types_in program.now) }
-    // Declarations that break no rule make a table.
-    ensures table { IfOk result (λ _. IsTable (table_in program.now)) }
+fn check_declarations(alloc: Global, named: &Named) -> Result<(), TypeFault>
+    ensures { Gives (λ _. tt {0}) result (rule.check_declarations (generic_program_of named.now)) }
 {
-    let datas = program.data_decls();
-    let types = check_datas(alloc, datas)?;
-    check_fields(&types, datas)?;
-    check_heads(alloc, &types, program.functions())?;
+    let program = named.program();
+    let datas = program.datas();
+    check_datas(alloc, program.exprs(), datas)?;
+    check_fields(named, datas)?;
+    check_heads(alloc, named, program.functions())?;
     let main = program.main();
-    check_head(alloc, &types, &[main.parameter], main.result)?;
-    Ok(types)
+    check_head(alloc, named, &[], &[main.parameter], main.result)
 }
 
 /// All rules, in their order.
 #[tactic(auto, unfolding(crate::specs::FirstFault::check_program))]
-fn check_rules(alloc: Global, program: Program) -> Result<Declared, TypeFault>
-    ensures read { Gives (λ _. tt {0}) result (rule.check_program (program_of program)) }
-    ensures same { IfOk result (λ declared. declared ≡ program) }
+fn check_rules(alloc: Global, named: &Named) -> Result<(), TypeFault>
+    ensures { Gives (λ _. tt {0}) result (rule.check_program (generic_program_of named.now)) }
 {
-    let types = check_declarations(alloc, &program)?;
-    let declared = Declared::make(alloc, program, types)?;
-    check_bodies(alloc, &declared)?;
-    let main = declared.main();
-    check_body(alloc, &declared, &[main.parameter], main.result, main.body)?;
-    Ok(declared)
+    check_declarations(alloc, named)?;
+    let program = named.program();
+    check_bodies(alloc, named, program.functions())?;
+    let main = program.main();
+    check_body(alloc, named, &[], &[main.parameter], main.result, main.body)
 }
 
 /// Checks a program: which rule it breaks first, or none.
@@ -83,21 +85,21 @@ fn check_rules(alloc: Global, program: Program) -> Result<Declared, TypeFault>
 /// # Errors
 ///
 /// The first broken rule, and want of memory.
-pub fn check(alloc: Global, program: Program) -> Result<Typed, TypeFault>
-    ensures same { IfOk result (λ typed. typed ≡ program) }
-    ensures typed { IfOk result (λ _. IsTypedProgram (program_of program)) }
+pub fn check(alloc: Global, program: GenericProgram) -> Result<Generic, TypeFault>
+    ensures same { IfOk result (λ generic. generic ≡ program) }
+    ensures typed { IfOk result (λ _. IsTypedGeneric (generic_program_of program)) }
     // What is typed is refused for want of memory alone.
-    ensures only { IsTypedProgram (program_of program) → IfErr result IsMemory }
+    ensures only { IsTypedGeneric (generic_program_of program) → IfErr result IsMemory }
     // Each other refusal is the first broken rule.
-    ensures exact { IfErr result (IsFirst (program_of program)) }
+    ensures exact { IfErr result (IsFirst (generic_program_of program)) }
     // Where a rule is broken, the first one is answered.
-    ensures told { (fault : Fault) → first_fault (program_of program) ≡ Some fault → MatchResult result (λ _. ⊥) (IsMemoryOr fault) }
+    ensures told { (fault : Fault) → first_fault (generic_program_of program) ≡ Some fault → MatchResult result (λ _. ⊥) (IsMemoryOr fault) }
 {
-    match check_rules(alloc, program) {
-        Ok(declared) => match Typed::make(alloc, declared) {
-            Ok(typed) => Ok(typed),
-            Err(_) => Err(TypeFault::Memory),
-        },
+    let Ok(named) = Named::make(alloc, program) else {
+        return Err(TypeFault::Memory);
+    };
+    match check_rules(alloc, &named) {
+        Ok(()) => Ok(Generic::new(named.into_program())),
         Err(fault) => Err(fault),
     }
 }

@@ -1,22 +1,30 @@
 //! The rules that expressions keep, each by itself.
 
-ghost use Rattle.std.specs.Prelude.{◌≡◌};
+ghost use Rattle.std.specs.Prelude.{◌≡◌, ◌<◌, length, IfOk};
+ghost use Rattle.gib_types.specs.Form.{WholeForm, TruthForm};
+ghost use Rattle.gib_types.specs.Types.{form_at, forms_at, forms_of, AreBelow};
 ghost use Rattle.gib_check.specs.Answers.{Gives};
 ghost use Rattle.gib_check.specs.Faults as rule;
+ghost use Rattle.gib_check.specs.Judging.{listed, part_in, parts_in, ArePartsBelow};
 
-use crate::counts::Counts;
 use crate::fault::{Fault, Kind, TypeFault};
-use crate::variables::Variables;
 use gib_base::Span;
-use gib_base::limits::{EXPRESSIONS, VARIABLES};
 use gib_syntax::Ident;
-use gib_types::Ty;
+use gib_types::types::{TypeId, TypeNode, Types};
+use std::alloc::Global;
 
 /// A part of an expression, after its check: its type, and where it stands.
 #[derive(Clone, Copy, Debug, PartialEq, Eq)]
 pub struct Part {
-    pub ty: Ty,
+    pub ty: TypeId,
     pub place: Span,
+}
+
+/// A declared type: the number of its name, and its arguments.
+#[derive(Debug, Drop)]
+pub struct DeclaredType {
+    pub name: u32,
+    pub arguments: Vec<TypeId>,
 }
 
 /// A broken rule.
@@ -26,64 +34,60 @@ pub fn broken(kind: Kind, span: Span) -> TypeFault
     TypeFault::Broken(Fault { kind, span })
 }
 
-/// One more expression.
-pub fn one_more(counts: &mut Counts, at: Span) -> Result<(), TypeFault>
-    ensures { Gives (λ _. counts.new) result (rule.one_more counts.old at) }
-{
-    if counts.expressions >= EXPRESSIONS {
-        return Err(broken(Kind::Limit, at));
-    }
-    counts.expressions += 1;
-    Ok(())
-}
-
-/// The type of a variable.
-pub fn type_of(scope: &Variables, x: Ident) -> Result<Ty, TypeFault>
-    ensures { Gives (λ t. t) result (rule.variable scope.now x) }
-{
-    match scope.find(x.name) {
-        Some(ty) => Ok(ty),
-        None => Err(broken(Kind::Unknown, x.span)),
-    }
-}
-
-/// One more variable, which is not in scope yet.
-pub fn new_variable(scope: &Variables, counts: &mut Counts, x: Ident) -> Result<(), TypeFault>
-    ensures { Gives (λ _. counts.new) result (rule.new_variable scope.now counts.old x) }
-{
-    if scope.find(x.name).is_some() {
-        return Err(broken(Kind::Twice, x.span));
-    }
-    if counts.variables >= VARIABLES {
-        return Err(broken(Kind::Limit, x.span));
-    }
-    counts.variables += 1;
-    Ok(())
-}
-
 /// A part has the type that is due.
-pub fn wanted(due: Ty, part: Part) -> Result<(), TypeFault>
-    ensures { Gives (λ _. tt {0}) result (rule.wanted due part) }
+pub fn wanted(types: &Types, due: TypeId, part: Part) -> Result<(), TypeFault>
+    requires due { due.0 < length types.now }
+    requires part { part.ty.0 < length types.now }
+    ensures { Gives (λ _. tt {0}) result (rule.wanted (form_at (forms_of types.now) due.0) (part_in (forms_of types.now) part)) }
 {
-    if part.ty.is(due) {
+    let _once = types.len();
+    if part.ty.0 == due.0 {
         Ok(())
     } else {
         Err(broken(Kind::Shape, part.place))
     }
 }
 
-/// Each part has its type.
-pub fn all_wanted(parts: &[Part], due: &[Ty]) -> Result<(), TypeFault>
-    ensures { Gives (λ _. tt {0}) result (rule.all_wanted parts.now due.now) }
+/// A part is a whole number.
+pub fn wanted_whole(types: &Types, part: Part) -> Result<(), TypeFault>
+    requires { part.ty.0 < length types.now }
+    ensures { Gives (λ _. tt {0}) result (rule.wanted WholeForm (part_in (forms_of types.now) part)) }
 {
-    let mut types = due;
+    match types.node(part.ty) {
+        TypeNode::Whole => Ok(()),
+        TypeNode::Truth => Err(broken(Kind::Shape, part.place)),
+        TypeNode::Variable(_) => Err(broken(Kind::Shape, part.place)),
+        TypeNode::Data(_, _) => Err(broken(Kind::Shape, part.place)),
+    }
+}
+
+/// A part is a truth value.
+pub fn wanted_truth(types: &Types, part: Part) -> Result<(), TypeFault>
+    requires { part.ty.0 < length types.now }
+    ensures { Gives (λ _. tt {0}) result (rule.wanted TruthForm (part_in (forms_of types.now) part)) }
+{
+    match types.node(part.ty) {
+        TypeNode::Whole => Err(broken(Kind::Shape, part.place)),
+        TypeNode::Truth => Ok(()),
+        TypeNode::Variable(_) => Err(broken(Kind::Shape, part.place)),
+        TypeNode::Data(_, _) => Err(broken(Kind::Shape, part.place)),
+    }
+}
+
+/// Each part has its type.
+pub fn all_wanted(types: &Types, parts: &[Part], due: &[TypeId]) -> Result<(), TypeFault>
+    requires parts { ArePartsBelow (length types.now) parts.now }
+    requires due { AreBelow (length types.now) due.now }
+    ensures { Gives (λ _. tt {0}) result (rule.all_wanted (parts_in (forms_of types.now) parts.now) (listed (forms_of types.now) due.now)) }
+{
+    let mut ids = due;
     let mut rest = parts;
     'parts: while let [part, after @ ..] = rest {
-        match types {
+        match ids {
             [] => return Ok(()),
             [ty, later @ ..] => {
-                wanted(*ty, *part)?;
-                types = later;
+                wanted(types, *ty, *part)?;
+                ids = later;
                 rest = after;
             }
         }
@@ -92,45 +96,51 @@ pub fn all_wanted(parts: &[Part], due: &[Ty]) -> Result<(), TypeFault>
 }
 
 /// Each part has the one type.
-pub fn all_of(due: Ty, parts: &[Part]) -> Result<(), TypeFault>
-    ensures { Gives (λ _. tt {0}) result (rule.all_of due parts.now) }
+pub fn all_of(types: &Types, due: TypeId, parts: &[Part]) -> Result<(), TypeFault>
+    requires due { due.0 < length types.now }
+    requires parts { ArePartsBelow (length types.now) parts.now }
+    ensures { Gives (λ _. tt {0}) result (rule.all_of (form_at (forms_of types.now) due.0) (parts_in (forms_of types.now) parts.now)) }
 {
     let mut rest = parts;
     'parts: while let [part, after @ ..] = rest {
-        wanted(due, *part)?;
+        wanted(types, due, *part)?;
         rest = after;
     }
     Ok(())
 }
 
-/// As many as there are types.
-pub fn as_many(n: usize, types: &[Ty], at: Ident) -> Result<(), TypeFault>
-    ensures { Gives (λ _. tt {0}) result (rule.as_many n types.now at) }
+/// As many as there have to be.
+pub fn as_many(n: usize, due: usize, at: Ident) -> Result<(), TypeFault>
+    ensures { Gives (λ _. tt {0}) result (rule.as_many n due at) }
 {
-    if n == types.len() {
+    if n == due {
         Ok(())
     } else {
         Err(broken(Kind::Count, at.span))
     }
 }
 
-/// The number of the declared type of a variable.
-pub fn declared_type(ty: Ty, x: Ident) -> Result<u32, TypeFault>
-    ensures { Gives (λ t. t) result (rule.declared_type ty x) }
+/// The declared type of a variable.
+pub fn declared_type(
+    alloc: Global,
+    types: &Types,
+    ty: TypeId,
+    x: Ident,
+) -> Result<DeclaredType, TypeFault>
+    requires { ty.0 < length types.now }
+    ensures read { Gives (λ d. (d.name, forms_at (forms_of types.now) d.arguments.items)) result (rule.declared_type (form_at (forms_of types.now) ty.0) x) }
+    ensures below { IfOk result (λ d. AreBelow (length types.now) d.arguments.items) }
 {
-    match ty {
-        Ty::Whole => Err(broken(Kind::Shape, x.span)),
-        Ty::Truth => Err(broken(Kind::Shape, x.span)),
-        Ty::Tree(t) => Ok(t.0),
-    }
-}
-
-/// The type of the first part.
-pub fn first_type(parts: &[Part]) -> Ty
-    ensures { result ≡ rule.first_type parts.now }
-{
-    match parts {
-        [] => Ty::Whole,
-        [first, ..] => first.ty,
+    match types.node(ty) {
+        TypeNode::Whole => Err(broken(Kind::Shape, x.span)),
+        TypeNode::Truth => Err(broken(Kind::Shape, x.span)),
+        TypeNode::Variable(_) => Err(broken(Kind::Shape, x.span)),
+        TypeNode::Data(name, ids) => {
+            let arguments = Vec::from_slice(alloc, ids)?;
+            Ok(DeclaredType {
+                name: *name,
+                arguments,
+            })
+        }
     }
 }

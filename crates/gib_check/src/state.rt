@@ -1,71 +1,234 @@
-//! What the check of a body keeps: the variables in scope, and counts.
+//! What the check of a body keeps: the types that were met, the variables in scope, and counts.
 
-ghost use Rattle.std.specs.Prelude.{◌≡◌, ◌-◌, length, drop, IfOk};
-ghost use Rattle.gib_syntax.specs.Typing.{bound};
-ghost use Rattle.gib_check.specs.Answers.{Gives};
-ghost use Rattle.gib_check.specs.Faults as rule;
+ghost use Rattle.std.specs.Prelude.{◌≡◌};
 
 use crate::counts::Counts;
-use crate::fault::TypeFault;
-use crate::rules::{new_variable, one_more, type_of};
+use crate::fault::{Kind, TypeFault};
+use crate::reading::{Meaning, put_type, read, read_first};
+use crate::rules::broken;
 use crate::variables::Variables;
-use gib_base::Span;
-use gib_syntax::Ident;
-use gib_types::Ty;
+use gib_base::limits::{EXPRESSIONS, VARIABLES};
+use gib_base::{Memory, Span};
+use gib_syntax::{Ident, Word};
+use gib_types::types::{TypeId, TypeNode, Types};
 use std::alloc::Global;
+use std::marker::Model;
 
-/// Where memory comes from, what is in scope, and what was met so far of a function.
+/// Where memory comes from, the types that were met, what is in scope, and what was met so far of a function.
 #[derive(Drop)]
 pub struct State {
-    pub alloc: Global,
-    pub scope: Variables,
-    pub counts: Counts,
+    alloc: Global,
+    types: Types,
+    scope: Variables,
+    counts: Counts,
 }
 
-/// Binds a new variable.
-pub fn bind(state: &mut State, x: Ident, ty: Ty) -> Result<(), TypeFault>
-    ensures counts { Gives (λ _. state.new.counts) result (rule.new_variable state.old.scope state.old.counts x) }
-    ensures scope { IfOk result (λ _. state.new.scope ≡ bound x ty state.old.scope) }
-{
-    new_variable(&state.scope, &mut state.counts, x)?;
-    state.scope.push(x, ty)?;
-    Ok(())
+impl Model for State {
+    ghost use Rattle.std.specs.Prelude.{length};
+    ghost use Rattle.gib_check.specs.Judging.{Judging, IsScopeBelow};
+
+    ghost Value = { Judging };
+
+    ghost view = { λ s. record { types = s.types; scope = s.scope; counts = s.counts } };
+
+    ghost invariant = { λ s. IsScopeBelow (length s.types) s.scope };
 }
 
-/// Binds the variables of an arm.
-pub fn bind_all(state: &mut State, variables: &[Ident], types: &[Ty]) -> Result<(), TypeFault>
-    ensures read { Gives (λ _. (state.new.scope, state.new.counts)) result (rule.bind_all state.old.scope state.old.counts variables.now types.now) }
-    ensures kept { IfOk result (λ _. drop (length state.new.scope - length state.old.scope) state.new.scope ≡ state.old.scope) }
-{
-    let mut names = variables;
-    let mut fields = types;
-    'variables: while let [name, names_after @ ..] = names {
-        match fields {
-            [] => return Ok(()),
-            [ty, fields_after @ ..] => {
-                bind(state, *name, *ty)?;
-                names = names_after;
-                fields = fields_after;
-            }
+impl State {
+    ghost use Rattle.std.specs.Prelude.{◌<◌, ◌-◌, [], length, drop, IfOk, OnOk};
+    ghost use Rattle.gib_types.specs.Types.{form_at, form_from, ArgumentsBelow, AreBelow};
+    ghost use Rattle.gib_syntax.specs.Forms.{formed};
+    ghost use Rattle.gib_syntax.specs.Words.{stack_of, first_type};
+    ghost use Rattle.gib_syntax.specs.GenericTyping.{form_bound};
+    ghost use Rattle.gib_check.specs.Answers.{Gives};
+    ghost use Rattle.gib_check.specs.Faults as rule;
+    ghost use Rattle.gib_check.specs.Judging.{Judging, forms, in_scope, listed, Meets, Reads, Keeps, meant_by, IsMeaningBelow};
+
+    /// Nothing was met but so many parameters, which are not in scope yet.
+    pub fn new(alloc: Global, variables: u32) -> State
+        ensures { result ≡ record { types = []; scope = []; counts = record { variables = variables; expressions = 0 } } }
+    {
+        State {
+            alloc,
+            types: Types::new(alloc),
+            scope: Variables::new(alloc),
+            counts: Counts {
+                variables,
+                expressions: 0,
+            },
         }
     }
-    Ok(())
-}
 
-/// The type of a variable.
-pub fn variable(state: &mut State, x: Ident) -> Result<Ty, TypeFault>
-    ensures read { Gives (λ t. (t, state.new.counts)) result (rule.infer_variable state.old.scope state.old.counts x) }
-    ensures kept { state.new.scope ≡ state.old.scope }
-{
-    one_more(&mut state.counts, x.span)?;
-    type_of(&state.scope, x)
-}
+    /// Where memory comes from.
+    pub fn alloc(&self) -> Global {
+        self.alloc
+    }
 
-/// The type of a literal.
-pub fn literal(state: &mut State, at: Span, ty: Ty) -> Result<Ty, TypeFault>
-    ensures read { Gives (λ t. (t, state.new.counts)) result (rule.infer_literal state.old.counts at ty) }
-    ensures kept { state.new.scope ≡ state.old.scope }
-{
-    one_more(&mut state.counts, at)?;
-    Ok(ty)
+    /// The types that were met.
+    pub fn types(&self) -> &Types
+        ensures { result.now ≡ self.now.types }
+    {
+        &self.types
+    }
+
+    /// How many variables are in scope.
+    pub fn len(&self) -> usize
+        ensures { result ≡ length (in_scope self.now) }
+    {
+        self.scope.len()
+    }
+
+    /// One more expression.
+    pub fn one_more(&mut self, at: Span) -> Result<(), TypeFault>
+        ensures counts { Gives (λ _. self.new.counts) result (rule.one_more self.old.counts at) }
+        ensures scope { (in_scope self.new) ≡ (in_scope self.old) }
+        ensures types { self.new.types ≡ self.old.types }
+    {
+        if self.counts.expressions >= EXPRESSIONS {
+            return Err(broken(Kind::Limit, at));
+        }
+        self.counts.expressions += 1;
+        Ok(())
+    }
+
+    /// The type of a variable.
+    pub fn type_of(&self, x: Ident) -> Result<TypeId, TypeFault>
+        ensures read { Gives (λ t. form_at (forms self.now) t.0) result (rule.variable (in_scope self.now) x) }
+        ensures below { IfOk result (λ t. t.0 < length self.now.types) }
+    {
+        match self.scope.find(x.name) {
+            Some(ty) => Ok(ty),
+            None => Err(broken(Kind::Unknown, x.span)),
+        }
+    }
+
+    /// One more variable, which is not in scope yet: it is counted.
+    fn new_variable(&mut self, x: Ident) -> Result<(), TypeFault>
+        ensures counts { Gives (λ _. self.new.counts) result (rule.new_variable (in_scope self.old) self.old.counts x) }
+        ensures scope { (in_scope self.new) ≡ (in_scope self.old) }
+        ensures types { self.new.types ≡ self.old.types }
+    {
+        if self.scope.find(x.name).is_some() {
+            return Err(broken(Kind::Twice, x.span));
+        }
+        if self.counts.variables >= VARIABLES {
+            return Err(broken(Kind::Limit, x.span));
+        }
+        self.counts.variables += 1;
+        Ok(())
+    }
+
+    /// A variable comes into scope.
+    ///
+    /// # Errors
+    ///
+    /// Want of memory.
+    pub fn enter(&mut self, x: Ident, ty: TypeId) -> Result<(), Memory>
+        requires { ty.0 < length self.old.types }
+        ensures scope { OnOk result ((in_scope self.new) ≡ form_bound x (form_at (forms self.old) ty.0) (in_scope self.old)) }
+        ensures counts { self.new.counts ≡ self.old.counts }
+        ensures types { self.new.types ≡ self.old.types }
+    {
+        self.scope.push(x, ty)
+    }
+
+    /// Binds a new variable.
+    pub fn bind(&mut self, x: Ident, ty: TypeId) -> Result<(), TypeFault>
+        requires { ty.0 < length self.old.types }
+        ensures counts { Gives (λ _. self.new.counts) result (rule.new_variable (in_scope self.old) self.old.counts x) }
+        ensures scope { OnOk result ((in_scope self.new) ≡ form_bound x (form_at (forms self.old) ty.0) (in_scope self.old)) }
+        ensures types { self.new.types ≡ self.old.types }
+    {
+        self.new_variable(x)?;
+        self.enter(x, ty)?;
+        Ok(())
+    }
+
+    /// Binds the variables of an arm.
+    pub fn bind_all(&mut self, variables: &[Ident], fields: &[TypeId]) -> Result<(), TypeFault>
+        requires { AreBelow (length self.old.types) fields.now }
+        ensures read { Gives (λ _. ((in_scope self.new), self.new.counts)) result (rule.bind_all (in_scope self.old) self.old.counts variables.now (listed (forms self.old) fields.now)) }
+        ensures kept { OnOk result (drop (length (in_scope self.new) - length (in_scope self.old)) (in_scope self.new) ≡ (in_scope self.old)) }
+        ensures types { self.new.types ≡ self.old.types }
+    {
+        let mut names = variables;
+        let mut ids = fields;
+        'variables: while let [name, names_after @ ..] = names {
+            match ids {
+                [] => return Ok(()),
+                [ty, ids_after @ ..] => {
+                    self.bind(*name, *ty)?;
+                    names = names_after;
+                    ids = ids_after;
+                }
+            }
+        }
+        Ok(())
+    }
+
+    /// Keeps so many of the oldest variables in scope.
+    ///
+    /// # Errors
+    ///
+    /// Want of memory.
+    pub fn truncate(&mut self, len: usize) -> Result<(), Memory>
+        ensures scope { OnOk result ((in_scope self.new) ≡ drop (length (in_scope self.old) - len) (in_scope self.old)) }
+        ensures counts { self.new.counts ≡ self.old.counts }
+        ensures types { self.new.types ≡ self.old.types }
+    {
+        self.scope.truncate(len)
+    }
+
+    /// The number of a type.
+    ///
+    /// # Errors
+    ///
+    /// Want of memory.
+    pub fn put(&mut self, node: TypeNode) -> Result<TypeId, Memory>
+        requires { ArgumentsBelow (length self.old.types) node }
+        ensures met { IfOk result (λ id. Meets self.old.types self.new.types id (form_from (forms self.old) node)) }
+        ensures keeps { Keeps self.old self.new }
+    {
+        put_type(&mut self.types, node)
+    }
+
+    /// `Int` and `Bool` are met. Before all other types they get the numbers at which `put` and `read` look for them.
+    ///
+    /// # Errors
+    ///
+    /// Want of memory.
+    pub fn meet_plain(&mut self) -> Result<(), Memory>
+        ensures scope { (in_scope self.new) ≡ (in_scope self.old) }
+        ensures counts { self.new.counts ≡ self.old.counts }
+    {
+        self.put(TypeNode::Whole)?;
+        self.put(TypeNode::Truth)?;
+        Ok(())
+    }
+
+    /// The types that words spell, in the order of the text.
+    ///
+    /// # Errors
+    ///
+    /// Want of memory.
+    pub fn read(&mut self, meaning: &Meaning, words: &[Word]) -> Result<Vec<TypeId>, Memory>
+        requires { IsMeaningBelow (length self.old.types) meaning.now }
+        ensures read { IfOk result (λ ids. Reads self.old.types self.new.types (meant_by (forms self.old) meaning.now) words.now ids.items) }
+        ensures keeps { Keeps self.old self.new }
+    {
+        read(self.alloc, &mut self.types, meaning, words)
+    }
+
+    /// The one type that words spell.
+    ///
+    /// # Errors
+    ///
+    /// Want of memory.
+    pub fn read_first(&mut self, meaning: &Meaning, words: &[Word]) -> Result<TypeId, Memory>
+        requires { IsMeaningBelow (length self.old.types) meaning.now }
+        ensures met { IfOk result (λ id. Meets self.old.types self.new.types id (formed (meant_by (forms self.old) meaning.now) (first_type (stack_of words.now)))) }
+        ensures keeps { Keeps self.old self.new }
+    {
+        read_first(self.alloc, &mut self.types, meaning, words)
+    }
 }

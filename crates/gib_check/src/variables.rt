@@ -1,11 +1,12 @@
 //! The variables in scope, with their types.
 
-ghost use Rattle.std.specs.Prelude.{◌≡◌, ◌≤◌, ◌-◌, [], length, drop, OnOk};
-ghost use Rattle.gib_syntax.specs.Typing.{type_in, bound};
+ghost use Rattle.std.specs.Prelude.{◌≡◌, ◌-◌, ℕ, [], ◌∷◌, length, drop, OnOk, OnErr};
+ghost use Rattle.gib_syntax.specs.Declarations.{number_of};
+ghost use Rattle.gib_check.specs.Judging.{id_in, IsScopeBelow};
 
 use gib_base::{ByNumber, Memory, Name};
 use gib_syntax::Ident;
-use gib_types::Ty;
+use gib_types::types::TypeId;
 use std::alloc::Global;
 use std::marker::Model;
 
@@ -13,8 +14,8 @@ use std::marker::Model;
 #[derive(Clone, Copy, Debug, PartialEq, Eq)]
 pub struct Variable {
     pub name: Name,
-    pub ty: Ty,
-    pub hidden: Option<Ty>,
+    pub ty: TypeId,
+    pub hidden: Option<TypeId>,
 }
 
 /// Variables with their types, the oldest first. The newest of a name is found without a search.
@@ -22,15 +23,15 @@ pub struct Variable {
 pub struct Variables {
     variables: Vec<Variable>,
     /// The type of the newest variable of each name, at the name's number.
-    types: ByNumber<Ty>,
+    types: ByNumber<TypeId>,
 }
 
 impl Model for Variables {
     ghost use Rattle.std.specs.Prelude.{ℕ, List};
-    ghost use Rattle.gib_types.specs.declared.table.Ty.{Ty};
+    ghost use Rattle.gib_types.specs.declared.types.TypeId.{TypeId};
     ghost use Rattle.gib_check.specs.InScope.{scope_of, IsScope};
 
-    ghost Value = { List (ℕ × Ty) };
+    ghost Value = { List (ℕ × TypeId) };
 
     ghost view = { λ s. scope_of s.variables.items };
 
@@ -56,15 +57,16 @@ impl Variables {
     }
 
     /// The type of the newest variable of a name.
-    pub fn find(&self, name: Name) -> Option<Ty>
-        ensures { result ≡ type_in self.now name.0 }
+    pub fn find(&self, name: Name) -> Option<TypeId>
+        ensures { result ≡ id_in self.now name.0 }
     {
         self.types.get(name.0)
     }
 
     /// One more variable.
-    pub fn push(&mut self, x: Ident, ty: Ty) -> Result<(), Memory>
-        ensures { OnOk result (self.new ≡ bound x ty self.old) }
+    pub fn push(&mut self, x: Ident, ty: TypeId) -> Result<(), Memory>
+        ensures put { OnOk result (self.new ≡ (number_of x, ty) ∷ self.old) }
+        ensures same { OnErr result (self.new ≡ self.old) }
     {
         let hidden = self.types.get(x.name.0);
         let len = self.variables.len();
@@ -82,7 +84,8 @@ impl Variables {
 
     /// Takes the newest variable out.
     fn pop(&mut self) -> Result<(), Memory>
-        ensures { OnOk result (self.new ≡ drop 1 self.old) }
+        ensures gone { OnOk result (self.new ≡ drop 1 self.old) }
+        ensures same { OnErr result (self.new ≡ self.old) }
     {
         let len = self.variables.len();
         if len > 0 {
@@ -99,7 +102,8 @@ impl Variables {
     ///
     /// Want of memory.
     pub fn truncate(&mut self, len: usize) -> Result<(), Memory>
-        ensures { OnOk result (self.new ≡ drop (length self.old - len) self.old) }
+        ensures rest { OnOk result (self.new ≡ drop (length self.old - len) self.old) }
+        ensures below { (n : ℕ) → IsScopeBelow n self.old → IsScopeBelow n self.new }
     {
         'variables: while self.len() > len {
             self.pop()?;

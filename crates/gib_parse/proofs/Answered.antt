@@ -4,9 +4,9 @@ use Rattle.std.specs.Prelude.{IfOk, IfErr}
 use Rattle.gib_base.specs.declared.Span.{Span}
 use Rattle.gib_base.specs.declared.token.Token.{Token}
 use Rattle.gib_base.specs.Lexed.{Lexed}
-use Rattle.gib_syntax.specs.Tree.{ProgramTree}
+use Rattle.gib_syntax.specs.GenericTree.{GenericProgramTree}
 use Rattle.gib_syntax.specs.Spelling.{places_of, Derives, IsPlacedProgram, levels_program}
-use Rattle.gib_syntax.specs.Parts.{Parts, program_of}
+use Rattle.gib_syntax.specs.GenericParts.{GenericParts, generic_program_of}
 use Rattle.gib_parse.specs.declared.fault.ParseFault.{ParseFault}
 use Rattle.gib_parse.specs.declared.fault.ParseFault.TheVariants as fault
 use Rattle.gib_parse.specs.declared.stop.Stop.{Stop}
@@ -22,7 +22,7 @@ use Rattle.gib_parse.proofs.Whole.{whole_reads, derived_is_read, placed_is_read,
 
 -- ---- exactly what is read
 
-pub found_read : (l : Lexed) (p : Parts) → read_of l ≡ done (program_of p) [] → AnswersRead l (Ok p)
+pub found_read : (l : Lexed) (p : GenericParts) → read_of l ≡ done (generic_program_of p) [] → AnswersRead l (Ok p)
 found_read l p e = e
 
 pub stopped_read : (l : Lexed) (stop : Stop) → Fails stop (read_of l) → AnswersRead l (Err (fault_of l.spans l.len stop))
@@ -32,38 +32,38 @@ stopped_read l (stop.Nested left) f = record { left = left; read = f; here = ref
 
 -- ---- and so
 
-pub found : (l : Lexed) (r : Result Parts ParseFault) → AnswersRead l r → IfOk r (λ p. Derives l.tokens (program_of p))
-found l (Ok p) a = (whole_reads 200 (places_of l.spans) l.tokens (program_of p) [] a).derived
+pub found : (l : Lexed) (r : Result GenericParts ParseFault) → AnswersRead l r → IfOk r (λ p. Derives l.tokens (generic_program_of p))
+found l (Ok p) a = (whole_reads 200 (places_of l.spans) l.tokens (generic_program_of p) [] a).derived
 found l (Err e) a = tt
 
-pub placed : (l : Lexed) (r : Result Parts ParseFault) → AnswersRead l r → IfOk r (λ p. IsPlacedProgram (places_of l.spans) (program_of p))
-placed l (Ok p) a = (whole_reads 200 (places_of l.spans) l.tokens (program_of p) [] a).placed
+pub placed : (l : Lexed) (r : Result GenericParts ParseFault) → AnswersRead l r → IfOk r (λ p. IsPlacedProgram (places_of l.spans) (generic_program_of p))
+placed l (Ok p) a = (whole_reads 200 (places_of l.spans) l.tokens (generic_program_of p) [] a).placed
 placed l (Err e) a = tt
 
-pub levels : (l : Lexed) (r : Result Parts ParseFault) → AnswersRead l r → IfOk r (λ p. levels_program (program_of p) ≤ 200)
-levels l (Ok p) a = (whole_reads 200 (places_of l.spans) l.tokens (program_of p) [] a).level
+pub levels : (l : Lexed) (r : Result GenericParts ParseFault) → AnswersRead l r → IfOk r (λ p. levels_program (generic_program_of p) ≤ 200)
+levels l (Ok p) a = (whole_reads 200 (places_of l.spans) l.tokens (generic_program_of p) [] a).level
 levels l (Err e) a = tt
 
-no_fault : (p : ProgramTree) (r : Read ProgramTree) (f : Fault) → r ≡ failed f → r ≡ done p [] → ⊥
+no_fault : (p : GenericProgramTree) (r : Read GenericProgramTree) (f : Fault) → r ≡ failed f → r ≡ done p [] → ⊥
 no_fault p r f e d = absurd (let x = sym e ∙ d in cc)
 
-same_program : (p g : ProgramTree) (r : Read ProgramTree) → r ≡ done p [] → r ≡ done g [] → p ≡ g
+same_program : (p g : GenericProgramTree) (r : Read GenericProgramTree) → r ≡ done p [] → r ≡ done g [] → p ≡ g
 same_program p g r e d = ok_is p g (sym e ∙ d) where
-  ok_is : (a b : ProgramTree) → done a [] ≡ done b [] → a ≡ b
+  ok_is : (a b : GenericProgramTree) → done a [] ≡ done b [] → a ≡ b
   ok_is a b e = go (a, []) (b, []) e where
-    go : (x y : ProgramTree × List Token) → done x.0 x.1 ≡ done y.0 y.1 → x.0 ≡ y.0
-    go x y e = ap (λ (z : ProgramTree × List Token). z.0) (whole_pair x y e) where
-      whole_pair : (x y : ProgramTree × List Token) → done x.0 x.1 ≡ done y.0 y.1 → x ≡ y
+    go : (x y : GenericProgramTree × List Token) → done x.0 x.1 ≡ done y.0 y.1 → x.0 ≡ y.0
+    go x y e = ap (λ (z : GenericProgramTree × List Token). z.0) (whole_pair x y e) where
+      whole_pair : (x y : GenericProgramTree × List Token) → done x.0 x.1 ≡ done y.0 y.1 → x ≡ y
       whole_pair x y e = cc
 
-pub accepted : (l : Lexed) (r : Result Parts ParseFault) → AnswersRead l r → (g : ProgramTree) → Derives l.tokens g → levels_program g ≤ 200 → IfErr r (λ e. e ≡ fault.Memory)
+pub accepted : (l : Lexed) (r : Result GenericParts ParseFault) → AnswersRead l r → (g : GenericProgramTree) → Derives l.tokens g → levels_program g ≤ 200 → IfErr r (λ e. e ≡ fault.Memory)
 accepted l (Ok p) a g d le = tt
 accepted l (Err fault.Memory) a g d le = refl
 accepted l (Err (fault.At place)) a g d le = absurd (no_fault _ (read_of l) (At a.left) a.read (derived_is_read 200 (places_of l.spans) l.tokens g d le))
 accepted l (Err (fault.Nested place)) a g d le = absurd (no_fault _ (read_of l) (Nested a.left) a.read (derived_is_read 200 (places_of l.spans) l.tokens g d le))
 
-pub only : (l : Lexed) (r : Result Parts ParseFault) → AnswersRead l r → (g : ProgramTree) → Derives l.tokens g → levels_program g ≤ 200 → IsPlacedProgram (places_of l.spans) g → AnswersOnly r g
-only l (Ok p) a g d le h = same_program (program_of p) g (read_of l) a (placed_is_read 200 (places_of l.spans) l.tokens g d h le)
+pub only : (l : Lexed) (r : Result GenericParts ParseFault) → AnswersRead l r → (g : GenericProgramTree) → Derives l.tokens g → levels_program g ≤ 200 → IsPlacedProgram (places_of l.spans) g → AnswersOnly r g
+only l (Ok p) a g d le h = same_program (generic_program_of p) g (read_of l) a (placed_is_read 200 (places_of l.spans) l.tokens g d h le)
 only l (Err fault.Memory) a g d le h = tt
 only l (Err (fault.At place)) a g d le h = no_fault g (read_of l) (At a.left) a.read (placed_is_read 200 (places_of l.spans) l.tokens g d h le)
 only l (Err (fault.Nested place)) a g d le h = no_fault g (read_of l) (Nested a.left) a.read (placed_is_read 200 (places_of l.spans) l.tokens g d h le)
@@ -90,7 +90,7 @@ too_deep l place a = record {
 
 -- ---- the same, of what the code sees
 
-pub read_ok : (l : Lexed) (spans : List Span) (tokens : List Token) (p : Parts) → spans ≡ l.spans → tokens ≡ l.tokens → whole (places_of spans) tokens ≡ done (program_of p) [] → AnswersRead l (Ok p)
+pub read_ok : (l : Lexed) (spans : List Span) (tokens : List Token) (p : GenericParts) → spans ≡ l.spans → tokens ≡ l.tokens → whole (places_of spans) tokens ≡ done (generic_program_of p) [] → AnswersRead l (Ok p)
 read_ok l spans tokens p e f w =
     ap (λ (s : List Span). whole (places_of s) l.tokens) (sym e) ∙ ap (λ (t : List Token). whole (places_of spans) t) (sym f) ∙ w
 

@@ -5,17 +5,16 @@ use Rattle.gib_base.specs.declared.token.Sign.TheVariants as s
 use Rattle.gib_base.specs.declared.token.Token.{Token}
 use Rattle.gib_base.specs.declared.token.Token.TheVariants as t
 use Rattle.gib_syntax.specs.declared.tree.Ident.{Ident}
-use Rattle.gib_syntax.specs.declared.tree.TypeName.{TypeName}
-use Rattle.gib_syntax.specs.declared.tree.TypeName.TheVariants as ty
-use Rattle.gib_syntax.specs.declared.tree.Parameter.{Parameter}
 use Rattle.gib_syntax.specs.declared.tree.Operator.{Operator}
 use Rattle.gib_syntax.specs.declared.tree.Operator.TheVariants as o
-use Rattle.gib_syntax.specs.Tree.{Expression, Arguments, Arms, Var, Num, Bit, Paren, Op, Call, Make, Let, Par, If, Case, NoArgument, Argument, LastArm, NextArm, ConstructorTree, DataTree, FunctionTree}
-use Rattle.gib_syntax.specs.Spelling.{Places, spell, spell_arguments, spell_arms, spell_variables, spell_operator, spell_bit, spell_type, spell_types, spell_constructor, spell_more, spell_constructors, spell_data, spell_datas, spell_parameter, spell_parameters, spell_body, spell_function, spell_functions}
-use Rattle.gib_parse.specs.Reading.{Fault, At, Read, Reader, then_at, want, want_if, same, var_at, con_at, type_at, next_is, many_step, many, is_variable, starts_type}
-use Rattle.gib_parse.proofs.Tools.{done, failed, want_holds, var_holds, con_holds, type_holds, IsVar}
+use Rattle.gib_syntax.specs.GenericTree.{GenericExpression, GenericArguments, GenericArms, GenericVar, GenericNum, GenericBit, GenericParen, GenericOp, GenericCall, GenericMake, GenericLet, GenericPar, GenericIf, GenericCase, GenericNoArgument, GenericArgument, GenericLastArm, GenericNextArm, GenericConstructorTree, GenericDataTree, GenericFunctionTree, GenericParameterTree}
+use Rattle.gib_syntax.specs.Spelling.{Places, spell, spell_arguments, spell_arms, spell_variables, spell_operator, spell_bit, spell_type, spell_written, spell_types, spell_type_arguments, spell_type_parameters, spell_constructor, spell_more, spell_constructors, spell_data, spell_datas, spell_parameter, spell_parameters, spell_body, spell_function, spell_functions}
+use Rattle.gib_parse.specs.Reading.{Fault, At, Read, Reader, then_at, want, want_if, same, var_at, con_at, type_at, type_arguments_at, next_is, many_step, many, is_variable, starts_type}
+use Rattle.gib_parse.proofs.Tools.{done, failed, want_holds, var_holds, con_holds, IsVar}
+use Rattle.gib_parse.proofs.Written.{IsType, type_holds, types_sound, type_arguments_hold}
+use Rattle.gib_syntax.specs.Forms.{WrittenType, WrittenTypes, WholeAt, TruthAt, VariableAt, DataAt, NoType, MoreTypes}
 use Rattle.gib_parse.proofs.Many.{Shrinks, many_is, many_sound}
-use Rattle.gib_parse.proofs.Longer.{var_shrinks, type_shrinks}
+use Rattle.gib_parse.proofs.Longer.{var_shrinks}
 use Rattle.gib_parse.proofs.Sound.{variables_sound}
 use Rattle.gib_parse.proofs.Local.{then_failed}
 
@@ -52,75 +51,93 @@ agrees_bit true j ws vs a = agrees_cons (t.Sign s.True) j ws vs a
 agrees_bit false j ws vs a = agrees_cons (t.Sign s.False) j ws vs a
 
 mutual
-  pub agrees_expr : (e : Expression) (j : ℕ) (ws vs : List Token) → Agrees j ws vs → Agrees j (spell e ws) (spell e vs)
-  agrees_expr (Var x) j ws vs a = agrees_cons (t.Variable x.name) j ws vs a
-  agrees_expr (Num p n) j ws vs a = agrees_cons (t.Number n) j ws vs a
-  agrees_expr (Bit p b) j ws vs a = agrees_bit b j ws vs a
-  agrees_expr (Paren p e) j ws vs a = agrees_cons (t.Sign s.Open) j _ _ (agrees_expr e j _ _ (agrees_cons (t.Sign s.Close) j ws vs a))
-  agrees_expr (Op p f e b) j ws vs a = agrees_cons (t.Sign s.Open) j _ _ (agrees_expr e j _ _ (agrees_operator f j _ _ (agrees_expr b j _ _ (agrees_cons (t.Sign s.Close) j ws vs a))))
-  agrees_expr (Call f xs) j ws vs a = agrees_cons (t.Variable f.name) j _ _ (agrees_arguments xs j ws vs a)
-  agrees_expr (Make k xs) j ws vs a = agrees_cons (t.Constructor k.name) j _ _ (agrees_arguments xs j ws vs a)
-  agrees_expr (Let p x e b) j ws vs a = agrees_cons (t.Sign s.Let) j _ _ (agrees_cons (t.Variable x.name) j _ _ (agrees_cons (t.Sign s.Equals) j _ _ (agrees_expr e j _ _ (agrees_cons (t.Sign s.In) j _ _ (agrees_expr b j ws vs a)))))
-  agrees_expr (Par p x e y b c) j ws vs a =
+  pub agrees_type : (x : WrittenType) (j : ℕ) (ws vs : List Token) → Agrees j ws vs → Agrees j (spell_type x ws) (spell_type x vs)
+  agrees_type (WholeAt p) j ws vs a = agrees_cons (t.Sign s.Int) j ws vs a
+  agrees_type (TruthAt p) j ws vs a = agrees_cons (t.Sign s.Bool) j ws vs a
+  agrees_type (VariableAt x) j ws vs a = agrees_cons (t.Variable x.name) j ws vs a
+  agrees_type (DataAt p x NoType) j ws vs a = agrees_cons (t.Constructor x.name) j ws vs a
+  agrees_type (DataAt p x (MoreTypes w as')) j ws vs a =
+      agrees_cons (t.Sign s.Open) j _ _ (agrees_cons (t.Constructor x.name) j _ _ (agrees_type w j _ _ (agrees_written as' j _ _ (agrees_cons (t.Sign s.Close) j ws vs a))))
+
+  agrees_written : (xs : WrittenTypes) (j : ℕ) (ws vs : List Token) → Agrees j ws vs → Agrees j (spell_written xs ws) (spell_written xs vs)
+  agrees_written NoType j ws vs a = a
+  agrees_written (MoreTypes w as') j ws vs a = agrees_type w j _ _ (agrees_written as' j ws vs a)
+
+pub agrees_type_arguments : (xs : WrittenTypes) (j : ℕ) (ws vs : List Token) → Agrees j ws vs → Agrees j (spell_type_arguments xs ws) (spell_type_arguments xs vs)
+agrees_type_arguments NoType j ws vs a = a
+agrees_type_arguments (MoreTypes w as') j ws vs a = agrees_cons (t.Sign s.OpenBracket) j _ _ (agrees_type w j _ _ (agrees_written as' j _ _ (agrees_cons (t.Sign s.CloseBracket) j ws vs a)))
+
+pub agrees_type_parameters : (xs : List Ident) (j : ℕ) (ws vs : List Token) → Agrees j ws vs → Agrees j (spell_type_parameters xs ws) (spell_type_parameters xs vs)
+agrees_type_parameters [] j ws vs a = a
+agrees_type_parameters (x ∷ xs) j ws vs a = agrees_cons (t.Sign s.OpenBracket) j _ _ (agrees_variables (x ∷ xs) j _ _ (agrees_cons (t.Sign s.CloseBracket) j ws vs a))
+
+mutual
+  pub agrees_expr : (e : GenericExpression) (j : ℕ) (ws vs : List Token) → Agrees j ws vs → Agrees j (spell e ws) (spell e vs)
+  agrees_expr (GenericVar x) j ws vs a = agrees_cons (t.Variable x.name) j ws vs a
+  agrees_expr (GenericNum p n) j ws vs a = agrees_cons (t.Number n) j ws vs a
+  agrees_expr (GenericBit p b) j ws vs a = agrees_bit b j ws vs a
+  agrees_expr (GenericParen p e) j ws vs a = agrees_cons (t.Sign s.Open) j _ _ (agrees_expr e j _ _ (agrees_cons (t.Sign s.Close) j ws vs a))
+  agrees_expr (GenericOp p f e b) j ws vs a = agrees_cons (t.Sign s.Open) j _ _ (agrees_expr e j _ _ (agrees_operator f j _ _ (agrees_expr b j _ _ (agrees_cons (t.Sign s.Close) j ws vs a))))
+  agrees_expr (GenericCall f as' xs) j ws vs a = agrees_cons (t.Variable f.name) j _ _ (agrees_type_arguments as' j _ _ (agrees_arguments xs j ws vs a))
+  agrees_expr (GenericMake k as' xs) j ws vs a = agrees_cons (t.Constructor k.name) j _ _ (agrees_type_arguments as' j _ _ (agrees_arguments xs j ws vs a))
+  agrees_expr (GenericLet p x e b) j ws vs a = agrees_cons (t.Sign s.Let) j _ _ (agrees_cons (t.Variable x.name) j _ _ (agrees_cons (t.Sign s.Equals) j _ _ (agrees_expr e j _ _ (agrees_cons (t.Sign s.In) j _ _ (agrees_expr b j ws vs a)))))
+  agrees_expr (GenericPar p x e y b c) j ws vs a =
       agrees_cons (t.Sign s.Let) j _ _ (agrees_cons (t.Sign s.Par) j _ _ (agrees_cons (t.Variable x.name) j _ _ (agrees_cons (t.Sign s.Equals) j _ _ (agrees_expr e j _ _ (agrees_cons (t.Sign s.And) j _ _
       (agrees_cons (t.Variable y.name) j _ _ (agrees_cons (t.Sign s.Equals) j _ _ (agrees_expr b j _ _ (agrees_cons (t.Sign s.In) j _ _ (agrees_expr c j ws vs a))))))))))
-  agrees_expr (If p e b c) j ws vs a = agrees_cons (t.Sign s.If) j _ _ (agrees_expr e j _ _ (agrees_cons (t.Sign s.Then) j _ _ (agrees_expr b j _ _ (agrees_cons (t.Sign s.Else) j _ _ (agrees_expr c j ws vs a)))))
-  agrees_expr (Case p x arms) j ws vs a =
+  agrees_expr (GenericIf p e b c) j ws vs a = agrees_cons (t.Sign s.If) j _ _ (agrees_expr e j _ _ (agrees_cons (t.Sign s.Then) j _ _ (agrees_expr b j _ _ (agrees_cons (t.Sign s.Else) j _ _ (agrees_expr c j ws vs a)))))
+  agrees_expr (GenericCase p x arms) j ws vs a =
       agrees_cons (t.Sign s.Case) j _ _ (agrees_cons (t.Variable x.name) j _ _ (agrees_cons (t.Sign s.Of) j _ _ (agrees_cons (t.Sign s.OpenBrace) j _ _ (agrees_arms arms j _ _ (agrees_cons (t.Sign s.CloseBrace) j ws vs a)))))
 
-  agrees_arguments : (xs : Arguments) (j : ℕ) (ws vs : List Token) → Agrees j ws vs → Agrees j (spell_arguments xs ws) (spell_arguments xs vs)
-  agrees_arguments NoArgument j ws vs a = a
-  agrees_arguments (Argument e xs) j ws vs a = agrees_expr e j _ _ (agrees_arguments xs j ws vs a)
+  agrees_arguments : (xs : GenericArguments) (j : ℕ) (ws vs : List Token) → Agrees j ws vs → Agrees j (spell_arguments xs ws) (spell_arguments xs vs)
+  agrees_arguments GenericNoArgument j ws vs a = a
+  agrees_arguments (GenericArgument e xs) j ws vs a = agrees_expr e j _ _ (agrees_arguments xs j ws vs a)
 
-  pub agrees_arms : (arms : Arms) (j : ℕ) (ws vs : List Token) → Agrees j ws vs → Agrees j (spell_arms arms ws) (spell_arms arms vs)
-  agrees_arms (LastArm k xs e) j ws vs a = agrees_cons (t.Constructor k.name) j _ _ (agrees_variables xs j _ _ (agrees_cons (t.Sign s.Arrow) j _ _ (agrees_expr e j ws vs a)))
-  agrees_arms (NextArm k xs e arms) j ws vs a =
+  pub agrees_arms : (arms : GenericArms) (j : ℕ) (ws vs : List Token) → Agrees j ws vs → Agrees j (spell_arms arms ws) (spell_arms arms vs)
+  agrees_arms (GenericLastArm k xs e) j ws vs a = agrees_cons (t.Constructor k.name) j _ _ (agrees_variables xs j _ _ (agrees_cons (t.Sign s.Arrow) j _ _ (agrees_expr e j ws vs a)))
+  agrees_arms (GenericNextArm k xs e arms) j ws vs a =
       agrees_cons (t.Constructor k.name) j _ _ (agrees_variables xs j _ _ (agrees_cons (t.Sign s.Arrow) j _ _ (agrees_expr e j _ _ (agrees_cons (t.Sign s.Semicolon) j _ _ (agrees_arms arms j ws vs a)))))
 
-pub agrees_arm : (k : Ident) (xs : List Ident) (e : Expression) (j : ℕ) (ws vs : List Token) → Agrees j ws vs → Agrees j (t.Constructor k.name ∷ spell_variables xs (t.Sign s.Arrow ∷ spell e ws)) (t.Constructor k.name ∷ spell_variables xs (t.Sign s.Arrow ∷ spell e vs))
+pub agrees_arm : (k : Ident) (xs : List Ident) (e : GenericExpression) (j : ℕ) (ws vs : List Token) → Agrees j ws vs → Agrees j (t.Constructor k.name ∷ spell_variables xs (t.Sign s.Arrow ∷ spell e ws)) (t.Constructor k.name ∷ spell_variables xs (t.Sign s.Arrow ∷ spell e vs))
 agrees_arm k xs e j ws vs a = agrees_cons (t.Constructor k.name) j _ _ (agrees_variables xs j _ _ (agrees_cons (t.Sign s.Arrow) j _ _ (agrees_expr e j ws vs a)))
 
-agrees_type : (x : TypeName) (j : ℕ) (ws vs : List Token) → Agrees j ws vs → Agrees j (spell_type x ws) (spell_type x vs)
-agrees_type (ty.Whole p) j ws vs a = agrees_cons (t.Sign s.Int) j ws vs a
-agrees_type (ty.Truth p) j ws vs a = agrees_cons (t.Sign s.Bool) j ws vs a
-agrees_type (ty.Declared x) j ws vs a = agrees_cons (t.Constructor x.name) j ws vs a
-
-agrees_types : (xs : List TypeName) (j : ℕ) (ws vs : List Token) → Agrees j ws vs → Agrees j (spell_types xs ws) (spell_types xs vs)
+pub agrees_types : (xs : List WrittenType) (j : ℕ) (ws vs : List Token) → Agrees j ws vs → Agrees j (spell_types xs ws) (spell_types xs vs)
 agrees_types [] j ws vs a = a
 agrees_types (x ∷ xs) j ws vs a = agrees_type x j _ _ (agrees_types xs j ws vs a)
 
-pub agrees_constructor : (c : ConstructorTree) (j : ℕ) (ws vs : List Token) → Agrees j ws vs → Agrees j (spell_constructor c ws) (spell_constructor c vs)
+pub agrees_constructor : (c : GenericConstructorTree) (j : ℕ) (ws vs : List Token) → Agrees j ws vs → Agrees j (spell_constructor c ws) (spell_constructor c vs)
 agrees_constructor c j ws vs a = agrees_cons (t.Constructor c.name.name) j _ _ (agrees_types c.fields j ws vs a)
 
-pub agrees_more : (cs : List ConstructorTree) (j : ℕ) (ws vs : List Token) → Agrees j ws vs → Agrees j (spell_more cs ws) (spell_more cs vs)
+pub agrees_more : (cs : List GenericConstructorTree) (j : ℕ) (ws vs : List Token) → Agrees j ws vs → Agrees j (spell_more cs ws) (spell_more cs vs)
 agrees_more [] j ws vs a = a
 agrees_more (c ∷ cs) j ws vs a = agrees_cons (t.Sign s.Bar) j _ _ (agrees_constructor c j _ _ (agrees_more cs j ws vs a))
 
-pub agrees_constructors : (cs : List ConstructorTree) (j : ℕ) (ws vs : List Token) → Agrees j ws vs → Agrees j (spell_constructors cs ws) (spell_constructors cs vs)
+pub agrees_constructors : (cs : List GenericConstructorTree) (j : ℕ) (ws vs : List Token) → Agrees j ws vs → Agrees j (spell_constructors cs ws) (spell_constructors cs vs)
 agrees_constructors [] j ws vs a = a
 agrees_constructors (c ∷ cs) j ws vs a = agrees_constructor c j _ _ (agrees_more cs j ws vs a)
 
-pub agrees_data : (d : DataTree) (j : ℕ) (ws vs : List Token) → Agrees j ws vs → Agrees j (spell_data d ws) (spell_data d vs)
-agrees_data d j ws vs a = agrees_cons (t.Sign s.Data) j _ _ (agrees_cons (t.Constructor d.name.name) j _ _ (agrees_cons (t.Sign s.Equals) j _ _ (agrees_constructors d.constructors j _ _ (agrees_cons (t.Sign s.Semicolon) j ws vs a))))
+pub agrees_data : (d : GenericDataTree) (j : ℕ) (ws vs : List Token) → Agrees j ws vs → Agrees j (spell_data d ws) (spell_data d vs)
+agrees_data d j ws vs a =
+    agrees_cons (t.Sign s.Data) j _ _ (agrees_cons (t.Constructor d.name.name) j _ _ (agrees_variables d.variables j _ _ (agrees_cons (t.Sign s.Equals) j _ _ (agrees_constructors d.constructors j _ _ (agrees_cons (t.Sign s.Semicolon) j ws vs a)))))
 
-pub agrees_datas : (ds : List DataTree) (j : ℕ) (ws vs : List Token) → Agrees j ws vs → Agrees j (spell_datas ds ws) (spell_datas ds vs)
+pub agrees_datas : (ds : List GenericDataTree) (j : ℕ) (ws vs : List Token) → Agrees j ws vs → Agrees j (spell_datas ds ws) (spell_datas ds vs)
 agrees_datas [] j ws vs a = a
 agrees_datas (d ∷ ds) j ws vs a = agrees_data d j _ _ (agrees_datas ds j ws vs a)
 
-pub agrees_parameter : (q : Parameter) (j : ℕ) (ws vs : List Token) → Agrees j ws vs → Agrees j (spell_parameter q ws) (spell_parameter q vs)
+pub agrees_parameter : (q : GenericParameterTree) (j : ℕ) (ws vs : List Token) → Agrees j ws vs → Agrees j (spell_parameter q ws) (spell_parameter q vs)
 agrees_parameter q j ws vs a = agrees_cons (t.Sign s.Open) j _ _ (agrees_cons (t.Variable q.name.name) j _ _ (agrees_cons (t.Sign s.Colon) j _ _ (agrees_type q.ty j _ _ (agrees_cons (t.Sign s.Close) j ws vs a))))
 
-pub agrees_parameters : (qs : List Parameter) (j : ℕ) (ws vs : List Token) → Agrees j ws vs → Agrees j (spell_parameters qs ws) (spell_parameters qs vs)
+pub agrees_parameters : (qs : List GenericParameterTree) (j : ℕ) (ws vs : List Token) → Agrees j ws vs → Agrees j (spell_parameters qs ws) (spell_parameters qs vs)
 agrees_parameters [] j ws vs a = a
 agrees_parameters (q ∷ qs) j ws vs a = agrees_parameter q j _ _ (agrees_parameters qs j ws vs a)
 
-pub agrees_body : (x : TypeName) (e : Expression) (j : ℕ) (ws vs : List Token) → Agrees j ws vs → Agrees j (spell_body x e ws) (spell_body x e vs)
+pub agrees_body : (x : WrittenType) (e : GenericExpression) (j : ℕ) (ws vs : List Token) → Agrees j ws vs → Agrees j (spell_body x e ws) (spell_body x e vs)
 agrees_body x e j ws vs a = agrees_cons (t.Sign s.Colon) j _ _ (agrees_type x j _ _ (agrees_cons (t.Sign s.Equals) j _ _ (agrees_expr e j _ _ (agrees_cons (t.Sign s.Semicolon) j ws vs a))))
 
-pub agrees_function : (f : FunctionTree) (j : ℕ) (ws vs : List Token) → Agrees j ws vs → Agrees j (spell_function f ws) (spell_function f vs)
-agrees_function f j ws vs a = agrees_cons (t.Sign s.Fun) j _ _ (agrees_cons (t.Variable f.name.name) j _ _ (agrees_parameters f.parameters j _ _ (agrees_body f.result f.body j ws vs a)))
+pub agrees_function : (f : GenericFunctionTree) (j : ℕ) (ws vs : List Token) → Agrees j ws vs → Agrees j (spell_function f ws) (spell_function f vs)
+agrees_function f j ws vs a =
+    agrees_cons (t.Sign s.Fun) j _ _ (agrees_cons (t.Variable f.name.name) j _ _ (agrees_type_parameters f.variables j _ _ (agrees_parameters f.parameters j _ _ (agrees_body f.result f.body j ws vs a))))
 
-pub agrees_functions : (fs : List FunctionTree) (j : ℕ) (ws vs : List Token) → Agrees j ws vs → Agrees j (spell_functions fs ws) (spell_functions fs vs)
+pub agrees_functions : (fs : List GenericFunctionTree) (j : ℕ) (ws vs : List Token) → Agrees j ws vs → Agrees j (spell_functions fs ws) (spell_functions fs vs)
 agrees_functions [] j ws vs a = a
 agrees_functions (f ∷ fs) j ws vs a = agrees_function f j _ _ (agrees_functions fs j ws vs a)
 
@@ -205,12 +222,6 @@ pub b_con : {L : List Token → Type 0} (at : Places) (ws vs : List Token) → L
 b_con at (t.Constructor x ∷ ws) vs l = b_done (let y : Ident = record { name = x; span = at (suc (length ws)) } in y) ws refl
 b_con at ws vs l = b_now vs l refl
 
-pub b_type : {L : List Token → Type 0} (at : Places) (ws vs : List Token) → L vs → Begins L (type_at at) ws
-b_type at (t.Sign s.Int ∷ ws) vs l = b_done (ty.Whole (at (suc (length ws)))) ws refl
-b_type at (t.Sign s.Bool ∷ ws) vs l = b_done (ty.Truth (at (suc (length ws)))) ws refl
-b_type at (t.Constructor x ∷ ws) vs l = b_done (ty.Declared (record { name = x; span = at (suc (length ws)) })) ws refl
-b_type at ws vs l = b_now vs l refl
-
 -- What was read before.
 
 pub goes_sign : {B : Type 0} {L : List Token → Type 0} {p : Reader B} (a : Sign) (ws rest : List Token) (u : Unit {0}) → want a ws ≡ done u rest → Begins (λ vs. L (t.Sign a ∷ vs)) p rest → Goes L p ws rest
@@ -222,14 +233,21 @@ goes_var at x ws rest e n = record { before = λ l. t.Variable x.name ∷ l; was
 pub goes_con : {B : Type 0} {L : List Token → Type 0} {p : Reader B} (at : Places) (x : Ident) (ws rest : List Token) → con_at at ws ≡ done x rest → Begins (λ vs. L (t.Constructor x.name ∷ vs)) p rest → Goes L p ws rest
 goes_con at x ws rest e n = record { before = λ l. t.Constructor x.name ∷ l; was = ((con_holds at ws).by x rest e).spelled; agrees = agrees_cons (t.Constructor x.name); next = n }
 
-pub goes_type : {B : Type 0} {L : List Token → Type 0} {p : Reader B} (at : Places) (x : TypeName) (ws rest : List Token) → type_at at ws ≡ done x rest → Begins (λ vs. L (spell_type x vs)) p rest → Goes L p ws rest
+pub goes_type : {B : Type 0} {L : List Token → Type 0} {p : Reader B} (at : Places) (x : WrittenType) (ws rest : List Token) → type_at at ws ≡ done x rest → Begins (λ vs. L (spell_type x vs)) p rest → Goes L p ws rest
 goes_type at x ws rest e n = record { before = spell_type x; was = ((type_holds at ws).by x rest e).spelled; agrees = agrees_type x; next = n }
+
+pub goes_types : {B : Type 0} {L : List Token → Type 0} {p : Reader B} (at : Places) (xs : List WrittenType) (ws rest : List Token) → many starts_type (type_at at) ws ≡ done xs rest → Begins (λ vs. L (spell_types xs vs)) p rest → Goes L p ws rest
+goes_types at xs ws rest e n =
+    record { before = spell_types xs; was = (types_sound at xs ws rest ((many_sound (IsType at) starts_type (type_at at) (type_holds at) ws).by xs rest e)).0; agrees = agrees_types xs; next = n }
+
+pub goes_type_arguments : {B : Type 0} {L : List Token → Type 0} {p : Reader B} (at : Places) (xs : WrittenTypes) (ws rest : List Token) → type_arguments_at at ws ≡ done xs rest → Begins (λ vs. L (spell_type_arguments xs vs)) p rest → Goes L p ws rest
+goes_type_arguments at xs ws rest e n = record { before = spell_type_arguments xs; was = ((type_arguments_hold at ws).by xs rest e).spelled; agrees = agrees_type_arguments xs; next = n }
 
 pub goes_vars : {B : Type 0} {L : List Token → Type 0} {p : Reader B} (at : Places) (xs : List Ident) (ws rest : List Token) → many is_variable (var_at at) ws ≡ done xs rest → Begins (λ vs. L (spell_variables xs vs)) p rest → Goes L p ws rest
 goes_vars at xs ws rest e n =
     record { before = spell_variables xs; was = (variables_sound at xs ws rest ((many_sound (IsVar at) is_variable (var_at at) (var_holds at) ws).by xs rest e)).0; agrees = agrees_variables xs; next = n }
 
-pub goes_expr : {B : Type 0} {L : List Token → Type 0} {p : Reader B} (a : Expression) (ws rest : List Token) → ws ≡ spell a rest → Begins (λ vs. L (spell a vs)) p rest → Goes L p ws rest
+pub goes_expr : {B : Type 0} {L : List Token → Type 0} {p : Reader B} (a : GenericExpression) (ws rest : List Token) → ws ≡ spell a rest → Begins (λ vs. L (spell a vs)) p rest → Goes L p ws rest
 goes_expr a ws rest e n = record { before = spell a; was = e; agrees = agrees_expr a; next = n }
 
 -- ---- one after another
@@ -287,12 +305,3 @@ var_never at ws e = absurd cc
 
 pub vars_never : (at : Places) (ws : List Token) (j : ℕ) → many is_variable (var_at at) ws ≡ failed (At j) → ⊥
 vars_never at ws = never_upto (length ws) is_variable (var_at at) (var_shrinks at) (var_never at) ws (omega arith)
-
-type_never : (at : Places) (ws : List Token) → next_is starts_type ws ≡ true → Never (type_at at ws)
-type_never at (t.Sign s.Int ∷ ws) e = done_never (ty.Whole (at (suc (length ws)))) ws
-type_never at (t.Sign s.Bool ∷ ws) e = done_never (ty.Truth (at (suc (length ws)))) ws
-type_never at (t.Constructor x ∷ ws) e = done_never (ty.Declared (record { name = x; span = at (suc (length ws)) })) ws
-type_never at ws e = absurd cc
-
-pub types_never : (at : Places) (ws : List Token) (j : ℕ) → many starts_type (type_at at) ws ≡ failed (At j) → ⊥
-types_never at ws = never_upto (length ws) starts_type (type_at at) (type_shrinks at) (type_never at) ws (omega arith)

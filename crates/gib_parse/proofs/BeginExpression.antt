@@ -7,31 +7,34 @@ use Rattle.gib_base.specs.declared.token.Token.TheVariants as t
 use Rattle.gib_syntax.specs.declared.tree.Ident.{Ident}
 use Rattle.gib_syntax.specs.declared.tree.Operator.{Operator}
 use Rattle.gib_syntax.specs.declared.tree.Operator.TheVariants as o
-use Rattle.gib_syntax.specs.Tree.{Expression, Arguments, Arms, Var, Num, Bit, Paren, Op, Call, Make, Let, Par, If, Case, NoArgument, Argument, LastArm, NextArm}
-use Rattle.gib_syntax.specs.Spelling.{Places, is_application, spell, spell_arguments, spell_arms, spell_variables, spell_operator, IsFine, AreFine, HasFine}
-use Rattle.gib_parse.specs.Reading.{At, Nested, Mode, Any, App, Atom, Reader, then_at, before, named, var_at, next_is, many, is_variable, is_sign, is_literal, literal_at, starts_atom, starts, ArmTree, arms_of, arm_at, next_arm_at, arms_at, arguments_of, arguments_at, bind_at, par_at, let_at, if_at, case_at, side_at, close_at, open_at, call, atom_at, app_at, any_at, no_level, parse}
+use Rattle.gib_syntax.specs.GenericTree.{GenericExpression, GenericArguments, GenericArms, GenericVar, GenericNum, GenericBit, GenericParen, GenericOp, GenericCall, GenericMake, GenericLet, GenericPar, GenericIf, GenericCase, GenericNoArgument, GenericArgument, GenericLastArm, GenericNextArm}
+use Rattle.gib_syntax.specs.GenericFine.{is_generic_application, IsGenericFine, AreGenericFine, HasGenericFine}
+use Rattle.gib_syntax.specs.Spelling.{Places, spell, spell_arguments, spell_arms, spell_variables, spell_operator, spell_type_arguments}
+use Rattle.gib_parse.specs.Reading.{At, Nested, Mode, Any, App, Atom, Reader, before, named, var_at, next_is, many, is_variable, is_sign, is_literal, literal_at, starts_atom, starts, ArmTree, arms_of, arm_at, next_arm_at, arms_at, arguments_of, arguments_at, bind_at, par_at, let_at, if_at, case_at, side_at, close_at, open_at, call, called_at, variable_at, make_at, constant_at, atom_at, app_at, any_at, no_level, parse}
 use Rattle.gib_parse.proofs.Tools.{done, failed}
 use Rattle.gib_parse.proofs.Sound.{IsMode, parse_sound, paren_mode, op_mode, arm_sound, next_sound, arms_sound}
 use Rattle.gib_parse.proofs.Longer.{parse_shrinks, next_shrinks}
-use Rattle.gib_parse.proofs.Begin.{agrees_cons, agrees_arms, agrees_arm, agrees_expr, Begins, b_map, b_never, b_done, b_now, b_by, b_then, b_last, behind_token, b_want, b_var, b_con, goes_sign, goes_var, goes_con, goes_vars, goes_expr, Keeps, many_begins, vars_never}
+use Rattle.gib_parse.proofs.Begin.{agrees_cons, agrees_arms, agrees_arm, agrees_expr, Begins, b_map, b_never, b_done, b_now, b_by, b_then, b_last, behind_token, b_want, b_var, b_con, goes_sign, goes_var, goes_con, goes_vars, goes_type_arguments, goes_expr, Keeps, many_begins, vars_never}
+use Rattle.gib_parse.proofs.BeginWritten.{type_arguments_begin}
+use Rattle.gib_syntax.specs.Forms.{WrittenTypes, NoType, MoreTypes}
 
 -- The languages, with what comes behind.
 
 abbrev pub ExpressionsThen : Mode → List Token → List Token → Type 0
-ExpressionsThen m r vs = (e : Expression) × IsFine e × IsMode m e × (vs ≡ spell e r)
+ExpressionsThen m r vs = (e : GenericExpression) × IsGenericFine e × IsMode m e × (vs ≡ spell e r)
 
 abbrev ArgumentsThen : List Token → List Token → Type 0
-ArgumentsThen r vs = (xs : Arguments) × AreFine xs × (vs ≡ spell_arguments xs r)
+ArgumentsThen r vs = (xs : GenericArguments) × AreGenericFine xs × (vs ≡ spell_arguments xs r)
 
 abbrev ArmThen : List Token → List Token → Type 0
-ArmThen r vs = (arm : ArmTree) × IsFine arm.body × (vs ≡ t.Constructor arm.constructor.name ∷ spell_variables arm.variables (t.Sign s.Arrow ∷ spell arm.body r))
+ArmThen r vs = (arm : ArmTree) × IsGenericFine arm.body × (vs ≡ t.Constructor arm.constructor.name ∷ spell_variables arm.variables (t.Sign s.Arrow ∷ spell arm.body r))
 
 abbrev ArmsThen : List Token → List Token → Type 0
-ArmsThen r vs = (arms : Arms) × HasFine arms × (vs ≡ spell_arms arms r)
+ArmsThen r vs = (arms : GenericArms) × HasGenericFine arms × (vs ≡ spell_arms arms r)
 
 -- No arm, or more of them behind a semicolon.
 abbrev MoreThen : List Token → List Token → Type 0
-MoreThen r vs = (vs ≡ r) ⊎ ((arms : Arms) × HasFine arms × (vs ≡ t.Sign s.Semicolon ∷ spell_arms arms r))
+MoreThen r vs = (vs ≡ r) ⊎ ((arms : GenericArms) × HasGenericFine arms × (vs ≡ t.Sign s.Semicolon ∷ spell_arms arms r))
 
 -- ---- the plainest trees
 
@@ -41,10 +44,10 @@ nowhere = record { start = 0; end = 0 }
 abbrev a_name : Ident
 a_name = record { name = record { 0 = 0 }; span = nowhere }
 
-abbrev zero_is : Expression
-zero_is = Num nowhere 0
+abbrev zero_is : GenericExpression
+zero_is = GenericNum nowhere 0
 
-zero_fine : IsFine zero_is
+zero_fine : IsGenericFine zero_is
 zero_fine = omega arith
 
 zero_mode : (m : Mode) → IsMode m zero_is
@@ -67,11 +70,11 @@ module _ (at : Places) where
   bind_begins : (n : ℕ) → PartsBegin n → (z : Span) (ws r : List Token) → Begins (λ vs. ExpressionsThen Any r (t.Sign s.Let ∷ vs)) (bind_at at (parse at n) z) ws
   unfolding bind_at
   bind_begins n h z ws r =
-      b_then (b_var at ws (t.Variable a_name.name ∷ t.Sign s.Equals ∷ t.Number 0 ∷ t.Sign s.In ∷ t.Number 0 ∷ r) (Let z a_name zero_is zero_is, (zero_fine, zero_fine), tt, refl)) (λ x r1 e1. goes_var at x ws r1 e1 (
-      b_then (b_want s.Equals r1 (t.Sign s.Equals ∷ t.Number 0 ∷ t.Sign s.In ∷ t.Number 0 ∷ r) (Let z x zero_is zero_is, (zero_fine, zero_fine), tt, refl)) (λ u r2 e2. goes_sign s.Equals r1 r2 u e2 (
-      b_then (b_map (λ vs o. (Let z x o.0 zero_is, (o.1, zero_fine), tt, ap (λ (k : List Token). t.Sign s.Let ∷ t.Variable x.name ∷ t.Sign s.Equals ∷ k) o.3)) (h Any r2 (t.Sign s.In ∷ t.Number 0 ∷ r))) (λ a r3 e3. let p3 = (parse_sound at n Any r2).by a r3 e3 in goes_expr a r2 r3 p3.spelled (
-      b_then (b_want s.In r3 (t.Sign s.In ∷ t.Number 0 ∷ r) (Let z x a zero_is, (p3.fine, zero_fine), tt, refl)) (λ u r4 e4. goes_sign s.In r3 r4 u e4 (
-      b_last (b_map (λ vs o. (Let z x a o.0, (p3.fine, o.1), tt, ap (λ (k : List Token). t.Sign s.Let ∷ t.Variable x.name ∷ t.Sign s.Equals ∷ spell a (t.Sign s.In ∷ k)) o.3)) (h Any r4 r)) (λ b r5. (Let z x a b, r5, refl))))))))))
+      b_then (b_var at ws (t.Variable a_name.name ∷ t.Sign s.Equals ∷ t.Number 0 ∷ t.Sign s.In ∷ t.Number 0 ∷ r) (GenericLet z a_name zero_is zero_is, (zero_fine, zero_fine), tt, refl)) (λ x r1 e1. goes_var at x ws r1 e1 (
+      b_then (b_want s.Equals r1 (t.Sign s.Equals ∷ t.Number 0 ∷ t.Sign s.In ∷ t.Number 0 ∷ r) (GenericLet z x zero_is zero_is, (zero_fine, zero_fine), tt, refl)) (λ u r2 e2. goes_sign s.Equals r1 r2 u e2 (
+      b_then (b_map (λ vs o. (GenericLet z x o.0 zero_is, (o.1, zero_fine), tt, ap (λ (k : List Token). t.Sign s.Let ∷ t.Variable x.name ∷ t.Sign s.Equals ∷ k) o.3)) (h Any r2 (t.Sign s.In ∷ t.Number 0 ∷ r))) (λ a r3 e3. let p3 = (parse_sound at n Any r2).by a r3 e3 in goes_expr a r2 r3 p3.spelled (
+      b_then (b_want s.In r3 (t.Sign s.In ∷ t.Number 0 ∷ r) (GenericLet z x a zero_is, (p3.fine, zero_fine), tt, refl)) (λ u r4 e4. goes_sign s.In r3 r4 u e4 (
+      b_last (b_map (λ vs o. (GenericLet z x a o.0, (p3.fine, o.1), tt, ap (λ (k : List Token). t.Sign s.Let ∷ t.Variable x.name ∷ t.Sign s.Equals ∷ spell a (t.Sign s.In ∷ k)) o.3)) (h Any r4 r)) (λ b r5. (GenericLet z x a b, r5, refl))))))))))
 
   par_begins : (n : ℕ) → PartsBegin n → (z : Span) (ws r : List Token) → Begins (λ vs. ExpressionsThen Any r (t.Sign s.Let ∷ t.Sign s.Par ∷ vs)) (par_at at (parse at n) z) ws
   unfolding par_at
@@ -79,15 +82,15 @@ module _ (at : Places) where
       let tail3 : List Token = t.Sign s.In ∷ t.Number 0 ∷ r in
       let tail2 : List Token = t.Sign s.Equals ∷ t.Number 0 ∷ tail3 in
       let tail1 : List Token = t.Sign s.And ∷ t.Variable a_name.name ∷ tail2 in
-      b_then (b_var at ws (t.Variable a_name.name ∷ t.Sign s.Equals ∷ t.Number 0 ∷ tail1) (Par z a_name zero_is a_name zero_is zero_is, (zero_fine, zero_fine, zero_fine), tt, refl)) (λ x r1 e1. goes_var at x ws r1 e1 (
-      b_then (b_want s.Equals r1 (t.Sign s.Equals ∷ t.Number 0 ∷ tail1) (Par z x zero_is a_name zero_is zero_is, (zero_fine, zero_fine, zero_fine), tt, refl)) (λ u r2 e2. goes_sign s.Equals r1 r2 u e2 (
-      b_then (b_map (λ vs o. (Par z x o.0 a_name zero_is zero_is, (o.1, zero_fine, zero_fine), tt, ap (λ (k : List Token). t.Sign s.Let ∷ t.Sign s.Par ∷ t.Variable x.name ∷ t.Sign s.Equals ∷ k) o.3)) (h Any r2 tail1)) (λ a r3 e3. let p3 = (parse_sound at n Any r2).by a r3 e3 in goes_expr a r2 r3 p3.spelled (
-      b_then (b_want s.And r3 tail1 (Par z x a a_name zero_is zero_is, (p3.fine, zero_fine, zero_fine), tt, refl)) (λ u r4 e4. goes_sign s.And r3 r4 u e4 (
-      b_then (b_var at r4 (t.Variable a_name.name ∷ tail2) (Par z x a a_name zero_is zero_is, (p3.fine, zero_fine, zero_fine), tt, refl)) (λ y r5 e5. goes_var at y r4 r5 e5 (
-      b_then (b_want s.Equals r5 tail2 (Par z x a y zero_is zero_is, (p3.fine, zero_fine, zero_fine), tt, refl)) (λ u r6 e6. goes_sign s.Equals r5 r6 u e6 (
-      b_then (b_map (λ vs o. (Par z x a y o.0 zero_is, (p3.fine, o.1, zero_fine), tt, ap (λ (k : List Token). t.Sign s.Let ∷ t.Sign s.Par ∷ t.Variable x.name ∷ t.Sign s.Equals ∷ spell a (t.Sign s.And ∷ t.Variable y.name ∷ t.Sign s.Equals ∷ k)) o.3)) (h Any r6 tail3)) (λ b r7 e7. let p7 = (parse_sound at n Any r6).by b r7 e7 in goes_expr b r6 r7 p7.spelled (
-      b_then (b_want s.In r7 tail3 (Par z x a y b zero_is, (p3.fine, p7.fine, zero_fine), tt, refl)) (λ u r8 e8. goes_sign s.In r7 r8 u e8 (
-      b_last (b_map (λ vs o. (Par z x a y b o.0, (p3.fine, p7.fine, o.1), tt, ap (λ (k : List Token). t.Sign s.Let ∷ t.Sign s.Par ∷ t.Variable x.name ∷ t.Sign s.Equals ∷ spell a (t.Sign s.And ∷ t.Variable y.name ∷ t.Sign s.Equals ∷ spell b (t.Sign s.In ∷ k))) o.3)) (h Any r8 r)) (λ c r9. (Par z x a y b c, r9, refl))))))))))))))))))
+      b_then (b_var at ws (t.Variable a_name.name ∷ t.Sign s.Equals ∷ t.Number 0 ∷ tail1) (GenericPar z a_name zero_is a_name zero_is zero_is, (zero_fine, zero_fine, zero_fine), tt, refl)) (λ x r1 e1. goes_var at x ws r1 e1 (
+      b_then (b_want s.Equals r1 (t.Sign s.Equals ∷ t.Number 0 ∷ tail1) (GenericPar z x zero_is a_name zero_is zero_is, (zero_fine, zero_fine, zero_fine), tt, refl)) (λ u r2 e2. goes_sign s.Equals r1 r2 u e2 (
+      b_then (b_map (λ vs o. (GenericPar z x o.0 a_name zero_is zero_is, (o.1, zero_fine, zero_fine), tt, ap (λ (k : List Token). t.Sign s.Let ∷ t.Sign s.Par ∷ t.Variable x.name ∷ t.Sign s.Equals ∷ k) o.3)) (h Any r2 tail1)) (λ a r3 e3. let p3 = (parse_sound at n Any r2).by a r3 e3 in goes_expr a r2 r3 p3.spelled (
+      b_then (b_want s.And r3 tail1 (GenericPar z x a a_name zero_is zero_is, (p3.fine, zero_fine, zero_fine), tt, refl)) (λ u r4 e4. goes_sign s.And r3 r4 u e4 (
+      b_then (b_var at r4 (t.Variable a_name.name ∷ tail2) (GenericPar z x a a_name zero_is zero_is, (p3.fine, zero_fine, zero_fine), tt, refl)) (λ y r5 e5. goes_var at y r4 r5 e5 (
+      b_then (b_want s.Equals r5 tail2 (GenericPar z x a y zero_is zero_is, (p3.fine, zero_fine, zero_fine), tt, refl)) (λ u r6 e6. goes_sign s.Equals r5 r6 u e6 (
+      b_then (b_map (λ vs o. (GenericPar z x a y o.0 zero_is, (p3.fine, o.1, zero_fine), tt, ap (λ (k : List Token). t.Sign s.Let ∷ t.Sign s.Par ∷ t.Variable x.name ∷ t.Sign s.Equals ∷ spell a (t.Sign s.And ∷ t.Variable y.name ∷ t.Sign s.Equals ∷ k)) o.3)) (h Any r6 tail3)) (λ b r7 e7. let p7 = (parse_sound at n Any r6).by b r7 e7 in goes_expr b r6 r7 p7.spelled (
+      b_then (b_want s.In r7 tail3 (GenericPar z x a y b zero_is, (p3.fine, p7.fine, zero_fine), tt, refl)) (λ u r8 e8. goes_sign s.In r7 r8 u e8 (
+      b_last (b_map (λ vs o. (GenericPar z x a y b o.0, (p3.fine, p7.fine, o.1), tt, ap (λ (k : List Token). t.Sign s.Let ∷ t.Sign s.Par ∷ t.Variable x.name ∷ t.Sign s.Equals ∷ spell a (t.Sign s.And ∷ t.Variable y.name ∷ t.Sign s.Equals ∷ spell b (t.Sign s.In ∷ k))) o.3)) (h Any r8 r)) (λ c r9. (GenericPar z x a y b c, r9, refl))))))))))))))))))
 
   let_begins : (n : ℕ) → PartsBegin n → (z : Span) (ws r : List Token) → Begins (λ vs. ExpressionsThen Any r (t.Sign s.Let ∷ vs)) (let_at at (parse at n) z) ws
   let_begins n h z (t.Sign s.Par ∷ ws) r = behind_token (let_at at (parse at n) z) (par_at at (parse at n) z) (t.Sign s.Par) ws refl (par_begins n h z ws r)
@@ -98,11 +101,11 @@ module _ (at : Places) where
   if_begins n h z ws r =
       let tail2 : List Token = t.Sign s.Else ∷ t.Number 0 ∷ r in
       let tail1 : List Token = t.Sign s.Then ∷ t.Number 0 ∷ tail2 in
-      b_then (b_map (λ vs o. (If z o.0 zero_is zero_is, (o.1, zero_fine, zero_fine), tt, ap (λ (k : List Token). t.Sign s.If ∷ k) o.3)) (h Any ws tail1)) (λ a r1 e1. let p1 = (parse_sound at n Any ws).by a r1 e1 in goes_expr a ws r1 p1.spelled (
-      b_then (b_want s.Then r1 tail1 (If z a zero_is zero_is, (p1.fine, zero_fine, zero_fine), tt, refl)) (λ u r2 e2. goes_sign s.Then r1 r2 u e2 (
-      b_then (b_map (λ vs o. (If z a o.0 zero_is, (p1.fine, o.1, zero_fine), tt, ap (λ (k : List Token). t.Sign s.If ∷ spell a (t.Sign s.Then ∷ k)) o.3)) (h Any r2 tail2)) (λ b r3 e3. let p3 = (parse_sound at n Any r2).by b r3 e3 in goes_expr b r2 r3 p3.spelled (
-      b_then (b_want s.Else r3 tail2 (If z a b zero_is, (p1.fine, p3.fine, zero_fine), tt, refl)) (λ u r4 e4. goes_sign s.Else r3 r4 u e4 (
-      b_last (b_map (λ vs o. (If z a b o.0, (p1.fine, p3.fine, o.1), tt, ap (λ (k : List Token). t.Sign s.If ∷ spell a (t.Sign s.Then ∷ spell b (t.Sign s.Else ∷ k))) o.3)) (h Any r4 r)) (λ c r5. (If z a b c, r5, refl))))))))))
+      b_then (b_map (λ vs o. (GenericIf z o.0 zero_is zero_is, (o.1, zero_fine, zero_fine), tt, ap (λ (k : List Token). t.Sign s.If ∷ k) o.3)) (h Any ws tail1)) (λ a r1 e1. let p1 = (parse_sound at n Any ws).by a r1 e1 in goes_expr a ws r1 p1.spelled (
+      b_then (b_want s.Then r1 tail1 (GenericIf z a zero_is zero_is, (p1.fine, zero_fine, zero_fine), tt, refl)) (λ u r2 e2. goes_sign s.Then r1 r2 u e2 (
+      b_then (b_map (λ vs o. (GenericIf z a o.0 zero_is, (p1.fine, o.1, zero_fine), tt, ap (λ (k : List Token). t.Sign s.If ∷ spell a (t.Sign s.Then ∷ k)) o.3)) (h Any r2 tail2)) (λ b r3 e3. let p3 = (parse_sound at n Any r2).by b r3 e3 in goes_expr b r2 r3 p3.spelled (
+      b_then (b_want s.Else r3 tail2 (GenericIf z a b zero_is, (p1.fine, p3.fine, zero_fine), tt, refl)) (λ u r4 e4. goes_sign s.Else r3 r4 u e4 (
+      b_last (b_map (λ vs o. (GenericIf z a b o.0, (p1.fine, p3.fine, o.1), tt, ap (λ (k : List Token). t.Sign s.If ∷ spell a (t.Sign s.Then ∷ spell b (t.Sign s.Else ∷ k))) o.3)) (h Any r4 r)) (λ c r5. (GenericIf z a b c, r5, refl))))))))))
 
   arm_begins : (n : ℕ) → PartsBegin n → (ws r : List Token) → Begins (ArmThen r) (arm_at at (parse at n Any)) ws
   unfolding arm_at
@@ -115,12 +118,12 @@ module _ (at : Places) where
   next_begins : (n : ℕ) → PartsBegin n → (r ws : List Token) → Begins (MoreThen r) (next_arm_at at (parse at n Any)) ws
   unfolding next_arm_at
   next_begins n h r ws =
-      b_then (b_want s.Semicolon ws (t.Sign s.Semicolon ∷ an_arm r) (inr (LastArm a_name [] zero_is, zero_fine, refl))) (λ u r1 e1. goes_sign s.Semicolon ws r1 u e1 (
-      b_map (λ vs o. inr (LastArm o.0.constructor o.0.variables o.0.body, o.1, ap (λ (l : List Token). t.Sign s.Semicolon ∷ l) o.2)) (arm_begins n h r1 r)))
+      b_then (b_want s.Semicolon ws (t.Sign s.Semicolon ∷ an_arm r) (inr (GenericLastArm a_name [] zero_is, zero_fine, refl))) (λ u r1 e1. goes_sign s.Semicolon ws r1 u e1 (
+      b_map (λ vs o. inr (GenericLastArm o.0.constructor o.0.variables o.0.body, o.1, ap (λ (l : List Token). t.Sign s.Semicolon ∷ l) o.2)) (arm_begins n h r1 r)))
 
-  more_closed : (r : List Token) (arm : ArmTree) → IsFine arm.body → (vs : List Token) → MoreThen r vs → MoreThen r (t.Sign s.Semicolon ∷ t.Constructor arm.constructor.name ∷ spell_variables arm.variables (t.Sign s.Arrow ∷ spell arm.body vs))
-  more_closed r arm f vs (inl e) = inr (LastArm arm.constructor arm.variables arm.body, f, ap (λ (l : List Token). t.Sign s.Semicolon ∷ t.Constructor arm.constructor.name ∷ spell_variables arm.variables (t.Sign s.Arrow ∷ spell arm.body l)) e)
-  more_closed r arm f vs (inr o) = inr (NextArm arm.constructor arm.variables arm.body o.0, (f, o.1), ap (λ (l : List Token). t.Sign s.Semicolon ∷ t.Constructor arm.constructor.name ∷ spell_variables arm.variables (t.Sign s.Arrow ∷ spell arm.body l)) o.2)
+  more_closed : (r : List Token) (arm : ArmTree) → IsGenericFine arm.body → (vs : List Token) → MoreThen r vs → MoreThen r (t.Sign s.Semicolon ∷ t.Constructor arm.constructor.name ∷ spell_variables arm.variables (t.Sign s.Arrow ∷ spell arm.body vs))
+  more_closed r arm f vs (inl e) = inr (GenericLastArm arm.constructor arm.variables arm.body, f, ap (λ (l : List Token). t.Sign s.Semicolon ∷ t.Constructor arm.constructor.name ∷ spell_variables arm.variables (t.Sign s.Arrow ∷ spell arm.body l)) e)
+  more_closed r arm f vs (inr o) = inr (GenericNextArm arm.constructor arm.variables arm.body o.0, (f, o.1), ap (λ (l : List Token). t.Sign s.Semicolon ∷ t.Constructor arm.constructor.name ∷ spell_variables arm.variables (t.Sign s.Arrow ∷ spell arm.body l)) o.2)
 
   next_keeps : (n : ℕ) (r : List Token) (arm : ArmTree) (ws rest : List Token) → next_arm_at at (parse at n Any) ws ≡ done arm rest → Keeps (MoreThen r) ws rest
   next_keeps n r arm ws rest e =
@@ -132,14 +135,14 @@ module _ (at : Places) where
         closed = more_closed r arm p.is_arm.fine;
       }
 
-  with_first : (r : List Token) (arm : ArmTree) → IsFine arm.body → (vs : List Token) → MoreThen r vs → ArmsThen r (t.Constructor arm.constructor.name ∷ spell_variables arm.variables (t.Sign s.Arrow ∷ spell arm.body vs))
-  with_first r arm f vs (inl e) = (LastArm arm.constructor arm.variables arm.body, f, ap (λ (l : List Token). t.Constructor arm.constructor.name ∷ spell_variables arm.variables (t.Sign s.Arrow ∷ spell arm.body l)) e)
-  with_first r arm f vs (inr o) = (NextArm arm.constructor arm.variables arm.body o.0, (f, o.1), ap (λ (l : List Token). t.Constructor arm.constructor.name ∷ spell_variables arm.variables (t.Sign s.Arrow ∷ spell arm.body l)) o.2)
+  with_first : (r : List Token) (arm : ArmTree) → IsGenericFine arm.body → (vs : List Token) → MoreThen r vs → ArmsThen r (t.Constructor arm.constructor.name ∷ spell_variables arm.variables (t.Sign s.Arrow ∷ spell arm.body vs))
+  with_first r arm f vs (inl e) = (GenericLastArm arm.constructor arm.variables arm.body, f, ap (λ (l : List Token). t.Constructor arm.constructor.name ∷ spell_variables arm.variables (t.Sign s.Arrow ∷ spell arm.body l)) e)
+  with_first r arm f vs (inr o) = (GenericNextArm arm.constructor arm.variables arm.body o.0, (f, o.1), ap (λ (l : List Token). t.Constructor arm.constructor.name ∷ spell_variables arm.variables (t.Sign s.Arrow ∷ spell arm.body l)) o.2)
 
   arms_begin : (n : ℕ) → PartsBegin n → (ws r : List Token) → Begins (ArmsThen r) (arms_at at (parse at n Any)) ws
   unfolding arms_at
   arms_begin n h ws r =
-      b_then (b_map (λ vs o. (LastArm o.0.constructor o.0.variables o.0.body, o.1, o.2)) (arm_begins n h ws r)) (λ arm r1 e1. let p1 = (arm_sound at n (parse at n Any) (parse_sound at n Any) ws).by arm r1 e1 in record {
+      b_then (b_map (λ vs o. (GenericLastArm o.0.constructor o.0.variables o.0.body, o.1, o.2)) (arm_begins n h ws r)) (λ arm r1 e1. let p1 = (arm_sound at n (parse at n Any) (parse_sound at n Any) ws).by arm r1 e1 in record {
         before = λ l. t.Constructor arm.constructor.name ∷ spell_variables arm.variables (t.Sign s.Arrow ∷ spell arm.body l);
         was = p1.spelled;
         agrees = agrees_arm arm.constructor arm.variables arm.body;
@@ -150,79 +153,111 @@ module _ (at : Places) where
   unfolding case_at
   case_begins n h z ws r =
       let tail : List Token = an_arm (t.Sign s.CloseBrace ∷ r) in
-      let some : Arms = LastArm a_name [] zero_is in
-      b_then (b_var at ws (t.Variable a_name.name ∷ t.Sign s.Of ∷ t.Sign s.OpenBrace ∷ tail) (Case z a_name some, zero_fine, tt, refl)) (λ x r1 e1. goes_var at x ws r1 e1 (
-      b_then (b_want s.Of r1 (t.Sign s.Of ∷ t.Sign s.OpenBrace ∷ tail) (Case z x some, zero_fine, tt, refl)) (λ u r2 e2. goes_sign s.Of r1 r2 u e2 (
-      b_then (b_want s.OpenBrace r2 (t.Sign s.OpenBrace ∷ tail) (Case z x some, zero_fine, tt, refl)) (λ u r3 e3. goes_sign s.OpenBrace r2 r3 u e3 (
-      b_then (b_map (λ vs o. (Case z x o.0, o.1, tt, ap (λ (k : List Token). t.Sign s.Case ∷ t.Variable x.name ∷ t.Sign s.Of ∷ t.Sign s.OpenBrace ∷ k) o.2)) (arms_begin n h r3 (t.Sign s.CloseBrace ∷ r))) (λ arms r4 e4. let p4 = (arms_sound at n (parse at n Any) (parse_sound at n Any) r3).by arms r4 e4 in record {
+      let some : GenericArms = GenericLastArm a_name [] zero_is in
+      b_then (b_var at ws (t.Variable a_name.name ∷ t.Sign s.Of ∷ t.Sign s.OpenBrace ∷ tail) (GenericCase z a_name some, zero_fine, tt, refl)) (λ x r1 e1. goes_var at x ws r1 e1 (
+      b_then (b_want s.Of r1 (t.Sign s.Of ∷ t.Sign s.OpenBrace ∷ tail) (GenericCase z x some, zero_fine, tt, refl)) (λ u r2 e2. goes_sign s.Of r1 r2 u e2 (
+      b_then (b_want s.OpenBrace r2 (t.Sign s.OpenBrace ∷ tail) (GenericCase z x some, zero_fine, tt, refl)) (λ u r3 e3. goes_sign s.OpenBrace r2 r3 u e3 (
+      b_then (b_map (λ vs o. (GenericCase z x o.0, o.1, tt, ap (λ (k : List Token). t.Sign s.Case ∷ t.Variable x.name ∷ t.Sign s.Of ∷ t.Sign s.OpenBrace ∷ k) o.2)) (arms_begin n h r3 (t.Sign s.CloseBrace ∷ r))) (λ arms r4 e4. let p4 = (arms_sound at n (parse at n Any) (parse_sound at n Any) r3).by arms r4 e4 in record {
         before = spell_arms arms;
         was = p4.spelled;
         agrees = agrees_arms arms;
         next =
-            b_last (b_want s.CloseBrace r4 (t.Sign s.CloseBrace ∷ r) (Case z x arms, p4.fine, tt, refl)) (λ u r5. (Case z x arms, r5, refl));
+            b_last (b_want s.CloseBrace r4 (t.Sign s.CloseBrace ∷ r) (GenericCase z x arms, p4.fine, tt, refl)) (λ u r5. (GenericCase z x arms, r5, refl));
       })))))))
 
-  side_begins : (n : ℕ) → PartsBegin n → (m : Mode) (z : Span) (f : Operator) (a : Expression) → IsFine a → (b : Bool) → is_application a ≡ b → (ws r : List Token) → (p : Reader Expression) (g : Token) → p (g ∷ ws) ≡ side_at (is_application a) (parse at n) z f a ws → ((l : List Token) → spell_operator f l ≡ g ∷ l)
+  side_begins : (n : ℕ) → PartsBegin n → (m : Mode) (z : Span) (f : Operator) (a : GenericExpression) → IsGenericFine a → (b : Bool) → is_generic_application a ≡ b → (ws r : List Token) → (p : Reader GenericExpression) (g : Token) → p (g ∷ ws) ≡ side_at (is_generic_application a) (parse at n) z f a ws → ((l : List Token) → spell_operator f l ≡ g ∷ l)
       → Begins (λ vs. ExpressionsThen m r (t.Sign s.Open ∷ spell a vs)) p (g ∷ ws)
-  side_begins n h m z f a fine false e ws r p g is sign = b_now (t.Sign s.Close ∷ r) (Paren z a, fine, paren_mode m z a, refl) (is ∙ ap (λ b. side_at b (parse at n) z f a ws) e)
+  side_begins n h m z f a fine false e ws r p g is sign = b_now (t.Sign s.Close ∷ r) (GenericParen z a, fine, paren_mode m z a, refl) (is ∙ ap (λ b. side_at b (parse at n) z f a ws) e)
   side_begins n h m z f a fine true e ws r p g is sign =
       behind_token {L = λ vs. ExpressionsThen m r (t.Sign s.Open ∷ spell a vs)} p (side_at true (parse at n) z f a) g ws (is ∙ ap (λ b. side_at b (parse at n) z f a ws) e)
-      (b_then (b_map (λ vs o. (Op z f a o.0, (fine, o.1, e, o.2), op_mode m z f a o.0, ap (λ (k : List Token). t.Sign s.Open ∷ spell a (g ∷ k)) o.3 ∙ ap (λ (k : List Token). t.Sign s.Open ∷ spell a k) (sym (sign (spell o.0 (t.Sign s.Close ∷ r)))))) (h App ws (t.Sign s.Close ∷ r)))
+      (b_then (b_map (λ vs o. (GenericOp z f a o.0, (fine, o.1, e, o.2), op_mode m z f a o.0, ap (λ (k : List Token). t.Sign s.Open ∷ spell a (g ∷ k)) o.3 ∙ ap (λ (k : List Token). t.Sign s.Open ∷ spell a k) (sym (sign (spell o.0 (t.Sign s.Close ∷ r)))))) (h App ws (t.Sign s.Close ∷ r)))
       (λ b r1 e1. let p1 = (parse_sound at n App ws).by b r1 e1 in goes_expr b ws r1 p1.spelled (
-      b_last (b_want s.Close r1 (t.Sign s.Close ∷ r) (Op z f a b, (fine, p1.fine, e, p1.mode), op_mode m z f a b, ap (λ (k : List Token). t.Sign s.Open ∷ spell a k) (sym (sign (spell b (t.Sign s.Close ∷ r)))))) (λ u r2. (Op z f a b, r2, refl)))))
+      b_last (b_want s.Close r1 (t.Sign s.Close ∷ r) (GenericOp z f a b, (fine, p1.fine, e, p1.mode), op_mode m z f a b, ap (λ (k : List Token). t.Sign s.Open ∷ spell a k) (sym (sign (spell b (t.Sign s.Close ∷ r)))))) (λ u r2. (GenericOp z f a b, r2, refl)))))
 
-  close_begins : (n : ℕ) → PartsBegin n → (m : Mode) (z : Span) (a : Expression) → IsFine a → (ws r : List Token) → Begins (λ vs. ExpressionsThen m r (t.Sign s.Open ∷ spell a vs)) (close_at (parse at n) z a) ws
-  close_begins n h m z a fine (t.Sign s.Close ∷ ws) r = b_done (Paren z a) ws refl
-  close_begins n h m z a fine (t.Sign s.Plus ∷ ws) r = side_begins n h m z o.Add a fine (is_application a) refl ws r (close_at (parse at n) z a) (t.Sign s.Plus) refl (λ l. refl)
-  close_begins n h m z a fine (t.Sign s.Minus ∷ ws) r = side_begins n h m z o.Subtract a fine (is_application a) refl ws r (close_at (parse at n) z a) (t.Sign s.Minus) refl (λ l. refl)
-  close_begins n h m z a fine (t.Sign s.Times ∷ ws) r = side_begins n h m z o.Multiply a fine (is_application a) refl ws r (close_at (parse at n) z a) (t.Sign s.Times) refl (λ l. refl)
-  close_begins n h m z a fine (t.Sign s.Same ∷ ws) r = side_begins n h m z o.Equal a fine (is_application a) refl ws r (close_at (parse at n) z a) (t.Sign s.Same) refl (λ l. refl)
-  close_begins n h m z a fine (t.Sign s.Less ∷ ws) r = side_begins n h m z o.Less a fine (is_application a) refl ws r (close_at (parse at n) z a) (t.Sign s.Less) refl (λ l. refl)
-  close_begins n h m z a fine (t.Sign s.Quotient ∷ ws) r = side_begins n h m z o.Quotient a fine (is_application a) refl ws r (close_at (parse at n) z a) (t.Sign s.Quotient) refl (λ l. refl)
-  close_begins n h m z a fine (t.Sign s.Remainder ∷ ws) r = side_begins n h m z o.Remainder a fine (is_application a) refl ws r (close_at (parse at n) z a) (t.Sign s.Remainder) refl (λ l. refl)
-  close_begins n h m z a fine ws r = b_now (t.Sign s.Close ∷ r) (Paren z a, fine, paren_mode m z a, refl) refl
+  close_begins : (n : ℕ) → PartsBegin n → (m : Mode) (z : Span) (a : GenericExpression) → IsGenericFine a → (ws r : List Token) → Begins (λ vs. ExpressionsThen m r (t.Sign s.Open ∷ spell a vs)) (close_at (parse at n) z a) ws
+  close_begins n h m z a fine (t.Sign s.Close ∷ ws) r = b_done (GenericParen z a) ws refl
+  close_begins n h m z a fine (t.Sign s.Plus ∷ ws) r = side_begins n h m z o.Add a fine (is_generic_application a) refl ws r (close_at (parse at n) z a) (t.Sign s.Plus) refl (λ l. refl)
+  close_begins n h m z a fine (t.Sign s.Minus ∷ ws) r = side_begins n h m z o.Subtract a fine (is_generic_application a) refl ws r (close_at (parse at n) z a) (t.Sign s.Minus) refl (λ l. refl)
+  close_begins n h m z a fine (t.Sign s.Times ∷ ws) r = side_begins n h m z o.Multiply a fine (is_generic_application a) refl ws r (close_at (parse at n) z a) (t.Sign s.Times) refl (λ l. refl)
+  close_begins n h m z a fine (t.Sign s.Same ∷ ws) r = side_begins n h m z o.Equal a fine (is_generic_application a) refl ws r (close_at (parse at n) z a) (t.Sign s.Same) refl (λ l. refl)
+  close_begins n h m z a fine (t.Sign s.Less ∷ ws) r = side_begins n h m z o.Less a fine (is_generic_application a) refl ws r (close_at (parse at n) z a) (t.Sign s.Less) refl (λ l. refl)
+  close_begins n h m z a fine (t.Sign s.Quotient ∷ ws) r = side_begins n h m z o.Quotient a fine (is_generic_application a) refl ws r (close_at (parse at n) z a) (t.Sign s.Quotient) refl (λ l. refl)
+  close_begins n h m z a fine (t.Sign s.Remainder ∷ ws) r = side_begins n h m z o.Remainder a fine (is_generic_application a) refl ws r (close_at (parse at n) z a) (t.Sign s.Remainder) refl (λ l. refl)
+  close_begins n h m z a fine ws r = b_now (t.Sign s.Close ∷ r) (GenericParen z a, fine, paren_mode m z a, refl) refl
 
   open_begins : (n : ℕ) → PartsBegin n → (m : Mode) (z : Span) (ws r : List Token) → Begins (λ vs. ExpressionsThen m r (t.Sign s.Open ∷ vs)) (open_at (parse at n) z) ws
   unfolding open_at
   open_begins n h m z ws r =
-      b_then (b_map (λ vs o. (Paren z o.0, o.1, paren_mode m z o.0, ap (λ (k : List Token). t.Sign s.Open ∷ k) o.3)) (h Any ws (t.Sign s.Close ∷ r)))
+      b_then (b_map (λ vs o. (GenericParen z o.0, o.1, paren_mode m z o.0, ap (λ (k : List Token). t.Sign s.Open ∷ k) o.3)) (h Any ws (t.Sign s.Close ∷ r)))
       (λ a r1 e1. let p1 = (parse_sound at n Any ws).by a r1 e1 in goes_expr a ws r1 p1.spelled (close_begins n h m z a p1.fine r1 r))
 
   literal_begins : (n : ℕ) (m : Mode) (v : ℕ) (ws r : List Token) (b : Bool) → is_literal v ≡ b → Begins (ExpressionsThen m r) (atom_at at (parse at n)) (t.Number v ∷ ws)
-  literal_begins n m v ws r true e = b_done (Num (before at ws) v) ws (ap (λ b. literal_at b (before at ws) v ws) e)
+  literal_begins n m v ws r true e = b_done (GenericNum (before at ws) v) ws (ap (λ b. literal_at b (before at ws) v ws) e)
   literal_begins n m v ws r false e = b_now (t.Number 0 ∷ r) (a_number m r) (ap (λ b. literal_at b (before at ws) v ws) e)
 
+  constant_mode : (m : Mode) (k : Ident) (as' : WrittenTypes) → IsMode m (GenericMake k as' GenericNoArgument)
+  constant_mode Any k as' = tt
+  constant_mode App k as' = refl
+  constant_mode Atom k as' = refl
+
+  constant_begins : (m : Mode) (k : Ident) (ws r : List Token) → Begins (λ vs. ExpressionsThen m r (t.Constructor k.name ∷ vs)) (constant_at at k) ws
+  unfolding constant_at
+  constant_begins m k ws r =
+      b_last (b_map (λ vs o. (GenericMake k o.0 GenericNoArgument, tt, constant_mode m k o.0, ap (λ (l : List Token). t.Constructor k.name ∷ l) o.1)) (type_arguments_begin at ws r)) (λ as' left. (GenericMake k as' GenericNoArgument, left, refl))
+
   atom_begins : (n : ℕ) → PartsBegin n → (m : Mode) (ws r : List Token) → Begins (ExpressionsThen m r) (atom_at at (parse at n)) ws
-  atom_begins n h m (t.Variable x ∷ ws) r = b_done (Var (named at x ws)) ws refl
-  atom_begins n h m (t.Constructor k ∷ ws) r = b_done (Make (named at k ws) NoArgument) ws refl
+  atom_begins n h m (t.Variable x ∷ ws) r = b_done (GenericVar (named at x ws)) ws refl
+  atom_begins n h m (t.Constructor k ∷ ws) r = behind_token (atom_at at (parse at n)) (constant_at at (named at k ws)) (t.Constructor k) ws refl (constant_begins m (named at k ws) ws r)
   atom_begins n h m (t.Number v ∷ ws) r = literal_begins n m v ws r (is_literal v) refl
-  atom_begins n h m (t.Sign s.True ∷ ws) r = b_done (Bit (before at ws) true) ws refl
-  atom_begins n h m (t.Sign s.False ∷ ws) r = b_done (Bit (before at ws) false) ws refl
+  atom_begins n h m (t.Sign s.True ∷ ws) r = b_done (GenericBit (before at ws) true) ws refl
+  atom_begins n h m (t.Sign s.False ∷ ws) r = b_done (GenericBit (before at ws) false) ws refl
   atom_begins n h m (t.Sign s.Open ∷ ws) r = behind_token (atom_at at (parse at n)) (open_at (parse at n) (before at ws)) (t.Sign s.Open) ws refl (open_begins n h m (before at ws) ws r)
   atom_begins n h m ws r = b_now (t.Number 0 ∷ r) (a_number m r) refl
 
-  argument_keeps : (n : ℕ) (r : List Token) (a : Expression) (ws rest : List Token) → parse at n Atom ws ≡ done a rest → Keeps (ArgumentsThen r) ws rest
+  argument_keeps : (n : ℕ) (r : List Token) (a : GenericExpression) (ws rest : List Token) → parse at n Atom ws ≡ done a rest → Keeps (ArgumentsThen r) ws rest
   argument_keeps n r a ws rest e =
       let p = (parse_sound at n Atom ws).by a rest e in
-      record { before = spell a; was = p.spelled; agrees = agrees_expr a; closed = λ vs o. (Argument a o.0, (p.fine, p.mode, o.1), ap (spell a) o.2) }
+      record { before = spell a; was = p.spelled; agrees = agrees_expr a; closed = λ vs o. (GenericArgument a o.0, (p.fine, p.mode, o.1), ap (spell a) o.2) }
 
   arguments_begin : (n : ℕ) → PartsBegin n → (ws r : List Token) → Begins (ArgumentsThen r) (arguments_at (parse at n Atom)) ws
   unfolding arguments_at
   arguments_begin n h ws r =
-      b_last (many_begins (ArgumentsThen r) starts_atom (parse at n Atom) (parse_shrinks at n Atom) (λ ws. b_map (λ vs o. (Argument o.0 NoArgument, (o.1, o.2, tt), o.3)) (h Atom ws r)) (λ a ws rest e. argument_keeps n r a ws rest e) ws)
+      b_last (many_begins (ArgumentsThen r) starts_atom (parse at n Atom) (parse_shrinks at n Atom) (λ ws. b_map (λ vs o. (GenericArgument o.0 GenericNoArgument, (o.1, o.2, tt), o.3)) (h Atom ws r)) (λ a ws rest e. argument_keeps n r a ws rest e) ws)
       (λ xs r1. (arguments_of xs, r1, refl))
 
-  call_fine : (f : Ident) (xs : Arguments) (r : List Token) → AreFine xs → (m : Mode) → ((e : Expression) → is_application e ≡ true → IsMode m e) → ExpressionsThen m r (t.Variable f.name ∷ spell_arguments xs r)
-  call_fine f NoArgument r h m k = (Var f, tt, k (Var f) refl, refl)
-  call_fine f (Argument a xs) r h m k = (Call f (Argument a xs), h, k (Call f (Argument a xs)) refl, refl)
+  call_fine : (f : Ident) (xs : GenericArguments) (r : List Token) → AreGenericFine xs → (m : Mode) → ((e : GenericExpression) → is_generic_application e ≡ true → IsMode m e) → ExpressionsThen m r (t.Variable f.name ∷ spell_arguments xs r)
+  call_fine f GenericNoArgument r h m k = (GenericVar f, tt, k (GenericVar f) refl, refl)
+  call_fine f (GenericArgument a xs) r h m k = (GenericCall f NoType (GenericArgument a xs), h, k (GenericCall f NoType (GenericArgument a xs)) refl, refl)
 
-  app_begins : (n : ℕ) → PartsBegin n → (m : Mode) → ((e : Expression) → is_application e ≡ true → IsMode m e) → (ws r : List Token) → Begins (ExpressionsThen m r) (app_at at (parse at n)) ws
-  app_begins n h m k (t.Variable f ∷ ws) r =
-      behind_token (app_at at (parse at n)) (λ l. then_at (arguments_at (parse at n Atom) l) (λ xs left. done (call (named at f ws) xs) left)) (t.Variable f) ws refl
-      (b_last (b_map (λ vs o. subst (λ (l : List Token). ExpressionsThen m r (t.Variable f ∷ l)) (sym o.2) (call_fine (named at f ws) o.0 r o.1 m k)) (arguments_begin n h ws r)) (λ xs left. (call (named at f ws) xs, left, refl)))
-  app_begins n h m k (t.Constructor c ∷ ws) r =
-      behind_token (app_at at (parse at n)) (λ l. then_at (arguments_at (parse at n Atom) l) (λ xs left. done (Make (named at c ws) xs) left)) (t.Constructor c) ws refl
-      (b_last (b_map (λ vs o. (Make (named at c ws) o.0, o.1, k (Make (named at c ws) o.0) refl, ap (λ (l : List Token). t.Constructor c ∷ l) o.2)) (arguments_begin n h ws r)) (λ xs left. (Make (named at c ws) xs, left, refl)))
+  called_begins : (n : ℕ) → PartsBegin n → (m : Mode) → ((e : GenericExpression) → is_generic_application e ≡ true → IsMode m e) → (f : Ident) (as' : WrittenTypes) (ws r : List Token)
+      → Begins (λ vs. ExpressionsThen m r (t.Variable f.name ∷ spell_type_arguments as' vs)) (called_at (parse at n) f as') ws
+  unfolding called_at
+  called_begins n h m k f NoType ws r =
+      b_last (b_map (λ vs o. subst (λ (l : List Token). ExpressionsThen m r (t.Variable f.name ∷ l)) (sym o.2) (call_fine f o.0 r o.1 m k)) (arguments_begin n h ws r)) (λ xs left. (call f xs, left, refl))
+  called_begins n h m k f (MoreTypes w as') ws r =
+      let with : GenericArguments → GenericExpression = GenericCall f (MoreTypes w as') in
+      b_then (b_map (λ vs o. (with (GenericArgument o.0 GenericNoArgument), (o.1, o.2, tt), k (with (GenericArgument o.0 GenericNoArgument)) refl, ap (λ (l : List Token). t.Variable f.name ∷ spell_type_arguments (MoreTypes w as') l) o.3)) (h Atom ws r))
+      (λ a r1 e1. let p1 = (parse_sound at n Atom ws).by a r1 e1 in goes_expr a ws r1 p1.spelled (
+      b_last (b_map (λ vs o. (with (GenericArgument a o.0), (p1.fine, p1.mode, o.1), k (with (GenericArgument a o.0)) refl, ap (λ (l : List Token). t.Variable f.name ∷ spell_type_arguments (MoreTypes w as') (spell a l)) o.2)) (arguments_begin n h r1 r))
+      (λ xs left. (with (GenericArgument a xs), left, refl))))
+
+  variable_begins : (n : ℕ) → PartsBegin n → (m : Mode) → ((e : GenericExpression) → is_generic_application e ≡ true → IsMode m e) → (f : Ident) (ws r : List Token) → Begins (λ vs. ExpressionsThen m r (t.Variable f.name ∷ vs)) (variable_at at (parse at n) f) ws
+  unfolding variable_at
+  variable_begins n h m k f ws r =
+      let one : GenericArguments = GenericArgument zero_is GenericNoArgument in
+      b_then (b_map (λ vs o. (GenericCall f o.0 one, (zero_fine, refl, tt), k (GenericCall f o.0 one) refl, ap (λ (l : List Token). t.Variable f.name ∷ l) o.1)) (type_arguments_begin at ws (t.Number 0 ∷ r)))
+      (λ as' r1 e1. goes_type_arguments at as' ws r1 e1 (called_begins n h m k f as' r1 r))
+
+  make_begins : (n : ℕ) → PartsBegin n → (m : Mode) → ((e : GenericExpression) → is_generic_application e ≡ true → IsMode m e) → (c : Ident) (ws r : List Token) → Begins (λ vs. ExpressionsThen m r (t.Constructor c.name ∷ vs)) (make_at at (parse at n) c) ws
+  unfolding make_at
+  make_begins n h m k c ws r =
+      b_then (b_map (λ vs o. (GenericMake c o.0 GenericNoArgument, tt, k (GenericMake c o.0 GenericNoArgument) refl, ap (λ (l : List Token). t.Constructor c.name ∷ l) o.1)) (type_arguments_begin at ws r))
+      (λ as' r1 e1. goes_type_arguments at as' ws r1 e1 (
+      b_last (b_map (λ vs o. (GenericMake c as' o.0, o.1, k (GenericMake c as' o.0) refl, ap (λ (l : List Token). t.Constructor c.name ∷ spell_type_arguments as' l) o.2)) (arguments_begin n h r1 r)) (λ xs left. (GenericMake c as' xs, left, refl))))
+
+  app_begins : (n : ℕ) → PartsBegin n → (m : Mode) → ((e : GenericExpression) → is_generic_application e ≡ true → IsMode m e) → (ws r : List Token) → Begins (ExpressionsThen m r) (app_at at (parse at n)) ws
+  app_begins n h m k (t.Variable f ∷ ws) r = behind_token (app_at at (parse at n)) (variable_at at (parse at n) (named at f ws)) (t.Variable f) ws refl (variable_begins n h m k (named at f ws) ws r)
+  app_begins n h m k (t.Constructor c ∷ ws) r = behind_token (app_at at (parse at n)) (make_at at (parse at n) (named at c ws)) (t.Constructor c) ws refl (make_begins n h m k (named at c ws) ws r)
   app_begins n h m k ws r = b_by (app_at at (parse at n)) (atom_at at (parse at n)) ws refl (atom_begins n h m ws r)
 
   any_begins : (n : ℕ) → PartsBegin n → (ws r : List Token) → Begins (ExpressionsThen Any r) (any_at at (parse at n)) ws
@@ -235,7 +270,7 @@ module _ (at : Places) where
   nested_not_at j k e = cc
 
   none_begins : (m : Mode) (v : Bool) (ws r : List Token) → Begins (ExpressionsThen m r) (no_level v) ws
-  none_begins m true ws r = b_never (λ j e. nested_not_at {A = Expression} (length ws) j e)
+  none_begins m true ws r = b_never (λ j e. nested_not_at {A = GenericExpression} (length ws) j e)
   none_begins m false ws r = b_now (t.Number 0 ∷ r) (a_number m r) refl
 
   pub parse_begins : (n : ℕ) (m : Mode) (ws r : List Token) → Begins (ExpressionsThen m r) (parse at n m) ws

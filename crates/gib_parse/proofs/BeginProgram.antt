@@ -7,56 +7,56 @@ use Rattle.gib_base.specs.declared.token.Sign.TheVariants as s
 use Rattle.gib_base.specs.declared.token.Token.{Token}
 use Rattle.gib_base.specs.declared.token.Token.TheVariants as t
 use Rattle.gib_syntax.specs.declared.tree.Ident.{Ident}
-use Rattle.gib_syntax.specs.declared.tree.TypeName.{TypeName}
-use Rattle.gib_syntax.specs.declared.tree.TypeName.TheVariants as ty
-use Rattle.gib_syntax.specs.declared.tree.Parameter.{Parameter}
-use Rattle.gib_syntax.specs.Tree.{Expression, Num, ConstructorTree, DataTree, FunctionTree, MainTree, ProgramTree}
-use Rattle.gib_syntax.specs.Spelling.{Places, IsFine, IsFineFunction, IsFineProgram, HasConstructor, Derives, spell_type, spell_constructor, spell_more, spell_constructors, spell_data, spell_datas, spell_parameter, spell_parameters, spell_body, spell_function, spell_functions, spell_main, spell_program}
-use Rattle.gib_parse.specs.Reading.{At, Any, type_at, many, starts_type, is_sign, constructor_at, alternative_at, constructors_at, data_at, parameter_at, parameters_at, BodyTree, body_at, function_at, main_at, program_at, ends_at, whole_in, parse, Begun}
+use Rattle.gib_syntax.specs.Forms.{WrittenType, WholeAt}
+use Rattle.gib_syntax.specs.GenericTree.{GenericExpression, GenericNum, GenericConstructorTree, GenericDataTree, GenericFunctionTree, GenericMainTree, GenericProgramTree, GenericParameterTree}
+use Rattle.gib_syntax.specs.GenericFine.{IsGenericFine, IsGenericFineFunction, IsGenericFineProgram, HasGenericConstructor}
+use Rattle.gib_syntax.specs.Spelling.{Places, Derives, spell_variables, spell_type_parameters, spell_type, spell_constructor, spell_more, spell_constructors, spell_data, spell_datas, spell_parameter, spell_parameters, spell_body, spell_function, spell_functions, spell_main, spell_program}
+use Rattle.gib_parse.specs.Reading.{At, Any, var_at, is_variable, many, is_sign, constructor_at, alternative_at, constructors_at, data_at, parameter_at, parameters_at, BodyTree, body_at, function_at, main_at, program_at, ends_at, whole_in, parse, Begun}
 use Rattle.gib_parse.proofs.Tools.{done, failed}
 use Rattle.gib_parse.proofs.Many.{many_sound}
 use Rattle.gib_parse.proofs.Sound.{parse_sound}
-use Rattle.gib_parse.proofs.ProgramSound.{constructor_sound, alternative_sound, constructors_sound, SoundData, data_sound, datas_sound, parameter_sound, parameters_sound, SoundFunction, function_sound, functions_sound, program_sound, alternative_shrinks, data_shrinks, parameter_shrinks, function_shrinks}
-use Rattle.gib_parse.proofs.Begin.{Agrees, agrees_cons, agrees_constructor, agrees_constructors, agrees_data, agrees_datas, agrees_parameter, agrees_parameters, agrees_body, agrees_function, agrees_functions, Begins, b_map, b_never, b_done, b_now, b_then, b_last, b_want, b_var, b_con, b_type, goes_sign, goes_var, goes_con, goes_type, goes_expr, Keeps, many_begins, types_never}
+use Rattle.gib_parse.proofs.ProgramSound.{constructor_sound, alternative_sound, constructors_sound, SoundData, data_sound, datas_sound, parameter_sound, parameters_sound, type_parameters_sound, SoundFunction, function_sound, functions_sound, program_sound, alternative_shrinks, data_shrinks, parameter_shrinks, function_shrinks}
+use Rattle.gib_parse.proofs.Begin.{Agrees, agrees_cons, agrees_constructor, agrees_constructors, agrees_data, agrees_datas, agrees_parameter, agrees_parameters, agrees_body, agrees_type_parameters, agrees_function, agrees_functions, Begins, b_map, b_never, b_done, b_now, b_then, b_last, b_want, b_var, b_con, goes_sign, goes_var, goes_con, goes_vars, goes_type, goes_expr, Keeps, many_begins, vars_never}
+use Rattle.gib_parse.proofs.BeginWritten.{type_begins, types_begin, type_parameters_begin}
 use Rattle.gib_parse.proofs.BeginExpression.{parse_begins}
 
 -- The languages, with what comes behind.
 
 abbrev ConstructorThen : List Token → List Token → Type 0
-ConstructorThen r vs = (c : ConstructorTree) × (vs ≡ spell_constructor c r)
+ConstructorThen r vs = (c : GenericConstructorTree) × (vs ≡ spell_constructor c r)
 
 abbrev MoreThen : List Token → List Token → Type 0
-MoreThen r vs = (cs : List ConstructorTree) × (vs ≡ spell_more cs r)
+MoreThen r vs = (cs : List GenericConstructorTree) × (vs ≡ spell_more cs r)
 
 abbrev ConstructorsThen : List Token → List Token → Type 0
-ConstructorsThen r vs = (cs : List ConstructorTree) × (cs ≢ []) × (vs ≡ spell_constructors cs r)
+ConstructorsThen r vs = (cs : List GenericConstructorTree) × (cs ≢ []) × (vs ≡ spell_constructors cs r)
 
 abbrev DatasThen : List Token → List Token → Type 0
-DatasThen r vs = (ds : List DataTree) × AllByRecursion HasConstructor ds × (vs ≡ spell_datas ds r)
+DatasThen r vs = (ds : List GenericDataTree) × AllByRecursion HasGenericConstructor ds × (vs ≡ spell_datas ds r)
 
 abbrev DataThen : List Token → List Token → Type 0
-DataThen r vs = (d : DataTree) × HasConstructor d × (vs ≡ spell_data d r)
+DataThen r vs = (d : GenericDataTree) × HasGenericConstructor d × (vs ≡ spell_data d r)
 
 abbrev ParametersThen : List Token → List Token → Type 0
-ParametersThen r vs = (qs : List Parameter) × (vs ≡ spell_parameters qs r)
+ParametersThen r vs = (qs : List GenericParameterTree) × (vs ≡ spell_parameters qs r)
 
 abbrev ParameterThen : List Token → List Token → Type 0
-ParameterThen r vs = (q : Parameter) × (vs ≡ spell_parameter q r)
+ParameterThen r vs = (q : GenericParameterTree) × (vs ≡ spell_parameter q r)
 
 abbrev BodyThen : List Token → List Token → Type 0
-BodyThen r vs = (b : BodyTree) × IsFine b.body × (vs ≡ spell_body b.result b.body r)
+BodyThen r vs = (b : BodyTree) × IsGenericFine b.body × (vs ≡ spell_body b.result b.body r)
 
 abbrev FunctionThen : List Token → List Token → Type 0
-FunctionThen r vs = (f : FunctionTree) × IsFineFunction f × (vs ≡ spell_function f r)
+FunctionThen r vs = (f : GenericFunctionTree) × IsGenericFineFunction f × (vs ≡ spell_function f r)
 
 abbrev FunctionsThen : List Token → List Token → Type 0
-FunctionsThen r vs = (fs : List FunctionTree) × AllByRecursion IsFineFunction fs × (vs ≡ spell_functions fs r)
+FunctionsThen r vs = (fs : List GenericFunctionTree) × AllByRecursion IsGenericFineFunction fs × (vs ≡ spell_functions fs r)
 
 abbrev MainThen : List Token → List Token → Type 0
-MainThen r vs = (m : MainTree) × IsFine m.body × (vs ≡ spell_main m r)
+MainThen r vs = (m : GenericMainTree) × IsGenericFine m.body × (vs ≡ spell_main m r)
 
 abbrev Programs : List Token → Type 0
-Programs vs = (p : ProgramTree) × IsFineProgram p × (vs ≡ spell_program p [])
+Programs vs = (p : GenericProgramTree) × IsGenericFineProgram p × (vs ≡ spell_program p [])
 
 -- ---- the plainest trees
 
@@ -66,40 +66,40 @@ nowhere = record { start = 0; end = 0 }
 abbrev a_name : Ident
 a_name = record { name = record { 0 = 0 }; span = nowhere }
 
-abbrev zero_is : Expression
-zero_is = Num nowhere 0
+abbrev zero_is : GenericExpression
+zero_is = GenericNum nowhere 0
 
-zero_fine : IsFine zero_is
+zero_fine : IsGenericFine zero_is
 zero_fine = omega arith
 
-abbrev a_type : TypeName
-a_type = ty.Whole nowhere
+abbrev a_type : WrittenType
+a_type = WholeAt nowhere
 
-abbrev a_constructor : ConstructorTree
+abbrev a_constructor : GenericConstructorTree
 a_constructor = record { name = a_name; fields = [] }
 
-abbrev a_parameter : Parameter
+abbrev a_parameter : GenericParameterTree
 a_parameter = record { name = a_name; ty = a_type }
 
 abbrev a_body : BodyTree
 a_body = record { result = a_type; body = zero_is }
 
-abbrev a_main : MainTree
+abbrev a_main : GenericMainTree
 a_main = record { parameter = a_parameter; result = a_type; body = zero_is }
 
 abbrev body_tokens : List Token → List Token
 body_tokens r = spell_body a_type zero_is r
 
-agrees_main : (m : MainTree) (j : ℕ) (ws vs : List Token) → Agrees j ws vs → Agrees j (spell_main m ws) (spell_main m vs)
+agrees_main : (m : GenericMainTree) (j : ℕ) (ws vs : List Token) → Agrees j ws vs → Agrees j (spell_main m ws) (spell_main m vs)
 agrees_main m j ws vs a = agrees_cons (t.Sign s.Main) j _ _ (agrees_parameter m.parameter j _ _ (agrees_body m.result m.body j ws vs a))
 
-agrees_program : (p : ProgramTree) (j : ℕ) (ws vs : List Token) → Agrees j ws vs → Agrees j (spell_program p ws) (spell_program p vs)
+agrees_program : (p : GenericProgramTree) (j : ℕ) (ws vs : List Token) → Agrees j ws vs → Agrees j (spell_program p ws) (spell_program p vs)
 agrees_program p j ws vs a = agrees_datas p.datas j _ _ (agrees_functions p.functions j _ _ (agrees_main p.main j ws vs a))
 
-some_constructors : (c : ConstructorTree) (cs : List ConstructorTree) → c ∷ cs ≢ []
+some_constructors : (c : GenericConstructorTree) (cs : List GenericConstructorTree) → c ∷ cs ≢ []
 some_constructors c cs e = cc
 
-some_parameters : (q : Parameter) (qs : List Parameter) → q ∷ qs ≢ []
+some_parameters : (q : GenericParameterTree) (qs : List GenericParameterTree) → q ∷ qs ≢ []
 some_parameters q qs e = cc
 
 module _ (at : Places) where
@@ -109,7 +109,7 @@ module _ (at : Places) where
   unfolding constructor_at
   constructor_begins ws r =
       b_then (b_con at ws (t.Constructor a_name.name ∷ r) (a_constructor, refl)) (λ k r1 e1. goes_con at k ws r1 e1 (
-      b_last {p = many starts_type (type_at at)} (b_never (types_never at r1)) (λ fields r2. ((let made : ConstructorTree = record { name = k; fields = fields } in made), r2, refl))))
+      b_last (b_map (λ vs o. ((let made : GenericConstructorTree = record { name = k; fields = o.0 } in made), ap (λ (l : List Token). t.Constructor k.name ∷ l) o.1)) (types_begin at r1 r)) (λ fields r2. ((let made : GenericConstructorTree = record { name = k; fields = fields } in made), r2, refl))))
 
   alternative_begins : (r ws : List Token) → Begins (MoreThen r) (alternative_at at) ws
   unfolding alternative_at
@@ -117,7 +117,7 @@ module _ (at : Places) where
       b_then (b_want s.Bar ws (t.Sign s.Bar ∷ t.Constructor a_name.name ∷ r) (a_constructor ∷ [], refl)) (λ u r1 e1. goes_sign s.Bar ws r1 u e1 (
       b_map (λ vs o. (o.0 ∷ [], ap (λ (l : List Token). t.Sign s.Bar ∷ l) o.1)) (constructor_begins r1 r)))
 
-  alternative_keeps : (r : List Token) (c : ConstructorTree) (ws rest : List Token) → alternative_at at ws ≡ done c rest → Keeps (MoreThen r) ws rest
+  alternative_keeps : (r : List Token) (c : GenericConstructorTree) (ws rest : List Token) → alternative_at at ws ≡ done c rest → Keeps (MoreThen r) ws rest
   alternative_keeps r c ws rest e =
       let p = (alternative_sound at ws).by c rest e in
       record {
@@ -141,20 +141,21 @@ module _ (at : Places) where
   unfolding data_at
   data_begins ws r =
       let tail : List Token = t.Sign s.Semicolon ∷ r in
-      let one : List ConstructorTree = a_constructor ∷ [] in
+      let one : List GenericConstructorTree = a_constructor ∷ [] in
       let some = some_constructors a_constructor [] in
-      b_then (b_want s.Data ws (t.Sign s.Data ∷ t.Constructor a_name.name ∷ t.Sign s.Equals ∷ t.Constructor a_name.name ∷ tail) (record { name = a_name; constructors = one }, some, refl)) (λ u r1 e1. goes_sign s.Data ws r1 u e1 (
-      b_then (b_con at r1 (t.Constructor a_name.name ∷ t.Sign s.Equals ∷ t.Constructor a_name.name ∷ tail) (record { name = a_name; constructors = one }, some, refl)) (λ d r2 e2. goes_con at d r1 r2 e2 (
-      b_then (b_want s.Equals r2 (t.Sign s.Equals ∷ t.Constructor a_name.name ∷ tail) (record { name = d; constructors = one }, some, refl)) (λ u r3 e3. goes_sign s.Equals r2 r3 u e3 (
-      b_then (b_map (λ vs o. (record { name = d; constructors = o.0 }, o.1, ap (λ (l : List Token). t.Sign s.Data ∷ t.Constructor d.name ∷ t.Sign s.Equals ∷ l) o.2)) (constructors_begin r3 tail)) (λ cs r4 e4. let p4 = (constructors_sound at r3).by cs r4 e4 in record {
+      b_then (b_want s.Data ws (t.Sign s.Data ∷ t.Constructor a_name.name ∷ t.Sign s.Equals ∷ t.Constructor a_name.name ∷ tail) (record { name = a_name; variables = []; constructors = one }, some, refl)) (λ u r1 e1. goes_sign s.Data ws r1 u e1 (
+      b_then (b_con at r1 (t.Constructor a_name.name ∷ t.Sign s.Equals ∷ t.Constructor a_name.name ∷ tail) (record { name = a_name; variables = []; constructors = one }, some, refl)) (λ d r2 e2. goes_con at d r1 r2 e2 (
+      b_then {p = many is_variable (var_at at)} (b_never (vars_never at r2)) (λ vs r3 e3. goes_vars at vs r2 r3 e3 (
+      b_then (b_want s.Equals r3 (t.Sign s.Equals ∷ t.Constructor a_name.name ∷ tail) (record { name = d; variables = vs; constructors = one }, some, refl)) (λ u r4 e4. goes_sign s.Equals r3 r4 u e4 (
+      b_then (b_map (λ l o. (record { name = d; variables = vs; constructors = o.0 }, o.1, ap (λ (l : List Token). t.Sign s.Data ∷ t.Constructor d.name ∷ spell_variables vs (t.Sign s.Equals ∷ l)) o.2)) (constructors_begin r4 tail)) (λ cs r5 e5. let p5 = (constructors_sound at r4).by cs r5 e5 in record {
         before = spell_constructors cs;
-        was = p4.spelled;
+        was = p5.spelled;
         agrees = agrees_constructors cs;
         next =
-            b_last (b_want s.Semicolon r4 tail (record { name = d; constructors = cs }, p4.some, refl)) (λ u r5. ((let made : DataTree = record { name = d; constructors = cs } in made), r5, refl));
-      })))))))
+            b_last (b_want s.Semicolon r5 tail (record { name = d; variables = vs; constructors = cs }, p5.some, refl)) (λ u r6. ((let made : GenericDataTree = record { name = d; variables = vs; constructors = cs } in made), r6, refl));
+      })))))))))
 
-  data_keeps : (r : List Token) (d : DataTree) (ws rest : List Token) → data_at at ws ≡ done d rest → Keeps (DatasThen r) ws rest
+  data_keeps : (r : List Token) (d : GenericDataTree) (ws rest : List Token) → data_at at ws ≡ done d rest → Keeps (DatasThen r) ws rest
   data_keeps r d ws rest e =
       let p = (data_sound at ws).by d rest e in
       record { before = spell_data d; was = p.spelled; agrees = agrees_data d; closed = λ vs o. (d ∷ o.0, (p.fine, o.1), ap (spell_data d) o.2) }
@@ -172,16 +173,16 @@ module _ (at : Places) where
       b_then (b_want s.Open ws (t.Sign s.Open ∷ t.Variable a_name.name ∷ tail1) (a_parameter, refl)) (λ u r1 e1. goes_sign s.Open ws r1 u e1 (
       b_then (b_var at r1 (t.Variable a_name.name ∷ tail1) (a_parameter, refl)) (λ x r2 e2. goes_var at x r1 r2 e2 (
       b_then (b_want s.Colon r2 tail1 (record { name = x; ty = a_type }, refl)) (λ u r3 e3. goes_sign s.Colon r2 r3 u e3 (
-      b_then (b_type at r3 (t.Sign s.Int ∷ tail2) (record { name = x; ty = a_type }, refl)) (λ a r4 e4. goes_type at a r3 r4 e4 (
-      b_last (b_want s.Close r4 tail2 (record { name = x; ty = a }, refl)) (λ u r5. ((let made : Parameter = record { name = x; ty = a } in made), r5, refl))))))))))
+      b_then (b_map (λ vs o. ((let made : GenericParameterTree = record { name = x; ty = o.0 } in made), ap (λ (l : List Token). t.Sign s.Open ∷ t.Variable x.name ∷ t.Sign s.Colon ∷ l) o.1)) (type_begins at r3 tail2)) (λ a r4 e4. goes_type at a r3 r4 e4 (
+      b_last (b_want s.Close r4 tail2 (record { name = x; ty = a }, refl)) (λ u r5. ((let made : GenericParameterTree = record { name = x; ty = a } in made), r5, refl))))))))))
 
-  parameter_keeps : (r : List Token) (q : Parameter) (ws rest : List Token) → parameter_at at ws ≡ done q rest → Keeps (ParametersThen r) ws rest
+  parameter_keeps : (r : List Token) (q : GenericParameterTree) (ws rest : List Token) → parameter_at at ws ≡ done q rest → Keeps (ParametersThen r) ws rest
   parameter_keeps r q ws rest e =
       let p = (parameter_sound at ws).by q rest e in
       record { before = spell_parameter q; was = p.spelled; agrees = agrees_parameter q; closed = λ vs o. (q ∷ o.0, ap (spell_parameter q) o.1) }
 
   abbrev SomeParametersThen : List Token → List Token → Type 0
-  SomeParametersThen r vs = (qs : List Parameter) × (qs ≢ []) × (vs ≡ spell_parameters qs r)
+  SomeParametersThen r vs = (qs : List GenericParameterTree) × (qs ≢ []) × (vs ≡ spell_parameters qs r)
 
   parameters_begin : (ws r : List Token) → Begins (SomeParametersThen r) (parameters_at at) ws
   unfolding parameters_at
@@ -199,7 +200,7 @@ module _ (at : Places) where
       let tail2 : List Token = t.Sign s.Semicolon ∷ r in
       let tail1 : List Token = t.Sign s.Equals ∷ t.Number 0 ∷ tail2 in
       b_then (b_want s.Colon ws (t.Sign s.Colon ∷ t.Sign s.Int ∷ tail1) (a_body, zero_fine, refl)) (λ u r1 e1. goes_sign s.Colon ws r1 u e1 (
-      b_then (b_type at r1 (t.Sign s.Int ∷ tail1) (a_body, zero_fine, refl)) (λ a r2 e2. goes_type at a r1 r2 e2 (
+      b_then (b_map (λ vs o. ((let made : BodyTree = record { result = o.0; body = zero_is } in made), zero_fine, ap (λ (l : List Token). t.Sign s.Colon ∷ l) o.1)) (type_begins at r1 tail1)) (λ a r2 e2. goes_type at a r1 r2 e2 (
       b_then (b_want s.Equals r2 tail1 (record { result = a; body = zero_is }, zero_fine, refl)) (λ u r3 e3. goes_sign s.Equals r2 r3 u e3 (
       b_then (b_map (λ vs o. (record { result = a; body = o.0 }, o.1, ap (λ (l : List Token). t.Sign s.Colon ∷ spell_type a (t.Sign s.Equals ∷ l)) o.3)) (parse_begins at n Any r3 tail2)) (λ e r4 e4. let p4 = (parse_sound at n Any r3).by e r4 e4 in goes_expr e r3 r4 p4.spelled (
       b_last (b_want s.Semicolon r4 tail2 (record { result = a; body = e }, p4.fine, refl)) (λ u r5. ((let made : BodyTree = record { result = a; body = e } in made), r5, refl))))))))))
@@ -208,20 +209,26 @@ module _ (at : Places) where
   unfolding function_at
   function_begins n ws r =
       let behind : List Token = body_tokens r in
-      let one : List Parameter = a_parameter ∷ [] in
+      let one : List GenericParameterTree = a_parameter ∷ [] in
       let some = some_parameters a_parameter [] in
-      b_then (b_want s.Fun ws (t.Sign s.Fun ∷ t.Variable a_name.name ∷ spell_parameter a_parameter behind) (record { name = a_name; parameters = one; result = a_type; body = zero_is }, (some, zero_fine), refl)) (λ u r1 e1. goes_sign s.Fun ws r1 u e1 (
-      b_then (b_var at r1 (t.Variable a_name.name ∷ spell_parameter a_parameter behind) (record { name = a_name; parameters = one; result = a_type; body = zero_is }, (some, zero_fine), refl)) (λ f r2 e2. goes_var at f r1 r2 e2 (
-      b_then (b_map (λ vs o. (record { name = f; parameters = o.0; result = a_type; body = zero_is }, (o.1, zero_fine), ap (λ (l : List Token). t.Sign s.Fun ∷ t.Variable f.name ∷ l) o.2)) (parameters_begin r2 behind)) (λ qs r3 e3. let p3 = (parameters_sound at r2).by qs r3 e3 in record {
-        before = spell_parameters qs;
+      b_then (b_want s.Fun ws (t.Sign s.Fun ∷ t.Variable a_name.name ∷ spell_parameter a_parameter behind) (record { name = a_name; variables = []; parameters = one; result = a_type; body = zero_is }, (some, zero_fine), refl)) (λ u r1 e1. goes_sign s.Fun ws r1 u e1 (
+      b_then (b_var at r1 (t.Variable a_name.name ∷ spell_parameter a_parameter behind) (record { name = a_name; variables = []; parameters = one; result = a_type; body = zero_is }, (some, zero_fine), refl)) (λ f r2 e2. goes_var at f r1 r2 e2 (
+      b_then (b_map (λ vs o. (record { name = f; variables = o.0; parameters = one; result = a_type; body = zero_is }, (some, zero_fine), ap (λ (l : List Token). t.Sign s.Fun ∷ t.Variable f.name ∷ l) o.1)) (type_parameters_begin at r2 (spell_parameter a_parameter behind))) (λ xs r3 e3. let p3 = (type_parameters_sound at r2).by xs r3 e3 in record {
+        before = spell_type_parameters xs;
         was = p3.spelled;
-        agrees = agrees_parameters qs;
+        agrees = agrees_type_parameters xs;
         next =
-            b_last (b_map (λ vs o. (record { name = f; parameters = qs; result = o.0.result; body = o.0.body }, (p3.some, o.1), ap (λ (l : List Token). t.Sign s.Fun ∷ t.Variable f.name ∷ spell_parameters qs l) o.2)) (body_begins n r3 r))
-            (λ b r4. ((let made : FunctionTree = record { name = f; parameters = qs; result = b.result; body = b.body } in made), r4, refl));
+            b_then (b_map (λ vs o. (record { name = f; variables = xs; parameters = o.0; result = a_type; body = zero_is }, (o.1, zero_fine), ap (λ (l : List Token). t.Sign s.Fun ∷ t.Variable f.name ∷ spell_type_parameters xs l) o.2)) (parameters_begin r3 behind)) (λ qs r4 e4. let p4 = (parameters_sound at r3).by qs r4 e4 in record {
+              before = spell_parameters qs;
+              was = p4.spelled;
+              agrees = agrees_parameters qs;
+              next =
+                  b_last (b_map (λ vs o. (record { name = f; variables = xs; parameters = qs; result = o.0.result; body = o.0.body }, (p4.some, o.1), ap (λ (l : List Token). t.Sign s.Fun ∷ t.Variable f.name ∷ spell_type_parameters xs (spell_parameters qs l)) o.2)) (body_begins n r4 r))
+                  (λ b r5. ((let made : GenericFunctionTree = record { name = f; variables = xs; parameters = qs; result = b.result; body = b.body } in made), r5, refl));
+            });
       })))))
 
-  function_keeps : (n : ℕ) (r : List Token) (f : FunctionTree) (ws rest : List Token) → function_at at (parse at n Any) ws ≡ done f rest → Keeps (FunctionsThen r) ws rest
+  function_keeps : (n : ℕ) (r : List Token) (f : GenericFunctionTree) (ws rest : List Token) → function_at at (parse at n Any) ws ≡ done f rest → Keeps (FunctionsThen r) ws rest
   function_keeps n r f ws rest e =
       let p = (function_sound at n ws).by f rest e in
       record { before = spell_function f; was = p.spelled; agrees = agrees_function f; closed = λ vs o. (f ∷ o.0, (p.fine, o.1), ap (spell_function f) o.2) }
@@ -243,7 +250,7 @@ module _ (at : Places) where
         agrees = agrees_parameter q;
         next =
             b_last (b_map (λ vs o. (record { parameter = q; result = o.0.result; body = o.0.body }, o.1, ap (λ (l : List Token). t.Sign s.Main ∷ spell_parameter q l) o.2)) (body_begins n r2 r))
-            (λ b r3. ((let made : MainTree = record { parameter = q; result = b.result; body = b.body } in made), r3, refl));
+            (λ b r3. ((let made : GenericMainTree = record { parameter = q; result = b.result; body = b.body } in made), r3, refl));
       })))
 
   pub last : List Token
@@ -263,11 +270,11 @@ module _ (at : Places) where
               agrees = agrees_functions fs;
               next =
                   b_last (b_map (λ vs o. (record { datas = ds; functions = fs; main = o.0 }, record { datas = p1.fine; functions = p2.fine; main = o.1 }, ap (λ (l : List Token). spell_datas ds (spell_functions fs l)) o.2)) (main_begins n r2 []))
-                  (λ m r3. ((let made : ProgramTree = record { datas = ds; functions = fs; main = m } in made), r3, refl));
+                  (λ m r3. ((let made : GenericProgramTree = record { datas = ds; functions = fs; main = m } in made), r3, refl));
             });
       })
 
-  ends_begin : (g : ProgramTree) → IsFineProgram g → (ws : List Token) → Begins (λ vs. Programs (spell_program g vs)) (ends_at g) ws
+  ends_begin : (g : GenericProgramTree) → IsGenericFineProgram g → (ws : List Token) → Begins (λ vs. Programs (spell_program g vs)) (ends_at g) ws
   ends_begin g f [] = b_done g [] refl
   ends_begin g f (x ∷ ws) = b_now [] (g, f, refl) refl
 
@@ -276,7 +283,7 @@ module _ (at : Places) where
   whole_begins n ws =
       b_then (program_begins n ws) (λ g r1 e1. let p1 = (program_sound at n ws).by g r1 e1 in record { before = spell_program g; was = p1.spelled; agrees = agrees_program g; next = ends_begin g p1.fine r1 })
 
-  begun_from : (j : ℕ) (ws vs : List Token) (p : ProgramTree) → Agrees j ws vs → IsFineProgram p → vs ≡ spell_program p [] → (more : List Token) × Derives (take (length ws - j) ws ++ more) p
+  begun_from : (j : ℕ) (ws vs : List Token) (p : GenericProgramTree) → Agrees j ws vs → IsGenericFineProgram p → vs ≡ spell_program p [] → (more : List Token) × Derives (take (length ws - j) ws ++ more) p
   begun_from j ws vs p a f e =
       let len : length a.front ≡ length ws - j = omega (arith, ap length a.here, length-append a.front a.rest, a.left) in
       let cut : take (length ws - j) ws ≡ a.front = ap (take (length ws - j)) a.here ∙ take_at a.front a.rest (length ws - j) len in

@@ -9,14 +9,17 @@ use Rattle.gib_base.specs.declared.token.Token.TheVariants as t
 use Rattle.gib_syntax.specs.declared.tree.Ident.{Ident}
 use Rattle.gib_syntax.specs.declared.tree.Operator.{Operator}
 use Rattle.gib_syntax.specs.declared.tree.Operator.TheVariants as o
-use Rattle.gib_syntax.specs.Tree.{Expression, Arguments, Arms, Var, Num, Bit, Paren, Op, Call, Make, Let, Par, If, Case, NoArgument, Argument, LastArm, NextArm}
-use Rattle.gib_syntax.specs.Spelling.{Places, is_application, is_atom, spell, spell_arguments, spell_arms, spell_variables, spell_operator, spell_bit, IsFine, AreFine, HasFine}
-use Rattle.gib_parse.specs.Reading.{Nested, Mode, Any, App, Atom, Read, Reader, Parts, then_at, want, before, named, var_at, next_is, many_step, many, is_variable, is_sign, is_literal, literal_at, starts_atom, starts_expression, starts, ArmTree, arms_of, arm_at, next_arm_at, arms_at, arguments_of, arguments_at, bind_at, par_at, if_at, case_at, side_at, close_at, open_at, call, atom_at, app_at, any_at, no_level, parse}
+use Rattle.gib_syntax.specs.GenericTree.{GenericExpression, GenericArguments, GenericArms, GenericVar, GenericNum, GenericBit, GenericParen, GenericOp, GenericCall, GenericMake, GenericLet, GenericPar, GenericIf, GenericCase, GenericNoArgument, GenericArgument, GenericLastArm, GenericNextArm}
+use Rattle.gib_syntax.specs.GenericFine.{is_generic_application, is_generic_atom, IsGenericFine, AreGenericFine, HasGenericFine}
+use Rattle.gib_syntax.specs.Spelling.{Places, spell, spell_arguments, spell_arms, spell_variables, spell_operator, spell_bit, spell_written, spell_type_arguments}
+use Rattle.gib_parse.specs.Reading.{Nested, Mode, Any, App, Atom, Read, Reader, Parts, then_at, want, before, named, var_at, next_is, many_step, many, is_variable, is_sign, is_literal, literal_at, starts_atom, starts_expression, starts, ArmTree, arms_of, arm_at, next_arm_at, arms_at, arguments_of, arguments_at, bind_at, par_at, if_at, case_at, side_at, close_at, open_at, type_arguments_at, call, called_at, variable_at, make_at, constant_at, atom_at, app_at, any_at, no_level, parse}
 use Rattle.gib_parse.proofs.Tools.{done, failed}
 use Rattle.gib_parse.proofs.Many.{Shrinks, many_none, many_is}
 use Rattle.gib_parse.proofs.Sound.{IsMode, atom_is_application}
 use Rattle.gib_parse.proofs.Longer.{parse_shrinks, var_shrinks, next_shrinks}
-use Rattle.gib_parse.proofs.Settle.{settle, settle_arguments, settle_arms, settle_name, settle_names, settled_application}
+use Rattle.gib_parse.proofs.Settle.{settle, settle_arguments, settle_arms, settle_name, settle_names, settle_type, settle_written, settled_application}
+use Rattle.gib_parse.proofs.WrittenComes.{goes_on, ends_parts, atom_no_bracket, type_arguments_none, type_arguments_come}
+use Rattle.gib_syntax.specs.Forms.{WrittenType, WrittenTypes, NoType, MoreTypes}
 use Rattle.gib_parse.specs.Nesting.{below, below_arguments, below_arms}
 use Rattle.gib_parse.proofs.Come.{Comes, Came, Sank, then_comes, then_last, comes_at}
 
@@ -32,9 +35,9 @@ variables_come at (x ∷ xs) a rest =
 -- ---- what a rest may begin with
 
 abbrev pub Ends : Mode → List Token → Type 0
-Ends Any rest = next_is starts_atom rest ≡ false
-Ends App rest = next_is starts_atom rest ≡ false
-Ends Atom rest = Unit {0}
+Ends Any rest = next_is goes_on rest ≡ false
+Ends App rest = next_is goes_on rest ≡ false
+Ends Atom rest = next_is (is_sign s.OpenBracket) rest ≡ false
 
 bit_starts : (b : Bool) (rest : List Token) → next_is starts_atom (spell_bit b rest) ≡ true
 bit_starts true rest = refl
@@ -44,41 +47,41 @@ bit_begins : (b : Bool) (rest : List Token) → next_is starts_expression (spell
 bit_begins true rest = refl
 bit_begins false rest = refl
 
-application_starts : (e : Expression) (rest : List Token) → IsFine e → is_application e ≡ true → next_is starts_atom (spell e rest) ≡ true
-application_starts (Var x) rest f i = refl
-application_starts (Num p n) rest f i = lt-ltb n (2 ^ 63) f
-application_starts (Bit p b) rest f i = bit_starts b rest
-application_starts (Paren p e) rest f i = refl
-application_starts (Op p g a b) rest f i = refl
-application_starts (Call g xs) rest f i = refl
-application_starts (Make k xs) rest f i = refl
-application_starts (Let p x a b) rest f i = absurd cc
-application_starts (Par p x a y b c) rest f i = absurd cc
-application_starts (If p a b c) rest f i = absurd cc
-application_starts (Case p x arms) rest f i = absurd cc
+application_starts : (e : GenericExpression) (rest : List Token) → IsGenericFine e → is_generic_application e ≡ true → next_is starts_atom (spell e rest) ≡ true
+application_starts (GenericVar x) rest f i = refl
+application_starts (GenericNum p n) rest f i = lt-ltb n (2 ^ 63) f
+application_starts (GenericBit p b) rest f i = bit_starts b rest
+application_starts (GenericParen p e) rest f i = refl
+application_starts (GenericOp p g a b) rest f i = refl
+application_starts (GenericCall g ws xs) rest f i = refl
+application_starts (GenericMake k ws xs) rest f i = refl
+application_starts (GenericLet p x a b) rest f i = absurd cc
+application_starts (GenericPar p x a y b c) rest f i = absurd cc
+application_starts (GenericIf p a b c) rest f i = absurd cc
+application_starts (GenericCase p x arms) rest f i = absurd cc
 
-atom_starts : (e : Expression) (rest : List Token) → IsFine e → is_atom e ≡ true → next_is starts_atom (spell e rest) ≡ true
+atom_starts : (e : GenericExpression) (rest : List Token) → IsGenericFine e → is_generic_atom e ≡ true → next_is starts_atom (spell e rest) ≡ true
 atom_starts e rest f i = application_starts e rest f (atom_is_application e i)
 
-expression_starts : (e : Expression) (rest : List Token) → IsFine e → next_is starts_expression (spell e rest) ≡ true
-expression_starts (Var x) rest f = refl
-expression_starts (Num p n) rest f = lt-ltb n (2 ^ 63) f
-expression_starts (Bit p b) rest f = bit_begins b rest
-expression_starts (Paren p e) rest f = refl
-expression_starts (Op p g a b) rest f = refl
-expression_starts (Call g xs) rest f = refl
-expression_starts (Make k xs) rest f = refl
-expression_starts (Let p x a b) rest f = refl
-expression_starts (Par p x a y b c) rest f = refl
-expression_starts (If p a b c) rest f = refl
-expression_starts (Case p x arms) rest f = refl
+expression_starts : (e : GenericExpression) (rest : List Token) → IsGenericFine e → next_is starts_expression (spell e rest) ≡ true
+expression_starts (GenericVar x) rest f = refl
+expression_starts (GenericNum p n) rest f = lt-ltb n (2 ^ 63) f
+expression_starts (GenericBit p b) rest f = bit_begins b rest
+expression_starts (GenericParen p e) rest f = refl
+expression_starts (GenericOp p g a b) rest f = refl
+expression_starts (GenericCall g ws xs) rest f = refl
+expression_starts (GenericMake k ws xs) rest f = refl
+expression_starts (GenericLet p x a b) rest f = refl
+expression_starts (GenericPar p x a y b c) rest f = refl
+expression_starts (GenericIf p a b c) rest f = refl
+expression_starts (GenericCase p x arms) rest f = refl
 
-mode_starts : (m : Mode) (e : Expression) (rest : List Token) → IsFine e → IsMode m e → next_is (starts m) (spell e rest) ≡ true
+mode_starts : (m : Mode) (e : GenericExpression) (rest : List Token) → IsGenericFine e → IsMode m e → next_is (starts m) (spell e rest) ≡ true
 mode_starts Any e rest f i = expression_starts e rest f
 mode_starts App e rest f i = application_starts e rest f i
 mode_starts Atom e rest f i = atom_starts e rest f i
 
-operator_ends : (f : Operator) (rest : List Token) → next_is starts_atom (spell_operator f rest) ≡ false
+operator_ends : (f : Operator) (rest : List Token) → next_is goes_on (spell_operator f rest) ≡ false
 operator_ends o.Add rest = refl
 operator_ends o.Subtract rest = refl
 operator_ends o.Multiply rest = refl
@@ -93,34 +96,34 @@ some_stand starts (c ∷ ts) e = (length ts, refl)
 
 -- ---- arguments
 
-arguments_none : (p : Reader Expression) (ts : List Token) → next_is starts_atom ts ≡ false → arguments_at p ts ≡ done NoArgument ts
+arguments_none : (p : Reader GenericExpression) (ts : List Token) → next_is starts_atom ts ≡ false → arguments_at p ts ≡ done GenericNoArgument ts
 unfolding arguments_at
-arguments_none p ts e = ap (λ (r : Read (List Expression)). then_at r (λ xs ts. Ok (arguments_of xs, ts))) (many_none starts_atom p ts e)
+arguments_none p ts e = ap (λ (r : Read (List GenericExpression)). then_at r (λ xs ts. Ok (arguments_of xs, ts))) (many_none starts_atom p ts e)
 
-abbrev as_arguments : Read (List Expression) → Read Arguments
+abbrev as_arguments : Read (List GenericExpression) → Read GenericArguments
 as_arguments r = then_at r (λ xs ts. Ok (arguments_of xs, ts))
 
-regroup_rest : (a : Expression) (r : Read (List Expression)) → as_arguments (then_at r (λ more ts. Ok (a ∷ more, ts))) ≡ then_at (as_arguments r) (λ xs ts. Ok (Argument a xs, ts))
+regroup_rest : (a : GenericExpression) (r : Read (List GenericExpression)) → as_arguments (then_at r (λ more ts. Ok (a ∷ more, ts))) ≡ then_at (as_arguments r) (λ xs ts. Ok (GenericArgument a xs, ts))
 regroup_rest a (Ok x) = refl
 regroup_rest a (Err e) = refl
 
-regroup : (r : Read Expression) (q : Reader (List Expression)) → as_arguments (then_at r (λ a ts. then_at (q ts) (λ more ts. Ok (a ∷ more, ts)))) ≡ then_at r (λ a ts. then_at (as_arguments (q ts)) (λ xs ts. Ok (Argument a xs, ts)))
+regroup : (r : Read GenericExpression) (q : Reader (List GenericExpression)) → as_arguments (then_at r (λ a ts. then_at (q ts) (λ more ts. Ok (a ∷ more, ts)))) ≡ then_at r (λ a ts. then_at (as_arguments (q ts)) (λ xs ts. Ok (GenericArgument a xs, ts)))
 regroup (Ok x) q = regroup_rest x.0 (q x.1)
 regroup (Err e) q = refl
 
-arguments_more : (p : Reader Expression) → Shrinks p → (ts : List Token) → next_is starts_atom ts ≡ true → arguments_at p ts ≡ then_at (p ts) (λ a ts. then_at (arguments_at p ts) (λ xs ts. Ok (Argument a xs, ts)))
+pub argument_and_more : (p : Reader GenericExpression) → Shrinks p → (ts : List Token) → next_is starts_atom ts ≡ true → arguments_at p ts ≡ then_at (p ts) (λ a ts. then_at (arguments_at p ts) (λ xs ts. Ok (GenericArgument a xs, ts)))
 unfolding arguments_at
-arguments_more p sh ts e =
+argument_and_more p sh ts e =
     ap as_arguments (many_is starts_atom p sh ts ∙ ap (λ v. many_step v p (many starts_atom p) ts) e)
     ∙ regroup (p ts) (many starts_atom p)
 
 -- ---- arms
 
-abbrev as_arms : ArmTree → Read (List ArmTree) → Read Arms
+abbrev as_arms : ArmTree → Read (List ArmTree) → Read GenericArms
 as_arms arm r = then_at r (λ arms ts. Ok (arms_of arm arms, ts))
 
-abbrev with_arm : ArmTree → Read Arms → Read Arms
-with_arm arm r = then_at r (λ arms ts. Ok (NextArm arm.constructor arm.variables arm.body arms, ts))
+abbrev with_arm : ArmTree → Read GenericArms → Read GenericArms
+with_arm arm r = then_at r (λ arms ts. Ok (GenericNextArm arm.constructor arm.variables arm.body arms, ts))
 
 regroup_arms_rest : (arm next : ArmTree) (r : Read (List ArmTree)) → as_arms arm (then_at r (λ more ts. Ok (next ∷ more, ts))) ≡ with_arm arm (as_arms next r)
 regroup_arms_rest arm next (Ok x) = refl
@@ -136,7 +139,7 @@ arms_more at n arm ts =
     ap (as_arms arm) (many_is (is_sign s.Semicolon) (next_arm_at at (parse at n Any)) (next_shrinks at n) (t.Sign s.Semicolon ∷ ts))
     ∙ regroup_arms arm (arm_at at (parse at n Any) ts) (many (is_sign s.Semicolon) (next_arm_at at (parse at n Any)))
 
-arm_comes : (at : Places) (n : ℕ) (k : Ident) (xs : List Ident) (e : Expression) (ts rest : List Token) (D : List ℕ) → Comes D (parse at n Any ts) e rest
+arm_comes : (at : Places) (n : ℕ) (k : Ident) (xs : List Ident) (e : GenericExpression) (ts rest : List Token) (D : List ℕ) → Comes D (parse at n Any ts) e rest
     → Comes D (arm_at at (parse at n Any) (t.Constructor k.name ∷ spell_variables xs (t.Sign s.Arrow ∷ ts))) (record { constructor = settle_name at k (spell_variables xs (t.Sign s.Arrow ∷ ts)); variables = settle_names at xs (t.Sign s.Arrow ∷ ts); body = e }) rest
 unfolding arm_at
 arm_comes at n k xs e ts rest D c =
@@ -148,40 +151,78 @@ arms_is : (at : Places) (n : ℕ) (ts : List Token) → arms_at at (parse at n A
 unfolding arms_at
 arms_is at n ts = refl
 
-arms_last : (at : Places) (n : ℕ) (k : Ident) (xs : List Ident) (e : Expression) (ts rest : List Token) (D : List ℕ) → Comes D (parse at n Any ts) e (t.Sign s.CloseBrace ∷ rest)
-    → Comes D (arms_at at (parse at n Any) (t.Constructor k.name ∷ spell_variables xs (t.Sign s.Arrow ∷ ts))) (LastArm (settle_name at k (spell_variables xs (t.Sign s.Arrow ∷ ts))) (settle_names at xs (t.Sign s.Arrow ∷ ts)) e) (t.Sign s.CloseBrace ∷ rest)
+arms_last : (at : Places) (n : ℕ) (k : Ident) (xs : List Ident) (e : GenericExpression) (ts rest : List Token) (D : List ℕ) → Comes D (parse at n Any ts) e (t.Sign s.CloseBrace ∷ rest)
+    → Comes D (arms_at at (parse at n Any) (t.Constructor k.name ∷ spell_variables xs (t.Sign s.Arrow ∷ ts))) (GenericLastArm (settle_name at k (spell_variables xs (t.Sign s.Arrow ∷ ts))) (settle_names at xs (t.Sign s.Arrow ∷ ts)) e) (t.Sign s.CloseBrace ∷ rest)
 unfolding arms_at
 arms_last at n k xs e ts rest D c =
     let arm : ArmTree = record { constructor = settle_name at k (spell_variables xs (t.Sign s.Arrow ∷ ts)); variables = settle_names at xs (t.Sign s.Arrow ∷ ts); body = e } in
     then_last (λ arm left. as_arms arm (many (is_sign s.Semicolon) (next_arm_at at (parse at n Any)) left)) (arms_of arm []) (t.Sign s.CloseBrace ∷ rest) (arm_comes at n k xs e ts (t.Sign s.CloseBrace ∷ rest) D c)
     (ap (as_arms arm) (many_none (is_sign s.Semicolon) (next_arm_at at (parse at n Any)) (t.Sign s.CloseBrace ∷ rest) refl))
 
-arms_next : (at : Places) (n : ℕ) (k : Ident) (xs : List Ident) (e : Expression) (arms : Arms) (ts after rest : List Token) (D E : List ℕ) → Comes D (parse at n Any ts) e (t.Sign s.Semicolon ∷ after) → Comes E (arms_at at (parse at n Any) after) arms rest
-    → Comes (D ++ E) (arms_at at (parse at n Any) (t.Constructor k.name ∷ spell_variables xs (t.Sign s.Arrow ∷ ts))) (NextArm (settle_name at k (spell_variables xs (t.Sign s.Arrow ∷ ts))) (settle_names at xs (t.Sign s.Arrow ∷ ts)) e arms) rest
+arms_next : (at : Places) (n : ℕ) (k : Ident) (xs : List Ident) (e : GenericExpression) (arms : GenericArms) (ts after rest : List Token) (D E : List ℕ) → Comes D (parse at n Any ts) e (t.Sign s.Semicolon ∷ after) → Comes E (arms_at at (parse at n Any) after) arms rest
+    → Comes (D ++ E) (arms_at at (parse at n Any) (t.Constructor k.name ∷ spell_variables xs (t.Sign s.Arrow ∷ ts))) (GenericNextArm (settle_name at k (spell_variables xs (t.Sign s.Arrow ∷ ts))) (settle_names at xs (t.Sign s.Arrow ∷ ts)) e arms) rest
 arms_next at n k xs e arms ts after rest D E c d =
     let arm : ArmTree = record { constructor = settle_name at k (spell_variables xs (t.Sign s.Arrow ∷ ts)); variables = settle_names at xs (t.Sign s.Arrow ∷ ts); body = e } in
     comes_at (arms_is at n (t.Constructor k.name ∷ spell_variables xs (t.Sign s.Arrow ∷ ts)))
-    (then_comes (λ arm left. as_arms arm (many (is_sign s.Semicolon) (next_arm_at at (parse at n Any)) left)) (NextArm arm.constructor arm.variables arm.body arms) rest (arm_comes at n k xs e ts (t.Sign s.Semicolon ∷ after) D c)
-    (comes_at (arms_more at n arm after) (then_last (λ arms left. Ok (NextArm arm.constructor arm.variables arm.body arms, left)) (NextArm arm.constructor arm.variables arm.body arms) rest d refl)))
+    (then_comes (λ arm left. as_arms arm (many (is_sign s.Semicolon) (next_arm_at at (parse at n Any)) left)) (GenericNextArm arm.constructor arm.variables arm.body arms) rest (arm_comes at n k xs e ts (t.Sign s.Semicolon ∷ after) D c)
+    (comes_at (arms_more at n arm after) (then_last (λ arms left. Ok (GenericNextArm arm.constructor arm.variables arm.body arms, left)) (GenericNextArm arm.constructor arm.variables arm.body arms) rest d refl)))
 
 -- ---- the expressions
 
-call_comes : (at : Places) (n : ℕ) (f : Ident) (ts : List Token) (xs : Arguments) (rest : List Token) (e : Expression) (D : List ℕ) → call (settle_name at f ts) xs ≡ e → Comes D (arguments_at (parse at n Atom) ts) xs rest → Comes D (app_at at (parse at n) (t.Variable f.name ∷ ts)) e rest
-call_comes at n f ts xs rest e D same c = then_last (λ xs left. Ok (call (named at f.name ts) xs, left)) e rest c (ap (λ (v : Expression). done v rest) same)
+-- Behind a variable and its type arguments.
+variable_comes : (at : Places) (n : ℕ) (f : Ident) (ts mid : List Token) (ws : WrittenTypes) (e : GenericExpression) (rest : List Token) (D : List ℕ) → type_arguments_at at ts ≡ done ws mid
+    → Comes D (called_at (parse at n) (settle_name at f ts) ws mid) e rest → Comes D (app_at at (parse at n) (t.Variable f.name ∷ ts)) e rest
+unfolding variable_at
+variable_comes at n f ts mid ws e rest D q c =
+    let name = settle_name at f ts in
+    comes_at (ap (λ (r : Read WrittenTypes). then_at r (λ ws ts. called_at (parse at n) name ws ts)) q) c
 
-make_comes : (at : Places) (n : ℕ) (k : Ident) (ts : List Token) (xs : Arguments) (rest : List Token) (D : List ℕ) → Comes D (arguments_at (parse at n Atom) ts) xs rest → Comes D (app_at at (parse at n) (t.Constructor k.name ∷ ts)) (Make (settle_name at k ts) xs) rest
-make_comes at n k ts xs rest D c = then_last (λ xs left. Ok (Make (named at k.name ts) xs, left)) (Make (settle_name at k ts) xs) rest c refl
+call_comes : (at : Places) (n : ℕ) (f : Ident) (ts : List Token) (xs : GenericArguments) (rest : List Token) (e : GenericExpression) (D : List ℕ) → next_is (is_sign s.OpenBracket) ts ≡ false → call (settle_name at f ts) xs ≡ e
+    → Comes D (arguments_at (parse at n Atom) ts) xs rest → Comes D (app_at at (parse at n) (t.Variable f.name ∷ ts)) e rest
+unfolding called_at
+call_comes at n f ts xs rest e D none same c =
+    let name = settle_name at f ts in
+    variable_comes at n f ts ts NoType e rest D (type_arguments_none at ts none)
+    (then_last (λ xs left. Ok (call name xs, left)) e rest c (ap (λ (v : GenericExpression). done v rest) same))
 
-more_comes : (at : Places) (n : ℕ) (a : Expression) (xs : Arguments) (ts after rest : List Token) (D E : List ℕ) → next_is starts_atom ts ≡ true → Comes D (parse at n Atom ts) a after → Comes E (arguments_at (parse at n Atom) after) xs rest → Comes (D ++ E) (arguments_at (parse at n Atom) ts) (Argument a xs) rest
+-- A call with type arguments.
+typed_call_comes : (at : Places) (n : ℕ) (f : Ident) (w : WrittenType) (ws : WrittenTypes) (a : GenericExpression) (xs : GenericArguments) (ts mid after rest : List Token) (D E : List ℕ) → type_arguments_at at ts ≡ done (MoreTypes w ws) mid
+    → Comes D (parse at n Atom mid) a after → Comes E (arguments_at (parse at n Atom) after) xs rest → Comes (D ++ E) (app_at at (parse at n) (t.Variable f.name ∷ ts)) (GenericCall (settle_name at f ts) (MoreTypes w ws) (GenericArgument a xs)) rest
+unfolding called_at
+typed_call_comes at n f w ws a xs ts mid after rest D E q c d =
+    let name = settle_name at f ts in
+    let e = GenericCall name (MoreTypes w ws) (GenericArgument a xs) in
+    variable_comes at n f ts mid (MoreTypes w ws) e rest (D ++ E) q
+    (then_comes (λ a ts. then_at (arguments_at (parse at n Atom) ts) (λ xs ts. Ok (GenericCall name (MoreTypes w ws) (GenericArgument a xs), ts))) e rest c
+    (then_last (λ xs ts. Ok (GenericCall name (MoreTypes w ws) (GenericArgument a xs), ts)) e rest d refl))
+
+make_comes : (at : Places) (n : ℕ) (k : Ident) (ts mid : List Token) (ws : WrittenTypes) (xs : GenericArguments) (rest : List Token) (D : List ℕ) → type_arguments_at at ts ≡ done ws mid → Comes D (arguments_at (parse at n Atom) mid) xs rest
+    → Comes D (app_at at (parse at n) (t.Constructor k.name ∷ ts)) (GenericMake (settle_name at k ts) ws xs) rest
+unfolding make_at
+make_comes at n k ts mid ws xs rest D q c =
+    let name = settle_name at k ts in
+    comes_at (ap (λ (r : Read WrittenTypes). then_at r (λ ws ts. then_at (arguments_at (parse at n Atom) ts) (λ xs ts. Ok (GenericMake name ws xs, ts)))) q)
+    (then_last (λ xs ts. Ok (GenericMake name ws xs, ts)) (GenericMake name ws xs) rest c refl)
+
+constant_comes : (at : Places) (n : ℕ) (k : Ident) (ts rest : List Token) (ws : WrittenTypes) → type_arguments_at at ts ≡ done ws rest → atom_at at (parse at n) (t.Constructor k.name ∷ ts) ≡ done (GenericMake (settle_name at k ts) ws GenericNoArgument) rest
+unfolding constant_at
+constant_comes at n k ts rest ws q = let name = settle_name at k ts in ap (λ (r : Read WrittenTypes). then_at r (λ ws ts. Ok (GenericMake name ws GenericNoArgument, ts))) q
+
+-- No bracket begins the arguments, where none begins what follows.
+plain_arguments : (xs : GenericArguments) (rest : List Token) → AreGenericFine xs → next_is goes_on rest ≡ false → next_is (is_sign s.OpenBracket) (spell_arguments xs rest) ≡ false
+plain_arguments GenericNoArgument rest f e = (ends_parts rest e).0
+plain_arguments (GenericArgument a xs) rest f e = atom_no_bracket (spell a (spell_arguments xs rest)) (atom_starts a (spell_arguments xs rest) f.0 f.1)
+
+more_comes : (at : Places) (n : ℕ) (a : GenericExpression) (xs : GenericArguments) (ts after rest : List Token) (D E : List ℕ) → next_is starts_atom ts ≡ true → Comes D (parse at n Atom ts) a after → Comes E (arguments_at (parse at n Atom) after) xs rest → Comes (D ++ E) (arguments_at (parse at n Atom) ts) (GenericArgument a xs) rest
 more_comes at n a xs ts after rest D E e c d =
-    comes_at (arguments_more (parse at n Atom) (parse_shrinks at n Atom) ts e)
-    (then_comes (λ a ts. then_at (arguments_at (parse at n Atom) ts) (λ xs ts. Ok (Argument a xs, ts))) (Argument a xs) rest c (then_last (λ xs ts. Ok (Argument a xs, ts)) (Argument a xs) rest d refl))
+    comes_at (argument_and_more (parse at n Atom) (parse_shrinks at n Atom) ts e)
+    (then_comes (λ a ts. then_at (arguments_at (parse at n Atom) ts) (λ xs ts. Ok (GenericArgument a xs, ts))) (GenericArgument a xs) rest c (then_last (λ xs ts. Ok (GenericArgument a xs, ts)) (GenericArgument a xs) rest d refl))
 
-paren_comes : (at : Places) (n : ℕ) (p : Span) (e : Expression) (ts rest : List Token) (D : List ℕ) → Comes D (parse at n Any ts) e (t.Sign s.Close ∷ rest) → Comes D (open_at (parse at n) p ts) (Paren p e) rest
+paren_comes : (at : Places) (n : ℕ) (p : Span) (e : GenericExpression) (ts rest : List Token) (D : List ℕ) → Comes D (parse at n Any ts) e (t.Sign s.Close ∷ rest) → Comes D (open_at (parse at n) p ts) (GenericParen p e) rest
 unfolding open_at
-paren_comes at n p e ts rest D c = then_last (close_at (parse at n) p) (Paren p e) rest c refl
+paren_comes at n p e ts rest D c = then_last (close_at (parse at n) p) (GenericParen p e) rest c refl
 
-close_operator : (sub : Parts) (p : Span) (e : Expression) (f : Operator) (ts : List Token) → close_at sub p e (spell_operator f ts) ≡ side_at (is_application e) sub p f e ts
+close_operator : (sub : Parts) (p : Span) (e : GenericExpression) (f : Operator) (ts : List Token) → close_at sub p e (spell_operator f ts) ≡ side_at (is_generic_application e) sub p f e ts
 close_operator sub p e o.Add ts = refl
 close_operator sub p e o.Subtract ts = refl
 close_operator sub p e o.Multiply ts = refl
@@ -190,58 +231,58 @@ close_operator sub p e o.Less ts = refl
 close_operator sub p e o.Quotient ts = refl
 close_operator sub p e o.Remainder ts = refl
 
-op_comes : (at : Places) (n : ℕ) (p : Span) (f : Operator) (a b : Expression) (ts after rest : List Token) (D E : List ℕ) → is_application a ≡ true → Comes D (parse at n Any ts) a (spell_operator f after) → Comes E (parse at n App after) b (t.Sign s.Close ∷ rest) → Comes (D ++ E) (open_at (parse at n) p ts) (Op p f a b) rest
+op_comes : (at : Places) (n : ℕ) (p : Span) (f : Operator) (a b : GenericExpression) (ts after rest : List Token) (D E : List ℕ) → is_generic_application a ≡ true → Comes D (parse at n Any ts) a (spell_operator f after) → Comes E (parse at n App after) b (t.Sign s.Close ∷ rest) → Comes (D ++ E) (open_at (parse at n) p ts) (GenericOp p f a b) rest
 unfolding open_at
 op_comes at n p f a b ts after rest D E e c d =
-    then_comes (close_at (parse at n) p) (Op p f a b) rest c
-    (comes_at (close_operator (parse at n) p a f after ∙ ap (λ v. side_at v (parse at n) p f a after) e) (then_last (λ b ts. then_at (want s.Close ts) (λ _ ts. Ok (Op p f a b, ts))) (Op p f a b) rest d refl))
+    then_comes (close_at (parse at n) p) (GenericOp p f a b) rest c
+    (comes_at (close_operator (parse at n) p a f after ∙ ap (λ v. side_at v (parse at n) p f a after) e) (then_last (λ b ts. then_at (want s.Close ts) (λ _ ts. Ok (GenericOp p f a b, ts))) (GenericOp p f a b) rest d refl))
 
-let_comes : (at : Places) (n : ℕ) (p : Span) (x : Ident) (a b : Expression) (ts after rest : List Token) (D E : List ℕ) → Comes D (parse at n Any ts) a (t.Sign s.In ∷ after) → Comes E (parse at n Any after) b rest
-    → Comes (D ++ E) (bind_at at (parse at n) p (t.Variable x.name ∷ t.Sign s.Equals ∷ ts)) (Let p (settle_name at x (t.Sign s.Equals ∷ ts)) a b) rest
+let_comes : (at : Places) (n : ℕ) (p : Span) (x : Ident) (a b : GenericExpression) (ts after rest : List Token) (D E : List ℕ) → Comes D (parse at n Any ts) a (t.Sign s.In ∷ after) → Comes E (parse at n Any after) b rest
+    → Comes (D ++ E) (bind_at at (parse at n) p (t.Variable x.name ∷ t.Sign s.Equals ∷ ts)) (GenericLet p (settle_name at x (t.Sign s.Equals ∷ ts)) a b) rest
 unfolding bind_at
 let_comes at n p x a b ts after rest D E c d =
     let y = settle_name at x (t.Sign s.Equals ∷ ts) in
-    then_comes (λ a ts. then_at (want s.In ts) (λ _ ts. then_at (parse at n Any ts) (λ b ts. Ok (Let p y a b, ts)))) (Let p y a b) rest c
-    (then_last (λ b ts. Ok (Let p y a b, ts)) (Let p y a b) rest d refl)
+    then_comes (λ a ts. then_at (want s.In ts) (λ _ ts. then_at (parse at n Any ts) (λ b ts. Ok (GenericLet p y a b, ts)))) (GenericLet p y a b) rest c
+    (then_last (λ b ts. Ok (GenericLet p y a b, ts)) (GenericLet p y a b) rest d refl)
 
-par_comes : (at : Places) (n : ℕ) (p : Span) (x y : Ident) (a b c : Expression) (ts behind after rest : List Token) (D E F : List ℕ)
+par_comes : (at : Places) (n : ℕ) (p : Span) (x y : Ident) (a b c : GenericExpression) (ts behind after rest : List Token) (D E F : List ℕ)
     → Comes D (parse at n Any ts) a (t.Sign s.And ∷ t.Variable y.name ∷ t.Sign s.Equals ∷ behind) → Comes E (parse at n Any behind) b (t.Sign s.In ∷ after) → Comes F (parse at n Any after) c rest
-    → Comes (D ++ (E ++ F)) (par_at at (parse at n) p (t.Variable x.name ∷ t.Sign s.Equals ∷ ts)) (Par p (settle_name at x (t.Sign s.Equals ∷ ts)) a (settle_name at y (t.Sign s.Equals ∷ behind)) b c) rest
+    → Comes (D ++ (E ++ F)) (par_at at (parse at n) p (t.Variable x.name ∷ t.Sign s.Equals ∷ ts)) (GenericPar p (settle_name at x (t.Sign s.Equals ∷ ts)) a (settle_name at y (t.Sign s.Equals ∷ behind)) b c) rest
 unfolding par_at
 par_comes at n p x y a b c ts behind after rest D E F ca cb cc' =
     let x' = settle_name at x (t.Sign s.Equals ∷ ts) in
     let y' = settle_name at y (t.Sign s.Equals ∷ behind) in
-    then_comes (λ a ts. then_at (want s.And ts) (λ _ ts. then_at (var_at at ts) (λ y ts. then_at (want s.Equals ts) (λ _ ts. then_at (parse at n Any ts) (λ b ts. then_at (want s.In ts) (λ _ ts. then_at (parse at n Any ts) (λ c ts. Ok (Par p x' a y b c, ts)))))))) (Par p x' a y' b c) rest ca
-    (then_comes (λ b ts. then_at (want s.In ts) (λ _ ts. then_at (parse at n Any ts) (λ c ts. Ok (Par p x' a y' b c, ts)))) (Par p x' a y' b c) rest cb
-    (then_last (λ c ts. Ok (Par p x' a y' b c, ts)) (Par p x' a y' b c) rest cc' refl))
+    then_comes (λ a ts. then_at (want s.And ts) (λ _ ts. then_at (var_at at ts) (λ y ts. then_at (want s.Equals ts) (λ _ ts. then_at (parse at n Any ts) (λ b ts. then_at (want s.In ts) (λ _ ts. then_at (parse at n Any ts) (λ c ts. Ok (GenericPar p x' a y b c, ts)))))))) (GenericPar p x' a y' b c) rest ca
+    (then_comes (λ b ts. then_at (want s.In ts) (λ _ ts. then_at (parse at n Any ts) (λ c ts. Ok (GenericPar p x' a y' b c, ts)))) (GenericPar p x' a y' b c) rest cb
+    (then_last (λ c ts. Ok (GenericPar p x' a y' b c, ts)) (GenericPar p x' a y' b c) rest cc' refl))
 
-if_comes : (at : Places) (n : ℕ) (p : Span) (a b c : Expression) (ts behind after rest : List Token) (D E F : List ℕ) → Comes D (parse at n Any ts) a (t.Sign s.Then ∷ behind) → Comes E (parse at n Any behind) b (t.Sign s.Else ∷ after) → Comes F (parse at n Any after) c rest
-    → Comes (D ++ (E ++ F)) (if_at (parse at n) p ts) (If p a b c) rest
+if_comes : (at : Places) (n : ℕ) (p : Span) (a b c : GenericExpression) (ts behind after rest : List Token) (D E F : List ℕ) → Comes D (parse at n Any ts) a (t.Sign s.Then ∷ behind) → Comes E (parse at n Any behind) b (t.Sign s.Else ∷ after) → Comes F (parse at n Any after) c rest
+    → Comes (D ++ (E ++ F)) (if_at (parse at n) p ts) (GenericIf p a b c) rest
 unfolding if_at
 if_comes at n p a b c ts behind after rest D E F ca cb cc' =
-    then_comes (λ a ts. then_at (want s.Then ts) (λ _ ts. then_at (parse at n Any ts) (λ b ts. then_at (want s.Else ts) (λ _ ts. then_at (parse at n Any ts) (λ c ts. Ok (If p a b c, ts)))))) (If p a b c) rest ca
-    (then_comes (λ b ts. then_at (want s.Else ts) (λ _ ts. then_at (parse at n Any ts) (λ c ts. Ok (If p a b c, ts)))) (If p a b c) rest cb
-    (then_last (λ c ts. Ok (If p a b c, ts)) (If p a b c) rest cc' refl))
+    then_comes (λ a ts. then_at (want s.Then ts) (λ _ ts. then_at (parse at n Any ts) (λ b ts. then_at (want s.Else ts) (λ _ ts. then_at (parse at n Any ts) (λ c ts. Ok (GenericIf p a b c, ts)))))) (GenericIf p a b c) rest ca
+    (then_comes (λ b ts. then_at (want s.Else ts) (λ _ ts. then_at (parse at n Any ts) (λ c ts. Ok (GenericIf p a b c, ts)))) (GenericIf p a b c) rest cb
+    (then_last (λ c ts. Ok (GenericIf p a b c, ts)) (GenericIf p a b c) rest cc' refl))
 
-case_comes : (at : Places) (n : ℕ) (p : Span) (x : Ident) (arms : Arms) (ts rest : List Token) (D : List ℕ) → Comes D (arms_at at (parse at n Any) ts) arms (t.Sign s.CloseBrace ∷ rest)
-    → Comes D (case_at at (parse at n) p (t.Variable x.name ∷ t.Sign s.Of ∷ t.Sign s.OpenBrace ∷ ts)) (Case p (settle_name at x (t.Sign s.Of ∷ t.Sign s.OpenBrace ∷ ts)) arms) rest
+case_comes : (at : Places) (n : ℕ) (p : Span) (x : Ident) (arms : GenericArms) (ts rest : List Token) (D : List ℕ) → Comes D (arms_at at (parse at n Any) ts) arms (t.Sign s.CloseBrace ∷ rest)
+    → Comes D (case_at at (parse at n) p (t.Variable x.name ∷ t.Sign s.Of ∷ t.Sign s.OpenBrace ∷ ts)) (GenericCase p (settle_name at x (t.Sign s.Of ∷ t.Sign s.OpenBrace ∷ ts)) arms) rest
 unfolding case_at
 case_comes at n p x arms ts rest D c =
     let y = settle_name at x (t.Sign s.Of ∷ t.Sign s.OpenBrace ∷ ts) in
-    then_last (λ arms ts. then_at (want s.CloseBrace ts) (λ _ ts. Ok (Case p y arms, ts))) (Case p y arms) rest c refl
+    then_last (λ arms ts. then_at (want s.CloseBrace ts) (λ _ ts. Ok (GenericCase p y arms, ts))) (GenericCase p y arms) rest c refl
 
-literal_comes : (at : Places) (n : ℕ) (rest : List Token) → n < 2 ^ 63 → Comes [] (literal_at (is_literal n) (before at rest) n rest) (Num (before at rest) n) rest
+literal_comes : (at : Places) (n : ℕ) (rest : List Token) → n < 2 ^ 63 → Comes [] (literal_at (is_literal n) (before at rest) n rest) (GenericNum (before at rest) n) rest
 literal_comes at n rest lt = Came (ap (λ v. literal_at v (before at rest) n rest) (lt-ltb n (2 ^ 63) lt)) refl
 
-bit_any : (at : Places) (n : ℕ) (b : Bool) (rest : List Token) → any_at at (parse at n) (spell_bit b rest) ≡ done (Bit (before at rest) b) rest
+bit_any : (at : Places) (n : ℕ) (b : Bool) (rest : List Token) → any_at at (parse at n) (spell_bit b rest) ≡ done (GenericBit (before at rest) b) rest
 bit_any at n true rest = refl
 bit_any at n false rest = refl
 
-bit_app : (at : Places) (n : ℕ) (b : Bool) (rest : List Token) → app_at at (parse at n) (spell_bit b rest) ≡ done (Bit (before at rest) b) rest
+bit_app : (at : Places) (n : ℕ) (b : Bool) (rest : List Token) → app_at at (parse at n) (spell_bit b rest) ≡ done (GenericBit (before at rest) b) rest
 bit_app at n true rest = refl
 bit_app at n false rest = refl
 
-bit_atom : (at : Places) (n : ℕ) (b : Bool) (rest : List Token) → atom_at at (parse at n) (spell_bit b rest) ≡ done (Bit (before at rest) b) rest
+bit_atom : (at : Places) (n : ℕ) (b : Bool) (rest : List Token) → atom_at at (parse at n) (spell_bit b rest) ≡ done (GenericBit (before at rest) b) rest
 bit_atom at n true rest = refl
 bit_atom at n false rest = refl
 
@@ -249,61 +290,79 @@ mutual
   unfolding parse
 
   -- The tree comes, with the spans of its tokens.
-  pub complete : (at : Places) (e : Expression) (n : ℕ) (m : Mode) (rest : List Token) → IsFine e → IsMode m e → Ends m rest → Comes (below n e rest) (parse at n m (spell e rest)) (settle at e rest) rest
+  pub complete : (at : Places) (e : GenericExpression) (n : ℕ) (m : Mode) (rest : List Token) → IsGenericFine e → IsMode m e → Ends m rest → Comes (below n e rest) (parse at n m (spell e rest)) (settle at e rest) rest
   complete at e zero m rest f i en =
       let st = mode_starts m e rest f i in
       let some = some_stand (starts m) (spell e rest) st in
       Sank some.0 [] (ap (λ v. no_level v (spell e rest)) st ∙ ap (λ (k : ℕ). failed (Nested k)) some.1) (ap (λ (k : ℕ). k ∷ []) some.1)
-  complete at (Var x) (suc n) Any rest f i en = call_comes at n x rest NoArgument rest (Var (settle_name at x rest)) _ refl (Came (arguments_none (parse at n Atom) rest en) refl)
-  complete at (Var x) (suc n) App rest f i en = call_comes at n x rest NoArgument rest (Var (settle_name at x rest)) _ refl (Came (arguments_none (parse at n Atom) rest en) refl)
-  complete at (Var x) (suc n) Atom rest f i en = Came refl refl
-  complete at (Num p v) (suc n) Any rest f i en = literal_comes at v rest f
-  complete at (Num p v) (suc n) App rest f i en = literal_comes at v rest f
-  complete at (Num p v) (suc n) Atom rest f i en = literal_comes at v rest f
-  complete at (Bit p b) (suc n) Any rest f i en = Came (bit_any at n b rest) refl
-  complete at (Bit p b) (suc n) App rest f i en = Came (bit_app at n b rest) refl
-  complete at (Bit p b) (suc n) Atom rest f i en = Came (bit_atom at n b rest) refl
-  complete at (Paren p e) (suc n) Any rest f i en = paren_comes at n (at (length (spell (Paren p e) rest))) (settle at e (t.Sign s.Close ∷ rest)) (spell e (t.Sign s.Close ∷ rest)) rest _ ((complete at e n Any (t.Sign s.Close ∷ rest) f tt refl))
-  complete at (Paren p e) (suc n) App rest f i en = paren_comes at n (at (length (spell (Paren p e) rest))) (settle at e (t.Sign s.Close ∷ rest)) (spell e (t.Sign s.Close ∷ rest)) rest _ ((complete at e n Any (t.Sign s.Close ∷ rest) f tt refl))
-  complete at (Paren p e) (suc n) Atom rest f i en = paren_comes at n (at (length (spell (Paren p e) rest))) (settle at e (t.Sign s.Close ∷ rest)) (spell e (t.Sign s.Close ∷ rest)) rest _ ((complete at e n Any (t.Sign s.Close ∷ rest) f tt refl))
-  complete at (Op p g a b) (suc n) Any rest f i en = op_comes at n (at (length (spell (Op p g a b) rest))) g (settle at a (spell_operator g (spell b (t.Sign s.Close ∷ rest)))) (settle at b (t.Sign s.Close ∷ rest)) (spell a (spell_operator g (spell b (t.Sign s.Close ∷ rest)))) (spell b (t.Sign s.Close ∷ rest)) rest _ _ (settled_application at a (spell_operator g (spell b (t.Sign s.Close ∷ rest))) ∙ f.2)
+  complete at (GenericVar x) (suc n) Any rest f i en =
+      call_comes at n x rest GenericNoArgument rest (GenericVar (settle_name at x rest)) _ (ends_parts rest en).0 refl (Came (arguments_none (parse at n Atom) rest (ends_parts rest en).1) refl)
+  complete at (GenericVar x) (suc n) App rest f i en =
+      call_comes at n x rest GenericNoArgument rest (GenericVar (settle_name at x rest)) _ (ends_parts rest en).0 refl (Came (arguments_none (parse at n Atom) rest (ends_parts rest en).1) refl)
+  complete at (GenericVar x) (suc n) Atom rest f i en = Came refl refl
+  complete at (GenericNum p v) (suc n) Any rest f i en = literal_comes at v rest f
+  complete at (GenericNum p v) (suc n) App rest f i en = literal_comes at v rest f
+  complete at (GenericNum p v) (suc n) Atom rest f i en = literal_comes at v rest f
+  complete at (GenericBit p b) (suc n) Any rest f i en = Came (bit_any at n b rest) refl
+  complete at (GenericBit p b) (suc n) App rest f i en = Came (bit_app at n b rest) refl
+  complete at (GenericBit p b) (suc n) Atom rest f i en = Came (bit_atom at n b rest) refl
+  complete at (GenericParen p e) (suc n) Any rest f i en = paren_comes at n (at (length (spell (GenericParen p e) rest))) (settle at e (t.Sign s.Close ∷ rest)) (spell e (t.Sign s.Close ∷ rest)) rest _ ((complete at e n Any (t.Sign s.Close ∷ rest) f tt refl))
+  complete at (GenericParen p e) (suc n) App rest f i en = paren_comes at n (at (length (spell (GenericParen p e) rest))) (settle at e (t.Sign s.Close ∷ rest)) (spell e (t.Sign s.Close ∷ rest)) rest _ ((complete at e n Any (t.Sign s.Close ∷ rest) f tt refl))
+  complete at (GenericParen p e) (suc n) Atom rest f i en = paren_comes at n (at (length (spell (GenericParen p e) rest))) (settle at e (t.Sign s.Close ∷ rest)) (spell e (t.Sign s.Close ∷ rest)) rest _ ((complete at e n Any (t.Sign s.Close ∷ rest) f tt refl))
+  complete at (GenericOp p g a b) (suc n) Any rest f i en = op_comes at n (at (length (spell (GenericOp p g a b) rest))) g (settle at a (spell_operator g (spell b (t.Sign s.Close ∷ rest)))) (settle at b (t.Sign s.Close ∷ rest)) (spell a (spell_operator g (spell b (t.Sign s.Close ∷ rest)))) (spell b (t.Sign s.Close ∷ rest)) rest _ _ (settled_application at a (spell_operator g (spell b (t.Sign s.Close ∷ rest))) ∙ f.2)
       ((complete at a n Any (spell_operator g (spell b (t.Sign s.Close ∷ rest))) f.0 tt (operator_ends g (spell b (t.Sign s.Close ∷ rest))))) ((complete at b n App (t.Sign s.Close ∷ rest) f.1 f.3 refl))
-  complete at (Op p g a b) (suc n) App rest f i en = op_comes at n (at (length (spell (Op p g a b) rest))) g (settle at a (spell_operator g (spell b (t.Sign s.Close ∷ rest)))) (settle at b (t.Sign s.Close ∷ rest)) (spell a (spell_operator g (spell b (t.Sign s.Close ∷ rest)))) (spell b (t.Sign s.Close ∷ rest)) rest _ _ (settled_application at a (spell_operator g (spell b (t.Sign s.Close ∷ rest))) ∙ f.2)
+  complete at (GenericOp p g a b) (suc n) App rest f i en = op_comes at n (at (length (spell (GenericOp p g a b) rest))) g (settle at a (spell_operator g (spell b (t.Sign s.Close ∷ rest)))) (settle at b (t.Sign s.Close ∷ rest)) (spell a (spell_operator g (spell b (t.Sign s.Close ∷ rest)))) (spell b (t.Sign s.Close ∷ rest)) rest _ _ (settled_application at a (spell_operator g (spell b (t.Sign s.Close ∷ rest))) ∙ f.2)
       ((complete at a n Any (spell_operator g (spell b (t.Sign s.Close ∷ rest))) f.0 tt (operator_ends g (spell b (t.Sign s.Close ∷ rest))))) ((complete at b n App (t.Sign s.Close ∷ rest) f.1 f.3 refl))
-  complete at (Op p g a b) (suc n) Atom rest f i en = op_comes at n (at (length (spell (Op p g a b) rest))) g (settle at a (spell_operator g (spell b (t.Sign s.Close ∷ rest)))) (settle at b (t.Sign s.Close ∷ rest)) (spell a (spell_operator g (spell b (t.Sign s.Close ∷ rest)))) (spell b (t.Sign s.Close ∷ rest)) rest _ _ (settled_application at a (spell_operator g (spell b (t.Sign s.Close ∷ rest))) ∙ f.2)
+  complete at (GenericOp p g a b) (suc n) Atom rest f i en = op_comes at n (at (length (spell (GenericOp p g a b) rest))) g (settle at a (spell_operator g (spell b (t.Sign s.Close ∷ rest)))) (settle at b (t.Sign s.Close ∷ rest)) (spell a (spell_operator g (spell b (t.Sign s.Close ∷ rest)))) (spell b (t.Sign s.Close ∷ rest)) rest _ _ (settled_application at a (spell_operator g (spell b (t.Sign s.Close ∷ rest))) ∙ f.2)
       ((complete at a n Any (spell_operator g (spell b (t.Sign s.Close ∷ rest))) f.0 tt (operator_ends g (spell b (t.Sign s.Close ∷ rest))))) ((complete at b n App (t.Sign s.Close ∷ rest) f.1 f.3 refl))
-  complete at (Call g NoArgument) (suc n) m rest f i en = absurd f
-  complete at (Call g (Argument a xs)) (suc n) Any rest f i en = call_comes at n g (spell_arguments (Argument a xs) rest) (settle_arguments at (Argument a xs) rest) rest _ _ refl ((complete_arguments at (Argument a xs) n rest f en))
-  complete at (Call g (Argument a xs)) (suc n) App rest f i en = call_comes at n g (spell_arguments (Argument a xs) rest) (settle_arguments at (Argument a xs) rest) rest _ _ refl ((complete_arguments at (Argument a xs) n rest f en))
-  complete at (Call g (Argument a xs)) (suc n) Atom rest f i en = absurd cc
-  complete at (Make k xs) (suc n) Any rest f i en = make_comes at n k (spell_arguments xs rest) (settle_arguments at xs rest) rest _ ((complete_arguments at xs n rest f en))
-  complete at (Make k xs) (suc n) App rest f i en = make_comes at n k (spell_arguments xs rest) (settle_arguments at xs rest) rest _ ((complete_arguments at xs n rest f en))
-  complete at (Make k NoArgument) (suc n) Atom rest f i en = Came refl refl
-  complete at (Make k (Argument a xs)) (suc n) Atom rest f i en = absurd cc
-  complete at (Let p x a b) (suc n) Any rest f i en = let_comes at n (at (length (spell (Let p x a b) rest))) x (settle at a (t.Sign s.In ∷ spell b rest)) (settle at b rest) (spell a (t.Sign s.In ∷ spell b rest)) (spell b rest) rest _ _
+  complete at (GenericCall g ws GenericNoArgument) (suc n) m rest f i en = absurd f
+  complete at (GenericCall g NoType (GenericArgument a xs)) (suc n) Any rest f i en =
+      call_comes at n g (spell_arguments (GenericArgument a xs) rest) (settle_arguments at (GenericArgument a xs) rest) rest _ _ (plain_arguments (GenericArgument a xs) rest f en) refl (complete_arguments at (GenericArgument a xs) n rest f en)
+  complete at (GenericCall g (MoreTypes w ws) (GenericArgument a xs)) (suc n) Any rest f i en =
+      let here = spell_arguments (GenericArgument a xs) rest in
+      typed_call_comes at n g (settle_type at w (spell_written ws (t.Sign s.CloseBracket ∷ here))) (settle_written at ws (t.Sign s.CloseBracket ∷ here)) (settle at a (spell_arguments xs rest)) (settle_arguments at xs rest)
+      (spell_type_arguments (MoreTypes w ws) here) here (spell_arguments xs rest) rest _ _ (type_arguments_come at (MoreTypes w ws) here (plain_arguments (GenericArgument a xs) rest f en))
+      (complete at a n Atom (spell_arguments xs rest) f.0 f.1 (plain_arguments xs rest f.2 en)) (complete_arguments at xs n rest f.2 en)
+  complete at (GenericCall g NoType (GenericArgument a xs)) (suc n) App rest f i en =
+      call_comes at n g (spell_arguments (GenericArgument a xs) rest) (settle_arguments at (GenericArgument a xs) rest) rest _ _ (plain_arguments (GenericArgument a xs) rest f en) refl (complete_arguments at (GenericArgument a xs) n rest f en)
+  complete at (GenericCall g (MoreTypes w ws) (GenericArgument a xs)) (suc n) App rest f i en =
+      let here = spell_arguments (GenericArgument a xs) rest in
+      typed_call_comes at n g (settle_type at w (spell_written ws (t.Sign s.CloseBracket ∷ here))) (settle_written at ws (t.Sign s.CloseBracket ∷ here)) (settle at a (spell_arguments xs rest)) (settle_arguments at xs rest)
+      (spell_type_arguments (MoreTypes w ws) here) here (spell_arguments xs rest) rest _ _ (type_arguments_come at (MoreTypes w ws) here (plain_arguments (GenericArgument a xs) rest f en))
+      (complete at a n Atom (spell_arguments xs rest) f.0 f.1 (plain_arguments xs rest f.2 en)) (complete_arguments at xs n rest f.2 en)
+  complete at (GenericCall g ws (GenericArgument a xs)) (suc n) Atom rest f i en = absurd cc
+  complete at (GenericMake k ws xs) (suc n) Any rest f i en =
+      make_comes at n k (spell_type_arguments ws (spell_arguments xs rest)) (spell_arguments xs rest) (settle_written at ws (t.Sign s.CloseBracket ∷ spell_arguments xs rest)) (settle_arguments at xs rest) rest _
+      (type_arguments_come at ws (spell_arguments xs rest) (plain_arguments xs rest f en)) (complete_arguments at xs n rest f en)
+  complete at (GenericMake k ws xs) (suc n) App rest f i en =
+      make_comes at n k (spell_type_arguments ws (spell_arguments xs rest)) (spell_arguments xs rest) (settle_written at ws (t.Sign s.CloseBracket ∷ spell_arguments xs rest)) (settle_arguments at xs rest) rest _
+      (type_arguments_come at ws (spell_arguments xs rest) (plain_arguments xs rest f en)) (complete_arguments at xs n rest f en)
+  complete at (GenericMake k ws GenericNoArgument) (suc n) Atom rest f i en = Came (constant_comes at n k (spell_type_arguments ws rest) rest (settle_written at ws (t.Sign s.CloseBracket ∷ rest)) (type_arguments_come at ws rest en)) refl
+  complete at (GenericMake k ws (GenericArgument a xs)) (suc n) Atom rest f i en = absurd cc
+  complete at (GenericLet p x a b) (suc n) Any rest f i en = let_comes at n (at (length (spell (GenericLet p x a b) rest))) x (settle at a (t.Sign s.In ∷ spell b rest)) (settle at b rest) (spell a (t.Sign s.In ∷ spell b rest)) (spell b rest) rest _ _
       ((complete at a n Any (t.Sign s.In ∷ spell b rest) f.0 tt refl)) ((complete at b n Any rest f.1 tt en))
-  complete at (Let p x a b) (suc n) App rest f i en = absurd cc
-  complete at (Let p x a b) (suc n) Atom rest f i en = absurd cc
-  complete at (Par p x a y b c) (suc n) Any rest f i en = par_comes at n (at (length (spell (Par p x a y b c) rest))) x y (settle at a (t.Sign s.And ∷ t.Variable y.name ∷ t.Sign s.Equals ∷ spell b (t.Sign s.In ∷ spell c rest))) (settle at b (t.Sign s.In ∷ spell c rest)) (settle at c rest) (spell a (t.Sign s.And ∷ t.Variable y.name ∷ t.Sign s.Equals ∷ spell b (t.Sign s.In ∷ spell c rest))) (spell b (t.Sign s.In ∷ spell c rest)) (spell c rest) rest _ _ _
+  complete at (GenericLet p x a b) (suc n) App rest f i en = absurd cc
+  complete at (GenericLet p x a b) (suc n) Atom rest f i en = absurd cc
+  complete at (GenericPar p x a y b c) (suc n) Any rest f i en = par_comes at n (at (length (spell (GenericPar p x a y b c) rest))) x y (settle at a (t.Sign s.And ∷ t.Variable y.name ∷ t.Sign s.Equals ∷ spell b (t.Sign s.In ∷ spell c rest))) (settle at b (t.Sign s.In ∷ spell c rest)) (settle at c rest) (spell a (t.Sign s.And ∷ t.Variable y.name ∷ t.Sign s.Equals ∷ spell b (t.Sign s.In ∷ spell c rest))) (spell b (t.Sign s.In ∷ spell c rest)) (spell c rest) rest _ _ _
       ((complete at a n Any (t.Sign s.And ∷ t.Variable y.name ∷ t.Sign s.Equals ∷ spell b (t.Sign s.In ∷ spell c rest)) f.0 tt refl)) ((complete at b n Any (t.Sign s.In ∷ spell c rest) f.1 tt refl)) ((complete at c n Any rest f.2 tt en))
-  complete at (Par p x a y b c) (suc n) App rest f i en = absurd cc
-  complete at (Par p x a y b c) (suc n) Atom rest f i en = absurd cc
-  complete at (If p a b c) (suc n) Any rest f i en = if_comes at n (at (length (spell (If p a b c) rest))) (settle at a (t.Sign s.Then ∷ spell b (t.Sign s.Else ∷ spell c rest))) (settle at b (t.Sign s.Else ∷ spell c rest)) (settle at c rest) (spell a (t.Sign s.Then ∷ spell b (t.Sign s.Else ∷ spell c rest))) (spell b (t.Sign s.Else ∷ spell c rest)) (spell c rest) rest _ _ _
+  complete at (GenericPar p x a y b c) (suc n) App rest f i en = absurd cc
+  complete at (GenericPar p x a y b c) (suc n) Atom rest f i en = absurd cc
+  complete at (GenericIf p a b c) (suc n) Any rest f i en = if_comes at n (at (length (spell (GenericIf p a b c) rest))) (settle at a (t.Sign s.Then ∷ spell b (t.Sign s.Else ∷ spell c rest))) (settle at b (t.Sign s.Else ∷ spell c rest)) (settle at c rest) (spell a (t.Sign s.Then ∷ spell b (t.Sign s.Else ∷ spell c rest))) (spell b (t.Sign s.Else ∷ spell c rest)) (spell c rest) rest _ _ _
       ((complete at a n Any (t.Sign s.Then ∷ spell b (t.Sign s.Else ∷ spell c rest)) f.0 tt refl)) ((complete at b n Any (t.Sign s.Else ∷ spell c rest) f.1 tt refl)) ((complete at c n Any rest f.2 tt en))
-  complete at (If p a b c) (suc n) App rest f i en = absurd cc
-  complete at (If p a b c) (suc n) Atom rest f i en = absurd cc
-  complete at (Case p x arms) (suc n) Any rest f i en = case_comes at n (at (length (spell (Case p x arms) rest))) x (settle_arms at arms (t.Sign s.CloseBrace ∷ rest)) (spell_arms arms (t.Sign s.CloseBrace ∷ rest)) rest _ ((complete_arms at arms n rest f))
-  complete at (Case p x arms) (suc n) App rest f i en = absurd cc
-  complete at (Case p x arms) (suc n) Atom rest f i en = absurd cc
+  complete at (GenericIf p a b c) (suc n) App rest f i en = absurd cc
+  complete at (GenericIf p a b c) (suc n) Atom rest f i en = absurd cc
+  complete at (GenericCase p x arms) (suc n) Any rest f i en = case_comes at n (at (length (spell (GenericCase p x arms) rest))) x (settle_arms at arms (t.Sign s.CloseBrace ∷ rest)) (spell_arms arms (t.Sign s.CloseBrace ∷ rest)) rest _ ((complete_arms at arms n rest f))
+  complete at (GenericCase p x arms) (suc n) App rest f i en = absurd cc
+  complete at (GenericCase p x arms) (suc n) Atom rest f i en = absurd cc
 
-  complete_arguments : (at : Places) (xs : Arguments) (n : ℕ) (rest : List Token) → AreFine xs → next_is starts_atom rest ≡ false → Comes (below_arguments n xs rest) (arguments_at (parse at n Atom) (spell_arguments xs rest)) (settle_arguments at xs rest) rest
-  complete_arguments at NoArgument n rest f en = Came (arguments_none (parse at n Atom) rest en) refl
-  complete_arguments at (Argument a xs) n rest f en =
+  complete_arguments : (at : Places) (xs : GenericArguments) (n : ℕ) (rest : List Token) → AreGenericFine xs → next_is goes_on rest ≡ false → Comes (below_arguments n xs rest) (arguments_at (parse at n Atom) (spell_arguments xs rest)) (settle_arguments at xs rest) rest
+  complete_arguments at GenericNoArgument n rest f en = Came (arguments_none (parse at n Atom) rest (ends_parts rest en).1) refl
+  complete_arguments at (GenericArgument a xs) n rest f en =
       more_comes at n (settle at a (spell_arguments xs rest)) (settle_arguments at xs rest) (spell a (spell_arguments xs rest)) (spell_arguments xs rest) rest _ _ (atom_starts a (spell_arguments xs rest) f.0 f.1)
-      ((complete at a n Atom (spell_arguments xs rest) f.0 f.1 tt)) ((complete_arguments at xs n rest f.2 en))
+      (complete at a n Atom (spell_arguments xs rest) f.0 f.1 (plain_arguments xs rest f.2 en)) ((complete_arguments at xs n rest f.2 en))
 
-  complete_arms : (at : Places) (arms : Arms) (n : ℕ) (rest : List Token) → HasFine arms → Comes (below_arms n arms (t.Sign s.CloseBrace ∷ rest)) (arms_at at (parse at n Any) (spell_arms arms (t.Sign s.CloseBrace ∷ rest))) (settle_arms at arms (t.Sign s.CloseBrace ∷ rest)) (t.Sign s.CloseBrace ∷ rest)
-  complete_arms at (LastArm k xs e) n rest f = arms_last at n k xs (settle at e (t.Sign s.CloseBrace ∷ rest)) (spell e (t.Sign s.CloseBrace ∷ rest)) rest _ (complete at e n Any (t.Sign s.CloseBrace ∷ rest) f tt refl)
-  complete_arms at (NextArm k xs e arms) n rest f =
+  complete_arms : (at : Places) (arms : GenericArms) (n : ℕ) (rest : List Token) → HasGenericFine arms → Comes (below_arms n arms (t.Sign s.CloseBrace ∷ rest)) (arms_at at (parse at n Any) (spell_arms arms (t.Sign s.CloseBrace ∷ rest))) (settle_arms at arms (t.Sign s.CloseBrace ∷ rest)) (t.Sign s.CloseBrace ∷ rest)
+  complete_arms at (GenericLastArm k xs e) n rest f = arms_last at n k xs (settle at e (t.Sign s.CloseBrace ∷ rest)) (spell e (t.Sign s.CloseBrace ∷ rest)) rest _ (complete at e n Any (t.Sign s.CloseBrace ∷ rest) f tt refl)
+  complete_arms at (GenericNextArm k xs e arms) n rest f =
       arms_next at n k xs (settle at e (t.Sign s.Semicolon ∷ spell_arms arms (t.Sign s.CloseBrace ∷ rest))) (settle_arms at arms (t.Sign s.CloseBrace ∷ rest)) (spell e (t.Sign s.Semicolon ∷ spell_arms arms (t.Sign s.CloseBrace ∷ rest))) (spell_arms arms (t.Sign s.CloseBrace ∷ rest)) (t.Sign s.CloseBrace ∷ rest) _ _
       ((complete at e n Any (t.Sign s.Semicolon ∷ spell_arms arms (t.Sign s.CloseBrace ∷ rest)) f.0 tt refl)) ((complete_arms at arms n rest f.1))

@@ -1,8 +1,10 @@
 pub mod Tools
+pub mod Written
 pub mod Many
 pub mod Sound
 pub mod Settle
 pub mod Longer
+pub mod WrittenComes
 pub mod Come
 pub mod Nested
 pub mod Complete
@@ -14,11 +16,15 @@ pub mod ProgramLocal
 pub mod Whole
 pub mod Past
 pub mod Begin
+pub mod BeginWritten
 pub mod BeginExpression
 pub mod BeginProgram
 pub mod Sunk
 pub mod SoFar
 pub mod PartsSoFar
+pub mod Opening
+pub mod Calls
+pub mod Bodies
 pub mod Levels
 pub mod ExpressionLoops
 pub mod DeclarationLoops

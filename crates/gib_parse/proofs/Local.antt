@@ -7,15 +7,18 @@ use Rattle.gib_base.specs.declared.token.Sign.TheVariants as s
 use Rattle.gib_base.specs.declared.token.Token.{Token}
 use Rattle.gib_base.specs.declared.token.Token.TheVariants as t
 use Rattle.gib_syntax.specs.declared.tree.Ident.{Ident}
-use Rattle.gib_syntax.specs.declared.tree.TypeName.TheVariants as ty
 use Rattle.gib_syntax.specs.declared.tree.Operator.{Operator}
 use Rattle.gib_syntax.specs.declared.tree.Operator.TheVariants as o
-use Rattle.gib_syntax.specs.Tree.{Expression, Var, Num, Bit, Paren, Op, Make, Let, Par, If, Case, NoArgument}
-use Rattle.gib_syntax.specs.Spelling.{Places, is_application}
-use Rattle.gib_parse.specs.Reading.{Fault, At, Nested, Mode, Any, App, Atom, Read, Reader, Parts, then_at, want, want_if, same, before, var_at, con_at, type_at, next_is, many_step, many, is_variable, is_sign, is_literal, literal_at, starts_atom, starts, ArmTree, arms_of, arm_at, next_arm_at, arms_at, arguments_of, arguments_at, bind_at, par_at, let_at, if_at, case_at, side_at, close_at, open_at, call, atom_at, app_at, any_at, no_level, parse}
-use Rattle.gib_parse.proofs.Tools.{done, failed}
+use Rattle.gib_syntax.specs.GenericTree.{GenericExpression, GenericVar, GenericNum, GenericBit, GenericParen, GenericOp, GenericMake, GenericLet, GenericPar, GenericIf, GenericCase, GenericNoArgument, GenericCall, GenericArgument}
+use Rattle.gib_syntax.specs.GenericFine.{is_generic_application}
+use Rattle.gib_syntax.specs.Spelling.{Places}
+use Rattle.gib_parse.specs.Reading.{Fault, At, Nested, Mode, Any, App, Atom, Read, Reader, Parts, then_at, want, want_if, same, before, var_at, con_at, Opened, opened_at, inside, type_at, bracket_at, type_arguments_at, starts_type, next_is, many_step, many, is_variable, is_sign, is_literal, literal_at, starts_atom, starts, ArmTree, arms_of, arm_at, next_arm_at, arms_at, arguments_of, arguments_at, bind_at, par_at, let_at, if_at, case_at, side_at, close_at, open_at, call, called_at, variable_at, make_at, constant_at, atom_at, app_at, any_at, no_level, parse}
+use Rattle.gib_parse.proofs.Tools.{done, failed, same_is}
 use Rattle.gib_parse.proofs.Many.{Shrinks, many_is}
-use Rattle.gib_parse.proofs.Longer.{parse_shrinks, var_shrinks, next_shrinks}
+use Rattle.gib_parse.proofs.Longer.{parse_shrinks, var_shrinks, type_shrinks, next_shrinks}
+use Rattle.gib_parse.proofs.WrittenComes.{type_arguments_none}
+use Rattle.gib_syntax.specs.Forms.{WrittenType, WrittenTypes, WholeAt, TruthAt, VariableAt, DataAt, NoType, MoreTypes}
+use Rattle.gib_syntax.specs.Words.{all_types}
 
 -- The kinds of faults.
 pub data Kind : Type 0 where
@@ -286,14 +289,74 @@ module _ (tok : Token) (xs ys : List Token) (at at' : Places) (shift : (k : ℕ)
   con_local (t.Constructor x ∷ ws) = takes_marked (con_at at) (con_at at') (name_here x) (name_here x) (t.Constructor x) ws (λ l. refl) (λ l. refl) (λ z. name_local x z ws)
   con_local (c ∷ ws) = head_fails (con_at at) (con_at at') c ws (λ l. refl) (λ l. refl)
 
+  mutual
+    -- Behind an opening parenthesis of a type.
+    opened_local : (p : Span) (os : List Opened) (ws : List Token) → LocalAt (opened_at at p os) (opened_at at' p os) ws
+    opened_local p os [] = nil_fails (opened_at at p os) (opened_at at' p os) refl
+    opened_local p os (t.Constructor x ∷ ws) =
+        takes_marked (opened_at at p os) (opened_at at' p os) (λ z. inside at p (record { name = x; span = z }) [] os) (λ z. inside at' p (record { name = x; span = z }) [] os) (t.Constructor x) ws (λ l. refl) (λ l. refl)
+        (λ z. inside_local p (record { name = x; span = z }) [] os ws)
+    opened_local p os (c ∷ ws) = head_fails (opened_at at p os) (opened_at at' p os) c ws (λ l. refl) (λ l. refl)
+
+    -- Behind arguments of a type.
+    inside_local : (p : Span) (k : Ident) (ts : List WrittenType) (os : List Opened) (ws : List Token) → LocalAt (inside at p k ts os) (inside at' p k ts os) ws
+    inside_local p k ts os [] = nil_fails (inside at p k ts os) (inside at' p k ts os) refl
+    inside_local p k ts os (t.Sign s.Int ∷ ws) =
+        takes_marked (inside at p k ts os) (inside at' p k ts os) (λ z. inside at p k (ts ++ WholeAt z ∷ []) os) (λ z. inside at' p k (ts ++ WholeAt z ∷ []) os) (t.Sign s.Int) ws (λ l. refl) (λ l. refl)
+        (λ z. inside_local p k (ts ++ WholeAt z ∷ []) os ws)
+    inside_local p k ts os (t.Sign s.Bool ∷ ws) =
+        takes_marked (inside at p k ts os) (inside at' p k ts os) (λ z. inside at p k (ts ++ TruthAt z ∷ []) os) (λ z. inside at' p k (ts ++ TruthAt z ∷ []) os) (t.Sign s.Bool) ws (λ l. refl) (λ l. refl)
+        (λ z. inside_local p k (ts ++ TruthAt z ∷ []) os ws)
+    inside_local p k ts os (t.Variable x ∷ ws) =
+        takes_marked (inside at p k ts os) (inside at' p k ts os) (λ z. inside at p k (ts ++ VariableAt (record { name = x; span = z }) ∷ []) os) (λ z. inside at' p k (ts ++ VariableAt (record { name = x; span = z }) ∷ []) os)
+        (t.Variable x) ws (λ l. refl) (λ l. refl) (λ z. inside_local p k (ts ++ VariableAt (record { name = x; span = z }) ∷ []) os ws)
+    inside_local p k ts os (t.Constructor x ∷ ws) =
+        takes_marked (inside at p k ts os) (inside at' p k ts os) (λ z. inside at p k (ts ++ DataAt z (record { name = x; span = z }) NoType ∷ []) os)
+        (λ z. inside at' p k (ts ++ DataAt z (record { name = x; span = z }) NoType ∷ []) os) (t.Constructor x) ws (λ l. refl) (λ l. refl)
+        (λ z. inside_local p k (ts ++ DataAt z (record { name = x; span = z }) NoType ∷ []) os ws)
+    inside_local p k ts os (t.Sign s.Open ∷ ws) =
+        takes_marked (inside at p k ts os) (inside at' p k ts os) (λ z. opened_at at z (record { place = p; name = k; arguments = ts } ∷ os)) (λ z. opened_at at' z (record { place = p; name = k; arguments = ts } ∷ os)) (t.Sign s.Open) ws (λ l. refl) (λ l. refl)
+        (λ z. opened_local z (record { place = p; name = k; arguments = ts } ∷ os) ws)
+    inside_local p k [] os (t.Sign s.Close ∷ ws) = head_fails (inside at p k [] os) (inside at' p k [] os) (t.Sign s.Close) ws (λ l. refl) (λ l. refl)
+    inside_local p k (x ∷ ts) [] (t.Sign s.Close ∷ ws) =
+        takes (inside at p k (x ∷ ts) []) (inside at' p k (x ∷ ts) []) (done (DataAt p k (all_types (x ∷ ts)))) (done (DataAt p k (all_types (x ∷ ts)))) (t.Sign s.Close) ws (λ l. refl) (λ l. refl)
+        (pure_local (DataAt p k (all_types (x ∷ ts))) ws)
+    inside_local p k (x ∷ ts) (o ∷ os) (t.Sign s.Close ∷ ws) =
+        let more = o.arguments ++ DataAt p k (all_types (x ∷ ts)) ∷ [] in
+        takes (inside at p k (x ∷ ts) (o ∷ os)) (inside at' p k (x ∷ ts) (o ∷ os)) (inside at o.place o.name more os) (inside at' o.place o.name more os) (t.Sign s.Close) ws (λ l. refl) (λ l. refl)
+        (inside_local o.place o.name more os ws)
+    inside_local p k ts os (c ∷ ws) = head_fails (inside at p k ts os) (inside at' p k ts os) c ws (λ l. refl) (λ l. refl)
+
   pub type_local : (ws : List Token) → LocalAt (type_at at) (type_at at') ws
   type_local [] = nil_fails (type_at at) (type_at at') refl
-  type_local (t.Sign s.Int ∷ ws) = takes_marked (type_at at) (type_at at') (λ z. done (ty.Whole z)) (λ z. done (ty.Whole z)) (t.Sign s.Int) ws (λ l. refl) (λ l. refl) (λ z. pure_local (ty.Whole z) ws)
-  type_local (t.Sign s.Bool ∷ ws) = takes_marked (type_at at) (type_at at') (λ z. done (ty.Truth z)) (λ z. done (ty.Truth z)) (t.Sign s.Bool) ws (λ l. refl) (λ l. refl) (λ z. pure_local (ty.Truth z) ws)
+  type_local (t.Sign s.Int ∷ ws) = takes_marked (type_at at) (type_at at') (λ z. done (WholeAt z)) (λ z. done (WholeAt z)) (t.Sign s.Int) ws (λ l. refl) (λ l. refl) (λ z. pure_local (WholeAt z) ws)
+  type_local (t.Sign s.Bool ∷ ws) = takes_marked (type_at at) (type_at at') (λ z. done (TruthAt z)) (λ z. done (TruthAt z)) (t.Sign s.Bool) ws (λ l. refl) (λ l. refl) (λ z. pure_local (TruthAt z) ws)
+  type_local (t.Variable x ∷ ws) =
+      takes_marked (type_at at) (type_at at') (λ z. done (VariableAt (record { name = x; span = z }))) (λ z. done (VariableAt (record { name = x; span = z }))) (t.Variable x) ws (λ l. refl) (λ l. refl)
+      (λ z. pure_local (VariableAt (record { name = x; span = z })) ws)
   type_local (t.Constructor x ∷ ws) =
-      takes_marked (type_at at) (type_at at') (λ z. done (ty.Declared (record { name = x; span = z }))) (λ z. done (ty.Declared (record { name = x; span = z }))) (t.Constructor x) ws (λ l. refl) (λ l. refl)
-      (λ z. pure_local (ty.Declared (record { name = x; span = z })) ws)
+      takes_marked (type_at at) (type_at at') (λ z. done (DataAt z (record { name = x; span = z }) NoType)) (λ z. done (DataAt z (record { name = x; span = z }) NoType)) (t.Constructor x) ws (λ l. refl) (λ l. refl)
+      (λ z. pure_local (DataAt z (record { name = x; span = z }) NoType) ws)
+  type_local (t.Sign s.Open ∷ ws) = takes_marked (type_at at) (type_at at') (λ z. opened_at at z []) (λ z. opened_at at' z []) (t.Sign s.Open) ws (λ l. refl) (λ l. refl) (λ z. opened_local z [] ws)
   type_local (c ∷ ws) = head_fails (type_at at) (type_at at') c ws (λ l. refl) (λ l. refl)
+
+  bracket_local : (ws : List Token) → LocalAt (bracket_at at) (bracket_at at') ws
+  unfolding bracket_at
+  bracket_local ws =
+      then_local (type_local ws) (λ x r1 e1. then_local (many_local starts_type (type_at at) (type_at at') (type_shrinks at) (type_shrinks at') type_local r1) (λ more r2 e2. then_local (want_local s.CloseBracket r2) (λ _ r3 e3.
+      pure_local (all_types (x ∷ more)) r3)))
+
+  keeps_sign : (b : Sign) (ws : List Token) (v : Bool) → same s.OpenBracket b ≡ v → LocalAt (type_arguments_at at) (type_arguments_at at') (t.Sign b ∷ ws)
+  keeps_sign b ws true e =
+      let is : s.OpenBracket ≡ b = same_is s.OpenBracket b e in
+      subst (λ (c : Sign). LocalAt (type_arguments_at at) (type_arguments_at at') (t.Sign c ∷ ws)) is
+      (takes (type_arguments_at at) (type_arguments_at at') (bracket_at at) (bracket_at at') (t.Sign s.OpenBracket) ws (λ l. refl) (λ l. refl) (bracket_local ws))
+  keeps_sign b ws false e = keeps (type_arguments_at at) (type_arguments_at at') (done NoType) (done NoType) (t.Sign b) ws (λ l. type_arguments_none at (t.Sign b ∷ l) e) (λ l. type_arguments_none at' (t.Sign b ∷ l) e) (pure_local NoType (t.Sign b ∷ ws))
+
+  pub type_arguments_local : (ws : List Token) → LocalAt (type_arguments_at at) (type_arguments_at at') ws
+  type_arguments_local [] = local_nil (type_arguments_at at) (type_arguments_at at') (done NoType) (done NoType) refl (pure_local NoType [])
+  type_arguments_local (t.Sign b ∷ ws) = keeps_sign b ws (same s.OpenBracket b) refl
+  type_arguments_local (c ∷ ws) = keeps (type_arguments_at at) (type_arguments_at at') (done NoType) (done NoType) c ws (λ l. refl) (λ l. refl) (pure_local NoType (c ∷ ws))
 
   abbrev PartsLocal : ℕ → Type 0
   PartsLocal n = (m : Mode) (ws : List Token) → LocalAt (parse at n m) (parse at' n m) ws
@@ -321,13 +384,13 @@ module _ (tok : Token) (xs ys : List Token) (at at' : Places) (shift : (k : ℕ)
   bind_local : (n : ℕ) → PartsLocal n → (z : Span) (ws : List Token) → LocalAt (bind_at at (parse at n) z) (bind_at at' (parse at' n) z) ws
   unfolding bind_at
   bind_local n h z ws =
-      then_local (var_local ws) (λ x r1 e1. then_local (want_local s.Equals r1) (λ _ r2 e2. then_local (h Any r2) (λ a r3 e3. then_local (want_local s.In r3) (λ _ r4 e4. then_local (h Any r4) (λ b r5 e5. pure_local (Let z x a b) r5)))))
+      then_local (var_local ws) (λ x r1 e1. then_local (want_local s.Equals r1) (λ _ r2 e2. then_local (h Any r2) (λ a r3 e3. then_local (want_local s.In r3) (λ _ r4 e4. then_local (h Any r4) (λ b r5 e5. pure_local (GenericLet z x a b) r5)))))
 
   par_local : (n : ℕ) → PartsLocal n → (z : Span) (ws : List Token) → LocalAt (par_at at (parse at n) z) (par_at at' (parse at' n) z) ws
   unfolding par_at
   par_local n h z ws =
       then_local (var_local ws) (λ x r1 e1. then_local (want_local s.Equals r1) (λ _ r2 e2. then_local (h Any r2) (λ a r3 e3. then_local (want_local s.And r3) (λ _ r4 e4.
-      then_local (var_local r4) (λ y r5 e5. then_local (want_local s.Equals r5) (λ _ r6 e6. then_local (h Any r6) (λ b r7 e7. then_local (want_local s.In r7) (λ _ r8 e8. then_local (h Any r8) (λ c r9 e9. pure_local (Par z x a y b c) r9)))))))))
+      then_local (var_local r4) (λ y r5 e5. then_local (want_local s.Equals r5) (λ _ r6 e6. then_local (h Any r6) (λ b r7 e7. then_local (want_local s.In r7) (λ _ r8 e8. then_local (h Any r8) (λ c r9 e9. pure_local (GenericPar z x a y b c) r9)))))))))
 
   pub let_local : (n : ℕ) → PartsLocal n → (z : Span) (ws : List Token) → LocalAt (let_at at (parse at n) z) (let_at at' (parse at' n) z) ws
   let_local n h z [] = local_nil (let_at at (parse at n) z) (let_at at' (parse at' n) z) (bind_at at (parse at n) z) (bind_at at' (parse at' n) z) refl (bind_local n h z [])
@@ -337,32 +400,32 @@ module _ (tok : Token) (xs ys : List Token) (at at' : Places) (shift : (k : ℕ)
   pub if_local : (n : ℕ) → PartsLocal n → (z : Span) (ws : List Token) → LocalAt (if_at (parse at n) z) (if_at (parse at' n) z) ws
   unfolding if_at
   if_local n h z ws =
-      then_local (h Any ws) (λ a r1 e1. then_local (want_local s.Then r1) (λ _ r2 e2. then_local (h Any r2) (λ b r3 e3. then_local (want_local s.Else r3) (λ _ r4 e4. then_local (h Any r4) (λ c r5 e5. pure_local (If z a b c) r5)))))
+      then_local (h Any ws) (λ a r1 e1. then_local (want_local s.Then r1) (λ _ r2 e2. then_local (h Any r2) (λ b r3 e3. then_local (want_local s.Else r3) (λ _ r4 e4. then_local (h Any r4) (λ c r5 e5. pure_local (GenericIf z a b c) r5)))))
 
   pub case_local : (n : ℕ) → PartsLocal n → (z : Span) (ws : List Token) → LocalAt (case_at at (parse at n) z) (case_at at' (parse at' n) z) ws
   unfolding case_at
   case_local n h z ws =
-      then_local (var_local ws) (λ x r1 e1. then_local (want_local s.Of r1) (λ _ r2 e2. then_local (want_local s.OpenBrace r2) (λ _ r3 e3. then_local (arms_local n h r3) (λ arms r4 e4. then_local (want_local s.CloseBrace r4) (λ _ r5 e5. pure_local (Case z x arms) r5)))))
+      then_local (var_local ws) (λ x r1 e1. then_local (want_local s.Of r1) (λ _ r2 e2. then_local (want_local s.OpenBrace r2) (λ _ r3 e3. then_local (arms_local n h r3) (λ arms r4 e4. then_local (want_local s.CloseBrace r4) (λ _ r5 e5. pure_local (GenericCase z x arms) r5)))))
 
-  operation_local : (n : ℕ) → PartsLocal n → (v : Bool) (z : Span) (f : Operator) (e : Expression) (g : Sign) (ws : List Token) → is_application e ≡ v → ((sub : Parts) (l : List Token) → close_at sub z e (t.Sign g ∷ l) ≡ side_at (is_application e) sub z f e l)
+  operation_local : (n : ℕ) → PartsLocal n → (v : Bool) (z : Span) (f : Operator) (e : GenericExpression) (g : Sign) (ws : List Token) → is_generic_application e ≡ v → ((sub : Parts) (l : List Token) → close_at sub z e (t.Sign g ∷ l) ≡ side_at (is_generic_application e) sub z f e l)
       → LocalAt (close_at (parse at n) z e) (close_at (parse at' n) z e) (t.Sign g ∷ ws)
   operation_local n h false z f e g ws v is =
       head_fails (close_at (parse at n) z e) (close_at (parse at' n) z e) (t.Sign g) ws (λ l. is (parse at n) l ∙ ap (λ v. side_at v (parse at n) z f e l) v) (λ l. is (parse at' n) l ∙ ap (λ v. side_at v (parse at' n) z f e l) v)
   operation_local n h true z f e g ws v is =
       takes (close_at (parse at n) z e) (close_at (parse at' n) z e) (side_at true (parse at n) z f e) (side_at true (parse at' n) z f e) (t.Sign g) ws
       (λ l. is (parse at n) l ∙ ap (λ v. side_at v (parse at n) z f e l) v) (λ l. is (parse at' n) l ∙ ap (λ v. side_at v (parse at' n) z f e l) v)
-      (then_local (h App ws) (λ b r1 e1. then_local (want_local s.Close r1) (λ _ r2 e2. pure_local (Op z f e b) r2)))
+      (then_local (h App ws) (λ b r1 e1. then_local (want_local s.Close r1) (λ _ r2 e2. pure_local (GenericOp z f e b) r2)))
 
-  close_local : (n : ℕ) → PartsLocal n → (z : Span) (e : Expression) (ws : List Token) → LocalAt (close_at (parse at n) z e) (close_at (parse at' n) z e) ws
+  close_local : (n : ℕ) → PartsLocal n → (z : Span) (e : GenericExpression) (ws : List Token) → LocalAt (close_at (parse at n) z e) (close_at (parse at' n) z e) ws
   close_local n h z e [] = nil_fails (close_at (parse at n) z e) (close_at (parse at' n) z e) refl
-  close_local n h z e (t.Sign s.Close ∷ ws) = takes (close_at (parse at n) z e) (close_at (parse at' n) z e) (done (Paren z e)) (done (Paren z e)) (t.Sign s.Close) ws (λ l. refl) (λ l. refl) (pure_local (Paren z e) ws)
-  close_local n h z e (t.Sign s.Plus ∷ ws) = operation_local n h (is_application e) z o.Add e s.Plus ws refl (λ sub l. refl)
-  close_local n h z e (t.Sign s.Minus ∷ ws) = operation_local n h (is_application e) z o.Subtract e s.Minus ws refl (λ sub l. refl)
-  close_local n h z e (t.Sign s.Times ∷ ws) = operation_local n h (is_application e) z o.Multiply e s.Times ws refl (λ sub l. refl)
-  close_local n h z e (t.Sign s.Same ∷ ws) = operation_local n h (is_application e) z o.Equal e s.Same ws refl (λ sub l. refl)
-  close_local n h z e (t.Sign s.Less ∷ ws) = operation_local n h (is_application e) z o.Less e s.Less ws refl (λ sub l. refl)
-  close_local n h z e (t.Sign s.Quotient ∷ ws) = operation_local n h (is_application e) z o.Quotient e s.Quotient ws refl (λ sub l. refl)
-  close_local n h z e (t.Sign s.Remainder ∷ ws) = operation_local n h (is_application e) z o.Remainder e s.Remainder ws refl (λ sub l. refl)
+  close_local n h z e (t.Sign s.Close ∷ ws) = takes (close_at (parse at n) z e) (close_at (parse at' n) z e) (done (GenericParen z e)) (done (GenericParen z e)) (t.Sign s.Close) ws (λ l. refl) (λ l. refl) (pure_local (GenericParen z e) ws)
+  close_local n h z e (t.Sign s.Plus ∷ ws) = operation_local n h (is_generic_application e) z o.Add e s.Plus ws refl (λ sub l. refl)
+  close_local n h z e (t.Sign s.Minus ∷ ws) = operation_local n h (is_generic_application e) z o.Subtract e s.Minus ws refl (λ sub l. refl)
+  close_local n h z e (t.Sign s.Times ∷ ws) = operation_local n h (is_generic_application e) z o.Multiply e s.Times ws refl (λ sub l. refl)
+  close_local n h z e (t.Sign s.Same ∷ ws) = operation_local n h (is_generic_application e) z o.Equal e s.Same ws refl (λ sub l. refl)
+  close_local n h z e (t.Sign s.Less ∷ ws) = operation_local n h (is_generic_application e) z o.Less e s.Less ws refl (λ sub l. refl)
+  close_local n h z e (t.Sign s.Quotient ∷ ws) = operation_local n h (is_generic_application e) z o.Quotient e s.Quotient ws refl (λ sub l. refl)
+  close_local n h z e (t.Sign s.Remainder ∷ ws) = operation_local n h (is_generic_application e) z o.Remainder e s.Remainder ws refl (λ sub l. refl)
   close_local n h z e (c ∷ ws) = head_fails (close_at (parse at n) z e) (close_at (parse at' n) z e) c ws (λ l. refl) (λ l. refl)
 
   pub open_local : (n : ℕ) → PartsLocal n → (z : Span) (ws : List Token) → LocalAt (open_at (parse at n) z) (open_at (parse at' n) z) ws
@@ -371,39 +434,51 @@ module _ (tok : Token) (xs ys : List Token) (at at' : Places) (shift : (k : ℕ)
 
   literal_local : (n v : ℕ) (ws : List Token) (b : Bool) → is_literal v ≡ b → LocalAt (atom_at at (parse at n)) (atom_at at' (parse at' n)) (t.Number v ∷ ws)
   literal_local n v ws true e =
-      takes_marked (atom_at at (parse at n)) (atom_at at' (parse at' n)) (λ z. done (Num z v)) (λ z. done (Num z v)) (t.Number v) ws
-      (λ l. ap (λ b. literal_at b (before at l) v l) e) (λ l. ap (λ b. literal_at b (before at' l) v l) e) (λ z. pure_local (Num z v) ws)
+      takes_marked (atom_at at (parse at n)) (atom_at at' (parse at' n)) (λ z. done (GenericNum z v)) (λ z. done (GenericNum z v)) (t.Number v) ws
+      (λ l. ap (λ b. literal_at b (before at l) v l) e) (λ l. ap (λ b. literal_at b (before at' l) v l) e) (λ z. pure_local (GenericNum z v) ws)
   literal_local n v ws false e =
       head_fails (atom_at at (parse at n)) (atom_at at' (parse at' n)) (t.Number v) ws (λ l. ap (λ b. literal_at b (before at l) v l) e) (λ l. ap (λ b. literal_at b (before at' l) v l) e)
+
+  pub constant_local : (k : Ident) (ws : List Token) → LocalAt (constant_at at k) (constant_at at' k) ws
+  unfolding constant_at
+  constant_local k ws = then_local (type_arguments_local ws) (λ as' r e. pure_local (GenericMake k as' GenericNoArgument) r)
 
   atom_local : (n : ℕ) → PartsLocal n → (ws : List Token) → LocalAt (atom_at at (parse at n)) (atom_at at' (parse at' n)) ws
   atom_local n h [] = nil_fails (atom_at at (parse at n)) (atom_at at' (parse at' n)) refl
   atom_local n h (t.Variable x ∷ ws) =
-      takes_marked (atom_at at (parse at n)) (atom_at at' (parse at' n)) (λ z. done (Var (record { name = x; span = z }))) (λ z. done (Var (record { name = x; span = z }))) (t.Variable x) ws (λ l. refl) (λ l. refl)
-      (λ z. pure_local (Var (record { name = x; span = z })) ws)
+      takes_marked (atom_at at (parse at n)) (atom_at at' (parse at' n)) (λ z. done (GenericVar (record { name = x; span = z }))) (λ z. done (GenericVar (record { name = x; span = z }))) (t.Variable x) ws (λ l. refl) (λ l. refl)
+      (λ z. pure_local (GenericVar (record { name = x; span = z })) ws)
   atom_local n h (t.Constructor x ∷ ws) =
-      takes_marked (atom_at at (parse at n)) (atom_at at' (parse at' n)) (λ z. done (Make (record { name = x; span = z }) NoArgument)) (λ z. done (Make (record { name = x; span = z }) NoArgument)) (t.Constructor x) ws (λ l. refl) (λ l. refl)
-      (λ z. pure_local (Make (record { name = x; span = z }) NoArgument) ws)
+      takes_marked (atom_at at (parse at n)) (atom_at at' (parse at' n)) (λ z. constant_at at (record { name = x; span = z })) (λ z. constant_at at' (record { name = x; span = z })) (t.Constructor x) ws (λ l. refl) (λ l. refl)
+      (λ z. constant_local (record { name = x; span = z }) ws)
   atom_local n h (t.Number v ∷ ws) = literal_local n v ws (is_literal v) refl
-  atom_local n h (t.Sign s.True ∷ ws) = takes_marked (atom_at at (parse at n)) (atom_at at' (parse at' n)) (λ z. done (Bit z true)) (λ z. done (Bit z true)) (t.Sign s.True) ws (λ l. refl) (λ l. refl) (λ z. pure_local (Bit z true) ws)
-  atom_local n h (t.Sign s.False ∷ ws) = takes_marked (atom_at at (parse at n)) (atom_at at' (parse at' n)) (λ z. done (Bit z false)) (λ z. done (Bit z false)) (t.Sign s.False) ws (λ l. refl) (λ l. refl) (λ z. pure_local (Bit z false) ws)
+  atom_local n h (t.Sign s.True ∷ ws) = takes_marked (atom_at at (parse at n)) (atom_at at' (parse at' n)) (λ z. done (GenericBit z true)) (λ z. done (GenericBit z true)) (t.Sign s.True) ws (λ l. refl) (λ l. refl) (λ z. pure_local (GenericBit z true) ws)
+  atom_local n h (t.Sign s.False ∷ ws) = takes_marked (atom_at at (parse at n)) (atom_at at' (parse at' n)) (λ z. done (GenericBit z false)) (λ z. done (GenericBit z false)) (t.Sign s.False) ws (λ l. refl) (λ l. refl) (λ z. pure_local (GenericBit z false) ws)
   atom_local n h (t.Sign s.Open ∷ ws) = takes_marked (atom_at at (parse at n)) (atom_at at' (parse at' n)) (open_at (parse at n)) (open_at (parse at' n)) (t.Sign s.Open) ws (λ l. refl) (λ l. refl) (λ z. open_local n h z ws)
   atom_local n h (c ∷ ws) = head_fails (atom_at at (parse at n)) (atom_at at' (parse at' n)) c ws (λ l. refl) (λ l. refl)
 
-  abbrev call_here : Parts → Name → Span → Reader Expression
-  call_here sub f z l = then_at (arguments_at (sub Atom) l) (λ es left. done (call (record { name = f; span = z }) es) left)
+  called_local : (n : ℕ) → PartsLocal n → (f : Ident) (as' : WrittenTypes) (ws : List Token) → LocalAt (called_at (parse at n) f as') (called_at (parse at' n) f as') ws
+  unfolding called_at
+  called_local n h f NoType ws = then_local (arguments_local n h ws) (λ es r e. pure_local (call f es) r)
+  called_local n h f (MoreTypes a as') ws =
+      then_local (h Atom ws) (λ first r1 e1. then_local (arguments_local n h r1) (λ es r2 e2. pure_local (GenericCall f (MoreTypes a as') (GenericArgument first es)) r2))
 
-  abbrev make_here : Parts → Name → Span → Reader Expression
-  make_here sub f z l = then_at (arguments_at (sub Atom) l) (λ es left. done (Make (record { name = f; span = z }) es) left)
+  pub variable_local : (n : ℕ) → PartsLocal n → (f : Ident) (ws : List Token) → LocalAt (variable_at at (parse at n) f) (variable_at at' (parse at' n) f) ws
+  unfolding variable_at
+  variable_local n h f ws = then_local (type_arguments_local ws) (λ as' r e. called_local n h f as' r)
+
+  pub make_local : (n : ℕ) → PartsLocal n → (k : Ident) (ws : List Token) → LocalAt (make_at at (parse at n) k) (make_at at' (parse at' n) k) ws
+  unfolding make_at
+  make_local n h k ws = then_local (type_arguments_local ws) (λ as' r e. then_local (arguments_local n h r) (λ es left e2. pure_local (GenericMake k as' es) left))
 
   app_local : (n : ℕ) → PartsLocal n → (ws : List Token) → LocalAt (app_at at (parse at n)) (app_at at' (parse at' n)) ws
   app_local n h [] = local_nil (app_at at (parse at n)) (app_at at' (parse at' n)) (atom_at at (parse at n)) (atom_at at' (parse at' n)) refl (atom_local n h [])
   app_local n h (t.Variable f ∷ ws) =
-      takes_marked (app_at at (parse at n)) (app_at at' (parse at' n)) (call_here (parse at n) f) (call_here (parse at' n) f) (t.Variable f) ws (λ l. refl) (λ l. refl)
-      (λ z. then_local (arguments_local n h ws) (λ es rest e. pure_local (call (record { name = f; span = z }) es) rest))
+      takes_marked (app_at at (parse at n)) (app_at at' (parse at' n)) (λ z. variable_at at (parse at n) (record { name = f; span = z })) (λ z. variable_at at' (parse at' n) (record { name = f; span = z })) (t.Variable f) ws (λ l. refl) (λ l. refl)
+      (λ z. variable_local n h (record { name = f; span = z }) ws)
   app_local n h (t.Constructor f ∷ ws) =
-      takes_marked (app_at at (parse at n)) (app_at at' (parse at' n)) (make_here (parse at n) f) (make_here (parse at' n) f) (t.Constructor f) ws (λ l. refl) (λ l. refl)
-      (λ z. then_local (arguments_local n h ws) (λ es rest e. pure_local (Make (record { name = f; span = z }) es) rest))
+      takes_marked (app_at at (parse at n)) (app_at at' (parse at' n)) (λ z. make_at at (parse at n) (record { name = f; span = z })) (λ z. make_at at' (parse at' n) (record { name = f; span = z })) (t.Constructor f) ws (λ l. refl) (λ l. refl)
+      (λ z. make_local n h (record { name = f; span = z }) ws)
   app_local n h (c ∷ ws) = keeps (app_at at (parse at n)) (app_at at' (parse at' n)) (atom_at at (parse at n)) (atom_at at' (parse at' n)) c ws (λ l. refl) (λ l. refl) (atom_local n h (c ∷ ws))
 
   any_local : (n : ℕ) → PartsLocal n → (ws : List Token) → LocalAt (any_at at (parse at n)) (any_at at' (parse at' n)) ws
@@ -413,7 +488,7 @@ module _ (tok : Token) (xs ys : List Token) (at at' : Places) (shift : (k : ℕ)
   any_local n h (t.Sign s.Case ∷ ws) = takes_marked (any_at at (parse at n)) (any_at at' (parse at' n)) (case_at at (parse at n)) (case_at at' (parse at' n)) (t.Sign s.Case) ws (λ l. refl) (λ l. refl) (λ z. case_local n h z ws)
   any_local n h (c ∷ ws) = keeps (any_at at (parse at n)) (any_at at' (parse at' n)) (app_at at (parse at n)) (app_at at' (parse at' n)) c ws (λ l. refl) (λ l. refl) (app_local n h (c ∷ ws))
 
-  abbrev none_left : Mode → Reader Expression
+  abbrev none_left : Mode → Reader GenericExpression
   none_left m ws = no_level (next_is (starts m) ws) ws
 
   none_head : (m : Mode) (c : Token) (ws : List Token) (v : Bool) → starts m c ≡ v → LocalAt (none_left m) (none_left m) (c ∷ ws)

@@ -4,14 +4,14 @@ use Rattle.gib_base.specs.declared.token.Sign.TheVariants as s
 use Rattle.gib_base.specs.declared.token.Token.{Token}
 use Rattle.gib_base.specs.declared.token.Token.TheVariants as t
 use Rattle.gib_syntax.specs.declared.tree.Ident.{Ident}
-use Rattle.gib_syntax.specs.declared.tree.TypeName.{TypeName}
-use Rattle.gib_syntax.specs.declared.tree.TypeName.TheVariants as ty
 use Rattle.gib_syntax.specs.declared.tree.Operator.{Operator}
 use Rattle.gib_syntax.specs.declared.tree.Operator.TheVariants as o
-use Rattle.gib_syntax.specs.Tree.{Expression, Arguments, Arms, Var, Num, Bit, Paren, Op, Call, Make, Let, Par, If, Case, NoArgument, Argument, LastArm, NextArm}
-use Rattle.gib_syntax.specs.Spelling.{Places, spell, spell_arguments, spell_arms, spell_variables, spell_operator, spell_bit, spell_type}
+use Rattle.gib_syntax.specs.GenericTree.{GenericExpression, GenericArguments, GenericArms, GenericVar, GenericNum, GenericBit, GenericParen, GenericOp, GenericCall, GenericMake, GenericLet, GenericPar, GenericIf, GenericCase, GenericNoArgument, GenericArgument, GenericLastArm, GenericNextArm}
+use Rattle.gib_syntax.specs.Spelling.{Places, spell, spell_arguments, spell_arms, spell_variables, spell_operator, spell_bit, spell_type, spell_written, spell_type_arguments}
 use Rattle.gib_parse.specs.Reading.{Mode, Any, var_at, type_at, parse, arm_at, next_arm_at}
-use Rattle.gib_parse.proofs.Tools.{var_holds, type_holds}
+use Rattle.gib_parse.proofs.Tools.{var_holds}
+use Rattle.gib_parse.proofs.Written.{type_holds}
+use Rattle.gib_syntax.specs.Forms.{WrittenType, WrittenTypes, WholeAt, TruthAt, VariableAt, DataAt, NoType, MoreTypes}
 use Rattle.gib_parse.proofs.Many.{Shrinks}
 use Rattle.gib_parse.proofs.Sound.{parse_sound, arm_sound, next_sound}
 
@@ -32,34 +32,45 @@ bit_longer : (b : Bool) (rest : List Token) → length (spell_bit b rest) ≡ su
 bit_longer true rest = refl
 bit_longer false rest = refl
 
-pub type_longer : (a : TypeName) (rest : List Token) → length (spell_type a rest) ≡ suc (length rest)
-type_longer (ty.Whole p) rest = refl
-type_longer (ty.Truth p) rest = refl
-type_longer (ty.Declared x) rest = refl
+mutual
+  pub type_longer : (a : WrittenType) (rest : List Token) → length rest < length (spell_type a rest)
+  type_longer (WholeAt p) rest = omega arith
+  type_longer (TruthAt p) rest = omega arith
+  type_longer (VariableAt x) rest = omega arith
+  type_longer (DataAt p x NoType) rest = omega arith
+  type_longer (DataAt p x (MoreTypes w ws)) rest = omega (arith, type_longer w (spell_written ws (t.Sign s.Close ∷ rest)), written_longer ws (t.Sign s.Close ∷ rest))
+
+  written_longer : (ws : WrittenTypes) (rest : List Token) → length rest ≤ length (spell_written ws rest)
+  written_longer NoType rest = omega arith
+  written_longer (MoreTypes w ws) rest = omega (arith, type_longer w (spell_written ws rest), written_longer ws rest)
+
+type_arguments_longer : (ws : WrittenTypes) (rest : List Token) → length rest ≤ length (spell_type_arguments ws rest)
+type_arguments_longer NoType rest = omega arith
+type_arguments_longer (MoreTypes w ws) rest = omega (arith, type_longer w (spell_written ws (t.Sign s.CloseBracket ∷ rest)), written_longer ws (t.Sign s.CloseBracket ∷ rest))
 
 mutual
-  pub spell_longer : (e : Expression) (rest : List Token) → length rest < length (spell e rest)
-  spell_longer (Var x) rest = omega arith
-  spell_longer (Num p n) rest = omega arith
-  spell_longer (Bit p b) rest = omega (arith, bit_longer b rest)
-  spell_longer (Paren p e) rest = omega (arith, spell_longer e (t.Sign s.Close ∷ rest))
-  spell_longer (Op p f a b) rest =
+  pub spell_longer : (e : GenericExpression) (rest : List Token) → length rest < length (spell e rest)
+  spell_longer (GenericVar x) rest = omega arith
+  spell_longer (GenericNum p n) rest = omega arith
+  spell_longer (GenericBit p b) rest = omega (arith, bit_longer b rest)
+  spell_longer (GenericParen p e) rest = omega (arith, spell_longer e (t.Sign s.Close ∷ rest))
+  spell_longer (GenericOp p f a b) rest =
       omega (arith, spell_longer a (spell_operator f (spell b (t.Sign s.Close ∷ rest))), operator_longer f (spell b (t.Sign s.Close ∷ rest)), spell_longer b (t.Sign s.Close ∷ rest))
-  spell_longer (Call f xs) rest = omega (arith, arguments_longer xs rest)
-  spell_longer (Make k xs) rest = omega (arith, arguments_longer xs rest)
-  spell_longer (Let p x a b) rest = omega (arith, spell_longer a (t.Sign s.In ∷ spell b rest), spell_longer b rest)
-  spell_longer (Par p x a y b c) rest =
+  spell_longer (GenericCall f ws xs) rest = omega (arith, type_arguments_longer ws (spell_arguments xs rest), arguments_longer xs rest)
+  spell_longer (GenericMake k ws xs) rest = omega (arith, type_arguments_longer ws (spell_arguments xs rest), arguments_longer xs rest)
+  spell_longer (GenericLet p x a b) rest = omega (arith, spell_longer a (t.Sign s.In ∷ spell b rest), spell_longer b rest)
+  spell_longer (GenericPar p x a y b c) rest =
       omega (arith, spell_longer a (t.Sign s.And ∷ t.Variable y.name ∷ t.Sign s.Equals ∷ spell b (t.Sign s.In ∷ spell c rest)), spell_longer b (t.Sign s.In ∷ spell c rest), spell_longer c rest)
-  spell_longer (If p a b c) rest = omega (arith, spell_longer a (t.Sign s.Then ∷ spell b (t.Sign s.Else ∷ spell c rest)), spell_longer b (t.Sign s.Else ∷ spell c rest), spell_longer c rest)
-  spell_longer (Case p x arms) rest = omega (arith, arms_longer arms (t.Sign s.CloseBrace ∷ rest))
+  spell_longer (GenericIf p a b c) rest = omega (arith, spell_longer a (t.Sign s.Then ∷ spell b (t.Sign s.Else ∷ spell c rest)), spell_longer b (t.Sign s.Else ∷ spell c rest), spell_longer c rest)
+  spell_longer (GenericCase p x arms) rest = omega (arith, arms_longer arms (t.Sign s.CloseBrace ∷ rest))
 
-  pub arguments_longer : (xs : Arguments) (rest : List Token) → length rest ≤ length (spell_arguments xs rest)
-  arguments_longer NoArgument rest = omega arith
-  arguments_longer (Argument a xs) rest = omega (arith, spell_longer a (spell_arguments xs rest), arguments_longer xs rest)
+  pub arguments_longer : (xs : GenericArguments) (rest : List Token) → length rest ≤ length (spell_arguments xs rest)
+  arguments_longer GenericNoArgument rest = omega arith
+  arguments_longer (GenericArgument a xs) rest = omega (arith, spell_longer a (spell_arguments xs rest), arguments_longer xs rest)
 
-  pub arms_longer : (arms : Arms) (rest : List Token) → length rest < length (spell_arms arms rest)
-  arms_longer (LastArm k xs e) rest = omega (arith, variables_longer xs (t.Sign s.Arrow ∷ spell e rest), spell_longer e rest)
-  arms_longer (NextArm k xs e arms) rest =
+  pub arms_longer : (arms : GenericArms) (rest : List Token) → length rest < length (spell_arms arms rest)
+  arms_longer (GenericLastArm k xs e) rest = omega (arith, variables_longer xs (t.Sign s.Arrow ∷ spell e rest), spell_longer e rest)
+  arms_longer (GenericNextArm k xs e arms) rest =
       omega (arith, variables_longer xs (t.Sign s.Arrow ∷ spell e (t.Sign s.Semicolon ∷ spell_arms arms rest)), spell_longer e (t.Sign s.Semicolon ∷ spell_arms arms rest), arms_longer arms rest)
 
 pub parse_shrinks : (at : Places) (n : ℕ) (m : Mode) → Shrinks (parse at n m)

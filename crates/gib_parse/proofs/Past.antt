@@ -1,23 +1,24 @@
 -- With one level more, reading goes past the token that was nested too deep, and what was read or refused stays.
-use Rattle.std.proofs.Common.{◌≡◌, ℕ, zero, suc, ◌+◌, ◌-◌, ◌<◌, ◌≤◌, Bool, true, false, List, [], ◌∷◌, length, refl, sym, ap, ◌∙◌, arith, ◌⊎◌, inl, inr}
+use Rattle.std.proofs.Common.{◌≡◌, ℕ, zero, suc, ◌+◌, ◌-◌, ◌<◌, ◌≤◌, Bool, true, false, List, [], ◌∷◌, ◌++◌, length, refl, sym, ap, ◌∙◌, arith, ◌⊎◌, inl, inr}
 use Rattle.gib_base.specs.declared.Span.{Span}
 use Rattle.gib_base.specs.declared.token.Sign.{Sign}
 use Rattle.gib_base.specs.declared.token.Sign.TheVariants as s
 use Rattle.gib_base.specs.declared.token.Token.{Token}
 use Rattle.gib_base.specs.declared.token.Token.TheVariants as t
 use Rattle.gib_syntax.specs.declared.tree.Ident.{Ident}
-use Rattle.gib_syntax.specs.declared.tree.TypeName.TheVariants as ty
-use Rattle.gib_syntax.specs.declared.tree.Parameter.{Parameter}
 use Rattle.gib_syntax.specs.declared.tree.Operator.{Operator}
 use Rattle.gib_syntax.specs.declared.tree.Operator.TheVariants as o
-use Rattle.gib_syntax.specs.Tree.{Expression, Var, Num, Bit, Paren, Op, Make, Let, Par, If, Case, NoArgument, ConstructorTree, DataTree, FunctionTree, MainTree, ProgramTree}
-use Rattle.gib_syntax.specs.Spelling.{Places, is_application}
-use Rattle.gib_parse.specs.Reading.{Fault, At, Nested, left_of, Mode, Any, App, Atom, Read, Reader, Parts, then_at, want, want_if, same, before, named, var_at, con_at, type_at, next_is, many_step, many, is_variable, is_sign, is_literal, literal_at, starts_type, starts_atom, starts, ArmTree, arms_of, arm_at, next_arm_at, arms_at, arguments_of, arguments_at, bind_at, par_at, let_at, if_at, case_at, side_at, close_at, open_at, call, atom_at, app_at, any_at, step, no_level, parse, constructor_at, alternative_at, constructors_at, data_at, parameter_at, parameters_at, BodyTree, body_at, function_at, main_at, program_at, ends_at, whole_in}
+use Rattle.gib_syntax.specs.GenericTree.{GenericExpression, GenericVar, GenericNum, GenericBit, GenericParen, GenericOp, GenericMake, GenericCall, GenericArgument, GenericLet, GenericPar, GenericIf, GenericCase, GenericNoArgument, GenericConstructorTree, GenericDataTree, GenericFunctionTree, GenericMainTree, GenericProgramTree, GenericParameterTree}
+use Rattle.gib_syntax.specs.GenericFine.{is_generic_application}
+use Rattle.gib_syntax.specs.Spelling.{Places}
+use Rattle.gib_parse.specs.Reading.{Fault, At, Nested, left_of, Mode, Any, App, Atom, Read, Reader, Parts, then_at, want, want_if, same, before, named, var_at, con_at, Opened, opened_at, inside, type_at, bracket_at, type_arguments_at, names_at, type_parameters_at, next_is, many_step, many, is_variable, is_sign, is_literal, literal_at, starts_type, starts_atom, starts, ArmTree, arms_of, arm_at, next_arm_at, arms_at, arguments_of, arguments_at, bind_at, par_at, let_at, if_at, case_at, side_at, close_at, open_at, call, called_at, variable_at, make_at, constant_at, atom_at, app_at, any_at, step, no_level, parse, constructor_at, alternative_at, constructors_at, data_at, parameter_at, parameters_at, BodyTree, body_at, function_at, main_at, program_at, ends_at, whole_in}
 use Rattle.gib_parse.proofs.Tools.{done, failed}
 use Rattle.gib_parse.proofs.Many.{Shrinks, many_is}
 use Rattle.gib_parse.proofs.Longer.{parse_shrinks, var_shrinks, type_shrinks, next_shrinks}
 use Rattle.gib_parse.proofs.ProgramSound.{alternative_shrinks, data_shrinks, parameter_shrinks, function_shrinks}
-use Rattle.gib_parse.proofs.Local.{Kind, Refused, Deep, fault, fail_ok, fault_within, at_is_nested, ok_parts, then_done, then_failed, let_local, if_local, case_local, open_local, arguments_local, then_local, pure_local, parse_local}
+use Rattle.gib_parse.proofs.Local.{Kind, Refused, Deep, fault, fail_ok, fault_within, at_is_nested, ok_parts, then_done, then_failed, let_local, if_local, case_local, open_local, constant_local, variable_local, make_local, parse_local}
+use Rattle.gib_syntax.specs.Forms.{WrittenType, WrittenTypes, WholeAt, TruthAt, VariableAt, DataAt, NoType, MoreTypes}
+use Rattle.gib_syntax.specs.Words.{all_types}
 
 -- What a reader with more levels does, beside one with fewer.
 pub record Past {A : Type 0} (p q : Reader A) (ws : List Token) : Type 0 where
@@ -164,11 +165,49 @@ module _ (at : Places) where
   con_past (t.Constructor x ∷ ws) = past_takes (con_at at) (con_at at) (done (named at x ws)) (done (named at x ws)) (t.Constructor x) ws refl refl (pure_past (named at x ws) ws)
   con_past ws = past_refuses (con_at at) (con_at at) ws refl refl
 
+  mutual
+    opened_past : (p : Span) (os : List Opened) (ws : List Token) → Past (opened_at at p os) (opened_at at p os) ws
+    opened_past p os (t.Constructor x ∷ ws) =
+        past_takes (opened_at at p os) (opened_at at p os) (inside at p (named at x ws) [] os) (inside at p (named at x ws) [] os) (t.Constructor x) ws refl refl (inside_past p (named at x ws) [] os ws)
+    opened_past p os ws = past_refuses (opened_at at p os) (opened_at at p os) ws refl refl
+
+    inside_past : (p : Span) (k : Ident) (ts : List WrittenType) (os : List Opened) (ws : List Token) → Past (inside at p k ts os) (inside at p k ts os) ws
+    inside_past p k ts os (t.Sign s.Int ∷ ws) =
+        let more = ts ++ WholeAt (before at ws) ∷ [] in past_takes (inside at p k ts os) (inside at p k ts os) (inside at p k more os) (inside at p k more os) (t.Sign s.Int) ws refl refl (inside_past p k more os ws)
+    inside_past p k ts os (t.Sign s.Bool ∷ ws) =
+        let more = ts ++ TruthAt (before at ws) ∷ [] in past_takes (inside at p k ts os) (inside at p k ts os) (inside at p k more os) (inside at p k more os) (t.Sign s.Bool) ws refl refl (inside_past p k more os ws)
+    inside_past p k ts os (t.Variable x ∷ ws) =
+        let more = ts ++ VariableAt (named at x ws) ∷ [] in past_takes (inside at p k ts os) (inside at p k ts os) (inside at p k more os) (inside at p k more os) (t.Variable x) ws refl refl (inside_past p k more os ws)
+    inside_past p k ts os (t.Constructor x ∷ ws) =
+        let more = ts ++ DataAt (before at ws) (named at x ws) NoType ∷ [] in past_takes (inside at p k ts os) (inside at p k ts os) (inside at p k more os) (inside at p k more os) (t.Constructor x) ws refl refl (inside_past p k more os ws)
+    inside_past p k ts os (t.Sign s.Open ∷ ws) =
+        let outer : List Opened = record { place = p; name = k; arguments = ts } ∷ os in
+        past_takes (inside at p k ts os) (inside at p k ts os) (opened_at at (before at ws) outer) (opened_at at (before at ws) outer) (t.Sign s.Open) ws refl refl (opened_past (before at ws) outer ws)
+    inside_past p k [] os (t.Sign s.Close ∷ ws) = past_refuses (inside at p k [] os) (inside at p k [] os) (t.Sign s.Close ∷ ws) refl refl
+    inside_past p k (x ∷ ts) [] (t.Sign s.Close ∷ ws) =
+        let a = DataAt p k (all_types (x ∷ ts)) in past_takes (inside at p k (x ∷ ts) []) (inside at p k (x ∷ ts) []) (done a) (done a) (t.Sign s.Close) ws refl refl (pure_past a ws)
+    inside_past p k (x ∷ ts) (o ∷ os) (t.Sign s.Close ∷ ws) =
+        let more = o.arguments ++ DataAt p k (all_types (x ∷ ts)) ∷ [] in
+        past_takes (inside at p k (x ∷ ts) (o ∷ os)) (inside at p k (x ∷ ts) (o ∷ os)) (inside at o.place o.name more os) (inside at o.place o.name more os) (t.Sign s.Close) ws refl refl (inside_past o.place o.name more os ws)
+    inside_past p k ts os ws = past_refuses (inside at p k ts os) (inside at p k ts os) ws refl refl
+
   type_past : (ws : List Token) → Past (type_at at) (type_at at) ws
-  type_past (t.Sign s.Int ∷ ws) = past_takes (type_at at) (type_at at) (done (ty.Whole (before at ws))) (done (ty.Whole (before at ws))) (t.Sign s.Int) ws refl refl (pure_past (ty.Whole (before at ws)) ws)
-  type_past (t.Sign s.Bool ∷ ws) = past_takes (type_at at) (type_at at) (done (ty.Truth (before at ws))) (done (ty.Truth (before at ws))) (t.Sign s.Bool) ws refl refl (pure_past (ty.Truth (before at ws)) ws)
-  type_past (t.Constructor x ∷ ws) = past_takes (type_at at) (type_at at) (done (ty.Declared (named at x ws))) (done (ty.Declared (named at x ws))) (t.Constructor x) ws refl refl (pure_past (ty.Declared (named at x ws)) ws)
+  type_past (t.Sign s.Int ∷ ws) = past_takes (type_at at) (type_at at) (done (WholeAt (before at ws))) (done (WholeAt (before at ws))) (t.Sign s.Int) ws refl refl (pure_past (WholeAt (before at ws)) ws)
+  type_past (t.Sign s.Bool ∷ ws) = past_takes (type_at at) (type_at at) (done (TruthAt (before at ws))) (done (TruthAt (before at ws))) (t.Sign s.Bool) ws refl refl (pure_past (TruthAt (before at ws)) ws)
+  type_past (t.Variable x ∷ ws) = let a = VariableAt (named at x ws) in past_takes (type_at at) (type_at at) (done a) (done a) (t.Variable x) ws refl refl (pure_past a ws)
+  type_past (t.Constructor x ∷ ws) = let a = DataAt (before at ws) (named at x ws) NoType in past_takes (type_at at) (type_at at) (done a) (done a) (t.Constructor x) ws refl refl (pure_past a ws)
+  type_past (t.Sign s.Open ∷ ws) = past_takes (type_at at) (type_at at) (opened_at at (before at ws) []) (opened_at at (before at ws) []) (t.Sign s.Open) ws refl refl (opened_past (before at ws) [] ws)
   type_past ws = past_refuses (type_at at) (type_at at) ws refl refl
+
+  bracket_past : (ws : List Token) → Past (bracket_at at) (bracket_at at) ws
+  unfolding bracket_at
+  bracket_past ws =
+      then_past (type_past ws) (λ x r1 e1. then_past (many_past starts_type (type_at at) (type_at at) (type_shrinks at) (type_shrinks at) type_past r1) (λ more r2 e2. then_past (want_past s.CloseBracket r2) (λ _ r3 e3.
+      pure_past (all_types (x ∷ more)) r3)))
+
+  type_arguments_past : (ws : List Token) → Past (type_arguments_at at) (type_arguments_at at) ws
+  type_arguments_past (t.Sign s.OpenBracket ∷ ws) = past_takes (type_arguments_at at) (type_arguments_at at) (bracket_at at) (bracket_at at) (t.Sign s.OpenBracket) ws refl refl (bracket_past ws)
+  type_arguments_past ws = past_by (type_arguments_at at) (type_arguments_at at) (done NoType) (done NoType) ws refl refl (pure_past NoType ws)
 
   abbrev PartsPast : ℕ → Type 0
   PartsPast n = (m : Mode) (ws : List Token) → Past (parse at n m) (parse at (suc n) m) ws
@@ -196,13 +235,13 @@ module _ (at : Places) where
   bind_past : (n : ℕ) → PartsPast n → (z : Span) (ws : List Token) → Past (bind_at at (parse at n) z) (bind_at at (parse at (suc n)) z) ws
   unfolding bind_at
   bind_past n h z ws =
-      then_past (var_past ws) (λ x r1 e1. then_past (want_past s.Equals r1) (λ _ r2 e2. then_past (h Any r2) (λ a r3 e3. then_past (want_past s.In r3) (λ _ r4 e4. then_past (h Any r4) (λ b r5 e5. pure_past (Let z x a b) r5)))))
+      then_past (var_past ws) (λ x r1 e1. then_past (want_past s.Equals r1) (λ _ r2 e2. then_past (h Any r2) (λ a r3 e3. then_past (want_past s.In r3) (λ _ r4 e4. then_past (h Any r4) (λ b r5 e5. pure_past (GenericLet z x a b) r5)))))
 
   par_past : (n : ℕ) → PartsPast n → (z : Span) (ws : List Token) → Past (par_at at (parse at n) z) (par_at at (parse at (suc n)) z) ws
   unfolding par_at
   par_past n h z ws =
       then_past (var_past ws) (λ x r1 e1. then_past (want_past s.Equals r1) (λ _ r2 e2. then_past (h Any r2) (λ a r3 e3. then_past (want_past s.And r3) (λ _ r4 e4.
-      then_past (var_past r4) (λ y r5 e5. then_past (want_past s.Equals r5) (λ _ r6 e6. then_past (h Any r6) (λ b r7 e7. then_past (want_past s.In r7) (λ _ r8 e8. then_past (h Any r8) (λ c r9 e9. pure_past (Par z x a y b c) r9)))))))))
+      then_past (var_past r4) (λ y r5 e5. then_past (want_past s.Equals r5) (λ _ r6 e6. then_past (h Any r6) (λ b r7 e7. then_past (want_past s.In r7) (λ _ r8 e8. then_past (h Any r8) (λ c r9 e9. pure_past (GenericPar z x a y b c) r9)))))))))
 
   let_past : (n : ℕ) → PartsPast n → (z : Span) (ws : List Token) → Past (let_at at (parse at n) z) (let_at at (parse at (suc n)) z) ws
   let_past n h z (t.Sign s.Par ∷ ws) = past_takes (let_at at (parse at n) z) (let_at at (parse at (suc n)) z) (par_at at (parse at n) z) (par_at at (parse at (suc n)) z) (t.Sign s.Par) ws refl refl (par_past n h z ws)
@@ -211,31 +250,31 @@ module _ (at : Places) where
   if_past : (n : ℕ) → PartsPast n → (z : Span) (ws : List Token) → Past (if_at (parse at n) z) (if_at (parse at (suc n)) z) ws
   unfolding if_at
   if_past n h z ws =
-      then_past (h Any ws) (λ a r1 e1. then_past (want_past s.Then r1) (λ _ r2 e2. then_past (h Any r2) (λ b r3 e3. then_past (want_past s.Else r3) (λ _ r4 e4. then_past (h Any r4) (λ c r5 e5. pure_past (If z a b c) r5)))))
+      then_past (h Any ws) (λ a r1 e1. then_past (want_past s.Then r1) (λ _ r2 e2. then_past (h Any r2) (λ b r3 e3. then_past (want_past s.Else r3) (λ _ r4 e4. then_past (h Any r4) (λ c r5 e5. pure_past (GenericIf z a b c) r5)))))
 
   case_past : (n : ℕ) → PartsPast n → (z : Span) (ws : List Token) → Past (case_at at (parse at n) z) (case_at at (parse at (suc n)) z) ws
   unfolding case_at
   case_past n h z ws =
-      then_past (var_past ws) (λ x r1 e1. then_past (want_past s.Of r1) (λ _ r2 e2. then_past (want_past s.OpenBrace r2) (λ _ r3 e3. then_past (arms_past n h r3) (λ arms r4 e4. then_past (want_past s.CloseBrace r4) (λ _ r5 e5. pure_past (Case z x arms) r5)))))
+      then_past (var_past ws) (λ x r1 e1. then_past (want_past s.Of r1) (λ _ r2 e2. then_past (want_past s.OpenBrace r2) (λ _ r3 e3. then_past (arms_past n h r3) (λ arms r4 e4. then_past (want_past s.CloseBrace r4) (λ _ r5 e5. pure_past (GenericCase z x arms) r5)))))
 
-  operation_past : (n : ℕ) → PartsPast n → (v : Bool) (z : Span) (f : Operator) (e : Expression) (g : Sign) (ws : List Token) → is_application e ≡ v → ((sub : Parts) → close_at sub z e (t.Sign g ∷ ws) ≡ side_at (is_application e) sub z f e ws)
+  operation_past : (n : ℕ) → PartsPast n → (v : Bool) (z : Span) (f : Operator) (e : GenericExpression) (g : Sign) (ws : List Token) → is_generic_application e ≡ v → ((sub : Parts) → close_at sub z e (t.Sign g ∷ ws) ≡ side_at (is_generic_application e) sub z f e ws)
       → Past (close_at (parse at n) z e) (close_at (parse at (suc n)) z e) (t.Sign g ∷ ws)
   operation_past n h false z f e g ws v is =
       past_refuses (close_at (parse at n) z e) (close_at (parse at (suc n)) z e) (t.Sign g ∷ ws) (is (parse at n) ∙ ap (λ v. side_at v (parse at n) z f e ws) v) (is (parse at (suc n)) ∙ ap (λ v. side_at v (parse at (suc n)) z f e ws) v)
   operation_past n h true z f e g ws v is =
       past_takes (close_at (parse at n) z e) (close_at (parse at (suc n)) z e) (side_at true (parse at n) z f e) (side_at true (parse at (suc n)) z f e) (t.Sign g) ws
       (is (parse at n) ∙ ap (λ v. side_at v (parse at n) z f e ws) v) (is (parse at (suc n)) ∙ ap (λ v. side_at v (parse at (suc n)) z f e ws) v)
-      (then_past (h App ws) (λ b r1 e1. then_past (want_past s.Close r1) (λ _ r2 e2. pure_past (Op z f e b) r2)))
+      (then_past (h App ws) (λ b r1 e1. then_past (want_past s.Close r1) (λ _ r2 e2. pure_past (GenericOp z f e b) r2)))
 
-  close_past : (n : ℕ) → PartsPast n → (z : Span) (e : Expression) (ws : List Token) → Past (close_at (parse at n) z e) (close_at (parse at (suc n)) z e) ws
-  close_past n h z e (t.Sign s.Close ∷ ws) = past_takes (close_at (parse at n) z e) (close_at (parse at (suc n)) z e) (done (Paren z e)) (done (Paren z e)) (t.Sign s.Close) ws refl refl (pure_past (Paren z e) ws)
-  close_past n h z e (t.Sign s.Plus ∷ ws) = operation_past n h (is_application e) z o.Add e s.Plus ws refl (λ sub. refl)
-  close_past n h z e (t.Sign s.Minus ∷ ws) = operation_past n h (is_application e) z o.Subtract e s.Minus ws refl (λ sub. refl)
-  close_past n h z e (t.Sign s.Times ∷ ws) = operation_past n h (is_application e) z o.Multiply e s.Times ws refl (λ sub. refl)
-  close_past n h z e (t.Sign s.Same ∷ ws) = operation_past n h (is_application e) z o.Equal e s.Same ws refl (λ sub. refl)
-  close_past n h z e (t.Sign s.Less ∷ ws) = operation_past n h (is_application e) z o.Less e s.Less ws refl (λ sub. refl)
-  close_past n h z e (t.Sign s.Quotient ∷ ws) = operation_past n h (is_application e) z o.Quotient e s.Quotient ws refl (λ sub. refl)
-  close_past n h z e (t.Sign s.Remainder ∷ ws) = operation_past n h (is_application e) z o.Remainder e s.Remainder ws refl (λ sub. refl)
+  close_past : (n : ℕ) → PartsPast n → (z : Span) (e : GenericExpression) (ws : List Token) → Past (close_at (parse at n) z e) (close_at (parse at (suc n)) z e) ws
+  close_past n h z e (t.Sign s.Close ∷ ws) = past_takes (close_at (parse at n) z e) (close_at (parse at (suc n)) z e) (done (GenericParen z e)) (done (GenericParen z e)) (t.Sign s.Close) ws refl refl (pure_past (GenericParen z e) ws)
+  close_past n h z e (t.Sign s.Plus ∷ ws) = operation_past n h (is_generic_application e) z o.Add e s.Plus ws refl (λ sub. refl)
+  close_past n h z e (t.Sign s.Minus ∷ ws) = operation_past n h (is_generic_application e) z o.Subtract e s.Minus ws refl (λ sub. refl)
+  close_past n h z e (t.Sign s.Times ∷ ws) = operation_past n h (is_generic_application e) z o.Multiply e s.Times ws refl (λ sub. refl)
+  close_past n h z e (t.Sign s.Same ∷ ws) = operation_past n h (is_generic_application e) z o.Equal e s.Same ws refl (λ sub. refl)
+  close_past n h z e (t.Sign s.Less ∷ ws) = operation_past n h (is_generic_application e) z o.Less e s.Less ws refl (λ sub. refl)
+  close_past n h z e (t.Sign s.Quotient ∷ ws) = operation_past n h (is_generic_application e) z o.Quotient e s.Quotient ws refl (λ sub. refl)
+  close_past n h z e (t.Sign s.Remainder ∷ ws) = operation_past n h (is_generic_application e) z o.Remainder e s.Remainder ws refl (λ sub. refl)
   close_past n h z e ws = past_refuses (close_at (parse at n) z e) (close_at (parse at (suc n)) z e) ws refl refl
 
   open_past : (n : ℕ) → PartsPast n → (z : Span) (ws : List Token) → Past (open_at (parse at n) z) (open_at (parse at (suc n)) z) ws
@@ -244,34 +283,44 @@ module _ (at : Places) where
 
   literal_past : (n v : ℕ) (ws : List Token) (b : Bool) → is_literal v ≡ b → Past (atom_at at (parse at n)) (atom_at at (parse at (suc n))) (t.Number v ∷ ws)
   literal_past n v ws true e =
-      past_takes (atom_at at (parse at n)) (atom_at at (parse at (suc n))) (done (Num (before at ws) v)) (done (Num (before at ws) v)) (t.Number v) ws
-      (ap (λ b. literal_at b (before at ws) v ws) e) (ap (λ b. literal_at b (before at ws) v ws) e) (pure_past (Num (before at ws) v) ws)
+      past_takes (atom_at at (parse at n)) (atom_at at (parse at (suc n))) (done (GenericNum (before at ws) v)) (done (GenericNum (before at ws) v)) (t.Number v) ws
+      (ap (λ b. literal_at b (before at ws) v ws) e) (ap (λ b. literal_at b (before at ws) v ws) e) (pure_past (GenericNum (before at ws) v) ws)
   literal_past n v ws false e =
       past_refuses (atom_at at (parse at n)) (atom_at at (parse at (suc n))) (t.Number v ∷ ws) (ap (λ b. literal_at b (before at ws) v ws) e) (ap (λ b. literal_at b (before at ws) v ws) e)
 
+  constant_past : (k : Ident) (ws : List Token) → Past (constant_at at k) (constant_at at k) ws
+  unfolding constant_at
+  constant_past k ws = then_past (type_arguments_past ws) (λ as' r e. pure_past (GenericMake k as' GenericNoArgument) r)
+
   atom_past : (n : ℕ) → PartsPast n → (ws : List Token) → Past (atom_at at (parse at n)) (atom_at at (parse at (suc n))) ws
-  atom_past n h (t.Variable x ∷ ws) = past_takes (atom_at at (parse at n)) (atom_at at (parse at (suc n))) (done (Var (named at x ws))) (done (Var (named at x ws))) (t.Variable x) ws refl refl (pure_past (Var (named at x ws)) ws)
+  atom_past n h (t.Variable x ∷ ws) = past_takes (atom_at at (parse at n)) (atom_at at (parse at (suc n))) (done (GenericVar (named at x ws))) (done (GenericVar (named at x ws))) (t.Variable x) ws refl refl (pure_past (GenericVar (named at x ws)) ws)
   atom_past n h (t.Constructor x ∷ ws) =
-      past_takes (atom_at at (parse at n)) (atom_at at (parse at (suc n))) (done (Make (named at x ws) NoArgument)) (done (Make (named at x ws) NoArgument)) (t.Constructor x) ws refl refl (pure_past (Make (named at x ws) NoArgument) ws)
+      past_takes (atom_at at (parse at n)) (atom_at at (parse at (suc n))) (constant_at at (named at x ws)) (constant_at at (named at x ws)) (t.Constructor x) ws refl refl (constant_past (named at x ws) ws)
   atom_past n h (t.Number v ∷ ws) = literal_past n v ws (is_literal v) refl
-  atom_past n h (t.Sign s.True ∷ ws) = past_takes (atom_at at (parse at n)) (atom_at at (parse at (suc n))) (done (Bit (before at ws) true)) (done (Bit (before at ws) true)) (t.Sign s.True) ws refl refl (pure_past (Bit (before at ws) true) ws)
-  atom_past n h (t.Sign s.False ∷ ws) = past_takes (atom_at at (parse at n)) (atom_at at (parse at (suc n))) (done (Bit (before at ws) false)) (done (Bit (before at ws) false)) (t.Sign s.False) ws refl refl (pure_past (Bit (before at ws) false) ws)
+  atom_past n h (t.Sign s.True ∷ ws) = past_takes (atom_at at (parse at n)) (atom_at at (parse at (suc n))) (done (GenericBit (before at ws) true)) (done (GenericBit (before at ws) true)) (t.Sign s.True) ws refl refl (pure_past (GenericBit (before at ws) true) ws)
+  atom_past n h (t.Sign s.False ∷ ws) = past_takes (atom_at at (parse at n)) (atom_at at (parse at (suc n))) (done (GenericBit (before at ws) false)) (done (GenericBit (before at ws) false)) (t.Sign s.False) ws refl refl (pure_past (GenericBit (before at ws) false) ws)
   atom_past n h (t.Sign s.Open ∷ ws) = past_takes (atom_at at (parse at n)) (atom_at at (parse at (suc n))) (open_at (parse at n) (before at ws)) (open_at (parse at (suc n)) (before at ws)) (t.Sign s.Open) ws refl refl (open_past n h (before at ws) ws)
   atom_past n h ws = past_refuses (atom_at at (parse at n)) (atom_at at (parse at (suc n))) ws refl refl
 
-  abbrev call_here : Parts → Ident → Reader Expression
-  call_here sub f l = then_at (arguments_at (sub Atom) l) (λ es left. done (call f es) left)
+  called_past : (n : ℕ) → PartsPast n → (f : Ident) (as' : WrittenTypes) (ws : List Token) → Past (called_at (parse at n) f as') (called_at (parse at (suc n)) f as') ws
+  unfolding called_at
+  called_past n h f NoType ws = then_past (arguments_past n h ws) (λ es r e. pure_past (call f es) r)
+  called_past n h f (MoreTypes a as') ws =
+      then_past (h Atom ws) (λ first r1 e1. then_past (arguments_past n h r1) (λ es r2 e2. pure_past (GenericCall f (MoreTypes a as') (GenericArgument first es)) r2))
 
-  abbrev make_here : Parts → Ident → Reader Expression
-  make_here sub f l = then_at (arguments_at (sub Atom) l) (λ es left. done (Make f es) left)
+  variable_past : (n : ℕ) → PartsPast n → (f : Ident) (ws : List Token) → Past (variable_at at (parse at n) f) (variable_at at (parse at (suc n)) f) ws
+  unfolding variable_at
+  variable_past n h f ws = then_past (type_arguments_past ws) (λ as' r e. called_past n h f as' r)
+
+  make_past : (n : ℕ) → PartsPast n → (k : Ident) (ws : List Token) → Past (make_at at (parse at n) k) (make_at at (parse at (suc n)) k) ws
+  unfolding make_at
+  make_past n h k ws = then_past (type_arguments_past ws) (λ as' r e. then_past (arguments_past n h r) (λ es left e2. pure_past (GenericMake k as' es) left))
 
   app_past : (n : ℕ) → PartsPast n → (ws : List Token) → Past (app_at at (parse at n)) (app_at at (parse at (suc n))) ws
   app_past n h (t.Variable f ∷ ws) =
-      past_takes (app_at at (parse at n)) (app_at at (parse at (suc n))) (call_here (parse at n) (named at f ws)) (call_here (parse at (suc n)) (named at f ws)) (t.Variable f) ws refl refl
-      (then_past (arguments_past n h ws) (λ es rest e. pure_past (call (named at f ws) es) rest))
+      past_takes (app_at at (parse at n)) (app_at at (parse at (suc n))) (variable_at at (parse at n) (named at f ws)) (variable_at at (parse at (suc n)) (named at f ws)) (t.Variable f) ws refl refl (variable_past n h (named at f ws) ws)
   app_past n h (t.Constructor f ∷ ws) =
-      past_takes (app_at at (parse at n)) (app_at at (parse at (suc n))) (make_here (parse at n) (named at f ws)) (make_here (parse at (suc n)) (named at f ws)) (t.Constructor f) ws refl refl
-      (then_past (arguments_past n h ws) (λ es rest e. pure_past (Make (named at f ws) es) rest))
+      past_takes (app_at at (parse at n)) (app_at at (parse at (suc n))) (make_at at (parse at n) (named at f ws)) (make_at at (parse at (suc n)) (named at f ws)) (t.Constructor f) ws refl refl (make_past n h (named at f ws) ws)
   app_past n h ws = past_by (app_at at (parse at n)) (app_at at (parse at (suc n))) (atom_at at (parse at n)) (atom_at at (parse at (suc n))) ws refl refl (atom_past n h ws)
 
   any_past : (n : ℕ) → PartsPast n → (ws : List Token) → Past (any_at at (parse at n)) (any_at at (parse at (suc n))) ws
@@ -317,26 +366,26 @@ module _ (at : Places) where
   step_refuses_none Atom = refl
 
   -- The first token is taken.
-  abbrev Takes : Read Expression → List Token → Type 0
+  abbrev Takes : Read GenericExpression → List Token → Type 0
   Takes r ws = (c : Kind) (k : ℕ) → r ≡ failed (fault c k) → k ≤ length ws
 
-  takes_done : (e : Expression) (ws : List Token) → Takes (done e ws) ws
+  takes_done : (e : GenericExpression) (ws : List Token) → Takes (done e ws) ws
   takes_done e ws c k f = absurd (fail_ok (fault c k) e ws (sym f))
 
   atom_takes : (c : Token) (ws : List Token) → starts_atom c ≡ true → Takes (atom_at at none (c ∷ ws)) ws
   unfolding none
-  atom_takes (t.Variable x) ws e = takes_done (Var (named at x ws)) ws
-  atom_takes (t.Constructor x) ws e = takes_done (Make (named at x ws) NoArgument) ws
-  atom_takes (t.Number v) ws e = λ c k f. takes_done (Num (before at ws) v) ws c k (sym (ap (λ b. literal_at b (before at ws) v ws) e) ∙ f)
-  atom_takes (t.Sign s.True) ws e = takes_done (Bit (before at ws) true) ws
-  atom_takes (t.Sign s.False) ws e = takes_done (Bit (before at ws) false) ws
+  atom_takes (t.Variable x) ws e = takes_done (GenericVar (named at x ws)) ws
+  atom_takes (t.Constructor x) ws e = λ c k f. (constant_local (t.Number 0) [] [] at at (same_places at) (named at x ws) ws).bad_within c k f
+  atom_takes (t.Number v) ws e = λ c k f. takes_done (GenericNum (before at ws) v) ws c k (sym (ap (λ b. literal_at b (before at ws) v ws) e) ∙ f)
+  atom_takes (t.Sign s.True) ws e = takes_done (GenericBit (before at ws) true) ws
+  atom_takes (t.Sign s.False) ws e = takes_done (GenericBit (before at ws) false) ws
   atom_takes (t.Sign s.Open) ws e = λ c k f. (open_local (t.Number 0) [] [] at at (same_places at) zero (parse_local (t.Number 0) [] [] at at (same_places at) zero) (before at ws) ws).bad_within c k f
   atom_takes (t.Sign g) ws e = absurd cc
 
   app_takes : (c : Token) (ws : List Token) → starts_atom c ≡ true → Takes (app_at at none (c ∷ ws)) ws
   unfolding none
-  app_takes (t.Variable x) ws e = λ c k f. (then_local (t.Number 0) [] [] at at (same_places at) {p = arguments_at (parse at zero Atom)} {p' = arguments_at (parse at zero Atom)} {f = λ es left. done (call (named at x ws) es) left} {f' = λ es left. done (call (named at x ws) es) left} (arguments_local (t.Number 0) [] [] at at (same_places at) zero (parse_local (t.Number 0) [] [] at at (same_places at) zero) ws) (λ es rest i. pure_local (t.Number 0) [] [] at at (same_places at) (call (named at x ws) es) rest)).bad_within c k f
-  app_takes (t.Constructor x) ws e = λ c k f. (then_local (t.Number 0) [] [] at at (same_places at) {p = arguments_at (parse at zero Atom)} {p' = arguments_at (parse at zero Atom)} {f = λ es left. done (Make (named at x ws) es) left} {f' = λ es left. done (Make (named at x ws) es) left} (arguments_local (t.Number 0) [] [] at at (same_places at) zero (parse_local (t.Number 0) [] [] at at (same_places at) zero) ws) (λ es rest i. pure_local (t.Number 0) [] [] at at (same_places at) (Make (named at x ws) es) rest)).bad_within c k f
+  app_takes (t.Variable x) ws e = λ c k f. (variable_local (t.Number 0) [] [] at at (same_places at) zero (parse_local (t.Number 0) [] [] at at (same_places at) zero) (named at x ws) ws).bad_within c k f
+  app_takes (t.Constructor x) ws e = λ c k f. (make_local (t.Number 0) [] [] at at (same_places at) zero (parse_local (t.Number 0) [] [] at at (same_places at) zero) (named at x ws) ws).bad_within c k f
   app_takes (t.Number v) ws e = atom_takes (t.Number v) ws e
   app_takes (t.Sign g) ws e = atom_takes (t.Sign g) ws e
 
@@ -362,9 +411,9 @@ module _ (at : Places) where
       let sunk : parse at zero m (c ∷ ws) ≡ failed (Nested (suc (length ws))) = ap (λ v. no_level v (c ∷ ws)) e in
       record {
         ok = λ a rest f. absurd (fail_ok (Nested (suc (length ws))) a rest (sym sunk ∙ f));
-        refused = λ j f. absurd (at_is_nested {A = Expression} j (suc (length ws)) (sym f ∙ sunk));
-        sunk_bad = λ j b k f i. let l = nested_within {A = Expression} (suc (length ws)) j (sym sunk ∙ f) in let w = step_takes m c ws e b k i in omega arith;
-        sunk_ok = λ j a rest f i. let l = nested_within {A = Expression} (suc (length ws)) j (sym sunk ∙ f) in let w = (parse_shrinks at 1 m (c ∷ ws)).by a rest i in omega arith;
+        refused = λ j f. absurd (at_is_nested {A = GenericExpression} j (suc (length ws)) (sym f ∙ sunk));
+        sunk_bad = λ j b k f i. let l = nested_within {A = GenericExpression} (suc (length ws)) j (sym sunk ∙ f) in let w = step_takes m c ws e b k i in omega arith;
+        sunk_ok = λ j a rest f i. let l = nested_within {A = GenericExpression} (suc (length ws)) j (sym sunk ∙ f) in let w = (parse_shrinks at 1 m (c ∷ ws)).by a rest i in omega arith;
         ok_within = λ a rest i. let w = (parse_shrinks at 1 m (c ∷ ws)).by a rest i in omega arith;
         bad_within = λ b k i. let w = step_takes m c ws e b k i in omega arith;
       }
@@ -387,7 +436,7 @@ module _ (at : Places) where
   unfolding constructor_at
   constructor_past ws =
       then_past (con_past ws) (λ k r1 e1. then_past (many_past starts_type (type_at at) (type_at at) (type_shrinks at) (type_shrinks at) type_past r1) (λ fields r2 e2.
-      pure_past (let made : ConstructorTree = record { name = k; fields = fields } in made) r2))
+      pure_past (let made : GenericConstructorTree = record { name = k; fields = fields } in made) r2))
 
   alternative_past : (ws : List Token) → Past (alternative_at at) (alternative_at at) ws
   unfolding alternative_at
@@ -402,14 +451,14 @@ module _ (at : Places) where
   data_past : (ws : List Token) → Past (data_at at) (data_at at) ws
   unfolding data_at
   data_past ws =
-      then_past (want_past s.Data ws) (λ _ r1 e1. then_past (con_past r1) (λ d r2 e2. then_past (want_past s.Equals r2) (λ _ r3 e3. then_past (constructors_past r3) (λ cs r4 e4. then_past (want_past s.Semicolon r4) (λ _ r5 e5.
-      pure_past (let made : DataTree = record { name = d; constructors = cs } in made) r5)))))
+      then_past (want_past s.Data ws) (λ _ r1 e1. then_past (con_past r1) (λ d r2 e2. then_past (many_past is_variable (var_at at) (var_at at) (var_shrinks at) (var_shrinks at) var_past r2) (λ vs r3 e3. then_past (want_past s.Equals r3) (λ _ r4 e4.
+      then_past (constructors_past r4) (λ cs r5 e5. then_past (want_past s.Semicolon r5) (λ _ r6 e6. pure_past (let made : GenericDataTree = record { name = d; variables = vs; constructors = cs } in made) r6))))))
 
   parameter_past : (ws : List Token) → Past (parameter_at at) (parameter_at at) ws
   unfolding parameter_at
   parameter_past ws =
       then_past (want_past s.Open ws) (λ _ r1 e1. then_past (var_past r1) (λ x r2 e2. then_past (want_past s.Colon r2) (λ _ r3 e3. then_past (type_past r3) (λ a r4 e4. then_past (want_past s.Close r4) (λ _ r5 e5.
-      pure_past (let made : Parameter = record { name = x; ty = a } in made) r5)))))
+      pure_past (let made : GenericParameterTree = record { name = x; ty = a } in made) r5)))))
 
   parameters_past : (ws : List Token) → Past (parameters_at at) (parameters_at at) ws
   unfolding parameters_at
@@ -423,26 +472,35 @@ module _ (at : Places) where
       then_past (want_past s.Colon ws) (λ _ r1 e1. then_past (type_past r1) (λ a r2 e2. then_past (want_past s.Equals r2) (λ _ r3 e3. then_past (parse_past n Any r3) (λ e r4 e4. then_past (want_past s.Semicolon r4) (λ _ r5 e5.
       pure_past (let made : BodyTree = record { result = a; body = e } in made) r5)))))
 
+  names_past : (ws : List Token) → Past (names_at at) (names_at at) ws
+  unfolding names_at
+  names_past ws =
+      then_past (var_past ws) (λ v r1 e1. then_past (many_past is_variable (var_at at) (var_at at) (var_shrinks at) (var_shrinks at) var_past r1) (λ vs r2 e2. then_past (want_past s.CloseBracket r2) (λ _ r3 e3. pure_past (v ∷ vs) r3)))
+
+  type_parameters_past : (ws : List Token) → Past (type_parameters_at at) (type_parameters_at at) ws
+  type_parameters_past (t.Sign s.OpenBracket ∷ ws) = past_takes (type_parameters_at at) (type_parameters_at at) (names_at at) (names_at at) (t.Sign s.OpenBracket) ws refl refl (names_past ws)
+  type_parameters_past ws = let none : List Ident = [] in past_by (type_parameters_at at) (type_parameters_at at) (done none) (done none) ws refl refl (pure_past none ws)
+
   function_past : (n : ℕ) (ws : List Token) → Past (function_at at (parse at n Any)) (function_at at (parse at (suc n) Any)) ws
   unfolding function_at
   function_past n ws =
-      then_past (want_past s.Fun ws) (λ _ r1 e1. then_past (var_past r1) (λ f r2 e2. then_past (parameters_past r2) (λ qs r3 e3. then_past (body_past n r3) (λ b r4 e4.
-      pure_past (let made : FunctionTree = record { name = f; parameters = qs; result = b.result; body = b.body } in made) r4))))
+      then_past (want_past s.Fun ws) (λ _ r1 e1. then_past (var_past r1) (λ f r2 e2. then_past (type_parameters_past r2) (λ vs r3 e3. then_past (parameters_past r3) (λ qs r4 e4. then_past (body_past n r4) (λ b r5 e5.
+      pure_past (let made : GenericFunctionTree = record { name = f; variables = vs; parameters = qs; result = b.result; body = b.body } in made) r5)))))
 
   main_past : (n : ℕ) (ws : List Token) → Past (main_at at (parse at n Any)) (main_at at (parse at (suc n) Any)) ws
   unfolding main_at
   main_past n ws =
       then_past (want_past s.Main ws) (λ _ r1 e1. then_past (parameter_past r1) (λ q r2 e2. then_past (body_past n r2) (λ b r3 e3.
-      pure_past (let made : MainTree = record { parameter = q; result = b.result; body = b.body } in made) r3)))
+      pure_past (let made : GenericMainTree = record { parameter = q; result = b.result; body = b.body } in made) r3)))
 
   program_past : (n : ℕ) (ws : List Token) → Past (program_at at (parse at n Any)) (program_at at (parse at (suc n) Any)) ws
   unfolding program_at
   program_past n ws =
       then_past (many_past (is_sign s.Data) (data_at at) (data_at at) (data_shrinks at) (data_shrinks at) data_past ws) (λ ds r1 e1.
       then_past (many_past (is_sign s.Fun) (function_at at (parse at n Any)) (function_at at (parse at (suc n) Any)) (function_shrinks at n) (function_shrinks at (suc n)) (function_past n) r1) (λ fs r2 e2.
-      then_past (main_past n r2) (λ m r3 e3. pure_past (let made : ProgramTree = record { datas = ds; functions = fs; main = m } in made) r3)))
+      then_past (main_past n r2) (λ m r3 e3. pure_past (let made : GenericProgramTree = record { datas = ds; functions = fs; main = m } in made) r3)))
 
-  ends_past : (g : ProgramTree) (ws : List Token) → Past (ends_at g) (ends_at g) ws
+  ends_past : (g : GenericProgramTree) (ws : List Token) → Past (ends_at g) (ends_at g) ws
   ends_past g [] = past_by (ends_at g) (ends_at g) (done g) (done g) [] refl refl (pure_past g [])
   ends_past g (x ∷ ws) = past_refuses (ends_at g) (ends_at g) (x ∷ ws) refl refl
 

@@ -1,59 +1,51 @@
 -- What is spelled as a program is read, where the levels serve.
-use Rattle.std.proofs.Common.{◌≡◌, ◌≢◌, ℕ, true, false, List, [], ◌∷◌, Ok, refl, ap}
+use Rattle.std.proofs.Common.{◌≡◌, ◌≢◌, ℕ, false, List, [], ◌∷◌, Ok, refl, ap}
 use Rattle.std.specs.List.{AllByRecursion}
 use Rattle.gib_base.specs.declared.token.Sign.TheVariants as s
 use Rattle.gib_base.specs.declared.token.Token.{Token}
 use Rattle.gib_base.specs.declared.token.Token.TheVariants as t
-use Rattle.gib_syntax.specs.declared.tree.TypeName.{TypeName}
-use Rattle.gib_syntax.specs.declared.tree.TypeName.TheVariants as ty
-use Rattle.gib_syntax.specs.declared.tree.Parameter.{Parameter}
-use Rattle.gib_syntax.specs.Tree.{Expression, ConstructorTree, DataTree, FunctionTree, MainTree, ProgramTree}
-use Rattle.gib_syntax.specs.Spelling.{Places, IsFine, IsFineFunction, IsFineProgram, HasConstructor, spell, spell_type, spell_types, spell_constructor, spell_more, spell_constructors, spell_data, spell_datas, spell_parameter, spell_parameters, spell_body, spell_function, spell_functions, spell_main, spell_program}
-use Rattle.gib_parse.specs.Reading.{Any, Read, then_at, want, type_at, next_is, many, starts_type, is_sign, constructor_at, alternative_at, constructors_at, data_at, parameter_at, parameters_at, BodyTree, body_at, function_at, main_at, program_at, ends_at, whole_in, parse}
+use Rattle.gib_syntax.specs.declared.tree.Ident.{Ident}
+use Rattle.gib_syntax.specs.Forms.{WrittenType}
+use Rattle.gib_syntax.specs.GenericTree.{GenericExpression, GenericConstructorTree, GenericDataTree, GenericFunctionTree, GenericMainTree, GenericProgramTree, GenericParameterTree}
+use Rattle.gib_syntax.specs.GenericFine.{IsGenericFine, IsGenericFineFunction, IsGenericFineProgram, HasGenericConstructor}
+use Rattle.gib_syntax.specs.Spelling.{Places, spell_variables, spell_type_parameters, spell, spell_type, spell_types, spell_constructor, spell_more, spell_constructors, spell_data, spell_datas, spell_parameter, spell_parameters, spell_body, spell_function, spell_functions, spell_main, spell_program}
+use Rattle.gib_parse.specs.Reading.{Any, Read, then_at, want, names_at, type_parameters_at, type_at, next_is, many, starts_type, is_sign, constructor_at, alternative_at, constructors_at, data_at, parameter_at, parameters_at, BodyTree, body_at, function_at, main_at, program_at, ends_at, whole_in, parse}
 use Rattle.gib_parse.specs.Nesting.{below, below_functions, below_program}
 use Rattle.gib_parse.proofs.Tools.{done}
 use Rattle.gib_parse.proofs.Longer.{type_shrinks}
-use Rattle.gib_parse.proofs.Settle.{settle, settle_name}
+use Rattle.gib_parse.proofs.Settle.{settle, settle_name, settle_names, settle_type}
+use Rattle.gib_parse.proofs.WrittenComes.{type_comes, type_begins}
+use Rattle.gib_parse.proofs.ProgramLocal.{type_parameters_none}
 use Rattle.gib_parse.proofs.Come.{Comes, Came, then_comes, then_last, comes_at, Steps, many_comes}
-use Rattle.gib_parse.proofs.Complete.{complete}
+use Rattle.gib_parse.proofs.Complete.{complete, variables_come}
 use Rattle.gib_parse.proofs.ProgramSound.{alternative_shrinks, data_shrinks, parameter_shrinks, function_shrinks}
-use Rattle.gib_parse.proofs.ProgramSettle.{settle_type, settle_types, settle_constructor, settle_constructors, settle_data, settle_datas, settle_parameter, settle_parameters, settle_function, settle_functions, settle_main, settle_program}
+use Rattle.gib_parse.proofs.ProgramSettle.{settle_type_parameters, settle_types, settle_constructor, settle_constructors, settle_data, settle_datas, settle_parameter, settle_parameters, settle_function, settle_functions, settle_main, settle_program}
 
 -- ---- data declarations
 
-type_comes : (at : Places) (x : TypeName) (rest : List Token) → type_at at (spell_type x rest) ≡ done (settle_type at x rest) rest
-type_comes at (ty.Whole p) rest = refl
-type_comes at (ty.Truth p) rest = refl
-type_comes at (ty.Declared x) rest = refl
-
-type_starts : (x : TypeName) (rest : List Token) → next_is starts_type (spell_type x rest) ≡ true
-type_starts (ty.Whole p) rest = refl
-type_starts (ty.Truth p) rest = refl
-type_starts (ty.Declared x) rest = refl
-
-types_step : (at : Places) (xs : List TypeName) (rest : List Token) → next_is starts_type rest ≡ false → Steps [] starts_type (type_at at) (spell_types xs rest) (settle_types at xs rest) rest
+types_step : (at : Places) (xs : List WrittenType) (rest : List Token) → next_is starts_type rest ≡ false → Steps [] starts_type (type_at at) (spell_types xs rest) (settle_types at xs rest) rest
 types_step at [] rest en = (refl, en, refl)
-types_step at (x ∷ xs) rest en = (spell_types xs rest, [], [], type_starts x (spell_types xs rest), Came (type_comes at x (spell_types xs rest)) refl, types_step at xs rest en, refl)
+types_step at (x ∷ xs) rest en = (spell_types xs rest, [], [], type_begins x (spell_types xs rest), Came (type_comes at x (spell_types xs rest)) refl, types_step at xs rest en, refl)
 
-constructor_comes : (at : Places) (c : ConstructorTree) (rest : List Token) → next_is starts_type rest ≡ false → Comes [] (constructor_at at (spell_constructor c rest)) (settle_constructor at c rest) rest
+constructor_comes : (at : Places) (c : GenericConstructorTree) (rest : List Token) → next_is starts_type rest ≡ false → Comes [] (constructor_at at (spell_constructor c rest)) (settle_constructor at c rest) rest
 unfolding constructor_at
 constructor_comes at c rest en =
-    then_last (λ fields left. done (let made : ConstructorTree = record { name = settle_name at c.name (spell_types c.fields rest); fields = fields } in made) left) (settle_constructor at c rest) rest
+    then_last (λ fields left. done (let made : GenericConstructorTree = record { name = settle_name at c.name (spell_types c.fields rest); fields = fields } in made) left) (settle_constructor at c rest) rest
     (many_comes [] starts_type (type_at at) (type_shrinks at) (settle_types at c.fields rest) (spell_types c.fields rest) rest (types_step at c.fields rest en)) refl
 
-more_ends : (cs : List ConstructorTree) (rest : List Token) → next_is starts_type (spell_more cs (t.Sign s.Semicolon ∷ rest)) ≡ false
+more_ends : (cs : List GenericConstructorTree) (rest : List Token) → next_is starts_type (spell_more cs (t.Sign s.Semicolon ∷ rest)) ≡ false
 more_ends [] rest = refl
 more_ends (c ∷ cs) rest = refl
 
-alternative_comes : (at : Places) (c : ConstructorTree) (rest : List Token) → next_is starts_type rest ≡ false → Comes [] (alternative_at at (t.Sign s.Bar ∷ spell_constructor c rest)) (settle_constructor at c rest) rest
+alternative_comes : (at : Places) (c : GenericConstructorTree) (rest : List Token) → next_is starts_type rest ≡ false → Comes [] (alternative_at at (t.Sign s.Bar ∷ spell_constructor c rest)) (settle_constructor at c rest) rest
 unfolding alternative_at
 alternative_comes at c rest en = constructor_comes at c rest en
 
-more_step : (at : Places) (cs : List ConstructorTree) (rest : List Token) → Steps [] (is_sign s.Bar) (alternative_at at) (spell_more cs (t.Sign s.Semicolon ∷ rest)) (settle_constructors at cs (t.Sign s.Semicolon ∷ rest)) (t.Sign s.Semicolon ∷ rest)
+more_step : (at : Places) (cs : List GenericConstructorTree) (rest : List Token) → Steps [] (is_sign s.Bar) (alternative_at at) (spell_more cs (t.Sign s.Semicolon ∷ rest)) (settle_constructors at cs (t.Sign s.Semicolon ∷ rest)) (t.Sign s.Semicolon ∷ rest)
 more_step at [] rest = (refl, refl, refl)
 more_step at (c ∷ cs) rest = (spell_more cs (t.Sign s.Semicolon ∷ rest), [], [], refl, alternative_comes at c (spell_more cs (t.Sign s.Semicolon ∷ rest)) (more_ends cs rest), more_step at cs rest, refl)
 
-constructors_come : (at : Places) (cs : List ConstructorTree) (rest : List Token) → cs ≢ [] → Comes [] (constructors_at at (spell_constructors cs (t.Sign s.Semicolon ∷ rest))) (settle_constructors at cs (t.Sign s.Semicolon ∷ rest)) (t.Sign s.Semicolon ∷ rest)
+constructors_come : (at : Places) (cs : List GenericConstructorTree) (rest : List Token) → cs ≢ [] → Comes [] (constructors_at at (spell_constructors cs (t.Sign s.Semicolon ∷ rest))) (settle_constructors at cs (t.Sign s.Semicolon ∷ rest)) (t.Sign s.Semicolon ∷ rest)
 unfolding constructors_at
 constructors_come at [] rest some = absurd (some refl)
 constructors_come at (c ∷ cs) rest some =
@@ -63,30 +55,34 @@ constructors_come at (c ∷ cs) rest some =
     (then_last (λ cs ts. Ok (first ∷ cs, ts)) (settle_constructors at (c ∷ cs) after) after
     (many_comes [] (is_sign s.Bar) (alternative_at at) (alternative_shrinks at) (settle_constructors at cs after) (spell_more cs after) after (more_step at cs rest)) refl)
 
-data_comes : (at : Places) (d : DataTree) (rest : List Token) → HasConstructor d → Comes [] (data_at at (spell_data d rest)) (settle_data at d rest) rest
+data_comes : (at : Places) (d : GenericDataTree) (rest : List Token) → HasGenericConstructor d → Comes [] (data_at at (spell_data d rest)) (settle_data at d rest) rest
 unfolding data_at
 data_comes at d rest some =
-    let name = settle_name at d.name (t.Sign s.Equals ∷ spell_constructors d.constructors (t.Sign s.Semicolon ∷ rest)) in
-    then_last (λ cs ts. then_at (want s.Semicolon ts) (λ _ ts. done (let made : DataTree = record { name = name; constructors = cs } in made) ts)) (settle_data at d rest) rest
-    (constructors_come at d.constructors rest some) refl
+    let behind = t.Sign s.Equals ∷ spell_constructors d.constructors (t.Sign s.Semicolon ∷ rest) in
+    let name = settle_name at d.name (spell_variables d.variables behind) in
+    let vs = settle_names at d.variables behind in
+    comes_at (ap (λ (r : Read (List Ident)). then_at r (λ vs ts. then_at (want s.Equals ts) (λ _ ts. then_at (constructors_at at ts) (λ cs ts. then_at (want s.Semicolon ts) (λ _ ts.
+    done (let made : GenericDataTree = record { name = name; variables = vs; constructors = cs } in made) ts))))) (variables_come at d.variables s.Equals (spell_constructors d.constructors (t.Sign s.Semicolon ∷ rest))))
+    (then_last (λ cs ts. then_at (want s.Semicolon ts) (λ _ ts. done (let made : GenericDataTree = record { name = name; variables = vs; constructors = cs } in made) ts)) (settle_data at d rest) rest
+    (constructors_come at d.constructors rest some) refl)
 
-datas_step : (at : Places) (ds : List DataTree) (rest : List Token) → AllByRecursion HasConstructor ds → next_is (is_sign s.Data) rest ≡ false → Steps [] (is_sign s.Data) (data_at at) (spell_datas ds rest) (settle_datas at ds rest) rest
+datas_step : (at : Places) (ds : List GenericDataTree) (rest : List Token) → AllByRecursion HasGenericConstructor ds → next_is (is_sign s.Data) rest ≡ false → Steps [] (is_sign s.Data) (data_at at) (spell_datas ds rest) (settle_datas at ds rest) rest
 datas_step at [] rest h en = (refl, en, refl)
 datas_step at (d ∷ ds) rest h en = (spell_datas ds rest, [], [], refl, data_comes at d (spell_datas ds rest) h.0, datas_step at ds rest h.1 en, refl)
 
 -- ---- functions
 
-parameter_comes : (at : Places) (q : Parameter) (rest : List Token) → Comes [] (parameter_at at (spell_parameter q rest)) (settle_parameter at q rest) rest
+parameter_comes : (at : Places) (q : GenericParameterTree) (rest : List Token) → Comes [] (parameter_at at (spell_parameter q rest)) (settle_parameter at q rest) rest
 unfolding parameter_at
 parameter_comes at q rest =
     let name = settle_name at q.name (t.Sign s.Colon ∷ spell_type q.ty (t.Sign s.Close ∷ rest)) in
-    Came (ap (λ (r : Read TypeName). then_at r (λ a ts. then_at (want s.Close ts) (λ _ ts. done (let made : Parameter = record { name = name; ty = a } in made) ts))) (type_comes at q.ty (t.Sign s.Close ∷ rest))) refl
+    Came (ap (λ (r : Read WrittenType). then_at r (λ a ts. then_at (want s.Close ts) (λ _ ts. done (let made : GenericParameterTree = record { name = name; ty = a } in made) ts))) (type_comes at q.ty (t.Sign s.Close ∷ rest))) refl
 
-parameters_step : (at : Places) (qs : List Parameter) (rest : List Token) → next_is (is_sign s.Open) rest ≡ false → Steps [] (is_sign s.Open) (parameter_at at) (spell_parameters qs rest) (settle_parameters at qs rest) rest
+parameters_step : (at : Places) (qs : List GenericParameterTree) (rest : List Token) → next_is (is_sign s.Open) rest ≡ false → Steps [] (is_sign s.Open) (parameter_at at) (spell_parameters qs rest) (settle_parameters at qs rest) rest
 parameters_step at [] rest en = (refl, en, refl)
 parameters_step at (q ∷ qs) rest en = (spell_parameters qs rest, [], [], refl, parameter_comes at q (spell_parameters qs rest), parameters_step at qs rest en, refl)
 
-parameters_come : (at : Places) (qs : List Parameter) (rest : List Token) → qs ≢ [] → next_is (is_sign s.Open) rest ≡ false → Comes [] (parameters_at at (spell_parameters qs rest)) (settle_parameters at qs rest) rest
+parameters_come : (at : Places) (qs : List GenericParameterTree) (rest : List Token) → qs ≢ [] → next_is (is_sign s.Open) rest ≡ false → Comes [] (parameters_at at (spell_parameters qs rest)) (settle_parameters at qs rest) rest
 unfolding parameters_at
 parameters_come at [] rest some en = absurd (some refl)
 parameters_come at (q ∷ qs) rest some en =
@@ -95,28 +91,46 @@ parameters_come at (q ∷ qs) rest some en =
     (then_last (λ qs ts. Ok (first ∷ qs, ts)) (settle_parameters at (q ∷ qs) rest) rest
     (many_comes [] (is_sign s.Open) (parameter_at at) (parameter_shrinks at) (settle_parameters at qs rest) (spell_parameters qs rest) rest (parameters_step at qs rest en)) refl)
 
-abbrev settle_body : Places → TypeName → Expression → List Token → BodyTree
+abbrev settle_body : Places → WrittenType → GenericExpression → List Token → BodyTree
 settle_body at a e rest = record { result = settle_type at a (t.Sign s.Equals ∷ spell e (t.Sign s.Semicolon ∷ rest)); body = settle at e (t.Sign s.Semicolon ∷ rest) }
 
-body_comes : (at : Places) (l : ℕ) (a : TypeName) (e : Expression) (rest : List Token) → IsFine e → Comes (below l e (t.Sign s.Semicolon ∷ rest)) (body_at at (parse at l Any) (spell_body a e rest)) (settle_body at a e rest) rest
+body_comes : (at : Places) (l : ℕ) (a : WrittenType) (e : GenericExpression) (rest : List Token) → IsGenericFine e → Comes (below l e (t.Sign s.Semicolon ∷ rest)) (body_at at (parse at l Any) (spell_body a e rest)) (settle_body at a e rest) rest
 unfolding body_at
 body_comes at l a e rest f =
     let after = t.Sign s.Equals ∷ spell e (t.Sign s.Semicolon ∷ rest) in
     let a' = settle_type at a after in
-    comes_at (ap (λ (r : Read TypeName). then_at r (λ a ts. then_at (want s.Equals ts) (λ _ ts. then_at (parse at l Any ts) (λ e ts. then_at (want s.Semicolon ts) (λ _ ts. done (let made : BodyTree = record { result = a; body = e } in made) ts))))) (type_comes at a after))
+    comes_at (ap (λ (r : Read WrittenType). then_at r (λ a ts. then_at (want s.Equals ts) (λ _ ts. then_at (parse at l Any ts) (λ e ts. then_at (want s.Semicolon ts) (λ _ ts. done (let made : BodyTree = record { result = a; body = e } in made) ts))))) (type_comes at a after))
     (then_last (λ e ts. then_at (want s.Semicolon ts) (λ _ ts. done (let made : BodyTree = record { result = a'; body = e } in made) ts)) (settle_body at a e rest) rest (complete at e l Any (t.Sign s.Semicolon ∷ rest) f tt refl) refl)
 
-function_comes : (at : Places) (l : ℕ) (f : FunctionTree) (rest : List Token) → IsFineFunction f → Comes (below l f.body (t.Sign s.Semicolon ∷ rest)) (function_at at (parse at l Any) (spell_function f rest)) (settle_function at f rest) rest
+names_come : (at : Places) (v : Ident) (vs : List Ident) (rest : List Token) → names_at at (spell_variables (v ∷ vs) (t.Sign s.CloseBracket ∷ rest)) ≡ done (settle_names at (v ∷ vs) (t.Sign s.CloseBracket ∷ rest)) rest
+unfolding names_at
+names_come at v vs rest =
+    let first = settle_name at v (spell_variables vs (t.Sign s.CloseBracket ∷ rest)) in
+    ap (λ (r : Read (List Ident)). then_at r (λ vs ts. then_at (want s.CloseBracket ts) (λ _ ts. Ok (first ∷ vs, ts)))) (variables_come at vs s.CloseBracket rest)
+
+type_parameters_come : (at : Places) (vs : List Ident) (rest : List Token) → next_is (is_sign s.OpenBracket) rest ≡ false → type_parameters_at at (spell_type_parameters vs rest) ≡ done (settle_type_parameters at vs rest) rest
+type_parameters_come at [] rest e = type_parameters_none at rest e
+type_parameters_come at (v ∷ vs) rest e = names_come at v vs rest
+
+parameters_open : (qs : List GenericParameterTree) (rest : List Token) → qs ≢ [] → next_is (is_sign s.OpenBracket) (spell_parameters qs rest) ≡ false
+parameters_open [] rest some = absurd (some refl)
+parameters_open (q ∷ qs) rest some = refl
+
+function_comes : (at : Places) (l : ℕ) (f : GenericFunctionTree) (rest : List Token) → IsGenericFineFunction f → Comes (below l f.body (t.Sign s.Semicolon ∷ rest)) (function_at at (parse at l Any) (spell_function f rest)) (settle_function at f rest) rest
 unfolding function_at
 function_comes at l f rest h =
     let behind = spell_body f.result f.body rest in
-    let name = settle_name at f.name (spell_parameters f.parameters behind) in
-    then_comes (λ qs ts. then_at (body_at at (parse at l Any) ts) (λ b ts. done (let made : FunctionTree = record { name = name; parameters = qs; result = b.result; body = b.body } in made) ts)) (settle_function at f rest) rest
+    let parameters = spell_parameters f.parameters behind in
+    let name = settle_name at f.name (spell_type_parameters f.variables parameters) in
+    let vs = settle_type_parameters at f.variables parameters in
+    comes_at (ap (λ (r : Read (List Ident)). then_at r (λ vs ts. then_at (parameters_at at ts) (λ qs ts. then_at (body_at at (parse at l Any) ts) (λ b ts.
+    done (let made : GenericFunctionTree = record { name = name; variables = vs; parameters = qs; result = b.result; body = b.body } in made) ts)))) (type_parameters_come at f.variables parameters (parameters_open f.parameters behind h.0)))
+    (then_comes (λ qs ts. then_at (body_at at (parse at l Any) ts) (λ b ts. done (let made : GenericFunctionTree = record { name = name; variables = vs; parameters = qs; result = b.result; body = b.body } in made) ts)) (settle_function at f rest) rest
     (parameters_come at f.parameters behind h.0 refl)
-    (then_last (λ b ts. done (let made : FunctionTree = record { name = name; parameters = settle_parameters at f.parameters behind; result = b.result; body = b.body } in made) ts) (settle_function at f rest) rest
-    (body_comes at l f.result f.body rest h.1) refl)
+    (then_last (λ b ts. done (let made : GenericFunctionTree = record { name = name; variables = vs; parameters = settle_parameters at f.parameters behind; result = b.result; body = b.body } in made) ts) (settle_function at f rest) rest
+    (body_comes at l f.result f.body rest h.1) refl))
 
-functions_step : (at : Places) (l : ℕ) (fs : List FunctionTree) (rest : List Token) → AllByRecursion IsFineFunction fs → next_is (is_sign s.Fun) rest ≡ false
+functions_step : (at : Places) (l : ℕ) (fs : List GenericFunctionTree) (rest : List Token) → AllByRecursion IsGenericFineFunction fs → next_is (is_sign s.Fun) rest ≡ false
     → Steps (below_functions l fs rest) (is_sign s.Fun) (function_at at (parse at l Any)) (spell_functions fs rest) (settle_functions at fs rest) rest
 functions_step at l [] rest h en = (refl, en, refl)
 functions_step at l (f ∷ fs) rest h en =
@@ -124,33 +138,33 @@ functions_step at l (f ∷ fs) rest h en =
 
 -- ---- main and the whole
 
-main_comes : (at : Places) (l : ℕ) (m : MainTree) (rest : List Token) → IsFine m.body → Comes (below l m.body (t.Sign s.Semicolon ∷ rest)) (main_at at (parse at l Any) (spell_main m rest)) (settle_main at m rest) rest
+main_comes : (at : Places) (l : ℕ) (m : GenericMainTree) (rest : List Token) → IsGenericFine m.body → Comes (below l m.body (t.Sign s.Semicolon ∷ rest)) (main_at at (parse at l Any) (spell_main m rest)) (settle_main at m rest) rest
 unfolding main_at
 main_comes at l m rest f =
     let behind = spell_body m.result m.body rest in
     let q = settle_parameter at m.parameter behind in
-    then_comes (λ q ts. then_at (body_at at (parse at l Any) ts) (λ b ts. done (let made : MainTree = record { parameter = q; result = b.result; body = b.body } in made) ts)) (settle_main at m rest) rest
+    then_comes (λ q ts. then_at (body_at at (parse at l Any) ts) (λ b ts. done (let made : GenericMainTree = record { parameter = q; result = b.result; body = b.body } in made) ts)) (settle_main at m rest) rest
     (parameter_comes at m.parameter behind)
-    (then_last (λ b ts. done (let made : MainTree = record { parameter = q; result = b.result; body = b.body } in made) ts) (settle_main at m rest) rest (body_comes at l m.result m.body rest f) refl)
+    (then_last (λ b ts. done (let made : GenericMainTree = record { parameter = q; result = b.result; body = b.body } in made) ts) (settle_main at m rest) rest (body_comes at l m.result m.body rest f) refl)
 
-no_data : (fs : List FunctionTree) (m : MainTree) → next_is (is_sign s.Data) (spell_functions fs (spell_main m [])) ≡ false
+no_data : (fs : List GenericFunctionTree) (m : GenericMainTree) → next_is (is_sign s.Data) (spell_functions fs (spell_main m [])) ≡ false
 no_data [] m = refl
 no_data (f ∷ fs) m = refl
 
-program_comes : (at : Places) (l : ℕ) (p : ProgramTree) → IsFineProgram p → Comes (below_program l p) (program_at at (parse at l Any) (spell_program p [])) (settle_program at p) []
+program_comes : (at : Places) (l : ℕ) (p : GenericProgramTree) → IsGenericFineProgram p → Comes (below_program l p) (program_at at (parse at l Any) (spell_program p [])) (settle_program at p) []
 unfolding program_at
 program_comes at l p f =
     let last = spell_main p.main [] in
     let behind = spell_functions p.functions last in
     let ds = settle_datas at p.datas behind in
     let fs = settle_functions at p.functions last in
-    then_comes (λ ds ts. then_at (many (is_sign s.Fun) (function_at at (parse at l Any)) ts) (λ fs ts. then_at (main_at at (parse at l Any) ts) (λ m ts. done (let made : ProgramTree = record { datas = ds; functions = fs; main = m } in made) ts))) (settle_program at p) []
+    then_comes (λ ds ts. then_at (many (is_sign s.Fun) (function_at at (parse at l Any)) ts) (λ fs ts. then_at (main_at at (parse at l Any) ts) (λ m ts. done (let made : GenericProgramTree = record { datas = ds; functions = fs; main = m } in made) ts))) (settle_program at p) []
     (many_comes [] (is_sign s.Data) (data_at at) (data_shrinks at) ds (spell_datas p.datas behind) behind (datas_step at p.datas behind f.datas (no_data p.functions p.main)))
-    (then_comes (λ fs ts. then_at (main_at at (parse at l Any) ts) (λ m ts. done (let made : ProgramTree = record { datas = ds; functions = fs; main = m } in made) ts)) (settle_program at p) []
+    (then_comes (λ fs ts. then_at (main_at at (parse at l Any) ts) (λ m ts. done (let made : GenericProgramTree = record { datas = ds; functions = fs; main = m } in made) ts)) (settle_program at p) []
     (many_comes (below_functions l p.functions last) (is_sign s.Fun) (function_at at (parse at l Any)) (function_shrinks at l) fs behind last (functions_step at l p.functions last f.functions refl))
-    (then_last (λ m ts. done (let made : ProgramTree = record { datas = ds; functions = fs; main = m } in made) ts) (settle_program at p) [] (main_comes at l p.main [] f.main) refl))
+    (then_last (λ m ts. done (let made : GenericProgramTree = record { datas = ds; functions = fs; main = m } in made) ts) (settle_program at p) [] (main_comes at l p.main [] f.main) refl))
 
 -- The program comes, with the spans of its tokens, or too deep.
-pub whole_comes : (at : Places) (l : ℕ) (p : ProgramTree) → IsFineProgram p → Comes (below_program l p) (whole_in l at (spell_program p [])) (settle_program at p) []
+pub whole_comes : (at : Places) (l : ℕ) (p : GenericProgramTree) → IsGenericFineProgram p → Comes (below_program l p) (whole_in l at (spell_program p [])) (settle_program at p) []
 unfolding whole_in
 whole_comes at l p f = then_last ends_at (settle_program at p) [] (program_comes at l p f) refl

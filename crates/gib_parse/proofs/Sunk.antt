@@ -3,7 +3,7 @@ use Rattle.std.proofs.Common.{◌≡◌, ℕ, zero, suc, ◌+◌, ◌<◌, ◌�
 use Rattle.std.proofs.lemmas.List.{take-append-drop, take-take}
 use Rattle.std.proofs.lemmas.Bool.{cases_lt}
 use Rattle.gib_base.specs.declared.token.Token.{Token}
-use Rattle.gib_syntax.specs.Tree.{ProgramTree}
+use Rattle.gib_syntax.specs.GenericTree.{GenericProgramTree}
 use Rattle.gib_syntax.specs.Spelling.{Places, Derives}
 use Rattle.gib_parse.specs.Reading.{At, Nested, Read, whole_in, Begun}
 use Rattle.gib_parse.specs.Nesting.{below_program, NoneBefore, BegunWith, Sinks}
@@ -31,16 +31,16 @@ fewer ts j k le b =
     (b.0, drop (length ts - k) part ++ b.1, subst (λ (l : List Token). Derives l b.0) (sym again) b.2)
 
 -- A program begins with whatever stands at its front.
-front_begun : (ts : List Token) (k : ℕ) (p : ProgramTree) → Derives ts p → Begun ts k
+front_begun : (ts : List Token) (k : ℕ) (p : GenericProgramTree) → Derives ts p → Begun ts k
 front_begun ts k p d = (p, drop (length ts - k) ts, subst (λ (l : List Token). Derives l p) (sym (take-append-drop (length ts - k) ts)) d)
 
 never_at_end : (n : ℕ) (at : Places) (ts : List Token) → whole_in n at ts ≡ failed (Nested 0) → ⊥
 never_at_end n at ts e = go (whole_in (suc n) at ts) refl where
-  go : (r : Read ProgramTree) → whole_in (suc n) at ts ≡ r → ⊥
+  go : (r : Read GenericProgramTree) → whole_in (suc n) at ts ≡ r → ⊥
   go (Ok x) f = let lt = (whole_past at n ts).sunk_ok 0 x.0 x.1 e f in omega arith
   go (Err bad) f = let lt = nested_goes_past n at ts 0 bad e f in omega arith
 
-begun_by : (n : ℕ) (at : Places) (ts : List Token) (k : ℕ) → whole_in n at ts ≡ failed (Nested (suc k)) → ((j : ℕ) → j < k → whole_in (suc n) at ts ≡ failed (Nested (suc j)) → Begun ts j) → (r : Read ProgramTree) → whole_in (suc n) at ts ≡ r → Begun ts k
+begun_by : (n : ℕ) (at : Places) (ts : List Token) (k : ℕ) → whole_in n at ts ≡ failed (Nested (suc k)) → ((j : ℕ) → j < k → whole_in (suc n) at ts ≡ failed (Nested (suc j)) → Begun ts j) → (r : Read GenericProgramTree) → whole_in (suc n) at ts ≡ r → Begun ts k
 begun_by n at ts k e again (Ok x) f = front_begun ts k x.0 (whole_reads (suc n) at ts x.0 x.1 f).derived
 begun_by n at ts k e again (Err (At j)) f = let lt = nested_goes_past n at ts (suc k) (At j) e f in fewer ts j k (omega arith) (whole_begun at (suc n) ts j f)
 begun_by n at ts k e again (Err (Nested zero)) f = absurd (never_at_end (suc n) at ts f)
@@ -86,9 +86,9 @@ found_before l at front after more j k e f le = go (split_at front (j - length m
       let here : front ++ after ≡ first ++ tok ∷ (part ++ after) = ap (λ (x : List Token). x ++ after) r.3 ∙ append_assoc first (tok ∷ part) after in
       let count : suc j ≡ suc (length (part ++ more)) = omega (arith, length-append part more, r.4) in
       let sunk : whole_in l (moved at after more) (first ++ tok ∷ (part ++ more)) ≡ failed (Nested (suc (length (part ++ more)))) = ap (whole_in l (moved at after more)) (sym there) ∙ f ∙ ap (λ (n : ℕ). failed (Nested n)) count in
-      at_is_nested {A = ProgramTree} k (suc (length (part ++ after))) (sym e ∙ ap (whole_in l at) here ∙ same_fault l at first part tok after more sunk)
+      at_is_nested {A = GenericProgramTree} k (suc (length (part ++ after))) (sym e ∙ ap (whole_in l at) here ∙ same_fault l at first part tok after more sunk)
 
-floats_by : (l : ℕ) (at : Places) (front after more : List Token) (k : ℕ) (met : List ℕ) (a : ProgramTree) (rest : List Token) → whole_in l at (front ++ after) ≡ failed (At k) → Comes met (whole_in l (moved at after more) (front ++ more)) a rest → NoneBefore (length more) met
+floats_by : (l : ℕ) (at : Places) (front after more : List Token) (k : ℕ) (met : List ℕ) (a : GenericProgramTree) (rest : List Token) → whole_in l at (front ++ after) ≡ failed (At k) → Comes met (whole_in l (moved at after more) (front ++ more)) a rest → NoneBefore (length more) met
 floats_by l at front after more k met a rest e (Came f m) = subst (λ (x : List ℕ). NoneBefore (length more) x) (sym m) tt
 floats_by l at front after more k met a rest e (Sank j others f m) = subst (λ (x : List ℕ). NoneBefore (length more) x) (sym m) (go (cases_lt j (length more))) where
   go : (j < length more) ⊎ (length more ≤ j) → suc j ≤ length more
@@ -96,7 +96,7 @@ floats_by l at front after more k met a rest e (Sank j others f m) = subst (λ (
   go (inr le) = absurd (found_before l at front after more j k e f le)
 
 -- No expression past the last level begins before a refused token.
-pub whole_floats : (l : ℕ) (at : Places) (ts : List Token) (k : ℕ) → whole_in l at ts ≡ failed (At k) → (g : ProgramTree) (more : List Token) → Derives (take (length ts - k) ts ++ more) g → NoneBefore (length more) (below_program l g)
+pub whole_floats : (l : ℕ) (at : Places) (ts : List Token) (k : ℕ) → whole_in l at ts ≡ failed (At k) → (g : GenericProgramTree) (more : List Token) → Derives (take (length ts - k) ts ++ more) g → NoneBefore (length more) (below_program l g)
 whole_floats l at ts k e g more d =
     let front = take (length ts - k) ts in
     let after = drop (length ts - k) ts in

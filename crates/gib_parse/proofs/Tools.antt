@@ -6,15 +6,13 @@ use Rattle.gib_base.specs.declared.token.Sign.TheVariants as s
 use Rattle.gib_base.specs.declared.token.Token.{Token}
 use Rattle.gib_base.specs.declared.token.Token.TheVariants as t
 use Rattle.gib_syntax.specs.declared.tree.Ident.{Ident}
-use Rattle.gib_syntax.specs.declared.tree.TypeName.{TypeName}
-use Rattle.gib_syntax.specs.declared.tree.TypeName.TheVariants as ty
-use Rattle.gib_syntax.specs.Spelling.{Places, IsAt, spell_type, IsTypeAt}
-use Rattle.gib_parse.specs.Reading.{Fault, At, Read, Reader, then_at, number_of, same, want_if, want, before, named, var_at, con_at, type_at}
+use Rattle.gib_syntax.specs.Spelling.{Places, IsAt}
+use Rattle.gib_parse.specs.Reading.{Fault, At, Read, Reader, then_at, number_of, same, want_if, want, named, var_at, con_at}
 
 all_signs : List Sign
 all_signs =
     s.Data ∷ s.Fun ∷ s.Main ∷ s.Let ∷ s.Par ∷ s.And ∷ s.In ∷ s.If ∷ s.Then ∷ s.Else ∷ s.Case ∷ s.Of ∷ s.True ∷ s.False ∷ s.Int ∷ s.Bool ∷ s.Quotient ∷ s.Remainder ∷ s.Equals ∷ s.Bar ∷ s.Semicolon
-    ∷ s.Open ∷ s.Close ∷ s.Colon ∷ s.OpenBrace ∷ s.CloseBrace ∷ s.Arrow ∷ s.Plus ∷ s.Minus ∷ s.Times ∷ s.Same ∷ s.Less ∷ []
+    ∷ s.Open ∷ s.Close ∷ s.Colon ∷ s.OpenBrace ∷ s.CloseBrace ∷ s.OpenBracket ∷ s.CloseBracket ∷ s.Arrow ∷ s.Plus ∷ s.Minus ∷ s.Times ∷ s.Same ∷ s.Less ∷ []
 
 sign_of : ℕ → Sign
 sign_of n = get_or all_signs n s.Data
@@ -48,6 +46,8 @@ sign_of-number_of a = elim a as (λ k. sign_of (number_of k) ≡ k) [
   | s.Colon ↦ refl
   | s.OpenBrace ↦ refl
   | s.CloseBrace ↦ refl
+  | s.OpenBracket ↦ refl
+  | s.CloseBracket ↦ refl
   | s.Arrow ↦ refl
   | s.Plus ↦ refl
   | s.Minus ↦ refl
@@ -116,10 +116,6 @@ pub record IsCon (at : Places) (ts : List Token) (x : Ident) (rest : List Token)
   pub spelled : ts ≡ t.Constructor x.name ∷ rest
   pub placed : IsAt at x rest
 
-pub record IsType (at : Places) (ts : List Token) (a : TypeName) (rest : List Token) : Type 0 where
-  pub spelled : ts ≡ spell_type a rest
-  pub placed : IsTypeAt at a rest
-
 pub var_holds : (at : Places) (ts : List Token) → Holds (var_at at ts) (IsVar at ts)
 var_holds at (t.Variable x ∷ ts) = holds_ok (named at x ts) ts (record { spelled = refl; placed = refl })
 var_holds at ts = holds_err (At (length ts))
@@ -127,12 +123,6 @@ var_holds at ts = holds_err (At (length ts))
 pub con_holds : (at : Places) (ts : List Token) → Holds (con_at at ts) (IsCon at ts)
 con_holds at (t.Constructor x ∷ ts) = holds_ok (named at x ts) ts (record { spelled = refl; placed = refl })
 con_holds at ts = holds_err (At (length ts))
-
-pub type_holds : (at : Places) (ts : List Token) → Holds (type_at at ts) (IsType at ts)
-type_holds at (t.Sign s.Int ∷ ts) = holds_ok (ty.Whole (before at ts)) ts (record { spelled = refl; placed = refl })
-type_holds at (t.Sign s.Bool ∷ ts) = holds_ok (ty.Truth (before at ts)) ts (record { spelled = refl; placed = refl })
-type_holds at (t.Constructor x ∷ ts) = holds_ok (ty.Declared (named at x ts)) ts (record { spelled = refl; placed = refl })
-type_holds at ts = holds_err (At (length ts))
 
 pub then_ext : {A B : Type 0} (r : Read A) (f g : A → Reader B) → ((a : A) (rest : List Token) → r ≡ done a rest → f a rest ≡ g a rest) → then_at r f ≡ then_at r g
 then_ext (Ok x) f g h = h x.0 x.1 refl

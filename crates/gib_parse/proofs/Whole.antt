@@ -5,7 +5,7 @@ use Rattle.std.proofs.lemmas.Bool.{cases_lt}
 use Rattle.gib_base.specs.Lexed.{Lexed}
 use Rattle.gib_base.specs.declared.token.Token.{Token}
 use Rattle.gib_base.specs.declared.token.Token.TheVariants as t
-use Rattle.gib_syntax.specs.Tree.{ProgramTree}
+use Rattle.gib_syntax.specs.GenericTree.{GenericProgramTree}
 use Rattle.gib_syntax.specs.Source.{Spells}
 use Rattle.gib_syntax.specs.Spelling.{Places, places_of, IsPlacedProgram, levels_program, Derives, Blames}
 use Rattle.gib_lex.proofs.Cuts.{one_reading}
@@ -22,39 +22,39 @@ use Rattle.gib_parse.proofs.ProgramLocal.{whole_local}
 
 -- ---- what is read
 
-pub whole_reads : (l : ℕ) (at : Places) (ts : List Token) (g : ProgramTree) (rest : List Token) → whole_in l at ts ≡ done g rest → IsWhole l at ts g rest
+pub whole_reads : (l : ℕ) (at : Places) (ts : List Token) (g : GenericProgramTree) (rest : List Token) → whole_in l at ts ≡ done g rest → IsWhole l at ts g rest
 whole_reads l at ts g rest e = (whole_sound l at ts).by g rest e
 
 -- ---- what is a program
 
-pub derived_comes : (l : ℕ) (at : Places) (ts : List Token) (g : ProgramTree) → Derives ts g → Comes (below_program l g) (whole_in l at ts) (settle_program at g) []
+pub derived_comes : (l : ℕ) (at : Places) (ts : List Token) (g : GenericProgramTree) → Derives ts g → Comes (below_program l g) (whole_in l at ts) (settle_program at g) []
 derived_comes l at ts g d = comes_at (ap (whole_in l at) d.spelled) (whole_comes at l g d.fine)
 
 came : {A : Type 0} {met : List ℕ} {r : Read A} {a : A} {rest : List Token} → Comes met r a rest → length met ≡ 0 → r ≡ done a rest
 came (Came e m) none = e
 came (Sank k others e m) none = absurd (omega (arith, ap length m))
 
-pub derived_is_read : (l : ℕ) (at : Places) (ts : List Token) (g : ProgramTree) → Derives ts g → levels_program g ≤ l → whole_in l at ts ≡ done (settle_program at g) []
+pub derived_is_read : (l : ℕ) (at : Places) (ts : List Token) (g : GenericProgramTree) → Derives ts g → levels_program g ≤ l → whole_in l at ts ≡ done (settle_program at g) []
 derived_is_read l at ts g d le = came (derived_comes l at ts g d) (flat_program l g le)
 
-pub placed_is_read : (l : ℕ) (at : Places) (ts : List Token) (g : ProgramTree) → Derives ts g → IsPlacedProgram at g → levels_program g ≤ l → whole_in l at ts ≡ done g []
+pub placed_is_read : (l : ℕ) (at : Places) (ts : List Token) (g : GenericProgramTree) → Derives ts g → IsPlacedProgram at g → levels_program g ≤ l → whole_in l at ts ≡ done g []
 placed_is_read l at ts g d p le =
     let nothing : List Token = [] in
-    derived_is_read l at ts g d le ∙ ap (λ (q : ProgramTree). done q nothing) (program_stays at g p)
+    derived_is_read l at ts g d le ∙ ap (λ (q : GenericProgramTree). done q nothing) (program_stays at g p)
 
 done_is : {A : Type 0} (a b : A) (l m : List Token) → done a l ≡ done b m → a ≡ b
 done_is {A = A} a b l m e = ap (λ (x : A × List Token). x.0) (both (a, l) (b, m) e) where
   both : (x y : A × List Token) → done x.0 x.1 ≡ done y.0 y.1 → x ≡ y
   both x y e = cc
 
-pub one_program_lem : (at : Places) (tokens : List Token) (p q : ProgramTree) → Derives tokens p → Derives tokens q → IsPlacedProgram at p → IsPlacedProgram at q → p ≡ q
+pub one_program_lem : (at : Places) (tokens : List Token) (p q : GenericProgramTree) → Derives tokens p → Derives tokens q → IsPlacedProgram at p → IsPlacedProgram at q → p ≡ q
 one_program_lem at tokens p q dp dq pp pq =
     let l = max (levels_program p) (levels_program q) in
     let nothing : List Token = [] in
     done_is p q nothing nothing (sym (placed_is_read l at tokens p dp pp (omega arith)) ∙ placed_is_read l at tokens q dq pq (omega arith))
 
 -- A text is lexed in one way, and its tokens spell one program.
-pub one_text_lem : (text : List ℕ) (l m : Lexed) (p q : ProgramTree) → Spells text l p → Spells text m q → (l ≡ m) × (p ≡ q)
+pub one_text_lem : (text : List ℕ) (l m : Lexed) (p q : GenericProgramTree) → Spells text l p → Spells text m q → (l ≡ m) × (p ≡ q)
 one_text_lem text l m p q sp sq =
     let e : l ≡ m = one_reading text l m sp.is_lexed sq.is_lexed in
     let d : Derives l.tokens q = subst (λ (x : Lexed). Derives x.tokens q) (sym e) sq.derived in
@@ -90,7 +90,7 @@ moved at xs ys k = at ((k + length xs) - length ys)
 moved_is : (at : Places) (xs ys : List Token) (k : ℕ) → moved at xs ys (k + length ys) ≡ at (k + length xs)
 moved_is at xs ys k = let e : (k + length ys + length xs) - length ys ≡ k + length xs = omega arith in ap at e
 
-fault_here : (l : ℕ) (at : Places) (c : Kind) (front : List Token) (tok : Token) (xs more : List Token) → whole_in l at (front ++ tok ∷ xs) ≡ failed (fault c (suc (length xs))) → (g : ProgramTree) → Derives (front ++ tok ∷ more) g → Means c (suc (length more)) (below_program l g)
+fault_here : (l : ℕ) (at : Places) (c : Kind) (front : List Token) (tok : Token) (xs more : List Token) → whole_in l at (front ++ tok ∷ xs) ≡ failed (fault c (suc (length xs))) → (g : GenericProgramTree) → Derives (front ++ tok ∷ more) g → Means c (suc (length more)) (below_program l g)
 fault_here l at c front tok xs more e g d =
     let at' = moved at xs more in
     let there = (whole_local tok xs more at at' (moved_is at xs more) l (front ++ tok ∷ xs)).bad_same (front ++ tok ∷ more) (record { front = front; here = refl; there = refl }) c e in
@@ -115,7 +115,7 @@ front_of front tok xs more =
     ∙ ap (λ l. l ++ more) (take_at (front ++ tok ∷ []) xs (length (front ++ tok ∷ xs) - length xs) len)
     ∙ append_assoc front (tok ∷ []) more
 
-fault_split : (l : ℕ) (at : Places) (c : Kind) (k : ℕ) (ts : List Token) → whole_in l at ts ≡ failed (fault c (suc k)) → Splits ts k → (g : ProgramTree) (more : List Token) → Derives (take (length ts - k) ts ++ more) g → Means c (suc (length more)) (below_program l g)
+fault_split : (l : ℕ) (at : Places) (c : Kind) (k : ℕ) (ts : List Token) → whole_in l at ts ≡ failed (fault c (suc k)) → Splits ts k → (g : GenericProgramTree) (more : List Token) → Derives (take (length ts - k) ts ++ more) g → Means c (suc (length more)) (below_program l g)
 fault_split l at c k ts e r g more d =
     let front = r.0 in let tok = r.1 in let xs = r.2 in
     let here : whole_in l at (front ++ tok ∷ xs) ≡ failed (fault c (suc (length xs))) = ap (whole_in l at) (sym r.3) ∙ e ∙ ap (λ (n : ℕ). failed (fault c (suc n))) (sym r.4) in
@@ -140,14 +140,14 @@ first_some k [] f = absurd f
 first_some k (first ∷ more) f = omega arith
 
 -- Where some expression stands below n levels, there are more of them.
-pub deep_program : (n k : ℕ) (p : ProgramTree) → IsFirst k (below_program n p) → n < levels_program p
+pub deep_program : (n k : ℕ) (p : GenericProgramTree) → IsFirst k (below_program n p) → n < levels_program p
 deep_program n k p f = go (cases_lt n (levels_program p)) where
   go : (n < levels_program p) ⊎ (levels_program p ≤ n) → n < levels_program p
   go (inl lt) = lt
   go (inr le) = let some = first_some k (below_program n p) f in let none = flat_program n p le in absurd (omega arith)
 
 -- In each program that begins so, the token begins the first expression past the last level.
-pub whole_deep : (l : ℕ) (at : Places) (ts : List Token) (k : ℕ) → whole_in l at ts ≡ failed (Nested (suc k)) → (g : ProgramTree) (more : List Token) → Derives (take (length ts - k) ts ++ more) g → IsFirst (suc (length more)) (below_program l g)
+pub whole_deep : (l : ℕ) (at : Places) (ts : List Token) (k : ℕ) → whole_in l at ts ≡ failed (Nested (suc k)) → (g : GenericProgramTree) (more : List Token) → Derives (take (length ts - k) ts ++ more) g → IsFirst (suc (length more)) (below_program l g)
 whole_deep l at ts k e g more d = fault_split l at Deep k ts e (split_at ts k (let le = whole_within l at Deep ts (suc k) e in omega arith)) g more d
 
 pub whole_deepens : (at : Places) (ts : List Token) (k : ℕ) → whole_in 200 at ts ≡ failed (Nested k) → Deepens ts k

@@ -2,9 +2,9 @@
 use Rattle.std.specs.Prelude.{◌≡◌, ◌≤◌, ℕ, zero, suc, List, [], length, Result, Ok, Err}
 use Rattle.gib_base.specs.declared.Span.{Span}
 use Rattle.gib_base.specs.Lexed.{Lexed}
-use Rattle.gib_syntax.specs.Tree.{ProgramTree}
+use Rattle.gib_syntax.specs.GenericTree.{GenericProgramTree}
 use Rattle.gib_syntax.specs.Spelling.{places_of, Blames}
-use Rattle.gib_syntax.specs.Parts.{Parts, program_of}
+use Rattle.gib_syntax.specs.GenericParts.{GenericParts, generic_program_of}
 use Rattle.gib_parse.specs.declared.fault.ParseFault.{ParseFault}
 use Rattle.gib_parse.specs.declared.fault.ParseFault.TheVariants as fault
 use Rattle.gib_parse.specs.declared.stop.Stop.{Stop}
@@ -22,7 +22,7 @@ abbrev pub place_of : Lexed → ℕ → ℕ
 place_of l left = place_in l.spans l.len left
 
 -- What is read of the tokens.
-abbrev pub read_of : Lexed → Read ProgramTree
+abbrev pub read_of : Lexed → Read GenericProgramTree
 read_of l = whole (places_of l.spans) l.tokens
 
 -- Reading finds a token that may not stand at this place.
@@ -38,8 +38,8 @@ pub record IsNestedAt (l : Lexed) (place : ℕ) : Type 0 where
   pub here : place ≡ place_of l left
 
 -- The answer is what is read, unless memory ran out.
-abbrev pub AnswersRead : Lexed → Result Parts ParseFault → Type 0
-AnswersRead l (Ok p) = read_of l ≡ Ok (program_of p, [])
+abbrev pub AnswersRead : Lexed → Result GenericParts ParseFault → Type 0
+AnswersRead l (Ok p) = read_of l ≡ Ok (generic_program_of p, [])
 AnswersRead l (Err fault.Memory) = Unit {0}
 AnswersRead l (Err (fault.At place)) = IsRefusedAt l place
 AnswersRead l (Err (fault.Nested place)) = IsNestedAt l place
@@ -65,8 +65,8 @@ pub record IsTooDeepAt (l : Lexed) (place : ℕ) : Type 0 where
   pub here : place ≡ place_of l left
 
 -- This program is the answer, unless memory ran out.
-abbrev pub AnswersOnly : Result Parts ParseFault → ProgramTree → Type 0
-AnswersOnly (Ok p) g = program_of p ≡ g
+abbrev pub AnswersOnly : Result GenericParts ParseFault → GenericProgramTree → Type 0
+AnswersOnly (Ok p) g = generic_program_of p ≡ g
 AnswersOnly (Err fault.Memory) g = Unit {0}
 AnswersOnly (Err (fault.At place)) g = ⊥
 AnswersOnly (Err (fault.Nested place)) g = ⊥

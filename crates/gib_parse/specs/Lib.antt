@@ -1,4 +1,5 @@
 pub mod Reading
 pub mod Parsing
+pub mod OpenTypes
 pub mod Answers
 pub mod Nesting

@@ -3,49 +3,49 @@ use Rattle.std.specs.Prelude.{◌≡◌, ◌≤◌, ◌-◌, ℕ, zero, suc, Lis
 use Rattle.gib_base.specs.declared.token.Sign.TheVariants as s
 use Rattle.gib_base.specs.declared.token.Token.{Token}
 use Rattle.gib_base.specs.declared.token.Token.TheVariants as t
-use Rattle.gib_syntax.specs.Tree.{Expression, Arguments, Arms, Var, Num, Bit, Paren, Op, Call, Make, Let, Par, If, Case, NoArgument, Argument, LastArm, NextArm, FunctionTree, ProgramTree}
+use Rattle.gib_syntax.specs.GenericTree.{GenericExpression, GenericArguments, GenericArms, GenericVar, GenericNum, GenericBit, GenericParen, GenericOp, GenericCall, GenericMake, GenericLet, GenericPar, GenericIf, GenericCase, GenericNoArgument, GenericArgument, GenericLastArm, GenericNextArm, GenericFunctionTree, GenericProgramTree}
 use Rattle.gib_syntax.specs.Spelling.{spell, spell_arguments, spell_arms, spell_operator, spell_functions, spell_main, Derives}
 use Rattle.gib_parse.specs.Reading.{Begun}
 
 -- The expressions that stand so many levels below an expression, in the order of the text: of each, how many
 -- tokens are left from its first one on, where these tokens follow the whole.
 abbrev mutual
-  pub below : ℕ → Expression → List Token → List ℕ
+  pub below : ℕ → GenericExpression → List Token → List ℕ
   below zero e rest = length (spell e rest) ∷ []
-  below (suc n) (Var x) rest = []
-  below (suc n) (Num p v) rest = []
-  below (suc n) (Bit p b) rest = []
-  below (suc n) (Paren p e) rest = below n e (t.Sign s.Close ∷ rest)
-  below (suc n) (Op p f a b) rest = below n a (spell_operator f (spell b (t.Sign s.Close ∷ rest))) ++ below n b (t.Sign s.Close ∷ rest)
-  below (suc n) (Call f xs) rest = below_arguments n xs rest
-  below (suc n) (Make k xs) rest = below_arguments n xs rest
-  below (suc n) (Let p x a b) rest = below n a (t.Sign s.In ∷ spell b rest) ++ below n b rest
-  below (suc n) (Par p x a y b c) rest =
+  below (suc n) (GenericVar x) rest = []
+  below (suc n) (GenericNum p v) rest = []
+  below (suc n) (GenericBit p b) rest = []
+  below (suc n) (GenericParen p e) rest = below n e (t.Sign s.Close ∷ rest)
+  below (suc n) (GenericOp p f a b) rest = below n a (spell_operator f (spell b (t.Sign s.Close ∷ rest))) ++ below n b (t.Sign s.Close ∷ rest)
+  below (suc n) (GenericCall f ws xs) rest = below_arguments n xs rest
+  below (suc n) (GenericMake k ws xs) rest = below_arguments n xs rest
+  below (suc n) (GenericLet p x a b) rest = below n a (t.Sign s.In ∷ spell b rest) ++ below n b rest
+  below (suc n) (GenericPar p x a y b c) rest =
       below n a (t.Sign s.And ∷ t.Variable y.name ∷ t.Sign s.Equals ∷ spell b (t.Sign s.In ∷ spell c rest)) ++ (below n b (t.Sign s.In ∷ spell c rest) ++ below n c rest)
-  below (suc n) (If p a b c) rest = below n a (t.Sign s.Then ∷ spell b (t.Sign s.Else ∷ spell c rest)) ++ (below n b (t.Sign s.Else ∷ spell c rest) ++ below n c rest)
-  below (suc n) (Case p x arms) rest = below_arms n arms (t.Sign s.CloseBrace ∷ rest)
+  below (suc n) (GenericIf p a b c) rest = below n a (t.Sign s.Then ∷ spell b (t.Sign s.Else ∷ spell c rest)) ++ (below n b (t.Sign s.Else ∷ spell c rest) ++ below n c rest)
+  below (suc n) (GenericCase p x arms) rest = below_arms n arms (t.Sign s.CloseBrace ∷ rest)
 
   -- The same of the arguments of a call or of a constructor.
-  pub below_arguments : ℕ → Arguments → List Token → List ℕ
-  below_arguments n NoArgument rest = []
-  below_arguments n (Argument a xs) rest = below n a (spell_arguments xs rest) ++ below_arguments n xs rest
+  pub below_arguments : ℕ → GenericArguments → List Token → List ℕ
+  below_arguments n GenericNoArgument rest = []
+  below_arguments n (GenericArgument a xs) rest = below n a (spell_arguments xs rest) ++ below_arguments n xs rest
 
   -- The same of the arms of a case.
-  pub below_arms : ℕ → Arms → List Token → List ℕ
-  below_arms n (LastArm k xs e) rest = below n e rest
-  below_arms n (NextArm k xs e arms) rest = below n e (t.Sign s.Semicolon ∷ spell_arms arms rest) ++ below_arms n arms rest
+  pub below_arms : ℕ → GenericArms → List Token → List ℕ
+  below_arms n (GenericLastArm k xs e) rest = below n e rest
+  below_arms n (GenericNextArm k xs e arms) rest = below n e (t.Sign s.Semicolon ∷ spell_arms arms rest) ++ below_arms n arms rest
 
 -- The same of the bodies of functions.
-abbrev pub below_functions : ℕ → List FunctionTree → List Token → List ℕ
+abbrev pub below_functions : ℕ → List GenericFunctionTree → List Token → List ℕ
 below_functions n [] rest = []
 below_functions n (f ∷ fs) rest = below n f.body (t.Sign s.Semicolon ∷ spell_functions fs rest) ++ below_functions n fs rest
 
 -- The same of the bodies of a program.
-abbrev pub below_program : ℕ → ProgramTree → List ℕ
+abbrev pub below_program : ℕ → GenericProgramTree → List ℕ
 below_program n p = below_functions n p.functions (spell_main p.main []) ++ below n p.main.body (t.Sign s.Semicolon ∷ [])
 
 -- The expressions of a program on level 201, the first that is too deep: a body stands on level 1.
-abbrev pub too_deep : ProgramTree → List ℕ
+abbrev pub too_deep : GenericProgramTree → List ℕ
 too_deep p = below_program 200 p
 
 -- Some program's tokens begin with the tokens up to and including the one from which so many are left.
@@ -67,9 +67,9 @@ NoneBefore k (first ∷ more) = first ≤ k
 -- left, the first expression on level 201 begins with this token.
 abbrev pub Sinks : List Token → ℕ → Type 0
 Sinks tokens zero = ⊥
-Sinks tokens (suc k) = (p : ProgramTree) (more : List Token) → Derives (take (length tokens - k) tokens ++ more) p → IsFirst (suc (length more)) (too_deep p)
+Sinks tokens (suc k) = (p : GenericProgramTree) (more : List Token) → Derives (take (length tokens - k) tokens ++ more) p → IsFirst (suc (length more)) (too_deep p)
 
 -- In no program whose tokens begin with the tokens before the one from which so many are left does an
 -- expression on level 201 begin with one of those tokens.
 abbrev pub Floats : List Token → ℕ → Type 0
-Floats tokens left = (p : ProgramTree) (more : List Token) → Derives (take (length tokens - left) tokens ++ more) p → NoneBefore (length more) (too_deep p)
+Floats tokens left = (p : GenericProgramTree) (more : List Token) → Derives (take (length tokens - left) tokens ++ more) p → NoneBefore (length more) (too_deep p)

@@ -1,20 +1,32 @@
 -- What the parser's functions answer, by the reading functions.
-use Rattle.std.specs.Prelude.{◌≡◌, ◌<◌, ℕ, List, [], ◌∷◌, length, Result, Ok, Err}
+use Rattle.std.specs.Prelude.{◌≡◌, ◌<◌, ℕ, Bool, true, List, [], ◌∷◌, ◌++◌, length, Result, Ok, Err}
 use Rattle.std.specs.List.{AllByRecursion}
+use Rattle.gib_base.specs.declared.Span.{Span}
+use Rattle.gib_base.specs.declared.token.Sign.TheVariants as s
 use Rattle.gib_base.specs.declared.token.Token.{Token}
+use Rattle.gib_base.specs.declared.token.Token.TheVariants as t
+use Rattle.gib_syntax.specs.declared.tree.Ident.{Ident}
+use Rattle.gib_syntax.specs.declared.written.Word.{Word}
+use Rattle.gib_syntax.specs.Forms.{WrittenType, WrittenTypes, NoType, MoreTypes}
+use Rattle.gib_syntax.specs.Spelling.{Places}
+use Rattle.gib_parse.specs.declared.types.Next.{Next}
+use Rattle.gib_parse.specs.declared.types.Next.TheVariants as next
 use Rattle.gib_syntax.specs.declared.exprs.ExprId.{ExprId}
 use Rattle.gib_syntax.specs.declared.exprs.Arm as code
-use Rattle.gib_syntax.specs.declared.exprs.Node.{Node}
-use Rattle.gib_syntax.specs.declared.tree.FunctionDecl.{FunctionDecl}
-use Rattle.gib_syntax.specs.declared.tree.TypeName.{TypeName}
-use Rattle.gib_syntax.specs.Tree.{Expression, Arms, LastArm}
-use Rattle.gib_syntax.specs.Arena.{Grows, ArmsBelow, arms_from, nothing}
-use Rattle.gib_syntax.specs.Parts.{IsFunctionInside}
+use Rattle.gib_syntax.specs.declared.program.GenericParameter.{GenericParameter}
+use Rattle.gib_syntax.specs.declared.program.GenericConstructor.{GenericConstructor}
+use Rattle.gib_syntax.specs.declared.program.GenericData.{GenericData}
+use Rattle.gib_syntax.specs.declared.program.GenericMain.{GenericMain}
+use Rattle.gib_syntax.specs.declared.written.Run.{Run}
+use Rattle.gib_syntax.specs.Words.{IsTypeRun, IsTypesRun, type_in, words_of, words_in, all_types}
+use Rattle.gib_syntax.specs.GenericTree.{GenericExpression, GenericArguments, GenericArms, GenericVar, GenericCall, GenericNoArgument, GenericArgument, GenericLastArm}
+use Rattle.gib_syntax.specs.GenericArena.{Arena, Grows, ArmsBelow, arms_from, nothing, tree_of}
+use Rattle.gib_syntax.specs.GenericParts.{IsConstructorInside, IsDataInside, IsParameterInside}
 use Rattle.gib_parse.specs.declared.stop.Stop.{Stop}
 use Rattle.gib_parse.specs.declared.stop.Stop.TheVariants as stop
 use Rattle.gib_parse.specs.declared.expressions.Kind.{Kind}
 use Rattle.gib_parse.specs.declared.expressions.Kind.TheVariants as kind
-use Rattle.gib_parse.specs.Reading.{At, Nested, Read, Mode, Any, App, Atom, ArmTree, BodyTree}
+use Rattle.gib_parse.specs.Reading.{At, Nested, Read, then_at, next_is, starts_atom, Opened, inside, type_at, Mode, Any, App, Atom, ArmTree, BodyTree}
 
 -- A refusal is the one that reading gives, unless memory ran out.
 abbrev pub Fails : {Y : Type 0} → Stop → Read Y → Type 0
@@ -27,6 +39,10 @@ abbrev pub Gives : {X Y : Type 0} → (X → Y × List Token) → Result X Stop 
 Gives view (Ok x) read = read ≡ Ok (view x)
 Gives view (Err e) read = Fails e read
 
+-- These, and then what is read.
+abbrev pub with_front : {A : Type 0} → List A → Read (List A) → Read (List A)
+with_front front r = then_at r (λ xs ts. Ok (front ++ xs, ts))
+
 -- Which expressions may stand at a place.
 abbrev pub mode_of : Kind → Mode
 mode_of kind.Any = Any
@@ -34,34 +50,102 @@ mode_of kind.Application = App
 mode_of kind.Atom = Atom
 
 -- An expression was read: it stands here, and those that were there stay.
-pub record Reads (old new : List Node) (id : ℕ) : Type 0 where
+pub record Reads (old new : Arena) (id : ℕ) : Type 0 where
   pub grows : Grows old new
-  pub inside : id < length new
-
--- The same for several expressions.
-pub record ReadsAll (old new : List Node) (ids : List ExprId) : Type 0 where
-  pub grows : Grows old new
-  pub inside : AllByRecursion (λ (id : ExprId). id.0 < length new) ids
+  pub inside : id < length new.nodes
 
 -- The same for the bodies of arms, one at least.
-pub record ReadsArms (old new : List Node) (arms : List code.Arm) : Type 0 where
+pub record ReadsArms (old new : Arena) (arms : List code.Arm) : Type 0 where
   pub grows : Grows old new
-  pub inside : ArmsBelow arms (length new)
+  pub inside : ArmsBelow arms (length new.nodes)
 
--- The same for the bodies of functions.
-pub record ReadsFunctions (old new : List Node) (functions : List FunctionDecl) : Type 0 where
+-- Something was read: it stands here, and what was there stays.
+pub record Stands {B : Type 0} (Inside : Arena → B → Type 0) (old new : Arena) (b : B) : Type 0 where
   pub grows : Grows old new
-  pub inside : AllByRecursion (IsFunctionInside (length new)) functions
+  pub inside : Inside new b
+
+-- Several things were.
+pub record AllStand {B : Type 0} (Inside : Arena → B → Type 0) (old new : Arena) (bs : List B) : Type 0 where
+  pub grows : Grows old new
+  pub inside : AllByRecursion (Inside new) bs
+
+-- A number is one of the arena's expressions.
+abbrev pub IsExpressionIn : Arena → ExprId → Type 0
+IsExpressionIn a id = id.0 < length a.nodes
+
+-- A run is a type of the arena, or several; the types of a constructor, of a data declaration and of a parameter are.
+abbrev pub IsTypeIn : Arena → Run → Type 0
+IsTypeIn a run = IsTypeRun a.words run
+
+abbrev pub AreTypesIn : Arena → Run → Type 0
+AreTypesIn a run = IsTypesRun a.words run
+
+abbrev pub IsConstructorIn : Arena → GenericConstructor → Type 0
+IsConstructorIn a c = IsConstructorInside a.words c
+
+abbrev pub IsDataIn : Arena → GenericData → Type 0
+IsDataIn a d = IsDataInside a.words d
+
+abbrev pub IsParameterIn : Arena → GenericParameter → Type 0
+IsParameterIn a q = IsParameterInside a.words q
+
+-- The result type and the body of a function stand here.
+pub record IsBodyIn (a : Arena) (b : Run × ExprId) : Type 0 where
+  pub result : IsTypeRun a.words b.0
+  pub body : b.1.0 < length a.nodes
+
+-- Main stands here.
+pub record IsMainIn (a : Arena) (m : GenericMain) : Type 0 where
+  pub parameter : IsParameterInside a.words m.parameter
+  pub result : IsTypeRun a.words m.result
+  pub body : m.body.0 < length a.nodes
 
 -- An arm as a tree.
-abbrev pub arm_tree : (ℕ → Expression) → code.Arm → ArmTree
+abbrev pub arm_tree : (ℕ → GenericExpression) → code.Arm → ArmTree
 arm_tree f arm = record { constructor = arm.constructor; variables = arm.variables.items; body = f arm.body.0 }
 
 -- Arms as a tree. A case has one at least; of none, it is an arm of no meaning.
-abbrev pub arms_tree : (ℕ → Expression) → List code.Arm → Arms
-arms_tree f [] = LastArm (record { name = record { 0 = 0 }; span = record { start = 0; end = 0 } }) [] nothing
+abbrev pub arms_tree : (ℕ → GenericExpression) → List code.Arm → GenericArms
+arms_tree f [] = GenericLastArm (record { name = record { 0 = 0 }; span = record { start = 0; end = 0 } }) [] nothing
 arms_tree f (arm ∷ arms) = arms_from f arm arms
 
 -- The result type and the body of a function, as a tree.
-abbrev pub body_tree : (ℕ → Expression) → TypeName → ExprId → BodyTree
-body_tree f result body = record { result = result; body = f body.0 }
+abbrev pub body_tree : Arena → Run × ExprId → BodyTree
+body_tree a b = record { result = type_in a.words b.0; body = tree_of a b.1.0 }
+
+-- A variable alone, or a call with these type arguments.
+abbrev pub call_tree : Ident → WrittenTypes → GenericArguments → GenericExpression
+call_tree f ws GenericNoArgument = GenericVar f
+call_tree f ws (GenericArgument a xs) = GenericCall f ws (GenericArgument a xs)
+
+-- Whether a call may go on: behind type arguments an argument has to begin.
+abbrev pub may_call : WrittenTypes → List Token → Bool
+may_call NoType ts = true
+may_call (MoreTypes w ws) ts = next_is starts_atom ts
+
+-- What stands next in a type, and what reading a type, or behind arguments of one, then goes on with.
+abbrev pub Follows : Places → List Token → Next → List Token → Type 0
+Follows at ts (next.Word w) rest =
+    (a : WrittenType) × (words_of a ≡ w ∷ []) × (type_at at ts ≡ Ok (a, rest))
+    × ((p : Span) (k : Ident) (xs : List WrittenType) (os : List Opened) → inside at p k xs os ts ≡ inside at p k (xs ++ a ∷ []) os rest)
+Follows at ts (next.Open q d) rest =
+    (type_at at ts ≡ inside at q d [] [] rest)
+    × ((p : Span) (k : Ident) (xs : List WrittenType) (os : List Opened) → inside at p k xs os ts ≡ inside at q d [] (record { place = p; name = k; arguments = xs } ∷ os) rest)
+Follows at ts next.Close rest = ts ≡ t.Sign s.Close ∷ rest
+
+-- Neither a type nor more of one stands next.
+pub record FailsHere (at : Places) (ts : List Token) (e : Stop) : Type 0 where
+  pub alone : Fails e (type_at at ts)
+  pub within : (p : Span) (k : Ident) (xs : List WrittenType) (os : List Opened) → Fails e (inside at p k xs os ts)
+
+-- A type was read, and its words stand behind the others.
+pub record ReadsWords (read : Read WrittenType) (old new : List Word) (rest : List Token) : Type 0 where
+  pub ty : WrittenType
+  pub words : new ≡ old ++ words_of ty
+  pub is_read : read ≡ Ok (ty, rest)
+
+-- Types were.
+pub record ReadsAllWords (read : Read (List WrittenType)) (old new : List Word) (rest : List Token) : Type 0 where
+  pub types : List WrittenType
+  pub words : new ≡ old ++ words_in (all_types types)
+  pub is_read : read ≡ Ok (types, rest)

@@ -2,37 +2,69 @@
 
 ghost use Rattle.std.specs.Prelude.{◌≡◌, [], map, IfOk};
 ghost use Rattle.gib_syntax.specs.Spelling.{places_of};
-ghost use Rattle.gib_syntax.specs.Arena.{tree_of, Grows};
-ghost use Rattle.gib_syntax.specs.Parts.{constructor_tree, data_tree, function_tree, main_tree, program_of};
-ghost use Rattle.gib_parse.specs.Reading.{Any, Fault, At, Nested, many, is_sign, constructors_at, data_at, parameters_at, body_at, function_at, main_at, parse, program_at, whole};
-ghost use Rattle.gib_parse.specs.Parsing.{Fails, Gives, Reads, ReadsFunctions, body_tree};
+ghost use Rattle.gib_syntax.specs.GenericParts.{IsFunctionInside, constructor_in, data_in, parameter_in, function_in, main_in, generic_program_of};
+ghost use Rattle.gib_parse.specs.Reading.{Any, Fault, At, Nested, many, is_sign, constructor_at, alternative_at, constructors_at, data_at, parameter_at, parameters_at, names_at, type_parameters_at, body_at, function_at, main_at, parse, program_at, whole};
+ghost use Rattle.gib_parse.specs.Parsing.{Fails, Gives, Stands, AllStand, IsConstructorIn, IsDataIn, IsParameterIn, IsBodyIn, IsMainIn, body_tree};
 
 use crate::expressions::{Kind, expression};
-use crate::phrases::{
-    alternative, begins, constructor, next_alternative, parameter, type_name, variable, want,
-};
+use crate::phrases::{begins, constructor, further_variables, variable, variables, want};
 use crate::stop::Stop;
+use crate::types::{one_type, types};
 use gib_base::Span;
 use gib_base::limits::LEVELS;
 use gib_base::token::{Sign, Token};
 use gib_syntax::{
-    ConstructorDecl, DataDecl, ExprId, Exprs, FunctionDecl, MainDecl, Parameter, Program, TypeName,
+    ExprId, GenericConstructor, GenericData, GenericExprs, GenericFunction, GenericMain,
+    GenericParameter, GenericProgram, Ident, Run,
 };
 use std::alloc::Global;
+
+/// A constructor with the types of its fields.
+#[tactic(auto, unfolding(crate::specs::Reading::constructor_at))]
+fn alternative<'a>(
+    alloc: Global,
+    spans: &[Span],
+    exprs: &mut GenericExprs,
+    tokens: &'a [Token],
+) -> Result<(GenericConstructor, &'a [Token]), Stop>
+    ensures kept { IfOk result (λ x. Stands IsConstructorIn exprs.old exprs.new x.0) }
+    ensures read { Gives (λ x. (constructor_in exprs.new.words x.0, x.1.now)) result (constructor_at (places_of spans.now) tokens.now) }
+{
+    let (name, tokens) = constructor(spans, tokens)?;
+    let (fields, tokens) = types(alloc, spans, exprs, tokens)?;
+    Ok((GenericConstructor { name, fields }, tokens))
+}
+
+/// A bar, and a constructor behind it.
+#[tactic(auto, unfolding(crate::specs::Reading::alternative_at))]
+fn next_alternative<'a>(
+    alloc: Global,
+    spans: &[Span],
+    exprs: &mut GenericExprs,
+    tokens: &'a [Token],
+) -> Result<(GenericConstructor, &'a [Token]), Stop>
+    ensures kept { IfOk result (λ x. Stands IsConstructorIn exprs.old exprs.new x.0) }
+    ensures read { Gives (λ x. (constructor_in exprs.new.words x.0, x.1.now)) result (alternative_at (places_of spans.now) tokens.now) }
+{
+    let tokens = want(Sign::Bar, tokens)?;
+    alternative(alloc, spans, exprs, tokens)
+}
 
 /// Constructors, with a bar between two.
 fn constructors<'a>(
     alloc: Global,
     spans: &[Span],
+    exprs: &mut GenericExprs,
     tokens: &'a [Token],
-) -> Result<(Vec<ConstructorDecl>, &'a [Token]), Stop>
-    ensures { Gives (λ x. (map constructor_tree x.0.items, x.1.now)) result (constructors_at (places_of spans.now) tokens.now) }
+) -> Result<(Vec<GenericConstructor>, &'a [Token]), Stop>
+    ensures kept { IfOk result (λ x. AllStand IsConstructorIn exprs.old exprs.new x.0.items) }
+    ensures read { Gives (λ x. (map (constructor_in exprs.new.words) x.0.items, x.1.now)) result (constructors_at (places_of spans.now) tokens.now) }
 {
     let mut found = Vec::new(alloc);
-    let (first, mut rest) = alternative(alloc, spans, tokens)?;
+    let (first, mut rest) = alternative(alloc, spans, exprs, tokens)?;
     found.push(first)?;
     'constructors: while begins(Sign::Bar, rest) {
-        let (next, after) = next_alternative(alloc, spans, rest)?;
+        let (next, after) = next_alternative(alloc, spans, exprs, rest)?;
         found.push(next)?;
         rest = after;
     }
@@ -44,49 +76,82 @@ fn constructors<'a>(
 fn data_declaration<'a>(
     alloc: Global,
     spans: &[Span],
+    exprs: &mut GenericExprs,
     tokens: &'a [Token],
-) -> Result<(DataDecl, &'a [Token]), Stop>
-    ensures { Gives (λ x. (data_tree x.0, x.1.now)) result (data_at (places_of spans.now) tokens.now) }
+) -> Result<(GenericData, &'a [Token]), Stop>
+    ensures kept { IfOk result (λ x. Stands IsDataIn exprs.old exprs.new x.0) }
+    ensures read { Gives (λ x. (data_in exprs.new.words x.0, x.1.now)) result (data_at (places_of spans.now) tokens.now) }
 {
     let tokens = want(Sign::Data, tokens)?;
     let (name, tokens) = constructor(spans, tokens)?;
+    let (variables, tokens) = variables(alloc, spans, tokens)?;
     let tokens = want(Sign::Equals, tokens)?;
-    let (constructors, tokens) = constructors(alloc, spans, tokens)?;
+    let (constructors, tokens) = constructors(alloc, spans, exprs, tokens)?;
     let tokens = want(Sign::Semicolon, tokens)?;
-    Ok((DataDecl { name, constructors }, tokens))
+    Ok((
+        GenericData {
+            name,
+            variables,
+            constructors,
+        },
+        tokens,
+    ))
 }
 
 /// Data declarations, as many as there are.
 fn data_declarations<'a>(
     alloc: Global,
     spans: &[Span],
+    exprs: &mut GenericExprs,
     tokens: &'a [Token],
-) -> Result<(Vec<DataDecl>, &'a [Token]), Stop>
-    ensures { Gives (λ x. (map data_tree x.0.items, x.1.now)) result (many (is_sign Sign.Data) (data_at (places_of spans.now)) tokens.now) }
+) -> Result<(Vec<GenericData>, &'a [Token]), Stop>
+    ensures kept { IfOk result (λ x. AllStand IsDataIn exprs.old exprs.new x.0.items) }
+    ensures read { Gives (λ x. (map (data_in exprs.new.words) x.0.items, x.1.now)) result (many (is_sign Sign.Data) (data_at (places_of spans.now)) tokens.now) }
 {
     let mut found = Vec::new(alloc);
     let mut rest = tokens;
     'declarations: while begins(Sign::Data, rest) {
-        let (next, after) = data_declaration(alloc, spans, rest)?;
+        let (next, after) = data_declaration(alloc, spans, exprs, rest)?;
         found.push(next)?;
         rest = after;
     }
     Ok((found, rest))
 }
 
+/// A parameter in its parentheses.
+#[tactic(auto, unfolding(crate::specs::Reading::parameter_at))]
+fn parameter<'a>(
+    alloc: Global,
+    spans: &[Span],
+    exprs: &mut GenericExprs,
+    tokens: &'a [Token],
+) -> Result<(GenericParameter, &'a [Token]), Stop>
+    ensures kept { IfOk result (λ x. Stands IsParameterIn exprs.old exprs.new x.0) }
+    ensures read { Gives (λ x. (parameter_in exprs.new.words x.0, x.1.now)) result (parameter_at (places_of spans.now) tokens.now) }
+{
+    let tokens = want(Sign::Open, tokens)?;
+    let (name, tokens) = variable(spans, tokens)?;
+    let tokens = want(Sign::Colon, tokens)?;
+    let (ty, tokens) = one_type(alloc, spans, exprs, tokens)?;
+    let tokens = want(Sign::Close, tokens)?;
+    Ok((GenericParameter { name, ty }, tokens))
+}
+
 /// Parameters, one at least.
 fn parameters<'a>(
     alloc: Global,
     spans: &[Span],
+    exprs: &mut GenericExprs,
     tokens: &'a [Token],
-) -> Result<(Vec<Parameter>, &'a [Token]), Stop>
-    ensures { Gives (λ x. (x.0.items, x.1.now)) result (parameters_at (places_of spans.now) tokens.now) }
+) -> Result<(Vec<GenericParameter>, &'a [Token]), Stop>
+    ensures kept { IfOk result (λ x. AllStand IsParameterIn exprs.old exprs.new x.0.items) }
+    ensures read { Gives (λ x. (map (parameter_in exprs.new.words) x.0.items, x.1.now)) result (parameters_at (places_of spans.now) tokens.now) }
 {
     let mut found = Vec::new(alloc);
-    let (first, mut rest) = parameter(spans, tokens)?;
+    let (first, mut rest) = parameter(alloc, spans, exprs, tokens)?;
     found.push(first)?;
     'parameters: while begins(Sign::Open, rest) {
-        let (next, after) = parameter(spans, rest)?;
+        let (next, after) = parameter(alloc, spans, exprs, rest)?;
         found.push(next)?;
         rest = after;
     }
@@ -98,18 +163,52 @@ fn parameters<'a>(
 fn result_and_body<'a>(
     alloc: Global,
     spans: &[Span],
-    exprs: &mut Exprs,
+    exprs: &mut GenericExprs,
     tokens: &'a [Token],
-) -> Result<((TypeName, ExprId), &'a [Token]), Stop>
-    ensures kept { IfOk result (λ x. Reads exprs.old exprs.new x.0.1.0) }
-    ensures read { Gives (λ x. (body_tree (tree_of exprs.new) x.0.0 x.0.1, x.1.now)) result (body_at (places_of spans.now) (parse (places_of spans.now) LEVELS Any) tokens.now) }
+) -> Result<((Run, ExprId), &'a [Token]), Stop>
+    ensures kept { IfOk result (λ x. Stands IsBodyIn exprs.old exprs.new x.0) }
+    ensures read { Gives (λ x. (body_tree exprs.new x.0, x.1.now)) result (body_at (places_of spans.now) (parse (places_of spans.now) LEVELS Any) tokens.now) }
 {
     let tokens = want(Sign::Colon, tokens)?;
-    let (ty, tokens) = type_name(spans, tokens)?;
+    let (ty, tokens) = one_type(alloc, spans, exprs, tokens)?;
     let tokens = want(Sign::Equals, tokens)?;
     let (body, tokens) = expression(alloc, spans, exprs, LEVELS, Kind::Any, tokens)?;
     let tokens = want(Sign::Semicolon, tokens)?;
     Ok(((ty, body), tokens))
+}
+
+/// Behind an opening bracket: type variables, one at least, and the closing bracket.
+#[tactic(auto, unfolding(crate::specs::Reading::names_at))]
+fn names<'a>(
+    alloc: Global,
+    spans: &[Span],
+    tokens: &'a [Token],
+) -> Result<(Vec<Ident>, &'a [Token]), Stop>
+    ensures { Gives (λ x. (x.0.items, x.1.now)) result (names_at (places_of spans.now) tokens.now) }
+{
+    let mut names = Vec::new(alloc);
+    let (first, rest) = variable(spans, tokens)?;
+    names.push(first)?;
+    let (names, rest) = further_variables(spans, names, rest)?;
+    let rest = want(Sign::CloseBracket, rest)?;
+    Ok((names, rest))
+}
+
+/// The type parameters of a function, where a bracket is next; else none.
+fn type_parameters<'a>(
+    alloc: Global,
+    spans: &[Span],
+    tokens: &'a [Token],
+) -> Result<(Vec<Ident>, &'a [Token]), Stop>
+    ensures { Gives (λ x. (x.0.items, x.1.now)) result (type_parameters_at (places_of spans.now) tokens.now) }
+{
+    match tokens {
+        [Token::Sign(sign), rest @ ..] => match sign {
+            Sign::OpenBracket => names(alloc, spans, rest),
+            _ => Ok((Vec::new(alloc), tokens)),
+        },
+        _ => Ok((Vec::new(alloc), tokens)),
+    }
 }
 
 /// A function.
@@ -117,19 +216,21 @@ fn result_and_body<'a>(
 fn function<'a>(
     alloc: Global,
     spans: &[Span],
-    exprs: &mut Exprs,
+    exprs: &mut GenericExprs,
     tokens: &'a [Token],
-) -> Result<(FunctionDecl, &'a [Token]), Stop>
-    ensures kept { IfOk result (λ x. Reads exprs.old exprs.new x.0.body.0) }
-    ensures read { Gives (λ x. (function_tree (tree_of exprs.new) x.0, x.1.now)) result (function_at (places_of spans.now) (parse (places_of spans.now) LEVELS Any) tokens.now) }
+) -> Result<(GenericFunction, &'a [Token]), Stop>
+    ensures kept { IfOk result (λ x. Stands IsFunctionInside exprs.old exprs.new x.0) }
+    ensures read { Gives (λ x. (function_in exprs.new x.0, x.1.now)) result (function_at (places_of spans.now) (parse (places_of spans.now) LEVELS Any) tokens.now) }
 {
     let tokens = want(Sign::Fun, tokens)?;
     let (name, tokens) = variable(spans, tokens)?;
-    let (parameters, tokens) = parameters(alloc, spans, tokens)?;
+    let (variables, tokens) = type_parameters(alloc, spans, tokens)?;
+    let (parameters, tokens) = parameters(alloc, spans, exprs, tokens)?;
     let ((result, body), tokens) = result_and_body(alloc, spans, exprs, tokens)?;
     Ok((
-        FunctionDecl {
+        GenericFunction {
             name,
+            variables,
             parameters,
             result,
             body,
@@ -142,11 +243,11 @@ fn function<'a>(
 fn functions<'a>(
     alloc: Global,
     spans: &[Span],
-    exprs: &mut Exprs,
+    exprs: &mut GenericExprs,
     tokens: &'a [Token],
-) -> Result<(Vec<FunctionDecl>, &'a [Token]), Stop>
-    ensures kept { IfOk result (λ x. ReadsFunctions exprs.old exprs.new x.0.items) }
-    ensures read { Gives (λ x. (map (function_tree (tree_of exprs.new)) x.0.items, x.1.now)) result (many (is_sign Sign.Fun) (function_at (places_of spans.now) (parse (places_of spans.now) LEVELS Any)) tokens.now) }
+) -> Result<(Vec<GenericFunction>, &'a [Token]), Stop>
+    ensures kept { IfOk result (λ x. AllStand IsFunctionInside exprs.old exprs.new x.0.items) }
+    ensures read { Gives (λ x. (map (function_in exprs.new) x.0.items, x.1.now)) result (many (is_sign Sign.Fun) (function_at (places_of spans.now) (parse (places_of spans.now) LEVELS Any)) tokens.now) }
 {
     let mut found = Vec::new(alloc);
     let mut rest = tokens;
@@ -163,17 +264,17 @@ fn functions<'a>(
 fn main_declaration<'a>(
     alloc: Global,
     spans: &[Span],
-    exprs: &mut Exprs,
+    exprs: &mut GenericExprs,
     tokens: &'a [Token],
-) -> Result<(MainDecl, &'a [Token]), Stop>
-    ensures kept { IfOk result (λ x. Reads exprs.old exprs.new x.0.body.0) }
-    ensures read { Gives (λ x. (main_tree (tree_of exprs.new) x.0, x.1.now)) result (main_at (places_of spans.now) (parse (places_of spans.now) LEVELS Any) tokens.now) }
+) -> Result<(GenericMain, &'a [Token]), Stop>
+    ensures kept { IfOk result (λ x. Stands IsMainIn exprs.old exprs.new x.0) }
+    ensures read { Gives (λ x. (main_in exprs.new x.0, x.1.now)) result (main_at (places_of spans.now) (parse (places_of spans.now) LEVELS Any) tokens.now) }
 {
     let tokens = want(Sign::Main, tokens)?;
-    let (parameter, tokens) = parameter(spans, tokens)?;
+    let (parameter, tokens) = parameter(alloc, spans, exprs, tokens)?;
     let ((result, body), tokens) = result_and_body(alloc, spans, exprs, tokens)?;
     Ok((
-        MainDecl {
+        GenericMain {
             parameter,
             result,
             body,
@@ -188,20 +289,20 @@ fn program<'a>(
     alloc: Global,
     spans: &[Span],
     tokens: &'a [Token],
-) -> Result<(Program, &'a [Token]), Stop>
-    ensures { Gives (λ x. (program_of x.0, x.1.now)) result (program_at (places_of spans.now) (parse (places_of spans.now) LEVELS Any) tokens.now) }
+) -> Result<(GenericProgram, &'a [Token]), Stop>
+    ensures { Gives (λ x. (generic_program_of x.0, x.1.now)) result (program_at (places_of spans.now) (parse (places_of spans.now) LEVELS Any) tokens.now) }
 {
-    let mut exprs = Exprs::new(alloc);
-    let (data_decls, tokens) = data_declarations(alloc, spans, tokens)?;
+    let mut exprs = GenericExprs::new(alloc);
+    let (datas, tokens) = data_declarations(alloc, spans, &mut exprs, tokens)?;
     let (functions, tokens) = functions(alloc, spans, &mut exprs, tokens)?;
     let (main, tokens) = main_declaration(alloc, spans, &mut exprs, tokens)?;
-    Ok((Program::new(exprs, data_decls, functions, main), tokens))
+    Ok((GenericProgram::new(exprs, datas, functions, main), tokens))
 }
 
 /// A whole program, and nothing behind it.
 #[tactic(auto, unfolding(crate::specs::Reading::whole_in))]
-pub(crate) fn whole(alloc: Global, spans: &[Span], tokens: &[Token]) -> Result<Program, Stop>
-    ensures { Gives (λ p. (program_of p, [])) result (whole (places_of spans.now) tokens.now) }
+pub(crate) fn whole(alloc: Global, spans: &[Span], tokens: &[Token]) -> Result<GenericProgram, Stop>
+    ensures { Gives (λ p. (generic_program_of p, [])) result (whole (places_of spans.now) tokens.now) }
 {
     let (found, rest) = program(alloc, spans, tokens)?;
     if !rest.is_empty() {

@@ -1,18 +1,22 @@
 //! Expressions, by recursive descent. `level` says how many levels are left for the parts of an expression.
 
-ghost use Rattle.std.specs.Prelude.{◌≡◌, ◌<◌, ℕ, length, Some, Ok, IfOk};
+ghost use Rattle.std.specs.Prelude.{◌≡◌, ◌<◌, ℕ, List, length, Some, Ok, IfOk};
 ghost use Rattle.std.specs.List.{AllByRecursion};
-ghost use Rattle.gib_syntax.specs.Tree.{Expression, Bit};
-ghost use Rattle.gib_syntax.specs.Spelling.{places_of, is_application};
-ghost use Rattle.gib_syntax.specs.Arena.{PartsBelow, layer, tree_of, arguments_from};
-ghost use Rattle.gib_parse.specs.Reading.{Any, Atom, next_is, starts, starts_atom, is_literal, literal_at, no_level, parse, any_at, let_at, bind_at, par_at, if_at, case_at, arms_at, arm_at, next_arm_at, app_at, call, arguments_at, atom_at, open_at, close_at, operation_at, side_at, operator_of, Fault, At, Nested};
-ghost use Rattle.gib_parse.specs.Parsing.{Fails, Gives, mode_of, Reads, ReadsAll, ReadsArms, arm_tree, arms_tree};
+ghost use Rattle.gib_syntax.specs.declared.written.Word.{Word};
+ghost use Rattle.gib_syntax.specs.GenericTree.{GenericExpression, GenericBit};
+ghost use Rattle.gib_syntax.specs.GenericFine.{is_generic_application};
+ghost use Rattle.gib_syntax.specs.Spelling.{places_of};
+ghost use Rattle.gib_syntax.specs.Words.{types_in, IsTypesRun};
+ghost use Rattle.gib_syntax.specs.GenericArena.{PartsBelow, IsRunWithin, layer, tree_of, arguments_from};
+ghost use Rattle.gib_parse.specs.Reading.{Any, Atom, next_is, starts, starts_atom, is_literal, literal_at, no_level, parse, any_at, let_at, bind_at, par_at, if_at, case_at, arms_at, arm_at, next_arm_at, app_at, variable_at, make_at, constant_at, arguments_at, atom_at, open_at, close_at, operation_at, side_at, operator_of, Fault, At, Nested};
+ghost use Rattle.gib_parse.specs.Parsing.{Fails, Gives, mode_of, Reads, AllStand, IsExpressionIn, ReadsArms, arm_tree, arms_tree, call_tree, may_call};
 
 use crate::phrases::{begins, constructor, named, span_at, variable, variables, want};
 use crate::stop::Stop;
+use crate::types::type_arguments;
 use gib_base::token::{Sign, Token, is_literal};
 use gib_base::{Name, Span};
-use gib_syntax::{Arm, ExprId, Exprs, Ident, Node, Operator};
+use gib_syntax::{Arm, ExprId, GenericExprs, GenericNode, Ident, Operator, Run};
 use std::alloc::Global;
 
 /// The kind of expression that may stand at a place: any; as a side of an operation, an application;
@@ -73,7 +77,7 @@ fn too_deep(kind: Kind, tokens: &[Token]) -> Stop
 pub(crate) fn expression<'a>(
     alloc: Global,
     spans: &[Span],
-    exprs: &mut Exprs,
+    exprs: &mut GenericExprs,
     level: u32,
     kind: Kind,
     tokens: &'a [Token],
@@ -95,7 +99,7 @@ pub(crate) fn expression<'a>(
 fn any<'a>(
     alloc: Global,
     spans: &[Span],
-    exprs: &mut Exprs,
+    exprs: &mut GenericExprs,
     level: u32,
     tokens: &'a [Token],
 ) -> Result<(ExprId, &'a [Token]), Stop>
@@ -119,7 +123,7 @@ fn any<'a>(
 fn let_in<'a>(
     alloc: Global,
     spans: &[Span],
-    exprs: &mut Exprs,
+    exprs: &mut GenericExprs,
     level: u32,
     span: Span,
     tokens: &'a [Token],
@@ -141,7 +145,7 @@ fn let_in<'a>(
 fn let_one<'a>(
     alloc: Global,
     spans: &[Span],
-    exprs: &mut Exprs,
+    exprs: &mut GenericExprs,
     level: u32,
     span: Span,
     tokens: &'a [Token],
@@ -154,7 +158,7 @@ fn let_one<'a>(
     let (bound, tokens) = expression(alloc, spans, exprs, level, Kind::Any, tokens)?;
     let tokens = want(Sign::In, tokens)?;
     let (body, tokens) = expression(alloc, spans, exprs, level, Kind::Any, tokens)?;
-    let id = exprs.put(Node::Let {
+    let id = exprs.put(GenericNode::Let {
         span,
         name,
         bound,
@@ -169,7 +173,7 @@ fn let_one<'a>(
 fn let_par<'a>(
     alloc: Global,
     spans: &[Span],
-    exprs: &mut Exprs,
+    exprs: &mut GenericExprs,
     level: u32,
     span: Span,
     tokens: &'a [Token],
@@ -186,7 +190,7 @@ fn let_par<'a>(
     let (right, tokens) = expression(alloc, spans, exprs, level, Kind::Any, tokens)?;
     let tokens = want(Sign::In, tokens)?;
     let (body, tokens) = expression(alloc, spans, exprs, level, Kind::Any, tokens)?;
-    let id = exprs.put(Node::LetPar {
+    let id = exprs.put(GenericNode::LetPar {
         span,
         left_name,
         left,
@@ -203,7 +207,7 @@ fn let_par<'a>(
 fn if_then<'a>(
     alloc: Global,
     spans: &[Span],
-    exprs: &mut Exprs,
+    exprs: &mut GenericExprs,
     level: u32,
     span: Span,
     tokens: &'a [Token],
@@ -216,7 +220,7 @@ fn if_then<'a>(
     let (then_part, tokens) = expression(alloc, spans, exprs, level, Kind::Any, tokens)?;
     let tokens = want(Sign::Else, tokens)?;
     let (else_part, tokens) = expression(alloc, spans, exprs, level, Kind::Any, tokens)?;
-    let id = exprs.put(Node::If {
+    let id = exprs.put(GenericNode::If {
         span,
         condition,
         then_part,
@@ -231,7 +235,7 @@ fn if_then<'a>(
 fn case_of<'a>(
     alloc: Global,
     spans: &[Span],
-    exprs: &mut Exprs,
+    exprs: &mut GenericExprs,
     level: u32,
     span: Span,
     tokens: &'a [Token],
@@ -244,7 +248,7 @@ fn case_of<'a>(
     let tokens = want(Sign::OpenBrace, tokens)?;
     let (arms, tokens) = arms(alloc, spans, exprs, level, tokens)?;
     let tokens = want(Sign::CloseBrace, tokens)?;
-    let id = exprs.put(Node::Case {
+    let id = exprs.put(GenericNode::Case {
         span,
         variable,
         arms,
@@ -257,7 +261,7 @@ fn case_of<'a>(
 fn arms<'a>(
     alloc: Global,
     spans: &[Span],
-    exprs: &mut Exprs,
+    exprs: &mut GenericExprs,
     level: u32,
     tokens: &'a [Token],
 ) -> Result<(Vec<Arm>, &'a [Token]), Stop>
@@ -281,7 +285,7 @@ fn arms<'a>(
 fn next_arm<'a>(
     alloc: Global,
     spans: &[Span],
-    exprs: &mut Exprs,
+    exprs: &mut GenericExprs,
     level: u32,
     tokens: &'a [Token],
 ) -> Result<(Arm, &'a [Token]), Stop>
@@ -298,7 +302,7 @@ fn next_arm<'a>(
 fn arm<'a>(
     alloc: Global,
     spans: &[Span],
-    exprs: &mut Exprs,
+    exprs: &mut GenericExprs,
     level: u32,
     tokens: &'a [Token],
 ) -> Result<(Arm, &'a [Token]), Stop>
@@ -324,7 +328,7 @@ fn arm<'a>(
 fn application<'a>(
     alloc: Global,
     spans: &[Span],
-    exprs: &mut Exprs,
+    exprs: &mut GenericExprs,
     level: u32,
     tokens: &'a [Token],
 ) -> Result<(ExprId, &'a [Token]), Stop>
@@ -334,30 +338,100 @@ fn application<'a>(
     match tokens {
         [Token::Variable(name), rest @ ..] => {
             let ident = named(spans, *name, tokens.len());
-            let (ids, rest) = arguments(alloc, spans, exprs, level, rest)?;
-            let id = exprs.put(call_of(ident, ids))?;
-            Ok((id, rest))
+            call(alloc, spans, exprs, level, ident, rest)
         }
         [Token::Constructor(name), rest @ ..] => {
             let ident = named(spans, *name, tokens.len());
-            let (ids, rest) = arguments(alloc, spans, exprs, level, rest)?;
-            let id = exprs.put(Node::Make(ident, ids))?;
-            Ok((id, rest))
+            construction(alloc, spans, exprs, level, ident, rest)
         }
         _ => atom(alloc, spans, exprs, level, tokens),
     }
 }
 
+/// Behind a variable: its type arguments and its arguments, of which there is one at least where there are types.
+#[cycle(expressions)]
+#[tactic(auto, unfolding(crate::specs::Reading::variable_at))]
+fn call<'a>(
+    alloc: Global,
+    spans: &[Span],
+    exprs: &mut GenericExprs,
+    level: u32,
+    ident: Ident,
+    tokens: &'a [Token],
+) -> Result<(ExprId, &'a [Token]), Stop>
+    ensures kept { IfOk result (λ x. Reads exprs.old exprs.new x.0.0) }
+    ensures read { Gives (λ x. (tree_of exprs.new x.0.0, x.1.now)) result (variable_at (places_of spans.now) (parse (places_of spans.now) level) ident tokens.now) }
+{
+    let (types, tokens) = type_arguments(alloc, spans, exprs, tokens)?;
+    if !may_call(exprs, types, tokens) {
+        return Err(Stop::At(tokens.len()));
+    }
+    let (ids, tokens) = arguments(alloc, spans, exprs, level, tokens)?;
+    let id = exprs.put(call_of(ident, types, ids))?;
+    Ok((id, tokens))
+}
+
+/// Behind a constructor: its type arguments and its arguments.
+#[cycle(expressions)]
+#[tactic(auto, unfolding(crate::specs::Reading::make_at))]
+fn construction<'a>(
+    alloc: Global,
+    spans: &[Span],
+    exprs: &mut GenericExprs,
+    level: u32,
+    ident: Ident,
+    tokens: &'a [Token],
+) -> Result<(ExprId, &'a [Token]), Stop>
+    ensures kept { IfOk result (λ x. Reads exprs.old exprs.new x.0.0) }
+    ensures read { Gives (λ x. (tree_of exprs.new x.0.0, x.1.now)) result (make_at (places_of spans.now) (parse (places_of spans.now) level) ident tokens.now) }
+{
+    let (types, tokens) = type_arguments(alloc, spans, exprs, tokens)?;
+    let (ids, tokens) = arguments(alloc, spans, exprs, level, tokens)?;
+    let id = exprs.put(GenericNode::Make(ident, types, ids))?;
+    Ok((id, tokens))
+}
+
+/// Whether a call may go on: behind type arguments an argument has to begin.
+#[tactic(auto, using(crate::proofs::Calls::may_lone, crate::proofs::Calls::may_begin))]
+fn may_call(exprs: &GenericExprs, types: Run, tokens: &[Token]) -> bool
+    requires { IsTypesRun exprs.now.words types }
+    ensures { result ≡ may_call (types_in exprs.now.words types) tokens.now }
+{
+    if exprs.words(types).is_empty() {
+        true
+    } else {
+        begins_atom(tokens)
+    }
+}
+
 /// A variable, or with arguments a call.
-fn call_of(ident: Ident, ids: Vec<ExprId>) -> Node
-    ensures tree { (t : ℕ → Expression) → layer t (Some result) ≡ call ident (arguments_from t ids.items) }
+fn call_of(ident: Ident, types: Run, ids: Vec<ExprId>) -> GenericNode
+    ensures tree { (words : List Word) (t : ℕ → GenericExpression) → layer words t (Some result) ≡ call_tree ident (types_in words types) (arguments_from t ids.items) }
     ensures below { (n : ℕ) → AllByRecursion (λ a. a.0 < n) ids.items → PartsBelow result n }
+    ensures within { (words : List Word) → IsTypesRun words types → IsRunWithin result words }
 {
     if ids.is_empty() {
-        Node::Variable(ident)
+        GenericNode::Variable(ident)
     } else {
-        Node::Call(ident, ids)
+        GenericNode::Call(ident, types, ids)
     }
+}
+
+/// Behind a constructor that stands as an argument: its type arguments.
+#[tactic(auto, unfolding(crate::specs::Reading::constant_at))]
+fn constant<'a>(
+    alloc: Global,
+    spans: &[Span],
+    exprs: &mut GenericExprs,
+    ident: Ident,
+    tokens: &'a [Token],
+) -> Result<(ExprId, &'a [Token]), Stop>
+    ensures kept { IfOk result (λ x. Reads exprs.old exprs.new x.0.0) }
+    ensures read { Gives (λ x. (tree_of exprs.new x.0.0, x.1.now)) result (constant_at (places_of spans.now) ident tokens.now) }
+{
+    let (types, tokens) = type_arguments(alloc, spans, exprs, tokens)?;
+    let id = exprs.put(GenericNode::Make(ident, types, Vec::new(alloc)))?;
+    Ok((id, tokens))
 }
 
 /// Arguments, as long as an atom begins.
@@ -365,11 +439,11 @@ fn call_of(ident: Ident, ids: Vec<ExprId>) -> Node
 fn arguments<'a>(
     alloc: Global,
     spans: &[Span],
-    exprs: &mut Exprs,
+    exprs: &mut GenericExprs,
     level: u32,
     tokens: &'a [Token],
 ) -> Result<(Vec<ExprId>, &'a [Token]), Stop>
-    ensures kept { IfOk result (λ x. ReadsAll exprs.old exprs.new x.0.items) }
+    ensures kept { IfOk result (λ x. AllStand IsExpressionIn exprs.old exprs.new x.0.items) }
     ensures read { Gives (λ x. (arguments_from (tree_of exprs.new) x.0.items, x.1.now)) result (arguments_at (parse (places_of spans.now) level Atom) tokens.now) }
 {
     let mut ids = Vec::new(alloc);
@@ -384,7 +458,7 @@ fn arguments<'a>(
 
 /// A literal, which stands before these tokens.
 fn literal<'a>(
-    exprs: &mut Exprs,
+    exprs: &mut GenericExprs,
     span: Span,
     value: u64,
     rest: &'a [Token],
@@ -395,21 +469,21 @@ fn literal<'a>(
     if !is_literal(value) {
         return Err(Stop::At(rest.len() + 1));
     }
-    let id = exprs.put(Node::Whole(span, value))?;
+    let id = exprs.put(GenericNode::Whole(span, value))?;
     Ok((id, rest))
 }
 
 /// A truth value, which stands before these tokens.
 fn truth<'a>(
-    exprs: &mut Exprs,
+    exprs: &mut GenericExprs,
     span: Span,
     value: bool,
     rest: &'a [Token],
 ) -> Result<(ExprId, &'a [Token]), Stop>
     ensures kept { IfOk result (λ x. Reads exprs.old exprs.new x.0.0) }
-    ensures read { Gives (λ x. (tree_of exprs.new x.0.0, x.1.now)) result (Ok (Bit span value, rest.now)) }
+    ensures read { Gives (λ x. (tree_of exprs.new x.0.0, x.1.now)) result (Ok (GenericBit span value, rest.now)) }
 {
-    let id = exprs.put(Node::Truth(span, value))?;
+    let id = exprs.put(GenericNode::Truth(span, value))?;
     Ok((id, rest))
 }
 
@@ -417,7 +491,7 @@ fn truth<'a>(
 fn atom<'a>(
     alloc: Global,
     spans: &[Span],
-    exprs: &mut Exprs,
+    exprs: &mut GenericExprs,
     level: u32,
     tokens: &'a [Token],
 ) -> Result<(ExprId, &'a [Token]), Stop>
@@ -429,13 +503,12 @@ fn atom<'a>(
         [] => Err(Stop::At(0)),
         [Token::Variable(name), rest @ ..] => {
             let ident = named(spans, *name, tokens.len());
-            let id = exprs.put(Node::Variable(ident))?;
+            let id = exprs.put(GenericNode::Variable(ident))?;
             Ok((id, rest))
         }
         [Token::Constructor(name), rest @ ..] => {
             let ident = named(spans, *name, tokens.len());
-            let id = exprs.put(Node::Make(ident, Vec::new(alloc)))?;
-            Ok((id, rest))
+            constant(alloc, spans, exprs, ident, rest)
         }
         [Token::Number(value), rest @ ..] => literal(exprs, span, *value, rest),
         [Token::Sign(sign), rest @ ..] => match sign {
@@ -469,7 +542,7 @@ fn operator_of(sign: Sign) -> Option<Operator>
 fn parentheses<'a>(
     alloc: Global,
     spans: &[Span],
-    exprs: &mut Exprs,
+    exprs: &mut GenericExprs,
     level: u32,
     span: Span,
     tokens: &'a [Token],
@@ -481,7 +554,7 @@ fn parentheses<'a>(
     match tokens {
         [Token::Sign(sign), rest @ ..] => match sign {
             Sign::Close => {
-                let id = exprs.put(Node::Paren(span, left))?;
+                let id = exprs.put(GenericNode::Paren(span, left))?;
                 Ok((id, rest))
             }
             _ => {
@@ -513,12 +586,12 @@ struct Begun {
 fn operation<'a>(
     alloc: Global,
     spans: &[Span],
-    exprs: &mut Exprs,
+    exprs: &mut GenericExprs,
     level: u32,
     begun: Begun,
     tokens: &'a [Token],
 ) -> Result<(ExprId, &'a [Token]), Stop>
-    requires { begun.left.0 < length exprs.old }
+    requires { begun.left.0 < length exprs.old.nodes }
     ensures kept { IfOk result (λ x. Reads exprs.old exprs.new x.0.0) }
     ensures read { Gives (λ x. (tree_of exprs.new x.0.0, x.1.now)) result (operation_at begun.operator (parse (places_of spans.now) level) begun.span (tree_of exprs.old begun.left.0) tokens.now) }
 {
@@ -530,7 +603,7 @@ fn operation<'a>(
     }
     let (right, tokens) = expression(alloc, spans, exprs, level, Kind::Application, tokens)?;
     let tokens = want(Sign::Close, tokens)?;
-    let id = exprs.put(Node::Operation {
+    let id = exprs.put(GenericNode::Operation {
         span: begun.span,
         operator,
         left: begun.left,
@@ -540,15 +613,15 @@ fn operation<'a>(
 }
 
 /// Whether an expression may stand as a side of an operation.
-fn may_be_side(exprs: &Exprs, id: ExprId) -> bool
-    requires { id.0 < length exprs.now }
-    ensures { result ≡ is_application (tree_of exprs.now id.0) }
+fn may_be_side(exprs: &GenericExprs, id: ExprId) -> bool
+    requires { id.0 < length exprs.now.nodes }
+    ensures { result ≡ is_generic_application (tree_of exprs.now id.0) }
 {
     match exprs.node(id) {
-        Node::Let { .. } => false,
-        Node::LetPar { .. } => false,
-        Node::If { .. } => false,
-        Node::Case { .. } => false,
+        GenericNode::Let { .. } => false,
+        GenericNode::LetPar { .. } => false,
+        GenericNode::If { .. } => false,
+        GenericNode::Case { .. } => false,
         _ => true,
     }
 }

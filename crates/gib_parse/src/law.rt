@@ -5,7 +5,7 @@ ghost use Rattle.gib_base.specs.Lexed.{Lexed, IsLexed};
 ghost use Rattle.gib_base.specs.Spelling.{tokens_text};
 ghost use Rattle.gib_base.specs.declared.token.Token.{Token};
 ghost use Rattle.gib_syntax.specs.Source.{Spells};
-ghost use Rattle.gib_syntax.specs.Tree.{ProgramTree};
+ghost use Rattle.gib_syntax.specs.GenericTree.{GenericProgramTree};
 ghost use Rattle.gib_syntax.specs.Spelling.{Places, spell_program, Derives, IsPlacedProgram, levels_program, Blames};
 ghost use Rattle.gib_parse.specs.Reading.{Fault, At, Nested, left_of, whole_in, whole, Deepens, Begun};
 ghost use Rattle.gib_parse.specs.Nesting.{BegunWith, Sinks, Floats};
@@ -13,18 +13,18 @@ ghost use Rattle.gib_parse.specs.Nesting.{BegunWith, Sinks, Floats};
 /// What is read is a program that the tokens spell, of at most 200 levels, with the spans of its
 /// tokens, and no token is left.
 pub fn read_is_program()
-    ensures { (at : Places) (tokens : List Token) (p : ProgramTree) (rest : List Token) → whole at tokens ≡ Ok (p, rest)
+    ensures { (at : Places) (tokens : List Token) (p : GenericProgramTree) (rest : List Token) → whole at tokens ≡ Ok (p, rest)
         → Derives tokens p × IsPlacedProgram at p × (levels_program p ≤ 200) × (rest ≡ []) }
 {}
 
 /// A program of at most 200 levels that the tokens spell, with the spans of its tokens, is what is read.
 pub fn program_is_read()
-    ensures { (at : Places) (tokens : List Token) (p : ProgramTree) → Derives tokens p → IsPlacedProgram at p → levels_program p ≤ 200 → whole at tokens ≡ Ok (p, []) }
+    ensures { (at : Places) (tokens : List Token) (p : GenericProgramTree) → Derives tokens p → IsPlacedProgram at p → levels_program p ≤ 200 → whole at tokens ≡ Ok (p, []) }
 {}
 
 /// Where the tokens spell a program of at most 200 levels, whatever spans it carries, a program is read.
 pub fn program_is_accepted()
-    ensures { (at : Places) (tokens : List Token) (p : ProgramTree) → Derives tokens p → levels_program p ≤ 200 → (q : ProgramTree) × (whole at tokens ≡ Ok (q, [])) }
+    ensures { (at : Places) (tokens : List Token) (p : GenericProgramTree) → Derives tokens p → levels_program p ≤ 200 → (q : GenericProgramTree) × (whole at tokens ≡ Ok (q, [])) }
 {}
 
 /// No program's tokens begin with the tokens up to and including one that is refused; where tokens are
@@ -56,12 +56,12 @@ pub fn refused_at_any_level()
 
 /// Tokens spell one program at most, given the spans of the tokens.
 pub fn one_program()
-    ensures { (at : Places) (tokens : List Token) (p q : ProgramTree) → Derives tokens p → Derives tokens q → IsPlacedProgram at p → IsPlacedProgram at q → p ≡ q }
+    ensures { (at : Places) (tokens : List Token) (p q : GenericProgramTree) → Derives tokens p → Derives tokens q → IsPlacedProgram at p → IsPlacedProgram at q → p ≡ q }
 {}
 
 /// A source text spells one program at most, with one list of tokens.
 pub fn one_text()
-    ensures { (text : List ℕ) (l m : Lexed) (p q : ProgramTree) → Spells text l p → Spells text m q → (l ≡ m) × (p ≡ q) }
+    ensures { (text : List ℕ) (l m : Lexed) (p q : GenericProgramTree) → Spells text l p → Spells text m q → (l ≡ m) × (p ≡ q) }
 {}
 
 /// A token that is nested too deep stands where some program's tokens go on with it.
@@ -84,6 +84,6 @@ pub fn none_sinks_before()
 /// What a program that was read from a text's tokens is printed as, with the text's names, is lexed again: into the
 /// same names and tokens, which spell the same program.
 pub fn printed_is_read()
-    ensures { (at : Places) (text : List ℕ) (l : Lexed) (p : ProgramTree) (rest : List Token) → IsLexed text l → whole at l.tokens ≡ Ok (p, rest)
+    ensures { (at : Places) (text : List ℕ) (l : Lexed) (p : GenericProgramTree) (rest : List Token) → IsLexed text l → whole at l.tokens ≡ Ok (p, rest)
         → (m : Lexed) × IsLexed (tokens_text l.names (spell_program p [])) m × (m.names ≡ l.names) × (m.tokens ≡ l.tokens) × Derives m.tokens p }
 {}

@@ -8,6 +8,7 @@ pub mod law;
 pub mod parsing;
 mod phrases;
 mod stop;
+mod types;
 
 pub use fault::ParseFault;
 pub use parsing::parse;

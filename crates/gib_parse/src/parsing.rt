@@ -1,9 +1,9 @@
 //! Parsing: from the tokens of a text to its program.
 
 ghost use Rattle.std.specs.Prelude.{◌≡◌, ◌≤◌, ℕ, Err, IfOk, IfErr};
-ghost use Rattle.gib_syntax.specs.Tree.{ProgramTree};
+ghost use Rattle.gib_syntax.specs.GenericTree.{GenericProgramTree};
 ghost use Rattle.gib_syntax.specs.Spelling.{Derives, IsPlacedProgram, places_of, levels_program};
-ghost use Rattle.gib_syntax.specs.Parts.{program_of};
+ghost use Rattle.gib_syntax.specs.GenericParts.{generic_program_of};
 ghost use Rattle.gib_parse.specs.Answers.{place_in, fault_of, AnswersRead, AnswersOnly, IsBlamedAt, IsTooDeepAt};
 
 use crate::declarations::whole;
@@ -12,7 +12,7 @@ use crate::phrases::span_at;
 use crate::stop::Stop;
 use gib_base::Span;
 use gib_lex::Tokens;
-use gib_syntax::Program;
+use gib_syntax::GenericProgram;
 use std::alloc::Global;
 
 /// The place of the token from which so many are left; the text's length with none left.
@@ -37,16 +37,16 @@ fn fault(stop: Stop, spans: &[Span], len: u32) -> ParseFault
 }
 
 /// The program that the tokens of a text spell.
-pub fn parse(alloc: Global, tokens: &Tokens) -> Result<Program, ParseFault>
+pub fn parse(alloc: Global, tokens: &Tokens) -> Result<GenericProgram, ParseFault>
     // What is read is a program of the grammar, in 200 levels, whose parts carry the spans of their tokens.
-    ensures found { IfOk result (λ p. Derives tokens.now.tokens (program_of p)) }
-    ensures placed { IfOk result (λ p. IsPlacedProgram (places_of tokens.now.spans) (program_of p)) }
-    ensures levels { IfOk result (λ p. levels_program (program_of p) ≤ 200) }
+    ensures found { IfOk result (λ p. Derives tokens.now.tokens (generic_program_of p)) }
+    ensures placed { IfOk result (λ p. IsPlacedProgram (places_of tokens.now.spans) (generic_program_of p)) }
+    ensures levels { IfOk result (λ p. levels_program (generic_program_of p) ≤ 200) }
 
     // A program of the grammar in 200 levels is read, unless memory runs out.
-    ensures accepted { (g : ProgramTree) → Derives tokens.now.tokens g → levels_program g ≤ 200
+    ensures accepted { (g : GenericProgramTree) → Derives tokens.now.tokens g → levels_program g ≤ 200
         → IfErr result (λ e. e ≡ ParseFault.Memory) }
-    ensures only { (g : ProgramTree) → Derives tokens.now.tokens g → levels_program g ≤ 200
+    ensures only { (g : GenericProgramTree) → Derives tokens.now.tokens g → levels_program g ≤ 200
         → IsPlacedProgram (places_of tokens.now.spans) g → AnswersOnly result g }
 
     // The first fault is answered.

@@ -1,15 +1,14 @@
-//! Names, types and parameters.
+//! Names and signs.
 
 ghost use Rattle.std.specs.Prelude.{◌≡◌};
 ghost use Rattle.gib_syntax.specs.Spelling.{places_of};
-ghost use Rattle.gib_syntax.specs.Parts.{constructor_tree};
-ghost use Rattle.gib_parse.specs.Reading.{Fault, At, Nested, same, want, var_at, con_at, type_at, next_is, is_sign, is_variable, starts_type, many, constructor_at, alternative_at, parameter_at};
-ghost use Rattle.gib_parse.specs.Parsing.{Fails, Gives};
+ghost use Rattle.gib_parse.specs.Reading.{Fault, At, Nested, same, want, var_at, con_at, next_is, is_sign, is_variable, many};
+ghost use Rattle.gib_parse.specs.Parsing.{Fails, Gives, with_front};
 
 use crate::stop::Stop;
 use gib_base::token::{Sign, Token};
 use gib_base::{Name, Span};
-use gib_syntax::{ConstructorDecl, Ident, Parameter, TypeName};
+use gib_syntax::Ident;
 use std::alloc::Global;
 
 /// The span of the token from which so many tokens are left.
@@ -90,15 +89,15 @@ fn begins_variable(tokens: &[Token]) -> bool
     matches!(tokens, [Token::Variable(_), ..])
 }
 
-/// Variables, as many as there are.
-pub(crate) fn variables<'a>(
-    alloc: Global,
+/// Variables, as many as there are, behind others.
+pub(crate) fn further_variables<'a>(
     spans: &[Span],
+    first: Vec<Ident>,
     tokens: &'a [Token],
 ) -> Result<(Vec<Ident>, &'a [Token]), Stop>
-    ensures { Gives (λ x. (x.0.items, x.1.now)) result (many is_variable (var_at (places_of spans.now)) tokens.now) }
+    ensures { Gives (λ x. (x.0.items, x.1.now)) result (with_front first.items (many is_variable (var_at (places_of spans.now)) tokens.now)) }
 {
-    let mut found = Vec::new(alloc);
+    let mut found = first;
     let mut rest = tokens;
     'variables: while begins_variable(rest) {
         let (name, after) = variable(spans, rest)?;
@@ -108,97 +107,15 @@ pub(crate) fn variables<'a>(
     Ok((found, rest))
 }
 
-/// A type.
-pub(crate) fn type_name<'a>(
-    spans: &[Span],
-    tokens: &'a [Token],
-) -> Result<(TypeName, &'a [Token]), Stop>
-    ensures { Gives (λ x. (x.0, x.1.now)) result (type_at (places_of spans.now) tokens.now) }
-{
-    match tokens {
-        [Token::Constructor(name), rest @ ..] => {
-            let ident = named(spans, *name, tokens.len());
-            Ok((TypeName::Declared(ident), rest))
-        }
-        [Token::Sign(sign), rest @ ..] => match sign {
-            Sign::Int => Ok((TypeName::Whole(span_at(spans, tokens.len())), rest)),
-            Sign::Bool => Ok((TypeName::Truth(span_at(spans, tokens.len())), rest)),
-            _ => Err(Stop::At(tokens.len())),
-        },
-        _ => Err(Stop::At(tokens.len())),
-    }
-}
-
-/// Whether a type begins here.
-fn begins_type(tokens: &[Token]) -> bool
-    ensures { result ≡ next_is starts_type tokens.now }
-{
-    match tokens {
-        [Token::Constructor(_), ..] => true,
-        [Token::Sign(sign), ..] => matches!(sign, Sign::Int | Sign::Bool),
-        _ => false,
-    }
-}
-
-/// Types, as many as there are.
-pub(crate) fn types<'a>(
+/// Variables, as many as there are.
+pub(crate) fn variables<'a>(
     alloc: Global,
     spans: &[Span],
     tokens: &'a [Token],
-) -> Result<(Vec<TypeName>, &'a [Token]), Stop>
-    ensures { Gives (λ x. (x.0.items, x.1.now)) result (many starts_type (type_at (places_of spans.now)) tokens.now) }
+) -> Result<(Vec<Ident>, &'a [Token]), Stop>
+    ensures { Gives (λ x. (x.0.items, x.1.now)) result (many is_variable (var_at (places_of spans.now)) tokens.now) }
 {
-    let mut found = Vec::new(alloc);
-    let mut rest = tokens;
-    'types: while begins_type(rest) {
-        let (ty, after) = type_name(spans, rest)?;
-        found.push(ty)?;
-        rest = after;
-    }
-    Ok((found, rest))
-}
-
-/// A constructor with the types of its fields.
-#[tactic(auto, unfolding(crate::specs::Reading::constructor_at))]
-pub(crate) fn alternative<'a>(
-    alloc: Global,
-    spans: &[Span],
-    tokens: &'a [Token],
-) -> Result<(ConstructorDecl, &'a [Token]), Stop>
-    ensures { Gives (λ x. (constructor_tree x.0, x.1.now)) result (constructor_at (places_of spans.now) tokens.now) }
-{
-    let (name, tokens) = constructor(spans, tokens)?;
-    let (fields, tokens) = types(alloc, spans, tokens)?;
-    Ok((ConstructorDecl { name, fields }, tokens))
-}
-
-/// A bar, and a constructor behind it.
-#[tactic(auto, unfolding(crate::specs::Reading::alternative_at))]
-pub(crate) fn next_alternative<'a>(
-    alloc: Global,
-    spans: &[Span],
-    tokens: &'a [Token],
-) -> Result<(ConstructorDecl, &'a [Token]), Stop>
-    ensures { Gives (λ x. (constructor_tree x.0, x.1.now)) result (alternative_at (places_of spans.now) tokens.now) }
-{
-    let tokens = want(Sign::Bar, tokens)?;
-    alternative(alloc, spans, tokens)
-}
-
-/// A parameter in its parentheses.
-#[tactic(auto, unfolding(crate::specs::Reading::parameter_at))]
-pub(crate) fn parameter<'a>(
-    spans: &[Span],
-    tokens: &'a [Token],
-) -> Result<(Parameter, &'a [Token]), Stop>
-    ensures { Gives (λ x. (x.0, x.1.now)) result (parameter_at (places_of spans.now) tokens.now) }
-{
-    let tokens = want(Sign::Open, tokens)?;
-    let (name, tokens) = variable(spans, tokens)?;
-    let tokens = want(Sign::Colon, tokens)?;
-    let (ty, tokens) = type_name(spans, tokens)?;
-    let tokens = want(Sign::Close, tokens)?;
-    Ok((Parameter { name, ty }, tokens))
+    further_variables(spans, Vec::new(alloc), tokens)
 }
 
 /// Whether this sign comes next.

@@ -1,6 +1,6 @@
 use Rattle.std.proofs.Common.{◌≡◌, length, map}
 use Rattle.gib_check.specs.Faults as rule
-use Rattle.gib_check.specs.Views.{arm_head}
+use Rattle.gib_check.specs.Judging.{arm_head}
 use Rattle.gib_check.proofs.arms.are_different.Given as goal
 
 abbrev pub invariant-arms : goal.invariant-arms

@@ -1,8 +1,8 @@
 use Rattle.std.proofs.Common.{◌≡◌, length, map}
-use Rattle.gib_check.specs.Faults as rule
-use Rattle.gib_check.specs.Views.{arm_head}
 use Rattle.std.specs.Prelude.{is_some}
 use Rattle.gib_syntax.specs.Declarations.{place_of}
+use Rattle.gib_check.specs.Faults as rule
+use Rattle.gib_check.specs.Judging.{arm_head}
 use Rattle.gib_check.proofs.arms.is_among.Given as goal
 
 abbrev pub invariant-arms : goal.invariant-arms

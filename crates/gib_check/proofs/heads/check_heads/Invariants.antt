@@ -1,12 +1,13 @@
 use Rattle.std.proofs.Common.{◌≡◌, [], length, map}
+use Rattle.std.specs.List.{AllByRecursion}
 use Rattle.gib_check.specs.FirstFault as rule
-use Rattle.gib_syntax.specs.Parts.{function_tree}
-use Rattle.std.proofs.Common.{ℕ}
-use Rattle.gib_syntax.specs.Tree.{Expression}
+use Rattle.gib_check.specs.NameViews.{generic_globals}
+use Rattle.gib_syntax.specs.GenericParts.{function_in, IsFunctionInside}
 use Rattle.gib_check.proofs.heads.check_heads.Given as goal
 
 abbrev pub invariant-functions : goal.invariant-functions
-invariant-functions l = (f : ℕ → Expression) → rule.check_heads l.fn.types [] (map (function_tree f) l.fn.functions) ≡ rule.check_heads l.fn.types l.names (map (function_tree f) l.rest)
+invariant-functions l =
+    (rule.check_heads (generic_globals l.named).datas [] (map (function_in l.named.exprs) l.functions) ≡ rule.check_heads (generic_globals l.named).datas l.names (map (function_in l.named.exprs) l.rest)) × AllByRecursion (IsFunctionInside l.named.exprs) l.rest
 
 abbrev pub decreases-functions : goal.decreases-functions
 decreases-functions l = length l.rest

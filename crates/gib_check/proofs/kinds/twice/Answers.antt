@@ -1,7 +1,7 @@
 use Rattle.std.specs.Prelude.{◌≡◌, ℕ, Some, is_none}
-use Rattle.gib_types.specs.declared.table.Ty.{Ty}
+use Rattle.gib_types.specs.Form.{Form}
 use Rattle.gib_syntax.specs.Declarations.{number_of, place_of}
-use Rattle.gib_syntax.specs.Typing.{type_in}
+use Rattle.gib_syntax.specs.GenericTyping.{form_in}
 use Rattle.gib_check.specs.declared.fault.Kind.TheVariants as kind
 use Rattle.gib_check.proofs.KindLaws.{allowed_broken, present, there}
 use Rattle.gib_check.proofs.kinds.twice.Goals as goal
@@ -12,4 +12,4 @@ returns-clause-name c = λ names x.
 
 pub returns-clause-variable : goal.returns-clause-variable
 returns-clause-variable c = λ scope x.
-    allowed_broken (is_none (type_in scope (number_of x))) kind.Twice x.span (tt {0}) ((t : Ty) × (type_in scope (number_of x) ≡ Some t)) (λ e p. present (type_in scope (number_of x)) e p) (λ e. there (type_in scope (number_of x)) e)
+    allowed_broken (is_none (form_in scope (number_of x))) kind.Twice x.span (tt {0}) ((t : Form) × (form_in scope (number_of x) ≡ Some t)) (λ e p. present (form_in scope (number_of x)) e p) (λ e. there (form_in scope (number_of x)) e)

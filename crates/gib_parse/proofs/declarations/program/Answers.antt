@@ -1,30 +1,49 @@
-use Rattle.std.proofs.Common.{sym, ap, ◌∙◌, List, map, length}
-use Rattle.gib_syntax.specs.Tree.{FunctionTree}
-use Rattle.gib_syntax.specs.Arena.{tree_of}
-use Rattle.gib_syntax.specs.Parts.{data_tree, function_tree, main_tree}
+use Rattle.std.proofs.Common.{sym, ◌∙◌, List, map, subst}
+use Rattle.std.specs.List.{AllByRecursion}
+use Rattle.gib_syntax.specs.GenericTree.{GenericDataTree}
+use Rattle.gib_syntax.specs.GenericFine.{HasGenericConstructor}
+use Rattle.gib_syntax.specs.GenericParts.{data_in, function_in, main_in}
 use Rattle.gib_syntax.specs.Spelling.{places_of}
 use Rattle.gib_parse.proofs.Tools.{done}
-use Rattle.gib_parse.proofs.DeclarationLoops.{functions_stay, functions_stay_inside, program_done}
+use Rattle.gib_parse.proofs.PartsSoFar.{grows_more}
+use Rattle.gib_parse.proofs.DeclarationLoops.{datas_stay, datas_stay_inside, functions_stay, functions_stay_inside, program_done}
 use Rattle.gib_parse.proofs.ProgramSound.{read_constructors}
 use Rattle.gib_parse.proofs.declarations.program.Goals as goal
 
 pub new-requires : goal.new-requires
 new-requires c =
-    let datas = map data_tree c.in_ok-data_decls.data_decls.items in
-    let kept = c.in_ok-main.ensures.kept in
+    let first = c.data_declarations.new.exprs in
+    let mid = c.functions.new.exprs in
+    let last = c.main_declaration.new.exprs in
+    let datas = c.in_ok-datas.datas.items in
+    let kept = c.in_ok-datas.ensures.kept in
+    let later = c.in_ok-functions.ensures.kept in
+    let end = c.in_ok-main.ensures.kept in
+    let grown = grows_more first mid last later.grows end.grows in
     record {
-      functions = functions_stay_inside (length c.functions.new.exprs) (length c.main_declaration.new.exprs) c.in_ok-functions.functions.items kept.grows.longer c.in_ok-functions.ensures.kept.inside;
-      main = kept.inside;
-      constructors = read_constructors (places_of c.args.spans.now) c.args.tokens.now c.in_ok-data_decls.tokens.now datas c.in_ok-data_decls.ensures;
+      datas = datas_stay_inside first last datas kept.inside grown;
+      constructors =
+          subst (λ (ds : List GenericDataTree). AllByRecursion HasGenericConstructor ds) (sym (datas_stay first last datas kept.inside grown))
+          (read_constructors (places_of c.args.spans.now) c.args.tokens.now c.in_ok-datas.tokens.now (map (data_in first.words) datas) c.in_ok-datas.ensures.read);
+      functions = functions_stay_inside mid last c.in_ok-functions.functions.items later.inside end.grows;
+      parameter = end.inside.parameter;
+      result = end.inside.result;
+      main = end.inside.body;
     }
 
 pub returns : goal.returns
 returns c =
+    let first = c.data_declarations.new.exprs in
     let mid = c.functions.new.exprs in
     let last = c.main_declaration.new.exprs in
-    let datas = map data_tree c.in_ok-data_decls.data_decls.items in
+    let datas = c.in_ok-datas.datas.items in
     let functions = c.in_ok-functions.functions.items in
-    let main = main_tree (tree_of last) c.in_ok-main.main in
+    let main = main_in last c.in_ok-main.main in
+    let kept = c.in_ok-datas.ensures.kept in
+    let later = c.in_ok-functions.ensures.kept in
+    let grown = grows_more first mid last later.grows c.in_ok-main.ensures.kept.grows in
+    let ds = datas_stay first last datas kept.inside grown in
+    let fs = functions_stay mid last functions later.inside c.in_ok-main.ensures.kept.grows in
     rw c.new.ensures
-    (program_done (places_of c.args.spans.now) c.args.tokens.now c.in_ok-data_decls.tokens.now c.in_ok-functions.tokens.now c.in_ok-main.tokens.now datas (map (function_tree (tree_of mid)) functions) main c.in_ok-data_decls.ensures c.in_ok-functions.ensures.read c.in_ok-main.ensures.read
-    ∙ ap (λ (fs : List FunctionTree). done (record { datas = datas; functions = fs; main = main }) c.in_ok-main.tokens.now) (sym (functions_stay mid last functions c.in_ok-functions.ensures.kept.inside c.in_ok-main.ensures.kept.grows)))
+    (program_done (places_of c.args.spans.now) c.args.tokens.now c.in_ok-datas.tokens.now c.in_ok-functions.tokens.now c.in_ok-main.tokens.now (map (data_in first.words) datas) (map (function_in mid) functions) main c.in_ok-datas.ensures.read c.in_ok-functions.ensures.read c.in_ok-main.ensures.read
+    ∙ (λ k. done (record { datas = sym ds k; functions = sym fs k; main = main }) c.in_ok-main.tokens.now))

@@ -12,6 +12,12 @@ decreases-any l = 8 * l.level + 7
 abbrev pub decreases-application : goal.decreases-application
 decreases-application l = 8 * l.level + 6
 
+abbrev pub decreases-call : goal.decreases-call
+decreases-call l = 8 * l.level + 5
+
+abbrev pub decreases-construction : goal.decreases-construction
+decreases-construction l = 8 * l.level + 5
+
 abbrev pub decreases-case_of : goal.decreases-case_of
 decreases-case_of l = 8 * l.level + 5
 

@@ -1,5 +1,5 @@
 use Rattle.std.proofs.Common.{ap, sym, ◌∙◌, drop, arith}
-use Rattle.gib_syntax.specs.Typing.{Scope}
+use Rattle.gib_check.specs.Judging.{IdScope}
 use Rattle.gib_check.specs.InScope.{scope_of}
 use Rattle.gib_check.proofs.InScope.{newest_out, one_out, scope_of-push}
 use Rattle.gib_check.proofs.variables.Variables.pop.Goals as goal
@@ -10,10 +10,10 @@ invariant_of-self-then-len-gt0 c =
     (newest_out c.self.inside.variables.items c.truncate.new.self.items c.index-variable.result.now _ (omega (arith, c.if-len-gt0.true, c.len-len.ensures)) (omega (arith, c.len-len.ensures, c.self.inside.variables.ok)) c.index-variable.ensures c.truncate.ensures.items)
     c.in_ok-set.ensures.set
 
-pub returns-in_ok-set : goal.returns-in_ok-set
-returns-in_ok-set c =
+pub returns-in_ok-set-clause-gone : goal.returns-in_ok-set-clause-gone
+returns-in_ok-set-clause-gone c =
     sym
-    (ap (λ (s : Scope). drop 1 s)
+    (ap (λ (s : IdScope). drop 1 s)
     (sym c.self.view_is
     ∙ ap scope_of
     (newest_out c.self.inside.variables.items c.truncate.new.self.items c.index-variable.result.now _ (omega (arith, c.if-len-gt0.true, c.len-len.ensures)) (omega (arith, c.len-len.ensures, c.self.inside.variables.ok)) c.index-variable.ensures c.truncate.ensures.items)

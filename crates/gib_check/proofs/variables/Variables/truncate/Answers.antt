@@ -6,7 +6,7 @@ pub variables-init : goal.variables-init
 variables-init c = none_out c.args.self.now c.args.len
 
 pub variables-preserved : goal.variables-preserved
-variables-preserved c = more_out c.args.self.now c.variables.self c.pop.new.self c.args.len c.variables.invariant (omega (arith, c.variables-test.true, c.len.ensures)) c.in_ok-pop.ensures
+variables-preserved c = more_out c.args.self.now c.variables.self c.pop.new.self c.args.len c.variables.invariant (omega (arith, c.variables-test.true, c.len.ensures)) c.in_ok-pop.ensures.gone
 
-pub returns : goal.returns
-returns c = all_out c.args.self.now c.variables.self c.args.len c.variables.invariant (omega (arith, c.variables-test.false, c.len.ensures))
+pub returns-clause-rest : goal.returns-clause-rest
+returns-clause-rest c = all_out c.args.self.now c.variables.self c.args.len c.variables.invariant (omega (arith, c.variables-test.false, c.len.ensures))

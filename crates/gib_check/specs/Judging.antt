@@ -1,0 +1,144 @@
+-- What the check of a body keeps: the types that were met, the variables in scope, and counts.
+use Rattle.std.specs.Prelude.{◌≡◌, ℕ, ◌<◌, ◌≤◌, ◌==◌, if◌then◌else◌, List, [], ◌∷◌, map, length, Option, Some, None, Ok}
+use Rattle.std.specs.List.{AllByRecursion}
+use Rattle.gib_types.specs.declared.types.TypeId.{TypeId}
+use Rattle.gib_types.specs.declared.types.TypeNode.{TypeNode}
+use Rattle.gib_types.specs.Form.{Form, Forms, Meant}
+use Rattle.gib_types.specs.Types.{form_at, forms_at, forms_of, AreBelow, GrowsTo}
+use Rattle.gib_syntax.specs.declared.written.Word.{Word}
+use Rattle.gib_syntax.specs.declared.exprs.Arm.{Arm}
+use Rattle.gib_syntax.specs.Forms.{formed, assign}
+use Rattle.gib_syntax.specs.Words.{stack_of}
+use Rattle.gib_syntax.specs.GenericTree.{GenericExpression, GenericGlobals}
+use Rattle.gib_syntax.specs.GenericTyping.{FormScope, opaque}
+use Rattle.gib_types.specs.declared.types.TypeNode.TheVariants as t
+use Rattle.gib_syntax.specs.declared.generic.GenericNode.{GenericNode}
+use Rattle.gib_syntax.specs.declared.generic.GenericNode.TheVariants as n
+use Rattle.gib_check.specs.declared.counts.Counts.{Counts}
+use Rattle.gib_check.specs.declared.rules.Part.{Part}
+use Rattle.gib_check.specs.declared.reading.Meaning.{Meaning}
+use Rattle.gib_check.specs.declared.reading.Meaning.TheVariants as meaning
+use Rattle.gib_check.specs.Faults.{Checked, and_then, FormPart, place, ArmHead, infer, infer_arm}
+
+-- Variables with the numbers of their types, the newest first.
+abbrev pub IdScope : Type 0
+IdScope = List (ℕ × TypeId)
+
+-- The number of a variable's type.
+abbrev pub id_in : IdScope → ℕ → Option TypeId
+id_in [] x = None
+id_in (b ∷ scope) x = if b.0 == x then Some b.1 else id_in scope x
+
+-- All numbers are below a number.
+abbrev pub IsScopeBelow : ℕ → IdScope → Type 0
+IsScopeBelow n scope = AllByRecursion (λ (b : ℕ × TypeId). b.1.0 < n) scope
+
+-- A variable with its type, where numbers stand for these types.
+abbrev pub form_of_bound : List Form → ℕ × TypeId → ℕ × Form
+form_of_bound fs b = (b.0, form_at fs b.1.0)
+
+-- The scope that it is.
+abbrev pub scope_forms : List Form → IdScope → FormScope
+scope_forms fs scope = map (form_of_bound fs) scope
+
+-- What is kept.
+pub record Judging : Type 0 where
+  pub types : List TypeNode
+  pub scope : IdScope
+  pub counts : Counts
+
+-- The types that numbers stand for.
+abbrev pub forms : Judging → List Form
+forms s = forms_of s.types
+
+-- The variables in scope with their types.
+abbrev pub in_scope : Judging → FormScope
+in_scope s = scope_forms (forms s) s.scope
+
+-- Numbers stand for what they stood for.
+pub record Grows (old new : List TypeNode) : Type 0 where
+  pub grows : GrowsTo (forms_of old) (forms_of new)
+  pub longer : length old ≤ length new
+
+-- More types were met, and all else is as it was.
+pub record Keeps (old new : Judging) : Type 0 where
+  pub grows : Grows old.types new.types
+  pub scope : in_scope new ≡ in_scope old
+  pub counts : new.counts ≡ old.counts
+
+-- A number stands for a type that was met.
+pub record Meets (old new : List TypeNode) (id : TypeId) (f : Form) : Type 0 where
+  pub grows : Grows old new
+  pub below : id.0 < length new
+  pub form : form_at (forms_of new) id.0 ≡ f
+
+-- The types of these numbers.
+abbrev pub listed : List Form → List TypeId → List Form
+listed fs is = map (λ (i : TypeId). form_at fs i.0) is
+
+-- What type variables stand for.
+abbrev pub meant_by : List Form → Meaning → Meant
+meant_by fs meaning.Opaque = opaque
+meant_by fs (meaning.Given vs is) = assign vs.items (forms_at fs is.items)
+
+abbrev pub IsMeaningBelow : ℕ → Meaning → Type 0
+IsMeaningBelow n meaning.Opaque = Unit {0}
+IsMeaningBelow n (meaning.Given vs is) = AreBelow n is.items
+
+-- Words were read as types.
+pub record Reads (old new : List TypeNode) (m : Meant) (words : List Word) (ids : List TypeId) : Type 0 where
+  pub grows : Grows old new
+  pub below : AreBelow (length new) ids
+  pub types : listed (forms_of new) ids ≡ map (formed m) (stack_of words)
+
+-- A part with its type.
+abbrev pub part_in : List Form → Part → FormPart
+part_in fs part = record { ty = form_at fs part.ty.0; place = part.place }
+
+abbrev pub parts_in : List Form → List Part → List FormPart
+parts_in fs parts = map (part_in fs) parts
+
+abbrev pub ArePartsBelow : ℕ → List Part → Type 0
+ArePartsBelow n parts = AllByRecursion (λ (part : Part). part.ty.0 < n) parts
+
+-- A part after its check.
+pub record Met (old new : List TypeNode) (id : TypeId) : Type 0 where
+  pub grows : Grows old new
+  pub below : id.0 < length new
+
+pub record AllMet (old new : List TypeNode) (parts : List Part) : Type 0 where
+  pub grows : Grows old new
+  pub below : ArePartsBelow (length new) parts
+
+-- An arm without its expression.
+abbrev pub arm_head : Arm → ArmHead
+arm_head arm = record { constructor = arm.constructor; variables = arm.variables.items }
+
+-- The results of arms, in the order of the text, where the type's variables stand for these types.
+abbrev pub infer_each_arm : GenericGlobals → List ℕ → Forms → (ℕ → GenericExpression) → FormScope → Counts → List Arm → Checked (List FormPart × Counts)
+infer_each_arm g vars ts f scope n [] = Ok ([], n)
+infer_each_arm g vars ts f scope n (arm ∷ arms) =
+    and_then (infer_arm g.rows ts scope n arm.constructor arm.variables.items (λ inner m. infer g vars opaque inner m (f arm.body.0)))
+    (λ x. and_then (infer_each_arm g vars ts f scope x.1 arms)
+    (λ r. Ok (record { ty = x.0; place = place (f arm.body.0) } ∷ r.0, r.1)))
+
+-- A word begins the expression of the node.
+abbrev pub IsWordedNode : GenericNode → Type 0
+IsWordedNode (n.Variable x) = ⊥
+IsWordedNode (n.Whole p v) = ⊥
+IsWordedNode (n.Truth p b) = ⊥
+IsWordedNode (n.Paren p a) = ⊥
+IsWordedNode (n.Operation p f a b) = ⊥
+IsWordedNode (n.Call f ws xs) = ⊥
+IsWordedNode (n.Make k ws xs) = ⊥
+IsWordedNode (n.Let p x a b) = Unit {0}
+IsWordedNode (n.LetPar p x a y b c) = Unit {0}
+IsWordedNode (n.If p a b c) = Unit {0}
+IsWordedNode (n.Case p x arms) = Unit {0}
+
+-- The type is `Int` or `Bool`.
+abbrev pub IsClosed : TypeNode → Type 0
+IsClosed t.Whole = Unit {0}
+IsClosed t.Truth = Unit {0}
+IsClosed (t.Variable x) = ⊥
+IsClosed (t.Data x is) = ⊥

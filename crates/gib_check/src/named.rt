@@ -1,0 +1,257 @@
+//! A program with type parameters, and the places of its names.
+
+ghost use Rattle.std.specs.Prelude.{◌≡◌, ◌<◌, ◌+◌, ◌++◌, Some, None, map, length, IfOk};
+ghost use Rattle.gib_syntax.specs.GenericParts.{generic_program_of, function_in};
+ghost use Rattle.gib_syntax.specs.GenericTree.{data_named};
+ghost use Rattle.gib_syntax.specs.Words.{run_words, stack_of};
+ghost use Rattle.gib_check.specs.Answers.{Gives};
+ghost use Rattle.gib_check.specs.Faults as rule;
+ghost use Rattle.gib_check.specs.NameViews.{generic_globals, data_number, function_number, row_decl, all_rows, row_in, row_option, kept_name, arity_of, variables_at, count_of};
+
+use crate::fault::{Kind, TypeFault};
+use crate::names::NameList;
+use crate::reading::type_places;
+use crate::rules::broken;
+use gib_base::{Memory, Name};
+use gib_syntax::{
+    ExprId, GenericData, GenericExprs, GenericFunction, GenericNode, GenericProgram, Ident, Run,
+    Word,
+};
+use std::alloc::{AllocError, Global};
+use std::marker::Model;
+
+/// A constructor: its name and its type's, the place of the type's declaration, the run of its fields' types, and how
+/// many these are.
+#[derive(Clone, Copy, Debug)]
+pub struct RowDecl {
+    pub name: Name,
+    pub owner: Name,
+    pub declaration: u32,
+    pub fields: Run,
+    pub count: usize,
+}
+
+/// A program with type parameters, with the places of its names.
+#[derive(Drop)]
+pub struct Named {
+    program: GenericProgram,
+    types: NameList,
+    constructors: NameList,
+    functions: NameList,
+    rows: Vec<RowDecl>,
+}
+
+impl Model for Named {
+    ghost use Rattle.gib_syntax.specs.GenericParts.{GenericParts};
+    ghost use Rattle.gib_check.specs.NameViews.{IsNamed};
+
+    ghost Value = { GenericParts };
+
+    ghost view = { λ n. n.program };
+
+    ghost invariant = { λ n. IsNamed n.program n.types n.constructors n.functions n.rows.items };
+}
+
+/// The names of the declared types.
+fn list_types(alloc: Global, program: &GenericProgram) -> Result<NameList, Memory>
+    ensures { IfOk result (λ names. names ≡ map data_number (generic_program_of program.now).datas) }
+{
+    let mut names = NameList::new(alloc);
+    let mut rest = program.datas();
+    'datas: while let [declaration, after @ ..] = rest {
+        names.push(declaration.name.name)?;
+        rest = after;
+    }
+    Ok(names)
+}
+
+/// The names of the functions.
+fn list_functions(alloc: Global, program: &GenericProgram) -> Result<NameList, Memory>
+    ensures { IfOk result (λ names. names ≡ map function_number (generic_program_of program.now).functions) }
+{
+    let mut names = NameList::new(alloc);
+    let mut rest = program.functions();
+    'functions: while let [function, after @ ..] = rest {
+        names.push(function.name.name)?;
+        rest = after;
+    }
+    Ok(names)
+}
+
+/// The names of constructors.
+fn list_constructors(alloc: Global, rows: &[RowDecl]) -> Result<NameList, Memory>
+    ensures { IfOk result (λ names. names ≡ map kept_name rows.now) }
+{
+    let mut names = NameList::new(alloc);
+    let mut rest = rows;
+    'rows: while let [row, after @ ..] = rest {
+        names.push(row.name)?;
+        rest = after;
+    }
+    Ok(names)
+}
+
+/// How many types a run is.
+fn count_types(alloc: Global, exprs: &GenericExprs, run: Run) -> Result<usize, Memory>
+    ensures { IfOk result (λ count. count ≡ length (stack_of (run_words exprs.now.words run))) }
+{
+    let places = type_places(alloc, exprs.words(run))?;
+    Ok(places.len())
+}
+
+/// Puts the constructors of the declaration of a place behind others.
+fn push_rows(
+    alloc: Global,
+    rows: &mut Vec<RowDecl>,
+    exprs: &GenericExprs,
+    place: u32,
+    declaration: &GenericData,
+) -> Result<(), Memory>
+    ensures { IfOk result (λ _. rows.new.items ≡ rows.old.items ++ map (row_decl exprs.now.words place declaration.now) declaration.now.constructors.items) }
+{
+    let mut rest = declaration.constructors.as_slice();
+    'constructors: while let [constructor, after @ ..] = rest {
+        let count = count_types(alloc, exprs, constructor.fields)?;
+        rows.push(RowDecl {
+            name: constructor.name.name,
+            owner: declaration.name.name,
+            declaration: place,
+            fields: constructor.fields,
+            count,
+        })?;
+        rest = after;
+    }
+    Ok(())
+}
+
+/// All constructors, in the order of the text.
+fn list_rows(alloc: Global, program: &GenericProgram) -> Result<Vec<RowDecl>, Memory>
+    ensures { IfOk result (λ rows. rows.items ≡ all_rows program.now.exprs.words 0 program.now.datas) }
+{
+    let mut rows = Vec::new(alloc);
+    let mut place = 0_u32;
+    let mut rest = program.datas();
+    'datas: while let [declaration, after @ ..] = rest {
+        push_rows(alloc, &mut rows, program.exprs(), place, declaration)?;
+        let Some(next) = place.checked_add(1) else {
+            return Err(AllocError);
+        };
+        place = next;
+        rest = after;
+    }
+    Ok(rows)
+}
+
+impl Named {
+    ghost use Rattle.gib_syntax.specs.GenericArena.{Opens, IsRunWithin};
+
+    /// A program with the places of its names.
+    ///
+    /// # Errors
+    ///
+    /// Want of memory.
+    pub fn make(alloc: Global, program: GenericProgram) -> Result<Named, Memory>
+        ensures { IfOk result (λ named. named ≡ program) }
+    {
+        let types = list_types(alloc, &program)?;
+        let functions = list_functions(alloc, &program)?;
+        let rows = list_rows(alloc, &program)?;
+        let constructors = list_constructors(alloc, &rows)?;
+        Ok(Named {
+            program,
+            types,
+            constructors,
+            functions,
+            rows,
+        })
+    }
+
+    /// The program.
+    pub fn program(&self) -> &GenericProgram
+        ensures { result.now ≡ self.now }
+    {
+        &self.program
+    }
+
+    /// The program alone.
+    pub fn into_program(self) -> GenericProgram
+        ensures { result ≡ self }
+    {
+        self.program
+    }
+
+    /// The words of a run.
+    pub fn words(&self, run: Run) -> &[Word]
+        ensures { result.now ≡ run_words self.now.exprs.words run }
+    {
+        self.program.exprs().words(run)
+    }
+
+    /// The expression of a number.
+    pub fn node(&self, id: ExprId) -> &GenericNode
+        requires { id.0 < length self.now.exprs.nodes }
+        ensures opens { Opens self.now.exprs id.0 result.now }
+        ensures within { IsRunWithin result.now self.now.exprs.words }
+    {
+        self.program.exprs().node(id)
+    }
+
+    /// How many type variables the declared type of a name has; None where there is none.
+    pub fn arity(&self, name: Name) -> Option<usize>
+        ensures { result ≡ arity_of (data_named (generic_globals self.now).datas name.0) }
+    {
+        match self.types.place(name) {
+            Some(place) => Some(self.program.datas()[place as usize].variables.len()),
+            None => None,
+        }
+    }
+
+    /// The constructor of a name; None where there is none.
+    pub fn row(&self, name: Name) -> Option<RowDecl>
+        ensures row { row_option self.now result ≡ rule.row_named (generic_globals self.now).rows name.0 }
+        ensures count { rule.field_count (row_option self.now result) ≡ count_of result }
+    {
+        match self.constructors.place(name) {
+            Some(place) => Some(self.rows[place as usize]),
+            None => None,
+        }
+    }
+
+    /// The constructor of a name.
+    pub fn constructor(&self, k: Ident) -> Result<RowDecl, TypeFault>
+        ensures row { Gives (λ r. row_in self.now r) result (rule.constructor (generic_globals self.now).rows k) }
+        ensures count { IfOk result (λ r. r.count ≡ length (row_in self.now r).fields) }
+    {
+        match self.row(k.name) {
+            Some(row) => Ok(row),
+            None => Err(broken(Kind::Unknown, k.span)),
+        }
+    }
+
+    /// All constructors, in the order of the text.
+    pub fn rows(&self) -> &[RowDecl]
+        ensures { map (row_in self.now) result.now ≡ (generic_globals self.now).rows }
+    {
+        &self.rows
+    }
+
+    /// The type variables of the declaration of a place.
+    pub fn variables(&self, place: u32) -> &[Ident]
+        ensures { result.now ≡ variables_at self.now.datas place }
+    {
+        match self.program.datas().get(place as usize) {
+            Some(declaration) => &declaration.variables,
+            None => &[],
+        }
+    }
+
+    /// The function of a name.
+    pub fn function(&self, f: Ident) -> Result<&GenericFunction, TypeFault>
+        ensures { Gives (λ d. function_in self.now.exprs d.now) result (rule.function (generic_globals self.now).functions f) }
+    {
+        match self.functions.place(f.name) {
+            Some(place) => Ok(&self.program.functions()[place as usize]),
+            None => Err(broken(Kind::Unknown, f.span)),
+        }
+    }
+}

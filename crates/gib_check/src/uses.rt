@@ -1,0 +1,116 @@
+//! Types at uses of functions and constructors.
+
+ghost use Rattle.std.specs.Prelude.{◌≡◌, ◌<◌, map, length, IfOk};
+ghost use Rattle.gib_types.specs.Types.{forms_at, AreBelow};
+ghost use Rattle.gib_syntax.specs.Forms.{formed, formed_all, count_written, assign};
+ghost use Rattle.gib_syntax.specs.GenericTree.{GenericParameterTree};
+ghost use Rattle.gib_syntax.specs.GenericTyping.{variable_numbers, opaque, field_forms};
+ghost use Rattle.gib_syntax.specs.GenericParts.{parameter_in};
+ghost use Rattle.gib_syntax.specs.Words.{IsTypesRun, types_in};
+ghost use Rattle.gib_check.specs.Answers.{Gives};
+ghost use Rattle.gib_check.specs.Faults as rule;
+ghost use Rattle.gib_check.specs.Judging.{forms, listed, Keeps, meant_by, IsMeaningBelow};
+ghost use Rattle.gib_check.specs.NameViews.{generic_globals, row_in};
+
+use crate::fault::TypeFault;
+use crate::known::all_known;
+use crate::named::{Named, RowDecl};
+use crate::reading::Meaning;
+use crate::rules::as_many;
+use crate::state::State;
+use gib_base::{Memory, Name};
+use gib_syntax::{GenericParameter, Ident, Run};
+use gib_types::types::TypeId;
+
+/// The type arguments at a use, of which there have to be as many as type variables: their number, their names.
+pub fn type_arguments(
+    named: &Named,
+    variables: &[Ident],
+    state: &mut State,
+    due: usize,
+    at: Ident,
+    run: Run,
+) -> Result<Vec<TypeId>, TypeFault>
+    requires { IsTypesRun named.now.exprs.words run }
+    ensures read { Gives (λ _. tt {0}) result
+        (rule.and_then (rule.as_many (count_written (types_in named.now.exprs.words run)) due at) (λ _. rule.all_known (generic_globals named.now).datas (variable_numbers variables.now) (types_in named.now.exprs.words run))) }
+    ensures types { IfOk result (λ ids. forms_at (forms state.new) ids.items ≡ formed_all opaque (types_in named.now.exprs.words run)) }
+    ensures below { IfOk result (λ ids. AreBelow (length state.new.types) ids.items) }
+    ensures keeps { Keeps state.old state.new }
+{
+    let ids = state.read(&Meaning::Opaque, named.words(run))?;
+    as_many(ids.len(), due, at)?;
+    all_known(named, variables, run)?;
+    Ok(ids)
+}
+
+/// What these type variables stand for.
+pub fn given(state: &State, variables: &[Ident], types: &[TypeId]) -> Result<Meaning, Memory>
+    requires { AreBelow (length state.now.types) types.now }
+    ensures meant { IfOk result (λ meaning. meant_by (forms state.now) meaning ≡ assign variables.now (forms_at (forms state.now) types.now)) }
+    ensures below { IfOk result (λ meaning. IsMeaningBelow (length state.now.types) meaning) }
+{
+    let names = Vec::from_slice(state.alloc(), variables)?;
+    let ids = Vec::from_slice(state.alloc(), types)?;
+    Ok(Meaning::Given(names, ids))
+}
+
+/// The types of a constructor's fields, where its type's variables stand for these types.
+pub fn row_fields(
+    named: &Named,
+    state: &mut State,
+    row: RowDecl,
+    types: &[TypeId],
+) -> Result<Vec<TypeId>, Memory>
+    requires { AreBelow (length state.old.types) types.now }
+    ensures types { IfOk result (λ ids. listed (forms state.new) ids.items ≡ field_forms (row_in named.now row) (forms_at (forms state.old) types.now)) }
+    ensures below { IfOk result (λ ids. AreBelow (length state.new.types) ids.items) }
+    ensures keeps { Keeps state.old state.new }
+{
+    let meaning = given(state, named.variables(row.declaration), types)?;
+    let ids = state.read(&meaning, named.words(row.fields))?;
+    Ok(ids)
+}
+
+/// The types of the fields of the constructor of a name, none where it is not declared.
+pub fn fields_named(
+    named: &Named,
+    state: &mut State,
+    name: Name,
+    types: &[TypeId],
+) -> Result<Vec<TypeId>, Memory>
+    requires { AreBelow (length state.old.types) types.now }
+    ensures types { IfOk result (λ ids. listed (forms state.new) ids.items ≡ rule.fields_if (rule.row_named (generic_globals named.now).rows name.0) (forms_at (forms state.old) types.now)) }
+    ensures below { IfOk result (λ ids. AreBelow (length state.new.types) ids.items) }
+    ensures keeps { Keeps state.old state.new }
+{
+    match named.row(name) {
+        Some(row) => {
+            let ids = row_fields(named, state, row, types)?;
+            Ok(ids)
+        }
+        None => Ok(Vec::new(state.alloc())),
+    }
+}
+
+/// The types of parameters.
+pub fn parameter_types(
+    named: &Named,
+    state: &mut State,
+    meaning: &Meaning,
+    parameters: &[GenericParameter],
+) -> Result<Vec<TypeId>, Memory>
+    requires { IsMeaningBelow (length state.old.types) meaning.now }
+    ensures types { IfOk result (λ ids. listed (forms state.new) ids.items ≡ map (λ (q : GenericParameterTree). formed (meant_by (forms state.old) meaning.now) q.ty) (map (parameter_in named.now.exprs.words) parameters.now)) }
+    ensures below { IfOk result (λ ids. AreBelow (length state.new.types) ids.items) }
+    ensures keeps { IfOk result (λ _. Keeps state.old state.new) }
+{
+    let mut ids = Vec::new(state.alloc());
+    let mut rest = parameters;
+    'parameters: while let [parameter, after @ ..] = rest {
+        let id = state.read_first(meaning, named.words(parameter.ty))?;
+        ids.push(id)?;
+        rest = after;
+    }
+    Ok(ids)
+}
