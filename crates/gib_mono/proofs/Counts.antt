@@ -1,0 +1,64 @@
+-- A copy has as many expressions and variables.
+use Rattle.std.proofs.Common.{◌≡◌, refl, arith}
+use Rattle.gib_syntax.specs.Declarations.{number_of}
+use Rattle.gib_syntax.specs.Typing.{expressions, all_expressions, arm_expressions, bindings, all_bindings, arm_bindings}
+use Rattle.gib_syntax.specs.Forms.{Forms, Meant}
+use Rattle.gib_syntax.specs.GenericTree.{GenericExpression, GenericArguments, GenericArms, GenericVar, GenericNum, GenericBit, GenericParen, GenericOp, GenericCall, GenericMake, GenericLet, GenericPar, GenericIf, GenericCase, GenericNoArgument, GenericArgument, GenericLastArm, GenericNextArm, GenericGlobals, place_named}
+use Rattle.gib_syntax.specs.GenericTyping.{FormScope, form_in, form_bound, generic_expressions, all_generic_expressions, arm_generic_expressions, generic_bindings, all_generic_bindings, arm_generic_bindings}
+use Rattle.gib_mono.specs.Copying.{Naming, copy, copy_all, copy_arms, form_of, arguments_of, forms_named, bind_forms}
+use Rattle.gib_types.specs.Form.{form_or}
+
+mutual
+  pub same_expressions : (g : GenericGlobals) (nm : Naming) (m : Meant) (scope : FormScope) (e : GenericExpression) → expressions (copy g nm m scope e) ≡ generic_expressions e
+  same_expressions g nm m scope (GenericVar x) = refl
+  same_expressions g nm m scope (GenericNum p n) = refl
+  same_expressions g nm m scope (GenericBit p b) = refl
+  same_expressions g nm m scope (GenericParen p e) = same_expressions g nm m scope e
+  same_expressions g nm m scope (GenericOp p f a b) = let x = same_expressions g nm m scope a in let y = same_expressions g nm m scope b in omega (arith, x, y)
+  same_expressions g nm m scope (GenericCall f ws xs) = let x = all_same_expressions g nm m scope xs in omega (arith, x)
+  same_expressions g nm m scope (GenericMake k ws xs) = let x = all_same_expressions g nm m scope xs in omega (arith, x)
+  same_expressions g nm m scope (GenericLet p x a b) =
+      let u = same_expressions g nm m scope a in let v = same_expressions g nm m (form_bound x (form_of g m scope a) scope) b in omega (arith, u, v)
+  same_expressions g nm m scope (GenericPar p x a y b c) =
+      let u = same_expressions g nm m scope a in let v = same_expressions g nm m scope b in
+      let w = same_expressions g nm m (form_bound y (form_of g m scope b) (form_bound x (form_of g m scope a) scope)) c in omega (arith, u, v, w)
+  same_expressions g nm m scope (GenericIf p a b c) =
+      let u = same_expressions g nm m scope a in let v = same_expressions g nm m scope b in let w = same_expressions g nm m scope c in omega (arith, u, v, w)
+  same_expressions g nm m scope (GenericCase p x arms) = let u = arms_same_expressions g nm m scope (arguments_of (form_or (form_in scope (number_of x)))) arms in omega (arith, u)
+
+  all_same_expressions : (g : GenericGlobals) (nm : Naming) (m : Meant) (scope : FormScope) (xs : GenericArguments) → all_expressions (copy_all g nm m scope xs) ≡ all_generic_expressions xs
+  all_same_expressions g nm m scope GenericNoArgument = refl
+  all_same_expressions g nm m scope (GenericArgument a xs) = let u = same_expressions g nm m scope a in let v = all_same_expressions g nm m scope xs in omega (arith, u, v)
+
+  arms_same_expressions : (g : GenericGlobals) (nm : Naming) (m : Meant) (scope : FormScope) (ts : Forms) (arms : GenericArms) → arm_expressions (copy_arms g nm m scope ts arms) ≡ arm_generic_expressions arms
+  arms_same_expressions g nm m scope ts (GenericLastArm k xs e) = same_expressions g nm m (bind_forms xs (forms_named g.rows (place_named g.rows (number_of k)) ts) scope) e
+  arms_same_expressions g nm m scope ts (GenericNextArm k xs e arms) =
+      let u = same_expressions g nm m (bind_forms xs (forms_named g.rows (place_named g.rows (number_of k)) ts) scope) e in let v = arms_same_expressions g nm m scope ts arms in omega (arith, u, v)
+
+mutual
+  pub same_bindings : (g : GenericGlobals) (nm : Naming) (m : Meant) (scope : FormScope) (e : GenericExpression) → bindings (copy g nm m scope e) ≡ generic_bindings e
+  same_bindings g nm m scope (GenericVar x) = refl
+  same_bindings g nm m scope (GenericNum p n) = refl
+  same_bindings g nm m scope (GenericBit p b) = refl
+  same_bindings g nm m scope (GenericParen p e) = same_bindings g nm m scope e
+  same_bindings g nm m scope (GenericOp p f a b) = let x = same_bindings g nm m scope a in let y = same_bindings g nm m scope b in omega (arith, x, y)
+  same_bindings g nm m scope (GenericCall f ws xs) = all_same_bindings g nm m scope xs
+  same_bindings g nm m scope (GenericMake k ws xs) = all_same_bindings g nm m scope xs
+  same_bindings g nm m scope (GenericLet p x a b) =
+      let u = same_bindings g nm m scope a in let v = same_bindings g nm m (form_bound x (form_of g m scope a) scope) b in omega (arith, u, v)
+  same_bindings g nm m scope (GenericPar p x a y b c) =
+      let u = same_bindings g nm m scope a in let v = same_bindings g nm m scope b in
+      let w = same_bindings g nm m (form_bound y (form_of g m scope b) (form_bound x (form_of g m scope a) scope)) c in omega (arith, u, v, w)
+  same_bindings g nm m scope (GenericIf p a b c) =
+      let u = same_bindings g nm m scope a in let v = same_bindings g nm m scope b in let w = same_bindings g nm m scope c in omega (arith, u, v, w)
+  same_bindings g nm m scope (GenericCase p x arms) = arms_same_bindings g nm m scope (arguments_of (form_or (form_in scope (number_of x)))) arms
+
+  all_same_bindings : (g : GenericGlobals) (nm : Naming) (m : Meant) (scope : FormScope) (xs : GenericArguments) → all_bindings (copy_all g nm m scope xs) ≡ all_generic_bindings xs
+  all_same_bindings g nm m scope GenericNoArgument = refl
+  all_same_bindings g nm m scope (GenericArgument a xs) = let u = same_bindings g nm m scope a in let v = all_same_bindings g nm m scope xs in omega (arith, u, v)
+
+  arms_same_bindings : (g : GenericGlobals) (nm : Naming) (m : Meant) (scope : FormScope) (ts : Forms) (arms : GenericArms) → arm_bindings (copy_arms g nm m scope ts arms) ≡ arm_generic_bindings arms
+  arms_same_bindings g nm m scope ts (GenericLastArm k xs e) =
+      let u = same_bindings g nm m (bind_forms xs (forms_named g.rows (place_named g.rows (number_of k)) ts) scope) e in omega (arith, u)
+  arms_same_bindings g nm m scope ts (GenericNextArm k xs e arms) =
+      let u = same_bindings g nm m (bind_forms xs (forms_named g.rows (place_named g.rows (number_of k)) ts) scope) e in let v = arms_same_bindings g nm m scope ts arms in omega (arith, u, v)

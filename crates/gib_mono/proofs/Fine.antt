@@ -1,0 +1,63 @@
+-- The copy of a tree of the grammar is one.
+use Rattle.std.proofs.Common.{◌≡◌, refl, ◌∙◌}
+use Rattle.gib_syntax.specs.Fine.{is_atom, is_application, IsFine, AreFine, HasFine}
+use Rattle.gib_syntax.specs.Forms.{Forms, Meant}
+use Rattle.gib_syntax.specs.GenericTree.{GenericExpression, GenericArguments, GenericArms, GenericVar, GenericNum, GenericBit, GenericParen, GenericOp, GenericCall, GenericMake, GenericLet, GenericPar, GenericIf, GenericCase, GenericNoArgument, GenericArgument, GenericLastArm, GenericNextArm, GenericGlobals, place_named}
+use Rattle.gib_syntax.specs.GenericFine.{is_generic_atom, is_generic_application, IsGenericFine, AreGenericFine, HasGenericFine}
+use Rattle.gib_syntax.specs.GenericTyping.{FormScope, form_in, form_bound}
+use Rattle.gib_mono.specs.Copying.{Naming, form_of, arguments_of, forms_named, bind_forms, copy, copy_all, copy_arms}
+use Rattle.gib_types.specs.Form.{form_or}
+use Rattle.gib_syntax.specs.Declarations.{number_of}
+
+pub atom_copied : (g : GenericGlobals) (nm : Naming) (m : Meant) (scope : FormScope) (e : GenericExpression) → is_atom (copy g nm m scope e) ≡ is_generic_atom e
+atom_copied g nm m scope (GenericVar x) = refl
+atom_copied g nm m scope (GenericNum p n) = refl
+atom_copied g nm m scope (GenericBit p b) = refl
+atom_copied g nm m scope (GenericParen p e) = refl
+atom_copied g nm m scope (GenericOp p f a b) = refl
+atom_copied g nm m scope (GenericCall f ws xs) = refl
+atom_copied g nm m scope (GenericMake k ws GenericNoArgument) = refl
+atom_copied g nm m scope (GenericMake k ws (GenericArgument a xs)) = refl
+atom_copied g nm m scope (GenericLet p x a b) = refl
+atom_copied g nm m scope (GenericPar p x a y b c) = refl
+atom_copied g nm m scope (GenericIf p a b c) = refl
+atom_copied g nm m scope (GenericCase p x arms) = refl
+
+pub application_copied : (g : GenericGlobals) (nm : Naming) (m : Meant) (scope : FormScope) (e : GenericExpression) → is_application (copy g nm m scope e) ≡ is_generic_application e
+application_copied g nm m scope (GenericVar x) = refl
+application_copied g nm m scope (GenericNum p n) = refl
+application_copied g nm m scope (GenericBit p b) = refl
+application_copied g nm m scope (GenericParen p e) = refl
+application_copied g nm m scope (GenericOp p f a b) = refl
+application_copied g nm m scope (GenericCall f ws xs) = refl
+application_copied g nm m scope (GenericMake k ws xs) = refl
+application_copied g nm m scope (GenericLet p x a b) = refl
+application_copied g nm m scope (GenericPar p x a y b c) = refl
+application_copied g nm m scope (GenericIf p a b c) = refl
+application_copied g nm m scope (GenericCase p x arms) = refl
+
+mutual
+  pub fine_copied : (g : GenericGlobals) (nm : Naming) (m : Meant) (scope : FormScope) (e : GenericExpression) → IsGenericFine e → IsFine (copy g nm m scope e)
+  fine_copied g nm m scope (GenericVar x) h = tt {0}
+  fine_copied g nm m scope (GenericNum p n) h = h
+  fine_copied g nm m scope (GenericBit p b) h = tt {0}
+  fine_copied g nm m scope (GenericParen p e) h = fine_copied g nm m scope e h
+  fine_copied g nm m scope (GenericOp p f a b) h =
+      (fine_copied g nm m scope a h.0, fine_copied g nm m scope b h.1, application_copied g nm m scope a ∙ h.2, application_copied g nm m scope b ∙ h.3)
+  fine_copied g nm m scope (GenericCall f ws GenericNoArgument) h = absurd h
+  fine_copied g nm m scope (GenericCall f ws (GenericArgument a xs)) h = (fine_copied g nm m scope a h.0, atom_copied g nm m scope a ∙ h.1, all_fine_copied g nm m scope xs h.2)
+  fine_copied g nm m scope (GenericMake k ws xs) h = all_fine_copied g nm m scope xs h
+  fine_copied g nm m scope (GenericLet p x a b) h = (fine_copied g nm m scope a h.0, fine_copied g nm m (form_bound x (form_of g m scope a) scope) b h.1)
+  fine_copied g nm m scope (GenericPar p x a y b c) h =
+      (fine_copied g nm m scope a h.0, fine_copied g nm m scope b h.1, fine_copied g nm m (form_bound y (form_of g m scope b) (form_bound x (form_of g m scope a) scope)) c h.2)
+  fine_copied g nm m scope (GenericIf p a b c) h = (fine_copied g nm m scope a h.0, fine_copied g nm m scope b h.1, fine_copied g nm m scope c h.2)
+  fine_copied g nm m scope (GenericCase p x arms) h = arms_fine_copied g nm m scope (arguments_of (form_or (form_in scope (number_of x)))) arms h
+
+  pub all_fine_copied : (g : GenericGlobals) (nm : Naming) (m : Meant) (scope : FormScope) (xs : GenericArguments) → AreGenericFine xs → AreFine (copy_all g nm m scope xs)
+  all_fine_copied g nm m scope GenericNoArgument h = tt {0}
+  all_fine_copied g nm m scope (GenericArgument a xs) h = (fine_copied g nm m scope a h.0, atom_copied g nm m scope a ∙ h.1, all_fine_copied g nm m scope xs h.2)
+
+  pub arms_fine_copied : (g : GenericGlobals) (nm : Naming) (m : Meant) (scope : FormScope) (ts : Forms) (arms : GenericArms) → HasGenericFine arms → HasFine (copy_arms g nm m scope ts arms)
+  arms_fine_copied g nm m scope ts (GenericLastArm k xs e) h = fine_copied g nm m (bind_forms xs (forms_named g.rows (place_named g.rows (number_of k)) ts) scope) e h
+  arms_fine_copied g nm m scope ts (GenericNextArm k xs e arms) h =
+      (fine_copied g nm m (bind_forms xs (forms_named g.rows (place_named g.rows (number_of k)) ts) scope) e h.0, arms_fine_copied g nm m scope ts arms h.1)

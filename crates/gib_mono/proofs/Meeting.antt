@@ -1,0 +1,219 @@
+-- Types that are met and variables that come into scope.
+use Rattle.std.proofs.Common.{◌≡◌, ℕ, zero, suc, ◌<◌, List, [], ◌∷◌, ◌++◌, length, map, slice_get, get_or, Some, None, refl, sym, ap, ap₂, ◌∙◌, arith, subst}
+use Rattle.gib_types.specs.declared.types.TypeId.{TypeId}
+use Rattle.gib_types.specs.Form.{Form, Forms, Meant}
+use Rattle.gib_types.specs.Types.{form_at, forms_of, AreBelow, GrowsTo}
+use Rattle.gib_syntax.specs.declared.tree.Ident.{Ident}
+use Rattle.gib_syntax.specs.declared.written.Word.{Word}
+use Rattle.gib_syntax.specs.declared.program.GenericConstructor.{GenericConstructor}
+use Rattle.gib_syntax.specs.declared.program.GenericData.{GenericData}
+use Rattle.gib_syntax.specs.declared.program.GenericFunction.{GenericFunction}
+use Rattle.gib_syntax.specs.Declarations.{number_of, place_of}
+use Rattle.gib_syntax.specs.Forms.{WrittenType, formed, assign}
+use Rattle.gib_syntax.specs.Words.{stack_of, first_type, run_words}
+use Rattle.gib_syntax.specs.GenericParts.{GenericParts, function_in, data_in, constructor_in}
+use Rattle.gib_syntax.specs.GenericTree.{GenericFunctionTree, GenericDataTree, GenericConstructorTree, GenericRow, generic_named, place_named}
+use Rattle.gib_syntax.specs.GenericTyping.{FormScope, form_bound}
+use Rattle.gib_mono.specs.declared.copier.Copier.{Copier}
+use Rattle.gib_mono.specs.declared.source.RowPlace.{RowPlace}
+use Rattle.gib_mono.specs.declared.reading.Reading.{Reading}
+use Rattle.gib_mono.specs.Copying.{result_at, forms_named, bind_forms, forms_at as row_forms}
+use Rattle.gib_mono.specs.Made.{Stays, Meets, MeetsAll, Binds, IsRowOf, first_form}
+use Rattle.gib_mono.specs.Reading.{listed}
+use Rattle.gib_mono.specs.Scenes.{Scenery, forms, scope_in, Keeps, ReadsIn}
+use Rattle.gib_mono.specs.Sources.{globals_in}
+use Rattle.gib_mono.proofs.InScene.{scope_last}
+use Rattle.gib_mono.proofs.Making.{stays_same, stays_on, grows_same, grows_on as nodes_grow_on}
+use Rattle.gib_mono.proofs.Read.{grows_none, below_more}
+use Rattle.gib_mono.proofs.Sourcing.{RowThere}
+
+abbrev pub with_scene : Copier → Scenery → Copier
+with_scene s k = record { alloc = s.alloc; scene = k; base = s.base; exprs = s.exprs }
+
+pub scene_stays : (s : Copier) (k : Scenery) → Keeps s.scene k → Stays s (with_scene s k)
+scene_stays s k h = record { keeps = h; base = refl; grows = (stays_same s).grows }
+
+some_is : {A : Type 0} (x y : A) → Some x ≡ Some y → x ≡ y
+some_is x y e = cc
+
+get_mapped : {A B : Type 0} (f : A → B) (xs : List A) (i : ℕ) (x : A) → slice_get xs i ≡ Some x → slice_get (map f xs) i ≡ Some (f x)
+get_mapped f [] i x e = absurd cc
+get_mapped f (y ∷ xs) zero x e = let g : y ≡ x = some_is y x e in ap (λ z. Some (f z)) g
+get_mapped f (y ∷ xs) (suc i) x e = get_mapped f xs i x e
+
+-- results
+
+first_formed : (m : Meant) (st : List WrittenType) → first_form (map (formed m) st) ≡ formed m (first_type st)
+first_formed m [] = refl
+first_formed m (w ∷ st) = refl
+
+pub result_met : (p : GenericParts) (s0 s2 : Copier) (k : Scenery) (id : TypeId) (place f : ℕ) (h : GenericFunctionTree) (decl : GenericFunction) (vs : List Ident) (ts : Forms) (words : List Word) (r : Reading) → slice_get (globals_in p).functions place ≡ Some h → generic_named (globals_in p).functions f ≡ Some h
+    → slice_get p.functions place ≡ Some decl → vs ≡ decl.variables.items → words ≡ run_words p.exprs.words decl.result → ReadsIn s0.scene k (assign vs ts) words r → Meets (with_scene s0 k) s2 id (first_form (listed (forms k) r.types)) → Meets s0 s2 id (result_at (generic_named (globals_in p).functions f) ts)
+result_met p s0 s2 k id place f h decl vs ts words r there named at v w read m =
+    let is : function_in p.exprs decl ≡ h = some_is (function_in p.exprs decl) h (sym (get_mapped (function_in p.exprs) p.functions place decl at) ∙ there) in
+    record {
+      stays = stays_on s0 (with_scene s0 k) s2 (scene_stays s0 k read.keeps) m.stays;
+      below = m.below;
+      form = m.form ∙ ap first_form read.types ∙ first_formed (assign vs ts) (stack_of words) ∙ ap₂ (λ l ws. formed (assign l ts) (first_type (stack_of ws))) v w
+          ∙ ap (λ o. result_at o ts) (ap Some is ∙ sym named);
+    }
+
+-- fields
+
+pub fields_met : (p : GenericParts) (s0 : Copier) (k : Scenery) (q : RowPlace) (x : ℕ) (decl' : GenericData) (con : GenericConstructor) (vs : List Ident) (ts : Forms) (words : List Word) (r : Reading) (row : IsRowOf p q x) → slice_get p.datas q.owner ≡ Some decl' → slice_get decl'.constructors.items q.constructor ≡ Some con
+    → vs ≡ decl'.variables.items → words ≡ run_words p.exprs.words con.fields → ReadsIn s0.scene k (assign vs ts) words r → MeetsAll s0 (with_scene s0 k) r.types (forms_named (globals_in p).rows (place_named (globals_in p).rows x) ts)
+fields_met p s0 k q x decl con vs ts words r row at in_it v w read =
+    let same : decl ≡ row.decl = some_is decl row.decl (sym at ∙ row.there) in
+    let one : con ≡ row.con = some_is con row.con (sym in_it ∙ ap (λ (d : GenericData). slice_get d.constructors.items q.constructor) same ∙ row.at) in
+    record {
+      stays = scene_stays s0 k read.keeps;
+      below = read.below.0;
+      forms = read.types ∙ ap₂ (λ l ws. map (formed (assign l ts)) (stack_of ws)) (v ∙ ap (λ (d : GenericData). d.variables.items) same) (w ∙ ap (λ (c : GenericConstructor). run_words p.exprs.words c.fields) one) ∙ sym (row.fields ts);
+    }
+
+pub no_fields : (p : GenericParts) (s : Copier) (ids : List TypeId) (x : ℕ) (ts : Forms) → ids ≡ [] → place_named (globals_in p).rows x ≡ None → MeetsAll s s ids (forms_named (globals_in p).rows (place_named (globals_in p).rows x) ts)
+no_fields p s ids x ts e none = rw e (record { stays = stays_same s; below = tt; forms = sym (ap (λ o. forms_named (globals_in p).rows o ts) none) })
+
+get_below : {A : Type 0} (xs : List A) (i : ℕ) (x : A) → slice_get xs i ≡ Some x → i < length xs
+get_below [] i x e = absurd cc
+get_below (y ∷ xs) zero x e = omega arith
+get_below (y ∷ xs) (suc i) x e = let l = get_below xs i x e in omega (arith, l)
+
+length_map : {A B : Type 0} (f : A → B) (xs : List A) → length (map f xs) ≡ length xs
+length_map f [] = refl
+length_map f (x ∷ xs) = let e = length_map f xs in omega (arith, e)
+
+pub owner_inside : (p : GenericParts) (q : RowPlace) (x : ℕ) → IsRowOf p q x → q.owner < length (globals_in p).datas
+owner_inside p q x h = let l = get_below p.datas q.owner h.decl h.there in let e = length_map (data_in p.exprs.words) p.datas in omega (arith, l, e)
+
+pub con_inside : (p : GenericParts) (q : RowPlace) (x : ℕ) (decl : GenericData) → IsRowOf p q x → slice_get p.datas q.owner ≡ Some decl → q.constructor < length decl.constructors.items
+con_inside p q x decl h at = subst (λ (d : GenericData). q.constructor < length d.constructors.items) (some_is h.decl decl (sym h.there ∙ at)) (get_below h.decl.constructors.items q.constructor h.con h.at)
+
+pub get_there : {A : Type 0} (xs : List A) (i : ℕ) (x : A) → i < length xs → x ≡ get_or xs i x → slice_get xs i ≡ Some x
+get_there [] i x l e = absurd (omega (arith, l))
+get_there (y ∷ xs) zero x l e = ap Some (sym e)
+get_there (y ∷ xs) (suc i) x l e = get_there xs i x (omega (arith, l)) e
+
+-- the row of a constructor's name, from where it is declared
+
+record DataFrom (words : List Word) (ds : List GenericData) (i : ℕ) (d : GenericDataTree) : Type 0 where
+  decl : GenericData
+  there : slice_get ds i ≡ Some decl
+  is : data_in words decl ≡ d
+
+data_from : (words : List Word) (ds : List GenericData) (i : ℕ) (d : GenericDataTree) → slice_get (map (data_in words) ds) i ≡ Some d → DataFrom words ds i d
+data_from words [] i d e = absurd cc
+data_from words (x ∷ ds) zero d e = record { decl = x; there = refl; is = some_is (data_in words x) d e }
+data_from words (x ∷ ds) (suc i) d e = let h = data_from words ds i d e in record { decl = h.decl; there = h.there; is = h.is }
+
+record ConFrom (words : List Word) (cs : List GenericConstructor) (i : ℕ) (c : GenericConstructorTree) : Type 0 where
+  con : GenericConstructor
+  there : slice_get cs i ≡ Some con
+  is : constructor_in words con ≡ c
+
+con_from : (words : List Word) (cs : List GenericConstructor) (i : ℕ) (c : GenericConstructorTree) → slice_get (map (constructor_in words) cs) i ≡ Some c → ConFrom words cs i c
+con_from words [] i c e = absurd cc
+con_from words (x ∷ cs) zero c e = record { con = x; there = refl; is = some_is (constructor_in words x) c e }
+con_from words (x ∷ cs) (suc i) c e = let h = con_from words cs i c e in record { con = h.con; there = h.there; is = h.is }
+
+pub row_is : (p : GenericParts) (q : RowPlace) (place x : ℕ) → RowThere (globals_in p).datas (globals_in p).rows q place → Some place ≡ place_named (globals_in p).rows x → IsRowOf p q x
+row_is p q place x t e =
+    let d = data_from p.exprs.words p.datas q.owner t.decl t.there in
+    let c = con_from p.exprs.words d.decl.constructors.items q.constructor t.con (ap (λ (y : GenericDataTree). slice_get y.constructors q.constructor) d.is ∙ t.at) in
+    record {
+      decl = d.decl;
+      there = d.there;
+      con = c.con;
+      at = c.there;
+      fields = λ ts. ap (λ o. forms_named (globals_in p).rows o ts) (sym e) ∙ ap (λ o. row_forms o ts) t.is
+          ∙ ap₂ (λ (y : GenericDataTree) (k : GenericConstructorTree). map (formed (assign y.variables ts)) k.fields) (sym d.is) (sym c.is);
+    }
+
+pub no_row : (p : GenericParts) (names : List ℕ) (x : ℕ) → names ≡ map (λ (r : GenericRow). r.name) (globals_in p).rows → None ≡ place_of names x → place_named (globals_in p).rows x ≡ None
+no_row p names x e h = ap (λ l. place_of l x) (sym e) ∙ sym h
+
+-- variables in scope
+
+pub bound : (s : Copier) (x : Ident) (ty : TypeId) (k : Scenery) → k ≡ record s.scene { scope = s.scene.scope ++ record { name = number_of x; ty = ty } ∷ [] } → Binds s (with_scene s k) (form_bound x (form_at (forms s.scene) ty.0) (scope_in s.scene))
+bound s x ty k e = rw e (record {
+  puts = grows_same s.exprs;
+  base = refl;
+  grows = grows_none (forms s.scene);
+  longer = omega arith;
+  meaning = refl;
+  names = refl;
+  scope = scope_last (forms s.scene) s.scene.scope (record { name = number_of x; ty = ty });
+  more = record { name = number_of x; ty = ty } ∷ [];
+  kept = refl;
+})
+
+pub record BoundSoFar (old now : Copier) (names : List Ident) (left : List TypeId) (whole : FormScope) : Type 0 where
+  pub scope : FormScope
+  pub binds : Binds old now scope
+  pub same : now.scene.types ≡ old.scene.types
+  pub below : AreBelow (length old.scene.types) left
+  pub is : bind_forms names (listed (forms old.scene) left) scope ≡ whole
+
+append_nil : {A : Type 0} (xs : List A) → xs ++ [] ≡ xs
+append_nil [] = refl
+append_nil (x ∷ xs) = ap (λ l. x ∷ l) (append_nil xs)
+
+append_append : {A : Type 0} (xs ys zs : List A) → (xs ++ ys) ++ zs ≡ xs ++ (ys ++ zs)
+append_append [] ys zs = refl
+append_append (x ∷ xs) ys zs = ap (λ l. x ∷ l) (append_append xs ys zs)
+
+pub bound_start : (s : Copier) (names : List Ident) (left : List TypeId) → AreBelow (length s.scene.types) left → BoundSoFar s s names left (bind_forms names (listed (forms s.scene) left) (scope_in s.scene))
+bound_start s names left h = record {
+  scope = scope_in s.scene;
+  binds = record { puts = grows_same s.exprs; base = refl; grows = grows_none (forms s.scene); longer = omega arith; meaning = refl; names = refl; scope = refl; more = []; kept = sym (append_nil s.scene.scope) };
+  same = refl;
+  below = h;
+  is = refl;
+}
+
+pub bound_next : (old now new : Copier) (names after : List Ident) (left rest : List TypeId) (whole : FormScope) (x : Ident) (t : TypeId) → names ≡ x ∷ after → left ≡ t ∷ rest → BoundSoFar old now names left whole
+    → Binds now new (form_bound x (form_at (forms now.scene) t.0) (scope_in now.scene)) → new.scene.types ≡ now.scene.types → BoundSoFar old new after rest whole
+bound_next old now new names after left rest whole x t e f h one same = record {
+  scope = form_bound x (form_at (forms old.scene) t.0) h.scope;
+  binds = record {
+    puts = nodes_grow_on old.exprs now.exprs new.exprs h.binds.puts one.puts;
+    base = one.base ∙ h.binds.base;
+    grows = subst (λ ns. GrowsTo (forms old.scene) (forms_of ns)) (sym (same ∙ h.same)) (grows_none (forms old.scene));
+    longer = (let l = h.binds.longer in let m = one.longer in omega (arith, l, m));
+    meaning = one.meaning ∙ h.binds.meaning;
+    names = one.names ∙ h.binds.names;
+    scope = one.scope ∙ ap₂ (λ g sc. form_bound x g sc) (ap (λ ns. form_at (forms_of ns) t.0) h.same) h.binds.scope;
+    more = h.binds.more ++ one.more;
+    kept = one.kept ∙ ap (λ l. l ++ one.more) h.binds.kept ∙ append_append old.scene.scope h.binds.more one.more;
+  };
+  same = same ∙ h.same;
+  below = (subst (AreBelow (length old.scene.types)) f h.below).1;
+  is = sym (ap₂ (λ l r. bind_forms l (listed (forms old.scene) r) h.scope) e f) ∙ h.is;
+}
+
+pub bound_below : (old now : Copier) (names : List Ident) (left rest : List TypeId) (whole : FormScope) (t : TypeId) → left ≡ t ∷ rest → BoundSoFar old now names left whole → t.0 < length now.scene.types
+bound_below old now names left rest whole t f h = subst (λ ns. t.0 < length ns) (sym h.same) (subst (AreBelow (length old.scene.types)) f h.below).0
+
+nothing_left : (names : List Ident) (sc : FormScope) → bind_forms names [] sc ≡ sc
+nothing_left [] sc = refl
+nothing_left (x ∷ names) sc = refl
+
+pub bound_end : (old now : Copier) (names : List Ident) (left : List TypeId) (whole : FormScope) → names ≡ [] → BoundSoFar old now names left whole → Binds old now whole
+bound_end old now names left whole e h = subst (Binds old now) (sym (ap (λ l. bind_forms l (listed (forms old.scene) left) h.scope) e) ∙ h.is) h.binds
+
+pub bound_stop : (old now : Copier) (names : List Ident) (left : List TypeId) (whole : FormScope) → left ≡ [] → BoundSoFar old now names left whole → Binds old now whole
+bound_stop old now names left whole e h = subst (Binds old now) (sym (ap (λ l. bind_forms names (listed (forms old.scene) l) h.scope) e ∙ nothing_left names h.scope) ∙ h.is) h.binds
+
+pub fields_bound : (s0 s1 s2 : Copier) (variables : List Ident) (ids us : List TypeId) (fields : List Form) → MeetsAll s0 s1 ids fields → us ≡ ids → Binds s1 s2 (bind_forms variables (listed (forms s1.scene) us) (scope_in s1.scene))
+    → Binds s0 s2 (bind_forms variables fields (scope_in s0.scene))
+fields_bound s0 s1 s2 variables ids us fields m e b = record {
+  puts = nodes_grow_on s0.exprs s1.exprs s2.exprs m.stays.grows b.puts;
+  base = b.base ∙ m.stays.base;
+  grows = Rattle.gib_mono.proofs.Read.grows_on s0.scene.types s1.scene.types s2.scene.types m.stays.keeps.grows b.grows;
+  longer = (let l = b.longer in let k = m.stays.keeps.longer in omega (arith, l, k));
+  meaning = b.meaning ∙ m.stays.keeps.meaning;
+  names = b.names ∙ m.stays.keeps.names;
+  scope = b.scope ∙ ap₂ (λ fs sc. bind_forms variables fs sc) (ap (listed (forms s1.scene)) e ∙ m.forms) m.stays.keeps.scope;
+  more = b.more;
+  kept = b.kept ∙ ap (λ l. l ++ b.more) m.stays.keeps.kept;
+}

@@ -1,0 +1,132 @@
+-- What copying leaves.
+use Rattle.std.specs.Prelude.{◌≡◌, ℕ, ◌<◌, ◌≤◌, List, [], ◌∷◌, ◌++◌, length, map, take, slice_get, Some}
+use Rattle.std.specs.List.{AllByRecursion}
+use Rattle.gib_types.specs.Form.{Form, Forms, WholeForm}
+use Rattle.gib_types.specs.declared.types.TypeId.{TypeId}
+use Rattle.gib_types.specs.Types.{form_at, AreBelow, GrowsTo}
+use Rattle.gib_syntax.specs.declared.exprs.ExprId.{ExprId}
+use Rattle.gib_syntax.specs.declared.exprs.Arm.{Arm}
+use Rattle.gib_syntax.specs.declared.exprs.Node.{Node}
+use Rattle.gib_syntax.specs.declared.program.GenericConstructor.{GenericConstructor}
+use Rattle.gib_syntax.specs.declared.program.GenericData.{GenericData}
+use Rattle.gib_syntax.specs.Arena.{tree_of, Grows, Makes, arguments_from}
+use Rattle.gib_syntax.specs.Declarations.{number_of}
+use Rattle.gib_syntax.specs.Forms.{formed, assign}
+use Rattle.gib_syntax.specs.Words.{stack_of, run_words}
+use Rattle.gib_syntax.specs.GenericParts.{GenericParts}
+use Rattle.gib_syntax.specs.GenericTree.{GenericExpression, GenericArguments, GenericGlobals, place_named}
+use Rattle.gib_syntax.specs.GenericTyping.{FormScope}
+use Rattle.gib_mono.specs.declared.copier.Copier.{Copier}
+use Rattle.gib_mono.specs.declared.copier.Copied.{Copied}
+use Rattle.gib_mono.specs.declared.source.RowPlace.{RowPlace}
+use Rattle.gib_mono.specs.Copying.{Naming, renamed, copy, copy_all, form_of, forms_named, bind_forms}
+use Rattle.gib_mono.specs.Naming.{naming_of}
+use Rattle.gib_mono.specs.Reading.{listed}
+use Rattle.gib_mono.specs.Scenes.{forms, meaning, scope_in, names_in, Keeps}
+use Rattle.gib_mono.specs.declared.scene.InScope.{InScope}
+use Rattle.gib_mono.specs.Sources.{globals_in}
+
+-- How copies are named.
+abbrev pub naming : Copier → Naming
+naming s = naming_of s.base (names_in s.scene)
+
+-- Expressions were put, types were met, and nothing else changed.
+pub record Stays (old new : Copier) : Type 0 where
+  pub keeps : Keeps old.scene new.scene
+  pub base : new.base ≡ old.base
+  pub grows : Grows old.exprs new.exprs
+
+-- A type has a number.
+pub record Meets (old new : Copier) (id : TypeId) (f : Form) : Type 0 where
+  pub stays : Stays old new
+  pub below : id.0 < length new.scene.types
+  pub form : form_at (forms new.scene) id.0 ≡ f
+
+-- Types have numbers.
+pub record MeetsAll (old new : Copier) (ids : List TypeId) (fs : List Form) : Type 0 where
+  pub stays : Stays old new
+  pub below : AreBelow (length new.scene.types) ids
+  pub forms : listed (forms new.scene) ids ≡ fs
+
+-- The first of types, `Int` where there is none.
+abbrev pub first_form : List Form → Form
+first_form [] = WholeForm
+first_form (f ∷ fs) = f
+
+-- One more expression was put.
+pub record Puts (old new : Copier) (id : ExprId) (node : Node) : Type 0 where
+  pub scene : new.scene ≡ old.scene
+  pub base : new.base ≡ old.base
+  pub makes : Makes old.exprs new.exprs id.0 node
+
+-- An expression was copied.
+pub record Copies (g : GenericGlobals) (old new : Copier) (c : Copied) (e : GenericExpression) : Type 0 where
+  pub stays : Stays old new
+  pub inside : c.expr.0 < length new.exprs
+  pub below : c.ty.0 < length new.scene.types
+  pub expr : tree_of new.exprs c.expr.0 ≡ copy g (naming old) (meaning old.scene) (scope_in old.scene) e
+  pub form : form_at (forms new.scene) c.ty.0 ≡ form_of g (meaning old.scene) (scope_in old.scene) e
+
+-- Arguments were.
+pub record CopiesAll (g : GenericGlobals) (old new : Copier) (ids : List ExprId) (es : GenericArguments) : Type 0 where
+  pub stays : Stays old new
+  pub inside : AllByRecursion (λ (i : ExprId). i.0 < length new.exprs) ids
+  pub args : arguments_from (tree_of new.exprs) ids ≡ copy_all g (naming old) (meaning old.scene) (scope_in old.scene) es
+
+-- Variables came into scope.
+pub record Binds (old new : Copier) (inner : FormScope) : Type 0 where
+  pub puts : Grows old.exprs new.exprs
+  pub base : new.base ≡ old.base
+  pub grows : GrowsTo (forms old.scene) (forms new.scene)
+  pub longer : length old.scene.types ≤ length new.scene.types
+  pub meaning : meaning new.scene ≡ meaning old.scene
+  pub names : names_in new.scene ≡ names_in old.scene
+  pub scope : scope_in new.scene ≡ inner
+  pub more : List InScope
+  pub kept : new.scene.scope ≡ old.scene.scope ++ more
+
+-- Only so many variables stayed in scope.
+pub record Leaves (old new : Copier) (len : ℕ) : Type 0 where
+  pub scene : new.scene ≡ record old.scene { scope = take len old.scene.scope }
+  pub base : new.base ≡ old.base
+  pub exprs : new.exprs ≡ old.exprs
+
+-- The scope of an arm, of a constructor at these types.
+abbrev pub arm_scope : GenericGlobals → FormScope → Arm → Forms → FormScope
+arm_scope g scope arm ts = bind_forms arm.variables.items (forms_named g.rows (place_named g.rows (number_of arm.constructor)) ts) scope
+
+-- An arm was copied, as from a start.
+pub record ArmIs (g : GenericGlobals) (old : Copier) (xs : List Node) (arm from : Arm) (e : GenericExpression) (ts : Forms) : Type 0 where
+  pub inside : arm.body.0 < length xs
+  pub constructor : arm.constructor ≡ renamed from.constructor ((naming old).constructors (number_of from.constructor) ts)
+  pub variables : arm.variables.items ≡ from.variables.items
+  pub expr : tree_of xs arm.body.0 ≡ copy g (naming old) (meaning old.scene) (arm_scope g (scope_in old.scene) from ts) e
+
+-- An arm was copied, and has this type.
+pub record CopiesArm (g : GenericGlobals) (old new : Copier) (arm : Arm) (ty : TypeId) (from : Arm) (body : GenericExpression) (ts : Forms) : Type 0 where
+  pub stays : Stays old new
+  pub is : ArmIs g old new.exprs arm from body ts
+  pub below : ty.0 < length new.scene.types
+  pub form : form_at (forms new.scene) ty.0 ≡ form_of g (meaning old.scene) (arm_scope g (scope_in old.scene) from ts) body
+
+-- Arms were, one for each.
+abbrev pub ArmsAre : GenericGlobals → (ℕ → GenericExpression) → Copier → List Node → Forms → List Arm → List Arm → Type 0
+ArmsAre g f old xs ts [] [] = Unit {0}
+ArmsAre g f old xs ts [] (b ∷ bs) = ⊥
+ArmsAre g f old xs ts (a ∷ as') [] = ⊥
+ArmsAre g f old xs ts (a ∷ as') (b ∷ bs) = ArmIs g old xs a b (f b.body.0) ts × ArmsAre g f old xs ts as' bs
+
+-- Arms were copied behind others.
+pub record CopiesArms (g : GenericGlobals) (f : ℕ → GenericExpression) (old new : Copier) (ts : Forms) (before after from : List Arm) : Type 0 where
+  pub stays : Stays old new
+  pub more : List Arm
+  pub whole : after ≡ before ++ more
+  pub each : ArmsAre g f old new.exprs ts more from
+
+-- The declared type and the constructor of a place, and what it says of the constructor of a name.
+pub record IsRowOf (parts : GenericParts) (q : RowPlace) (k : ℕ) : Type 0 where
+  pub decl : GenericData
+  pub there : slice_get parts.datas q.owner ≡ Some decl
+  pub con : GenericConstructor
+  pub at : slice_get decl.constructors.items q.constructor ≡ Some con
+  pub fields : (ts : Forms) → forms_named (globals_in parts).rows (place_named (globals_in parts).rows k) ts ≡ map (formed (assign decl.variables.items ts)) (stack_of (run_words parts.exprs.words con.fields))

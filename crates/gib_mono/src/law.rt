@@ -1,0 +1,93 @@
+//! Laws of copies: functions whose contracts are the laws.
+
+ghost use Rattle.std.specs.Prelude.{◌≡◌, ℕ, List, ◌∷◌, [], pos, Ok, Err, slice_get, Some, length, ◌<◌};
+ghost use Rattle.std.specs.List.{AllByRecursion};
+ghost use Rattle.gib_base.specs.declared.Span.{Span};
+ghost use Rattle.gib_types.specs.Tree.{Datum, whole, HasType};
+ghost use Rattle.gib_types.specs.Table.{name_at};
+ghost use Rattle.gib_syntax.specs.Tree.{ProgramTree};
+ghost use Rattle.gib_syntax.specs.Fine.{IsFineProgram};
+ghost use Rattle.gib_syntax.specs.Declarations.{number_of, table_of_program, input_type};
+ghost use Rattle.gib_syntax.specs.Typing.{IsTypedProgram};
+ghost use Rattle.gib_syntax.specs.Meaning.{Gives, Environment, means, run};
+ghost use Rattle.gib_syntax.specs.Forms.{Form, Forms, Meant, formed, assign};
+ghost use Rattle.gib_syntax.specs.GenericTree.{GenericExpression, GenericFunctionTree, GenericProgramTree, GenericRow, rows_of, globals_of_generic};
+ghost use Rattle.gib_syntax.specs.GenericFine.{HasGenericConstructor, IsGenericFine, IsGenericFineProgram};
+ghost use Rattle.gib_syntax.specs.GenericTyping.{FormScope, HasForm, IsTypedGeneric, variable_numbers};
+ghost use Rattle.gib_syntax.specs.GenericMeaning.{means_generic, run_generic};
+ghost use Rattle.gib_mono.specs.Copying.{Naming, copy, parameter_scope};
+ghost use Rattle.gib_mono.specs.Copied.{Item, IsAsked, ScopeHere, plain_scope, shown, shown_outcome, shown_environment};
+ghost use Rattle.gib_mono.specs.Walk.{Copy, DataOf, FunctionOf, DataCopy, datas_in, plain_copies, function_copies, copied_program, copies_of, base_of, IsNaming};
+ghost use Rattle.gib_mono.specs.Laws.{set_of, Agree};
+ghost use Rattle.gib_mono.specs.Naming.{entries, naming_of, number_with, AreBelow};
+ghost use Rattle.gib_syntax.specs.Plain.{generic_of};
+ghost use Rattle.gib_mono.specs.Showing.{source_text, long_text, long_texts, short_texts};
+ghost use Rattle.gib_mono.specs.Examples.{list_data, len_function, len_program, growing_program, whole_only};
+
+/// The copy of a typed program of the grammar is one.
+pub fn copies_are_typed()
+    ensures typed { (p : GenericProgramTree) (nm : Naming) (names : List Item) (found : List Copy) → AllByRecursion HasGenericConstructor p.datas → IsTypedGeneric p → copies_of p ≡ Ok found → IsNaming nm names found
+        → IsTypedProgram (copied_program p nm found) }
+    ensures fine { (p : GenericProgramTree) (nm : Naming) (names : List Item) (found : List Copy) → IsGenericFineProgram p → IsTypedGeneric p → copies_of p ≡ Ok found → IsNaming nm names found
+        → IsFineProgram (copied_program p nm found) }
+{}
+
+/// The copy means what the program means, each copied constructor read as the one that it is a copy of: as a whole at every
+/// depth, and each expression that is typed and whose uses were asked for at every depth and in every environment of its
+/// variables' types.
+pub fn copies_mean_the_same()
+    ensures run { (p : GenericProgramTree) (nm : Naming) (names : List Item) (found : List Copy) (depth : ℕ) (v : Datum) → IsGenericFineProgram p → IsTypedGeneric p → copies_of p ≡ Ok found → IsNaming nm names found
+        → HasType (table_of_program (copied_program p nm found)) v (input_type (copied_program p nm found))
+        → shown_outcome (base_of (rows_of p.datas) found) (run (copied_program p nm found) depth v) ≡ run_generic p depth (shown (base_of (rows_of p.datas) found) v) }
+    ensures each { (p : GenericProgramTree) (nm : Naming) (names : List Item) (found : List Copy) → IsGenericFineProgram p → IsTypedGeneric p → copies_of p ≡ Ok found → IsNaming nm names found
+        → (n : ℕ) (vars : List ℕ) (m : Meant) (e : GenericExpression) (ty : Form) (scope : FormScope) (env : Environment)
+        → IsGenericFine e → HasForm (globals_of_generic p) vars m scope e ty → ScopeHere (set_of p nm found) scope → IsAsked (set_of p nm found) m e
+        → Agree (table_of_program (copied_program p nm found)) (plain_scope (set_of p nm found) scope) env
+        → shown_outcome (base_of (rows_of p.datas) found) (means (copied_program p nm found) n env (copy (globals_of_generic p) nm m scope e))
+        ≡ means_generic p n m (shown_environment (base_of (rows_of p.datas) found) env) e }
+{}
+
+/// The body of each copied function has its type, and its uses were asked for, so the law above speaks of it.
+pub fn uses_are_asked()
+    ensures { (p : GenericProgramTree) (nm : Naming) (names : List Item) (found : List Copy) → AllByRecursion HasGenericConstructor p.datas → IsTypedGeneric p → copies_of p ≡ Ok found → IsNaming nm names found
+        → (i : ℕ) (h : GenericFunctionTree) (ts : Forms) → slice_get (function_copies found) i ≡ Some (record { function = h; types = ts })
+        → ScopeHere (set_of p nm found) (parameter_scope (assign h.variables ts) h.parameters) × IsAsked (set_of p nm found) (assign h.variables ts) h.body
+        × HasForm (globals_of_generic p) (variable_numbers h.variables) (assign h.variables ts) (parameter_scope (assign h.variables ts) h.parameters) h.body (formed (assign h.variables ts) h.result) }
+{}
+
+/// Copies are named by the list of their names with types: a plain name is itself, and each other one stands behind the
+/// names of the source.
+pub fn names_are_given()
+    ensures { (found : List Copy) (base : ℕ) → AreBelow base found → IsNaming (naming_of base (entries found)) (entries found) found }
+{}
+
+/// In value texts a copied constructor has the text of the one that it is a copy of; in cores, code and descriptions a copied
+/// type has its name with its types. The names are the texts of the source's, by their numbers.
+pub fn copies_are_shown()
+    ensures short { (p : GenericProgramTree) (found : List Copy) (names : List (List ℕ)) → AllByRecursion HasGenericConstructor p.datas → IsTypedGeneric p → copies_of p ≡ Ok found → AreBelow (length names) found
+        → (d : ℕ) → d < length (table_of_program (copied_program p (naming_of (length names) (entries found)) found)).rows
+        → (row : GenericRow) × (slice_get (rows_of p.datas) (base_of (rows_of p.datas) found d) ≡ Some row)
+        × (slice_get (short_texts names (entries found)) (name_at (table_of_program (copied_program p (naming_of (length names) (entries found)) found)) d) ≡ Some (source_text names row.name)) }
+    ensures long { (p : GenericProgramTree) (found : List Copy) (names : List (List ℕ)) → AreBelow (length names) found → (i : ℕ) (c : DataCopy) → slice_get (datas_in found) i ≡ Some c
+        → slice_get (long_texts names (entries found)) (number_with (length names) (entries found) (number_of c.decl.name) c.types) ≡ Some (long_text names (number_of c.decl.name) c.types) }
+{}
+
+/// A program without type parameters asks for its own declarations alone, and is its own copy.
+pub fn plain_programs_are_their_own()
+    ensures walk { (p : ProgramTree) → copies_of (generic_of p) ≡ Ok (plain_copies (generic_of p)) }
+    ensures same { (p : ProgramTree) (base : ℕ) (names : List Item) → copied_program (generic_of p) (naming_of base names) (plain_copies (generic_of p)) ≡ p }
+{}
+
+/// A typed program without type parameters means what it means as one that may have some.
+pub fn plain_programs_mean_the_same()
+    ensures { (p : ProgramTree) (depth : ℕ) (v : Datum) → IsTypedProgram p → run_generic (generic_of p) depth v ≡ run p depth v }
+{}
+
+/// Two programs: one that takes the length of a list of one number, and one that asks for ever longer types.
+pub fn examples()
+    // The one is copied for `Int` alone, the function before the type that it takes.
+    ensures copied { (p : Span) → copies_of (len_program p) ≡ Ok (FunctionOf (len_function p) whole_only ∷ DataOf (list_data p) whole_only ∷ []) }
+    ensures length { (p : Span) → run_generic (len_program p) 2 (whole (pos 5)) ≡ Gives (whole (pos 1)) }
+    // The other is over the limit at the use in its function's body.
+    ensures limit { (p q : Span) → copies_of (growing_program p q) ≡ Err q }
+{}

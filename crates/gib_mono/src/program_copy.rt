@@ -1,0 +1,85 @@
+//! The copy of a program with type parameters.
+
+ghost use Rattle.std.specs.Prelude.{◌≡◌, List, Ok, Err, IfOk, IfErr, MatchResult};
+ghost use Rattle.gib_base.specs.declared.Span.{Span as SpanOf};
+ghost use Rattle.gib_syntax.specs.GenericParts.{generic_program_of};
+ghost use Rattle.gib_syntax.specs.Parts.{program_of};
+ghost use Rattle.gib_mono.specs.Walk.{Copy, copies_of, copied_program};
+ghost use Rattle.gib_mono.specs.Naming.{entries, naming_of, AreNamedBelow};
+ghost use Rattle.gib_mono.specs.Declaring.{Finds};
+ghost use Rattle.gib_mono.specs.Entries.{items_of};
+ghost use Rattle.gib_mono.specs.Limits.{IsLimitOf, IsMemory, IsMemoryOr};
+
+use crate::copier::Copier;
+use crate::copy_names::CopyNames;
+use crate::declaring::{copy_all, copy_main};
+use crate::find::{Asked, find_copies};
+use crate::found::MonoFault;
+use crate::naming::name_copies;
+use crate::scene::Scene;
+use crate::source::Source;
+use gib_base::Memory;
+use gib_check::{Generic, Typed};
+use gib_syntax::{Exprs, Program};
+use std::alloc::Global;
+
+/// A program's copy, which is typed, and what its copies are called.
+#[derive(Drop)]
+pub struct MonoProgram {
+    pub typed: Typed,
+    pub copies: CopyNames,
+}
+
+/// The copied program, for copies that were found.
+fn copy_asked(
+    alloc: Global,
+    source: &Source,
+    asked: Asked,
+    base: u32,
+) -> Result<MonoProgram, Memory>
+    requires finds { Finds source.now asked }
+    requires below { AreNamedBelow base (generic_program_of source.now) }
+    ensures { IfOk result (λ m. (found : List Copy) × (copies_of (generic_program_of source.now) ≡ Ok found)
+        × (program_of m.typed ≡ copied_program (generic_program_of source.now) (naming_of base (entries found)) found) × (items_of m.copies ≡ entries found)) }
+{
+    let _program = source.program();
+    let scene = Scene::new(alloc, asked.context.into_types());
+    let mut copier = Copier {
+        alloc,
+        scene,
+        base,
+        exprs: Exprs::new(alloc),
+    };
+    name_copies(&mut copier, source, asked.found.keys())?;
+    let declared = copy_all(&mut copier, source, asked.found.keys())?;
+    let main = copy_main(&mut copier, source)?;
+    let program = Program::new(copier.exprs, declared.datas, declared.functions, main);
+    let typed = Typed::of(alloc, program)?;
+    let copies = copier.scene.into_copies();
+    Ok(MonoProgram { typed, copies })
+}
+
+/// The copy of a program, whose names are below a number, for the types with which its declarations are used.
+///
+/// # Errors
+///
+/// At the first use over a limit; want of memory.
+pub fn mono(alloc: Global, generic: Generic, base: u32) -> Result<MonoProgram, MonoFault>
+    requires below { AreNamedBelow base (generic_program_of generic) }
+    ensures copied { IfOk result (λ m. (found : List Copy) × (copies_of (generic_program_of generic) ≡ Ok found)
+        × (program_of m.typed ≡ copied_program (generic_program_of generic) (naming_of base (entries found)) found) × (items_of m.copies ≡ entries found)) }
+    ensures limit { IfErr result (IsLimitOf (copies_of (generic_program_of generic))) }
+    // Where all uses are within the limits, want of memory alone refuses.
+    ensures only { (found : List Copy) → copies_of (generic_program_of generic) ≡ Ok found → IfErr result IsMemory }
+    // Where one is not, the first one is answered.
+    ensures told { (span : SpanOf) → copies_of (generic_program_of generic) ≡ Err span → MatchResult result (λ _. ⊥) (IsMemoryOr span) }
+{
+    let Ok(source) = Source::make(alloc, generic.into_program()) else {
+        return Err(MonoFault::Memory);
+    };
+    let asked = find_copies(alloc, &source)?;
+    match copy_asked(alloc, &source, asked, base) {
+        Ok(mono) => Ok(mono),
+        Err(_) => Err(MonoFault::Memory),
+    }
+}

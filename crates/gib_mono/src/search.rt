@@ -1,0 +1,154 @@
+//! The search for copies: uses are asked for, one after another.
+
+ghost use Rattle.std.specs.Prelude.{◌≡◌, ◌≤◌, List, Result, Some, None, length, slice_get, true, false, ◌∷◌, ◌++◌, [], IfOk};
+ghost use Rattle.gib_base.specs.declared.Span.{Span as Place};
+ghost use Rattle.gib_types.specs.Types.{forms_at, AreBelow};
+ghost use Rattle.gib_syntax.specs.Declarations.{number_of};
+ghost use Rattle.gib_syntax.specs.Forms.{formed_all};
+ghost use Rattle.gib_syntax.specs.GenericTree.{place_named};
+ghost use Rattle.gib_syntax.specs.Words.{all_types, stack_of};
+ghost use Rattle.gib_mono.specs.Copying.{owner_named};
+ghost use Rattle.gib_mono.specs.Found.{KeyBelow, copy_from};
+ghost use Rattle.gib_mono.specs.Walk.{Ask, Copy, add_ask, add_asks, add_new, is_found, constructors_in, with_found, types_asks, writtens_asks};
+ghost use Rattle.gib_mono.specs.Contexts.{forms};
+ghost use Rattle.gib_mono.specs.Reading.{use_ask, AreUsesBelow};
+ghost use Rattle.gib_mono.specs.Sources.{globals_in};
+ghost use Rattle.gib_mono.specs.Searching.{Reached, AddsKey, AsksOne, AsksUses, Asks};
+
+use crate::context::Context;
+use crate::found::{CopyKey, Found, MonoFault};
+use crate::reading::Use;
+use crate::source::Source;
+use gib_base::{Memory, Name, Span};
+use gib_check::Stack;
+use gib_syntax::{Ident, Word};
+use gib_types::types::TypeId;
+use std::alloc::{AllocError, Global};
+
+/// The copies that were asked for, with the types that were met, and the first use that is over a limit: what comes
+/// behind it is not asked for any more.
+#[derive(Drop)]
+pub struct Search {
+    pub alloc: Global,
+    pub context: Context,
+    pub found: Found,
+    pub limit: Option<Span>,
+}
+
+/// A copy is asked for whose types are short.
+pub fn add(search: &mut Search, key: CopyKey, constructors: u32, span: Span) -> Result<(), Memory>
+    requires few { constructors ≤ 200 }
+    requires on { search.old.limit ≡ None }
+    ensures { IfOk result (λ _. AddsKey search.old search.new key constructors span) }
+{
+    match search.found.add(key, constructors, span) {
+        Ok(()) => Ok(()),
+        Err(MonoFault::Memory) => Err(AllocError),
+        Err(MonoFault::Limit(place)) => {
+            search.limit = Some(place);
+            Ok(())
+        }
+    }
+}
+
+/// A declared type is used.
+fn ask_type(
+    search: &mut Search,
+    source: &Source,
+    name: Name,
+    types: Vec<TypeId>,
+    span: Span,
+) -> Result<(), Memory>
+    requires { AreBelow (length search.old.context.types) types.items }
+    ensures { IfOk result (λ _. AsksOne (globals_in source.now) search.old search.new (record { function = false; name = name.0; types = forms_at (forms search.old.context) types.items; span = span })) }
+{
+    if search.limit.is_some() {
+        return Ok(());
+    }
+    let met = search.context.types();
+    let _count = met.len();
+    if met.has_long(&types) {
+        search.limit = Some(span);
+        return Ok(());
+    }
+    let Some(place) = source.type_place(name) else {
+        return Ok(());
+    };
+    let constructors = source.constructors_of(place);
+    add(search, CopyKey::Data(place, types), constructors, span)
+}
+
+/// A function is used.
+fn ask_function(
+    search: &mut Search,
+    source: &Source,
+    name: Name,
+    types: Vec<TypeId>,
+    span: Span,
+) -> Result<(), Memory>
+    requires { AreBelow (length search.old.context.types) types.items }
+    ensures { IfOk result (λ _. AsksOne (globals_in source.now) search.old search.new (record { function = true; name = name.0; types = forms_at (forms search.old.context) types.items; span = span })) }
+{
+    if search.limit.is_some() {
+        return Ok(());
+    }
+    let met = search.context.types();
+    let _count = met.len();
+    if met.has_long(&types) {
+        search.limit = Some(span);
+        return Ok(());
+    }
+    let Some(place) = source.function_place(name) else {
+        return Ok(());
+    };
+    add(search, CopyKey::Function(place, types), 0, span)
+}
+
+/// Declared types are used, the first one on top.
+fn ask_uses(search: &mut Search, source: &Source, mut uses: Stack<Use>) -> Result<(), Memory>
+    requires { AreUsesBelow (length search.old.context.types) uses }
+    ensures { IfOk result (λ _. AsksUses (globals_in source.now) search.old search.new uses) }
+{
+    'uses: while let Some(used) = uses.pop() {
+        ask_type(search, source, used.name, used.types, used.span)?;
+    }
+    Ok(())
+}
+
+/// Types that words spell are used.
+pub fn ask_types(search: &mut Search, source: &Source, words: &[Word]) -> Result<(), Memory>
+    ensures { IfOk result (λ _. Asks (globals_in source.now) search.old search.new (λ m. types_asks m (stack_of words.now))) }
+{
+    let reading = search.context.read(search.alloc, words)?;
+    ask_uses(search, source, reading.uses)
+}
+
+/// A function is called with these type arguments.
+pub fn ask_call(
+    search: &mut Search,
+    source: &Source,
+    f: Ident,
+    words: &[Word],
+) -> Result<(), Memory>
+    ensures { IfOk result (λ _. Asks (globals_in source.now) search.old search.new (λ m. record { function = true; name = number_of f; types = formed_all m (all_types (stack_of words.now)); span = f.span } ∷ writtens_asks m (all_types (stack_of words.now)))) }
+{
+    let reading = search.context.read(search.alloc, words)?;
+    let types = reading.types.into_vec();
+    ask_function(search, source, f.name, types, f.span)?;
+    ask_uses(search, source, reading.uses)
+}
+
+/// A constructor is used with these type arguments, and with it its type.
+pub fn ask_make(
+    search: &mut Search,
+    source: &Source,
+    k: Ident,
+    words: &[Word],
+) -> Result<(), Memory>
+    ensures { IfOk result (λ _. Asks (globals_in source.now) search.old search.new (λ m. record { function = false; name = owner_named (globals_in source.now).rows (place_named (globals_in source.now).rows (number_of k)); types = formed_all m (all_types (stack_of words.now)); span = k.span } ∷ writtens_asks m (all_types (stack_of words.now)))) }
+{
+    let reading = search.context.read(search.alloc, words)?;
+    let types = reading.types.into_vec();
+    ask_type(search, source, source.owner(k.name), types, k.span)?;
+    ask_uses(search, source, reading.uses)
+}
