@@ -2,7 +2,7 @@ ghost use Rattle.std.specs.Prelude.{◌≡◌, ◌++◌, ◌∷◌, [], ◌<◌,
 ghost use Rattle.gib_core.specs.Arena.{PartsBelow};
 
 use crate::reach;
-use gib_base::{Memory, Name, Names};
+use gib_base::{Memory, Name, Names, Texts};
 use gib_core::*;
 use gib_types::sample::add;
 use gib_types::{ConId, Ty, TyId, TypeTable};
@@ -33,12 +33,12 @@ fn table(alloc: Global) -> Result<TypeTable, Memory>
     TypeTable::make(alloc, types, rows)
 }
 
-fn names(alloc: Global) -> Result<Names, Fail> {
+fn names(alloc: Global) -> Result<Texts, Fail> {
     let mut names = Names::make(alloc)?;
     for text in ["Tree", "Leaf", "Pair", "Node", "last", "sum"] {
         names.intern(alloc, text.as_bytes()).map_err(|_| "a name")?;
     }
-    Ok(names)
+    Ok(Texts::new(alloc, names))
 }
 
 fn put(terms: &mut Terms, node: Node) -> Result<TermId, Memory>

@@ -3,17 +3,13 @@
 ghost use Rattle.std.specs.Prelude.{◌≡◌, ◌++◌, ◌∷◌, OnOk};
 ghost use Rattle.gib_code.specs.ListingText.{name_text};
 
-use gib_base::{Memory, Name, Names};
+use gib_base::{Memory, Name, Texts};
 
-/// The text of a name; a number that no name has stands for no text.
-pub fn name_text(names: &Names, name: Name) -> &[u8]
-    ensures { result.now ≡ name_text names.now name.0 }
+/// The long text of a name; a number that no name has stands for no text.
+pub fn name_text(names: &Texts, name: Name) -> &[u8]
+    ensures { result.now ≡ name_text names.now.long name.0 }
 {
-    if name.0 < names.len() {
-        names.text(name)
-    } else {
-        &[]
-    }
+    names.long_or_none(name)
 }
 
 /// Writes bytes behind a space.

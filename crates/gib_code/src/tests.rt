@@ -1,5 +1,5 @@
 use crate::*;
-use gib_base::{Memory, Names};
+use gib_base::{Memory, Names, Texts};
 use gib_types::sample::trees;
 use gib_types::{Layouts, Ty};
 use std::alloc::Global;
@@ -36,7 +36,7 @@ fn division(alloc: Global) -> Result<Code, Memory> {
 #[test]
 fn lists_divisions_by_their_words(rt: HostRuntime) -> Result<(), Fail> {
     let alloc = rt.alloc();
-    let names = Names::make(alloc)?;
+    let names = Texts::new(alloc, Names::make(alloc)?);
     let code = division(alloc)?;
     let text = listing(alloc, &code, &names)?;
     let want = "main 3\n0 quot %1 %0 3\n1 rem %2 %1 %0\n2 give %2\n";
@@ -69,7 +69,7 @@ fn telling(alloc: Global) -> Result<Code, Memory> {
 #[test]
 fn lists_instructions_on_ends(rt: HostRuntime) -> Result<(), Fail> {
     let alloc = rt.alloc();
-    let names = Names::make(alloc)?;
+    let names = Texts::new(alloc, Names::make(alloc)?);
     let code = telling(alloc)?;
     let text = listing(alloc, &code, &names)?;
     let want = "main 4\n0 got %2 0\n1 over %0 %3\n2 leafend %0 9\n3 end %3 %2\n";

@@ -12,7 +12,7 @@ ghost use Rattle.gib_code.specs.ListingText.{name_text, number_text, slot_text, 
 use crate::code::Code;
 use crate::instruction::{Arm, Entry, Instr, Kind, Operand, Operation};
 use crate::names::{name_text, push_behind_space};
-use gib_base::{Memory, Name, Names, push_decimal, push_signed};
+use gib_base::{Memory, Name, Texts, push_decimal, push_signed};
 use gib_types::{ConId, TypeTable};
 use std::alloc::Global;
 
@@ -20,7 +20,7 @@ use std::alloc::Global;
 #[derive(Clone, Copy, Drop)]
 struct Given<'a> {
     alloc: Global,
-    names: &'a Names,
+    names: &'a Texts,
     code: &'a Code,
 }
 
@@ -37,8 +37,8 @@ fn called(functions: &[Entry], function: u32) -> Option<Name>
 }
 
 /// What a function is called.
-fn title(names: &Names, name: Option<Name>) -> &[u8]
-    ensures { result.now ≡ title names.now name }
+fn title(names: &Texts, name: Option<Name>) -> &[u8]
+    ensures { result.now ≡ title names.now.long name }
 {
     match name {
         None => b"main",
@@ -143,22 +143,22 @@ fn kind_text(kind: Kind) -> &'static [u8]
 
 fn push_constructor(
     out: &mut Vec<u8>,
-    names: &Names,
+    names: &Texts,
     types: &TypeTable,
     con: u32,
 ) -> Result<(), Memory>
-    ensures { OnOk result (out.new.items ≡ out.old.items ++ constructor_text names.now types.now con) }
+    ensures { OnOk result (out.new.items ≡ out.old.items ++ constructor_text names.now.long types.now con) }
 {
     push_behind_space(out, name_text(names, types.name_of(ConId(con))))
 }
 
 fn push_function(
     out: &mut Vec<u8>,
-    names: &Names,
+    names: &Texts,
     functions: &[Entry],
     function: u32,
 ) -> Result<(), Memory>
-    ensures { OnOk result (out.new.items ≡ out.old.items ++ function_text names.now functions.now function) }
+    ensures { OnOk result (out.new.items ≡ out.old.items ++ function_text names.now.long functions.now function) }
 {
     push_behind_space(out, title(names, called(functions, function)))
 }
@@ -223,7 +223,7 @@ fn push_setting(alloc: Global, out: &mut Vec<u8>, instr: &Instr) -> Result<(), M
 /// Writes an instruction that puts a value.
 fn push_putting(given: &Given<'_>, out: &mut Vec<u8>, instr: &Instr) -> Result<(), Memory>
     requires { family_of (instruction_of instr.now) ≡ Putting }
-    ensures { OnOk result (out.new.items ≡ out.old.items ++ instruction_text given.now.names.now given.now.code.now (instruction_of instr.now)) }
+    ensures { OnOk result (out.new.items ≡ out.old.items ++ instruction_text given.now.names.now.long given.now.code.now (instruction_of instr.now)) }
 {
     match instr {
         Instr::Begin(slot) => push_one(given.alloc, out, b" begin", *slot),
@@ -275,7 +275,7 @@ fn push_jumping(alloc: Global, out: &mut Vec<u8>, instr: &Instr) -> Result<(), M
 /// Writes an instruction that begins or ends a call.
 fn push_calling(given: &Given<'_>, out: &mut Vec<u8>, instr: &Instr) -> Result<(), Memory>
     requires { family_of (instruction_of instr.now) ≡ Calling }
-    ensures { OnOk result (out.new.items ≡ out.old.items ++ instruction_text given.now.names.now given.now.code.now (instruction_of instr.now)) }
+    ensures { OnOk result (out.new.items ≡ out.old.items ++ instruction_text given.now.names.now.long given.now.code.now (instruction_of instr.now)) }
 {
     match instr {
         Instr::Call {
@@ -356,7 +356,7 @@ fn push_telling(alloc: Global, out: &mut Vec<u8>, instr: &Instr) -> Result<(), M
 
 /// Writes an instruction.
 fn push_instruction(given: &Given<'_>, out: &mut Vec<u8>, instr: &Instr) -> Result<(), Memory>
-    ensures { OnOk result (out.new.items ≡ out.old.items ++ instruction_text given.now.names.now given.now.code.now (instruction_of instr.now)) }
+    ensures { OnOk result (out.new.items ≡ out.old.items ++ instruction_text given.now.names.now.long given.now.code.now (instruction_of instr.now)) }
 {
     match instr {
         Instr::Begin(_)
@@ -385,7 +385,7 @@ fn push_line(
     number: usize,
     instr: &Instr,
 ) -> Result<(), Memory>
-    ensures { OnOk result (out.new.items ≡ out.old.items ++ line_text given.now.names.now given.now.code.now number (instruction_of instr.now)) }
+    ensures { OnOk result (out.new.items ≡ out.old.items ++ line_text given.now.names.now.long given.now.code.now number (instruction_of instr.now)) }
 {
     push_decimal(given.alloc, out, number as u64)?;
     push_instruction(given, out, instr)?;
@@ -397,10 +397,10 @@ fn push_line(
 fn push_head(
     alloc: Global,
     out: &mut Vec<u8>,
-    names: &Names,
+    names: &Texts,
     function: &Entry,
 ) -> Result<(), Memory>
-    ensures { OnOk result (out.new.items ≡ out.old.items ++ head_text names.now function.now) }
+    ensures { OnOk result (out.new.items ≡ out.old.items ++ head_text names.now.long function.now) }
 {
     push_bytes(out, title(names, function.name))?;
     push_number(alloc, out, function.slots)?;
@@ -412,11 +412,11 @@ fn push_head(
 fn push_head_at(
     alloc: Global,
     out: &mut Vec<u8>,
-    names: &Names,
+    names: &Texts,
     functions: &[Entry],
     number: usize,
 ) -> Result<(), Memory>
-    ensures { OnOk result (out.new.items ≡ out.old.items ++ head_at names.now number functions.now) }
+    ensures { OnOk result (out.new.items ≡ out.old.items ++ head_at names.now.long number functions.now) }
 {
     match functions {
         [] => Ok(()),
@@ -451,8 +451,8 @@ fn later_than(functions: &[Entry], number: usize) -> &[Entry]
 /// # Errors
 ///
 /// Want of memory.
-pub fn listing(alloc: Global, code: &Code, names: &Names) -> Result<Vec<u8>, Memory>
-    ensures { IfOk result (λ out. out.items ≡ listing_text names.now code.now) }
+pub fn listing(alloc: Global, code: &Code, names: &Texts) -> Result<Vec<u8>, Memory>
+    ensures { IfOk result (λ out. out.items ≡ listing_text names.now.long code.now) }
 {
     let given = Given { alloc, names, code };
     let mut out = Vec::new(alloc);

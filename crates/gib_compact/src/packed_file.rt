@@ -16,7 +16,7 @@ use crate::packing::{HEADER_BYTES, MOST_BYTES, Packing};
 use crate::parts::gather;
 use crate::payload::parts_by;
 use gib_arena::{Arena, Pass, SoleMem};
-use gib_base::Names;
+use gib_base::Texts;
 use gib_file::{describe, one_description};
 use gib_mem::Mem;
 use gib_packed::Root;
@@ -97,16 +97,16 @@ pub fn compact<R: Threads + Sync>(
     rt: &R,
     alloc: Global,
     memory: SoleMem,
-    names: &Names,
+    names: &Texts,
     layouts: &Layouts,
     root: Root,
     ty: Ty,
     workers: u32,
 ) -> (Result<Vec<u8>, CompactFault>, SoleMem)
     requires stands { (v : Datum) × Stands layouts.now (⟦<SoleMem as Mem>⟧.view memory).cells root ty v }
-    ensures file { (v : Datum) → Stands layouts.entry.now (⟦<SoleMem as Mem>⟧.view memory).cells root ty v → IfOk result.0 (λ file. File2 layouts.entry.now.table names.entry.now ty v file.items) }
+    ensures file { (v : Datum) → Stands layouts.entry.now (⟦<SoleMem as Mem>⟧.view memory).cells root ty v → IfOk result.0 (λ file. File2 layouts.entry.now.table names.entry.now.long ty v file.items) }
     ensures few { IfOk result.0 (λ file. length file.items ≤ 16777216) }
-    ensures long { (v : Datum) (bytes : List ℕ) → Stands layouts.entry.now (⟦<SoleMem as Mem>⟧.view memory).cells root ty v → IsErrOf result.0 Long → File2 layouts.entry.now.table names.entry.now ty v bytes → 16777216 < length bytes }
+    ensures long { (v : Datum) (bytes : List ℕ) → Stands layouts.entry.now (⟦<SoleMem as Mem>⟧.view memory).cells root ty v → IsErrOf result.0 Long → File2 layouts.entry.now.table names.entry.now.long ty v bytes → 16777216 < length bytes }
     ensures known { Grows (⟦<SoleMem as Mem>⟧.view memory).cells (⟦<SoleMem as Mem>⟧.view result.1).cells }
     ensures free { (q : ℕ) → (⟦<SoleMem as Mem>⟧.view memory).cells q ≡ fresh → (⟦<SoleMem as Mem>⟧.view result.1).cells q ≡ fresh }
     ensures drew { (⟦<SoleMem as Mem>⟧.view result.1).share ≡ (⟦<SoleMem as Mem>⟧.view memory).share }

@@ -16,7 +16,7 @@ use crate::program::{Core, CoreFunction, CoreMain};
 use crate::settle::ended_parameters;
 use crate::text::text_of;
 use crate::written::{Written, put_line};
-use gib_base::{Memory, Name, Names};
+use gib_base::{Memory, Name, Texts};
 use gib_types::Ty;
 use std::alloc::{AllocError, Global};
 
@@ -393,8 +393,8 @@ fn pieces_of(alloc: Global, core: &Core) -> Result<Vec<Piece>, Memory>
 /// # Errors
 ///
 /// Want of memory.
-pub fn print_core(alloc: Global, core: &Core, names: &Names) -> Result<Vec<u8>, Memory>
-    ensures { IfOk result (λ out. out.items ≡ core_text names.now (core_of core.now)) }
+pub fn print_core(alloc: Global, core: &Core, names: &Texts) -> Result<Vec<u8>, Memory>
+    ensures { IfOk result (λ out. out.items ≡ core_text names.now.long (core_of core.now)) }
 {
     let pieces = pieces_of(alloc, core)?;
     text_of(alloc, &pieces, core.types(), names)

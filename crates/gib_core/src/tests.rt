@@ -2,7 +2,7 @@ ghost use Rattle.std.specs.Prelude.{◌≡◌, ◌++◌, ◌∷◌, [], ◌<◌,
 ghost use Rattle.gib_core.specs.Arena.{IsBindingBelow, PartsBelow};
 
 use crate::*;
-use gib_base::{Memory, Name, Names};
+use gib_base::{Memory, Name, Names, Texts};
 use gib_syntax::Operator;
 use gib_types::sample::trees;
 use gib_types::{ConId, Ty, TyId};
@@ -17,12 +17,12 @@ const NODE: ConId = ConId(1);
 
 const ADD1: Name = Name(3);
 
-fn names(alloc: Global) -> Result<Names, Fail> {
+fn names(alloc: Global) -> Result<Texts, Fail> {
     let mut names = Names::make(alloc)?;
     for text in ["Tree", "Leaf", "Node", "add1"] {
         names.intern(alloc, text.as_bytes()).map_err(|_| "a name")?;
     }
-    Ok(names)
+    Ok(Texts::new(alloc, names))
 }
 
 fn put(terms: &mut Terms, node: Node) -> Result<TermId, Memory>

@@ -7,7 +7,7 @@ ghost use Rattle.gib_core.specs.CoreText.{keyword_text, operator_text, indent, v
 
 use crate::atom::{Atom, Variable};
 use crate::piece::{Keyword, Piece};
-use gib_base::{Memory, Name, Names, push_decimal, push_signed};
+use gib_base::{Memory, Name, Texts, push_decimal, push_signed};
 use gib_code::names::{name_text, push_behind_space};
 use gib_syntax::Operator;
 use gib_types::{Ty, TyId, TypeTable};
@@ -64,8 +64,8 @@ fn type_name(types: &TypeTable, ty: TyId) -> Name
 }
 
 /// The text of a type.
-fn type_text<'a>(names: &'a Names, types: &TypeTable, ty: Ty) -> &'a [u8]
-    ensures { result.now ≡ type_text names.now types.now ty }
+fn type_text<'a>(names: &'a Texts, types: &TypeTable, ty: Ty) -> &'a [u8]
+    ensures { result.now ≡ type_text names.now.long types.now ty }
 {
     match ty {
         Ty::Whole => b"Int",
@@ -137,11 +137,11 @@ fn push_parameter(
 fn push_piece(
     alloc: Global,
     out: &mut Vec<u8>,
-    names: &Names,
+    names: &Texts,
     types: &TypeTable,
     piece: Piece,
 ) -> Result<(), Memory>
-    ensures { OnOk result (out.new.items ≡ out.old.items ++ piece_text names.now types.now piece) }
+    ensures { OnOk result (out.new.items ≡ out.old.items ++ piece_text names.now.long types.now piece) }
 {
     match piece {
         Piece::Line(level, keyword) => push_indented(out, level, keyword_text(keyword)),
@@ -189,9 +189,9 @@ pub(crate) fn text_of(
     alloc: Global,
     pieces: &[Piece],
     types: &TypeTable,
-    names: &Names,
+    names: &Texts,
 ) -> Result<Vec<u8>, Memory>
-    ensures { IfOk result (λ out. out.items ≡ flat_map (piece_text names.now types.now) pieces.now) }
+    ensures { IfOk result (λ out. out.items ≡ flat_map (piece_text names.now.long types.now) pieces.now) }
 {
     let mut out = Vec::new(alloc);
     let mut rest = pieces;

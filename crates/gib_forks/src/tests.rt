@@ -2,7 +2,7 @@ ghost use Rattle.std.specs.Prelude.{◌≡◌, ◌<◌, ◌≤◌, length, IfOk}
 ghost use Rattle.gib_core.specs.Arena.{PartsBelow};
 
 use crate::marked;
-use gib_base::{Memory, Name, Names};
+use gib_base::{Memory, Name, Names, Texts};
 use gib_core::*;
 use gib_types::sample::trees;
 use gib_types::{Ty, TyId};
@@ -65,12 +65,12 @@ fn program(alloc: Global, sides: (bool, bool), fork: bool) -> Result<Core, Memor
     Ok(Core::new(types, terms, Vec::new(alloc), main, Vec::new(alloc), false))
 }
 
-fn names(alloc: Global) -> Result<Names, Fail> {
+fn names(alloc: Global) -> Result<Texts, Fail> {
     let mut names = Names::make(alloc)?;
     for text in ["Tree", "Leaf", "Node", "work"] {
         names.intern(alloc, text.as_bytes()).map_err(|_| "a name")?;
     }
-    Ok(names)
+    Ok(Texts::new(alloc, names))
 }
 
 const BOTH: &str =

@@ -13,11 +13,13 @@ use Rattle.gib_lex.proofs.Again.{read_again}
 use Rattle.gib_types.specs.Tree.{Datum, whole, truth, con, none, more, HasType}
 use Rattle.gib_syntax.specs.Spelling.{spell_program, places_of}
 use Rattle.gib_syntax.specs.Source.{Spells}
+use Rattle.gib_syntax.specs.Plain.{generic_of}
 use Rattle.gib_syntax.specs.Declarations.{table_of_program, input_type}
 use Rattle.gib_gen.specs.Made.{front, back, source_text, next, grown, packed_tree, file_of, IsProgramWith}
 use Rattle.gib_gen.specs.NumberTree.{NumberTree, Leaf, Node, value_of, tree_type}
 use Rattle.gib_gen.proofs.Growing.{node_bytes}
-use Rattle.gib_gen.proofs.Program.{names, program, placed, fine, shallow, writable, used, same, printed, typed}
+use Rattle.gib_gen.proofs.Program.{names, program, placed, fine, shallow, writable, used, same, printed}
+use Rattle.gib_gen.proofs.ProgramTyped.{typed}
 use Rattle.gib_gen.proofs.Feed.{fed_lexed}
 use Rattle.gib_gen.proofs.Works.{works, is_deep}
 
@@ -67,10 +69,10 @@ short k lt =
     omega (arith, digits, length-append front (decimal k ++ back), length-append (decimal k) back)
 
 module _ (k : ℕ) (lt : k < 1000) where
-  made_spells : (l : Lexed) × Spells (source_text k) l (program (places_of l.spans) k)
+  made_spells : (l : Lexed) × Spells (source_text k) l (generic_of (program (places_of l.spans) k))
   made_spells =
       let large : k < 2 ^ 63 = omega (arith, lt) in
-      let tokens = spell_program (program (places_of []) k) [] in
+      let tokens = spell_program (generic_of (program (places_of []) k)) [] in
       let text = tokens_text names tokens in
       let r = read_again names tokens (writable (places_of []) k large) in
       let named : r.0.names ≡ names = r.1.used ∙ used (places_of []) k in

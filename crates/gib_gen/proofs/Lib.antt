@@ -2,6 +2,7 @@ mod Growing
 mod TotalOfTree
 mod Works
 mod Program
+mod ProgramTyped
 mod Feed
 mod Laws
 mod Named

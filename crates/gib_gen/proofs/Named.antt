@@ -1,5 +1,5 @@
 -- The types and constructors of a program that is spelled and typed have names as descriptions need them.
-use Rattle.std.proofs.Common.{◌≡◌, ◌∙◌, refl, ℕ, zero, suc, ◌<◌, ◌≤◌, List, [], ◌∷◌, ◌++◌, length, map, subst, sym, ap, arith, Bool, true, false, if◌then◌else◌, Option, Some, None, length-append}
+use Rattle.std.proofs.Common.{◌≡◌, ◌≢◌, ◌∙◌, refl, ℕ, zero, suc, ◌<◌, ◌≤◌, List, [], ◌∷◌, ◌++◌, length, map, subst, sym, ap, arith, Bool, true, false, if◌then◌else◌, Option, Some, None, length-append}
 use Rattle.std.specs.Prelude.{slice_get, slice_index, unwrap_or, nat_lt, ◌==◌, ◌^◌, fold}
 use Rattle.std.specs.List.{AllByRecursion, list_all, flat_map}
 use Rattle.std.specs.Char.{is_ascii_digit, is_ascii_alphabetic}
@@ -22,7 +22,10 @@ use Rattle.gib_syntax.specs.declared.tree.TypeName.TheVariants as ty
 use Rattle.gib_syntax.specs.Tree.{ConstructorTree, DataTree, ProgramTree}
 use Rattle.gib_syntax.specs.Spelling.{spell_type, spell_types, spell_more, spell_constructors, spell_datas, spell_functions, spell_main, spell_program}
 use Rattle.gib_syntax.specs.Source.{Spells}
+use Rattle.gib_syntax.specs.Plain.{written_of, generic_constructor, generic_data, generic_function, generic_main, generic_of}
 use Rattle.gib_syntax.specs.Declarations.{number_of, place_of, next_place, tree_type, type_or, type_of_name, type_names, row_in, rows_from, table_of_program, input_type, output_type}
+use Rattle.gib_syntax.specs.Fine.{HasConstructor}
+use Rattle.gib_syntax.specs.GenericFine.{HasGenericConstructor}
 use Rattle.gib_syntax.specs.Typing.{IsTypedProgram}
 use Rattle.gib_check.proofs.RowRules.{table_is}
 use Rattle.gib_value.specs.Reading.{IsWord}
@@ -56,31 +59,31 @@ HasName T c = T (t.Constructor c.name.name)
 abbrev HaveNames : (Token → Type 0) → DataTree → Type 0
 HaveNames T d = T (t.Constructor d.name.name) × AllByRecursion (HasName T) d.constructors
 
-after_type : (T : Token → Type 0) (a : TypeName) (rest : List Token) → AllByRecursion T (spell_type a rest) → AllByRecursion T rest
+after_type : (T : Token → Type 0) (a : TypeName) (rest : List Token) → AllByRecursion T (spell_type (written_of a) rest) → AllByRecursion T rest
 after_type T (ty.Whole p) rest h = h.1
 after_type T (ty.Truth p) rest h = h.1
 after_type T (ty.Declared x) rest h = h.1
 
-after_types : (T : Token → Type 0) (as' : List TypeName) (rest : List Token) → AllByRecursion T (spell_types as' rest) → AllByRecursion T rest
+after_types : (T : Token → Type 0) (as' : List TypeName) (rest : List Token) → AllByRecursion T (spell_types (map written_of as') rest) → AllByRecursion T rest
 after_types T [] rest h = h
-after_types T (a ∷ as') rest h = after_types T as' rest (after_type T a (spell_types as' rest) h)
+after_types T (a ∷ as') rest h = after_types T as' rest (after_type T a (spell_types (map written_of as') rest) h)
 
-in_more : (T : Token → Type 0) (cs : List ConstructorTree) (rest : List Token) → AllByRecursion T (spell_more cs rest) → AllByRecursion (HasName T) cs × AllByRecursion T rest
+in_more : (T : Token → Type 0) (cs : List ConstructorTree) (rest : List Token) → AllByRecursion T (spell_more (map generic_constructor cs) rest) → AllByRecursion (HasName T) cs × AllByRecursion T rest
 in_more T [] rest h = (tt {0}, h)
 in_more T (c ∷ cs) rest h =
-    let more = in_more T cs rest (after_types T c.fields (spell_more cs rest) h.1.1) in
+    let more = in_more T cs rest (after_types T c.fields (spell_more (map generic_constructor cs) rest) h.1.1) in
     ((h.1.0, more.0), more.1)
 
-in_constructors : (T : Token → Type 0) (cs : List ConstructorTree) (rest : List Token) → AllByRecursion T (spell_constructors cs rest) → AllByRecursion (HasName T) cs × AllByRecursion T rest
+in_constructors : (T : Token → Type 0) (cs : List ConstructorTree) (rest : List Token) → AllByRecursion T (spell_constructors (map generic_constructor cs) rest) → AllByRecursion (HasName T) cs × AllByRecursion T rest
 in_constructors T [] rest h = (tt {0}, h)
 in_constructors T (c ∷ cs) rest h =
-    let more = in_more T cs rest (after_types T c.fields (spell_more cs rest) h.1) in
+    let more = in_more T cs rest (after_types T c.fields (spell_more (map generic_constructor cs) rest) h.1) in
     ((h.0, more.0), more.1)
 
-in_datas : (T : Token → Type 0) (ds : List DataTree) (rest : List Token) → AllByRecursion T (spell_datas ds rest) → AllByRecursion (HaveNames T) ds
+in_datas : (T : Token → Type 0) (ds : List DataTree) (rest : List Token) → AllByRecursion T (spell_datas (map generic_data ds) rest) → AllByRecursion (HaveNames T) ds
 in_datas T [] rest h = tt {0}
 in_datas T (d ∷ ds) rest h =
-    let here = in_constructors T d.constructors (t.Sign sign.Semicolon ∷ spell_datas ds rest) h.1.1.1 in
+    let here = in_constructors T d.constructors (t.Sign sign.Semicolon ∷ spell_datas (map generic_data ds) rest) h.1.1.1 in
     ((h.1.0, here.0), in_datas T ds rest here.1.1)
 
 -- the number is that of a name whose token this holds of
@@ -188,14 +191,22 @@ written_below types (ty.Declared x) = tree_below (length types) (place_of types 
 
 -- ---- all of it
 
-pub named : (text : List ℕ) (l : Lexed) (p : ProgramTree) → Spells text l p → IsTypedProgram p → AreNamed (table_of_program p) l.names
+plain_some : (cs : List ConstructorTree) → map generic_constructor cs ≢ [] → cs ≢ []
+plain_some [] h e = h refl
+plain_some (c ∷ cs) h e = cc
+
+some_constructors : (ds : List DataTree) → AllByRecursion HasGenericConstructor (map generic_data ds) → AllByRecursion HasConstructor ds
+some_constructors [] h = tt
+some_constructors (d ∷ ds) h = (plain_some d.constructors h.0, some_constructors ds h.1)
+
+pub named : (text : List ℕ) (l : Lexed) (p : ProgramTree) → Spells text l (generic_of p) → IsTypedProgram p → AreNamed (table_of_program p) l.names
 named text l p spells typed =
     let T : Token → Type 0 = IsWritable l.names in
     let P : List Token → Type 0 = AllByRecursion T in
-    let spelled : AllByRecursion T (spell_program p []) = subst P spells.derived.spelled (all_writable text l spells.is_lexed) in
-    let names = in_datas T p.datas (spell_functions p.functions (spell_main p.main [])) spelled in
+    let spelled : AllByRecursion T (spell_program (generic_of p) []) = subst P spells.derived.spelled (all_writable text l spells.is_lexed) in
+    let names = in_datas T p.datas (spell_functions (map generic_function p.functions) (spell_main (generic_main p.main) [])) spelled in
     record {
-      declared = table_is p (record { types_differ = typed.types_differ; constructors_differ = typed.constructors_differ; few = typed.few_constructors; fields = typed.fields }) spells.derived.fine.datas;
+      declared = table_is p (record { types_differ = typed.types_differ; constructors_differ = typed.constructors_differ; few = typed.few_constructors; fields = typed.fields }) (some_constructors p.datas spells.derived.fine.datas);
       differ = lexed_names text l spells.is_lexed spells.few_names;
       types = λ k lt. held_so IsTypeName type_name l.names (slice_index (type_names p) k) (types_at T p.datas names k lt);
       constructors = λ k lt. held_so IsWord word_of l.names (con_name_at (table_of_program p) k) (rows_at T (type_names p) 0 p.datas names k lt);

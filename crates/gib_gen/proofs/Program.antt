@@ -1,6 +1,6 @@
 -- The program that is made: its tree, with the places of its tokens.
 use Rattle.std.proofs.Common.{◌≡◌, ℕ, ◌<◌, ◌≤◌, ◌^◌, ◌∙◌, List, [], ◌∷◌, ◌++◌, map, refl, sym, ap, subst, arith, append_assoc}
-use Rattle.std.specs.Prelude.{codes, Ok}
+use Rattle.std.specs.Prelude.{codes}
 use Rattle.std.specs.Fmt.{decimal}
 use Rattle.std.specs.List.{AllByRecursion}
 use Rattle.std.proofs.lemmas.Fmt.{decimal_digit}
@@ -11,10 +11,9 @@ use Rattle.gib_syntax.specs.declared.tree.Ident.{Ident}
 use Rattle.gib_syntax.specs.declared.tree.TypeName.TheVariants as ty
 use Rattle.gib_syntax.specs.declared.tree.Operator.TheVariants as o
 use Rattle.gib_syntax.specs.Tree.{Expression, Var, Num, Op, Call, Make, Par, Case, NoArgument, Argument, LastArm, NextArm, DataTree, FunctionTree, MainTree, ProgramTree}
-use Rattle.gib_syntax.specs.Spelling.{Places, spell_program, IsFineProgram, IsPlacedProgram, levels_program}
-use Rattle.gib_syntax.specs.Typing.{IsTypedProgram}
-use Rattle.gib_check.specs.FirstFault.{check_program, check_declarations}
-use Rattle.gib_check.proofs.Programs.{program_typed}
+use Rattle.gib_syntax.specs.Plain.{generic_of}
+use Rattle.gib_syntax.specs.GenericFine.{IsGenericFineProgram}
+use Rattle.gib_syntax.specs.Spelling.{Places, spell_program, IsPlacedProgram, levels_program}
 use Rattle.gib_gen.specs.Made.{front, source_text}
 
 -- The names in the order of first use.
@@ -30,18 +29,18 @@ data_tree at =
     let x = name_at at in
     record { name = x 0 70; constructors = record { name = x 1 68; fields = ty.Whole (at 67) ∷ [] } ∷ record { name = x 2 65; fields = ty.Declared (x 0 64) ∷ ty.Declared (x 0 63) ∷ [] } ∷ [] }
 
-abbrev leaf_arm : Places → ℕ → Expression
+abbrev pub leaf_arm : Places → ℕ → Expression
 leaf_arm at k =
     let x = name_at at in
     Make (x 1 44) (Argument (Op (at 43) o.Add (Op (at 42) o.Multiply (Var (x 5 41)) (Num (at 39) 3)) (Num (at 36) k)) NoArgument)
 
-abbrev node_arm : Places → Expression
+abbrev pub node_arm : Places → Expression
 node_arm at =
     let x = name_at at in
     Par (at 29) (x 8 27) (Call (x 3 25) (Argument (Var (x 6 24)) NoArgument)) (x 9 22) (Call (x 3 20) (Argument (Var (x 7 19)) NoArgument))
     (Make (x 2 17) (Argument (Var (x 8 16)) (Argument (Var (x 9 15)) NoArgument)))
 
-abbrev work : Places → ℕ → FunctionTree
+abbrev pub work : Places → ℕ → FunctionTree
 work at k =
     let x = name_at at in
     record {
@@ -51,7 +50,7 @@ work at k =
       body = Case (at 51) (x 4 50) (NextArm (x 1 47) (x 5 46 ∷ []) (leaf_arm at k) (LastArm (x 2 33) (x 6 32 ∷ x 7 31 ∷ []) (node_arm at)));
     }
 
-abbrev main_tree : Places → MainTree
+abbrev pub main_tree : Places → MainTree
 main_tree at =
     let x = name_at at in
     record { parameter = record { name = x 4 10; ty = ty.Declared (x 0 8) }; result = ty.Declared (x 0 5); body = Call (x 3 3) (Argument (Var (x 4 2)) NoArgument) }
@@ -59,45 +58,46 @@ main_tree at =
 abbrev pub program : Places → ℕ → ProgramTree
 program at k = record { datas = data_tree at ∷ []; functions = work at k ∷ []; main = main_tree at }
 
-pub placed : (at : Places) (k : ℕ) → IsPlacedProgram at (program at k)
+pub placed : (at : Places) (k : ℕ) → IsPlacedProgram at (generic_of (program at k))
 placed at k = record {
-  datas = ((refl, ((refl, (refl, tt)), ((refl, (refl, (refl, tt))), tt))), tt);
+  datas = ((refl, tt, ((refl, (refl, tt)), ((refl, ((refl, refl), ((refl, refl), tt))), tt))), tt);
   functions = (
     (
       refl,
-      ((refl, refl), tt),
+      tt,
+      ((refl, (refl, refl)), tt),
       (
-        refl,
+        (refl, refl),
         (
           refl,
           refl,
           (
             refl,
             (refl, tt),
-            (refl, ((refl, (refl, refl, refl), refl), tt)),
-            (refl, (refl, (refl, tt)), (refl, refl, (refl, (refl, tt)), refl, (refl, (refl, tt)), (refl, (refl, (refl, tt))))),
+            (refl, tt, ((refl, (refl, refl, refl), refl), tt)),
+            (refl, (refl, (refl, tt)), (refl, refl, (refl, tt, (refl, tt)), refl, (refl, tt, (refl, tt)), (refl, tt, (refl, (refl, tt))))),
           ),
         ),
       ),
     ),
     tt,
   );
-  main = ((refl, refl), (refl, (refl, (refl, tt))));
+  main = ((refl, (refl, refl)), ((refl, refl), (refl, tt, (refl, tt))));
 }
 
 three : 3 < 2 ^ 63
 three = omega arith
 
-pub fine : (at : Places) (k : ℕ) → k < 2 ^ 63 → IsFineProgram (program at k)
+pub fine : (at : Places) (k : ℕ) → k < 2 ^ 63 → IsGenericFineProgram (generic_of (program at k))
 fine at k h = record {
   datas = ((λ e. absurd cc), tt);
   functions = (((λ e. absurd cc), ((((tt, three, refl, refl), h, refl, refl), refl, tt), ((tt, refl, tt), (tt, refl, tt), (tt, refl, (tt, refl, tt))))), tt);
   main = (tt, refl, tt);
 }
 
-pub shallow : (at : Places) (k : ℕ) → levels_program (program at k) ≤ 200
+pub shallow : (at : Places) (k : ℕ) → levels_program (generic_of (program at k)) ≤ 200
 shallow at k =
-    let five : levels_program (program at k) ≡ 5 = refl in
+    let five : levels_program (generic_of (program at k)) ≡ 5 = refl in
     subst (λ (n : ℕ). n ≤ 200) (sym five) (omega arith)
 
 a_Tree : IsNameOf names kinds.Constructor 0
@@ -130,13 +130,13 @@ v_a = record { text = codes "a"; held = refl; whole = refl; is_so = refl }
 v_b : IsNameOf names kinds.Variable 9
 v_b = record { text = codes "b"; held = refl; whole = refl; is_so = refl }
 
-pub writable : (at : Places) (k : ℕ) → k < 2 ^ 63 → AllByRecursion (IsWritable names) (spell_program (program at k) [])
+pub writable : (at : Places) (k : ℕ) → k < 2 ^ 63 → AllByRecursion (IsWritable names) (spell_program (generic_of (program at k)) [])
 writable at k h = (tt, (a_Tree, (tt, (a_Leaf, (tt, (tt, (a_Node, (a_Tree, (a_Tree, (tt, (tt, (v_work, (tt, (v_t, (tt, (a_Tree, (tt, (tt, (a_Tree, (tt, (tt, (v_t, (tt, (tt, (a_Leaf, (v_n, (tt, (a_Leaf, (tt, (tt, (v_n, (tt, (three, (tt, (tt, (h, (tt, (tt, (a_Node, (v_l, (v_r, (tt, (tt, (tt, (v_a, (tt, (v_work, (v_l, (tt, (v_b, (tt, (v_work, (v_r, (tt, (a_Node, (v_a, (v_b, (tt, (tt, (tt, (tt, (v_t, (tt, (a_Tree, (tt, (tt, (a_Tree, (tt, (v_work, (v_t, (tt, tt)))))))))))))))))))))))))))))))))))))))))))))))))))))))))))))))))))))))
 
-pub used : (at : Places) (k : ℕ) → names_used names (spell_program (program at k) []) ≡ names
+pub used : (at : Places) (k : ℕ) → names_used names (spell_program (generic_of (program at k)) []) ≡ names
 used at k = refl
 
-pub same : (at : Places) (k : ℕ) → map (renumbered names names) (spell_program (program at k) []) ≡ spell_program (program at k) []
+pub same : (at : Places) (k : ℕ) → map (renumbered names names) (spell_program (generic_of (program at k)) []) ≡ spell_program (generic_of (program at k)) []
 same at k = refl
 
 abbrev short_front : List ℕ
@@ -145,17 +145,10 @@ short_front = codes "data Tree = Leaf Int | Node Tree Tree ; fun work ( t : Tree
 abbrev short_back : List ℕ
 short_back = codes " ) ; Node l r -> let par a = work l and b = work r in Node a b } ; main ( t : Tree ) : Tree = work t ;"
 
-pub printed : (at : Places) (k : ℕ) → tokens_text names (spell_program (program at k) []) ++ 10 ∷ [] ≡ source_text k
+pub printed : (at : Places) (k : ℕ) → tokens_text names (spell_program (generic_of (program at k)) []) ++ 10 ∷ [] ≡ source_text k
 printed at k =
-    let written : tokens_text names (spell_program (program at k) []) ≡ short_front ++ (decimal 3 ++ (codes " ) + " ++ (decimal k ++ short_back))) = refl in
+    let written : tokens_text names (spell_program (generic_of (program at k)) []) ≡ short_front ++ (decimal 3 ++ (codes " ) + " ++ (decimal k ++ short_back))) = refl in
     let three : short_front ++ (decimal 3 ++ (codes " ) + " ++ (decimal k ++ short_back))) ≡ front ++ (decimal k ++ short_back) =
     ap (λ (l : List ℕ). short_front ++ (l ++ (codes " ) + " ++ (decimal k ++ short_back)))) (decimal_digit 3 (omega arith)) in
     ap (λ (l : List ℕ). l ++ 10 ∷ []) (written ∙ three)
     ∙ append_assoc front (decimal k ++ short_back) (10 ∷ []) ∙ ap (λ (l : List ℕ). front ++ l) (append_assoc (decimal k) short_back (10 ∷ []))
-
-checked : (at : Places) (k : ℕ) → check_program (program at k) ≡ Ok (tt {0})
-unfolding check_program check_declarations
-checked at k = refl
-
-pub typed : (at : Places) (k : ℕ) → IsTypedProgram (program at k)
-typed at k = program_typed (program at k) (checked at k)

@@ -5,6 +5,7 @@ use Rattle.gib_base.specs.Lexed.{Lexed}
 use Rattle.gib_types.specs.Tree.{Datum, HasType}
 use Rattle.gib_syntax.specs.Tree.{ProgramTree}
 use Rattle.gib_syntax.specs.Source.{Spells}
+use Rattle.gib_syntax.specs.Plain.{generic_of}
 use Rattle.gib_syntax.specs.Declarations.{table_of_program, input_type, output_type}
 use Rattle.gib_syntax.specs.Typing.{IsTypedProgram}
 use Rattle.gib_syntax.specs.Meaning.{Gives, Stops, Deep, run}
@@ -50,13 +51,13 @@ packed_tree t = packed (value_of t)
 abbrev pub file_of : NumberTree → List ℕ
 file_of t = header (length (packed_tree t)) ++ packed_tree t
 
--- The text is that of a typed program, and the bytes are the packed file of the tree as its input. The values of both its types
+-- The text is that of a typed program without type parameters, and the bytes are the packed file of the tree as its input. The values of both its types
 -- are the trees of numbers. Within a depth that is greater than the height of a tree it gives what is made of it with the literal,
 -- and within any other none.
 pub record IsProgramWith (literal : ℕ) (source input : List ℕ) (t : NumberTree) : Type 0 where
   pub lexed : Lexed
   pub program : ProgramTree
-  pub spells : Spells source lexed program
+  pub spells : Spells source lexed (generic_of program)
   pub typed : IsTypedProgram program
   pub file : File1 (table_of_program program) (input_type program) (value_of t) input
   pub takes : input_type program ≡ tree_type

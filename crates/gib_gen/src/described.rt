@@ -6,6 +6,7 @@ ghost use Rattle.gib_types.specs.Table.{IsTyBelow};
 ghost use Rattle.gib_types.specs.Tree.{Datum};
 ghost use Rattle.gib_syntax.specs.Tree.{ProgramTree};
 ghost use Rattle.gib_syntax.specs.Source.{Spells};
+ghost use Rattle.gib_syntax.specs.Plain.{generic_of};
 ghost use Rattle.gib_syntax.specs.Typing.{IsTypedProgram};
 ghost use Rattle.gib_syntax.specs.Declarations.{table_of_program, input_type, output_type};
 ghost use Rattle.gib_file.specs.Packed.{Packed};
@@ -16,17 +17,17 @@ ghost use Rattle.gib_file.specs.Named.{AreNamed};
 /// The table and the names of a program that is spelled and typed are as descriptions need them, and so are the types of its input
 /// and result.
 pub fn programs_are_named()
-    ensures names { (text : List ℕ) (l : Lexed) (p : ProgramTree) → Spells text l p → IsTypedProgram p → AreNamed (table_of_program p) l.names }
+    ensures names { (text : List ℕ) (l : Lexed) (p : ProgramTree) → Spells text l (generic_of p) → IsTypedProgram p → AreNamed (table_of_program p) l.names }
     ensures input { (p : ProgramTree) → IsTypedProgram p → IsTyBelow (length (table_of_program p).types) (input_type p) }
     ensures output { (p : ProgramTree) → IsTypedProgram p → IsTyBelow (length (table_of_program p).types) (output_type p) }
 {}
 
 /// Two programs whose inputs have one description have the same inputs, with the same packed bytes and the same files of version 2.
 pub fn inputs_described_alike()
-    ensures bytes { (text other : List ℕ) (l m : Lexed) (p q : ProgramTree) (description : List ℕ) → Spells text l p → IsTypedProgram p → Spells other m q → IsTypedProgram q
+    ensures bytes { (text other : List ℕ) (l m : Lexed) (p q : ProgramTree) (description : List ℕ) → Spells text l (generic_of p) → IsTypedProgram p → Spells other m (generic_of q) → IsTypedProgram q
         → Describes (table_of_program p) l.names (input_type p) description → Describes (table_of_program q) m.names (input_type q) description
         → (v : Datum) (bytes : List ℕ) → Packed (table_of_program p) (input_type p) v bytes ↔ Packed (table_of_program q) (input_type q) v bytes }
-    ensures files { (text other : List ℕ) (l m : Lexed) (p q : ProgramTree) (description : List ℕ) → Spells text l p → IsTypedProgram p → Spells other m q → IsTypedProgram q
+    ensures files { (text other : List ℕ) (l m : Lexed) (p q : ProgramTree) (description : List ℕ) → Spells text l (generic_of p) → IsTypedProgram p → Spells other m (generic_of q) → IsTypedProgram q
         → Describes (table_of_program p) l.names (input_type p) description → Describes (table_of_program q) m.names (input_type q) description
         → (v : Datum) (bytes : List ℕ) → File2 (table_of_program p) l.names (input_type p) v bytes ↔ File2 (table_of_program q) m.names (input_type q) v bytes }
 {}

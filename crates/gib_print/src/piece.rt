@@ -8,7 +8,7 @@ ghost use Rattle.gib_print.specs.Piece.{front_text, word_text, piece_text, IsKno
 ghost use Rattle.gib_print.specs.Waiting.{IsPut, IsPutWhole};
 
 use crate::waiting::Waiting;
-use gib_base::Names;
+use gib_base::Texts;
 use gib_edge::outside::{Failed, Sink};
 use gib_types::{ConId, TypeTable};
 use itoa::Buffer;
@@ -56,12 +56,12 @@ fn front_of(types: &TypeTable, piece: Piece) -> &'static [u8]
 fn word_of<'a>(
     digits: &'a mut Buffer,
     types: &TypeTable,
-    names: &'a Names,
+    names: &'a Texts,
     piece: Piece,
 ) -> &'a [u8]
     requires known { IsKnown types.now piece }
-    requires names { AreHeld types.now names.now }
-    ensures { result.now ≡ word_text types.now names.now piece }
+    requires names { AreHeld types.now names.now.short }
+    ensures { result.now ≡ word_text types.now names.now.short piece }
 {
     match piece {
         Piece::Nothing => b"",
@@ -69,16 +69,16 @@ fn word_of<'a>(
         Piece::Whole(z) => digits.format(z).as_bytes(),
         Piece::Truth(true) => b"True",
         Piece::Truth(false) => b"False",
-        Piece::Field(con) => names.text(types.name_of(con)),
-        Piece::First(con) => names.text(types.name_of(con)),
+        Piece::Field(con) => names.short(types.name_of(con)),
+        Piece::First(con) => names.short(types.name_of(con)),
     }
 }
 
 /// How many bytes a piece has.
-pub(crate) fn piece_len(types: &TypeTable, names: &Names, piece: Piece) -> u64
+pub(crate) fn piece_len(types: &TypeTable, names: &Texts, piece: Piece) -> u64
     requires known { IsKnown types.now piece }
-    requires names { AreHeld types.now names.now }
-    ensures { result ≡ length (piece_text types.now names.now piece) }
+    requires names { AreHeld types.now names.now.short }
+    ensures { result ≡ length (piece_text types.now names.now.short piece) }
 {
     let mut digits = Buffer::new();
     let word = word_of(&mut digits, types, names, piece).len() as u64;
@@ -90,16 +90,16 @@ pub(crate) fn put_piece<O: Sink>(
     waiting: &mut Waiting,
     sink: &mut O,
     types: &TypeTable,
-    names: &Names,
+    names: &Texts,
     piece: Piece,
 ) -> Result<(), Failed>
     requires known { IsKnown types.now piece }
-    requires names { AreHeld types.now names.now }
-    ensures ok { (start : Option (List ℕ)) (printed : List ℕ) → IsPut start (O.view sink.old).taken waiting.old printed → OnOk result (IsPut start (O.view sink.new).taken waiting.new (printed ++ piece_text types.now names.now piece)) }
-    ensures part { (start : Option (List ℕ)) (printed : List ℕ) → IsPut start (O.view sink.old).taken waiting.old printed → OnErr result (AppendsPart start (O.view sink.new).taken (printed ++ piece_text types.now names.now piece)) }
+    requires names { AreHeld types.now names.now.short }
+    ensures ok { (start : Option (List ℕ)) (printed : List ℕ) → IsPut start (O.view sink.old).taken waiting.old printed → OnOk result (IsPut start (O.view sink.new).taken waiting.new (printed ++ piece_text types.now names.now.short piece)) }
+    ensures part { (start : Option (List ℕ)) (printed : List ℕ) → IsPut start (O.view sink.old).taken waiting.old printed → OnErr result (AppendsPart start (O.view sink.new).taken (printed ++ piece_text types.now names.now.short piece)) }
     ensures cause { HasCause (O.view sink.old).faults (O.view sink.new).faults result }
-    ensures pieces { (start : SinkView) (printed : List ℕ) → IsPutWhole start (O.view sink.old) waiting.old printed → OnOk result (IsPutWhole start (O.view sink.new) waiting.new (printed ++ piece_text types.now names.now piece)) }
-    ensures some { (start : SinkView) (printed : List ℕ) → IsPutWhole start (O.view sink.old) waiting.old printed → OnErr result (PutsSomePieces start (O.view sink.new) (length (printed ++ piece_text types.now names.now piece))) }
+    ensures pieces { (start : SinkView) (printed : List ℕ) → IsPutWhole start (O.view sink.old) waiting.old printed → OnOk result (IsPutWhole start (O.view sink.new) waiting.new (printed ++ piece_text types.now names.now.short piece)) }
+    ensures some { (start : SinkView) (printed : List ℕ) → IsPutWhole start (O.view sink.old) waiting.old printed → OnErr result (PutsSomePieces start (O.view sink.new) (length (printed ++ piece_text types.now names.now.short piece))) }
 {
     let mut digits = Buffer::new();
     let word = word_of(&mut digits, types, names, piece);

@@ -14,7 +14,7 @@ ghost use Rattle.gib_packed.specs.Stands.{Stands};
 use crate::fault::PrintFault;
 use crate::waiting::Waiting;
 use crate::walk::{Counted, count_text, put_text};
-use gib_base::Names;
+use gib_base::Texts;
 use gib_edge::outside::{Failed, Sink};
 use gib_mem::Mem;
 use gib_packed::Root;
@@ -62,18 +62,18 @@ fn truth_word(b: bool) -> &'static [u8]
 fn print_tree<M: Mem, O: Sink>(
     counted: Counted,
     mem: &mut M,
-    names: &Names,
+    names: &Texts,
     layouts: &Layouts,
     sink: &mut O,
 ) -> Result<(), Failed>
-    requires names { AreHeld layouts.now.table names.now }
+    requires names { AreHeld layouts.now.table names.now.short }
     requires value { Decodes layouts.now (M.view mem.old).cells counted.at }
-    requires counted { IsCounted layouts.now names.now (M.view mem.old).cells counted }
-    ensures ok { (t : ℕ) (v : Datum) (z : ℕ) → Dec layouts.now (M.view mem.old).cells counted.at t v z → OnOk result (Appends (O.view sink.old).taken (O.view sink.new).taken (text layouts.now.table names.now v ++ 10 ∷ [])) }
-    ensures part { (t : ℕ) (v : Datum) (z : ℕ) → Dec layouts.now (M.view mem.old).cells counted.at t v z → OnErr result (AppendsPart (O.view sink.old).taken (O.view sink.new).taken (text layouts.now.table names.now v ++ 10 ∷ [])) }
+    requires counted { IsCounted layouts.now names.now.short (M.view mem.old).cells counted }
+    ensures ok { (t : ℕ) (v : Datum) (z : ℕ) → Dec layouts.now (M.view mem.old).cells counted.at t v z → OnOk result (Appends (O.view sink.old).taken (O.view sink.new).taken (text layouts.now.table names.now.short v ++ 10 ∷ [])) }
+    ensures part { (t : ℕ) (v : Datum) (z : ℕ) → Dec layouts.now (M.view mem.old).cells counted.at t v z → OnErr result (AppendsPart (O.view sink.old).taken (O.view sink.new).taken (text layouts.now.table names.now.short v ++ 10 ∷ [])) }
     ensures cause { HasCause (O.view sink.old).faults (O.view sink.new).faults result }
-    ensures pieces { (t : ℕ) (v : Datum) (z : ℕ) → Dec layouts.now (M.view mem.old).cells counted.at t v z → OnOk result (PutsPieces (O.view sink.old) (O.view sink.new) (length (text layouts.now.table names.now v) + 1)) }
-    ensures some { (t : ℕ) (v : Datum) (z : ℕ) → Dec layouts.now (M.view mem.old).cells counted.at t v z → OnErr result (PutsSomePieces (O.view sink.old) (O.view sink.new) (length (text layouts.now.table names.now v) + 1)) }
+    ensures pieces { (t : ℕ) (v : Datum) (z : ℕ) → Dec layouts.now (M.view mem.old).cells counted.at t v z → OnOk result (PutsPieces (O.view sink.old) (O.view sink.new) (length (text layouts.now.table names.now.short v) + 1)) }
+    ensures some { (t : ℕ) (v : Datum) (z : ℕ) → Dec layouts.now (M.view mem.old).cells counted.at t v z → OnErr result (PutsSomePieces (O.view sink.old) (O.view sink.new) (length (text layouts.now.table names.now.short v) + 1)) }
     ensures same { M.view mem.new ≡ M.view mem.old }
 {
     let mut waiting = Waiting::new();
@@ -94,26 +94,26 @@ pub fn print_at<M: Mem, O: Sink>(
     alloc: Global,
     mem: &mut M,
     types: &TypeTable,
-    names: &Names,
+    names: &Texts,
     layouts: &Layouts,
     root: Root,
     sink: &mut O,
 ) -> Result<(), PrintFault>
     requires types { types.now ≡ layouts.now.table }
-    requires names { AreHeld layouts.now.table names.now }
+    requires names { AreHeld layouts.now.table names.now.short }
     requires stands { (ty : Type_of) × (v : Datum) × Stands layouts.now (M.view mem.old).cells root ty v }
     ensures done { (ty : Type_of) (v : Datum) → Stands layouts.now (M.view mem.old).cells root ty v
-        → OnOk result (Appends (O.view sink.old).taken (O.view sink.new).taken (text layouts.now.table names.now v ++ 10 ∷ [])) }
+        → OnOk result (Appends (O.view sink.old).taken (O.view sink.new).taken (text layouts.now.table names.now.short v ++ 10 ∷ [])) }
     ensures part { (ty : Type_of) (v : Datum) → Stands layouts.now (M.view mem.old).cells root ty v
-        → IsErrOf result PrintFault.Write → AppendsPart (O.view sink.old).taken (O.view sink.new).taken (text layouts.now.table names.now v ++ 10 ∷ []) }
+        → IsErrOf result PrintFault.Write → AppendsPart (O.view sink.old).taken (O.view sink.new).taken (text layouts.now.table names.now.short v ++ 10 ∷ []) }
     ensures cause { IsErrOf result PrintFault.Write → Rose (O.view sink.old).faults (O.view sink.new).faults }
     ensures later { (O.view sink.old).faults ≤ (O.view sink.new).faults }
     ensures quiet { (IsErrOf result PrintFault.Write → ⊥) → (O.view sink.new).faults ≡ (O.view sink.old).faults }
     ensures silent { IsErrOf result PrintFault.Memory → (O.view sink.new).taken ≡ (O.view sink.old).taken }
     ensures pieces { (ty : Type_of) (v : Datum) → Stands layouts.now (M.view mem.old).cells root ty v
-        → OnOk result (PutsPieces (O.view sink.old) (O.view sink.new) (length (text layouts.now.table names.now v) + 1)) }
+        → OnOk result (PutsPieces (O.view sink.old) (O.view sink.new) (length (text layouts.now.table names.now.short v) + 1)) }
     ensures some { (ty : Type_of) (v : Datum) → Stands layouts.now (M.view mem.old).cells root ty v
-        → IsErrOf result PrintFault.Write → PutsSomePieces (O.view sink.old) (O.view sink.new) (length (text layouts.now.table names.now v) + 1) }
+        → IsErrOf result PrintFault.Write → PutsSomePieces (O.view sink.old) (O.view sink.new) (length (text layouts.now.table names.now.short v) + 1) }
     ensures still { IsErrOf result PrintFault.Memory → O.view sink.new ≡ O.view sink.old }
     ensures same { M.view mem.new ≡ M.view mem.old }
 {

@@ -5,10 +5,11 @@ ghost use Rattle.gib_mem.specs.Memory.{Owned, after_puts};
 ghost use Rattle.gib_mem.specs.Plain.{nothing};
 ghost use Rattle.gib_types.specs.Table.{row_of};
 ghost use Rattle.gib_packed.specs.Example.{entry, table as example_table, laid};
+ghost use Rattle.gib_base.specs.Texts.{plain_texts};
 ghost use Rattle.gib_print.specs.Example.{names as example_names, StandOnes};
 
 use super::*;
-use gib_base::{Memory, Name, NameFault, Names};
+use gib_base::{Memory, Name, NameFault, Names, Texts};
 use gib_edge::mem_sink::MemSink;
 use gib_mem::{Mem, PlainMem};
 use gib_packed::Root;
@@ -48,15 +49,15 @@ fn make_types(alloc: Global) -> Result<TypeTable, Memory>
     Ok(made)
 }
 
-fn make_names(alloc: Global) -> Result<Names, NameFault>
-    ensures { IfOk result (λ names. names ≡ example_names) }
+fn make_names(alloc: Global) -> Result<Texts, NameFault>
+    ensures { IfOk result (λ names. names ≡ plain_texts example_names) }
 {
     let mut names = Names::make(alloc)?;
     names.intern(alloc, b"T")?;
     names.intern(alloc, b"Nil")?;
     names.intern(alloc, b"Cons")?;
     names.intern(alloc, b"Node")?;
-    Ok(names)
+    Ok(Texts::new(alloc, names))
 }
 
 // Whether both chunks of a memory were drawn.
@@ -100,13 +101,13 @@ fn print_list<M: Mem>(
     alloc: Global,
     mem: &mut M,
     types: &TypeTable,
-    names: &Names,
+    names: &Texts,
     layouts: &Layouts,
     sink: &mut MemSink,
 ) -> Result<(), PrintFault>
     requires types { types.now ≡ example_table }
     requires owned { Owned (M.view mem.old).cells 0 8192 }
-    requires names { names.now ≡ example_names }
+    requires names { names.now.short ≡ example_names }
     requires laid { layouts.now ≡ laid }
 {
     put_list(mem);
@@ -118,13 +119,13 @@ fn print_values<M: Mem>(
     alloc: Global,
     mem: &mut M,
     types: &TypeTable,
-    names: &Names,
+    names: &Texts,
     layouts: &Layouts,
     sink: &mut MemSink,
 ) -> Result<(), PrintFault>
     requires types { types.now ≡ example_table }
     requires owned { Owned (M.view mem.old).cells 0 8192 }
-    requires names { names.now ≡ example_names }
+    requires names { names.now.short ≡ example_names }
     requires laid { layouts.now ≡ laid }
 {
     put(mem, 0, EXAMPLE);

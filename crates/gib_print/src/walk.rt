@@ -13,7 +13,7 @@ use crate::piece::{piece_len, put_piece};
 use crate::step::{MOST, Walk, step};
 use crate::waiting::Waiting;
 use crate::work::Work;
-use gib_base::{Memory, Names};
+use gib_base::{Memory, Texts};
 use gib_edge::outside::{Failed, Sink};
 use gib_mem::Mem;
 use gib_types::Layouts;
@@ -31,13 +31,13 @@ pub(crate) struct Counted {
 pub(crate) fn count_text<M: Mem>(
     alloc: Global,
     mem: &mut M,
-    names: &Names,
+    names: &Texts,
     layouts: &Layouts,
     at: u64,
 ) -> Result<Counted, Memory>
-    requires names { AreHeld layouts.now.table names.now }
+    requires names { AreHeld layouts.now.table names.now.short }
     requires value { Decodes layouts.now (M.view mem.old).cells at }
-    ensures counted { IfOk result (λ counted. IsCounted layouts.now names.now (M.view mem.old).cells counted) }
+    ensures counted { IfOk result (λ counted. IsCounted layouts.now names.now.short (M.view mem.old).cells counted) }
     ensures at { IfOk result (λ counted. counted.at ≡ at) }
     ensures same { M.view mem.new ≡ M.view mem.old }
 {
@@ -65,19 +65,19 @@ pub(crate) fn count_text<M: Mem>(
 pub(crate) fn put_text<M: Mem, O: Sink>(
     counted: Counted,
     mem: &mut M,
-    names: &Names,
+    names: &Texts,
     layouts: &Layouts,
     waiting: &mut Waiting,
     sink: &mut O,
 ) -> Result<(), Failed>
-    requires names { AreHeld layouts.now.table names.now }
+    requires names { AreHeld layouts.now.table names.now.short }
     requires value { Decodes layouts.now (M.view mem.old).cells counted.at }
-    requires counted { IsCounted layouts.now names.now (M.view mem.old).cells counted }
-    ensures ok { (t : ℕ) (v : Datum) (z : ℕ) (start : Option (List ℕ)) → Dec layouts.now (M.view mem.old).cells counted.at t v z → IsPut start (O.view sink.old).taken waiting.old [] → OnOk result (IsPut start (O.view sink.new).taken waiting.new (text layouts.now.table names.now v)) }
-    ensures part { (t : ℕ) (v : Datum) (z : ℕ) (start : Option (List ℕ)) → Dec layouts.now (M.view mem.old).cells counted.at t v z → IsPut start (O.view sink.old).taken waiting.old [] → OnErr result (AppendsPart start (O.view sink.new).taken (text layouts.now.table names.now v)) }
+    requires counted { IsCounted layouts.now names.now.short (M.view mem.old).cells counted }
+    ensures ok { (t : ℕ) (v : Datum) (z : ℕ) (start : Option (List ℕ)) → Dec layouts.now (M.view mem.old).cells counted.at t v z → IsPut start (O.view sink.old).taken waiting.old [] → OnOk result (IsPut start (O.view sink.new).taken waiting.new (text layouts.now.table names.now.short v)) }
+    ensures part { (t : ℕ) (v : Datum) (z : ℕ) (start : Option (List ℕ)) → Dec layouts.now (M.view mem.old).cells counted.at t v z → IsPut start (O.view sink.old).taken waiting.old [] → OnErr result (AppendsPart start (O.view sink.new).taken (text layouts.now.table names.now.short v)) }
     ensures cause { HasCause (O.view sink.old).faults (O.view sink.new).faults result }
-    ensures pieces { (t : ℕ) (v : Datum) (z : ℕ) (start : SinkView) → Dec layouts.now (M.view mem.old).cells counted.at t v z → IsPutWhole start (O.view sink.old) waiting.old [] → OnOk result (IsPutWhole start (O.view sink.new) waiting.new (text layouts.now.table names.now v)) }
-    ensures some { (t : ℕ) (v : Datum) (z : ℕ) (start : SinkView) → Dec layouts.now (M.view mem.old).cells counted.at t v z → IsPutWhole start (O.view sink.old) waiting.old [] → OnErr result (PutsSomePieces start (O.view sink.new) (length (text layouts.now.table names.now v))) }
+    ensures pieces { (t : ℕ) (v : Datum) (z : ℕ) (start : SinkView) → Dec layouts.now (M.view mem.old).cells counted.at t v z → IsPutWhole start (O.view sink.old) waiting.old [] → OnOk result (IsPutWhole start (O.view sink.new) waiting.new (text layouts.now.table names.now.short v)) }
+    ensures some { (t : ℕ) (v : Datum) (z : ℕ) (start : SinkView) → Dec layouts.now (M.view mem.old).cells counted.at t v z → IsPutWhole start (O.view sink.old) waiting.old [] → OnErr result (PutsSomePieces start (O.view sink.new) (length (text layouts.now.table names.now.short v))) }
     ensures same { M.view mem.new ≡ M.view mem.old }
 {
     layouts.rules();

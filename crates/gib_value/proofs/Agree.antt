@@ -1,25 +1,21 @@
 -- Reading goes one way: where it is stuck no text goes on, and there is one such place.
 use Rattle.std.proofs.Common.{◌≡◌, ℕ, ◌<◌, List, [], ◌∷◌, ◌++◌, length, drop, Some, refl, sym, ap, subst, ◌∙◌, arith, inl, inr}
 use Rattle.std.proofs.lemmas.List.{length-drop}
-use Rattle.gib_base.specs.Names.{AreNames}
 use Rattle.gib_types.specs.declared.table.TyId.{TyId}
 use Rattle.gib_types.specs.declared.table.ConId.{ConId}
 use Rattle.gib_types.specs.declared.table.Ty.{Ty}
 use Rattle.gib_types.specs.declared.table.Ty.TheVariants as ty
-use Rattle.gib_types.specs.Table.{Table, IsTable, con_at, fields_at}
+use Rattle.gib_types.specs.Table.{Table, con_at, fields_at}
 use Rattle.gib_types.specs.Tree.{Datum, HasType}
 use Rattle.gib_value.specs.Due.{Due, Value, Name, Space, Close}
-use Rattle.gib_value.specs.Text.{con_text, text, AreHeld}
-use Rattle.gib_value.specs.Reading.{IsWord, AreWords, token_len, first_token, Cut, fields_wanted, CanStand, Stand, IsStuck, IsRefusedAt, IsTextOf, Refuses}
-use Rattle.gib_value.proofs.ReadNames.{same_con}
+use Rattle.gib_value.specs.Text.{con_text, text}
+use Rattle.gib_value.specs.Reading.{IsWord, AreWords, AreApart, token_len, first_token, Cut, fields_wanted, CanStand, Stand, IsStuck, IsRefusedAt, IsTextOf, Refuses}
 use Rattle.gib_value.proofs.Complete.{takes_text, own_within}
 
 -- what is known of a table and names
 pub record Known (table : Table) (names : List (List ℕ)) : Type 0 where
   pub words : AreWords table names
-  pub held : AreHeld table names
-  pub rules : IsTable table
-  pub differ : AreNames names
+  pub apart : AreApart table names
 
 pub no_paren : (token : List ℕ) → IsWord token → token ≡ 40 ∷ [] → ⊥
 no_paren token h e = let w : IsWord (40 ∷ []) = subst IsWord e h in let no = w.0 in cc
@@ -27,9 +23,7 @@ no_paren token h e = let w : IsWord (40 ∷ []) = subst IsWord e h in let no = w
 one_con : (table : Table) (names : List (List ℕ)) → Known table names → (t : TyId) (token : List ℕ) (k j : ConId) → con_at table t.0 k.0 ≡ Some k.0 → con_at table t.0 j.0 ≡ Some j.0
     → token ≡ con_text table names k.0 → token ≡ con_text table names j.0 → k ≡ j
 one_con table names known t token k j ok oj ek ej =
-    let kl = own_within table t.0 k.0 ok in
-    let jl = own_within table t.0 j.0 oj in
-    let number : k.0 ≡ j.0 = same_con table names k.0 j.0 known.rules known.differ kl jl (known.held k.0 kl) (known.held j.0 jl) (sym ek ∙ ej) in
+    let number : k.0 ≡ j.0 = known.apart t.0 k.0 j.0 ok oj (sym ek ∙ ej) in
     let id : ℕ → ConId = λ n. record { 0 = n } in
     ap id number
 

@@ -9,7 +9,6 @@ use Rattle.gib_value.specs.Text.{truth_text, con_text, spell, spell_fields, text
 use Rattle.gib_value.specs.Reading.{IsWord}
 use Rattle.gib_value.proofs.Numbers.{same_number}
 use Rattle.gib_value.proofs.Tokens.{Ends, word_token, number_token, truth_word, same_front}
-use Rattle.gib_value.proofs.ReadNames.{same_con}
 use Rattle.gib_value.proofs.Complete.{ends_fields, own_within}
 use Rattle.gib_value.proofs.Agree.{Known}
 
@@ -37,7 +36,7 @@ same_name table names known t k j x y ok oj ex ey e =
     let kl = own_within table t k ok in
     let jl = own_within table t j oj in
     let s = same_front (con_text table names k) (con_text table names j) x y (word_token _ (known.words k kl)) (word_token _ (known.words j jl)) ex ey e in
-    (same_con table names k j known.rules known.differ kl jl (known.held k kl) (known.held j jl) s.0, s.1)
+    (known.apart t k j ok oj s.0, s.1)
 
 mutual
   pub same_value : (table : Table) (names : List (List ℕ)) → Known table names → (v w : Datum) (t : Ty) (x y : List ℕ) → HasType table v t → HasType table w t → Ends x → Ends y

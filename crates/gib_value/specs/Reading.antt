@@ -18,7 +18,7 @@ use Rattle.gib_value.specs.declared.fault.TextFault.TheVariants as fault
 use Rattle.gib_value.specs.declared.node.Node.{Node}
 use Rattle.gib_value.specs.declared.node.Node.TheVariants as node
 use Rattle.gib_value.specs.Heap.{value_of, IsWithin}
-use Rattle.gib_value.specs.Text.{truth_text, con_text, text}
+use Rattle.gib_value.specs.Text.{truth_text, con_text, text, AreHeld}
 
 -- A word: a letter, and then letters, digits and `_`.
 abbrev pub IsWord : List ℕ → Type 0
@@ -28,6 +28,15 @@ IsWord (b ∷ rest) = (is_ascii_alphabetic b ≡ true) × (list_all is_name_byte
 -- The names of all constructors are words.
 abbrev pub AreWords : Table → List (List ℕ) → Type 0
 AreWords table names = (k : ℕ) → k < length table.rows → IsWord (con_text table names k)
+
+-- Constructors of one type have different names.
+abbrev pub AreApart : Table → List (List ℕ) → Type 0
+AreApart table names = (t k j : ℕ) → con_at table t k ≡ Some k → con_at table t j ≡ Some j → con_text table names k ≡ con_text table names j → k ≡ j
+
+-- The names of all constructors are held, and those of one type are different.
+pub record AreTold (table : Table) (names : List (List ℕ)) : Type 0 where
+  pub held : AreHeld table names
+  pub apart : AreApart table names
 
 -- The length of the token at the front: a word, a number with or without a `-` (45), a parenthesis (40, 41)
 -- or a space (32). It is 0 where no token begins.

@@ -1,6 +1,6 @@
 //! What value texts are read and written by.
 
-use gib_base::Names;
+use gib_base::Texts;
 use gib_types::TypeTable;
 use std::alloc::Global;
 
@@ -9,5 +9,5 @@ use std::alloc::Global;
 pub(crate) struct Context<'a> {
     pub(crate) alloc: Global,
     pub(crate) types: &'a TypeTable,
-    pub(crate) names: &'a Names,
+    pub(crate) names: &'a Texts,
 }

@@ -1,6 +1,6 @@
 //! The value that a text spells.
 
-ghost use Rattle.std.specs.Prelude.{◌≡◌, ◌<◌, ◌≤◌, ◌+◌, ◌-◌, ◌++◌, ◌∷◌, ◌↔◌, [], ℕ, ℤ, List, Bool, true, false, IsTrue, length, map, take, drop, Some, FitsSigned, OnOk, IfOk, MatchOption, MatchResult};
+ghost use Rattle.std.specs.Prelude.{◌≡◌, ◌<◌, ◌≤◌, ◌+◌, ◌-◌, ◌++◌, ◌∷◌, ◌↔◌, [], ℕ, ℤ, List, Bool, true, false, IsTrue, length, map, take, drop, Some, FitsSigned, OnOk, IfOk, IfSome, MatchOption, MatchResult};
 ghost use Rattle.std.specs.Int.{w64};
 ghost use Rattle.std.specs.List.{AllByRecursion};
 ghost use Rattle.std.specs.Fmt.{signed_decimal};
@@ -10,7 +10,7 @@ ghost use Rattle.gib_value.specs.Heap.{value_of, IsWithin};
 ghost use Rattle.gib_value.specs.Due.{Due, due_of};
 ghost use Rattle.gib_value.specs.Due as item;
 ghost use Rattle.gib_value.specs.Text.{truth_text, con_text, AreHeld};
-ghost use Rattle.gib_value.specs.Reading.{token_len as token_len_of, fields_wanted, closed, HasFull, AreWords, IsLeaf, Opens, IsReady, Steps, Refuses, IsTextOf, ReadsTo};
+ghost use Rattle.gib_value.specs.Reading.{token_len as token_len_of, fields_wanted, closed, HasFull, AreWords, AreTold, IsLeaf, Opens, IsReady, Steps, Refuses, IsTextOf, ReadsTo};
 
 use crate::context::Context;
 use crate::fault::TextFault;
@@ -19,7 +19,7 @@ use crate::node::Node;
 use crate::todo::{Todo, Wanted};
 use crate::value::Value;
 use gib_base::letters::{digits_len, name_len};
-use gib_base::{Memory, Names};
+use gib_base::{Memory, Name, Texts};
 use gib_types::{ConId, Ty, TyId, TypeTable};
 use std::alloc::Global;
 
@@ -104,37 +104,62 @@ fn number_of(alloc: Global, token: &[u8]) -> Result<Option<i64>, Memory>
     }
 }
 
-/// The constructor that the token names.
-fn find_named(types: &TypeTable, names: &Names, token: &[u8]) -> Option<ConId>
-    ensures { MatchOption result
-        ((con : ℕ) → con < length types.now.rows → name_at types.now con < length names.now → token.now ≡ con_text types.now names.now con → ⊥)
-        (λ con. (con.0 < length types.now.rows) × (token.now ≡ con_text types.now names.now con.0)
-        × ((other : ℕ) → other < length types.now.rows → name_at types.now other < length names.now → token.now ≡ con_text types.now names.now other → other ≡ con.0)) }
+/// The constructor of the type whose name has the number.
+fn find_called(types: &TypeTable, ty: TyId, name: Name) -> Option<ConId>
+    ensures { IfSome result (λ con. (con_at types.now ty.0 con.0 ≡ Some con.0) × (name_at types.now con.0 ≡ name.0) × (con.0 < length types.now.rows)) }
 {
-    // Different numbers are different texts, and no two constructors have one name.
-    let _count = names.len();
-    types.rules();
-    match names.find(token) {
-        Some(name) => types.con_named(name),
-        None => None,
-    }
-}
-
-/// The constructor of the type that the token names.
-fn find_of(types: &TypeTable, names: &Names, ty: TyId, token: &[u8]) -> Option<ConId>
-    requires { AreHeld types.now names.now }
-    ensures { MatchOption result
-        ((con : ConId) → con_at types.now ty.0 con.0 ≡ Some con.0 → token.now ≡ con_text types.now names.now con.0 → ⊥)
-        (λ con. (con_at types.now ty.0 con.0 ≡ Some con.0) × (token.now ≡ con_text types.now names.now con.0) × (con.0 < length types.now.rows)
-        × ((other : ConId) → con_at types.now ty.0 other.0 ≡ Some other.0 → token.now ≡ con_text types.now names.now other.0 → other.0 ≡ con.0)) }
-{
-    let Some(con) = find_named(types, names, token) else {
+    let Some(con) = types.con_named(name) else {
         return None;
     };
     if types.owner(con).0 == ty.0 {
         Some(con)
     } else {
         None
+    }
+}
+
+/// Whether the constructor is one of the type, and the token its name.
+fn is_named(types: &TypeTable, names: &Texts, ty: TyId, con: ConId, token: &[u8]) -> bool
+    requires con { con.0 < length types.now.rows }
+    requires names { AreHeld types.now names.now.short }
+    ensures yes { result ≡ true → (con_at types.now ty.0 con.0 ≡ Some con.0) × (token.now ≡ con_text types.now names.now.short con.0) }
+    ensures no { result ≡ false → con_at types.now ty.0 con.0 ≡ Some con.0 → token.now ≡ con_text types.now names.now.short con.0 → ⊥ }
+{
+    types.owner(con).0 == ty.0 && token == names.short(types.name_of(con))
+}
+
+/// The constructor of the type that the token names, looked for among all.
+fn find_among(types: &TypeTable, names: &Texts, ty: TyId, token: &[u8]) -> Option<ConId>
+    requires { AreHeld types.now names.now.short }
+    ensures { MatchOption result
+        ((con : ConId) → con_at types.now ty.0 con.0 ≡ Some con.0 → token.now ≡ con_text types.now names.now.short con.0 → ⊥)
+        (λ con. (con_at types.now ty.0 con.0 ≡ Some con.0) × (token.now ≡ con_text types.now names.now.short con.0) × (con.0 < length types.now.rows)) }
+{
+    let mut con = 0;
+    'constructors: while con < types.len() {
+        if is_named(types, names, ty, ConId(con), token) {
+            return Some(ConId(con));
+        }
+        con += 1;
+    }
+    None
+}
+
+/// The constructor of the type that the token names.
+fn find_of(types: &TypeTable, names: &Texts, ty: TyId, token: &[u8]) -> Option<ConId>
+    requires { AreTold types.now names.now.short }
+    ensures { MatchOption result
+        ((con : ConId) → con_at types.now ty.0 con.0 ≡ Some con.0 → token.now ≡ con_text types.now names.now.short con.0 → ⊥)
+        (λ con. (con_at types.now ty.0 con.0 ≡ Some con.0) × (token.now ≡ con_text types.now names.now.short con.0) × (con.0 < length types.now.rows)
+        × ((other : ConId) → con_at types.now ty.0 other.0 ≡ Some other.0 → token.now ≡ con_text types.now names.now.short other.0 → other.0 ≡ con.0)) }
+{
+    let Some(name) = names.find(token) else {
+        return None;
+    };
+    // A copied constructor has a number of its own behind those of the source's names.
+    match find_called(types, ty, name) {
+        Some(con) => Some(con),
+        None => find_among(types, names, ty, token),
     }
 }
 
@@ -193,9 +218,9 @@ fn close(heap: &mut Heap, done: &mut Vec<Node>, con: ConId, count: usize) -> Res
 }
 
 /// The constructor without fields that the token is.
-fn find_bare(types: &TypeTable, names: &Names, ty: TyId, token: &[u8]) -> Option<Node>
-    requires { AreHeld types.now names.now }
-    ensures { MatchOption result ((node : Node) → IsLeaf types.now names.now (Ty.Tree ty) token.now node → ⊥) (λ node. IsLeaf types.now names.now (Ty.Tree ty) token.now node) }
+fn find_bare(types: &TypeTable, names: &Texts, ty: TyId, token: &[u8]) -> Option<Node>
+    requires { AreTold types.now names.now.short }
+    ensures { MatchOption result ((node : Node) → IsLeaf types.now names.now.short (Ty.Tree ty) token.now node → ⊥) (λ node. IsLeaf types.now names.now.short (Ty.Tree ty) token.now node) }
 {
     let Some(con) = find_of(types, names, ty, token) else {
         return None;
@@ -213,8 +238,8 @@ fn find_bare(types: &TypeTable, names: &Names, ty: TyId, token: &[u8]) -> Option
 
 /// The value of the type whose whole text the token is.
 fn find_leaf(context: &Context<'_>, ty: Ty, token: &[u8]) -> Result<Option<Node>, Memory>
-    requires { AreHeld context.now.types.now context.now.names.now }
-    ensures { IfOk result (λ found. MatchOption found ((node : Node) → IsLeaf context.now.types.now context.now.names.now ty token.now node → ⊥) (λ node. IsLeaf context.now.types.now context.now.names.now ty token.now node)) }
+    requires { AreTold context.now.types.now context.now.names.now.short }
+    ensures { IfOk result (λ found. MatchOption found ((node : Node) → IsLeaf context.now.types.now context.now.names.now.short ty token.now node → ⊥) (λ node. IsLeaf context.now.types.now context.now.names.now.short ty token.now node)) }
 {
     match ty {
         Ty::Whole => match number_of(context.alloc, token)? {
@@ -259,10 +284,10 @@ struct Reader {
 impl Reader {
     /// Takes the first token of a value.
     fn take_value(&mut self, context: &Context<'_>, ty: Ty, token: &[u8]) -> Result<bool, Memory>
-        requires names { AreHeld context.now.types.now context.now.names.now }
+        requires names { AreTold context.now.types.now context.now.names.now.short }
         requires held { AllByRecursion (IsWithin (length self.old.heap)) self.old.done.items }
-        ensures yes { IfOk result (λ took. took ≡ true → Steps context.now.types.now context.now.names.now (item.Value ty) token.now self.old.heap self.new.heap self.old.done.items self.new.done.items self.old.wanted self.new.wanted) }
-        ensures no { IfOk result (λ took. took ≡ false → Refuses context.now.types.now context.now.names.now (item.Value ty) token.now) }
+        ensures yes { IfOk result (λ took. took ≡ true → Steps context.now.types.now context.now.names.now.short (item.Value ty) token.now self.old.heap self.new.heap self.old.done.items self.new.done.items self.old.wanted self.new.wanted) }
+        ensures no { IfOk result (λ took. took ≡ false → Refuses context.now.types.now context.now.names.now.short (item.Value ty) token.now) }
     {
         if let Some(node) = find_leaf(context, ty, token)? {
             self.done.push(node)?;
@@ -277,10 +302,10 @@ impl Reader {
 
     /// Takes the name of a constructor with fields.
     fn take_name(&mut self, context: &Context<'_>, ty: TyId, token: &[u8]) -> Result<bool, Memory>
-        requires names { AreHeld context.now.types.now context.now.names.now }
+        requires names { AreTold context.now.types.now context.now.names.now.short }
         requires held { AllByRecursion (IsWithin (length self.old.heap)) self.old.done.items }
-        ensures yes { IfOk result (λ took. took ≡ true → Steps context.now.types.now context.now.names.now (item.Name ty) token.now self.old.heap self.new.heap self.old.done.items self.new.done.items self.old.wanted self.new.wanted) }
-        ensures no { IfOk result (λ took. took ≡ false → Refuses context.now.types.now context.now.names.now (item.Name ty) token.now) }
+        ensures yes { IfOk result (λ took. took ≡ true → Steps context.now.types.now context.now.names.now.short (item.Name ty) token.now self.old.heap self.new.heap self.old.done.items self.new.done.items self.old.wanted self.new.wanted) }
+        ensures no { IfOk result (λ took. took ≡ false → Refuses context.now.types.now context.now.names.now.short (item.Name ty) token.now) }
     {
         let Some(con) = find_of(context.types, context.names, ty, token) else {
             return Ok(false);
@@ -302,8 +327,8 @@ impl Reader {
     ) -> Result<bool, Memory>
         requires ready { IsReady context.now.types.now (item.Close con) (length self.old.done.items) }
         requires held { AllByRecursion (IsWithin (length self.old.heap)) self.old.done.items }
-        ensures yes { IfOk result (λ took. took ≡ true → Steps context.now.types.now context.now.names.now (item.Close con) token.now self.old.heap self.new.heap self.old.done.items self.new.done.items self.old.wanted self.new.wanted) }
-        ensures no { IfOk result (λ took. took ≡ false → Refuses context.now.types.now context.now.names.now (item.Close con) token.now) }
+        ensures yes { IfOk result (λ took. took ≡ true → Steps context.now.types.now context.now.names.now.short (item.Close con) token.now self.old.heap self.new.heap self.old.done.items self.new.done.items self.old.wanted self.new.wanted) }
+        ensures no { IfOk result (λ took. took ≡ false → Refuses context.now.types.now context.now.names.now.short (item.Close con) token.now) }
     {
         if !is_byte(token, 41) {
             return Ok(false);
@@ -316,11 +341,11 @@ impl Reader {
 
     /// Takes a token, where it can stand; answers whether it can.
     fn take(&mut self, context: &Context<'_>, next: Wanted, token: &[u8]) -> Result<bool, Memory>
-        requires names { AreHeld context.now.types.now context.now.names.now }
+        requires names { AreTold context.now.types.now context.now.names.now.short }
         requires ready { IsReady context.now.types.now (due_of next) (length self.old.done.items) }
         requires held { AllByRecursion (IsWithin (length self.old.heap)) self.old.done.items }
-        ensures yes { IfOk result (λ took. took ≡ true → Steps context.now.types.now context.now.names.now (due_of next) token.now self.old.heap self.new.heap self.old.done.items self.new.done.items self.old.wanted self.new.wanted) }
-        ensures no { IfOk result (λ took. took ≡ false → Refuses context.now.types.now context.now.names.now (due_of next) token.now) }
+        ensures yes { IfOk result (λ took. took ≡ true → Steps context.now.types.now context.now.names.now.short (due_of next) token.now self.old.heap self.new.heap self.old.done.items self.new.done.items self.old.wanted self.new.wanted) }
+        ensures no { IfOk result (λ took. took ≡ false → Refuses context.now.types.now context.now.names.now.short (due_of next) token.now) }
     {
         match next {
             Wanted::Value(ty) => {
@@ -342,8 +367,8 @@ impl Reader {
 
 /// Reads token by token, up to the first one that can't stand.
 fn read_tokens(context: &Context<'_>, ty: Ty, text: &[u8]) -> Result<Value, TextFault>
-    requires { AreHeld context.now.types.now context.now.names.now }
-    ensures { ReadsTo context.now.types.now context.now.names.now ty text.now result }
+    requires { AreTold context.now.types.now context.now.names.now.short }
+    ensures { ReadsTo context.now.types.now context.now.names.now.short ty text.now result }
 {
     let mut reader = Reader {
         heap: Heap::new(context.alloc),
@@ -382,20 +407,17 @@ fn read_tokens(context: &Context<'_>, ty: Ty, text: &[u8]) -> Result<Value, Text
 pub fn read_text(
     alloc: Global,
     types: &TypeTable,
-    names: &Names,
+    names: &Texts,
     ty: Ty,
     text: &[u8],
 ) -> Result<Value, TextFault>
-    requires names { AreHeld types.now names.now }
+    requires names { AreTold types.now names.now.short }
     // What is read is the value whose text this is; else the place is that of the first token that can't
     // stand, and all before it can.
-    ensures exact { ReadsTo types.now names.now ty text.now result }
+    ensures exact { ReadsTo types.now names.now.short ty text.now result }
     // The text of a value is read, unless memory runs out, where each constructor's name is a word.
-    ensures complete { AreWords types.now names.now → (v : Datum) → IsTextOf types.now names.now ty v text.now → MatchResult result (λ found. found ≡ v) (λ e. e ≡ TextFault.Memory) }
+    ensures complete { AreWords types.now names.now.short → (v : Datum) → IsTextOf types.now names.now.short ty v text.now → MatchResult result (λ found. found ≡ v) (λ e. e ≡ TextFault.Memory) }
 {
-    // Different numbers are different texts, and no two constructors have one name.
-    let _count = names.len();
-    types.rules();
     let context = Context {
         alloc,
         types,

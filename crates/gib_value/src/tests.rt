@@ -2,12 +2,13 @@
 
 ghost use Rattle.std.specs.Prelude.{◌≡◌, IfOk};
 ghost use Rattle.gib_types.specs.Table.{row_of, table_of};
+ghost use Rattle.gib_base.specs.Texts.{plain_texts};
 ghost use Rattle.gib_value.specs.Example.{entry, table as example_table, names as example_names};
 
 use crate::fault::TextFault;
 use crate::read::read_text;
 use crate::write::write_text;
-use gib_base::{Memory, Name, NameFault, Names};
+use gib_base::{Memory, Name, NameFault, Names, Texts};
 use gib_types::{Constructor, Ty, TyId, TypeTable};
 use std::alloc::Global;
 use std::test::Fail;
@@ -47,8 +48,8 @@ fn make_types(alloc: Global) -> Result<TypeTable, Memory>
     Ok(made)
 }
 
-fn make_names(alloc: Global) -> Result<Names, NameFault>
-    ensures { IfOk result (λ names. names ≡ example_names) }
+fn make_names(alloc: Global) -> Result<Texts, NameFault>
+    ensures { IfOk result (λ names. names ≡ plain_texts example_names) }
 {
     let mut names = Names::make(alloc)?;
     names.intern(alloc, b"Tree")?;
@@ -60,19 +61,19 @@ fn make_names(alloc: Global) -> Result<Names, NameFault>
     names.intern(alloc, b"Link")?;
     names.intern(alloc, b"Red")?;
     names.intern(alloc, b"Blue")?;
-    Ok(names)
+    Ok(Texts::new(alloc, names))
 }
 
 /// Reads a text, copies the value and writes the copy.
 fn there_and_back(
     alloc: Global,
     types: &TypeTable,
-    names: &Names,
+    names: &Texts,
     ty: Ty,
     text: &[u8],
 ) -> Result<Vec<u8>, TextFault>
     requires types { types.now ≡ example_table }
-    requires names { names.now ≡ example_names }
+    requires names { names.now.short ≡ example_names }
 {
     let value = read_text(alloc, types, names, ty, text)?;
     let copy = value.copy(alloc)?;

@@ -13,7 +13,7 @@ use crate::context::Context;
 use crate::heap::Heap;
 use crate::node::Node;
 use crate::value::Value;
-use gib_base::{Memory, Names, push_signed};
+use gib_base::{Memory, Texts, push_signed};
 use gib_types::{ConId, TypeTable};
 use std::alloc::Global;
 
@@ -39,10 +39,10 @@ fn push_truth(out: &mut Vec<u8>, b: bool) -> Result<(), Memory>
 /// Writes the name of a constructor.
 fn push_name(out: &mut Vec<u8>, context: &Context<'_>, con: ConId) -> Result<(), Memory>
     requires con { con.0 < length context.now.types.now.rows }
-    requires names { AreHeld context.now.types.now context.now.names.now }
-    ensures { OnOk result (out.new.items ≡ out.old.items ++ con_text context.now.types.now context.now.names.now con.0) }
+    requires names { AreHeld context.now.types.now context.now.names.now.short }
+    ensures { OnOk result (out.new.items ≡ out.old.items ++ con_text context.now.types.now context.now.names.now.short con.0) }
 {
-    out.extend_from_slice(context.names.text(context.types.name_of(con)))?;
+    out.extend_from_slice(context.names.short(context.types.name_of(con)))?;
     Ok(())
 }
 
@@ -69,8 +69,8 @@ impl Writer {
     /// Writes the front of a constructor's text, and puts what is left of it on the stack.
     fn push_con(&mut self, context: &Context<'_>, con: ConId, fields: &[Node]) -> Result<(), Memory>
         requires con { con.0 < length context.now.types.now.rows }
-        requires names { AreHeld context.now.types.now context.now.names.now }
-        ensures text { OnOk result (self.new.out.items ≡ (self.old.out.items ++ 40 ∷ []) ++ con_text context.now.types.now context.now.names.now con.0) }
+        requires names { AreHeld context.now.types.now context.now.names.now.short }
+        ensures text { OnOk result (self.new.out.items ≡ (self.old.out.items ++ 40 ∷ []) ++ con_text context.now.types.now context.now.names.now.short con.0) }
         ensures due { OnOk result (reverse self.new.due.items ≡ map field_due fields.now ++ Due.Close ∷ reverse self.old.due.items) }
     {
         self.out.push(40)?;
@@ -82,12 +82,12 @@ impl Writer {
 
     /// Writes the front of a node's text, and puts what is left of it on the stack.
     fn push_node(&mut self, context: &Context<'_>, heap: &Heap, node: Node) -> Result<(), Memory>
-        requires names { AreHeld context.now.types.now context.now.names.now }
+        requires names { AreHeld context.now.types.now context.now.names.now.short }
         requires within { IsWithin (length heap.now) node }
         requires tags { HasTags (length context.now.types.now.rows) (value_of heap.now node) }
         requires due { AllByRecursion (IsDue (length context.now.types.now.rows) heap.now) (reverse self.old.due.items) }
-        ensures text { OnOk result (self.new.out.items ++ due_text context.now.types.now context.now.names.now heap.now (reverse self.new.due.items)
-            ≡ self.old.out.items ++ spell context.now.types.now context.now.names.now (value_of heap.now node) (due_text context.now.types.now context.now.names.now heap.now (reverse self.old.due.items))) }
+        ensures text { OnOk result (self.new.out.items ++ due_text context.now.types.now context.now.names.now.short heap.now (reverse self.new.due.items)
+            ≡ self.old.out.items ++ spell context.now.types.now context.now.names.now.short (value_of heap.now node) (due_text context.now.types.now context.now.names.now.short heap.now (reverse self.old.due.items))) }
         ensures due { OnOk result (AllByRecursion (IsDue (length context.now.types.now.rows) heap.now) (reverse self.new.due.items)) }
         ensures less { OnOk result (due_size heap.now (reverse self.new.due.items) < size (value_of heap.now node) + due_size heap.now (reverse self.old.due.items)) }
     {
@@ -107,10 +107,10 @@ impl Writer {
 
 /// The text of the value that a node is in a heap.
 fn write_node(context: &Context<'_>, heap: &Heap, root: Node) -> Result<Vec<u8>, Memory>
-    requires names { AreHeld context.now.types.now context.now.names.now }
+    requires names { AreHeld context.now.types.now context.now.names.now.short }
     requires within { IsWithin (length heap.now) root }
     requires tags { HasTags (length context.now.types.now.rows) (value_of heap.now root) }
-    ensures { IfOk result (λ out. out.items ≡ text context.now.types.now context.now.names.now (value_of heap.now root)) }
+    ensures { IfOk result (λ out. out.items ≡ text context.now.types.now context.now.names.now.short (value_of heap.now root)) }
 {
     let mut writer = Writer {
         out: Vec::new(context.alloc),
@@ -137,12 +137,12 @@ fn write_node(context: &Context<'_>, heap: &Heap, root: Node) -> Result<Vec<u8>,
 pub fn write_text(
     alloc: Global,
     types: &TypeTable,
-    names: &Names,
+    names: &Texts,
     value: &Value,
 ) -> Result<Vec<u8>, Memory>
     requires typed { IsTyped types.now value.now }
-    requires names { AreHeld types.now names.now }
-    ensures { IfOk result (λ out. out.items ≡ text types.now names.now value.now) }
+    requires names { AreHeld types.now names.now.short }
+    ensures { IfOk result (λ out. out.items ≡ text types.now names.now.short value.now) }
 {
     let (heap, root) = value.parts();
     let context = Context {

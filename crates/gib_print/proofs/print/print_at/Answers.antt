@@ -29,24 +29,24 @@ pub returns-in_err-print_bytes-in-Whole-clause-part : goal.returns-in_err-print_
 returns-in_err-print_bytes-in-Whole-clause-part g c = λ ty v st e.
     let fits : FitsSigned w64 c.in-Whole.z = search in
     let kept = to_z-of_z w64 c.in-Whole.z fits in
-    let is = whole_text c.args.names.now c.in-Whole.z c.as_bytes.result.now st c.in-Whole.is (c.as_bytes.ensures.value ∙ c.format.ensures.text ∙ ap signed_decimal kept) in
+    let is = whole_text c.args.names.now.short c.in-Whole.z c.as_bytes.result.now st c.in-Whole.is (c.as_bytes.ensures.value ∙ c.format.ensures.text ∙ ap signed_decimal kept) in
     subst (λ (l : List ℕ). AppendsPart (g.O.Sink.view c.args.sink.now).taken (g.O.Sink.view c.print_bytes.new.sink).taken (l ++ 10 ∷ [])) is c.in_err-print_bytes-in-Whole.ensures.part
 
 pub returns-in_ok-print_bytes-in-Whole-clause-done : goal.returns-in_ok-print_bytes-in-Whole-clause-done
 returns-in_ok-print_bytes-in-Whole-clause-done g c = λ ty v st.
     let fits : FitsSigned w64 c.in-Whole.z = search in
     let kept = to_z-of_z w64 c.in-Whole.z fits in
-    let is = whole_text c.args.names.now c.in-Whole.z c.as_bytes.result.now st c.in-Whole.is (c.as_bytes.ensures.value ∙ c.format.ensures.text ∙ ap signed_decimal kept) in
+    let is = whole_text c.args.names.now.short c.in-Whole.z c.as_bytes.result.now st c.in-Whole.is (c.as_bytes.ensures.value ∙ c.format.ensures.text ∙ ap signed_decimal kept) in
     subst (λ (l : List ℕ). Appends (g.O.Sink.view c.args.sink.now).taken (g.O.Sink.view c.print_bytes.new.sink).taken (l ++ 10 ∷ [])) is c.in_ok-print_bytes-in-Whole.ensures.ok
 
 pub returns-in_err-print_bytes-in-Truth-clause-part : goal.returns-in_err-print_bytes-in-Truth-clause-part
 returns-in_err-print_bytes-in-Truth-clause-part g c = λ ty v st e.
-    let is = truth_is_text c.args.names.now c.in-Truth.b c.truth_word.result.now st c.in-Truth.is c.truth_word.ensures in
+    let is = truth_is_text c.args.names.now.short c.in-Truth.b c.truth_word.result.now st c.in-Truth.is c.truth_word.ensures in
     subst (λ (l : List ℕ). AppendsPart (g.O.Sink.view c.args.sink.now).taken (g.O.Sink.view c.print_bytes-in-Truth.new.sink).taken (l ++ 10 ∷ [])) is c.in_err-print_bytes-in-Truth.ensures.part
 
 pub returns-in_ok-print_bytes-in-Truth-clause-done : goal.returns-in_ok-print_bytes-in-Truth-clause-done
 returns-in_ok-print_bytes-in-Truth-clause-done g c = λ ty v st.
-    let is = truth_is_text c.args.names.now c.in-Truth.b c.truth_word.result.now st c.in-Truth.is c.truth_word.ensures in
+    let is = truth_is_text c.args.names.now.short c.in-Truth.b c.truth_word.result.now st c.in-Truth.is c.truth_word.ensures in
     subst (λ (l : List ℕ). Appends (g.O.Sink.view c.args.sink.now).taken (g.O.Sink.view c.print_bytes-in-Truth.new.sink).taken (l ++ 10 ∷ [])) is c.in_ok-print_bytes-in-Truth.ensures.ok
 
 pub returns-in_err-print_tree-in-At-clause-some : goal.returns-in_err-print_tree-in-At-clause-some
@@ -65,22 +65,22 @@ pub returns-in_err-print_bytes-in-Whole-clause-some : goal.returns-in_err-print_
 returns-in_err-print_bytes-in-Whole-clause-some g c = λ ty v st e.
     let fits : FitsSigned w64 c.in-Whole.z = search in
     let kept = to_z-of_z w64 c.in-Whole.z fits in
-    let is = whole_text c.args.names.now c.in-Whole.z c.as_bytes.result.now st c.in-Whole.is (c.as_bytes.ensures.value ∙ c.format.ensures.text ∙ ap signed_decimal kept) in
+    let is = whole_text c.args.names.now.short c.in-Whole.z c.as_bytes.result.now st c.in-Whole.is (c.as_bytes.ensures.value ∙ c.format.ensures.text ∙ ap signed_decimal kept) in
     subst (λ (l : List ℕ). PutsSomePieces (g.O.Sink.view c.args.sink.now) (g.O.Sink.view c.print_bytes.new.sink) (length l + 1)) is c.in_err-print_bytes-in-Whole.ensures.some
 
 pub returns-in_ok-print_bytes-in-Whole-clause-pieces : goal.returns-in_ok-print_bytes-in-Whole-clause-pieces
 returns-in_ok-print_bytes-in-Whole-clause-pieces g c = λ ty v st.
     let fits : FitsSigned w64 c.in-Whole.z = search in
     let kept = to_z-of_z w64 c.in-Whole.z fits in
-    let is = whole_text c.args.names.now c.in-Whole.z c.as_bytes.result.now st c.in-Whole.is (c.as_bytes.ensures.value ∙ c.format.ensures.text ∙ ap signed_decimal kept) in
+    let is = whole_text c.args.names.now.short c.in-Whole.z c.as_bytes.result.now st c.in-Whole.is (c.as_bytes.ensures.value ∙ c.format.ensures.text ∙ ap signed_decimal kept) in
     subst (λ (l : List ℕ). PutsPieces (g.O.Sink.view c.args.sink.now) (g.O.Sink.view c.print_bytes.new.sink) (length l + 1)) is c.in_ok-print_bytes-in-Whole.ensures.pieces
 
 pub returns-in_err-print_bytes-in-Truth-clause-some : goal.returns-in_err-print_bytes-in-Truth-clause-some
 returns-in_err-print_bytes-in-Truth-clause-some g c = λ ty v st e.
-    let is = truth_is_text c.args.names.now c.in-Truth.b c.truth_word.result.now st c.in-Truth.is c.truth_word.ensures in
+    let is = truth_is_text c.args.names.now.short c.in-Truth.b c.truth_word.result.now st c.in-Truth.is c.truth_word.ensures in
     subst (λ (l : List ℕ). PutsSomePieces (g.O.Sink.view c.args.sink.now) (g.O.Sink.view c.print_bytes-in-Truth.new.sink) (length l + 1)) is c.in_err-print_bytes-in-Truth.ensures.some
 
 pub returns-in_ok-print_bytes-in-Truth-clause-pieces : goal.returns-in_ok-print_bytes-in-Truth-clause-pieces
 returns-in_ok-print_bytes-in-Truth-clause-pieces g c = λ ty v st.
-    let is = truth_is_text c.args.names.now c.in-Truth.b c.truth_word.result.now st c.in-Truth.is c.truth_word.ensures in
+    let is = truth_is_text c.args.names.now.short c.in-Truth.b c.truth_word.result.now st c.in-Truth.is c.truth_word.ensures in
     subst (λ (l : List ℕ). PutsPieces (g.O.Sink.view c.args.sink.now) (g.O.Sink.view c.print_bytes-in-Truth.new.sink) (length l + 1)) is c.in_ok-print_bytes-in-Truth.ensures.pieces

@@ -14,7 +14,7 @@ use Rattle.gib_print.proofs.walk.count_text.Goals as goal
 pub work-init : goal.work-init
 work-init g c = record {
   same = refl;
-  counts = counting_start c.args.layouts.now c.args.names.now (g.M.Mem.view c.args.mem.now).cells (vec_capacity c.in_ok-work.work) (reverse c.in_ok-work.work.items) c.args.at (ap reverse c.in_ok-work.ensures.items);
+  counts = counting_start c.args.layouts.now c.args.names.now.short (g.M.Mem.view c.args.mem.now).cells (vec_capacity c.in_ok-work.work) (reverse c.in_ok-work.work.items) c.args.at (ap reverse c.in_ok-work.ensures.items);
 }
 
 pub piece_len-len-requires-clause-known : goal.piece_len-len-requires-clause-known
@@ -22,9 +22,9 @@ piece_len-len-requires-clause-known g c = subst (λ (t : Table). IsKnown t c.ste
 
 pub work-smaller : goal.work-smaller
 work-smaller g c =
-    let less = step_less c.args.names.now c.rules.ensures.table c.step-piece.ensures.step in
+    let less = step_less c.args.names.now.short c.rules.ensures.table c.step-piece.ensures.step in
     let same = ap (λ (xs : List Work). weight (reverse xs)) c.in_ok-reserve.ensures.items in
-    let len = c.piece_len-len.ensures ∙ ap (λ (t : Table). length (piece_text t c.args.names.now c.step-piece.result)) c.types.ensures in
+    let len = c.piece_len-len.ensures ∙ ap (λ (t : Table). length (piece_text t c.args.names.now.short c.step-piece.result)) c.types.ensures in
     let e : 20 * (2 ^ 64 - (c.work.bytes + c.piece_len-len.result)) + weight (reverse c.step-piece.new.walk.work.items) < 20 * (2 ^ 64 - c.work.bytes) + weight (reverse c.work.walk.work.items) =
     omega (arith, less, same, len, c.if-bytes-len.false, c.work.auto.bytes-fits) in
     e
@@ -33,13 +33,13 @@ pub work-preserved : goal.work-preserved
 work-preserved g c =
     let step = subst (λ (m : Memory). Step c.args.layouts.now m.cells (reverse c.work.walk.work.items) c.work.walk.end c.step-piece.result (reverse c.step-piece.new.walk.work.items) c.step-piece.new.walk.end) c.work.invariant.same
     (subst (λ (xs : List Work). Step c.args.layouts.now (g.M.Mem.view c.work.mem).cells (reverse xs) c.work.walk.end c.step-piece.result (reverse c.step-piece.new.walk.work.items) c.step-piece.new.walk.end) c.in_ok-reserve.ensures.items c.step-piece.ensures.step) in
-    let len = c.piece_len-len.ensures ∙ ap (λ (t : Table). length (piece_text t c.args.names.now c.step-piece.result)) c.types.ensures in
+    let len = c.piece_len-len.ensures ∙ ap (λ (t : Table). length (piece_text t c.args.names.now.short c.step-piece.result)) c.types.ensures in
     let le : vec_capacity c.work.walk.work ≤ vec_capacity c.step-piece.new.walk.work = omega (arith, c.step-piece.ensures.room, c.in_ok-reserve.ensures.capacity) in
     let fits : length (reverse c.work.walk.work.items) + 10 ≤ vec_capacity c.step-piece.new.walk.work =
     omega (arith, c.step-piece.ensures.room, c.in_ok-reserve.ensures.ok, c.in_ok-reserve.ensures.len, c.work.walk.work.ok, length-reverse c.work.walk.work.items) in
     record {
       same = c.step-piece.ensures.same ∙ c.work.invariant.same;
-      counts = subst (λ (n : ℕ). Counting c.args.layouts.now c.args.names.now (g.M.Mem.view c.args.mem.now).cells (vec_capacity c.step-piece.new.walk.work) (reverse c.step-piece.new.walk.work.items) c.step-piece.new.walk.end c.args.at (c.work.bytes + n)) (sym len)
+      counts = subst (λ (n : ℕ). Counting c.args.layouts.now c.args.names.now.short (g.M.Mem.view c.args.mem.now).cells (vec_capacity c.step-piece.new.walk.work) (reverse c.step-piece.new.walk.work.items) c.step-piece.new.walk.end c.args.at (c.work.bytes + n)) (sym len)
           (counting_step {more_room = vec_capacity c.step-piece.new.walk.work} c.work.invariant.counts le fits step);
     }
 

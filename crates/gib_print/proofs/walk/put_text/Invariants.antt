@@ -13,7 +13,7 @@ invariant-work g l = record {
   quiet : (g.O.Sink.view l.sink).faults ≡ (g.O.Sink.view l.fn.sink).faults;
   room : vec_capacity l.walk.work ≡ vec_capacity l.fn.counted.work;
   puts : (t : ℕ) (v : Datum) (z : ℕ) → Dec l.layouts (g.M.Mem.view l.fn.mem).cells l.fn.counted.at t v z
-      → Putting l.layouts l.names (g.M.Mem.view l.fn.mem).cells (vec_capacity l.walk.work) (reverse l.walk.work.items) l.walk.end l.left (text l.layouts.table l.names v) (g.O.Sink.view l.fn.sink) (g.O.Sink.view l.sink) l.fn.waiting l.waiting;
+      → Putting l.layouts l.names.short (g.M.Mem.view l.fn.mem).cells (vec_capacity l.walk.work) (reverse l.walk.work.items) l.walk.end l.left (text l.layouts.table l.names.short v) (g.O.Sink.view l.fn.sink) (g.O.Sink.view l.sink) l.fn.waiting l.waiting;
 }
 
 abbrev pub decreases-work : goal.decreases-work

@@ -6,7 +6,7 @@ use Rattle.gib_value.proofs.WriteLemmas.{Writes}
 use Rattle.gib_value.proofs.write.write_node.Given as goal
 
 abbrev pub invariant-due : goal.invariant-due
-invariant-due l = Writes l.context.types.now l.context.names.now l.heap (text l.context.types.now l.context.names.now (value_of l.heap l.fn.root)) (reverse l.writer.due.items) l.writer.out.items
+invariant-due l = Writes l.context.types.now l.context.names.now.short l.heap (text l.context.types.now l.context.names.now.short (value_of l.heap l.fn.root)) (reverse l.writer.due.items) l.writer.out.items
 
 abbrev pub decreases-due : goal.decreases-due
 decreases-due l = due_size l.heap (reverse l.writer.due.items)
