@@ -82,11 +82,10 @@ impl Machine {
         function: u32,
         arguments: &[Operand],
         answer: Option<u32>,
-    ) -> Turn
+    )
         requires next { self.old.ip + 1 < 2 ^ 32 }
         requires made { self.old.width ≡ widest code.now.functions }
-        ensures state { (ts : List ℕ) → with_tails self.new ts ≡ called code.now (with_tails self.old ts) function (words self.old.words arguments.now) answer self.old.depth }
-        ensures turn { result ≡ turns.Went }
+        ensures { (ts : List ℕ) → with_tails self.new ts ≡ called code.now (with_tails self.old ts) function (words self.old.words arguments.now) answer self.old.depth }
     {
         if self.frames.is_full() {
             self.unwinds(Reason::Deep);
@@ -96,7 +95,6 @@ impl Machine {
             self.frames.enter(slots, arguments, self.ip + 1, answer);
             self.went_to(start);
         }
-        Turn::Went
     }
 
     pub(crate) fn returns(&mut self) -> Turn

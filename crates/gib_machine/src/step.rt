@@ -1,11 +1,10 @@
 //! One micro-step, by the running instruction and how far it is.
 
-ghost use Rattle.std.specs.Prelude.{◌≡◌, ◌<◌, ◌+◌, ◌^◌, ℕ, List, Some, slice_get};
-ghost use Rattle.gib_mem.specs.Memory.{Memory};
+ghost use Rattle.std.specs.Prelude.{◌≡◌, ◌<◌, ◌+◌, ◌^◌, Some, slice_get};
 ghost use Rattle.gib_code.specs.Instruction.{instruction_of, IsFine};
 ghost use Rattle.gib_machine.specs.Machine.{begin, next, widest};
 ghost use Rattle.gib_code.specs.Program.{Runs};
-ghost use Rattle.gib_machine.specs.Stepping.{with_tails, Made, Can, CanStep, IsSmallAsk, IsSilent, IsFlow};
+ghost use Rattle.gib_machine.specs.Stepping.{with_tails, Made, Can, CanStep, IsSmallAsk};
 
 use crate::starting::ForkParts;
 use crate::state::{Doing, Machine};
@@ -19,7 +18,6 @@ impl Machine {
     ///
     /// `Full` is answered where the step draws and all chunks are drawn; the machine is then as before, so it may be tried
     /// again. At a fork, at a join and at its end a step changes nothing.
-    #[inline(always)]
     pub fn step<M: Mem>(&mut self, code: &Code, mem: &mut M, tails: &mut Tails) -> Turn
         requires { CanStep code.now (with_tails self.old tails.old) (M.view mem.old) }
         ensures { Made (next code.now (with_tails self.old tails.old)) (with_tails self.old tails.old) (with_tails self.new tails.new) (M.view mem.old) (M.view mem.new) result }
@@ -28,7 +26,6 @@ impl Machine {
     }
 
     /// A micro-step, by how far the instruction is.
-    #[inline(always)]
     fn goes_on<M: Mem>(&mut self, code: &Code, mem: &mut M, tails: &mut Tails) -> Turn
         requires runs { Runs code.now }
         requires made { self.old.width ≡ widest code.now.functions }
@@ -66,7 +63,6 @@ impl Machine {
     }
 
     /// The instruction at hand begins. Behind the code there is none.
-    #[inline(always)]
     fn begins_here<M: Mem>(&mut self, code: &Code, mem: &mut M, tails: &mut Tails) -> Turn
         requires runs { Runs code.now }
         requires made { self.old.width ≡ widest code.now.functions }
@@ -82,8 +78,7 @@ impl Machine {
         self.begins_with(code, &instructions[place], mem, tails)
     }
 
-    /// An instruction begins; here those that ask the memory for something.
-    #[inline(always)]
+    /// An instruction begins.
     fn begins_with<M: Mem>(
         &mut self,
         code: &Code,
@@ -116,59 +111,7 @@ impl Machine {
                 let target = self.frames.slot(*from);
                 self.points(target, mem)
             }
-            _ => self.begins_silent(code, instr, tails),
-        }
-    }
-
-    /// An instruction that asks the memory for nothing; here those after which the next one follows, and the jumps.
-    #[inline(always)]
-    fn begins_silent(&mut self, code: &Code, instr: &Instr, tails: &mut Tails) -> Turn
-        requires next { self.old.ip + 1 < 2 ^ 32 }
-        requires silent { IsSilent (instruction_of instr.now) }
-        requires made { self.old.width ≡ widest code.now.functions }
-        ensures { (v : Memory) → Made (begin code.now (with_tails self.old tails.old) (Some (instruction_of instr.now))) (with_tails self.old tails.old) (with_tails self.new tails.new) v v result }
-    {
-        match instr {
-            Instr::Move { to, from } => self.moves(*to, *from),
-            Instr::Operate {
-                to,
-                operation,
-                left,
-                right,
-            } => { self.operates(*to, *operation, *left, *right) }
-            Instr::Jump(label) => self.jumps(*label),
-            Instr::Unless { test, label } => self.jumps_unless(*test, *label),
-            Instr::First { to, tree, place } => self.reaches_first(*to, *tree, *place),
             Instr::Done => self.finishes(tails),
-            Instr::Here(to) => self.stands_here(*to),
-            Instr::Got { to, parameter } => self.tells_given(*to, *parameter),
-            Instr::OverEnd { to, from } => self.tells_over(*to, *from),
-            Instr::LeafEnd { to, size } => self.tells_head(*to, *size),
-            Instr::EndOf { to, from } => self.stands_behind(*to, *from),
-            _ => self.begins_flow(code, instr),
-        }
-    }
-
-    /// An instruction that calls, returns, forks or joins.
-    #[inline(always)]
-    fn begins_flow(&mut self, code: &Code, instr: &Instr) -> Turn
-        requires next { self.old.ip + 1 < 2 ^ 32 }
-        requires flow { IsFlow (instruction_of instr.now) }
-        requires made { self.old.width ≡ widest code.now.functions }
-        ensures { (v : Memory) (ts : List ℕ) → Made (begin code.now (with_tails self.old ts) (Some (instruction_of instr.now))) (with_tails self.old ts) (with_tails self.new ts) v v result }
-    {
-        match instr {
-            Instr::Call {
-                function,
-                arguments,
-            } => self.calls(code, *function, arguments, None),
-            Instr::CallScalar {
-                to,
-                function,
-                arguments,
-            } => { self.calls(code, *function, arguments, Some(*to)) }
-            Instr::Return => self.returns(),
-            Instr::Give(from) => self.gives(*from),
             Instr::Fork {
                 right,
                 joint,
@@ -184,7 +127,43 @@ impl Machine {
             }),
             Instr::Join => self.joins(),
             Instr::Back => self.goes_back(),
-            _ => unreachable!(),
+            Instr::Move { to, from } => self.moves(*to, *from),
+            Instr::Operate {
+                to,
+                operation,
+                left,
+                right,
+            } => {
+                let first = self.frames.word(*left);
+                let second = self.frames.word(*right);
+                self.operates(*to, *operation, first, second);
+                Turn::Went
+            }
+            Instr::Jump(label) => self.jumps(*label),
+            Instr::Unless { test, label } => self.jumps_unless(*test, *label),
+            Instr::First { to, tree, place } => self.reaches_first(*to, *tree, *place),
+            Instr::Here(to) => self.stands_here(*to),
+            Instr::Got { to, parameter } => self.tells_given(*to, *parameter),
+            Instr::OverEnd { to, from } => self.tells_over(*to, *from),
+            Instr::LeafEnd { to, size } => self.tells_head(*to, *size),
+            Instr::EndOf { to, from } => self.stands_behind(*to, *from),
+            Instr::Call {
+                function,
+                arguments,
+            } => {
+                self.calls(code, *function, arguments, None);
+                Turn::Went
+            }
+            Instr::CallScalar {
+                to,
+                function,
+                arguments,
+            } => {
+                self.calls(code, *function, arguments, Some(*to));
+                Turn::Went
+            }
+            Instr::Return => self.returns(),
+            Instr::Give(from) => self.gives(*from),
         }
     }
 }

@@ -50,26 +50,16 @@ impl Machine {
     }
 
     /// The slot is set; at a division by 0 the task unwinds.
-    pub(crate) fn operates(
-        &mut self,
-        to: u32,
-        operation: Operation,
-        left: Operand,
-        right: Operand,
-    ) -> Turn
+    pub(crate) fn operates(&mut self, to: u32, operation: Operation, left: u64, right: u64)
         requires next { self.old.ip + 1 < 2 ^ 32 }
-        ensures state { (ts : List ℕ) → with_tails self.new ts ≡ m.operates (with_tails self.old ts) to operation (word self.old.words left) (word self.old.words right) }
-        ensures turn { result ≡ turns.Went }
+        ensures { (ts : List ℕ) → with_tails self.new ts ≡ m.operates (with_tails self.old ts) to operation left right }
     {
-        let left = self.frames.word(left);
-        let right = self.frames.word(right);
         if traps(operation, right) {
             self.unwinds(Reason::Trap);
         } else {
             let number = operated(operation, left, right);
             self.sets(to, number);
         }
-        Turn::Went
     }
 
     pub(crate) fn jumps(&mut self, label: u32) -> Turn
