@@ -1,4 +1,5 @@
 -- Facts of all jobs, by cases.
+use Rattle.gib_base.specs.Texts.{TextsView}
 use Rattle.std.proofs.Common.{◌≡◌, Bool, refl, ℕ, List, [], ◌∷◌, length, Option, Some, None, ◌⊎◌, inl, inr, ◌≤◌, sym, subst₂, arith}
 use Rattle.gib_types.specs.Tree.{Datum}
 use Rattle.gib_syntax.specs.Tree.{ProgramTree}
@@ -23,7 +24,7 @@ use Rattle.gib_app.specs.MachineRun.{LacksValue}
 use Rattle.gib_app.specs.Workers.{OnlyFull}
 
 -- what the events of a journal lead to, they lead to
-on_happens : {names : List (List ℕ)} (p : ProgramTree) (input bytes : List ℕ) (P : Datum → Settings → List Line → Type 0) → ((v : Datum) (settings : Settings) (lines : List Line) → P v settings lines → Happens p v settings lines) → OnJournal p names input bytes P
+on_happens : {names : TextsView} (p : ProgramTree) (input bytes : List ℕ) (P : Datum → Settings → List Line → Type 0) → ((v : Datum) (settings : Settings) (lines : List Line) → P v settings lines → Happens p v settings lines) → OnJournal p names input bytes P
     → OnJournal p names input bytes (Happens p)
 on_happens p input bytes P f j = record {
   value = j.value;
@@ -35,7 +36,7 @@ on_happens p input bytes P f j = record {
 }
 
 -- what was made was made of a file that is accepted
-pub does_accepts : (job : Job) (o : Options) (p : ProgramTree) (names : List (List ℕ)) (given : Contents) (file : Option (List ℕ)) (e : End) → Does job o p names given file e → Accepts job o p names given
+pub does_accepts : (job : Job) (o : Options) (p : ProgramTree) (names : TextsView) (given : Contents) (file : Option (List ℕ)) (e : End) → Does job o p names given file e → Accepts job o p names given
 does_accepts Run o p names given file (Prints text) h = (h.1.value, h.1.is_input)
 does_accepts Run o p names given file (NoValue (Meant why)) h = (h.1.value, h.1.is_input)
 does_accepts Run o p names given file (NoValue Full) h = (h.1.value, h.1.is_input)
@@ -65,12 +66,12 @@ does_accepts Replay o p names given file (NoValue Full) h = on_happens p given.s
 does_accepts Replay o p names given file (NoValue Long) h = absurd h
 
 -- a file whose value is shown is not too long
-pub shown_short : {names : List (List ℕ)} (p : ProgramTree) (skips : Bool) (v : Datum) (bytes : List ℕ) → IsShownValue p names skips v bytes → length bytes ≤ 268435480
+pub shown_short : {names : TextsView} (p : ProgramTree) (skips : Bool) (v : Datum) (bytes : List ℕ) → IsShownValue p names skips v bytes → length bytes ≤ 268435480
 shown_short p skips v bytes (inl is) = let short = is.short in omega (arith, short)
 shown_short p skips v bytes (inr read) = let few = read.image.formed.few in let long = read.image.formed.long in omega (arith, few, long)
 
 -- chunks run out in a run, or where a journal leads
-pub full_runs : (job : Job) (o : Options) (p : ProgramTree) (names : List (List ℕ)) (given : Contents) (file : Option (List ℕ)) → Does job o p names given file (NoValue Full) →
+pub full_runs : (job : Job) (o : Options) (p : ProgramTree) (names : TextsView) (given : Contents) (file : Option (List ℕ)) → Does job o p names given file (NoValue Full) →
     ((job ≡ Run) ⊎ (job ≡ Gen) ⊎ (job ≡ Trace)) ⊎ (job ≡ Replay)
 full_runs Run o p names given file h = inl (inl refl)
 full_runs Plain o p names given file h = absurd h
@@ -85,25 +86,25 @@ full_runs Replay o p names given file h = inr refl
 
 -- a run that lacks a value
 
-pub lacks_runs : (p : ProgramTree) (names : List (List ℕ)) (o : Options) (input : List ℕ) (why : Reason) → LacksValue p names o.skips o.depth (run_forks o) o.chunks input why → Runs p names o input None (NoValue why)
+pub lacks_runs : (p : ProgramTree) (names : TextsView) (o : Options) (input : List ℕ) (why : Reason) → LacksValue p names o.skips o.depth (run_forks o) o.chunks input why → Runs p names o input None (NoValue why)
 lacks_runs p names o input (Meant why) h = (refl, h)
 lacks_runs p names o input Full h = (refl, h)
 lacks_runs p names o input Long h = absurd h
 
-pub lacks_sums : (p : ProgramTree) (names : List (List ℕ)) (o : Options) (input : List ℕ) (why : Reason) → LacksValue p names o.skips o.depth (run_forks o) o.chunks input why → Sums p names o input None (NoValue why)
+pub lacks_sums : (p : ProgramTree) (names : TextsView) (o : Options) (input : List ℕ) (why : Reason) → LacksValue p names o.skips o.depth (run_forks o) o.chunks input why → Sums p names o input None (NoValue why)
 lacks_sums p names o input (Meant why) h = (refl, h)
 lacks_sums p names o input Full h = (refl, h)
 lacks_sums p names o input Long h = absurd h
 
 -- a trace whose chunks run out
 
-pub fills_traces : (p : ProgramTree) (names : List (List ℕ)) (o : Options) (input : List ℕ) (why : Reason) → OnlyFull (FillsUp p names o.skips o.depth o.fork o.chunks input) why → Traces p names o input None (NoValue why)
+pub fills_traces : (p : ProgramTree) (names : TextsView) (o : Options) (input : List ℕ) (why : Reason) → OnlyFull (FillsUp p names o.skips o.depth o.fork o.chunks input) why → Traces p names o input None (NoValue why)
 fills_traces p names o input (Meant why) h = absurd h
 fills_traces p names o input Full h = (refl, h)
 fills_traces p names o input Long h = absurd h
 
 -- a replay whose journal leads to where chunks run out
-pub fills_replays : (p : ProgramTree) (names : List (List ℕ)) (image : Bool) (input bytes : List ℕ) (why : Reason) → OnlyFull (OnJournal p names input bytes (LacksChunks p)) why →
+pub fills_replays : (p : ProgramTree) (names : TextsView) (image : Bool) (input bytes : List ℕ) (why : Reason) → OnlyFull (OnJournal p names input bytes (LacksChunks p)) why →
     Replays p names image (record { second = input; further = bytes ∷ [] }) None (NoValue why)
 fills_replays p names image input bytes (Meant why) h = absurd h
 fills_replays p names image input bytes Full h = (refl, h)

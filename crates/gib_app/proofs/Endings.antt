@@ -1,8 +1,15 @@
 -- From the stop of a call to its answer, and from the status that is due to the one that is answered.
-use Rattle.std.proofs.Common.{◌≡◌, ◌∙◌, refl, ap, ap₂, ℕ, List, [], ◌∷◌, length, Option, Some, None, MatchOption, ◌⊎◌, inl, inr, subst, sym, arith, ◌≤◌, ◌<◌, ◌++◌, Bool, true, false}
+use Rattle.gib_base.specs.Texts.{TextsView}
+use Rattle.std.proofs.Common.{◌≡◌, ◌∙◌, refl, ap, ap₂, ℕ, List, [], ◌∷◌, length, Option, Some, None, MatchOption, ◌⊎◌, inl, inr, subst, sym, arith, ◌≤◌, ◌<◌, ◌++◌, Bool, true, false, subst₂, Ok, Result}
 use Rattle.gib_base.specs.Lexed.{Lexed, IsLexed}
 use Rattle.gib_base.specs.declared.token.Token.{Token}
 use Rattle.gib_types.specs.Tree.{Datum}
+use Rattle.gib_base.specs.declared.Span.{Span}
+use Rattle.gib_syntax.specs.GenericTree.{GenericProgramTree}
+use Rattle.gib_syntax.specs.Source.{Spells}
+use Rattle.gib_mono.specs.Walk.{Copy, copies_of, copied_program}
+use Rattle.gib_mono.specs.Naming.{entries, naming_of}
+use Rattle.gib_mono.specs.Showing.{short_texts, long_texts}
 use Rattle.gib_syntax.specs.Tree.{ProgramTree}
 use Rattle.gib_syntax.specs.Spelling.{Places, Derives, IsPlacedProgram, places_of}
 use Rattle.gib_syntax.specs.Declarations.{table_of_program, input_type, output_type}
@@ -27,7 +34,7 @@ use Rattle.gib_app.specs.declared.made.Reason.TheVariants.{Meant, Full, Long}
 use Rattle.gib_app.specs.Plan.{Document, Write, Plan, Files, bytes_in, Contents}
 use Rattle.gib_app.specs.Writes.{at_reading, with_write, writes_of, job_writes, IsStuckIn, IsNamedIn}
 use Rattle.gib_app.specs.Words.{asked}
-use Rattle.gib_app.specs.Running.{IsInput, IsProgram, IsSource, IsNoProgram, IsOutput, IsSummary, IsPackedResult, IsLongResult, MeansNone, IsShownValue}
+use Rattle.gib_app.specs.Running.{IsCopy, IsInput, IsProgram, IsSource, IsNoProgram, IsOutput, IsSummary, IsPackedResult, IsLongResult, MeansNone, IsShownValue}
 use Rattle.gib_app.specs.Replaying.{journal_in}
 use Rattle.gib_app.specs.Packing.{IsPackedBy}
 use Rattle.gib_app.specs.SourceFaults.{IsSourceFault}
@@ -53,17 +60,17 @@ map_asked (Some r) P Q go h = go r h
 on_source : (kept : Files) (d : Document) (P Q : List ℕ → Type 0) → ((source : List ℕ) → P source → Q source) → OnSource kept d P → OnSource kept d Q
 on_source kept d P Q go h = record { source = h.source; source_held = h.source_held; holds = go h.source h.holds }
 
-map_reached : (kept : Files) (r : Plan) (P Q : ProgramTree → List (List ℕ) → Contents → Type 0) → ((p : ProgramTree) (names : List (List ℕ)) (given : Contents) → P p names given → Q p names given) →
+map_reached : (kept : Files) (r : Plan) (P Q : ProgramTree → TextsView → Contents → Type 0) → ((p : ProgramTree) (names : TextsView) (given : Contents) → P p names given → Q p names given) →
     OnReached kept r P → OnReached kept r Q
 map_reached kept r P Q go h = record {
   source = h.source;
   given = h.given;
   source_held = h.source_held;
   holds = record {
-    lexed = h.holds.lexed;
+    texts = h.holds.texts;
     program = h.holds.program;
     is_program = h.holds.is_program;
-    holds = (h.holds.holds.0, go h.holds.program h.holds.lexed.names h.given h.holds.holds.1);
+    holds = (h.holds.holds.0, go h.holds.program h.holds.texts h.given h.holds.holds.1);
   };
 }
 
@@ -92,7 +99,7 @@ abbrev pub K : Bool → ShelfView → Plan → Files
 K tells before r = at_reading tells before.kept r
 
 -- what holds of inputs that are refused
-abbrev Refused : Plan → InputFault → ProgramTree → List (List ℕ) → Contents → Type 0
+abbrev Refused : Plan → InputFault → ProgramTree → TextsView → Contents → Type 0
 Refused r fault p names given = Refuses r.job r.options p names given fault × (Accepts r.job r.options p names given → ⊥)
 
 without_of : (tells : Bool) (words : List (List ℕ)) (before now : ShelfView) (cause : Reason) → AsksProgram tells words before.kept (EndsWithout tells before now cause) → AsksProgram tells words before.kept (HasNoValue cause)
@@ -142,36 +149,61 @@ ending_of tells words before now out_before out_now Unput h = inr (h.0, h.1, h.2
 
 pub record Laws : Type 0 where
   pub lexed : (bytes : List ℕ) (l m : Lexed) → IsLexed bytes l → IsLexed bytes m → l ≡ m
-  pub parsed : (at : Places) (tokens : List Token) (p q : ProgramTree) → Derives tokens p → Derives tokens q → IsPlacedProgram at p → IsPlacedProgram at q → p ≡ q
+  pub parsed : (at : Places) (tokens : List Token) (p q : GenericProgramTree) → Derives tokens p → Derives tokens q → IsPlacedProgram at p → IsPlacedProgram at q → p ≡ q
   pub filed : OneValue
 
-same_lexed : Laws → (source : List ℕ) (l m : Lexed) (p q : ProgramTree) → IsProgram source l p → IsProgram source m q → l ≡ m
-same_lexed laws source l m p q h k = laws.lexed source l m h.spelled.is_lexed k.spelled.is_lexed
+same_lexed : Laws → (source : List ℕ) (l m : Lexed) (p q : GenericProgramTree) → Spells source l p → Spells source m q → l ≡ m
+same_lexed laws source l m p q h k = laws.lexed source l m h.is_lexed k.is_lexed
 
-same_program : Laws → (source : List ℕ) (l m : Lexed) (p q : ProgramTree) → IsProgram source l p → IsProgram source m q → p ≡ q
-same_program laws source l m p q h k =
+same_spelled : Laws → (source : List ℕ) (l m : Lexed) (p q : GenericProgramTree) → Spells source l p → Spells source m q → p ≡ q
+same_spelled laws source l m p q h k =
     let e = same_lexed laws source m l q p k h in
     let D : Lexed → Type 0 = λ x. Derives x.tokens q in
     let A : Lexed → Type 0 = λ x. IsPlacedProgram (places_of x.spans) q in
-    laws.parsed (places_of l.spans) l.tokens p q h.spelled.derived (subst D e k.spelled.derived) h.spelled.placed (subst A e k.spelled.placed)
+    laws.parsed (places_of l.spans) l.tokens p q h.derived (subst D e k.derived) h.placed (subst A e k.placed)
+
+found_once : (r : Result (List Copy) Span) (a b : List Copy) → r ≡ Ok a → r ≡ Ok b → a ≡ b
+found_once r a b e f = let both = sym e ∙ f in cc
+
+-- a program has one copy, with one kind of texts
+one_copy : (g : GenericProgramTree) (ns : List (List ℕ)) (p q : ProgramTree) (t u : TextsView) → IsCopy g ns p t → IsCopy g ns q u → (p ≡ q) × (t ≡ u)
+one_copy g ns p q t u h k =
+    let e = found_once (copies_of g) h.found k.found h.within k.within in
+    let P : List Copy → ProgramTree = λ x. copied_program g (naming_of (length ns) (entries x)) x in
+    let T : List Copy → TextsView = λ x. record { short = short_texts ns (entries x); long = long_texts ns (entries x) } in
+    (h.is ∙ ap P e ∙ sym k.is, h.shown ∙ ap T e ∙ sym k.shown)
+
+-- a source is one program
+same_both : Laws → (source : List ℕ) (t u : TextsView) (p q : ProgramTree) → IsProgram source t p → IsProgram source u q → (p ≡ q) × (t ≡ u)
+same_both laws source t u p q h k =
+    let el = same_lexed laws source k.lexed h.lexed k.generic h.generic k.spelled h.spelled in
+    let eg = same_spelled laws source k.lexed h.lexed k.generic h.generic k.spelled h.spelled in
+    let C : GenericProgramTree → Lexed → Type 0 = λ g l. IsCopy g l.names q u in
+    one_copy h.generic h.lexed.names p q t u h.copy (subst₂ C eg el k.copy)
+
+same_program : Laws → (source : List ℕ) (t u : TextsView) (p q : ProgramTree) → IsProgram source t p → IsProgram source u q → p ≡ q
+same_program laws source t u p q h k = (same_both laws source t u p q h k).0
+
+same_texts : Laws → (source : List ℕ) (t u : TextsView) (p q : ProgramTree) → IsProgram source t p → IsProgram source u q → t ≡ u
+same_texts laws source t u p q h k = (same_both laws source t u p q h k).1
 
 -- what holds of the program of a source, and what else holds of it, hold of one
-pub together : Laws → (source : List ℕ) (P Q : ProgramTree → List (List ℕ) → Type 0) → OnProgram source P → OnProgram source Q → (p : ProgramTree) × (names : List (List ℕ)) × P p names × Q p names
+pub together : Laws → (source : List ℕ) (P Q : ProgramTree → TextsView → Type 0) → OnProgram source P → OnProgram source Q → (p : ProgramTree) × (names : TextsView) × P p names × Q p names
 together laws source P Q a b =
-    let el = same_lexed laws source b.lexed a.lexed b.program a.program b.is_program a.is_program in
-    let ep = same_program laws source b.lexed a.lexed b.program a.program b.is_program a.is_program in
-    let L : Lexed → Type 0 = λ x. Q b.program x.names in
-    let R : ProgramTree → Type 0 = λ x. Q x a.lexed.names in
-    (a.program, a.lexed.names, a.holds, subst R ep (subst L el b.holds))
+    let et = same_texts laws source b.texts a.texts b.program a.program b.is_program a.is_program in
+    let ep = same_program laws source b.texts a.texts b.program a.program b.is_program a.is_program in
+    let L : TextsView → Type 0 = λ x. Q b.program x in
+    let R : ProgramTree → Type 0 = λ x. Q x a.texts in
+    (a.program, a.texts, a.holds, subst R ep (subst L et b.holds))
 
 -- both hold of the program of a source
-pub joined : Laws → (source : List ℕ) (P Q : ProgramTree → List (List ℕ) → Type 0) → OnProgram source P → OnProgram source Q → OnProgram source (λ p names. P p names × Q p names)
+pub joined : Laws → (source : List ℕ) (P Q : ProgramTree → TextsView → Type 0) → OnProgram source P → OnProgram source Q → OnProgram source (λ p names. P p names × Q p names)
 joined laws source P Q a b =
-    let el = same_lexed laws source b.lexed a.lexed b.program a.program b.is_program a.is_program in
-    let ep = same_program laws source b.lexed a.lexed b.program a.program b.is_program a.is_program in
-    let L : Lexed → Type 0 = λ x. Q b.program x.names in
-    let R : ProgramTree → Type 0 = λ x. Q x a.lexed.names in
-    record { lexed = a.lexed; program = a.program; is_program = a.is_program; holds = (a.holds, subst R ep (subst L el b.holds)) }
+    let et = same_texts laws source b.texts a.texts b.program a.program b.is_program a.is_program in
+    let ep = same_program laws source b.texts a.texts b.program a.program b.is_program a.is_program in
+    let L : TextsView → Type 0 = λ x. Q b.program x in
+    let R : ProgramTree → Type 0 = λ x. Q x a.texts in
+    record { texts = a.texts; program = a.program; is_program = a.is_program; holds = (a.holds, subst R ep (subst L et b.holds)) }
 
 pub same_bytes : (o : Held) (a b : List ℕ) → o ≡ Has a → IsAllOf o b → b ≡ a
 same_bytes o a b e h = let P : Held → Type 0 = λ x. IsAllOf x b in subst P e h
@@ -190,8 +222,8 @@ same_given kept [] a b e h = same_parts a b (h.0 ∙ sym e.0) (h.1 ∙ sym e.1)
 same_given kept (i ∷ is) a b e h = same_parts a b (same_bytes (bytes_in kept i.document) a.second b.second e.0 h.0) (same_further kept is a.further b.further e.1 h.1)
 
 -- what is due and what is answered hold of the same files
-clash : Laws → (tells : Bool) (before now : ShelfView) (r : Plan) (P Q : ProgramTree → List (List ℕ) → Contents → Type 0) → DueOfFiles tells before now r P → OnBoth (K tells before r) r Q →
-    (p : ProgramTree) × (names : List (List ℕ)) × (given : Contents) × P p names given × Q p names given
+clash : Laws → (tells : Bool) (before now : ShelfView) (r : Plan) (P Q : ProgramTree → TextsView → Contents → Type 0) → DueOfFiles tells before now r P → OnBoth (K tells before r) r Q →
+    (p : ProgramTree) × (names : TextsView) × (given : Contents) × P p names given × Q p names given
 clash laws tells before now r P Q due end' =
     let es = same_bytes (bytes_in (K tells before r) r.source) due.source end'.source due.source_told end'.source_held in
     let eb = same_given (K tells before r) (inputs_of r) due.given end'.given due.given_told end'.given_held in
@@ -202,16 +234,16 @@ clash laws tells before now r P Q due end' =
 
 -- Inputs that are told, and inputs as far as they were read
 
-same_second : (kept : Files) (p : ProgramTree) (names : List (List ℕ)) (is : List PlanInput) (a b : Contents) → AreTold kept is a → AreReached kept p names is b → b.second ≡ a.second
+same_second : (kept : Files) (p : ProgramTree) (names : TextsView) (is : List PlanInput) (a b : Contents) → AreTold kept is a → AreReached kept p names is b → b.second ≡ a.second
 same_second kept p names [] a b e h = h.0 ∙ sym e.0
 same_second kept p names (i ∷ is) a b e h = same_bytes (bytes_in kept i.document) a.second b.second e.0 h.0
 
-same_behind : (kept : Files) (p : ProgramTree) (names : List (List ℕ)) (is : List PlanInput) (a b : Contents) → AreTold kept is a → AreReached kept p names is b → ((v : Datum) × IsInput p names v b.second) → b.further ≡ a.further
+same_behind : (kept : Files) (p : ProgramTree) (names : TextsView) (is : List PlanInput) (a b : Contents) → AreTold kept is a → AreReached kept p names is b → ((v : Datum) × IsInput p names v b.second) → b.further ≡ a.further
 same_behind kept p names [] a b e h taken = h.1 ∙ sym e.1
 same_behind kept p names (i ∷ is) a b e h taken = same_further kept is a.further b.further e.1 (h.1 taken)
 
 -- what is accepted of all of them, is accepted of those that were read
-module _ (options : Options) (p : ProgramTree) (names : List (List ℕ)) (a b : Contents) (second : b.second ≡ a.second) (behind : ((v : Datum) × IsInput p names v b.second) → b.further ≡ a.further) where
+module _ (options : Options) (p : ProgramTree) (names : TextsView) (a b : Contents) (second : b.second ≡ a.second) (behind : ((v : Datum) × IsInput p names v b.second) → b.further ≡ a.further) where
   packed_again : ((v : Datum) × IsInput p names v a.second) → (v : Datum) × IsInput p names v b.second
   packed_again h = let P : List ℕ → Type 0 = λ bytes. (v : Datum) × IsInput p names v bytes in subst P (sym second) h
 
@@ -231,12 +263,12 @@ module _ (options : Options) (p : ProgramTree) (names : List (List ℕ)) (a b : 
       subst P (sym same) h
 
 -- what is due is accepted, and what was read is not
-fit_or_unfit : Laws → (tells : Bool) (before now : ShelfView) (r : Plan) (P : ProgramTree → List (List ℕ) → Contents → Type 0) →
-    ((p : ProgramTree) (names : List (List ℕ)) (given : Contents) → P p names given → Accepts r.job r.options p names given) → DueOfFiles tells before now r P →
+fit_or_unfit : Laws → (tells : Bool) (before now : ShelfView) (r : Plan) (P : ProgramTree → TextsView → Contents → Type 0) →
+    ((p : ProgramTree) (names : TextsView) (given : Contents) → P p names given → Accepts r.job r.options p names given) → DueOfFiles tells before now r P →
     OnReached (K tells before r) r (λ p names given. Accepts r.job r.options p names given → ⊥) → ⊥
 fit_or_unfit laws tells before now r P accepts due end' =
     let kept = K tells before r in
-    let Q : ProgramTree → List (List ℕ) → Type 0 = λ p names. AreReached kept p names (inputs_of r) end'.given × (Accepts r.job r.options p names end'.given → ⊥) in
+    let Q : ProgramTree → TextsView → Type 0 = λ p names. AreReached kept p names (inputs_of r) end'.given × (Accepts r.job r.options p names end'.given → ⊥) in
     let S : List ℕ → Type 0 = λ s. OnProgram s Q in
     let es = same_bytes (bytes_in kept r.source) due.source end'.source due.source_told end'.source_held in
     let both = together laws due.source (λ p names. P p names due.given) Q due.holds (subst S es end'.holds) in
@@ -246,20 +278,20 @@ fit_or_unfit laws tells before now r P accepts due end' =
     let behind = same_behind kept p both.1 (inputs_of r) due.given end'.given due.given_told reached in
     both.3.1 (accepted_again r.options p both.1 due.given end'.given second behind r.job (accepts p both.1 due.given both.2))
 
-no_program : (tells : Bool) (before now : ShelfView) (r : Plan) (P : ProgramTree → List (List ℕ) → Contents → Type 0) → DueOfFiles tells before now r P → OnSource (K tells before r) r.source IsNoProgram → ⊥
+no_program : (tells : Bool) (before now : ShelfView) (r : Plan) (P : ProgramTree → TextsView → Contents → Type 0) → DueOfFiles tells before now r P → OnSource (K tells before r) r.source IsNoProgram → ⊥
 no_program tells before now r P due end' =
     let es = same_bytes (bytes_in (K tells before r) r.source) due.source end'.source due.source_told end'.source_held in
-    subst IsNoProgram es end'.holds due.holds.lexed due.holds.program due.holds.is_program
+    subst IsNoProgram es end'.holds due.holds.texts due.holds.program due.holds.is_program
 
-a_program : (tells : Bool) (before now : ShelfView) (r : Plan) (Q : ProgramTree → List (List ℕ) → Contents → Type 0) → DueOfSource tells before now r IsNoProgram → OnBoth (K tells before r) r Q → ⊥
+a_program : (tells : Bool) (before now : ShelfView) (r : Plan) (Q : ProgramTree → TextsView → Contents → Type 0) → DueOfSource tells before now r IsNoProgram → OnBoth (K tells before r) r Q → ⊥
 a_program tells before now r Q due end' =
     let es = same_bytes (bytes_in (K tells before r) r.source) due.source end'.source due.source_told end'.source_held in
-    subst IsNoProgram (sym es) due.holds end'.holds.lexed end'.holds.program end'.holds.is_program
+    subst IsNoProgram (sym es) due.holds end'.holds.texts end'.holds.program end'.holds.is_program
 
-reached_program : (tells : Bool) (before now : ShelfView) (r : Plan) (Q : ProgramTree → List (List ℕ) → Contents → Type 0) → DueOfSource tells before now r IsNoProgram → OnReached (K tells before r) r Q → ⊥
+reached_program : (tells : Bool) (before now : ShelfView) (r : Plan) (Q : ProgramTree → TextsView → Contents → Type 0) → DueOfSource tells before now r IsNoProgram → OnReached (K tells before r) r Q → ⊥
 reached_program tells before now r Q due end' =
     let es = same_bytes (bytes_in (K tells before r) r.source) due.source end'.source due.source_told end'.source_held in
-    subst IsNoProgram (sym es) due.holds end'.holds.lexed end'.holds.program end'.holds.is_program
+    subst IsNoProgram (sym es) due.holds end'.holds.texts end'.holds.program end'.holds.is_program
 
 a_source : (tells : Bool) (before now : ShelfView) (r : Plan) → DueOfSource tells before now r IsNoProgram → OnSource (K tells before r) r.source IsSource → ⊥
 a_source tells before now r due end' =
@@ -275,7 +307,7 @@ further_unread : (before now : ShelfView) (is : List PlanInput) (name : List ℕ
 further_unread before now [] name h = h
 further_unread before now (i ∷ is) name h = inr h
 
-read_both : (tells : Bool) (before now : ShelfView) (r : Plan) (P : ProgramTree → List (List ℕ) → Contents → Type 0) (name : List ℕ) → DueOfFiles tells before now r P → FailsToRead (K tells before r) before now r name → ⊥
+read_both : (tells : Bool) (before now : ShelfView) (r : Plan) (P : ProgramTree → TextsView → Contents → Type 0) (name : List ℕ) → DueOfFiles tells before now r P → FailsToRead (K tells before r) before now r name → ⊥
 read_both tells before now r P name due (inl h) = due.source_read name h
 read_both tells before now r P name due (inr (inl h)) = due.given_read name (first_unread before now (inputs_of r) name h.0)
 read_both tells before now r P name due (inr (inr h)) = due.given_read name (further_unread before now (inputs_of r) name h.0)
@@ -284,7 +316,7 @@ read_one : (tells : Bool) (before now : ShelfView) (r : Plan) (name : List ℕ) 
 read_one tells before now r name due (inl h) = due.source_read name h
 read_one tells before now r name due (inr (inl h)) = a_source tells before now r due h.1
 read_one tells before now r name due (inr (inr h)) =
-    a_source tells before now r due (record { source = h.1.source; source_held = h.1.source_held; holds = (h.1.holds.lexed, h.1.holds.program, h.1.holds.is_program) })
+    a_source tells before now r due (record { source = h.1.source; source_held = h.1.source_held; holds = (h.1.holds.texts, h.1.holds.program, h.1.holds.is_program) })
 
 -- the first writes were made
 stuck_named : (tells : Bool) (kept : Files) (writes : List Write) (before now : ShelfView) (name : List ℕ) → IsStuckIn tells kept writes before now name → IsNamedIn writes name × Rose (before.writes name) (now.writes name)
@@ -312,7 +344,7 @@ stuck_two tells kept (Some bytes) None packed pack before now name h = inr (stuc
 stuck_two tells kept (Some bytes) (Some other) packed pack before now name (inl h) = inl (bytes, refl, ap Some h.0, h.1.rose)
 stuck_two tells kept (Some bytes) (Some other) packed pack before now name (inr h) = inr (stuck_one tells (with_write tells kept (record { name = other; bytes = bytes })) packed pack before now name h)
 
-of_two : (tells : Bool) (before now : ShelfView) (r : Plan) (p : ProgramTree) (names : List (List ℕ)) (given : Contents) (name : List ℕ) (u : IsUnwritten tells before now r p names given name) → StuckOfTwo u.file r.target u.packed r.pack before now name
+of_two : (tells : Bool) (before now : ShelfView) (r : Plan) (p : ProgramTree) (names : TextsView) (given : Contents) (name : List ℕ) (u : IsUnwritten tells before now r p names given name) → StuckOfTwo u.file r.target u.packed r.pack before now name
 of_two tells before now r p names given name u = stuck_two tells (K tells before r) u.file r.target u.packed r.pack before now name u.stuck
 
 -- so it is a file of the job that is not written
@@ -320,30 +352,30 @@ of_job : (tells : Bool) (before now : ShelfView) (r : Plan) (name : List ℕ) �
 of_job tells before now r name wrote (inl h) = let k = stuck_named tells before.kept r.first before now name h in absurd (wrote name k.0 k.1)
 of_job tells before now r name wrote (inr h) = h
 
-pub runs_well : Laws → (p : ProgramTree) (names : List (List ℕ)) (depth : ℕ) (input output : List ℕ) (meant : Meaning) → IsOutput p names depth input output → MeansNone p names depth input meant → ⊥
+pub runs_well : Laws → (p : ProgramTree) (names : TextsView) (depth : ℕ) (input output : List ℕ) (meant : Meaning) → IsOutput p names depth input output → MeansNone p names depth input meant → ⊥
 runs_well laws p names depth input output meant o d =
     let v = laws.filed (table_of_program p) _ (input_type p) d.value o.value input d.is_input.file o.is_input.file in
     let S : Datum → Type 0 = λ x. run p depth x ≡ Stops meant in
     gives_or_stops (run p depth o.value) o.result meant o.means (subst S v d.means)
 
-sums_well : {names : List (List ℕ)} → Laws → (p : ProgramTree) (number levels depth : ℕ) (input output : List ℕ) (meant : Meaning) → IsSummary p names number levels depth input output → MeansNone p names depth input meant → ⊥
+sums_well : {names : TextsView} → Laws → (p : ProgramTree) (number levels depth : ℕ) (input output : List ℕ) (meant : Meaning) → IsSummary p names number levels depth input output → MeansNone p names depth input meant → ⊥
 sums_well laws p number levels depth input output meant o d =
     let v = laws.filed (table_of_program p) _ (input_type p) d.value o.value input d.is_input.file o.is_input.file in
     let S : Datum → Type 0 = λ x. run p depth x ≡ Stops meant in
     gives_or_stops (run p depth o.value) o.result meant o.means (subst S v d.means)
 
 -- a program means none for one reason
-pub one_meaning : Laws → (p : ProgramTree) (names : List (List ℕ)) (depth : ℕ) (input : List ℕ) (x y : Meaning) → MeansNone p names depth input x → MeansNone p names depth input y → x ≡ y
+pub one_meaning : Laws → (p : ProgramTree) (names : TextsView) (depth : ℕ) (input : List ℕ) (x y : Meaning) → MeansNone p names depth input x → MeansNone p names depth input y → x ≡ y
 one_meaning laws p names depth input x y a b =
     let v = laws.filed (table_of_program p) _ (input_type p) b.value a.value input b.is_input.file a.is_input.file in
     let S : Datum → Type 0 = λ z. run p depth z ≡ Stops y in
     one_why (run p depth a.value) x y a.means (subst S v b.means)
 
-one_cause : Laws → (p : ProgramTree) (names : List (List ℕ)) (depth : ℕ) (input : List ℕ) (x y : Why) → MeansNone p names depth input (means_why x) → MeansNone p names depth input (means_why y) → x ≡ y
+one_cause : Laws → (p : ProgramTree) (names : TextsView) (depth : ℕ) (input : List ℕ) (x y : Why) → MeansNone p names depth input (means_why x) → MeansNone p names depth input (means_why y) → x ≡ y
 one_cause laws p names depth input x y a b = one_reason x y (one_meaning laws p names depth input (means_why x) (means_why y) a b)
 
 -- a result with too long a packed file is a value
-long_well : Laws → (p : ProgramTree) (names : List (List ℕ)) (depth : ℕ) (input : List ℕ) (meant : Meaning) → IsLongResult p names depth input → MeansNone p names depth input meant → ⊥
+long_well : Laws → (p : ProgramTree) (names : TextsView) (depth : ℕ) (input : List ℕ) (meant : Meaning) → IsLongResult p names depth input → MeansNone p names depth input meant → ⊥
 long_well laws p names depth input meant o d =
     let v = laws.filed (table_of_program p) _ (input_type p) d.value o.value input d.is_input.file o.is_input.file in
     let S : Datum → Type 0 = λ x. run p depth x ≡ Stops meant in
@@ -353,18 +385,18 @@ pub one_given : (o : Outcome) (u v : Datum) → o ≡ Gives u → o ≡ Gives v 
 one_given o u v e f = let both = sym e ∙ f in cc
 
 -- a packed file that is made is not too long
-pub packed_or_long : Laws → (p : ProgramTree) (names : List (List ℕ)) (depth : ℕ) (input bytes : List ℕ) → IsPackedResult p names depth input bytes → IsLongResult p names depth input → ⊥
+pub packed_or_long : Laws → (p : ProgramTree) (names : TextsView) (depth : ℕ) (input bytes : List ℕ) → IsPackedResult p names depth input bytes → IsLongResult p names depth input → ⊥
 packed_or_long laws p names depth input bytes a b =
     let v = laws.filed (table_of_program p) _ (input_type p) a.value b.value input a.is_input.file b.is_input.file in
     let M : Datum → Type 0 = λ x. run p depth x ≡ Gives a.result in
     let same = one_given (run p depth b.value) a.result b.result (subst M v a.means) b.means in
-    let F : Datum → Type 0 = λ x. File2 (table_of_program p) names (output_type p) x bytes in
+    let F : Datum → Type 0 = λ x. File2 (table_of_program p) names.long (output_type p) x bytes in
     let long = b.long bytes (subst F same a.file) in
     let few = a.few in
     omega (arith, long, few)
 
 -- where a text is due with a packed file that is asked for, that file is not too long
-packs_or_long : Laws → (job : Job) (o : Options) (p : ProgramTree) (names : List (List ℕ)) (given : Contents) (text : List ℕ) (packed file : Option (List ℕ)) → DoesPack job o p names given packed (Prints text) → Does job o p names given file (Without Long) → ⊥
+packs_or_long : Laws → (job : Job) (o : Options) (p : ProgramTree) (names : TextsView) (given : Contents) (text : List ℕ) (packed file : Option (List ℕ)) → DoesPack job o p names given packed (Prints text) → Does job o p names given file (Without Long) → ⊥
 packs_or_long laws Run o p names given text packed file h k =
     let d = subst (λ (b : Bool). PacksResult b p names o.depth given.second packed (Prints text)) k.2 h in
     packed_or_long laws p names o.depth given.second d.0 d.2 k.1
@@ -379,12 +411,12 @@ packs_or_long laws Trace o p names given text packed file h k = k
 packs_or_long laws Replay o p names given text packed file h k = k
 
 -- a packed file is made where there is a text
-packed_text : (job : Job) (o : Options) (p : ProgramTree) (names : List (List ℕ)) (given : Contents) (bytes : List ℕ) (e : End) → DoesPack job o p names given (Some bytes) e → (text : List ℕ) × (e ≡ Prints text)
+packed_text : (job : Job) (o : Options) (p : ProgramTree) (names : TextsView) (given : Contents) (bytes : List ℕ) (e : End) → DoesPack job o p names given (Some bytes) e → (text : List ℕ) × (e ≡ Prints text)
 packed_text job o p names given bytes (Prints text) h = (text, refl)
 packed_text job o p names given bytes (Without reason) h = absurd (some_or_none bytes (valueless_packs job o p names given (Some bytes) reason h))
 
 -- without chunks no file is made
-full_no_file : (job : Job) (o : Options) (p : ProgramTree) (names : List (List ℕ)) (given : Contents) (bytes : List ℕ) → Does job o p names given (Some bytes) (Without Full) → ⊥
+full_no_file : (job : Job) (o : Options) (p : ProgramTree) (names : TextsView) (given : Contents) (bytes : List ℕ) → Does job o p names given (Some bytes) (Without Full) → ⊥
 full_no_file Run o p names given bytes h = some_or_none bytes h.0
 full_no_file Plain o p names given bytes h = h
 full_no_file Check o p names given bytes h = h
@@ -398,7 +430,7 @@ full_no_file Replay o p names given bytes h = some_or_none bytes h.0
 
 -- how a job ends and how it is due to end: of text, a reason without a value and want of chunks only one
 
-module _ (laws : Laws) (o : Options) (p : ProgramTree) (names : List (List ℕ)) (given : Contents) where
+module _ (laws : Laws) (o : Options) (p : ProgramTree) (names : TextsView) (given : Contents) where
   text_or_none : (job : Job) (text : List ℕ) (x : Why) (file other : Option (List ℕ)) → Does (ends_as job) (without_image o) p names given file (Prints text) → Does job o p names given other (Without (Meant x)) → ⊥
   text_or_none Run text x file other h k = runs_well laws p names o.depth given.second text (means_why x) h.1 k.1
   text_or_none Plain text x file other h k = runs_well laws p names o.depth given.second text (means_why x) h.1 k.1
@@ -471,7 +503,7 @@ module _ (laws : Laws) (o : Options) (p : ProgramTree) (names : List (List ℕ))
   file_or_full bytes (Without Long) other h k = h
 
 -- a job accepts what it is due to end with
-ends_accept : (job : Job) (o : Options) (p : ProgramTree) (names : List (List ℕ)) (given : Contents) (file : Option (List ℕ)) (e : End) → Does (ends_as job) o p names given file e → Accepts job o p names given
+ends_accept : (job : Job) (o : Options) (p : ProgramTree) (names : TextsView) (given : Contents) (file : Option (List ℕ)) (e : End) → Does (ends_as job) o p names given file e → Accepts job o p names given
 ends_accept Run o p names given file e h = does_accepts Run o p names given file e h
 ends_accept Plain o p names given file e h = does_accepts Plain o p names given file e h
 ends_accept Check o p names given file e h = does_accepts Check o p names given file e h
@@ -484,7 +516,7 @@ ends_accept Trace o p names given file e h = does_accepts Run o p names given fi
 ends_accept Replay o p names given file e h = does_accepts Replay o p names given file e h
 
 -- what it accepts does not hang on an image
-accepts_without : (job : Job) (o : Options) (p : ProgramTree) (names : List (List ℕ)) (given : Contents) → Accepts job (without_image o) p names given → Accepts job o p names given
+accepts_without : (job : Job) (o : Options) (p : ProgramTree) (names : TextsView) (given : Contents) → Accepts job (without_image o) p names given → Accepts job o p names given
 accepts_without Run o p names given h = h
 accepts_without Plain o p names given h = h
 accepts_without Check o p names given h = h
@@ -507,24 +539,24 @@ none_asked None P e h = h
 none_asked (Some r) P e h = cc
 
 -- a text was made, and the sink took it
-abbrev pub Whole : Bool → ShelfView → ShelfView → SinkView → SinkView → Plan → ProgramTree → List (List ℕ) → Contents → Type 0
+abbrev pub Whole : Bool → ShelfView → ShelfView → SinkView → SinkView → Plan → ProgramTree → TextsView → Contents → Type 0
 Whole tells before now a b r p names given = (text : List ℕ) × IsMade tells before.kept now.kept r p names given text × Appends a.taken b.taken text × PutsPieces a b (length text)
 
 -- a text was made, and the sink took a front of it
-abbrev Front : Bool → ShelfView → ShelfView → SinkView → SinkView → Plan → ProgramTree → List (List ℕ) → Contents → Type 0
+abbrev Front : Bool → ShelfView → ShelfView → SinkView → SinkView → Plan → ProgramTree → TextsView → Contents → Type 0
 Front tells before now a b r p names given = (text : List ℕ) × IsMade tells before.kept now.kept r p names given text × AppendsPart a.taken b.taken text × PutsSomePieces a b (length text)
 
 abbrev Somewhere : Bool → ShelfView → ShelfView → Plan → Type 0
 Somewhere tells before now r = (name : List ℕ) × FailsToWrite tells before now r name
 
 -- the program means none, for this reason
-abbrev pub Valueless : Why → Plan → ProgramTree → List (List ℕ) → Contents → Type 0
+abbrev pub Valueless : Why → Plan → ProgramTree → TextsView → Contents → Type 0
 Valueless x r = HasNoValue (Meant x) r
 
 abbrev pub Lacking : Bool → ShelfView → Why → Plan → Type 0
 Lacking tells before x r = OnBoth (K tells before r) r (Valueless x r)
 
-abbrev Unfit : Plan → ProgramTree → List (List ℕ) → Contents → Type 0
+abbrev Unfit : Plan → ProgramTree → TextsView → Contents → Type 0
 Unfit r p names given = Accepts r.job r.options p names given → ⊥
 
 abbrev Fails : Bool → ShelfView → ShelfView → Plan → Type 0
@@ -561,7 +593,7 @@ done_due laws tells words before now a b due status.ReadFault h =
 done_due laws tells words before now a b due status.WriteFault (inl h) =
     let k = both_asked (asked words) (DueAll tells before now a b) (Somewhere tells before now) due h.0 in
     let on = of_job tells before now k.0 k.2.0 k.1.0.first_written k.2.1 in
-    absurd (elim (of_two tells before now k.0 on.holds.program on.holds.lexed.names on.given k.2.0 on.holds.holds) [
+    absurd (elim (of_two tells before now k.0 on.holds.program on.holds.texts on.given k.2.0 on.holds.holds) [
       | inl found ↦ k.1.1.target k.2.0 found.2 found.3
       | inr found ↦ k.1.1.pack k.2.0 found.2 found.3
     ])
@@ -595,7 +627,7 @@ fit_ends laws tells words before now a b due status.ReadFault h =
 fit_ends laws tells words before now a b due status.WriteFault (inl h) =
     let k = both_asked (asked words) (DueFit tells before now a b) (Somewhere tells before now) due h.0 in
     let on = of_job tells before now k.0 k.2.0 k.1.0.first_written k.2.1 in
-    absurd (elim (of_two tells before now k.0 on.holds.program on.holds.lexed.names on.given k.2.0 on.holds.holds) [
+    absurd (elim (of_two tells before now k.0 on.holds.program on.holds.texts on.given k.2.0 on.holds.holds) [
       | inl found ↦ k.1.1.target k.2.0 found.2 found.3
       | inr found ↦ k.1.1.pack k.2.0 found.2 found.3
     ])
@@ -707,10 +739,10 @@ abbrev DueFull : Bool → ShelfView → ShelfView → Plan → Type 0
 DueFull tells before now r = (r.job ≡ Replay) × DueOfFiles tells before now r (DueWithout before now Full r)
 
 -- what a job does, where it is a replay
-as_replay : (job : Job) (o : Options) (p : ProgramTree) (names : List (List ℕ)) (given : Contents) (file : Option (List ℕ)) (e : End) → job ≡ Replay → Does job o p names given file e → Does Replay o p names given file e
+as_replay : (job : Job) (o : Options) (p : ProgramTree) (names : TextsView) (given : Contents) (file : Option (List ℕ)) (e : End) → job ≡ Replay → Does job o p names given file e → Does Replay o p names given file e
 as_replay job o p names given file e is h = let P : Job → Type 0 = λ j. Does j o p names given file e in subst P is h
 
-ends_replay : (job : Job) (o : Options) (p : ProgramTree) (names : List (List ℕ)) (given : Contents) (file : Option (List ℕ)) (e : End) → job ≡ Replay → Does (ends_as job) o p names given file e → Does Replay o p names given file e
+ends_replay : (job : Job) (o : Options) (p : ProgramTree) (names : TextsView) (given : Contents) (file : Option (List ℕ)) (e : End) → job ≡ Replay → Does (ends_as job) o p names given file e → Does Replay o p names given file e
 ends_replay job o p names given file e is h = let P : Job → Type 0 = λ j. Does (ends_as j) o p names given file e in subst P is h
 
 full_or_none : Laws → (tells : Bool) (words : List (List ℕ)) (before now : ShelfView) (x : Why) → MatchOption (asked words) ⊥ (DueFull tells before now) → MatchOption (asked words) ⊥ (Lacking tells before x) → ⊥
@@ -774,7 +806,7 @@ full_due laws tells words before now a b due status.Input h =
 -- a refusal of the inputs is due
 
 -- the first one, which is told, is that which is given
-same_reached : (kept : Files) (p : ProgramTree) (names : List (List ℕ)) (is : List PlanInput) (first : List ℕ) (given : Contents) → AreTold kept (first_of is) (record { second = first; further = [] }) → AreReached kept p names is given → given.second ≡ first
+same_reached : (kept : Files) (p : ProgramTree) (names : TextsView) (is : List PlanInput) (first : List ℕ) (given : Contents) → AreTold kept (first_of is) (record { second = first; further = [] }) → AreReached kept p names is given → given.second ≡ first
 same_reached kept p names [] first given e h = h.0 ∙ sym e.0
 same_reached kept p names (i ∷ is) first given e h = same_bytes (bytes_in kept i.document) first given.second e.0 h.0
 
@@ -783,7 +815,7 @@ same_alone kept [] first given e h = h.0 ∙ sym e.0
 same_alone kept (i ∷ is) first given e h = same_bytes (bytes_in kept i.document) first given.second e.0 h.0
 
 -- what a replay accepts begins with a packed file
-accepts_packed : (job : Job) (options : Options) (p : ProgramTree) (names : List (List ℕ)) (given : Contents) → job ≡ Replay → Accepts job options p names given → (v : Datum) × IsInput p names v given.second
+accepts_packed : (job : Job) (options : Options) (p : ProgramTree) (names : TextsView) (given : Contents) → job ≡ Replay → Accepts job options p names given → (v : Datum) × IsInput p names v given.second
 accepts_packed job options p names given is h = let P : Job → Type 0 = λ j. Accepts j options p names given in let a : Accepts Replay options p names given = subst P is h in (a.value, a.is_input)
 
 -- the first is no packed file, and is one
@@ -791,10 +823,10 @@ module _ (laws : Laws) (tells : Bool) (before now : ShelfView) (r : Plan) (due :
   refused_and_taken : (source : List ℕ) (given : Contents) → IsAllOf (bytes_in (K tells before r) r.source) source → given.second ≡ due.holds.holds.first → OnProgram source (λ p names. (v : Datum) × IsInput p names v given.second) → ⊥
   refused_and_taken source given held second on =
       let es = same_bytes (bytes_in (K tells before r) r.source) due.source source due.source_told held in
-      let Q : ProgramTree → List (List ℕ) → Type 0 = λ p names. (v : Datum) × IsInput p names v given.second in
+      let Q : ProgramTree → TextsView → Type 0 = λ p names. (v : Datum) × IsInput p names v given.second in
       let S : List ℕ → Type 0 = λ s. OnProgram s Q in
-      let F : ProgramTree → List (List ℕ) → Type 0 = λ p names. ((v : Datum) × IsInput p names v due.holds.holds.first) → ⊥ in
-      let first : OnProgram due.source F = record { lexed = due.holds.lexed; program = due.holds.program; is_program = due.holds.is_program; holds = due.holds.holds.holds } in
+      let F : ProgramTree → TextsView → Type 0 = λ p names. ((v : Datum) × IsInput p names v due.holds.holds.first) → ⊥ in
+      let first : OnProgram due.source F = record { texts = due.holds.texts; program = due.holds.program; is_program = due.holds.is_program; holds = due.holds.holds.holds } in
       let both = together laws due.source F Q first (subst S es on) in
       let I : List ℕ → Type 0 = λ bytes. (v : Datum) × IsInput both.0 both.1 v bytes in
       both.2 (subst I second both.3)
@@ -805,26 +837,26 @@ module _ (laws : Laws) (tells : Bool) (before now : ShelfView) (r : Plan) (due :
   refused_read name (inr (inr h)) =
       refused_and_taken h.1.source h.1.given h.1.source_held (same_alone (K tells before r) (inputs_of r) due.holds.holds.first h.1.given due.holds.holds.first_told h.1.given_held) h.1.holds
 
-  refused_both : (Q : ProgramTree → List (List ℕ) → Contents → Type 0) → r.job ≡ Replay → ((p : ProgramTree) (names : List (List ℕ)) (given : Contents) → Q p names given → Accepts r.job r.options p names given) →
+  refused_both : (Q : ProgramTree → TextsView → Contents → Type 0) → r.job ≡ Replay → ((p : ProgramTree) (names : TextsView) (given : Contents) → Q p names given → Accepts r.job r.options p names given) →
       OnBoth (K tells before r) r Q → ⊥
   refused_both Q is accepts end' =
       let given = end'.given in
       let on : OnProgram end'.source (λ p names. (v : Datum) × IsInput p names v given.second) = record {
-        lexed = end'.holds.lexed;
+        texts = end'.holds.texts;
         program = end'.holds.program;
         is_program = end'.holds.is_program;
-        holds = accepts_packed r.job r.options end'.holds.program end'.holds.lexed.names given is (accepts end'.holds.program end'.holds.lexed.names given end'.holds.holds);
+        holds = accepts_packed r.job r.options end'.holds.program end'.holds.texts given is (accepts end'.holds.program end'.holds.texts given end'.holds.holds);
       } in
-      refused_and_taken end'.source given end'.source_held (same_reached (K tells before r) end'.holds.program end'.holds.lexed.names (inputs_of r) due.holds.holds.first given due.holds.holds.first_told (reached_all (K tells before r) end'.holds.program end'.holds.lexed.names (inputs_of r) given end'.given_held)) on
+      refused_and_taken end'.source given end'.source_held (same_reached (K tells before r) end'.holds.program end'.holds.texts (inputs_of r) due.holds.holds.first given due.holds.holds.first_told (reached_all (K tells before r) end'.holds.program end'.holds.texts (inputs_of r) given end'.given_held)) on
 
   refused_program : OnSource (K tells before r) r.source IsNoProgram → ⊥
   refused_program end' =
       let es = same_bytes (bytes_in (K tells before r) r.source) due.source end'.source due.source_told end'.source_held in
-      subst IsNoProgram es end'.holds due.holds.lexed due.holds.program due.holds.is_program
+      subst IsNoProgram es end'.holds due.holds.texts due.holds.program due.holds.is_program
 
 -- so the inputs are not accepted, and their source is a program
 module _ (laws : Laws) (tells : Bool) (before now : ShelfView) (r : Plan) where
-  unfit_both : (Q : ProgramTree → List (List ℕ) → Contents → Type 0) → ((p : ProgramTree) (names : List (List ℕ)) (given : Contents) → Q p names given → Accepts r.job r.options p names given) →
+  unfit_both : (Q : ProgramTree → TextsView → Contents → Type 0) → ((p : ProgramTree) (names : TextsView) (given : Contents) → Q p names given → Accepts r.job r.options p names given) →
       DueRefused tells before now r → OnBoth (K tells before r) r Q → ⊥
   unfit_both Q accepts (inl due) end' = let both = clash laws tells before now r (Unfit r) Q due end' in both.3 (accepts both.0 both.1 both.2 both.4)
   unfit_both Q accepts (inr due) end' = refused_both laws tells before now r due.1 Q due.0 accepts end'
@@ -883,7 +915,7 @@ input_due laws tells words before now a b due status.Input h = inl refl
 not_missing : (o : Held) (bytes : List ℕ) → o ≡ Missing → IsAllOf o bytes → ⊥
 not_missing o bytes e h = let P : Held → Type 0 = λ x. IsAllOf x bytes in subst P e h
 
-first_missing : (kept : Files) (p : ProgramTree) (names : List (List ℕ)) (is : List PlanInput) (given : Contents) → IsMissing kept is → AreReached kept p names is given → ⊥
+first_missing : (kept : Files) (p : ProgramTree) (names : TextsView) (is : List PlanInput) (given : Contents) → IsMissing kept is → AreReached kept p names is given → ⊥
 first_missing kept p names [] given e h = e
 first_missing kept p names (i ∷ is) given e h = not_missing (bytes_in kept i.document) given.second e h.0
 
@@ -897,24 +929,24 @@ further_missing kept [] given e h = e
 further_missing kept (i ∷ is) given e h = behind_missing kept is given.further e h.1
 
 -- where the first is taken, what is behind it is reached
-taken_missing : {names : List (List ℕ)} (kept : Files) (p : ProgramTree) (is : List PlanInput) (given : Contents) → IsMissing kept (further_of is) → ((v : Datum) × IsInput p names v given.second) → AreReached kept p names is given → ⊥
+taken_missing : {names : TextsView} (kept : Files) (p : ProgramTree) (is : List PlanInput) (given : Contents) → IsMissing kept (further_of is) → ((v : Datum) × IsInput p names v given.second) → AreReached kept p names is given → ⊥
 taken_missing kept p [] given e taken h = e
 taken_missing kept p (i ∷ is) given e taken h = behind_missing kept is given.further e (h.1 taken)
 
-missing_both : (tells : Bool) (before now : ShelfView) (r : Plan) (Q : ProgramTree → List (List ℕ) → Contents → Type 0) → DueMissing tells before now r → OnBoth (K tells before r) r Q → ⊥
+missing_both : (tells : Bool) (before now : ShelfView) (r : Plan) (Q : ProgramTree → TextsView → Contents → Type 0) → DueMissing tells before now r → OnBoth (K tells before r) r Q → ⊥
 missing_both tells before now r Q (inl e) h = not_missing (bytes_in (K tells before r) r.source) h.source e.0 h.source_held
-missing_both tells before now r Q (inr (inl d)) h = first_missing (K tells before r) h.holds.program h.holds.lexed.names (inputs_of r) h.given d.1 (reached_all (K tells before r) h.holds.program h.holds.lexed.names (inputs_of r) h.given h.given_held)
+missing_both tells before now r Q (inr (inl d)) h = first_missing (K tells before r) h.holds.program h.holds.texts (inputs_of r) h.given d.1 (reached_all (K tells before r) h.holds.program h.holds.texts (inputs_of r) h.given h.given_held)
 missing_both tells before now r Q (inr (inr d)) h = further_missing (K tells before r) (inputs_of r) h.given d.holds.1 h.given_held
 
-missing_reached : Laws → (tells : Bool) (before now : ShelfView) (r : Plan) (Q : ProgramTree → List (List ℕ) → Contents → Type 0) → DueMissing tells before now r → OnReached (K tells before r) r Q → ⊥
+missing_reached : Laws → (tells : Bool) (before now : ShelfView) (r : Plan) (Q : ProgramTree → TextsView → Contents → Type 0) → DueMissing tells before now r → OnReached (K tells before r) r Q → ⊥
 missing_reached laws tells before now r Q (inl e) h = not_missing (bytes_in (K tells before r) r.source) h.source e.0 h.source_held
-missing_reached laws tells before now r Q (inr (inl d)) h = first_missing (K tells before r) h.holds.program h.holds.lexed.names (inputs_of r) h.given d.1 h.holds.holds.0
+missing_reached laws tells before now r Q (inr (inl d)) h = first_missing (K tells before r) h.holds.program h.holds.texts (inputs_of r) h.given d.1 h.holds.holds.0
 missing_reached laws tells before now r Q (inr (inr d)) h =
     let kept = K tells before r in
     let es = same_bytes (bytes_in kept r.source) d.source h.source d.source_told h.source_held in
-    let R : ProgramTree → List (List ℕ) → Type 0 = λ p names. AreReached kept p names (inputs_of r) h.given × Q p names h.given in
+    let R : ProgramTree → TextsView → Type 0 = λ p names. AreReached kept p names (inputs_of r) h.given × Q p names h.given in
     let S : List ℕ → Type 0 = λ s. OnProgram s R in
-    let F : ProgramTree → List (List ℕ) → Type 0 = λ p names. DueOfFirst tells before now r (λ bytes. (v : Datum) × IsInput p names v bytes) in
+    let F : ProgramTree → TextsView → Type 0 = λ p names. DueOfFirst tells before now r (λ bytes. (v : Datum) × IsInput p names v bytes) in
     let both = together laws d.source F R d.holds.0 (subst S es h.holds) in
     let p = both.0 in
     let names = both.1 in
@@ -931,7 +963,7 @@ missing_program tells before now r (inr (inl d)) h =
     subst IsNoProgram es h.holds program.0 program.1 program.2
 missing_program tells before now r (inr (inr d)) h =
     let es = same_bytes (bytes_in (K tells before r) r.source) d.source h.source d.source_told h.source_held in
-    subst IsNoProgram es h.holds d.holds.0.lexed d.holds.0.program d.holds.0.is_program
+    subst IsNoProgram es h.holds d.holds.0.texts d.holds.0.program d.holds.0.is_program
 
 missing_first : (tells : Bool) (before now : ShelfView) (r : Plan) → DueMissing tells before now r → FirstWritten before now r
 missing_first tells before now r (inl e) = e.1
@@ -991,23 +1023,23 @@ abbrev pub DueLong : Bool → ShelfView → ShelfView → Plan → Type 0
 DueLong tells before now r = (r.job ≡ Run) × DueOfFiles tells before now r (DueWithout before now Long r)
 
 -- what a job does and makes, where it is a run
-as_run : (job : Job) (o : Options) (p : ProgramTree) (names : List (List ℕ)) (given : Contents) (file : Option (List ℕ)) (e : End) → job ≡ Run → Does job o p names given file e → Does Run o p names given file e
+as_run : (job : Job) (o : Options) (p : ProgramTree) (names : TextsView) (given : Contents) (file : Option (List ℕ)) (e : End) → job ≡ Run → Does job o p names given file e → Does Run o p names given file e
 as_run job o p names given file e is h = let P : Job → Type 0 = λ j. Does j o p names given file e in subst P is h
 
-packs_run : (job : Job) (o : Options) (p : ProgramTree) (names : List (List ℕ)) (given : Contents) (packed : Option (List ℕ)) (e : End) → job ≡ Run → DoesPack job o p names given packed e → DoesPack Run o p names given packed e
+packs_run : (job : Job) (o : Options) (p : ProgramTree) (names : TextsView) (given : Contents) (packed : Option (List ℕ)) (e : End) → job ≡ Run → DoesPack job o p names given packed e → DoesPack Run o p names given packed e
 packs_run job o p names given packed e is h = let P : Job → Type 0 = λ j. DoesPack j o p names given packed e in subst P is h
 
 -- so it is with a run, where it may leave out an image
-abbrev LongRun : Options → ProgramTree → List (List ℕ) → Contents → Type 0
+abbrev LongRun : Options → ProgramTree → TextsView → Contents → Type 0
 LongRun o p names given = IsLongResult p names o.depth given.second × (o.packs ≡ true)
 
-long_run : (job : Job) (o : Options) (p : ProgramTree) (names : List (List ℕ)) (given : Contents) (file : Option (List ℕ)) → job ≡ Run → Does (ends_as job) (without_image o) p names given file (Without Long) → LongRun o p names given
+long_run : (job : Job) (o : Options) (p : ProgramTree) (names : TextsView) (given : Contents) (file : Option (List ℕ)) → job ≡ Run → Does (ends_as job) (without_image o) p names given file (Without Long) → LongRun o p names given
 long_run job o p names given file is h =
     let P : Job → Type 0 = λ j. Does (ends_as j) (without_image o) p names given file (Without Long) in
     let k = subst P is h in
     (k.1, k.2)
 
-module _ (laws : Laws) (o : Options) (p : ProgramTree) (names : List (List ℕ)) (given : Contents) (long : LongRun o p names given) where
+module _ (laws : Laws) (o : Options) (p : ProgramTree) (names : TextsView) (given : Contents) (long : LongRun o p names given) where
   long_or_text : (job : Job) → job ≡ Run → (text : List ℕ) (packed : Option (List ℕ)) → DoesPack job o p names given packed (Prints text) → ⊥
   long_or_text job is text packed d =
       let k = subst (λ (b : Bool). PacksResult b p names o.depth given.second packed (Prints text)) long.1 (packs_run job o p names given packed (Prints text) is d) in
@@ -1102,7 +1134,7 @@ map_two : (o : Option Plan) (P Q R : Plan → Type 0) → ((r : Plan) → P r �
 map_two None P Q R go h k = absurd h
 map_two (Some r) P Q R go h k = go r h k
 
-run_or_replay : (r : Plan) (p : ProgramTree) (names : List (List ℕ)) (given : Contents) (file : Option (List ℕ)) → Does r.job r.options p names given file (Without Full) → Scarce r ⊎ (r.job ≡ Replay)
+run_or_replay : (r : Plan) (p : ProgramTree) (names : TextsView) (given : Contents) (file : Option (List ℕ)) → Does r.job r.options p names given file (Without Full) → Scarce r ⊎ (r.job ≡ Replay)
 run_or_replay r p names given file h = full_runs r.job r.options p names given file h
 
 module _ (laws : Laws) (tells : Bool) (before now : ShelfView) where

@@ -1,4 +1,5 @@
 -- Where a plan that words ask for names a file to write, its job makes one.
+use Rattle.gib_base.specs.Texts.{TextsView}
 use Rattle.std.proofs.Common.{◌≡◌, ◌∙◌, Bool, cond, codes, true, false, refl, sym, ap, subst, subst₂, ℕ, List, [], ◌∷◌, ◌++◌, Option, Some, None, is_some, true≢false, option_map, option_to_list}
 use Rattle.std.specs.Prelude.{⊤, find, option_and_then}
 use Rattle.std.specs.Str.{bytes_eq}
@@ -194,7 +195,7 @@ none_replayed : (image : Bool) (laid : LaidOut) (ty : Ty) (memory : Memory) (pla
 none_replayed false laid ty memory place result on d = true≢false (sym on)
 none_replayed true laid ty memory place result on d = none_is_some (image_of memory place) d.0
 
-made_none : (job : Job) (o : Options) (p : ProgramTree) (names : List (List ℕ)) (given : Contents) (text : List ℕ) → MakesFile job o → Does job o p names given None (Prints text) → ⊥
+made_none : (job : Job) (o : Options) (p : ProgramTree) (names : TextsView) (given : Contents) (text : List ℕ) → MakesFile job o → Does job o p names given None (Prints text) → ⊥
 made_none Run o p names given text on d = subst (λ (b : Bool). MakesImage b p names o.skips o.depth o.chunks given.second None) on d.0
 made_none Plain o p names given text on d = on
 made_none Check o p names given text on d = on
@@ -208,18 +209,18 @@ made_none Replay o p names given text on d =
     let end = d.holds in
     none_replayed o.image (layouts_of d.settings.skips p) (output_type p) end.memory end.place end.result on end.is_file
 
-stored : (r : Plan) (p : ProgramTree) (names : List (List ℕ)) (given : Contents) (text : List ℕ) → Fits r → (target file : Option (List ℕ)) → r.target ≡ target
+stored : (r : Plan) (p : ProgramTree) (names : TextsView) (given : Contents) (text : List ℕ) → Fits r → (target file : Option (List ℕ)) → r.target ≡ target
     → Does r.job r.options p names given file (Prints text) → IsStored target file
 stored r p names given text fits None file e d = tt {0}
 stored r p names given text fits (Some name) None e d = made_none r.job r.options p names given text (fits.makes name e) d
 stored r p names given text fits (Some name) (Some bytes) e d = tt {0}
 
-packed_none : (o : Options) (p : ProgramTree) (names : List (List ℕ)) (given : Contents) (text : List ℕ) → o.packs ≡ true → DoesPack Run o p names given None (Prints text) → ⊥
+packed_none : (o : Options) (p : ProgramTree) (names : TextsView) (given : Contents) (text : List ℕ) → o.packs ≡ true → DoesPack Run o p names given None (Prints text) → ⊥
 packed_none o p names given text on d =
     let k = subst (λ (b : Bool). PacksResult b p names o.depth given.second None (Prints text)) on d in
     none_is_some k.0 k.1
 
-stored_packed : (r : Plan) (p : ProgramTree) (names : List (List ℕ)) (given : Contents) (text : List ℕ) → Fits r → (pack packed : Option (List ℕ)) → r.pack ≡ pack
+stored_packed : (r : Plan) (p : ProgramTree) (names : TextsView) (given : Contents) (text : List ℕ) → Fits r → (pack packed : Option (List ℕ)) → r.pack ≡ pack
     → DoesPack r.job r.options p names given packed (Prints text) → IsStored pack packed
 stored_packed r p names given text fits None packed e d = tt {0}
 stored_packed r p names given text fits (Some name) None e d =
@@ -236,7 +237,7 @@ pub image_asked : (words : List Text) (r : Plan) (name : List ℕ) → asked wor
 image_asked words r name e is named = subst (λ (j : Job). MakesFile j r.options) is ((asked_fits words r e).makes name named)
 
 -- A job that ends with a text made the files that are written.
-pub is_made : (tells : Bool) (words : List (List ℕ)) (before now : Files) (r : Plan) (p : ProgramTree) (names : List (List ℕ)) (given : Contents) (text : List ℕ) (file packed : Option (List ℕ)) → asked words ≡ Some r
+pub is_made : (tells : Bool) (words : List (List ℕ)) (before now : Files) (r : Plan) (p : ProgramTree) (names : TextsView) (given : Contents) (text : List ℕ) (file packed : Option (List ℕ)) → asked words ≡ Some r
     → DoesAll r.job r.options p names given file packed (Prints text) → AreWritten tells before now r file packed → IsMade tells before now r p names given text
 is_made tells words before now r p names given text file packed e d w = record {
   ended = record { file = file; packed = packed; does = d.0; packs = d.1; written = w };
@@ -257,7 +258,7 @@ both_end file packed e bytes behind P first second h =
     (x.0, subst₂ (λ (f q : Option (List ℕ)). P f q x.0) first second x.1)
 
 -- A job that ends without a value makes no packed file of it.
-pub valueless_packs : (job : Job) (o : Options) (p : ProgramTree) (names : List (List ℕ)) (given : Contents) (packed : Option (List ℕ)) (reason : Reason) → DoesPack job o p names given packed (NoValue reason) → packed ≡ None
+pub valueless_packs : (job : Job) (o : Options) (p : ProgramTree) (names : TextsView) (given : Contents) (packed : Option (List ℕ)) (reason : Reason) → DoesPack job o p names given packed (NoValue reason) → packed ≡ None
 valueless_packs Run o p names given packed reason d = go o.packs d
   where
     go : (b : Bool) → PacksResult b p names o.depth given.second packed (NoValue reason) → packed ≡ None
@@ -273,7 +274,7 @@ valueless_packs Gen o p names given packed reason d = d
 valueless_packs Trace o p names given packed reason d = d
 valueless_packs Replay o p names given packed reason d = d
 
-end_ordered : (r : Plan) (p : ProgramTree) (names : List (List ℕ)) (given : Contents) (file packed : Option (List ℕ)) (x : End) → Fits r → DoesAll r.job r.options p names given file packed x → AreOrdered r file packed
+end_ordered : (r : Plan) (p : ProgramTree) (names : TextsView) (given : Contents) (file packed : Option (List ℕ)) (x : End) → Fits r → DoesAll r.job r.options p names given file packed x → AreOrdered r file packed
 end_ordered r p names given file packed (NoValue reason) fits d = λ name named none. valueless_packs r.job r.options p names given packed reason d.1
 end_ordered r p names given file packed (Prints text) fits d = λ name named none.
     absurd (made_none r.job r.options p names given text (fits.makes name named) (subst (λ (f : Option (List ℕ)). Does r.job r.options p names given f (Prints text)) none d.0))
@@ -282,6 +283,6 @@ end_ordered r p names given file packed (Prints text) fits d = λ name named non
 pub are_ordered : (kept : Files) (r : Plan) (file packed : Option (List ℕ)) (e : KeptEnd) → ((words : List (List ℕ)) × (asked words ≡ Some r)) → IsDone kept r file packed e → AreOrdered r file packed
 are_ordered kept r file packed e asks on =
     let p = on.holds.program in
-    let names = on.holds.lexed.names in
+    let names = on.holds.texts in
     let x = some_end file packed e (DoesAll r.job r.options p names on.given) on.holds.holds in
     end_ordered r p names on.given file packed x.0 (asked_fits asks.0 r asks.1) x.1

@@ -1,4 +1,5 @@
 -- The promise of `run`, from how a call ends.
+use Rattle.gib_base.specs.Texts.{TextsView}
 use Rattle.std.proofs.Common.{◌≡◌, ◌∙◌, refl, ℕ, List, [], ◌∷◌, ◌++◌, Option, Some, None, IfSome, MatchOption, ◌⊎◌, inl, inr, subst, subst₂, sym, ap, Bool, true, false, true≢false}
 use Rattle.gib_types.specs.Tree.{Datum}
 use Rattle.gib_syntax.specs.Tree.{ProgramTree}
@@ -6,7 +7,19 @@ use Rattle.gib_types.specs.Table.{Table}
 use Rattle.gib_types.specs.declared.table.Ty.{Ty}
 use Rattle.gib_file.specs.Framed.{File2}
 use Rattle.gib_syntax.specs.Declarations.{table_of_program, input_type, output_type}
-use Rattle.gib_syntax.specs.Meaning.{Reason, Deep, Trap, Outcome, Gives, Stops, run}
+use Rattle.gib_syntax.specs.Meaning.{Reason, Deep, Trap, Outcome, Gives, Stops, run, OutcomeHas}
+use Rattle.gib_base.specs.Lexed.{Lexed}
+use Rattle.gib_base.specs.Names.{AreNames}
+use Rattle.gib_types.specs.Tree.{HasType}
+use Rattle.gib_file.proofs.FileLaws.{inside}
+use Rattle.gib_lex.proofs.Differ.{lexed_names}
+use Rattle.gib_syntax.specs.GenericTree.{GenericProgramTree, rows_of}
+use Rattle.gib_mono.specs.Copied.{shown_outcome}
+use Rattle.gib_mono.specs.Walk.{Copy, base_of}
+use Rattle.gib_mono.specs.Naming.{entries}
+use Rattle.gib_mono.specs.Showing.{long_texts}
+use Rattle.gib_app.specs.GenericText.{generic_text}
+use Rattle.gib_app.proofs.Copied.{IsSpelled, OnCopy, texts_with, to_copy, of_copy, has, means, text_is, read_once}
 use Rattle.gib_code.specs.declared.answer.Reason.{Reason as Why}
 use Rattle.gib_code.specs.declared.answer.Reason.TheVariants as why
 use Rattle.gib_weave.specs.Sound.{means_why}
@@ -21,11 +34,11 @@ use Rattle.gib_app.specs.Plan.{Document, Write, Plan, Files, bytes_in, Contents}
 use Rattle.gib_app.specs.Writes.{at_reading, AreMade, IsNamedIn, writes_of}
 use Rattle.gib_app.specs.Formats.{inputs_of, Accepts}
 use Rattle.gib_app.specs.Words.{asked}
-use Rattle.gib_app.specs.Running.{IsOutput, IsRunImage, IsPackedResult, IsLongResult, MeansNone, text_line}
+use Rattle.gib_app.specs.Running.{IsInput, IsOutput, IsRunImage, IsPackedResult, IsLongResult, MeansNone, FillsUp, text_line}
 use Rattle.gib_app.specs.Jobs.{Prints, MakesImage, PacksResult, run_forks}
 use Rattle.gib_app.specs.Causes.{OnProgram, OnBoth, EndsWithout, AsksProgram, IsStored, IsUnread}
 use Rattle.gib_app.specs.Ending.{IsEnding, HasText, DueOfFiles, DueWithout, TakesAll}
-use Rattle.gib_app.specs.Headline.{IsRun, IsPackingRun, Given, IsResult, IsResultImage, IsResultFile, HasLongFile, HasNoResult, IsTooDeep, DividesByZero, IsTooBig, NoneFailed, NoWriteFailed}
+use Rattle.gib_app.specs.Headline.{IsRun, IsPackingRun, copy_with, copy_in, read_in, meant_in, Given, IsResult, IsResultImage, IsResultFile, HasLongFile, HasNoResult, IsTooDeep, DividesByZero, IsTooBig, NoneFailed, NoWriteFailed}
 use Rattle.gib_app.proofs.Performing.{asked_of}
 use Rattle.gib_app.proofs.Fitting.{image_asked, packs_agrees, valueless_packs}
 use Rattle.gib_app.proofs.FirstWriting.{others_after, written_first}
@@ -61,7 +74,7 @@ asked_is o r P e h = let Q : Option Plan → Type 0 = λ x. MatchOption x ⊥ P 
 
 -- what holds of the files of a run holds of their bytes
 of_files : (words : List (List ℕ)) (before : ShelfView) (out : SinkView) (source input : List ℕ) (options : Options) (front : List ℕ) (r : AnyRun words before out source input options front)
-    (P : ProgramTree → List (List ℕ) → Contents → Type 0) → OnBoth before.kept (any_plan r.program r.packed r.image r.pack options) P → OnProgram source (λ p names. P p names (record { second = input; further = [] }))
+    (P : ProgramTree → TextsView → Contents → Type 0) → OnBoth before.kept (any_plan r.program r.packed r.image r.pack options) P → OnProgram source (λ p names. P p names (record { second = input; further = [] }))
 of_files words before out source input options front r P h =
     let es = same_bytes (bytes_in before.kept r.program) source h.source r.source_is h.source_held in
     let ei = same_given before.kept (inputs_of (any_plan r.program r.packed r.image r.pack options)) (record { second = input; further = [] }) h.given (r.input_is, refl) h.given_held in
@@ -69,51 +82,101 @@ of_files words before out source input options front r P h =
     let I : Contents → Type 0 = λ i. OnProgram source (λ p names. P p names i) in
     subst I ei (subst S es h.holds)
 
+-- a source's program and an input for its copy
+
+abbrev given_of : (source input : List ℕ) (l : Lexed) (g : GenericProgramTree) (found : List Copy) (v : Datum) → IsSpelled source l g found → IsInput (copy_with g l found) (texts_with l found) v input → Given source input
+given_of source input l g found v is h = record { lexed = l; program = g; found = found; value = v; spelled = is.spelled; typed = is.typed; within = is.within; short = h.short; file = h.file }
+
+is_spelled : {source input : List ℕ} (given : Given source input) → IsSpelled source given.lexed given.program given.found
+is_spelled given = record { spelled = given.spelled; typed = given.typed; within = given.within }
+
+input_in : {source input : List ℕ} (given : Given source input) → IsInput (copy_in given) (texts_with given.lexed given.found) given.value input
+input_in given = record { short = given.short; file = given.file }
+
+-- of what holds of the copy with an input
+from_given : {source input : List ℕ} (given : Given source input) (P : ProgramTree → TextsView → Type 0) → P (copy_in given) (texts_with given.lexed given.found) → OnProgram source P
+from_given {source} given P h = of_copy source P (record { lexed = given.lexed; generic = given.program; found = given.found; is_spelled = is_spelled given; holds = h })
+
+input_typed : {source input : List ℕ} (given : Given source input) → HasType (table_of_program (copy_in given)) given.value (input_type (copy_in given))
+input_typed {source} {input} given = (inside (table_of_program (copy_in given)) (long_texts given.lexed.names (entries given.found)) (input_type (copy_in given)) given.value input given.file).typed
+
+-- what the copy gives is read as what the program means
+means_in : {source input : List ℕ} (given : Given source input) (depth : ℕ) (o : Outcome) → run (copy_in given) depth given.value ≡ o → meant_in given depth ≡ shown_outcome (base_of (rows_of given.program.datas) given.found) o
+means_in {source} given depth o e =
+    sym (means source given.lexed given.program given.found (is_spelled given) depth given.value (input_typed given)) ∙ ap (shown_outcome (base_of (rows_of given.program.datas) given.found)) e
+
+-- it is of the type of main's result
+result_typed : {source input : List ℕ} (given : Given source input) (depth : ℕ) (u : Datum) → run (copy_in given) depth given.value ≡ Gives u → HasType (table_of_program (copy_in given)) u (output_type (copy_in given))
+result_typed {source} given depth u e =
+    let T : Outcome → Type 0 = OutcomeHas (table_of_program (copy_in given)) (output_type (copy_in given)) in
+    subst T e (has source given.lexed given.program given.found (is_spelled given) depth given.value (input_typed given))
+
+-- the other way round: what the program means is what the copy gives, read so
+record Gave (source input : List ℕ) (given : Given source input) (depth : ℕ) (result : Datum) : Type 0 where
+  value : Datum
+  gives : run (copy_in given) depth given.value ≡ Gives value
+  read : read_in given value ≡ result
+
+gave : {source input : List ℕ} (given : Given source input) (depth : ℕ) (result : Datum) → meant_in given depth ≡ Gives result → Gave source input given depth result
+gave {source} {input} given depth result m = by (run (copy_in given) depth given.value) refl where
+  by : (o : Outcome) → run (copy_in given) depth given.value ≡ o → Gave source input given depth result
+  by (Gives u) e = record { value = u; gives = e; read = let f : Gives (read_in given u) ≡ Gives result = sym (means_in given depth (Gives u) e) ∙ m in cc }
+  by (Stops why) e = absurd (let f : Stops why ≡ Gives result = sym (means_in given depth (Stops why) e) ∙ m in cc)
+
+stopped : {source input : List ℕ} (given : Given source input) (depth : ℕ) (why : Reason) → meant_in given depth ≡ Stops why → run (copy_in given) depth given.value ≡ Stops why
+stopped given depth why m = by (run (copy_in given) depth given.value) refl where
+  by : (o : Outcome) → run (copy_in given) depth given.value ≡ o → run (copy_in given) depth given.value ≡ Stops why
+  by (Gives u) e = absurd (let f : Gives (read_in given u) ≡ Stops why = sym (means_in given depth (Gives u) e) ∙ m in cc)
+  by (Stops other) e = let f : Stops other ≡ Stops why = sym (means_in given depth (Stops other) e) ∙ m in e ∙ f
+
+-- the text of what the copy gives
+line_in : {source input : List ℕ} (given : Given source input) (depth : ℕ) (u : Datum) → run (copy_in given) depth given.value ≡ Gives u →
+    text_line (copy_in given) (texts_with given.lexed given.found) u ≡ generic_text (rows_of given.program.datas) given.lexed.names (read_in given u) ++ 10 ∷ []
+line_in {source} given depth u e =
+    ap (λ (t : List ℕ). t ++ 10 ∷ []) (text_is source given.lexed given.program given.found (is_spelled given) u (output_type (copy_in given)) (result_typed given depth u e))
+
+-- names of a source are different texts
+differ_in : {source input : List ℕ} (given : Given source input) → AreNames given.lexed.names
+differ_in {source} given = lexed_names source given.lexed given.spelled.is_lexed given.spelled.few_names
+
+-- a value of the copy that is read as what the program means is what the copy gives
+gave_it : {source input : List ℕ} (given : Given source input) (depth : ℕ) (u : Datum) → HasType (table_of_program (copy_in given)) u (output_type (copy_in given)) → meant_in given depth ≡ Gives (read_in given u) → run (copy_in given) depth given.value ≡ Gives u
+gave_it {source} given depth u h m =
+    let w = gave given depth (read_in given u) m in
+    let same = read_once source given.lexed given.program given.found (is_spelled given) (differ_in given) w.value u (output_type (copy_in given)) (result_typed given depth w.value w.gives) h w.read in
+    w.gives ∙ ap Gives same
+
 result_of : (source input : List ℕ) (depth : ℕ) (output : List ℕ) (on : OnProgram source (λ p names. IsOutput p names depth input output)) → IsResult source input depth output
-result_of source input depth output on = record {
-  given = record {
-    lexed = on.lexed;
-    program = on.program;
-    value = on.holds.value;
-    spelled = on.is_program.spelled;
-    typed = on.is_program.typed;
-    short = on.holds.is_input.short;
-    file = on.holds.is_input.file;
-  };
-  result = on.holds.result;
-  means = on.holds.means;
-  is_text = on.holds.is_text;
-}
+result_of source input depth output on =
+    let c = to_copy source (λ p names. IsOutput p names depth input output) on in
+    let given = given_of source input c.lexed c.generic c.found c.holds.value c.is_spelled c.holds.is_input in
+    record {
+      given = given;
+      result = read_in given c.holds.result;
+      means = means_in given depth (Gives c.holds.result) c.holds.means;
+      is_text = c.holds.is_text ∙ line_in given depth c.holds.result c.holds.means;
+    }
 
 output_of : (source input : List ℕ) (depth : ℕ) (output : List ℕ) → IsResult source input depth output → OnProgram source (λ p names. IsOutput p names depth input output)
-output_of source input depth output h = record {
-  lexed = h.given.lexed;
-  program = h.given.program;
-  is_program = record { spelled = h.given.spelled; typed = h.given.typed };
-  holds = record { value = h.given.value; result = h.result; is_input = record { short = h.given.short; file = h.given.file }; means = h.means; is_text = h.is_text };
-}
+output_of source input depth output h =
+    let w = gave h.given depth h.result h.means in
+    from_given h.given (λ p names. IsOutput p names depth input output) (record {
+      value = h.given.value;
+      result = w.value;
+      is_input = input_in h.given;
+      means = w.gives;
+      is_text = h.is_text ∙ ap (λ (v : Datum). generic_text (rows_of h.given.program.datas) h.given.lexed.names v ++ 10 ∷ []) (sym w.read) ∙ sym (line_in h.given depth w.value w.gives);
+    })
 
 none_of : (source input : List ℕ) (depth : ℕ) (meant : Reason) → OnProgram source (λ p names. MeansNone p names depth input meant) → HasNoResult source input depth meant
-none_of source input depth meant on = record {
-  given = record {
-    lexed = on.lexed;
-    program = on.program;
-    value = on.holds.value;
-    spelled = on.is_program.spelled;
-    typed = on.is_program.typed;
-    short = on.holds.is_input.short;
-    file = on.holds.is_input.file;
-  };
-  means = on.holds.means;
-}
+none_of source input depth meant on =
+    let c = to_copy source (λ p names. MeansNone p names depth input meant) on in
+    let given = given_of source input c.lexed c.generic c.found c.holds.value c.is_spelled c.holds.is_input in
+    record { given = given; means = means_in given depth (Stops meant) c.holds.means }
 
 of_none : (source input : List ℕ) (depth : ℕ) (meant : Reason) → HasNoResult source input depth meant → OnProgram source (λ p names. MeansNone p names depth input meant)
-of_none source input depth meant h = record {
-  lexed = h.given.lexed;
-  program = h.given.program;
-  is_program = record { spelled = h.given.spelled; typed = h.given.typed };
-  holds = record { value = h.given.value; is_input = record { short = h.given.short; file = h.given.file }; means = h.means };
-}
+of_none source input depth meant h =
+    from_given h.given (λ p names. MeansNone p names depth input meant) (record { value = h.given.value; is_input = input_in h.given; means = stopped h.given depth meant h.means })
 
 any_done : (tells : Bool) (words : List (List ℕ)) (before now : ShelfView) (out out_now : SinkView) (source input : List ℕ) (options : Options) (front said : List ℕ) →
     AnyRun words before out source input options front → IsEnding tells words before now out out_now status.Done said → (output : List ℕ) × IsResult source input options.depth output × (out_now.taken ≡ Some (front ++ output))
@@ -123,63 +186,46 @@ any_done tells words before now out out_now source input options front said r h 
     let on = of_files words before out source input options front r (Whole tells before now out out_now plan) (asked_is (asked words) plan P r.asks h.0) in
     let T : Option (List ℕ) → Type 0 = λ t. IfSome t (λ first. out_now.taken ≡ Some (first ++ on.holds.0)) in (
       on.holds.0,
-      result_of source input options.depth on.holds.0 (record { lexed = on.lexed; program = on.program; is_program = on.is_program; holds = on.holds.1.ended.does.1 }),
+      result_of source input options.depth on.holds.0 (record { texts = on.texts; program = on.program; is_program = on.is_program; holds = on.holds.1.ended.does.1 }),
       subst T r.front_is on.holds.2,
     )
 
 -- a packed file of the result, and one that is too long
 
 file_result : (source input : List ℕ) (depth : ℕ) (bytes : List ℕ) → OnProgram source (λ p names. IsPackedResult p names depth input bytes) → IsResultFile source input depth bytes
-file_result source input depth bytes on = record {
-  given = record {
-    lexed = on.lexed;
-    program = on.program;
-    value = on.holds.value;
-    spelled = on.is_program.spelled;
-    typed = on.is_program.typed;
-    short = on.holds.is_input.short;
-    file = on.holds.is_input.file;
-  };
-  result = on.holds.result;
-  means = on.holds.means;
-  file = on.holds.file;
-  few = on.holds.few;
-}
+file_result source input depth bytes on =
+    let c = to_copy source (λ p names. IsPackedResult p names depth input bytes) on in
+    let given = given_of source input c.lexed c.generic c.found c.holds.value c.is_spelled c.holds.is_input in
+    record { given = given; result = c.holds.result; means = means_in given depth (Gives c.holds.result) c.holds.means; file = c.holds.file; few = c.holds.few }
 
 result_file : (source input : List ℕ) (depth : ℕ) (bytes : List ℕ) → IsResultFile source input depth bytes → OnProgram source (λ p names. IsPackedResult p names depth input bytes)
-result_file source input depth bytes h = record {
-  lexed = h.given.lexed;
-  program = h.given.program;
-  is_program = record { spelled = h.given.spelled; typed = h.given.typed };
-  holds = record { value = h.given.value; result = h.result; is_input = record { short = h.given.short; file = h.given.file }; means = h.means; file = h.file; few = h.few };
-}
+result_file source input depth bytes h =
+    from_given h.given (λ p names. IsPackedResult p names depth input bytes) (record {
+      value = h.given.value;
+      result = h.result;
+      is_input = input_in h.given;
+      means = gave_it h.given depth h.result h.file.0 h.means;
+      file = h.file;
+      few = h.few;
+    })
 
 long_result : (source input : List ℕ) (depth : ℕ) → HasLongFile source input depth → OnProgram source (λ p names. IsLongResult p names depth input)
-long_result source input depth h = record {
-  lexed = h.given.lexed;
-  program = h.given.program;
-  is_program = record { spelled = h.given.spelled; typed = h.given.typed };
-  holds = record { value = h.given.value; result = h.result; is_input = record { short = h.given.short; file = h.given.file }; means = h.means; long = h.long };
-}
+long_result source input depth h =
+    from_given h.given (λ p names. IsLongResult p names depth input) (record {
+      value = h.given.value;
+      result = h.result;
+      is_input = input_in h.given;
+      means = gave_it h.given depth h.result h.typed h.means;
+      long = h.long;
+    })
 
 image_result : (source input : List ℕ) (skips : Bool) (depth chunks : ℕ) (bytes : List ℕ) → OnProgram source (λ p names. IsRunImage p names skips depth chunks input bytes) → IsResultImage source input skips depth chunks bytes
-image_result source input skips depth chunks bytes on = record {
-  given = record {
-    lexed = on.lexed;
-    program = on.program;
-    value = on.holds.value;
-    spelled = on.is_program.spelled;
-    typed = on.is_program.typed;
-    short = on.holds.is_input.short;
-    file = on.holds.is_input.file;
-  };
-  result = on.holds.result;
-  means = on.holds.means;
-  image = on.holds.image;
-  few = on.holds.few;
-}
+image_result source input skips depth chunks bytes on =
+    let c = to_copy source (λ p names. IsRunImage p names skips depth chunks input bytes) on in
+    let given = given_of source input c.lexed c.generic c.found c.holds.value c.is_spelled c.holds.is_input in
+    record { given = given; result = c.holds.result; means = means_in given depth (Gives c.holds.result) c.holds.means; image = c.holds.image; few = c.holds.few }
 
-image_there : {names : List (List ℕ)} (tells : Bool) (before now : Files) (name : List ℕ) (asked_for : Bool) (p : ProgramTree) (skips : Bool) (depth chunks : ℕ) (input : List ℕ) (file : Option (List ℕ)) (ws : List Write) → (IsNamedIn ws name → ⊥)
+image_there : {names : TextsView} (tells : Bool) (before now : Files) (name : List ℕ) (asked_for : Bool) (p : ProgramTree) (skips : Bool) (depth chunks : ℕ) (input : List ℕ) (file : Option (List ℕ)) (ws : List Write) → (IsNamedIn ws name → ⊥)
     → IsStored (Some name) file → AreMade tells before now (writes_of file (Some name) ++ ws) → MakesImage asked_for p names skips depth chunks input file → (bytes : List ℕ) × (now name ≡ told tells bytes) × IsRunImage p names skips depth chunks input bytes
 image_there tells before now name asked_for p skips depth chunks input None ws no' stored written made = absurd stored
 image_there tells before now name false p skips depth chunks input (Some bytes) ws no' stored written made = cc
@@ -195,11 +241,11 @@ any_image tells words before now out out_now source input options front said nam
     let made = on.holds.1 in
     let S : Option (List ℕ) → Type 0 = λ t. IsStored t made.ended.file in
     let W : Option (List ℕ) → Type 0 = λ t. AreMade tells before.kept now.kept (writes_of made.ended.file t ++ writes_of made.ended.packed r.pack) in
-    let there = image_there {names = on.lexed.names} tells before.kept now.kept name options.image on.program options.skips options.depth options.chunks input made.ended.file
+    let there = image_there {names = on.texts} tells before.kept now.kept name options.image on.program options.skips options.depth options.chunks input made.ended.file
     (writes_of made.ended.packed r.pack) (λ i. other (one_named made.ended.packed r.pack name i)) (subst S named made.stored) (subst W named made.ended.written) made.ended.does.0 in
-    (there.0, there.1, image_result source input options.skips options.depth options.chunks there.0 (record { lexed = on.lexed; program = on.program; is_program = on.is_program; holds = there.2 }))
+    (there.0, there.1, image_result source input options.skips options.depth options.chunks there.0 (record { texts = on.texts; program = on.program; is_program = on.is_program; holds = there.2 }))
 
-packed_there : {names : List (List ℕ)} (tells : Bool) (before now : Files) (name : List ℕ) (asked_for : Bool) (p : ProgramTree) (depth : ℕ) (input text : List ℕ) (packed : Option (List ℕ)) (ws : List Write) → IsStored (Some name) packed
+packed_there : {names : TextsView} (tells : Bool) (before now : Files) (name : List ℕ) (asked_for : Bool) (p : ProgramTree) (depth : ℕ) (input text : List ℕ) (packed : Option (List ℕ)) (ws : List Write) → IsStored (Some name) packed
     → AreMade tells before now (ws ++ writes_of packed (Some name)) → PacksResult asked_for p names depth input packed (Prints text) → (bytes : List ℕ) × (now name ≡ told tells bytes) × IsPackedResult p names depth input bytes
 packed_there tells before now name asked_for p depth input text None ws stored written made = absurd stored
 packed_there tells before now name false p depth input text (Some bytes) ws stored written made = cc
@@ -217,9 +263,21 @@ any_packed tells words before now out out_now source input options front said na
     let made = on.holds.1 in
     let S : Option (List ℕ) → Type 0 = λ t. IsStored t made.ended.packed in
     let W : Option (List ℕ) → Type 0 = λ t. AreMade tells before.kept now.kept (writes_of made.ended.file r.image ++ writes_of made.ended.packed t) in
-    let there = packed_there {names = on.lexed.names} tells before.kept now.kept name options.packs on.program options.depth input on.holds.0 made.ended.packed
+    let there = packed_there {names = on.texts} tells before.kept now.kept name options.packs on.program options.depth input on.holds.0 made.ended.packed
     (writes_of made.ended.file r.image) (subst S named made.stored_packed) (subst W named made.ended.written) made.ended.packs in
-    (there.0, there.1, file_result source input options.depth there.0 (record { lexed = on.lexed; program = on.program; is_program = on.is_program; holds = there.2 }))
+    (there.0, there.1, file_result source input options.depth there.0 (record { texts = on.texts; program = on.program; is_program = on.is_program; holds = there.2 }))
+
+long_of : (source input : List ℕ) (depth : ℕ) → OnProgram source (λ p names. IsLongResult p names depth input) → HasLongFile source input depth
+long_of source input depth on =
+    let c = to_copy source (λ p names. IsLongResult p names depth input) on in
+    let given = given_of source input c.lexed c.generic c.found c.holds.value c.is_spelled c.holds.is_input in
+    record {
+      given = given;
+      result = c.holds.result;
+      typed = result_typed given depth c.holds.result c.holds.means;
+      means = means_in given depth (Gives c.holds.result) c.holds.means;
+      long = c.holds.long;
+    }
 
 any_long : (tells : Bool) (words : List (List ℕ)) (before now : ShelfView) (out out_now : SinkView) (source input : List ℕ) (options : Options) (front said : List ℕ) →
     (r : AnyRun words before out source input options front) → IsEnding tells words before now out out_now status.Long said →
@@ -230,23 +288,10 @@ any_long tells words before now out out_now source input options front said r h 
     let on = of_files words before out source input options front r (EndsWithout tells before now Long plan) (asked_is (asked words) plan P r.asks h.0) in
     let ended = on.holds in
     let long = ended.does.1 in
-    let none = valueless_packs Run options on.program on.lexed.names (record { second = input; further = [] }) ended.packed Long ended.packs in
+    let none = valueless_packs Run options on.program on.texts (record { second = input; further = [] }) ended.packed Long ended.packs in
     let W : Option (List ℕ) → Type 0 = λ q. AreMade tells before.kept now.kept (writes_of ended.file r.image ++ writes_of q r.pack) in
     let written : W None = subst W none ended.written in (
-      record {
-        given = record {
-          lexed = on.lexed;
-          program = on.program;
-          value = long.value;
-          spelled = on.is_program.spelled;
-          typed = on.is_program.typed;
-          short = long.is_input.short;
-          file = long.is_input.file;
-        };
-        result = long.result;
-        means = long.means;
-        long = long.long;
-      },
+      long_of source input options.depth (record { texts = on.texts; program = on.program; is_program = on.is_program; holds = long }),
       ended.does.2,
       λ name other. written name ∙ others_after tells before.kept (writes_of ended.file r.image ++ []) name
           (λ i. elim (named_of_two (writes_of ended.file r.image) [] name i) [
@@ -255,7 +300,7 @@ any_long tells words before now out out_now source input options front said r h 
           ]),
     )
 
-asked_image : {names : List (List ℕ)} (tells : Bool) (before now : Files) (name : List ℕ) (asked_for : Bool) (p : ProgramTree) (skips : Bool) (depth chunks : ℕ) (input : List ℕ) (file : Option (List ℕ)) → asked_for ≡ true →
+asked_image : {names : TextsView} (tells : Bool) (before now : Files) (name : List ℕ) (asked_for : Bool) (p : ProgramTree) (skips : Bool) (depth chunks : ℕ) (input : List ℕ) (file : Option (List ℕ)) → asked_for ≡ true →
     AreMade tells before now (writes_of file (Some name) ++ []) → MakesImage asked_for p names skips depth chunks input file → (bytes : List ℕ) × (now name ≡ told tells bytes) × IsRunImage p names skips depth chunks input bytes
 asked_image tells before now name false p skips depth chunks input file on written made = absurd (true≢false (sym on))
 asked_image tells before now name true p skips depth chunks input None on written made = absurd made
@@ -269,11 +314,11 @@ any_long_image tells words before now out out_now source input options front sai
     let P : Plan → Type 0 = λ q. OnBoth (at_reading tells before.kept q) q (EndsWithout tells before now Long q) in
     let on = of_files words before out source input options front r (EndsWithout tells before now Long plan) (asked_is (asked words) plan P r.asks h.0) in
     let ended = on.holds in
-    let none = valueless_packs Run options on.program on.lexed.names (record { second = input; further = [] }) ended.packed Long ended.packs in
+    let none = valueless_packs Run options on.program on.texts (record { second = input; further = [] }) ended.packed Long ended.packs in
     let W : Option (List ℕ) → Option (List ℕ) → Type 0 = λ t q. AreMade tells before.kept now.kept (writes_of ended.file t ++ writes_of q r.pack) in
     let written : W (Some name) None = subst₂ W named none ended.written in
-    let there = asked_image {names = on.lexed.names} tells before.kept now.kept name options.image on.program options.skips options.depth options.chunks input ended.file (image_asked words plan name r.asks refl named) written ended.does.0 in
-    (there.0, there.1, image_result source input options.skips options.depth options.chunks there.0 (record { lexed = on.lexed; program = on.program; is_program = on.is_program; holds = there.2 }))
+    let there = asked_image {names = on.texts} tells before.kept now.kept name options.image on.program options.skips options.depth options.chunks input ended.file (image_asked words plan name r.asks refl named) written ended.does.0 in
+    (there.0, there.1, image_result source input options.skips options.depth options.chunks there.0 (record { texts = on.texts; program = on.program; is_program = on.is_program; holds = there.2 }))
 
 any_none : (tells : Bool) (words : List (List ℕ)) (before now : ShelfView) (out : SinkView) (source input : List ℕ) (options : Options) (front : List ℕ) (x : Why) →
     AnyRun words before out source input options front → AsksProgram tells words before.kept (EndsWithout tells before now (Meant x)) → HasNoResult source input options.depth (means_why x)
@@ -281,7 +326,7 @@ any_none tells words before now out source input options front x r h =
     let plan = any_plan r.program r.packed r.image r.pack options in
     let P : Plan → Type 0 = λ q. OnBoth (at_reading tells before.kept q) q (EndsWithout tells before now (Meant x) q) in
     let on = of_files words before out source input options front r (EndsWithout tells before now (Meant x) plan) (asked_is (asked words) plan P r.asks h) in
-    none_of source input options.depth (means_why x) (record { lexed = on.lexed; program = on.program; is_program = on.is_program; holds = on.holds.does.1 })
+    none_of source input options.depth (means_why x) (record { texts = on.texts; program = on.program; is_program = on.is_program; holds = on.holds.does.1 })
 
 any_deep : (tells : Bool) (words : List (List ℕ)) (before now : ShelfView) (out out_now : SinkView) (source input : List ℕ) (options : Options) (front said : List ℕ) →
     AnyRun words before out source input options front → IsEnding tells words before now out out_now status.Depth said → IsTooDeep source input options.depth
@@ -291,31 +336,25 @@ any_trapped : (tells : Bool) (words : List (List ℕ)) (before now : ShelfView) 
     AnyRun words before out source input options front → IsEnding tells words before now out out_now status.Trap said → DividesByZero source input options.depth
 any_trapped tells words before now out out_now source input options front said r h = any_none tells words before now out source input options front why.Trap r h.0
 
+big_of : (source input : List ℕ) (skips : Bool) (depth forks chunks : ℕ) → OnProgram source (λ p names. FillsUp p names skips depth forks chunks input) → IsTooBig source input skips depth forks chunks
+big_of source input skips depth forks chunks on =
+    let c = to_copy source (λ p names. FillsUp p names skips depth forks chunks input) on in
+    record { given = given_of source input c.lexed c.generic c.found c.holds.value c.is_spelled c.holds.is_input; tight = c.holds.tight }
+
 any_full : (tells : Bool) (words : List (List ℕ)) (before now : ShelfView) (out out_now : SinkView) (source input : List ℕ) (options : Options) (front said : List ℕ) →
     AnyRun words before out source input options front → IsEnding tells words before now out out_now status.Full said → IsTooBig source input options.skips options.depth (run_forks options) options.chunks
 any_full tells words before now out out_now source input options front said r h =
     let plan = any_plan r.program r.packed r.image r.pack options in
     let P : Plan → Type 0 = λ q. OnBoth (at_reading tells before.kept q) q (EndsWithout tells before now Full q) in
     let on = of_files words before out source input options front r (EndsWithout tells before now Full plan) (asked_is (asked words) plan P r.asks h.0) in
-    record {
-      given = record {
-        lexed = on.lexed;
-        program = on.program;
-        value = on.holds.does.1.value;
-        spelled = on.is_program.spelled;
-        typed = on.is_program.typed;
-        short = on.holds.does.1.is_input.short;
-        file = on.holds.does.1.is_input.file;
-      };
-      tight = on.holds.does.1.tight;
-    }
+    big_of source input options.skips options.depth (run_forks options) options.chunks (record { texts = on.texts; program = on.program; is_program = on.is_program; holds = on.holds.does.1 })
 
 packed_read : (before now : ShelfView) (d : Document) → ((name : List ℕ) → IsUnread before now d name → ⊥) → (name : List ℕ) → IsUnread before now d name ⊎ ⊥ → ⊥
 packed_read before now d quiet name (inl h) = quiet name h
 packed_read before now d quiet name (inr h) = h
 
 due_of : (tells : Bool) (words : List (List ℕ)) (before now : ShelfView) (out out_now : SinkView) (source input : List ℕ) (options : Options) (front : List ℕ) (r : AnyRun words before out source input options front) →
-    NoFault r.program r.packed r.image r.pack before now out out_now → (P : ProgramTree → List (List ℕ) → Contents → Type 0) → OnProgram source (λ p names. P p names (record { second = input; further = [] })) →
+    NoFault r.program r.packed r.image r.pack before now out out_now → (P : ProgramTree → TextsView → Contents → Type 0) → OnProgram source (λ p names. P p names (record { second = input; further = [] })) →
     DueOfFiles tells before now (any_plan r.program r.packed r.image r.pack options) P
 due_of tells words before now out out_now source input options front r quiet P on = record {
   source = source;
@@ -333,13 +372,13 @@ text_due : Laws → (source input : List ℕ) (options : Options) (output : List
     OnProgram source (λ p names. IsOutput p names options.depth input output) →
     OnProgram source (λ p names. IsOutput p names options.depth input output × ((packed : Option (List ℕ)) × PacksResult options.packs p names options.depth input packed (Prints output)))
 text_due laws source input options output false off packs on =
-    let P : Bool → Type 0 = λ x. PacksResult x on.program on.lexed.names options.depth input None (Prints output) in
-    record { lexed = on.lexed; program = on.program; is_program = on.is_program; holds = (on.holds, (None, subst P (sym off) refl)) }
+    let P : Bool → Type 0 = λ x. PacksResult x on.program on.texts options.depth input None (Prints output) in
+    record { texts = on.texts; program = on.program; is_program = on.is_program; holds = (on.holds, (None, subst P (sym off) refl)) }
 text_due laws source input options output true asks packs on =
     let file = packs asks in
     let both = joined laws source (λ p names. IsOutput p names options.depth input output) (λ p names. IsPackedResult p names options.depth input file.0) on (result_file source input options.depth file.0 file.1) in
-    let P : Bool → Type 0 = λ x. PacksResult x both.program both.lexed.names options.depth input (Some file.0) (Prints output) in
-    record { lexed = both.lexed; program = both.program; is_program = both.is_program; holds = (both.holds.0, (Some file.0, subst P (sym asks) (file.0, refl, both.holds.1))) }
+    let P : Bool → Type 0 = λ x. PacksResult x both.program both.texts options.depth input (Some file.0) (Prints output) in
+    record { texts = both.texts; program = both.program; is_program = both.is_program; holds = (both.holds.0, (Some file.0, subst P (sym asks) (file.0, refl, both.holds.1))) }
 
 any_ends_done : Laws → (tells : Bool) (words : List (List ℕ)) (before now : ShelfView) (out out_now : SinkView) (source input : List ℕ) (options : Options) (front output said : List ℕ) (end' : Status) →
     (r : AnyRun words before out source input options front) → NoFault r.program r.packed r.image r.pack before now out out_now → IsResult source input options.depth output →
@@ -350,7 +389,7 @@ any_ends_done laws tells words before now out out_now source input options front
     let on = text_due laws source input options output options.packs refl packs (output_of source input options.depth output h) in
     let takes : TakesAll before now out out_now plan = record { target = quiet.image_written; pack = quiet.packed_written; out = quiet.put } in
     let due = due_of tells words before now out out_now source input options front r quiet (HasText plan)
-    (record { lexed = on.lexed; program = on.program; is_program = on.is_program; holds = (None, output, (refl, on.holds.0), on.holds.1) }) in
+    (record { texts = on.texts; program = on.program; is_program = on.is_program; holds = (None, output, (refl, on.holds.0), on.holds.1) }) in
     due_ends laws tells words before now out out_now end' (cause_of tells words before now out out_now end' said ends) status.Done (asked_of (asked words) plan (DueAll tells before now out out_now) r.asks (due, takes))
 
 any_ends_long : Laws → (tells : Bool) (words : List (List ℕ)) (before now : ShelfView) (out out_now : SinkView) (source input : List ℕ) (options : Options) (front said : List ℕ) (end' : Status) →
@@ -360,7 +399,7 @@ any_ends_long laws tells words before now out out_now source input options front
     let plan = any_plan r.program r.packed r.image r.pack options in
     let on = long_result source input options.depth h in
     let due = due_of tells words before now out out_now source input options front r quiet (DueWithout before now Long plan)
-    (record { lexed = on.lexed; program = on.program; is_program = on.is_program; holds = ((None, (refl, on.holds, packs)), λ name bytes named does. quiet.image_written name named) }) in
+    (record { texts = on.texts; program = on.program; is_program = on.is_program; holds = ((None, (refl, on.holds, packs)), λ name bytes named does. quiet.image_written name named) }) in
     long_due laws tells words before now out out_now (asked_of (asked words) plan (DueLong tells before now) r.asks (refl, due)) end' (cause_of tells words before now out out_now end' said ends)
 
 any_ends_none : Laws → (tells : Bool) (words : List (List ℕ)) (before now : ShelfView) (out out_now : SinkView) (source input : List ℕ) (options : Options) (front said : List ℕ) (end' : Status) (x : Why) →
@@ -370,7 +409,7 @@ any_ends_none laws tells words before now out out_now source input options front
     let plan = any_plan r.program r.packed r.image r.pack options in
     let on = of_none source input options.depth (means_why x) h in
     let due = due_of tells words before now out out_now source input options front r quiet (DueWithout before now (Meant x) plan)
-    (record { lexed = on.lexed; program = on.program; is_program = on.is_program; holds = ((None, (refl, on.holds)), λ name bytes named does. absurd (some_or_none bytes does.0)) }) in
+    (record { texts = on.texts; program = on.program; is_program = on.is_program; holds = ((None, (refl, on.holds)), λ name bytes named does. absurd (some_or_none bytes does.0)) }) in
     none_due laws tells words before now out out_now x (asked_of (asked words) plan (DueNone tells before now x) r.asks due) end' (cause_of tells words before now out out_now end' said ends)
 
 any_ends_deep : Laws → (tells : Bool) (words : List (List ℕ)) (before now : ShelfView) (out out_now : SinkView) (source input : List ℕ) (options : Options) (front said : List ℕ) (end' : Status) →
@@ -399,7 +438,7 @@ any_fits laws tells words before now out out_now source input options front said
     let E : Status → Type 0 = λ s. IsEnding tells words before now out out_now s said in
     let takes : TakesAll before now out out_now plan = record { target = quiet.image_written; pack = quiet.packed_written; out = quiet.put } in
     let due = due_of tells words before now out out_now source input options front r quiet (λ p names given. Accepts plan.job plan.options p names given)
-    (record { lexed = g.lexed; program = g.program; is_program = record { spelled = g.spelled; typed = g.typed }; holds = (g.value, record { short = g.short; file = g.file }) }) in
+    (from_given g (λ p names. Accepts plan.job plan.options p names (record { second = input; further = [] })) (g.value, input_in g)) in
     elim (fit_ends laws tells words before now out out_now (asked_of (asked words) plan (DueFit tells before now out out_now) r.asks (due, takes)) end' (cause_of tells words before now out out_now end' said ends)) [
       | inl e ↦ inl e
       | inr (inl e) ↦ inr (inl e)
@@ -423,8 +462,8 @@ one_packed laws second source input depth bytes other h k =
     let same = laws.filed (table_of_program p) _ (input_type p) b.value a.value input b.is_input.file a.is_input.file in
     let M : Datum → Type 0 = λ x. run p depth x ≡ Gives b.result in
     let u = one_given (run p depth a.value) a.result b.result a.means (subst M same b.means) in
-    let F : Datum → Type 0 = λ x. File2 (table_of_program p) names (output_type p) x bytes in
-    second (table_of_program p) names (output_type p) b.result bytes other (subst F u a.file) b.file
+    let F : Datum → Type 0 = λ x. File2 (table_of_program p) names.long (output_type p) x bytes in
+    second (table_of_program p) names.long (output_type p) b.result bytes other (subst F u a.file) b.file
 
 pub short_or_long : Laws → (source input : List ℕ) (depth : ℕ) (bytes : List ℕ) → IsResultFile source input depth bytes → HasLongFile source input depth → ⊥
 short_or_long laws source input depth bytes h k =
@@ -576,10 +615,12 @@ pack_full tells words before now out out_now source input options front said r h
 
 -- The text of the value that a packed file is of.
 pub file_text : (source input : List ℕ) (depth : ℕ) (bytes : List ℕ) → IsResultFile source input depth bytes → (output : List ℕ) × IsResult source input depth output
-file_text source input depth bytes h = (text_line h.given.program h.given.lexed.names h.result, record { given = h.given; result = h.result; means = h.means; is_text = refl })
+file_text source input depth bytes h =
+    (generic_text (rows_of h.given.program.datas) h.given.lexed.names (read_in h.given h.result) ++ 10 ∷ [], record { given = h.given; result = read_in h.given h.result; means = h.means; is_text = refl })
 
 pub long_text : (source input : List ℕ) (depth : ℕ) → HasLongFile source input depth → (output : List ℕ) × IsResult source input depth output
-long_text source input depth h = (text_line h.given.program h.given.lexed.names h.result, record { given = h.given; result = h.result; means = h.means; is_text = refl })
+long_text source input depth h =
+    (generic_text (rows_of h.given.program.datas) h.given.lexed.names (read_in h.given h.result) ++ 10 ∷ [], record { given = h.given; result = read_in h.given h.result; means = h.means; is_text = refl })
 
 pub pack_ends_done : Laws → (tells : Bool) (words : List (List ℕ)) (before now : ShelfView) (out out_now : SinkView) (source input : List ℕ) (options : Options) (front bytes said : List ℕ) (end' : Status) →
     (r : IsPackingRun words before out source input options front) → NoWriteFailed r.program r.packed r.image r.pack before now out out_now → IsResultFile source input options.depth bytes → IsEnding tells words before now out out_now end' said → (end' ≡ status.Done) ⊎ (end' ≡ status.Memory) ⊎ (end' ≡ status.Full)

@@ -1,93 +1,24 @@
--- The names of a program's constructors are names of its tokens.
+-- The names of a program's declarations are held, and those of its constructors are words.
 use Rattle.std.proofs.Common.{◌≡◌, ◌∙◌, refl, ℕ, zero, suc, ◌<◌, List, [], ◌∷◌, ◌++◌, length, map, subst, sym, ap, arith, Bool, true, false, if◌then◌else◌, Some}
-use Rattle.std.specs.Prelude.{slice_get, unwrap_or, nat_lt, ◌==◌, ◌^◌}
+use Rattle.std.specs.Prelude.{slice_get, nat_lt, ◌==◌, ◌^◌}
 use Rattle.std.specs.List.{AllByRecursion, list_all}
 use Rattle.std.specs.Char.{is_ascii_digit, is_ascii_alphabetic}
-use Rattle.gib_base.specs.declared.name.Name.{Name}
 use Rattle.gib_base.specs.declared.token.Token.{Token}
 use Rattle.gib_base.specs.declared.token.Token.TheVariants as t
 use Rattle.gib_base.specs.declared.token.Sign.TheVariants as sign
 use Rattle.gib_base.specs.declared.token.Piece.TheVariants as kinds
 use Rattle.gib_base.specs.Piece.{Class, Blank, Letter, Digit, Dash, Equal, Single, Other, class_of, is_piece, is_name_byte, is_blank, is_sign_byte}
 use Rattle.gib_base.specs.Spelling.{piece_of, piece_in, value_from, dash_piece, equal_piece}
-use Rattle.gib_base.specs.Lexed.{Lexed, AreTokens, IsTokenOf}
-use Rattle.gib_base.specs.Printing.{IsWritable}
-use Rattle.gib_types.specs.Table.{Row, name_of, name_at}
-use Rattle.gib_syntax.specs.declared.tree.TypeName.{TypeName}
-use Rattle.gib_syntax.specs.declared.tree.TypeName.TheVariants as ty
-use Rattle.gib_syntax.specs.Tree.{ConstructorTree, DataTree, ProgramTree}
-use Rattle.gib_syntax.specs.Spelling.{Derives, spell_type, spell_types, spell_more, spell_constructors, spell_datas, spell_functions, spell_main, spell_program}
-use Rattle.gib_syntax.specs.Declarations.{type_names, row_in, rows_from, table_of_program}
-use Rattle.gib_value.specs.Text.{AreHeld}
-use Rattle.gib_value.specs.Reading.{AreWords, IsWord}
-
--- this holds of the token of the constructor's name
-abbrev HasName : (Token → Type 0) → ConstructorTree → Type 0
-HasName T c = T (t.Constructor c.name.name)
-
-abbrev HaveNames : (Token → Type 0) → DataTree → Type 0
-HaveNames T d = AllByRecursion (HasName T) d.constructors
-
-after_type : (T : Token → Type 0) (a : TypeName) (rest : List Token) → AllByRecursion T (spell_type a rest) → AllByRecursion T rest
-after_type T (ty.Whole p) rest h = h.1
-after_type T (ty.Truth p) rest h = h.1
-after_type T (ty.Declared x) rest h = h.1
-
-after_types : (T : Token → Type 0) (as' : List TypeName) (rest : List Token) → AllByRecursion T (spell_types as' rest) → AllByRecursion T rest
-after_types T [] rest h = h
-after_types T (a ∷ as') rest h = after_types T as' rest (after_type T a (spell_types as' rest) h)
-
-in_more : (T : Token → Type 0) (cs : List ConstructorTree) (rest : List Token) → AllByRecursion T (spell_more cs rest) → AllByRecursion (HasName T) cs × AllByRecursion T rest
-in_more T [] rest h = (tt {0}, h)
-in_more T (c ∷ cs) rest h =
-    let more = in_more T cs rest (after_types T c.fields (spell_more cs rest) h.1.1) in
-    ((h.1.0, more.0), more.1)
-
-in_constructors : (T : Token → Type 0) (cs : List ConstructorTree) (rest : List Token) → AllByRecursion T (spell_constructors cs rest) → AllByRecursion (HasName T) cs × AllByRecursion T rest
-in_constructors T [] rest h = (tt {0}, h)
-in_constructors T (c ∷ cs) rest h =
-    let more = in_more T cs rest (after_types T c.fields (spell_more cs rest) h.1) in
-    ((h.0, more.0), more.1)
-
-in_datas : (T : Token → Type 0) (ds : List DataTree) (rest : List Token) → AllByRecursion T (spell_datas ds rest) → AllByRecursion (HaveNames T) ds
-in_datas T [] rest h = tt {0}
-in_datas T (d ∷ ds) rest h =
-    let here = in_constructors T d.constructors (t.Sign sign.Semicolon ∷ spell_datas ds rest) h.1.1.1 in
-    (here.0, in_datas T ds rest here.1.1)
-
--- the row's name is that of a token of which this holds
-abbrev IsNamed : (Token → Type 0) → Row → Type 0
-IsNamed T row = (x : Name) × T (t.Constructor x) × (row.name ≡ x.0)
-
-rows_here : (T : Token → Type 0) (types : List ℕ) (owner : ℕ) (cs : List ConstructorTree) (more : List Row) → AllByRecursion (HasName T) cs → AllByRecursion (IsNamed T) more → AllByRecursion (IsNamed T) (map (row_in types owner) cs ++ more)
-rows_here T types owner [] more h k = k
-rows_here T types owner (c ∷ cs) more h k = ((c.name.name, h.0, refl), rows_here T types owner cs more h.1 k)
-
-rows_all : (T : Token → Type 0) (types : List ℕ) (owner : ℕ) (ds : List DataTree) → AllByRecursion (HaveNames T) ds → AllByRecursion (IsNamed T) (rows_from types owner ds)
-rows_all T types owner [] h = tt {0}
-rows_all T types owner (d ∷ ds) h = rows_here T types owner d.constructors (rows_from types (suc owner) ds) h.0 (rows_all T types (suc owner) ds h.1)
-
--- the name at a row is that of a token of which this holds
-abbrev IsNamedAt : (Token → Type 0) → ℕ → Type 0
-IsNamedAt T name = (x : Name) × T (t.Constructor x) × (name ≡ x.0)
-
-at_row : (T : Token → Type 0) (rows : List Row) (k : ℕ) → AllByRecursion (IsNamed T) rows → k < length rows → IsNamedAt T (name_of (slice_get rows k))
-at_row T [] k h lt = absurd (omega arith)
-at_row T (row ∷ rows) zero h lt = h.0
-at_row T (row ∷ rows) (suc k) h lt = at_row T rows k h.1 (omega arith)
-
-names_of : (T : Token → Type 0) (tokens : List Token) (p : ProgramTree) → AllByRecursion T tokens → Derives tokens p → (k : ℕ) → k < length (table_of_program p).rows → IsNamedAt T (name_at (table_of_program p) k)
-names_of T tokens p all derives k lt =
-    let P : List Token → Type 0 = AllByRecursion T in
-    let spelled : AllByRecursion T (spell_program p []) = subst P derives.spelled all in
-    at_row T (table_of_program p).rows k
-    (rows_all T (type_names p) 0 p.datas (in_datas T p.datas (spell_functions p.functions (spell_main p.main [])) spelled)) lt
-
-pub names_held : (l : Lexed) (p : ProgramTree) → AreTokens l → Derives l.tokens p → AreHeld (table_of_program p) l.names
-names_held l p are derives k lt =
-    let named = names_of (IsTokenOf (length l.names)) l.tokens p are.below derives k lt in
-    let P : ℕ → Type 0 = λ n. n < length l.names in
-    subst P (sym named.2) named.1
+use Rattle.gib_base.specs.Lexed.{Lexed}
+use Rattle.gib_base.specs.Printing.{IsWritable, IsNameOf}
+use Rattle.gib_lex.proofs.Again.{all_writable}
+use Rattle.gib_syntax.specs.GenericTree.{GenericConstructorTree, GenericDataTree, GenericFunctionTree, GenericProgramTree, GenericRow, row_of, rows_of}
+use Rattle.gib_syntax.specs.Spelling.{spell_program}
+use Rattle.gib_syntax.specs.Source.{Spells}
+use Rattle.gib_mono.specs.Naming.{AreNamedBelow}
+use Rattle.gib_mono.specs.Showing.{source_text}
+use Rattle.gib_value.specs.Reading.{IsWord}
+use Rattle.gib_app.proofs.SpelledNames.{HasName, HaveNames, IsFunctionNamed, in_program}
 
 -- a constructor's name is a word
 
@@ -132,10 +63,53 @@ word_of : (text : List ℕ) → is_piece text ≡ true → piece_of text ≡ kin
 word_of [] w h = absurd cc
 word_of (b ∷ rest) w h = letter_piece (class_of b) b rest refl w h
 
-pub names_are_words : (l : Lexed) (p : ProgramTree) → AllByRecursion (IsWritable l.names) l.tokens → Derives l.tokens p → AreWords (table_of_program p) l.names
-names_are_words l p all derives k lt =
-    let named = names_of (IsWritable l.names) l.tokens p all derives k lt in
-    let name = named.1 in
-    let get : slice_get l.names (name_at (table_of_program p) k) ≡ Some name.text = ap (slice_get l.names) named.2 ∙ name.held in
-    let P : List ℕ → Type 0 = IsWord in
-    subst P (sym (ap (λ o. unwrap_or o []) get)) (word_of name.text name.whole name.is_so)
+-- the names of all declarations are names of the source's
+module _ (names : List (List ℕ)) where
+  abbrev W : Token → Type 0
+  W = IsWritable names
+
+  inside : (names : List (List ℕ)) (number : ℕ) (text : List ℕ) → slice_get names number ≡ Some text → number < length names
+  inside [] number text e = absurd cc
+  inside (n ∷ names) zero text e = omega arith
+  inside (n ∷ names) (suc number) text e = let lt = inside names number text e in omega (arith, lt)
+
+  constructors_below : (cs : List GenericConstructorTree) → AllByRecursion (HasName W) cs → AllByRecursion (λ (k : GenericConstructorTree). k.name.name.0 < length names) cs
+  constructors_below [] h = tt {0}
+  constructors_below (c ∷ cs) h = (inside names c.name.name.0 h.0.text h.0.held, constructors_below cs h.1)
+
+  datas_below : (ds : List GenericDataTree) → AllByRecursion (HaveNames W) ds → AllByRecursion (λ (d : GenericDataTree). d.name.name.0 < length names) ds
+      × AllByRecursion (λ (d : GenericDataTree). AllByRecursion (λ (k : GenericConstructorTree). k.name.name.0 < length names) d.constructors) ds
+  datas_below [] h = (tt {0}, tt {0})
+  datas_below (d ∷ ds) h =
+      let more = datas_below ds h.1 in
+      ((inside names d.name.name.0 h.0.0.text h.0.0.held, more.0), (constructors_below d.constructors h.0.1, more.1))
+
+  functions_below : (fs : List GenericFunctionTree) → AllByRecursion (IsFunctionNamed W) fs → AllByRecursion (λ (f : GenericFunctionTree). f.name.name.0 < length names) fs
+  functions_below [] h = tt {0}
+  functions_below (f ∷ fs) h = (inside names f.name.name.0 h.0.text h.0.held, functions_below fs h.1)
+
+  abbrev IsRowWord : GenericRow → Type 0
+  IsRowWord row = IsWord (source_text names row.name)
+
+  word_at : (number : ℕ) → IsNameOf names kinds.Constructor number → IsWord (source_text names number)
+  word_at number n = subst IsWord (sym (ap (λ o. Rattle.std.specs.Prelude.unwrap_or o []) n.held)) (word_of n.text n.whole n.is_so)
+
+  rows_words : (d : GenericDataTree) (cs : List GenericConstructorTree) (more : List GenericRow) → AllByRecursion (HasName W) cs → AllByRecursion IsRowWord more → AllByRecursion IsRowWord (map (row_of d) cs ++ more)
+  rows_words d [] more h k = k
+  rows_words d (c ∷ cs) more h k = (word_at c.name.name.0 h.0, rows_words d cs more h.1 k)
+
+  all_words : (ds : List GenericDataTree) → AllByRecursion (HaveNames W) ds → AllByRecursion IsRowWord (rows_of ds)
+  all_words [] h = tt {0}
+  all_words (d ∷ ds) h = rows_words d d.constructors (rows_of ds) h.0.1 (all_words ds h.1)
+
+written : (text : List ℕ) (l : Lexed) (p : GenericProgramTree) → Spells text l p → AllByRecursion (IsWritable l.names) (spell_program p [])
+written text l p spells = let P : List Token → Type 0 = AllByRecursion (IsWritable l.names) in subst P spells.derived.spelled (all_writable text l spells.is_lexed)
+
+pub named_below : (text : List ℕ) (l : Lexed) (p : GenericProgramTree) → Spells text l p → AreNamedBelow (length l.names) p
+named_below text l p spells =
+    let names = in_program (IsWritable l.names) p (written text l p spells) in
+    let datas = datas_below l.names p.datas names.0 in
+    record { types = datas.0; constructors = datas.1; functions = functions_below l.names p.functions names.1 }
+
+pub rows_are_words : (text : List ℕ) (l : Lexed) (p : GenericProgramTree) → Spells text l p → AllByRecursion (λ (row : GenericRow). IsWord (source_text l.names row.name)) (rows_of p.datas)
+rows_are_words text l p spells = all_words l.names p.datas (in_program (IsWritable l.names) p (written text l p spells)).0

@@ -1,4 +1,5 @@
 -- What a run makes, with its image and without.
+use Rattle.gib_base.specs.Texts.{TextsView}
 use Rattle.std.proofs.Common.{◌≡◌, ◌∙◌, refl, ap, ℕ, zero, suc, ◌+◌, ◌*◌, ◌≤◌, arith, length, length-append, List, [], ◌∷◌, ◌++◌, Option, Some, None, Bool, true, false, Result, Ok, Err, IfErr, subst, sym}
 use Rattle.gib_types.specs.declared.table.Ty.{Ty}
 use Rattle.gib_types.specs.Layout.{LaidOut}
@@ -69,7 +70,7 @@ image_few laid m place bytes bounded is ty v image =
     omega (arith, long, size, same, order)
 
 -- The image of the memory that a run leaves, where one is asked for.
-pub image_made : {names : List (List ℕ)} (b : Bool) (p : ProgramTree) (o : Options) (input : List ℕ) (laid : LaidOut) (m : Memory) (place : Root) (s : StandsMeant p names o.depth input laid m.cells place)
+pub image_made : {names : TextsView} (b : Bool) (p : ProgramTree) (o : Options) (input : List ℕ) (laid : LaidOut) (m : Memory) (place : Root) (s : StandsMeant p names o.depth input laid m.cells place)
     → IsBounded m → laid ≡ layouts_of o.skips p → m.limit ≡ o.chunks → (file : Option (List ℕ)) → IsImageFile b laid (output_type p) m place s.result file
     → MakesImage b p names o.skips o.depth o.chunks input file
 image_made false p o input laid m place s bounded same limit file h = h
@@ -87,7 +88,7 @@ image_made true p o input laid m place s bounded same limit (Some bytes) h =
     }
 
 -- A text, and an image where one is asked for, end a run.
-pub shown_runs : (p : ProgramTree) (names : List (List ℕ)) (o : Options) (input : List ℕ) (laid : LaidOut) (m : Memory) (place : Root) (s : StandsMeant p names o.depth input laid m.cells place)
+pub shown_runs : (p : ProgramTree) (names : TextsView) (o : Options) (input : List ℕ) (laid : LaidOut) (m : Memory) (place : Root) (s : StandsMeant p names o.depth input laid m.cells place)
     → IsBounded m → laid ≡ layouts_of o.skips p → m.limit ≡ o.chunks → (b : Bool) → o.image ≡ b → (file : Option (List ℕ)) (e : KeptEnd) → IsShownWith b laid m place p names s.result file e → EndsBy file e (Runs p names o input)
 shown_runs p names o input laid m place s bounded same limit b asked file (ends.Prints text) h =
     let M : Bool → Type 0 = λ x. MakesImage x p names o.skips o.depth o.chunks input file in (
@@ -98,7 +99,7 @@ shown_runs p names o input laid m place s bounded same limit b asked file (ends.
 shown_runs p names o input laid m place s bounded same limit b asked file (ends.NoValue reason) h = absurd h
 
 -- A value in region memory ends one that is not.
-pub value_ends : (p : ProgramTree) (o : Options) (input : List ℕ) (value : Valued) → AreHeld value.ran.lowered.code.laid.table value.names → o.image ≡ false
+pub value_ends : (p : ProgramTree) (o : Options) (input : List ℕ) (value : Valued) → AreHeld value.ran.lowered.code.laid.table value.names.short → o.image ≡ false
     → StandsMeant p value.names o.depth input value.ran.lowered.code.laid (cells_of value.ran.memory) value.ran.root → EndsBy None (ends.Value value) (Runs p value.names o input)
 value_ends p o input value held off s =
     let M : Bool → Type 0 = λ b. MakesImage b p value.names o.skips o.depth o.chunks input None in (
@@ -109,7 +110,7 @@ value_ends p o input value held off s =
     )
 
 -- Want of memory is free to stop a run.
-pub memory_stops : {T : Type 0} (r : Result T Stop) (p : ProgramTree) (names : List (List ℕ)) (input : List ℕ) → IfErr r (λ stop. stop ≡ NoMemory) → IfErr r (IsRunStop p names input)
+pub memory_stops : {T : Type 0} (r : Result T Stop) (p : ProgramTree) (names : TextsView) (input : List ℕ) → IfErr r (λ stop. stop ≡ NoMemory) → IfErr r (IsRunStop p names input)
 memory_stops (Ok x) p names input h = tt {0}
 memory_stops (Err stop) p names input h = subst (IsRunStop p names input) (sym h) (tt {0})
 
@@ -120,7 +121,7 @@ text_kept old new got text e put g =
     g ∙ is ∙ ap (λ (l : List ℕ). l ++ text) e
 
 -- What stands in a memory stands in the same one.
-abbrev pub stands_again : {names : List (List ℕ)} (p : ProgramTree) (depth : ℕ) (input : List ℕ) (laid other : LaidOut) (m n : Memory) (place spot : Root) → other ≡ laid → n ≡ m → spot ≡ place
+abbrev pub stands_again : {names : TextsView} (p : ProgramTree) (depth : ℕ) (input : List ℕ) (laid other : LaidOut) (m n : Memory) (place spot : Root) → other ≡ laid → n ≡ m → spot ≡ place
     → StandsMeant p names depth input laid m.cells place → StandsMeant p names depth input other n.cells spot
 stands_again p depth input laid other m n place spot e f g s =
     let one = subst (λ (l : LaidOut). Stands l m.cells place (output_type p) s.result) (sym e) s.stands in
@@ -135,7 +136,7 @@ stands_again p depth input laid other m n place spot e f g s =
     }
 
 -- What is printed of a memory is what is printed of the same memory.
-pub text_moved : (p : ProgramTree) (depth : ℕ) (input : List ℕ) (names : List (List ℕ)) (text : List ℕ) (laid other : LaidOut) (m n : Memory) (place spot : Root) → other ≡ laid → n ≡ m → spot ≡ place
+pub text_moved : (p : ProgramTree) (depth : ℕ) (input : List ℕ) (names : TextsView) (text : List ℕ) (laid other : LaidOut) (m n : Memory) (place spot : Root) → other ≡ laid → n ≡ m → spot ≡ place
     → ((q : ProgramTree) (d : ℕ) (i : List ℕ) (s : StandsMeant q names d i other n.cells spot) → text ≡ text_line q names s.result)
     → (s : StandsMeant p names depth input laid m.cells place) → text ≡ text_line p names s.result
 text_moved p depth input names text laid other m n place spot e f g printed s = printed p depth input (stands_again p depth input laid other m n place spot e f g s)

@@ -1,4 +1,5 @@
 -- Inputs are refused for one fault, and then they are not accepted.
+use Rattle.gib_base.specs.Texts.{TextsView}
 use Rattle.std.proofs.Common.{◌≡◌, ◌∙◌, refl, Bool, true, false, ℕ, ◌≤◌, List, length, Err, inl, inr, sym, subst, ap, arith}
 use Rattle.gib_types.specs.declared.table.Ty.{Ty}
 use Rattle.gib_types.specs.Table.{Table}
@@ -104,12 +105,12 @@ one_file_fault : (table : Table) (names : List (List ℕ)) (ty : Ty) (bytes : Li
 one_file_fault table names ty bytes f g h k = one_stage table names ty bytes f g (stage table names ty bytes f h) (stage table names ty bytes g k)
 
 -- What a fault of a file that is shown says: it is one of a packed file, which is not too long.
-record IsShown (p : ProgramTree) (names : List (List ℕ)) (skips : Bool) (bytes : List ℕ) (fault : PackedFault) : Type 0 where
-  file : IsFileFault (table_of_program p) names (input_type p) bytes fault
+record IsShown (p : ProgramTree) (names : TextsView) (skips : Bool) (bytes : List ℕ) (fault : PackedFault) : Type 0 where
+  file : IsFileFault (table_of_program p) names.long (input_type p) bytes fault
   short : length bytes ≤ 268435480
   shorter : HasMagic bytes → length bytes ≤ 16777216
 
-shown : (p : ProgramTree) (names : List (List ℕ)) (skips : Bool) (bytes : List ℕ) (fault : PackedFault) → IsShowFault p names skips bytes (Packed fault) → IsShown p names skips bytes fault
+shown : (p : ProgramTree) (names : TextsView) (skips : Bool) (bytes : List ℕ) (fault : PackedFault) → IsShowFault p names skips bytes (Packed fault) → IsShown p names skips bytes fault
 shown p names skips bytes (Header header.Magic) h = record { file = h.1; short = h.0; shorter = λ m. absurd (h.1 m) }
 shown p names skips bytes (Header (header.Version v)) h = record { file = h.1; short = let s = h.0 in omega (arith, s); shorter = λ m. h.0 }
 shown p names skips bytes (Header header.Reserved) h = record { file = h.1; short = let s = h.0 in omega (arith, s); shorter = λ m. h.0 }
@@ -133,9 +134,9 @@ pub record Laws (table : Table) (names : List (List ℕ)) : Type 0 where
   pub no_image : ReadOrRefused
   pub one_place : (ty : Ty) (bytes : List ℕ) (a b : ℕ) → IsRefusedAt table names ty bytes a → IsRefusedAt table names ty bytes b → a ≡ b
 
-module _ (p : ProgramTree) (names : List (List ℕ)) (laws : Laws (table_of_program p) names) (skips : Bool) (bytes : List ℕ) where
-  one_packed : (f g : PackedFault) → IsFileFault (table_of_program p) names (input_type p) bytes f → IsFileFault (table_of_program p) names (input_type p) bytes g → Packed f ≡ Packed g
-  one_packed f g h k = ap Packed (one_file_fault (table_of_program p) names (input_type p) bytes f g h k)
+module _ (p : ProgramTree) (names : TextsView) (laws : Laws (table_of_program p) names.short) (skips : Bool) (bytes : List ℕ) where
+  one_packed : (f g : PackedFault) → IsFileFault (table_of_program p) names.long (input_type p) bytes f → IsFileFault (table_of_program p) names.long (input_type p) bytes g → Packed f ≡ Packed g
+  one_packed f g h k = ap Packed (one_file_fault (table_of_program p) names.long (input_type p) bytes f g h k)
 
   one_input : (f g : InputFault) → IsInputFault p names bytes f → IsInputFault p names bytes g → f ≡ g
   one_input (Long a) (Long b) h k = ap Long (h.0 ∙ sym k.0)
@@ -207,8 +208,8 @@ module _ (p : ProgramTree) (names : List (List ℕ)) (laws : Laws (table_of_prog
   one_show (Text place) g h k = absurd h
   one_show (Journal f) g h k = absurd h
 
-  none : (f : PackedFault) → IsFileFault (table_of_program p) names (input_type p) bytes f → (v : Datum) → File (table_of_program p) names (input_type p) v bytes → ⊥
-  none f h = no_file laws.headers laws.types laws.payloads (table_of_program p) names (input_type p) bytes f h
+  none : (f : PackedFault) → IsFileFault (table_of_program p) names.long (input_type p) bytes f → (v : Datum) → File (table_of_program p) names.long (input_type p) v bytes → ⊥
+  none f h = no_file laws.headers laws.types laws.payloads (table_of_program p) names.long (input_type p) bytes f h
 
   -- What is packed is refused for one fault.
 
@@ -246,7 +247,7 @@ module _ (p : ProgramTree) (names : List (List ℕ)) (laws : Laws (table_of_prog
 
   not_input : (f : InputFault) (v : Datum) → IsInputFault p names bytes f → IsInput p names v bytes → ⊥
   not_input (Long most) v h is = let many = h.1 in let short = is.short in omega (arith, many, short)
-  not_input (Packed f) v h is = no_file laws.headers laws.types laws.payloads (table_of_program p) names (input_type p) bytes f h.1 v is.file
+  not_input (Packed f) v h is = no_file laws.headers laws.types laws.payloads (table_of_program p) names.long (input_type p) bytes f h.1 v is.file
   not_input (Image f) v h is = h
   not_input (Text place) v h is = h
   not_input (Journal f) v h is = h
@@ -287,7 +288,7 @@ module _ (p : ProgramTree) (names : List (List ℕ)) (laws : Laws (table_of_prog
 abbrev NotEnabled : ProgramTree → ℕ → Datum → Settings → List Line → Type 0
 NotEnabled p n v settings lines = IsNotEnabled p v settings lines n
 
-module _ (p : ProgramTree) (names : List (List ℕ)) (laws : Laws (table_of_program p) names) (skips : Bool) (input bytes : List ℕ) where
+module _ (p : ProgramTree) (names : TextsView) (laws : Laws (table_of_program p) names.short) (skips : Bool) (input bytes : List ℕ) where
   no_packed : (f : InputFault) (v : Datum) → IsInputFault p names input f → IsInput p names v input → ⊥
   no_packed f v h is = not_input p names laws skips input f v h is
 
@@ -382,7 +383,7 @@ module _ (p : ProgramTree) (names : List (List ℕ)) (laws : Laws (table_of_prog
   not_replayed (Journal f) h k = no_journal h.0 f h.1 h.2 k
 
 -- The inputs of a job.
-module _ (p : ProgramTree) (names : List (List ℕ)) (laws : Laws (table_of_program p) names) (options : Options) (given : Contents) where
+module _ (p : ProgramTree) (names : TextsView) (laws : Laws (table_of_program p) names.short) (options : Options) (given : Contents) where
   pub one_refusal : (job : Job) (f g : InputFault) → Refuses job options p names given f → Refuses job options p names given g → f ≡ g
   one_refusal Run f g h k = one_input p names laws options.skips given.second f g h k
   one_refusal Plain f g h k = one_input p names laws options.skips given.second f g h k

@@ -1,4 +1,5 @@
 -- What the events of a journal leave, and why they leave nothing.
+use Rattle.gib_base.specs.Texts.{TextsView}
 use Rattle.std.proofs.Common.{◌≡◌, refl, Bool, ℕ, ◌≤◌, List, [], ◌∷◌, length, Option, None, Ok, Err, inl, inr, sym, subst, subst₂}
 use Rattle.gib_types.specs.Layout.{LaidOut}
 use Rattle.gib_types.specs.Tree.{Datum}
@@ -47,8 +48,8 @@ use Rattle.gib_app.proofs.Roots.{input_of}
 use Rattle.gib_app.proofs.Stopped.{stops_with}
 
 -- What the events leave.
-pub replayed_run : {names : List (List ℕ)} (p : ProgramTree) (input bytes : List ℕ) (s : Surveyed) (l : LoweredParts) (settings : Settings) (lines : List Line) (m : Memory) (a : Answer) → IsEngineOf p settings.skips l
-    → length input ≤ 16777216 → IsPacked s.table s.ty s.bytes s.count → ((v : Datum) → Packed s.table s.ty v s.bytes → File (table_of_program p) names (input_type p) v input)
+pub replayed_run : {names : TextsView} (p : ProgramTree) (input bytes : List ℕ) (s : Surveyed) (l : LoweredParts) (settings : Settings) (lines : List Line) (m : Memory) (a : Answer) → IsEngineOf p settings.skips l
+    → length input ≤ 16777216 → IsPacked s.table s.ty s.bytes s.count → ((v : Datum) → Packed s.table s.ty v s.bytes → File (table_of_program p) names.long (input_type p) v input)
     → IsJournal settings lines bytes → ((v : Datum) → Packed s.table s.ty v s.bytes → IsEndBy (engine_of l) v settings lines m a) → IsReplayed p names input bytes l.code.laid m a
 replayed_run p input bytes s l settings lines m a of short packed file is ends = record {
   value = packed.0;
@@ -61,17 +62,17 @@ replayed_run p input bytes s l settings lines m a of short packed file is ends =
 }
 
 -- The root stands for what the program means within the journal's depth.
-abbrev pub replayed_stands : {names : List (List ℕ)} (p : ProgramTree) (input bytes : List ℕ) (laid : LaidOut) (m : Memory) (a : Answer) (place : Root) (r : IsReplayed p names input bytes laid m a) → root_in a ≡ Ok place
+abbrev pub replayed_stands : {names : TextsView} (p : ProgramTree) (input bytes : List ℕ) (laid : LaidOut) (m : Memory) (a : Answer) (place : Root) (r : IsReplayed p names input bytes laid m a) → root_in a ≡ Ok place
     → StandsMeant p names r.settings.depth input laid m.cells place
 replayed_stands p input bytes laid m a place r there =
     stands_again p r.settings.depth input (layouts_of r.settings.skips p) laid m m place place r.laid_is refl refl (end_stands p input r.value r.settings r.lines m a place r.is_input r.ended there)
 
 -- So it is where the code and the memory were handed on.
-pub replayed_on : {names : List (List ℕ)} (p : ProgramTree) (input bytes : List ℕ) (laid other : LaidOut) (m n : Memory) (a : Answer) → other ≡ laid → n ≡ m → IsReplayed p names input bytes laid m a → IsReplayed p names input bytes other n a
+pub replayed_on : {names : TextsView} (p : ProgramTree) (input bytes : List ℕ) (laid other : LaidOut) (m n : Memory) (a : Answer) → other ≡ laid → n ≡ m → IsReplayed p names input bytes laid m a → IsReplayed p names input bytes other n a
 replayed_on {names} p input bytes laid other m n a e f r = subst₂ (λ (x : LaidOut) (y : Memory). IsReplayed p names input bytes x y a) (sym e) (sym f) r
 
 -- Where there is none, the program means none.
-pub replayed_none : (p : ProgramTree) (names : List (List ℕ)) (image : Bool) (input bytes : List ℕ) (laid : LaidOut) (m : Memory) (a : Answer) (why : Why) → IsReplayed p names input bytes laid m a → root_in a ≡ Err why
+pub replayed_none : (p : ProgramTree) (names : TextsView) (image : Bool) (input bytes : List ℕ) (laid : LaidOut) (m : Memory) (a : Answer) (why : Why) → IsReplayed p names input bytes laid m a → root_in a ≡ Err why
     → Replays p names image (record { second = input; further = bytes ∷ [] }) None (NoValue (reason.Meant why))
 replayed_none p names image input bytes laid m a why r nowhere =
     let over = end_stopped p r.value r.settings r.lines m a why r.ended nowhere in (
@@ -87,7 +88,7 @@ replayed_none p names image input bytes laid m a why r nowhere =
     )
 
 -- Its text, and its image where one is asked for, end a replay.
-pub shown_replays : (p : ProgramTree) (names : List (List ℕ)) (image : Bool) (input bytes : List ℕ) (laid : LaidOut) (m : Memory) (a : Answer) (place : Root) (r : IsReplayed p names input bytes laid m a)
+pub shown_replays : (p : ProgramTree) (names : TextsView) (image : Bool) (input bytes : List ℕ) (laid : LaidOut) (m : Memory) (a : Answer) (place : Root) (r : IsReplayed p names input bytes laid m a)
     (there : root_in a ≡ Ok place) (file : Option (List ℕ)) (e : KeptEnd) → IsShownWith image laid m place p names (replayed_stands p input bytes laid m a place r there).result file e
     → EndsBy file e (Replays p names image (record { second = input; further = bytes ∷ [] }))
 shown_replays p names image input bytes laid m a place r there file (ends.Prints text) h =
@@ -114,7 +115,7 @@ shown_replays p names image input bytes laid m a place r there file (ends.Value 
 shown_replays p names image input bytes laid m a place r there file (ends.NoValue why) h = absurd h
 
 -- Where no journal was read, its bytes are none.
-pub unread_replays : (p : ProgramTree) (names : List (List ℕ)) (image : Bool) (input : List ℕ) (file : Option (List ℕ)) (e : KeptEnd) → EndsBy file e (Replays p names image (record { second = input; further = [] ∷ [] }))
+pub unread_replays : (p : ProgramTree) (names : TextsView) (image : Bool) (input : List ℕ) (file : Option (List ℕ)) (e : KeptEnd) → EndsBy file e (Replays p names image (record { second = input; further = [] ∷ [] }))
     → EndsBy file e (Replays p names image (record { second = input; further = [] }))
 unread_replays p names image input file (ends.Prints text) h = h
 unread_replays p names image input file (ends.Value value) h = h
@@ -148,14 +149,14 @@ happens_or_open p v settings lines (inr (inl over)) k = over k.0
 happens_or_open p v settings lines (inr (inr h)) k = not_open (code_for p settings) (start_for p settings v) lines (start_alone p settings v) h.1 event.Full tt h.2 k.1
 
 -- The input is refused.
-refused_first : (p : ProgramTree) (names : List (List ℕ)) (input bytes : List ℕ) (fault : InputFault) → IsInputFault p names input fault → IsReplayFault p names input bytes fault
+refused_first : (p : ProgramTree) (names : TextsView) (input bytes : List ℕ) (fault : InputFault) → IsInputFault p names input fault → IsReplayFault p names input bytes fault
 refused_first p names input bytes (refusal.Long most) h = inl h
 refused_first p names input bytes (refusal.Packed fault) h = h
 refused_first p names input bytes (refusal.Image fault) h = h
 refused_first p names input bytes (refusal.Text place) h = h
 refused_first p names input bytes (refusal.Journal fault) h = absurd h
 
-pub refused_replay : (p : ProgramTree) (names : List (List ℕ)) (input bytes : List ℕ) (stop : Stop) → IsRunStop p names input stop → IsNotReplayed p names input bytes stop
+pub refused_replay : (p : ProgramTree) (names : TextsView) (input bytes : List ℕ) (stop : Stop) → IsRunStop p names input stop → IsNotReplayed p names input bytes stop
 refused_replay p names input bytes stop h =
     stops_with _ _ _ _ (λ fault k. (refused_first p names input bytes fault k.0, λ j. k.1 (j.value, j.is_input))) (λ why k. absurd k) stop h
 
@@ -164,7 +165,7 @@ pub line_is_told : (n : ℕ) → reading.Line n ≡ reading.Memory → ⊥
 line_is_told n e = cc
 
 -- The bytes are no journal.
-no_lines : {names : List (List ℕ)} (p : ProgramTree) (input bytes : List ℕ) (v : Datum) → IsInput p names v input → length bytes ≤ 16777216 → (fault : InputFault) → IsBadLine bytes fault → IsReplayFault p names input bytes fault
+no_lines : {names : TextsView} (p : ProgramTree) (input bytes : List ℕ) (v : Datum) → IsInput p names v input → length bytes ≤ 16777216 → (fault : InputFault) → IsBadLine bytes fault → IsReplayFault p names input bytes fault
 no_lines p input bytes v is few (refusal.Long most) h = absurd h
 no_lines p input bytes v is few (refusal.Packed fault) h = absurd h
 no_lines p input bytes v is few (refusal.Image fault) h = absurd h
@@ -173,14 +174,14 @@ no_lines p input bytes v is few (refusal.Journal (journal.Line n)) h = (v, is, (
 no_lines p input bytes v is few (refusal.Journal (journal.NotEnabled n)) h = absurd h
 no_lines p input bytes v is few (refusal.Journal journal.NotEnded) h = absurd h
 
-pub no_journal : {names : List (List ℕ)} (p : ProgramTree) (input bytes : List ℕ) (s : Surveyed) → length input ≤ 16777216 → IsPacked s.table s.ty s.bytes s.count
-    → ((v : Datum) → Packed s.table s.ty v s.bytes → File (table_of_program p) names (input_type p) v input) → length bytes ≤ 16777216 → (stop : Stop) → IsNoJournal bytes stop → IsNotReplayed p names input bytes stop
-no_journal p input bytes s short packed file few stop h =
-    let is = input_of p input s short file packed.0 packed.1 in
+pub no_journal : (names : TextsView) (p : ProgramTree) (input bytes : List ℕ) (s : Surveyed) → length input ≤ 16777216 → IsPacked s.table s.ty s.bytes s.count
+    → ((v : Datum) → Packed s.table s.ty v s.bytes → File (table_of_program p) names.long (input_type p) v input) → length bytes ≤ 16777216 → (stop : Stop) → IsNoJournal bytes stop → IsNotReplayed p names input bytes stop
+no_journal names p input bytes s short packed file few stop h =
+    let is = input_of {names = names} p input s short file packed.0 packed.1 in
     stops_with _ _ _ _ (λ fault k. (no_lines p input bytes packed.0 is few fault k.0, λ j. k.1 j.settings j.lines j.is_journal.are j.is_journal.text_is)) (λ why k. absurd k) stop h
 
 -- Its events lead to no end.
-module _ {names : List (List ℕ)} (one : OneValue) (p : ProgramTree) (input bytes : List ℕ) (v : Datum) (is : IsInput p names v input) (settings : Settings) (lines : List Line) (is_journal : IsJournal settings lines bytes) where
+module _ {names : TextsView} (one : OneValue) (p : ProgramTree) (input bytes : List ℕ) (v : Datum) (is : IsInput p names v input) (settings : Settings) (lines : List Line) (is_journal : IsJournal settings lines bytes) where
   on : (P : Datum → Settings → List Line → Type 0) → P v settings lines → OnJournal p names input bytes P
   on P h = record { value = v; settings = settings; lines = lines; is_input = is; is_journal = is_journal; holds = h }
 
@@ -212,10 +213,10 @@ module _ {names : List (List ℕ)} (one : OneValue) (p : ProgramTree) (input byt
   ends_nowhere : (stop : Stop) → StopsTo (engine_for p settings.skips) v settings lines stop → IsNotReplayed p names input bytes stop
   ends_nowhere stop h = stops_with _ _ _ _ never full stop h
 
-pub replay_stops : {names : List (List ℕ)} → OneValue → (p : ProgramTree) (input bytes : List ℕ) (s : Surveyed) (l : LoweredParts) (settings : Settings) (lines : List Line) → IsEngineOf p settings.skips l → length input ≤ 16777216
-    → IsPacked s.table s.ty s.bytes s.count → ((v : Datum) → Packed s.table s.ty v s.bytes → File (table_of_program p) names (input_type p) v input) → IsJournal settings lines bytes → (stop : Stop)
+pub replay_stops : (names : TextsView) → OneValue → (p : ProgramTree) (input bytes : List ℕ) (s : Surveyed) (l : LoweredParts) (settings : Settings) (lines : List Line) → IsEngineOf p settings.skips l → length input ≤ 16777216
+    → IsPacked s.table s.ty s.bytes s.count → ((v : Datum) → Packed s.table s.ty v s.bytes → File (table_of_program p) names.long (input_type p) v input) → IsJournal settings lines bytes → (stop : Stop)
     → ((v : Datum) → Packed s.table s.ty v s.bytes → StopsTo (engine_of l) v settings lines stop) → IsNotReplayed p names input bytes stop
-replay_stops one p input bytes s l settings lines of short packed file is_journal stop ends =
-    let is = input_of p input s short file packed.0 packed.1 in
+replay_stops names one p input bytes s l settings lines of short packed file is_journal stop ends =
+    let is = input_of {names = names} p input s short file packed.0 packed.1 in
     ends_nowhere one p input bytes packed.0 is settings lines is_journal stop
     (subst (λ (e : Engine). StopsTo e packed.0 settings lines stop) (same_engine p settings.skips l of) (ends packed.0 packed.1))

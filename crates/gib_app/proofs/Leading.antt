@@ -1,4 +1,5 @@
 -- From what workers or a journal leave to what the program means.
+use Rattle.gib_base.specs.Texts.{TextsView}
 use Rattle.std.proofs.Common.{◌≡◌, ◌∙◌, refl, Bool, ℕ, ◌≤◌, List, length, Result, Ok, Err, true, ap, sym, subst, subst₂}
 use Rattle.gib_types.specs.Layout.{LaidOut}
 use Rattle.gib_types.specs.Tree.{Datum}
@@ -76,7 +77,7 @@ end_meant p l v settings lines m a of h =
     }
 
 -- The root that is the answer stands for what the program means.
-abbrev pub end_stands : {names : List (List ℕ)} (p : ProgramTree) (input : List ℕ) (v : Datum) (settings : Settings) (lines : List Line) (m : Memory) (a : Answer) (place : Root) → IsInput p names v input
+abbrev pub end_stands : {names : TextsView} (p : ProgramTree) (input : List ℕ) (v : Datum) (settings : Settings) (lines : List Line) (m : Memory) (a : Answer) (place : Root) → IsInput p names v input
     → IsEndOf p v settings lines m a → root_in a ≡ Ok place → StandsMeant p names settings.depth input (layouts_of settings.skips p) m.cells place
 end_stands p input v settings lines m a place is ended there =
     let laid = layouts_of settings.skips p in
@@ -119,8 +120,8 @@ full_tight core v o settings limit set enough h =
     let one = subst (λ (n : ℕ). Tight n (run_cost core settings.depth settings.fork v)) enough h in
     subst₂ (λ (d f : ℕ). Tight o.chunks (run_cost core d f v)) set.depth set.fork one
 
-pub traced_run : {names : List (List ℕ)} (p : ProgramTree) (o : Options) (input : List ℕ) (s : Surveyed) (l : LoweredParts) (settings : Settings) (lines : List Line) (m : Memory) (a : Answer) → IsEngineOf p o.skips l
-    → length input ≤ 16777216 → IsPacked s.table s.ty s.bytes s.count → ((v : Datum) → Packed s.table s.ty v s.bytes → File (table_of_program p) names (input_type p) v input) → IsSetBy o settings
+pub traced_run : {names : TextsView} (p : ProgramTree) (o : Options) (input : List ℕ) (s : Surveyed) (l : LoweredParts) (settings : Settings) (lines : List Line) (m : Memory) (a : Answer) → IsEngineOf p o.skips l
+    → length input ≤ 16777216 → IsPacked s.table s.ty s.bytes s.count → ((v : Datum) → Packed s.table s.ty v s.bytes → File (table_of_program p) names.long (input_type p) v input) → IsSetBy o settings
     → ((v : Datum) → Packed s.table s.ty v s.bytes → IsEndBy (engine_of l) v settings lines m a) → IsTraced p names o input settings lines m a
 traced_run p o input s l settings lines m a of short packed file set ends =
     let there : IsEngineOf p settings.skips l = subst (λ (b : Bool). IsEngineOf p b l) (sym set.skips) of in
@@ -131,36 +132,36 @@ traced_run p o input s l settings lines m a of short packed file set ends =
       ended = end_meant p l packed.0 settings lines m a there (ends packed.0 packed.1);
     }
 
-pub traced_stops : {names : List (List ℕ)} (p : ProgramTree) (o : Options) (input : List ℕ) (s : Surveyed) (l : LoweredParts) → IsEngineOf p o.skips l
-    → length input ≤ 16777216 → IsPacked s.table s.ty s.bytes s.count → ((v : Datum) → Packed s.table s.ty v s.bytes → File (table_of_program p) names (input_type p) v input) → (stop : Stop)
+pub traced_stops : (names : TextsView) (p : ProgramTree) (o : Options) (input : List ℕ) (s : Surveyed) (l : LoweredParts) → IsEngineOf p o.skips l
+    → length input ≤ 16777216 → IsPacked s.table s.ty s.bytes s.count → ((v : Datum) → Packed s.table s.ty v s.bytes → File (table_of_program p) names.long (input_type p) v input) → (stop : Stop)
     → ((v : Datum) → Packed s.table s.ty v s.bytes → IsWorkersStop (Tight o.chunks (run_cost (core_of l.core) o.depth o.fork v)) stop) → IsTraceStop p names o input stop
-traced_stops {names} p o input s l of short packed file stop ends = stops_with _ _ _ _ (λ fault h. absurd h) fills stop (ends packed.0 packed.1)
+traced_stops names p o input s l of short packed file stop ends = stops_with _ _ _ _ (λ fault h. absurd h) fills stop (ends packed.0 packed.1)
   where
     fills : (why : Reason) → OnlyFull (Tight o.chunks (run_cost (core_of l.core) o.depth o.fork packed.0)) why → OnlyFull (FillsUp p names o.skips o.depth o.fork o.chunks input) why
     fills (reason.Meant other) h = h
     fills reason.Long h = absurd h
     fills reason.Full h = record {
       value = packed.0;
-      is_input = input_of p input s short file packed.0 packed.1;
+      is_input = input_of {names = names} p input s short file packed.0 packed.1;
       tight = subst (λ (c : CoreTree). Tight o.chunks (run_cost c o.depth o.fork packed.0)) of.core h;
     }
 
 -- Where the input is refused, no worker runs.
-pub refused_trace : (p : ProgramTree) (names : List (List ℕ)) (o : Options) (input : List ℕ) (stop : Stop) → IsRunStop p names input stop → IsTraceStop p names o input stop
+pub refused_trace : (p : ProgramTree) (names : TextsView) (o : Options) (input : List ℕ) (stop : Stop) → IsRunStop p names input stop → IsTraceStop p names o input stop
 refused_trace p names o input stop h = stops_with _ _ _ _ (λ fault h. h) (λ why h. absurd h) stop h
 
-pub traced_stands : {names : List (List ℕ)} (p : ProgramTree) (o : Options) (input : List ℕ) (settings : Settings) (lines : List Line) (m : Memory) (a : Answer) (place : Root) → IsTraced p names o input settings lines m a
+pub traced_stands : {names : TextsView} (p : ProgramTree) (o : Options) (input : List ℕ) (settings : Settings) (lines : List Line) (m : Memory) (a : Answer) (place : Root) → IsTraced p names o input settings lines m a
     → root_in a ≡ Ok place → StandsMeant p names o.depth input (layouts_of o.skips p) m.cells place
 traced_stands {names} p o input settings lines m a place h there =
     subst₂ (λ (d : ℕ) (b : Bool). StandsMeant p names d input (layouts_of b p) m.cells place) h.set.depth h.set.skips (end_stands p input h.value settings lines m a place h.is_input h.ended there)
 
 -- So it is where the code and the memory were handed on.
-pub ran_stands : {names : List (List ℕ)} (p : ProgramTree) (o : Options) (input : List ℕ) (settings : Settings) (lines : List Line) (m n : Memory) (a : Answer) (other : LaidOut) (place : Root) → IsTraced p names o input settings lines m a
+pub ran_stands : {names : TextsView} (p : ProgramTree) (o : Options) (input : List ℕ) (settings : Settings) (lines : List Line) (m n : Memory) (a : Answer) (other : LaidOut) (place : Root) → IsTraced p names o input settings lines m a
     → other ≡ layouts_of o.skips p → n ≡ m → root_in a ≡ Ok place → StandsMeant p names o.depth input other n.cells place
 ran_stands p o input settings lines m n a other place h e f there =
     stands_again p o.depth input (layouts_of o.skips p) other m n place place e f refl (traced_stands p o input settings lines m a place h there)
 
-pub traced_none : {names : List (List ℕ)} (p : ProgramTree) (o : Options) (input : List ℕ) (settings : Settings) (lines : List Line) (m : Memory) (a : Answer) (other : Why) → IsTraced p names o input settings lines m a → root_in a ≡ Err other
+pub traced_none : {names : TextsView} (p : ProgramTree) (o : Options) (input : List ℕ) (settings : Settings) (lines : List Line) (m : Memory) (a : Answer) (other : Why) → IsTraced p names o input settings lines m a → root_in a ≡ Err other
     → MeansNone p names o.depth input (means_why other)
 traced_none p o input settings lines m a other h nowhere = record {
   value = h.value;
@@ -169,7 +170,7 @@ traced_none p o input settings lines m a other h nowhere = record {
 }
 
 -- The text of the journal of such a run is a trace.
-pub trace_of : {names : List (List ℕ)} (p : ProgramTree) (o : Options) (input bytes : List ℕ) (settings : Settings) (lines : List Line) (m : Memory) (a : Answer) → IsTraced p names o input settings lines m a → are_lines lines ≡ true
+pub trace_of : {names : TextsView} (p : ProgramTree) (o : Options) (input bytes : List ℕ) (settings : Settings) (lines : List Line) (m : Memory) (a : Answer) → IsTraced p names o input settings lines m a → are_lines lines ≡ true
     → bytes ≡ journal_text settings lines → IsTrace p names o input bytes
 trace_of p o input bytes settings lines m a h are is = record {
   value = h.value;

@@ -1,3 +1,4 @@
+mod SpelledNames
 mod Held
 mod Told
 mod Doing
@@ -38,3 +39,6 @@ mod JournalEnds
 mod Loads
 mod Repeating
 mod Ranges
+mod Shown
+mod Copied
+mod Compiling

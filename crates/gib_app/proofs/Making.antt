@@ -1,4 +1,5 @@
 -- From the parts of making to the whole.
+use Rattle.gib_base.specs.Texts.{TextsView}
 use Rattle.std.proofs.Common.{◌≡◌, ◌∙◌, Bool, refl, ap, ℕ, ◌<◌, ◌≤◌, List, [], ◌∷◌, length, Option, Some, None, MatchOption, option_map, option_to_list, subst, sym, inl, inr, arith}
 use Rattle.std.specs.Option.{option_map_or}
 use Rattle.gib_edge.specs.Causes.{Rose}
@@ -20,44 +21,43 @@ use Rattle.gib_app.specs.declared.plan.Job.{Job}
 use Rattle.gib_app.specs.declared.plan.Options.{Options}
 use Rattle.gib_app.specs.declared.plan.Job.TheVariants.{Run, Plain, Check, Core, Code, Pack, Show, Gen, Trace, Replay}
 use Rattle.gib_app.specs.Plan.{Document, BuiltIn, Named, Plan, Files, Contents}
-use Rattle.gib_app.specs.Running.{IsInput, IsSource, IsNoProgram}
+use Rattle.gib_app.specs.Running.{IsProgram, IsInput, IsSource, IsNoProgram}
 use Rattle.gib_app.specs.SourceFaults.{IsSourceFault}
 use Rattle.gib_app.specs.InputFaults.{IsInputFault, IsReplayFault}
 use Rattle.gib_app.specs.Formats.{format_of, inputs_of, limits_of, most_of, with_limits, Accepts, Refuses}
 use Rattle.gib_app.specs.Formats.{Input as PlanInput}
 use Rattle.gib_app.specs.Causes.{Holds, AreFurther, AreGiven, AreReached, OnSource, OnBoth, OnReached, IsUnread, AreUnread, FailsToRead, TakesFirst, first_of, further_of}
-use Rattle.gib_app.specs.Stops.{IsCompiled, IsCompileStop, IsReadStop, IsSourceStop, IsInputStop, IsLongFurther, IsFurtherStop, IsInputsStop, IsPackedStop, IsRunStop, FailsTo, IsMakeStop, IsStop}
+use Rattle.gib_app.specs.Stops.{IsCompileStop, IsReadStop, IsSourceStop, IsInputStop, IsLongFurther, IsFurtherStop, IsInputsStop, IsPackedStop, IsRunStop, FailsTo, IsMakeStop, IsStop}
 use Rattle.gib_app.specs.Writes.{at_reading}
 use Rattle.gib_app.proofs.Told.{document_before, further_before, held_before}
 use Rattle.gib_app.proofs.Doing.{shown_short}
 use Rattle.gib_app.proofs.Refusals.{run_stop}
 
 -- what holds of the compiled program and the inputs holds of the plan's files
-pub on_both : (kept : Files) (r : Plan) (d : Document) (p : ProgramTree) (names : List (List ℕ)) (given : Contents) (P : ProgramTree → List (List ℕ) → Contents → Type 0) → d ≡ r.source →
-    OnSource kept d (λ source. IsCompiled source p names) → AreGiven kept (inputs_of r) given → P p names given → OnBoth kept r P
+pub on_both : (kept : Files) (r : Plan) (d : Document) (p : ProgramTree) (names : TextsView) (given : Contents) (P : ProgramTree → TextsView → Contents → Type 0) → d ≡ r.source →
+    OnSource kept d (λ source. IsProgram source names p) → AreGiven kept (inputs_of r) given → P p names given → OnBoth kept r P
 on_both kept r d p names given P e on held h =
     let H : Document → Type 0 = λ x. Holds kept x on.source in
-    let N : List (List ℕ) → Type 0 = λ ns. P p ns given in
     record {
       source = on.source;
       given = given;
       source_held = subst H e on.source_held;
       given_held = held;
-      holds = record { lexed = on.holds.lexed; program = p; is_program = on.holds.is_program; holds = subst N on.holds.same h };
+      holds = record { texts = names; program = p; is_program = on.holds; holds = h };
     }
 
-source_here : (kept : Files) (r : Plan) (d : Document) (p : ProgramTree) (names : List (List ℕ)) → d ≡ r.source → OnSource kept d (λ source. IsCompiled source p names) → OnSource kept r.source IsSource
+source_here : (kept : Files) (r : Plan) (d : Document) (p : ProgramTree) (names : TextsView) → d ≡ r.source → OnSource kept d (λ source. IsProgram source names p) → OnSource kept r.source IsSource
 source_here kept r d p names e on =
     let H : Document → Type 0 = λ x. Holds kept x on.source in
-    record { source = on.source; source_held = subst H e on.source_held; holds = (on.holds.lexed, p, on.holds.is_program) }
+    record { source = on.source; source_held = subst H e on.source_held; holds = (names, p, on.holds) }
 
 -- inputs that are given are reached
-pub reached_all : (kept : Files) (p : ProgramTree) (names : List (List ℕ)) (is : List PlanInput) (given : Contents) → AreGiven kept is given → AreReached kept p names is given
+pub reached_all : (kept : Files) (p : ProgramTree) (names : TextsView) (is : List PlanInput) (given : Contents) → AreGiven kept is given → AreReached kept p names is given
 reached_all kept p names [] given h = h
 reached_all kept p names (i ∷ is) given h = (h.0, λ taken. h.1)
 
 -- the first one is, where it is refused
-reached_first : {names : List (List ℕ)} (kept : Files) (p : ProgramTree) (is : List PlanInput) (first : List ℕ) → (((v : Datum) × IsInput p names v first) → ⊥) → AreGiven kept (first_of is) (record { second = first; further = [] }) →
+reached_first : {names : TextsView} (kept : Files) (p : ProgramTree) (is : List PlanInput) (first : List ℕ) → (((v : Datum) × IsInput p names v first) → ⊥) → AreGiven kept (first_of is) (record { second = first; further = [] }) →
     AreReached kept p names is (record { second = first; further = [] })
 reached_first kept p [] first not' h = h
 reached_first kept p (i ∷ is) first not' h = (h.0, λ taken. absurd (not' taken))
@@ -73,17 +73,15 @@ pub inputs_given : (kept mid : Files) (is : List PlanInput) (first : List ℕ) (
     AreFurther mid (further_of is) further → AreGiven kept is (record { second = first; further = further })
 inputs_given kept mid is first further same h k = joined kept is first further h (further_before kept mid (further_of is) further same k)
 
-pub on_reached : (kept : Files) (r : Plan) (d : Document) (p : ProgramTree) (names : List (List ℕ)) (given : Contents) (P : ProgramTree → List (List ℕ) → Contents → Type 0) → d ≡ r.source →
-    OnSource kept d (λ source. IsCompiled source p names) → AreReached kept p names (inputs_of r) given → P p names given → OnReached kept r P
+pub on_reached : (kept : Files) (r : Plan) (d : Document) (p : ProgramTree) (names : TextsView) (given : Contents) (P : ProgramTree → TextsView → Contents → Type 0) → d ≡ r.source →
+    OnSource kept d (λ source. IsProgram source names p) → AreReached kept p names (inputs_of r) given → P p names given → OnReached kept r P
 on_reached kept r d p names given P e on reached h =
     let H : Document → Type 0 = λ x. Holds kept x on.source in
-    let N : List (List ℕ) → Type 0 = λ ns. P p ns given in
-    let A : List (List ℕ) → Type 0 = λ ns. AreReached kept p ns (inputs_of r) given in
     record {
       source = on.source;
       given = given;
       source_held = subst H e on.source_held;
-      holds = record { lexed = on.holds.lexed; program = p; is_program = on.holds.is_program; holds = (subst A on.holds.same reached, subst N on.holds.same h) };
+      holds = record { texts = names; program = p; is_program = on.holds; holds = (reached, h) };
     }
 
 -- why a source is not read, or not compiled
@@ -198,11 +196,11 @@ module _ (o : Option KeptInput) (r : Plan) (same : option_to_list (option_map in
   first_short i e first few = let P : Job → Type 0 = λ job. length first ≤ most_of job in subst P (replays i e) few
 
   -- it was looked over, and is a packed file
-  pub first_taken : {names : List (List ℕ)} (i : KeptInput) → o ≡ Some i → (p : ProgramTree) (first : List ℕ) (table : Table) (ty : Ty) (payload : List ℕ) → length first ≤ most_of r.job → ((v : Datum) × Packed table ty v payload) →
-      ((v : Datum) → Packed table ty v payload → File (table_of_program p) names (input_type p) v first) → (v : Datum) × IsInput p names v first
+  pub first_taken : {names : TextsView} (i : KeptInput) → o ≡ Some i → (p : ProgramTree) (first : List ℕ) (table : Table) (ty : Ty) (payload : List ℕ) → length first ≤ most_of r.job → ((v : Datum) × Packed table ty v payload) →
+      ((v : Datum) → Packed table ty v payload → File (table_of_program p) names.long (input_type p) v first) → (v : Datum) × IsInput p names v first
   first_taken i e p first table ty payload few packed file = (packed.0, record { short = first_short i e first few; file = file packed.0 packed.1 })
 
-  pub long_further : {names : List (List ℕ)} (before now : ShelfView) (i : KeptInput) → o ≡ Some i → i.most ≡ 16777216 → (p : ProgramTree) (first : List ℕ) → ((v : Datum) × IsInput p names v first) →
+  pub long_further : {names : TextsView} (before now : ShelfView) (i : KeptInput) → o ≡ Some i → i.most ≡ 16777216 → (p : ProgramTree) (first : List ℕ) → ((v : Datum) × IsInput p names v first) →
       OnSource before.kept (document_of i.document) (λ bytes. i.most < length bytes) → IsFurtherStop before now r p names first (Input (input.Long i.most))
   long_further before now i e most p first taken on = inr (record {
     is = ap (λ n. input.Long n) most;
@@ -213,7 +211,7 @@ module _ (o : Option KeptInput) (r : Plan) (same : option_to_list (option_map in
   })
 
   -- why it is not read: the first one is refused
-  refused_first : (before now : ShelfView) (i : KeptInput) → o ≡ Some i → (p : ProgramTree) (names : List (List ℕ)) (first : List ℕ) (stop : Stop) → IsRunStop p names first stop → IsFurtherStop before now r p names first stop
+  refused_first : (before now : ShelfView) (i : KeptInput) → o ≡ Some i → (p : ProgramTree) (names : TextsView) (first : List ℕ) (stop : Stop) → IsRunStop p names first stop → IsFurtherStop before now r p names first stop
   refused_first before now i e p names first Usage h = h
   refused_first before now i e p names first (Source fault) h = h
   refused_first before now i e p names first (Unread name) h = absurd h
@@ -223,12 +221,12 @@ module _ (o : Option KeptInput) (r : Plan) (same : option_to_list (option_map in
   refused_first before now i e p names first (Unwritten name) h = h
   refused_first before now i e p names first Unput h = h
 
-  pub unsurveyed : (before now : ShelfView) (i : KeptInput) → o ≡ Some i → (p : ProgramTree) (names : List (List ℕ)) (first : List ℕ) (stop : Stop) → length first ≤ most_of r.job →
-      IsPackedStop (table_of_program p) names (input_type p) first stop → IsFurtherStop before now r p names first stop
+  pub unsurveyed : (before now : ShelfView) (i : KeptInput) → o ≡ Some i → (p : ProgramTree) (names : TextsView) (first : List ℕ) (stop : Stop) → length first ≤ most_of r.job →
+      IsPackedStop (table_of_program p) names.long (input_type p) first stop → IsFurtherStop before now r p names first stop
   unsurveyed before now i e p names first stop few h = refused_first before now i e p names first stop (run_stop p names first (first_short i e first few) stop h)
 
   -- or its own file is not read
-  pub read_further_stop : {names : List (List ℕ)} (before now : ShelfView) (i : KeptInput) → o ≡ Some i → (p : ProgramTree) (first : List ℕ) → ((v : Datum) × IsInput p names v first) → (stop : Stop) →
+  pub read_further_stop : {names : TextsView} (before now : ShelfView) (i : KeptInput) → o ≡ Some i → (p : ProgramTree) (first : List ℕ) → ((v : Datum) × IsInput p names v first) → (stop : Stop) →
       IsReadStop before now (document_of i.document) stop → IsFurtherStop before now r p names first stop
   read_further_stop before now i e p first taken Usage h = h
   read_further_stop before now i e p first taken (Source fault) h = h
@@ -256,17 +254,17 @@ inputs_unread_before before mid now (i ∷ is) name e (inr h) = inr (inputs_unre
 
 -- a first input that is too long is refused, and what is behind it is not reached
 
-record IsLongFirst (kept : Files) (job : Job) (options : Options) (documents : List Document) (p : ProgramTree) (names : List (List ℕ)) (given : Contents) : Type 0 where
+record IsLongFirst (kept : Files) (job : Job) (options : Options) (documents : List Document) (p : ProgramTree) (names : TextsView) (given : Contents) : Type 0 where
   reached : AreReached kept p names (with_limits (option_map_or limits_of (format_of job) []) documents) given
   refused : Refuses job options p names given (input.Long (most_of job))
   not_accepted : Accepts job options p names given → ⊥
 
-long_reached : (kept : Files) (p : ProgramTree) (names : List (List ℕ)) (most : ℕ) (limits : List ℕ) (documents : List Document) (given : Contents) → 16777216 ≤ most → most < length given.second →
+long_reached : (kept : Files) (p : ProgramTree) (names : TextsView) (most : ℕ) (limits : List ℕ) (documents : List Document) (given : Contents) → 16777216 ≤ most → most < length given.second →
     AreGiven kept (first_of (with_limits (most ∷ limits) documents)) given → AreReached kept p names (with_limits (most ∷ limits) documents) given
 long_reached kept p names most limits [] given room many h = h
 long_reached kept p names most limits (d ∷ documents) given room many h = (h.0, λ taken. let short = taken.1.short in absurd (omega (arith, room, many, short)))
 
-module _ (kept : Files) (options : Options) (documents : List Document) (p : ProgramTree) (names : List (List ℕ)) (given : Contents) where
+module _ (kept : Files) (options : Options) (documents : List Document) (p : ProgramTree) (names : TextsView) (given : Contents) where
   long_packed : (most : ℕ) → 16777216 ≤ most → most < length given.second → (v : Datum) → IsInput p names v given.second → ⊥
   long_packed most room many v is = let short = is.short in omega (arith, room, many, short)
 
@@ -311,7 +309,7 @@ module _ (kept : Files) (options : Options) (documents : List Document) (p : Pro
     not_accepted = λ a. long_packed 16777216 (omega arith) many a.value a.is_input;
   }
 
-pub first_stops : (before now : ShelfView) (r : Plan) (p : ProgramTree) (names : List (List ℕ)) (stop : Stop) → IsInputStop before now r stop → IsInputsStop before now r p names stop
+pub first_stops : (before now : ShelfView) (r : Plan) (p : ProgramTree) (names : TextsView) (stop : Stop) → IsInputStop before now r stop → IsInputsStop before now r p names stop
 first_stops before now r p names Usage h = h
 first_stops before now r p names (Source fault) h = h
 first_stops before now r p names (Unread name) h = inl h
@@ -325,14 +323,14 @@ first_stops before now r p names (Unwritten name) h = h
 first_stops before now r p names Unput h = h
 
 -- a replay whose first input is refused
-replay_fault : (p : ProgramTree) (names : List (List ℕ)) (first journal : List ℕ) (fault : InputFault) → IsInputFault p names first fault → IsReplayFault p names first journal fault
+replay_fault : (p : ProgramTree) (names : TextsView) (first journal : List ℕ) (fault : InputFault) → IsInputFault p names first fault → IsReplayFault p names first journal fault
 replay_fault p names first journal (input.Long most) h = inl h
 replay_fault p names first journal (input.Packed fault) h = h
 replay_fault p names first journal (input.Image fault) h = h
 replay_fault p names first journal (input.Text place) h = h
 replay_fault p names first journal (input.Journal fault) h = absurd h
 
-module _ (before mid now : ShelfView) (r : Plan) (p : ProgramTree) (names : List (List ℕ)) (first : List ℕ)
+module _ (before mid now : ShelfView) (r : Plan) (p : ProgramTree) (names : TextsView) (first : List ℕ)
     (same : (name : List ℕ) → mid.kept name ≡ before.kept name) (reads : (name : List ℕ) → mid.reads name ≡ before.reads name)
     (held : AreGiven before.kept (first_of (inputs_of r)) (record { second = first; further = [] })) where
   refused_there : (fault : InputFault) → (r.job ≡ Replay) × IsInputFault p names first fault × (((v : Datum) × IsInput p names v first) → ⊥) → IsInputsStop before now r p names (Input fault)
@@ -366,7 +364,7 @@ module _ (before mid now : ShelfView) (r : Plan) (p : ProgramTree) (names : List
   further_stops Unput h = h
 
 -- what a job does not make of its inputs
-pub job_stop : (before now : ShelfView) (r : Plan) (p : ProgramTree) (names : List (List ℕ)) (given : Contents) → OnSource before.kept r.source (λ source. IsCompiled source p names) →
+pub job_stop : (before now : ShelfView) (r : Plan) (p : ProgramTree) (names : TextsView) (given : Contents) → OnSource before.kept r.source (λ source. IsProgram source names p) →
     AreGiven before.kept (inputs_of r) given → (stop : Stop) → FailsTo r.job r.options p names given stop → IsMakeStop before now r stop
 job_stop before now r p names given on held Usage h = h
 job_stop before now r p names given on held (Source fault) h = absurd h
@@ -393,25 +391,24 @@ source_stop before now r d e (Unwritten name) h = absurd h
 source_stop before now r d e Unput h = h
 
 -- what the inputs are in a later view, they are in the one before
-reached_before : (kept now : Files) (p : ProgramTree) (names : List (List ℕ)) (is : List PlanInput) (given : Contents) → ((name : List ℕ) → now name ≡ kept name) → AreReached now p names is given → AreReached kept p names is given
+reached_before : (kept now : Files) (p : ProgramTree) (names : TextsView) (is : List PlanInput) (given : Contents) → ((name : List ℕ) → now name ≡ kept name) → AreReached now p names is given → AreReached kept p names is given
 reached_before kept now p names [] given e h = h
 reached_before kept now p names (i ∷ is) given e h = (document_before kept now i.document given.second e h.0, λ taken. further_before kept now is given.further e (h.1 taken))
 
-takes_first : (kept mid : Files) (r : Plan) (d : Document) (p : ProgramTree) (names : List (List ℕ)) → d ≡ r.source → ((name : List ℕ) → mid name ≡ kept name) → OnSource kept d (λ source. IsCompiled source p names) →
+takes_first : (kept mid : Files) (r : Plan) (d : Document) (p : ProgramTree) (names : TextsView) → d ≡ r.source → ((name : List ℕ) → mid name ≡ kept name) → OnSource kept d (λ source. IsProgram source names p) →
     ((given : Contents) × AreGiven mid (first_of (inputs_of r)) given × ((v : Datum) × IsInput p names v given.second)) → TakesFirst kept r
 takes_first kept mid r d p names e same on h =
     let H : Document → Type 0 = λ x. Holds kept x on.source in
-    let I : List (List ℕ) → Type 0 = λ ns. (v : Datum) × IsInput p ns v h.0.second in
     record {
       source = on.source;
       given = h.0;
       source_held = subst H e on.source_held;
       given_held = held_before kept mid (first_of (inputs_of r)) h.0 same h.1;
-      holds = record { lexed = on.holds.lexed; program = p; is_program = on.holds.is_program; holds = subst I on.holds.same h.2 };
+      holds = record { texts = names; program = p; is_program = on.holds; holds = h.2 };
     }
 
-module _ (before mid now : ShelfView) (r : Plan) (d : Document) (p : ProgramTree) (names : List (List ℕ)) (e : d ≡ r.source)
-    (same : (name : List ℕ) → mid.kept name ≡ before.kept name) (reads : (name : List ℕ) → mid.reads name ≡ before.reads name) (on : OnSource before.kept d (λ source. IsCompiled source p names)) where
+module _ (before mid now : ShelfView) (r : Plan) (d : Document) (p : ProgramTree) (names : TextsView) (e : d ≡ r.source)
+    (same : (name : List ℕ) → mid.kept name ≡ before.kept name) (reads : (name : List ℕ) → mid.reads name ≡ before.reads name) (on : OnSource before.kept d (λ source. IsProgram source names p)) where
   pub inputs_stop : (stop : Stop) → IsInputsStop mid now r p names stop → IsMakeStop before now r stop
   inputs_stop Usage h = h
   inputs_stop (Source fault) h = absurd h
@@ -430,7 +427,7 @@ module _ (before mid now : ShelfView) (r : Plan) (d : Document) (p : ProgramTree
 source_from : (kept start : Files) (d : Document) (P : List ℕ → Type 0) → ((name : List ℕ) → start name ≡ kept name) → OnSource start d P → OnSource kept d P
 source_from kept start d P e on = record { source = on.source; source_held = document_before kept start d on.source e on.source_held; holds = on.holds }
 
-pub both_from : (kept start : Files) (r : Plan) (P : ProgramTree → List (List ℕ) → Contents → Type 0) → ((name : List ℕ) → start name ≡ kept name) → OnBoth start r P → OnBoth kept r P
+pub both_from : (kept start : Files) (r : Plan) (P : ProgramTree → TextsView → Contents → Type 0) → ((name : List ℕ) → start name ≡ kept name) → OnBoth start r P → OnBoth kept r P
 both_from kept start r P e on = record {
   source = on.source;
   given = on.given;
@@ -439,16 +436,16 @@ both_from kept start r P e on = record {
   holds = on.holds;
 }
 
-reached_from : (kept start : Files) (r : Plan) (P : ProgramTree → List (List ℕ) → Contents → Type 0) → ((name : List ℕ) → start name ≡ kept name) → OnReached start r P → OnReached kept r P
+reached_from : (kept start : Files) (r : Plan) (P : ProgramTree → TextsView → Contents → Type 0) → ((name : List ℕ) → start name ≡ kept name) → OnReached start r P → OnReached kept r P
 reached_from kept start r P e on = record {
   source = on.source;
   given = on.given;
   source_held = document_before kept start r.source on.source e on.source_held;
   holds = record {
-    lexed = on.holds.lexed;
+    texts = on.holds.texts;
     program = on.holds.program;
     is_program = on.holds.is_program;
-    holds = (reached_before kept start on.holds.program on.holds.lexed.names (inputs_of r) on.given e on.holds.holds.0, on.holds.holds.1);
+    holds = (reached_before kept start on.holds.program on.holds.texts (inputs_of r) on.given e on.holds.holds.0, on.holds.holds.1);
   };
 }
 

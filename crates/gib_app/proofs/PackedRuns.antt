@@ -1,4 +1,5 @@
 -- What a run makes whose result is packed.
+use Rattle.gib_base.specs.Texts.{TextsView}
 use Rattle.std.proofs.Common.{◌≡◌, ◌∙◌, ◌≤◌, ◌<◌, refl, ap, sym, subst, subst₂, ℕ, List, length, Option, Some, None, Bool, true, false, Result, Ok, Err, IfOk, IfErr}
 use Rattle.gib_types.specs.Layout.{LaidOut}
 use Rattle.gib_types.specs.Table.{Table}
@@ -40,7 +41,7 @@ ok_is {T} {E} r x P e h = subst (λ (q : Result T E). IfOk q P) e h
 -- ---- The value that comes back
 
 -- A value stands in a memory that knows more.
-abbrev pub stands_later : {names : List (List ℕ)} (p : ProgramTree) (depth : ℕ) (input : List ℕ) (old new : Valued) → StandsAgain old new → StandsMeant p names depth input old.ran.lowered.code.laid (cells_of old.ran.memory) old.ran.root
+abbrev pub stands_later : {names : TextsView} (p : ProgramTree) (depth : ℕ) (input : List ℕ) (old new : Valued) → StandsAgain old new → StandsMeant p names depth input old.ran.lowered.code.laid (cells_of old.ran.memory) old.ran.root
     → StandsMeant p names depth input new.ran.lowered.code.laid (cells_of new.ran.memory) new.ran.root
 stands_later p depth input old new again s =
     let one = Stands-grows again.known s.stands in
@@ -62,14 +63,14 @@ stands_named p depth input old new again s =
     record {
       value = s.value;
       result = s.result;
-      is_input = subst (λ (ns : List (List ℕ)). IsInput p ns s.value input) (sym again.names) s.is_input;
+      is_input = subst (λ (ns : TextsView). IsInput p ns s.value input) (sym again.names) s.is_input;
       means = s.means;
       table = later.table;
       stands = later.stands;
     }
 
-pub held_again : (old new : Valued) → StandsAgain old new → AreHeld old.ran.lowered.code.laid.table old.names → AreHeld new.ran.lowered.code.laid.table new.names
-held_again old new again held = subst₂ (λ (t : Table) (ns : List (List ℕ)). AreHeld t ns) (ap (λ (l : LoweredParts). l.code.laid.table) (sym again.lowered)) (sym again.names) held
+pub held_again : (old new : Valued) → StandsAgain old new → AreHeld old.ran.lowered.code.laid.table old.names.short → AreHeld new.ran.lowered.code.laid.table new.names.short
+held_again old new again held = subst₂ (λ (t : Table) (ns : TextsView). AreHeld t ns.short) (ap (λ (l : LoweredParts). l.code.laid.table) (sym again.lowered)) (sym again.names) held
 
 -- ---- How a run ends whose result is packed
 
@@ -78,7 +79,7 @@ module _ (p : ProgramTree) (o : Options) (input : List ℕ) (old new : Valued) (
   laid_again : new.ran.lowered.code.laid ≡ layouts_of o.skips p
   laid_again = ap (λ (l : LoweredParts). l.code.laid) again.lowered ∙ laid
 
-  with_file : (bytes : List ℕ) → File2 (table_of_program p) old.names (output_type p) s.result bytes → length bytes ≤ 16777216 → (file packed : Option (List ℕ)) (e : KeptEnd) →
+  with_file : (bytes : List ℕ) → File2 (table_of_program p) old.names.long (output_type p) s.result bytes → length bytes ≤ 16777216 → (file packed : Option (List ℕ)) (e : KeptEnd) →
       IsShownWith o.image new.ran.lowered.code.laid (sole_memory new.ran.memory) new.ran.root p old.names s.result file e → packed ≡ Some bytes → EndsByBoth file packed e (RunsBoth p old.names o input)
   with_file bytes is_file few file packed (ends.Prints text) h made =
       let P : Bool → Type 0 = λ b. PacksResult b p old.names o.depth input packed (Prints text.items) in (
@@ -89,7 +90,7 @@ module _ (p : ProgramTree) (o : Options) (input : List ℕ) (old new : Valued) (
   with_file bytes is_file few file packed (ends.Value value) h made = absurd h
   with_file bytes is_file few file packed (ends.NoValue reason) h made = absurd h
 
-  without_file : ((bytes : List ℕ) → File2 (table_of_program p) old.names (output_type p) s.result bytes → 16777216 < length bytes) → (file packed : Option (List ℕ)) (e : KeptEnd) →
+  without_file : ((bytes : List ℕ) → File2 (table_of_program p) old.names.long (output_type p) s.result bytes → 16777216 < length bytes) → (file packed : Option (List ℕ)) (e : KeptEnd) →
       IsImageFile o.image new.ran.lowered.code.laid (output_type p) (sole_memory new.ran.memory) new.ran.root s.result file → e ≡ ends.NoValue Long → packed ≡ None → EndsByBoth file packed e (RunsBoth p old.names o input)
   without_file long file packed e h is none =
       let E : KeptEnd → Type 0 = λ x. EndsByBoth file packed x (RunsBoth p old.names o input) in
@@ -102,15 +103,15 @@ module _ (p : ProgramTree) (o : Options) (input : List ℕ) (old new : Valued) (
       ) in
       subst E (sym is) there
 
-  pub packed_run : (bytes : List ℕ) → File2 (table_of_program p) old.names (output_type p) s.result bytes → length bytes ≤ 16777216 → (r : Result Finished Stop)
+  pub packed_run : (bytes : List ℕ) → File2 (table_of_program p) old.names.long (output_type p) s.result bytes → length bytes ≤ 16777216 → (r : Result Finished Stop)
       → IfOk r (λ finished. IsShownWith o.image new.ran.lowered.code.laid (sole_memory new.ran.memory) new.ran.root p new.names s.result (file_of finished.made) finished.made.end) → IfOk r (λ finished. packed_of finished ≡ Some bytes)
       → IfOk r (λ finished. EndsByBoth (file_of finished.made) (packed_of finished) finished.made.end (RunsBoth p old.names o input))
   packed_run bytes is_file few (Ok finished) h made =
-      let S : List (List ℕ) → Type 0 = λ ns. IsShownWith o.image new.ran.lowered.code.laid (sole_memory new.ran.memory) new.ran.root p ns s.result (file_of finished.made) finished.made.end in
+      let S : TextsView → Type 0 = λ ns. IsShownWith o.image new.ran.lowered.code.laid (sole_memory new.ran.memory) new.ran.root p ns s.result (file_of finished.made) finished.made.end in
       with_file bytes is_file few (file_of finished.made) (packed_of finished) finished.made.end (subst S again.names h) made
   packed_run bytes is_file few (Err stop) h made = tt {0}
 
-  pub long_run : ((bytes : List ℕ) → File2 (table_of_program p) old.names (output_type p) s.result bytes → 16777216 < length bytes) → (r : Result Finished Stop)
+  pub long_run : ((bytes : List ℕ) → File2 (table_of_program p) old.names.long (output_type p) s.result bytes → 16777216 < length bytes) → (r : Result Finished Stop)
       → IfOk r (λ finished. IsImageFile o.image new.ran.lowered.code.laid (output_type p) (sole_memory new.ran.memory) new.ran.root s.result (file_of finished.made)) → IfOk r (λ finished. (finished.made.end ≡ ends.NoValue Long) × (packed_of finished ≡ None))
       → IfOk r (λ finished. EndsByBoth (file_of finished.made) (packed_of finished) finished.made.end (RunsBoth p old.names o input))
   long_run long (Ok finished) h none = without_file long (file_of finished.made) (packed_of finished) finished.made.end h none.0 none.1
@@ -138,15 +139,15 @@ stopped_alone made (Ok finished) I is h = tt {0}
 stopped_alone made (Err stop) I is h = let M : Result Made Stop → Type 0 = λ m. IfErr m I in subst M is h
 
 -- A run that is asked for none makes none.
-pub runs_alone : (p : ProgramTree) (names : List (List ℕ)) (o : Options) (input : List ℕ) → o.packs ≡ false → (f : Option (List ℕ)) (x : End) → Runs p names o input f x → RunsBoth p names o input f None x
+pub runs_alone : (p : ProgramTree) (names : TextsView) (o : Options) (input : List ℕ) → o.packs ≡ false → (f : Option (List ℕ)) (x : End) → Runs p names o input f x → RunsBoth p names o input f None x
 runs_alone p names o input off f x h = (h, let P : Bool → Type 0 = λ b. PacksResult b p names o.depth input None x in subst P (sym off) refl)
 
 -- Nor does one that ends without a value.
-abbrev pub RunsValueless : ProgramTree → List (List ℕ) → Options → List ℕ → Option (List ℕ) → End → Type 0
+abbrev pub RunsValueless : ProgramTree → TextsView → Options → List ℕ → Option (List ℕ) → End → Type 0
 RunsValueless p names o input f (Prints text) = ⊥
 RunsValueless p names o input f (NoValue reason) = Runs p names o input f (NoValue reason)
 
-pub runs_valueless : (p : ProgramTree) (names : List (List ℕ)) (o : Options) (input : List ℕ) (f : Option (List ℕ)) (x : End) → RunsValueless p names o input f x → RunsBoth p names o input f None x
+pub runs_valueless : (p : ProgramTree) (names : TextsView) (o : Options) (input : List ℕ) (f : Option (List ℕ)) (x : End) → RunsValueless p names o input f x → RunsBoth p names o input f None x
 runs_valueless p names o input f (Prints text) h = absurd h
 runs_valueless p names o input f (NoValue reason) h = (h, go o.packs)
   where
@@ -155,7 +156,7 @@ runs_valueless p names o input f (NoValue reason) h = (h, go o.packs)
     go true = refl
 
 -- Of the jobs a run alone makes one.
-pub does_alone : (job : Job) (o : Options) (p : ProgramTree) (names : List (List ℕ)) (given : Contents) → (job ≡ Run → ⊥) → (f : Option (List ℕ)) (x : End) → Does job o p names given f x → DoesAll job o p names given f None x
+pub does_alone : (job : Job) (o : Options) (p : ProgramTree) (names : TextsView) (given : Contents) → (job ≡ Run → ⊥) → (f : Option (List ℕ)) (x : End) → Does job o p names given f x → DoesAll job o p names given f None x
 does_alone Run o p names given other f x h = absurd (other refl)
 does_alone Plain o p names given other f x h = (h, refl)
 does_alone Check o p names given other f x h = (h, refl)

@@ -1,4 +1,5 @@
 -- From the parts of a call to the whole.
+use Rattle.gib_base.specs.Texts.{TextsView}
 use Rattle.std.proofs.Common.{◌≡◌, ◌∙◌, refl, ap, ◌⊎◌, inl, inr, ℕ, List, [], length, Option, Some, None, MatchOption, subst, subst₂, sym, Bool}
 use Rattle.std.specs.Prelude.{⊤}
 use Rattle.std.specs.Option.{option_map_or}
@@ -30,13 +31,13 @@ use Rattle.gib_app.proofs.FirstWriting.{Cause, stuck_from}
 use Rattle.gib_app.proofs.Writing.{made_from, all_stay}
 use Rattle.gib_app.proofs.Fitting.{is_made, some_end}
 
-pub map_both : (kept : Files) (r : Plan) (P Q : ProgramTree → List (List ℕ) → Contents → Type 0) → ((p : ProgramTree) (names : List (List ℕ)) (given : Contents) → P p names given → Q p names given) → OnBoth kept r P → OnBoth kept r Q
+pub map_both : (kept : Files) (r : Plan) (P Q : ProgramTree → TextsView → Contents → Type 0) → ((p : ProgramTree) (names : TextsView) (given : Contents) → P p names given → Q p names given) → OnBoth kept r P → OnBoth kept r Q
 map_both kept r P Q go h = record {
   source = h.source;
   given = h.given;
   source_held = h.source_held;
   given_held = h.given_held;
-  holds = record { lexed = h.holds.lexed; program = h.holds.program; is_program = h.holds.is_program; holds = go h.holds.program h.holds.lexed.names h.given h.holds.holds };
+  holds = record { texts = h.holds.texts; program = h.holds.program; is_program = h.holds.is_program; holds = go h.holds.program h.holds.texts h.given h.holds.holds };
 }
 
 -- Writing, after what was made
@@ -65,7 +66,7 @@ write_stop tells before mid now r file packed e kept same on Unput h = h
 
 pub value_made : (kept : Files) (r : Plan) (file packed : Option (List ℕ)) (e : KeptEnd) (value : Valued) → IsDone kept r file packed e → e ≡ ends.Value value → (file ≡ None) × (packed ≡ None)
 value_made kept r file packed e value h is =
-    let D : KeptEnd → Type 0 = λ x. EndsByBoth file packed x (DoesAll r.job r.options h.holds.program h.holds.lexed.names h.given) in
+    let D : KeptEnd → Type 0 = λ x. EndsByBoth file packed x (DoesAll r.job r.options h.holds.program h.holds.texts h.given) in
     let k = subst D is h.holds.holds in
     (k.0, k.1)
 

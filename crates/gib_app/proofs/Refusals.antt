@@ -1,4 +1,5 @@
 -- A file with a fault is the packed file of no value, and a call stops at it.
+use Rattle.gib_base.specs.Texts.{TextsView}
 use Rattle.std.proofs.Common.{◌≡◌, Bool, ℕ, ◌≤◌, List, length, Err}
 use Rattle.gib_types.specs.declared.table.Ty.{Ty}
 use Rattle.gib_types.specs.Table.{Table}
@@ -66,8 +67,8 @@ module _ (headers : HeaderRefuses) (types : TypesRefuse) (payloads : PayloadRefu
 
 -- A job stops where its file is refused as a packed one.
 
-module _ (p : ProgramTree) (names : List (List ℕ)) (bytes : List ℕ) (short : length bytes ≤ 16777216) where
-  pub run_stop : (stop : Stop) → IsPackedStop (table_of_program p) names (input_type p) bytes stop → IsRunStop p names bytes stop
+module _ (p : ProgramTree) (names : TextsView) (bytes : List ℕ) (short : length bytes ≤ 16777216) where
+  pub run_stop : (stop : Stop) → IsPackedStop (table_of_program p) names.long (input_type p) bytes stop → IsRunStop p names bytes stop
   run_stop Usage h = h
   run_stop (Source fault) h = h
   run_stop (Unread name) h = h
@@ -82,8 +83,8 @@ module _ (p : ProgramTree) (names : List (List ℕ)) (bytes : List ℕ) (short :
   run_stop Unput h = h
 
 -- The same where a file that begins as a packed one is shown.
-module _ (p : ProgramTree) (names : List (List ℕ)) (skips : Bool) (bytes : List ℕ) (short : length bytes ≤ 16777216) (magic : HasMagic bytes) where
-  pub show_stop : (stop : Stop) → IsPackedStop (table_of_program p) names (input_type p) bytes stop → IsShowStop p names skips bytes stop
+module _ (p : ProgramTree) (names : TextsView) (skips : Bool) (bytes : List ℕ) (short : length bytes ≤ 16777216) (magic : HasMagic bytes) where
+  pub show_stop : (stop : Stop) → IsPackedStop (table_of_program p) names.long (input_type p) bytes stop → IsShowStop p names skips bytes stop
   show_stop Usage h = h
   show_stop (Source fault) h = h
   show_stop (Unread name) h = h
@@ -105,7 +106,7 @@ module _ (p : ProgramTree) (names : List (List ℕ)) (skips : Bool) (bytes : Lis
   show_stop (Unwritten name) h = h
   show_stop Unput h = h
 
-pub machine_stop : (p : ProgramTree) (names : List (List ℕ)) (skips : Bool) (depth forks chunks : ℕ) (bytes : List ℕ) (stop : Stop) → IsRunStop p names bytes stop → IsMachineStop p names skips depth forks chunks bytes stop
+pub machine_stop : (p : ProgramTree) (names : TextsView) (skips : Bool) (depth forks chunks : ℕ) (bytes : List ℕ) (stop : Stop) → IsRunStop p names bytes stop → IsMachineStop p names skips depth forks chunks bytes stop
 machine_stop p names skips depth forks chunks bytes Usage h = h
 machine_stop p names skips depth forks chunks bytes (Source fault) h = h
 machine_stop p names skips depth forks chunks bytes (Unread name) h = h

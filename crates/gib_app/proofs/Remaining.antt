@@ -1,4 +1,5 @@
 -- That what a run makes comes from the region memory that it left.
+use Rattle.gib_base.specs.Texts.{TextsView}
 use Rattle.std.proofs.Common.{◌≡◌, ◌∙◌, refl, ap, ℕ, List, Option, Some, None, Bool, Result, Ok, Err, IfOk, sym, subst, subst₂}
 use Rattle.std.specs.Prelude.{⊤}
 use Rattle.gib_types.specs.Layout.{LaidOut}
@@ -33,17 +34,17 @@ use Rattle.gib_app.proofs.Stopped.{StopsJob, RunRefused, stopped_made}
 
 -- ---- What stands by the layouts of the code stands by those of the program, and the other way round
 
-abbrev pub laid_left : (p : ProgramTree) (names : List (List ℕ)) (o : Options) (input : List ℕ) (value : Valued) → IsLeft p names o input value → value.ran.lowered.code.laid ≡ layouts_of o.skips p
+abbrev pub laid_left : (p : ProgramTree) (names : TextsView) (o : Options) (input : List ℕ) (value : Valued) → IsLeft p names o input value → value.ran.lowered.code.laid ≡ layouts_of o.skips p
 laid_left p names o input value left = ap (λ (c : CodeTree). c.laid) left.code
 
-abbrev pub stands_left : (p : ProgramTree) (names : List (List ℕ)) (o : Options) (input : List ℕ) (value : Valued) → IsLeft p names o input value
+abbrev pub stands_left : (p : ProgramTree) (names : TextsView) (o : Options) (input : List ℕ) (value : Valued) → IsLeft p names o input value
     → StandsMeant p names o.depth input value.ran.lowered.code.laid (cells_of value.ran.memory) value.ran.root
 stands_left p names o input value left =
     let m = sole_memory value.ran.memory in
     stands_again {names = names} p o.depth input (layouts_of o.skips p) value.ran.lowered.code.laid m m value.ran.root value.ran.root (laid_left p names o input value left) refl refl left.remains.stands
 
 -- What a run leaves that stands by the layouts of its code.
-pub is_left : (p : ProgramTree) (names : List (List ℕ)) (o : Options) (input : List ℕ) (value : Valued) → value.ran.lowered.code ≡ lower_program (core_after o.skips 4 p)
+pub is_left : (p : ProgramTree) (names : TextsView) (o : Options) (input : List ℕ) (value : Valued) → value.ran.lowered.code ≡ lower_program (core_after o.skips 4 p)
     → (sole_memory value.ran.memory).limit ≡ o.chunks → StandsMeant p names o.depth input value.ran.lowered.code.laid (cells_of value.ran.memory) value.ran.root → IsLeft p names o input value
 is_left p names o input value code limit s =
     let m = sole_memory value.ran.memory in
@@ -65,7 +66,7 @@ left_again p o input old new again left =
 
 -- ---- What is made of such a memory
 
-module _ (p : ProgramTree) (names : List (List ℕ)) (o : Options) (input : List ℕ) (value : Valued) (left : IsLeft p names o input value) where
+module _ (p : ProgramTree) (names : TextsView) (o : Options) (input : List ℕ) (value : Valued) (left : IsLeft p names o input value) where
   imaged_here : (b : Bool) → o.image ≡ b → (file : Option (List ℕ)) → IsImageFile b value.ran.lowered.code.laid (output_type p) (sole_memory value.ran.memory) value.ran.root left.remains.stands.result file
       → IsImageFile o.image (layouts_of o.skips p) (output_type p) (sole_memory value.ran.memory) value.ran.root left.remains.stands.result file
   imaged_here b asked file h =
@@ -99,7 +100,7 @@ module _ (p : ProgramTree) (names : List (List ℕ)) (o : Options) (input : List
 
 module _ (p : ProgramTree) (o : Options) (input : List ℕ) (old new : Valued) (again : StandsAgain old new) (left : IsLeft p new.names o input new) where
   comes_named : (file : Option (List ℕ)) (e : KeptEnd) → ComesOfMemory p new.names o input file e → ComesOfMemory p old.names o input file e
-  comes_named file e h = subst (λ (ns : List (List ℕ)). ComesOfMemory p ns o input file e) again.names h
+  comes_named file e h = subst (λ (ns : TextsView). ComesOfMemory p ns o input file e) again.names h
 
   pub packed_comes : (r : Result Finished Stop)
       → IfOk r (λ finished. IsShownWith o.image new.ran.lowered.code.laid (sole_memory new.ran.memory) new.ran.root p new.names left.remains.stands.result (file_of finished.made) finished.made.end)
@@ -128,19 +129,19 @@ NotLong file (NoValue (reason.Meant why)) = ⊤
 NotLong file (NoValue reason.Full) = ⊤
 NotLong file (NoValue reason.Long) = ⊥
 
-lacks_not_long : (p : ProgramTree) (names : List (List ℕ)) (o : Options) (input : List ℕ) (why : Reason) → LacksValue p names o.skips o.depth (run_forks o) o.chunks input why → NotLong None (NoValue why)
+lacks_not_long : (p : ProgramTree) (names : TextsView) (o : Options) (input : List ℕ) (why : Reason) → LacksValue p names o.skips o.depth (run_forks o) o.chunks input why → NotLong None (NoValue why)
 lacks_not_long p names o input (reason.Meant why) h = tt {0}
 lacks_not_long p names o input reason.Full h = tt {0}
 lacks_not_long p names o input reason.Long h = absurd h
 
-comes_without : (p : ProgramTree) (names : List (List ℕ)) (o : Options) (input : List ℕ) (file : Option (List ℕ)) (e : KeptEnd) → EndsBy file e NotLong → ComesOfMemory p names o input file e
+comes_without : (p : ProgramTree) (names : TextsView) (o : Options) (input : List ℕ) (file : Option (List ℕ)) (e : KeptEnd) → EndsBy file e NotLong → ComesOfMemory p names o input file e
 comes_without p names o input file (ends.Prints text) h = absurd h
 comes_without p names o input file (ends.Value value) h = absurd h.3
 comes_without p names o input file (ends.NoValue (reason.Meant why)) h = tt {0}
 comes_without p names o input file (ends.NoValue reason.Full) h = tt {0}
 comes_without p names o input file (ends.NoValue reason.Long) h = absurd h
 
-pub stopped_comes : (p : ProgramTree) (names : List (List ℕ)) (o : Options) (input : List ℕ) (s : Stop) (r : Result Made Stop)
+pub stopped_comes : (p : ProgramTree) (names : TextsView) (o : Options) (input : List ℕ) (s : Stop) (r : Result Made Stop)
     → StopsJob (RunRefused p names input) (LacksValue p names o.skips o.depth (run_forks o) o.chunks input) s
     → IfOk r (λ made. (why : Reason) × (reason_of s ≡ Some why) × (made.file ≡ None) × (made.end ≡ ends.NoValue why)) → IfOk r (λ made. ComesOfMemory p names o input (file_of made) made.end)
 stopped_comes p names o input s (Ok made) h of =

@@ -1,4 +1,5 @@
 -- A call that replays the journal of a trace ends as the call that traced.
+use Rattle.gib_base.specs.Texts.{TextsView}
 use Rattle.std.proofs.Common.{◌≡◌, ◌∙◌, ◌≤◌, refl, sym, ap, subst, ℕ, List, [], ◌∷◌, ◌++◌, length, Option, Some, None, IfSome, MatchOption, ◌⊎◌, inl, inr, Bool, true, false}
 use Rattle.gib_syntax.specs.Tree.{ProgramTree}
 use Rattle.gib_code.specs.declared.answer.Reason.{Reason as Why}
@@ -29,7 +30,7 @@ asked_is o r P e h = let Q : Option Plan → Type 0 = λ x. MatchOption x ⊥ P 
 
 -- what holds of the files of a plan holds of their bytes, where these are told
 of_told : (kept : Files) (r : Plan) (source : List ℕ) (given : Contents) → bytes_in kept r.source ≡ Has source → AreTold kept (inputs_of r) given →
-    (P : ProgramTree → List (List ℕ) → Contents → Type 0) → OnBoth kept r P → OnProgram source (λ p names. P p names given)
+    (P : ProgramTree → TextsView → Contents → Type 0) → OnBoth kept r P → OnProgram source (λ p names. P p names given)
 of_told kept r source given source_is given_is P h =
     let es = same_bytes (bytes_in kept r.source) source h.source source_is h.source_held in
     let ei = same_given kept (inputs_of r) given h.given given_is h.given_held in
@@ -37,8 +38,8 @@ of_told kept r source given source_is given_is P h =
     let I : Contents → Type 0 = λ i. OnProgram source (λ p names. P p names i) in
     subst I ei (subst S es h.holds)
 
-map_program : (source : List ℕ) (P Q : ProgramTree → List (List ℕ) → Type 0) → ((p : ProgramTree) (names : List (List ℕ)) → P p names → Q p names) → OnProgram source P → OnProgram source Q
-map_program source P Q go h = record { lexed = h.lexed; program = h.program; is_program = h.is_program; holds = go h.program h.lexed.names h.holds }
+map_program : (source : List ℕ) (P Q : ProgramTree → TextsView → Type 0) → ((p : ProgramTree) (names : TextsView) → P p names → Q p names) → OnProgram source P → OnProgram source Q
+map_program source P Q go h = record { texts = h.texts; program = h.program; is_program = h.is_program; holds = go h.program h.texts h.holds }
 
 -- what was written is what stands there
 told_is : (tells : Bool) (bytes journal : List ℕ) (held : Held) → held ≡ told tells bytes → held ≡ Has journal → bytes ≡ journal
@@ -46,7 +47,7 @@ told_is true bytes journal held e f = let both = sym e ∙ f in cc
 told_is false bytes journal held e f = let both = sym e ∙ f in cc
 
 -- a trace that ends makes the journal, which is what stands there
-left_by : (tells : Bool) (before left : Files) (name journal : List ℕ) (o : Options) (p : ProgramTree) (names : List (List ℕ)) (given : Contents) (file : Option (List ℕ)) (e : End) → left name ≡ Has journal →
+left_by : (tells : Bool) (before left : Files) (name journal : List ℕ) (o : Options) (p : ProgramTree) (names : TextsView) (given : Contents) (file : Option (List ℕ)) (e : End) → left name ≡ Has journal →
     AreMade tells before left (writes_of file (Some name) ++ []) → (file ≡ None → ⊥) → Does Trace o p names given file e → Does Trace o p names given (Some journal) e
 left_by tells before left name journal o p names given None e is made stored h = absurd (stored refl)
 left_by tells before left name journal o p names given (Some bytes) e is made stored h =
@@ -61,7 +62,7 @@ is_stored : (name : List ℕ) (file : Option (List ℕ)) → IsStored (Some name
 is_stored name None h e = h
 is_stored name (Some bytes) h e = cc
 
-makes_some : (o : Options) (p : ProgramTree) (names : List (List ℕ)) (given : Contents) (why : Why) (file : Option (List ℕ)) → Does Trace o p names given file (NoValue (Meant why)) → file ≡ None → ⊥
+makes_some : (o : Options) (p : ProgramTree) (names : TextsView) (given : Contents) (why : Why) (file : Option (List ℕ)) → Does Trace o p names given file (NoValue (Meant why)) → file ≡ None → ⊥
 makes_some o p names given why None h e = h.0
 makes_some o p names given why (Some bytes) h e = cc
 
@@ -98,7 +99,7 @@ module _ (laws : Laws) (tells : Bool) (words again : List (List ℕ)) (before le
   all_read quiet file (inr (inl h)) = let R : List ℕ → Type 0 = λ x. Rose (later.reads x) (now.reads x) in quiet.journal_read (subst R (sym h.0) h.1)
   all_read quiet file (inr (inr h)) = h
 
-  due_of : NoneFails r.program r.packed r.name r.image later now out_later out_now → (P : ProgramTree → List (List ℕ) → Contents → Type 0) → OnProgram r.source (λ p names. P p names given_again) → DueOfFiles tells later now second P
+  due_of : NoneFails r.program r.packed r.name r.image later now out_later out_now → (P : ProgramTree → TextsView → Contents → Type 0) → OnProgram r.source (λ p names. P p names given_again) → DueOfFiles tells later now second P
   due_of quiet P on = record {
     source = r.source;
     given = given_again;
@@ -115,7 +116,7 @@ module _ (laws : Laws) (tells : Bool) (words again : List (List ℕ)) (before le
   one_written name file packed none made = let P : Option (List ℕ) → Type 0 = λ q. AreMade tells before.kept left.kept (writes_of file (Some name) ++ writes_of q None) in subst P none made
 
   -- what the first call made
-  abbrev Traced : List ℕ → ProgramTree → List (List ℕ) → Type 0
+  abbrev Traced : List ℕ → ProgramTree → TextsView → Type 0
   Traced text p names = Does Trace r.options p names given (Some r.journal) (Prints text)
 
   traced : (said : List ℕ) → IsEnding tells words before left out out_left status.Done said →
@@ -129,14 +130,14 @@ module _ (laws : Laws) (tells : Bool) (words again : List (List ℕ)) (before le
         text,
         (λ front is. subst T is on.holds.2),
         record {
-          lexed = on.lexed;
+          texts = on.texts;
           program = on.program;
           is_program = on.is_program;
-          holds = left_by tells before.kept left.kept r.name r.journal r.options on.program on.lexed.names given made.ended.file (Prints text) r.journal_left (one_written r.name made.ended.file made.ended.packed made.ended.packs made.ended.written) (is_stored r.name made.ended.file made.stored) made.ended.does;
+          holds = left_by tells before.kept left.kept r.name r.journal r.options on.program on.texts given made.ended.file (Prints text) r.journal_left (one_written r.name made.ended.file made.ended.packed made.ended.packs made.ended.written) (is_stored r.name made.ended.file made.stored) made.ended.does;
         },
       )
 
-  again_printed : (text : List ℕ) (p : ProgramTree) (names : List (List ℕ)) → Traced text p names → HasText second p names given_again
+  again_printed : (text : List ℕ) (p : ProgramTree) (names : TextsView) → Traced text p names → HasText second p names given_again
   again_printed text p names h = (None, text, replays_again laws.filed p names r.options r.others given r.journal (Prints text) r.short h, (None, refl))
 
   -- what the second call put, where it ends well
@@ -169,7 +170,7 @@ module _ (laws : Laws) (tells : Bool) (words again : List (List ℕ)) (before le
       ]
 
   -- what the first call made where the program means no value
-  abbrev Valueless : Why → ProgramTree → List (List ℕ) → Type 0
+  abbrev Valueless : Why → ProgramTree → TextsView → Type 0
   Valueless x p names = Does Trace r.options p names given (Some r.journal) (NoValue (Meant x))
 
   stopped_at : (x : Why) → AsksProgram tells words before.kept (EndsWithout tells before left (Meant x)) → OnProgram r.source (Valueless x)
@@ -178,13 +179,13 @@ module _ (laws : Laws) (tells : Bool) (words again : List (List ℕ)) (before le
       let on = of_told before.kept first r.source given r.source_is (r.input_is, refl) (EndsWithout tells before left (Meant x) first) (asked_is (asked words) first P r.traces h) in
       let ended = on.holds in
       record {
-        lexed = on.lexed;
+        texts = on.texts;
         program = on.program;
         is_program = on.is_program;
-        holds = left_by tells before.kept left.kept r.name r.journal r.options on.program on.lexed.names given ended.file (NoValue (Meant x)) r.journal_left (one_written r.name ended.file ended.packed ended.packs ended.written) (makes_some r.options on.program on.lexed.names given x ended.file ended.does) ended.does;
+        holds = left_by tells before.kept left.kept r.name r.journal r.options on.program on.texts given ended.file (NoValue (Meant x)) r.journal_left (one_written r.name ended.file ended.packed ended.packs ended.written) (makes_some r.options on.program on.texts given x ended.file ended.does) ended.does;
       }
 
-  again_valueless : NoneFails r.program r.packed r.name r.image later now out_later out_now → (x : Why) (p : ProgramTree) (names : List (List ℕ)) → Valueless x p names → DueWithout later now (Meant x) second p names given_again
+  again_valueless : NoneFails r.program r.packed r.name r.image later now out_later out_now → (x : Why) (p : ProgramTree) (names : TextsView) → Valueless x p names → DueWithout later now (Meant x) second p names given_again
   again_valueless quiet x p names h = (
     (None, replays_again laws.filed p names r.options r.others given r.journal (NoValue (Meant x)) r.short h),
     (λ name bytes named does. quiet.image_written name named),

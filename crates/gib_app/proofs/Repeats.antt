@@ -1,4 +1,5 @@
 -- A replay of the journal of a trace ends as the trace did.
+use Rattle.gib_base.specs.Texts.{TextsView}
 use Rattle.std.proofs.Common.{◌≡◌, ◌∙◌, ◌≤◌, refl, sym, ap, subst, false, ℕ, List, [], ◌∷◌, length, Option, Some, None, Ok}
 use Rattle.gib_types.specs.declared.table.Ty.{Ty}
 use Rattle.gib_types.specs.Layout.{LaidOut}
@@ -44,7 +45,7 @@ module _ (laid : LaidOut) (s : Store) (type : Ty) (owed : Outcome) where
   is_stopped answer.Trap reason.Deep h e = let both = sym h ∙ e in cc
   is_stopped answer.Trap reason.Trap h e = refl
 
-module _ (one : OneValue) (p : ProgramTree) (names : List (List ℕ)) (options : Options) (input bytes : List ℕ) (short : length bytes ≤ 16777216) (t : IsTrace p names options input bytes) where
+module _ (one : OneValue) (p : ProgramTree) (names : TextsView) (options : Options) (input bytes : List ℕ) (short : length bytes ≤ 16777216) (t : IsTrace p names options input bytes) where
   -- what the program means on the value within the depth of the options, it means within that of the journal
   means_there : (v : Datum) (o : Outcome) → v ≡ t.value → run p options.depth v ≡ o → run p t.settings.depth t.value ≡ o
   means_there v o same means =
@@ -94,7 +95,7 @@ module _ (one : OneValue) (p : ProgramTree) (names : List (List ℕ)) (options :
 one_outcome : (o : Outcome) (u v : Datum) → o ≡ Gives u → o ≡ Gives v → u ≡ v
 one_outcome o u v e f = let both = sym e ∙ f in cc
 
-module _ (one : OneValue) (p : ProgramTree) (names : List (List ℕ)) where
+module _ (one : OneValue) (p : ProgramTree) (names : TextsView) where
   -- the journal is replayed to the same end
   pub replays_again : (o a : Options) (given : Contents) (bytes : List ℕ) (e : End) → length bytes ≤ 16777216 → Does Trace o p names given (Some bytes) e →
       Does Replay (without_image a) p names (record { second = given.second; further = bytes ∷ [] }) None e

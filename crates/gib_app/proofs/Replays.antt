@@ -1,4 +1,5 @@
 -- What the events of one journal lead to is one.
+use Rattle.gib_base.specs.Texts.{TextsView}
 use Rattle.std.proofs.Common.{◌≡◌, ◌∙◌, refl, sym, subst, Bool, true, false, cond, ℕ, ◌*◌, List, [], ◌∷◌, Option, Some, None, inl, inr}
 use Rattle.gib_types.specs.declared.table.Ty.{Ty}
 use Rattle.gib_types.specs.Layout.{LaidOut, head_size}
@@ -36,7 +37,7 @@ abbrev pub OneValue : Type 0
 OneValue = (table : Table) (names : List (List ℕ)) (ty : Ty) (v w : Datum) (bytes : List ℕ) → File table names ty v bytes → File table names ty w bytes → v ≡ w
 
 -- what holds of one input and one journal, holds of one value, of one start and of the same lines
-pub both_on : {names : List (List ℕ)} → OneValue → (p : ProgramTree) (input bytes : List ℕ) (P Q : Datum → Settings → List Line → Type 0) → OnJournal p names input bytes P → OnJournal p names input bytes Q →
+pub both_on : {names : TextsView} → OneValue → (p : ProgramTree) (input bytes : List ℕ) (P Q : Datum → Settings → List Line → Type 0) → OnJournal p names input bytes P → OnJournal p names input bytes Q →
     (v : Datum) × (settings : Settings) × (lines : List Line) × P v settings lines × Q v settings lines
 both_on one p input bytes P Q a b =
     let same = text_is_one b.settings a.settings b.lines a.lines b.is_journal.are a.is_journal.are (sym b.is_journal.text_is ∙ a.is_journal.text_is) in
@@ -90,7 +91,7 @@ one_reason reason.Trap reason.Trap e = refl
 pub some_or_none : (bytes : List ℕ) → Some bytes ≡ None → ⊥
 some_or_none bytes e = cc
 
-module _ (one : OneValue) (p : ProgramTree) (names : List (List ℕ)) (input bytes : List ℕ) where
+module _ (one : OneValue) (p : ProgramTree) (names : TextsView) (input bytes : List ℕ) where
   pub shown_or_valueless : (image : Bool) (file : Option (List ℕ)) (text : List ℕ) (why : Reason) → OnJournal p names input bytes (IsShownEnd p names image file text) → OnJournal p names input bytes (IsValueless p why) → ⊥
   shown_or_valueless image file text why h k =
       let both = both_on one p input bytes (IsShownEnd p names image file text) (IsValueless p why) h k in

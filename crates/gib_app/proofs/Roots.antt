@@ -1,4 +1,5 @@
 -- From the end of a run over region memory to what the program means.
+use Rattle.gib_base.specs.Texts.{TextsView}
 use Rattle.std.proofs.Common.{◌≡◌, ◌∙◌, refl, Bool, ℤ, ℕ, ◌+◌, ◌-◌, ◌*◌, ◌≤◌, List, length, Result, Ok, Err, IfOk, IfErr, MatchResult, sym, ap, subst, subst₂, arith}
 use Rattle.gib_types.specs.declared.table.Ty.{Ty}
 use Rattle.gib_types.specs.Layout.{LaidOut}
@@ -160,7 +161,7 @@ table_laid p skips laid e = ap (λ (x : LaidOut). x.table) e
 pub parameter_of : (p : ProgramTree) (skips : Bool) (l : LoweredParts) → core_of l.core ≡ core_after skips 4 p → (core_of l.core).main.parameter ≡ input_type p
 parameter_of p skips l e = ap (λ (c : CoreTree). c.main.parameter) e
 
-pub root_meant : {names : List (List ℕ)} (p : ProgramTree) (skips : Bool) (depth : ℕ) (input : List ℕ) (v : Datum) (l l' : LoweredParts) (s : Store) (place : Root) → IsOfProgram p skips l → IsInput p names v input → l' ≡ l
+pub root_meant : {names : TextsView} (p : ProgramTree) (skips : Bool) (depth : ℕ) (input : List ℕ) (v : Datum) (l l' : LoweredParts) (s : Store) (place : Root) → IsOfProgram p skips l → IsInput p names v input → l' ≡ l
     → IsRootOf l.code.laid s (core_of l.core).main.result (core_run (core_of l.core) depth v) place → StandsMeant p names depth input l'.code.laid s place
 root_meant {names} p skips depth input v l l' s place of is e h =
     let there : StandsMeant p names depth input l.code.laid s place = record {
@@ -173,7 +174,7 @@ root_meant {names} p skips depth input v l l' s place of is e h =
     } in
     subst (λ (x : LoweredParts). StandsMeant p names depth input x.code.laid s place) (sym e) there
 
-lacks_meant : {names : List (List ℕ)} (p : ProgramTree) (skips : Bool) (depth forks chunks : ℕ) (input : List ℕ) (v : Datum) (l : LoweredParts) → IsOfProgram p skips l → IsInput p names v input → (why : Reason)
+lacks_meant : {names : TextsView} (p : ProgramTree) (skips : Bool) (depth forks chunks : ℕ) (input : List ℕ) (v : Datum) (l : LoweredParts) → IsOfProgram p skips l → IsInput p names v input → (why : Reason)
     → Lacks (core_run (core_of l.core) depth v) chunks (run_cost (core_of l.core) depth forks v) why → LacksValue p names skips depth forks chunks input why
 lacks_meant p skips depth forks chunks input v l of is (reason.Meant other) h = record { value = v; is_input = is; means = sym (of.means depth v) ∙ h }
 lacks_meant p skips depth forks chunks input v l of is reason.Full h = record {
@@ -183,7 +184,7 @@ lacks_meant p skips depth forks chunks input v l of is reason.Full h = record {
 }
 lacks_meant p skips depth forks chunks input v l of is reason.Long h = h
 
-pub stop_meant : {names : List (List ℕ)} (p : ProgramTree) (skips : Bool) (depth forks chunks : ℕ) (input : List ℕ) (v : Datum) (l : LoweredParts) → IsOfProgram p skips l → IsInput p names v input → (why : Stop)
+pub stop_meant : {names : TextsView} (p : ProgramTree) (skips : Bool) (depth forks chunks : ℕ) (input : List ℕ) (v : Datum) (l : LoweredParts) → IsOfProgram p skips l → IsInput p names v input → (why : Stop)
     → Halts (core_run (core_of l.core) depth v) chunks (run_cost (core_of l.core) depth forks v) why → IsMachineStop p names skips depth forks chunks input why
 stop_meant p skips depth forks chunks input v l of is stop.Usage h = h
 stop_meant p skips depth forks chunks input v l of is (stop.Source fault) h = h
@@ -195,42 +196,42 @@ stop_meant p skips depth forks chunks input v l of is (stop.Unwritten name) h = 
 stop_meant p skips depth forks chunks input v l of is stop.Unput h = h
 
 -- A survey's value is the input.
-pub input_of : {names : List (List ℕ)} (p : ProgramTree) (input : List ℕ) (s : Surveyed) → length input ≤ 16777216 → ((v : Datum) → Packed s.table s.ty v s.bytes → File (table_of_program p) names (input_type p) v input)
+pub input_of : {names : TextsView} (p : ProgramTree) (input : List ℕ) (s : Surveyed) → length input ≤ 16777216 → ((v : Datum) → Packed s.table s.ty v s.bytes → File (table_of_program p) names.long (input_type p) v input)
     → (v : Datum) → Packed s.table s.ty v s.bytes → IsInput p names v input
 input_of p input s short file v q = record { short = short; file = file v q }
 
 -- The run of a program on a survey that is of the input.
-pub survey_stands : {names : List (List ℕ)} (p : ProgramTree) (skips : Bool) (depth : ℕ) (input : List ℕ) (s : Surveyed) (l : LoweredParts) → IsOfProgram p skips l → length input ≤ 16777216 → IsPacked s.table s.ty s.bytes s.count
-    → ((v : Datum) → Packed s.table s.ty v s.bytes → File (table_of_program p) names (input_type p) v input) → (r : Result (Ran SoleMem) Stop) → IfOk r (λ ran. ran.lowered ≡ l)
+pub survey_stands : (names : TextsView) (p : ProgramTree) (skips : Bool) (depth : ℕ) (input : List ℕ) (s : Surveyed) (l : LoweredParts) → IsOfProgram p skips l → length input ≤ 16777216 → IsPacked s.table s.ty s.bytes s.count
+    → ((v : Datum) → Packed s.table s.ty v s.bytes → File (table_of_program p) names.long (input_type p) v input) → (r : Result (Ran SoleMem) Stop) → IfOk r (λ ran. ran.lowered ≡ l)
     → IfOk r (λ ran. (v : Datum) → Packed s.table s.ty v s.bytes → IsRootOf l.code.laid (cells_of ran.memory) (core_of l.core).main.result (core_run (core_of l.core) depth v) ran.root)
     → IfOk r (λ ran. StandsMeant p names depth input ran.lowered.code.laid (cells_of ran.memory) ran.root)
-survey_stands p skips depth input s l of short packed file (Ok ran) same ends =
-    root_meant p skips depth input packed.0 l ran.lowered (cells_of ran.memory) ran.root of (input_of p input s short file packed.0 packed.1) same (ends packed.0 packed.1)
-survey_stands p skips depth input s l of short packed file (Err why) same ends = tt {0}
+survey_stands names p skips depth input s l of short packed file (Ok ran) same ends =
+    root_meant p skips depth input packed.0 l ran.lowered (cells_of ran.memory) ran.root of (input_of {names = names} p input s short file packed.0 packed.1) same (ends packed.0 packed.1)
+survey_stands names p skips depth input s l of short packed file (Err why) same ends = tt {0}
 
-pub survey_stops : {names : List (List ℕ)} (p : ProgramTree) (skips : Bool) (depth forks chunks : ℕ) (input : List ℕ) (s : Surveyed) (l : LoweredParts) → IsOfProgram p skips l → length input ≤ 16777216 → IsPacked s.table s.ty s.bytes s.count
-    → ((v : Datum) → Packed s.table s.ty v s.bytes → File (table_of_program p) names (input_type p) v input) → (r : Result (Ran SoleMem) Stop)
+pub survey_stops : (names : TextsView) (p : ProgramTree) (skips : Bool) (depth forks chunks : ℕ) (input : List ℕ) (s : Surveyed) (l : LoweredParts) → IsOfProgram p skips l → length input ≤ 16777216 → IsPacked s.table s.ty s.bytes s.count
+    → ((v : Datum) → Packed s.table s.ty v s.bytes → File (table_of_program p) names.long (input_type p) v input) → (r : Result (Ran SoleMem) Stop)
     → IfErr r (λ why. (v : Datum) → Packed s.table s.ty v s.bytes → Halts (core_run (core_of l.core) depth v) chunks (run_cost (core_of l.core) depth forks v) why)
     → IfErr r (IsMachineStop p names skips depth forks chunks input)
-survey_stops p skips depth forks chunks input s l of short packed file (Ok ran) ends = tt {0}
-survey_stops p skips depth forks chunks input s l of short packed file (Err why) ends = stop_meant p skips depth forks chunks input packed.0 l of (input_of p input s short file packed.0 packed.1) why (ends packed.0 packed.1)
+survey_stops names p skips depth forks chunks input s l of short packed file (Ok ran) ends = tt {0}
+survey_stops names p skips depth forks chunks input s l of short packed file (Err why) ends = stop_meant p skips depth forks chunks input packed.0 l of (input_of {names = names} p input s short file packed.0 packed.1) why (ends packed.0 packed.1)
 
 -- Any value that is the input is the survey's.
-pub survey_only : {names : List (List ℕ)} (p : ProgramTree) (skips : Bool) (depth forks chunks : ℕ) (input : List ℕ) (s : Surveyed) (l : LoweredParts) → IsOfProgram p skips l → length input ≤ 16777216 → IsPacked s.table s.ty s.bytes s.count
-    → ((v : Datum) → Packed s.table s.ty v s.bytes → File (table_of_program p) names (input_type p) v input)
+pub survey_only : {names : TextsView} (p : ProgramTree) (skips : Bool) (depth forks chunks : ℕ) (input : List ℕ) (s : Surveyed) (l : LoweredParts) → IsOfProgram p skips l → length input ≤ 16777216 → IsPacked s.table s.ty s.bytes s.count
+    → ((v : Datum) → Packed s.table s.ty v s.bytes → File (table_of_program p) names.long (input_type p) v input)
     → ((table : Table) (names : List (List ℕ)) (ty : Ty) (v w : Datum) (bytes : List ℕ) → File table names ty v bytes → File table names ty w bytes → v ≡ w) → (r : Result (Ran SoleMem) Stop) → IfOk r (λ ran. ran.lowered ≡ l)
     → IfOk r (λ ran. (v : Datum) → Packed s.table s.ty v s.bytes → IsRootOf l.code.laid (cells_of ran.memory) (core_of l.core).main.result (core_run (core_of l.core) depth v) ran.root)
     → IfErr r (λ why. (v : Datum) → Packed s.table s.ty v s.bytes → Halts (core_run (core_of l.core) depth v) chunks (run_cost (core_of l.core) depth forks v) why)
     → (v : Datum) → IsInput p names v input
     → MatchResult r (λ ran. IsRootOf ran.lowered.code.laid (cells_of ran.memory) (output_type p) (run p depth v) ran.root) (Halts (run p depth v) chunks (program_cost p skips depth forks v))
-survey_only p skips depth forks chunks input s l of short packed file one (Ok ran) same root halts v is =
-    let meant = survey_stands p skips depth input s l of short packed file (Ok ran) same root in
+survey_only {names} p skips depth forks chunks input s l of short packed file one (Ok ran) same root halts v is =
+    let meant = survey_stands names p skips depth input s l of short packed file (Ok ran) same root in
     record {
       result = meant.result;
       means = ap (run p depth) (one (table_of_program p) _ (input_type p) v meant.value input is.file meant.is_input.file) ∙ meant.means;
       stands = meant.stands;
     }
-survey_only p skips depth forks chunks input s l of short packed file one (Err why) same root halts v is =
+survey_only {names} p skips depth forks chunks input s l of short packed file one (Err why) same root halts v is =
     let w = packed.0 in
     let e : w ≡ v = one (table_of_program p) _ (input_type p) w v input (file w packed.1) is.file in
     let owed : core_run (core_of l.core) depth w ≡ run p depth v = of.means depth w ∙ ap (run p depth) e in
@@ -238,7 +239,7 @@ survey_only p skips depth forks chunks input s l of short packed file one (Err w
     subst₂ (λ (o : Outcome) (k : Cost). Halts o chunks k why) owed most (halts w packed.1)
 
 -- Where the file is refused, there is no value of which it is the input.
-pub refused_halts : {names : List (List ℕ)} (p : ProgramTree) (depth chunks : ℕ) (input : List ℕ) (v : Datum) (owed : Outcome) (most : Cost) → IsInput p names v input → (stop : Stop) → IsRunStop p names input stop → Halts owed chunks most stop
+pub refused_halts : {names : TextsView} (p : ProgramTree) (depth chunks : ℕ) (input : List ℕ) (v : Datum) (owed : Outcome) (most : Cost) → IsInput p names v input → (stop : Stop) → IsRunStop p names input stop → Halts owed chunks most stop
 refused_halts p depth chunks input v owed most is stop.Usage h = h
 refused_halts p depth chunks input v owed most is (stop.Source fault) h = h
 refused_halts p depth chunks input v owed most is (stop.Unread name) h = h

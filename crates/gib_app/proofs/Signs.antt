@@ -1,4 +1,5 @@
 -- A packed file and an image begin with other bytes, and a file that is refused as one of them is not the other.
+use Rattle.gib_base.specs.Texts.{TextsView}
 use Rattle.std.proofs.Common.{◌≡◌, ◌∙◌, Bool, ℕ, ◌≤◌, List, ◌∷◌, length, take, Err, inl, inr, sym, ap, arith}
 use Rattle.std.proofs.lemmas.List.{take-take}
 use Rattle.gib_types.specs.declared.table.Ty.{Ty}
@@ -38,21 +39,21 @@ fault_sign p skips bytes image.Header h = h.0
 fault_sign p skips bytes (image.Item at) h = formed_sign (output_type p) bytes h.formed
 fault_sign p skips bytes image.Long h = formed_sign (output_type p) bytes h.formed
 
-pub file_magic : {names : List (List ℕ)} (p : ProgramTree) (v : Datum) (bytes : List ℕ) → IsInput p names v bytes → HasMagic bytes
+pub file_magic : {names : TextsView} (p : ProgramTree) (v : Datum) (bytes : List ℕ) → IsInput p names v bytes → HasMagic bytes
 file_magic p v bytes is = let h = inside _ _ _ v bytes is.file in (parts _ bytes h.framed).magic_is
 
 -- What begins as a packed file, and is none, has no value that is shown.
-pub no_packed_value : {names : List (List ℕ)} (p : ProgramTree) (skips : Bool) (bytes : List ℕ) → HasMagic bytes → ((v : Datum) → File (table_of_program p) names (input_type p) v bytes → ⊥) → ((v : Datum) × IsShownValue p names skips v bytes) → ⊥
+pub no_packed_value : {names : TextsView} (p : ProgramTree) (skips : Bool) (bytes : List ℕ) → HasMagic bytes → ((v : Datum) → File (table_of_program p) names.long (input_type p) v bytes → ⊥) → ((v : Datum) × IsShownValue p names skips v bytes) → ⊥
 no_packed_value p skips bytes m none' (v, inl is) = none' v is.file
 no_packed_value p skips bytes m none' (v, inr read) = signs_differ bytes m (formed_sign (output_type p) bytes read.image.formed)
 
 -- What begins as neither has none.
-pub no_sign_value : {names : List (List ℕ)} (p : ProgramTree) (skips : Bool) (bytes : List ℕ) → (HasMagic bytes → ⊥) → (HasImageSign bytes → ⊥) → ((v : Datum) × IsShownValue p names skips v bytes) → ⊥
+pub no_sign_value : {names : TextsView} (p : ProgramTree) (skips : Bool) (bytes : List ℕ) → (HasMagic bytes → ⊥) → (HasImageSign bytes → ⊥) → ((v : Datum) × IsShownValue p names skips v bytes) → ⊥
 no_sign_value p skips bytes m s (v, inl is) = m (file_magic p v bytes is)
 no_sign_value p skips bytes m s (v, inr read) = s (formed_sign (output_type p) bytes read.image.formed)
 
 -- A value that is shown is typed.
-pub shown_typed : {names : List (List ℕ)} (p : ProgramTree) (skips : Bool) (v : Datum) (bytes : List ℕ) → IsShownValue p names skips v bytes → IsTyped (table_of_program p) v
+pub shown_typed : {names : TextsView} (p : ProgramTree) (skips : Bool) (v : Datum) (bytes : List ℕ) → IsShownValue p names skips v bytes → IsTyped (table_of_program p) v
 shown_typed p skips v bytes (inl is) = (input_type p, (inside _ _ _ v bytes is.file).typed)
 shown_typed p skips v bytes (inr read) = (output_type p, Stands-typed read.image.stands)
 
@@ -60,7 +61,7 @@ shown_typed p skips v bytes (inr read) = (output_type p, Stands-typed read.image
 abbrev pub ReadOrRefused : Type 0
 ReadOrRefused = (laid : LaidOut) (type : Ty) (bytes : List ℕ) (v : Datum) (f : ReadFault) → IsRead laid type bytes v → IsRefused laid type bytes f → ⊥
 
-module _ (law : ReadOrRefused) (p : ProgramTree) (names : List (List ℕ)) (skips : Bool) (bytes : List ℕ) where
+module _ (law : ReadOrRefused) (p : ProgramTree) (names : TextsView) (skips : Bool) (bytes : List ℕ) where
   -- What begins as an image, and is none, has no value that is shown.
   pub no_image_value : (fault : ImageFault) → IsImageFault p skips bytes fault → (v : Datum) → IsShownValue p names skips v bytes → ⊥
   no_image_value fault h v (inl is) = signs_differ bytes (file_magic p v bytes is) (fault_sign p skips bytes fault h)

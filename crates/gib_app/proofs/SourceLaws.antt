@@ -8,17 +8,24 @@ use Rattle.gib_lex.specs.Refused.{IsRefused}
 use Rattle.gib_parse.specs.Answers.{place_of, read_of, AnswersRead, IsBlamedAt, IsTooDeepAt}
 use Rattle.gib_parse.specs.declared.fault.ParseFault.{ParseFault}
 use Rattle.gib_parse.specs.declared.fault.ParseFault.TheVariants as parsing
-use Rattle.gib_app.specs.PassFaults.{parse_stop}
-use Rattle.gib_app.specs.Stops.{IsCompileStop}
+use Rattle.gib_app.specs.PassFaults.{parse_stop, check_stop}
+use Rattle.gib_app.specs.declared.stop.Stop.{Stop}
+use Rattle.gib_app.specs.declared.stop.Stop.TheVariants.{Usage, Source, Unread, Input, NoValue, Memory, Unwritten, Unput}
+use Rattle.gib_app.specs.Stops.{IsCompileStop, IsCopyStop}
 use Rattle.gib_parse.specs.Reading.{Fault as ReadFault, At, Nested as TooDeep, whole}
 use Rattle.gib_check.specs.declared.fault.Fault.{Fault}
 use Rattle.gib_check.specs.FirstFault.{first_fault}
-use Rattle.gib_syntax.specs.Tree.{ProgramTree}
+use Rattle.gib_check.specs.Refusals.{IsFirst}
+use Rattle.gib_check.specs.declared.fault.TypeFault.{TypeFault}
+use Rattle.gib_check.specs.declared.fault.TypeFault.TheVariants as typing
+use Rattle.gib_base.specs.declared.Span.{Span}
+use Rattle.gib_syntax.specs.GenericTree.{GenericProgramTree}
+use Rattle.gib_syntax.specs.GenericTyping.{IsTypedGeneric}
+use Rattle.gib_mono.specs.Walk.{Copy, copies_of}
 use Rattle.gib_syntax.specs.Spelling.{Places, Derives, IsPlacedProgram, places_of, levels_program}
 use Rattle.gib_syntax.specs.Source.{Spells}
-use Rattle.gib_syntax.specs.Typing.{IsTypedProgram}
 use Rattle.gib_app.specs.declared.source_fault.SourceFault.{SourceFault}
-use Rattle.gib_app.specs.declared.source_fault.SourceFault.TheVariants.{Long, BadCharacter, BigNumber, ManyNames, Syntax, Nested, Broken}
+use Rattle.gib_app.specs.declared.source_fault.SourceFault.TheVariants.{Long, BadCharacter, BigNumber, ManyNames, Syntax, Nested, Broken, OverLimit}
 use Rattle.gib_app.specs.Running.{IsNoProgram}
 use Rattle.gib_app.specs.SourceFaults.{IsSourceFault, HasTokens}
 
@@ -26,9 +33,9 @@ pub record Laws : Type 0 where
   pub nothing : (bytes : List ℕ) (fault : LexFault) (l : Lexed) → IsRefused bytes fault → IsLexed bytes l → length bytes ≤ 1048576 → length l.names ≤ 65535 → ⊥
   pub one : (bytes : List ℕ) (f g : LexFault) → IsRefused bytes f → IsRefused bytes g → f ≡ g
   pub lexed : (bytes : List ℕ) (l m : Lexed) → IsLexed bytes l → IsLexed bytes m → l ≡ m
-  pub text : (text : List ℕ) (l m : Lexed) (p q : ProgramTree) → Spells text l p → Spells text m q → (l ≡ m) × (p ≡ q)
-  pub read : (at : Places) (tokens : List Token) (p : ProgramTree) → Derives tokens p → IsPlacedProgram at p → levels_program p ≤ 200 → whole at tokens ≡ Ok (p, [])
-  pub typed : (p : ProgramTree) → IsTypedProgram p → first_fault p ≡ None
+  pub text : (text : List ℕ) (l m : Lexed) (p q : GenericProgramTree) → Spells text l p → Spells text m q → (l ≡ m) × (p ≡ q)
+  pub read : (at : Places) (tokens : List Token) (p : GenericProgramTree) → Derives tokens p → IsPlacedProgram at p → levels_program p ≤ 200 → whole at tokens ≡ Ok (p, [])
+  pub typed : (p : GenericProgramTree) → IsTypedGeneric p → first_fault p ≡ None
 
 -- the fault of a source by that of its lexing, of its tokens, of its program
 
@@ -49,7 +56,8 @@ of_typing fault = Broken fault.kind fault.span.start
 data Stage (source : List ℕ) (f : SourceFault) : Type 0 where
   Lexing : (fault : LexFault) → IsRefused source fault → f ≡ of_lexing fault → Stage source f
   Reading : (l : Lexed) (fault : ReadFault) → HasTokens source l → read_of l ≡ Err fault → f ≡ of_reading l fault → Stage source f
-  Typing : (l : Lexed) (p : ProgramTree) (fault : Fault) → Spells source l p → first_fault p ≡ Some fault → f ≡ of_typing fault → Stage source f
+  Typing : (l : Lexed) (p : GenericProgramTree) (fault : Fault) → Spells source l p → first_fault p ≡ Some fault → f ≡ of_typing fault → Stage source f
+  Copying : (l : Lexed) (p : GenericProgramTree) (use_of : Span) → Spells source l p → IsTypedGeneric p → copies_of p ≡ Err use_of → f ≡ OverLimit use_of.start → Stage source f
 
 stage : (source : List ℕ) (f : SourceFault) → IsSourceFault source f → Stage source f
 stage source Long h = Lexing lexing.Long h refl
@@ -60,6 +68,7 @@ stage source (Syntax place) h = Reading h.lexed (At h.refused.left) h.tokens h.r
 stage source (Nested place) h = Reading h.lexed (TooDeep h.nested.left) h.tokens h.nested.read (ap Nested h.nested.here)
 stage source (Broken kind place) h =
     Typing h.lexed h.program h.fault h.spelled h.first (ap (λ k. Broken k place) (sym h.of_kind) ∙ ap (Broken h.fault.kind) (sym h.here))
+stage source (OverLimit place) h = Copying h.lexed h.program h.use_of h.spelled h.typed h.first (ap OverLimit (sym h.here))
 
 -- a text that is refused by its tokens is no program's
 
@@ -69,16 +78,26 @@ OneLexed = (bytes : List ℕ) (l m : Lexed) → IsLexed bytes l → IsLexed byte
 
 -- a program's tokens are read as that program
 abbrev pub IsRead : Type 0
-IsRead = (at : Places) (tokens : List Token) (p : ProgramTree) → Derives tokens p → IsPlacedProgram at p → levels_program p ≤ 200 → whole at tokens ≡ Ok (p, [])
+IsRead = (at : Places) (tokens : List Token) (p : GenericProgramTree) → Derives tokens p → IsPlacedProgram at p → levels_program p ≤ 200 → whole at tokens ≡ Ok (p, [])
 
-read_nowhere : OneLexed → IsRead → (source : List ℕ) (l m : Lexed) (fault : ReadFault) (p : ProgramTree) → HasTokens source l → read_of l ≡ Err fault → Spells source m p → ⊥
+-- a text makes one program
+abbrev pub OneText : Type 0
+OneText = (text : List ℕ) (l m : Lexed) (p q : GenericProgramTree) → Spells text l p → Spells text m q → (l ≡ m) × (p ≡ q)
+
+-- a program with a use over a limit has no copy
+copy_nowhere : (p q : GenericProgramTree) (f : Span) (found : List Copy) → p ≡ q → copies_of p ≡ Err f → copies_of q ≡ Ok found → ⊥
+copy_nowhere p q f found e a b =
+    let T : GenericProgramTree → Type 0 = λ x. copies_of x ≡ Err f in
+    let both = sym (subst T e a) ∙ b in cc
+
+read_nowhere : OneLexed → IsRead → (source : List ℕ) (l m : Lexed) (fault : ReadFault) (p : GenericProgramTree) → HasTokens source l → read_of l ≡ Err fault → Spells source m p → ⊥
 read_nowhere one_lexed is_read source l m fault p tokens e spells =
     let same = one_lexed source m l spells.is_lexed tokens.is_lexed in
     let R : Lexed → Type 0 = λ x. read_of x ≡ Ok (p, []) in
     let ok = subst R same (is_read (places_of m.spans) m.tokens p spells.derived spells.placed spells.shallow) in
     let both = sym e ∙ ok in cc
 
-not_read : Laws → (source : List ℕ) (l m : Lexed) (fault : ReadFault) (p : ProgramTree) → HasTokens source l → read_of l ≡ Err fault → Spells source m p → ⊥
+not_read : Laws → (source : List ℕ) (l m : Lexed) (fault : ReadFault) (p : GenericProgramTree) → HasTokens source l → read_of l ≡ Err fault → Spells source m p → ⊥
 not_read laws source l m fault p tokens e spells = read_nowhere laws.lexed laws.read source l m fault p tokens e spells
 
 -- a fault of the tokens is one of the source, which is no program
@@ -88,14 +107,40 @@ pub parse_refused : OneLexed → IsRead → (source : List ℕ) (l : Lexed) (fau
 parse_refused one_lexed is_read source l parsing.Memory tokens blamed deep read = tt {0}
 parse_refused one_lexed is_read source l (parsing.At place) tokens blamed deep read = (
   record { lexed = l; tokens = tokens; blamed = blamed place refl; refused = read },
-  λ m p prog. read_nowhere one_lexed is_read source l m (At read.left) p tokens read.read prog.spelled,
+  λ t p prog. read_nowhere one_lexed is_read source l prog.lexed (At read.left) prog.generic tokens read.read prog.spelled,
 )
 parse_refused one_lexed is_read source l (parsing.Nested place) tokens blamed deep read = (
   record { lexed = l; tokens = tokens; deep = deep place refl; nested = read },
-  λ m p prog. read_nowhere one_lexed is_read source l m (TooDeep read.left) p tokens read.read prog.spelled,
+  λ t p prog. read_nowhere one_lexed is_read source l prog.lexed (TooDeep read.left) prog.generic tokens read.read prog.spelled,
 )
 
-not_lexed : Laws → (source : List ℕ) (fault : LexFault) (m : Lexed) (p : ProgramTree) → IsRefused source fault → Spells source m p → ⊥
+-- a broken rule of typing is a fault of the source, which is no program
+pub check_refused : OneText → ((p : GenericProgramTree) → IsTypedGeneric p → first_fault p ≡ None) → (source : List ℕ) (l : Lexed) (g : GenericProgramTree) → Spells source l g → (fault : TypeFault) → IsFirst g fault → IsCompileStop source (check_stop fault)
+check_refused one_text none source l g spells typing.Memory first = tt {0}
+check_refused one_text none source l g spells (typing.Broken fault) first = (
+  record { lexed = l; program = g; spelled = spells; fault = fault; first = first; of_kind = refl; here = refl },
+  λ t q prog.
+      (let T : GenericProgramTree → Type 0 = λ x. first_fault x ≡ Some fault in
+      let both : Some fault ≡ None = sym (subst T ((one_text source l prog.lexed g prog.generic spells prog.spelled).1) first) ∙ none prog.generic prog.typed in cc),
+)
+
+-- a use over a limit is a fault of the source, which is no program
+pub copy_refused : OneText → (source : List ℕ) (l : Lexed) (g : GenericProgramTree) → Spells source l g → IsTypedGeneric g → (stop : Stop) → IsCopyStop g stop → IsCompileStop source stop
+copy_refused one_text source l g spells typed Usage h = h
+copy_refused one_text source l g spells typed (Source fault) (use_of, over, is) =
+    let F : SourceFault → Type 0 = λ f. IsSourceFault source f × IsNoProgram source in
+    subst F (sym is) (
+      record { lexed = l; program = g; spelled = spells; typed = typed; use_of = use_of; first = over; here = refl },
+      λ t q prog. copy_nowhere g prog.generic use_of prog.copy.found ((one_text source l prog.lexed g prog.generic spells prog.spelled).1) over prog.copy.within,
+    )
+copy_refused one_text source l g spells typed (Unread name) h = h
+copy_refused one_text source l g spells typed (Input fault) h = h
+copy_refused one_text source l g spells typed (NoValue reason) h = h
+copy_refused one_text source l g spells typed Memory h = h
+copy_refused one_text source l g spells typed (Unwritten name) h = h
+copy_refused one_text source l g spells typed Unput h = h
+
+not_lexed : Laws → (source : List ℕ) (fault : LexFault) (m : Lexed) (p : GenericProgramTree) → IsRefused source fault → Spells source m p → ⊥
 not_lexed laws source fault m p h spells = laws.nothing source fault m h spells.is_lexed spells.short spells.few_names
 
 not_tokens : Laws → (source : List ℕ) (fault : LexFault) (m : Lexed) → IsRefused source fault → HasTokens source m → ⊥
@@ -108,33 +153,52 @@ read_fault l m f g e a b =
     let same : f ≡ g = cc in
     ap (λ x. of_reading x f) e ∙ ap (of_reading m) same
 
-type_fault : (p q : ProgramTree) (f g : Fault) → p ≡ q → first_fault p ≡ Some f → first_fault q ≡ Some g → of_typing f ≡ of_typing g
+type_fault : (p q : GenericProgramTree) (f g : Fault) → p ≡ q → first_fault p ≡ Some f → first_fault q ≡ Some g → of_typing f ≡ of_typing g
 type_fault p q f g e a b =
-    let T : ProgramTree → Type 0 = λ x. first_fault x ≡ Some f in
+    let T : GenericProgramTree → Type 0 = λ x. first_fault x ≡ Some f in
     let both = sym (subst T e a) ∙ b in
     let same : f ≡ g = cc in
     ap of_typing same
+
+-- a typed program has no fault of typing
+no_fault : Laws → (p q : GenericProgramTree) (f : Fault) → p ≡ q → first_fault p ≡ Some f → IsTypedGeneric q → ⊥
+no_fault laws p q f e a typed =
+    let T : GenericProgramTree → Type 0 = λ x. first_fault x ≡ Some f in
+    let both = sym (subst T e a) ∙ laws.typed q typed in cc
+
+copy_fault : (p q : GenericProgramTree) (f g : Span) → p ≡ q → copies_of p ≡ Err f → copies_of q ≡ Err g → OverLimit f.start ≡ OverLimit g.start
+copy_fault p q f g e a b =
+    let T : GenericProgramTree → Type 0 = λ x. copies_of x ≡ Err f in
+    let both = sym (subst T e a) ∙ b in
+    let same : f ≡ g = cc in
+    ap (λ (x : Span). OverLimit x.start) same
 
 one_stage : Laws → (source : List ℕ) (f g : SourceFault) → Stage source f → Stage source g → f ≡ g
 one_stage laws source f g (Lexing a ra ea) (Lexing b rb eb) = ea ∙ ap of_lexing (laws.one source a b ra rb) ∙ sym eb
 one_stage laws source f g (Lexing a ra ea) (Reading m b tokens rb eb) = absurd (not_tokens laws source a m ra tokens)
 one_stage laws source f g (Lexing a ra ea) (Typing m q b spells rb eb) = absurd (not_lexed laws source a m q ra spells)
+one_stage laws source f g (Lexing a ra ea) (Copying m q b spells typed rb eb) = absurd (not_lexed laws source a m q ra spells)
 one_stage laws source f g (Reading l a tokens ra ea) (Lexing b rb eb) = absurd (not_tokens laws source b l rb tokens)
 one_stage laws source f g (Reading l a tokens ra ea) (Reading m b others rb eb) = ea ∙ read_fault l m a b (laws.lexed source l m tokens.is_lexed others.is_lexed) ra rb ∙ sym eb
 one_stage laws source f g (Reading l a tokens ra ea) (Typing m q b spells rb eb) = absurd (not_read laws source l m a q tokens ra spells)
+one_stage laws source f g (Reading l a tokens ra ea) (Copying m q b spells typed rb eb) = absurd (not_read laws source l m a q tokens ra spells)
 one_stage laws source f g (Typing l p a spells ra ea) (Lexing b rb eb) = absurd (not_lexed laws source b l p rb spells)
 one_stage laws source f g (Typing l p a spells ra ea) (Reading m b tokens rb eb) = absurd (not_read laws source m l b p tokens rb spells)
 one_stage laws source f g (Typing l p a spells ra ea) (Typing m q b others rb eb) = ea ∙ type_fault p q a b ((laws.text source l m p q spells others).1) ra rb ∙ sym eb
+one_stage laws source f g (Typing l p a spells ra ea) (Copying m q b others typed rb eb) = absurd (no_fault laws p q a ((laws.text source l m p q spells others).1) ra typed)
+one_stage laws source f g (Copying l p a spells typed ra ea) (Lexing b rb eb) = absurd (not_lexed laws source b l p rb spells)
+one_stage laws source f g (Copying l p a spells typed ra ea) (Reading m b tokens rb eb) = absurd (not_read laws source m l b p tokens rb spells)
+one_stage laws source f g (Copying l p a spells typed ra ea) (Typing m q b others rb eb) = absurd (no_fault laws q p b ((laws.text source m l q p others spells).1) rb typed)
+one_stage laws source f g (Copying l p a spells typed ra ea) (Copying m q b others other rb eb) = ea ∙ copy_fault p q a b ((laws.text source l m p q spells others).1) ra rb ∙ sym eb
 
 pub one_fault : Laws → (source : List ℕ) (f g : SourceFault) → IsSourceFault source f → IsSourceFault source g → f ≡ g
 one_fault laws source f g h k = one_stage laws source f g (stage source f h) (stage source g k)
 
 no_stage : Laws → (source : List ℕ) (f : SourceFault) → Stage source f → IsNoProgram source
-no_stage laws source f (Lexing a ra ea) m q prog = not_lexed laws source a m q ra prog.spelled
-no_stage laws source f (Reading l a tokens ra ea) m q prog = not_read laws source l m a q tokens ra prog.spelled
-no_stage laws source f (Typing l p a spells ra ea) m q prog =
-    let T : ProgramTree → Type 0 = λ x. first_fault x ≡ Some a in
-    let both = sym (subst T ((laws.text source l m p q spells prog.spelled).1) ra) ∙ laws.typed q prog.typed in cc
+no_stage laws source f (Lexing a ra ea) t q prog = not_lexed laws source a prog.lexed prog.generic ra prog.spelled
+no_stage laws source f (Reading l a tokens ra ea) t q prog = not_read laws source l prog.lexed a prog.generic tokens ra prog.spelled
+no_stage laws source f (Typing l p a spells ra ea) t q prog = no_fault laws p prog.generic a ((laws.text source l prog.lexed p prog.generic spells prog.spelled).1) ra prog.typed
+no_stage laws source f (Copying l p a spells typed ra ea) t q prog = copy_nowhere p prog.generic a prog.copy.found ((laws.text source l prog.lexed p prog.generic spells prog.spelled).1) ra prog.copy.within
 
 pub no_program : Laws → (source : List ℕ) (f : SourceFault) → IsSourceFault source f → IsNoProgram source
 no_program laws source f h = no_stage laws source f (stage source f h)

@@ -1,4 +1,5 @@
 -- What a job makes that stopped.
+use Rattle.gib_base.specs.Texts.{TextsView}
 use Rattle.std.proofs.Common.{◌≡◌, List, ℕ, Option, Some, None, Result, Ok, Err, IfOk, IfErr, sym, subst}
 use Rattle.gib_types.specs.Tree.{Datum}
 use Rattle.gib_syntax.specs.Tree.{ProgramTree}
@@ -21,11 +22,11 @@ abbrev pub StopsJob : (InputFault → Type 0) → (Reason → Type 0) → Stop �
 StopsJob I N = StopsBy (λ fault. ⊥) (λ name. ⊥) I N (λ name. ⊥)
 
 -- The input of a run is refused.
-abbrev pub RunRefused : ProgramTree → List (List ℕ) → List ℕ → InputFault → Type 0
+abbrev pub RunRefused : ProgramTree → TextsView → List ℕ → InputFault → Type 0
 RunRefused p names input fault = IsInputFault p names input fault × (((v : Datum) × IsInput p names v input) → ⊥)
 
 -- The inputs of a replay are refused.
-abbrev pub ReplayRefused : ProgramTree → List (List ℕ) → (input bytes : List ℕ) → InputFault → Type 0
+abbrev pub ReplayRefused : ProgramTree → TextsView → (input bytes : List ℕ) → InputFault → Type 0
 ReplayRefused p names input bytes fault = IsReplayFault p names input bytes fault × (OnJournal p names input bytes (Happens p) → ⊥)
 
 -- Each cause gives another one.

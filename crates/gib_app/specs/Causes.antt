@@ -1,6 +1,6 @@
 -- What the words of a call ask for, the bytes of its files, and the counts of faults.
+use Rattle.gib_base.specs.Texts.{TextsView}
 use Rattle.std.specs.Prelude.{◌≡◌, ℕ, ◌⊎◌, List, [], ◌∷◌, length, Option, None, Some, MatchOption, Bool}
-use Rattle.gib_base.specs.Lexed.{Lexed}
 use Rattle.gib_edge.specs.Causes.{Rose, IsAllOf, Appends, AppendsPart, PutsPieces, PutsSomePieces}
 use Rattle.gib_edge.specs.Views.{ShelfView, SinkView}
 use Rattle.gib_types.specs.Tree.{Datum}
@@ -46,21 +46,21 @@ pub record OnFiles (kept : Files) (first : Document) (inputs : List Input) (P : 
   pub given_held : AreGiven kept inputs given
   pub holds : P source given
 
--- The source is a program, of which this holds with its names.
-pub record OnProgram (source : List ℕ) (P : ProgramTree → List (List ℕ) → Type 0) : Type 0 where
-  pub lexed : Lexed
+-- The source is a program, of which this holds with the texts of its names.
+pub record OnProgram (source : List ℕ) (P : ProgramTree → TextsView → Type 0) : Type 0 where
+  pub texts : TextsView
   pub program : ProgramTree
-  pub is_program : IsProgram source lexed program
-  pub holds : P program lexed.names
+  pub is_program : IsProgram source texts program
+  pub holds : P program texts
 
 -- The first input has these bytes; where they are a packed file of a value that the program takes, so have the further ones: else
 -- these are not read.
-abbrev pub AreReached : Files → ProgramTree → List (List ℕ) → List Input → Contents → Type 0
+abbrev pub AreReached : Files → ProgramTree → TextsView → List Input → Contents → Type 0
 AreReached kept p names [] given = (given.second ≡ []) × (given.further ≡ [])
 AreReached kept p names (input ∷ rest) given = Holds kept input.document given.second × (((v : Datum) × IsInput p names v given.second) → AreFurther kept rest given.further)
 
 -- The source of a plan is a program, of which this holds with its names and the bytes of the inputs, as far as these are read.
-pub record OnReached (kept : Files) (plan : Plan) (P : ProgramTree → List (List ℕ) → Contents → Type 0) : Type 0 where
+pub record OnReached (kept : Files) (plan : Plan) (P : ProgramTree → TextsView → Contents → Type 0) : Type 0 where
   pub source : List ℕ
   pub given : Contents
   pub source_held : Holds kept plan.source source
@@ -71,15 +71,15 @@ abbrev pub AsksSource : Bool → List (List ℕ) → Files → (List ℕ → Typ
 AsksSource tells words kept P = MatchOption (asked words) ⊥ (λ plan. OnSource (at_reading tells kept plan) plan.source P)
 
 -- The source of a plan is a program, of which this holds with its names and the bytes of the inputs.
-abbrev pub OnBoth : Files → Plan → (ProgramTree → List (List ℕ) → Contents → Type 0) → Type 0
+abbrev pub OnBoth : Files → Plan → (ProgramTree → TextsView → Contents → Type 0) → Type 0
 OnBoth kept plan P = OnFiles kept plan.source (inputs_of plan) (λ source given. OnProgram source (λ p names. P p names given))
 
 -- The words are taken, and the same holds of their plan.
-abbrev pub AsksProgram : Bool → List (List ℕ) → Files → (Plan → ProgramTree → List (List ℕ) → Contents → Type 0) → Type 0
+abbrev pub AsksProgram : Bool → List (List ℕ) → Files → (Plan → ProgramTree → TextsView → Contents → Type 0) → Type 0
 AsksProgram tells words kept P = MatchOption (asked words) ⊥ (λ plan. OnBoth (at_reading tells kept plan) plan (P plan))
 
 -- The job was done and ends so; the file that it made, if any, was written, and then the packed file of its result, if it made one.
-pub record IsEnded (tells : Bool) (before now : Files) (plan : Plan) (p : ProgramTree) (names : List (List ℕ)) (given : Contents) (end : End) : Type 0 where
+pub record IsEnded (tells : Bool) (before now : Files) (plan : Plan) (p : ProgramTree) (names : TextsView) (given : Contents) (end : End) : Type 0 where
   pub file : Option (List ℕ)
   pub packed : Option (List ℕ)
   pub does : Does plan.job plan.options p names given file end
@@ -93,13 +93,13 @@ IsStored (Some name) None = ⊥
 IsStored (Some name) (Some bytes) = Unit {0}
 
 -- The job was done and ends with a text; the files that it made are written, and each that is asked for is one of them.
-pub record IsMade (tells : Bool) (before now : Files) (plan : Plan) (p : ProgramTree) (names : List (List ℕ)) (given : Contents) (text : List ℕ) : Type 0 where
+pub record IsMade (tells : Bool) (before now : Files) (plan : Plan) (p : ProgramTree) (names : TextsView) (given : Contents) (text : List ℕ) : Type 0 where
   pub ended : IsEnded tells before now plan p names given (Prints text)
   pub stored : IsStored plan.target ended.file
   pub stored_packed : IsStored plan.pack ended.packed
 
 -- The job ends without a value, for this reason.
-abbrev pub HasNoValue : Reason → Plan → ProgramTree → List (List ℕ) → Contents → Type 0
+abbrev pub HasNoValue : Reason → Plan → ProgramTree → TextsView → Contents → Type 0
 HasNoValue reason plan p names given = (file : Option (List ℕ)) × Does plan.job plan.options p names given file (NoValue reason)
 
 -- What the words ask for was made, and `out` took it, whole and nothing else, in pieces; what is to be written is written.
@@ -117,11 +117,11 @@ IsPrintedInPart tells words before now out_before out_now =
     × AppendsPart out_before.taken out_now.taken text × PutsSomePieces out_before out_now (length text))
 
 -- The job ends without a value, for this reason; the file that it made, if any, is written, and no packed file of a result.
-abbrev pub EndsWithout : Bool → ShelfView → ShelfView → Reason → Plan → ProgramTree → List (List ℕ) → Contents → Type 0
+abbrev pub EndsWithout : Bool → ShelfView → ShelfView → Reason → Plan → ProgramTree → TextsView → Contents → Type 0
 EndsWithout tells before now reason plan p names given = IsEnded tells before.kept now.kept plan p names given (NoValue reason)
 
 -- The job makes a file that is to be written under this name, or the packed file of its result, and that write fails.
-pub record IsUnwritten (tells : Bool) (before now : ShelfView) (plan : Plan) (p : ProgramTree) (names : List (List ℕ)) (given : Contents) (name : List ℕ) : Type 0 where
+pub record IsUnwritten (tells : Bool) (before now : ShelfView) (plan : Plan) (p : ProgramTree) (names : TextsView) (given : Contents) (name : List ℕ) : Type 0 where
   pub file : Option (List ℕ)
   pub packed : Option (List ℕ)
   pub ending : End

@@ -1,4 +1,5 @@
 -- Each status by its cause, and what stays with it.
+use Rattle.gib_base.specs.Texts.{TextsView}
 use Rattle.std.specs.Prelude.{◌≡◌, ◌≢◌, ◌⊎◌, ℕ, List, [], ◌∷◌, ◌++◌, take, codes, Option, None, Some, MatchOption, Bool, ⊤}
 use Rattle.std.specs.Option.{option_map_or}
 use Rattle.gib_edge.specs.Causes.{Rose}
@@ -83,7 +84,7 @@ StaysAfter tells first before now Trap = ⊤
 StaysAfter tells first before now Long = ⊤
 
 -- The job makes both files, of which this is the first.
-abbrev pub MakesBoth : List ℕ → Plan → ProgramTree → List (List ℕ) → Contents → Type 0
+abbrev pub MakesBoth : List ℕ → Plan → ProgramTree → TextsView → Contents → Type 0
 MakesBoth bytes plan p names given = (packed : List ℕ) × (end : End) × DoesAll plan.job plan.options p names given (Some bytes) (Some packed) end
 
 -- Both files of a job are asked for and were made, and memory ran out between their writes: the first one was written, and nothing behind it.
@@ -121,7 +122,7 @@ ends_as Trace = Run
 ends_as job = job
 
 -- The job ends with a text, where it may leave out an image, and the packed file of its result, where that is asked for, is not too long.
-abbrev pub HasText : Plan → ProgramTree → List (List ℕ) → Contents → Type 0
+abbrev pub HasText : Plan → ProgramTree → TextsView → Contents → Type 0
 HasText plan p names given =
     (file : Option (List ℕ)) × (text : List ℕ) × Does (ends_as plan.job) (without_image plan.options) p names given file (Prints text)
     × ((packed : Option (List ℕ)) × DoesPack plan.job plan.options p names given packed (Prints text))
@@ -151,7 +152,7 @@ pub record DueOfSource (tells : Bool) (before now : ShelfView) (plan : Plan) (P 
 
 -- The bytes of all files are told, the source is a program, of which this holds with its names and the bytes
 -- of the inputs, and no count of these files rose, nor that of a first write.
-pub record DueOfFiles (tells : Bool) (before now : ShelfView) (plan : Plan) (P : ProgramTree → List (List ℕ) → Contents → Type 0) : Type 0 where
+pub record DueOfFiles (tells : Bool) (before now : ShelfView) (plan : Plan) (P : ProgramTree → TextsView → Contents → Type 0) : Type 0 where
   pub source : List ℕ
   pub given : Contents
   pub source_told : bytes_in (at_reading tells before.kept plan) plan.source ≡ Has source
@@ -198,7 +199,7 @@ pub record TakesAll (before now : ShelfView) (out_before out_now : SinkView) (pl
 
 -- The job ends without a value for this reason, where it may leave out an image; and where it makes a file then, the count of its name
 -- did not rise.
-abbrev pub DueWithout : ShelfView → ShelfView → Reason → Plan → ProgramTree → List (List ℕ) → Contents → Type 0
+abbrev pub DueWithout : ShelfView → ShelfView → Reason → Plan → ProgramTree → TextsView → Contents → Type 0
 DueWithout before now reason plan p names given =
     ((file : Option (List ℕ)) × Does (ends_as plan.job) (without_image plan.options) p names given file (NoValue reason))
     × ((name bytes : List ℕ) → plan.target ≡ Some name → Does plan.job plan.options p names given (Some bytes) (NoValue reason) → Rose (before.writes name) (now.writes name) → ⊥)

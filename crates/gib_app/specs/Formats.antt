@@ -1,4 +1,5 @@
 -- What the inputs of each job are, which are accepted as that, and why others are refused.
+use Rattle.gib_base.specs.Texts.{TextsView}
 use Rattle.std.specs.Prelude.{Bool, ℕ, List, [], ◌∷◌, Option, None, Some, MatchOption, ⊤}
 use Rattle.std.specs.Option.{option_map_or}
 use Rattle.gib_types.specs.Tree.{Datum}
@@ -68,23 +69,23 @@ inputs_of plan = with_limits (option_map_or limits_of (format_of plan.job) []) p
 
 -- The inputs are accepted as that.
 -- An image is read by the layouts that the flag `--skips` chooses; what is packed, and how, the flags `--from` and `--v1` tell.
-abbrev pub IsAccepted : Format → Options → ProgramTree → List (List ℕ) → Contents → Type 0
+abbrev pub IsAccepted : Format → Options → ProgramTree → TextsView → Contents → Type 0
 IsAccepted Packed options p names given = (v : Datum) × IsInput p names v given.second
 IsAccepted Packable options p names given = (packed : List ℕ) × IsPackedBy options.repacks options.first_version p names given.second packed
 IsAccepted Shown options p names given = (v : Datum) × IsShownValue p names options.skips v given.second
 IsAccepted Journaled options p names given = OnJournal p names given.second (journal_in given) (Happens p)
 
 -- The inputs are refused as that, for this fault.
-abbrev pub IsRefused : Format → Options → ProgramTree → List (List ℕ) → Contents → InputFault → Type 0
+abbrev pub IsRefused : Format → Options → ProgramTree → TextsView → Contents → InputFault → Type 0
 IsRefused Packed options p names given fault = IsInputFault p names given.second fault
 IsRefused Packable options p names given fault = IsPackFault options.repacks options.first_version p names given.second fault
 IsRefused Shown options p names given fault = IsShowFault p names options.skips given.second fault
 IsRefused Journaled options p names given fault = IsReplayFault p names given.second (journal_in given) fault
 
 -- A job accepts its inputs, if it has some.
-abbrev pub Accepts : Job → Options → ProgramTree → List (List ℕ) → Contents → Type 0
+abbrev pub Accepts : Job → Options → ProgramTree → TextsView → Contents → Type 0
 Accepts job options p names given = MatchOption (format_of job) ⊤ (λ format. IsAccepted format options p names given)
 
 -- A job refuses its inputs for this fault.
-abbrev pub Refuses : Job → Options → ProgramTree → List (List ℕ) → Contents → InputFault → Type 0
+abbrev pub Refuses : Job → Options → ProgramTree → TextsView → Contents → InputFault → Type 0
 Refuses job options p names given fault = MatchOption (format_of job) ⊥ (λ format. IsRefused format options p names given fault)

@@ -1,14 +1,19 @@
 -- What a call of `run` promises, in the fewest words: a reader may begin here.
-use Rattle.std.specs.Prelude.{◌≡◌, ◌≤◌, ◌<◌, Bool, ℕ, List, [], ◌∷◌, ◌++◌, length, Option, None, Some}
+use Rattle.std.specs.Prelude.{◌≡◌, ◌≤◌, ◌<◌, Bool, ℕ, List, [], ◌∷◌, ◌++◌, length, Option, None, Some, Ok}
 use Rattle.gib_base.specs.Lexed.{Lexed}
-use Rattle.gib_types.specs.Tree.{Datum}
-use Rattle.gib_value.specs.Text.{text}
+use Rattle.gib_types.specs.Tree.{Datum, HasType}
 use Rattle.gib_file.specs.Framed.{File, File2}
 use Rattle.gib_syntax.specs.Tree.{ProgramTree}
 use Rattle.gib_syntax.specs.Source.{Spells}
 use Rattle.gib_syntax.specs.Declarations.{table_of_program, input_type, output_type}
-use Rattle.gib_syntax.specs.Typing.{IsTypedProgram}
-use Rattle.gib_syntax.specs.Meaning.{Reason, Deep, Trap, Gives, Stops, run}
+use Rattle.gib_syntax.specs.GenericTree.{GenericProgramTree, rows_of}
+use Rattle.gib_syntax.specs.GenericTyping.{IsTypedGeneric}
+use Rattle.gib_syntax.specs.GenericMeaning.{run_generic}
+use Rattle.gib_syntax.specs.Meaning.{Reason, Deep, Trap, Outcome, Gives, Stops}
+use Rattle.gib_mono.specs.Copied.{shown}
+use Rattle.gib_mono.specs.Walk.{Copy, copies_of, copied_program, base_of}
+use Rattle.gib_mono.specs.Naming.{entries, naming_of}
+use Rattle.gib_mono.specs.Showing.{long_texts}
 use Rattle.gib_edge.specs.Causes.{Rose}
 use Rattle.gib_edge.specs.Views.{Has, ShelfView, SinkView}
 use Rattle.gib_core.specs.Cost.{run_cost}
@@ -20,6 +25,7 @@ use Rattle.gib_app.specs.Words.{asked}
 use Rattle.gib_print.specs.Image.{IsImageOf, chunk_count}
 use Rattle.gib_app.specs.Cores.{core_after, layouts_of}
 use Rattle.gib_app.specs.Causes.{IsUnread}
+use Rattle.gib_app.specs.GenericText.{generic_text}
 
 -- To run the program of one document on the packed value of another, and to write the image of region memory under a name.
 abbrev pub run_plan : Document → Document → Option (List ℕ) → Options → Plan
@@ -37,35 +43,56 @@ pub record IsRun (words : List (List ℕ)) (files : ShelfView) (out : SinkView) 
   pub input_is : bytes_in files.kept packed ≡ Has input
   pub front_is : out.taken ≡ Some front
 
--- The source spells a typed program, and the input is the packed file of a value of the type of main's parameter.
+-- The copy of a program, with its names by their numbers among those of the source.
+abbrev pub copy_with : GenericProgramTree → Lexed → List Copy → ProgramTree
+copy_with program lexed found = copied_program program (naming_of (length lexed.names) (entries found)) found
+
+-- The source spells a typed program, with type parameters or without. It is copied for the types with which its declarations are
+-- used, all within the limits, and the input is the packed file of a value of the type that main's parameter has in the copy: that
+-- of a copied type, where it is one. What descriptions call a type there tells its types too, as `List[Int]`.
 pub record Given (source input : List ℕ) : Type 0 where
   pub lexed : Lexed
-  pub program : ProgramTree
+  pub program : GenericProgramTree
+  pub found : List Copy
   pub value : Datum
   pub spelled : Spells source lexed program
-  pub typed : IsTypedProgram program
+  pub typed : IsTypedGeneric program
+  pub within : copies_of program ≡ Ok found
   pub short : length input ≤ 16777216
-  pub file : File (table_of_program program) lexed.names (input_type program) value input
+  pub file : File (table_of_program (copy_with program lexed found)) (long_texts lexed.names (entries found)) (input_type (copy_with program lexed found)) value input
+
+-- The copy.
+abbrev pub copy_in : {source input : List ℕ} → Given source input → ProgramTree
+copy_in given = copy_with given.program given.lexed given.found
+
+-- A value of the copy as one of the program: each copied constructor is read as the one that it is a copy of.
+abbrev pub read_in : {source input : List ℕ} → Given source input → Datum → Datum
+read_in given v = shown (base_of (rows_of given.program.datas) given.found) v
+
+-- What the program means on the input within the depth.
+abbrev pub meant_in : {source input : List ℕ} → Given source input → ℕ → Outcome
+meant_in given depth = run_generic given.program depth (read_in given given.value)
 
 -- The program means a value on the input within the depth, and this is its text with a line feed.
 pub record IsResult (source input : List ℕ) (depth : ℕ) (output : List ℕ) : Type 0 where
   pub given : Given source input
   pub result : Datum
-  pub means : run given.program depth given.value ≡ Gives result
-  pub is_text : output ≡ text (table_of_program given.program) given.lexed.names result ++ 10 ∷ []
+  pub means : meant_in given depth ≡ Gives result
+  pub is_text : output ≡ generic_text (rows_of given.program.datas) given.lexed.names result ++ 10 ∷ []
 
--- The bytes are an image of at most so many chunks, in which the value stands that the program means on the input within the depth.
+-- The bytes are an image of at most so many chunks, in which a value of the copy stands that is read as the one that the program
+-- means on the input within the depth.
 pub record IsResultImage (source input : List ℕ) (skips : Bool) (depth chunks : ℕ) (bytes : List ℕ) : Type 0 where
   pub given : Given source input
   pub result : Datum
-  pub means : run given.program depth given.value ≡ Gives result
-  pub image : IsImageOf (layouts_of skips given.program) (output_type given.program) bytes result
+  pub means : meant_in given depth ≡ Gives (read_in given result)
+  pub image : IsImageOf (layouts_of skips (copy_in given)) (output_type (copy_in given)) bytes result
   pub few : chunk_count bytes ≤ chunks
 
 -- The program means no value on the input within the depth, for this reason.
 pub record HasNoResult (source input : List ℕ) (depth : ℕ) (why : Reason) : Type 0 where
   pub given : Given source input
-  pub means : run given.program depth given.value ≡ Stops why
+  pub means : meant_in given depth ≡ Stops why
 
 -- Its meaning runs out of depth: a call comes with no depth left.
 abbrev pub IsTooDeep : (source input : List ℕ) → (depth : ℕ) → Type 0
@@ -78,7 +105,7 @@ DividesByZero source input depth = HasNoResult source input depth Trap
 -- So many chunks may not be enough for what the run costs, where so many calls and forks may be nested.
 pub record IsTooBig (source input : List ℕ) (skips : Bool) (depth forks chunks : ℕ) : Type 0 where
   pub given : Given source input
-  pub tight : Tight chunks (run_cost (core_after skips 4 given.program) depth forks given.value)
+  pub tight : Tight chunks (run_cost (core_after skips 4 (copy_in given)) depth forks given.value)
 
 -- No read of the two documents failed in the call, nor the write of an image, nor a put on `out`.
 pub record NoneFailed (program packed : Document) (image : Option (List ℕ)) (before now : ShelfView) (out_before out_now : SinkView) : Type 0 where
@@ -104,21 +131,22 @@ pub record IsPackingRun (words : List (List ℕ)) (files : ShelfView) (out : Sin
   pub input_is : bytes_in files.kept packed ≡ Has input
   pub front_is : out.taken ≡ Some front
 
--- The bytes are the packed file, of version 2, of the value that the program means on the input within the depth, which is of the type of
--- main's result, and are no more than 16,777,216.
+-- The bytes are the packed file, of version 2, of a value of the copy, of the type of main's result, that is read as the one that the
+-- program means on the input within the depth, and are no more than 16,777,216.
 pub record IsResultFile (source input : List ℕ) (depth : ℕ) (bytes : List ℕ) : Type 0 where
   pub given : Given source input
   pub result : Datum
-  pub means : run given.program depth given.value ≡ Gives result
-  pub file : File2 (table_of_program given.program) given.lexed.names (output_type given.program) result bytes
+  pub means : meant_in given depth ≡ Gives (read_in given result)
+  pub file : File2 (table_of_program (copy_in given)) (long_texts given.lexed.names (entries given.found)) (output_type (copy_in given)) result bytes
   pub few : length bytes ≤ 16777216
 
--- The program means a value on the input within the depth whose packed file has more bytes.
+-- The program means a value on the input within the depth, as which a value of the copy is read whose packed file has more bytes.
 pub record HasLongFile (source input : List ℕ) (depth : ℕ) : Type 0 where
   pub given : Given source input
   pub result : Datum
-  pub means : run given.program depth given.value ≡ Gives result
-  pub long : (bytes : List ℕ) → File2 (table_of_program given.program) given.lexed.names (output_type given.program) result bytes → 16777216 < length bytes
+  pub typed : HasType (table_of_program (copy_in given)) result (output_type (copy_in given))
+  pub means : meant_in given depth ≡ Gives (read_in given result)
+  pub long : (bytes : List ℕ) → File2 (table_of_program (copy_in given)) (long_texts given.lexed.names (entries given.found)) (output_type (copy_in given)) result bytes → 16777216 < length bytes
 
 -- None of these failed, nor the write of the packed file of the result.
 pub record NoWriteFailed (program packed : Document) (image : Option (List ℕ)) (pack : List ℕ) (before now : ShelfView) (out_before out_now : SinkView) : Type 0 where

@@ -1,4 +1,5 @@
 -- Why the inputs of a command are refused. Places count from 0: in a packed file from its payload's start, or from its description's.
+use Rattle.gib_base.specs.Texts.{TextsView}
 use Rattle.std.specs.Prelude.{◌≡◌, ◌≤◌, ◌<◌, ◌⊎◌, Bool, true, false, ℕ, List, [], ◌∷◌, length, take, Err}
 use Rattle.gib_types.specs.declared.table.Ty.{Ty}
 use Rattle.gib_types.specs.Table.{Table}
@@ -56,11 +57,11 @@ IsFileFault table names ty bytes (Truth place) = IsPayloadFault table names ty b
 IsFileFault table names ty bytes (Trailing place) = IsPayloadFault table names ty bytes (payload.Trailing place)
 
 -- The first fault of a packed file that is to be of the type of main's parameter.
-abbrev pub IsPackedFault : ProgramTree → List (List ℕ) → List ℕ → PackedFault → Type 0
-IsPackedFault p names bytes fault = (length bytes ≤ 16777216) × IsFileFault (table_of_program p) names (input_type p) bytes fault
+abbrev pub IsPackedFault : ProgramTree → TextsView → List ℕ → PackedFault → Type 0
+IsPackedFault p names bytes fault = (length bytes ≤ 16777216) × IsFileFault (table_of_program p) names.long (input_type p) bytes fault
 
 -- The input of a run is refused for this fault: it has more than 16,777,216 bytes, or is no packed file.
-abbrev pub IsInputFault : ProgramTree → List (List ℕ) → List ℕ → InputFault → Type 0
+abbrev pub IsInputFault : ProgramTree → TextsView → List ℕ → InputFault → Type 0
 IsInputFault p names bytes (Long most) = (most ≡ 16777216) × (16777216 < length bytes)
 IsInputFault p names bytes (Packed fault) = IsPackedFault p names bytes fault
 IsInputFault p names bytes (Image fault) = ⊥
@@ -85,7 +86,7 @@ IsImageFault p skips bytes image.Long = IsRefused (layouts_of skips p) (output_t
 
 -- The file that is to be shown is refused for this fault: it is too long, begins neither as a packed file nor as an image, or
 -- is none.
-abbrev pub IsShowFault : ProgramTree → List (List ℕ) → (skips : Bool) → List ℕ → InputFault → Type 0
+abbrev pub IsShowFault : ProgramTree → TextsView → (skips : Bool) → List ℕ → InputFault → Type 0
 IsShowFault p names skips bytes (Long most) = IsTooLong bytes most
 IsShowFault p names skips bytes (Packed (Header header.Magic)) = (length bytes ≤ 268435480) × IsFirstFault bytes header.Magic × (HasImageSign bytes → ⊥)
 IsShowFault p names skips bytes (Packed fault) = IsPackedFault p names bytes fault
@@ -94,7 +95,7 @@ IsShowFault p names skips bytes (Text place) = ⊥
 IsShowFault p names skips bytes (Journal fault) = ⊥
 
 -- The bytes are what is packed of a value, and the file that is made of it has more than 16,777,216 bytes.
-pub record HasLongFile (repacks first : Bool) (p : ProgramTree) (names : List (List ℕ)) (bytes : List ℕ) : Type 0 where
+pub record HasLongFile (repacks first : Bool) (p : ProgramTree) (names : TextsView) (bytes : List ℕ) : Type 0 where
   pub value : Datum
   pub file : List ℕ
   pub packable : IsPackable repacks p names value bytes
@@ -103,13 +104,13 @@ pub record HasLongFile (repacks first : Bool) (p : ProgramTree) (names : List (L
 
 -- What is to be packed is refused for this fault: it has too many bytes; or it is no text of a value, by the first token that
 -- cannot stand in one, or, where a packed file is due, none; or the file that is made would have too many bytes.
-abbrev pub IsPackFault : (repacks first : Bool) → ProgramTree → List (List ℕ) → List ℕ → InputFault → Type 0
+abbrev pub IsPackFault : (repacks first : Bool) → ProgramTree → TextsView → List ℕ → InputFault → Type 0
 IsPackFault repacks first p names bytes (Long most) =
     (most ≡ 16777216) × ((16777216 < length bytes) ⊎ ((length bytes ≤ 16777216) × HasLongFile repacks first p names bytes))
 IsPackFault repacks first p names bytes (Packed fault) = (repacks ≡ true) × IsPackedFault p names bytes fault
 IsPackFault repacks first p names bytes (Image fault) = ⊥
 IsPackFault repacks first p names bytes (Text place) =
-    (repacks ≡ false) × (length bytes ≤ 16777216) × IsRefusedAt (table_of_program p) names (input_type p) (without_feed bytes) place
+    (repacks ≡ false) × (length bytes ≤ 16777216) × IsRefusedAt (table_of_program p) names.short (input_type p) (without_feed bytes) place
 IsPackFault repacks first p names bytes (Journal fault) = ⊥
 
 -- Why no journal is replayed on a value: the line of this number is the first that cannot stand in a journal; an event of the line of
@@ -121,7 +122,7 @@ IsJournalFault p v bytes journal.NotEnded = (settings : Settings) × (lines : Li
 
 -- The inputs of a replay are refused for this fault: the first is no packed file; or else the journal has more than 16,777,216 bytes, is
 -- none, or its events do not lead on.
-abbrev pub IsReplayFault : ProgramTree → List (List ℕ) → (input bytes : List ℕ) → InputFault → Type 0
+abbrev pub IsReplayFault : ProgramTree → TextsView → (input bytes : List ℕ) → InputFault → Type 0
 IsReplayFault p names input bytes (Long most) =
     IsInputFault p names input (Long most) ⊎ (((v : Datum) × IsInput p names v input) × (most ≡ 16777216) × (16777216 < length bytes))
 IsReplayFault p names input bytes (Packed fault) = IsPackedFault p names input fault

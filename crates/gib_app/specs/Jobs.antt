@@ -1,4 +1,5 @@
 -- What each job makes.
+use Rattle.gib_base.specs.Texts.{TextsView}
 use Rattle.std.specs.Prelude.{◌≡◌, ℕ, List, [], ◌∷◌, ◌++◌, codes, Bool, true, false, nat_lt, if◌then◌else◌, Option, None, Some}
 use Rattle.gib_syntax.specs.Tree.{ProgramTree}
 use Rattle.gib_core.specs.CoreText.{core_text}
@@ -31,14 +32,14 @@ abbrev pub ok_line : List ℕ
 ok_line = codes "ok" ++ 10 ∷ []
 
 -- `plain`: the text of the value that the program means on the input within the depth; or it means none.
-abbrev pub Means : ProgramTree → List (List ℕ) → ℕ → List ℕ → Option (List ℕ) → End → Type 0
+abbrev pub Means : ProgramTree → TextsView → ℕ → List ℕ → Option (List ℕ) → End → Type 0
 Means p names depth input file (Prints text) = (file ≡ None) × IsOutput p names depth input text
 Means p names depth input file (NoValue (Meant why)) = (file ≡ None) × MeansNone p names depth input (means_why why)
 Means p names depth input file (NoValue Full) = ⊥
 Means p names depth input file (NoValue Long) = ⊥
 
 -- Where an image is asked for, it is the file that a run makes; else there is none.
-abbrev pub MakesImage : Bool → ProgramTree → List (List ℕ) → (skips : Bool) → (depth chunks : ℕ) → List ℕ → Option (List ℕ) → Type 0
+abbrev pub MakesImage : Bool → ProgramTree → TextsView → (skips : Bool) → (depth chunks : ℕ) → List ℕ → Option (List ℕ) → Type 0
 MakesImage false p names skips depth chunks input file = file ≡ None
 MakesImage true p names skips depth chunks input None = ⊥
 MakesImage true p names skips depth chunks input (Some bytes) = IsRunImage p names skips depth chunks input bytes
@@ -49,7 +50,7 @@ run_forks options = if nat_lt 1 options.workers then options.fork else 0
 
 -- `run`: the same, and its image, where that is asked for; or so many chunks of memory may not be enough; or the packed file of the value,
 -- where that is asked for, would be too long: the image is made then too.
-abbrev pub Runs : ProgramTree → List (List ℕ) → Options → List ℕ → Option (List ℕ) → End → Type 0
+abbrev pub Runs : ProgramTree → TextsView → Options → List ℕ → Option (List ℕ) → End → Type 0
 Runs p names options input file (Prints text) = MakesImage options.image p names options.skips options.depth options.chunks input file × IsOutput p names options.depth input text
 Runs p names options input file (NoValue (Meant why)) = (file ≡ None) × MeansNone p names options.depth input (means_why why)
 Runs p names options input file (NoValue Full) = (file ≡ None) × FillsUp p names options.skips options.depth (run_forks options) options.chunks input
@@ -57,25 +58,25 @@ Runs p names options input file (NoValue Long) =
     MakesImage options.image p names options.skips options.depth options.chunks input file × IsLongResult p names options.depth input × (options.packs ≡ true)
 
 -- `pack`: the packed file of the value whose text, or whose packed file, this is.
-abbrev pub Packs : ProgramTree → List (List ℕ) → Options → List ℕ → Option (List ℕ) → End → Type 0
+abbrev pub Packs : ProgramTree → TextsView → Options → List ℕ → Option (List ℕ) → End → Type 0
 Packs p names options bytes file (Prints text) = (packed : List ℕ) × (file ≡ Some packed) × IsPackedBy options.repacks options.first_version p names bytes packed × (text ≡ ok_line)
 Packs p names options bytes file (NoValue reason) = ⊥
 
 -- `gen`: the line about the value that the program means on the input within the depth; or it means none; or so many chunks of
 -- memory may not be enough.
-abbrev pub Sums : ProgramTree → List (List ℕ) → Options → List ℕ → Option (List ℕ) → End → Type 0
+abbrev pub Sums : ProgramTree → TextsView → Options → List ℕ → Option (List ℕ) → End → Type 0
 Sums p names options input file (Prints text) = (file ≡ None) × IsSummary p names options.number options.levels options.depth input text
 Sums p names options input file (NoValue (Meant why)) = (file ≡ None) × MeansNone p names options.depth input (means_why why)
 Sums p names options input file (NoValue Full) = (file ≡ None) × FillsUp p names options.skips options.depth (run_forks options) options.chunks input
 Sums p names options input file (NoValue Long) = ⊥
 
 -- The journal of a run on the input, where there is a file.
-abbrev pub MakesTrace : ProgramTree → List (List ℕ) → Options → List ℕ → Option (List ℕ) → Type 0
+abbrev pub MakesTrace : ProgramTree → TextsView → Options → List ℕ → Option (List ℕ) → Type 0
 MakesTrace p names options input None = ⊥
 MakesTrace p names options input (Some bytes) = IsTrace p names options input bytes
 
 -- `trace`: as `run`, with the journal of the run also where the program means no value; or so many chunks of memory may not be enough.
-abbrev pub Traces : ProgramTree → List (List ℕ) → Options → List ℕ → Option (List ℕ) → End → Type 0
+abbrev pub Traces : ProgramTree → TextsView → Options → List ℕ → Option (List ℕ) → End → Type 0
 Traces p names options input file (Prints text) = MakesTrace p names options input file × IsOutput p names options.depth input text
 Traces p names options input file (NoValue (Meant why)) = MakesTrace p names options input file × MeansNone p names options.depth input (means_why why)
 Traces p names options input file (NoValue Full) = (file ≡ None) × FillsUp p names options.skips options.depth options.fork options.chunks input
@@ -83,7 +84,7 @@ Traces p names options input file (NoValue Long) = ⊥
 
 -- `replay`: the text of the value to which the events of the journal lead, and its image, where that is asked for; or they lead to a
 -- root that ended without a value; or to where chunks run out.
-abbrev pub Replays : ProgramTree → List (List ℕ) → (image : Bool) → Contents → Option (List ℕ) → End → Type 0
+abbrev pub Replays : ProgramTree → TextsView → (image : Bool) → Contents → Option (List ℕ) → End → Type 0
 Replays p names image given file (Prints text) = OnJournal p names given.second (journal_in given) (IsShownEnd p names image file text)
 Replays p names image given file (NoValue (Meant why)) = (file ≡ None) × OnJournal p names given.second (journal_in given) (IsValueless p why)
 Replays p names image given file (NoValue Full) = (file ≡ None) × OnJournal p names given.second (journal_in given) (LacksChunks p)
@@ -91,12 +92,12 @@ Replays p names image given file (NoValue Long) = ⊥
 
 -- What a job with these options makes, for the program with these names, of the bytes of its inputs: a file, or none, and its
 -- end.
-abbrev pub Does : Job → Options → ProgramTree → List (List ℕ) → Contents → Option (List ℕ) → End → Type 0
+abbrev pub Does : Job → Options → ProgramTree → TextsView → Contents → Option (List ℕ) → End → Type 0
 Does Run options p names given = Runs p names options given.second
 Does Plain options p names given = Means p names options.depth given.second
 Does Check options p names given = OnlyPrints (λ text. text ≡ ok_line)
-Does Core options p names given = OnlyPrints (λ text. text ≡ core_text names (core_after options.skips options.pass p))
-Does Code options p names given = OnlyPrints (λ text. text ≡ listing_text names (lower_program (core_after options.skips 4 p)))
+Does Core options p names given = OnlyPrints (λ text. text ≡ core_text names.long (core_after options.skips options.pass p))
+Does Code options p names given = OnlyPrints (λ text. text ≡ listing_text names.long (lower_program (core_after options.skips 4 p)))
 Does Pack options p names given = Packs p names options given.second
 Does Show options p names given = OnlyPrints (IsShown p names options.skips given.second)
 Does Gen options p names given = Sums p names options given.second
@@ -104,17 +105,17 @@ Does Trace options p names given = Traces p names options given.second
 Does Replay options p names given = Replays p names options.image given
 
 -- The packed file of the value that a run means, where that is asked for and the run ends with a text; else there is none.
-abbrev pub PacksResult : Bool → ProgramTree → List (List ℕ) → (depth : ℕ) → List ℕ → Option (List ℕ) → End → Type 0
+abbrev pub PacksResult : Bool → ProgramTree → TextsView → (depth : ℕ) → List ℕ → Option (List ℕ) → End → Type 0
 PacksResult false p names depth input packed end = packed ≡ None
 PacksResult true p names depth input packed (Prints text) = (bytes : List ℕ) × (packed ≡ Some bytes) × IsPackedResult p names depth input bytes
 PacksResult true p names depth input packed (NoValue reason) = packed ≡ None
 
 -- Both files of a run and its end.
-abbrev pub RunsBoth : ProgramTree → List (List ℕ) → Options → List ℕ → (file packed : Option (List ℕ)) → End → Type 0
+abbrev pub RunsBoth : ProgramTree → TextsView → Options → List ℕ → (file packed : Option (List ℕ)) → End → Type 0
 RunsBoth p names options input file packed end = Runs p names options input file end × PacksResult options.packs p names options.depth input packed end
 
 -- The packed file of its result that a job makes where it ends so, or none: `run` alone makes one.
-abbrev pub DoesPack : Job → Options → ProgramTree → List (List ℕ) → Contents → Option (List ℕ) → End → Type 0
+abbrev pub DoesPack : Job → Options → ProgramTree → TextsView → Contents → Option (List ℕ) → End → Type 0
 DoesPack Run options p names given packed end = PacksResult options.packs p names options.depth given.second packed end
 DoesPack Plain options p names given packed end = packed ≡ None
 DoesPack Check options p names given packed end = packed ≡ None
@@ -127,7 +128,7 @@ DoesPack Trace options p names given packed end = packed ≡ None
 DoesPack Replay options p names given packed end = packed ≡ None
 
 -- Both files and the end of a job.
-abbrev pub DoesAll : Job → Options → ProgramTree → List (List ℕ) → Contents → (file packed : Option (List ℕ)) → End → Type 0
+abbrev pub DoesAll : Job → Options → ProgramTree → TextsView → Contents → (file packed : Option (List ℕ)) → End → Type 0
 DoesAll job options p names given file packed end = Does job options p names given file end × DoesPack job options p names given packed end
 
 -- The same options, without an image.

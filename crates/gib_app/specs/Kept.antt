@@ -74,7 +74,7 @@ pub record IsTextOf (value : Valued) (text : List ℕ) : Type 0 where
   pub depth : ℕ
   pub input : List ℕ
   pub stands : StandsMeant program value.names depth input value.ran.lowered.code.laid (cells_of value.ran.memory) value.ran.root
-  pub held : AreHeld value.ran.lowered.code.laid.table value.names
+  pub held : AreHeld value.ran.lowered.code.laid.table value.names.short
   pub is_text : text ≡ text_line program value.names stands.result
 
 -- This holds of the file that a job made, or none, and of how it ends. What is printed from region memory goes with no file, since

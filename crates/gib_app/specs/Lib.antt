@@ -29,3 +29,4 @@ pub mod FirstWrites
 pub mod Headline
 pub mod Repeating
 pub mod Ranges
+pub mod GenericText

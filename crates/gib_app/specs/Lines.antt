@@ -51,6 +51,7 @@ source_text source.ManyNames = codes "source: more than 65535 names"
 source_text (source.Syntax place) = codes "source: syntax at " ++ decimal place
 source_text (source.Nested place) = codes "source: nested too deep at " ++ decimal place
 source_text (source.Broken kind place) = codes "source: " ++ rule_text kind ++ decimal place
+source_text (source.OverLimit place) = codes "source: over a limit at " ++ decimal place
 
 -- What is said of the header of a packed file.
 abbrev pub header_text : HeadFault → List ℕ

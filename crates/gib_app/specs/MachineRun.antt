@@ -1,4 +1,5 @@
 -- What a run of the machine on a packed file leaves: a root in region memory, or why there is none.
+use Rattle.gib_base.specs.Texts.{TextsView}
 use Rattle.std.specs.Prelude.{◌≡◌, Bool, ℕ, List, Result, MatchResult}
 use Rattle.gib_types.specs.declared.table.Ty.{Ty}
 use Rattle.gib_types.specs.Layout.{LaidOut}
@@ -30,7 +31,7 @@ abbrev pub cells_of : SoleMem → Store
 cells_of m = (sole_memory m).cells
 
 -- The program means a value on the input within the depth, and in region memory that value stands for the root.
-pub record StandsMeant (p : ProgramTree) (names : List (List ℕ)) (depth : ℕ) (input : List ℕ) (laid : LaidOut) (s : Store) (place : Root) : Type 0 where
+pub record StandsMeant (p : ProgramTree) (names : TextsView) (depth : ℕ) (input : List ℕ) (laid : LaidOut) (s : Store) (place : Root) : Type 0 where
   pub value : Datum
   pub result : Datum
   pub is_input : IsInput p names value input
@@ -43,13 +44,13 @@ abbrev pub program_cost : ProgramTree → (skips : Bool) → (depth forks : ℕ)
 program_cost p skips depth forks v = run_cost (core_after skips 4 p) depth forks v
 
 -- Why a program has no value on an input: it means none, for a reason, or so many chunks may not be enough.
-abbrev pub LacksValue : ProgramTree → List (List ℕ) → (skips : Bool) → (depth forks chunks : ℕ) → (input : List ℕ) → Reason → Type 0
+abbrev pub LacksValue : ProgramTree → TextsView → (skips : Bool) → (depth forks chunks : ℕ) → (input : List ℕ) → Reason → Type 0
 LacksValue p names skips depth forks chunks input (reason.Meant why) = MeansNone p names depth input (means_why why)
 LacksValue p names skips depth forks chunks input reason.Full = FillsUp p names skips depth forks chunks input
 LacksValue p names skips depth forks chunks input reason.Long = ⊥
 
 -- Why a run leaves no root.
-abbrev pub IsMachineStop : ProgramTree → List (List ℕ) → (skips : Bool) → (depth forks chunks : ℕ) → (input : List ℕ) → Stop → Type 0
+abbrev pub IsMachineStop : ProgramTree → TextsView → (skips : Bool) → (depth forks chunks : ℕ) → (input : List ℕ) → Stop → Type 0
 IsMachineStop p names skips depth forks chunks input =
     StopsBy (λ fault. ⊥) (λ name. ⊥) (λ fault. IsInputFault p names input fault × (((v : Datum) × IsInput p names v input) → ⊥)) (LacksValue p names skips depth forks chunks input) (λ name. ⊥)
 

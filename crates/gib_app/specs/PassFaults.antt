@@ -5,6 +5,8 @@ use Rattle.gib_parse.specs.declared.fault.ParseFault.{ParseFault}
 use Rattle.gib_parse.specs.declared.fault.ParseFault.TheVariants as parsing
 use Rattle.gib_check.specs.declared.fault.TypeFault.{TypeFault}
 use Rattle.gib_check.specs.declared.fault.TypeFault.TheVariants as typing
+use Rattle.gib_mono.specs.declared.found.MonoFault.{MonoFault}
+use Rattle.gib_mono.specs.declared.found.MonoFault.TheVariants as copying
 use Rattle.gib_file.specs.declared.fault.SchemaFault.{SchemaFault}
 use Rattle.gib_file.specs.declared.fault.SchemaFault.TheVariants as schema
 use Rattle.gib_file.specs.declared.fault.PackFault.{PackFault}
@@ -37,6 +39,11 @@ parse_stop (parsing.Nested place) = Source (source.Nested place)
 abbrev pub check_stop : TypeFault → Stop
 check_stop typing.Memory = Memory
 check_stop (typing.Broken fault) = Source (source.Broken fault.kind fault.span.start)
+
+-- A use over a limit on copies.
+abbrev pub copy_stop : MonoFault → Stop
+copy_stop copying.Memory = Memory
+copy_stop (copying.Limit span) = Source (source.OverLimit span.start)
 
 -- A second file that is no packed file.
 abbrev pub packed_stop : PackedFault → Stop

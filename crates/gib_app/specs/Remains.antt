@@ -1,4 +1,5 @@
 -- What a run leaves in region memory, and that what it makes comes from there.
+use Rattle.gib_base.specs.Texts.{TextsView}
 use Rattle.std.specs.Prelude.{◌≡◌, ⊤, ℕ, List, Option}
 use Rattle.gib_arena.specs.Sole.{sole_memory}
 use Rattle.gib_lower.specs.Lowering.{lower_program}
@@ -18,18 +19,18 @@ use Rattle.gib_app.specs.Running.{text_line}
 
 -- In a memory of as many chunks as are asked for, the value that the program means on the input stands for the root, with heads that lie as
 -- those of the program's core.
-pub record Remains (p : ProgramTree) (names : List (List ℕ)) (options : Options) (input : List ℕ) (memory : Memory) (place : Root) : Type 0 where
+pub record Remains (p : ProgramTree) (names : TextsView) (options : Options) (input : List ℕ) (memory : Memory) (place : Root) : Type 0 where
   pub stands : StandsMeant p names options.depth input (layouts_of options.skips p) memory.cells place
   pub bounded : IsBounded memory
   pub limit : memory.limit ≡ options.chunks
 
 -- That memory as the code of the program's core left it, with its root.
-pub record IsLeft (p : ProgramTree) (names : List (List ℕ)) (options : Options) (input : List ℕ) (value : Valued) : Type 0 where
+pub record IsLeft (p : ProgramTree) (names : TextsView) (options : Options) (input : List ℕ) (value : Valued) : Type 0 where
   pub code : value.ran.lowered.code ≡ lower_program (core_after options.skips 4 p)
   pub remains : Remains p names options input (sole_memory value.ran.memory) value.ran.root
 
 -- The text is that of the value in such a memory; where an image is asked for, the file is that of this very memory.
-pub record IsShownOf (p : ProgramTree) (names : List (List ℕ)) (options : Options) (input : List ℕ) (file : Option (List ℕ)) (text : List ℕ) : Type 0 where
+pub record IsShownOf (p : ProgramTree) (names : TextsView) (options : Options) (input : List ℕ) (file : Option (List ℕ)) (text : List ℕ) : Type 0 where
   pub memory : Memory
   pub place : Root
   pub remains : Remains p names options input memory place
@@ -37,7 +38,7 @@ pub record IsShownOf (p : ProgramTree) (names : List (List ℕ)) (options : Opti
   pub is_file : IsImageFile options.image (layouts_of options.skips p) (output_type p) memory place remains.stands.result file
 
 -- Where an image is asked for, the file is that of such a memory.
-pub record IsImagedOf (p : ProgramTree) (names : List (List ℕ)) (options : Options) (input : List ℕ) (file : Option (List ℕ)) : Type 0 where
+pub record IsImagedOf (p : ProgramTree) (names : TextsView) (options : Options) (input : List ℕ) (file : Option (List ℕ)) : Type 0 where
   pub memory : Memory
   pub place : Root
   pub remains : Remains p names options input memory place
@@ -45,7 +46,7 @@ pub record IsImagedOf (p : ProgramTree) (names : List (List ℕ)) (options : Opt
 
 -- What a run makes comes from the region memory that it left: the value is printed from there; or its text was made before a file is
 -- written, and then an image is of that memory, as it is where the packed file of the value would be too long.
-abbrev pub ComesOfMemory : ProgramTree → List (List ℕ) → Options → List ℕ → Option (List ℕ) → KeptEnd → Type 0
+abbrev pub ComesOfMemory : ProgramTree → TextsView → Options → List ℕ → Option (List ℕ) → KeptEnd → Type 0
 ComesOfMemory p names options input file (ends.Prints text) = IsShownOf p names options input file text.items
 ComesOfMemory p names options input file (ends.Value value) = IsLeft p names options input value
 ComesOfMemory p names options input file (ends.NoValue (Meant why)) = ⊤

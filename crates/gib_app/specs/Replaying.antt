@@ -1,4 +1,5 @@
 -- What a journal is to a program and an input, and where its events lead.
+use Rattle.gib_base.specs.Texts.{TextsView}
 use Rattle.std.specs.Prelude.{◌≡◌, ◌≤◌, ◌⊎◌, ℕ, List, [], ◌∷◌, length, Bool, true, false, Option, Some, None, Result, Ok, Err}
 use Rattle.gib_types.specs.declared.table.Ty.{Ty}
 use Rattle.gib_types.specs.Layout.{LaidOut}
@@ -91,7 +92,7 @@ abbrev pub IsNotEnded : ProgramTree → Datum → Settings → List Line → Typ
 IsNotEnded p v settings lines = GoesIn p settings v × IsLeftOpen (code_for p settings) (start_for p settings v) lines
 
 -- The first bytes are the packed file of a value, the others the text of a journal, and this holds of these.
-pub record OnJournal (p : ProgramTree) (names : List (List ℕ)) (input bytes : List ℕ) (P : Datum → Settings → List Line → Type 0) : Type 0 where
+pub record OnJournal (p : ProgramTree) (names : TextsView) (input bytes : List ℕ) (P : Datum → Settings → List Line → Type 0) : Type 0 where
   pub value : Datum
   pub settings : Settings
   pub lines : List Line
@@ -120,7 +121,7 @@ pub record IsSetBy (options : Options) (settings : Settings) : Type 0 where
 
 -- The bytes are the text of a journal, of whatever length, with the settings of these options: on the input its events lead to an
 -- end.
-pub record IsTrace (p : ProgramTree) (names : List (List ℕ)) (options : Options) (input bytes : List ℕ) : Type 0 where
+pub record IsTrace (p : ProgramTree) (names : TextsView) (options : Options) (input bytes : List ℕ) : Type 0 where
   pub value : Datum
   pub settings : Settings
   pub lines : List Line
@@ -139,7 +140,7 @@ IsImageFile true laid ty memory place result file = (file ≡ Some (image_of mem
 
 -- The events of a journal lead to a root that stands for what the program means within the journal's depth. The text is that of this
 -- value with a line feed, and the file the image of the memory then, where one is asked for.
-pub record IsShownEnd (p : ProgramTree) (names : List (List ℕ)) (image : Bool) (file : Option (List ℕ)) (text : List ℕ) (v : Datum) (settings : Settings) (lines : List Line) : Type 0 where
+pub record IsShownEnd (p : ProgramTree) (names : TextsView) (image : Bool) (file : Option (List ℕ)) (text : List ℕ) (v : Datum) (settings : Settings) (lines : List Line) : Type 0 where
   pub memory : Memory
   pub ends_with : Answer
   pub place : Root

@@ -1,5 +1,6 @@
 -- What a source and a packed file are, and what a program means on a file.
-use Rattle.std.specs.Prelude.{◌≡◌, ◌⊎◌, Bool, ℕ, ◌≤◌, ◌<◌, List, [], ◌∷◌, ◌++◌, length}
+use Rattle.gib_base.specs.Texts.{TextsView}
+use Rattle.std.specs.Prelude.{◌≡◌, ◌⊎◌, Bool, ℕ, ◌≤◌, ◌<◌, List, [], ◌∷◌, ◌++◌, length, Ok}
 use Rattle.gib_base.specs.Lexed.{Lexed}
 use Rattle.gib_types.specs.Tree.{Datum}
 use Rattle.gib_file.specs.Framed.{File, File2}
@@ -9,38 +10,53 @@ use Rattle.gib_syntax.specs.Source.{Spells}
 use Rattle.gib_print.specs.Image.{IsImageOf, chunk_count}
 use Rattle.gib_print.specs.ImageReading.{IsRead}
 use Rattle.gib_syntax.specs.Declarations.{table_of_program, input_type, output_type}
-use Rattle.gib_syntax.specs.Typing.{IsTypedProgram}
+use Rattle.gib_syntax.specs.GenericTree.{GenericProgramTree}
+use Rattle.gib_syntax.specs.GenericTyping.{IsTypedGeneric}
+use Rattle.gib_mono.specs.Walk.{Copy, copies_of, copied_program}
+use Rattle.gib_mono.specs.Naming.{entries, naming_of}
+use Rattle.gib_mono.specs.Showing.{short_texts, long_texts}
 use Rattle.gib_syntax.specs.Meaning.{Reason, Gives, Stops, run}
 use Rattle.gib_gen.specs.Summary.{summary_line}
 use Rattle.gib_core.specs.Cost.{run_cost}
 use Rattle.gib_core.specs.Tight.{Tight}
 use Rattle.gib_app.specs.Cores.{core_after, layouts_of}
 
--- The source spells this program with these tokens, and it is typed.
-pub record IsProgram (source : List ℕ) (lexed : Lexed) (p : ProgramTree) : Type 0 where
-  pub spelled : Spells source lexed p
-  pub typed : IsTypedProgram p
+-- This is the copy of a program with these names, for the types with which its declarations are used: all uses are within the
+-- limits. Values have the short texts of its names; cores, code and descriptions the long ones.
+pub record IsCopy (generic : GenericProgramTree) (names : List (List ℕ)) (p : ProgramTree) (texts : TextsView) : Type 0 where
+  pub found : List Copy
+  pub within : copies_of generic ≡ Ok found
+  pub is : p ≡ copied_program generic (naming_of (length names) (entries found)) found
+  pub shown : texts ≡ record { short = short_texts names (entries found); long = long_texts names (entries found) }
+
+-- The source spells a program, with type parameters or without, that is typed, and this is its copy, with the texts of its names.
+pub record IsProgram (source : List ℕ) (texts : TextsView) (p : ProgramTree) : Type 0 where
+  pub lexed : Lexed
+  pub generic : GenericProgramTree
+  pub spelled : Spells source lexed generic
+  pub typed : IsTypedGeneric generic
+  pub copy : IsCopy generic lexed.names p texts
 
 -- The source is a program.
 abbrev pub IsSource : List ℕ → Type 0
-IsSource source = (lexed : Lexed) × (p : ProgramTree) × IsProgram source lexed p
+IsSource source = (texts : TextsView) × (p : ProgramTree) × IsProgram source texts p
 
--- The source is no program: it is too long, spells none, or is not typed.
+-- The source is no program: it is too long, spells none, is not typed, or a use in it is over a limit.
 abbrev pub IsNoProgram : List ℕ → Type 0
-IsNoProgram source = (lexed : Lexed) (p : ProgramTree) → IsProgram source lexed p → ⊥
+IsNoProgram source = (texts : TextsView) (p : ProgramTree) → IsProgram source texts p → ⊥
 
 -- The input is the packed file of this value, which is of the type of main's parameter, and has at most
 -- 16,777,216 bytes.
-pub record IsInput (p : ProgramTree) (names : List (List ℕ)) (v : Datum) (input : List ℕ) : Type 0 where
+pub record IsInput (p : ProgramTree) (names : TextsView) (v : Datum) (input : List ℕ) : Type 0 where
   pub short : length input ≤ 16777216
-  pub file : File (table_of_program p) names (input_type p) v input
+  pub file : File (table_of_program p) names.long (input_type p) v input
 
 -- The text of a value of a program, with a line feed; the names by their numbers.
-abbrev pub text_line : ProgramTree → List (List ℕ) → Datum → List ℕ
-text_line p names v = text (table_of_program p) names v ++ 10 ∷ []
+abbrev pub text_line : ProgramTree → TextsView → Datum → List ℕ
+text_line p names v = text (table_of_program p) names.short v ++ 10 ∷ []
 
 -- The text of the value that the program means on the input within the depth, with its line feed.
-pub record IsOutput (p : ProgramTree) (names : List (List ℕ)) (depth : ℕ) (input output : List ℕ) : Type 0 where
+pub record IsOutput (p : ProgramTree) (names : TextsView) (depth : ℕ) (input output : List ℕ) : Type 0 where
   pub value : Datum
   pub result : Datum
   pub is_input : IsInput p names value input
@@ -48,7 +64,7 @@ pub record IsOutput (p : ProgramTree) (names : List (List ℕ)) (depth : ℕ) (i
   pub is_text : output ≡ text_line p names result
 
 -- The line about the value that the program means on the input within the depth, where both were made of a number and of levels.
-pub record IsSummary (p : ProgramTree) (names : List (List ℕ)) (number levels depth : ℕ) (input output : List ℕ) : Type 0 where
+pub record IsSummary (p : ProgramTree) (names : TextsView) (number levels depth : ℕ) (input output : List ℕ) : Type 0 where
   pub value : Datum
   pub result : Datum
   pub is_input : IsInput p names value input
@@ -57,7 +73,7 @@ pub record IsSummary (p : ProgramTree) (names : List (List ℕ)) (number levels 
 
 -- The bytes are an image in which the value stands that the program means on the input within the depth, and have at most so many
 -- chunks.
-pub record IsRunImage (p : ProgramTree) (names : List (List ℕ)) (skips : Bool) (depth chunks : ℕ) (input bytes : List ℕ) : Type 0 where
+pub record IsRunImage (p : ProgramTree) (names : TextsView) (skips : Bool) (depth chunks : ℕ) (input bytes : List ℕ) : Type 0 where
   pub value : Datum
   pub result : Datum
   pub is_input : IsInput p names value input
@@ -67,41 +83,41 @@ pub record IsRunImage (p : ProgramTree) (names : List (List ℕ)) (skips : Bool)
 
 -- The bytes are the packed file of version 2 of the value that the program means on the input within the depth, and are no more than
 -- 16,777,216.
-pub record IsPackedResult (p : ProgramTree) (names : List (List ℕ)) (depth : ℕ) (input bytes : List ℕ) : Type 0 where
+pub record IsPackedResult (p : ProgramTree) (names : TextsView) (depth : ℕ) (input bytes : List ℕ) : Type 0 where
   pub value : Datum
   pub result : Datum
   pub is_input : IsInput p names value input
   pub means : run p depth value ≡ Gives result
-  pub file : File2 (table_of_program p) names (output_type p) result bytes
+  pub file : File2 (table_of_program p) names.long (output_type p) result bytes
   pub few : length bytes ≤ 16777216
 
 -- The program means a value on the input within the depth, and its packed file of version 2 is longer.
-pub record IsLongResult (p : ProgramTree) (names : List (List ℕ)) (depth : ℕ) (input : List ℕ) : Type 0 where
+pub record IsLongResult (p : ProgramTree) (names : TextsView) (depth : ℕ) (input : List ℕ) : Type 0 where
   pub value : Datum
   pub result : Datum
   pub is_input : IsInput p names value input
   pub means : run p depth value ≡ Gives result
-  pub long : (bytes : List ℕ) → File2 (table_of_program p) names (output_type p) result bytes → 16777216 < length bytes
+  pub long : (bytes : List ℕ) → File2 (table_of_program p) names.long (output_type p) result bytes → 16777216 < length bytes
 
 -- The program means no value on the input within the depth, for this reason.
-pub record MeansNone (p : ProgramTree) (names : List (List ℕ)) (depth : ℕ) (input : List ℕ) (why : Reason) : Type 0 where
+pub record MeansNone (p : ProgramTree) (names : TextsView) (depth : ℕ) (input : List ℕ) (why : Reason) : Type 0 where
   pub value : Datum
   pub is_input : IsInput p names value input
   pub means : run p depth value ≡ Stops why
 
 -- So many chunks may not be enough for what the run of the program on the input costs, where so many calls and forks may be nested.
-pub record FillsUp (p : ProgramTree) (names : List (List ℕ)) (skips : Bool) (depth forks chunks : ℕ) (input : List ℕ) : Type 0 where
+pub record FillsUp (p : ProgramTree) (names : TextsView) (skips : Bool) (depth forks chunks : ℕ) (input : List ℕ) : Type 0 where
   pub value : Datum
   pub is_input : IsInput p names value input
   pub tight : Tight chunks (run_cost (core_after skips 4 p) depth forks value)
 
 -- A file whose value is shown: the packed file of a value of the type of main's parameter; or an image of one of the type of
 -- main's result, in which it is read in at most 16,777,216 items.
-abbrev pub IsShownValue : ProgramTree → List (List ℕ) → (skips : Bool) → Datum → List ℕ → Type 0
+abbrev pub IsShownValue : ProgramTree → TextsView → (skips : Bool) → Datum → List ℕ → Type 0
 IsShownValue p names skips v file = IsInput p names v file ⊎ IsRead (layouts_of skips p) (output_type p) file v
 
 -- The text of the value of such a file, with a line feed.
-pub record IsShown (p : ProgramTree) (names : List (List ℕ)) (skips : Bool) (file output : List ℕ) : Type 0 where
+pub record IsShown (p : ProgramTree) (names : TextsView) (skips : Bool) (file output : List ℕ) : Type 0 where
   pub value : Datum
   pub is_value : IsShownValue p names skips value file
   pub is_text : output ≡ text_line p names value

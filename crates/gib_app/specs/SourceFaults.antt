@@ -1,7 +1,10 @@
 -- Why a source is no program. Places count its bytes from 0.
-use Rattle.std.specs.Prelude.{◌≡◌, ◌≤◌, ℕ, List, length, Some}
+use Rattle.std.specs.Prelude.{◌≡◌, ◌≤◌, ℕ, List, length, Some, Err}
 use Rattle.gib_base.specs.Lexed.{Lexed, IsLexed}
-use Rattle.gib_syntax.specs.Tree.{ProgramTree}
+use Rattle.gib_base.specs.declared.Span.{Span}
+use Rattle.gib_syntax.specs.GenericTree.{GenericProgramTree}
+use Rattle.gib_syntax.specs.GenericTyping.{IsTypedGeneric}
+use Rattle.gib_mono.specs.Walk.{copies_of}
 use Rattle.gib_syntax.specs.Source.{Spells}
 use Rattle.gib_lex.specs.declared.fault.LexFault.TheVariants as lexing
 use Rattle.gib_lex.specs.Refused.{IsRefused}
@@ -10,7 +13,7 @@ use Rattle.gib_check.specs.declared.fault.Fault.{Fault}
 use Rattle.gib_check.specs.declared.fault.Kind.{Kind}
 use Rattle.gib_check.specs.FirstFault.{first_fault}
 use Rattle.gib_app.specs.declared.source_fault.SourceFault.{SourceFault}
-use Rattle.gib_app.specs.declared.source_fault.SourceFault.TheVariants.{Long, BadCharacter, BigNumber, ManyNames, Syntax, Nested, Broken}
+use Rattle.gib_app.specs.declared.source_fault.SourceFault.TheVariants.{Long, BadCharacter, BigNumber, ManyNames, Syntax, Nested, Broken, OverLimit}
 
 -- What lexing makes of the source, which is within the limits on bytes and names.
 pub record HasTokens (source : List ℕ) (lexed : Lexed) : Type 0 where
@@ -37,15 +40,25 @@ pub record IsTooDeep (source : List ℕ) (place : ℕ) : Type 0 where
 -- begins at the place.
 pub record IsBroken (source : List ℕ) (kind : Kind) (place : ℕ) : Type 0 where
   pub lexed : Lexed
-  pub program : ProgramTree
+  pub program : GenericProgramTree
   pub spelled : Spells source lexed program
   pub fault : Fault
   pub first : first_fault program ≡ Some fault
   pub of_kind : fault.kind ≡ kind
   pub here : fault.span.start ≡ place
 
+-- The source spells a typed program, and the first of its uses that is over a limit on copies begins at the place.
+pub record IsOverLimit (source : List ℕ) (place : ℕ) : Type 0 where
+  pub lexed : Lexed
+  pub program : GenericProgramTree
+  pub spelled : Spells source lexed program
+  pub typed : IsTypedGeneric program
+  pub use_of : Span
+  pub first : copies_of program ≡ Err use_of
+  pub here : use_of.start ≡ place
+
 -- The source is refused for this fault: it has too many bytes; or the first fault of lexing, else of its
--- tokens by the grammar, else of its program by the rules of typing.
+-- tokens by the grammar, else of its program by the rules of typing, else by the limits on copies.
 abbrev pub IsSourceFault : List ℕ → SourceFault → Type 0
 IsSourceFault source Long = IsRefused source lexing.Long
 IsSourceFault source (BadCharacter place) = IsRefused source (lexing.At place)
@@ -54,3 +67,4 @@ IsSourceFault source ManyNames = IsRefused source lexing.Many
 IsSourceFault source (Syntax place) = IsBadSyntax source place
 IsSourceFault source (Nested place) = IsTooDeep source place
 IsSourceFault source (Broken kind place) = IsBroken source kind place
+IsSourceFault source (OverLimit place) = IsOverLimit source place

@@ -1,14 +1,14 @@
 -- What the parts of a call answer, and why they stop.
-use Rattle.std.specs.Prelude.{◌≡◌, ◌<◌, ◌⊎◌, ℕ, List, [], ◌∷◌, length, Option, Some, None}
-use Rattle.gib_base.specs.Lexed.{Lexed}
+use Rattle.gib_base.specs.Texts.{TextsView}
+use Rattle.std.specs.Prelude.{◌≡◌, ◌<◌, ◌⊎◌, ℕ, List, [], ◌∷◌, length, Option, Some, None, Err}
 use Rattle.gib_types.specs.declared.table.Ty.{Ty}
 use Rattle.gib_types.specs.Table.{Table}
 use Rattle.gib_types.specs.Tree.{Datum}
 use Rattle.gib_file.specs.Framed.{File}
 use Rattle.gib_value.specs.Text.{AreHeld}
-use Rattle.gib_value.specs.Reading.{AreWords}
+use Rattle.gib_value.specs.Reading.{AreWords, AreApart}
 use Rattle.gib_syntax.specs.Tree.{ProgramTree}
-use Rattle.gib_syntax.specs.Spelling.{IsFineProgram}
+use Rattle.gib_syntax.specs.Fine.{IsFineProgram}
 use Rattle.gib_syntax.specs.Declarations.{table_of_program}
 use Rattle.std.specs.Prelude.{Bool}
 use Rattle.gib_edge.specs.Views.{ShelfView}
@@ -19,6 +19,10 @@ use Rattle.gib_app.specs.declared.made.Reason.{Reason}
 use Rattle.gib_app.specs.declared.plan.Job.{Job}
 use Rattle.gib_app.specs.declared.plan.Job.TheVariants.{Replay}
 use Rattle.gib_app.specs.declared.source_fault.SourceFault.{SourceFault}
+use Rattle.gib_app.specs.declared.source_fault.SourceFault.TheVariants.{OverLimit}
+use Rattle.gib_base.specs.declared.Span.{Span}
+use Rattle.gib_syntax.specs.GenericTree.{GenericProgramTree}
+use Rattle.gib_mono.specs.Walk.{copies_of}
 use Rattle.gib_app.specs.declared.plan.Options.{Options}
 use Rattle.gib_app.specs.declared.stop.Stop.{Stop}
 use Rattle.gib_app.specs.declared.stop.Stop.TheVariants.{Usage, Source, Unread, Input, NoValue, Memory, Unwritten, Unput}
@@ -32,18 +36,13 @@ use Rattle.gib_app.specs.Formats.{inputs_of, most_of, Accepts, Refuses}
 use Rattle.gib_app.specs.Causes.{AreFurther, AreGiven, AreReached, OnSource, OnReached, IsUnread, AreUnread, first_of, further_of, FailsToRead, FailsToWrite}
 use Rattle.gib_app.specs.Replaying.{journal_in, OnJournal, Happens}
 
--- The source spells this program with these names, and it is typed.
-pub record IsCompiled (source : List ℕ) (p : ProgramTree) (names : List (List ℕ)) : Type 0 where
-  pub lexed : Lexed
-  pub is_program : IsProgram source lexed p
-  pub same : names ≡ lexed.names
-
--- What a program is run with, and its values are read and written with: its bodies are of the grammar, and the
--- names of its constructors are held, and are words.
-pub record IsReady (p : ProgramTree) (names : List (List ℕ)) : Type 0 where
+-- What a program is run with, and its values are read and written with: its bodies are of the grammar, the names of its
+-- constructors are held, and are words, and those of one type are different.
+pub record IsReady (p : ProgramTree) (names : TextsView) : Type 0 where
   pub fine : IsFineProgram p
-  pub held : AreHeld (table_of_program p) names
-  pub words : AreWords (table_of_program p) names
+  pub held : AreHeld (table_of_program p) names.short
+  pub words : AreWords (table_of_program p) names.short
+  pub apart : AreApart (table_of_program p) names.short
 
 -- Why there is no value, where that is the stop.
 abbrev pub reason_of : Stop → Option Reason
@@ -66,6 +65,10 @@ StopsBy source unread input novalue unwritten Unput = ⊥
 abbrev pub IsCompileStop : List ℕ → Stop → Type 0
 IsCompileStop source = StopsBy (λ fault. IsSourceFault source fault × IsNoProgram source) (λ name. ⊥) (λ fault. ⊥) (λ reason. ⊥) (λ name. ⊥)
 
+-- Why a typed program is not copied: its first use over a limit begins there.
+abbrev pub IsCopyStop : GenericProgramTree → Stop → Type 0
+IsCopyStop generic = StopsBy (λ fault. (use_of : Span) × (copies_of generic ≡ Err use_of) × (fault ≡ OverLimit use_of.start)) (λ name. ⊥) (λ fault. ⊥) (λ reason. ⊥) (λ name. ⊥)
+
 -- Why the bytes of a document are not read: the count of its file rose.
 abbrev pub IsReadStop : ShelfView → ShelfView → Document → Stop → Type 0
 IsReadStop before now d = StopsBy (λ fault. ⊥) (λ name. IsUnread before now d name) (λ fault. ⊥) (λ reason. ⊥) (λ name. ⊥)
@@ -87,7 +90,7 @@ abbrev pub IsInputStop : ShelfView → ShelfView → Plan → Stop → Type 0
 IsInputStop before now plan = StopsBy (λ fault. ⊥) (λ name. AreUnread before now (first_of (inputs_of plan)) name) (IsLongInput before.kept plan) (λ reason. ⊥) (λ name. ⊥)
 
 -- The input behind the first has more bytes than a plan reads, and the first is a packed file of a value that the program takes.
-pub record IsLongFurther (kept : Files) (plan : Plan) (p : ProgramTree) (names : List (List ℕ)) (first : List ℕ) (fault : InputFault) : Type 0 where
+pub record IsLongFurther (kept : Files) (plan : Plan) (p : ProgramTree) (names : TextsView) (first : List ℕ) (fault : InputFault) : Type 0 where
   pub is : fault ≡ input.Long 16777216
   pub taken : (v : Datum) × IsInput p names v first
   pub bytes : List ℕ
@@ -96,7 +99,7 @@ pub record IsLongFurther (kept : Files) (plan : Plan) (p : ProgramTree) (names :
 
 -- Why the bytes of the input behind the first are not read: the first is no packed file of a value that the program takes; or it is,
 -- and the count of the other one's file rose, or that one has more bytes than a plan reads.
-abbrev pub IsFurtherStop : ShelfView → ShelfView → Plan → ProgramTree → List (List ℕ) → (first : List ℕ) → Stop → Type 0
+abbrev pub IsFurtherStop : ShelfView → ShelfView → Plan → ProgramTree → TextsView → (first : List ℕ) → Stop → Type 0
 IsFurtherStop before now plan p names first =
     StopsBy (λ fault. ⊥) (λ name. AreUnread before now (further_of (inputs_of plan)) name × ((v : Datum) × IsInput p names v first))
     (λ fault. ((plan.job ≡ Replay) × IsInputFault p names first fault × (((v : Datum) × IsInput p names v first) → ⊥)) ⊎ IsLongFurther before.kept plan p names first fault)
@@ -104,7 +107,7 @@ IsFurtherStop before now plan p names first =
 
 -- Why the bytes of the inputs are not read: the count of a file rose, for a further one where the first is a packed file of a value
 -- that the program takes; or they are refused.
-abbrev pub IsInputsStop : ShelfView → ShelfView → Plan → ProgramTree → (names : List (List ℕ)) → Stop → Type 0
+abbrev pub IsInputsStop : ShelfView → ShelfView → Plan → ProgramTree → (names : TextsView) → Stop → Type 0
 IsInputsStop before now plan p names =
     StopsBy (λ fault. ⊥)
     (λ name. AreUnread before now (first_of (inputs_of plan)) name
@@ -130,23 +133,23 @@ abbrev pub IsPackedStop : Table → List (List ℕ) → Ty → List ℕ → Stop
 IsPackedStop table names ty bytes = IsRefusal (IsPacked (λ fault. IsFileFault table names ty bytes fault × ((v : Datum) → File table names ty v bytes → ⊥)))
 
 -- Why a program is not run on an input.
-abbrev pub IsRunStop : ProgramTree → List (List ℕ) → List ℕ → Stop → Type 0
+abbrev pub IsRunStop : ProgramTree → TextsView → List ℕ → Stop → Type 0
 IsRunStop p names input = IsRefusal (λ fault. IsInputFault p names input fault × (((v : Datum) × IsInput p names v input) → ⊥))
 
 -- Why a file is not shown.
-abbrev pub IsShowStop : ProgramTree → List (List ℕ) → (skips : Bool) → List ℕ → Stop → Type 0
+abbrev pub IsShowStop : ProgramTree → TextsView → (skips : Bool) → List ℕ → Stop → Type 0
 IsShowStop p names skips file = IsRefusal (λ fault. IsShowFault p names skips file fault × (((v : Datum) × IsShownValue p names skips v file) → ⊥))
 
 -- Why no packed file is made.
-abbrev pub IsPackStop : (repacks first : Bool) → ProgramTree → List (List ℕ) → List ℕ → Stop → Type 0
+abbrev pub IsPackStop : (repacks first : Bool) → ProgramTree → TextsView → List ℕ → Stop → Type 0
 IsPackStop repacks first p names bytes = IsRefusal (λ fault. IsPackFault repacks first p names bytes fault × (((file : List ℕ) × IsPackedBy repacks first p names bytes file) → ⊥))
 
 -- Why no journal is replayed.
-abbrev pub IsReplayStop : ProgramTree → List (List ℕ) → Contents → Stop → Type 0
+abbrev pub IsReplayStop : ProgramTree → TextsView → Contents → Stop → Type 0
 IsReplayStop p names given = IsRefusal (λ fault. IsReplayFault p names given.second (journal_in given) fault × (OnJournal p names given.second (journal_in given) (Happens p) → ⊥))
 
 -- Why a job makes nothing, for this program, of the bytes of its inputs.
-abbrev pub FailsTo : Job → Options → ProgramTree → List (List ℕ) → Contents → Stop → Type 0
+abbrev pub FailsTo : Job → Options → ProgramTree → TextsView → Contents → Stop → Type 0
 FailsTo job options p names given = IsRefusal (λ fault. Refuses job options p names given fault × (Accepts job options p names given → ⊥))
 
 -- Why what is asked for is not made: the source is no program, a file is not read, the inputs are refused.

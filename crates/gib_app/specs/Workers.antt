@@ -1,4 +1,5 @@
 -- What a run by workers leaves, and what the events of a journal leave.
+use Rattle.gib_base.specs.Texts.{TextsView}
 use Rattle.std.specs.Prelude.{◌≡◌, ◌≤◌, ◌⊎◌, ℕ, List, Bool, true}
 use Rattle.gib_types.specs.Layout.{LaidOut}
 use Rattle.gib_types.specs.Loaded.{Loaded}
@@ -122,14 +123,14 @@ abbrev pub IsWorkersStop : Type 0 → Stop → Type 0
 IsWorkersStop T = StopsBy (λ fault. ⊥) (λ name. ⊥) (λ fault. ⊥) (OnlyFull T) (λ name. ⊥)
 
 -- A run by workers of a program on an input: the events of this journal lead to this memory and answer.
-pub record IsTraced (p : ProgramTree) (names : List (List ℕ)) (options : Options) (input : List ℕ) (settings : Settings) (lines : List Line) (memory : Memory) (a : Answer) : Type 0 where
+pub record IsTraced (p : ProgramTree) (names : TextsView) (options : Options) (input : List ℕ) (settings : Settings) (lines : List Line) (memory : Memory) (a : Answer) : Type 0 where
   pub value : Datum
   pub is_input : IsInput p names value input
   pub set : IsSetBy options settings
   pub ended : IsEndOf p value settings lines memory a
 
 -- Why such a run leaves no answer.
-abbrev pub IsTraceStop : ProgramTree → List (List ℕ) → Options → List ℕ → Stop → Type 0
+abbrev pub IsTraceStop : ProgramTree → TextsView → Options → List ℕ → Stop → Type 0
 IsTraceStop p names options input =
     StopsBy (λ fault. ⊥) (λ name. ⊥) (λ fault. IsInputFault p names input fault × (((v : Datum) × IsInput p names v input) → ⊥))
     (OnlyFull (FillsUp p names options.skips options.depth options.fork options.chunks input)) (λ name. ⊥)
@@ -149,7 +150,7 @@ abbrev pub IsNoJournal : List ℕ → Stop → Type 0
 IsNoJournal bytes = IsRefusal (λ fault. IsBadLine bytes fault × ((s : Settings) (ls : List Line) → are_lines ls ≡ true → bytes ≡ journal_text s ls → ⊥))
 
 -- The bytes are an input and a journal, whose events lead to this memory and answer, with these layouts.
-pub record IsReplayed (p : ProgramTree) (names : List (List ℕ)) (input bytes : List ℕ) (laid : LaidOut) (memory : Memory) (a : Answer) : Type 0 where
+pub record IsReplayed (p : ProgramTree) (names : TextsView) (input bytes : List ℕ) (laid : LaidOut) (memory : Memory) (a : Answer) : Type 0 where
   pub value : Datum
   pub settings : Settings
   pub lines : List Line
@@ -159,7 +160,7 @@ pub record IsReplayed (p : ProgramTree) (names : List (List ℕ)) (input bytes :
   pub ended : IsEndOf p value settings lines memory a
 
 -- Why a replay leaves no answer.
-abbrev pub IsNotReplayed : ProgramTree → List (List ℕ) → (input bytes : List ℕ) → Stop → Type 0
+abbrev pub IsNotReplayed : ProgramTree → TextsView → (input bytes : List ℕ) → Stop → Type 0
 IsNotReplayed p names input bytes =
     StopsBy (λ fault. ⊥) (λ name. ⊥) (λ fault. IsReplayFault p names input bytes fault × (OnJournal p names input bytes (Happens p) → ⊥))
     (OnlyFull (OnJournal p names input bytes (LacksChunks p))) (λ name. ⊥)

@@ -104,6 +104,7 @@ fn of_source(fault: SourceFault) -> Said<'static>
         SourceFault::Syntax(place) => numbered(b"source: syntax at ", place as u64),
         SourceFault::Nested(place) => numbered(b"source: nested too deep at ", place as u64),
         SourceFault::Broken(kind, place) => numbered(rule_words(kind), place as u64),
+        SourceFault::OverLimit(place) => numbered(b"source: over a limit at ", place as u64),
     }
 }
 

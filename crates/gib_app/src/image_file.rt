@@ -1,5 +1,6 @@
 //! The bytes of an image to their value.
 
+ghost use Rattle.gib_base.specs.Texts.{TextsView};
 ghost use Rattle.std.specs.Prelude.{◌≡◌, ◌≤◌, ◌↔◌, IsTrue, ℕ, List, length, IfOk, IfErr};
 ghost use Rattle.gib_print.specs.ImageReading.{IsRead};
 ghost use Rattle.gib_syntax.specs.Parts.{program_of};
@@ -51,7 +52,7 @@ pub fn read_image_of(
     requires sign { HasImageSign bytes.now }
     requires short { length bytes.now ≤ 268435480 }
     ensures read { IfOk result (λ v. IsRead (layouts_of skips (program_of typed.now)) (output_type (program_of typed.now)) bytes.now v) }
-    ensures stop { (names : List (List ℕ)) → IfErr result (IsShowStop (program_of typed.now) names skips bytes.now) }
+    ensures stop { (names : TextsView) → IfErr result (IsShowStop (program_of typed.now) names skips bytes.now) }
 {
     a_value_is_not_refused();
     let lowered = match lowered(alloc, typed, skips) {

@@ -20,7 +20,7 @@ use crate::machine_run::{Ran, print_ran};
 use crate::made::{End, Made, Valued};
 use crate::printing::only_prints;
 use gib_arena::SoleMem;
-use gib_base::{Memory, Names};
+use gib_base::{Memory, Texts};
 use gib_mem::{Mem, PlainMem};
 use gib_print::image;
 use gib_print::law::written_is_read;
@@ -51,8 +51,8 @@ fn image_of<M: Mem>(alloc: Global, ran: &mut Ran<M>) -> Result<Vec<u8>, Memory>
 /// # Errors
 ///
 /// Want of memory.
-pub fn text_of<M: Mem>(alloc: Global, ran: &mut Ran<M>, names: &Names) -> Result<Vec<u8>, Memory>
-    requires names { AreHeld ran.old.lowered.code.laid.table names.now }
+pub fn text_of<M: Mem>(alloc: Global, ran: &mut Ran<M>, names: &Texts) -> Result<Vec<u8>, Memory>
+    requires names { AreHeld ran.old.lowered.code.laid.table names.now.short }
     requires stands { (p : ProgramTree) × (depth : ℕ) × (input : List ℕ) × StandsMeant p names.now depth input ran.old.lowered.code.laid (M.view ran.old.memory).cells ran.old.root }
     ensures { (p : ProgramTree) (depth : ℕ) (input : List ℕ) (s : StandsMeant p names.now depth input ran.old.lowered.code.laid (M.view ran.old.memory).cells ran.old.root)
         → IfOk result (λ text. text.items ≡ text_line p names.now s.result) }
@@ -66,10 +66,10 @@ pub fn text_of<M: Mem>(alloc: Global, ran: &mut Ran<M>, names: &Names) -> Result
 
 /// What a run makes that leaves a value and is asked for an image. The text is made too, so that memory cannot run out once
 /// the image is written.
-fn imaged<M: Mem + Drop>(alloc: Global, mut ran: Ran<M>, names: &Names) -> Result<Made, Memory>
+fn imaged<M: Mem + Drop>(alloc: Global, mut ran: Ran<M>, names: &Texts) -> Result<Made, Memory>
     requires alone { (M.view ran.memory).alone ≡ true }
     requires there { (q : ℕ) → q < 4096 * (M.view ran.memory).drawn → IsThere ((M.view ran.memory).cells q) }
-    requires names { AreHeld ran.lowered.code.laid.table names.now }
+    requires names { AreHeld ran.lowered.code.laid.table names.now.short }
     requires stands { (p : ProgramTree) × (depth : ℕ) × (input : List ℕ) × StandsMeant p names.now depth input ran.lowered.code.laid (M.view ran.memory).cells ran.root }
     requires few { (M.view ran.memory).limit ≤ 65536 }
     ensures { (p : ProgramTree) (depth : ℕ) (input : List ℕ) (s : StandsMeant p names.now depth input ran.lowered.code.laid (M.view ran.memory).cells ran.root)
@@ -89,7 +89,7 @@ fn imaged<M: Mem + Drop>(alloc: Global, mut ran: Ran<M>, names: &Names) -> Resul
 ///
 /// Want of memory.
 pub fn with_image(alloc: Global, mut value: Valued) -> Result<Made, Memory>
-    requires names { AreHeld value.ran.lowered.code.laid.table value.names }
+    requires names { AreHeld value.ran.lowered.code.laid.table value.names.short }
     requires stands { (p : ProgramTree) × (depth : ℕ) × (input : List ℕ) × StandsMeant p value.names depth input value.ran.lowered.code.laid (⟦<SoleMem as Mem>⟧.view value.ran.memory).cells value.ran.root }
     requires few { (⟦<SoleMem as Mem>⟧.view value.ran.memory).limit ≤ 65536 }
     ensures { (p : ProgramTree) (depth : ℕ) (input : List ℕ) (s : StandsMeant p value.names depth input value.ran.lowered.code.laid (⟦<SoleMem as Mem>⟧.view value.ran.memory).cells value.ran.root)
@@ -107,10 +107,10 @@ pub fn with_image(alloc: Global, mut value: Valued) -> Result<Made, Memory>
 pub fn shown(
     alloc: Global,
     mut ran: Ran<PlainMem>,
-    names: &Names,
+    names: &Texts,
     image: bool,
 ) -> Result<Made, Memory>
-    requires names { AreHeld ran.lowered.code.laid.table names.now }
+    requires names { AreHeld ran.lowered.code.laid.table names.now.short }
     requires stands { (p : ProgramTree) × (depth : ℕ) × (input : List ℕ) × StandsMeant p names.now depth input ran.lowered.code.laid (⟦<PlainMem as Mem>⟧.view ran.memory).cells ran.root }
     requires few { (⟦<PlainMem as Mem>⟧.view ran.memory).limit ≤ 65536 }
     ensures { (p : ProgramTree) (depth : ℕ) (input : List ℕ) (s : StandsMeant p names.now depth input ran.lowered.code.laid (⟦<PlainMem as Mem>⟧.view ran.memory).cells ran.root)
@@ -132,7 +132,7 @@ pub fn shown(
 ///
 /// Want of memory.
 pub fn with_text(alloc: Global, mut value: Valued, image: bool) -> Result<Made, Memory>
-    requires names { AreHeld value.ran.lowered.code.laid.table value.names }
+    requires names { AreHeld value.ran.lowered.code.laid.table value.names.short }
     requires stands { (p : ProgramTree) × (depth : ℕ) × (input : List ℕ) × StandsMeant p value.names depth input value.ran.lowered.code.laid (⟦<SoleMem as Mem>⟧.view value.ran.memory).cells value.ran.root }
     requires few { (⟦<SoleMem as Mem>⟧.view value.ran.memory).limit ≤ 65536 }
     ensures { (p : ProgramTree) (depth : ℕ) (input : List ℕ) (s : StandsMeant p value.names depth input value.ran.lowered.code.laid (⟦<SoleMem as Mem>⟧.view value.ran.memory).cells value.ran.root)

@@ -1,5 +1,6 @@
 //! The laws of refusals, and of replays. Each function does nothing: its contract is the law.
 
+ghost use Rattle.gib_base.specs.Texts.{TextsView};
 ghost use Rattle.std.specs.Prelude.{◌≡◌, ◌≤◌, ℕ, List, [], ◌∷◌, length, Option, None, Some};
 ghost use Rattle.gib_syntax.specs.Parts.{program_of};
 ghost use Rattle.gib_syntax.specs.Tree.{ProgramTree};
@@ -57,9 +58,9 @@ pub fn one_input_fault(compiled: &Compiled)
 /// A replay repeats its trace: the journal that a trace writes, where it is not too long, is accepted by a replay on the same input,
 /// which ends with the same text, or without a value for the same reason.
 pub fn a_replay_repeats_its_trace()
-    ensures same { (options others : Options) (p : ProgramTree) (names : List (List ℕ)) (given : Contents) (journal : List ℕ) (file : Option (List ℕ)) (ended again : End) → length journal ≤ 16777216
+    ensures same { (options others : Options) (p : ProgramTree) (names : TextsView) (given : Contents) (journal : List ℕ) (file : Option (List ℕ)) (ended again : End) → length journal ≤ 16777216
         → Does Trace options p names given (Some journal) ended → Does Replay others p names (record { second = given.second; further = journal ∷ [] }) file again → ended ≡ again }
-    ensures accepted { (options others : Options) (p : ProgramTree) (names : List (List ℕ)) (given : Contents) (journal : List ℕ) (ended : End) → length journal ≤ 16777216
+    ensures accepted { (options others : Options) (p : ProgramTree) (names : TextsView) (given : Contents) (journal : List ℕ) (ended : End) → length journal ≤ 16777216
         → Does Trace options p names given (Some journal) ended → Does Replay (without_image others) p names (record { second = given.second; further = journal ∷ [] }) None ended }
 {
     one_file();

@@ -4,7 +4,7 @@
 mod answer;
 mod buffer;
 mod commands;
-mod compile;
+pub mod compile;
 mod documents;
 mod first;
 pub mod headline;

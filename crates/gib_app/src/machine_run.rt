@@ -30,7 +30,7 @@ use crate::plan::Options;
 use crate::runtime::Runtime;
 use crate::stop::Stop;
 use gib_arena::SoleMem;
-use gib_base::Names;
+use gib_base::Texts;
 use gib_base::limits::FILE_BYTES;
 use gib_check::Typed;
 use gib_code::Answer;
@@ -218,7 +218,7 @@ pub fn run_packed<R: Threads + Wait + Sync, G: Gate + Sync>(
     alloc: Global,
     runtime: Runtime<'_, R, G>,
     typed: &Typed,
-    names: &Names,
+    names: &Texts,
     file: &[u8],
     options: Options,
 ) -> Result<Ran<SoleMem>, Stop<'static>>
@@ -256,10 +256,10 @@ pub fn run_packed<R: Threads + Wait + Sync, G: Gate + Sync>(
 pub fn print_ran<M: Mem, O: Sink>(
     alloc: Global,
     ran: &mut Ran<M>,
-    names: &Names,
+    names: &Texts,
     out: &mut O,
 ) -> Result<(), PrintFault>
-    requires names { AreHeld ran.old.lowered.code.laid.table names.now }
+    requires names { AreHeld ran.old.lowered.code.laid.table names.now.short }
     requires stands { (p : ProgramTree) × (depth : ℕ) × (input : List ℕ) × StandsMeant p names.now depth input ran.old.lowered.code.laid (M.view ran.old.memory).cells ran.old.root }
     ensures done { (p : ProgramTree) (depth : ℕ) (input : List ℕ) (s : StandsMeant p names.now depth input ran.old.lowered.code.laid (M.view ran.old.memory).cells ran.old.root)
         → OnOk result (Appends (O.view out.old).taken (O.view out.new).taken (text_line p names.now s.result)) }

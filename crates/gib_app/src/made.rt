@@ -2,7 +2,7 @@
 
 use crate::machine_run::Ran;
 use gib_arena::SoleMem;
-use gib_base::Names;
+use gib_base::Texts;
 
 /// Why a job ends without a value.
 #[derive(Clone, Copy, Debug, PartialEq, Eq)]
@@ -19,7 +19,7 @@ pub enum Reason {
 #[derive(Drop)]
 pub struct Valued {
     pub ran: Ran<SoleMem>,
-    pub names: Names,
+    pub names: Texts,
 }
 
 /// How a job ends.

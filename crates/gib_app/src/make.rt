@@ -7,7 +7,8 @@ ghost use Rattle.gib_app.specs.Causes.{AreFurther, AreGiven, OnSource, first_of,
 ghost use Rattle.gib_app.specs.Calls.{read_calls, input_calls, reads_of};
 ghost use Rattle.gib_app.specs.Readings.{HasRead, HasStopped};
 ghost use Rattle.gib_app.specs.Kept.{contents_of, document_of, plan_of, file_of, packed_of};
-ghost use Rattle.gib_app.specs.Stops.{IsCompiled, IsReady, IsSourceStop, IsInputStop, IsFurtherStop, IsInputsStop, IsMakeStop};
+ghost use Rattle.gib_app.specs.Running.{IsProgram};
+ghost use Rattle.gib_app.specs.Stops.{IsReady, IsSourceStop, IsInputStop, IsFurtherStop, IsInputsStop, IsMakeStop};
 ghost use Rattle.gib_app.specs.Performing.{IsDone};
 ghost use Rattle.gib_app.specs.Ranges.{AreInRange};
 
@@ -21,7 +22,7 @@ use crate::plan::{Document, Plan};
 use crate::runtime::Runtime;
 use crate::source_fault::SourceFault;
 use crate::stop::Stop;
-use gib_base::Names;
+use gib_base::Texts;
 use gib_base::limits::SOURCE_BYTES;
 use gib_check::Typed;
 use gib_edge::outside::{Gate, Shelf};
@@ -42,7 +43,7 @@ fn load_program<'a, S: Shelf>(
     shelf: &mut S,
     document: Document<'a>,
 ) -> Result<Compiled, Stop<'a>>
-    ensures compiled { IfOk result (λ c. OnSource (S.view shelf.old).kept (document_of document.entry) (λ source. IsCompiled source (program_of c.typed) c.names)) }
+    ensures compiled { IfOk result (λ c. OnSource (S.view shelf.old).kept (document_of document.entry) (λ source. IsProgram source c.names (program_of c.typed))) }
     ensures ready { IfOk result (λ c. IsReady (program_of c.typed) c.names) }
     ensures stop { IfErr result (IsSourceStop (S.view shelf.old) (S.view shelf.new) (document_of document.entry)) }
     ensures read { OnOk result (HasRead (S.view shelf.old) (S.view shelf.new) (read_calls (document_of document.entry) 1048576)) }
@@ -92,7 +93,7 @@ fn read_third<'a, S: Shelf>(
     shelf: &mut S,
     plan: Plan<'a>,
     typed: &Typed,
-    names: &Names,
+    names: &Texts,
     second: &[u8],
 ) -> Result<Option<Vec<u8>>, Stop<'a>>
     requires most { length second.now ≤ most_of plan.job }

@@ -11,7 +11,7 @@ ghost use Rattle.gib_app.specs.PassFaults.{packed_stop, payload_stop, schema_sto
 
 use crate::input_fault::{InputFault, PackedFault};
 use crate::stop::Stop;
-use gib_base::Names;
+use gib_base::Texts;
 use gib_check::Typed;
 use gib_file::{
     PackFault, SchemaFault, Survey, agree, file_is_content, read_header, refused_description,
@@ -58,13 +58,13 @@ fn of_payload(fault: PackFault) -> Stop<'static>
 pub fn survey_input<'a>(
     alloc: Global,
     typed: &'a Typed,
-    names: &Names,
+    names: &Texts,
     bytes: &'a [u8],
 ) -> Result<Survey<'a>, Stop<'static>>
     ensures table { IfOk result (λ s. s.table ≡ table_of_program (program_of typed.now)) }
     ensures ty { IfOk result (λ s. s.ty ≡ input_type (program_of typed.now)) }
-    ensures file { IfOk result (λ s. (v : Datum) → Packed s.table s.ty v s.bytes → File (table_of_program (program_of typed.now)) names.now (input_type (program_of typed.now)) v bytes.now) }
-    ensures refused { IfErr result (IsPackedStop (table_of_program (program_of typed.now)) names.now (input_type (program_of typed.now)) bytes.now) }
+    ensures file { IfOk result (λ s. (v : Datum) → Packed s.table s.ty v s.bytes → File (table_of_program (program_of typed.now)) names.now.long (input_type (program_of typed.now)) v bytes.now) }
+    ensures refused { IfErr result (IsPackedStop (table_of_program (program_of typed.now)) names.now.long (input_type (program_of typed.now)) bytes.now) }
 {
     file_is_content();
     refused_header();
@@ -93,11 +93,11 @@ pub fn survey_input<'a>(
 pub fn read_packed(
     alloc: Global,
     typed: &Typed,
-    names: &Names,
+    names: &Texts,
     bytes: &[u8],
 ) -> Result<Value, Stop<'static>>
-    ensures read { IfOk result (λ v. File (table_of_program (program_of typed.now)) names.now (input_type (program_of typed.now)) v bytes.now) }
-    ensures refused { IfErr result (IsPackedStop (table_of_program (program_of typed.now)) names.now (input_type (program_of typed.now)) bytes.now) }
+    ensures read { IfOk result (λ v. File (table_of_program (program_of typed.now)) names.now.long (input_type (program_of typed.now)) v bytes.now) }
+    ensures refused { IfErr result (IsPackedStop (table_of_program (program_of typed.now)) names.now.long (input_type (program_of typed.now)) bytes.now) }
 {
     let survey = match survey_input(alloc, typed, names, bytes) {
         Ok(survey) => survey,

@@ -29,10 +29,10 @@ pub fn packed_result<R: Threads + Sync>(
 ) -> (Result<Vec<u8>, CompactFault>, Valued)
     requires stands { (v : Datum) × Stands value.ran.lowered.code.laid (⟦<SoleMem as Mem>⟧.view value.ran.memory).cells value.ran.root ty v }
     ensures file { (v : Datum) → Stands value.ran.lowered.code.laid (⟦<SoleMem as Mem>⟧.view value.ran.memory).cells value.ran.root ty v
-        → IfOk result.0 (λ file. File2 value.ran.lowered.code.laid.table value.names ty v file.items) }
+        → IfOk result.0 (λ file. File2 value.ran.lowered.code.laid.table value.names.long ty v file.items) }
     ensures few { IfOk result.0 (λ file. length file.items ≤ 16777216) }
     ensures long { (v : Datum) (bytes : List ℕ) → Stands value.ran.lowered.code.laid (⟦<SoleMem as Mem>⟧.view value.ran.memory).cells value.ran.root ty v
-        → IsErrOf result.0 CompactFault.Long → File2 value.ran.lowered.code.laid.table value.names ty v bytes → 16777216 < length bytes }
+        → IsErrOf result.0 CompactFault.Long → File2 value.ran.lowered.code.laid.table value.names.long ty v bytes → 16777216 < length bytes }
     ensures again { StandsAgain value result.1 }
 {
     let Valued { ran, names } = value;

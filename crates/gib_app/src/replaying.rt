@@ -19,7 +19,7 @@ use crate::lowering::lowered;
 use crate::made::Reason;
 use crate::packed::survey_input;
 use crate::stop::Stop;
-use gib_base::Names;
+use gib_base::Texts;
 use gib_base::limits::FILE_BYTES;
 use gib_check::Typed;
 use gib_core::Lowered;
@@ -109,7 +109,7 @@ fn journal_of(alloc: Global, bytes: &[u8]) -> Result<Journal, Stop<'static>>
 pub fn replay_packed(
     alloc: Global,
     typed: &Typed,
-    names: &Names,
+    names: &Texts,
     file: &[u8],
     bytes: &[u8],
 ) -> Result<ReplayedRun, Stop<'static>>

@@ -27,4 +27,7 @@ pub enum SourceFault {
     /// The first broken rule of typing, and where the thing that breaks it begins.
     #[error("a rule of typing is broken at byte {1}")]
     Broken(Kind, u32),
+    /// The use at this place is over a limit on copies.
+    #[error("a use is over a limit at byte {0}")]
+    OverLimit(u32),
 }

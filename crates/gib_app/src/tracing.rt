@@ -21,7 +21,7 @@ use crate::packed::survey_input;
 use crate::plan::Options;
 use crate::runtime::Runtime;
 use crate::stop::Stop;
-use gib_base::Names;
+use gib_base::Texts;
 use gib_base::limits::FILE_BYTES;
 use gib_check::Typed;
 use gib_core::Lowered;
@@ -102,7 +102,7 @@ pub fn trace_packed<R: Threads + Wait + Sync, G: Gate + Sync>(
     alloc: Global,
     runtime: Runtime<'_, R, G>,
     typed: &Typed,
-    names: &Names,
+    names: &Texts,
     file: &[u8],
     options: Options,
 ) -> Result<TracedRun, Stop<'static>>

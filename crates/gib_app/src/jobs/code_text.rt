@@ -19,7 +19,7 @@ use std::alloc::Global;
 
 /// The listing of the code of a program.
 fn print_code(alloc: Global, compiled: &Compiled, skips: bool) -> Result<Vec<u8>, Memory>
-    ensures { IfOk result (λ text. text.items ≡ listing_text compiled.now.names (lower_program (core_after skips 4 (program_of compiled.now.typed)))) }
+    ensures { IfOk result (λ text. text.items ≡ listing_text compiled.now.names.long (lower_program (core_after skips 4 (program_of compiled.now.typed)))) }
 {
     let lowered = lowered(alloc, &compiled.typed, skips)?;
     listing(alloc, lowered.code(), &compiled.names)
@@ -31,7 +31,7 @@ fn print_code(alloc: Global, compiled: &Compiled, skips: bool) -> Result<Vec<u8>
 ///
 /// Want of memory alone.
 pub fn code_text(alloc: Global, compiled: &Compiled, skips: bool) -> Result<Made, Stop<'static>>
-    ensures made { IfOk result (λ made. EndsBy (file_of made) made.end (OnlyPrints (λ text. text ≡ listing_text compiled.now.names (lower_program (core_after skips 4 (program_of compiled.now.typed)))))) }
+    ensures made { IfOk result (λ made. EndsBy (file_of made) made.end (OnlyPrints (λ text. text ≡ listing_text compiled.now.names.long (lower_program (core_after skips 4 (program_of compiled.now.typed)))))) }
     ensures memory { IfErr result (λ e. e ≡ Stop.Memory) }
 {
     match print_code(alloc, compiled, skips) {

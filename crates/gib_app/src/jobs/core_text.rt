@@ -47,7 +47,7 @@ fn print_after(
     skips: bool,
     pass: u32,
 ) -> Result<Vec<u8>, Memory>
-    ensures { IfOk result (λ text. text.items ≡ text_of_core compiled.now.names (core_after skips pass (program_of compiled.now.typed))) }
+    ensures { IfOk result (λ text. text.items ≡ text_of_core compiled.now.names.long (core_after skips pass (program_of compiled.now.typed))) }
 {
     let core = core_after(alloc, &compiled.typed, skips, pass)?;
     print_core(alloc, &core, &compiled.names)
@@ -64,7 +64,7 @@ pub fn core_text(
     skips: bool,
     pass: u32,
 ) -> Result<Made, Stop<'static>>
-    ensures made { IfOk result (λ made. EndsBy (file_of made) made.end (OnlyPrints (λ text. text ≡ text_of_core compiled.now.names (core_after skips pass (program_of compiled.now.typed))))) }
+    ensures made { IfOk result (λ made. EndsBy (file_of made) made.end (OnlyPrints (λ text. text ≡ text_of_core compiled.now.names.long (core_after skips pass (program_of compiled.now.typed))))) }
     ensures memory { IfErr result (λ e. e ≡ Stop.Memory) }
 {
     match print_after(alloc, compiled, skips, pass) {

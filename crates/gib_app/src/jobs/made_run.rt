@@ -1,5 +1,6 @@
 //! `gen`: prints a line about what a program that was made means on an input that was made.
 
+ghost use Rattle.gib_base.specs.Texts.{TextsView};
 ghost use Rattle.std.specs.Prelude.{◌≡◌, ◌≤◌, ℕ, List, length, IfOk, IfErr};
 ghost use Rattle.gib_gen.specs.Summary.{summary_line};
 ghost use Rattle.gib_syntax.specs.Tree.{ProgramTree};
@@ -32,8 +33,8 @@ use std::thread::Threads;
 ///
 /// Want of memory.
 fn line_of(alloc: Global, ran: &mut Ran<SoleMem>, options: Options) -> Result<Vec<u8>, Memory>
-    requires stands { (p : ProgramTree) × (names : List (List ℕ)) × (depth : ℕ) × (input : List ℕ) × StandsMeant p names depth input ran.old.lowered.code.laid (⟦<SoleMem as Mem>⟧.view ran.old.memory).cells ran.old.root }
-    ensures { (p : ProgramTree) (names : List (List ℕ)) (depth : ℕ) (input : List ℕ) (s : StandsMeant p names depth input ran.old.lowered.code.laid (⟦<SoleMem as Mem>⟧.view ran.old.memory).cells ran.old.root)
+    requires stands { (p : ProgramTree) × (names : TextsView) × (depth : ℕ) × (input : List ℕ) × StandsMeant p names depth input ran.old.lowered.code.laid (⟦<SoleMem as Mem>⟧.view ran.old.memory).cells ran.old.root }
+    ensures { (p : ProgramTree) (names : TextsView) (depth : ℕ) (input : List ℕ) (s : StandsMeant p names depth input ran.old.lowered.code.laid (⟦<SoleMem as Mem>⟧.view ran.old.memory).cells ran.old.root)
         → IfOk result (λ line. line.items ≡ summary_line options.number options.levels s.result) }
 {
     let layouts = ran.lowered.code().layouts();
@@ -49,8 +50,8 @@ fn line_of(alloc: Global, ran: &mut Ran<SoleMem>, options: Options) -> Result<Ve
 
 /// What is printed of what a run leaves.
 fn line_made(alloc: Global, mut ran: Ran<SoleMem>, options: Options) -> Result<Made, Stop<'static>>
-    requires stands { (p : ProgramTree) × (names : List (List ℕ)) × (input : List ℕ) × StandsMeant p names options.depth input ran.lowered.code.laid (⟦<SoleMem as Mem>⟧.view ran.memory).cells ran.root }
-    ensures made { (p : ProgramTree) (names : List (List ℕ)) (input : List ℕ) (s : StandsMeant p names options.depth input ran.lowered.code.laid (⟦<SoleMem as Mem>⟧.view ran.memory).cells ran.root)
+    requires stands { (p : ProgramTree) × (names : TextsView) × (input : List ℕ) × StandsMeant p names options.depth input ran.lowered.code.laid (⟦<SoleMem as Mem>⟧.view ran.memory).cells ran.root }
+    ensures made { (p : ProgramTree) (names : TextsView) (input : List ℕ) (s : StandsMeant p names options.depth input ran.lowered.code.laid (⟦<SoleMem as Mem>⟧.view ran.memory).cells ran.root)
         → IfOk result (λ made. EndsBy (file_of made) made.end (Sums p names options input)) }
     ensures memory { IfErr result (λ stop. stop ≡ Stop.Memory) }
 {

@@ -38,7 +38,7 @@ use std::thread::Threads;
 
 /// What a run makes that leaves a value: its image too, where that is asked for.
 fn finish(alloc: Global, value: Valued, image: bool) -> Result<Made, Stop<'static>>
-    requires names { AreHeld value.ran.lowered.code.laid.table value.names }
+    requires names { AreHeld value.ran.lowered.code.laid.table value.names.short }
     requires stands { (p : ProgramTree) × (depth : ℕ) × (input : List ℕ) × StandsMeant p value.names depth input value.ran.lowered.code.laid (⟦<SoleMem as Mem>⟧.view value.ran.memory).cells value.ran.root }
     requires few { (⟦<SoleMem as Mem>⟧.view value.ran.memory).limit ≤ 65536 }
     ensures made { (p : ProgramTree) (options : OptionValues) (input : List ℕ) → value.ran.lowered.code.laid ≡ layouts_of options.skips p → options.image ≡ image → (⟦<SoleMem as Mem>⟧.view value.ran.memory).limit ≡ options.chunks
@@ -68,7 +68,7 @@ fn with_packed(
     image: bool,
     packed: Vec<u8>,
 ) -> Result<Finished, Stop<'static>>
-    requires names { AreHeld value.ran.lowered.code.laid.table value.names }
+    requires names { AreHeld value.ran.lowered.code.laid.table value.names.short }
     requires stands { (p : ProgramTree) × (depth : ℕ) × (input : List ℕ) × StandsMeant p value.names depth input value.ran.lowered.code.laid (⟦<SoleMem as Mem>⟧.view value.ran.memory).cells value.ran.root }
     requires few { (⟦<SoleMem as Mem>⟧.view value.ran.memory).limit ≤ 65536 }
     ensures shown { (p : ProgramTree) (depth : ℕ) (input : List ℕ) (s : StandsMeant p value.names depth input value.ran.lowered.code.laid (⟦<SoleMem as Mem>⟧.view value.ran.memory).cells value.ran.root)
@@ -115,7 +115,7 @@ fn finish_packed<R: Threads + Sync>(
     ty: Ty,
     options: Options,
 ) -> Result<Finished, Stop<'static>>
-    requires names { AreHeld value.ran.lowered.code.laid.table value.names }
+    requires names { AreHeld value.ran.lowered.code.laid.table value.names.short }
     requires stands { (p : ProgramTree) × (depth : ℕ) × (input : List ℕ) × (ty ≡ output_type p) × StandsMeant p value.names depth input value.ran.lowered.code.laid (⟦<SoleMem as Mem>⟧.view value.ran.memory).cells value.ran.root }
     requires packs { options.packs ≡ true }
     requires few { (⟦<SoleMem as Mem>⟧.view value.ran.memory).limit ≤ 65536 }
@@ -145,7 +145,7 @@ fn finish_run<R: Threads + Sync>(
     ty: Ty,
     options: Options,
 ) -> Result<Finished, Stop<'static>>
-    requires names { AreHeld value.ran.lowered.code.laid.table value.names }
+    requires names { AreHeld value.ran.lowered.code.laid.table value.names.short }
     requires stands { (p : ProgramTree) × (depth : ℕ) × (input : List ℕ) × (ty ≡ output_type p) × StandsMeant p value.names depth input value.ran.lowered.code.laid (⟦<SoleMem as Mem>⟧.view value.ran.memory).cells value.ran.root }
     requires few { (⟦<SoleMem as Mem>⟧.view value.ran.memory).limit ≤ 65536 }
     ensures made { (p : ProgramTree) (input : List ℕ) → ty ≡ output_type p → value.ran.lowered.code.laid ≡ layouts_of options.skips p → (⟦<SoleMem as Mem>⟧.view value.ran.memory).limit ≡ options.chunks

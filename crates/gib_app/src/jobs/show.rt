@@ -14,7 +14,7 @@ use crate::made::Made;
 use crate::packed::{of_packed, read_packed};
 use crate::printing::{only_prints, value_line};
 use crate::stop::Stop;
-use gib_base::Names;
+use gib_base::Texts;
 use gib_base::limits::FILE_BYTES;
 use gib_check::Typed;
 use gib_file::{HeadFault, has_magic, refused_header};
@@ -25,7 +25,7 @@ use std::alloc::Global;
 fn read_shown(
     alloc: Global,
     typed: &Typed,
-    names: &Names,
+    names: &Texts,
     skips: bool,
     file: &[u8],
 ) -> Result<Value, Stop<'static>>

@@ -21,7 +21,7 @@ use crate::printing::of_stop;
 use crate::runtime::Runtime;
 use crate::stop::Stop;
 use crate::tracing::{TracedRun, trace_packed};
-use gib_base::Names;
+use gib_base::Texts;
 use gib_base::limits::FILE_BYTES;
 use gib_edge::outside::Gate;
 use gib_locked::{Traced, write_journal};
@@ -31,8 +31,8 @@ use std::sync::Wait;
 use std::thread::Threads;
 
 /// What such a run leaves: its journal, and the text of its value or why there is none.
-fn left_of(alloc: Global, run: TracedRun, names: &Names) -> Result<Made, Stop<'static>>
-    requires names { AreHeld run.lowered.code.laid.table names.now }
+fn left_of(alloc: Global, run: TracedRun, names: &Texts) -> Result<Made, Stop<'static>>
+    requires names { AreHeld run.lowered.code.laid.table names.now.short }
     requires traced { (p : ProgramTree) × (options : OptionValues) × (input : List ℕ) × IsTraced p names.now options input run.traced.journal.settings run.traced.journal.lines.all.items (⟦<PlainMem as Mem>⟧.view run.traced.memory) run.traced.answer
         × (run.lowered.code.laid ≡ layouts_of options.skips p) }
     ensures made { (p : ProgramTree) (options : OptionValues) (input : List ℕ) → IsTraced p names.now options input run.traced.journal.settings run.traced.journal.lines.all.items (⟦<PlainMem as Mem>⟧.view run.traced.memory) run.traced.answer

@@ -9,8 +9,8 @@ pub returns-clause-one : goal.returns-clause-one
 returns-clause-one c = λ job options given f g h k.
     let p = program_of c.args.compiled.now.typed in
     let names = c.args.compiled.now.names in
-    let L : Table → Type 0 = λ t. Laws t names in
-    let laws : Laws (table_of_program p) names = subst L c.types-types.ensures (record {
+    let L : Table → Type 0 = λ t. Laws t names.short in
+    let laws : Laws (table_of_program p) names.short = subst L c.types-types.ensures (record {
       headers = c.refused_header.ensures;
       types = c.refused_description.ensures;
       payloads = c.refused_file.ensures;
@@ -27,8 +27,8 @@ pub returns-clause-none : goal.returns-clause-none
 returns-clause-none c = λ job options given f h a.
     let p = program_of c.args.compiled.now.typed in
     let names = c.args.compiled.now.names in
-    let L : Table → Type 0 = λ t. Laws t names in
-    let laws : Laws (table_of_program p) names = subst L c.types-types.ensures (record {
+    let L : Table → Type 0 = λ t. Laws t names.short in
+    let laws : Laws (table_of_program p) names.short = subst L c.types-types.ensures (record {
       headers = c.refused_header.ensures;
       types = c.refused_description.ensures;
       payloads = c.refused_file.ensures;

@@ -21,13 +21,13 @@ returns-in-Err-clause-only g c = λ v is.
 pub returns-in-Ok-lowered-clause-stands : goal.returns-in-Ok-lowered-clause-stands
 returns-in-Ok-lowered-clause-stands g c =
     let made = c.in-Ok-lowered.ensures in
-    survey_stands (program_of c.args.typed.now) c.args.options.skips c.args.options.depth c.args.file.now c.in-Ok.survey c.in-Ok-lowered.lowered (record { core = made.core; means = made.means; laid = made.laid }) c.requires.short
+    survey_stands c.args.names.now (program_of c.args.typed.now) c.args.options.skips c.args.options.depth c.args.file.now c.in-Ok.survey c.in-Ok-lowered.lowered (record { core = made.core; means = made.means; laid = made.laid }) c.requires.short
     c.payload-packed.ensures.packed c.in-Ok.ensures.file c.run_survey.result c.run_survey.ensures.same c.run_survey.ensures.root
 
 pub returns-in-Ok-lowered-clause-stop : goal.returns-in-Ok-lowered-clause-stop
 returns-in-Ok-lowered-clause-stop g c =
     let made = c.in-Ok-lowered.ensures in
-    survey_stops (program_of c.args.typed.now) c.args.options.skips c.args.options.depth (run_forks c.args.options) c.args.options.chunks c.args.file.now c.in-Ok.survey c.in-Ok-lowered.lowered (record { core = made.core; means = made.means; laid = made.laid }) c.requires.short
+    survey_stops c.args.names.now (program_of c.args.typed.now) c.args.options.skips c.args.options.depth (run_forks c.args.options) c.args.options.chunks c.args.file.now c.in-Ok.survey c.in-Ok-lowered.lowered (record { core = made.core; means = made.means; laid = made.laid }) c.requires.short
     c.payload-packed.ensures.packed c.in-Ok.ensures.file c.run_survey.result c.run_survey.ensures.halts
 
 pub returns-in-Ok-lowered-clause-only : goal.returns-in-Ok-lowered-clause-only

@@ -1,6 +1,9 @@
+use Rattle.std.proofs.Common.{List, ℕ, subst}
 use Rattle.gib_app.specs.Calls.{read_calls}
 use Rattle.gib_app.specs.Kept.{document_of}
+use Rattle.gib_app.specs.Stops.{IsCompileStop}
 use Rattle.gib_app.proofs.AfterReads.{stopped_behind}
+use Rattle.gib_app.proofs.Making.{compile_source, found_some}
 use Rattle.gib_app.proofs.make.load_program.Goals as goal
 
 -- src/make.rt
@@ -25,3 +28,11 @@ returns-clause-stopped g c =
     let all = c.in-Ok-Some.ensures in
     stopped_behind (g.S.Shelf.view c.args.shelf.now) (g.S.Shelf.view c.read_document.new.shelf) (read_calls (document_of c.args.document) 1048576) c.in-Err-compile.stop
     (record { same = all.same; reads = all.quiet; writes = all.writes; called = all.called })
+
+pub returns-clause-stop : goal.returns-clause-stop
+returns-clause-stop g c =
+    let before = g.S.Shelf.view c.args.shelf.now in
+    let now' = g.S.Shelf.view c.read_document.new.shelf in
+    let S : List ℕ → Type 0 = λ source. IsCompileStop source c.in-Err-compile.stop in
+    let found = found_some c.in-Ok-Some.field-0 c.in-Ok-Some.source _ _ c.in-Ok-Some.field-0-is c.in-Ok-Some.ensures.bytes in
+    compile_source before now' (document_of c.args.document) c.in-Ok-Some.source.items found.0 c.in-Err-compile.stop (subst S c.deref.ensures.value c.in-Err-compile.ensures.refused)

@@ -48,7 +48,7 @@ returns-in-Ok-None-clause-stop g c =
     let p = program_of c.args.typed.now in
     let first = c.args.second.now in
     let i = c.in-Some.third in
-    let taken = first_taken c.third_input.result (plan_of c.args.plan) c.third_input.ensures.input i c.in-Some.is p first s.table s.ty s.bytes c.requires.most (c.payload-packed.ensures.packed.0, c.payload-packed.ensures.packed.1) c.in-Ok.ensures.file in
+    let taken = first_taken c.third_input.result (plan_of c.args.plan) c.third_input.ensures.input {names = c.args.names.now} i c.in-Some.is p first s.table s.ty s.bytes c.requires.most (c.payload-packed.ensures.packed.0, c.payload-packed.ensures.packed.1) c.in-Ok.ensures.file in
     long_further c.third_input.result (plan_of c.args.plan) c.third_input.ensures.input
     (g.S.Shelf.view c.args.shelf.now)
     (g.S.Shelf.view c.read_document.new.shelf)
@@ -71,7 +71,7 @@ returns-in-Err-read_document-clause-stop g c =
     let p = program_of c.args.typed.now in
     let first = c.args.second.now in
     let i = c.in-Some.third in
-    let taken = first_taken c.third_input.result (plan_of c.args.plan) c.third_input.ensures.input i c.in-Some.is p first s.table s.ty s.bytes c.requires.most (c.payload-packed.ensures.packed.0, c.payload-packed.ensures.packed.1) c.in-Ok.ensures.file in
+    let taken = first_taken c.third_input.result (plan_of c.args.plan) c.third_input.ensures.input {names = c.args.names.now} i c.in-Some.is p first s.table s.ty s.bytes c.requires.most (c.payload-packed.ensures.packed.0, c.payload-packed.ensures.packed.1) c.in-Ok.ensures.file in
     read_further_stop c.third_input.result (plan_of c.args.plan) c.third_input.ensures.input
     (g.S.Shelf.view c.args.shelf.now)
     (g.S.Shelf.view c.read_document.new.shelf)

@@ -16,7 +16,7 @@ use Rattle.gib_app.proofs.packed.survey_input.Goals as goal
 pub returns-in-Err-clause-refused : goal.returns-in-Err-clause-refused
 returns-in-Err-clause-refused c =
     let table = table_of_program (program_of c.args.typed.now) in
-    let names = c.args.names.now in
+    let names = c.args.names.now.long in
     let ty = input_type (program_of c.args.typed.now) in
     let P : Stop → Type 0 = IsPackedStop table names ty c.args.bytes.now in
     subst P (sym c.of_packed.ensures)
@@ -25,7 +25,7 @@ returns-in-Err-clause-refused c =
 pub returns-in-Err-agree-clause-refused : goal.returns-in-Err-agree-clause-refused
 returns-in-Err-agree-clause-refused c =
     let table = table_of_program (program_of c.args.typed.now) in
-    let names = c.args.names.now in
+    let names = c.args.names.now.long in
     let ty = input_type (program_of c.args.typed.now) in
     let content = c.in-Ok.payload in
     let fault = c.in-Err-agree.fault in
@@ -39,7 +39,7 @@ returns-in-Err-agree-clause-refused c =
 pub returns-in-Ok-survey-clause-file : goal.returns-in-Ok-survey-clause-file
 returns-in-Ok-survey-clause-file c = λ v q.
     let table = table_of_program (program_of c.args.typed.now) in
-    let names = c.args.names.now in
+    let names = c.args.names.now.long in
     let ty = input_type (program_of c.args.typed.now) in
     let content = c.in-Ok.payload in
     let Q : Table → Type 0 = λ t. Agrees t names c.input_type-ty.result content.description in
@@ -55,7 +55,7 @@ returns-in-Ok-survey-clause-file c = λ v q.
 pub returns-in-Err-survey-clause-refused : goal.returns-in-Err-survey-clause-refused
 returns-in-Err-survey-clause-refused c =
     let table = table_of_program (program_of c.args.typed.now) in
-    let names = c.args.names.now in
+    let names = c.args.names.now.long in
     let ty = input_type (program_of c.args.typed.now) in
     let content = c.in-Ok.payload in
     let fault = c.in-Err-survey.fault in

@@ -12,7 +12,7 @@ returns-in-Err-clause-stop c =
 
 pub returns-in-Err-journal_of-clause-stop : goal.returns-in-Err-journal_of-clause-stop
 returns-in-Err-journal_of-clause-stop c =
-    no_journal (program_of c.args.typed.now) c.args.file.now c.args.bytes.now c.in-Ok.survey c.requires.short c.payload-packed.ensures.packed c.in-Ok.ensures.file c.requires.few
+    no_journal c.args.names.now (program_of c.args.typed.now) c.args.file.now c.args.bytes.now c.in-Ok.survey c.requires.short c.payload-packed.ensures.packed c.in-Ok.ensures.file c.requires.few
     c.in-Err-journal_of.stop c.in-Err-journal_of.ensures.none
 
 pub returns-in-Ok-replay_survey-clause-ends : goal.returns-in-Ok-replay_survey-clause-ends
@@ -28,6 +28,6 @@ pub returns-clause-stop : goal.returns-clause-stop
 returns-clause-stop c =
     let low = c.in-Ok-lowered.ensures in
     let journal = c.in-Ok-journal_of.journal in
-    replay_stops c.one_file.ensures.value (program_of c.args.typed.now) c.args.file.now c.args.bytes.now c.in-Ok.survey c.in-Ok-lowered.lowered journal.settings journal.lines.all.items
+    replay_stops c.args.names.now c.one_file.ensures.value (program_of c.args.typed.now) c.args.file.now c.args.bytes.now c.in-Ok.survey c.in-Ok-lowered.lowered journal.settings journal.lines.all.items
     (record { core = low.core; code = low.code; laid = low.laid; means = low.means }) c.requires.short c.payload-packed.ensures.packed c.in-Ok.ensures.file
     (record { short = c.requires.few; are = c.in-Ok-journal_of.ensures.are; text_is = c.in-Ok-journal_of.ensures.journal }) c.in-Err-replay_survey.stop c.in-Err-replay_survey.ensures.stop

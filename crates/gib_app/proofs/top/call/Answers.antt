@@ -7,7 +7,7 @@ use Rattle.gib_app.specs.Words.{asked, bytes_of}
 use Rattle.gib_app.specs.Kept.{plan_of}
 use Rattle.gib_app.specs.Performing.{IsPerformed}
 use Rattle.gib_app.specs.declared.status.Status.TheVariants as status
-use Rattle.gib_app.proofs.Performing.{files_of, others_stay, unput_files, value_files, valueless_files, prints, prints_part, prints_value, prints_value_part}
+use Rattle.gib_app.proofs.Performing.{files_of, others_stay, unput_files, value_files, valueless_files, without_value, prints, prints_part, prints_value, prints_value_part}
 use Rattle.gib_app.proofs.top.call.Goals as goal
 
 pub returns-in-Ok-put_all-clause-done : goal.returns-in-Ok-put_all-clause-done
@@ -98,6 +98,16 @@ returns-in-Ok-Value-clause-same g c =
     let e = subst M c.in-Some.is c.in-Ok.ensures in
     value_files g.S.Shelf.tells words (plan_of c.in-Some.plan) (g.S.Shelf.view c.args.shelf.now).kept (g.S.Shelf.view c.perform.new.shelf).kept status.Memory e c.in-Ok-Value.ensures.others
     (c.in-Ok-Value.ensures.value c.in-Ok-Value.value c.in-Ok-Value.field-0-is)
+
+pub returns-in-Ok-NoValue-clause-stop : goal.returns-in-Ok-NoValue-clause-stop
+returns-in-Ok-NoValue-clause-stop g c =
+    let words = bytes_of c.args.words.now in
+    let M : Option KeptPlan → Type 0 = λ o. MatchOption o (asked words ≡ None) (λ r. asked words ≡ Some (plan_of r)) in
+    let e = subst M c.in-Some.is c.in-Ok.ensures in
+    let before = g.S.Shelf.view c.args.shelf.now in
+    let now' = g.S.Shelf.view c.perform.new.shelf in
+    let D : KeptEnd → Type 0 = IsPerformed g.S.Shelf.tells before.kept now'.kept (plan_of c.in-Some.plan) in
+    without_value g.S.Shelf.tells words before now' (g.O.Sink.view c.args.out.now) (plan_of c.in-Some.plan) c.in-Ok-NoValue.reason e (subst D c.in-Ok-NoValue.field-0-is c.in-Ok-NoValue.ensures.done)
 
 pub returns-in-Ok-NoValue-clause-same : goal.returns-in-Ok-NoValue-clause-same
 returns-in-Ok-NoValue-clause-same g c =

@@ -21,5 +21,5 @@ returns-in-Ok-trace_survey-clause-ends g c =
 pub returns-clause-stop : goal.returns-clause-stop
 returns-clause-stop g c =
     let low = c.in-Ok-lowered.ensures in
-    traced_stops (program_of c.args.typed.now) c.args.options c.args.file.now c.in-Ok.survey c.in-Ok-lowered.lowered (record { core = low.core; code = low.code; laid = low.laid; means = low.means }) c.requires.short
+    traced_stops c.args.names.now (program_of c.args.typed.now) c.args.options c.args.file.now c.in-Ok.survey c.in-Ok-lowered.lowered (record { core = low.core; code = low.code; laid = low.laid; means = low.means }) c.requires.short
     c.payload-packed.ensures.packed c.in-Ok.ensures.file c.in-Err-trace_survey.stop c.in-Err-trace_survey.ensures.stop

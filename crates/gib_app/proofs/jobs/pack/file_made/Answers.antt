@@ -9,8 +9,8 @@ pub returns-then-len-gt-FILE_BYTES-clause-stop : goal.returns-then-len-gt-FILE_B
 returns-then-len-gt-FILE_BYTES-clause-stop c =
     let p = program_of c.args.compiled.now.typed in
     let names = c.args.compiled.now.names in
-    let L : Table → Type 0 = λ t. PackLaws t names in
-    let laws : PackLaws (table_of_program p) names = subst L c.types.ensures (record { firsts = c.one_file.ensures.bytes; seconds = c.one_file.ensures.second; values = c.one_file.ensures.value; texts = c.texts_differ.ensures }) in
+    let L : Table → Type 0 = λ t. PackLaws t names.short in
+    let laws : PackLaws (table_of_program p) names.short = subst L c.types.ensures (record { firsts = c.one_file.ensures.bytes; seconds = c.one_file.ensures.second; values = c.one_file.ensures.value; texts = c.texts_differ.ensures }) in
     let over = c.if-len-gt-FILE_BYTES.true in
     let len = c.len.ensures in
     let many : 16777216 < length c.in-Ok-file_of_value.file.items = omega (arith, over, len) in

@@ -32,9 +32,9 @@ returns-in-Ok-clause-made g c = λ p input ty laid limit s.
     let new = c.packed_result-packed.result.1 in
     let again = c.packed_result-packed.ensures.again in
     let S : Ty → Type 0 = λ t. Stands value.ran.lowered.code.laid (cells_of value.ran.memory) value.ran.root t s.result in
-    let file = ok_is _ _ (λ file. File2 value.ran.lowered.code.laid.table value.names c.args.ty s.result file.items) c.in-Ok.is (c.packed_result-packed.ensures.file s.result (subst S (sym ty) s.stands)) in
+    let file = ok_is _ _ (λ file. File2 value.ran.lowered.code.laid.table value.names.long c.args.ty s.result file.items) c.in-Ok.is (c.packed_result-packed.ensures.file s.result (subst S (sym ty) s.stands)) in
     let few = ok_is _ _ (λ file. length file.items ≤ 16777216) c.in-Ok.is c.packed_result-packed.ensures.few in
-    let F : Table → Ty → Type 0 = λ t y. File2 t value.names y s.result c.in-Ok.packed.items in
+    let F : Table → Ty → Type 0 = λ t y. File2 t value.names.long y s.result c.in-Ok.packed.items in
     packed_run p o input value new again laid limit c.requires.packs s c.in-Ok.packed.items (subst₂ F s.table ty file) few c.with_packed.result
     (c.with_packed.ensures.shown p o.depth input (stands_named p o.depth input value new again s)) c.with_packed.ensures.packed
 
@@ -48,7 +48,7 @@ returns-in-Long-clause-made g c = λ p input ty laid limit s.
     let failed = c.in-Err.is ∙ ap (λ (f : CompactFault). Err f) c.in-Long.is in
     long_run p o input value new again laid limit c.requires.packs s
     (λ bytes f.
-    let F : Table → Ty → Type 0 = λ t y. File2 t value.names y s.result bytes in
+    let F : Table → Ty → Type 0 = λ t y. File2 t value.names.long y s.result bytes in
     c.packed_result-packed.ensures.long s.result bytes (subst S (sym ty) s.stands) failed (subst₂ F (sym s.table) (sym ty) f))
     c.without_packed.result (c.without_packed.ensures.image p o.depth input (stands_named p o.depth input value new again s)) c.without_packed.ensures.long
 

@@ -15,7 +15,7 @@ use Rattle.gib_app.proofs.jobs.run.run.Goals as goal
 
 pub finish_run-requires-clause-names : goal.finish_run-requires-clause-names
 finish_run-requires-clause-names g c κs within =
-    let H : Table → Type 0 = λ t. AreHeld t c.args.compiled.names in
+    let H : Table → Type 0 = λ t. AreHeld t c.args.compiled.names.short in
     subst H (sym c.in-Ok.ensures.stands.table) c.requires.ready.held
 
 pub finish_run-requires-clause-stands : goal.finish_run-requires-clause-stands
