@@ -23,7 +23,7 @@ const TWO_LEAVES: &[u8] = &[1, 0, 1, 0, 0, 0, 0, 0, 0, 0, 0, 2, 0, 0, 0, 0, 0, 0
 const TREE: &[u8] = b"main Tree\ndata Tree = Leaf:0 Int | Node:1 Tree Tree\n";
 
 /// The packed file of version 2 of a description and a payload.
-fn described(alloc: Global, description: &[u8], payload: &[u8]) -> Result<Vec<u8>, AllocError> {
+pub fn described(alloc: Global, description: &[u8], payload: &[u8]) -> Result<Vec<u8>, AllocError> {
     let mut bytes = Vec::from_slice(alloc, b"GIBP\x02\x00\x00\x00")?;
     bytes.extend_from_slice(&(payload.len() as u64).to_le_bytes())?;
     bytes.extend_from_slice(&(description.len() as u64).to_le_bytes())?;

@@ -10,6 +10,10 @@ mod chunks;
 #[cfg(test)]
 mod commands;
 #[cfg(test)]
+mod copied;
+#[cfg(test)]
+mod copies;
+#[cfg(test)]
 mod cores;
 #[cfg(test)]
 mod deep;
@@ -21,6 +25,10 @@ mod failing;
 mod files;
 #[cfg(test)]
 mod forking;
+#[cfg(test)]
+mod generic_checks;
+#[cfg(test)]
+mod generic_rows;
 #[cfg(test)]
 mod harness;
 #[cfg(test)]

@@ -9,6 +9,10 @@ use std::test::Fail;
 const PROGRAM: &[u8] =
     b"data T = A | B Int Bool T ; fun f ( x : Int ) ( t : T ) : T = let y = ( x + 1 ) in let par a = f y t and b = A in if ( x == 2 ) then case t of { A -> a ; B n c s -> ( B n True ( b ) ) } else ( f ( x * 3 ) t ) ; main ( n : Int ) : Bool = ( n < ( n - 4 ) ) ;";
 
+// A program with type parameters.
+const GENERIC: &[u8] =
+    b"data List a = Nil | Cons a ( List a ) ; data Two a b = Two a b Int ; fun len [ a ] ( l : ( List a ) ) : Int = case l of { Nil -> 0 ; Cons x r -> ( 1 + len [ a ] r ) } ; fun both [ a b ] ( x : a ) ( y : b ) : ( Two a b ) = Two [ a b ] x y 7 ; main ( n : Int ) : Int = len [ ( Two Int Bool ) ] ( Cons [ ( Two Int Bool ) ] ( both [ Int Bool ] n True ) Nil [ ( Two Int Bool ) ] ) ;";
+
 // What is wrong with a text; None where nothing is.
 fn fault_of(alloc: Global, text: &[u8]) -> Result<Option<ParseFault>, LexFault> {
     let tokens = lex(alloc, text)?;
@@ -18,11 +22,11 @@ fn fault_of(alloc: Global, text: &[u8]) -> Result<Option<ParseFault>, LexFault> 
     }
 }
 
-// The first bytes of the program, and then others.
-fn cut(alloc: Global, len: usize, more: &[u8]) -> Result<Vec<u8>, AllocError> {
+// The first bytes of a program, and then others.
+fn cut(alloc: Global, program: &[u8], len: usize, more: &[u8]) -> Result<Vec<u8>, AllocError> {
     let mut text = Vec::new(alloc);
-    if len <= PROGRAM.len() {
-        text.extend_from_slice(PROGRAM.split_at(len).0)?;
+    if len <= program.len() {
+        text.extend_from_slice(program.split_at(len).0)?;
     }
     text.extend_from_slice(more)?;
     Ok(text)
@@ -59,7 +63,7 @@ const TOKENS: [(u32, &[u8]); 105] = [
     (15, b"False"),
     (19, b"+"),
     (24, b"main"),
-    (26, b"v"),
+    (26, b"=="),
     (28, b"Int"),
     (32, b"{"),
     (34, b"+"),
@@ -157,6 +161,149 @@ const TOKENS: [(u32, &[u8]); 105] = [
     (255, b"Int"),
 ];
 
+/// Tokens that may not stand at these places of the program with type parameters.
+const GENERIC_TOKENS: [(u32, &[u8]); 139] = [
+    (0, b"]"),
+    (5, b")"),
+    (10, b"("),
+    (12, b"Int"),
+    (14, b"else"),
+    (18, b"7"),
+    (20, b"("),
+    (25, b")"),
+    (27, b"["),
+    (29, b"par"),
+    (34, b";"),
+    (36, b"["),
+    (38, b"["),
+    (40, b"("),
+    (45, b"data"),
+    (49, b"+"),
+    (51, b":"),
+    (53, b"quot"),
+    (55, b"["),
+    (59, b"]"),
+    (61, b")"),
+    (63, b"]"),
+    (67, b"in"),
+    (69, b"in"),
+    (73, b"]"),
+    (77, b"*"),
+    (79, b"("),
+    (81, b"["),
+    (83, b"v"),
+    (85, b")"),
+    (87, b"<"),
+    (89, b"in"),
+    (91, b")"),
+    (96, b")"),
+    (98, b"}"),
+    (100, b"]"),
+    (102, b"["),
+    (104, b"]"),
+    (108, b")"),
+    (110, b"then"),
+    (115, b"if"),
+    (117, b")"),
+    (120, b"["),
+    (122, b"("),
+    (126, b"("),
+    (129, b"fun"),
+    (131, b"par"),
+    (133, b"]"),
+    (138, b"]"),
+    (140, b"Bool"),
+    (142, b"in"),
+    (145, b"["),
+    (147, b")"),
+    (149, b"["),
+    (151, b")"),
+    (155, b"in"),
+    (157, b"]"),
+    (159, b"["),
+    (161, b":"),
+    (163, b"["),
+    (165, b"]"),
+    (167, b"("),
+    (169, b"+"),
+    (173, b"["),
+    (178, b"]"),
+    (180, b"main"),
+    (182, b"("),
+    (184, b"K"),
+    (186, b"]"),
+    (188, b"("),
+    (190, b")"),
+    (192, b"par"),
+    (194, b"]"),
+    (196, b")"),
+    (198, b"("),
+    (200, b"Int"),
+    (202, b"par"),
+    (204, b"]"),
+    (206, b"]"),
+    (208, b"]"),
+    (210, b")"),
+    (214, b")"),
+    (216, b"*"),
+    (218, b"]"),
+    (220, b"("),
+    (222, b"quot"),
+    (226, b")"),
+    (228, b"else"),
+    (230, b")"),
+    (232, b")"),
+    (234, b"]"),
+    (236, b"rem"),
+    (238, b")"),
+    (240, b"]"),
+    (242, b"if"),
+    (247, b")"),
+    (249, b"["),
+    (251, b"+"),
+    (253, b")"),
+    (257, b"}"),
+    (259, b"]"),
+    (261, b"["),
+    (265, b"+"),
+    (267, b")"),
+    (271, b"]"),
+    (273, b")"),
+    (275, b"["),
+    (279, b"of"),
+    (283, b"]"),
+    (288, b"["),
+    (290, b")"),
+    (292, b")"),
+    (294, b"["),
+    (299, b"]"),
+    (301, b"]"),
+    (303, b"("),
+    (307, b")"),
+    (311, b"]"),
+    (316, b"]"),
+    (318, b")"),
+    (320, b"Bool"),
+    (322, b"par"),
+    (327, b"if"),
+    (329, b"]"),
+    (333, b"["),
+    (338, b"quot"),
+    (340, b"["),
+    (342, b"["),
+    (347, b":"),
+    (349, b"["),
+    (353, b"case"),
+    (355, b"]"),
+    (357, b"("),
+    (361, b"if"),
+    (365, b"["),
+    (370, b"-"),
+    (372, b"quot"),
+    (374, b"par"),
+    (376, b"fun"),
+];
+
 // Whether the fault of a text is this.
 fn is_fault(alloc: Global, text: &[u8], fault: ParseFault) -> bool {
     match fault_of(alloc, text) {
@@ -165,9 +312,9 @@ fn is_fault(alloc: Global, text: &[u8], fault: ParseFault) -> bool {
     }
 }
 
-// Whether the first bytes of the program, and then others, have their fault where these begin.
-fn is_cut_at(alloc: Global, place: u32, more: &[u8]) -> Result<bool, AllocError> {
-    let text = cut(alloc, place as usize, more)?;
+// Whether the first bytes of a program, and then others, have their fault where these begin.
+fn is_cut_at(alloc: Global, program: &[u8], place: u32, more: &[u8]) -> Result<bool, AllocError> {
+    let text = cut(alloc, program, place as usize, more)?;
     Ok(is_fault(alloc, &text, ParseFault::At(place)))
 }
 
@@ -177,7 +324,21 @@ fn a_token_that_may_not_stand_there(rt: HostRuntime) -> Result<(), Fail> {
     assert_eq!(rt; fault_of(alloc, PROGRAM)?, None);
     for (place, token) in &TOKENS {
         // Where the text ends before the token, tokens are missing.
-        assert!(rt; is_cut_at(alloc, *place, token)? && is_cut_at(alloc, *place, b"")?);
+        assert!(rt;
+            is_cut_at(alloc, PROGRAM, *place, token)? && is_cut_at(alloc, PROGRAM, *place, b"")?
+        );
+    }
+    Ok(())
+}
+
+#[test]
+fn a_token_that_may_not_stand_among_types(rt: HostRuntime) -> Result<(), Fail> {
+    let alloc = rt.alloc();
+    assert_eq!(rt; fault_of(alloc, GENERIC)?, None);
+    for (place, token) in &GENERIC_TOKENS {
+        assert!(rt;
+            is_cut_at(alloc, GENERIC, *place, token)? && is_cut_at(alloc, GENERIC, *place, b"")?
+        );
     }
     Ok(())
 }
@@ -229,6 +390,92 @@ fn the_first_fault_of_other_texts(rt: HostRuntime) -> Result<(), Fail> {
     Ok(())
 }
 
+/// Texts with type parameters, and the places of their faults.
+const GENERIC_FAULTS: [(&[u8], u32); 43] = [
+    (b"data T a 1 = A ;", 9),
+    (b"data T [ a ] = A ;", 7),
+    (b"data T ( a ) = A ;", 7),
+    (b"data T a = A ( ) ;", 15),
+    (b"data T a = A ( T ) ;", 17),
+    (b"data T a = A ( a ) ;", 15),
+    (b"data T a = A ( T a ;", 19),
+    (b"data T a = A ( T a b ( ) ) ;", 23),
+    (b"data T a = A ( T ( T a ) ) b ) ;", 29),
+    (b"fun f [ ] ( x : Int ) : Int = x ;", 8),
+    (b"fun f [ A ] ( x : Int ) : Int = x ;", 8),
+    (b"fun f [ a 1 ] ( x : Int ) : Int = x ;", 10),
+    (b"fun f [ a ( x : Int ) : Int = x ;", 10),
+    (b"fun f [ a ] : Int = 1 ;", 12),
+    (b"fun f [ a ] [ b ] ( x : a ) : a = x ;", 12),
+    (b"fun [ a ] f ( x : a ) : a = x ;", 4),
+    (b"main [ a ] ( n : Int ) : Int = n ;", 5),
+    (b"main ( n : Int ) : Int = f [ Int ] ;", 35),
+    (b"main ( n : Int ) : Int = f [ Int ] let x = 1 in x ;", 35),
+    (b"main ( n : Int ) : Int = f [ ] n ;", 29),
+    (b"main ( n : Int ) : Int = f [ 1 ] n ;", 29),
+    (b"main ( n : Int ) : Int = f [ Int n ) ;", 35),
+    (b"main ( n : Int ) : Int = f [ Int Bool a ( T a ) ] + ;", 50),
+    (b"main ( n : Int ) : Int = ( f [ Int ] + 1 ) ;", 37),
+    (b"main ( n : Int ) : Int = f n [ Int ] ;", 29),
+    (b"main ( n : Int ) : Int = f g [ Int ] ;", 29),
+    (b"main ( n : Int ) : Int = K [ Int ] [ Int ] ;", 35),
+    (b"main ( n : Int ) : Int = K [ ] ;", 29),
+    (b"main ( n : Int ) : Int = f K [ ( K ) ] ;", 35),
+    (
+        b"main ( n : Int ) : Int = case n of { K [ Int ] x -> x } ;",
+        39,
+    ),
+    (b"main ( n : Int ) : Int = n [ Int ] ;", 35),
+    (b"main ( n : ( Int ) ) : Int = n ;", 13),
+    (b"main ( n : ( T Int ) : Int = n ;", 21),
+    (b"main ( n : ( T ) ) : Int = n ;", 15),
+    (b"main ( n : ( ( T Int ) ) ) : Int = n ;", 13),
+    (b"main ( n : T Int ) : Int = n ;", 13),
+    (b"main ( n : Int ) : ( T a ) n ;", 27),
+    (b"main ( n : Int ) : Int = 1 [ Int ] ;", 27),
+    (b"main ( n : Int ) : Int = ( f n ) [ Int ] ;", 33),
+    (b"main ( n : Int ) : Int = True [ Int ] ;", 30),
+    (b"main ( n : Int ) : Int = let x [ a ] = 1 in x ;", 31),
+    (b"main ( n : Int ) : Int = f [ Int ] n [ ;", 37),
+    (b"main ( n : Int ) : Int = f [ ( T Int Bool ] n ;", 42),
+];
+
+#[test]
+fn the_first_fault_among_types(rt: HostRuntime) -> Result<(), Fail> {
+    for (text, place) in &GENERIC_FAULTS {
+        assert!(rt;
+            is_fault(rt.alloc(), text, ParseFault::At(*place)),
+            "{place}"
+        );
+    }
+    Ok(())
+}
+
+// A main whose parameter's type stands in so many parentheses.
+fn deep_type(alloc: Global, depth: usize, closed: usize) -> Result<Vec<u8>, AllocError> {
+    let mut text = Vec::from_slice(alloc, b"main ( n : ")?;
+    for _ in 0..depth {
+        text.extend_from_slice(b"( T ")?;
+    }
+    text.extend_from_slice(b"Int")?;
+    for _ in 0..closed {
+        text.extend_from_slice(b" )")?;
+    }
+    text.extend_from_slice(b" ) : Int = 1 ;")?;
+    Ok(text)
+}
+
+#[test]
+fn types_nest_without_a_bound(rt: HostRuntime) -> Result<(), Fail> {
+    let alloc = rt.alloc();
+    let text = deep_type(alloc, 5_000, 5_000)?;
+    assert_eq!(rt; fault_of(alloc, &text)?, None);
+    // The parenthesis that closes the parameter closes a type.
+    let text = deep_type(alloc, 5_000, 4_999)?;
+    assert!(rt; is_fault(alloc, &text, ParseFault::At(30015)));
+    Ok(())
+}
+
 #[test]
 fn two_hundred_levels(rt: HostRuntime) -> Result<(), Fail> {
     let alloc = rt.alloc();
@@ -240,13 +487,18 @@ fn two_hundred_levels(rt: HostRuntime) -> Result<(), Fail> {
 }
 
 /// What stands in so many parentheses, and the fault.
-const PAST: [(&[u8], ParseFault); 6] = [
+const PAST: [(&[u8], ParseFault); 11] = [
     (b"", ParseFault::At(222)),
     (b"()", ParseFault::At(223)),
     (b"(let", ParseFault::Nested(223)),
     (b"f let", ParseFault::At(224)),
     (b"f 1", ParseFault::Nested(224)),
     (b"1 + 1", ParseFault::At(227)),
+    (b"f [Int] 1", ParseFault::Nested(230)),
+    (b"f [Int]", ParseFault::At(229)),
+    (b"f K [Int]", ParseFault::Nested(224)),
+    (b"K [Int]", ParseFault::At(229)),
+    (b"K [Int] 1", ParseFault::Nested(230)),
 ];
 
 #[test]

@@ -3,7 +3,7 @@
 ghost use Rattle.std.specs.Prelude.{◌≡◌, ◌<◌, ◌≤◌, length, IfOk};
 ghost use Rattle.gib_core.specs.Arena.{PartsBelow};
 
-use gib_base::{Memory, Name, Names};
+use gib_base::{Memory, Name, Names, Texts};
 use gib_core::*;
 use gib_place::place;
 use gib_types::sample::trees;
@@ -99,14 +99,14 @@ fn program(alloc: Global, is_par: bool, fields: (u32, u32)) -> Result<Core, Memo
     Ok(Core::new(types, terms, Vec::new(alloc), main, Vec::new(alloc), false))
 }
 
-fn names(alloc: Global) -> Result<Names, Fail> {
+fn names(alloc: Global) -> Result<Texts, Fail> {
     let mut names = Names::make(alloc)?;
     for text in &["Tree", "Leaf", "Node", "work"] {
         if names.intern(alloc, text.as_bytes()).is_err() {
             return Err(Fail::new("a name"));
         }
     }
-    Ok(names)
+    Ok(Texts::new(alloc, names))
 }
 
 /// Whether placing makes this text of a program.

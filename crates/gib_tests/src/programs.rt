@@ -1,43 +1,36 @@
 //! Programs from their sources, and what they give.
 
-ghost use Rattle.std.specs.Prelude.{◌≤◌, IsTrue, IfSome};
+ghost use Rattle.std.specs.Prelude.{◌≤◌, IfSome};
 ghost use Rattle.gib_types.specs.Tree.{HasType};
-ghost use Rattle.gib_value.specs.Text.{AreHeld};
-ghost use Rattle.gib_syntax.specs.Spelling.{IsFineProgram, levels_program};
+ghost use Rattle.gib_syntax.specs.Spelling.{levels_program};
+ghost use Rattle.gib_syntax.specs.GenericParts.{generic_program_of};
 ghost use Rattle.gib_syntax.specs.Parts.{program_of};
 ghost use Rattle.gib_syntax.specs.Declarations.{table_of_program, input_type};
+ghost use Rattle.gib_app.specs.Stops.{IsReady};
 
 use crate::harness::packed;
+use gib_app::compile::{Compiled, compile as compile_bytes};
 use gib_base::Names;
-use gib_check::{Typed, check};
+use gib_check::Typed;
 use gib_file::{read_header, survey, unpack};
 use gib_lex::lex;
 use gib_parse::parse;
 use gib_plain::{Outcome, plain};
-use gib_syntax::Program;
+use gib_syntax::GenericProgram;
 use gib_syntax::law::results_are_typed;
-use gib_types::{ConId, TypeTable};
 use gib_value::{Value, write_text};
 use std::alloc::{AllocError, Global};
 
 /// A program, and the names of its source.
 #[derive(Drop)]
 pub struct Parsed {
-    pub program: Program,
-    pub names: Names,
-}
-
-/// A typed program, and the names of its source.
-#[derive(Drop)]
-pub struct Compiled {
-    pub typed: Typed,
+    pub program: GenericProgram,
     pub names: Names,
 }
 
 /// The program of a source, where it is one.
 pub fn parse_source(alloc: Global, source: &str) -> Option<Parsed>
-    ensures fine { IfSome result (λ p. IsFineProgram (program_of p.program)) }
-    ensures levels { IfSome result (λ p. levels_program (program_of p.program) ≤ 200) }
+    ensures { IfSome result (λ p. levels_program (generic_program_of p.program) ≤ 200) }
 {
     let Ok(tokens) = lex(alloc, source.as_bytes()) else {
         return None;
@@ -51,37 +44,11 @@ pub fn parse_source(alloc: Global, source: &str) -> Option<Parsed>
     })
 }
 
-/// Whether the name of each constructor is held.
-fn are_held(types: &TypeTable, names: &Names) -> bool
-    ensures { IsTrue result → AreHeld types.now names.now }
-{
-    let count = types.len();
-    let mut number = 0;
-    'constructors: while number < count {
-        if types.name_of(ConId(number)).0 >= names.len() {
-            return false;
-        }
-        number += 1;
-    }
-    true
-}
-
-/// The typed program of a source, where it is one.
+/// The copy of the typed program of a source, where it is one.
 pub fn compile(alloc: Global, source: &str) -> Option<Compiled>
-    ensures fine { IfSome result (λ c. IsFineProgram (program_of c.typed)) }
-    ensures held { IfSome result (λ c. AreHeld (table_of_program (program_of c.typed)) c.names) }
+    ensures { IfSome result (λ c. IsReady (program_of c.typed) c.names) }
 {
-    let Some(parsed) = parse_source(alloc, source) else {
-        return None;
-    };
-    let Parsed { program, names } = parsed;
-    let Ok(typed) = check(alloc, program) else {
-        return None;
-    };
-    if !are_held(typed.types(), &names) {
-        return None;
-    }
-    Some(Compiled { typed, names })
+    compile_bytes(alloc, source.as_bytes()).ok()
 }
 
 /// The value of a packed file, where it is one of the type of main's parameter.
@@ -105,9 +72,8 @@ pub fn run(
     value: Value,
     depth: u32,
 ) -> Result<Vec<u8>, AllocError>
-    requires fine { IsFineProgram (program_of compiled.now.typed) }
+    requires ready { IsReady (program_of compiled.now.typed) compiled.now.names }
     requires typed { HasType (table_of_program (program_of compiled.now.typed)) value (input_type (program_of compiled.now.typed)) }
-    requires held { AreHeld (table_of_program (program_of compiled.now.typed)) compiled.now.names }
 {
     let _program = compiled.typed.program();
     results_are_typed();
@@ -132,8 +98,7 @@ fn run_on(
     file: &[u8],
     depth: u32,
 ) -> Result<Vec<u8>, AllocError>
-    requires fine { IsFineProgram (program_of compiled.now.typed) }
-    requires held { AreHeld (table_of_program (program_of compiled.now.typed)) compiled.now.names }
+    requires { IsReady (program_of compiled.now.typed) compiled.now.names }
 {
     let Some(value) = read_value(alloc, &compiled.typed, file) else {
         return Ok(Vec::new(alloc));

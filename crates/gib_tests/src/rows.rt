@@ -15,7 +15,7 @@ const LIST: &str = "data List = Nil | Cons Int List ; ";
 const TWO_LEAVES: &[u8] = &[1, 0, 1, 0, 0, 0, 0, 0, 0, 0, 0, 2, 0, 0, 0, 0, 0, 0, 0];
 
 /// A source with declarations of types before it.
-fn with_types(alloc: Global, types: &str, rest: &str) -> Result<String, AllocError> {
+pub fn with_types(alloc: Global, types: &str, rest: &str) -> Result<String, AllocError> {
     let mut text = String::from_str(alloc, types)?;
     text.push_str(rest)?;
     Ok(text)
@@ -214,7 +214,7 @@ const PROGRAMS: [(&str, &str, &[u8], Status, &str, &str); 21] = [
 ];
 
 /// Whether a run, a run by eight workers and a plain run of a program on a payload all end so.
-fn all_end<R: Threads + Wait + Sync>(
+pub fn all_end<R: Threads + Wait + Sync>(
     rt: &R,
     alloc: Global,
     program: (&str, &str),

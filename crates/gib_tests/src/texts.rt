@@ -1,12 +1,12 @@
 //! Texts of values of a program's types, read, packed and written. The values are those of a second
 //! implementation.
 
-ghost use Rattle.gib_value.specs.Text.{AreHeld};
 ghost use Rattle.gib_syntax.specs.Parts.{program_of};
-ghost use Rattle.gib_syntax.specs.Declarations.{table_of_program};
+ghost use Rattle.gib_app.specs.Stops.{IsReady};
 
 use crate::harness::packed;
-use crate::programs::{Compiled, compile};
+use crate::programs::compile;
+use gib_app::compile::Compiled;
 use gib_file::pack;
 use gib_types::{Ty, TyId};
 use gib_value::{TextFault, read_text, write_text};
@@ -27,7 +27,7 @@ fn there_and_back(
     ty: Ty,
     text: &[u8],
 ) -> Result<(Vec<u8>, Vec<u8>), TextFault>
-    requires { AreHeld (table_of_program (program_of compiled.now.typed)) compiled.now.names }
+    requires { IsReady (program_of compiled.now.typed) compiled.now.names }
 {
     let types = compiled.typed.types();
     let value = read_text(alloc, types, &compiled.names, ty, text)?;
