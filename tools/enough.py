@@ -275,8 +275,20 @@ def enough(asked, workers, forks):
     return " ".join(found)
 
 
+def has_type_parameters(path):
+    """Whether a source has types in brackets outside its comments; one that cannot be read has none."""
+    try:
+        with open(path, encoding="utf-8") as file:
+            return any("[" in line.split("--")[0] for line in file)
+    except (OSError, UnicodeDecodeError):
+        return False
+
+
 def main():
     source, given, workers, forks, skips, *program = sys.argv[1:]
+    if has_type_parameters(source):
+        print("gib enough: programs with type parameters are not looked at", file=sys.stderr)
+        sys.exit(1)
     asked = Asked(source, given, ["--skips"] if skips else [], program)
     try:
         print(enough(asked, int(workers), int(forks)))

@@ -70,8 +70,10 @@ class Schema:
 
     @classmethod
     def of_source(cls, source):
-        """Of a source that `gib check` takes; other ones may be taken too."""
+        """Of a source without type parameters that `gib check` takes; other ones may be taken too."""
         source = re.sub(r"--[^\n]*", "", source)
+        if re.search(r"\[|\bdata\s+\w+\s+[a-z]", source):
+            raise Refused("sources with type parameters are not read")
         found = []
         for name, alternatives in re.findall(r"\bdata\s+(\w+)\s*=([^;]*);", source):
             for alternative in alternatives.split("|"):
