@@ -2,13 +2,15 @@
 use Rattle.std.specs.Prelude.{◌≡◌, ◌<◌, ◌≤◌, ℕ, ◌+◌, ◌^◌, List, [], ◌∷◌, length, take, drop, fold}
 use Rattle.std.specs.List.{flat_map, AllByRecursion}
 use Rattle.gib_base.specs.declared.Span.{Span}
+use Rattle.gib_base.specs.declared.token.Dialect.{Dialect}
+use Rattle.gib_base.specs.declared.token.Dialect.TheVariants.{Source}
 use Rattle.gib_base.specs.declared.token.Token.{Token}
 use Rattle.gib_base.specs.declared.token.Token.TheVariants as token
 use Rattle.gib_base.specs.declared.token.Piece.{Piece}
 use Rattle.gib_base.specs.declared.token.Piece.TheVariants as piece
 use Rattle.gib_base.specs.Names.{number_of, with_name}
 use Rattle.gib_base.specs.Piece.{IsLongest}
-use Rattle.gib_base.specs.Spelling.{piece_of}
+use Rattle.gib_base.specs.Spelling.{piece_by}
 
 -- The names of the text by their numbers (each is a list of bytes), its tokens, the span of each token,
 -- and the text's length in bytes.
@@ -24,9 +26,9 @@ pub record Part : Type 0 where
   pub text : List ℕ
 
 -- From one place to another the bytes are cut into pieces of these lengths, each the longest there.
-abbrev pub AreLongest : List ℕ → ℕ → List ℕ → ℕ → Type 0
-AreLongest bytes from [] to = from ≡ to
-AreLongest bytes from (n ∷ ns) to = IsLongest (drop from bytes) n × AreLongest bytes (from + n) ns to
+abbrev pub AreLongest : Dialect → List ℕ → ℕ → List ℕ → ℕ → Type 0
+AreLongest dialect bytes from [] to = from ≡ to
+AreLongest dialect bytes from (n ∷ ns) to = IsLongest dialect (drop from bytes) n × AreLongest dialect bytes (from + n) ns to
 
 -- The part of so many bytes.
 abbrev pub part_at : List ℕ → ℕ → ℕ → Part
@@ -56,12 +58,16 @@ name_in (piece.Number n) text = []
 name_in piece.TooBig text = []
 
 -- The name that a part is, where it is one.
+abbrev pub name_by : Dialect → Part → List (List ℕ)
+name_by dialect p = name_in (piece_by dialect p.text) p.text
+
+-- The same in a program.
 abbrev pub name_at : Part → List (List ℕ)
-name_at p = name_in (piece_of p.text) p.text
+name_at = name_by Source
 
 -- The names with those of more parts: each once, in the order of their first use.
-abbrev pub names_with : List (List ℕ) → List Part → List (List ℕ)
-names_with names parts = fold with_name names (flat_map name_at parts)
+abbrev pub names_with : Dialect → List (List ℕ) → List Part → List (List ℕ)
+names_with dialect names parts = fold with_name names (flat_map (name_by dialect) parts)
 
 -- The token of a piece, where it is one; a name goes by its number.
 abbrev pub token_in : Piece → ℕ → List Token
@@ -73,8 +79,8 @@ token_in (piece.Number n) number = token.Number n ∷ []
 token_in piece.TooBig number = []
 
 -- The token of a part, where it is one, with the names by their numbers.
-abbrev pub token_at : List (List ℕ) → Part → List Token
-token_at names p = token_in (piece_of p.text) (number_of names p.text)
+abbrev pub token_at : Dialect → List (List ℕ) → Part → List Token
+token_at dialect names p = token_in (piece_by dialect p.text) (number_of names p.text)
 
 -- The span of a piece, where it is a token.
 abbrev pub span_in : Piece → Span → List Span
@@ -86,22 +92,26 @@ span_in (piece.Number n) span = span ∷ []
 span_in piece.TooBig span = []
 
 -- The span of a part, where it is a token.
-abbrev pub span_at : Part → List Span
-span_at p = span_in (piece_of p.text) (record { start = p.start; end = p.start + length p.text })
+abbrev pub span_at : Dialect → Part → List Span
+span_at dialect p = span_in (piece_by dialect p.text) (record { start = p.start; end = p.start + length p.text })
 
 -- The bytes up to a place are blanks, comments and tokens, each the longest there; this is what they make.
-pub record IsLexedTo (bytes : List ℕ) (to : ℕ) (l : Lexed) : Type 0 where
+pub record IsLexedTo (dialect : Dialect) (bytes : List ℕ) (to : ℕ) (l : Lexed) : Type 0 where
   pub lengths : List ℕ
-  pub cut : AreLongest bytes 0 lengths to
-  pub fits : AllByRecursion (λ p. IsNotBig (piece_of p.text)) (parts_of bytes 0 lengths)
-  pub names : l.names ≡ names_with [] (parts_of bytes 0 lengths)
-  pub tokens : l.tokens ≡ flat_map (token_at l.names) (parts_of bytes 0 lengths)
-  pub spans : l.spans ≡ flat_map span_at (parts_of bytes 0 lengths)
+  pub cut : AreLongest dialect bytes 0 lengths to
+  pub fits : AllByRecursion (λ p. IsNotBig (piece_by dialect p.text)) (parts_of bytes 0 lengths)
+  pub names : l.names ≡ names_with dialect [] (parts_of bytes 0 lengths)
+  pub tokens : l.tokens ≡ flat_map (token_at dialect l.names) (parts_of bytes 0 lengths)
+  pub spans : l.spans ≡ flat_map (span_at dialect) (parts_of bytes 0 lengths)
   pub len : l.len ≡ to
 
 -- The whole text is lexed so.
+abbrev pub IsLexedIn : Dialect → List ℕ → Lexed → Type 0
+IsLexedIn dialect bytes l = IsLexedTo dialect bytes (length bytes) l
+
+-- The text is lexed as a program is.
 abbrev pub IsLexed : List ℕ → Lexed → Type 0
-IsLexed bytes l = IsLexedTo bytes (length bytes) l
+IsLexed = IsLexedIn Source
 
 -- Spans stand in order between two places, and none is empty.
 abbrev pub AreInOrder : ℕ → List Span → ℕ → Type 0
@@ -123,4 +133,4 @@ pub record AreTokens (l : Lexed) : Type 0 where
   pub below : AllByRecursion (IsTokenOf (length l.names)) l.tokens
   pub short : l.len ≤ 1048576
   pub few : length l.names ≤ 65535
-  pub source : (bytes : List ℕ) × IsLexed bytes l
+  pub source : (dialect : Dialect) × (bytes : List ℕ) × IsLexedIn dialect bytes l

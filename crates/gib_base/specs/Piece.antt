@@ -2,6 +2,8 @@
 use Rattle.std.specs.Prelude.{◌≡◌, ℕ, ◌<◌, ◌≤◌, Bool, true, false, ◌||◌, ◌&&◌, ◌==◌, nat_le, nat_lt, if◌then◌else◌, List, [], ◌∷◌, length, take}
 use Rattle.std.specs.List.{list_all}
 use Rattle.std.specs.Char.{is_ascii_digit, is_ascii_alphabetic}
+use Rattle.gib_base.specs.declared.token.Dialect.{Dialect}
+use Rattle.gib_base.specs.declared.token.Dialect.TheVariants.{Source, Located}
 
 -- Blanks are space, tab, line feed and carriage return.
 abbrev pub is_blank : ℕ → Bool
@@ -29,16 +31,25 @@ pub data Class : Type 0 where
   Single : Class
   Other : Class
 
+-- The class of a byte that begins nothing in a program: 64 is `@`, and 44 a comma.
+abbrev pub other_class : Dialect → ℕ → Class
+other_class Source b = Other
+other_class Located b = if b == 64 || b == 44 then Single else Other
+
 -- The class of a byte, by the first of these tests that it passes.
-abbrev pub class_of : ℕ → Class
-class_of b =
+abbrev pub class_by : Dialect → ℕ → Class
+class_by dialect b =
     if is_blank b then Blank
     else (if is_ascii_alphabetic b then Letter
     else (if is_ascii_digit b then Digit
     else (if b == 45 then Dash
     else (if b == 61 then Equal
     else (if is_sign_byte b then Single
-    else Other)))))
+    else other_class dialect b)))))
+
+-- In a program.
+abbrev pub class_of : ℕ → Class
+class_of = class_by Source
 
 -- Nothing is left.
 abbrev pub is_nil : List ℕ → Bool
@@ -66,16 +77,20 @@ ends Single rest = is_nil rest
 ends Other rest = false
 
 -- The whole text is one piece.
+abbrev pub is_piece_by : Dialect → List ℕ → Bool
+is_piece_by dialect [] = false
+is_piece_by dialect (b ∷ rest) = ends (class_by dialect b) rest
+
+-- One of a program.
 abbrev pub is_piece : List ℕ → Bool
-is_piece [] = false
-is_piece (b ∷ rest) = ends (class_of b) rest
+is_piece = is_piece_by Source
 
 -- The first n bytes are a piece, and no more of them are.
-pub record IsLongest (bytes : List ℕ) (n : ℕ) : Type 0 where
+pub record IsLongest (dialect : Dialect) (bytes : List ℕ) (n : ℕ) : Type 0 where
   pub within : n ≤ length bytes
-  pub piece : is_piece (take n bytes) ≡ true
-  pub longest : (m : ℕ) → n < m → m ≤ length bytes → is_piece (take m bytes) ≡ false
+  pub piece : is_piece_by dialect (take n bytes) ≡ true
+  pub longest : (m : ℕ) → n < m → m ≤ length bytes → is_piece_by dialect (take m bytes) ≡ false
 
 -- No piece begins the bytes.
-abbrev pub IsStuck : List ℕ → Type 0
-IsStuck bytes = (m : ℕ) → m ≤ length bytes → is_piece (take m bytes) ≡ false
+abbrev pub IsStuck : Dialect → List ℕ → Type 0
+IsStuck dialect bytes = (m : ℕ) → m ≤ length bytes → is_piece_by dialect (take m bytes) ≡ false

@@ -1,28 +1,34 @@
 -- Tokens that are written with one space between two, and read again.
 use Rattle.std.specs.Prelude.{◌≡◌, ◌<◌, ◌^◌, ℕ, true, List, [], ◌∷◌, Some, slice_get, map, fold}
 use Rattle.std.specs.List.{flat_map}
+use Rattle.gib_base.specs.declared.token.Dialect.{Dialect}
+use Rattle.gib_base.specs.declared.token.Dialect.TheVariants.{Source}
 use Rattle.gib_base.specs.declared.token.Token.{Token}
 use Rattle.gib_base.specs.declared.token.Token.TheVariants as token
 use Rattle.gib_base.specs.declared.token.Piece.{Piece}
 use Rattle.gib_base.specs.declared.token.Piece.TheVariants as kinds
 use Rattle.gib_base.specs.Names.{number_of, with_name}
-use Rattle.gib_base.specs.Piece.{is_piece}
-use Rattle.gib_base.specs.Spelling.{piece_of, token_text, tokens_text}
-use Rattle.gib_base.specs.Lexed.{Lexed, IsLexed}
+use Rattle.gib_base.specs.Piece.{is_piece_by}
+use Rattle.gib_base.specs.Spelling.{IsSignOf, piece_by, token_text, tokens_text}
+use Rattle.gib_base.specs.Lexed.{Lexed, IsLexedIn}
 
 -- The number is held by a text that is a name of this kind.
-pub record IsNameOf (names : List (List ℕ)) (kind : Piece) (number : ℕ) : Type 0 where
+pub record IsNameOf (dialect : Dialect) (names : List (List ℕ)) (kind : Piece) (number : ℕ) : Type 0 where
   pub text : List ℕ
   pub held : slice_get names number ≡ Some text
-  pub whole : is_piece text ≡ true
-  pub is_so : piece_of text ≡ kind
+  pub whole : is_piece_by dialect text ≡ true
+  pub is_so : piece_by dialect text ≡ kind
 
--- The token can be written: its name is one of its kind, its number a literal.
+-- The token can be written: its name is one of its kind, its number a literal, its sign one of the dialect's.
+abbrev pub IsWritableIn : Dialect → List (List ℕ) → Token → Type 0
+IsWritableIn dialect names (token.Variable x) = IsNameOf dialect names kinds.Variable x.0
+IsWritableIn dialect names (token.Constructor x) = IsNameOf dialect names kinds.Constructor x.0
+IsWritableIn dialect names (token.Number n) = n < 2 ^ 63
+IsWritableIn dialect names (token.Sign s) = IsSignOf dialect s
+
+-- The same in a program.
 abbrev pub IsWritable : List (List ℕ) → Token → Type 0
-IsWritable names (token.Variable x) = IsNameOf names kinds.Variable x.0
-IsWritable names (token.Constructor x) = IsNameOf names kinds.Constructor x.0
-IsWritable names (token.Number n) = n < 2 ^ 63
-IsWritable names (token.Sign s) = Unit {0}
+IsWritable = IsWritableIn Source
 
 -- The text of a token's name.
 abbrev pub name_used : List (List ℕ) → Token → List (List ℕ)
@@ -43,7 +49,11 @@ renumbered names new (token.Number n) = token.Number n
 renumbered names new (token.Sign s) = token.Sign s
 
 -- What the written tokens make: the same tokens, with the names that they use.
-pub record IsReadAgain (names : List (List ℕ)) (tokens : List Token) (l : Lexed) : Type 0 where
-  pub lexed : IsLexed (tokens_text names tokens) l
+pub record IsReadAgainIn (dialect : Dialect) (names : List (List ℕ)) (tokens : List Token) (l : Lexed) : Type 0 where
+  pub lexed : IsLexedIn dialect (tokens_text names tokens) l
   pub used : l.names ≡ names_used names tokens
   pub same : l.tokens ≡ map (renumbered names l.names) tokens
+
+-- The same in a program.
+abbrev pub IsReadAgain : List (List ℕ) → List Token → Lexed → Type 0
+IsReadAgain = IsReadAgainIn Source

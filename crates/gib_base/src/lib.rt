@@ -26,6 +26,3 @@ pub struct Span {
     pub start: u32,
     pub end: u32,
 }
-
-#[cfg(test)]
-mod tests;

@@ -5,7 +5,15 @@ ghost use Rattle.std.specs.Prelude.{◌≡◌, ◌≤◌, ◌↔◌, ◌^◌, na
 use crate::Name;
 use crate::limits::LITERAL;
 
-/// The words and signs of the language.
+/// Which texts a text is one of: programs, or programs whose places are written out. The second have words and signs
+/// that the first do not have.
+#[derive(Clone, Copy, Debug, PartialEq, Eq)]
+pub enum Dialect {
+    Source,
+    Located,
+}
+
+/// The words and signs of the language. Those behind `Less` are words and signs of `Dialect::Located` alone.
 #[derive(Clone, Copy, Debug, PartialEq, Eq)]
 pub enum Sign {
     Data,
@@ -60,6 +68,34 @@ pub enum Sign {
     Same,
     /// `<`
     Less,
+    /// `@`
+    At,
+    /// `offsets`
+    Offsets,
+    /// `letregion`
+    LetRegion,
+    /// `letloc`
+    LetLocation,
+    /// `reach`
+    Reach,
+    /// `by`
+    By,
+    /// `offset`
+    Offset,
+    /// `skip`
+    Skip,
+    /// `end`
+    End,
+    /// `give`
+    Give,
+    /// `point`
+    Point,
+    /// `start`
+    Start,
+    /// `after`
+    After,
+    /// `,`
+    Comma,
 }
 
 /// A token: a name that begins with a lower-case letter, one that begins with an upper-case letter,

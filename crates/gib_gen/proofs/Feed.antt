@@ -6,6 +6,7 @@ use Rattle.std.proofs.Math.Seq.{drop-append_seam}
 use Rattle.std.proofs.lemmas.List.{drop-append-le, take-append-le}
 use Rattle.gib_base.specs.Piece.{Class, Blank, Letter, Digit, Dash, Equal, Single, Other, class_of, is_nil, ends_dash, ends_equal, ends, is_piece, is_name_byte, is_comment_byte, IsLongest}
 use Rattle.gib_base.specs.Spelling.{piece_of}
+use Rattle.gib_base.specs.declared.token.Dialect.TheVariants as dialect
 use Rattle.gib_base.specs.Lexed.{Lexed, Part, AreLongest, part_at, parts_of, IsNotBig, IsLexedTo, IsLexed}
 use Rattle.gib_lex.proofs.Cuts.{longest_at}
 use Rattle.gib_lex.proofs.Steps.{held_so_far, step_none}
@@ -67,7 +68,7 @@ take_whole [] (suc (suc n)) a b = absurd (omega arith)
 take_whole (x ∷ bytes) zero a b = absurd (omega arith)
 take_whole (x ∷ bytes) (suc n) a b = ap (λ (l : List ℕ). x ∷ l) (take_whole bytes n (omega arith) (omega arith))
 
-longest_fed : (bytes : List ℕ) (n : ℕ) → IsLongest bytes n → IsLongest (bytes ++ 10 ∷ []) n
+longest_fed : (bytes : List ℕ) (n : ℕ) → IsLongest dialect.Source bytes n → IsLongest dialect.Source (bytes ++ 10 ∷ []) n
 longest_fed bytes n h =
     let fed = bytes ++ 10 ∷ [] in
     let long : length fed ≡ length bytes + 1 = length-append bytes (10 ∷ []) in
@@ -82,10 +83,10 @@ longest_fed bytes n h =
 
 -- The same cut, and the same parts.
 record IsFed (bytes : List ℕ) (from : ℕ) (ns : List ℕ) (to : ℕ) : Type 0 where
-  cut : AreLongest (bytes ++ 10 ∷ []) from ns to
+  cut : AreLongest dialect.Source (bytes ++ 10 ∷ []) from ns to
   parts : parts_of (bytes ++ 10 ∷ []) from ns ≡ parts_of bytes from ns
 
-fed_cut : (bytes : List ℕ) (from : ℕ) (ns : List ℕ) (to : ℕ) → from ≤ length bytes → AreLongest bytes from ns to → IsFed bytes from ns to
+fed_cut : (bytes : List ℕ) (from : ℕ) (ns : List ℕ) (to : ℕ) → from ≤ length bytes → AreLongest dialect.Source bytes from ns to → IsFed bytes from ns to
 fed_cut bytes from [] to le h = record { cut = h; parts = refl }
 fed_cut bytes from (n ∷ ns) to le h =
     let within : from + n ≤ length bytes = omega (arith, le, h.0.within, length-drop from bytes) in
@@ -93,20 +94,20 @@ fed_cut bytes from (n ∷ ns) to le h =
     let here : drop from (bytes ++ 10 ∷ []) ≡ drop from bytes ++ 10 ∷ [] = drop-append-le from bytes (10 ∷ []) le in
     let text : take n (drop from (bytes ++ 10 ∷ [])) ≡ take n (drop from bytes) = ap (take n) here ∙ take-append-le n (drop from bytes) (10 ∷ []) h.0.within in
     record {
-      cut = (subst (λ (l : List ℕ). IsLongest l n) (sym here) (longest_fed (drop from bytes) n h.0), rest.cut);
+      cut = (subst (λ (l : List ℕ). IsLongest dialect.Source l n) (sym here) (longest_fed (drop from bytes) n h.0), rest.cut);
       parts = λ i. record { start = from; text = text i } ∷ rest.parts i;
     }
 
-fed_to : (bytes : List ℕ) (l : Lexed) → IsLexed bytes l → IsLexedTo (bytes ++ 10 ∷ []) (length bytes) l
+fed_to : (bytes : List ℕ) (l : Lexed) → IsLexed bytes l → IsLexedTo dialect.Source (bytes ++ 10 ∷ []) (length bytes) l
 fed_to bytes l h =
     let fed = fed_cut bytes 0 h.lengths (length bytes) (omega arith) h.cut in
     record {
       lengths = h.lengths;
       cut = fed.cut;
       fits = subst (AllByRecursion (λ (p : Part). IsNotBig (piece_of p.text))) (sym fed.parts) h.fits;
-      names = h.names ∙ ap (Rattle.gib_base.specs.Lexed.names_with []) (sym fed.parts);
-      tokens = h.tokens ∙ ap (Rattle.std.specs.List.flat_map (Rattle.gib_base.specs.Lexed.token_at l.names)) (sym fed.parts);
-      spans = h.spans ∙ ap (Rattle.std.specs.List.flat_map Rattle.gib_base.specs.Lexed.span_at) (sym fed.parts);
+      names = h.names ∙ ap (Rattle.gib_base.specs.Lexed.names_with dialect.Source []) (sym fed.parts);
+      tokens = h.tokens ∙ ap (Rattle.std.specs.List.flat_map (Rattle.gib_base.specs.Lexed.token_at dialect.Source l.names)) (sym fed.parts);
+      spans = h.spans ∙ ap (Rattle.std.specs.List.flat_map (Rattle.gib_base.specs.Lexed.span_at dialect.Source)) (sym fed.parts);
       len = h.len;
     }
 
@@ -116,9 +117,9 @@ fed_lexed bytes l h =
     let fed = bytes ++ 10 ∷ [] in
     let at = length bytes in
     let left : drop at fed ≡ 10 ∷ [] = drop-append_seam bytes (10 ∷ []) in
-    let so_far : IsLexedTo fed at (held_so_far l.names l.tokens l.spans at) =
-    subst (λ (n : ℕ). IsLexedTo fed at (held_so_far l.names l.tokens l.spans n)) h.len (fed_to bytes l h) in
-    let long : IsLongest (drop at fed) 1 = longest_at fed (10 ∷ []) at 1 (sym left) refl (λ z. omega arith) in
+    let so_far : IsLexedTo dialect.Source fed at (held_so_far l.names l.tokens l.spans at) =
+    subst (λ (n : ℕ). IsLexedTo dialect.Source fed at (held_so_far l.names l.tokens l.spans n)) h.len (fed_to bytes l h) in
+    let long : IsLongest dialect.Source (drop at fed) 1 = longest_at dialect.Source fed (10 ∷ []) at 1 (sym left) refl (λ z. omega arith) in
     let here : 10 ∷ [] ≡ take 1 (drop at fed) = sym (ap (take 1) left) in
-    subst (λ (n : ℕ). IsLexedTo fed n (held_so_far l.names l.tokens l.spans (at + 1))) (sym (length-append bytes (10 ∷ [])))
-    (step_none fed (10 ∷ []) at 1 l.names l.names l.tokens l.spans so_far long here refl refl tt)
+    subst (λ (n : ℕ). IsLexedTo dialect.Source fed n (held_so_far l.names l.tokens l.spans (at + 1))) (sym (length-append bytes (10 ∷ [])))
+    (step_none dialect.Source fed (10 ∷ []) at 1 l.names l.names l.tokens l.spans so_far long here refl refl tt)

@@ -4,6 +4,7 @@ use Rattle.std.specs.Prelude.{codes}
 use Rattle.std.specs.Fmt.{decimal}
 use Rattle.std.specs.List.{AllByRecursion}
 use Rattle.std.proofs.lemmas.Fmt.{decimal_digit}
+use Rattle.gib_base.specs.declared.token.Dialect.TheVariants as dialect
 use Rattle.gib_base.specs.declared.token.Piece.TheVariants as kinds
 use Rattle.gib_base.specs.Spelling.{tokens_text}
 use Rattle.gib_base.specs.Printing.{IsNameOf, IsWritable, names_used, renumbered}
@@ -100,38 +101,38 @@ shallow at k =
     let five : levels_program (generic_of (program at k)) ≡ 5 = refl in
     subst (λ (n : ℕ). n ≤ 200) (sym five) (omega arith)
 
-a_Tree : IsNameOf names kinds.Constructor 0
+a_Tree : IsNameOf dialect.Source names kinds.Constructor 0
 a_Tree = record { text = codes "Tree"; held = refl; whole = refl; is_so = refl }
 
-a_Leaf : IsNameOf names kinds.Constructor 1
+a_Leaf : IsNameOf dialect.Source names kinds.Constructor 1
 a_Leaf = record { text = codes "Leaf"; held = refl; whole = refl; is_so = refl }
 
-a_Node : IsNameOf names kinds.Constructor 2
+a_Node : IsNameOf dialect.Source names kinds.Constructor 2
 a_Node = record { text = codes "Node"; held = refl; whole = refl; is_so = refl }
 
-v_work : IsNameOf names kinds.Variable 3
+v_work : IsNameOf dialect.Source names kinds.Variable 3
 v_work = record { text = codes "work"; held = refl; whole = refl; is_so = refl }
 
-v_t : IsNameOf names kinds.Variable 4
+v_t : IsNameOf dialect.Source names kinds.Variable 4
 v_t = record { text = codes "t"; held = refl; whole = refl; is_so = refl }
 
-v_n : IsNameOf names kinds.Variable 5
+v_n : IsNameOf dialect.Source names kinds.Variable 5
 v_n = record { text = codes "n"; held = refl; whole = refl; is_so = refl }
 
-v_l : IsNameOf names kinds.Variable 6
+v_l : IsNameOf dialect.Source names kinds.Variable 6
 v_l = record { text = codes "l"; held = refl; whole = refl; is_so = refl }
 
-v_r : IsNameOf names kinds.Variable 7
+v_r : IsNameOf dialect.Source names kinds.Variable 7
 v_r = record { text = codes "r"; held = refl; whole = refl; is_so = refl }
 
-v_a : IsNameOf names kinds.Variable 8
+v_a : IsNameOf dialect.Source names kinds.Variable 8
 v_a = record { text = codes "a"; held = refl; whole = refl; is_so = refl }
 
-v_b : IsNameOf names kinds.Variable 9
+v_b : IsNameOf dialect.Source names kinds.Variable 9
 v_b = record { text = codes "b"; held = refl; whole = refl; is_so = refl }
 
 pub writable : (at : Places) (k : ℕ) → k < 2 ^ 63 → AllByRecursion (IsWritable names) (spell_program (generic_of (program at k)) [])
-writable at k h = (tt, (a_Tree, (tt, (a_Leaf, (tt, (tt, (a_Node, (a_Tree, (a_Tree, (tt, (tt, (v_work, (tt, (v_t, (tt, (a_Tree, (tt, (tt, (a_Tree, (tt, (tt, (v_t, (tt, (tt, (a_Leaf, (v_n, (tt, (a_Leaf, (tt, (tt, (v_n, (tt, (three, (tt, (tt, (h, (tt, (tt, (a_Node, (v_l, (v_r, (tt, (tt, (tt, (v_a, (tt, (v_work, (v_l, (tt, (v_b, (tt, (v_work, (v_r, (tt, (a_Node, (v_a, (v_b, (tt, (tt, (tt, (tt, (v_t, (tt, (a_Tree, (tt, (tt, (a_Tree, (tt, (v_work, (v_t, (tt, tt)))))))))))))))))))))))))))))))))))))))))))))))))))))))))))))))))))))))
+writable at k h = (refl, (a_Tree, (refl, (a_Leaf, (refl, (refl, (a_Node, (a_Tree, (a_Tree, (refl, (refl, (v_work, (refl, (v_t, (refl, (a_Tree, (refl, (refl, (a_Tree, (refl, (refl, (v_t, (refl, (refl, (a_Leaf, (v_n, (refl, (a_Leaf, (refl, (refl, (v_n, (refl, (three, (refl, (refl, (h, (refl, (refl, (a_Node, (v_l, (v_r, (refl, (refl, (refl, (v_a, (refl, (v_work, (v_l, (refl, (v_b, (refl, (v_work, (v_r, (refl, (a_Node, (v_a, (v_b, (refl, (refl, (refl, (refl, (v_t, (refl, (a_Tree, (refl, (refl, (a_Tree, (refl, (v_work, (v_t, (refl, tt)))))))))))))))))))))))))))))))))))))))))))))))))))))))))))))))))))))))
 
 pub used : (at : Places) (k : ℕ) → names_used names (spell_program (generic_of (program at k)) []) ≡ names
 used at k = refl

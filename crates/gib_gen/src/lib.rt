@@ -9,8 +9,6 @@ mod input;
 pub mod law;
 mod line;
 mod source;
-#[cfg(test)]
-mod tests;
 
 use gib_base::Memory;
 use input::file;

@@ -2,7 +2,8 @@
 use Rattle.std.proofs.Common.{◌≡◌, ℕ, zero, suc, ◌+◌, ◌<◌, ◌≤◌, Bool, true, false, cond, eqb, List, [], ◌∷◌, length, take, refl, ◌∙◌, subst, arith}
 use Rattle.std.specs.List.{prefix_len, list_all}
 use Rattle.std.specs.Char.{is_ascii_digit}
-use Rattle.gib_base.specs.Piece.{is_name_byte, is_comment_byte, is_nil, Class, Blank, Letter, Digit, Dash, Equal, Single, Other, class_of, ends_dash, ends_equal, ends, is_piece, IsLongest, IsStuck}
+use Rattle.gib_base.specs.declared.token.Dialect.{Dialect}
+use Rattle.gib_base.specs.Piece.{is_name_byte, is_comment_byte, is_nil, Class, Blank, Letter, Digit, Dash, Equal, Single, Other, class_by, ends_dash, ends_equal, ends, is_piece_by, IsLongest, IsStuck}
 use Rattle.gib_lex.specs.Reading.{dash_len, equal_len, more_of, begins, longest}
 
 -- the first k bytes pass the test, and no more of them
@@ -87,15 +88,15 @@ class_reaches Equal rest e = equal_reaches rest
 class_reaches Single rest e = nil_reaches rest
 class_reaches Other rest e = absurd cc
 
-longest_from : (b : ℕ) (rest : List ℕ) (t : Bool) → begins (class_of b) ≡ t → 0 < cond t (suc (more_of (class_of b) rest)) 0 → IsLongest (b ∷ rest) (cond t (suc (more_of (class_of b) rest)) 0)
-longest_from b rest true e lt =
-    let h = then_reaches is_piece (ends (class_of b)) b (more_of (class_of b) rest) rest (λ r. refl) (class_reaches (class_of b) rest e) in
+longest_from : (dialect : Dialect) (b : ℕ) (rest : List ℕ) (t : Bool) → begins (class_by dialect b) ≡ t → 0 < cond t (suc (more_of (class_by dialect b) rest)) 0 → IsLongest dialect (b ∷ rest) (cond t (suc (more_of (class_by dialect b) rest)) 0)
+longest_from dialect b rest true e lt =
+    let h = then_reaches (is_piece_by dialect) (ends (class_by dialect b)) b (more_of (class_by dialect b) rest) rest (λ r. refl) (class_reaches (class_by dialect b) rest e) in
     record { within = h.within; piece = h.passes; longest = h.fails }
-longest_from b rest false e lt = absurd (omega arith)
+longest_from dialect b rest false e lt = absurd (omega arith)
 
-pub longest_is : (bytes : List ℕ) → 0 < longest bytes → IsLongest bytes (longest bytes)
-longest_is [] lt = absurd (omega arith)
-longest_is (b ∷ rest) lt = longest_from b rest (begins (class_of b)) refl lt
+pub longest_is : (dialect : Dialect) (bytes : List ℕ) → 0 < longest dialect bytes → IsLongest dialect bytes (longest dialect bytes)
+longest_is dialect [] lt = absurd (omega arith)
+longest_is dialect (b ∷ rest) lt = longest_from dialect b rest (begins (class_by dialect b)) refl lt
 
 other_stuck : (c : Class) (rest : List ℕ) → begins c ≡ false → ends c rest ≡ false
 other_stuck Blank rest e = absurd cc
@@ -106,16 +107,16 @@ other_stuck Equal rest e = absurd cc
 other_stuck Single rest e = absurd cc
 other_stuck Other rest e = refl
 
-stuck_from : (b : ℕ) (rest : List ℕ) (t : Bool) → begins (class_of b) ≡ t → cond t (suc (more_of (class_of b) rest)) 0 ≡ 0 → IsStuck (b ∷ rest)
-stuck_from b rest true e z = absurd (omega arith)
-stuck_from b rest false e z = all where
-  all : (m : ℕ) → m ≤ length (b ∷ rest) → is_piece (take m (b ∷ rest)) ≡ false
+stuck_from : (dialect : Dialect) (b : ℕ) (rest : List ℕ) (t : Bool) → begins (class_by dialect b) ≡ t → cond t (suc (more_of (class_by dialect b) rest)) 0 ≡ 0 → IsStuck dialect (b ∷ rest)
+stuck_from dialect b rest true e z = absurd (omega arith)
+stuck_from dialect b rest false e z = all where
+  all : (m : ℕ) → m ≤ length (b ∷ rest) → is_piece_by dialect (take m (b ∷ rest)) ≡ false
   all zero le = refl
-  all (suc m) le = other_stuck (class_of b) (take m rest) e
+  all (suc m) le = other_stuck (class_by dialect b) (take m rest) e
 
-pub stuck_is : (bytes : List ℕ) → longest bytes ≡ 0 → IsStuck bytes
-stuck_is [] z = λ m le. stuck m le where
-  stuck : (m : ℕ) → m ≤ 0 → is_piece (take m []) ≡ false
+pub stuck_is : (dialect : Dialect) (bytes : List ℕ) → longest dialect bytes ≡ 0 → IsStuck dialect bytes
+stuck_is dialect [] z = λ m le. stuck m le where
+  stuck : (m : ℕ) → m ≤ 0 → is_piece_by dialect (take m []) ≡ false
   stuck zero le = refl
   stuck (suc m) le = absurd (omega arith)
-stuck_is (b ∷ rest) z = stuck_from b rest (begins (class_of b)) refl z
+stuck_is dialect (b ∷ rest) z = stuck_from dialect b rest (begins (class_by dialect b)) refl z

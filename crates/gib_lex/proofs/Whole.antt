@@ -2,6 +2,7 @@
 use Rattle.std.proofs.Common.{◌≡◌, ℕ, zero, suc, ◌+◌, ◌<◌, ◌≤◌, ◌^◌, Bool, true, false, ltb, List, [], ◌∷◌, ◌++◌, length, take, drop, refl, sym, ap, ◌∙◌, subst, arith, length-append, length-take, ◌==◌, if◌then◌else◌, Option, Some, None, nat_lt}
 use Rattle.std.specs.List.{flat_map, AllByRecursion}
 use Rattle.std.proofs.lemmas.Bool.{ltb-true}
+use Rattle.gib_base.specs.declared.token.Dialect.{Dialect}
 use Rattle.gib_base.specs.declared.Span.{Span}
 use Rattle.gib_base.specs.declared.token.Token.{Token}
 use Rattle.gib_base.specs.declared.token.Sign.{Sign}
@@ -9,9 +10,9 @@ use Rattle.gib_base.specs.declared.token.Sign.TheVariants as sign
 use Rattle.gib_base.specs.declared.token.Piece.{Piece}
 use Rattle.gib_base.specs.declared.token.Piece.TheVariants as piece
 use Rattle.gib_base.specs.Names.{number_of}
-use Rattle.gib_base.specs.Piece.{IsLongest, Class, Blank, Letter, Digit, Dash, Equal, Single, Other, class_of}
-use Rattle.gib_base.specs.Spelling.{piece_of, piece_in, name_piece, number_piece, dash_piece, equal_piece, value_from, word_of}
-use Rattle.gib_base.specs.Lexed.{Lexed, Part, AreLongest, part_at, parts_of, name_in, name_at, token_in, token_at, span_in, span_at, IsLexed, AreInOrder, IsTokenOf, AreTokens}
+use Rattle.gib_base.specs.Piece.{IsLongest, Class, Blank, Letter, Digit, Dash, Equal, Single, Other, class_by}
+use Rattle.gib_base.specs.Spelling.{piece_by, piece_of_class, name_piece, number_piece, dash_piece, equal_piece, value_from, word_by}
+use Rattle.gib_base.specs.Lexed.{Lexed, Part, AreLongest, part_at, parts_of, name_in, name_by, token_in, token_at, span_in, span_at, IsLexedIn, AreInOrder, IsTokenOf, AreTokens}
 use Rattle.gib_base.proofs.Held.{held_place}
 use Rattle.gib_lex.proofs.Numbers.{AreHeld, AreHeld_front, AreHeld_back}
 use Rattle.gib_lex.proofs.Cuts.{held_names}
@@ -26,11 +27,11 @@ same_here piece.Constructor number span = refl
 same_here (piece.Number n) number span = refl
 same_here piece.TooBig number span = refl
 
-same_length : (parts : List Part) (names : List (List ℕ)) → length (flat_map span_at parts) ≡ length (flat_map (token_at names) parts)
-same_length [] names = refl
-same_length (p ∷ parts) names =
-    let here : length (span_at p) ≡ length (token_at names p) = same_here (piece_of p.text) _ _ in
-    omega (arith, here, same_length parts names, length-append (span_at p) (flat_map span_at parts), length-append (token_at names p) (flat_map (token_at names) parts))
+same_length : (dialect : Dialect) (parts : List Part) (names : List (List ℕ)) → length (flat_map (span_at dialect) parts) ≡ length (flat_map (token_at dialect names) parts)
+same_length dialect [] names = refl
+same_length dialect (p ∷ parts) names =
+    let here : length (span_at dialect p) ≡ length (token_at dialect names p) = same_here (piece_by dialect p.text) _ _ in
+    omega (arith, here, same_length dialect parts names, length-append (span_at dialect p) (flat_map (span_at dialect) parts), length-append (token_at dialect names p) (flat_map (token_at dialect names) parts))
 
 -- spans stand in order
 
@@ -46,21 +47,21 @@ in_order_here piece.Constructor span from to spans a b h = (a, b, h)
 in_order_here (piece.Number n) span from to spans a b h = (a, b, h)
 in_order_here piece.TooBig span from to spans a b h = in_order_from from span.end spans to (omega arith) h
 
-some_bytes : (bytes : List ℕ) (n : ℕ) → IsLongest bytes n → 0 < n
-some_bytes bytes zero l = absurd (let e = l.piece in cc)
-some_bytes bytes (suc n) l = omega arith
+some_bytes : (dialect : Dialect) (bytes : List ℕ) (n : ℕ) → IsLongest dialect bytes n → 0 < n
+some_bytes dialect bytes zero l = absurd (let e = l.piece in cc)
+some_bytes dialect bytes (suc n) l = omega arith
 
-pub part_length : (bytes : List ℕ) (from n : ℕ) → IsLongest (drop from bytes) n → length (take n (drop from bytes)) ≡ n
-part_length bytes from n l = omega (arith, length-take n (drop from bytes), l.within)
+pub part_length : (dialect : Dialect) (bytes : List ℕ) (from n : ℕ) → IsLongest dialect (drop from bytes) n → length (take n (drop from bytes)) ≡ n
+part_length dialect bytes from n l = omega (arith, length-take n (drop from bytes), l.within)
 
-in_order : (bytes : List ℕ) (from : ℕ) (ns : List ℕ) (to : ℕ) → AreLongest bytes from ns to → AreInOrder from (flat_map span_at (parts_of bytes from ns)) to
-in_order bytes from [] to h = omega arith
-in_order bytes from (n ∷ ns) to h =
-    let size = part_length bytes from n h.0 in
-    let rest = in_order bytes (from + n) ns to h.1 in
-    let P : ℕ → Type 0 = λ k. AreInOrder (from + k) (flat_map span_at (parts_of bytes (from + n) ns)) to in
+in_order : (dialect : Dialect) (bytes : List ℕ) (from : ℕ) (ns : List ℕ) (to : ℕ) → AreLongest dialect bytes from ns to → AreInOrder from (flat_map (span_at dialect) (parts_of bytes from ns)) to
+in_order dialect bytes from [] to h = omega arith
+in_order dialect bytes from (n ∷ ns) to h =
+    let size = part_length dialect bytes from n h.0 in
+    let rest = in_order dialect bytes (from + n) ns to h.1 in
+    let P : ℕ → Type 0 = λ k. AreInOrder (from + k) (flat_map (span_at dialect) (parts_of bytes (from + n) ns)) to in
     let p = part_at bytes from n in
-    in_order_here (piece_of p.text) (record { start = from; end = from + length p.text }) from to (flat_map span_at (parts_of bytes (from + n) ns)) (omega arith) (omega (arith, size, some_bytes (drop from bytes) n h.0)) (subst P (sym size) rest)
+    in_order_here (piece_by dialect p.text) (record { start = from; end = from + length p.text }) from to (flat_map (span_at dialect) (parts_of bytes (from + n) ns)) (omega arith) (omega (arith, size, some_bytes dialect (drop from bytes) n h.0)) (subst P (sym size) rest)
 
 -- a number piece is a literal
 
@@ -90,18 +91,18 @@ equal_is_no_number : (rest : List ℕ) (m : ℕ) → equal_piece rest ≡ piece.
 equal_is_no_number [] m e = cc
 equal_is_no_number (b ∷ rest) m e = cc
 
-literal_in : (c : Class) (b : ℕ) (rest : List ℕ) (m : ℕ) → piece_in c b rest ≡ piece.Number m → m < 2 ^ 63
-literal_in Blank b rest m e = absurd cc
-literal_in Letter b rest m e = absurd (name_is_no_number b m (word_of (b ∷ rest)) e)
-literal_in Digit b rest m e = literal (value_from 0 (b ∷ rest)) m (ltb (value_from 0 (b ∷ rest)) (2 ^ 63)) refl e
-literal_in Dash b rest m e = absurd (dash_is_no_number rest m e)
-literal_in Equal b rest m e = absurd (equal_is_no_number rest m e)
-literal_in Single b rest m e = absurd cc
-literal_in Other b rest m e = absurd cc
+literal_in : (dialect : Dialect) (c : Class) (b : ℕ) (rest : List ℕ) (m : ℕ) → piece_of_class dialect c b rest ≡ piece.Number m → m < 2 ^ 63
+literal_in dialect Blank b rest m e = absurd cc
+literal_in dialect Letter b rest m e = absurd (name_is_no_number b m (word_by dialect (b ∷ rest)) e)
+literal_in dialect Digit b rest m e = literal (value_from 0 (b ∷ rest)) m (ltb (value_from 0 (b ∷ rest)) (2 ^ 63)) refl e
+literal_in dialect Dash b rest m e = absurd (dash_is_no_number rest m e)
+literal_in dialect Equal b rest m e = absurd (equal_is_no_number rest m e)
+literal_in dialect Single b rest m e = absurd cc
+literal_in dialect Other b rest m e = absurd cc
 
-pub is_literal : (text : List ℕ) (m : ℕ) → piece_of text ≡ piece.Number m → m < 2 ^ 63
-is_literal [] m e = absurd cc
-is_literal (b ∷ rest) m e = literal_in (class_of b) b rest m e
+pub is_literal : (dialect : Dialect) (text : List ℕ) (m : ℕ) → piece_by dialect text ≡ piece.Number m → m < 2 ^ 63
+is_literal dialect [] m e = absurd cc
+is_literal dialect (b ∷ rest) m e = literal_in dialect (class_by dialect b) b rest m e
 
 -- names of tokens are held
 
@@ -117,23 +118,23 @@ all-append : (count : ℕ) (ts us : List Token) → AllByRecursion (IsTokenOf co
 all-append count [] us a b = b
 all-append count (t ∷ ts) us a b = (a.0, all-append count ts us a.1 b)
 
-tokens_below : (parts : List Part) (names : List (List ℕ)) → AreHeld names (flat_map name_at parts) → AllByRecursion (IsTokenOf (length names)) (flat_map (token_at names) parts)
-tokens_below [] names h = tt
-tokens_below (p ∷ parts) names h =
-    all-append (length names) (token_at names p) (flat_map (token_at names) parts)
-    (token_below (piece_of p.text) names p.text (AreHeld_front names (name_at p) (flat_map name_at parts) h) (is_literal p.text))
-    (tokens_below parts names (AreHeld_back names (name_at p) (flat_map name_at parts) h))
+tokens_below : (dialect : Dialect) (parts : List Part) (names : List (List ℕ)) → AreHeld names (flat_map (name_by dialect) parts) → AllByRecursion (IsTokenOf (length names)) (flat_map (token_at dialect names) parts)
+tokens_below dialect [] names h = tt
+tokens_below dialect (p ∷ parts) names h =
+    all-append (length names) (token_at dialect names p) (flat_map (token_at dialect names) parts)
+    (token_below (piece_by dialect p.text) names p.text (AreHeld_front names (name_by dialect p) (flat_map (name_by dialect) parts) h) (is_literal dialect p.text))
+    (tokens_below dialect parts names (AreHeld_back names (name_by dialect p) (flat_map (name_by dialect) parts) h))
 
-pub AreTokens_lexed : (bytes : List ℕ) (l : Lexed) → IsLexed bytes l → length bytes ≤ 1048576 → length l.names ≤ 65535 → AreTokens l
-AreTokens_lexed bytes l h short few =
+pub AreTokens_lexed : (dialect : Dialect) (bytes : List ℕ) (l : Lexed) → IsLexedIn dialect bytes l → length bytes ≤ 1048576 → length l.names ≤ 65535 → AreTokens l
+AreTokens_lexed dialect bytes l h short few =
     let parts = parts_of bytes 0 h.lengths in
-    let held : AreHeld l.names (flat_map name_at parts) = subst (λ (names : List (List ℕ)). AreHeld names (flat_map name_at parts)) (sym h.names) (held_names parts) in
-    let ends : AreInOrder 0 (flat_map span_at parts) l.len = subst (AreInOrder 0 (flat_map span_at parts)) (sym h.len) (in_order bytes 0 h.lengths (length bytes) h.cut) in
+    let held : AreHeld l.names (flat_map (name_by dialect) parts) = subst (λ (names : List (List ℕ)). AreHeld names (flat_map (name_by dialect) parts)) (sym h.names) (held_names dialect parts) in
+    let ends : AreInOrder 0 (flat_map (span_at dialect) parts) l.len = subst (AreInOrder 0 (flat_map (span_at dialect) parts)) (sym h.len) (in_order dialect bytes 0 h.lengths (length bytes) h.cut) in
     record {
-      same = ap length h.spans ∙ same_length parts l.names ∙ sym (ap length h.tokens);
+      same = ap length h.spans ∙ same_length dialect parts l.names ∙ sym (ap length h.tokens);
       order = subst (λ (s : List Span). AreInOrder 0 s l.len) (sym h.spans) ends;
-      below = subst (AllByRecursion (IsTokenOf (length l.names))) (sym h.tokens) (tokens_below parts l.names held);
+      below = subst (AllByRecursion (IsTokenOf (length l.names))) (sym h.tokens) (tokens_below dialect parts l.names held);
       short = omega (arith, h.len);
       few = few;
-      source = (bytes, h);
+      source = (dialect, bytes, h);
     }

@@ -2,7 +2,8 @@
 use Rattle.std.specs.Prelude.{ℕ, suc, Bool, true, false, ◌==◌, if◌then◌else◌, List, [], ◌∷◌}
 use Rattle.std.specs.List.{prefix_len}
 use Rattle.std.specs.Char.{is_ascii_digit}
-use Rattle.gib_base.specs.Piece.{is_name_byte, is_comment_byte, Class, Blank, Letter, Digit, Dash, Equal, Single, Other, class_of}
+use Rattle.gib_base.specs.declared.token.Dialect.{Dialect}
+use Rattle.gib_base.specs.Piece.{is_name_byte, is_comment_byte, Class, Blank, Letter, Digit, Dash, Equal, Single, Other, class_by}
 
 -- How many bytes stand behind a `-`.
 abbrev pub dash_len : List ℕ → ℕ
@@ -35,6 +36,6 @@ begins Single = true
 begins Other = false
 
 -- The length of the longest piece at the front, or 0 where none begins there.
-abbrev pub longest : List ℕ → ℕ
-longest [] = 0
-longest (b ∷ rest) = if begins (class_of b) then suc (more_of (class_of b) rest) else 0
+abbrev pub longest : Dialect → List ℕ → ℕ
+longest dialect [] = 0
+longest dialect (b ∷ rest) = if begins (class_by dialect b) then suc (more_of (class_by dialect b) rest) else 0

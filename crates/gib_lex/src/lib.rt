@@ -8,8 +8,5 @@ mod pieces;
 pub mod tokens;
 
 pub use fault::LexFault;
-pub use lexer::lex;
+pub use lexer::{lex, lex_in};
 pub use tokens::Tokens;
-
-#[cfg(test)]
-mod tests;

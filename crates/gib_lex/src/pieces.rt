@@ -1,14 +1,14 @@
 //! The pieces of a text: how long one is, and what it is.
 
-ghost use Rattle.std.specs.Prelude.{◌≡◌, ◌≤◌, length};
+ghost use Rattle.std.specs.Prelude.{◌≡◌, ◌≤◌, if◌then◌else◌, length};
 ghost use Rattle.std.specs.List.{prefix_len};
 ghost use Rattle.std.specs.Char.{is_ascii_digit, is_ascii_alphabetic};
-ghost use Rattle.gib_base.specs.Piece.{is_blank, is_comment_byte, is_sign_byte};
-ghost use Rattle.gib_base.specs.Spelling.{word_of, name_piece, value_from, number_piece, dash_piece, equal_piece, single_of, piece_of};
+ghost use Rattle.gib_base.specs.Piece.{Class, is_blank, is_comment_byte, is_sign_byte, other_class};
+ghost use Rattle.gib_base.specs.Spelling.{words, place_words, word_among, word_by, name_piece, value_from, number_piece, dash_piece, equal_piece, single_of, piece_by};
 ghost use Rattle.gib_lex.specs.Reading.{dash_len, equal_len, longest};
 
 use gib_base::letters::{digits_len, name_len};
-use gib_base::token::{Piece, Sign, is_literal};
+use gib_base::token::{Dialect, Piece, Sign, is_literal};
 
 fn is_blank(b: u8) -> bool
     ensures { result ≡ is_blank b }
@@ -38,6 +38,16 @@ fn is_sign_byte(b: u8) -> bool
         || b == b'['
         || b == b']'
         || b == b'<'
+}
+
+// Whether a byte is a further sign of the dialect.
+fn is_place_byte(dialect: Dialect, b: u8) -> bool
+    ensures { other_class dialect b ≡ (if result then Class.Single else Class.Other) }
+{
+    match dialect {
+        Dialect::Source => false,
+        Dialect::Located => b == b'@' || b == b',',
+    }
 }
 
 fn comment_len(bytes: &[u8]) -> usize
@@ -71,8 +81,8 @@ fn equal_len(bytes: &[u8]) -> usize
 }
 
 /// The length of the longest piece at the front, or 0 where none begins there.
-pub fn longest(bytes: &[u8]) -> usize
-    ensures value { result ≡ longest bytes.now }
+pub fn longest(dialect: Dialect, bytes: &[u8]) -> usize
+    ensures value { result ≡ longest dialect bytes.now }
     ensures bound { result ≤ length bytes.now }
 {
     match bytes {
@@ -88,7 +98,7 @@ pub fn longest(bytes: &[u8]) -> usize
                 1 + dash_len(rest)
             } else if *b == b'=' {
                 1 + equal_len(rest)
-            } else if is_sign_byte(*b) {
+            } else if is_sign_byte(*b) || is_place_byte(dialect, *b) {
                 1
             } else {
                 0
@@ -97,9 +107,9 @@ pub fn longest(bytes: &[u8]) -> usize
     }
 }
 
-// The word that a text is, where it is one.
-fn word(text: &[u8]) -> Option<Sign>
-    ensures { result ≡ word_of text.now }
+// The word of programs that a text is, where it is one.
+fn plain_word(text: &[u8]) -> Option<Sign>
+    ensures { result ≡ word_among words text.now }
 {
     if text == b"data".as_slice() {
         Some(Sign::Data)
@@ -139,6 +149,52 @@ fn word(text: &[u8]) -> Option<Sign>
         Some(Sign::Remainder)
     } else {
         None
+    }
+}
+
+// The further word that a text is, where it is one.
+fn further_word(text: &[u8]) -> Option<Sign>
+    ensures { result ≡ word_among place_words text.now }
+{
+    if text == b"offsets".as_slice() {
+        Some(Sign::Offsets)
+    } else if text == b"letregion".as_slice() {
+        Some(Sign::LetRegion)
+    } else if text == b"letloc".as_slice() {
+        Some(Sign::LetLocation)
+    } else if text == b"reach".as_slice() {
+        Some(Sign::Reach)
+    } else if text == b"by".as_slice() {
+        Some(Sign::By)
+    } else if text == b"offset".as_slice() {
+        Some(Sign::Offset)
+    } else if text == b"skip".as_slice() {
+        Some(Sign::Skip)
+    } else if text == b"end".as_slice() {
+        Some(Sign::End)
+    } else if text == b"give".as_slice() {
+        Some(Sign::Give)
+    } else if text == b"point".as_slice() {
+        Some(Sign::Point)
+    } else if text == b"start".as_slice() {
+        Some(Sign::Start)
+    } else if text == b"after".as_slice() {
+        Some(Sign::After)
+    } else {
+        None
+    }
+}
+
+// The word that a text is, where it is one.
+fn word(dialect: Dialect, text: &[u8]) -> Option<Sign>
+    ensures { result ≡ word_by dialect text.now }
+{
+    match plain_word(text) {
+        Some(sign) => Some(sign),
+        None => match dialect {
+            Dialect::Source => None,
+            Dialect::Located => further_word(text),
+        },
     }
 }
 
@@ -221,14 +277,18 @@ fn single(b: u8) -> Sign
         Sign::OpenBracket
     } else if b == b']' {
         Sign::CloseBracket
+    } else if b == b'@' {
+        Sign::At
+    } else if b == b',' {
+        Sign::Comma
     } else {
         Sign::Less
     }
 }
 
 /// What a piece is.
-pub fn piece(text: &[u8]) -> Piece
-    ensures { result ≡ piece_of text.now }
+pub fn piece(dialect: Dialect, text: &[u8]) -> Piece
+    ensures { result ≡ piece_by dialect text.now }
 {
     match text {
         [] => Piece::Gap,
@@ -236,14 +296,14 @@ pub fn piece(text: &[u8]) -> Piece
             if is_blank(*b) {
                 Piece::Gap
             } else if b.is_ascii_alphabetic() {
-                name_piece(*b, word(text))
+                name_piece(*b, word(dialect, text))
             } else if b.is_ascii_digit() {
                 number(text)
             } else if *b == b'-' {
                 dash(rest)
             } else if *b == b'=' {
                 equal(rest)
-            } else if is_sign_byte(*b) {
+            } else if is_sign_byte(*b) || is_place_byte(dialect, *b) {
                 Piece::Sign(single(*b))
             } else {
                 Piece::Gap

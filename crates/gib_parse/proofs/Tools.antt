@@ -12,7 +12,7 @@ use Rattle.gib_parse.specs.Reading.{Fault, At, Read, Reader, then_at, number_of,
 all_signs : List Sign
 all_signs =
     s.Data ∷ s.Fun ∷ s.Main ∷ s.Let ∷ s.Par ∷ s.And ∷ s.In ∷ s.If ∷ s.Then ∷ s.Else ∷ s.Case ∷ s.Of ∷ s.True ∷ s.False ∷ s.Int ∷ s.Bool ∷ s.Quotient ∷ s.Remainder ∷ s.Equals ∷ s.Bar ∷ s.Semicolon
-    ∷ s.Open ∷ s.Close ∷ s.Colon ∷ s.OpenBrace ∷ s.CloseBrace ∷ s.OpenBracket ∷ s.CloseBracket ∷ s.Arrow ∷ s.Plus ∷ s.Minus ∷ s.Times ∷ s.Same ∷ s.Less ∷ []
+    ∷ s.Open ∷ s.Close ∷ s.Colon ∷ s.OpenBrace ∷ s.CloseBrace ∷ s.OpenBracket ∷ s.CloseBracket ∷ s.Arrow ∷ s.Plus ∷ s.Minus ∷ s.Times ∷ s.Same ∷ s.Less ∷ s.At ∷ s.Offsets ∷ s.LetRegion ∷ s.LetLocation ∷ s.Reach ∷ s.By ∷ s.Offset ∷ s.Skip ∷ s.End ∷ s.Give ∷ s.Point ∷ s.Start ∷ s.After ∷ s.Comma ∷ []
 
 sign_of : ℕ → Sign
 sign_of n = get_or all_signs n s.Data
@@ -54,6 +54,20 @@ sign_of-number_of a = elim a as (λ k. sign_of (number_of k) ≡ k) [
   | s.Times ↦ refl
   | s.Same ↦ refl
   | s.Less ↦ refl
+  | s.At ↦ refl
+  | s.Offsets ↦ refl
+  | s.LetRegion ↦ refl
+  | s.LetLocation ↦ refl
+  | s.Reach ↦ refl
+  | s.By ↦ refl
+  | s.Offset ↦ refl
+  | s.Skip ↦ refl
+  | s.End ↦ refl
+  | s.Give ↦ refl
+  | s.Point ↦ refl
+  | s.Start ↦ refl
+  | s.After ↦ refl
+  | s.Comma ↦ refl
 ]
 
 pub same_is : (a b : Sign) → same a b ≡ true → a ≡ b

@@ -3,6 +3,7 @@ use Rattle.std.proofs.Common.{◌≡◌, ℕ, zero, suc, ◌+◌, ◌<◌, ◌�
 use Rattle.std.proofs.lemmas.List.{take_at}
 use Rattle.std.proofs.lemmas.Bool.{cases_lt}
 use Rattle.gib_base.specs.Lexed.{Lexed}
+use Rattle.gib_base.specs.declared.token.Dialect.TheVariants as dialect
 use Rattle.gib_base.specs.declared.token.Token.{Token}
 use Rattle.gib_base.specs.declared.token.Token.TheVariants as t
 use Rattle.gib_syntax.specs.GenericTree.{GenericProgramTree}
@@ -56,7 +57,7 @@ one_program_lem at tokens p q dp dq pp pq =
 -- A text is lexed in one way, and its tokens spell one program.
 pub one_text_lem : (text : List ℕ) (l m : Lexed) (p q : GenericProgramTree) → Spells text l p → Spells text m q → (l ≡ m) × (p ≡ q)
 one_text_lem text l m p q sp sq =
-    let e : l ≡ m = one_reading text l m sp.is_lexed sq.is_lexed in
+    let e : l ≡ m = one_reading dialect.Source text l m sp.is_lexed sq.is_lexed in
     let d : Derives l.tokens q = subst (λ (x : Lexed). Derives x.tokens q) (sym e) sq.derived in
     let placed : IsPlacedProgram (places_of l.spans) q = subst (λ (x : Lexed). IsPlacedProgram (places_of x.spans) q) (sym e) sq.placed in
     (e, one_program_lem (places_of l.spans) l.tokens p q sp.derived d sp.placed placed)

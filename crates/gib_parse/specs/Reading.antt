@@ -82,6 +82,20 @@ number_of s.Minus = 30
 number_of s.Times = 31
 number_of s.Same = 32
 number_of s.Less = 33
+number_of s.At = 34
+number_of s.Offsets = 35
+number_of s.LetRegion = 36
+number_of s.LetLocation = 37
+number_of s.Reach = 38
+number_of s.By = 39
+number_of s.Offset = 40
+number_of s.Skip = 41
+number_of s.End = 42
+number_of s.Give = 43
+number_of s.Point = 44
+number_of s.Start = 45
+number_of s.After = 46
+number_of s.Comma = 47
 
 -- Whether two signs are one.
 abbrev pub same : Sign → Sign → Bool

@@ -6,8 +6,8 @@ mod expressions;
 pub mod fault;
 pub mod law;
 pub mod parsing;
-mod phrases;
-mod stop;
+pub mod phrases;
+pub mod stop;
 mod types;
 
 pub use fault::ParseFault;

@@ -26,7 +26,8 @@ fn place(spans: &[Span], len: u32, left: usize) -> u32
     }
 }
 
-fn fault(stop: Stop, spans: &[Span], len: u32) -> ParseFault
+/// The fault of a stop.
+pub fn fault(stop: Stop, spans: &[Span], len: u32) -> ParseFault
     ensures { result ≡ fault_of spans.now len stop }
 {
     match stop {

@@ -12,7 +12,7 @@ use gib_syntax::Ident;
 use std::alloc::Global;
 
 /// The span of the token from which so many tokens are left.
-pub(crate) fn span_at(spans: &[Span], left: usize) -> Span
+pub fn span_at(spans: &[Span], left: usize) -> Span
     ensures { result ≡ places_of spans.now left }
 {
     let index = spans.len().saturating_sub(left);
@@ -24,7 +24,7 @@ pub(crate) fn span_at(spans: &[Span], left: usize) -> Span
 }
 
 /// A name as that of the token from which so many tokens are left.
-pub(crate) fn named(spans: &[Span], name: Name, left: usize) -> Ident
+pub fn named(spans: &[Span], name: Name, left: usize) -> Ident
     ensures { result ≡ record { name = name; span = places_of spans.now left } }
 {
     Ident {
@@ -41,7 +41,7 @@ fn is_same(sign: Sign, other: Sign) -> bool
 }
 
 /// What stands behind this sign, which has to come next.
-pub(crate) fn want(sign: Sign, tokens: &[Token]) -> Result<&[Token], Stop>
+pub fn want(sign: Sign, tokens: &[Token]) -> Result<&[Token], Stop>
     ensures { Gives (λ x. (tt, x.now)) result (want sign tokens.now) }
 {
     match tokens {
@@ -57,10 +57,7 @@ pub(crate) fn want(sign: Sign, tokens: &[Token]) -> Result<&[Token], Stop>
 }
 
 /// The name of a variable or a function.
-pub(crate) fn variable<'a>(
-    spans: &[Span],
-    tokens: &'a [Token],
-) -> Result<(Ident, &'a [Token]), Stop>
+pub fn variable<'a>(spans: &[Span], tokens: &'a [Token]) -> Result<(Ident, &'a [Token]), Stop>
     ensures { Gives (λ x. (x.0, x.1.now)) result (var_at (places_of spans.now) tokens.now) }
 {
     match tokens {
@@ -70,10 +67,7 @@ pub(crate) fn variable<'a>(
 }
 
 /// The name of a constructor or a type.
-pub(crate) fn constructor<'a>(
-    spans: &[Span],
-    tokens: &'a [Token],
-) -> Result<(Ident, &'a [Token]), Stop>
+pub fn constructor<'a>(spans: &[Span], tokens: &'a [Token]) -> Result<(Ident, &'a [Token]), Stop>
     ensures { Gives (λ x. (x.0, x.1.now)) result (con_at (places_of spans.now) tokens.now) }
 {
     match tokens {
@@ -90,7 +84,7 @@ fn begins_variable(tokens: &[Token]) -> bool
 }
 
 /// Variables, as many as there are, behind others.
-pub(crate) fn further_variables<'a>(
+pub fn further_variables<'a>(
     spans: &[Span],
     first: Vec<Ident>,
     tokens: &'a [Token],
@@ -108,7 +102,7 @@ pub(crate) fn further_variables<'a>(
 }
 
 /// Variables, as many as there are.
-pub(crate) fn variables<'a>(
+pub fn variables<'a>(
     alloc: Global,
     spans: &[Span],
     tokens: &'a [Token],
@@ -119,7 +113,7 @@ pub(crate) fn variables<'a>(
 }
 
 /// Whether this sign comes next.
-pub(crate) fn begins(sign: Sign, tokens: &[Token]) -> bool
+pub fn begins(sign: Sign, tokens: &[Token]) -> bool
     ensures { result ≡ next_is (is_sign sign) tokens.now }
 {
     match tokens {

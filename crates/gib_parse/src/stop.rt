@@ -6,7 +6,8 @@ use std::alloc::{AllocError, AllocFailed};
 
 /// Why tokens could not be read. A place is told by how many tokens are left from there on.
 #[derive(Clone, Copy, Debug)]
-pub(crate) enum Stop {
+pub enum Stop {
+    /// Want of memory.
     Memory,
     /// No program goes on with this token; or with none left, tokens are missing.
     At(usize),

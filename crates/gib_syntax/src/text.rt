@@ -46,6 +46,20 @@ fn sign_text(sign: Sign) -> &'static [u8]
         Sign::Times => b"*",
         Sign::Same => b"==",
         Sign::Less => b"<",
+        Sign::At => b"@",
+        Sign::Offsets => b"offsets",
+        Sign::LetRegion => b"letregion",
+        Sign::LetLocation => b"letloc",
+        Sign::Reach => b"reach",
+        Sign::By => b"by",
+        Sign::Offset => b"offset",
+        Sign::Skip => b"skip",
+        Sign::End => b"end",
+        Sign::Give => b"give",
+        Sign::Point => b"point",
+        Sign::Start => b"start",
+        Sign::After => b"after",
+        Sign::Comma => b",",
     }
 }
 
