@@ -8,7 +8,7 @@ use Rattle.gib_base.specs.declared.Span.{Span}
 use Rattle.gib_syntax.specs.declared.tree.Ident.{Ident}
 use Rattle.gib_syntax.specs.Declarations.{number_of, place_of, AreDifferent}
 use Rattle.gib_types.specs.Form.{Form, Forms, WholeForm, TruthForm, DataForm, Meant}
-use Rattle.gib_check.specs.SameForm.{same_form}
+use Rattle.gib_types.specs.SameForm.{same_form}
 use Rattle.gib_syntax.specs.Forms.{WrittenType, WrittenTypes, WholeAt, TruthAt, VariableAt, DataAt, NoType, MoreTypes, formed, formed_all, assign, count_written}
 use Rattle.gib_syntax.specs.GenericTree.{GenericExpression, GenericArguments, GenericArms, GenericVar, GenericNum, GenericBit, GenericParen, GenericOp, GenericCall, GenericMake, GenericLet, GenericPar, GenericIf, GenericCase, GenericNoArgument, GenericArgument, GenericLastArm, GenericNextArm, GenericDataTree, GenericRow, GenericGlobals, GenericFunctionTree, GenericParameterTree, place_named, generic_named, data_named}
 use Rattle.gib_syntax.specs.GenericTyping.{FormScope, form_in, form_bound, BindsForms, operator_form, field_forms, parameter_forms, result_form, IsKnownType, AreKnownTypes, CoversType, HasForm, HaveForms, ArmsHaveForm, generic_expressions, all_generic_expressions, arm_generic_expressions, generic_bindings, all_generic_bindings, arm_generic_bindings}
@@ -16,7 +16,8 @@ use Rattle.gib_check.specs.declared.counts.Counts.{Counts}
 use Rattle.gib_check.specs.declared.fault.Kind.{Kind}
 use Rattle.gib_check.specs.declared.fault.Kind.TheVariants as kind
 use Rattle.gib_check.specs.Faults.{Checked, and_then, allowed, found, FormPart, one_more, new_variable, as_many, known, all_known, row_named, wanted, all_wanted, all_of, declared_type, argument_count, ArmHead, heads, head_names, all_declared, is_of, are_different, is_there, covers, field_count, fields_if, all_counted, bind_all, first_type, infer, infer_all, infer_arms, infer_arm, place}
-use Rattle.gib_check.proofs.Steps.{form_same, EachHas, AllDeclared, AllCounted, IsNew, IsOwn, row_join}
+use Rattle.gib_check.proofs.Steps.{EachHas, AllDeclared, AllCounted, IsNew, IsOwn, row_join}
+use Rattle.gib_types.proofs.SameForms.{same_form_own}
 use Rattle.gib_check.proofs.Sound.{names-heads, OneArmHas}
 
 -- An answer comes, and it is so.
@@ -68,7 +69,7 @@ mutual
   all_known_ok datas vars (MoreTypes w ws) h = ap (λ z. and_then z (λ _. all_known datas vars ws)) (known_ok datas vars w h.0) ∙ all_known_ok datas vars ws h.1
 
 pub wanted_ok : (due : Form) (part : FormPart) → part.ty ≡ due → wanted due part ≡ Ok (tt {0})
-wanted_ok due part e = ap (λ b. allowed b kind.Shape part.place (tt {0})) (ap (λ z. same_form z due) e ∙ form_same due)
+wanted_ok due part e = ap (λ b. allowed b kind.Shape part.place (tt {0})) (ap (λ z. same_form z due) e ∙ same_form_own due)
 
 -- Parts have exactly these types.
 abbrev pub PartsAre : List FormPart → List Form → Type 0

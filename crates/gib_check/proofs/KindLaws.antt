@@ -11,9 +11,10 @@ use Rattle.gib_check.specs.declared.fault.Fault.{Fault}
 use Rattle.gib_check.specs.declared.fault.Kind.{Kind}
 use Rattle.gib_check.specs.declared.fault.Kind.TheVariants as kind
 use Rattle.gib_check.specs.Faults.{Checked, allowed, found, FormPart, wanted, declared_type, covers, covered}
-use Rattle.gib_check.specs.SameForm.{same_form}
+use Rattle.gib_types.specs.SameForm.{same_form}
 use Rattle.gib_check.specs.Kinds.{fault, IsBrokenWhere}
-use Rattle.gib_check.proofs.Steps.{covers_is, same_form_is, form_same}
+use Rattle.gib_check.proofs.Steps.{covers_is}
+use Rattle.gib_types.proofs.SameForms.{same_form_is, same_form_own}
 use Rattle.gib_check.proofs.Complete.{covers_ok}
 
 abbrev given : {A : Type 0} → A → Checked A
@@ -63,7 +64,7 @@ pub wanted_broken : (due : Form) (part : FormPart) → IsBrokenWhere (wanted due
 wanted_broken due part =
     allowed_broken (same_form part.ty due) kind.Shape part.place (tt {0}) (part.ty ≡ due → ⊥)
     (λ e p. p (same_form_is part.ty due e))
-    (λ e same. true_false (same_form part.ty due) (subst (λ z. same_form part.ty z ≡ true) same (form_same part.ty)) e)
+    (λ e same. true_false (same_form part.ty due) (subst (λ z. same_form part.ty z ≡ true) same (same_form_own part.ty)) e)
 
 no_data : (t : Form) (i : ℕ) (ts : Forms) → (is_data t ≡ false) → t ≡ DataForm i ts → ⊥
 no_data t i ts e q = true_false (is_data t) (ap is_data q) e

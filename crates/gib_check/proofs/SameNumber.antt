@@ -6,10 +6,10 @@ use Rattle.gib_types.specs.Form.{Form, form_or}
 use Rattle.gib_types.specs.Types.{form_at, forms_of, AreOnce}
 use Rattle.gib_check.specs.declared.fault.Kind.TheVariants as kind
 use Rattle.gib_check.specs.declared.rules.Part.{Part}
-use Rattle.gib_check.specs.SameForm.{same_form}
+use Rattle.gib_types.specs.SameForm.{same_form}
 use Rattle.gib_check.specs.Faults.{allowed, wanted}
 use Rattle.gib_check.specs.Judging.{part_in}
-use Rattle.gib_check.proofs.Steps.{same_form_is, form_same}
+use Rattle.gib_types.proofs.SameForms.{same_form_is, same_form_own}
 use Rattle.gib_check.proofs.Growing.{many}
 
 get_at : (fs : List Form) (i : ℕ) → i < length fs → slice_get fs i ≡ Some (form_at fs i)
@@ -19,7 +19,7 @@ get_at (f ∷ fs) (suc i) l = get_at fs i (omega (arith, l))
 
 pub same_number : (ns : List TypeNode) (due : TypeId) (part : Part) → part.ty.0 ≡ due.0 → wanted (form_at (forms_of ns) due.0) (part_in (forms_of ns) part) ≡ Ok (tt {0})
 same_number ns due part e =
-    ap (λ b. allowed b kind.Shape part.place (tt {0})) (ap (λ i. same_form (form_at (forms_of ns) i) (form_at (forms_of ns) due.0)) e ∙ form_same (form_at (forms_of ns) due.0))
+    ap (λ b. allowed b kind.Shape part.place (tt {0})) (ap (λ i. same_form (form_at (forms_of ns) i) (form_at (forms_of ns) due.0)) e ∙ same_form_own (form_at (forms_of ns) due.0))
 
 other_form : (b : Bool) (fs : List Form) (i j : ℕ) → same_form (form_at fs i) (form_at fs j) ≡ b → AreOnce fs → i < length fs → j < length fs → (i ≡ j → ⊥) → b ≡ false
 other_form true fs i j e once l m h = absurd (h (once.once i j (form_at fs i) (get_at fs i l) (get_at fs j m ∙ ap Some (sym (same_form_is (form_at fs i) (form_at fs j) e)))))

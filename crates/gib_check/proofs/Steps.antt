@@ -8,7 +8,8 @@ use Rattle.gib_base.specs.declared.Span.{Span}
 use Rattle.gib_syntax.specs.declared.tree.Ident.{Ident}
 use Rattle.gib_syntax.specs.Declarations.{number_of, place_of, AreDifferent}
 use Rattle.gib_types.specs.Form.{Form, Forms, WholeForm, TruthForm, VariableForm, DataForm, NoForm, MoreForms}
-use Rattle.gib_check.specs.SameForm.{same_form, same_forms}
+use Rattle.gib_types.specs.SameForm.{same_form}
+use Rattle.gib_types.proofs.SameForms.{same_form_is}
 use Rattle.gib_syntax.specs.Forms.{WrittenType, WrittenTypes, WholeAt, TruthAt, VariableAt, DataAt, NoType, MoreTypes, formed, assign, count_written}
 use Rattle.gib_syntax.specs.GenericTree.{GenericDataTree, GenericRow, place_named, data_named}
 use Rattle.gib_syntax.specs.GenericTyping.{FormScope, form_in, form_bound, BindsForms, IsKnownType, AreKnownTypes, CoversType}
@@ -107,45 +108,6 @@ both_true : (a b : Bool) → a ≡ true → b ≡ true → (a && b) ≡ true
 both_true true true e f = refl
 both_true true false e f = absurd cc
 both_true false b e f = absurd cc
-
--- Types that are the same.
-mutual
-  pub same_form_is : (a b : Form) → same_form a b ≡ true → a ≡ b
-  same_form_is WholeForm WholeForm e = refl
-  same_form_is WholeForm TruthForm e = absurd cc
-  same_form_is WholeForm (VariableForm y) e = absurd cc
-  same_form_is WholeForm (DataForm u us) e = absurd cc
-  same_form_is TruthForm WholeForm e = absurd cc
-  same_form_is TruthForm TruthForm e = refl
-  same_form_is TruthForm (VariableForm y) e = absurd cc
-  same_form_is TruthForm (DataForm u us) e = absurd cc
-  same_form_is (VariableForm x) WholeForm e = absurd cc
-  same_form_is (VariableForm x) TruthForm e = absurd cc
-  same_form_is (VariableForm x) (VariableForm y) e = ap VariableForm (eqb-true x y e)
-  same_form_is (VariableForm x) (DataForm u us) e = absurd cc
-  same_form_is (DataForm t ts) WholeForm e = absurd cc
-  same_form_is (DataForm t ts) TruthForm e = absurd cc
-  same_form_is (DataForm t ts) (VariableForm y) e = absurd cc
-  same_form_is (DataForm t ts) (DataForm u us) e =
-      ap (λ z. DataForm z ts) (eqb-true t u (and_left (t == u) (same_forms ts us) e)) ∙ ap (DataForm u) (same_forms_are ts us (and_right (t == u) (same_forms ts us) e))
-
-  pub same_forms_are : (as' bs : Forms) → same_forms as' bs ≡ true → as' ≡ bs
-  same_forms_are NoForm NoForm e = refl
-  same_forms_are NoForm (MoreForms g gs) e = absurd cc
-  same_forms_are (MoreForms f fs) NoForm e = absurd cc
-  same_forms_are (MoreForms f fs) (MoreForms g gs) e =
-      ap (λ z. MoreForms z fs) (same_form_is f g (and_left (same_form f g) (same_forms fs gs) e)) ∙ ap (MoreForms g) (same_forms_are fs gs (and_right (same_form f g) (same_forms fs gs) e))
-
-mutual
-  pub form_same : (a : Form) → same_form a a ≡ true
-  form_same WholeForm = refl
-  form_same TruthForm = refl
-  form_same (VariableForm x) = eq-eqb x x refl
-  form_same (DataForm t ts) = both_true (t == t) (same_forms ts ts) (eq-eqb t t refl) (forms_same ts)
-
-  forms_same : (as' : Forms) → same_forms as' as' ≡ true
-  forms_same NoForm = refl
-  forms_same (MoreForms f fs) = both_true (same_form f f) (same_forms fs fs) (form_same f) (forms_same fs)
 
 pub wanted_holds : (due : Form) (part : FormPart) → Holds (wanted due part) (λ _. part.ty ≡ due)
 wanted_holds due part = record { by = λ x e. same_form_is part.ty due ((allowed_holds (same_form part.ty due) kind.Shape part.place (tt {0})).by x e).0 }

@@ -81,6 +81,7 @@ abbrev pub meant_by : List Form → Meaning → Meant
 meant_by fs meaning.Opaque = opaque
 meant_by fs (meaning.Given vs is) = assign vs.items (forms_at fs is.items)
 
+-- All types that type variables stand for have numbers below a number.
 abbrev pub IsMeaningBelow : ℕ → Meaning → Type 0
 IsMeaningBelow n meaning.Opaque = Unit {0}
 IsMeaningBelow n (meaning.Given vs is) = AreBelow n is.items
@@ -95,9 +96,11 @@ pub record Reads (old new : List TypeNode) (m : Meant) (words : List Word) (ids 
 abbrev pub part_in : List Form → Part → FormPart
 part_in fs part = record { ty = form_at fs part.ty.0; place = part.place }
 
+-- Parts with their types.
 abbrev pub parts_in : List Form → List Part → List FormPart
 parts_in fs parts = map (part_in fs) parts
 
+-- The numbers of their types are below a number.
 abbrev pub ArePartsBelow : ℕ → List Part → Type 0
 ArePartsBelow n parts = AllByRecursion (λ (part : Part). part.ty.0 < n) parts
 
@@ -106,6 +109,7 @@ pub record Met (old new : List TypeNode) (id : TypeId) : Type 0 where
   pub grows : Grows old new
   pub below : id.0 < length new
 
+-- Parts after their check.
 pub record AllMet (old new : List TypeNode) (parts : List Part) : Type 0 where
   pub grows : Grows old new
   pub below : ArePartsBelow (length new) parts

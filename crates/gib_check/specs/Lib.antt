@@ -14,5 +14,4 @@ pub mod NodeFacts
 pub mod Origins
 pub mod ReadingSteps
 pub mod Refusals
-pub mod SameForm
 pub mod Views

@@ -23,9 +23,11 @@ generic_tree parts id = tree_of parts.exprs id
 abbrev pub data_number : GenericDataTree → ℕ
 data_number d = number_of d.name
 
+-- The number of the name of a constructor.
 abbrev pub row_number : GenericRow → ℕ
 row_number row = row.name
 
+-- The number of the name of a function.
 abbrev pub function_number : GenericFunctionTree → ℕ
 function_number f = number_of f.name
 
@@ -34,6 +36,7 @@ abbrev pub variables_or : Option GenericData → List Ident
 variables_or None = []
 variables_or (Some d) = d.variables.items
 
+-- The type variables of the declaration of a place, none past the end.
 abbrev pub variables_at : List GenericData → ℕ → List Ident
 variables_at ds i = variables_or (slice_get ds i)
 

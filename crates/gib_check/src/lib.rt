@@ -42,6 +42,8 @@ mod walk;
 use bodies::{check_bodies, check_body};
 pub use counts::Counts;
 use datas::{check_datas, check_fields};
+pub use datas::{fewer, new_name};
+pub use declared::type_of_name;
 pub use fault::{Fault, Kind, TypeFault};
 pub use functions::FunctionId;
 pub use generic::Generic;
@@ -52,6 +54,7 @@ pub use names::NameList;
 pub use origin::TypeOrigin;
 pub use stack::Stack;
 use std::alloc::Global;
+pub use tables::{list_types, make_table};
 pub use typed::Typed;
 
 /// Types and constructors, field types, and heads of functions.

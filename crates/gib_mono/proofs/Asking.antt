@@ -11,10 +11,12 @@ use Rattle.gib_syntax.specs.GenericTree.{GenericExpression, GenericArguments, Ge
 use Rattle.gib_syntax.specs.GenericTyping.{FormScope, form_bound, IsKnownType, AreKnownTypes, HasForm, HaveForms, ArmsHaveForm, field_forms, parameter_forms, HasKnownForm, HasKnownGenericFields}
 use Rattle.gib_mono.specs.Copying.{Naming, owner_named}
 use Rattle.gib_mono.specs.Copied.{Item, IsItem, IsHere, AreHere, Setting, IsAsked, AreAsked, ArmsAsked}
-use Rattle.gib_mono.specs.Walk.{Ask, Copy, DataOf, FunctionOf, same_forms, is_found, written_asks, writtens_asks, types_asks, asks, all_asks, arm_asks, constructor_asks, data_asked, function_asked, type_items, function_items}
+use Rattle.gib_types.specs.SameForm.{same_forms}
+use Rattle.gib_mono.specs.Walk.{Ask, Copy, DataOf, FunctionOf, is_found, written_asks, writtens_asks, types_asks, asks, all_asks, arm_asks, constructor_asks, data_asked, function_asked, type_items, function_items}
 use Rattle.gib_mono.specs.Closed.{IsThere, AreAnswered}
 use Rattle.gib_mono.proofs.Scopes.{owner_is}
-use Rattle.gib_mono.proofs.Closing.{and_both, forms_same, data_has_name, function_has_name}
+use Rattle.gib_types.proofs.SameForms.{same_forms_are}
+use Rattle.gib_mono.proofs.Closing.{and_both, data_has_name, function_has_name}
 use Rattle.gib_mono.proofs.Copies.{answered_split}
 
 -- Items
@@ -28,7 +30,7 @@ type_item (DataOf e us ∷ cs) d ts h = step ((number_of e.name == number_of d.n
   step : (b : Bool) → ((number_of e.name == number_of d.name) && same_forms us ts) ≡ b → (is_found cs (DataOf d ts) ≡ true → IsItem (type_items cs) (number_of d.name) ts) → (b || is_found cs (DataOf d ts)) ≡ true → IsItem (record { name = number_of e.name; types = us } ∷ type_items cs) (number_of d.name) ts
   step true is go h =
       let both = and_both (number_of e.name == number_of d.name) (same_forms us ts) is in
-      (0, ap (λ (n : ℕ). Some (record { name = n; types = us })) (eqb-true (number_of e.name) (number_of d.name) both.0) ∙ ap (λ (vs : Forms). Some (record { name = number_of d.name; types = vs })) (forms_same us ts both.1))
+      (0, ap (λ (n : ℕ). Some (record { name = n; types = us })) (eqb-true (number_of e.name) (number_of d.name) both.0) ∙ ap (λ (vs : Forms). Some (record { name = number_of d.name; types = vs })) (same_forms_are us ts both.1))
   step false is go h = item_next (type_items cs) (record { name = number_of e.name; types = us }) (number_of d.name) ts (go h)
 type_item (FunctionOf f us ∷ cs) d ts h = type_item cs d ts h
 
@@ -39,7 +41,7 @@ function_item (FunctionOf e us ∷ cs) f ts h = step ((number_of e.name == numbe
   step : (b : Bool) → ((number_of e.name == number_of f.name) && same_forms us ts) ≡ b → (is_found cs (FunctionOf f ts) ≡ true → IsItem (function_items cs) (number_of f.name) ts) → (b || is_found cs (FunctionOf f ts)) ≡ true → IsItem (record { name = number_of e.name; types = us } ∷ function_items cs) (number_of f.name) ts
   step true is go h =
       let both = and_both (number_of e.name == number_of f.name) (same_forms us ts) is in
-      (0, ap (λ (n : ℕ). Some (record { name = n; types = us })) (eqb-true (number_of e.name) (number_of f.name) both.0) ∙ ap (λ (vs : Forms). Some (record { name = number_of f.name; types = vs })) (forms_same us ts both.1))
+      (0, ap (λ (n : ℕ). Some (record { name = n; types = us })) (eqb-true (number_of e.name) (number_of f.name) both.0) ∙ ap (λ (vs : Forms). Some (record { name = number_of f.name; types = vs })) (same_forms_are us ts both.1))
   step false is go h = item_next (function_items cs) (record { name = number_of e.name; types = us }) (number_of f.name) ts (go h)
 
 -- what was asked for by a name that is declared

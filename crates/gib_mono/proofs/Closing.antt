@@ -9,7 +9,9 @@ use Rattle.gib_syntax.specs.Declarations.{number_of, place_of, next_place, AreDi
 use Rattle.gib_syntax.specs.Forms.{Form, Forms, WholeForm, TruthForm, VariableForm, DataForm, NoForm, MoreForms}
 use Rattle.gib_syntax.specs.GenericTree.{GenericConstructorTree, GenericDataTree, GenericFunctionTree, GenericGlobals, generic_named, data_named}
 use Rattle.gib_syntax.specs.GenericFine.{HasGenericConstructor}
-use Rattle.gib_mono.specs.Walk.{Ask, Copy, DataOf, FunctionOf, same_form, same_forms, data_asked, function_asked, asked, same_copy, is_found, constructors_in, functions_in, are_few, add_few, add_new, add_short, add_ask, with_found, add_asks, walk_one, walk, copy_asks}
+use Rattle.gib_types.specs.SameForm.{same_forms}
+use Rattle.gib_types.proofs.SameForms.{same_forms_are, same_forms_own}
+use Rattle.gib_mono.specs.Walk.{Ask, Copy, DataOf, FunctionOf, data_asked, function_asked, asked, same_copy, is_found, constructors_in, functions_in, are_few, add_few, add_new, add_short, add_ask, with_found, add_asks, walk_one, walk, copy_asks}
 use Rattle.gib_types.specs.Form.{has_long}
 use Rattle.gib_mono.specs.Closed.{IsThere, AreAnswered, IsDeclared, AreApart, IsGood}
 
@@ -19,58 +21,18 @@ pub and_both : (x y : Bool) → (x && y) ≡ true → (x ≡ true) × (y ≡ tru
 and_both true y h = (refl, h)
 and_both false y h = absurd cc
 
-mutual
-  pub form_same : (f g : Form) → same_form f g ≡ true → f ≡ g
-  form_same WholeForm WholeForm h = refl
-  form_same WholeForm TruthForm h = absurd cc
-  form_same WholeForm (VariableForm y) h = absurd cc
-  form_same WholeForm (DataForm u us) h = absurd cc
-  form_same TruthForm WholeForm h = absurd cc
-  form_same TruthForm TruthForm h = refl
-  form_same TruthForm (VariableForm y) h = absurd cc
-  form_same TruthForm (DataForm u us) h = absurd cc
-  form_same (VariableForm x) WholeForm h = absurd cc
-  form_same (VariableForm x) TruthForm h = absurd cc
-  form_same (VariableForm x) (VariableForm y) h = ap VariableForm (eqb-true x y h)
-  form_same (VariableForm x) (DataForm u us) h = absurd cc
-  form_same (DataForm t ts) WholeForm h = absurd cc
-  form_same (DataForm t ts) TruthForm h = absurd cc
-  form_same (DataForm t ts) (VariableForm y) h = absurd cc
-  form_same (DataForm t ts) (DataForm u us) h =
-      let both = and_both (t == u) (same_forms ts us) h in
-      ap (λ (n : ℕ). DataForm n ts) (eqb-true t u both.0) ∙ ap (DataForm u) (forms_same ts us both.1)
-
-  pub forms_same : (fs gs : Forms) → same_forms fs gs ≡ true → fs ≡ gs
-  forms_same NoForm NoForm h = refl
-  forms_same NoForm (MoreForms g gs) h = absurd cc
-  forms_same (MoreForms f fs) NoForm h = absurd cc
-  forms_same (MoreForms f fs) (MoreForms g gs) h =
-      let both = and_both (same_form f g) (same_forms fs gs) h in
-      ap (λ (u : Form). MoreForms u fs) (form_same f g both.0) ∙ ap (MoreForms g) (forms_same fs gs both.1)
-
-mutual
-  form_own : (f : Form) → same_form f f ≡ true
-  form_own WholeForm = refl
-  form_own TruthForm = refl
-  form_own (VariableForm x) = eq-eqb x x refl
-  form_own (DataForm t ts) = and_from (t == t) (same_forms ts ts) (eq-eqb t t refl) (forms_own ts)
-
-  pub forms_own : (fs : Forms) → same_forms fs fs ≡ true
-  forms_own NoForm = refl
-  forms_own (MoreForms f fs) = and_from (same_form f f) (same_forms fs fs) (form_own f) (forms_own fs)
-
 pub parts_same : (x y : ℕ) (fs gs : Forms) → x ≡ y → fs ≡ gs → ((x == y) && same_forms fs gs) ≡ true
-parts_same x y fs gs e h = and_from (x == y) (same_forms fs gs) (eq-eqb x y e) (subst (λ (us : Forms). same_forms fs us ≡ true) h (forms_own fs))
+parts_same x y fs gs e h = and_from (x == y) (same_forms fs gs) (eq-eqb x y e) (subst (λ (us : Forms). same_forms fs us ≡ true) h (same_forms_own fs))
 
 pub copy_turned : (b c : Copy) → same_copy b c ≡ true → same_copy c b ≡ true
 copy_turned (DataOf d ts) (DataOf e us) h =
     let both = and_both (number_of d.name == number_of e.name) (same_forms ts us) h in
-    parts_same (number_of e.name) (number_of d.name) us ts (sym (eqb-true (number_of d.name) (number_of e.name) both.0)) (sym (forms_same ts us both.1))
+    parts_same (number_of e.name) (number_of d.name) us ts (sym (eqb-true (number_of d.name) (number_of e.name) both.0)) (sym (same_forms_are ts us both.1))
 copy_turned (DataOf d ts) (FunctionOf f us) h = h
 copy_turned (FunctionOf f ts) (DataOf d us) h = h
 copy_turned (FunctionOf f ts) (FunctionOf h us) k =
     let both = and_both (number_of f.name == number_of h.name) (same_forms ts us) k in
-    parts_same (number_of h.name) (number_of f.name) us ts (sym (eqb-true (number_of f.name) (number_of h.name) both.0)) (sym (forms_same ts us both.1))
+    parts_same (number_of h.name) (number_of f.name) us ts (sym (eqb-true (number_of f.name) (number_of h.name) both.0)) (sym (same_forms_are ts us both.1))
 
 copy_own : (c : Copy) → same_copy c c ≡ true
 copy_own (DataOf d ts) = parts_same (number_of d.name) (number_of d.name) ts ts refl refl

@@ -11,7 +11,8 @@ use Rattle.gib_syntax.specs.Forms.{Forms, NoForm}
 use Rattle.gib_syntax.specs.GenericTree.{GenericConstructorTree, GenericDataTree, GenericFunctionTree, GenericProgramTree, GenericRow, row_of, rows_of, GenericGlobals, globals_of_generic, generic_named, data_named}
 use Rattle.gib_syntax.specs.GenericFine.{HasGenericConstructor}
 use Rattle.gib_syntax.specs.GenericTyping.{IsTypedGeneric}
-use Rattle.gib_mono.specs.Walk.{Ask, Copy, DataOf, FunctionOf, same_forms, same_copy, is_found, constructors_in, functions_in, add_asks, with_found, walk, copy_asks, copies_asks, main_asks, plain_data, plain_datas, plain_function, plain_functions, plain_copies, copies_of}
+use Rattle.gib_types.specs.SameForm.{same_forms}
+use Rattle.gib_mono.specs.Walk.{Ask, Copy, DataOf, FunctionOf, same_copy, is_found, constructors_in, functions_in, add_asks, with_found, walk, copy_asks, copies_asks, main_asks, plain_data, plain_datas, plain_function, plain_functions, plain_copies, copies_of}
 use Rattle.gib_mono.specs.Closed.{AreAnswered, IsDeclared, AreApart, IsGood, IsClosed}
 use Rattle.gib_mono.proofs.Closing.{asks_go, walk_goes, AreWalked, get_front, goes_on, answered_more, data_own, function_own, Goes}
 

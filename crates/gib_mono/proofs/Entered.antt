@@ -7,7 +7,7 @@ use Rattle.indexmap.specs.IndexSet.{insert_key}
 use Rattle.gib_types.specs.Form.{Form}
 use Rattle.gib_types.specs.Types.{forms_at, AreBelow, AreOnce}
 use Rattle.gib_mono.specs.declared.entries.Entry.{Entry}
-use Rattle.gib_mono.specs.Walk.{same_forms}
+use Rattle.gib_types.specs.SameForm.{same_forms}
 use Rattle.gib_mono.specs.Naming.{is_entry, with_entry, entry_place}
 use Rattle.gib_mono.specs.Entries.{same_key, has_key, with_key, place_in, item_of, AreEntriesBelow}
 use Rattle.gib_mono.proofs.Keys.{ids_is, ids_forms, same_bool}

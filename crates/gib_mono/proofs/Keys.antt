@@ -16,8 +16,9 @@ use Rattle.gib_types.proofs.Once.{forms_more}
 use Rattle.gib_types.proofs.Same.{ids_eq, same_ids_forms, one_ids}
 use Rattle.gib_syntax.specs.Forms.{Form, Forms}
 use Rattle.gib_syntax.specs.GenericTree.{GenericDataTree, GenericFunctionTree, GenericGlobals}
-use Rattle.gib_mono.specs.Walk.{Copy, DataOf, FunctionOf, data_asked, function_asked, same_copy, same_forms, is_found, constructors_in, functions_in, are_few}
-use Rattle.gib_mono.proofs.Closing.{forms_same, forms_own}
+use Rattle.gib_types.specs.SameForm.{same_forms}
+use Rattle.gib_mono.specs.Walk.{Copy, DataOf, FunctionOf, data_asked, function_asked, same_copy, is_found, constructors_in, functions_in, are_few}
+use Rattle.gib_types.proofs.SameForms.{same_forms_are, same_forms_own}
 
 abbrev pub key_eq : CopyKey → CopyKey → Bool
 key_eq = (Rattle.gib_mono.specs.contracts.found.CopyKeyPartialEq.TheImpl.eq-value).it
@@ -41,8 +42,8 @@ key_is (k.Function i is) (k.Function j js) = ap (λ b. (i == j) && b) (ids_is is
 
 pub ids_forms : (fs : List Form) (xs ys : List TypeId) → AreOnce fs → AreBelow (length fs) xs → AreBelow (length fs) ys → same_ids xs ys ≡ same_forms (forms_at fs ys) (forms_at fs xs)
 ids_forms fs xs ys a p q = same_bool (same_ids xs ys) (same_forms (forms_at fs ys) (forms_at fs xs))
-    (λ e. subst (λ us. same_forms (forms_at fs ys) us ≡ true) (sym (same_ids_forms fs xs ys (ids_is xs ys ∙ e))) (forms_own (forms_at fs ys)))
-    (λ e. sym (ids_is xs ys) ∙ one_ids fs (length fs) xs ys a (omega arith) p q (sym (forms_same (forms_at fs ys) (forms_at fs xs) e)))
+    (λ e. subst (λ us. same_forms (forms_at fs ys) us ≡ true) (sym (same_ids_forms fs xs ys (ids_is xs ys ∙ e))) (same_forms_own (forms_at fs ys)))
+    (λ e. sym (ids_is xs ys) ∙ one_ids fs (length fs) xs ys a (omega arith) p q (sym (same_forms_are (forms_at fs ys) (forms_at fs xs) e)))
 
 record OfData (o : Option GenericDataTree) (ts : Forms) (c : Copy) : Type 0 where
   decl : GenericDataTree

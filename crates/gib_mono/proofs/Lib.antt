@@ -19,6 +19,8 @@ pub mod Showing
 pub mod OwnCopy
 pub mod OwnWalk
 pub mod OwnMeaning
+pub mod Bared
+pub mod OwnValues
 mod Keys
 mod Steps
 mod Read
@@ -35,6 +37,7 @@ mod Meeting
 mod Named
 mod Declarations
 mod Ending
+mod Baring
 pub mod TextsApart
 pub mod Below
 pub mod Called

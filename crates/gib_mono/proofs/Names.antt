@@ -8,9 +8,11 @@ use Rattle.gib_syntax.specs.Declarations.{number_of}
 use Rattle.gib_syntax.specs.Forms.{Forms, NoForm, MoreForms}
 use Rattle.gib_syntax.specs.GenericTree.{GenericConstructorTree}
 use Rattle.gib_mono.specs.Copied.{Item}
-use Rattle.gib_mono.specs.Walk.{Copy, DataOf, FunctionOf, same_forms, DataCopy, FunctionCopy, datas_in, function_copies, IsNaming}
+use Rattle.gib_types.specs.SameForm.{same_forms}
+use Rattle.gib_mono.specs.Walk.{Copy, DataOf, FunctionOf, DataCopy, FunctionCopy, datas_in, function_copies, IsNaming}
 use Rattle.gib_mono.specs.Naming.{entry, copy_entries, listed_entries, is_entry, with_entry, with_entries, entries, entry_place, number_with, naming_of, AreBelow}
-use Rattle.gib_mono.proofs.Closing.{and_both, forms_same, parts_same}
+use Rattle.gib_types.proofs.SameForms.{same_forms_are}
+use Rattle.gib_mono.proofs.Closing.{and_both, parts_same}
 use Rattle.gib_mono.proofs.Here.{get_more_any, get_behind}
 
 -- the entry at the place of one that stands there is that one
@@ -20,7 +22,7 @@ place_right (i ∷ is) n x ts e = step ((i.name == x) && same_forms i.types ts) 
   here : (i.name == x) && same_forms i.types ts ≡ true → i ≡ entry x ts
   here h =
       let both = and_both (i.name == x) (same_forms i.types ts) h in
-      ap (λ (k : ℕ). entry k i.types) (eqb-true i.name x both.0) ∙ ap (entry x) (forms_same i.types ts both.1)
+      ap (λ (k : ℕ). entry k i.types) (eqb-true i.name x both.0) ∙ ap (entry x) (same_forms_are i.types ts both.1)
 
   crossed : (b : Bool) → b ≡ true → b ≡ false → ⊥
   crossed true f g = cc
@@ -86,7 +88,7 @@ or_true false b e = inr e
 same_item : (i j : Item) → ((j.name == i.name) && same_forms j.types i.types) ≡ true → j ≡ i
 same_item i j h =
     let both = and_both (j.name == i.name) (same_forms j.types i.types) h in
-    ap (λ (k : ℕ). entry k j.types) (eqb-true j.name i.name both.0) ∙ ap (entry i.name) (forms_same j.types i.types both.1)
+    ap (λ (k : ℕ). entry k j.types) (eqb-true j.name i.name both.0) ∙ ap (entry i.name) (same_forms_are j.types i.types both.1)
 
 entry_there : (items : List Item) (i : Item) → is_entry items i ≡ true → (n : ℕ) × (slice_get items n ≡ Some i)
 entry_there [] i h = absurd cc

@@ -21,10 +21,10 @@ use Rattle.gib_mono.proofs.Here.{get_split, map_found}
 
 -- Types without arguments
 
-abbrev IsBare : Form → Type 0
+abbrev pub IsBare : Form → Type 0
 IsBare f = arguments_of f ≡ NoForm
 
-abbrev BareScope : FormScope → Type 0
+abbrev pub BareScope : FormScope → Type 0
 BareScope scope = (x : ℕ) (f : Form) → form_in scope x ≡ Some f → IsBare f
 
 bare_written : (m : Meant) (a : TypeName) → IsBare (formed m (written_of a))
@@ -42,30 +42,28 @@ bare_bound scope x f h k y g e = step (number_of x == y) e where
   step true e = subst IsBare (same_Some f g e) k
   step false e = h y g e
 
-bare_binds : (xs : List Ident) (fs : List Form) (scope : FormScope) → BareScope scope → AllByRecursion IsBare fs → BareScope (bind_forms xs fs scope)
+pub bare_binds : (xs : List Ident) (fs : List Form) (scope : FormScope) → BareScope scope → AllByRecursion IsBare fs → BareScope (bind_forms xs fs scope)
 bare_binds [] fs scope h k = h
 bare_binds (x ∷ xs) [] scope h k = h
 bare_binds (x ∷ xs) (f ∷ fs) scope h k = bare_binds xs fs (form_bound x f scope) (bare_bound scope x f h k.0) k.1
 
 -- what bodies may name has no type parameters
-record BareGlobals (g : GenericGlobals) : Type 0 where
-  rows : (c : ℕ) (row : GenericRow) → slice_get g.rows c ≡ Some row → (as' : List TypeName) × (row.fields ≡ map written_of as')
-  functions : (x : ℕ) (h : GenericFunctionTree) → generic_named g.functions x ≡ Some h → (a : TypeName) × (h.result ≡ written_of a)
+pub record BareGlobals (g : GenericGlobals) : Type 0 where
+  pub rows : (c : ℕ) (row : GenericRow) → slice_get g.rows c ≡ Some row → (ts : Forms) → AllByRecursion IsBare (forms_at (Some row) ts)
+  pub functions : (x : ℕ) (h : GenericFunctionTree) → generic_named g.functions x ≡ Some h → (ts : Forms) → IsBare (result_at (Some h) ts)
 
 bare_fields : (g : GenericGlobals) → BareGlobals g → (p : Option ℕ) (ts : Forms) → AllByRecursion IsBare (forms_named g.rows p ts)
 bare_fields g bare None ts = tt {0}
 bare_fields g bare (Some c) ts = step (slice_get g.rows c) refl where
   step : (o : Option GenericRow) → slice_get g.rows c ≡ o → AllByRecursion IsBare (forms_at o ts)
   step None e = tt {0}
-  step (Some row) e =
-      let h = bare.rows c row e in
-      subst (λ (ws : List Rattle.gib_syntax.specs.Forms.WrittenType). AllByRecursion IsBare (map (formed (assign row.variables ts)) ws)) (sym h.1) (bare_all (assign row.variables ts) h.0)
+  step (Some row) e = bare.rows c row e ts
 
 bare_result : (g : GenericGlobals) → BareGlobals g → (x : ℕ) (ts : Forms) → IsBare (result_at (generic_named g.functions x) ts)
 bare_result g bare x ts = step (generic_named g.functions x) refl where
   step : (o : Option GenericFunctionTree) → generic_named g.functions x ≡ o → IsBare (result_at o ts)
   step None e = refl
-  step (Some h) e = let k = bare.functions x h e in subst (λ (w : Rattle.gib_syntax.specs.Forms.WrittenType). IsBare (formed (assign h.variables ts) w)) (sym k.1) (bare_written (assign h.variables ts) k.0)
+  step (Some h) e = bare.functions x h e ts
 
 bare_operator : (f : Rattle.gib_syntax.specs.declared.tree.Operator.Operator) → IsBare (operator_form f)
 bare_operator Rattle.gib_syntax.specs.declared.tree.Operator.TheVariants.Add = refl
@@ -107,7 +105,7 @@ mutual
 -- The copy of an expression is the expression
 
 mutual
-  copy_own : (g : GenericGlobals) → BareGlobals g → (nm : Naming) → IsPlainNaming nm → (m : Meant) (e : Expression) (scope : FormScope) → BareScope scope → copy g nm m scope (as_generic e) ≡ e
+  pub copy_own : (g : GenericGlobals) → BareGlobals g → (nm : Naming) → IsPlainNaming nm → (m : Meant) (e : Expression) (scope : FormScope) → BareScope scope → copy g nm m scope (as_generic e) ≡ e
   copy_own g bare nm plain m (Var x) scope h = refl
   copy_own g bare nm plain m (Num p n) scope h = refl
   copy_own g bare nm plain m (Bit p b) scope h = refl
@@ -174,7 +172,7 @@ data_own_copy nm plain d =
 parameter_own : (nm : Naming) → IsPlainNaming nm → (m : Meant) (q : Parameter) → copy_parameter nm m (generic_parameter q) ≡ q
 parameter_own nm plain m q = ap (λ (a : TypeName). let t : Parameter = record { name = q.name; ty = a } in t) (written_own nm plain m q.ty)
 
-bare_nothing : BareScope []
+pub bare_nothing : BareScope []
 bare_nothing x f e = absurd cc
 
 bare_parameters : (m : Meant) (qs : List Parameter) → AllByRecursion IsBare (map (λ (q : GenericParameterTree). formed m q.ty) (map generic_parameter qs))
@@ -223,7 +221,10 @@ functions_bare (f ∷ fs) x h e = step (number_of f.name == x) e (functions_bare
   step false e go = go e
 
 bare_globals : (p : ProgramTree) → BareGlobals (globals_of_generic (generic_of p))
-bare_globals p = record { rows = rows_bare p.datas; functions = functions_bare p.functions }
+bare_globals p = record {
+  rows = λ c row e ts. let h = rows_bare p.datas c row e in subst (λ (ws : List Rattle.gib_syntax.specs.Forms.WrittenType). AllByRecursion IsBare (map (formed (assign row.variables ts)) ws)) (sym h.1) (bare_all (assign row.variables ts) h.0);
+  functions = λ x h e ts. let k = functions_bare p.functions x h e in subst (λ (w : Rattle.gib_syntax.specs.Forms.WrittenType). IsBare (formed (assign h.variables ts) w)) (sym k.1) (bare_written (assign h.variables ts) k.0);
+}
 
 datas_own : (nm : Naming) → IsPlainNaming nm → (ds : List DataTree) (fs : List FunctionTree) → map (λ (c : DataCopy). copy_data nm c.decl c.types) (datas_in (plain_datas (map generic_data ds) ++ plain_functions (map generic_function fs))) ≡ ds
 datas_own nm plain [] [] = refl

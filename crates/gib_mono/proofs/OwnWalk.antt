@@ -18,10 +18,10 @@ use Rattle.gib_syntax.specs.Plain.{written_of, as_generic, all_as_generic, arms_
 use Rattle.gib_mono.proofs.Closing.{parts_same}
 
 -- uses without types
-abbrev Bare : List Ask → Type 0
+abbrev pub Bare : List Ask → Type 0
 Bare as' = AllByRecursion (λ (a : Ask). a.types ≡ NoForm) as'
 
-bare_both : (xs ys : List Ask) → Bare xs → Bare ys → Bare (xs ++ ys)
+pub bare_both : (xs ys : List Ask) → Bare xs → Bare ys → Bare (xs ++ ys)
 bare_both [] ys h k = k
 bare_both (x ∷ xs) ys h k = (h.0, bare_both xs ys h.1 k)
 
@@ -43,7 +43,7 @@ bare_parameters m [] = tt {0}
 bare_parameters m (q ∷ qs) = bare_both (written_asks m (written_of q.ty)) (types_asks m (map (λ (q : GenericParameterTree). q.ty) (map generic_parameter qs))) (bare_written m q.ty) (bare_parameters m qs)
 
 mutual
-  bare_asks : (rows : List GenericRow) (m : Meant) (e : Expression) → Bare (asks rows m (as_generic e))
+  pub bare_asks : (rows : List GenericRow) (m : Meant) (e : Expression) → Bare (asks rows m (as_generic e))
   bare_asks rows m (Var x) = tt {0}
   bare_asks rows m (Num p n) = tt {0}
   bare_asks rows m (Bit p b) = tt {0}
@@ -100,7 +100,7 @@ function_there [] (b ∷ fs) x f e = step (number_of b.name == x) e (function_th
   step false e go = or_right (same_copy (FunctionOf (generic_function b) NoForm) (FunctionOf f NoForm)) (is_found (plain_functions (map generic_function fs)) (FunctionOf f NoForm)) (go e)
 function_there (d ∷ ds) fs x f e = function_there ds fs x f e
 
-short_own : (found : List Copy) (o : Option Copy) (span : Span) → ((c : Copy) → o ≡ Some c → is_found found c ≡ true) → add_short found o span false ≡ Ok found
+pub short_own : (found : List Copy) (o : Option Copy) (span : Span) → ((c : Copy) → o ≡ Some c → is_found found c ≡ true) → add_short found o span false ≡ Ok found
 short_own found None span h = refl
 short_own found (Some c) span h = ap (add_new found c span) (h c refl)
 
@@ -124,7 +124,7 @@ asks_own p [] h = refl
 asks_own p (a ∷ as') h =
     ap (λ (r : Result (List Copy) Span). with_found r (λ u. add_asks (globals_of_generic (generic_of p)) u as')) (ask_own p a h.0) ∙ asks_own p as' h.1
 
-past : (xs : List Copy) → slice_get xs (length xs) ≡ None
+pub past : (xs : List Copy) → slice_get xs (length xs) ≡ None
 past [] = refl
 past (x ∷ xs) = past xs
 

@@ -223,7 +223,7 @@ some_items n xs e h f =
     let m : n ≡ 0 = e ∙ ap length f in
     true_false (n == 0) (eq-eqb n 0 m) h
 
-at_found : (g : GenericGlobals) (s : Search) (found : List Copy) → IsAt g s (Ok found) → IsFound g (forms s.context) s.found found
+pub at_found : (g : GenericGlobals) (s : Search) (found : List Copy) → IsAt g s (Ok found) → IsFound g (forms s.context) s.found found
 at_found g s found at = by s.limit at where
   by : (limit : Option Span) → Reached g (forms s.context) s.found limit (Ok found) → IsFound g (forms s.context) s.found found
   by None h = let e : h.0 ≡ found = (let q = h.1 in cc) in subst (IsFound g (forms s.context) s.found) e h.2

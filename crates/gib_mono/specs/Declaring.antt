@@ -39,6 +39,7 @@ abbrev pub copies_with : Option Copy → List Copy → List Copy
 copies_with None cs = cs
 copies_with (Some c) cs = c ∷ cs
 
+-- Those of all keys, where each stands for one.
 abbrev pub copies_from : GenericGlobals → List Form → List CopyKey → List Copy
 copies_from g fs [] = []
 copies_from g fs (key ∷ keys) = copies_with (copy_from g fs key) (copies_from g fs keys)
@@ -48,6 +49,7 @@ abbrev pub IsKeyInside : GenericGlobals → ℕ → CopyKey → Type 0
 IsKeyInside g n (k.Data i is) = (i < length g.datas) × AreBelow n is.items
 IsKeyInside g n (k.Function i is) = (i < length g.functions) × AreBelow n is.items
 
+-- All keys are.
 abbrev pub AreKeysInside : GenericGlobals → ℕ → List CopyKey → Type 0
 AreKeysInside g n keys = AllByRecursion (IsKeyInside g n) keys
 
@@ -73,6 +75,7 @@ abbrev pub first_span : List Span → Span
 first_span [] = record { start = 0; end = 0 }
 first_span (p ∷ ps) = p
 
+-- Types are written in the copy, and nothing but expressions and types came.
 pub record WritesAll (old new : Copier) (names made : List TypeName) : Type 0 where
   pub stays : Stays old new
   pub is : names ≡ made
@@ -97,6 +100,7 @@ pub record Goes (old new : Copier) : Type 0 where
   pub base : new.base ≡ old.base
   pub puts : Grows old.exprs new.exprs
 
+-- A data declaration was copied.
 pub record CopiesData (old new : Copier) (c : DataDecl) (d : GenericDataTree) (ts : Forms) : Type 0 where
   pub goes : Goes old new
   pub is : data_tree c ≡ copy_data (naming old) d ts
@@ -105,10 +109,12 @@ pub record CopiesData (old new : Copier) (c : DataDecl) (d : GenericDataTree) (t
 abbrev pub parameters_bound : Meant → List GenericParameterTree → FormScope → FormScope
 parameters_bound m qs scope = bind_forms (map (λ (q : GenericParameterTree). q.name) qs) (map (λ (q : GenericParameterTree). formed m q.ty) qs) scope
 
+-- Parameters were copied and are in scope.
 pub record CopiesParameters (old new : Copier) (ps : List Parameter) (qs : List GenericParameterTree) : Type 0 where
   pub binds : Binds old new (parameters_bound (meaning old.scene) qs (scope_in old.scene))
   pub is : ps ≡ map (copy_parameter (naming old) (meaning old.scene)) qs
 
+-- Parameters, a result and a body were copied.
 pub record CopiesParts (g : GenericGlobals) (old new : Copier) (c : CopiedParts) (qs : List GenericParameterTree) (t : WrittenType) (e : GenericExpression) : Type 0 where
   pub goes : Goes old new
   pub parameters : c.parameters.items ≡ map (copy_parameter (naming old) (meaning old.scene)) qs
@@ -116,11 +122,13 @@ pub record CopiesParts (g : GenericGlobals) (old new : Copier) (c : CopiedParts)
   pub inside : c.body.0 < length new.exprs
   pub body : tree_of new.exprs c.body.0 ≡ copy g (naming old) (meaning old.scene) (parameters_bound (meaning old.scene) qs (scope_in old.scene)) e
 
+-- A function was copied.
 pub record CopiesFunction (g : GenericGlobals) (old new : Copier) (c : FunctionDecl) (f : GenericFunctionTree) (ts : Forms) : Type 0 where
   pub goes : Goes old new
   pub inside : c.body.0 < length new.exprs
   pub is : function_tree (tree_of new.exprs) c ≡ copy_function g (naming old) f ts
 
+-- Main was copied.
 pub record CopiesMain (g : GenericGlobals) (old new : Copier) (c : MainDecl) (f : GenericMainTree) : Type 0 where
   pub goes : Goes old new
   pub inside : c.body.0 < length new.exprs

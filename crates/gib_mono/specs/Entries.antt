@@ -12,6 +12,7 @@ use Rattle.gib_mono.specs.Found.{same_ids}
 abbrev pub same_key : Entry → Entry → Bool
 same_key a b = (a.name == b.name) && same_ids a.types.items b.types.items
 
+-- It is one of these.
 abbrev pub has_key : List Entry → Entry → Bool
 has_key [] e = false
 has_key (k ∷ ks) e = same_key e k || has_key ks e
@@ -34,6 +35,7 @@ pub record NumberedItems : Type 0 where
   pub types : List TypeNode
   pub entries : List Entry
 
+-- The names with types that are kept.
 abbrev pub items_of : NumberedItems → List Item
 items_of n = map (item_of (forms_of n.types)) n.entries
 

@@ -18,6 +18,7 @@ list_data p = record {
   constructors = record { name = named 2 p; fields = [] } ∷ record { name = named 3 p; fields = VariableAt (named 1 p) ∷ DataAt p (named 0 p) (MoreTypes (VariableAt (named 1 p)) NoType) ∷ [] } ∷ [];
 }
 
+-- The function that takes the length of a list.
 abbrev pub len_function : Span → GenericFunctionTree
 len_function p = record {
   name = named 4 p;

@@ -60,12 +60,14 @@ same_ids [] (j ∷ js) = false
 same_ids (i ∷ is) [] = false
 same_ids (i ∷ is) (j ∷ js) = (i.0 == j.0) && same_ids is js
 
+-- The same declaration at the same numbers.
 abbrev pub same_key : CopyKey → CopyKey → Bool
 same_key (k.Data i is) (k.Data j js) = (i == j) && same_ids is.items js.items
 same_key (k.Data i is) (k.Function j js) = false
 same_key (k.Function i is) (k.Data j js) = false
 same_key (k.Function i is) (k.Function j js) = (i == j) && same_ids is.items js.items
 
+-- The key is none of these.
 abbrev pub IsNewKey : List CopyKey → CopyKey → Type 0
 IsNewKey ks key = list_any (same_key key) ks ≡ false
 
@@ -74,6 +76,7 @@ abbrev pub types_by : CopyKey → ℕ → ℕ
 types_by (k.Data i is) n = n
 types_by (k.Function i is) n = 0
 
+-- How many functions a key adds.
 abbrev pub functions_by : CopyKey → ℕ
 functions_by (k.Data i is) = 0
 functions_by (k.Function i is) = 1

@@ -16,3 +16,4 @@ pub mod Entries
 pub mod Scenes
 pub mod Made
 pub mod Declaring
+pub mod Bare

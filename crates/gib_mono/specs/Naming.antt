@@ -6,7 +6,8 @@ use Rattle.gib_syntax.specs.Forms.{Forms, NoForm, MoreForms}
 use Rattle.gib_syntax.specs.GenericTree.{GenericConstructorTree, GenericDataTree, GenericFunctionTree, GenericProgramTree}
 use Rattle.gib_mono.specs.Copying.{Naming}
 use Rattle.gib_mono.specs.Copied.{Item}
-use Rattle.gib_mono.specs.Walk.{Copy, DataOf, FunctionOf, same_forms}
+use Rattle.gib_types.specs.SameForm.{same_forms}
+use Rattle.gib_mono.specs.Walk.{Copy, DataOf, FunctionOf}
 
 -- A name with types.
 abbrev pub entry : ℕ → Forms → Item
@@ -31,6 +32,7 @@ is_entry (j ∷ js) i = ((j.name == i.name) && same_forms j.types i.types) || is
 abbrev pub with_entry : List Item → Item → List Item
 with_entry items i = if is_entry items i then items else items ++ i ∷ []
 
+-- With more of them, one after another.
 abbrev pub with_entries : List Item → List Item → List Item
 with_entries items [] = items
 with_entries items (i ∷ is) = with_entries (with_entry items i) is

@@ -22,6 +22,7 @@ pub record Read : Type 0 where
   pub places : List Span
   pub asks : List Ask
 
+-- Nothing was read.
 abbrev pub nothing_read : Read
 nothing_read = record { types = []; places = []; asks = [] }
 
@@ -50,6 +51,7 @@ read_one m (w.Truth p) r = put_form TruthForm p r
 read_one m (w.Variable x) r = put_form (m (number_of x)) x.span r
 read_one m (w.Data p x n) r = read_data p x n r
 
+-- Words, read from the last one to the first.
 abbrev pub read_words : Meant → List Word → Read → Read
 read_words m [] r = r
 read_words m (x ∷ xs) r = read_one m x (read_words m xs r)
@@ -62,6 +64,7 @@ use_ask fs u = record { function = false; name = u.name.0; types = forms_at fs u
 abbrev pub listed : List Form → List TypeId → List Form
 listed fs is = map (λ (i : TypeId). form_at fs i.0) is
 
+-- What numbers stand for.
 abbrev pub read_of : List Form → Reading → Read
 read_of fs r = record { types = listed fs r.types; places = r.places; asks = map (use_ask fs) r.uses }
 
@@ -69,6 +72,7 @@ read_of fs r = record { types = listed fs r.types; places = r.places; asks = map
 abbrev pub AreUsesBelow : ℕ → List Use → Type 0
 AreUsesBelow n us = AllByRecursion (λ (u : Use). AreBelow n u.types.items) us
 
+-- All numbers that were read are below a number.
 abbrev pub IsReadBelow : ℕ → Reading → Type 0
 IsReadBelow n r = AreBelow n r.types × AreUsesBelow n r.uses
 

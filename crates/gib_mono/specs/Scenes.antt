@@ -31,6 +31,7 @@ pub record Scenery : Type 0 where
 abbrev pub AreInScopeBelow : ℕ → List InScope → Type 0
 AreInScopeBelow n bs = AllByRecursion (λ (b : InScope). b.ty.0 < n) bs
 
+-- All numbers of types are below how many were met.
 pub record IsScenery (k : Scenery) : Type 0 where
   pub meant : AreBelow (length k.types) k.meant
   pub scope : AreInScopeBelow (length k.types) k.scope
@@ -49,6 +50,7 @@ abbrev pub scope_onto : List Form → List InScope → FormScope → FormScope
 scope_onto fs [] scope = scope
 scope_onto fs (b ∷ bs) scope = scope_onto fs bs ((b.name, form_at fs b.ty.0) ∷ scope)
 
+-- The scope that is kept.
 abbrev pub scope_in : Scenery → FormScope
 scope_in k = scope_onto (forms k) k.scope []
 

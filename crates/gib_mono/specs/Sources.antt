@@ -11,6 +11,7 @@ use Rattle.gib_mono.specs.Walk.{Ask, asks}
 use Rattle.gib_syntax.specs.GenericParts.{GenericParts, generic_program_of}
 use Rattle.gib_mono.specs.declared.source.RowPlace.{RowPlace}
 
+-- What the bodies of a program may name.
 abbrev pub globals_in : GenericParts → GenericGlobals
 globals_in parts = globals_of_generic (generic_program_of parts)
 
@@ -18,12 +19,15 @@ globals_in parts = globals_of_generic (generic_program_of parts)
 abbrev pub data_number : GenericDataTree → ℕ
 data_number d = number_of d.name
 
+-- The number of the name of a function.
 abbrev pub function_number : GenericFunctionTree → ℕ
 function_number f = number_of f.name
 
+-- The number of the name of a constructor with its type.
 abbrev pub row_name : GenericRow → ℕ
 row_name row = row.name
 
+-- The numbers of the names of constructors.
 abbrev pub rows_in : List GenericConstructor → List ℕ
 rows_in cs = map (λ (c : GenericConstructor). number_of c.name) cs
 
@@ -42,10 +46,12 @@ abbrev pub row_at : GenericDataTree → Option GenericConstructorTree → Option
 row_at d None = None
 row_at d (Some c) = Some (row_of d c)
 
+-- The constructor of a place in a type.
 abbrev pub row_of_place : Option GenericDataTree → ℕ → Option GenericRow
 row_of_place None j = None
 row_of_place (Some d) j = row_at d (slice_get d.constructors j)
 
+-- The constructor of a place in a program.
 abbrev pub row_in : List GenericDataTree → RowPlace → Option GenericRow
 row_in ds q = row_of_place (slice_get ds q.owner) q.constructor
 

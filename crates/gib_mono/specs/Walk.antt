@@ -2,6 +2,7 @@
 use Rattle.std.specs.Prelude.{◌≡◌, ℕ, zero, suc, ◌+◌, ◌==◌, ◌&&◌, ◌||◌, nat_lt, Bool, true, false, List, [], ◌∷◌, ◌++◌, length, map, slice_get, Option, Some, None, Result, Ok, Err}
 use Rattle.gib_base.specs.declared.Span.{Span}
 use Rattle.gib_types.specs.Form.{has_long}
+use Rattle.gib_types.specs.SameForm.{same_forms}
 use Rattle.gib_syntax.specs.declared.tree.Ident.{Ident}
 use Rattle.gib_syntax.specs.Tree.{ProgramTree}
 use Rattle.gib_syntax.specs.Declarations.{number_of}
@@ -9,32 +10,6 @@ use Rattle.gib_syntax.specs.Forms.{WrittenType, WrittenTypes, WholeAt, TruthAt, 
 use Rattle.gib_syntax.specs.GenericTree.{GenericExpression, GenericArguments, GenericArms, GenericVar, GenericNum, GenericBit, GenericParen, GenericOp, GenericCall, GenericMake, GenericLet, GenericPar, GenericIf, GenericCase, GenericNoArgument, GenericArgument, GenericLastArm, GenericNextArm, GenericConstructorTree, GenericDataTree, GenericParameterTree, GenericFunctionTree, GenericProgramTree, GenericRow, GenericGlobals, globals_of_generic, place_named, generic_named, data_named}
 use Rattle.gib_mono.specs.Copying.{Naming, owner_named, copy_data, copy_function, copy_main}
 use Rattle.gib_mono.specs.Copied.{Item}
-
--- Whether types are the same.
-abbrev mutual
-  pub same_form : Form → Form → Bool
-  same_form WholeForm WholeForm = true
-  same_form WholeForm TruthForm = false
-  same_form WholeForm (VariableForm y) = false
-  same_form WholeForm (DataForm u us) = false
-  same_form TruthForm WholeForm = false
-  same_form TruthForm TruthForm = true
-  same_form TruthForm (VariableForm y) = false
-  same_form TruthForm (DataForm u us) = false
-  same_form (VariableForm x) WholeForm = false
-  same_form (VariableForm x) TruthForm = false
-  same_form (VariableForm x) (VariableForm y) = x == y
-  same_form (VariableForm x) (DataForm u us) = false
-  same_form (DataForm t ts) WholeForm = false
-  same_form (DataForm t ts) TruthForm = false
-  same_form (DataForm t ts) (VariableForm y) = false
-  same_form (DataForm t ts) (DataForm u us) = (t == u) && same_forms ts us
-
-  pub same_forms : Forms → Forms → Bool
-  same_forms NoForm NoForm = true
-  same_forms NoForm (MoreForms g gs) = false
-  same_forms (MoreForms f fs) NoForm = false
-  same_forms (MoreForms f fs) (MoreForms g gs) = same_form f g && same_forms fs gs
 
 -- A type or a function with the types at which it is used, and the place of the name of the use.
 pub record Ask : Type 0 where
@@ -113,10 +88,12 @@ abbrev pub data_asked : Option GenericDataTree → Forms → Option Copy
 data_asked None ts = None
 data_asked (Some d) ts = Some (DataOf d ts)
 
+-- The function that is asked for.
 abbrev pub function_asked : Option GenericFunctionTree → Forms → Option Copy
 function_asked None ts = None
 function_asked (Some f) ts = Some (FunctionOf f ts)
 
+-- The function or type of a name at these types.
 abbrev pub asked : GenericGlobals → Bool → ℕ → Forms → Option Copy
 asked g true x ts = function_asked (generic_named g.functions x) ts
 asked g false x ts = data_asked (data_named g.datas x) ts
@@ -128,6 +105,7 @@ same_copy (DataOf d ts) (FunctionOf f us) = false
 same_copy (FunctionOf f ts) (DataOf d us) = false
 same_copy (FunctionOf f ts) (FunctionOf h us) = (number_of f.name == number_of h.name) && same_forms ts us
 
+-- It is one of these.
 abbrev pub is_found : List Copy → Copy → Bool
 is_found [] c = false
 is_found (b ∷ bs) c = same_copy b c || is_found bs c
@@ -138,6 +116,7 @@ constructors_in [] = 0
 constructors_in (DataOf d ts ∷ cs) = length d.constructors + constructors_in cs
 constructors_in (FunctionOf f ts ∷ cs) = constructors_in cs
 
+-- How many functions copies are together.
 abbrev pub functions_in : List Copy → ℕ
 functions_in [] = 0
 functions_in (DataOf d ts ∷ cs) = functions_in cs
@@ -192,14 +171,17 @@ abbrev pub plain_data : GenericDataTree → List Ident → List Copy → List Co
 plain_data d [] rest = DataOf d NoForm ∷ rest
 plain_data d (v ∷ vs) rest = rest
 
+-- All types without type variables.
 abbrev pub plain_datas : List GenericDataTree → List Copy
 plain_datas [] = []
 plain_datas (d ∷ ds) = plain_data d d.variables (plain_datas ds)
 
+-- A function, where it has none.
 abbrev pub plain_function : GenericFunctionTree → List Ident → List Copy → List Copy
 plain_function f [] rest = FunctionOf f NoForm ∷ rest
 plain_function f (v ∷ vs) rest = rest
 
+-- All functions without type variables.
 abbrev pub plain_functions : List GenericFunctionTree → List Copy
 plain_functions [] = []
 plain_functions (f ∷ fs) = plain_function f f.variables (plain_functions fs)
@@ -225,15 +207,18 @@ pub record DataCopy : Type 0 where
   pub decl : GenericDataTree
   pub types : Forms
 
+-- A copied function.
 pub record FunctionCopy : Type 0 where
   pub function : GenericFunctionTree
   pub types : Forms
 
+-- The types among copies.
 abbrev pub datas_in : List Copy → List DataCopy
 datas_in [] = []
 datas_in (DataOf d ts ∷ cs) = record { decl = d; types = ts } ∷ datas_in cs
 datas_in (FunctionOf f ts ∷ cs) = datas_in cs
 
+-- The functions among copies.
 abbrev pub function_copies : List Copy → List FunctionCopy
 function_copies [] = []
 function_copies (DataOf d ts ∷ cs) = function_copies cs
@@ -251,6 +236,7 @@ copied_program p nm found = record {
 abbrev pub type_items : List Copy → List Item
 type_items found = map (λ (c : DataCopy). record { name = number_of c.decl.name; types = c.types }) (datas_in found)
 
+-- The functions that were asked for.
 abbrev pub function_items : List Copy → List Item
 function_items found = map (λ (c : FunctionCopy). record { name = number_of c.function.name; types = c.types }) (function_copies found)
 
@@ -260,6 +246,7 @@ pub record Made : Type 0 where
   pub copy : DataCopy
   pub constructor : GenericConstructorTree
 
+-- A constructor of the copy of a type that has this number.
 abbrev pub made_of : ℕ → DataCopy → GenericConstructorTree → Made
 made_of n c k = record { type_number = n; copy = c; constructor = k }
 
@@ -273,10 +260,12 @@ abbrev pub or_zero : Option ℕ → ℕ
 or_zero None = 0
 or_zero (Some n) = n
 
+-- The tag of the one that a copied constructor is a copy of.
 abbrev pub base_at : List GenericRow → Option Made → ℕ
 base_at rows None = 0
 base_at rows (Some m) = or_zero (place_named rows (number_of m.constructor.name))
 
+-- So for the constructor of a number.
 abbrev pub base_of : List GenericRow → List Copy → ℕ → ℕ
 base_of rows found d = base_at rows (slice_get (made_from 0 (datas_in found)) d)
 

@@ -3,7 +3,7 @@
 ghost use Rattle.std.specs.Prelude.{◌≡◌, ℕ, List, ◌∷◌, [], pos, Ok, Err, slice_get, Some, length, ◌<◌};
 ghost use Rattle.std.specs.List.{AllByRecursion};
 ghost use Rattle.gib_base.specs.declared.Span.{Span};
-ghost use Rattle.gib_types.specs.Tree.{Datum, whole, HasType};
+ghost use Rattle.gib_types.specs.Tree.{Datum, whole, HasType, IsTyped};
 ghost use Rattle.gib_types.specs.Table.{name_at};
 ghost use Rattle.gib_syntax.specs.Tree.{ProgramTree};
 ghost use Rattle.gib_syntax.specs.Fine.{IsFineProgram};
@@ -22,6 +22,7 @@ ghost use Rattle.gib_mono.specs.Laws.{set_of, Agree};
 ghost use Rattle.gib_mono.specs.Naming.{entries, naming_of, number_with, AreBelow};
 ghost use Rattle.gib_syntax.specs.Plain.{generic_of};
 ghost use Rattle.gib_mono.specs.Showing.{source_text, long_text, long_texts, short_texts};
+ghost use Rattle.gib_mono.specs.Bare.{IsPlainProgram, bare_program};
 ghost use Rattle.gib_mono.specs.Examples.{list_data, len_function, len_program, growing_program, whole_only};
 
 /// The copy of a typed program of the grammar is one.
@@ -76,6 +77,22 @@ pub fn copies_are_shown()
 pub fn plain_programs_are_their_own()
     ensures walk { (p : ProgramTree) → copies_of (generic_of p) ≡ Ok (plain_copies (generic_of p)) }
     ensures same { (p : ProgramTree) (base : ℕ) (names : List Item) → copied_program (generic_of p) (naming_of base names) (plain_copies (generic_of p)) ≡ p }
+{}
+
+/// A typed program none of whose declarations has type variables is copied as it stands: its copies are its own declarations,
+/// in their order, and its copy is itself.
+pub fn plain_programs_are_copied_as_they_stand()
+    ensures walk { (p : GenericProgramTree) → IsTypedGeneric p → IsPlainProgram p → copies_of p ≡ Ok (plain_copies p) }
+    ensures same { (p : GenericProgramTree) (base : ℕ) (names : List Item) → IsTypedGeneric p → IsPlainProgram p → copied_program p (naming_of base names) (plain_copies p) ≡ bare_program p }
+{}
+
+/// In the copy of such a program each constructor has the number of its own, each value is itself, and the program means what its
+/// copy means: what is said of copies is said of the program as it stands.
+pub fn plain_copies_mean_the_same()
+    ensures number { (p : GenericProgramTree) (d : ℕ) → IsTypedGeneric p → IsPlainProgram p → d < length (rows_of p.datas) → base_of (rows_of p.datas) (plain_copies p) d ≡ d }
+    ensures value { (p : GenericProgramTree) (v : Datum) → IsTypedGeneric p → IsPlainProgram p → IsTyped (table_of_program (bare_program p)) v → shown (base_of (rows_of p.datas) (plain_copies p)) v ≡ v }
+    ensures run { (p : GenericProgramTree) (base depth : ℕ) (v : Datum) → IsGenericFineProgram p → IsTypedGeneric p → IsPlainProgram p → AreBelow base (plain_copies p)
+        → HasType (table_of_program (bare_program p)) v (input_type (bare_program p)) → run_generic p depth v ≡ run (bare_program p) depth v }
 {}
 
 /// A typed program without type parameters means what it means as one that may have some.

@@ -13,6 +13,7 @@ pub mod find;
 pub mod found;
 pub mod law;
 pub mod naming;
+mod plain;
 pub mod program_copy;
 pub mod reading;
 pub mod scene;

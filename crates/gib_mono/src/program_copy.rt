@@ -6,6 +6,7 @@ ghost use Rattle.gib_syntax.specs.GenericParts.{generic_program_of};
 ghost use Rattle.gib_syntax.specs.Parts.{program_of};
 ghost use Rattle.gib_mono.specs.Walk.{Copy, copies_of, copied_program};
 ghost use Rattle.gib_mono.specs.Naming.{entries, naming_of, AreNamedBelow};
+ghost use Rattle.gib_mono.specs.Bare.{IsPlainProgram};
 ghost use Rattle.gib_mono.specs.Declaring.{Finds};
 ghost use Rattle.gib_mono.specs.Entries.{items_of};
 ghost use Rattle.gib_mono.specs.Limits.{IsLimitOf, IsMemory, IsMemoryOr};
@@ -16,6 +17,7 @@ use crate::declaring::{copy_all, copy_main};
 use crate::find::{Asked, find_copies};
 use crate::found::MonoFault;
 use crate::naming::name_copies;
+use crate::plain::{bare_program, is_plain};
 use crate::scene::Scene;
 use crate::source::Source;
 use gib_base::Memory;
@@ -59,6 +61,52 @@ fn copy_asked(
     Ok(MonoProgram { typed, copies })
 }
 
+/// The copied program where no declaration has type variables: it is copied as it stands.
+fn copy_plain(
+    alloc: Global,
+    source: &Source,
+    asked: Asked,
+    base: u32,
+) -> Result<MonoProgram, Memory>
+    requires finds { Finds source.now asked }
+    requires plain { IsPlainProgram (generic_program_of source.now) }
+    requires below { AreNamedBelow base (generic_program_of source.now) }
+    ensures { IfOk result (λ m. (found : List Copy) × (copies_of (generic_program_of source.now) ≡ Ok found)
+        × (program_of m.typed ≡ copied_program (generic_program_of source.now) (naming_of base (entries found)) found) × (items_of m.copies ≡ entries found)) }
+{
+    let _program = source.program();
+    let scene = Scene::new(alloc, asked.context.into_types());
+    let mut copier = Copier {
+        alloc,
+        scene,
+        base,
+        exprs: Exprs::new(alloc),
+    };
+    name_copies(&mut copier, source, asked.found.keys())?;
+    let program = bare_program(alloc, source.program())?;
+    let typed = Typed::of(alloc, program)?;
+    let copies = copier.scene.into_copies();
+    Ok(MonoProgram { typed, copies })
+}
+
+/// The copied program, for copies that were found: a look at the declarations tells whether any type is put anywhere.
+fn copy_found(
+    alloc: Global,
+    source: &Source,
+    asked: Asked,
+    base: u32,
+) -> Result<MonoProgram, Memory>
+    requires finds { Finds source.now asked }
+    requires below { AreNamedBelow base (generic_program_of source.now) }
+    ensures { IfOk result (λ m. (found : List Copy) × (copies_of (generic_program_of source.now) ≡ Ok found)
+        × (program_of m.typed ≡ copied_program (generic_program_of source.now) (naming_of base (entries found)) found) × (items_of m.copies ≡ entries found)) }
+{
+    if is_plain(source.program()) {
+        return copy_plain(alloc, source, asked, base);
+    }
+    copy_asked(alloc, source, asked, base)
+}
+
 /// The copy of a program, whose names are below a number, for the types with which its declarations are used.
 ///
 /// # Errors
@@ -78,7 +126,7 @@ pub fn mono(alloc: Global, generic: Generic, base: u32) -> Result<MonoProgram, M
         return Err(MonoFault::Memory);
     };
     let asked = find_copies(alloc, &source)?;
-    match copy_asked(alloc, &source, asked, base) {
+    match copy_found(alloc, &source, asked, base) {
         Ok(mono) => Ok(mono),
         Err(_) => Err(MonoFault::Memory),
     }

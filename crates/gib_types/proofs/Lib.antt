@@ -10,3 +10,4 @@ pub mod Counting
 pub mod Once
 pub mod Same
 pub mod Put
+pub mod SameForms

@@ -8,4 +8,5 @@ pub mod TreeCode
 pub mod Bytes
 pub mod Samples
 pub mod Form
+pub mod SameForm
 pub mod Types

@@ -12,6 +12,3 @@ pub mod types;
 pub use fields::{first_type, further_types, items_at};
 pub use layouts::{Layout, Layouts};
 pub use table::{ConId, Constructor, Ty, TyId, TypeTable};
-
-#[cfg(test)]
-mod tests;
