@@ -1,6 +1,6 @@
 -- Arms, and the branches of a case.
-use Rattle.std.proofs.Common.{◌≡◌, ℕ, ◌+◌, ◌<◌, ◌≤◌, Bool, false, ◌||◌, cond, List, [], ◌∷◌, ◌++◌, length, drop, get_or, reverse, refl, sym, ap, ◌∙◌, subst, arith, append_assoc}
-use Rattle.std.specs.List.{AllByRecursion, list_any}
+use Rattle.std.proofs.Common.{◌≡◌, ℕ, ◌+◌, ◌≤◌, Bool, false, ◌||◌, cond, List, [], ◌∷◌, ◌++◌, length, drop, get_or, reverse, refl, sym, ap, ◌∙◌, subst, arith, append_assoc}
+use Rattle.std.specs.List.{list_any}
 use Rattle.std.proofs.lemmas.List.{drop_more, reverse-append}
 use Rattle.gib_types.specs.declared.table.ConId.{ConId}
 use Rattle.gib_types.specs.Table.{Table}
@@ -12,14 +12,15 @@ use Rattle.gib_core.specs.declared.node.Branch.{Branch}
 use Rattle.gib_core.specs.declared.node.Node.{Node}
 use Rattle.gib_core.specs.declared.node.TermId.{TermId}
 use Rattle.gib_core.specs.Tree.{Term, Reach, BranchThen, prepend}
-use Rattle.gib_core.specs.Arena.{Grows, IsBranchBelow, term_of, branches_from}
+use Rattle.gib_core.specs.Arena.{Grows, term_of, branches_from}
 use Rattle.gib_core.specs.Reaching.{uses, uses_any, Later, laters, untold, untold_from, reach, skips_from, offsets_from, reaches, packed_variables, offset_of, offsets_in, branch_offsets, branches_use}
 use Rattle.gib_access.specs.declared.work.Work.{Work}
 use Rattle.gib_access.specs.Used.{Seen, Marks, Enters, since, unused, skips_by, offsets_by_use, reaches_by, offset_by}
 use Rattle.gib_access.specs.Made.{Way, Walked, ReachesTerm, ReachesBranch, ReachesBranches, Fronts, arm_offsets}
 use Rattle.gib_core.specs.declared.atom.Ended.{Ended}
-use Rattle.gib_access.proofs.Fronting.{grows_more}
+use Rattle.gib_core.proofs.Fronting.{grows_more, branches_below_more}
 use Rattle.gib_access.proofs.Walking.{or-none, marks_then, walked_then}
+use Rattle.gib_core.proofs.Layers.{branches_same_below}
 
 any-same : (t : Term) (xs : List Variable) → list_any (uses t) xs ≡ uses_any t xs
 any-same t [] = refl
@@ -85,14 +86,6 @@ branch_reached w old mid walked new start made was t body packed others fs en et
       term = f.is ∙ (λ i. prepend (reached i) (h.is i)) ∙ ap (λ (gs : List Later). prepend (reaches w.mode w.ended t fields) (reach w.mode w.table w.ended gs t)) laters_are;
     }
 
-branches_below_more : (n m : ℕ) (bs : List Branch) → n ≤ m → AllByRecursion (IsBranchBelow n) bs → AllByRecursion (IsBranchBelow m) bs
-branches_below_more n m [] le p = tt
-branches_below_more n m (x ∷ bs) le p = (let q = p.0 in omega arith, branches_below_more n m bs le p.1)
-
-branches_all_same : (f g : ℕ → Term) (id : ℕ) (bs : List Branch) → AllByRecursion (IsBranchBelow id) bs → ((a : ℕ) → a < id → f a ≡ g a) → branches_from f bs ≡ branches_from g bs
-branches_all_same f g id [] h e = refl
-branches_all_same f g id (x ∷ bs) h e = (λ k. BranchThen x.constructor x.variables.items (e x.term.0 h.0 k) (branches_all_same f g id bs h.1 e k))
-
 one-more : (w : Way) (f : ℕ → Term) (old now new : Work) (made b : Branch) (done bs : List Branch) → ReachesBranches w old now done (branches_from f bs) → ReachesBranch w now new made b (f b.term.0) → ReachesBranches w old new (made ∷ done) (branches_from f (b ∷ bs))
 one-more w f old now new made b done bs h p =
     let k = b.constructor in
@@ -103,7 +96,7 @@ one-more w f old now new made b done bs h p =
     record {
       walked = subst (λ z. Walked old new (branches_use (branches_from f (b ∷ bs))) z) (append_assoc (offset_of w.mode w.ended k t (packed_variables w.table k xs)) (offsets_in w.mode w.table w.ended t) all) steps;
       inside = (p.inside, branches_below_more (length now.terms) (length new.terms) done p.walked.grows.longer h.inside);
-      are = (λ i. BranchThen (p.constructor i) (p.variables i) (p.term i) ((branches_all_same (term_of new.terms) (term_of now.terms) (length now.terms) done h.inside p.walked.grows.same ∙ h.are) i));
+      are = (λ i. BranchThen (p.constructor i) (p.variables i) (p.term i) ((branches_same_below (term_of new.terms) (term_of now.terms) (length now.terms) done h.inside p.walked.grows.same ∙ h.are) i));
     }
 
 reverse-push : {A : Type 0} (xs ys : List A) (x : A) → ys ≡ xs ++ x ∷ [] → reverse ys ≡ x ∷ reverse xs

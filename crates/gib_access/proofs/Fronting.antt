@@ -12,21 +12,16 @@ use Rattle.gib_core.specs.declared.node.Node.{Node}
 use Rattle.gib_core.specs.declared.node.Node.TheVariants as n
 use Rattle.gib_core.specs.declared.node.TermId.{TermId}
 use Rattle.gib_core.specs.Tree.{Then, Bind, Reach}
-use Rattle.gib_core.specs.Arena.{Grows, Makes}
+use Rattle.gib_core.specs.Arena.{Makes}
 use Rattle.gib_access.specs.Used.{before_at, skips_by}
 use Rattle.gib_access.specs.Made.{Fronts}
+use Rattle.gib_core.proofs.Fronting.{grows_more, grows_none}
 
 -- Nothing is left.
 pub selected : {A : Type 0} (types : List Ty) (left done all : List A) → length left < 1 → done ++ at_fields false types left ≡ all → done ≡ all
 selected [] left done all lt e = sym (append-nil done) ∙ e
 selected (t ∷ ts) [] done all lt e = sym (append-nil done) ∙ e
 selected (t ∷ ts) (x ∷ xs) done all lt e = absurd (omega (arith, lt))
-
-pub grows_more : (a b c : List Node) → Grows a b → Grows b c → Grows a c
-grows_more a b c p q = record { longer = (let l = p.longer in let m = q.longer in omega arith); same = λ id lt. (let l = p.longer in q.same id (omega arith)) ∙ p.same id lt }
-
-pub grows_none : (a : List Node) → Grows a a
-grows_none a = record { longer = omega arith; same = λ id lt. refl }
 
 pub fronts_none : (old : List Node) (body : TermId) → body.0 < length old → Fronts old old body body []
 fronts_none old body lt = record { grows = grows_none old; inside = lt; is = refl }

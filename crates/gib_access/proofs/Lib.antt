@@ -1,11 +1,15 @@
+-- The walk's steps: the clock, plans of lines, lines and arms.
 pub mod Fronting
+pub mod Stamping
 pub mod Walking
 pub mod Plans
 mod UsesLine
 pub mod Lining
 pub mod Arms
 pub mod Programs
-pub mod Sample
+-- What it keeps of a core.
 pub mod Reaches
 pub mod Numbered
 mod StoredWhereRead
+-- For the tests.
+pub mod Sample

@@ -15,8 +15,8 @@ use Rattle.gib_access.specs.declared.planning.Planned.{Planned}
 use Rattle.gib_access.specs.Used.{Marks}
 use Rattle.gib_access.specs.Planned.{ArePlanned, later_of, left_from, ends_at}
 use Rattle.gib_access.specs.Made.{Way, Walked, ReachesTerm, ReachesBinding, Fronts}
-use Rattle.gib_access.proofs.Fronting.{grows_more}
-use Rattle.gib_access.proofs.Plans.{at_binding, at_end, all_left}
+use Rattle.gib_core.proofs.Fronting.{grows_more}
+use Rattle.gib_access.proofs.Plans.{at_binding, at_end, all_left, binds_long}
 use Rattle.gib_access.proofs.Walking.{walked_then}
 
 -- The end of a line, with those fields in front that it is the first to use.
@@ -33,10 +33,6 @@ end_reached w fs (IfTerm x t u) e = refl
 pub record LineSoFar (w : Way) (terms : List Node) (bs : List Binding) (last : ℕ) (ps : List Planned) (i : ℕ) (old now : Work) (made : TermId) : Type 0 where
   pub within : i ≤ length bs
   pub reached : ReachesTerm w (left_from i ps) old now made (prepend (binds_from (term_of terms) (drop i bs)) (term_of terms last))
-
-binds_length : (f : ℕ → Term) (bs : List Binding) → length (binds_from f bs) ≡ length bs
-binds_length f [] = refl
-binds_length f (b ∷ bs) = ap suc (binds_length f bs)
 
 binds_at : (f : ℕ → Term) (bs : List Binding) (i : ℕ) (d : Binding) → get_or (binds_from f bs) i (bind_from f d) ≡ bind_from f (get_or bs i d)
 binds_at f [] i d = refl
@@ -62,7 +58,7 @@ pub line_first : (w : Way) (terms : List Node) (bs : List Binding) (last i : ℕ
 line_first w terms bs last i ps old now new was made en planned e h f es eo =
     let g = term_of terms in
     let t = g last in
-    let at : ends_now (uses t) (left_from i ps) ≡ ends_at i ps = subst (λ k. ends_now (uses t) (left_from k ps) ≡ ends_at k ps) (binds_length g bs ∙ sym e) (at_end (binds_from g bs) t ps planned) in
+    let at : ends_now (uses t) (left_from i ps) ≡ ends_at i ps = subst (λ k. ends_now (uses t) (left_from k ps) ≡ ends_at k ps) (binds_long g bs ∙ sym e) (at_end (binds_from g bs) t ps planned) in
     record {
       within = omega (arith, e);
       reached = subst (λ z. ReachesTerm w (left_from i ps) old new made (prepend (binds_from g z) t)) (sym (ap (λ k. drop k bs) e ∙ drop-length bs))
@@ -97,7 +93,7 @@ line_next w terms bs last ps i j old now mid next new was put front made x d pla
     let rest = prepend (binds_from g (drop (i + 1) bs)) t in
     let le = so.within in
     let lt : i < length bs = omega (arith, ej, le) in
-    let there = at_binding (binds_from g bs) t i (bind_from g d) ps (let q = binds_length g bs in omega (arith, lt, q)) planned in
+    let there = at_binding (binds_from g bs) t i (bind_from g d) ps (let q = binds_long g bs in omega (arith, lt, q)) planned in
     let same : get_or (binds_from g bs) i (bind_from g d) ≡ bd = binds_at g bs i d ∙ ap (bind_from g) (sym ex) in
     let now_is : ends_now (bind_uses bd) (left_from i ps) ≡ ends_at i ps = subst (λ (b : Bind). ends_now (bind_uses b) (left_from i ps) ≡ ends_at i ps) same there.0 in
     let behind_is : not_now (bind_uses bd) (left_from i ps) ≡ left_from j ps = subst (λ (b : Bind). not_now (bind_uses b) (left_from i ps) ≡ left_from (suc i) ps) same there.1 ∙ ap (λ k. left_from k ps) (omega (arith, ej)) in

@@ -1,5 +1,5 @@
 -- Whole cores.
-use Rattle.std.proofs.Common.{◌≡◌, ℕ, ◌<◌, ◌≤◌, Bool, List, [], ◌∷◌, ◌++◌, map, length, reverse, refl, sym, ap, ◌∙◌, subst, arith, append_assoc}
+use Rattle.std.proofs.Common.{◌≡◌, ℕ, ◌<◌, Bool, List, [], ◌∷◌, ◌++◌, map, length, reverse, refl, sym, ap, ◌∙◌, subst, arith, append_assoc}
 use Rattle.std.specs.Prelude.{Result, Ok, Err, IfOk}
 use Rattle.std.specs.List.{AllByRecursion}
 use Rattle.std.proofs.lemmas.List.{append-nil, map-append, reverse-append}
@@ -13,7 +13,7 @@ use Rattle.gib_core.specs.declared.atom.AccessMode.TheVariants.{Skips, Offsets, 
 use Rattle.gib_core.specs.declared.node.Node.{Node}
 use Rattle.gib_core.specs.declared.program.CoreFunction.{CoreFunction}
 use Rattle.gib_core.specs.declared.program.CoreMain.{CoreMain}
-use Rattle.gib_core.specs.Tree.{Term, FunctionTerm, MainTerm, CoreTree}
+use Rattle.gib_core.specs.Tree.{FunctionTerm, MainTerm, CoreTree}
 use Rattle.gib_core.specs.Arena.{Grows, term_of}
 use Rattle.gib_core.specs.Parts.{Parts, AreInside, AreDeclared, IsDeclared, IsFunctionInside, function_term, main_term, core_of}
 use Rattle.gib_core.specs.Meaning.{core_calls, core_run}
@@ -28,7 +28,8 @@ use Rattle.gib_access.specs.Made.{Way}
 use Rattle.gib_access.specs.declared.work.Work.{Work}
 use Rattle.gib_access.specs.Bodies.{ReachesFunction, ReachesFunctions, ReachesMain, offsets_of, offsets_kept}
 use Rattle.gib_core.proofs.Signatures.{functions_declared, declared_functions}
-use Rattle.gib_access.proofs.Fronting.{grows_more, grows_none}
+use Rattle.gib_core.proofs.Fronting.{grows_more, grows_none}
+use Rattle.gib_core.proofs.Inside.{functions_more, functions_stay, front_inside, last_inside}
 
 -- Some functions were reached; with those that are left they are all.
 pub record FunctionsSoFar (w : Way) (terms : List Node) (old now : Work) (all rest done : List CoreFunction) : Type 0 where
@@ -47,25 +48,9 @@ functions_start w terms old all h = record {
   offsets = refl;
 }
 
-functions_more : (n m : ℕ) (fs : List CoreFunction) → n ≤ m → AllByRecursion (IsFunctionInside n) fs → AllByRecursion (IsFunctionInside m) fs
-functions_more n m [] le p = tt
-functions_more n m (x ∷ fs) le p = (let q = p.0 in omega arith, functions_more n m fs le p.1)
-
-functions_same : (f g : ℕ → Term) (n : ℕ) (fs : List CoreFunction) → AllByRecursion (IsFunctionInside n) fs → ((a : ℕ) → a < n → f a ≡ g a) → map (function_term f) fs ≡ map (function_term g) fs
-functions_same f g n [] h e = refl
-functions_same f g n (x ∷ fs) h e = (λ i. record { name = x.name; parameters = x.parameters.items; result = x.result; body = e x.body.0 h.0 i } ∷ functions_same f g n fs h.1 e i)
-
-front : (n : ℕ) (fs : List CoreFunction) (x : CoreFunction) → AllByRecursion (IsFunctionInside n) (fs ++ x ∷ []) → AllByRecursion (IsFunctionInside n) fs
-front n [] x p = tt
-front n (y ∷ fs) x p = (p.0, front n fs x p.1)
-
-last : (n : ℕ) (fs : List CoreFunction) (x : CoreFunction) → AllByRecursion (IsFunctionInside n) (fs ++ x ∷ []) → IsFunctionInside n x
-last n [] x p = p.0
-last n (y ∷ fs) x p = last n fs x p.1
-
 -- The last one that is left.
 pub next_inside : (w : Way) (terms : List Node) (old now : Work) (all was left done : List CoreFunction) (x : CoreFunction) → was ≡ left ++ x ∷ [] → FunctionsSoFar w terms old now all was done → x.body.0 < length terms
-next_inside w terms old now all was left done x ew h = last (length terms) left x (subst (λ z. AllByRecursion (IsFunctionInside (length terms)) z) ew h.left)
+next_inside w terms old now all was left done x ew h = last_inside (length terms) left x (subst (λ z. AllByRecursion (IsFunctionInside (length terms)) z) ew h.left)
 
 pub functions_next : (w : Way) (terms : List Node) (old now new : Work) (all was left done more : List CoreFunction) (x made : CoreFunction) → was ≡ left ++ x ∷ [] → more ≡ done ++ made ∷ [] → FunctionsSoFar w terms old now all was (reverse done) → ReachesFunction w now new made (function_term (term_of terms) x) → FunctionsSoFar w terms old new all left (reverse more)
 functions_next w terms old now new all was left done more x made ew em h p =
@@ -76,10 +61,10 @@ functions_next w terms old now new all was left done more x made ew em h p =
     let parts : map f was ≡ map f left ++ f x ∷ [] = ap (map f) ew ∙ map-append f left (x ∷ []) in
     let so_far : FunctionsSoFar w terms old new all left (made ∷ finished) = record {
       grows = grows_more old.terms now.terms new.terms h.grows p.grows;
-      left = front (length terms) left x (subst (λ z. AllByRecursion (IsFunctionInside (length terms)) z) ew h.left);
+      left = front_inside (length terms) left x (subst (λ z. AllByRecursion (IsFunctionInside (length terms)) z) ew h.left);
       inside = (p.inside, functions_more (length now.terms) (length new.terms) finished p.grows.longer h.inside);
       are =
-          (λ i. map r (map f left) ++ p.is i ∷ functions_same (term_of new.terms) (term_of now.terms) (length now.terms) finished h.inside p.grows.same i)
+          (λ i. map r (map f left) ++ p.is i ∷ functions_stay (term_of new.terms) (term_of now.terms) (length now.terms) finished h.inside p.grows.same i)
           ∙ sym (append_assoc (map r (map f left)) (r (f x) ∷ []) (map (function_term (term_of now.terms)) finished))
           ∙ (λ i. sym (ap (map r) parts ∙ map-append r (map f left) (f x ∷ [])) i ++ map (function_term (term_of now.terms)) finished)
           ∙ h.are;

@@ -1,5 +1,5 @@
 -- A line, up to a binding: so far none uses a variable.
-use Rattle.std.proofs.Common.{◌≡◌, ℕ, ◌<◌, ◌≤◌, Bool, true, false, ◌||◌, List, length, Some, refl, sym, ap, ◌∙◌}
+use Rattle.std.proofs.Common.{◌≡◌, ℕ, ◌<◌, ◌≤◌, true, ◌||◌, List, length, Some, sym, ap, ◌∙◌}
 use Rattle.gib_core.specs.declared.atom.Variable.{Variable}
 use Rattle.gib_core.specs.declared.node.Binding.{Binding}
 use Rattle.gib_core.specs.declared.node.Node.{Node}
@@ -12,10 +12,6 @@ pub record UsesSoFar (x : Variable) (terms : List Node) (id last : ℕ) (node : 
   pub inside : last < length terms
   pub opens : Opens terms last node
   pub same : uses (term_of terms id) x ≡ uses (term_of terms last) x
-
-or_no : (a c : Bool) → a ≡ false → a || c ≡ c
-or_no true c e = absurd cc
-or_no false c e = refl
 
 pub used_here : (x : Variable) (terms : List Node) (id last : ℕ) (binding : Binding) (rest : ℕ) (node : Node) → UsesSoFar x terms id last node → ((f : ℕ → Term) → layer f (Some node) ≡ Then (bind_from f binding) (f rest))
     → bind_uses (bind_from (term_of terms) binding) x ≡ true → true ≡ uses (term_of terms id) x

@@ -5,7 +5,7 @@ use Rattle.gib_core.specs.declared.atom.Variable.{Variable}
 use Rattle.gib_access.specs.declared.work.Work.{Work}
 use Rattle.gib_access.specs.Used.{Seen, Marks, since}
 use Rattle.gib_access.specs.Made.{Walked}
-use Rattle.gib_access.proofs.Fronting.{grows_more}
+use Rattle.gib_core.proofs.Fronting.{grows_more}
 
 or-turn : (a b c : Bool) → (a || b) || c ≡ a || (c || b)
 or-turn true b c = refl

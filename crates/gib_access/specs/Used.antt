@@ -1,26 +1,18 @@
 -- Which variables were used since a time, and what that says of the fields of an arm.
-use Rattle.std.specs.Prelude.{◌≡◌, ℕ, ◌≤◌, Bool, false, ◌||◌, if◌then◌else◌, nat_le, slice_index_or, List, [], ◌∷◌, Option}
+use Rattle.std.specs.Prelude.{◌≡◌, ℕ, ◌≤◌, Bool, false, ◌||◌, if◌then◌else◌, nat_le, slice_index_or, List, [], ◌∷◌}
 use Rattle.std.specs.List.{list_any}
 use Rattle.gib_types.specs.declared.table.ConId.{ConId}
 use Rattle.gib_core.specs.ByVariable.{number_at}
+pub use Rattle.gib_core.specs.Noted.{Seen}
 use Rattle.gib_core.specs.declared.atom.Variable.{Variable}
 use Rattle.gib_core.specs.declared.atom.Access.TheVariants.{Offset, Skip}
 use Rattle.gib_core.specs.declared.atom.AccessMode.{AccessMode}
 use Rattle.gib_core.specs.declared.atom.AccessMode.TheVariants.{Skips, Offsets, Ends}
 use Rattle.gib_core.specs.Tree.{Bind, Reach}
 
--- A clock, and at the number of each variable the time at which it was used last.
-pub record Seen : Type 0 where
-  pub clock : ℕ
-  pub times : List (Option ℕ)
-
 -- The variable was used at this time or later.
 abbrev pub since : Seen → ℕ → Variable → Bool
 since seen start x = nat_le start (number_at seen.times x.0)
-
--- No time is later than the clock.
-abbrev pub ArePast : ℕ → List (Option ℕ) → Type 0
-ArePast clock times = (x : ℕ) → number_at times x ≤ clock
 
 -- Between two moments just these variables were used.
 pub record Marks (old new : Seen) (used : Variable → Bool) : Type 0 where

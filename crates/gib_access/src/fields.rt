@@ -11,10 +11,10 @@ ghost use Rattle.gib_access.specs.Planned.{ends_at};
 ghost use Rattle.gib_access.specs.Made.{Fronts};
 
 use crate::planning::Planned;
-use crate::stamps::Stamps;
+use crate::stamps::is_used_since;
 use crate::work::Work;
 use gib_base::{Memory, Reversed};
-use gib_core::{Access, AccessMode, Binding, Node, TermId, Terms, Variable};
+use gib_core::{Access, AccessMode, Binding, Clock, Node, TermId, Terms, Variable};
 use gib_types::{ConId, TypeTable, items_at};
 use std::alloc::Global;
 
@@ -59,7 +59,7 @@ fn put_reach(
 /// one that is used.
 fn put_skips(
     terms: &mut Terms,
-    stamps: &Stamps,
+    stamps: &Clock,
     start: u64,
     first: Variable,
     fields: &[Variable],
@@ -73,7 +73,7 @@ fn put_skips(
     let mut i = fields.len();
     'fields: while i > 0 {
         i -= 1;
-        wanted = wanted || stamps.is_used_since(start, fields[i]);
+        wanted = wanted || is_used_since(stamps, start, fields[i]);
         if wanted {
             let before = before_at(first, fields, i);
             term = put_reach(terms, fields[i], Access::Skip(before), term)?;
@@ -85,7 +85,7 @@ fn put_skips(
 /// In front of an arm's term each of the fields behind the first one that is used is reached by its offset.
 fn put_offsets(
     terms: &mut Terms,
-    stamps: &Stamps,
+    stamps: &Clock,
     start: u64,
     fields: &[Variable],
     body: TermId,
@@ -97,7 +97,7 @@ fn put_offsets(
     let mut i = fields.len();
     'fields: while i > 0 {
         i -= 1;
-        if stamps.is_used_since(start, fields[i]) {
+        if is_used_since(stamps, start, fields[i]) {
             term = put_reach(terms, fields[i], Access::Offset, term)?;
         }
     }
@@ -156,16 +156,16 @@ pub fn put_ends(
 }
 
 /// Whether one of these fields is used.
-fn is_any_used(stamps: &Stamps, start: u64, fields: &[Variable]) -> bool
+fn is_any_used(stamps: &Clock, start: u64, fields: &[Variable]) -> bool
     ensures { result ≡ list_any (since stamps.now start) fields.now }
 {
-    fields.iter().any(|x| stamps.is_used_since(start, *x))
+    fields.iter().any(|x| is_used_since(stamps, start, *x))
 }
 
 /// Lists a constructor before the others, where one of these fields of its arm is used.
 pub fn list_constructor(
     offsets: &mut Reversed<ConId>,
-    stamps: &Stamps,
+    stamps: &Clock,
     start: u64,
     constructor: ConId,
     fields: &[Variable],

@@ -19,8 +19,6 @@ pub mod law;
 mod planning;
 mod source;
 mod stamps;
-#[cfg(test)]
-mod tests;
 mod walk;
 mod work;
 

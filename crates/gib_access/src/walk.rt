@@ -14,7 +14,7 @@ ghost use Rattle.gib_access.specs.Made.{ReachesTerm, ReachesBinding, ReachesSide
 use crate::fields::{list_constructor, packed_variables, put_ends, put_reaches};
 use crate::planning::{Line, Planned, plan_line};
 use crate::source::{Source, in_par};
-use crate::stamps::mark_atom;
+use crate::stamps::{enter, mark_atom};
 use crate::work::{Work, put_call, put_give, put_point, put_write};
 use gib_base::Memory;
 use gib_core::{Atom, Binding, BoundTerm, Branch, Node, TermId};
@@ -207,7 +207,7 @@ fn reach_branch(source: &Source, work: &mut Work, branch: &Branch) -> Result<Bra
     requires { branch.now.term.0 < length source.now.terms.now }
     ensures { IfOk result (λ made. ReachesBranch (way_of source.now) work.old work.new made branch.now (term_of source.now.terms.now branch.now.term.0)) }
 {
-    let start = work.stamps.enter()?;
+    let start = enter(&mut work.stamps)?;
     let (bindings, last) = source.terms.line(source.alloc, branch.term)?;
     let line = Line {
         id: branch.term,

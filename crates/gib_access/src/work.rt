@@ -6,9 +6,9 @@ ghost use Rattle.gib_core.specs.Tree.{Write, Point, CallTerm, Give};
 ghost use Rattle.gib_core.specs.Reaching.{uses};
 ghost use Rattle.gib_access.specs.Made.{MakesTerm};
 
-use crate::stamps::{Stamps, mark_atom, mark_atoms};
+use crate::stamps::{mark_atom, mark_atoms};
 use gib_base::{Memory, Name, Reversed};
-use gib_core::{Atom, Node, TermId, Terms, Variable};
+use gib_core::{Atom, Clock, Node, TermId, Terms, Variable};
 use gib_types::ConId;
 use std::alloc::Global;
 
@@ -17,7 +17,7 @@ use std::alloc::Global;
 #[derive(Drop)]
 pub struct Work {
     pub terms: Terms,
-    pub stamps: Stamps,
+    pub stamps: Clock,
     pub offsets: Reversed<ConId>,
 }
 
@@ -29,7 +29,7 @@ impl Work {
     {
         Work {
             terms: Terms::new(alloc),
-            stamps: Stamps::new(alloc),
+            stamps: Clock::new(alloc),
             offsets: Reversed::new(alloc),
         }
     }

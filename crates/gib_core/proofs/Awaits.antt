@@ -1,6 +1,7 @@
 -- The fields that a line reaches by ends: each directly before the first term that uses it.
 use Rattle.std.proofs.Common.{◌≡◌, ◌⊎◌, inl, inr, ⊎_elim, Bool, true, false, not, ◌&&◌, ◌==◌, ◌||◌, if◌then◌else◌, List, [], ◌∷◌, Option, Some, None, refl, sym, ap, ◌∙◌, subst}
 use Rattle.std.proofs.lemmas.Bool.{eq-eqb, both_ways, and_from, or_parts, or_cases}
+use Rattle.std.proofs.Math.Bool.{and-false}
 use Rattle.gib_types.specs.declared.table.ConId.{ConId}
 use Rattle.gib_core.specs.declared.atom.Variable.{Variable}
 use Rattle.gib_core.specs.declared.atom.Access.TheVariants.{End}
@@ -75,10 +76,6 @@ pub record Stepped (used : Variable → Bool) (fs : List Later) (ks new : List K
   pub same : (v : Variable) → (is_later fs v && used v) ≡ false → known new v ≡ known ks v
   pub more : (v : Variable) → is_reached (known ks v) ≡ true → is_reached (known new v) ≡ true
   pub served : (v : Variable) → is_later fs v ≡ true → used v ≡ true → is_reached (known new v) ≡ true
-
-and_false : (a : Bool) → (a && false) ≡ false
-and_false true = refl
-and_false false = refl
 
 module _ (core : CoreTree) (s : Setting) (b : Before) (used : Variable → Bool) where
   abbrev pub es : List Ended
@@ -159,7 +156,7 @@ module _ (core : CoreTree) (s : Setting) (b : Before) (used : Variable → Bool)
             where
               split : (c : Bool) → ((c || is_later fs v) && used v) ≡ false → (is_later fs v && used v) ≡ false
               split false h = h
-              split true h = ap (λ d. is_later fs v && d) h ∙ and_false (is_later fs v)
+              split true h = ap (λ d. is_later fs v && d) h ∙ and-false (is_later fs v)
 
           other : (v : Variable) → ((f.field.0 == v.0 || is_later fs v) && used v) ≡ false → (f.field.0 == v.0) ≡ false
           other v e = split (f.field.0 == v.0) refl
@@ -180,7 +177,7 @@ module _ (core : CoreTree) (s : Setting) (b : Before) (used : Variable → Bool)
             where
               split : (c : Bool) → ((c || is_later fs v) && used v) ≡ false → (is_later fs v && used v) ≡ false
               split false h = h
-              split true h = ap (λ d. is_later fs v && d) h ∙ and_false (is_later fs v)
+              split true h = ap (λ d. is_later fs v && d) h ∙ and-false (is_later fs v)
 
       cases : (c : Bool) → used f.field ≡ c → Goes fs (after f ks) rest → Goes fs ks rest → LinesAreBuilt core b (met core.table (scoped s ks) (prepend (if c then Reach f.field (End f.before) ∷ ends_now used fs else ends_now used fs) rest))
       cases true u behind' here = (
@@ -199,7 +196,7 @@ waiting es s used (f ∷ fs) all ks new q a = cases (used f.field) refl (waiting
     cases false u rest = (
       record {
         constructor = a.0.constructor;
-        pending = q.same f.field (ap (λ c. is_later all f.field && c) u ∙ and_false (is_later all f.field)) ∙ a.0.pending;
+        pending = q.same f.field (ap (λ c. is_later all f.field && c) u ∙ and-false (is_later all f.field)) ∙ a.0.pending;
         told = λ t. q.more f.before (a.0.told t);
         there = a.0.there;
         beside = a.0.beside;

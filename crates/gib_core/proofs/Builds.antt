@@ -1,7 +1,6 @@
 -- Each term that meets the build rules fits.
 use Rattle.std.proofs.Common.{◌≡◌, ℕ, ◌<◌, ◌==◌, Bool, true, false, ◌||◌, ◌&&◌, not, if◌then◌else◌, List, [], ◌∷◌, ◌++◌, map, length, Option, Some, None, refl, sym, ap, ◌∙◌, subst}
-use Rattle.std.proofs.lemmas.Bool.{eqb-true, ltb-true}
-use Rattle.std.proofs.lemmas.Option.{same_Some}
+use Rattle.std.proofs.lemmas.Bool.{eqb-true, ltb-true, not-true, or_left, not-false, both_ways, and_parts}
 use Rattle.gib_types.specs.declared.table.Ty.{Ty}
 use Rattle.gib_types.specs.declared.table.Ty.TheVariants.{Whole, Truth, Tree}
 use Rattle.gib_types.specs.declared.table.TyId.{TyId}
@@ -31,22 +30,20 @@ use Rattle.gib_core.specs.Fits.{Sort, Absent, Held, Placed, AtHead, Field, Scope
 use Rattle.gib_core.specs.Ending.{Within, within_par, ended, is_known, all_known, lasts_known, last_packed, if_some}
 use Rattle.gib_core.proofs.Owing.{Owes, Tells, MayTell, side_line, bind_line, owes_leaf, owes_call, owes_if, owes_arm, owes_side, owes_none, owes_behind, tells_new, tells_inner, tells_behind, left_may, right_may}
 use Rattle.gib_core.specs.Literals.{LiteralsFit, BindLiterals, SideLiterals, BranchLiterals}
-use Rattle.gib_core.proofs.Facts.{and_true, not_false, clash, least2, least3, least4, same_type_is, is_type_is, same_variable, itself, Test, holds, fails, test}
-use Rattle.gib_core.proofs.Later.{later_on, bound_arms, fresh_arms, line_later, lines_later, built_apart, next_apart, its_type, prim_facts, case_facts, ArmsHaveTypes, arms_have_on, typed_bound}
+use Rattle.gib_core.proofs.Facts.{least2, least3, least4, same_type_is, is_type_is, same_variable, itself, Test, holds, fails, test}
+use Rattle.gib_core.proofs.Later.{later_on, bound_arms, fresh_arms, line_later, lines_later, built_apart, its_type, prim_facts, case_facts, ArmsHaveTypes, arms_have_on, typed_bound}
 use Rattle.gib_core.proofs.Unused.{side_unused, cased_before}
 use Rattle.gib_core.proofs.Vars.{named, Tracked, Behinds, IsKnown, Vars, vars_on, vars_hold, vars_scope, put_there, put_elsewhere, known_bound, IsUsable, vars_over, vars_at, tracked_cased}
 use Rattle.gib_core.proofs.Dests.{IsDest, Keeps, dest_kept, here_due, next_of, stand_too, tracked_as, atom_fits, usable_first, tree_fits, con_there, stand_kept}
 use Rattle.gib_core.proofs.Entering.{AllBelow, below_apart, ArmsAreNew, arms_new, enter}
 use Rattle.gib_core.proofs.Covering.{covers, arms_below}
 use Rattle.gib_core.proofs.Fitted.{IsPart, is_part, behind_part, keep_later, SideDone, bind_sort, placed_own, scalar_own, packed_type, call_facts, scalar_call_fits, packed_place, empty_place, no_place, write_fits}
+use Rattle.gib_core.proofs.Along.{next_append}
+use Rattle.gib_core.proofs.Orders.{known_name}
 
 one_by : (same q r : Bool) → (q ≡ true → r ≡ true) → same || q ≡ true → (if same then true else r) ≡ true
 one_by true q r f e = refl
 one_by false q r f e = f e
-
-not_true : (p : Bool) → not p ≡ true → p ≡ false
-not_true true e = absurd cc
-not_true false e = refl
 
 -- Reaching a field.
 
@@ -60,13 +57,13 @@ record ReachFacts (core : CoreTree) (b : Before) (s : Setting) (y : Variable) (b
 reach_if : (core : CoreTree) (b : Before) (s : Setting) (y : Variable) (by : Access) (o : Option Known) → known s.scope y ≡ o → may_reach core b s o by ≡ true → ReachFacts core b s y by
 reach_if core b s y by None e h = absurd cc
 reach_if core b s y by (Some k) e h =
-    let p = and_true (not k.reached) (by_access core b s k.behind by) h in
-    record { unreached = k; found = e; not_yet = not_true k.reached p.0; access = p.1 }
+    let p = and_parts (not k.reached) (by_access core b s k.behind by) h in
+    record { unreached = k; found = e; not_yet = not-true k.reached p.0; access = p.1 }
 
 reach_facts : (core : CoreTree) (b : Before) (s : Setting) (y : Variable) (by : Access) → least (rules core b s (ReachLine y by)) ≡ None → ReachFacts core b s y by
 reach_facts core b s y by e =
     let h = least2 4 8 (is_among s.others y) (not (may_reach core b s (known s.scope y) by)) e in
-    reach_if core b s y by (known s.scope y) refl (not_false (may_reach core b s (known s.scope y) by) h.1)
+    reach_if core b s y by (known s.scope y) refl (not-false (may_reach core b s (known s.scope y) by) h.1)
 
 behind_of : (b : Before) (sc : Scope) (y : ℕ) (r : Bool) (o : Option Behind) → r ≡ false → IsKnown b sc y r o → (f : Behind) × (o ≡ Some f) × Behinds b sc y f
 behind_of b sc y true o e k = absurd cc
@@ -76,16 +73,6 @@ behind_of b sc y false (Some f) e k = (f, refl, k)
 one_of : (core : CoreTree) (k : ConId) (ks : List ConId) → is_one_of ks k ≡ true → is_number_among (numbers_of ks) k.0 ≡ true
 one_of core k [] e = absurd cc
 one_of core k (j ∷ ks) e = one_by (j.0 == k.0) (is_one_of ks k) (is_number_among (numbers_of ks) k.0) (one_of core k ks) e
-
-known_by : (ks : List Known) (y : Variable) (k j : Known) → (known ks y ≡ Some k → k.variable.0 ≡ y.0) → Test (j.variable.0 == y.0) → known (j ∷ ks) y ≡ Some k → k.variable.0 ≡ y.0
-known_by ks y k j was (fails ne) e = was (ap (λ t. if t then Some j else known ks y) (sym ne) ∙ e)
-known_by ks y k j was (holds eq) e =
-    let same : j ≡ k = same_Some j k (ap (λ t. if t then Some j else known ks y) (sym eq) ∙ e) in
-    ap (λ (i : Known). i.variable.0) (sym same) ∙ eqb-true j.variable.0 y.0 eq
-
-known_name : (ks : List Known) (y : Variable) (k : Known) → known ks y ≡ Some k → k.variable.0 ≡ y.0
-known_name [] y k e = absurd cc
-known_name (j ∷ ks) y k e = known_by ks y k j (known_name ks y k) (test (j.variable.0 == y.0)) e
 
 reached_by : (c : Before) (tc : Scope) (y : ℕ) (r : Bool) (o : Option Behind) → r ≡ true → (ty : Ty) × Tracked c tc y ty → IsKnown c tc y r o
 reached_by c tc y true o e own = own
@@ -154,10 +141,6 @@ here_facts core b s sc x ty d (Open h k standing) e r t i =
 
 -- Terms.
 
-first_true : (p q : Bool) → p ≡ true → p || q ≡ true
-first_true true q e = refl
-first_true false q e = absurd cc
-
 -- What comes after a binding: the rest of its line; after a left side, the right one comes before that.
 pub data After : Type 0 where
   AfterBind : Needs → Term → After
@@ -176,7 +159,7 @@ one_left : (core : CoreTree) (n : ℕ) (b : Before) (s : Setting) (side : Side) 
 one_left core n b s (On kind x ty t) sc c tc d dn = (vars_scope n c s.scope tc (reached x) (ty, dn.own) dn.vars, dn.dest)
 
 right_among : (s : Setting) (l : Side) → is_among (right_of s l).others (variable_of l) ≡ true
-right_among s (On kind x ty t) = first_true (x.0 == x.0) (is_among s.others x) (itself x.0)
+right_among s (On kind x ty t) = or_left (x.0 == x.0) (is_among s.others x) (itself x.0)
 
 right_start : (core : CoreTree) (n : ℕ) (b : Before) (s : Setting) (l r : Side) (sc : Scope) (c : Before) (tc : Scope) (d : Dest) → SideLeft core n b (left_of s r) l sc c tc d
     → Vars n c (right_of s l).scope tc × IsDest core.table c tc (right_of s l).destination (right_of s l).due d
@@ -190,7 +173,7 @@ both_left core n b s marked (On kl x ty t) (On kr y uy u) sc m tc d z uc e dl dr
 
 unbound_apart : (bs : List BoundVariable) (x : Variable) (z : ℕ) → is_bound bs x ≡ true → is_bound bs (named z) ≡ false → Test (z == x.0) → z == x.0 ≡ false
 unbound_apart bs x z bx bz (fails ne) = ne
-unbound_apart bs x z bx bz (holds eq) = absurd (clash (is_bound bs x) bx (ap (λ m. is_bound bs (named m)) (sym (eqb-true z x.0 eq)) ∙ bz))
+unbound_apart bs x z bx bz (holds eq) = absurd (both_ways (is_bound bs x) (ap (λ m. is_bound bs (named m)) (sym (eqb-true z x.0 eq)) ∙ bz) bx)
 
 -- What is in scope and reached is known as reached.
 reached_known : (c : Before) (tc : Scope) (y : ℕ) (k : Known) (ks : List Known) (x : Variable) → is_reached (known ks x) ≡ true → known ks x ≡ Some k → (ty : Ty) × Tracked c tc y ty → IsKnown c tc y k.reached k.behind
@@ -208,7 +191,7 @@ reach_vars n b s sc y k t tc e v = subst (λ w. Vars n b (reached_too w s.scope)
 -- A scalar's right side.
 
 scalar_due : (core : CoreTree) (b : Before) (s : Setting) (x : Variable) (ty : Ty) (t : Term) → LinesAreBuilt core b (met_side core.table s (On Scalar x ty t)) → is_scalar ty ≡ true
-scalar_due core b s x ty t h = not_false (is_scalar ty) (least2 8 9 (is_bound b.bound x) (not (is_scalar ty)) h.0).1
+scalar_due core b s x ty t h = not-false (is_scalar ty) (least2 8 9 (is_bound b.bound x) (not (is_scalar ty)) h.0).1
 
 scalar_vars : (core : CoreTree) (n : ℕ) (b : Before) (s : Setting) (sc : Scope) (x : Variable) (ty : Ty) (t : Term) → LinesAreBuilt core b (met_side core.table s (On Scalar x ty t)) → Vars n b s.scope sc → Vars n (next core.table b (SideLine Scalar x ty)) s.scope sc
 scalar_vars core n b s sc x ty t h v = vars_on n b (next core.table b (SideLine Scalar x ty)) s.scope sc (line_later core b s (SideLine Scalar x ty) h.0) v
@@ -219,7 +202,7 @@ scalar_side : (core : CoreTree) (n : ℕ) (w : Within) (x : Variable) (ty : Ty) 
     → by_call t (Fits core (Inner (side_tells w core t)) t sc (f.Nowhere ty) (new_line w)) (λ g xs. CallFits core sc g xs ty) → SideFits core w (On Scalar x ty t) sc d ln (goes core go)
 scalar_side core n w x ty t b s sc d ln go below v e h on inside =
     let r = least2 8 9 (is_bound b.bound x) (not (is_scalar ty)) h.0 in
-    let scalar = not_false (is_scalar ty) r.1 in
+    let scalar = not-false (is_scalar ty) r.1 in
     let line = SideLine Scalar x ty in
     let m = next core.table b line in
     let inner = in_side core.table s Scalar ty in
@@ -246,7 +229,7 @@ due_there core (Open h k standing) r = (let n = next_of (fields_at core.table k.
 alone_scalar : (core : CoreTree) (n : ℕ) (w : Within) (x : Variable) (ty : Ty) (t : Term) (b : Before) (s : Setting) (sc : Scope) → AllBelow n (side_binders (On Scalar x ty t))
     → Vars n b s.scope sc → LinesAreBuilt core b (met_side core.table s (On Scalar x ty t)) → by_call t (Fits core (Inner (side_tells w core t)) t sc (f.Nowhere ty) (new_line w)) (λ g xs. CallFits core sc g xs ty) → AloneFits core w (On Scalar x ty t) sc
 alone_scalar core n w x ty t b s sc below v h inside =
-    let r = least2 8 9 (is_bound b.bound x) (not (is_scalar ty)) h.0 in (not_false (is_scalar ty) r.1, v.new x.0 r.0 below.0, inside)
+    let r = least2 8 9 (is_bound b.bound x) (not (is_scalar ty)) h.0 in (not-false (is_scalar ty) r.1, v.new x.0 r.0 below.0, inside)
 
 mutual
   pub term_fits : (core : CoreTree) (n : ℕ) → IsTable core.table → (ns : Needs) (t : Term) (b : Before) (s : Setting) (sc : Scope) (d : Dest) (ln : Line) → Owes core ns t ln → Tells core s ln → IsPart s t → AllBelow n (binders t) → LiteralsFit t
@@ -258,13 +241,13 @@ mutual
       (λ tc d' v' e'. term_fits core n is ns rest (next_all core.table b (met_bind core.table s k)) (behind s k) tc d' (bind_line core k ln) (owes_behind core ns k rest ln owes) (tells_behind core s k ln tells) (is_part (behind s k) rest (behind_part s k)) low.1 lits.1 v' e' parts.1)
   term_fits core n is ns (Write q k ss ps) b s sc d ln owes tells part below lits v e h =
       let r = least4 4 5 8 9 (any_other s (ss ++ ps)) (not (may_write core.table b s.destination q k ps)) (not (all_usable s (ss ++ ps))) (not (are_scalars core.table b s.destination ss)) h.0 in
-      write_fits core n b s sc d s.destination q k ss ps ns ln (owes_leaf core ns (Write q k ss ps) ln refl (λ z. refl) owes) (not_false (may_write core.table b s.destination q k ps) r.1) (not_false (are_scalars core.table b s.destination ss) r.3)
-      (usable_first s ss ps (not_false (all_usable s (ss ++ ps)) r.2)) lits v e
+      write_fits core n b s sc d s.destination q k ss ps ns ln (owes_leaf core ns (Write q k ss ps) ln refl (λ z. refl) owes) (not-false (may_write core.table b s.destination q k ps) r.1) (not-false (are_scalars core.table b s.destination ss) r.3)
+      (usable_first s ss ps (not-false (all_usable s (ss ++ ps)) r.2)) lits v e
   term_fits core n is ns (Point x) b s sc d ln owes tells part below lits v e h =
       let r = least4 4 6 8 9 (is_other s x) (not (is_empty s.destination)) (not (is_usable s x)) (not (has_type b x s.due)) h.0 in
-      let place = empty_place core.table b sc s.destination s.due d (not_false (is_empty s.destination) r.1) e in
-      let typed : type_of b x ≡ Some (Tree place.0) = is_type_is (type_of b x) s.due (not_false (has_type b x s.due) r.3) ∙ ap Some place.1 in
-      (place.0.0, place.2, tree_fits n b s sc x place.0 (not_false (is_usable s x) r.2) typed v, owes_leaf core ns (Point x) ln refl (λ z. refl) owes)
+      let place = empty_place core.table b sc s.destination s.due d (not-false (is_empty s.destination) r.1) e in
+      let typed : type_of b x ≡ Some (Tree place.0) = is_type_is (type_of b x) s.due (not-false (has_type b x s.due) r.3) ∙ ap Some place.1 in
+      (place.0.0, place.2, tree_fits n b s sc x place.0 (not-false (is_usable s x) r.2) typed v, owes_leaf core ns (Point x) ln refl (λ z. refl) owes)
   term_fits core n is ns (CallTerm g xs) b s sc d ln owes tells part below lits v e h =
       let c = call_facts core b s g xs h.0 in
       let place = empty_place core.table b sc s.destination s.due d (packed_place core b s xs (function_at core.functions g.0) part c.place c.fits) e in
@@ -272,9 +255,9 @@ mutual
       (place.0.0, place.2, subst (λ ty. CallFits core sc g xs ty) place.1 fit, owes_call core ns g xs ln owes)
   term_fits core n is ns (Give x) b s sc d ln owes tells part below lits v e h =
       let r = least3 4 8 9 (is_other s x) (not (is_usable s x)) (not (is_nowhere s.destination && has_type b x s.due)) h.0 in
-      let both = and_true (is_nowhere s.destination) (has_type b x s.due) (not_false (is_nowhere s.destination && has_type b x s.due) r.2) in
+      let both = and_parts (is_nowhere s.destination) (has_type b x s.due) (not-false (is_nowhere s.destination && has_type b x s.due) r.2) in
       let place = no_place core.table b sc s.destination s.due d both.0 e in
-      (s.due, place.1, place.0, atom_fits n b s sc x s.due (not_false (is_usable s x) r.1) both.1 lits v, owes_leaf core ns (Give x) ln refl (λ z. refl) owes)
+      (s.due, place.1, place.0, atom_fits n b s sc x s.due (not-false (is_usable s x) r.1) both.1 lits v, owes_leaf core ns (Give x) ln refl (λ z. refl) owes)
   term_fits core n is ns (CaseTerm (a.Variable x) bs) b s sc d ln owes tells part below lits v e h =
       let facts = case_facts core b s (a.Variable x) (arms_of bs) h.0 in
       let cover = covers core.table (type_bound b.bound x) bs is facts.covers in
@@ -284,7 +267,7 @@ mutual
       let fresh = fresh_arms (arm_variables (arms_of bs)) b.bound facts.new in
       let types = (bound_arms core.table (arms_of bs) b.bound fresh).1 in
       let own' = keep_later b c sc later x.0 (Tree cover.ty) own in
-      let among : is_among c.cased x ≡ true = first_true (x.0 == x.0) (is_among b.cased x) (itself x.0) in
+      let among : is_among c.cased x ≡ true = or_left (x.0 == x.0) (is_among b.cased x) (itself x.0) in
       let tc = put sc x.0 (AtHead cover.ty.0) in
       let keep : Keeps c sc c tc = λ y ty k. tracked_cased c sc x.0 cover.ty y ty own' among k in
       let v' = vars_at n c s.scope sc x.0 (AtHead cover.ty.0) (known_bound c sc x.0 true None (Tree cover.ty, own'))
@@ -298,13 +281,13 @@ mutual
   term_fits core n is ns (CaseTerm (a.Truth z) bs) b s sc d ln owes tells part below lits v e h = (let c = (case_facts core b s (a.Truth z) (arms_of bs) h.0).covers in absurd cc)
   term_fits core n is ns (IfTerm x t u) b s sc d ln owes tells part below lits v e h =
       let r = least3 4 8 9 (is_other s x) (not (is_usable s x)) (not (has_type b x Truth)) h.0 in
-      let typed = not_false (has_type b x Truth) r.2 in
+      let typed = not-false (has_type b x Truth) r.2 in
       let lines = met core.table (in_branch s) t in
       let parts = built_apart core b lines (met core.table (in_branch s) u) h.1 in
       let low = below_apart n (binders t) (binders u) below in
       let c = next_all core.table b lines in
       let later = lines_later core b lines parts.0 in (
-        truth_fits n b s sc x (not_false (is_usable s x) r.1) typed v,
+        truth_fits n b s sc x (not-false (is_usable s x) r.1) typed v,
         term_fits core n is ns t b (in_branch s) sc d ln (owes_if core ns x t u ln owes).0 (tells_inner core s (in_branch s) ln ln refl refl refl tells) (is_part (in_branch s) t refl) low.0 lits.0 v e parts.0,
         term_fits core n is ns u c (in_branch s) sc d ln (owes_if core ns x t u ln owes).1 (tells_inner core s (in_branch s) ln ln refl refl refl tells) (is_part (in_branch s) u refl) low.1 lits.1 (vars_on n b c s.scope sc later v) (dest_kept core.table b c sc sc s.destination s.due d (keep_later b c sc later) e) parts.1,
       )
@@ -315,14 +298,14 @@ mutual
       → BindFits core k sc d ln (goes core go)
   bind_fits core n is (Past q k) b s sc d ln tells go below lits v e h on =
       let r = least2 1 8 (not (is_empty s.destination && is_of_type core.table k s.due)) (is_bound b.bound q) h.0 in
-      let both = and_true (is_empty s.destination) (is_of_type core.table k s.due) (not_false (is_empty s.destination && is_of_type core.table k s.due) r.0) in
+      let both = and_parts (is_empty s.destination) (is_of_type core.table k s.due) (not-false (is_empty s.destination && is_of_type core.table k s.due) r.0) in
       let place = empty_place core.table b sc s.destination s.due d both.0 e in
       let con : con_at core.table place.0.0 k.0 ≡ Some k.0 = con_there core.table place.0.0 k.0 (subst (λ ty. is_of_type core.table k ty ≡ true) place.1 both.1) in
       let absent = v.new q.0 r.1 below.0 in
       let line = PastLine q k in
       let c = next core.table b line in
       let later = line_later core b s line h.0 in
-      let bound : is_bound c.bound q ≡ true = first_true (q.0 == q.0) (is_bound b.bound q) (itself q.0) in (
+      let bound : is_bound c.bound q ≡ true = or_left (q.0 == q.0) (is_bound b.bound q) (itself q.0) in (
         place.0.0,
         place.2,
         con,
@@ -342,7 +325,7 @@ mutual
       let low = below_apart n (side_binders l) (side_binders r) below in
       let m = next_all core.table c lines in
       let z = next_all core.table m (met_side core.table rs r) in
-      let all : z ≡ next_all core.table c (lines ++ met_side core.table rs r) = sym (next_apart core.table c lines (met_side core.table rs r)) in (
+      let all : z ≡ next_all core.table c (lines ++ met_side core.table rs r) = sym (next_append core.table c lines (met_side core.table rs r)) in (
         side_unused core r m rs (variable_of l) (right_among s l) parts.1,
         side_fits core n is (within_par ln.within) l c ls sc d ln (left_may s r (within_par ln.within)) (AfterLeft (λ ln'. within_par ln.within) r go) low.0 lits.0 v e parts.0
             (λ tc d' dl. let start = right_start core n c s l r sc m tc d' dl in side_fits core n is (within_par ln.within) r m rs tc d' (side_line (within_par ln.within) core l ln) (right_may s l (within_par ln.within)) go low.1 lits.1 start.0 start.1 parts.1
@@ -360,7 +343,7 @@ mutual
       let low = below_apart n (side_binders l) (side_binders r) below in
       let m = next_all core.table c lines in
       let z = next_all core.table m (met_side core.table rs r) in
-      let all : z ≡ next_all core.table c (lines ++ met_side core.table rs r) = sym (next_apart core.table c lines (met_side core.table rs r)) in (
+      let all : z ≡ next_all core.table c (lines ++ met_side core.table rs r) = sym (next_append core.table c lines (met_side core.table rs r)) in (
         side_unused core r m rs (variable_of l) (right_among s l) parts.1,
         alone_fits core n is (within_par ln.within) r m s l sc low.1 lits.1 (vars_on n b m s.scope sc (later_on b c m (line_later core b s ParLine h.0) (lines_later core c lines parts.0)) v) parts.1,
         side_fits core n is (within_par ln.within) l c ls sc d ln (left_may s r (within_par ln.within)) (AfterLeft (λ ln'. within_par ln'.within) r go) low.0 lits.0 v e parts.0
@@ -372,13 +355,13 @@ mutual
       )
   bind_fits core n is (Prim x g y z) b s sc d ln tells go below lits v e h on =
       let facts = prim_facts core b s x g y z h.0 in
-      let us = and_true (is_usable s y) (is_usable s z && true) facts.usable in
-      let uz = and_true (is_usable s z) true us.1 in
-      let tys = and_true (has_type b y Whole) (has_type b z Whole && true) facts.typed in
-      let tz = and_true (has_type b z Whole) true tys.1 in
+      let us = and_parts (is_usable s y) (is_usable s z && true) facts.usable in
+      let uz = and_parts (is_usable s z) true us.1 in
+      let tys = and_parts (has_type b y Whole) (has_type b z Whole && true) facts.typed in
+      let tz = and_parts (has_type b z Whole) true tys.1 in
       let c = next core.table b (PrimLine x g y z) in
       let later = line_later core b s (PrimLine x g y z) h.0 in
-      let bound : is_bound c.bound x ≡ true = first_true (x.0 == x.0) (is_bound b.bound x) (itself x.0) in
+      let bound : is_bound c.bound x ≡ true = or_left (x.0 == x.0) (is_bound b.bound x) (itself x.0) in
       let m = bind_sort n b c s.scope sc (λ q. false) x (f.Scalar (operator_type g)) later (λ q w. absurd cc) facts.new below.0 bound v in
       let own = scalar_own c sc x (operator_type g) (operator_scalar g) (its_type b.bound x (operator_type g)) in
       let tc = put sc x.0 (f.Scalar (operator_type g)) in (
@@ -410,12 +393,12 @@ mutual
       let back = behind_of b sc y.0 k.reached k.behind facts.not_yet (v.knows y.0 k facts.found) in
       let fd = back.2 in
       let by = subst (λ w. by_access core b s w (Skip z) ≡ true) back.1 facts.access in
-      let p = and_true (back.0.before.0 == z.0) (is_reached (known s.scope z) && not (is_among b.cased z)) by in
-      let q = and_true (is_reached (known s.scope z)) (not (is_among b.cased z)) p.1 in
+      let p = and_parts (back.0.before.0 == z.0) (is_reached (known s.scope z) && not (is_among b.cased z)) by in
+      let q = and_parts (is_reached (known s.scope z)) (not (is_among b.cased z)) p.1 in
       let same = same_variable back.0.before z p.0 in
       let ztyped : type_bound b.bound z ≡ Some (Tree fd.before) = subst (λ w. type_bound b.bound w ≡ Some (Tree fd.before)) same fd.before_typed in
       let ztracked = tracked_as n b s.scope sc z (Tree fd.before) q.0 ztyped v in
-      let placed = ztracked.usable.1 (not_true (is_among b.cased z) q.1) in
+      let placed = ztracked.usable.1 (not-true (is_among b.cased z) q.1) in
       let sort = subst (λ (w : Variable). sc y.0 ≡ Field fd.ty.0 w.0 fd.tree back.0.constructor.0 fd.place) same fd.sort in
       let tc = put sc y.0 (Placed fd.ty.0) in (
         fd.ty.0,
@@ -434,9 +417,9 @@ mutual
       let back = behind_of b sc y.0 k.reached k.behind facts.not_yet (v.knows y.0 k facts.found) in
       let fd = back.2 in
       let by = subst (λ w. by_access core b s w (End z) ≡ true) back.1 facts.access in
-      let p = and_true (back.0.before.0 == z.0) (is_reached (known s.scope z) && (is_outside s.others && one_tells (ended core) s.calls z)) by in
-      let q = and_true (is_reached (known s.scope z)) (is_outside s.others && one_tells (ended core) s.calls z) p.1 in
-      let w = and_true (is_outside s.others) (one_tells (ended core) s.calls z) q.1 in
+      let p = and_parts (back.0.before.0 == z.0) (is_reached (known s.scope z) && (is_outside s.others && one_tells (ended core) s.calls z)) by in
+      let q = and_parts (is_reached (known s.scope z)) (is_outside s.others && one_tells (ended core) s.calls z) p.1 in
+      let w = and_parts (is_outside s.others) (one_tells (ended core) s.calls z) q.1 in
       let same = same_variable back.0.before z p.0 in
       let ztyped : type_bound b.bound z ≡ Some (Tree fd.before) = subst (λ w. type_bound b.bound w ≡ Some (Tree fd.before)) same fd.before_typed in
       let ztracked = tracked_as n b s.scope sc z (Tree fd.before) q.0 ztyped v in
@@ -460,7 +443,7 @@ mutual
       → SideFits core w side sc d ln (goes core go)
   side_fits core n is w (On Here x ty t) b s sc d ln may go below lits v e h on =
       let r = least3 2 8 9 (not (has_room core.table s.destination)) (is_bound b.bound x) (not (same_type ty (field_due core.table s.destination))) h.0 in
-      let facts = here_facts core b s sc x ty d s.destination refl (not_false (has_room core.table s.destination) r.0) (not_false (same_type ty (field_due core.table s.destination)) r.2) e in
+      let facts = here_facts core b s sc x ty d s.destination refl (not-false (has_room core.table s.destination) r.0) (not-false (same_type ty (field_due core.table s.destination)) r.2) e in
       let line = SideLine Here x ty in
       let m = next core.table b line in
       let inner = in_side core.table s Here ty in
@@ -469,7 +452,7 @@ mutual
       let l1 = line_later core b s line h.0 in
       let l2 = lines_later core m lines h.1 in
       let absent = v.new x.0 r.1 below.0 in
-      let bound : is_bound m.bound x ≡ true = first_true (x.0 == x.0) (is_bound b.bound x) (itself x.0) in
+      let bound : is_bound m.bound x ≡ true = or_left (x.0 == x.0) (is_bound b.bound x) (itself x.0) in
       let typed : type_bound c.bound x ≡ Some (Tree facts.tree) = l2.bound.types x (Tree facts.tree) (its_type b.bound x ty ∙ ap Some facts.typed) in
       let z = bind_sort n b c s.scope sc (cased t) x (Placed facts.tree.0) (later_on b m c l1 l2) (λ q m'. cased_before core.table t m inner (named q) m') r.1 below.0 (typed_bound c.bound x (Tree facts.tree) typed) v in
       let tc = put (loosen (cased t) sc) x.0 (Placed facts.tree.0) in
@@ -492,7 +475,7 @@ mutual
       let l1 = line_later core b s line h.0 in
       let l2 = lines_later core m lines h.1 in
       let absent = v.new x.0 r.1 below.0 in
-      let bound : is_bound m.bound x ≡ true = first_true (x.0 == x.0) (is_bound b.bound x) (itself x.0) in
+      let bound : is_bound m.bound x ≡ true = or_left (x.0 == x.0) (is_bound b.bound x) (itself x.0) in
       let typed : type_bound c.bound x ≡ Some (Tree packed.0) = l2.bound.types x (Tree packed.0) (its_type b.bound x ty ∙ ap Some packed.1) in
       let z = bind_sort n b c s.scope sc (cased t) x (Placed packed.0.0) (later_on b m c l1 l2) (λ q m'. cased_before core.table t m inner (named q) m') r.1 below.0 (typed_bound c.bound x (Tree packed.0) typed) v in
       let tc = put (loosen (cased t) sc) x.0 (Placed packed.0.0) in
@@ -529,11 +512,11 @@ mutual
       let d = stands_too kl xl s.destination in
       let rs = right_of s (On kl xl tl l) in
       let r = least3 2 8 9 (not (has_room core.table d)) (is_bound b.bound x) (not (same_type ty (field_due core.table d))) h.0 in
-      let typed = same_type_is ty (field_due core.table d) (not_false (same_type ty (field_due core.table d)) r.2) in
-      let due = due_there core d (not_false (has_room core.table d) r.0) in
+      let typed = same_type_is ty (field_due core.table d) (not-false (same_type ty (field_due core.table d)) r.2) in
+      let due = due_there core d (not-false (has_room core.table d) r.0) in
       let m = next core.table b (SideLine Here x ty) in
       let absent = v.new x.0 r.1 below.0 in
-      let bound : is_bound m.bound x ≡ true = first_true (x.0 == x.0) (is_bound b.bound x) (itself x.0) in
+      let bound : is_bound m.bound x ≡ true = or_left (x.0 == x.0) (is_bound b.bound x) (itself x.0) in
       let inner = in_side core.table rs Here ty in (
         due.0.0,
         typed ∙ due.1,
@@ -546,7 +529,7 @@ mutual
       let packed = packed_type ty r.0 in
       let m = next core.table b (SideLine Region x ty) in
       let absent = v.new x.0 r.1 below.0 in
-      let bound : is_bound m.bound x ≡ true = first_true (x.0 == x.0) (is_bound b.bound x) (itself x.0) in
+      let bound : is_bound m.bound x ≡ true = or_left (x.0 == x.0) (is_bound b.bound x) (itself x.0) in
       let inner = in_side core.table rs Region ty in (
         packed.0.0,
         packed.1,
@@ -593,8 +576,8 @@ mutual
       let c = next_all core.table b lines in
       let last = if_some (last_packed None (fields_at core.table k.0) ys) (λ z. is_known core.table (ended core) t z) in
       let here : (q : ℕ) → all_known core.table (ended core) whole (named q) ≡ true → (is_known core.table (ended core) t (named q) ≡ true) × (all_known core.table (ended core) bs (named q) ≡ true) =
-      λ q i. and_true (is_known core.table (ended core) t (named q)) (all_known core.table (ended core) bs (named q)) (all q i) in
-      let there : lasts_known core.table (ended core) whole ≡ true → (last ≡ true) × (lasts_known core.table (ended core) bs ≡ true) = λ i. and_true last (lasts_known core.table (ended core) bs) (lasts i) in
+      λ q i. and_parts (is_known core.table (ended core) t (named q)) (all_known core.table (ended core) bs (named q)) (all q i) in
+      let there : lasts_known core.table (ended core) whole ≡ true → (last ≡ true) × (lasts_known core.table (ended core) bs ≡ true) = λ i. and_parts last (lasts_known core.table (ended core) bs) (lasts i) in
       let later = lines_later core b lines parts.0 in (
         new.0,
         term_fits core n is ns t b inner tc d (arm_line core x.0 k ys t ln) (owes_arm core ns x whole k ys t ln (λ q i. (here q i).0) (λ i. (there i).0) owes) (tells_inner core s inner ln (arm_line core x.0 k ys t ln) refl refl refl tells)

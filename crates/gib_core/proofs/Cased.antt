@@ -23,6 +23,9 @@ abbrev pub has : List Known → Variable → Bool
 has [] y = false
 has (k ∷ ks) y = k.variable.0 == y.0 || has ks y
 
+pub has_less : (x : Variable) (ks : List Known) (y : Variable) → (x.0 == y.0) ≡ false → (x.0 == y.0 || has ks y) ≡ true → has ks y ≡ true
+has_less x ks y e m = sym (ap (λ c. c || has ks y) e) ∙ m
+
 -- Where each field counts as reached, what is in scope is reached.
 pub reached_where_has : (ks : List Known) (y : Variable) → is_reached (known (map as_reached ks) y) ≡ has ks y
 reached_where_has [] y = refl

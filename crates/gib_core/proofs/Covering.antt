@@ -1,7 +1,7 @@
 -- The arms of a case are there for each constructor.
-use Rattle.std.proofs.Common.{◌≡◌, ℕ, zero, suc, ◌+◌, ◌<◌, ◌≤◌, ◌==◌, Bool, true, false, ◌||◌, ◌&&◌, if◌then◌else◌, List, [], ◌∷◌, ◌++◌, map, length, Option, Some, None, refl, sym, ap, ◌∙◌, subst, arith}
+use Rattle.std.proofs.Common.{◌≡◌, ℕ, zero, suc, ◌+◌, ◌<◌, ◌≤◌, ◌==◌, true, false, ◌&&◌, if◌then◌else◌, List, [], ◌∷◌, ◌++◌, map, length, Option, Some, None, refl, sym, ap, ◌∙◌, subst, arith}
 use Rattle.std.specs.Prelude.{slice_get, nat_lt}
-use Rattle.std.proofs.lemmas.Bool.{eqb-true, eqb-false, eq-eqb, ltb-true, ltb-false}
+use Rattle.std.proofs.lemmas.Bool.{eqb-true, eqb-false, eq-eqb, ltb-true, ltb-false, or_left, or_right, and_parts}
 use Rattle.std.proofs.lemmas.Option.{same_Some}
 use Rattle.gib_types.specs.declared.table.Ty.{Ty}
 use Rattle.gib_types.specs.declared.table.Ty.TheVariants.{Whole, Truth, Tree}
@@ -16,7 +16,7 @@ use Rattle.gib_core.specs.Met.{arms_of}
 use Rattle.gib_core.specs.Numbering.{branch_binders, binders}
 use Rattle.gib_core.specs.Rules.{are_arms, cover}
 use Rattle.gib_core.specs.Fits.{has_branch}
-use Rattle.gib_core.proofs.Facts.{and_true, or_true, Test, holds, fails, test}
+use Rattle.gib_core.proofs.Facts.{Test, holds, fails, test}
 use Rattle.gib_core.proofs.Entering.{AreLong, AllBelow, below_apart, arm_numbers}
 
 -- One of the numbers.
@@ -113,29 +113,25 @@ con_among table ty k is e =
 in_none : (k : ℕ) → In k [] → ⊥
 in_none k i = elim i [ ]
 
-or_left : (p q : Bool) → p ≡ true → p || q ≡ true
-or_left true q e = refl
-or_left false q e = absurd cc
-
 has_by : (table : Table) (ks : List ℕ) (bs : Branches) (k : ℕ) → are_arms table ks (arms_of bs) ≡ true → In k ks → has_branch bs k ≡ true
 has_by table [] bs k e i = absurd (in_none k i)
 has_by table (j ∷ ks) NoBranch k e i = absurd cc
 has_by table (j ∷ ks) (BranchThen c ys u bs) k e first =
-    let h = and_true (k == c.0 && length (fields_at table k) == length ys) (are_arms table ks (arms_of bs)) e in
-    let g = and_true (k == c.0) (length (fields_at table k) == length ys) h.0 in
+    let h = and_parts (k == c.0 && length (fields_at table k) == length ys) (are_arms table ks (arms_of bs)) e in
+    let g = and_parts (k == c.0) (length (fields_at table k) == length ys) h.0 in
     let same : c.0 ≡ k = sym (eqb-true k c.0 g.0) in
     or_left (c.0 == k) (has_branch bs k) (eq-eqb c.0 k same)
 has_by table (j ∷ ks) (BranchThen c ys u bs) k e (later i) =
-    let h = and_true (j == c.0 && length (fields_at table j) == length ys) (are_arms table ks (arms_of bs)) e in
-    or_true (c.0 == k) (has_branch bs k) (has_by table ks bs k h.1 i)
+    let h = and_parts (j == c.0 && length (fields_at table j) == length ys) (are_arms table ks (arms_of bs)) e in
+    or_right (c.0 == k) (has_branch bs k) (has_by table ks bs k h.1 i)
 
 long_by : (table : Table) (ks : List ℕ) (arms : List (ConId × List Variable)) → are_arms table ks arms ≡ true → AreLong table arms
 long_by table [] [] e = tt
 long_by table [] (arm ∷ arms) e = absurd cc
 long_by table (k ∷ ks) [] e = absurd cc
 long_by table (k ∷ ks) (arm ∷ arms) e =
-    let h = and_true (k == arm.0.0 && length (fields_at table k) == length arm.1) (are_arms table ks arms) e in
-    let g = and_true (k == arm.0.0) (length (fields_at table k) == length arm.1) h.0 in
+    let h = and_parts (k == arm.0.0 && length (fields_at table k) == length arm.1) (are_arms table ks arms) e in
+    let g = and_parts (k == arm.0.0) (length (fields_at table k) == length arm.1) h.0 in
     (ap (λ n. length (fields_at table n)) (sym (eqb-true k arm.0.0 g.0)) ∙ eqb-true (length (fields_at table k)) (length arm.1) g.1, long_by table ks arms h.1)
 
 -- What a case has: a packed type, an arm for each constructor, and a variable for each field.

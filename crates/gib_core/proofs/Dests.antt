@@ -1,6 +1,6 @@
 -- Destinations, and atoms that fit.
-use Rattle.std.proofs.Common.{◌≡◌, ℕ, zero, suc, ◌<◌, ◌==◌, Bool, true, false, ◌&&◌, if◌then◌else◌, List, [], ◌∷◌, ◌++◌, map, drop, length, get_or, Option, Some, None, refl, sym, ap, ◌∙◌, subst, arith, length-append}
-use Rattle.std.proofs.lemmas.Bool.{eqb-true}
+use Rattle.std.proofs.Common.{◌≡◌, ℕ, zero, suc, ◌<◌, ◌==◌, Bool, true, false, if◌then◌else◌, List, [], ◌∷◌, ◌++◌, map, drop, length, get_or, Option, Some, None, refl, sym, ap, ◌∙◌, subst, arith, length-append}
+use Rattle.std.proofs.lemmas.Bool.{eqb-true, and_from, and_parts, or_parts}
 use Rattle.std.proofs.lemmas.List.{map-append}
 use Rattle.std.proofs.lemmas.Option.{same_Some}
 use Rattle.std.specs.List.{AllByRecursion}
@@ -23,7 +23,7 @@ use Rattle.gib_core.specs.Rules.{Before, is_among, type_bound, type_of, has_type
 use Rattle.gib_core.specs.Fits as f
 use Rattle.gib_core.specs.Fits.{Sort, Placed, Scope, tree_type, Dest, packed_due, more, IsDue, AtomFits, AtomsFit, ArePlaced, FurtherPlaced, IsTree}
 use Rattle.gib_core.specs.Literals.{LiteralFits}
-use Rattle.gib_core.proofs.Facts.{and_true, or_false, is_type_is, same_variable}
+use Rattle.gib_core.proofs.Facts.{is_type_is, same_variable}
 use Rattle.gib_core.proofs.Vars.{Tracked, IsKnown, Vars}
 
 abbrev pub numbers : List Variable → List ℕ
@@ -146,17 +146,13 @@ atoms_fit n b s sc [] [] u t l v = tt
 atoms_fit n b s sc [] (ty ∷ ts) u t l v = absurd cc
 atoms_fit n b s sc (x ∷ xs) [] u t l v = absurd cc
 atoms_fit n b s sc (x ∷ xs) (ty ∷ ts) u t l v =
-    let us = and_true (is_usable s x) (all_usable s xs) u in
-    let tys = and_true (has_type b x ty) (have_types b xs ts) t in
+    let us = and_parts (is_usable s x) (all_usable s xs) u in
+    let tys = and_parts (has_type b x ty) (have_types b xs ts) t in
     (atom_fits n b s sc x ty us.0 tys.0 l.0 v, atoms_fit n b s sc xs ts us.1 tys.1 l.1 v)
-
-and_from : (p q : Bool) → p ≡ true → q ≡ true → p && q ≡ true
-and_from true q e f = f
-and_from false q e f = absurd cc
 
 pub usable_first : (s : Setting) (xs ys : List Atom) → all_usable s (xs ++ ys) ≡ true → all_usable s xs ≡ true
 usable_first s [] ys e = refl
-usable_first s (x ∷ xs) ys e = let h = and_true (is_usable s x) (all_usable s (xs ++ ys)) e in and_from (is_usable s x) (all_usable s xs) h.0 (usable_first s xs ys h.1)
+usable_first s (x ∷ xs) ys e = let h = and_parts (is_usable s x) (all_usable s (xs ++ ys)) e in and_from (is_usable s x) (all_usable s xs) h.0 (usable_first s xs ys h.1)
 
 is_tree_type : Ty → Bool
 is_tree_type Whole = false
@@ -183,7 +179,7 @@ written_names [] [] e = refl
 written_names [] (y ∷ ps) e = absurd cc
 written_names (x ∷ xs) [] e = absurd cc
 written_names (x ∷ xs) (a.Variable y ∷ ps) e =
-    let h = and_true (x.0 == y.0) (are_variables xs ps) e in
+    let h = and_parts (x.0 == y.0) (are_variables xs ps) e in
     (λ i. a.Variable (sym (same_variable x y h.0) i) ∷ written_names xs ps h.1 i)
 written_names (x ∷ xs) (a.Whole z ∷ ps) e = absurd cc
 written_names (x ∷ xs) (a.Truth z ∷ ps) e = absurd cc
@@ -191,7 +187,7 @@ written_names (x ∷ xs) (a.Truth z ∷ ps) e = absurd cc
 placed_each : (b : Before) (sc : Scope) (xs : List Variable) → AllStand b sc xs → any_cased b.cased xs ≡ false → ArePlaced sc (numbers xs)
 placed_each b sc [] h e = tt
 placed_each b sc (x ∷ xs) h e =
-    let k = or_false (is_among b.cased x) (any_cased b.cased xs) e in
+    let k = or_parts (is_among b.cased x) (any_cased b.cased xs) e in
     ((h.0.0.0, h.0.1.usable.1 k.0), placed_each b sc xs h.1 k.1)
 
 pub placed_further : (b : Before) (sc : Scope) (xs : List Variable) → AllStand b sc xs → any_cased b.cased (further xs) ≡ false → FurtherPlaced sc (numbers xs)

@@ -1,6 +1,6 @@
 -- The fields of an arm come into scope.
-use Rattle.std.proofs.Common.{◌≡◌, ℕ, ◌<◌, ◌==◌, Bool, true, false, ◌||◌, List, [], ◌∷◌, ◌++◌, map, length, Option, Some, None, refl, sym, ap, ◌∙◌, arith}
-use Rattle.std.proofs.lemmas.Bool.{eqb-true}
+use Rattle.std.proofs.Common.{◌≡◌, ℕ, ◌<◌, ◌==◌, Bool, true, false, ◌||◌, List, [], ◌∷◌, ◌++◌, map, length, Option, Some, None, sym, ap, ◌∙◌, arith}
+use Rattle.std.proofs.lemmas.Bool.{eqb-true, or_parts}
 use Rattle.gib_types.specs.declared.table.Ty.{Ty}
 use Rattle.gib_types.specs.declared.table.Ty.TheVariants.{Whole, Truth, Tree}
 use Rattle.gib_types.specs.declared.table.TyId.{TyId}
@@ -11,7 +11,7 @@ use Rattle.gib_core.specs.declared.scope.Known.{Known}
 use Rattle.gib_core.specs.Met.{reached, packed_field, with_arm}
 use Rattle.gib_core.specs.Rules.{Before, type_bound, arm_variables}
 use Rattle.gib_core.specs.Fits.{Sort, Outside, Absent, Scalar, Held, Placed, Loose, AtHead, Field, Scope, put, tree_type, field_sort, next_place, arm_scope, AreNew}
-use Rattle.gib_core.proofs.Facts.{or_false, Test, holds, fails, test}
+use Rattle.gib_core.proofs.Facts.{Test, holds, fails, test}
 use Rattle.gib_core.proofs.Later.{AreFresh, grown, fresh_apart, HaveTypes}
 use Rattle.gib_core.proofs.Vars.{named, IsKnown, Vars, put_there, put_elsewhere, tracked_put, vars_put, turned}
 use Rattle.gib_core.proofs.Dests.{Keeps}
@@ -62,7 +62,7 @@ fresh_new n [] [] sc m h f below e = tt
 fresh_new n [] (y ∷ ys) sc m h f below e = absurd (omega (arith, e))
 fresh_new n (t ∷ ts) [] sc m h f below e = absurd (omega (arith, e))
 fresh_new n (t ∷ ts) (y ∷ ys) sc m h f below e =
-    (f y.0 h.0 below.0, fresh_new n ts ys (put sc y.0 Held) (λ z. y.0 == z.0 || m z) h.1 (λ z no lt. let k = or_false (y.0 == z) (m (named z)) no in put_elsewhere sc y.0 z Held (turned y.0 z false k.0) ∙ f z k.1 lt) below.1 (omega (arith, e)))
+    (f y.0 h.0 below.0, fresh_new n ts ys (put sc y.0 Held) (λ z. y.0 == z.0 || m z) h.1 (λ z no lt. let k = or_parts (y.0 == z) (m (named z)) no in put_elsewhere sc y.0 z Held (turned y.0 z false k.0) ∙ f z k.1 lt) below.1 (omega (arith, e)))
 
 or_less : (p m k : Bool) → (m ≡ false → k ≡ false) → p || m ≡ false → p || k ≡ false
 or_less true m k f e = absurd cc
@@ -74,7 +74,7 @@ fresh_less (x ∷ xs) m k f h = (f x h.0, fresh_less xs (λ y. x.0 == y.0 || m y
 
 grown_less : (xs : List Variable) (m : Variable → Bool) (y : Variable) → grown xs m y ≡ false → m y ≡ false
 grown_less [] m y e = e
-grown_less (x ∷ xs) m y e = (or_false (x.0 == y.0) (m y) (grown_less xs (λ z. x.0 == z.0 || m z) y e)).1
+grown_less (x ∷ xs) m y e = (or_parts (x.0 == y.0) (m y) (grown_less xs (λ z. x.0 == z.0 || m z) y e)).1
 
 abbrev pub ArmsAreNew : Table → Scope → List (ConId × List Variable) → Type 0
 ArmsAreNew table sc [] = Unit {0}
@@ -117,10 +117,6 @@ packed_known b sc x p k y t None e o =
     (Tree t, record { typed = e; usable = (ap tree_type there, λ no. there) })
 packed_known b sc x p k y t (Some z) e o =
     record { ty = t; before = o.0; tree = x; place = p; typed = e; before_typed = o.1; sort = put_there sc y.0 (Field t.0 z.0 x k.0 p) }
-
-packed_named : (k : ConId) (y : Variable) (z : Option Variable) → (packed_field k y z).variable.0 ≡ y.0
-packed_named k y None = refl
-packed_named k y (Some z) = refl
 
 packed_put : (n : ℕ) (b : Before) (ks : List Known) (sc : Scope) (x p : ℕ) (k : ConId) (y : Variable) (t : TyId) (z : Option Variable) → sc y.0 ≡ Absent → type_bound b.bound y ≡ Some (Tree t) → BeforeIsTree b z
     → Vars n b ks sc → Vars n b (packed_field k y z ∷ ks) (put sc y.0 (field_sort x k.0 p (number_before z) t.0))

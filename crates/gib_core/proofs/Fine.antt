@@ -2,7 +2,7 @@
 use Rattle.std.proofs.Common.{◌≡◌, ℕ, suc, ◌+◌, ◌<◌, ◌≤◌, ◌^◌, Bool, true, false, if◌then◌else◌, nat_lt, List, [], ◌∷◌, ◌++◌, map, length, slice_get, Option, Some, None, refl, sym, ap, subst, ◌∙◌, arith}
 use Rattle.std.proofs.lemmas.Bool.Decides.{nat_tests}
 use Rattle.std.proofs.lemmas.List.{length-append}
-use Rattle.std.proofs.lemmas.Option.{slice_get_within}
+use Rattle.std.proofs.lemmas.Option.{slice_get_within, same_Some}
 use Rattle.std.specs.List.{AllByRecursion}
 use Rattle.gib_base.specs.declared.name.Name.{Name}
 use Rattle.gib_types.specs.declared.table.Ty.{Ty}
@@ -42,14 +42,11 @@ fine_join {code} {a} {m} {z} f g = record { fine = λ q j x y e. go q j x y e (n
     go q j x y e true r = f.fine q j x (grind (arith, nat_tests)) e
     go q j x y e false r = g.fine q j (grind (arith, nat_tests)) y e
 
-same_some : {j l : Instruction} → ◌≡◌ {A = Option Instruction} (Some j) (Some l) → j ≡ l
-same_some e = cc
-
 fine_one : {code : CodeTree} {a : ℕ} {j : Instruction} → IsAt code a j → IsFine j → Fine code a (a + 1)
 fine_one {code} {a} {j} at f = record {
   fine = λ q l x y e.
       let r : q ≡ a = omega (arith, x, y) in
-      subst IsFine (same_some (sym at ∙ ap (λ (n : ℕ). slice_get code.instructions n) (sym r) ∙ e)) f;
+      subst IsFine (same_Some _ _ (sym at ∙ ap (λ (n : ℕ). slice_get code.instructions n) (sym r) ∙ e)) f;
 }
 
 abbrev AreFine : List Instruction → Type 0
@@ -144,7 +141,7 @@ few_due (Whole ∷ ts) = let h = few_due ts in omega (arith, h)
 few_due (Truth ∷ ts) = let h = few_due ts in omega (arith, h)
 few_due (Tree u ∷ ts) = let h = few_due ts in omega (arith, h)
 
-few_fields : (table : Table) → IsTable table → (k : ℕ) → length (fields_at table k) ≤ 8
+pub few_fields : (table : Table) → IsTable table → (k : ℕ) → length (fields_at table k) ≤ 8
 few_fields table t k = go (slice_get table.rows k) refl
   where
     go : (o : Option Row) → slice_get table.rows k ≡ o → length (fields_of o) ≤ 8
@@ -215,7 +212,7 @@ bind_goes core is (t.Reach y by.Offset) sc d ln P o f = (_, d, _, o, f.7)
 bind_goes core is (t.Reach y (by.Skip z)) sc d ln P o f = (_, d, _, o, f.7)
 bind_goes core is (t.Reach y (by.End z)) sc d ln P o f = (_, d, _, o, f.7)
 
-no_call : (A : Type 0) (B : Name → List Atom → Type 0) (u : Term) → IsNoCall u → by_call u A B → A
+pub no_call : (A : Type 0) (B : Name → List Atom → Type 0) (u : Term) → IsNoCall u → by_call u A B → A
 no_call A B (t.Then b u) n h = h
 no_call A B (t.Write x k ss ps) n h = h
 no_call A B (t.Point x) n h = h

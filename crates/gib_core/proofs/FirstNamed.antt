@@ -5,6 +5,7 @@ use Rattle.gib_core.specs.declared.program.CoreFunction.{CoreFunction}
 use Rattle.gib_core.specs.Tree.{Term, FunctionTerm}
 use Rattle.gib_core.specs.Meaning.{function_at}
 use Rattle.std.specs.List.{AllByRecursion}
+use Rattle.std.proofs.lemmas.Option.{same_Some}
 use Rattle.gib_core.specs.Parts.{IsFunctionInside, function_term}
 use Rattle.gib_core.specs.NamedFunctions.{entry_at, at_place, first_named}
 
@@ -48,12 +49,9 @@ pub none_named : (f : ℕ → Term) (ds : List CoreFunction) (name : ℕ) → fi
 none_named f [] name e = refl
 none_named f (d ∷ ds) name e = none_by f d (d.name.0 == name) (first_named ds name) (function_at (map (function_term f) ds) name) (none_named f ds name) e
 
-same_function : (d g : CoreFunction) → ◌≡◌ {A = Option CoreFunction} (Some d) (Some g) → d ≡ g
-same_function d g e = cc
-
 some_by : (f : ℕ → Term) (d g : CoreFunction) (b : Bool) (p : Option CoreFunction) (q : Option FunctionTerm) → (p ≡ Some g → q ≡ Some (function_term f g)) → cond b (Some d) p ≡ Some g
     → cond b (Some (function_term f d)) q ≡ Some (function_term f g)
-some_by f d g true p q h e = ap (λ (z : CoreFunction). Some (function_term f z)) (same_function d g e)
+some_by f d g true p q h e = ap (λ (z : CoreFunction). Some (function_term f z)) (same_Some d g e)
 some_by f d g false p q h e = h e
 
 pub some_named : (f : ℕ → Term) (ds : List CoreFunction) (name : ℕ) (g : CoreFunction) → first_named ds name ≡ Some g → function_at (map (function_term f) ds) name ≡ Some (function_term f g)
@@ -61,7 +59,7 @@ some_named f [] name g e = absurd cc
 some_named f (d ∷ ds) name g e = some_by f d g (d.name.0 == name) (first_named ds name) (function_at (map (function_term f) ds) name) (some_named f ds name g) e
 
 inside_by : (n : ℕ) (d g : CoreFunction) (b : Bool) (p : Option CoreFunction) → IsFunctionInside n d → (p ≡ Some g → IsFunctionInside n g) → cond b (Some d) p ≡ Some g → g.body.0 < n
-inside_by n d g true p i h e = subst (IsFunctionInside n) (same_function d g e) i
+inside_by n d g true p i h e = subst (IsFunctionInside n) (same_Some d g e) i
 inside_by n d g false p i h e = h e
 
 pub named_inside : (n : ℕ) (ds : List CoreFunction) (name : ℕ) (g : CoreFunction) → first_named ds name ≡ Some g → AllByRecursion (IsFunctionInside n) ds → g.body.0 < n

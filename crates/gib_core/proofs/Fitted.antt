@@ -1,6 +1,6 @@
 -- What meets the build rules fits.
 use Rattle.std.proofs.Common.{◌≡◌, ℕ, ◌<◌, ◌==◌, Bool, true, false, ◌||◌, ◌&&◌, not, List, [], length, Option, Some, None, refl, ap, ◌∙◌, subst}
-use Rattle.std.proofs.lemmas.Bool.{eqb-true}
+use Rattle.std.proofs.lemmas.Bool.{eqb-true, not-false, not-true, and_parts}
 use Rattle.std.specs.List.{AllByRecursion}
 use Rattle.gib_base.specs.declared.name.Name.{Name}
 use Rattle.gib_types.specs.declared.table.Ty.{Ty}
@@ -20,7 +20,7 @@ use Rattle.gib_core.specs.Rules.{Before, is_among, is_bound, type_bound, rules, 
 use Rattle.gib_core.specs.Fits as f
 use Rattle.gib_core.specs.Fits.{Sort, Absent, Held, Placed, AtHead, Field, Scope, put, tree_type, loosen, cased, side_cased, Dest, packed_due, more, IsDue, AtomsFit, FurtherPlaced, IsTree, CallFits, by_call, arm_scope, Line, Needs, Meets, Fits, BindFits, SideFits, BranchesFit}
 use Rattle.gib_core.specs.Literals.{LiteralFits}
-use Rattle.gib_core.proofs.Facts.{and_true, not_false, least4, same_type_is}
+use Rattle.gib_core.proofs.Facts.{least4, same_type_is}
 use Rattle.gib_core.proofs.Later.{Later}
 use Rattle.gib_core.proofs.Vars.{named, Tracked, Vars, vars_later, vars_hold, put_there, tracked_later, tracked_put}
 use Rattle.gib_core.proofs.Dests.{numbers, IsDest, Keeps, due_all, atoms_fit, written_names, placed_further}
@@ -97,8 +97,8 @@ pub call_known : (core : CoreTree) (n : ℕ) (b : Before) (s : Setting) (sc : Sc
 call_known core n b s sc g xs None e fit u l v = absurd cc
 call_known core n b s sc g xs (Some h) e fit u l v =
     let rest = same_type h.result s.due && (not (is_scalar h.result) || s.whole) in
-    let p = and_true (have_types b xs h.parameters) rest fit in
-    let q = and_true (same_type h.result s.due) (not (is_scalar h.result) || s.whole) p.1 in
+    let p = and_parts (have_types b xs h.parameters) rest fit in
+    let q = and_parts (same_type h.result s.due) (not (is_scalar h.result) || s.whole) p.1 in
     record { function = h; named = e; result = same_type_is h.result s.due q.0; arguments = atoms_fit n b s sc xs h.parameters u p.0 l v }
 
 -- The rules on a call.
@@ -111,7 +111,7 @@ pub call_facts : (core : CoreTree) (b : Before) (s : Setting) (g : Name) (xs : L
 call_facts core b s g xs e =
     let o = function_at core.functions g.0 in
     let h = least4 4 6 8 9 (any_other s xs) (gives_packed o && not (is_empty s.destination)) (not (all_usable s xs)) (not (call_fits b s xs o)) e in
-    record { place = h.1; usable = not_false (all_usable s xs) h.2; fits = not_false (call_fits b s xs o) h.3 }
+    record { place = h.1; usable = not-false (all_usable s xs) h.2; fits = not-false (call_fits b s xs o) h.3 }
 
 pub scalar_call_fits : (core : CoreTree) (n : ℕ) (b : Before) (s : Setting) (sc : Scope) (g : Name) (xs : List Atom) → LinesAreBuilt core b (met core.table s (CallTerm g xs)) → AllByRecursion LiteralFits xs → Vars n b s.scope sc → CallFits core sc g xs s.due
 scalar_call_fits core n b s sc g xs h l v =
@@ -123,15 +123,15 @@ or_no true w e h = refl
 or_no false w e h = absurd cc
 
 empty_if : (p e : Bool) → p ≡ true → p && not e ≡ false → e ≡ true
-empty_if true e p h = not_false e h
+empty_if true e p h = not-false e h
 empty_if false e p h = absurd cc
 
 -- A packed call is at an empty place.
 pub packed_place : (core : CoreTree) (b : Before) (s : Setting) (xs : List Atom) (o : Option FunctionTerm) → s.whole ≡ false → gives_packed o && not (is_empty s.destination) ≡ false → call_fits b s xs o ≡ true → is_empty s.destination ≡ true
 packed_place core b s xs None w p fit = absurd cc
 packed_place core b s xs (Some h) w p fit =
-    let q = and_true (have_types b xs h.parameters) (same_type h.result s.due && (not (is_scalar h.result) || s.whole)) fit in
-    let r = and_true (same_type h.result s.due) (not (is_scalar h.result) || s.whole) q.1 in
+    let q = and_parts (have_types b xs h.parameters) (same_type h.result s.due && (not (is_scalar h.result) || s.whole)) fit in
+    let r = and_parts (same_type h.result s.due) (not (is_scalar h.result) || s.whole) q.1 in
     let packed : not (is_scalar h.result) ≡ true = or_no (not (is_scalar h.result)) s.whole w r.1 in
     empty_if (not (is_scalar h.result)) (is_empty s.destination) packed p
 
@@ -146,10 +146,6 @@ no_place table b sc Nowhere due d e h = h
 no_place table b sc Empty due d e h = absurd cc
 no_place table b sc (Open q k standing) due d e h = absurd cc
 
-not_true : (p : Bool) → not p ≡ true → p ≡ false
-not_true true e = absurd cc
-not_true false e = refl
-
 -- A head that is filled.
 pub write_fits : (core : CoreTree) (n : ℕ) (b : Before) (s : Setting) (sc : Scope) (d : Dest) (e : Destination) (h : Variable) (k : ConId) (ss ps : List Atom) (ns : Needs) (ln : Line) → Meets ns ln.told ln.overs → may_write core.table b e h k ps ≡ true → are_scalars core.table b e ss ≡ true
     → all_usable s ss ≡ true → AllByRecursion LiteralFits ss → Vars n b s.scope sc → IsDest core.table b sc e s.due d → Fits core ns (Write h k ss ps) sc d ln
@@ -158,10 +154,10 @@ write_fits core n b s sc d Empty h k ss ps ns ln meets w t u l v i = absurd cc
 write_fits core n b s sc d (Open q c standing) h k ss ps ns ln meets w t u l v i =
     let names = length standing == length (packed_types core.table c) && are_variables standing ps in
     let calm = not (any_cased b.cased (further standing)) in
-    let p = and_true (q.0 == h.0 && c.0 == k.0) (names && calm) w in
-    let qc = and_true (q.0 == h.0) (c.0 == k.0) p.0 in
-    let nc = and_true names calm p.1 in
-    let lv = and_true (length standing == length (packed_types core.table c)) (are_variables standing ps) nc.0 in
+    let p = and_parts (q.0 == h.0 && c.0 == k.0) (names && calm) w in
+    let qc = and_parts (q.0 == h.0) (c.0 == k.0) p.0 in
+    let nc = and_parts names calm p.1 in
+    let lv = and_parts (length standing == length (packed_types core.table c)) (are_variables standing ps) nc.0 in
     let head = eqb-true q.0 h.0 qc.0 in
     let con = eqb-true c.0 k.0 qc.1 in
     let all = due_all (fields_at core.table c.0) (length standing) lv.0 in
@@ -173,6 +169,6 @@ write_fits core n b s sc d (Open q c standing) h k ss ps ns ln meets w t u l v i
       is,
       written_names standing ps lv.1,
       atoms_fit n b s sc ss (scalar_types (fields_at core.table k.0)) u typed l v,
-      placed_further b sc standing i.2.stand (not_true (any_cased b.cased (further standing)) nc.1),
+      placed_further b sc standing i.2.stand (not-true (any_cased b.cased (further standing)) nc.1),
       meets,
     )

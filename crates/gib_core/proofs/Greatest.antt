@@ -1,6 +1,6 @@
 -- The ended parameters are the greatest set that stays as it is.
 use Rattle.std.proofs.Common.{◌≡◌, ℕ, zero, suc, ◌==◌, ◌||◌, ◌&&◌, Bool, true, false, cond, List, [], ◌∷◌, filter, Option, Some, None, refl, sym, ap, ◌∙◌}
-use Rattle.std.proofs.lemmas.Bool.{eqb-true}
+use Rattle.std.proofs.lemmas.Bool.{eqb-true, false≢true}
 use Rattle.gib_types.specs.Table.{Table, fields_at}
 use Rattle.gib_core.specs.declared.atom.Variable.{Variable}
 use Rattle.gib_core.specs.declared.atom.Atom.{Atom}
@@ -9,9 +9,6 @@ use Rattle.gib_core.specs.Meaning.{function_at}
 use Rattle.gib_core.specs.Reaching.{is_variable}
 use Rattle.gib_core.specs.Ending.{Ended, has_ended, call_ends, tells, is_telling, is_known, all_known, lasts_known, if_some, last_packed, known_in, stays_ended, narrowed, settled}
 
-no : false ≡ true → ⊥
-no e = absurd cc
-
 or_grows : (a a' b b' : Bool) → (a ≡ true → a' ≡ true) → (b ≡ true → b' ≡ true) → (a || b) ≡ true → (a' || b') ≡ true
 or_grows true a' b b' f g h = ap (λ (q : Bool). q || b') (f refl)
 or_grows false true b b' f g h = refl
@@ -19,7 +16,7 @@ or_grows false false b b' f g h = g h
 
 and_grows : (a a' b b' : Bool) → (a ≡ true → a' ≡ true) → (b ≡ true → b' ≡ true) → (a && b) ≡ true → (a' && b') ≡ true
 and_grows true a' b b' f g h = ap (λ (q : Bool). q && b') (f refl) ∙ g h
-and_grows false a' b b' f g h = absurd (no h)
+and_grows false a' b b' f g h = absurd (false≢true h)
 
 -- the first set is part of the second one
 pub record Part (es fs : List Ended) : Type 0 where
@@ -90,7 +87,7 @@ filter_has test (e ∷ es) f k t h = go (test e) refl (e.function == f) (e.place
     go true c false y p q i r = ap (λ (z : Bool). (z && (e.place == k)) || has_ended (filter test es) f k) p ∙ r i
     go false c true true p q i r =
         let same : record { function = f; place = k } ≡ e = λ j. record { function = sym (eqb-true e.function f p) j; place = sym (eqb-true e.place k q) j } in
-        absurd (no (sym c ∙ ap test (sym same) ∙ t))
+        absurd (false≢true (sym c ∙ ap test (sym same) ∙ t))
     go false c true false p q i r = r i
     go false c false y p q i r = r i
 

@@ -1,5 +1,5 @@
 -- A line, up to a binding: so far none tells the end of a variable.
-use Rattle.std.proofs.Common.{◌≡◌, ℕ, ◌<◌, ◌≤◌, Bool, true, false, ◌||◌, List, length, Some, refl, sym, ap, ◌∙◌}
+use Rattle.std.proofs.Common.{◌≡◌, ℕ, ◌<◌, ◌≤◌, true, ◌||◌, List, length, Some, sym, ap, ◌∙◌}
 use Rattle.gib_types.specs.Row.{Table}
 use Rattle.gib_core.specs.declared.atom.Variable.{Variable}
 use Rattle.gib_core.specs.declared.node.Binding.{Binding}
@@ -13,10 +13,6 @@ pub record KnownSoFar (table : Table) (es : List Ended) (z : Variable) (terms : 
   pub inside : last < length terms
   pub opens : Opens terms last node
   pub same : is_known table es (term_of terms id) z ≡ is_known table es (term_of terms last) z
-
-or_no : (a c : Bool) → a ≡ false → a || c ≡ c
-or_no true c e = absurd cc
-or_no false c e = refl
 
 pub known_here : (table : Table) (es : List Ended) (z : Variable) (terms : List Node) (id last : ℕ) (binding : Binding) (rest : ℕ) (node : Node) → KnownSoFar table es z terms id last node
     → ((f : ℕ → Term) → layer f (Some node) ≡ Then (bind_from f binding) (f rest)) → is_telling es (bind_from (term_of terms) binding) z ≡ true → true ≡ is_known table es (term_of terms id) z

@@ -1,5 +1,6 @@
 -- What was bound and cased, later on.
 use Rattle.std.proofs.Common.{◌≡◌, ◌==◌, Bool, true, false, ◌||◌, ◌&&◌, not, if◌then◌else◌, List, [], ◌∷◌, ◌++◌, Some, None, refl, sym, ap, ◌∙◌}
+use Rattle.std.proofs.lemmas.Bool.{or_right, not-false, both_ways, or_parts}
 use Rattle.gib_types.specs.declared.table.Ty.{Ty}
 use Rattle.gib_types.specs.declared.table.ConId.{ConId}
 use Rattle.gib_types.specs.Table.{Table, fields_at}
@@ -17,7 +18,7 @@ use Rattle.gib_core.specs.Tree.{CoreTree}
 use Rattle.gib_core.specs.Inferring.{first_type, further_types}
 use Rattle.gib_core.specs.Met.{Line, PastLine, SideLine, ParLine, PrimLine, ReachLine, WriteLine, PointLine, CallLine, GiveLine, CaseLine, IfLine, Met, Setting, field_due}
 use Rattle.gib_core.specs.Rules.{Before, is_among, is_bound, type_bound, bound_too, bind_fields, bind_arms, any_bound, arm_variables, least, rules, next, next_all, LinesAreBuilt, any_other, all_usable, have_types, is_empty, is_of_type, is_other, is_usable, cover, type_of, has_room, same_type, type_made}
-use Rattle.gib_core.proofs.Facts.{or_false, or_true, clash, Test, holds, fails, test, not_false, least2, least3, same_variable, itself}
+use Rattle.gib_core.proofs.Facts.{Test, holds, fails, test, least2, least3, same_variable, itself}
 
 -- What was bound, later on: types stay, and what is still new was new.
 pub record LaterBound (bs cs : List Bound) : Type 0 where
@@ -55,12 +56,12 @@ new_type : (bs : List Bound) (x y : Variable) (ty other : Ty) → is_bound bs x 
 new_type bs x y ty other new (fails ne) e = ap (λ t. if t then Some ty else type_bound bs y) ne ∙ e
 new_type bs x y ty other new (holds eq) e =
     let same = same_variable x y eq in
-    absurd (clash (is_bound bs x) (ap (is_bound bs) same ∙ typed_bound bs y other e) new)
+    absurd (both_ways (is_bound bs x) new (ap (is_bound bs) same ∙ typed_bound bs y other e))
 
 pub bound_new : (bs : List Bound) (x : Variable) (ty : Ty) → is_bound bs x ≡ false → LaterBound bs (bound_too x ty bs)
 bound_new bs x ty new = record {
   types = λ y other e. new_type bs x y ty other new (test (x.0 == y.0)) e;
-  new = λ y e. (or_false (x.0 == y.0) (is_bound bs y) e).1;
+  new = λ y e. (or_parts (x.0 == y.0) (is_bound bs y) e).1;
 }
 
 pub its_type : (bs : List Bound) (x : Variable) (ty : Ty) → type_bound (bound_too x ty bs) x ≡ Some ty
@@ -96,7 +97,7 @@ or_shift false false c = refl
 fresh_seen : (xs seen : List Variable) (bs : List Bound) → any_bound xs seen bs ≡ false → AreFresh xs (λ y. is_bound bs y || is_among seen y)
 fresh_seen [] seen bs e = tt
 fresh_seen (x ∷ xs) seen bs e =
-    let h = or_false (is_bound bs x || is_among seen x) (any_bound xs (x ∷ seen) bs) e in
+    let h = or_parts (is_bound bs x || is_among seen x) (any_bound xs (x ∷ seen) bs) e in
     let same : (y : Variable) → (is_bound bs y || is_among (x ∷ seen) y) ≡ (x.0 == y.0 || (is_bound bs y || is_among seen y)) =
     λ y. or_shift (x.0 == y.0) (is_bound bs y) (is_among seen y) in
     (h.0, fresh_same xs (λ y. is_bound bs y || is_among (x ∷ seen) y) (λ y. x.0 == y.0 || (is_bound bs y || is_among seen y)) same (fresh_seen xs (x ∷ seen) bs h.1))
@@ -174,8 +175,8 @@ prim_facts core b s x f y z e =
     let u = all_usable s (y ∷ z ∷ []) in
     let ts = have_types b (y ∷ z ∷ []) (Whole ∷ Whole ∷ []) in
     let h = least3 4 8 9 (any_other s (y ∷ z ∷ [])) (is_bound b.bound x || not u) (not ts) e in
-    let k = or_false (is_bound b.bound x) (not u) h.1 in
-    record { apart = h.0; new = k.0; usable = not_false u k.1; typed = not_false ts h.2 }
+    let k = or_parts (is_bound b.bound x) (not u) h.1 in
+    record { apart = h.0; new = k.0; usable = not-false u k.1; typed = not-false ts h.2 }
 
 pub record CaseFacts (core : CoreTree) (b : Before) (s : Setting) (x : Atom) (arms : List (ConId × List Variable)) : Type 0 where
   pub apart : is_other s x ≡ false
@@ -189,8 +190,8 @@ case_facts core b s x arms e =
     let n = any_bound (arm_variables arms) [] b.bound in
     let c = cover core.table (type_of b x) arms in
     let h = least3 4 7 8 (is_other s x) (not c) (not u || n) e in
-    let k = or_false (not u) n h.2 in
-    record { apart = h.0; covers = not_false c h.1; usable = not_false u k.0; new = k.1 }
+    let k = or_parts (not u) n h.2 in
+    record { apart = h.0; covers = not-false c h.1; usable = not-false u k.0; new = k.1 }
 
 pub past_new : (core : CoreTree) (b : Before) (s : Setting) (h : Variable) (k : ConId) → least (rules core b s (PastLine h k)) ≡ None → is_bound b.bound h ≡ false
 past_new core b s h k e = (least2 1 8 (not (is_empty s.destination && is_of_type core.table k s.due)) (is_bound b.bound h) e).1
@@ -208,7 +209,7 @@ line_later core b s (GiveLine x) e = later_same b
 line_later core b s (CaseLine (a.Variable x) arms) e =
     record {
       bound = (bound_arms core.table arms b.bound (fresh_arms (arm_variables arms) b.bound (case_facts core b s (a.Variable x) arms e).new)).0;
-      cased = λ y h. or_true (x.0 == y.0) (is_among b.cased y) h;
+      cased = λ y h. or_right (x.0 == y.0) (is_among b.cased y) h;
     }
 line_later core b s (CaseLine (a.Whole z) arms) e =
     record { bound = (bound_arms core.table arms b.bound (fresh_arms (arm_variables arms) b.bound (case_facts core b s (a.Whole z) arms e).new)).0; cased = λ y h. h }
@@ -227,7 +228,3 @@ lines_later core b (m ∷ ms) h =
 pub built_apart : (core : CoreTree) (b : Before) (ms ns : List Met) → LinesAreBuilt core b (ms ++ ns) → LinesAreBuilt core b ms × LinesAreBuilt core (next_all core.table b ms) ns
 built_apart core b [] ns h = (tt, h)
 built_apart core b (m ∷ ms) ns h = let k = built_apart core (next core.table b m.line) ms ns h.1 in ((h.0, k.0), k.1)
-
-pub next_apart : (table : Table) (b : Before) (ms ns : List Met) → next_all table b (ms ++ ns) ≡ next_all table (next_all table b ms) ns
-next_apart table b [] ns = refl
-next_apart table b (m ∷ ms) ns = next_apart table (next table b m.line) ms ns

@@ -12,9 +12,10 @@ use Rattle.gib_core.specs.declared.node.Node.TheVariants as n
 use Rattle.gib_core.specs.Tree.{Term, Then, CaseTerm, IfTerm, One, Both, On, BranchThen}
 use Rattle.gib_core.specs.Arena.{IsBindingBelow, IsBranchBelow, PartsBelow, IsArena, bind_from, binds_from, branches_from, layer, term_at, term_of, Opens, Makes}
 
-branches_same : (f g : ℕ → Term) (id : ℕ) (bs : List Branch) → AllByRecursion (IsBranchBelow id) bs → ((a : ℕ) → a < id → f a ≡ g a) → branches_from f bs ≡ branches_from g bs
-branches_same f g id [] h e = refl
-branches_same f g id (x ∷ bs) h e = (λ k. BranchThen x.constructor x.variables.items (e x.term.0 h.0 k) (branches_same f g id bs h.1 e k))
+-- Branches whose terms stand below a number keep them.
+pub branches_same_below : (f g : ℕ → Term) (id : ℕ) (bs : List Branch) → AllByRecursion (IsBranchBelow id) bs → ((a : ℕ) → a < id → f a ≡ g a) → branches_from f bs ≡ branches_from g bs
+branches_same_below f g id [] h e = refl
+branches_same_below f g id (x ∷ bs) h e = (λ k. BranchThen x.constructor x.variables.items (e x.term.0 h.0 k) (branches_same_below f g id bs h.1 e k))
 
 pub bind_same : (f g : ℕ → Term) (id : ℕ) (x : Binding) → IsBindingBelow id x → ((a : ℕ) → a < id → f a ≡ g a) → bind_from f x ≡ bind_from g x
 bind_same f g id (b.Past h k) below e = refl
@@ -24,9 +25,9 @@ bind_same f g id (b.Prim x op y z) below e = refl
 bind_same f g id (b.Reach y by) below e = refl
 
 -- Bindings that stand below a number keep their terms.
-pub binds_same : (f g : ℕ → Term) (id : ℕ) (bs : List Binding) → AllByRecursion (IsBindingBelow id) bs → ((a : ℕ) → a < id → f a ≡ g a) → binds_from f bs ≡ binds_from g bs
-binds_same f g id [] h e = refl
-binds_same f g id (x ∷ bs) h e = (λ k. bind_same f g id x h.0 e k ∷ binds_same f g id bs h.1 e k)
+pub binds_same_below : (f g : ℕ → Term) (id : ℕ) (bs : List Binding) → AllByRecursion (IsBindingBelow id) bs → ((a : ℕ) → a < id → f a ≡ g a) → binds_from f bs ≡ binds_from g bs
+binds_same_below f g id [] h e = refl
+binds_same_below f g id (x ∷ bs) h e = (λ k. bind_same f g id x h.0 e k ∷ binds_same_below f g id bs h.1 e k)
 
 pub layer_same_if : (f g : ℕ → Term) (id : ℕ) (o : Option Node) → ((node : Node) → o ≡ Some node → PartsBelow node id) → ((a : ℕ) → a < id → f a ≡ g a) → layer f o ≡ layer g o
 layer_same_if f g id None below e = refl
@@ -35,7 +36,7 @@ layer_same_if f g id (Some (n.Write h k ss ps)) below e = refl
 layer_same_if f g id (Some (n.Point x)) below e = refl
 layer_same_if f g id (Some (n.Call x v)) below e = refl
 layer_same_if f g id (Some (n.Give x)) below e = refl
-layer_same_if f g id (Some (n.Case x v)) below e = ap (CaseTerm x) (branches_same f g id v.items (below (n.Case x v) refl) e)
+layer_same_if f g id (Some (n.Case x v)) below e = ap (CaseTerm x) (branches_same_below f g id v.items (below (n.Case x v) refl) e)
 layer_same_if f g id (Some (n.If x t u)) below e = let h = below (n.If x t u) refl in (λ k. IfTerm x (e t.0 h.0 k) (e u.0 h.1 k))
 
 same_at : (ns : List Node) → IsArena ns → (k l id : ℕ) → id < k → id < l → term_at k ns id ≡ term_at l ns id

@@ -1,48 +1,57 @@
+-- Terms in an arena: layers, lines, and what is put behind or in front.
 pub mod Layers
-mod Lining
-pub mod NumberSet
+pub mod Lining
+pub mod Fronting
+pub mod Inside
+pub mod Marks
+-- Texts of cores.
 mod Spelling
-pub mod Unbroken
 pub mod Indented
+-- Meanings of cores, and of what is left of them; what they cost.
 pub mod Agreeing
 pub mod Envs
 pub mod Erases
 pub mod Left
+pub mod Adding
+pub mod Rising
+-- Truth values, types and judgements; lines one behind another.
+pub mod Facts
 pub mod Along
+mod Later
+mod Unused
 pub mod Cased
+pub mod Unbroken
+pub mod Orders
+-- To reach the fields of arms keeps the build rules.
 mod Skipped
 mod Kept
 mod Awaits
 mod Offered
 mod Onward
-mod Suited
+pub mod Suited
 mod Reached
+-- Parameters whose ends are known.
 mod Settles
 mod Greatest
 pub mod EndedSame
 mod EndedNumbers
 mod LastPacked
-mod FirstNamed
 mod KnownLine
 mod Promise
-mod Facts
-mod Later
-mod Unused
+mod Owing
+-- What meets the build rules fits the machine.
 mod Vars
-mod Dests
+pub mod Dests
 mod Entering
 mod Covering
 mod Fitted
-mod Owing
 mod Builds
 mod Bodies
-mod Fine
+pub mod Fine
+-- Functions by their names and types; the one code of a core.
+mod FirstNamed
 pub mod Signatures
-mod TypesKnown
+pub mod TypesKnown
 mod FunctionCode
-pub mod Adding
-pub mod LiteralTerms
-pub mod Marks
-mod Orders
 pub mod OneCode
-pub mod Rising
+pub mod LiteralTerms

@@ -18,16 +18,16 @@ pub record LineSoFar (nodes : List Node) (id : ℕ) (bindings : List Binding) (r
   pub opens : Opens nodes rest node
 
 -- What stands below a number stands below each that is no smaller.
-below_more : (low id : ℕ) (x : Binding) → low ≤ id → IsBindingBelow low x → IsBindingBelow id x
-below_more low id (b.Past h k) le below = tt
-below_more low id (b.One s) le below = omega (arith, below)
-below_more low id (b.Par fork s r) le below = (omega (arith, below.0), omega (arith, below.1))
-below_more low id (b.Prim x op y z) le below = tt
-below_more low id (b.Reach y by) le below = tt
+pub binding_below_more : (low id : ℕ) (x : Binding) → low ≤ id → IsBindingBelow low x → IsBindingBelow id x
+binding_below_more low id (b.Past h k) le below = tt
+binding_below_more low id (b.One s) le below = omega (arith, below)
+binding_below_more low id (b.Par fork s r) le below = (omega (arith, below.0), omega (arith, below.1))
+binding_below_more low id (b.Prim x op y z) le below = tt
+binding_below_more low id (b.Reach y by) le below = tt
 
-below_behind : (id : ℕ) (bs : List Binding) (x : Binding) → AllByRecursion (IsBindingBelow id) bs → IsBindingBelow id x → AllByRecursion (IsBindingBelow id) (bs ++ x ∷ [])
-below_behind id [] x h below = (below, tt)
-below_behind id (y ∷ bs) x h below = (h.0, below_behind id bs x h.1 below)
+pub below_push : (id : ℕ) (bs : List Binding) (x : Binding) → AllByRecursion (IsBindingBelow id) bs → IsBindingBelow id x → AllByRecursion (IsBindingBelow id) (bs ++ x ∷ [])
+below_push id [] x h below = (below, tt)
+below_push id (y ∷ bs) x h below = (h.0, below_push id bs x h.1 below)
 
 prepend_behind : (bs : List Bind) (x : Bind) (t : Term) → prepend (bs ++ x ∷ []) t ≡ prepend bs (Then x t)
 prepend_behind [] x t = refl
@@ -49,7 +49,7 @@ line_next nodes id rest bindings now node new x after so is put opens =
           ∙ ap (prepend (binds_from f bindings)) opened
           ∙ sym (prepend_behind (binds_from f bindings) (bind_from f x) (f after.0))
           ∙ ap (λ (bs : List Bind). prepend bs (f after.0)) (sym (map-append (bind_from f) bindings (x ∷ [])));
-      below = below_behind id bindings x so.below (below_more rest id x so.within parts.0);
+      below = below_push id bindings x so.below (binding_below_more rest id x so.within parts.0);
       within = omega (arith, parts.1, so.within);
       opens = opens;
     })

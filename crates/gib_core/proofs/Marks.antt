@@ -5,6 +5,7 @@ use Rattle.std.specs.List.{AllByRecursion}
 use Rattle.std.proofs.str.Laws.{order}
 use Rattle.std.proofs.lemmas.Bool.{eqb-true, eqb-false}
 use Rattle.std.proofs.lemmas.Option.{same_Some, slice_get-get_or}
+use Rattle.std.proofs.lemmas.List.{length-set}
 use Rattle.gib_core.specs.declared.node.Binding.{Binding}
 use Rattle.gib_core.specs.declared.node.Binding.TheVariants as b
 use Rattle.gib_core.specs.declared.node.Branch.{Branch}
@@ -23,10 +24,6 @@ pub record CallSoFar (terms : List Node) (id last : ℕ) (node : Node) : Type 0 
   pub inside : last < length terms
   pub opens : Opens terms last node
   pub same : has_call (term_of terms id) ≡ has_call (term_of terms last)
-
-or_no : (a c : Bool) → a ≡ false → a || c ≡ c
-or_no true c e = absurd cc
-or_no false c e = refl
 
 pub call_here : (terms : List Node) (id last : ℕ) (binding : Binding) (rest : ℕ) (node : Node) → CallSoFar terms id last node → ((f : ℕ → Term) → layer f (Some node) ≡ Then (bind_from f binding) (f rest))
     → bind_has_call (bind_from (term_of terms) binding) ≡ true → true ≡ has_call (term_of terms id)
@@ -156,11 +153,6 @@ get_elsewhere (y ∷ ns) zero (suc id) x ne = refl
 get_elsewhere (y ∷ ns) (suc place) zero x ne = refl
 get_elsewhere (y ∷ ns) (suc place) (suc id) x ne = get_elsewhere ns place id x (λ e. ne (ap suc e))
 
-same_long : (ns : List Node) (place : ℕ) (x : Node) → length (slice_set ns place x) ≡ length ns
-same_long [] place x = refl
-same_long (y ∷ ns) zero x = refl
-same_long (y ∷ ns) (suc place) x = ap suc (same_long ns place x)
-
 fork_below : (x : Binding) (id : ℕ) (fork : Bool) → IsBindingBelow id x → IsBindingBelow id (with_fork fork x)
 fork_below (b.Past h k) id fork h' = h'
 fork_below (b.One s) id fork h' = h'
@@ -192,6 +184,6 @@ set_view ns vs place binding made rest fork d e arena lt is m =
     subst P e (record {
       node = λ x f. get_there ns place (n.Then made rest) inside ∙ ap (λ (w : Binding). Some (n.Then w rest)) m ∙ ap (λ (z : Node). Some (node_with_fork fork z)) (same_Some (n.Then binding rest) x (sym found ∙ f));
       others = λ id ne. get_elsewhere ns place id (n.Then made rest) ne;
-      long = same_long ns place (n.Then made rest);
+      long = length-set ns place (n.Then made rest);
       arena = set_arena ns place binding made rest fork d arena inside is m;
     })

@@ -1,6 +1,7 @@
 -- A core has one code: each term's code ends at one label, and has one list of instructions.
-use Rattle.std.proofs.Common.{◌≡◌, ℕ, suc, ◌+◌, ◌<◌, ◌≤◌, Bool, true, false, nat_lt, List, [], ◌∷◌, ◌++◌, length, slice_get, Option, Some, refl, sym, ap, subst, ◌∙◌, arith}
+use Rattle.std.proofs.Common.{◌≡◌, ℕ, suc, ◌+◌, ◌<◌, ◌≤◌, Bool, true, false, nat_lt, List, [], ◌∷◌, ◌++◌, length, slice_get, Option, refl, sym, ap, subst, ◌∙◌, arith}
 use Rattle.std.proofs.lemmas.Bool.Decides.{nat_tests}
+use Rattle.std.proofs.lemmas.Option.{same_Some}
 use Rattle.gib_base.specs.declared.name.Name.{Name}
 use Rattle.gib_types.specs.declared.table.Ty.{Ty}
 use Rattle.gib_types.specs.Layout.{LaidOut}
@@ -209,15 +210,12 @@ functions_same core r s a _ _ _ (low.function {z = z} {g = g} {gs = gs} {e = e} 
       ap (λ (q : Entry). q ∷ es) (same_entry e e' (name ∙ sym name') (start ∙ sym start') (slots ∙ sym slots') (result ∙ sym result')) ∙ ap (λ (q : List Entry). e' ∷ q) h.2,
     )
 
-same_some : {i j : Instruction} → ◌≡◌ {A = Option Instruction} (Some i) (Some j) → i ≡ j
-same_some e = cc
-
 lists_same : (is js : List Instruction) → length is ≡ length js → ((q : ℕ) → q < length is → slice_get is q ≡ slice_get js q) → is ≡ js
 lists_same [] [] e f = refl
 lists_same [] (j ∷ js) e f = absurd (omega (arith, e))
 lists_same (i ∷ is) [] e f = absurd (omega (arith, e))
 lists_same (i ∷ is) (j ∷ js) e f =
-    ap (λ (q : Instruction). q ∷ is) (same_some (f 0 (omega arith)))
+    ap (λ (q : Instruction). q ∷ is) (same_Some _ _ (f 0 (omega arith)))
     ∙ ap (λ (qs : List Instruction). j ∷ qs) (lists_same is js (omega (arith, e)) (λ q l. f (suc q) (omega (arith, l))))
 
 pub one_code : (core : CoreTree) (r s : CodeTree) → IsLowered core r → IsLowered core s → r ≡ s

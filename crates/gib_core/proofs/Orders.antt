@@ -1,8 +1,8 @@
 -- A core that meets the build rules, and is numbered in the order of the text, is ordered.
-use Rattle.std.proofs.Common.{◌≡◌, ℕ, zero, suc, ◌+◌, ◌<◌, ◌≤◌, ◌==◌, Bool, true, false, ◌&&◌, not, if◌then◌else◌, List, [], ◌∷◌, ◌++◌, map, length, Option, Some, None, refl, sym, ap, ◌∙◌, subst, arith}
+use Rattle.std.proofs.Common.{◌≡◌, ℕ, zero, suc, ◌+◌, ◌<◌, ◌≤◌, ◌==◌, true, ◌&&◌, not, if◌then◌else◌, List, [], ◌∷◌, ◌++◌, map, length, Option, Some, None, refl, sym, ap, ◌∙◌, subst, arith}
 use Rattle.std.specs.Prelude.{slice_get, nat_lt}
 use Rattle.std.specs.List.{AllByRecursion}
-use Rattle.std.proofs.lemmas.Bool.{eqb-true, eq-eqb, ltb-true}
+use Rattle.std.proofs.lemmas.Bool.{eqb-true, eq-eqb, ltb-true, not-false, and_from, and_parts}
 use Rattle.std.proofs.lemmas.Option.{same_Some}
 use Rattle.gib_types.specs.declared.table.Ty.{Ty}
 use Rattle.gib_types.specs.declared.table.Ty.TheVariants.{Whole, Truth, Tree}
@@ -22,7 +22,7 @@ use Rattle.gib_core.specs.Numbering.{binders, bind_binders, branch_binders, IsNu
 use Rattle.gib_core.specs.Met.{Destination, Nowhere, Empty, Open, Setting, PastLine, CaseLine, IfLine, known, reached, reached_too, field, packed_before, with_arm, with_parameters, stands_too, in_side, behind, left_of, right_of, in_arm, in_branch, arms_of, met, met_bind, met_side, met_branches, Body, bodies, opening, result_place}
 use Rattle.gib_core.specs.Rules.{Before, is_reached, is_usable, all_usable, any_other, is_other, is_empty, is_of_type, is_bound, is_nowhere, may_write, are_scalars, type_of, cover, are_arms, has_type, next, next_all, LinesAreBuilt, before_body, IsBuilt, AreBuilt}
 use Rattle.gib_core.specs.Ordered.{IsFit, AreFit, FieldsOrdered, behind_fields, IsFound, IsOrdered, BindOrdered, SideOrdered, BranchesOrdered, AreOrdered, IsNatural, AreNaturalAtoms, IsNaturalTerm, IsNaturalBind, IsNaturalSide, AreNaturalBranches, AreNatural}
-use Rattle.gib_core.proofs.Facts.{and_true, not_false, least2, least3, least4, Test, holds, fails, test}
+use Rattle.gib_core.proofs.Facts.{least2, least3, least4, Test, holds, fails, test}
 use Rattle.gib_core.proofs.Later.{built_apart, prim_facts, case_facts}
 use Rattle.gib_core.proofs.Dests.{con_there}
 use Rattle.gib_core.proofs.Fitted.{call_facts}
@@ -65,13 +65,13 @@ scope_put n k ks lt h = record { inside = λ x j e. put_in n k ks x j lt h (test
 scope_bound : (n m : ℕ) (x : Variable) (ks : List Known) → x.0 ≡ n → n + 1 ≤ m → InScope n ks → InScope m (reached x ∷ ks)
 scope_bound n m x ks e le h = scope_put m (reached x) ks (omega (arith, e, le)) (scope_more n m ks (omega (arith, le)) h)
 
-known_by : (ks : List Known) (y : Variable) (k j : Known) → (known ks y ≡ Some k → k.variable.0 ≡ y.0) → Test (j.variable.0 == y.0) → known (j ∷ ks) y ≡ Some k → k.variable.0 ≡ y.0
+pub known_by : (ks : List Known) (y : Variable) (k j : Known) → (known ks y ≡ Some k → k.variable.0 ≡ y.0) → Test (j.variable.0 == y.0) → known (j ∷ ks) y ≡ Some k → k.variable.0 ≡ y.0
 known_by ks y k j was (fails ne) e = was (ap (λ t. if t then Some j else known ks y) (sym ne) ∙ e)
 known_by ks y k j was (holds eq) e =
     let same : j ≡ k = same_Some j k (ap (λ t. if t then Some j else known ks y) (sym eq) ∙ e) in
     ap (λ (i : Known). i.variable.0) (sym same) ∙ eqb-true j.variable.0 y.0 eq
 
-known_name : (ks : List Known) (y : Variable) (k : Known) → known ks y ≡ Some k → k.variable.0 ≡ y.0
+pub known_name : (ks : List Known) (y : Variable) (k : Known) → known ks y ≡ Some k → k.variable.0 ≡ y.0
 known_name [] y k e = absurd cc
 known_name (j ∷ ks) y k e = known_by ks y k j (known_name ks y k) (test (j.variable.0 == y.0)) e
 
@@ -116,16 +116,12 @@ atom_in n s (a.Truth b) u l h = tt
 
 atoms_in : (n : ℕ) (s : Setting) (xs : List Atom) → all_usable s xs ≡ true → AreNaturalAtoms xs → InScope n s.scope → AreFit n xs
 atoms_in n s [] u l h = tt
-atoms_in n s (x ∷ xs) u l h = let p = and_true (is_usable s x) (all_usable s xs) u in (atom_in n s x p.0 l.0 h, atoms_in n s xs p.1 l.1 h)
+atoms_in n s (x ∷ xs) u l h = let p = and_parts (is_usable s x) (all_usable s xs) u in (atom_in n s x p.0 l.0 h, atoms_in n s xs p.1 l.1 h)
 
-and_from : (p q : Bool) → p ≡ true → q ≡ true → p && q ≡ true
-and_from true q e f = f
-and_from false q e f = absurd cc
-
-usable_apart : (s : Setting) (xs ys : List Atom) → all_usable s (xs ++ ys) ≡ true → (all_usable s xs ≡ true) × (all_usable s ys ≡ true)
+pub usable_apart : (s : Setting) (xs ys : List Atom) → all_usable s (xs ++ ys) ≡ true → (all_usable s xs ≡ true) × (all_usable s ys ≡ true)
 usable_apart s [] ys e = (refl, e)
 usable_apart s (x ∷ xs) ys e =
-    let p = and_true (is_usable s x) (all_usable s (xs ++ ys)) e in
+    let p = and_parts (is_usable s x) (all_usable s (xs ++ ys)) e in
     let r = usable_apart s xs ys p.1 in
     (and_from (is_usable s x) (all_usable s xs) p.0 r.0, r.1)
 
@@ -223,8 +219,8 @@ write_found : (table : Table) (b : Before) (d : Destination) (h : Variable) (k :
 write_found table b Nowhere h k ps e f = absurd cc
 write_found table b Empty h k ps e f = absurd cc
 write_found table b (Open q c standing) h k ps e f =
-    let p = and_true (q.0 == h.0 && c.0 == k.0) _ e in
-    let same = eqb-true c.0 k.0 (and_true (q.0 == h.0) (c.0 == k.0) p.0).1 in
+    let p = and_parts (q.0 == h.0 && c.0 == k.0) _ e in
+    let same = eqb-true c.0 k.0 (and_parts (q.0 == h.0) (c.0 == k.0) p.0).1 in
     subst (λ (i : ℕ). IsFound table (record { 0 = i })) same f
 
 -- What a binding leaves.
@@ -249,15 +245,15 @@ mutual
       (bd.ordered, (r.0, bd.next, term_in core is rest (next_all core.table b (met_bind core.table s k)) (behind s k) r.0 m r.2 l.1 bd.head bd.scope parts.1))
   term_in core is (Write q k ss ps) b s n m runs l hd sc h =
       let r = least4 4 5 8 9 (any_other s (ss ++ ps)) (not (may_write core.table b s.destination q k ps)) (not (all_usable s (ss ++ ps))) (not (are_scalars core.table b s.destination ss)) h.0 in
-      let u = usable_apart s ss ps (not_false (all_usable s (ss ++ ps)) r.2) in
-      (write_found core.table b s.destination q k ps (not_false (may_write core.table b s.destination q k ps) r.1) hd, atoms_in n s ss u.0 l.0 sc, atoms_in n s ps u.1 l.1 sc)
+      let u = usable_apart s ss ps (not-false (all_usable s (ss ++ ps)) r.2) in
+      (write_found core.table b s.destination q k ps (not-false (may_write core.table b s.destination q k ps) r.1) hd, atoms_in n s ss u.0 l.0 sc, atoms_in n s ps u.1 l.1 sc)
   term_in core is (Point x) b s n m runs l hd sc h =
       let r = least4 4 6 8 9 (is_other s x) (not (is_empty s.destination)) (not (is_usable s x)) (not (has_type b x s.due)) h.0 in
-      atom_in n s x (not_false (is_usable s x) r.2) l sc
+      atom_in n s x (not-false (is_usable s x) r.2) l sc
   term_in core is (CallTerm g xs) b s n m runs l hd sc h = atoms_in n s xs (call_facts core b s g xs h.0).usable l sc
   term_in core is (Give x) b s n m runs l hd sc h =
       let r = least3 4 8 9 (is_other s x) (not (is_usable s x)) (not (is_nowhere s.destination && has_type b x s.due)) h.0 in
-      atom_in n s x (not_false (is_usable s x) r.1) l sc
+      atom_in n s x (not-false (is_usable s x) r.1) l sc
   term_in core is (CaseTerm x bs) b s n m runs l hd sc h =
       let facts = case_facts core b s x (arms_of bs) h.0 in
       let cov = covered core.table (type_of b x) (arms_of bs) facts.covers in (
@@ -270,7 +266,7 @@ mutual
       let parts = built_apart core b lines (met core.table (in_branch s) u) h.1 in
       let p = runs_apart n m (binders t) (binders u) runs in
       let up = runs_up n p.0 (binders t) p.1 in (
-        atom_in n s x (not_false (is_usable s x) r.1) l.0 sc,
+        atom_in n s x (not-false (is_usable s x) r.1) l.0 sc,
         (n, omega arith, term_in core is t b (in_branch s) n p.0 p.1 l.1 hd sc parts.0),
         (p.0, up, term_in core is u (next_all core.table b lines) (in_branch s) p.0 m p.2 l.2 hd (scope_more n p.0 s.scope up sc) parts.1),
       )
@@ -279,7 +275,7 @@ mutual
       → LinesAreBuilt core b (met_bind core.table s k) → BindIn core n m k s
   bind_in core is (Past q k) b s n m runs l hd sc h =
       let r = least2 1 8 (not (is_empty s.destination && is_of_type core.table k s.due)) (is_bound b.bound q) h.0 in
-      let both = and_true (is_empty s.destination) (is_of_type core.table k s.due) (not_false (is_empty s.destination && is_of_type core.table k s.due) r.0) in
+      let both = and_parts (is_empty s.destination) (is_of_type core.table k s.due) (not-false (is_empty s.destination && is_of_type core.table k s.due) r.0) in
       record { ordered = tt; next = omega (arith, runs.1); head = past_found core.table is k s.due both.1; scope = scope_more n m s.scope (omega (arith, runs.1)) sc }
   bind_in core is (One (On kind x ty t)) b s n m runs l hd sc h =
       let up = runs_up (n + 1) m (binders t) runs.1 in
@@ -308,8 +304,8 @@ mutual
       }
   bind_in core is (Prim x f y z) b s n m runs l hd sc h =
       let facts = prim_facts core b s x f y z h.0 in
-      let us = and_true (is_usable s y) (is_usable s z && true) facts.usable in
-      let uz = and_true (is_usable s z) true us.1 in
+      let us = and_parts (is_usable s y) (is_usable s z && true) facts.usable in
+      let uz = and_parts (is_usable s z) true us.1 in
       record {
         ordered = (omega (arith, runs.0), atom_in n s y us.0 l.0 sc, atom_in n s z uz.0 l.1 sc);
         next = omega (arith, runs.0, runs.1);
@@ -324,8 +320,8 @@ mutual
   branches_in core is NoBranch b s low n m first count le runs l hd sc h e rows = tt
   branches_in core is (BranchThen k xs t bs) b s low n m first zero le runs l hd sc h e rows = absurd cc
   branches_in core is (BranchThen k xs t bs) b s low n m first (suc count) le runs l hd sc h e rows =
-      let p = and_true (first == k.0 && length (fields_at core.table first) == length xs) (are_arms core.table (numbers_from (suc first) count) (arms_of bs)) e in
-      let is_k = eqb-true first k.0 (and_true (first == k.0) (length (fields_at core.table first) == length xs) p.0).0 in
+      let p = and_parts (first == k.0 && length (fields_at core.table first) == length xs) (are_arms core.table (numbers_from (suc first) count) (arms_of bs)) e in
+      let is_k = eqb-true first k.0 (and_parts (first == k.0) (length (fields_at core.table first) == length xs) p.0).0 in
       let r = runs_apart n m (map (λ (x : Variable). x.0) xs) (binders t ++ branch_binders bs) runs in
       let q = runs_apart r.0 m (binders t) (branch_binders bs) r.2 in
       let up = runs_up n r.0 (map (λ (x : Variable). x.0) xs) r.1 in

@@ -1,6 +1,6 @@
 -- What a line owes of ends by its end, and what the build rules know of it: how both go on from a term to its parts.
 use Rattle.std.proofs.Common.{◌≡◌, inl, inr, ⊎_elim, ℕ, Bool, true, false, not, ◌||◌, ◌&&◌, ◌==◌, List, [], ◌∷◌, Option, Some, None, refl, sym, ap, subst, ◌∙◌}
-use Rattle.std.proofs.lemmas.Bool.{or_cases, or_left, or_right}
+use Rattle.std.proofs.lemmas.Bool.{or_cases, or_left, or_right, both_ways, and_parts}
 use Rattle.gib_types.specs.declared.table.Ty.{Ty}
 use Rattle.gib_types.specs.declared.table.ConId.{ConId}
 use Rattle.gib_types.specs.Table.{fields_at}
@@ -45,9 +45,6 @@ no_side w core (t.Give x) q e = refl
 no_side w core (t.CaseTerm x bs) q e = refl
 no_side w core (t.IfTerm x u v) q e = refl
 
-apart : (x : Bool) → x ≡ true → x ≡ false → ⊥
-apart x e f = absurd cc
-
 by_ends : (b : Bool) (P : Type 0) → (b ≡ true → P) → (b ≡ false → P) → P
 by_ends true P f g = f refl
 by_ends false P f g = g refl
@@ -57,7 +54,7 @@ met_none n told os e none = subst (λ (xs : List Over). Meets (AtEnd n) told xs)
 
 -- The end of a line that is no call.
 pub owes_leaf : (core : CoreTree) (ns : Needs) (u : Term) (ln : Line) → IsCall u ≡ false → ((q : ℕ) → is_known core.table (ended core) u (record { 0 = q }) ≡ false) → Owes core ns u ln → Meets ns ln.told ln.overs
-owes_leaf core (Inner f) u ln no' none' h = λ q e. absurd (apart (side_tells ln.within core u q) (h q e) (no_side ln.within core u q no'))
+owes_leaf core (Inner f) u ln no' none' h = λ q e. absurd (both_ways (side_tells ln.within core u q) (no_side ln.within core u q no') (h q e))
 owes_leaf core (AtEnd n) u ln no' none' h = by_ends ln.within.ends (Meets (AtEnd n) ln.told ln.overs) (λ e. promise_leaf core (AtEnd n) u ln none' (h.1 e)) (λ e. let k = h.2 e in met_none n ln.told ln.overs k.0 k.1)
 
 pub owes_call : (core : CoreTree) (ns : Needs) (f : Name) (xs : List Atom) (ln : Line) → Owes core ns (t.CallTerm f xs) ln → Meets ns (λ q. ln.told q || call_tells ln.within core f.0 xs q) ln.overs
@@ -68,12 +65,12 @@ owes_call core (AtEnd n) f xs ln h =
 
 -- Behind a binding.
 pub owes_then : (core : CoreTree) (ns : Needs) (kd : Kind) (x : Variable) (ty : Ty) (s u : Term) (ln : Line) → Owes core ns (t.Then (t.One (On kd x ty s)) u) ln → Owes core ns u (tell_line (side_tells ln.within core s) ln)
-owes_then core (Inner f) kd x ty s u ln h = λ q e. absurd (apart false (h q e) refl)
+owes_then core (Inner f) kd x ty s u ln h = λ q e. absurd (both_ways false refl (h q e))
 owes_then core (AtEnd n) kd x ty s u ln h = (h.0, λ e. promise_then core (AtEnd n) kd x ty s u ln h.0 (h.1 e), h.2)
 
 -- Behind any other binding, in a line that was told the rest.
 pub owes_on : (core : CoreTree) (ns : Needs) (b : Bind) (u : Term) (ln ln' : Line) → ln'.within ≡ ln.within → ln'.overs ≡ ln.overs → ((q : ℕ) → ln.told q ≡ true → ln'.told q ≡ true) → ((z : Variable) → is_telling (ended core) b z ≡ false) → Owes core ns (t.Then b u) ln → Owes core ns u ln'
-owes_on core (Inner f) b u ln ln' w o more none h = λ q e. absurd (apart false (h q e) refl)
+owes_on core (Inner f) b u ln ln' w o more none h = λ q e. absurd (both_ways false refl (h q e))
 owes_on core (AtEnd n) b u ln ln' w o more none h = (
   ap (λ (v : Within). v.par) w ∙ h.0,
   λ e. promise_on core (AtEnd n) (t.Then b u) u ln ln' o more
@@ -88,7 +85,7 @@ owes_on core (AtEnd n) b u ln ln' w o more none h = (
 
 -- The branches of an `if`.
 pub owes_if : (core : CoreTree) (ns : Needs) (x : Atom) (u v : Term) (ln : Line) → Owes core ns (t.IfTerm x u v) ln → Owes core ns u ln × Owes core ns v ln
-owes_if core (Inner f) x u v ln h = (λ q e. absurd (apart false (h q e) refl), λ q e. absurd (apart false (h q e) refl))
+owes_if core (Inner f) x u v ln h = (λ q e. absurd (both_ways false refl (h q e)), λ q e. absurd (both_ways false refl (h q e)))
 owes_if core (AtEnd n) x u v ln h = ((h.0, λ e. (promise_if core (AtEnd n) x u v ln (h.1 e)).0, h.2), (h.0, λ e. (promise_if core (AtEnd n) x u v ln (h.1 e)).1, h.2))
 
 none_over : (x : ℕ) (o : Option Variable) (b : Bool) (os : List Over) → b ≡ false → with_over x o b os ≡ os
@@ -101,7 +98,7 @@ pub owes_arm : (core : CoreTree) (ns : Needs) (x : Variable) (bs : Branches) (k 
     → ((q : ℕ) → all_known core.table (ended core) bs (record { 0 = q }) ≡ true → is_known core.table (ended core) u (record { 0 = q }) ≡ true)
     → (lasts_known core.table (ended core) bs ≡ true → if_some (last_packed None (fields_at core.table k.0) ys) (λ z. is_known core.table (ended core) u z) ≡ true)
     → Owes core ns (t.CaseTerm (a.Variable x) bs) ln → Owes core ns u (arm_line core x.0 k ys u ln)
-owes_arm core (Inner f) x bs k ys u ln all lasts h = λ q e. absurd (apart false (h q e) refl)
+owes_arm core (Inner f) x bs k ys u ln all lasts h = λ q e. absurd (both_ways false refl (h q e))
 owes_arm core (AtEnd n) x bs k ys u ln all lasts h = (
   h.0,
   λ e. promise_arm core n x bs k ys u ln e h.0 all lasts (h.1 e),
@@ -113,29 +110,25 @@ pub owes_side : (core : CoreTree) (w : Within) (u : Term) → Owes core (Inner (
 owes_side core w u = λ q e. e
 
 pub owes_none : (core : CoreTree) (w : Within) (u : Term) → Owes core (Inner none_of) u (new_line w)
-owes_none core w u = λ q e. absurd (apart false e refl)
+owes_none core w u = λ q e. absurd (both_ways false refl e)
 
 some_has : (es : List Ended) (f q : ℕ) → has_ended es f q ≡ true → some_ended es f ≡ true
 some_has [] f q e = absurd cc
 some_has (x ∷ es) f q e =
-    ⊎_elim (λ h. or_left (x.function == f) (some_ended es f) (first (x.function == f) (x.place == q) h)) (λ h. or_right (x.function == f) (some_ended es f) (some_has es f q h)) (or_cases (x.function == f && x.place == q) (has_ended es f q) e)
-  where
-    first : (b c : Bool) → (b && c) ≡ true → b ≡ true
-    first true c h = refl
-    first false c h = h
+    ⊎_elim (λ h. or_left (x.function == f) (some_ended es f) (and_parts (x.function == f) (x.place == q) h).0) (λ h. or_right (x.function == f) (some_ended es f) (some_has es f q h)) (or_cases (x.function == f && x.place == q) (has_ended es f q) e)
 
 pub owes_body : (core : CoreTree) (f : ℕ) (g : FunctionTerm) → function_at core.functions f ≡ Some g → g.name.0 ≡ f → Owes core (body_needs core f) g.body (new_line (within_function core g))
 owes_body core f g e same = (
   refl,
   λ h. promise_body core f g (within_function core g) e (ended_known core f),
-  λ h. (refl, λ q i. apart (within_function core g).ends (or_left (some_ended (ended core) g.name.0) _ (ap (some_ended (ended core)) same ∙ some_has (ended core) f q i)) h),
+  λ h. (refl, λ q i. both_ways (within_function core g).ends h (or_left (some_ended (ended core) g.name.0) _ (ap (some_ended (ended core)) same ∙ some_has (ended core) f q i))),
 )
 
 pub owes_main : (core : CoreTree) → Owes core (AtEnd none_of) core.main.body (new_line (within_main core))
-owes_main core = (refl, λ h. record { meets = (tt, λ q e. absurd (apart false e refl)) }, λ h. (refl, λ q e. apart false e refl))
+owes_main core = (refl, λ h. record { meets = (tt, λ q e. absurd (both_ways false refl e)) }, λ h. (refl, λ q e. both_ways false refl e))
 
 pub owes_own : (core : CoreTree) (g : FunctionTerm) → Owes core (AtEnd none_of) g.body (new_line (within_function core g))
-owes_own core g = (refl, λ h. record { meets = (tt, λ q e. absurd (apart false e refl)) }, λ h. (refl, λ q e. apart false e refl))
+owes_own core g = (refl, λ h. record { meets = (tt, λ q e. absurd (both_ways false refl e)) }, λ h. (refl, λ q e. both_ways false refl e))
 
 -- What the rules know to be told in a line is told.
 pub record Tells (core : CoreTree) (s : Setting) (ln : Line) : Type 0 where
@@ -144,13 +137,13 @@ pub record Tells (core : CoreTree) (s : Setting) (ln : Line) : Type 0 where
 
 -- A line begins.
 pub tells_new : (core : CoreTree) (s : Setting) (w : Within) → s.calls ≡ [] → (is_outside s.others ≡ true → w.par ≡ false) → Tells core s (new_line w)
-tells_new core s w e p = record { par = p; told = λ z o h. absurd (apart false (ap (λ cs. one_tells (ended core) cs z) (sym e) ∙ h) refl) }
+tells_new core s w e p = record { par = p; told = λ z o h. absurd (both_ways false refl (ap (λ cs. one_tells (ended core) cs z) (sym e) ∙ h)) }
 
 -- An arm, or a branch of an `if`, has its own line.
 pub tells_inner : (core : CoreTree) (s s' : Setting) (ln ln' : Line) → s'.calls ≡ [] → s'.others ≡ s.others → ln'.within ≡ ln.within → Tells core s ln → Tells core s' ln'
 tells_inner core s s' ln ln' e o w h = record {
   par = λ i. ap (λ (v : Within). v.par) w ∙ h.par (ap is_outside (sym o) ∙ i);
-  told = λ z i j. absurd (apart false (ap (λ cs. one_tells (ended core) cs z) (sym e) ∙ j) refl);
+  told = λ z i j. absurd (both_ways false refl (ap (λ cs. one_tells (ended core) cs z) (sym e) ∙ j));
 }
 
 side_call : (core : CoreTree) (w : Within) (kd : Kind) (x : Variable) (ty : Ty) (u : Term) (z : Variable) → w.par ≡ false → is_telling (ended core) (t.One (On kd x ty u)) z ≡ true → side_tells w core u z.0 ≡ true
@@ -225,7 +218,7 @@ abbrev pub MayTell : Setting → Within → Type 0
 MayTell s w = is_outside s.others ≡ true → w.par ≡ false
 
 pub left_may : (s : Setting) (r : Side) (w : Within) → MayTell (left_of s r) w
-left_may s r w = λ e. absurd (apart false e refl)
+left_may s r w = λ e. absurd (both_ways false refl e)
 
 pub right_may : (s : Setting) (l : Side) (w : Within) → MayTell (right_of s l) w
-right_may s (On kd x ty u) w = λ e. absurd (apart false e refl)
+right_may s (On kd x ty u) w = λ e. absurd (both_ways false refl e)

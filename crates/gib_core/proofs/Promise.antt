@@ -1,6 +1,6 @@
 -- What is known at the end of a term is told by then: the ended parameters of a body, and what a call's side tells.
 use Rattle.std.proofs.Common.{◌≡◌, ℕ, Bool, true, false, cond, filter, length, arith, not, ◌||◌, ◌&&◌, ◌==◌, List, [], ◌∷◌, Option, Some, None, refl, sym, ap, subst, ◌∙◌}
-use Rattle.std.proofs.lemmas.Bool.{eq-eqb, eqb-true}
+use Rattle.std.proofs.lemmas.Bool.{eq-eqb, eqb-true, true≢false, or_left, or_right, and_parts, and_from}
 use Rattle.gib_core.specs.Meaning.{function_at}
 use Rattle.gib_core.specs.Ending.{known_in, stays_ended, narrowed, settled, all_packed}
 use Rattle.gib_types.specs.Table.{fields_at}
@@ -15,32 +15,9 @@ use Rattle.gib_core.specs.Ending.{Within, Ended, ended, has_ended, call_ends, te
 use Rattle.gib_core.specs.Low.{Over, with_over}
 use Rattle.gib_core.specs.Fits.{Line, Needs, Inner, AtEnd, Meets, Runs, and_also, finally, new_line, tell_line, arm_line, is_leaf, call_tells, side_tells, body_needs}
 
-clash : true ≡ false → ⊥
-clash h = absurd cc
-
-or_left : (x y : Bool) → x ≡ true → (x || y) ≡ true
-or_left true y e = refl
-or_left false y e = absurd (clash (sym e))
-
-or_right : (x y : Bool) → y ≡ true → (x || y) ≡ true
-or_right true y e = refl
-or_right false y e = e
-
 or_by : (x y : Bool) (P : Type 0) → (x ≡ true → P) → (y ≡ true → P) → (x || y) ≡ true → P
 or_by true y P f g e = f refl
 or_by false y P f g e = g e
-
-and_left : (x y : Bool) → (x && y) ≡ true → x ≡ true
-and_left true y h = refl
-and_left false y h = h
-
-and_right : (x y : Bool) → (x && y) ≡ true → y ≡ true
-and_right true y h = h
-and_right false y h = absurd (clash (sym h))
-
-and_both : (x y : Bool) → x ≡ true → y ≡ true → (x && y) ≡ true
-and_both true y e f = f
-and_both false y e f = absurd (clash (sym e))
 
 -- More is told.
 also_more : (f g : ℕ → Bool) (x : ℕ) → ((q : ℕ) → f q ≡ true → g q ≡ true) → (q : ℕ) → and_also f x q ≡ true → and_also g x q ≡ true
@@ -75,7 +52,7 @@ module _ (core : CoreTree) (ns : Needs) where
 
   -- the end of a line: no call, and a call outside each `par`
   pub promise_leaf : (u : Term) (ln : Line) → ((q : ℕ) → known u q ≡ false) → Promised core ns u ln → Meets ns ln.told ln.overs
-  promise_leaf u ln none p = meets_more ns (λ q. ln.told q || known u q) ln.told ln.overs (λ q e. or_by (ln.told q) (known u q) (ln.told q ≡ true) (λ i. i) (λ i. absurd (clash (sym i ∙ none q))) e) p.meets
+  promise_leaf u ln none p = meets_more ns (λ q. ln.told q || known u q) ln.told ln.overs (λ q e. or_by (ln.told q) (known u q) (ln.told q ≡ true) (λ i. i) (λ i. absurd (true≢false (sym i ∙ none q))) e) p.meets
 
   pub promise_call : (f : Rattle.gib_base.specs.declared.name.Name.Name) (xs : List Atom) (ln : Line) → ln.within.par ≡ false → Promised core ns (t.CallTerm f xs) ln → Meets ns (λ q. ln.told q || call_tells ln.within core f.0 xs q) ln.overs
   promise_call f xs ln np p = meets_more ns (λ q. ln.told q || known (t.CallTerm f xs) q) (λ q. ln.told q || call_tells ln.within core f.0 xs q) ln.overs
@@ -100,8 +77,8 @@ module _ (core : CoreTree) (ns : Needs) where
   -- the two sides of an `if`
   pub promise_if : (x : Atom) (u v : Term) (ln : Line) → Promised core ns (t.IfTerm x u v) ln → Promised core ns u ln × Promised core ns v ln
   promise_if x u v ln p = (
-    promise_on (t.IfTerm x u v) u ln ln refl (λ q e. e) (λ q e. or_right (ln.told q) (known u q) (and_left (known u q) (known v q) e)) p,
-    promise_on (t.IfTerm x u v) v ln ln refl (λ q e. e) (λ q e. or_right (ln.told q) (known v q) (and_right (known u q) (known v q) e)) p,
+    promise_on (t.IfTerm x u v) u ln ln refl (λ q e. e) (λ q e. or_right (ln.told q) (known u q) (and_parts (known u q) (known v q) e).0) p,
+    promise_on (t.IfTerm x u v) v ln ln refl (λ q e. e) (λ q e. or_right (ln.told q) (known v q) (and_parts (known u q) (known v q) e).1) p,
   )
 
 flip : (x q : ℕ) → (x == q) ≡ true → (q == x) ≡ true
@@ -130,17 +107,17 @@ module _ (core : CoreTree) (n : ℕ → Bool) where
           (λ i. f q (or_left (ln.told q || ((ln.within.ends && is_leaf o) && q == x.0)) (K (record { 0 = q })) (or_left (ln.told q) ((ln.within.ends && is_leaf o) && q == x.0) i)))
           (λ i. or_by (all_known core.table (ended core) bs (record { 0 = q })) (x.0 == q && lasts_known core.table (ended core) bs) (P q ≡ true)
           (λ j. f q (or_right (ln.told q || ((ln.within.ends && is_leaf o) && q == x.0)) (K (record { 0 = q })) (all q j)))
-          (λ j. g q (and_left (x.0 == q) (lasts_known core.table (ended core) bs) j) (and_right (x.0 == q) (lasts_known core.table (ended core) bs) j)) i) e
+          (λ j. g q (and_parts (x.0 == q) (lasts_known core.table (ended core) bs) j).0 (and_parts (x.0 == q) (lasts_known core.table (ended core) bs) j).1) i) e
 
       some : (y : Variable) (b : Bool) → K y ≡ b → (lasts_known core.table (ended core) bs ≡ true → K y ≡ true) → Meets (AtEnd n) (U (Some y)) (with_over x.0 (Some y) b ln.overs)
-      some y false e l = meets_more (AtEnd n) T (U (Some y)) ln.overs (within (Some y) (U (Some y)) (λ q i. i) (λ q i j. absurd (clash (sym (l j) ∙ e)))) p.meets
+      some y false e l = meets_more (AtEnd n) T (U (Some y)) ln.overs (within (Some y) (U (Some y)) (λ q i. i) (λ q i j. absurd (true≢false (sym (l j) ∙ e)))) p.meets
       some y true e l =
           let m = meets_more (AtEnd n) T (and_also (U (Some y)) x.0) ln.overs (within (Some y) (and_also (U (Some y)) x.0) (λ q i. or_left (U (Some y) q) (q == x.0) i) (λ q i j. or_right (U (Some y) q) (q == x.0) (flip x.0 q i))) p.meets in
           ((or_right (ln.told y.0 || ((ln.within.ends && false) && y.0 == x.0)) (K y) e, m.0), m.1)
 
       go : (o : Option Variable) → (lasts_known core.table (ended core) bs ≡ true → if_some o K ≡ true) → Meets (AtEnd n) (U o) (with_over x.0 o (ln.within.ends && (not ln.within.par && if_some o K)) ln.overs)
       go None l = meets_more (AtEnd n) T (U None) ln.overs (within None (U None) (λ q i. i)
-          (λ q i j. or_left (ln.told q || ((ln.within.ends && true) && q == x.0)) (K (record { 0 = q })) (or_right (ln.told q) ((ln.within.ends && true) && q == x.0) (and_both (ln.within.ends && true) (q == x.0) (and_both ln.within.ends true ends refl) (flip x.0 q i))))) p.meets
+          (λ q i j. or_left (ln.told q || ((ln.within.ends && true) && q == x.0)) (K (record { 0 = q })) (or_right (ln.told q) ((ln.within.ends && true) && q == x.0) (and_from (ln.within.ends && true) (q == x.0) (and_from ln.within.ends true ends refl) (flip x.0 q i))))) p.meets
       go (Some y) l = subst (λ (c : Bool). Meets (AtEnd n) (U (Some y)) (with_over x.0 (Some y) (c && (not ln.within.par && K y)) ln.overs)) (sym ends)
           (subst (λ (c : Bool). Meets (AtEnd n) (U (Some y)) (with_over x.0 (Some y) (not c && K y) ln.overs)) (sym np) (some y (K y) refl l))
 
@@ -150,13 +127,13 @@ promise_body core f g w e settled = record { meets = (tt, λ q h. subst (λ (o :
 
 -- where a side begins: nothing is asked of it but what its call tells
 pub promise_side : (core : CoreTree) (w : Within) (s : Term) → w.par ≡ false → Promised core (Inner (side_tells w core s)) s (new_line w)
-promise_side core w (t.Then b u) np = record { meets = λ q h. absurd (clash (sym h)) }
-promise_side core w (t.Write v k ss ps) np = record { meets = λ q h. absurd (clash (sym h)) }
-promise_side core w (t.Point x) np = record { meets = λ q h. absurd (clash (sym h)) }
+promise_side core w (t.Then b u) np = record { meets = λ q h. absurd (true≢false (sym h)) }
+promise_side core w (t.Write v k ss ps) np = record { meets = λ q h. absurd (true≢false (sym h)) }
+promise_side core w (t.Point x) np = record { meets = λ q h. absurd (true≢false (sym h)) }
 promise_side core w (t.CallTerm f xs) np = record { meets = λ q h. subst (λ (b : Bool). cond b false (call_ends (ended core) f.0 0 xs (record { 0 = q })) ≡ true) np h }
-promise_side core w (t.Give x) np = record { meets = λ q h. absurd (clash (sym h)) }
-promise_side core w (t.CaseTerm x bs) np = record { meets = λ q h. absurd (clash (sym h)) }
-promise_side core w (t.IfTerm x u v) np = record { meets = λ q h. absurd (clash (sym h)) }
+promise_side core w (t.Give x) np = record { meets = λ q h. absurd (true≢false (sym h)) }
+promise_side core w (t.CaseTerm x bs) np = record { meets = λ q h. absurd (true≢false (sym h)) }
+promise_side core w (t.IfTerm x u v) np = record { meets = λ q h. absurd (true≢false (sym h)) }
 
 -- Each ended parameter is known at the end of its function's body.
 
@@ -165,11 +142,11 @@ no_pass p es e h = let s = Rattle.gib_core.proofs.Settles.shorter p es in let l 
 
 same_pair : (p : Ended → Bool) (e : Ended) (f k : ℕ) → (e.function == f && e.place == k) ≡ true → p e ≡ true → p (record { function = f; place = k }) ≡ true
 same_pair p e f k h g =
-    subst (λ (q : ℕ). p (record { function = f; place = q }) ≡ true) (eqb-true e.place k (and_right (e.function == f) (e.place == k) h))
-    (subst (λ (q : ℕ). p (record { function = q; place = e.place }) ≡ true) (eqb-true e.function f (and_left (e.function == f) (e.place == k) h)) g)
+    subst (λ (q : ℕ). p (record { function = f; place = q }) ≡ true) (eqb-true e.place k (and_parts (e.function == f) (e.place == k) h).1)
+    (subst (λ (q : ℕ). p (record { function = q; place = e.place }) ≡ true) (eqb-true e.function f (and_parts (e.function == f) (e.place == k) h).0) g)
 
 passes : (p : Ended → Bool) (es : List Ended) → filter p es ≡ es → (f k : ℕ) → has_ended es f k ≡ true → p (record { function = f; place = k }) ≡ true
-passes p [] h f k e = absurd (clash (sym e))
+passes p [] h f k e = absurd (true≢false (sym e))
 passes p (x ∷ es) h f k e = go (p x) refl h (λ g i. passes p es g f k i)
   where
     tail_of : List Ended → List Ended

@@ -1,5 +1,6 @@
 -- The ended parameters stay as they are.
 use Rattle.std.proofs.Common.{◌≡◌, ℕ, zero, suc, ◌≤◌, ◌<◌, Bool, true, false, cond, List, [], ◌∷◌, length, filter, refl, sym, ap, subst, ◌∙◌, arith}
+use Rattle.std.proofs.lemmas.Bool.{true≢false}
 use Rattle.gib_core.specs.Tree.{CoreTree}
 use Rattle.gib_core.specs.Ending.{Ended, stays_ended, narrowed, settled}
 
@@ -37,10 +38,7 @@ settles core (suc n) es h = go (Rattle.std.proofs.Common.eqb (length (narrowed c
     go true e r =
         let same = all_stay (stays_ended core es) es (Rattle.std.proofs.lemmas.Bool.eqb-true (length (narrowed core es)) (length es) e) in
         subst (λ (q : List Ended). narrowed core q ≡ q) (sym (ap (settled core n) same ∙ stays core n es same)) same
-    go false e r = r (less (shorter (stays_ended core es) es) (λ q. absurd (no (sym (Rattle.std.proofs.lemmas.Bool.eq-eqb (length (narrowed core es)) (length es) q) ∙ e))))
+    go false e r = r (less (shorter (stays_ended core es) es) (λ q. absurd (true≢false (sym (Rattle.std.proofs.lemmas.Bool.eq-eqb (length (narrowed core es)) (length es) q) ∙ e))))
       where
-        no : true ≡ false → ⊥
-        no f = absurd cc
-
         less : length (narrowed core es) ≤ length es → (length (narrowed core es) ≡ length es → ⊥) → length (narrowed core es) ≤ n
         less a b = omega (arith, a, b, h)

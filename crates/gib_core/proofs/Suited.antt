@@ -1,6 +1,6 @@
 -- What the terms of a core are met with where its fields are reached, and how that goes on from a term to its parts.
 use Rattle.std.proofs.Common.{◌≡◌, inl, ⊎_elim, ℕ, suc, Bool, true, false, ◌==◌, ◌||◌, ◌&&◌, if◌then◌else◌, List, [], ◌∷◌, ◌++◌, Option, Some, None, refl, sym, ap, ◌∙◌, subst}
-use Rattle.std.proofs.lemmas.Bool.{eq-eqb, both_ways, or_parts, or_from, or_left, or_right, or_cases, false_from_ne_true, true_from_ne_false}
+use Rattle.std.proofs.lemmas.Bool.{eq-eqb, both_ways, or_parts, or_from, or_left, or_right, or_cases, false_from_ne_true, true_from_ne_false, and_parts}
 use Rattle.gib_base.specs.declared.name.Name.{Name}
 use Rattle.gib_types.specs.declared.table.Ty.{Ty}
 use Rattle.gib_types.specs.declared.table.ConId.{ConId}
@@ -151,11 +151,7 @@ module _ (core : CoreTree) where
   -- A call tells the end of a variable that it uses.
   ends_use : (es : List Ended) (f k : ℕ) (xs : List Atom) (z : Variable) → call_ends es f k xs z ≡ true → has_variable z xs ≡ true
   ends_use es f k [] z e = absurd cc
-  ends_use es f k (x ∷ xs) z e = ⊎_elim (λ h. or_left (is_variable z x) (has_variable z xs) (and_one (is_variable z x) (has_ended es f k) h)) (λ h. or_right (is_variable z x) (has_variable z xs) (ends_use es f (suc k) xs z h)) (or_cases (is_variable z x && has_ended es f k) (call_ends es f (suc k) xs z) e)
-    where
-      and_one : (a c : Bool) → (a && c) ≡ true → a ≡ true
-      and_one true c h = refl
-      and_one false c h = h
+  ends_use es f k (x ∷ xs) z e = ⊎_elim (λ h. or_left (is_variable z x) (has_variable z xs) (and_parts (is_variable z x) (has_ended es f k) h).0) (λ h. or_right (is_variable z x) (has_variable z xs) (ends_use es f (suc k) xs z h)) (or_cases (is_variable z x && has_ended es f k) (call_ends es f (suc k) xs z) e)
 
   telling_uses : (es : List Ended) (bind : Bind) (z : Variable) → is_telling es bind z ≡ true → bind_uses bind z ≡ true
   telling_uses es (Past h k) z e = absurd cc

@@ -120,7 +120,7 @@ more_below n (Empty s) x h = tt
 more_below n (Open s g k xs []) x h = h
 more_below n (Open s g k xs (u ∷ dues)) x h = h
 
-dest_more : (d : Dest) (x : ℕ) → dest_type (more d x) ≡ dest_type d
+pub dest_more : (d : Dest) (x : ℕ) → dest_type (more d x) ≡ dest_type d
 dest_more (Nowhere ty) x = refl
 dest_more (Empty s) x = refl
 dest_more (Open s g k xs []) x = refl

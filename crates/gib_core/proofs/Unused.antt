@@ -1,6 +1,6 @@
 -- What lines that break no rule do not use, and which variables a case was on.
 use Rattle.std.proofs.Common.{◌≡◌, ℕ, ◌==◌, Bool, true, false, ◌||◌, ◌&&◌, not, List, [], ◌∷◌, ◌++◌, refl, sym, ap, ◌∙◌, subst}
-use Rattle.std.proofs.lemmas.Bool.{eqb-true, eq-eqb}
+use Rattle.std.proofs.lemmas.Bool.{eqb-true, eq-eqb, or_right, both_ways, or_left, or_from, or_parts}
 use Rattle.gib_types.specs.declared.table.Ty.{Ty}
 use Rattle.gib_types.specs.declared.table.Ty.TheVariants.{Truth}
 use Rattle.gib_types.specs.declared.table.ConId.{ConId}
@@ -16,22 +16,15 @@ use Rattle.gib_core.specs.Reaching.{is_variable, has_variable, uses, bind_uses, 
 use Rattle.gib_core.specs.Met.{Line, CaseLine, ParLine, SideLine, PrimLine, IfLine, Met, Setting, at, behind, in_side, in_arm, in_branch, left_of, right_of, arms_of, met, met_bind, met_side, met_branches, behind_side}
 use Rattle.gib_core.specs.Rules.{Before, is_among, next, next_all, cases_on, LinesAreBuilt, any_other, is_other, all_usable, may_write, are_scalars, is_empty, is_usable, has_type, gives_packed, call_fits, is_nowhere}
 use Rattle.gib_core.specs.Fits.{cased, bind_cased, side_cased, branches_cased, is_of}
-use Rattle.gib_core.proofs.Facts.{or_false, or_true, clash, Test, holds, fails, test, same_variable, least_none}
-use Rattle.gib_core.proofs.Later.{case_facts, prim_facts, built_apart, next_apart}
-
-or_from_left : (p q : Bool) → p ≡ true → p || q ≡ true
-or_from_left true q e = refl
-or_from_left false q e = absurd cc
-
-or_both : (p q : Bool) → p ≡ false → q ≡ false → p || q ≡ false
-or_both true q e f = absurd cc
-or_both false q e f = f
+use Rattle.gib_core.proofs.Facts.{Test, holds, fails, test, same_variable, least_none}
+use Rattle.gib_core.proofs.Later.{case_facts, prim_facts, built_apart}
+use Rattle.gib_core.proofs.Along.{next_append}
 
 -- No atom is another side's variable.
 
 unused_by : (s : Setting) (x y : Variable) → is_among s.others x ≡ true → is_among s.others y ≡ false → Test (y.0 == x.0) → y.0 == x.0 ≡ false
 unused_by s x y o e (fails ne) = ne
-unused_by s x y o e (holds eq) = absurd (clash (is_among s.others y) (ap (is_among s.others) (same_variable y x eq) ∙ o) e)
+unused_by s x y o e (holds eq) = absurd (both_ways (is_among s.others y) e (ap (is_among s.others) (same_variable y x eq) ∙ o))
 
 one_unused : (s : Setting) (x : Variable) (y : Atom) → is_among s.others x ≡ true → is_other s y ≡ false → is_variable x y ≡ false
 one_unused s x (a.Whole z) o e = refl
@@ -41,18 +34,18 @@ one_unused s x (a.Variable y) o e = unused_by s x y o e (test (y.0 == x.0))
 any_unused : (s : Setting) (x : Variable) (ys : List Atom) → is_among s.others x ≡ true → any_other s ys ≡ false → has_variable x ys ≡ false
 any_unused s x [] o e = refl
 any_unused s x (y ∷ ys) o e =
-    let h = or_false (is_other s y) (any_other s ys) e in
-    or_both (is_variable x y) (has_variable x ys) (one_unused s x y o h.0) (any_unused s x ys o h.1)
+    let h = or_parts (is_other s y) (any_other s ys) e in
+    or_from (is_variable x y) (has_variable x ys) (one_unused s x y o h.0) (any_unused s x ys o h.1)
 
 any_first : (s : Setting) (x : Variable) (ys zs : List Atom) → is_among s.others x ≡ true → any_other s (ys ++ zs) ≡ false → has_variable x ys ≡ false
 any_first s x [] zs o e = refl
 any_first s x (y ∷ ys) zs o e =
-    let h = or_false (is_other s y) (any_other s (ys ++ zs)) e in
-    or_both (is_variable x y) (has_variable x ys) (one_unused s x y o h.0) (any_first s x ys zs o h.1)
+    let h = or_parts (is_other s y) (any_other s (ys ++ zs)) e in
+    or_from (is_variable x y) (has_variable x ys) (one_unused s x y o h.0) (any_first s x ys zs o h.1)
 
 any_second : (s : Setting) (x : Variable) (ys zs : List Atom) → is_among s.others x ≡ true → any_other s (ys ++ zs) ≡ false → has_variable x zs ≡ false
 any_second s x [] zs o e = any_unused s x zs o e
-any_second s x (y ∷ ys) zs o e = any_second s x ys zs o (or_false (is_other s y) (any_other s (ys ++ zs)) e).1
+any_second s x (y ∷ ys) zs o e = any_second s x ys zs o (or_parts (is_other s y) (any_other s (ys ++ zs)) e).1
 
 -- Settings of nested terms have the others.
 
@@ -69,7 +62,7 @@ others_inside table s Region ty x o = o
 others_inside table s Scalar ty x o = o
 
 others_right : (s : Setting) (l : Side) (x : Variable) → is_among s.others x ≡ true → is_among (right_of s l).others x ≡ true
-others_right s (On kind y ty t) x o = or_true (y.0 == x.0) (is_among s.others x) o
+others_right s (On kind y ty t) x o = or_right (y.0 == x.0) (is_among s.others x) o
 
 -- Terms.
 
@@ -77,10 +70,10 @@ mutual
   pub unused : (core : CoreTree) (t : Term) (b : Before) (s : Setting) (x : Variable) → is_among s.others x ≡ true → LinesAreBuilt core b (met core.table s t) → uses t x ≡ false
   unused core (Then k rest) b s x o h =
       let parts = built_apart core b (met_bind core.table s k) (met core.table (behind s k) rest) h in
-      or_both (bind_uses k x) (uses rest x) (bind_unused core k b s x o parts.0) (unused core rest (next_all core.table b (met_bind core.table s k)) (behind s k) x (others_behind s k x o) parts.1)
+      or_from (bind_uses k x) (uses rest x) (bind_unused core k b s x o parts.0) (unused core rest (next_all core.table b (met_bind core.table s k)) (behind s k) x (others_behind s k x o) parts.1)
   unused core (Write h k ss ps) b s x o e =
       let four = (least_none 4 (any_other s (ss ++ ps)) ((5, not (may_write core.table b s.destination h k ps)) ∷ (8, not (all_usable s (ss ++ ps))) ∷ (9, not (are_scalars core.table b s.destination ss)) ∷ []) e.0).0 in
-      or_both (has_variable x ss) (has_variable x ps) (any_first s x ss ps o four) (any_second s x ss ps o four)
+      or_from (has_variable x ss) (has_variable x ps) (any_first s x ss ps o four) (any_second s x ss ps o four)
   unused core (Point y) b s x o e =
       one_unused s x y o (least_none 4 (is_other s y) ((6, not (is_empty s.destination)) ∷ (8, not (is_usable s y)) ∷ (9, not (has_type b y s.due)) ∷ []) e.0).0
   unused core (CallTerm f ys) b s x o e =
@@ -88,13 +81,13 @@ mutual
   unused core (Give y) b s x o e =
       one_unused s x y o (least_none 4 (is_other s y) ((8, not (is_usable s y)) ∷ (9, not (is_nowhere s.destination && has_type b y s.due)) ∷ []) e.0).0
   unused core (CaseTerm y bs) b s x o e =
-      or_both (is_variable x y) (branches_use bs x) (one_unused s x y o (case_facts core b s y (arms_of bs) e.0).apart) (branches_unused core bs (next core.table b (CaseLine y (arms_of bs))) s x o e.1)
+      or_from (is_variable x y) (branches_use bs x) (one_unused s x y o (case_facts core b s y (arms_of bs) e.0).apart) (branches_unused core bs (next core.table b (CaseLine y (arms_of bs))) s x o e.1)
   unused core (IfTerm y t u) b s x o e =
       let c = next core.table b (IfLine y) in
       let parts = built_apart core c (met core.table (in_branch s) t) (met core.table (in_branch s) u) e.1 in
-      or_both (is_variable x y) (uses t x || uses u x)
+      or_from (is_variable x y) (uses t x || uses u x)
       (one_unused s x y o (least_none 4 (is_other s y) ((8, not (is_usable s y)) ∷ (9, not (has_type b y Truth)) ∷ []) e.0).0)
-      (or_both (uses t x) (uses u x) (unused core t c (in_branch s) x o parts.0) (unused core u (next_all core.table c (met core.table (in_branch s) t)) (in_branch s) x o parts.1))
+      (or_from (uses t x) (uses u x) (unused core t c (in_branch s) x o parts.0) (unused core u (next_all core.table c (met core.table (in_branch s) t)) (in_branch s) x o parts.1))
 
   bind_unused : (core : CoreTree) (k : Bind) (b : Before) (s : Setting) (x : Variable) → is_among s.others x ≡ true → LinesAreBuilt core b (met_bind core.table s k) → bind_uses k x ≡ false
   bind_unused core (Past h k) b s x o e = refl
@@ -102,12 +95,12 @@ mutual
   bind_unused core (Both fork l r) b s x o e =
       let c = next core.table b ParLine in
       let parts = built_apart core c (met_side core.table (left_of s r) l) (met_side core.table (right_of s l) r) e.1 in
-      or_both (side_uses l x) (side_uses r x)
-      (side_unused core l c (left_of s r) x (or_true ((variable_of r).0 == x.0) (is_among s.others x) o) parts.0)
+      or_from (side_uses l x) (side_uses r x)
+      (side_unused core l c (left_of s r) x (or_right ((variable_of r).0 == x.0) (is_among s.others x) o) parts.0)
       (side_unused core r (next_all core.table c (met_side core.table (left_of s r) l)) (right_of s l) x (others_right s l x o) parts.1)
   bind_unused core (Prim y f v w) b s x o e =
-      let h = or_false (is_other s v) (is_other s w || false) (prim_facts core b s y f v w e.0).apart in
-      or_both (is_variable x v) (is_variable x w) (one_unused s x v o h.0) (one_unused s x w o (or_false (is_other s w) false h.1).0)
+      let h = or_parts (is_other s v) (is_other s w || false) (prim_facts core b s y f v w e.0).apart in
+      or_from (is_variable x v) (is_variable x w) (one_unused s x v o h.0) (one_unused s x w o (or_parts (is_other s w) false h.1).0)
   bind_unused core (Reach y by) b s x o e = refl
 
   pub side_unused : (core : CoreTree) (side : Side) (b : Before) (s : Setting) (x : Variable) → is_among s.others x ≡ true → LinesAreBuilt core b (met_side core.table s side) → side_uses side x ≡ false
@@ -118,13 +111,13 @@ mutual
   branches_unused core NoBranch b s x o e = refl
   branches_unused core (BranchThen k ys t bs) b s x o e =
       let parts = built_apart core b (met core.table (in_arm core.table s k ys) t) (met_branches core.table s bs) e in
-      or_both (uses t x) (branches_use bs x) (unused core t b (in_arm core.table s k ys) x o parts.0)
+      or_from (uses t x) (branches_use bs x) (unused core t b (in_arm core.table s k ys) x o parts.0)
       (branches_unused core bs (next_all core.table b (met core.table (in_arm core.table s k ys) t)) s x o parts.1)
 
 -- Variables that a case was on stand before.
 
 cased_kept : (line : Line) (cs : List Variable) (y : Variable) → is_among cs y ≡ true → is_among (cases_on line cs) y ≡ true
-cased_kept (CaseLine (a.Variable x) arms) cs y h = or_true (x.0 == y.0) (is_among cs y) h
+cased_kept (CaseLine (a.Variable x) arms) cs y h = or_right (x.0 == y.0) (is_among cs y) h
 cased_kept (CaseLine (a.Whole z) arms) cs y h = h
 cased_kept (CaseLine (a.Truth z) arms) cs y h = h
 cased_kept (Rattle.gib_core.specs.Met.PastLine q k) cs y h = h
@@ -144,10 +137,10 @@ cased_on table b (m ∷ ms) y h = cased_on table (next table b m.line) ms y (cas
 
 -- The one list of lines, or the other one.
 first_cased : (table : Table) (b : Before) (ms ns : List Met) (y : Variable) → is_among (next_all table b ms).cased y ≡ true → is_among (next_all table b (ms ++ ns)).cased y ≡ true
-first_cased table b ms ns y h = subst (λ (c : Before). is_among c.cased y ≡ true) (sym (next_apart table b ms ns)) (cased_on table (next_all table b ms) ns y h)
+first_cased table b ms ns y h = subst (λ (c : Before). is_among c.cased y ≡ true) (sym (next_append table b ms ns)) (cased_on table (next_all table b ms) ns y h)
 
 second_cased : (table : Table) (b : Before) (ms ns : List Met) (y : Variable) → is_among (next_all table (next_all table b ms) ns).cased y ≡ true → is_among (next_all table b (ms ++ ns)).cased y ≡ true
-second_cased table b ms ns y h = subst (λ (c : Before). is_among c.cased y ≡ true) (sym (next_apart table b ms ns)) h
+second_cased table b ms ns y h = subst (λ (c : Before). is_among c.cased y ≡ true) (sym (next_append table b ms ns)) h
 
 -- Which of two.
 pub data Either (p q : Bool) : Type 0 where
@@ -164,7 +157,7 @@ turned m n e = let h : n ≡ m = sym (eqb-true m n e) in eq-eqb n m h
 subject_cased : (x : Atom) (arms : List (ConId × List Variable)) (cs : List Variable) (q : Variable) → is_of x q.0 ≡ true → is_among (cases_on (CaseLine x arms) cs) q ≡ true
 subject_cased (a.Whole z) arms cs q e = absurd cc
 subject_cased (a.Truth z) arms cs q e = absurd cc
-subject_cased (a.Variable x) arms cs q e = or_from_left (x.0 == q.0) (is_among cs q) (turned q.0 x.0 e)
+subject_cased (a.Variable x) arms cs q e = or_left (x.0 == q.0) (is_among cs q) (turned q.0 x.0 e)
 
 mutual
   pub cased_before : (table : Table) (t : Term) (b : Before) (s : Setting) (q : Variable) → cased t q.0 ≡ true → is_among (next_all table b (met table s t)).cased q ≡ true

@@ -1,6 +1,6 @@
 -- What is known of variables, by the rules and by the type.
 use Rattle.std.proofs.Common.{◌≡◌, ℕ, ◌<◌, ◌==◌, Bool, true, false, if◌then◌else◌, List, ◌∷◌, Option, Some, None, refl, sym, ap, ◌∙◌, subst}
-use Rattle.std.proofs.lemmas.Bool.{eqb-true, eq-eqb}
+use Rattle.std.proofs.lemmas.Bool.{eqb-true, eq-eqb, both_ways}
 use Rattle.std.proofs.lemmas.Option.{same_Some}
 use Rattle.gib_types.specs.declared.table.Ty.{Ty}
 use Rattle.gib_types.specs.declared.table.Ty.TheVariants.{Whole, Truth, Tree}
@@ -11,7 +11,7 @@ use Rattle.gib_core.specs.declared.scope.Known.{Known}
 use Rattle.gib_core.specs.Met.{known}
 use Rattle.gib_core.specs.Rules.{Before, is_among, is_bound, type_bound}
 use Rattle.gib_core.specs.Fits.{Sort, Outside, Absent, Scalar, Held, Placed, Loose, AtHead, Field, Scope, put, tree_type, loosen_one, loosen}
-use Rattle.gib_core.proofs.Facts.{clash, Test, holds, fails, test, itself}
+use Rattle.gib_core.proofs.Facts.{Test, holds, fails, test, itself}
 use Rattle.gib_core.proofs.Later.{Later, typed_bound}
 
 abbrev pub named : ℕ → Variable
@@ -78,7 +78,7 @@ known_as b sc tc y false (Some f) e k = record { ty = k.ty; before = k.before; t
 
 by_test : (p q : Bool) → (p ≡ true → q ≡ true) → q ≡ false → Test p → p ≡ false
 by_test p q f e (fails ne) = ne
-by_test p q f e (holds eq) = absurd (clash q (f eq) e)
+by_test p q f e (holds eq) = absurd (both_ways q e (f eq))
 
 not_cased : (b c : Before) (y : Variable) → Later b c → is_among c.cased y ≡ false → is_among b.cased y ≡ false
 not_cased b c y l e = by_test (is_among b.cased y) (is_among c.cased y) (l.cased y) e (test (is_among b.cased y))
@@ -108,7 +108,7 @@ field_loosened false t z x k p = refl
 
 placed_still : (m : Bool) (i : Sort) (t : ℕ) (c : Bool) → (m ≡ true → c ≡ true) → c ≡ false → i ≡ Placed t → loosen_one m i ≡ Placed t
 placed_still false i t c f e p = p
-placed_still true i t c f e p = absurd (clash c (f refl) e)
+placed_still true i t c f e p = absurd (both_ways c e (f refl))
 
 usable_later : (b c : Before) (y : ℕ) (i : Sort) (m : Bool) (ty : Ty) → Later b c → (m ≡ true → is_among c.cased (named y) ≡ true) → IsUsable b.cased y i ty → IsUsable c.cased y (loosen_one m i) ty
 usable_later b c y i m Whole l h u = ap (loosen_one m) u ∙ scalar_loosened m Whole
@@ -168,7 +168,7 @@ tracked_put b sc x y i ty e k = record { typed = k.typed; usable = usable_as b.c
 
 new_put : (b : Before) (sc : Scope) (x y : ℕ) (i : Sort) → is_bound b.bound (named x) ≡ true → is_bound b.bound (named y) ≡ false → sc y ≡ Absent → Test (y == x) → put sc x i y ≡ Absent
 new_put b sc x y i bx by e (fails ne) = put_elsewhere sc x y i ne ∙ e
-new_put b sc x y i bx by e (holds eq) = absurd (clash (is_bound b.bound (named x)) bx (ap (λ z. is_bound b.bound (named z)) (sym (eqb-true y x eq)) ∙ by))
+new_put b sc x y i bx by e (holds eq) = absurd (both_ways (is_bound b.bound (named x)) (ap (λ z. is_bound b.bound (named z)) (sym (eqb-true y x eq)) ∙ by) bx)
 
 -- A variable that was bound gets a sort, without coming into scope.
 pub vars_hold : (n : ℕ) (b : Before) (ks : List Known) (sc : Scope) (x : ℕ) (i : Sort) → sc x ≡ Absent → is_bound b.bound (named x) ≡ true → Vars n b ks sc → Vars n b ks (put sc x i)
@@ -181,7 +181,7 @@ vars_hold n b ks sc x i absent bx v = record {
 
 turned_no : (m n : ℕ) → m == n ≡ false → Test (n == m) → n == m ≡ false
 turned_no m n e (fails ne) = ne
-turned_no m n e (holds eq) = (let h : m ≡ n = sym (eqb-true n m eq) in absurd (clash (m == n) (eq-eqb m n h) e))
+turned_no m n e (holds eq) = (let h : m ≡ n = sym (eqb-true n m eq) in absurd (both_ways (m == n) e (eq-eqb m n h)))
 
 pub turned : (m n : ℕ) (t : Bool) → m == n ≡ t → n == m ≡ t
 turned m n true e = let h : n ≡ m = sym (eqb-true m n e) in eq-eqb n m h
@@ -252,7 +252,7 @@ cased_by b sc x t y ty own c k (holds eq) =
     let at : y ≡ x = eqb-true y x eq in
     let same : Tree t ≡ ty = same_Some (Tree t) ty (sym own.typed ∙ ap (λ z. type_bound b.bound (named z)) (sym at) ∙ k.typed) in
     let there = put_there sc x (AtHead t.0) in
-    let is : Tracked b (put sc x (AtHead t.0)) x (Tree t) = record { typed = own.typed; usable = (ap tree_type there, λ e. absurd (clash (is_among b.cased (named x)) c e)) } in
+    let is : Tracked b (put sc x (AtHead t.0)) x (Tree t) = record { typed = own.typed; usable = (ap tree_type there, λ e. absurd (both_ways (is_among b.cased (named x)) e c)) } in
     subst (λ z. Tracked b (put sc x (AtHead t.0)) z ty) (sym at) (subst (λ u. Tracked b (put sc x (AtHead t.0)) x u) same is)
 
 pub tracked_cased : (b : Before) (sc : Scope) (x : ℕ) (t : TyId) (y : ℕ) (ty : Ty) → Tracked b sc x (Tree t) → is_among b.cased (named x) ≡ true → Tracked b sc y ty → Tracked b (put sc x (AtHead t.0)) y ty

@@ -152,9 +152,19 @@ pub record Within : Type 0 where
 abbrev pub within_function : CoreTree → FunctionTerm → Within
 within_function core g = record { ends = some_ended (ended core) g.name.0 || has_telling (ended core) g.body; par = false }
 
--- In main's body; it has no ended parameter.
+-- The end of main's parameter, of this type, is known at the end of its body.
+abbrev pub known_in_main : CoreTree → Ty → Bool
+known_in_main core ty.Whole = false
+known_in_main core ty.Truth = false
+known_in_main core (ty.Tree t) = is_known core.table (ended core) core.main.body (record { 0 = 0 })
+
+-- Main's parameter is ended. No call has it, so no other parameter hangs on it.
+abbrev pub main_ended : CoreTree → Bool
+main_ended core = if core.marked then known_in_main core core.main.parameter else false
+
+-- In main's body, outside each `par`.
 abbrev pub within_main : CoreTree → Within
-within_main core = record { ends = has_telling (ended core) core.main.body; par = false }
+within_main core = record { ends = main_ended core || has_telling (ended core) core.main.body; par = false }
 
 -- In a side of a `par`.
 abbrev pub within_par : Within → Within

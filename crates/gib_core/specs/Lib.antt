@@ -1,5 +1,6 @@
 pub mod Tree
 pub mod ByVariable
+pub mod Noted
 pub mod Arena
 pub mod Parts
 pub mod Meaning

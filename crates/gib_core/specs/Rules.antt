@@ -14,6 +14,8 @@ use Rattle.gib_core.specs.declared.atom.Kind.{Kind}
 use Rattle.gib_core.specs.declared.atom.Kind.TheVariants.{Here, Region, Scalar}
 use Rattle.gib_core.specs.declared.atom.Access.{Access}
 use Rattle.gib_core.specs.declared.atom.Access.TheVariants.{Offset, Skip, End}
+use Rattle.gib_core.specs.declared.rule.Rule.{Rule}
+use Rattle.gib_core.specs.declared.rule.Rule.TheVariants as r
 use Rattle.gib_core.specs.declared.scope.Behind.{Behind}
 use Rattle.gib_base.specs.declared.name.Name.{Name}
 use Rattle.gib_core.specs.Tree.{FunctionTerm, CoreTree}
@@ -231,64 +233,63 @@ arm_variables (arm ∷ arms) = arm.1 ++ arm_variables arms
 abbrev pub Judgement : Type 0
 Judgement = ℕ × Bool
 
+-- The number of a rule; what each rule says stands at its name, in `src/rule.rt`.
+abbrev pub rule_number : Rule → ℕ
+rule_number r.Head = 1
+rule_number r.Room = 2
+rule_number r.Region = 3
+rule_number r.Sides = 4
+rule_number r.Write = 5
+rule_number r.Place = 6
+rule_number r.Case = 7
+rule_number r.Scope = 8
+rule_number r.Types = 9
+
+-- A rule, with whether it is broken.
+abbrev pub judged : Rule → Bool → Judgement
+judged rule broken = (rule_number rule, broken)
+
 -- The rules for a variable that is bound to a term: room for a field, a packed type, a new variable, the type due.
 abbrev pub side_rules : Table → Before → Setting → Kind → Variable → Ty → List Judgement
-side_rules table b s Here x ty = (2, not (has_room table s.destination)) ∷ (8, is_bound b.bound x) ∷ (9, not (same_type ty (field_due table s.destination))) ∷ []
-side_rules table b s Region x ty = (3, is_scalar ty) ∷ (8, is_bound b.bound x) ∷ []
-side_rules table b s Scalar x ty = (8, is_bound b.bound x) ∷ (9, not (is_scalar ty)) ∷ []
-
--- The build rules, by their numbers.
--- 1. Room for a head is kept at an empty place, for a constructor of the type that is due.
--- 2. `here` stands where the open head has a packed field left.
--- 3. `region` binds a packed value.
--- 4. A side of a `par` does not use the other side's variable.
--- 5. `write` fills the open head, whose packed fields all stand: it names them in their order, and no `case` on one of them past
---    the first stands before.
--- 6. `point` and a packed call give their value to an empty place.
--- 7. `case` is on a packed value, with an arm for each constructor in declared order and a variable for each field.
--- 8. A variable that is bound is new in its function; one that is used is in scope, and reached where it is a field. A field is
---    reached once: from the end of the field directly before it, which is reached and on which no `case` stands before; by
---    the offset that its head stores, where its constructor has offsets; or at the end of the field directly before it, which is
---    reached, where outside each `par` a call that tells that end is the whole term to which a variable was bound before in the
---    same line.
--- 9. Arguments, operands, conditions and results have the types that are due, as many as there are; a scalar is given where none
---    has a place; a scalar call is the whole right side of a `scalar`.
+side_rules table b s Here x ty = judged r.Room (not (has_room table s.destination)) ∷ judged r.Scope (is_bound b.bound x) ∷ judged r.Types (not (same_type ty (field_due table s.destination))) ∷ []
+side_rules table b s Region x ty = judged r.Region (is_scalar ty) ∷ judged r.Scope (is_bound b.bound x) ∷ []
+side_rules table b s Scalar x ty = judged r.Scope (is_bound b.bound x) ∷ judged r.Types (not (is_scalar ty)) ∷ []
 
 -- The rules that a line can break, in their order.
 abbrev pub rules : CoreTree → Before → Setting → Line → List Judgement
 rules core b s (PastLine h k) =
-    (1, not (is_empty s.destination && is_of_type core.table k s.due)) ∷ (8, is_bound b.bound h) ∷ []
+    judged r.Head (not (is_empty s.destination && is_of_type core.table k s.due)) ∷ judged r.Scope (is_bound b.bound h) ∷ []
 rules core b s (SideLine kind x ty) = side_rules core.table b s kind x ty
 rules core b s ParLine = []
 rules core b s (PrimLine x f y z) =
-    (4, any_other s (y ∷ z ∷ []))
-    ∷ (8, is_bound b.bound x || not (all_usable s (y ∷ z ∷ [])))
-    ∷ (9, not (have_types b (y ∷ z ∷ []) (Whole ∷ Whole ∷ []))) ∷ []
-rules core b s (ReachLine y by) = (4, is_among s.others y) ∷ (8, not (may_reach core b s (known s.scope y) by)) ∷ []
+    judged r.Sides (any_other s (y ∷ z ∷ []))
+    ∷ judged r.Scope (is_bound b.bound x || not (all_usable s (y ∷ z ∷ [])))
+    ∷ judged r.Types (not (have_types b (y ∷ z ∷ []) (Whole ∷ Whole ∷ []))) ∷ []
+rules core b s (ReachLine y by) = judged r.Sides (is_among s.others y) ∷ judged r.Scope (not (may_reach core b s (known s.scope y) by)) ∷ []
 rules core b s (WriteLine h k ss ps) =
-    (4, any_other s (ss ++ ps))
-    ∷ (5, not (may_write core.table b s.destination h k ps))
-    ∷ (8, not (all_usable s (ss ++ ps)))
-    ∷ (9, not (are_scalars core.table b s.destination ss)) ∷ []
+    judged r.Sides (any_other s (ss ++ ps))
+    ∷ judged r.Write (not (may_write core.table b s.destination h k ps))
+    ∷ judged r.Scope (not (all_usable s (ss ++ ps)))
+    ∷ judged r.Types (not (are_scalars core.table b s.destination ss)) ∷ []
 rules core b s (PointLine x) =
-    (4, is_other s x) ∷ (6, not (is_empty s.destination)) ∷ (8, not (is_usable s x)) ∷ (9, not (has_type b x s.due)) ∷ []
+    judged r.Sides (is_other s x) ∷ judged r.Place (not (is_empty s.destination)) ∷ judged r.Scope (not (is_usable s x)) ∷ judged r.Types (not (has_type b x s.due)) ∷ []
 rules core b s (CallLine f xs) =
-    (4, any_other s xs)
-    ∷ (6, gives_packed (function_at core.functions f.0) && not (is_empty s.destination))
-    ∷ (8, not (all_usable s xs))
-    ∷ (9, not (call_fits b s xs (function_at core.functions f.0))) ∷ []
+    judged r.Sides (any_other s xs)
+    ∷ judged r.Place (gives_packed (function_at core.functions f.0) && not (is_empty s.destination))
+    ∷ judged r.Scope (not (all_usable s xs))
+    ∷ judged r.Types (not (call_fits b s xs (function_at core.functions f.0))) ∷ []
 rules core b s (GiveLine x) =
-    (4, is_other s x) ∷ (8, not (is_usable s x)) ∷ (9, not (is_nowhere s.destination && has_type b x s.due)) ∷ []
+    judged r.Sides (is_other s x) ∷ judged r.Scope (not (is_usable s x)) ∷ judged r.Types (not (is_nowhere s.destination && has_type b x s.due)) ∷ []
 rules core b s (CaseLine x arms) =
-    (4, is_other s x)
-    ∷ (7, not (cover core.table (type_of b x) arms))
-    ∷ (8, not (is_usable s x) || any_bound (arm_variables arms) [] b.bound) ∷ []
-rules core b s (IfLine x) = (4, is_other s x) ∷ (8, not (is_usable s x)) ∷ (9, not (has_type b x Truth)) ∷ []
+    judged r.Sides (is_other s x)
+    ∷ judged r.Case (not (cover core.table (type_of b x) arms))
+    ∷ judged r.Scope (not (is_usable s x) || any_bound (arm_variables arms) [] b.bound) ∷ []
+rules core b s (IfLine x) = judged r.Sides (is_other s x) ∷ judged r.Scope (not (is_usable s x)) ∷ judged r.Types (not (has_type b x Truth)) ∷ []
 
 -- The first of the rules that is broken.
 abbrev pub least : List Judgement → Option ℕ
 least [] = None
-least (r ∷ rs) = if r.1 then Some r.0 else least rs
+least (j ∷ js) = if j.1 then Some j.0 else least js
 
 -- One more variable.
 abbrev pub bound_too : Variable → Ty → List Bound → List Bound

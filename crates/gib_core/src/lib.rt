@@ -4,6 +4,7 @@
 pub mod atom;
 mod by_variable;
 pub mod checked;
+mod clock;
 mod cost_examples;
 mod division_examples;
 pub mod ended;
@@ -18,21 +19,22 @@ pub mod node;
 pub mod piece;
 pub mod print;
 pub mod program;
+pub mod rule;
 mod rule_examples;
 pub mod scope;
 pub mod settle;
-#[cfg(test)]
-mod tests;
 mod text;
 mod written;
 
 pub use atom::{Access, AccessMode, Atom, Ended, Kind, Variable};
 pub use by_variable::{number_of, set_number};
 pub use checked::Checked;
+pub use clock::Clock;
 pub use ended::EndedSet;
 pub use lowered::Lowered;
 pub use node::{Binding, BoundTerm, Branch, Node, TermId, Terms};
 pub use print::print_core;
 pub use program::{Core, CoreFunction, CoreMain};
+pub use rule::Rule;
 pub use scope::{Behind, Bound, Known, Slot};
 pub use settle::ended_parameters;

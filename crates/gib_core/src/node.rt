@@ -122,8 +122,10 @@ impl Model for Terms {
 }
 
 impl Terms {
-    ghost use Rattle.std.specs.Prelude.{◌≡◌, ◌<◌, [], length, IfOk, OnErr};
-    ghost use Rattle.gib_core.specs.Arena.{IsArena, PartsBelow, Opens, IsLine, Makes};
+    ghost use Rattle.std.specs.Prelude.{◌≡◌, ◌<◌, [], length, Some, IfOk, OnErr};
+    ghost use Rattle.std.specs.List.{AllByRecursion};
+    ghost use Rattle.gib_core.specs.Tree.{prepend};
+    ghost use Rattle.gib_core.specs.Arena.{IsArena, IsBindingBelow, PartsBelow, Opens, IsLine, Makes, Grows, term_of, binds_from, layer};
     ghost use Rattle.gib_core.specs.Marking.{IsSet};
 
     /// No terms.
@@ -211,5 +213,41 @@ impl Terms {
         };
         self.nodes.push(node)?;
         Ok(TermId(number))
+    }
+
+    /// The bindings in front of a term.
+    ///
+    /// # Errors
+    ///
+    /// Want of memory.
+    pub fn put_before(&mut self, mut bindings: Vec<Binding>, rest: TermId) -> Result<TermId, Memory>
+        requires bindings { AllByRecursion (IsBindingBelow (length self.old)) bindings.items }
+        requires inside { rest.0 < length self.old }
+        ensures grows { IfOk result (λ _. Grows self.old self.new) }
+        ensures inside { IfOk result (λ t. t.0 < length self.new) }
+        ensures term { IfOk result (λ t. term_of self.new t.0 ≡ prepend (binds_from (term_of self.old) bindings.items) (term_of self.old rest.0)) }
+    {
+        let mut term = rest;
+        'bindings: while let Some(binding) = bindings.pop() {
+            term = self.put(Node::Then(binding, term))?;
+        }
+        Ok(term)
+    }
+
+    /// A line: the bindings in front of an end.
+    ///
+    /// # Errors
+    ///
+    /// Want of memory.
+    pub fn put_line(&mut self, bindings: Vec<Binding>, end: Node) -> Result<TermId, Memory>
+        requires bindings { AllByRecursion (IsBindingBelow (length self.old)) bindings.items }
+        requires end { PartsBelow end (length self.old) }
+        ensures grows { IfOk result (λ _. Grows self.old self.new) }
+        ensures inside { IfOk result (λ t. t.0 < length self.new) }
+        ensures term { IfOk result (λ t. term_of self.new t.0 ≡ prepend (binds_from (term_of self.old) bindings.items) (layer (term_of self.old) (Some end))) }
+    {
+        let end = self.put(end)?;
+        let line = self.put_before(bindings, end)?;
+        Ok(line)
     }
 }

@@ -12,8 +12,6 @@ ghost use Rattle.gib_core.specs.Numbering.{AreNumbered};
 ghost use Rattle.gib_core.specs.Rules.{AreBuilt};
 
 pub mod law;
-#[cfg(test)]
-mod tests;
 
 use gib_core::{Checked, Core};
 use law::marking_keeps;

@@ -7,14 +7,11 @@ use native.Mathlib.Decide.{ℕ_discrete}
 use prog.Atomic.{either}
 use lib.ListN.{get_elem?}
 use lib.Seq.{set-get_or}
-use Rattle.atomic_table.specs.Table.{State, Me, step, keeps, takes, gives, stepped, Allows, Enters, opening}
+use Rattle.atomic_table.specs.Table.{Me, step, keeps, takes, gives, stepped, Allows, Enters, opening}
 use Rattle.atomic_table.proofs.Lists.{at_set, at_snoc, set_here}
 use Rattle.gib_frame.specs.declared.due.Due.{Due}
 use Rattle.gib_frame.specs.declared.due.Given.{Given}
 use Rattle.gib_frame.specs.Slot.{Fits, OneSlot, Took, Gave}
-
-abbrev St : Type 0
-St = State (Option Given) Due
 
 abbrev My : Type 0
 My = Me (Option Given) Due

@@ -20,7 +20,8 @@ use Rattle.gib_core.proofs.Erases.{fit_more}
 use Rattle.gib_infer.proofs.Fits.{scope_more, at_fit}
 use Rattle.gib_infer.proofs.Sides.{ready_left, ready_right, side_others, side_scope, side_due, side_destination, alike_bound, can_bound, side_clean, side_type, ready_inside, place_inside, whole_inside}
 use Rattle.gib_infer.proofs.Makes.{least_three, can_have}
-use Rattle.gib_infer.proofs.Ready.{behind_all, next_all-append, Alike, CanUse, CanUseAll, Ready, PlaceFor, NamesTyped, Clean, clean_nothing, clean_then, then_all, line_then, ready_behind, LineBuilt, LineOk, CodeBuilt}
+use Rattle.gib_infer.proofs.Ready.{behind_all, Alike, CanUse, CanUseAll, Ready, PlaceFor, NamesTyped, Clean, clean_nothing, clean_then, then_all, line_then, ready_behind, LineBuilt, LineOk, CodeBuilt}
+use Rattle.gib_core.proofs.Along.{next_append}
 
 -- Names in scope.
 
@@ -199,7 +200,7 @@ module _ (core : CoreTree) where
         let cr = side_clean core k m r.fresh r.ty r.term known sc sr b1 ready_r (omega arith) (omega arith) q.clean in
         let more = met_side core.table sr right in
         let both = clean_then core n k k r.fresh b lines more cl cr (omega arith) (omega arith) in
-        let last = next_all-append core.table b lines more in
+        let last = next_append core.table b lines more in
         record {
           clean = record { reachable = (refl, both.reachable); below = both.below; above = both.above; uncased = both.uncased };
           of_left = ap (λ (z : Before). type_bound z.bound (record { 0 = n })) last ∙ cr.below (record { 0 = n }) (omega arith) ∙ side_type core n k l.ty l.term sl b p.clean ∙ ap Some (hc.side_type (n + 1));

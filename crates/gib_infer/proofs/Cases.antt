@@ -25,7 +25,7 @@ use Rattle.gib_core.specs.Tree.{variables_from}
 use Rattle.gib_core.specs.Inferring.{Scope, Lined, Branched, infer, infer_arms, of_line, case_line, branch_of, branches_of, arm_for, atom_at, constructors_of, numbers_from, first_constructor, with_fields}
 use Rattle.gib_infer.specs.declared.work.Work.{Work}
 use Rattle.gib_infer.specs.Made.{scope_of, globals_in, code_at, arm_at, arms_at, arm_line, join, MakesLine, MakesBranch, BindsFields, BranchesSoFar}
-use Rattle.gib_infer.proofs.Fronting.{branches_below_more, branches_below_push, branches_same, grows_more, grows_none}
+use Rattle.gib_core.proofs.Fronting.{branches_below_more, branches_below_push, branches_same, grows_more, grows_none}
 use Rattle.gib_infer.proofs.Making.{keeps_more}
 
 arms-each : (parts : Parts) (exprs : List Expr) (arm : Arm) (arms : List Arm) → infer_arms (globals_in parts) (arms_from (tree_of exprs) arm arms) ≡ arms_at parts exprs (arm ∷ arms)

@@ -27,6 +27,7 @@ use Rattle.gib_infer.proofs.Fits.{ScopeFits, scope_more, at_fit, fields_fit}
 use Rattle.gib_infer.proofs.Ready.{CanUse, CanUseAll, Ready, PlaceFor, Clean, clean_nothing, clean_then, LineOk, CodeBuilt}
 use Rattle.gib_infer.proofs.Sides.{not_bound}
 use Rattle.gib_infer.proofs.Branching.{names_fields, use_same, type_of_below}
+use Rattle.gib_core.proofs.Cased.{field_named}
 
 -- Variables from a number on, that rise and stay below another one.
 abbrev pub Rising : ℕ → List Variable → ℕ → Type 0
@@ -57,7 +58,7 @@ pub rising_variables : {A : Type 0} (n m : ℕ) (xs : List A) → n + length xs 
 rising_variables n m [] le = omega arith
 rising_variables n m (x ∷ xs) le = (omega arith, rising_variables (n + 1) m xs (omega arith))
 
-variables_length : {A : Type 0} (n : ℕ) (xs : List A) → length (variables_from n xs) ≡ length xs
+pub variables_length : {A : Type 0} (n : ℕ) (xs : List A) → length (variables_from n xs) ≡ length xs
 variables_length n [] = refl
 variables_length n (x ∷ xs) = ap suc (variables_length (n + 1) xs)
 
@@ -112,12 +113,6 @@ more_reached f ks y h = go (f.variable.0 == y.0)
 pub reached_here : (f : Known) (ks : List Known) (y : Variable) → f.variable.0 ≡ y.0 → is_reached (known (map as_reached (f ∷ ks)) y) ≡ true
 reached_here f ks y e = ap (λ c. is_reached (if c then Some (as_reached f) else known (map as_reached ks) y)) (eq-eqb f.variable.0 y.0 e)
 
-field_is : (k : ConId) (x : Variable) (t : Ty) (before : Option Variable) → (field k x t before).variable ≡ x
-field_is k x Whole before = refl
-field_is k x Truth before = refl
-field_is k x (Tree t) None = refl
-field_is k x (Tree t) (Some z) = refl
-
 arm_keeps : (k : ConId) (xs : List Variable) (types : List Ty) (before : Option Variable) (ks : List Known) (y : Variable) → is_reached (known (map as_reached ks) y) ≡ true
     → is_reached (known (map as_reached (with_arm k xs types before ks)) y) ≡ true
 arm_keeps k [] types before ks y h = h
@@ -133,7 +128,7 @@ arm_reaches k (x ∷ xs) n types before ks y lo hi =
     let ks' : List Known = field k v t before ∷ ks in
     elim (cases_lt n y.0) [
       | inl lt ↦ arm_reaches k xs (n + 1) (further_types types) (packed_before v t before) ks' y (omega arith) (omega arith)
-      | inr ge ↦ arm_keeps k (variables_from (n + 1) xs) (further_types types) (packed_before v t before) ks' y (reached_here (field k v t before) ks y (ap (λ (z : Variable). z.0) (field_is k v t before) ∙ (let same : n ≡ y.0 = omega arith in same)))
+      | inr ge ↦ arm_keeps k (variables_from (n + 1) xs) (further_types types) (packed_before v t before) ks' y (reached_here (field k v t before) ks y (ap (λ (z : Variable). z.0) (field_named k v t before) ∙ (let same : n ≡ y.0 = omega arith in same)))
     ]
 
 -- Variables that are in scope and were bound with these types can be used.

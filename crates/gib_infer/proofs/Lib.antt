@@ -1,26 +1,28 @@
+-- The walk's steps and loops.
 pub mod Finding
-pub mod Fronting
 pub mod Making
 pub mod FieldSteps
 pub mod Calls
 pub mod Cases
-pub mod Naming
 pub mod Arms
 pub mod Programs
+-- The declared types, and what a core that was made means.
 pub mod TypesKnown
 pub mod Kept
 pub mod Fits
-pub mod Ordered
 pub mod Together
 pub mod Places
 pub mod Same
 pub mod Meanings
 pub mod Whole
+-- Variables rise, and what is left of what was made.
+pub mod Ordered
+pub mod Left
+pub mod Numbered
+-- What was made breaks no build rule.
 pub mod Ready
 pub mod Sides
 pub mod Makes
 pub mod Branching
 pub mod Choosing
 pub mod Reachability
-pub mod Left
-pub mod Numbered

@@ -2,7 +2,7 @@
 use Rattle.std.proofs.Common.{◌≡◌, ℕ, suc, ◌+◌, ◌<◌, ◌≤◌, Bool, true, false, not, ◌&&◌, ◌==◌, ◌||◌, List, [], ◌∷◌, ◌++◌, length, get_or, Some, None, refl, sym, ap, ◌∙◌, subst, arith, append_assoc, append-nil, length-append}
 use Rattle.std.specs.Prelude.{nat_lt}
 use Rattle.std.proofs.Math.Seq.{get_or-append_seam}
-use Rattle.std.proofs.lemmas.Bool.{eq-eqb, lt-ltb}
+use Rattle.std.proofs.lemmas.Bool.{eq-eqb, lt-ltb, both_ways}
 use Rattle.gib_base.specs.declared.name.Name.{Name}
 use Rattle.gib_types.specs.declared.table.Ty.{Ty}
 use Rattle.gib_types.specs.declared.table.Ty.TheVariants.{Whole, Truth, Tree}
@@ -335,11 +335,8 @@ module _ (core : CoreTree) where
         let b1 = then_all core s b r.binds in
         record {
           clean = line_then core n r.fresh r.fresh s b r.binds (CallTerm f r.atoms) q.runs
-              (call_clean r.fresh r.fresh f fn r.atoms ty s1 b1 there result (place_same ty s s1 q.runs.destination q.runs.due place) (λ e. absurd (clash (is_scalar ty) e packed)) q.can) up (omega arith);
+              (call_clean r.fresh r.fresh f fn r.atoms ty s1 b1 there result (place_same ty s s1 q.runs.destination q.runs.due place) (λ e. absurd (both_ways (is_scalar ty) packed e)) q.can) up (omega arith);
         }
-      where
-        clash : (c : Bool) → c ≡ true → c ≡ false → ⊥
-        clash c e f = cc
 
     -- A scalar call that is bound.
     abbrev bound_call : Ty → Name → List Code → ToAtom

@@ -21,7 +21,8 @@ use Rattle.gib_core.specs.Inferring.{Lined, Atomed, Several, ToLine, ToAtom, box
 use Rattle.gib_infer.specs.declared.work.Work.{Work}
 use Rattle.gib_infer.specs.Made.{scope_of, AreBindingsBelow, Keeps, MakesLine, MakesAtom, MakesAtoms, MakesSide, Binds, pending, pending_atom}
 use Rattle.gib_infer.proofs.Finding.{scope_of-push}
-use Rattle.gib_infer.proofs.Fronting.{below_more, below_push, binds_same, grows_more, grows_none}
+use Rattle.gib_core.proofs.Fronting.{below_more, binds_same, grows_more, grows_none}
+use Rattle.gib_core.proofs.Lining.{below_push}
 
 abbrev pub next_of : Work → Work
 next_of w = record w { fresh = w.fresh + 1 }

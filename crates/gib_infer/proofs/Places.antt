@@ -13,12 +13,13 @@ use Rattle.gib_syntax.specs.Meaning.{Outcome, Gives, Stops, Environment, value_i
 use Rattle.gib_core.specs.declared.atom.Atom.{Atom}
 use Rattle.gib_core.specs.declared.atom.Kind.{Kind}
 use Rattle.gib_core.specs.declared.atom.Kind.TheVariants.{Scalar}
-use Rattle.gib_core.specs.Tree.{Term, Then, Write, CallTerm, Give, IfTerm, Bind, Past, One, Both, Prim, On, var, variables_from, prepend}
+use Rattle.gib_core.specs.Tree.{Term, Write, CallTerm, Give, IfTerm, Bind, Past, One, Both, Prim, On, var, variables_from, prepend}
 use Rattle.gib_core.specs.Meaning.{Calls, value, merge, Reached, Went, from_there, and_on, having, mean, run, run_all}
 use Rattle.gib_core.specs.Inferring.{Scope, slot, Several, ToLine, ToAtom, Code, kind_of, boxed, given, of_line, of_atom, result_of, plain_line, of_plain, several, operation_atom, call_line, call_atom, call_side, scalar_call, call_code, further_types, pointed_fields, as_atoms, make_line, let_line, par_line, if_line}
 use Rattle.gib_core.proofs.Agreeing.{env_of, IsBelow, AllBelow, EachBelow, Keeps, Together, also, gather, with_all, each_of, Agree, came, halted, Collects, got, missed, Lines, Atoms, Manys, Good, AllGood}
 use Rattle.gib_core.proofs.Envs.{value_in-here, keeps_same, keeps_bind, keeps_more, keeps_less, below_less, all_below_less, each_below_less, value-keeps, values-keep, env_of-keeps, run_all-append, mean-prepend, agree_then, gives_then, with_value-Gives, collects_then, gives_all}
 use Rattle.gib_infer.proofs.Together.{fields_merged}
+use Rattle.gib_infer.proofs.Makes.{prepend-append}
 
 module _ (tb : Table) (call : Calls) where
   -- a bound side
@@ -230,10 +231,6 @@ module _ (tb : Table) (call : Calls) where
       mean-prepend tb call (pointed_fields (h + 1) types ps.atoms) (write_of k ss ps) env
       ∙ ap (λ z. from_there z (mean tb call (write_of k ss ps))) r.runs
       ∙ (λ i. Gives (con k.0 (data_of (merge (fields_at tb k.0) (scalars i) (fields i)))))
-
-  prepend-append : (xs ys : List Bind) (t : Term) → prepend (xs ++ ys) t ≡ prepend xs (prepend ys t)
-  prepend-append [] ys t = refl
-  prepend-append (b ∷ xs) ys t = ap (Then b) (prepend-append xs ys t)
 
   each_length : (fs : List (Environment → Outcome)) (env : Environment) → length (each_of fs env) ≡ length fs
   each_length [] env = refl

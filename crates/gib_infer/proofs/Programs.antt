@@ -27,7 +27,8 @@ use Rattle.gib_core.specs.Inferring.{infer_body, infer_function, infer_program, 
 use Rattle.gib_infer.specs.declared.work.Work.{Work}
 use Rattle.gib_infer.specs.Made.{scope_of, globals_in, code_at, BindsFields, MakesLine}
 use Rattle.gib_infer.specs.Bodies.{MakesBody, MakesFunction, MakesFunctions, MakesMain}
-use Rattle.gib_infer.proofs.Fronting.{grows_more, grows_none}
+use Rattle.gib_core.proofs.Fronting.{grows_more, grows_none}
+use Rattle.gib_core.proofs.Inside.{functions_more}
 
 pub body_made : (parts : Parts) (exprs : List Expr) (names : List Ident) (types : List Ty) (id : ℕ) (w0 w1 w2 w3 : Work) (xs : List Variable) (t : TermId) (of : Ty) → exprs ≡ parts.exprs → w1.terms ≡ w0.terms → w1.scope.items ≡ [] → w1.fresh ≡ 0 → BindsFields w1 w2 names types xs → MakesLine w2 w3 t of ((code_at parts exprs id).line (scope_of w2.scope.items) w2.fresh) → MakesBody w0 w3 t (infer_body (globals_in parts) names types (tree_of parts.exprs id))
 body_made parts exprs names types id w0 w1 w2 w3 xs t of ee et es ef hb h =
@@ -69,10 +70,6 @@ drop-at [] n f e = absurd cc
 drop-at (x ∷ fs) zero f e = (λ i. same_Some x f e i ∷ fs)
 drop-at (x ∷ fs) (suc n) f e = drop-at fs n f e ∙ ap (λ k. f ∷ drop k (x ∷ fs)) (let q : suc (n + 1) ≡ suc n + 1 = omega arith in q)
 
-pub inside_more : (n m : ℕ) (made : List CoreFunction) → n ≤ m → AllByRecursion (IsFunctionInside n) made → AllByRecursion (IsFunctionInside m) made
-inside_more n m [] le h = tt
-inside_more n m (x ∷ made) le h = (let q = h.0 in omega (arith, q, le), inside_more n m made le h.1)
-
 inside_push : (n : ℕ) (made : List CoreFunction) (x : CoreFunction) → AllByRecursion (IsFunctionInside n) made → x.body.0 < n → AllByRecursion (IsFunctionInside n) (made ++ x ∷ [])
 inside_push n [] x h lt = (lt, tt)
 inside_push n (y ∷ made) x h lt = (h.0, inside_push n made x h.1 lt)
@@ -90,7 +87,7 @@ functions_next parts old now newer made more x next lt h step em =
     let f = term_of newer.terms in
     record {
       grows = grows_more old.terms now.terms newer.terms h.grows k.grows;
-      inside = rw em (inside_push (length newer.terms) made x (inside_more (length now.terms) (length newer.terms) made k.grows.longer h.inside) k.inside);
+      inside = rw em (inside_push (length newer.terms) made x (functions_more (length now.terms) (length newer.terms) made k.grows.longer h.inside) k.inside);
       are =
           (λ i. (ap (map (function_term f)) em ∙ map-append (function_term f) made (x ∷ [])) i ++ map (infer_function g) (drop (next + 1) fs))
           ∙ (λ i. (functions_same now.terms newer.terms made k.grows h.inside i ++ k.is i ∷ []) ++ map (infer_function g) (drop (next + 1) fs))

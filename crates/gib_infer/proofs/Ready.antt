@@ -17,6 +17,7 @@ use Rattle.gib_core.specs.Ordered.{IsFit, AreFit}
 use Rattle.gib_core.proofs.Erases.{fit_more}
 use Rattle.gib_infer.proofs.Fits.{ScopeFits, scope_more, at_fit}
 use Rattle.gib_infer.proofs.Ordered.{CodeOrdered}
+use Rattle.gib_core.proofs.Along.{next_append}
 
 -- Lists of bindings.
 
@@ -39,10 +40,6 @@ met_all-append table s (x ∷ xs) ys = ap (λ z. met_bind table s x ++ z) (met_a
 pub met-prepend : (table : Table) (s : Setting) (bs : List Bind) (t : Term) → met table s (prepend bs t) ≡ met_all table s bs ++ met table (behind_all s bs) t
 met-prepend table s [] t = refl
 met-prepend table s (x ∷ bs) t = ap (λ z. met_bind table s x ++ z) (met-prepend table (behind s x) bs t) ∙ sym (append_assoc (met_bind table s x) (met_all table (behind s x) bs) (met table (behind_all (behind s x) bs) t))
-
-pub next_all-append : (table : Table) (b : Before) (xs ys : List Met) → next_all table b (xs ++ ys) ≡ next_all table (next_all table b xs) ys
-next_all-append table b [] ys = refl
-next_all-append table b (x ∷ xs) ys = next_all-append table (next table b x.line) xs ys
 
 -- An atom that may be used, of a type.
 pub record CanUse (s : Setting) (b : Before) (x : Atom) (ty : Ty) : Type 0 where
@@ -118,9 +115,9 @@ module _ (core : CoreTree) where
   pub clean_then : (n k l m : ℕ) (b : Before) (xs ys : List Met) → Clean n k b xs → Clean l m (next_all core.table b xs) ys → n ≤ l → k ≤ m → Clean n m b (xs ++ ys)
   clean_then n k l m b xs ys p q lo hi = record {
     reachable = reachable_append b xs ys p.reachable q.reachable;
-    below = λ x h. ap (λ (z : Before). type_bound z.bound x) (next_all-append core.table b xs ys) ∙ q.below x (omega (arith, lo, h)) ∙ p.below x h;
-    above = λ x h. ap (λ (z : Before). type_bound z.bound x) (next_all-append core.table b xs ys) ∙ q.above x h ∙ p.above x (omega (arith, hi, h));
-    uncased = λ x h. ap (λ (z : Before). is_among z.cased x) (next_all-append core.table b xs ys) ∙ q.uncased x h ∙ p.uncased x (omega (arith, hi, h));
+    below = λ x h. ap (λ (z : Before). type_bound z.bound x) (next_append core.table b xs ys) ∙ q.below x (omega (arith, lo, h)) ∙ p.below x h;
+    above = λ x h. ap (λ (z : Before). type_bound z.bound x) (next_append core.table b xs ys) ∙ q.above x h ∙ p.above x (omega (arith, hi, h));
+    uncased = λ x h. ap (λ (z : Before). is_among z.cased x) (next_append core.table b xs ys) ∙ q.uncased x h ∙ p.uncased x (omega (arith, hi, h));
   }
 
   -- What stands before, behind bindings.
@@ -139,7 +136,7 @@ module _ (core : CoreTree) where
   runs_nothing n s b = record { clean = clean_nothing n b; alike = alike_same n s b; others = refl; destination = refl; due = refl }
 
   pub then_all-append : (s : Setting) (b : Before) (xs ys : List Bind) → then_all s b (xs ++ ys) ≡ then_all (behind_all s xs) (then_all s b xs) ys
-  then_all-append s b xs ys = ap (next_all core.table b) (met_all-append core.table s xs ys) ∙ next_all-append core.table b (met_all core.table s xs) (met_all core.table (behind_all s xs) ys)
+  then_all-append s b xs ys = ap (next_all core.table b) (met_all-append core.table s xs ys) ∙ next_append core.table b (met_all core.table s xs) (met_all core.table (behind_all s xs) ys)
 
   pub runs_then : (n k m : ℕ) (s : Setting) (b : Before) (xs ys : List Bind) → Runs n k s b xs → Runs k m (behind_all s xs) (then_all s b xs) ys → n ≤ k → k ≤ m → Runs n m s b (xs ++ ys)
   runs_then n k m s b xs ys p q lo hi =

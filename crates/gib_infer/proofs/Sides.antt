@@ -17,7 +17,9 @@ use Rattle.gib_core.specs.Rules.{Before, same_type, is_among, is_bound, type_bou
 use Rattle.gib_core.specs.Reachable.{as_reached, all_reached}
 use Rattle.gib_core.specs.Ordered.{IsFit}
 use Rattle.gib_infer.proofs.Fits.{scope_more, at_fit}
-use Rattle.gib_infer.proofs.Ready.{CanUse, Alike, Ready, PlaceFor, behind_all, Clean, Runs, then_all, clean_nothing, clean_then, next_all-append}
+use Rattle.gib_infer.proofs.Ready.{CanUse, Alike, Ready, PlaceFor, behind_all, Clean, Runs, then_all, clean_nothing, clean_then}
+use Rattle.gib_core.proofs.Along.{next_append}
+use Rattle.gib_core.proofs.Cased.{right_of_scope}
 
 pub same_type-refl : (ty : Ty) → same_type ty ty ≡ true
 same_type-refl Whole = refl
@@ -101,9 +103,6 @@ ready_left n m k known sc s b r e h lo hi = record {
   apart = λ x le lt. among_past s.others (variable_of r) x (λ z. omega (arith, e, lt, z)) ∙ h.apart x le (omega (arith, lt, hi));
 }
 
-right_scope : (s : Setting) (l : Side) → (right_of s l).scope ≡ s.scope
-right_scope s (On kind x ty t) = refl
-
 right_others : (s : Setting) (l : Side) → (right_of s l).others ≡ variable_of l ∷ s.others
 right_others s (On kind x ty t) = refl
 
@@ -114,7 +113,7 @@ pub ready_right : (n m k : ℕ) (known : typing.Scope) (sc : Scope) (s : Setting
     → ((x : Variable) → k ≤ x.0 → is_among after.cased x ≡ is_among b.cased x)
     → Ready k m known sc (right_of s l) after
 ready_right n m k known sc s b after l e h lt below above uncased = record {
-  names = λ x ty f. (alike_scope n s (right_of s l) b after (right_scope s l)
+  names = λ x ty f. (alike_scope n s (right_of s l) b after (right_of_scope s l)
       (λ y lo. ap (λ z. is_among z y) (right_others s l) ∙ among_past s.others (variable_of l) y (λ z. omega (arith, e, lo, z))) below).can (atom_at sc x) ty (at_fit n sc x h.fits) (h.names x ty f);
   fits = scope_more n k sc (omega (arith, lt)) h.fits;
   new = λ x lo hi. above x lo ∙ h.new x (omega (arith, lo, lt)) hi;
@@ -213,7 +212,7 @@ module _ (core : CoreTree) where
       let all = clean_nothing core k (next_all core.table b ms) in
       record {
         clean = clean_then core n k k k b ms [] clean all (omega (arith, lt)) (omega arith);
-        alike = subst (λ (z : Before). Alike n s (behind s (One side)) b z) (sym (next_all-append core.table b ms [])) (alike_bound n x s (behind s (One side)) b (next_all core.table b ms) (omega arith) (side_scope s side) (side_others s side) clean.below);
+        alike = subst (λ (z : Before). Alike n s (behind s (One side)) b z) (sym (next_append core.table b ms [])) (alike_bound n x s (behind s (One side)) b (next_all core.table b ms) (omega arith) (side_scope s side) (side_others s side) clean.below);
         others = side_others s side;
         destination = side_destination s x ty t;
         due = side_due s side;
@@ -227,5 +226,5 @@ module _ (core : CoreTree) where
       let x : Variable = record { 0 = n } in
       let side = On (kind_of ty) x ty t in
       let ms = met_side core.table s side in
-      subst (λ (z : Before). CanUse (behind s (One side)) z (var n) ty) (sym (next_all-append core.table b ms []))
+      subst (λ (z : Before). CanUse (behind s (One side)) z (var n) ty) (sym (next_append core.table b ms []))
       (can_bound x ty s (behind s (One side)) (next_all core.table b ms) (side_scope s side) (side_others s side) apart (side_type n k ty t s b c))

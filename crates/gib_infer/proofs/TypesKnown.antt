@@ -22,7 +22,7 @@ use Rattle.gib_core.proofs.Signatures.{declared_functions}
 use Rattle.gib_infer.specs.declared.work.Work.{Work}
 use Rattle.gib_infer.specs.Made.{globals_in}
 use Rattle.gib_infer.specs.Bodies.{MakesFunctions, MakesMain}
-use Rattle.gib_infer.proofs.Programs.{inside_more}
+use Rattle.gib_core.proofs.Inside.{functions_more}
 
 place_below : (types : List ℕ) (o : Option ℕ) → ((i : ℕ) → o ≡ Some i → i < length types) → IsTyBelow (length types) (type_or (tree_type o))
 place_below types None h = tt
@@ -55,7 +55,7 @@ parts_inside parts w0 w1 w2 table fs main offsets et hf hm =
     let n = length table.types in
     let same : length (infer_program (program_of parts)).table.types ≡ n = λ i. length (sym et i).types in
     record {
-      functions = inside_more (length w1.terms) (length w2.terms) fs hm.grows.longer hf.inside;
+      functions = functions_more (length w1.terms) (length w2.terms) fs hm.grows.longer hf.inside;
       main = hm.inside;
       types = declared_functions n (term_of w1.terms) fs
           (subst (λ (k : ℕ). AllByRecursion (λ (f : FunctionTerm). AreDeclared k f.parameters f.result) (map (function_term (term_of w1.terms)) fs)) same

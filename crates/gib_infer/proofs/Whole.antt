@@ -2,7 +2,7 @@
 use Rattle.std.proofs.Common.{◌≡◌, ℕ, zero, suc, ◌+◌, ◌<◌, ◌≤◌, Bool, true, false, ◌==◌, if◌then◌else◌, List, [], ◌∷◌, map, length, Option, Some, None, refl, sym, ap, ◌∙◌, subst, arith}
 use Rattle.std.specs.Prelude.{pos}
 use Rattle.std.specs.List.{AllByRecursion}
-use Rattle.std.proofs.lemmas.Bool.{eqb-true, eq-eqb}
+use Rattle.std.proofs.lemmas.Bool.{eqb-true, eq-eqb, both_ways}
 use Rattle.std.proofs.lemmas.Option.{same_Some}
 use Rattle.std.proofs.lemmas.List.{length-map}
 use Rattle.gib_types.specs.declared.table.Ty.{Ty}
@@ -31,11 +31,8 @@ use Rattle.gib_infer.proofs.Meanings.{Choice, choose_on, take_choice, listed, ch
 
 -- Constructors of a type.
 
-clash : (b : Bool) → b ≡ true → b ≡ false → ⊥
-clash b e f = cc
-
 different : (n k : ℕ) → (n == k) ≡ false → n ≡ k → ⊥
-different n k f e = clash (n == k) (eq-eqb n k e) f
+different n k f e = both_ways (n == k) f (eq-eqb n k e)
 
 numbers_listed : (n count k : ℕ) → n ≤ k → k < n + count → listed (numbers_from n count) k ≡ true
 numbers_listed n zero k le lt = absurd (omega arith)

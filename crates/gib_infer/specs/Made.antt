@@ -16,7 +16,6 @@ use Rattle.gib_syntax.specs.Parts.{Parts}
 pub use Rattle.gib_check.specs.Views.{globals_in}
 use Rattle.gib_core.specs.declared.atom.Atom.{Atom}
 use Rattle.gib_core.specs.declared.atom.Variable.{Variable}
-use Rattle.gib_core.specs.declared.node.Node.{Node}
 use Rattle.gib_core.specs.declared.node.Binding.{Binding}
 use Rattle.gib_core.specs.declared.node.Branch.{Branch}
 use Rattle.gib_core.specs.declared.node.BoundTerm.{BoundTerm}
@@ -117,13 +116,6 @@ abbrev pub side_call : Ty → Name → Several → Lined
 side_call (Tree t) f r = call_line (Tree t) f r
 side_call Whole f r = call_side Whole f r r.binds
 side_call Truth f r = call_side Truth f r r.binds
-
--- Some of the bindings stand in front already.
-pub record Fronts (old new : List Node) (all left : List Binding) (rest term : TermId) : Type 0 where
-  pub grows : Grows old new
-  pub bindings : AreBindingsBelow (length new) left
-  pub inside : term.0 < length new
-  pub same : prepend (binds_from (term_of new) left) (term_of new term.0) ≡ prepend (binds_from (term_of old) all) (term_of old rest.0)
 
 -- A name was put into the scope.
 pub record Binds (old new : Work) (name : Ident) (atom : Atom) (ty : Ty) : Type 0 where

@@ -4,7 +4,7 @@ ghost use Rattle.std.specs.Prelude.{◌≡◌, ℕ, ◌+◌, ◌<◌, ◌++◌, 
 ghost use Rattle.gib_core.specs.Inferring.{atom_at, type_at, plain_line as plainly, call_atom, make_from};
 ghost use Rattle.gib_infer.specs.Made.{scope_of, AreBindingsBelow, MakesLine, MakesAtom, PointsFields, pending, pending_atom, plain_atoms, given_atom, ended_call, side_call};
 
-use crate::work::{Work, find, new_variable, put_line, put_plain};
+use crate::work::{Work, find, new_variable, put_plain};
 use gib_base::{Memory, Name};
 use gib_core::{Atom, Binding, BoundTerm, Kind, Node, TermId};
 use gib_types::{ConId, Ty, first_type, further_types};
@@ -40,7 +40,7 @@ pub fn give(work: &mut Work, bindings: Vec<Binding>, atom: Atom, ty: Ty) -> Resu
     requires { AreBindingsBelow (length work.old.terms) bindings.items }
     ensures { IfOk result (λ t. MakesLine work.old work.new t ty (given_atom (pending_atom work.old bindings.items atom ty))) }
 {
-    let term = put_line(&mut work.terms, bindings, Node::Give(atom))?;
+    let term = work.terms.put_line(bindings, Node::Give(atom))?;
     Ok(term)
 }
 
@@ -94,7 +94,9 @@ pub fn end_call(
     ensures { IfOk result (λ t. MakesLine work.old work.new t ty (ended_call ty function (pending work.old bindings.items arguments.items))) }
 {
     match ty {
-        Ty::Tree(_) => put_line(&mut work.terms, bindings, Node::Call(function, arguments)),
+        Ty::Tree(_) => work
+            .terms
+            .put_line(bindings, Node::Call(function, arguments)),
         Ty::Whole => give_call(work, bindings, function, arguments, ty),
         Ty::Truth => give_call(work, bindings, function, arguments, ty),
     }
@@ -112,7 +114,8 @@ pub fn end_side(
     ensures { IfOk result (λ t. MakesLine work.old work.new t ty (side_call ty function (pending work.old bindings.items arguments.items))) }
 {
     if bindings.is_empty() {
-        put_line(&mut work.terms, bindings, Node::Call(function, arguments))
+        work.terms
+            .put_line(bindings, Node::Call(function, arguments))
     } else {
         end_call(work, bindings, function, arguments, ty)
     }
@@ -167,6 +170,6 @@ pub fn end_make(
         scalars: made.scalars,
         packed: fields,
     };
-    let term = put_line(&mut work.terms, bindings, end)?;
+    let term = work.terms.put_line(bindings, end)?;
     Ok(term)
 }

@@ -16,7 +16,7 @@ use crate::names::{
 use crate::steps::{
     Construction, bind_call, end_call, end_make, end_side, give, plain_line, variable_line,
 };
-use crate::work::{Work, find, kind, new_variable, push_bound, put_before, put_line};
+use crate::work::{Work, find, kind, new_variable, push_bound};
 use gib_base::Memory;
 use gib_check::Typed;
 use gib_core::{Atom, Binding, BoundTerm, Branch, Node as TermNode, TermId};
@@ -367,7 +367,7 @@ fn let_in(
     bind(work, bound.name, atom, ty)?;
     let (rest, ty) = line(typed, work, body)?;
     work.scope.truncate(outer);
-    let term = put_before(&mut work.terms, bindings, rest)?;
+    let term = work.terms.put_before(bindings, rest)?;
     Ok((term, ty))
 }
 
@@ -440,7 +440,7 @@ fn if_else(
         then_part,
         else_part,
     };
-    let term = put_line(&mut work.terms, bindings, end)?;
+    let term = work.terms.put_line(bindings, end)?;
     Ok((term, ty))
 }
 

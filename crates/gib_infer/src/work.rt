@@ -2,10 +2,9 @@
 
 ghost use Rattle.std.specs.Prelude.{◌≡◌, ℕ, ◌+◌, ◌-◌, ◌^◌, ◌<◌, ◌++◌, ◌∷◌, [], length, Some, IfOk, IfErr};
 ghost use Rattle.gib_core.specs.declared.node.Binding.TheVariants as b;
-ghost use Rattle.gib_core.specs.Tree.{prepend};
-ghost use Rattle.gib_core.specs.Arena.{Grows, PartsBelow, term_of, binds_from, layer};
+ghost use Rattle.gib_core.specs.Arena.{Grows, term_of};
 ghost use Rattle.gib_core.specs.Inferring.{atom_at, type_at, kind_of, result_of};
-ghost use Rattle.gib_infer.specs.Made.{scope_of, AreBindingsBelow};
+ghost use Rattle.gib_infer.specs.Made.{scope_of};
 
 use gib_base::{Memory, Name};
 use gib_core::{Atom, Binding, BoundTerm, Kind, Node, Slot, TermId, Terms, Variable};
@@ -78,38 +77,6 @@ pub fn push_bound(
         term,
     }))?;
     Ok(())
-}
-
-/// The bindings in front of a term.
-pub fn put_before(
-    terms: &mut Terms,
-    mut bindings: Vec<Binding>,
-    rest: TermId,
-) -> Result<TermId, Memory>
-    requires bindings { AreBindingsBelow (length terms.old) bindings.items }
-    requires inside { rest.0 < length terms.old }
-    ensures grows { IfOk result (λ _. Grows terms.old terms.new) }
-    ensures inside { IfOk result (λ t. t.0 < length terms.new) }
-    ensures term { IfOk result (λ t. term_of terms.new t.0 ≡ prepend (binds_from (term_of terms.old) bindings.items) (term_of terms.old rest.0)) }
-{
-    let mut term = rest;
-    'bindings: while let Some(binding) = bindings.pop() {
-        term = terms.put(Node::Then(binding, term))?;
-    }
-    Ok(term)
-}
-
-/// A line: the bindings in front of an end.
-pub fn put_line(terms: &mut Terms, bindings: Vec<Binding>, end: Node) -> Result<TermId, Memory>
-    requires bindings { AreBindingsBelow (length terms.old) bindings.items }
-    requires end { PartsBelow end (length terms.old) }
-    ensures grows { IfOk result (λ _. Grows terms.old terms.new) }
-    ensures inside { IfOk result (λ t. t.0 < length terms.new) }
-    ensures term { IfOk result (λ t. term_of terms.new t.0 ≡ prepend (binds_from (term_of terms.old) bindings.items) (layer (term_of terms.old) (Some end))) }
-{
-    let end = terms.put(end)?;
-    let line = put_before(terms, bindings, end)?;
-    Ok(line)
 }
 
 /// A variable or literal in result place.

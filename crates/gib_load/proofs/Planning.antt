@@ -15,8 +15,9 @@ use Rattle.gib_load.specs.Preorder.{Head, heads, all_heads}
 use Rattle.gib_load.specs.Spot.{Spot, past_item, past_value, past_fields, places}
 use Rattle.gib_load.specs.Plan.{stored_of, stored_count, planned, noted, gap_of, gaps_from}
 use Rattle.gib_load.proofs.Heads.{bytes_of, tree-bytes, IsHead, AreHeads, one_head, heads-typed, scalars-length}
-use Rattle.gib_load.proofs.Steps.{drop_next, known_tag}
+use Rattle.gib_load.proofs.Steps.{drop_next}
 use Rattle.gib_load.proofs.Spots.{places-length}
+use Rattle.gib_packed.proofs.SpanLemmas.{con_within}
 
 -- what is due: values by their heads
 -- the packed values among fields
@@ -354,7 +355,7 @@ pub plans_nothing : (laid : LaidOut) (s : Spot) (hs : List Head) → ((k : ℕ) 
 plans_nothing laid s [] f typed = refl
 plans_nothing laid s (h ∷ hs) f (one_head is typed) =
     let s' = past_item s (head_size laid h.tag) in
-    ap (λ (b : Bool). stored_of b (places laid s' h.fields) ++ planned laid s' hs) (f h.tag (known_tag laid.table is.owner h.tag is.owned)) ∙ plans_nothing laid s' hs f typed
+    ap (λ (b : Bool). stored_of b (places laid s' h.fields) ++ planned laid s' hs) (f h.tag (con_within laid.table is.owner h.tag is.owned)) ∙ plans_nothing laid s' hs f typed
 
 pub plans_no_value : (laid : LaidOut) (s : Spot) (t : Ty) (v : Datum) (bytes : List ℕ) → ((k : ℕ) → k < length laid.table.rows → has_offsets laid k ≡ false) → Packed laid.table t v bytes → planned laid s (heads v) ≡ []
 plans_no_value laid s t v bytes f p = plans_nothing laid s (heads v) f (heads-typed laid.table v t p.0)

@@ -20,9 +20,9 @@ use Rattle.gib_load.specs.Spot.{Spot, past_item, past_value, past_fields, places
 use Rattle.gib_load.specs.Placement.{Open, spot_of, place_head, place_heads, begun, placed_in}
 use Rattle.gib_load.specs.Holding.{Holding}
 use Rattle.gib_load.proofs.Heads.{place-append, heads-count}
-use Rattle.gib_load.proofs.Steps.{known_tag}
 use Rattle.gib_load.proofs.Spots.{Sizes, value_spot, value_draws, fields_draw, heads_limit, heads_loaded}
 use Rattle.gib_load.proofs.Rooms.{Ready, HeadPlaced, head_placed}
+use Rattle.gib_packed.proofs.SpanLemmas.{con_within}
 
 -- a value that was placed from r on, which left r'
 record Stood (laid : LaidOut) (t : ℕ) (v : Datum) (r r' : Open) : Type 0 where
@@ -65,7 +65,7 @@ tree_first laid t k ws ts vs r r1 r' a b = record {
 head_first : (laid : LaidOut) (t k : ℕ) (vs : Data) (r r1 r' : Open) (a : ℕ) (rules : IsTable laid.table) → con_at laid.table t k ≡ Some k
     → HeadPlaced laid r (record { tag = k; fields = vs }) a (head_bytes laid k (places laid (past_item (spot_of r) (head_size laid k)) vs) vs) r1 → AllStood laid (fields_at laid.table k) vs r1 r' → Stood laid t (con k vs) r r'
 head_first laid t k vs r r1 r' a rules owned placed b =
-    let below : k < 254 = let n = known_tag laid.table t k owned in let m = rules.few in omega (arith, n, m) in
+    let below : k < 254 = let n = con_within laid.table t k owned in let m = rules.few in omega (arith, n, m) in
     let holds = subst (λ (s : Spot). Holds r'.memory.cells a (head_bytes laid k (places laid s vs) vs)) (sym placed.spot) (Holds-grows b.grows placed.holds) in
     let at_head : Dec laid r'.memory.cells a t (con k vs) r'.at = head below owned holds (subst (λ (x : ℕ). Decs laid r'.memory.cells x (fields_at laid.table k) vs (places laid (spot_of r1) vs) r'.at) placed.at b.decs) in
     record {

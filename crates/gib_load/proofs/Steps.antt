@@ -1,14 +1,12 @@
 -- One head more.
-use Rattle.std.proofs.Common.{◌≡◌, ℕ, ◌+◌, ◌-◌, ◌*◌, ◌<◌, ◌≤◌, List, [], ◌∷◌, ◌++◌, length, get_or, drop, take, refl, sym, ap, subst, subst₂, ◌∙◌, arith, add-one, length-append, length-drop, append_assoc, append-nil, Bool, true, false, cond, Option, Some, None, inl, inr}
-use Rattle.std.specs.Prelude.{slice_get}
+use Rattle.std.proofs.Common.{◌≡◌, ℕ, ◌+◌, ◌-◌, ◌*◌, ◌<◌, ◌≤◌, List, [], ◌∷◌, ◌++◌, length, get_or, drop, take, refl, sym, ap, subst, subst₂, ◌∙◌, arith, add-one, length-append, length-drop, append_assoc, append-nil, Bool, true, false, cond, inl, inr}
 use Rattle.std.proofs.Math.Seq.{drop-cons, take-append_seam, drop-append_seam, drop-drop}
 use Rattle.std.proofs.lemmas.Bool.Decides.{leb_tells}
-use Rattle.std.proofs.lemmas.Option.{slice_get_within}
 use Rattle.gib_mem.specs.Memory.{Memory, after_put, after_puts, after_draw, Owned}
 use Rattle.gib_mem.proofs.Puts.{puts_past, puts_alone}
 use Rattle.gib_types.specs.declared.table.Ty.TheVariants as ty
 use Rattle.gib_types.specs.declared.table.TyId.{TyId}
-use Rattle.gib_types.specs.Table.{Row, Table, con_at, if_owned, fields_at}
+use Rattle.gib_types.specs.Table.{fields_at}
 use Rattle.gib_types.specs.declared.layouts.Layout.{Layout}
 use Rattle.gib_types.specs.Layout.{LaidOut, layout_at, head_size, packed_at, has_offsets, offset_size}
 use Rattle.gib_types.specs.Tree.{Datum, whole, truth, con}
@@ -29,14 +27,6 @@ use Rattle.gib_load.proofs.Going.{Going}
 
 pub drop_next : (p : List ℕ) (at : ℕ) → at < length p → drop at p ≡ get_or p at 0 ∷ drop (at + 1) p
 drop_next p at lt = rw add-one (drop-cons p at 0 lt)
-
--- a constructor of a type is one of the table
-pub known_tag : (table : Table) (t k : ℕ) → con_at table t k ≡ Some k → k < length table.rows
-known_tag table t k e = go (slice_get table.rows k) refl
-  where
-    go : (o : Option Row) → slice_get table.rows k ≡ o → k < length table.rows
-    go None is = absurd (let f : None ≡ Some k = sym (ap (λ (o : Option Row). if_owned t k o) is) ∙ e in cc)
-    go (Some row) is = slice_get_within table.rows k row is
 
 -- before the first head
 pub first_going : (laid : LaidOut) (r : Open) (t : TyId) (v : Datum) (bytes plan : List ℕ) → Packed laid.table (ty.Tree t) v bytes → plan ≡ planned laid (spot_of r) (heads v) → Going laid r v r bytes plan

@@ -6,6 +6,3 @@ pub mod loading;
 pub(crate) mod plan;
 
 pub use loading::{LoadFault, load};
-
-#[cfg(test)]
-mod tests;

@@ -1,15 +1,16 @@
-pub mod Answering
-pub mod Arms
-pub mod OneBody
-pub mod Branching
+-- What is found by numbers and by searches.
+pub mod FoundLemmas
+pub mod Searching
+pub mod Telling
+pub mod Scoping
+-- Lines, branches and bodies, one behind another.
+pub mod OneLine
 pub mod Judges
 pub mod Lining
-pub mod Named
-pub mod Naming
-pub mod OneLine
-pub mod Scoping
-pub mod Searching
+pub mod Arms
+pub mod Branching
 pub mod Walking
-pub mod FoundLemmas
+pub mod OneBody
+-- Which rule is answered.
 pub mod Smallest
-pub mod Telling
+pub mod Answering

@@ -1,16 +1,18 @@
 -- The state of the walk, as the rules see it.
 use Rattle.std.specs.Prelude.{List, [], ◌∷◌, map, reverse}
 use Rattle.gib_base.specs.declared.name.Name.{Name}
-use Rattle.std.specs.Prelude.{false, not, ◌&&◌, ◌||◌, Option}
+use Rattle.std.specs.Prelude.{ℕ, false, not, ◌&&◌, ◌||◌, Option, Some, None}
 use Rattle.gib_core.specs.Tree.{FunctionTerm}
 use Rattle.gib_core.specs.declared.atom.Atom.{Atom}
+use Rattle.gib_core.specs.declared.rule.Rule.{Rule}
+use Rattle.gib_core.specs.declared.rule.Rule.TheVariants as r
 use Rattle.gib_types.specs.declared.table.Ty.TheVariants.{Whole}
 use Rattle.gib_types.specs.declared.table.ConId.{ConId}
 use Rattle.gib_core.specs.declared.atom.Variable.{Variable}
 use Rattle.gib_core.specs.declared.node.Branch.{Branch}
 use Rattle.gib_types.specs.Table.{Table}
 use Rattle.gib_core.specs.Met.{Destination, Nowhere, Empty, Open, Setting, in_arm}
-use Rattle.gib_core.specs.Rules.{Before, Judgement, any_other, is_bound, have_types, gives_packed, is_empty, all_usable, call_fits}
+use Rattle.gib_core.specs.Rules.{Before, Judgement, rule_number, judged, any_other, is_bound, have_types, gives_packed, is_empty, all_usable, call_fits}
 use Rattle.gib_loccheck.specs.declared.state.Walk.{Walk}
 use Rattle.gib_loccheck.specs.declared.state.Told.{Told}
 use Rattle.gib_loccheck.specs.declared.state.Target.{Target}
@@ -69,14 +71,19 @@ before_arm table s k xs = record (in_arm table s k xs) { calls = s.calls }
 -- What the rules on a call are judged by: its function, where there is one.
 abbrev pub call_rules : Before → Setting → List Atom → Option FunctionTerm → List Judgement
 call_rules b s xs f =
-    (4, any_other s xs)
-    ∷ (6, gives_packed f && not (is_empty s.destination))
-    ∷ (8, not (all_usable s xs))
-    ∷ (9, not (call_fits b s xs f)) ∷ []
+    judged r.Sides (any_other s xs)
+    ∷ judged r.Place (gives_packed f && not (is_empty s.destination))
+    ∷ judged r.Scope (not (all_usable s xs))
+    ∷ judged r.Types (not (call_fits b s xs f)) ∷ []
 
 -- What the rules on an operation are judged by: neither its operator nor the core matters.
 abbrev pub prim_rules : Before → Setting → Variable → Atom → Atom → List Judgement
 prim_rules b s x y z =
-    (4, any_other s (y ∷ z ∷ []))
-    ∷ (8, is_bound b.bound x || not (all_usable s (y ∷ z ∷ [])))
-    ∷ (9, not (have_types b (y ∷ z ∷ []) (Whole ∷ Whole ∷ []))) ∷ []
+    judged r.Sides (any_other s (y ∷ z ∷ []))
+    ∷ judged r.Scope (is_bound b.bound x || not (all_usable s (y ∷ z ∷ [])))
+    ∷ judged r.Types (not (have_types b (y ∷ z ∷ []) (Whole ∷ Whole ∷ []))) ∷ []
+
+-- The number of a rule that is broken.
+abbrev pub numbered : Option Rule → Option ℕ
+numbered None = None
+numbered (Some rule) = Some (rule_number rule)

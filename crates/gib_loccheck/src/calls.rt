@@ -6,13 +6,13 @@ ghost use Rattle.gib_core.specs.Arena.{term_of};
 ghost use Rattle.gib_core.specs.Parts.{core_of, function_term};
 ghost use Rattle.gib_core.specs.Met.{CallLine};
 ghost use Rattle.gib_core.specs.Rules.{least, rules as all_rules, call_fits as fits};
-ghost use Rattle.gib_loccheck.specs.Views.{setting_of, before_of, call_rules};
+ghost use Rattle.gib_loccheck.specs.Views.{setting_of, before_of, call_rules, numbered};
 
 use crate::atoms::{all_usable, any_other, have_types};
 use crate::indexed::IndexedCore;
 use crate::state::{Target, Walk};
 use gib_base::Name;
-use gib_core::{Atom, CoreFunction};
+use gib_core::{Atom, CoreFunction, Rule};
 use gib_types::Ty;
 
 /// Whether a scalar call may stand here: it is the whole right side of a `scalar`.
@@ -38,36 +38,36 @@ fn known_call_rule(
     target: &Target,
     arguments: &[Atom],
     function: &CoreFunction,
-) -> Option<u8>
-    ensures { result ≡ least (call_rules (before_of walk.now) (setting_of walk.now target.now) arguments.now (Some (function_term (term_of []) function.now))) }
+) -> Option<Rule>
+    ensures { numbered result ≡ least (call_rules (before_of walk.now) (setting_of walk.now target.now) arguments.now (Some (function_term (term_of []) function.now))) }
 {
     if any_other(walk, arguments) {
-        return Some(4);
+        return Some(Rule::Sides);
     }
     if !function.result.is_scalar() && !target.is_empty() {
-        return Some(6);
+        return Some(Rule::Place);
     }
     if !all_usable(walk, arguments) {
-        return Some(8);
+        return Some(Rule::Scope);
     }
     if !call_fits(walk, target, arguments, function) {
-        return Some(9);
+        return Some(Rule::Types);
     }
     None
 }
 
 /// A call of a function that is not there.
 #[tactic(auto, using(crate::proofs::Scoping::any_other_same, crate::proofs::Scoping::all_usable_same))]
-fn unknown_call_rule(walk: &Walk, target: &Target, arguments: &[Atom]) -> Option<u8>
-    ensures { result ≡ least (call_rules (before_of walk.now) (setting_of walk.now target.now) arguments.now None) }
+fn unknown_call_rule(walk: &Walk, target: &Target, arguments: &[Atom]) -> Option<Rule>
+    ensures { numbered result ≡ least (call_rules (before_of walk.now) (setting_of walk.now target.now) arguments.now None) }
 {
     if any_other(walk, arguments) {
-        return Some(4);
+        return Some(Rule::Sides);
     }
     if !all_usable(walk, arguments) {
-        return Some(8);
+        return Some(Rule::Scope);
     }
-    Some(9)
+    Some(Rule::Types)
 }
 
 /// A call.
@@ -77,8 +77,8 @@ pub fn call_rule(
     target: &Target,
     name: Name,
     arguments: &[Atom],
-) -> Option<u8>
-    ensures { result ≡ least (all_rules (core_of core.now) (before_of walk.now) (setting_of walk.now target.now) (CallLine name arguments.now)) }
+) -> Option<Rule>
+    ensures { numbered result ≡ least (all_rules (core_of core.now) (before_of walk.now) (setting_of walk.now target.now) (CallLine name arguments.now)) }
 {
     match core.function(name) {
         Some(function) => known_call_rule(walk, target, arguments, function),

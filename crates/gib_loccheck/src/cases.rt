@@ -5,7 +5,7 @@ ghost use Rattle.gib_types.specs.Table.{fields_at, constructors_of as all_of};
 ghost use Rattle.gib_core.specs.Parts.{core_of};
 ghost use Rattle.gib_core.specs.Met.{CaseLine, with_arm, field as field_of_arm, packed_before as packed_before_next};
 ghost use Rattle.gib_core.specs.Rules.{least, rules, cover, are_arms as arms_are, arm_variables, any_bound as bound_again, bind_fields as fields_bound, bind_arms as arms_bound};
-ghost use Rattle.gib_loccheck.specs.Views.{setting_of, before_of, arms_in};
+ghost use Rattle.gib_loccheck.specs.Views.{setting_of, before_of, arms_in, numbered};
 ghost use Rattle.gib_loccheck.specs.Judging.{Extends};
 
 use crate::bound::BoundVariables;
@@ -13,7 +13,7 @@ use crate::indexed::IndexedCore;
 use crate::scope::Scope;
 use crate::state::{Target, Walk, is_listed};
 use gib_base::Memory;
-use gib_core::{Atom, Behind, Bound, Branch, Known, Variable};
+use gib_core::{Atom, Behind, Bound, Branch, Known, Rule, Variable};
 use gib_types::{ConId, Ty, TyId, TypeTable, first_type, further_types};
 use std::alloc::Global;
 
@@ -99,21 +99,21 @@ pub fn case_rule(
     target: &Target,
     subject: Atom,
     branches: &[Branch],
-) -> Result<Option<u8>, Memory>
-    ensures { IfOk result (λ rule. rule ≡ least (rules (core_of core.now) (before_of walk.now) (setting_of walk.now target.now) (CaseLine subject (arms_in branches.now)))) }
+) -> Result<Option<Rule>, Memory>
+    ensures { IfOk result (λ rule. numbered rule ≡ least (rules (core_of core.now) (before_of walk.now) (setting_of walk.now target.now) (CaseLine subject (arms_in branches.now)))) }
 {
     if walk.is_other(subject) {
-        return Ok(Some(4));
+        return Ok(Some(Rule::Sides));
     }
     if !covers(core.types(), walk.type_of(subject), branches) {
-        return Ok(Some(7));
+        return Ok(Some(Rule::Case));
     }
     if !walk.is_usable(subject) {
-        return Ok(Some(8));
+        return Ok(Some(Rule::Scope));
     }
     let variables = variables_of(walk.alloc, branches)?;
     if any_bound(walk, &variables)? {
-        return Ok(Some(8));
+        return Ok(Some(Rule::Scope));
     }
     Ok(None)
 }

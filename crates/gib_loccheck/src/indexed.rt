@@ -1,37 +1,15 @@
 //! Cores whose functions are found by their names, and whose constructors with offsets by their numbers, in
 //! constant time.
 
-ghost use Rattle.std.specs.Prelude.{◌≡◌, ◌==◌, ℕ, if◌then◌else◌, Some, IfOk, OnOk};
-ghost use Rattle.gib_loccheck.specs.Indexing.{IsIndex, entry_at};
-
 use crate::flagging::list_flags;
 use gib_base::{ByNumber, Memory, Name};
 use gib_core::ended::EndedSet;
+use gib_core::named::{function_named, list_places};
 use gib_core::settle::ended_parameters;
 use gib_core::{Core, CoreFunction, CoreMain, Terms};
 use gib_types::{ConId, TypeTable};
 use std::alloc::Global;
 use std::marker::Model;
-
-/// Puts a place at the number of a name.
-fn put_place(places: &mut ByNumber<usize>, name: Name, place: usize) -> Result<(), Memory>
-    ensures { OnOk result ((other : ℕ) → entry_at places.new other ≡ (if name.0 == other then Some place else entry_at places.old other)) }
-{
-    places.set(name.0, Some(place))
-}
-
-/// The place of the first function of each name. The last function comes first, so that the first one stays.
-fn list_places(alloc: Global, functions: &[CoreFunction]) -> Result<ByNumber<usize>, Memory>
-    ensures { IfOk result (λ places. IsIndex functions.now places) }
-{
-    let mut places = ByNumber::new(alloc);
-    let mut next = functions.len();
-    'functions: while next > 0 {
-        next -= 1;
-        put_place(&mut places, functions[next].name, next)?;
-    }
-    Ok(places)
-}
 
 /// A core, with the places of its functions by the numbers of their names, and with flags of the constructors
 /// whose heads store offsets.
@@ -47,7 +25,8 @@ impl Model for IndexedCore {
     ghost use Rattle.std.specs.Prelude.{◌≡◌};
     ghost use Rattle.gib_core.specs.Parts.{Parts, core_of};
     ghost use Rattle.gib_core.specs.Ending.{ended as ended_of};
-    ghost use Rattle.gib_loccheck.specs.Indexing.{IsIndex, AreFlagged};
+    ghost use Rattle.gib_core.specs.NamedFunctions.{IsIndex};
+    ghost use Rattle.gib_loccheck.specs.Indexing.{AreFlagged};
 
     ghost Value = { Parts };
 
@@ -63,7 +42,6 @@ impl IndexedCore {
     ghost use Rattle.gib_core.specs.Parts.{AreInside, core_of, function_term};
     ghost use Rattle.gib_core.specs.Ending.{ended as ended_of};
     ghost use Rattle.gib_core.specs.Rules.{is_one_of};
-    ghost use Rattle.gib_loccheck.specs.Indexing.{first_named};
 
     /// A core with its index.
     pub fn make(alloc: Global, core: Core) -> Result<IndexedCore, Memory>
@@ -131,22 +109,11 @@ impl IndexedCore {
         &self.ended
     }
 
-    /// The first function of a name.
-    fn first(&self, name: Name) -> Option<&CoreFunction>
-        ensures { MatchOption result (first_named self.now.functions name.0 ≡ None) (λ f. first_named self.now.functions name.0 ≡ Some f.now) }
-    {
-        match self.places.get(name.0) {
-            None => None,
-            Some(place) => self.core.functions().get(place),
-        }
-    }
-
     /// The function of a name: the first one; None exactly where no function has it.
-    #[tactic(auto, using(crate::proofs::Named::none_named, crate::proofs::Named::some_named))]
     pub fn function(&self, name: Name) -> Option<&CoreFunction>
         ensures { MatchOption result (function_at (core_of self.now).functions name.0 ≡ None) (λ f. function_at (core_of self.now).functions name.0 ≡ Some (function_term (term_of self.now.terms) f.now)) }
     {
-        match self.first(name) {
+        match function_named(self.core.functions(), &self.places, name) {
             None => None,
             Some(function) => Some(function),
         }

@@ -27,8 +27,6 @@ mod rules;
 mod scope;
 mod state;
 mod table;
-#[cfg(test)]
-mod tests;
 mod walk;
 
 use bodies::check_bodies;

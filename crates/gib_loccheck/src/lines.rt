@@ -5,7 +5,7 @@ ghost use Rattle.gib_core.specs.Tree.{CoreTree};
 ghost use Rattle.gib_core.specs.Parts.{core_of};
 ghost use Rattle.gib_core.specs.Met.{PastLine, SideLine, ParLine, PrimLine, ReachLine, WriteLine, PointLine, CallLine, GiveLine, CaseLine, IfLine};
 ghost use Rattle.gib_core.specs.Rules.{or_later};
-ghost use Rattle.gib_loccheck.specs.Views.{setting_of, in_scope, arms_in};
+ghost use Rattle.gib_loccheck.specs.Views.{setting_of, in_scope, arms_in, numbered};
 ghost use Rattle.gib_loccheck.specs.Judging.{one, Says, Passes, Blames, Kept, BindsToo, CasesToo};
 
 use crate::calls::call_rule;
@@ -17,18 +17,18 @@ use crate::rules::{
 };
 use crate::state::{Target, Walk};
 use gib_base::Name;
-use gib_core::{Access, Atom, Bound, Branch, Kind, Variable};
+use gib_core::{Access, Atom, Bound, Branch, Kind, Rule, Variable};
 use gib_syntax::Operator;
 use gib_types::{ConId, Ty};
 
 /// One more line, with the rule that it breaks first.
-fn judge(walk: &mut Walk, rule: Option<u8>) -> Result<(), LocFault>
-    ensures none { IfOk result (λ _. rule ≡ None) }
+fn judge(walk: &mut Walk, rule: Option<Rule>) -> Result<(), LocFault>
+    ensures none { IfOk result (λ _. numbered rule ≡ None) }
     ensures new { IfOk result (λ _. walk.new ≡ record walk.old { place = walk.old.place + 1 }) }
-    ensures broken { IfErr result (λ e. Says e (or_later rule walk.old.place None)) }
+    ensures broken { IfErr result (λ e. Says e (or_later (numbered rule) walk.old.place None)) }
 {
     if let Some(rule) = rule {
-        return Err(LocFault::Rule(rule, walk.place));
+        return Err(LocFault::Rule(rule.number(), walk.place));
     }
     if walk.place == u64::MAX {
         return Err(LocFault::Memory);

@@ -6,13 +6,13 @@ ghost use Rattle.gib_core.specs.Parts.{core_of};
 ghost use Rattle.gib_core.specs.Met.{PastLine, SideLine, ReachLine, WriteLine, PointLine, GiveLine, IfLine, known, packed_types};
 ghost use Rattle.gib_core.specs.Rules.{least, rules, side_rules, may_write as writes, are_scalars as scalars_are, by_access as accessed, may_reach as reaches, is_reached, is_outside, one_tells, is_among, are_variables as variables_are};
 ghost use Rattle.gib_core.specs.Ending.{ended};
-ghost use Rattle.gib_loccheck.specs.Views.{destination_of, setting_of, in_scope, before_of, calls_of, prim_rules};
+ghost use Rattle.gib_loccheck.specs.Views.{destination_of, setting_of, in_scope, before_of, calls_of, prim_rules, numbered};
 
 use crate::atoms::{all_usable, any_cased, any_other, are_variables, further, have_scalar_types};
 use crate::indexed::IndexedCore;
 use crate::state::{Destination, Target, Walk, is_listed};
 use crate::table::{is_of_type, packed_count};
-use gib_core::{Access, Atom, Behind, Kind, Known, Variable};
+use gib_core::{Access, Atom, Behind, Kind, Known, Rule, Variable};
 use gib_types::{ConId, Ty, TypeTable};
 
 /// A head that is filled, with the atoms at its fields.
@@ -31,14 +31,14 @@ pub fn past_rule(
     target: &Target,
     head: Variable,
     constructor: ConId,
-) -> Option<u8>
-    ensures { result ≡ least (rules (core_of core.now) (before_of walk.now) (setting_of walk.now target.now) (PastLine head constructor)) }
+) -> Option<Rule>
+    ensures { numbered result ≡ least (rules (core_of core.now) (before_of walk.now) (setting_of walk.now target.now) (PastLine head constructor)) }
 {
     if !(target.is_empty() && is_of_type(core.types(), constructor, target.due)) {
-        return Some(1);
+        return Some(Rule::Head);
     }
     if walk.bound.has(head) {
-        return Some(8);
+        return Some(Rule::Scope);
     }
     None
 }
@@ -50,43 +50,43 @@ fn here_rule(
     target: &Target,
     variable: Variable,
     ty: Ty,
-) -> Option<u8>
-    ensures { result ≡ least (rules (core_of core.now) (before_of walk.now) (setting_of walk.now target.now) (SideLine Kind.Here variable ty)) }
+) -> Option<Rule>
+    ensures { numbered result ≡ least (rules (core_of core.now) (before_of walk.now) (setting_of walk.now target.now) (SideLine Kind.Here variable ty)) }
 {
     if !target.has_room(core.types()) {
-        return Some(2);
+        return Some(Rule::Room);
     }
     if walk.bound.has(variable) {
-        return Some(8);
+        return Some(Rule::Scope);
     }
     if !ty.is(target.field_due(core.types())) {
-        return Some(9);
+        return Some(Rule::Types);
     }
     None
 }
 
 /// A packed value in a region of its own.
-fn region_rule(walk: &Walk, variable: Variable, ty: Ty) -> Option<u8>
-    ensures { (table : Table) → result ≡ least (side_rules table (before_of walk.now) (in_scope walk.now) Kind.Region variable ty) }
+fn region_rule(walk: &Walk, variable: Variable, ty: Ty) -> Option<Rule>
+    ensures { (table : Table) → numbered result ≡ least (side_rules table (before_of walk.now) (in_scope walk.now) Kind.Region variable ty) }
 {
     if ty.is_scalar() {
-        return Some(3);
+        return Some(Rule::Region);
     }
     if walk.bound.has(variable) {
-        return Some(8);
+        return Some(Rule::Scope);
     }
     None
 }
 
 /// A scalar.
-fn scalar_rule(walk: &Walk, variable: Variable, ty: Ty) -> Option<u8>
-    ensures { (table : Table) → result ≡ least (side_rules table (before_of walk.now) (in_scope walk.now) Kind.Scalar variable ty) }
+fn scalar_rule(walk: &Walk, variable: Variable, ty: Ty) -> Option<Rule>
+    ensures { (table : Table) → numbered result ≡ least (side_rules table (before_of walk.now) (in_scope walk.now) Kind.Scalar variable ty) }
 {
     if walk.bound.has(variable) {
-        return Some(8);
+        return Some(Rule::Scope);
     }
     if !ty.is_scalar() {
-        return Some(9);
+        return Some(Rule::Types);
     }
     None
 }
@@ -99,8 +99,8 @@ pub fn side_rule(
     kind: Kind,
     variable: Variable,
     ty: Ty,
-) -> Option<u8>
-    ensures { result ≡ least (rules (core_of core.now) (before_of walk.now) (setting_of walk.now target.now) (SideLine kind variable ty)) }
+) -> Option<Rule>
+    ensures { numbered result ≡ least (rules (core_of core.now) (before_of walk.now) (setting_of walk.now target.now) (SideLine kind variable ty)) }
 {
     match kind {
         Kind::Here => here_rule(core, walk, target, variable, ty),
@@ -110,20 +110,20 @@ pub fn side_rule(
 }
 
 /// An operation.
-pub fn prim_rule(walk: &Walk, variable: Variable, left: Atom, right: Atom) -> Option<u8>
-    ensures { result ≡ least (prim_rules (before_of walk.now) (in_scope walk.now) variable left right) }
+pub fn prim_rule(walk: &Walk, variable: Variable, left: Atom, right: Atom) -> Option<Rule>
+    ensures { numbered result ≡ least (prim_rules (before_of walk.now) (in_scope walk.now) variable left right) }
 {
     if walk.is_other(left) || walk.is_other(right) {
-        return Some(4);
+        return Some(Rule::Sides);
     }
     if walk.bound.has(variable) {
-        return Some(8);
+        return Some(Rule::Scope);
     }
     if !(walk.is_usable(left) && walk.is_usable(right)) {
-        return Some(8);
+        return Some(Rule::Scope);
     }
     if !(walk.has_type(left, Ty::Whole) && walk.has_type(right, Ty::Whole)) {
-        return Some(9);
+        return Some(Rule::Types);
     }
     None
 }
@@ -176,14 +176,14 @@ fn may_reach(core: &IndexedCore, walk: &Walk, field: Option<Known>, access: Acce
 }
 
 /// From here on a field of an arm can be used.
-pub fn reach_rule(core: &IndexedCore, walk: &Walk, field: Variable, access: Access) -> Option<u8>
-    ensures { result ≡ least (rules (core_of core.now) (before_of walk.now) (in_scope walk.now) (ReachLine field access)) }
+pub fn reach_rule(core: &IndexedCore, walk: &Walk, field: Variable, access: Access) -> Option<Rule>
+    ensures { numbered result ≡ least (rules (core_of core.now) (before_of walk.now) (in_scope walk.now) (ReachLine field access)) }
 {
     if is_listed(&walk.others, field) {
-        return Some(4);
+        return Some(Rule::Sides);
     }
     if !may_reach(core, walk, walk.scope.find(field), access) {
-        return Some(8);
+        return Some(Rule::Scope);
     }
     None
 }
@@ -236,73 +236,73 @@ fn are_scalars(types: &TypeTable, walk: &Walk, target: &Target, scalars: &[Atom]
 
 /// The open head is filled.
 #[tactic(auto, using(crate::proofs::Scoping::both_other, crate::proofs::Scoping::both_usable))]
-pub fn write_rule(core: &IndexedCore, walk: &Walk, target: &Target, head: &Head<'_>) -> Option<u8>
-    ensures { result ≡ least (rules (core_of core.now) (before_of walk.now) (setting_of walk.now target.now) (WriteLine head.now.variable head.now.constructor head.now.scalars.now head.now.packed.now)) }
+pub fn write_rule(core: &IndexedCore, walk: &Walk, target: &Target, head: &Head<'_>) -> Option<Rule>
+    ensures { numbered result ≡ least (rules (core_of core.now) (before_of walk.now) (setting_of walk.now target.now) (WriteLine head.now.variable head.now.constructor head.now.scalars.now head.now.packed.now)) }
 {
     if any_other(walk, head.scalars) || any_other(walk, head.packed) {
-        return Some(4);
+        return Some(Rule::Sides);
     }
     if !may_write(core.types(), walk, target, head) {
-        return Some(5);
+        return Some(Rule::Write);
     }
     if !(all_usable(walk, head.scalars) && all_usable(walk, head.packed)) {
-        return Some(8);
+        return Some(Rule::Scope);
     }
     if !are_scalars(core.types(), walk, target, head.scalars) {
-        return Some(9);
+        return Some(Rule::Types);
     }
     None
 }
 
 /// An indirection to a packed value.
 #[tactic(auto, using(crate::proofs::Scoping::other_same, crate::proofs::Scoping::usable_same))]
-pub fn point_rule(core: &IndexedCore, walk: &Walk, target: &Target, atom: Atom) -> Option<u8>
-    ensures { result ≡ least (rules (core_of core.now) (before_of walk.now) (setting_of walk.now target.now) (PointLine atom)) }
+pub fn point_rule(core: &IndexedCore, walk: &Walk, target: &Target, atom: Atom) -> Option<Rule>
+    ensures { numbered result ≡ least (rules (core_of core.now) (before_of walk.now) (setting_of walk.now target.now) (PointLine atom)) }
 {
     if walk.is_other(atom) {
-        return Some(4);
+        return Some(Rule::Sides);
     }
     if !target.is_empty() {
-        return Some(6);
+        return Some(Rule::Place);
     }
     if !walk.is_usable(atom) {
-        return Some(8);
+        return Some(Rule::Scope);
     }
     if !walk.has_type(atom, target.due) {
-        return Some(9);
+        return Some(Rule::Types);
     }
     None
 }
 
 /// A scalar result.
 #[tactic(auto, using(crate::proofs::Scoping::other_same, crate::proofs::Scoping::usable_same))]
-pub fn give_rule(core: &IndexedCore, walk: &Walk, target: &Target, atom: Atom) -> Option<u8>
-    ensures { result ≡ least (rules (core_of core.now) (before_of walk.now) (setting_of walk.now target.now) (GiveLine atom)) }
+pub fn give_rule(core: &IndexedCore, walk: &Walk, target: &Target, atom: Atom) -> Option<Rule>
+    ensures { numbered result ≡ least (rules (core_of core.now) (before_of walk.now) (setting_of walk.now target.now) (GiveLine atom)) }
 {
     if walk.is_other(atom) {
-        return Some(4);
+        return Some(Rule::Sides);
     }
     if !walk.is_usable(atom) {
-        return Some(8);
+        return Some(Rule::Scope);
     }
     if !(target.is_nowhere() && walk.has_type(atom, target.due)) {
-        return Some(9);
+        return Some(Rule::Types);
     }
     None
 }
 
 /// The condition of branches.
-pub fn if_rule(core: &IndexedCore, walk: &Walk, condition: Atom) -> Option<u8>
-    ensures { result ≡ least (rules (core_of core.now) (before_of walk.now) (in_scope walk.now) (IfLine condition)) }
+pub fn if_rule(core: &IndexedCore, walk: &Walk, condition: Atom) -> Option<Rule>
+    ensures { numbered result ≡ least (rules (core_of core.now) (before_of walk.now) (in_scope walk.now) (IfLine condition)) }
 {
     if walk.is_other(condition) {
-        return Some(4);
+        return Some(Rule::Sides);
     }
     if !walk.is_usable(condition) {
-        return Some(8);
+        return Some(Rule::Scope);
     }
     if !walk.has_type(condition, Ty::Truth) {
-        return Some(9);
+        return Some(Rule::Types);
     }
     None
 }

@@ -1,7 +1,7 @@
 -- Events that happen one after another.
 use Rattle.std.proofs.Common.{◌≡◌, ℕ, zero, suc, ◌+◌, ◌-◌, ◌<◌, List, [], ◌∷◌, ◌++◌, length, take, drop, replicate, append_assoc, sym, ap, ◌∙◌, subst, subst₂, refl, arith, Err}
 use lib.ListN.{get_or}
-use Rattle.std.proofs.lemmas.List.{length-take-le, replicate-append-replicate}
+use Rattle.std.proofs.lemmas.List.{length-take-le, replicate-append-replicate, append-nil}
 use Rattle.std.proofs.Math.Seq.{take-length, take-suc}
 use Rattle.gib_types.specs.Tree.{Datum}
 use Rattle.gib_code.specs.Program.{CodeTree}
@@ -73,11 +73,7 @@ leads_none start w is = rw is (record { lowered = refl; legal = none; sound = λ
 next_counted : (ls : List Line) (k : ℕ) (line : Line) → k < length ls → line ≡ get_or ls k line → counted_out (take (k + 1) ls) ≡ counted_out (take k ls) ++ counted line
 next_counted ls k line lt is =
     let one : k + 1 ≡ suc k = omega arith in
-    ap (λ n. counted_out (take n ls)) one ∙ (ap counted_out (take-suc ls k line lt) ∙ (ap (λ l. counted_out (take k ls ++ l ∷ [])) (sym is) ∙ (counted_append (take k ls) (line ∷ []) ∙ ap (λ es. counted_out (take k ls) ++ es) (alone (counted line)))))
-  where
-    alone : (es : List Event) → es ++ [] ≡ es
-    alone [] = refl
-    alone (x ∷ es) = ap (λ xs. x ∷ xs) (alone es)
+    ap (λ n. counted_out (take n ls)) one ∙ (ap counted_out (take-suc ls k line lt) ∙ (ap (λ l. counted_out (take k ls ++ l ∷ [])) (sym is) ∙ (counted_append (take k ls) (line ∷ []) ∙ ap (λ es. counted_out (take k ls) ++ es) (append-nil (counted line)))))
 
 pub leads_next : (start w w' : WeaveParts) (ls : List Line) (k count : ℕ) (line : Line) (e : TaskEvent) → k < length ls → line ≡ get_or ls k line → counted line ≡ replicate count (event_of e) → Leads start (take k ls) w
     → ((st : WeaveParts) (es : List Event) → Goes st es w → Goes st (es ++ replicate count (event_of e)) w') → Leads start (take (k + 1) ls) w'

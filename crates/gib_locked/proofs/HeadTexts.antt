@@ -1,9 +1,10 @@
 -- The line of what a weave was started with, and its text.
-use Rattle.std.proofs.Common.{true≢false, ◌≡◌, ℕ, ◌<◌, ◌^◌, List, ◌∷◌, ◌++◌, Bool, true, false, ◌&&◌, sym, refl, ap, ◌∙◌, subst, arith}
+use Rattle.std.proofs.Common.{true≢false, ◌≡◌, ℕ, ◌<◌, ◌^◌, List, ◌∷◌, ◌++◌, true, false, ◌&&◌, sym, refl, ap, ◌∙◌, subst, arith}
 use Rattle.std.specs.Prelude.{codes, nat_le}
 use Rattle.std.specs.Fmt.{decimal}
 use Rattle.std.proofs.lemmas.Fmt.{decimal_injective}
 use Rattle.std.proofs.lemmas.Bool.Decides.{nat_tests}
+use Rattle.std.proofs.lemmas.Bool.{and_parts}
 use Rattle.gib_locked.specs.Cuts.{IsCut, lacks}
 use Rattle.gib_locked.specs.Limits.{are_settings}
 use Rattle.gib_locked.specs.JournalText.{flag_text, settings_text}
@@ -34,14 +35,6 @@ named_is_one word n m r q h f g e =
     let b = halves 32 (decimal n) (decimal m) r q (number_lacks 32 n (omega arith) f) (number_lacks 32 m (omega arith) g) a.1 in
     (decimal_injective n m f g b.0, b.1)
 
-and_left : (a b : Bool) → (a && b) ≡ true → a ≡ true
-and_left true b e = refl
-and_left false b e = e
-
-and_right : (a b : Bool) → (a && b) ≡ true → b ≡ true
-and_right true b e = e
-and_right false b e = absurd (true≢false (sym e))
-
 -- The numbers are small.
 pub record AreSmall (s : Settings) : Type 0 where
   pub depth : s.depth < 2 ^ 64
@@ -51,12 +44,12 @@ pub record AreSmall (s : Settings) : Type 0 where
 pub are_small : (s : Settings) → AreSmall s
 are_small s =
     let d = s.depth in let c = s.chunks in let f = s.fork in
-    let h1 = and_right (nat_le 1 d) (nat_le d 1000000 && (nat_le 16 c && (nat_le c 65536 && nat_le f 64))) s.within in
-    let h2 = and_right (nat_le d 1000000) (nat_le 16 c && (nat_le c 65536 && nat_le f 64)) h1 in
-    let h3 = and_right (nat_le 16 c) (nat_le c 65536 && nat_le f 64) h2 in
-    let a : nat_le s.depth 1000000 ≡ true = and_left (nat_le d 1000000) (nat_le 16 c && (nat_le c 65536 && nat_le f 64)) h1 in
-    let b : nat_le s.chunks 65536 ≡ true = and_left (nat_le c 65536) (nat_le f 64) h3 in
-    let e : nat_le s.fork 64 ≡ true = and_right (nat_le c 65536) (nat_le f 64) h3 in
+    let h1 = (and_parts (nat_le 1 d) (nat_le d 1000000 && (nat_le 16 c && (nat_le c 65536 && nat_le f 64))) s.within).1 in
+    let h2 = (and_parts (nat_le d 1000000) (nat_le 16 c && (nat_le c 65536 && nat_le f 64)) h1).1 in
+    let h3 = (and_parts (nat_le 16 c) (nat_le c 65536 && nat_le f 64) h2).1 in
+    let a : nat_le s.depth 1000000 ≡ true = (and_parts (nat_le d 1000000) (nat_le 16 c && (nat_le c 65536 && nat_le f 64)) h1).0 in
+    let b : nat_le s.chunks 65536 ≡ true = (and_parts (nat_le c 65536) (nat_le f 64) h3).0 in
+    let e : nat_le s.fork 64 ≡ true = (and_parts (nat_le c 65536) (nat_le f 64) h3).1 in
     record { depth = grind (arith, nat_tests); chunks = grind (arith, nat_tests); fork = grind (arith, nat_tests) }
 
 -- What is behind the first number, behind the second, and behind the third.

@@ -1,9 +1,10 @@
 -- The lines of journals, and what begins like them.
-use Rattle.std.proofs.Common.{true≢false, ◌≡◌, ◌⊎◌, inl, inr, ℕ, ◌^◌, ◌<◌, List, [], ◌∷◌, ◌++◌, Bool, true, false, not, ◌&&◌, length, map, sym, refl, ap, ◌∙◌, subst, append_assoc, arith}
+use Rattle.std.proofs.Common.{◌≡◌, ◌⊎◌, inl, inr, ℕ, ◌^◌, ◌<◌, List, [], ◌∷◌, ◌++◌, Bool, true, false, not, ◌&&◌, length, map, sym, refl, ap, ◌∙◌, subst, append_assoc, arith}
 use Rattle.std.specs.Prelude.{◌==◌, codes, slice_index}
 use Rattle.std.specs.List.{flat_map}
 use Rattle.std.specs.Fmt.{decimal}
 use Rattle.std.proofs.Math.Bool.{Bool-set}
+use Rattle.std.proofs.lemmas.Bool.{and_parts, and_from}
 use Rattle.gib_locked.specs.Cuts.{lacks}
 use Rattle.gib_locked.specs.Limits.{are_settings}
 use Rattle.gib_locked.specs.declared.journal.Line.{Line}
@@ -14,22 +15,10 @@ use Rattle.gib_locked.specs.JournalText.{events_text, fed, flag_text, line_text,
 use Rattle.gib_locked.proofs.LineTexts.{count_fits, halves, has_lacks, line_is_one, number_lacks, steps_count, steps_task, task_fits}
 use Rattle.gib_locked.proofs.HeadTexts.{are_small, first_is, second_is, third_is}
 
-left : (a b : Bool) → (a && b) ≡ true → a ≡ true
-left true b e = refl
-left false b e = e
-
-right : (a b : Bool) → (a && b) ≡ true → b ≡ true
-right true b e = e
-right false b e = absurd (true≢false (sym e))
-
 -- Texts without a byte, one after the other.
 lack_both : (byte : ℕ) (a b : List ℕ) → lacks byte a ≡ true → lacks byte b ≡ true → lacks byte (a ++ b) ≡ true
 lack_both byte [] b h k = k
-lack_both byte (x ∷ a) b h k = and_also (not (x == byte)) (lacks byte (a ++ b)) (left (not (x == byte)) (lacks byte a) h) (lack_both byte a b (right (not (x == byte)) (lacks byte a) h) k)
-  where
-    and_also : (c d : Bool) → c ≡ true → d ≡ true → (c && d) ≡ true
-    and_also true d p q = q
-    and_also false d p q = p
+lack_both byte (x ∷ a) b h k = and_from (not (x == byte)) (lacks byte (a ++ b)) (and_parts (not (x == byte)) (lacks byte a) h).0 (lack_both byte a b (and_parts (not (x == byte)) (lacks byte a) h).1 k)
 
 one_number : (n : ℕ) → n < 2 ^ 64 → lacks 10 (decimal n) ≡ true
 one_number n h = number_lacks 10 n (omega arith) h
@@ -60,7 +49,7 @@ AreLines (l ∷ ls) = (lacks 10 l ≡ true) × AreLines ls
 
 events_are : (ls : List Line) → are_lines ls ≡ true → AreLines (events_text ls)
 events_are [] h = (refl, tt)
-events_are (l ∷ ls) h = (line_lacks l (left (is_line l) (first_may_follow l ls && are_lines ls) h), events_are ls (right (first_may_follow l ls) (are_lines ls) (right (is_line l) (first_may_follow l ls && are_lines ls) h)))
+events_are (l ∷ ls) h = (line_lacks l (and_parts (is_line l) (first_may_follow l ls && are_lines ls) h).0, events_are ls (and_parts (first_may_follow l ls) (are_lines ls) (and_parts (is_line l) (first_may_follow l ls && are_lines ls) h).1).1)
 
 pub journal_are : (s : Settings) (ls : List Line) → are_lines ls ≡ true → AreLines (lines_text s ls)
 journal_are s ls h = (refl, (settings_lacks s, events_are ls h))
@@ -113,8 +102,8 @@ comes_next [] [] next more f g e = inl (sym (ap first_of e), sym (ap others_of e
 comes_next [] (k ∷ ks) next more f g e = inr (k, ks, refl, sym (ap first_of e))
 comes_next (l ∷ ls) [] next more f g e = absurd (no_end l (ap first_of e))
 comes_next (l ∷ ls) (k ∷ ks) next more f g e =
-    let same : k ≡ l = line_is_one k l (left (is_line k) (first_may_follow k ks && are_lines ks) g) (left (is_line l) (first_may_follow l ls && are_lines ls) f) (ap first_of e) in
-    step same (comes_next ls ks next more (right (first_may_follow l ls) (are_lines ls) (right (is_line l) (first_may_follow l ls && are_lines ls) f)) (right (first_may_follow k ks) (are_lines ks) (right (is_line k) (first_may_follow k ks && are_lines ks) g)) (ap others_of e))
+    let same : k ≡ l = line_is_one k l (and_parts (is_line k) (first_may_follow k ks && are_lines ks) g).0 (and_parts (is_line l) (first_may_follow l ls && are_lines ls) f).0 (ap first_of e) in
+    step same (comes_next ls ks next more (and_parts (first_may_follow l ls) (are_lines ls) (and_parts (is_line l) (first_may_follow l ls && are_lines ls) f).1).1 (and_parts (first_may_follow k ks) (are_lines ks) (and_parts (is_line k) (first_may_follow k ks && are_lines ks) g).1).1 (ap others_of e))
   where
     step : k ≡ l → ((next ≡ codes "end") × (more ≡ [])) ⊎ ((j : Line) × (js : List Line) × (ks ≡ ls ++ j ∷ js) × (next ≡ line_text j)) → ((next ≡ codes "end") × (more ≡ [])) ⊎ ((j : Line) × (js : List Line) × (k ∷ ks ≡ (l ∷ ls) ++ j ∷ js) × (next ≡ line_text j))
     step same (inl h) = inl h
@@ -122,15 +111,15 @@ comes_next (l ∷ ls) (k ∷ ks) next more f g e =
 
 -- What may stand in front of more lines may stand alone.
 pub front_may : (ls ks : List Line) (k : Line) → are_lines (ls ++ k ∷ ks) ≡ true → are_lines (ls ++ k ∷ []) ≡ true
-front_may [] ks k h = is_one (is_line k) (left (is_line k) (first_may_follow k ks && are_lines ks) h)
+front_may [] ks k h = is_one (is_line k) (and_parts (is_line k) (first_may_follow k ks && are_lines ks) h).0
   where
     is_one : (a : Bool) → a ≡ true → (a && (true && true)) ≡ true
     is_one true p = refl
     is_one false p = p
 front_may (l ∷ ls) ks k h =
-    let t = right (is_line l) (first_may_follow l (ls ++ k ∷ ks) && are_lines (ls ++ k ∷ ks)) h in
-    all_three (is_line l) (first_may_follow l (ls ++ k ∷ [])) (are_lines (ls ++ k ∷ [])) (left (is_line l) (first_may_follow l (ls ++ k ∷ ks) && are_lines (ls ++ k ∷ ks)) h)
-    (sym (first_same ls) ∙ left (first_may_follow l (ls ++ k ∷ ks)) (are_lines (ls ++ k ∷ ks)) t) (front_may ls ks k (right (first_may_follow l (ls ++ k ∷ ks)) (are_lines (ls ++ k ∷ ks)) t))
+    let t = (and_parts (is_line l) (first_may_follow l (ls ++ k ∷ ks) && are_lines (ls ++ k ∷ ks)) h).1 in
+    all_three (is_line l) (first_may_follow l (ls ++ k ∷ [])) (are_lines (ls ++ k ∷ [])) (and_parts (is_line l) (first_may_follow l (ls ++ k ∷ ks) && are_lines (ls ++ k ∷ ks)) h).0
+    (sym (first_same ls) ∙ (and_parts (first_may_follow l (ls ++ k ∷ ks)) (are_lines (ls ++ k ∷ ks)) t).0) (front_may ls ks k (and_parts (first_may_follow l (ls ++ k ∷ ks)) (are_lines (ls ++ k ∷ ks)) t).1)
   where
     first_same : (js : List Line) → first_may_follow l (js ++ k ∷ ks) ≡ first_may_follow l (js ++ k ∷ [])
     first_same [] = refl
@@ -147,8 +136,8 @@ events_are_one [] [] f g e = refl
 events_are_one [] (k ∷ ks) f g e = absurd (no_end k (ap first_of e))
 events_are_one (l ∷ ls) [] f g e = absurd (no_end l (sym (ap first_of e)))
 events_are_one (l ∷ ls) (k ∷ ks) f g e =
-    let same : l ≡ k = line_is_one l k (left (is_line l) (first_may_follow l ls && are_lines ls) f) (left (is_line k) (first_may_follow k ks && are_lines ks) g) (ap first_of e) in
-    ap (λ x. x ∷ ls) same ∙ ap (λ xs. k ∷ xs) (events_are_one ls ks (right (first_may_follow l ls) (are_lines ls) (right (is_line l) (first_may_follow l ls && are_lines ls) f)) (right (first_may_follow k ks) (are_lines ks) (right (is_line k) (first_may_follow k ks && are_lines ks) g)) (ap others_of e))
+    let same : l ≡ k = line_is_one l k (and_parts (is_line l) (first_may_follow l ls && are_lines ls) f).0 (and_parts (is_line k) (first_may_follow k ks && are_lines ks) g).0 (ap first_of e) in
+    ap (λ x. x ∷ ls) same ∙ ap (λ xs. k ∷ xs) (events_are_one ls ks (and_parts (first_may_follow l ls) (are_lines ls) (and_parts (is_line l) (first_may_follow l ls && are_lines ls) f).1).1 (and_parts (first_may_follow k ks) (are_lines ks) (and_parts (is_line k) (first_may_follow k ks && are_lines ks) g).1).1 (ap others_of e))
 
 abbrev flag_in : List ℕ → Bool
 flag_in xs = slice_index xs 6 == 49

@@ -7,20 +7,13 @@ use Rattle.std.specs.Str.{all_ascii_digits}
 use Rattle.std.specs.Fmt.{decimal}
 use Rattle.std.proofs.lemmas.Fmt.{decimal_injective, digits_decimal, digits_value-decimal}
 use Rattle.std.proofs.lemmas.Bool.Decides.{nat_tests}
+use Rattle.std.proofs.lemmas.Bool.{and_parts, not-true}
 use Rattle.gib_locked.specs.Cuts.{IsCut, lacks}
 use Rattle.gib_locked.specs.declared.journal.Line.{Line}
 use Rattle.gib_locked.specs.declared.journal.Line.TheVariants.{Steps, Forks, Steals, Takes, Finishes, Joins}
 use Rattle.gib_locked.specs.Lines.{is_line, is_task, most}
 use Rattle.gib_locked.specs.JournalText.{line_text, numbers_text, word_text}
 use Rattle.gib_locked.proofs.Numbers.{own}
-
-and_left : (a b : Bool) → (a && b) ≡ true → a ≡ true
-and_left true b e = refl
-and_left false b e = e
-
-and_right : (a b : Bool) → (a && b) ≡ true → b ≡ true
-and_right true b e = e
-and_right false b e = absurd (true≢false (sym e))
 
 abbrev head : List ℕ → ℕ
 head [] = 0
@@ -30,28 +23,24 @@ abbrev tail : List ℕ → List ℕ
 tail [] = []
 tail (x ∷ xs) = xs
 
-not_true : (b : Bool) → not b ≡ true → b ≡ false
-not_true true e = sym e
-not_true false e = refl
-
 not_first : (byte x : ℕ) (rest : Bool) → x ≡ byte → (not (x == byte) && rest) ≡ true → ⊥
-not_first byte x rest e h = let n : (x == byte) ≡ false = not_true (x == byte) (and_left (not (x == byte)) rest h) in grind (arith, nat_tests)
+not_first byte x rest e h = let n : (x == byte) ≡ false = not-true (x == byte) (and_parts (not (x == byte)) rest h).0 in grind (arith, nat_tests)
 
 -- What stands before and behind the first of a byte is one.
 pub halves : (byte : ℕ) (a b r s : List ℕ) → lacks byte a ≡ true → lacks byte b ≡ true → a ++ byte ∷ r ≡ b ++ byte ∷ s → (a ≡ b) × (r ≡ s)
 halves byte [] [] r s f g e = (refl, ap tail e)
 halves byte [] (y ∷ b) r s f g e = absurd (not_first byte y (lacks byte b) (sym (ap head e)) g)
 halves byte (x ∷ a) [] r s f g e = absurd (not_first byte x (lacks byte a) (ap head e) f)
-halves byte (x ∷ a) (y ∷ b) r s f g e = let h = halves byte a b r s (and_right (not (x == byte)) (lacks byte a) f) (and_right (not (y == byte)) (lacks byte b) g) (ap tail e) in
+halves byte (x ∷ a) (y ∷ b) r s f g e = let h = halves byte a b r s (and_parts (not (x == byte)) (lacks byte a) f).1 (and_parts (not (y == byte)) (lacks byte b) g).1 (ap tail e) in
     (ap (λ z. z ∷ a) (ap head e) ∙ ap (λ zs. y ∷ zs) h.0, h.1)
 
 -- A text of digits lacks what is no digit.
 digits_lack : (byte : ℕ) (bs : List ℕ) → byte < 48 → all_ascii_digits bs ≡ true → lacks byte bs ≡ true
 digits_lack byte [] small h = refl
 digits_lack byte (b ∷ bs) small h =
-    let d : is_ascii_digit b ≡ true = and_left (is_ascii_digit b) (all_ascii_digits bs) h in
+    let d : is_ascii_digit b ≡ true = (and_parts (is_ascii_digit b) (all_ascii_digits bs) h).0 in
     let other : (b == byte) ≡ false = grind (arith, nat_tests) in
-    rw other (digits_lack byte bs small (and_right (is_ascii_digit b) (all_ascii_digits bs) h))
+    rw other (digits_lack byte bs small (and_parts (is_ascii_digit b) (all_ascii_digits bs) h).1)
 
 pub number_lacks : (byte n : ℕ) → byte < 48 → n < 2 ^ 64 → lacks byte (decimal n) ≡ true
 number_lacks byte n small fits = digits_lack byte (decimal n) small (digits_decimal own n fits)
@@ -69,13 +58,13 @@ pub task_fits : (t : ℕ) → is_task t ≡ true → t < 2 ^ 64
 task_fits t h = grind (arith, nat_tests)
 
 pub count_fits : (n : ℕ) → (nat_lt 0 n && nat_le n most) ≡ true → n < 2 ^ 64
-count_fits n h = let b = and_right (nat_lt 0 n) (nat_le n most) h in grind (arith, nat_tests)
+count_fits n h = let b = (and_parts (nat_lt 0 n) (nat_le n most) h).1 in grind (arith, nat_tests)
 
 pub steps_task : (t n : ℕ) → is_line (Steps t n) ≡ true → is_task t ≡ true
-steps_task t n h = and_left (is_task t) (nat_lt 0 n && nat_le n most) h
+steps_task t n h = (and_parts (is_task t) (nat_lt 0 n && nat_le n most) h).0
 
 pub steps_count : (t n : ℕ) → is_line (Steps t n) ≡ true → (nat_lt 0 n && nat_le n most) ≡ true
-steps_count t n h = and_right (is_task t) (nat_lt 0 n && nat_le n most) h
+steps_count t n h = (and_parts (is_task t) (nat_lt 0 n && nat_le n most) h).1
 
 -- Where a text is cut at a space, and is the text of a line, the word stands before it and the numbers behind.
 pub cut_line : (text front rest : List ℕ) (l : Line) → IsCut 32 text front rest → text ≡ line_text l → (front ≡ word_text l) × (rest ≡ numbers_text l)
@@ -83,7 +72,7 @@ cut_line text front rest l c is = halves 32 front (word_text l) rest (numbers_te
 
 pub has_lacks : (byte : ℕ) (a r : List ℕ) → lacks byte (a ++ byte ∷ r) ≡ true → ⊥
 has_lacks byte [] r h = not_first byte byte (lacks byte r) refl h
-has_lacks byte (x ∷ a) r h = has_lacks byte a r (and_right (not (x == byte)) (lacks byte (a ++ byte ∷ r)) h)
+has_lacks byte (x ∷ a) r h = has_lacks byte a r (and_parts (not (x == byte)) (lacks byte (a ++ byte ∷ r)) h).1
 
 -- A text without a space is no line's.
 pub no_space_no_line : (text : List ℕ) (l : Line) → lacks 32 text ≡ true → text ≡ line_text l → ⊥
@@ -105,11 +94,11 @@ behind (x ∷ xs) = if x == 32 then xs else behind xs
 
 before_is : (a r : List ℕ) → lacks 32 a ≡ true → before (a ++ 32 ∷ r) ≡ a
 before_is [] r h = refl
-before_is (x ∷ a) r h = let n : (x == 32) ≡ false = not_true (x == 32) (and_left (not (x == 32)) (lacks 32 a) h) in rw n (ap (λ xs. x ∷ xs) (before_is a r (and_right (not (x == 32)) (lacks 32 a) h)))
+before_is (x ∷ a) r h = let n : (x == 32) ≡ false = not-true (x == 32) (and_parts (not (x == 32)) (lacks 32 a) h).0 in rw n (ap (λ xs. x ∷ xs) (before_is a r (and_parts (not (x == 32)) (lacks 32 a) h).1))
 
 behind_is : (a r : List ℕ) → lacks 32 a ≡ true → behind (a ++ 32 ∷ r) ≡ r
 behind_is [] r h = refl
-behind_is (x ∷ a) r h = let n : (x == 32) ≡ false = not_true (x == 32) (and_left (not (x == 32)) (lacks 32 a) h) in rw n (behind_is a r (and_right (not (x == 32)) (lacks 32 a) h))
+behind_is (x ∷ a) r h = let n : (x == 32) ≡ false = not-true (x == 32) (and_parts (not (x == 32)) (lacks 32 a) h).0 in rw n (behind_is a r (and_parts (not (x == 32)) (lacks 32 a) h).1)
 
 abbrev value : List ℕ → ℕ
 value ds = digits_value 10 ds

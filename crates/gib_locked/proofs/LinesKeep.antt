@@ -1,6 +1,6 @@
 -- A journal that is one event longer.
 use Rattle.std.proofs.lemmas.Option.{none-some}
-use Rattle.std.proofs.Common.{true≢false, ◌≡◌, ℕ, ◌+◌, ◌<◌, ◌≤◌, List, [], ◌∷◌, ◌++◌, replicate, Bool, true, false, not, ◌&&◌, ◌||◌, sym, refl, ap, ◌∙◌, subst, append_assoc, arith}
+use Rattle.std.proofs.Common.{◌≡◌, ℕ, ◌+◌, ◌<◌, ◌≤◌, List, [], ◌∷◌, ◌++◌, replicate, Bool, true, false, not, ◌&&◌, ◌||◌, sym, refl, ap, ◌∙◌, subst, append_assoc, arith}
 use Rattle.std.specs.Prelude.{◌==◌, nat_lt, nat_le}
 use Rattle.std.proofs.lemmas.List.{append-nil, replicate-append-replicate}
 use Rattle.std.proofs.lemmas.Bool.Decides.{nat_tests}
@@ -11,7 +11,9 @@ use Rattle.gib_weave.specs.Weave.{Step}
 use Rattle.gib_locked.specs.declared.journal.Line.{Line}
 use Rattle.gib_locked.specs.declared.journal.Line.TheVariants.{Steps, Forks, Steals, Takes, Finishes, Joins}
 use Rattle.std.specs.Prelude.{Some, None, if◌then◌else◌}
+use Rattle.std.proofs.lemmas.Bool.{and_parts, and_from}
 use Rattle.gib_locked.specs.Lines.{longer, counted, counted_out, line_of, is_line, is_task, may_follow, first_may_follow, are_lines, most, IsLonger}
+use Rattle.gib_locked.proofs.NextLines.{last_is_line}
 
 pub counted_append : (ls ks : List Line) → counted_out (ls ++ ks) ≡ counted_out ls ++ counted_out ks
 counted_append [] ks = refl
@@ -36,54 +38,38 @@ counted_longer ls last line e h =
     let b : counted_out (ls ++ last ∷ []) ≡ counted_out ls ++ replicate n s = counted_append ls (last ∷ []) ∙ (ap (λ l. counted_out ls ++ counted_out (l ∷ [])) h.last_is ∙ ap (λ es. counted_out ls ++ es) (tail n)) in
     a ∙ (ap (λ es. counted_out ls ++ es) (sym (replicate-append-replicate n 1 s)) ∙ (sym (append_assoc (counted_out ls) (replicate n s) (s ∷ [])) ∙ (ap (λ es. es ++ s ∷ []) (sym b) ∙ ap (λ x. counted_out (ls ++ last ∷ []) ++ x ∷ []) (sym (ap event_of h.event_is)))))
 
-and_left : (a b : Bool) → (a && b) ≡ true → a ≡ true
-and_left true b e = refl
-and_left false b e = e
-
-and_right : (a b : Bool) → (a && b) ≡ true → b ≡ true
-and_right true b e = e
-and_right false b e = absurd (true≢false (sym e))
-
-both : (a b : Bool) → a ≡ true → b ≡ true → (a && b) ≡ true
-both a b p q = ap (λ x. x && b) p ∙ q
-
 -- The first line of a list that ends otherwise.
 first_same : (k : Line) (ls : List Line) (l m : Line) → (may_follow k l ≡ true → may_follow k m ≡ true) → first_may_follow k (ls ++ l ∷ []) ≡ true → first_may_follow k (ls ++ m ∷ []) ≡ true
 first_same k [] l m f e = f e
 first_same k (j ∷ ls) l m f e = e
 
 pub replaced : (ls : List Line) (l m : Line) → is_line m ≡ true → ((k : Line) → may_follow k l ≡ true → may_follow k m ≡ true) → are_lines (ls ++ l ∷ []) ≡ true → are_lines (ls ++ m ∷ []) ≡ true
-replaced [] l m is f e = both _ _ is refl
+replaced [] l m is f e = and_from _ _ is refl
 replaced (k ∷ ls) l m is f e =
-    let a = and_left (is_line k) (first_may_follow k (ls ++ l ∷ []) && are_lines (ls ++ l ∷ [])) e in
-    let b = and_right (is_line k) (first_may_follow k (ls ++ l ∷ []) && are_lines (ls ++ l ∷ [])) e in
-    let c = and_left (first_may_follow k (ls ++ l ∷ [])) (are_lines (ls ++ l ∷ [])) b in
-    let d = and_right (first_may_follow k (ls ++ l ∷ [])) (are_lines (ls ++ l ∷ [])) b in
-    both _ _ a (both _ _ (first_same k ls l m (f k) c) (replaced ls l m is f d))
+    let a = (and_parts (is_line k) (first_may_follow k (ls ++ l ∷ []) && are_lines (ls ++ l ∷ [])) e).0 in
+    let b = (and_parts (is_line k) (first_may_follow k (ls ++ l ∷ []) && are_lines (ls ++ l ∷ [])) e).1 in
+    let c = (and_parts (first_may_follow k (ls ++ l ∷ [])) (are_lines (ls ++ l ∷ [])) b).0 in
+    let d = (and_parts (first_may_follow k (ls ++ l ∷ [])) (are_lines (ls ++ l ∷ [])) b).1 in
+    and_from _ _ a (and_from _ _ (first_same k ls l m (f k) c) (replaced ls l m is f d))
 
 first_longer : (k : Line) (ls : List Line) (l m : Line) → first_may_follow k (ls ++ l ∷ []) ≡ true → first_may_follow k ((ls ++ l ∷ []) ++ m ∷ []) ≡ true
 first_longer k [] l m e = e
 first_longer k (j ∷ ls) l m e = e
 
 pub extended : (ls : List Line) (l m : Line) → is_line m ≡ true → may_follow l m ≡ true → are_lines (ls ++ l ∷ []) ≡ true → are_lines ((ls ++ l ∷ []) ++ m ∷ []) ≡ true
-extended [] l m is f e = both _ _ (and_left (is_line l) true e) (both _ _ f (both _ _ is refl))
+extended [] l m is f e = and_from _ _ (and_parts (is_line l) true e).0 (and_from _ _ f (and_from _ _ is refl))
 extended (k ∷ ls) l m is f e =
-    let a = and_left (is_line k) (first_may_follow k (ls ++ l ∷ []) && are_lines (ls ++ l ∷ [])) e in
-    let b = and_right (is_line k) (first_may_follow k (ls ++ l ∷ []) && are_lines (ls ++ l ∷ [])) e in
-    let c = and_left (first_may_follow k (ls ++ l ∷ [])) (are_lines (ls ++ l ∷ [])) b in
-    let d = and_right (first_may_follow k (ls ++ l ∷ [])) (are_lines (ls ++ l ∷ [])) b in
-    both _ _ a (both _ _ (first_longer k ls l m c) (extended ls l m is f d))
+    let a = (and_parts (is_line k) (first_may_follow k (ls ++ l ∷ []) && are_lines (ls ++ l ∷ [])) e).0 in
+    let b = (and_parts (is_line k) (first_may_follow k (ls ++ l ∷ []) && are_lines (ls ++ l ∷ [])) e).1 in
+    let c = (and_parts (first_may_follow k (ls ++ l ∷ [])) (are_lines (ls ++ l ∷ [])) b).0 in
+    let d = (and_parts (first_may_follow k (ls ++ l ∷ [])) (are_lines (ls ++ l ∷ [])) b).1 in
+    and_from _ _ a (and_from _ _ (first_longer k ls l m c) (extended ls l m is f d))
 
 pub first_line : (e : TaskEvent) → is_line (line_of e) ≡ true → are_lines (line_of e ∷ []) ≡ true
-first_line e is = both _ _ is refl
+first_line e is = and_from _ _ is refl
 
 pub next_line : (ls : List Line) (l : Line) (e : TaskEvent) → is_line (line_of e) ≡ true → may_follow l (line_of e) ≡ true → are_lines (ls ++ l ∷ []) ≡ true → are_lines ((ls ++ l ∷ []) ++ line_of e ∷ []) ≡ true
 next_line ls l e is = extended ls l (line_of e) is
-
--- The last line of a journal.
-last_is_line : (ls : List Line) (l : Line) → are_lines (ls ++ l ∷ []) ≡ true → is_line l ≡ true
-last_is_line [] l h = and_left (is_line l) true h
-last_is_line (k ∷ ls) l h = last_is_line ls l (and_right (first_may_follow k (ls ++ l ∷ [])) (are_lines (ls ++ l ∷ [])) (and_right (is_line k) (first_may_follow k (ls ++ l ∷ []) && are_lines (ls ++ l ∷ [])) h))
 
 -- What may stand before a line of steps may stand before a longer one.
 before_longer : (k : Line) (t n m : ℕ) → may_follow k (Steps t n) ≡ true → may_follow k (Steps t m) ≡ true
@@ -95,7 +81,7 @@ before_longer (Finishes u) t n m e = refl
 before_longer (Joins u) t n m e = refl
 
 longer_is_line : (t n : ℕ) → is_line (Steps t n) ≡ true → n < most → is_line (Steps t (n + 1)) ≡ true
-longer_is_line t n is room = both (is_task t) (nat_lt 0 (n + 1) && nat_le (n + 1) most) (and_left (is_task t) (nat_lt 0 n && nat_le n most) is) (grind (arith, nat_tests))
+longer_is_line t n is room = and_from (is_task t) (nat_lt 0 (n + 1) && nat_le (n + 1) most) (and_parts (is_task t) (nat_lt 0 n && nat_le n most) is).0 (grind (arith, nat_tests))
 
 pub longer_line : (ls : List Line) (last line : Line) (e : TaskEvent) → IsLonger last e line → are_lines (ls ++ last ∷ []) ≡ true → are_lines (ls ++ line ∷ []) ≡ true
 longer_line ls last line e h are = subst (λ m. are_lines (ls ++ m ∷ []) ≡ true) (sym h.line_is)
@@ -125,7 +111,7 @@ is_longer (Finishes t) e line h = absurd (none-some _ h)
 is_longer (Joins t) e line h = absurd (none-some _ h)
 
 at_most : (t n : ℕ) → is_line (Steps t n) ≡ true → n ≤ most
-at_most t n h = let b = and_right (nat_lt 0 n) (nat_le n most) (and_right (is_task t) (nat_lt 0 n && nat_le n most) h) in grind (arith, nat_tests)
+at_most t n h = let b = (and_parts (nat_lt 0 n) (nat_le n most) (and_parts (is_task t) (nat_lt 0 n && nat_le n most) h).1).1 in grind (arith, nat_tests)
 
 pub is_other : (ls : List Line) (last : Line) (e : TaskEvent) → are_lines (ls ++ last ∷ []) ≡ true → longer last e ≡ None → may_follow last (line_of e) ≡ true
 is_other ls (Steps t n) (event.Step u) are h = other_steps t n u (t == u) (nat_lt n most) refl refl (at_most t n (last_is_line ls (Steps t n) are)) h

@@ -1,8 +1,9 @@
 -- What reading the lines of events finds.
-use Rattle.std.proofs.Common.{◌≡◌, ◌⊎◌, inl, inr, ℕ, ◌+◌, List, [], ◌∷◌, ◌++◌, true, length, map, sym, refl, ap, ◌∙◌, subst, append_assoc, arith}
+use Rattle.std.proofs.Common.{◌≡◌, ◌⊎◌, inl, inr, ℕ, ◌+◌, List, [], ◌∷◌, ◌++◌, true, length, map, sym, refl, ap, ◌∙◌, subst, append_assoc}
 use Rattle.std.specs.Prelude.{codes}
 use Rattle.std.specs.List.{flat_map}
 use Rattle.std.proofs.lemmas.Grind.{flat_map-append}
+use Rattle.std.proofs.lemmas.List.{append-nil, nil_from_length}
 use Rattle.gib_locked.specs.Cuts.{IsCut, lacks}
 use Rattle.gib_locked.specs.declared.journal.Line.{Line}
 use Rattle.gib_locked.specs.Lines.{are_lines}
@@ -23,15 +24,7 @@ pub behind_end : (text rest front behind : List ℕ) (ls : List Line) (n : ℕ) 
 behind_end text rest front behind ls n are is c e some len = inr (record { lines = ls; rest = behind; are = are; cut = end_cut text rest front behind ls is c e; number_is = ap (λ k. k + 4) len; some = some })
 
 pub all_read : (text rest front behind : List ℕ) (ls : List Line) → text ≡ flat_map fed (map line_text ls) ++ rest → IsCut 10 rest front behind → front ≡ codes "end" → length behind ≡ 0 → text ≡ flat_map fed (events_text ls)
-all_read text rest front behind ls is c e none = end_cut text rest front behind ls is c e ∙ (ap (λ b. flat_map fed (events_text ls) ++ b) (is_nil behind none) ∙ append_nil (flat_map fed (events_text ls)))
-  where
-    append_nil : (xs : List ℕ) → xs ++ [] ≡ xs
-    append_nil [] = refl
-    append_nil (x ∷ xs) = ap (λ ys. x ∷ ys) (append_nil xs)
-
-    is_nil : (xs : List ℕ) → length xs ≡ 0 → xs ≡ []
-    is_nil [] e = refl
-    is_nil (x ∷ xs) e = absurd (omega (arith, e))
+all_read text rest front behind ls is c e none = end_cut text rest front behind ls is c e ∙ (ap (λ b. flat_map fed (events_text ls) ++ b) (nil_from_length behind none) ∙ append-nil (flat_map fed (events_text ls)))
 
 pub stuck_there : (text rest front behind : List ℕ) (ls : List Line) (n : ℕ) → are_lines ls ≡ true → text ≡ flat_map fed (map line_text ls) ++ rest → IsCut 10 rest front behind → (front ≡ codes "end" → ⊥)
     → ((l : Line) → are_lines (ls ++ l ∷ []) ≡ true → front ≡ line_text l → ⊥) → n ≡ length ls → IsStuckAt text (n + 3) ⊎ IsBehindAt text (n + 3)

@@ -1,8 +1,9 @@
 -- What reading a journal finds.
-use Rattle.std.proofs.Common.{◌≡◌, ◌⊎◌, inl, inr, ℕ, ◌+◌, List, [], ◌∷◌, ◌++◌, Bool, true, false, true≢false, ◌&&◌, length, map, sym, refl, ap, ◌∙◌, subst, append_assoc, arith, Result, Ok, Err}
+use Rattle.std.proofs.Common.{◌≡◌, ◌⊎◌, inl, inr, ℕ, ◌+◌, List, [], ◌∷◌, ◌++◌, true, false, ◌&&◌, length, map, sym, refl, ap, ◌∙◌, subst, append_assoc, arith, Result, Ok, Err}
 use Rattle.std.specs.Prelude.{codes, MatchResult}
 use Rattle.std.specs.List.{flat_map}
 use Rattle.std.proofs.lemmas.List.{length-map, append-nil}
+use Rattle.std.proofs.lemmas.Bool.{and_parts}
 use Rattle.gib_locked.specs.Cuts.{IsCut, lacks}
 use Rattle.gib_locked.specs.declared.journal.Journal.{Journal}
 use Rattle.gib_locked.specs.declared.journal.Line.{Line}
@@ -99,11 +100,7 @@ joined : (s : Settings) (before : List (List ℕ)) (text more behind : List ℕ)
 joined s before text more behind e is = e ∙ (ap (λ r. fed title ++ (fed (settings_text s) ++ r)) is ∙ ap (λ r. fed title ++ r) (sym (append_assoc (fed (settings_text s)) (flat_map fed before) behind)))
 
 rest_are : (l : Line) (ls : List Line) → are_lines (l ∷ ls) ≡ true → are_lines ls ≡ true
-rest_are l ls h = right (first_may_follow l ls) (are_lines ls) (right (is_line l) (first_may_follow l ls && are_lines ls) h)
-  where
-    right : (a b : Bool) → (a && b) ≡ true → b ≡ true
-    right true b e = e
-    right false b e = absurd (true≢false (sym e))
+rest_are l ls h = (and_parts (first_may_follow l ls) (are_lines ls) (and_parts (is_line l) (first_may_follow l ls && are_lines ls) h).1).1
 
 stuck : (text more : List ℕ) (s : Settings) (n : ℕ) → text ≡ fed title ++ (fed (settings_text s) ++ more) → IsStuckAt more n → IsRefusedAt text n
 stuck text more s n e h = record {

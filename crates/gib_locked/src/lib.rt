@@ -26,6 +26,3 @@ pub use replaying::replay;
 pub use runner::{Locked, run_locked};
 pub use settings::Settings;
 pub use write::write_journal;
-
-#[cfg(test)]
-mod tests;

@@ -1,8 +1,11 @@
-pub mod Standing
-pub mod Lowers
+-- Lists, and where code stands.
 pub mod Lists
+pub mod Standing
 pub mod Named
+-- The code of a line and of a core.
 pub mod Along
+pub mod Lowers
 pub mod Wholes
+-- Ends that calls tell.
 pub mod TellingLine
 pub mod Tellings

@@ -2,6 +2,7 @@
 use Rattle.std.proofs.Common.{◌≡◌, ℕ, suc, ◌+◌, ◌-◌, ◌==◌, Bool, true, false, cond, not, ◌&&◌, List, [], ◌∷◌, ◌++◌, length, drop, refl, sym, ap, subst, ◌∙◌, arith}
 use Rattle.std.proofs.lemmas.List.{append_assoc}
 use Rattle.std.specs.Prelude.{Option, Some, None}
+use Rattle.std.proofs.Math.Nat.{sub_self}
 use Rattle.gib_types.specs.declared.table.ConId.{ConId}
 use Rattle.gib_types.specs.Table.{fields_at}
 use Rattle.gib_code.specs.Instruction as i
@@ -98,7 +99,4 @@ one_left o old new e = ap (λ l. drop (length l - length old) l) e ∙ ap (λ n.
     less n = omega arith
 
 pub none_left : (old : List Over) → drop (length old - length old) old ≡ old
-none_left old = ap (λ n. drop n old) (none (length old))
-  where
-    none : (n : ℕ) → n - n ≡ 0
-    none n = omega arith
+none_left old = ap (λ n. drop n old) (sub_self (length old))

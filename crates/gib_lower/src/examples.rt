@@ -115,3 +115,27 @@ pub fn examples_by_ends()
           functions = record { name = Some sum; start = 0; slots = 7; result = ty.Whole } ∷ record { name = None; start = 13; slots = 2; result = ty.Whole } ∷ [];
         } }
 {}
+
+/// The code of
+///
+///     data T = A ;
+///     main (t : T) : Int = case t of { A -> 7 } ;
+///
+/// by ends: main's parameter is ended, though nothing calls main.
+pub fn example_of_main()
+    ensures { let only : Con = record { 0 = 0 } in
+        let tree : FieldType = ty.Tree (record { 0 = 0 }) in
+        let table : Table = record { types = 0 ∷ []; rows = record { name = 1; owner = 0; fields = [] } ∷ [] } in
+        let core : CoreTree = record {
+          table = table;
+          functions = [];
+          main = record { parameter = tree; result = ty.Whole; body = CaseTerm (var 0) (BranchThen only [] (Give (a.Whole (pos 7))) NoBranch) };
+          offsets = [];
+          marked = true;
+        } in
+        lower_program core ≡ record {
+          laid = record { table = table; with_offsets = [] };
+          instructions = i.Switch 0 (record { constructor = 0; label = 1 } ∷ []) ∷ i.LeafEnd 0 1 ∷ i.Give (Number 7) ∷ [];
+          functions = record { name = None; start = 0; slots = 1; result = ty.Whole } ∷ [];
+        } }
+{}

@@ -5,7 +5,7 @@ ghost use Rattle.std.specs.List.{AllByRecursion};
 ghost use Rattle.gib_core.specs.Arena.{term_of};
 ghost use Rattle.gib_core.specs.Parts.{IsFunctionInside, core_of, function_term};
 ghost use Rattle.gib_code.specs.Instruction.{instruction_of};
-ghost use Rattle.gib_core.specs.Ending.{within_function};
+ghost use Rattle.gib_core.specs.Ending.{within_function, within_main, main_ended};
 ghost use Rattle.gib_core.specs.Low.{laid_of, Returns};
 ghost use Rattle.gib_lower.specs.Ends.{within_of};
 ghost use Rattle.gib_core.specs.Numbering.{AreNumbered};
@@ -24,8 +24,10 @@ use crate::telling::has_telling;
 use crate::walk::{Lowering, lower_term};
 use gib_base::Memory;
 use gib_code::{Code, Entry, Instr};
+use gib_core::known::is_known;
 use gib_core::law::{built_fits, code_that_fits_can_be_run};
-use gib_core::{Checked, CoreFunction, Lowered, TermId};
+use gib_core::{Checked, CoreFunction, Lowered, TermId, Variable};
+use gib_types::Ty;
 use std::alloc::Global;
 
 /// The code of a body, before the code that is there; its label.
@@ -94,6 +96,43 @@ fn lower_function(
     })
 }
 
+/// Whether main's parameter is ended.
+fn is_main_ended(source: &Source) -> bool
+    ensures { result ≡ main_ended (core_of source.now) }
+{
+    if !source.marked() {
+        return false;
+    }
+    let main = source.main();
+    match main.parameter {
+        Ty::Whole | Ty::Truth => false,
+        Ty::Tree(_) => {
+            is_known(
+                source.types(),
+                source.terms(),
+                source.ended(),
+                main.body,
+                Variable(0),
+            )
+        }
+    }
+}
+
+/// Whether main tells ends: its parameter is ended, or it has calls that give ends.
+fn around_main(alloc: Global, source: &Source) -> Result<Around, Memory>
+    ensures { IfOk result (λ around. within_of around ≡ within_main (core_of source.now)) }
+{
+    if is_main_ended(source) {
+        return Ok(Around {
+            ends: true,
+            par: false,
+        });
+    }
+    let main = source.main();
+    let ends = has_telling(alloc, source.terms(), source.ended(), main.body)?;
+    Ok(Around { ends, par: false })
+}
+
 /// The code of main, which stands behind all others; main as it stands there.
 fn lower_main(source: &Source, counts: &Counts, out: &mut Lowering) -> Result<Entry, Memory>
     requires counts { counts.now ≡ record { terms = source.now.terms; upto = length source.now.terms } }
@@ -106,8 +145,7 @@ fn lower_main(source: &Source, counts: &Counts, out: &mut Lowering) -> Result<En
     ensures entry { IfOk result (λ entry. entry ∷ [] ≡ begun (core_of source.now) []) }
 {
     let main = source.main();
-    let ends = has_telling(out.alloc, source.terms(), source.ended(), main.body)?;
-    let around = Around { ends, par: false };
+    let around = around_main(out.alloc, source)?;
     let start = lower_body(source, around, main.body, out)?;
     let slots = plus(1, counts.of(main.body))?;
     Ok(Entry {

@@ -67,6 +67,13 @@ impl Source {
         self.core.types()
     }
 
+    /// Whether its calls and fields were marked by ends.
+    pub(crate) fn marked(&self) -> bool
+        ensures { result ≡ (core_of self.now).marked }
+    {
+        self.core.marked()
+    }
+
     /// Its ended parameters.
     pub(crate) fn ended(&self) -> &EndedSet
         ensures { result.now ≡ ended (core_of self.now) }

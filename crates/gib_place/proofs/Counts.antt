@@ -1,6 +1,6 @@
 -- How often variables are used and bound in a line and in what it is laid out as.
 use Rattle.std.proofs.Common.{◌≡◌, ℕ, ◌+◌, ◌≤◌, Bool, true, false, ◌&&◌, ◌||◌, ◌==◌, if◌then◌else◌, List, [], ◌∷◌, ◌++◌, map, Option, Some, None, refl, sym, ap, subst, arith}
-use Rattle.std.proofs.lemmas.Bool.{eqb-true, false_from_ne_true}
+use Rattle.std.proofs.lemmas.Bool.{false_from_ne_true, and_parts}
 use Rattle.gib_types.specs.declared.table.ConId.{ConId}
 use Rattle.gib_core.specs.declared.atom.Variable.{Variable}
 use Rattle.gib_core.specs.declared.atom.Atom.{Atom}
@@ -12,7 +12,8 @@ use Rattle.gib_core.specs.Reaching.{is_variable}
 use Rattle.gib_core.specs.Rules.{is_among}
 use Rattle.gib_place.specs.declared.field.Field.{Field}
 use Rattle.gib_place.specs.Placing.{count_atom, count_in, count, count_bind, count_branches, pointing, Ending, Filling, field_first, binding_first, room_first, ending_of, filling_of, lay, are_fields, laid_line, fill, place_line, place_inner, inner_bind, inner_branches, place}
-use Rattle.gib_place.proofs.Lays.{Lays, ends, opens, puts, stays, one, left, right, both, variables, and_both, is_that, lay_lays}
+use Rattle.gib_place.proofs.Lays.{Lays, ends, opens, puts, stays, one, left, right, both, variables, is_that, lay_lays}
+use Rattle.gib_core.proofs.Along.{same_variable}
 
 -- How often a number is in a list.
 abbrev pub occurs : List ℕ → ℕ → ℕ
@@ -130,23 +131,20 @@ fields_named once [] [] e = refl
 fields_named once [] (y ∷ ys) e = absurd cc
 fields_named once (f ∷ fs) [] e = absurd cc
 fields_named once (f ∷ fs) (y ∷ ys) e =
-    let h = and_both (is_variable f.variable y && once f.variable) (are_fields once fs ys) e in
-    let k = and_both (is_variable f.variable y) (once f.variable) h.0 in
+    let h = and_parts (is_variable f.variable y && once f.variable) (are_fields once fs ys) e in
+    let k = and_parts (is_variable f.variable y) (once f.variable) h.0 in
     λ i. is_that f.variable y k.0 i ∷ fields_named once fs ys h.1 i
-
-pub same_as : (x y : Variable) → (x.0 == y.0) ≡ true → x ≡ y
-same_as x y e = λ i. record { 0 = eqb-true x.0 y.0 e i }
 
 pub fields_once : (once : Variable → Bool) (fs : List Field) (ps : List Atom) → are_fields once fs ps ≡ true → (y : Variable) → is_among (variables fs) y ≡ true → once y ≡ true
 fields_once once [] ps e y m = absurd cc
 fields_once once (f ∷ fs) [] e y m = absurd cc
 fields_once once (f ∷ fs) (p ∷ ps) e y m =
-    let h = and_both (is_variable f.variable p && once f.variable) (are_fields once fs ps) e in
-    let k = and_both (is_variable f.variable p) (once f.variable) h.0 in
+    let h = and_parts (is_variable f.variable p && once f.variable) (are_fields once fs ps) e in
+    let k = and_parts (is_variable f.variable p) (once f.variable) h.0 in
     go (f.variable.0 == y.0) refl m k.1 (fields_once once fs ps h.1 y)
   where
     go : (b : Bool) → (f.variable.0 == y.0) ≡ b → (b || is_among (variables fs) y) ≡ true → once f.variable ≡ true → (is_among (variables fs) y ≡ true → once y ≡ true) → once y ≡ true
-    go true q m o more = subst (λ (z : Variable). once z ≡ true) (same_as f.variable y q) o
+    go true q m o more = subst (λ (z : Variable). once z ≡ true) (same_variable f.variable y q) o
     go false q m o more = more m
 
 -- The variable of one is counted there.

@@ -1,7 +1,7 @@
 -- Where a binding is placed.
 use Rattle.std.proofs.Common.{◌≡◌, ℕ, zero, suc, ◌+◌, ◌-◌, ◌<◌, ◌≤◌, Bool, true, false, not, ◌&&◌, ◌||◌, ◌==◌, if◌then◌else◌, List, [], ◌∷◌, ◌++◌, map, length, take, drop, get_or, Option, Some, None, refl, sym, ap, ◌∙◌, arith}
 use Rattle.std.specs.List.{list_any}
-use Rattle.std.proofs.lemmas.List.{drop_more, drop_all}
+use Rattle.std.proofs.lemmas.List.{drop_more, drop_all, append-nil, take_more}
 use Rattle.std.proofs.lemmas.Bool.{eqb-true, false_from_ne_true}
 use Rattle.gib_core.specs.declared.atom.Variable.{Variable}
 use Rattle.gib_core.specs.declared.atom.Atom.{Atom}
@@ -78,29 +78,17 @@ one_further : (fs : List Field) (f : Field) (c : Option Cut) → behind_all fs (
 one_further fs f None = refl
 one_further fs f (Some c) = λ i. Some (record { before = sym (append_append fs (f ∷ []) c.before) i; behind = c.behind })
 
-take_suc : {A : Type 0} (xs : List A) (i : ℕ) (d : A) → i < length xs → take (suc i) xs ≡ take i xs ++ get_or xs i d ∷ []
-take_suc [] i d lt = absurd (omega arith)
-take_suc (x ∷ xs) zero d lt = refl
-take_suc (x ∷ xs) (suc i) d lt = ap (λ l. x ∷ l) (take_suc xs i d (omega arith))
-
-pub take_more_one : {A : Type 0} (xs : List A) (i : ℕ) (d : A) → i < length xs → take (i + 1) xs ≡ take i xs ++ get_or xs i d ∷ []
-take_more_one xs i d lt = (let e : i + 1 ≡ suc i = omega arith in ap (λ n. take n xs) e) ∙ take_suc xs i d lt
-
 pub cut_next : (x : Variable) (fields : List Field) (i : ℕ) (f d : Field) → CutBehind x fields i → i < length fields → f ≡ get_or fields i d → is_variable x f.target ≡ false → CutBehind x fields (i + 1)
 cut_next x fields i f d h lt ef e = record {
   cut =
       let left : drop i fields ≡ f ∷ drop (i + 1) fields = drop_more fields i d lt ∙ ap (λ (z : Field). z ∷ drop (i + 1) fields) (sym ef) in
-      let more : take (i + 1) fields ≡ take i fields ++ f ∷ [] = take_more_one fields i d lt ∙ ap (λ (z : Field). take i fields ++ z ∷ []) (sym ef) in
+      let more : take (i + 1) fields ≡ take i fields ++ f ∷ [] = take_more fields i d lt ∙ ap (λ (z : Field). take i fields ++ z ∷ []) (sym ef) in
       h.cut
       ∙ ap (λ l. behind_all (take i fields) (cut_at x l)) left
       ∙ ap (λ (b : Bool). behind_all (take i fields) (if b then Some (record { before = []; behind = drop (i + 1) fields }) else before_cut f (cut_at x (drop (i + 1) fields)))) e
       ∙ one_further (take i fields) f (cut_at x (drop (i + 1) fields))
       ∙ ap (λ l. behind_all l (cut_at x (drop (i + 1) fields))) (sym more);
 }
-
-nothing_behind : {A : Type 0} (xs : List A) → xs ++ [] ≡ xs
-nothing_behind [] = refl
-nothing_behind (x ∷ xs) = ap (λ l. x ∷ l) (nothing_behind xs)
 
 pub cut_found : (x : Variable) (fields : List Field) (i : ℕ) (f d : Field) → CutBehind x fields i → i < length fields → f ≡ get_or fields i d → is_variable x f.target ≡ true → cut_at x fields ≡ cut_from fields (Some i)
 cut_found x fields i f d h lt ef e =
@@ -109,7 +97,7 @@ cut_found x fields i f d h lt ef e =
     h.cut
     ∙ ap (λ l. behind_all (take i fields) (cut_at x l)) left
     ∙ ap (λ (b : Bool). behind_all (take i fields) (if b then Some (record { before = []; behind = drop (i + 1) fields }) else before_cut f (cut_at x (drop (i + 1) fields)))) e
-    ∙ (λ k. Some (record { before = nothing_behind (take i fields) k; behind = drop (next k) fields }))
+    ∙ (λ k. Some (record { before = append-nil (take i fields) k; behind = drop (next k) fields }))
 
 pub cut_missed : (x : Variable) (fields : List Field) (i : ℕ) → CutBehind x fields i → length fields ≤ i → cut_at x fields ≡ None
 cut_missed x fields i h le = h.cut ∙ ap (λ l. behind_all (take i fields) (cut_at x l)) (drop_all i fields le)

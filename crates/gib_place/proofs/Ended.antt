@@ -1,7 +1,8 @@
 -- What the end of a line that fills a head says of its fields and its head.
-use Rattle.std.proofs.Common.{◌≡◌, ⊎_elim, ℕ, zero, suc, ◌+◌, ◌≤◌, Bool, true, false, not, ◌&&◌, ◌||◌, ◌==◌, if◌then◌else◌, List, [], ◌∷◌, ◌++◌, map, length, Some, refl, sym, ap, ◌∙◌, subst, arith}
+use Rattle.std.proofs.Common.{◌≡◌, ⊎_elim, ℕ, zero, suc, ◌+◌, ◌≤◌, Bool, true, false, not, ◌&&◌, ◌==◌, if◌then◌else◌, List, [], ◌∷◌, ◌++◌, map, length, Some, refl, sym, ap, ◌∙◌, subst, arith}
 use Rattle.std.specs.Prelude.{get_or}
-use Rattle.std.proofs.lemmas.Bool.{eqb-true, both_ways, not-false, false_from_ne_true, or_parts, or_from, or_cases}
+use Rattle.std.proofs.lemmas.Bool.{eqb-true, both_ways, not-false, false_from_ne_true, or_parts, or_from, or_cases, and_parts}
+use Rattle.std.proofs.lemmas.List.{append-nil}
 use Rattle.gib_types.specs.declared.table.Ty.{Ty}
 use Rattle.gib_types.specs.declared.table.Ty.TheVariants.{Whole}
 use Rattle.gib_types.specs.declared.table.ConId.{ConId}
@@ -19,14 +20,16 @@ use Rattle.gib_core.specs.Rules.{Before, same_type, is_empty, is_among, type_bou
 use Rattle.gib_core.specs.Reachable.{all_reached, LinesAreReachable}
 use Rattle.gib_place.specs.declared.field.Field.{Field}
 use Rattle.gib_place.specs.Placing.{count_atom, count_in, count, pointing, Filling, bound_in, are_fields, place_line}
-use Rattle.gib_core.proofs.Along.{none_broken, next_append, reachable_split}
-use Rattle.gib_core.proofs.Cased.{has, reached_where_has}
-use Rattle.gib_place.proofs.Lays.{Lays, variables, and_both}
-use Rattle.gib_place.proofs.Counts.{occurs, binders_all, targets, ending_line, filling_line, fields_named, fields_once, counted, count_line, occurs_line, lays_occurs, line_by_steps, same_as}
+use Rattle.gib_core.proofs.Along.{none_broken, next_append, reachable_split, same_variable}
+use Rattle.gib_core.proofs.Cased.{has, reached_where_has, has_less}
+use Rattle.gib_place.proofs.Lays.{Lays, variables}
+use Rattle.gib_place.proofs.Counts.{occurs, binders_all, targets, ending_line, filling_line, fields_named, fields_once, counted, count_line, occurs_line, lays_occurs, line_by_steps}
 use Rattle.gib_place.proofs.Fitting.{own_count, is_told, Fit, told, fields_fit, scalars_unused}
 use Rattle.gib_place.proofs.Wider.{nums, times, none_among}
 use Rattle.gib_place.proofs.Weaken.{Scoped, Room, Wider}
 use Rattle.gib_place.proofs.Kept.{behinds, mets, met_prepend, mets_nums, mets_types, opened, EndOk, FieldOk, FieldsOk, Pre, lays_reach, any_other_eq, other_eq, shift_one, scopes_back, others_behinds, due_at, mets_cased, all_empty}
+use Rattle.gib_core.proofs.Dests.{usable_first}
+use Rattle.gib_place.proofs.Means.{fit_none}
 
 bound_fields : (fs : List Field) → bound_in (map pointing fs) ≡ variables fs
 bound_fields [] = refl
@@ -37,11 +40,7 @@ binders_fields [] = refl
 binders_fields (f ∷ fs) = ap (λ l. f.variable.0 ∷ l) (binders_fields fs)
 
 fields_place : (h : Variable) (k : ConId) (fs : List Field) (s : Setting) (done : List Variable) → s.destination ≡ Open h k done → (behinds s (map pointing fs)).destination ≡ Open h k (done ++ variables fs)
-fields_place h k [] s done e = e ∙ ap (Open h k) (sym (no_more done))
-  where
-    no_more : (xs : List Variable) → xs ++ [] ≡ xs
-    no_more [] = refl
-    no_more (x ∷ xs) = ap (λ l. x ∷ l) (no_more xs)
+fields_place h k [] s done e = e ∙ ap (Open h k) (sym (append-nil done))
 fields_place h k (f ∷ fs) s done e =
     fields_place h k fs (behind s (pointing f)) (done ++ f.variable ∷ []) (ap (with_field f.variable) e) ∙ ap (Open h k) (sym (shift_one done f.variable (variables fs)))
 
@@ -59,11 +58,7 @@ one_other : (s : Setting) (xs : List Variable) (y : Variable) → any_other s (a
 one_other s [] y e m = absurd cc
 one_other s (x ∷ xs) y e m =
     let p = or_parts (is_among s.others x) (any_other s (as_atoms xs)) e in
-    ⊎_elim (λ q. subst (λ (z : Variable). is_among s.others z ≡ false) (same_as x y q) p.0) (λ q. one_other s xs y p.1 q) (or_cases (x.0 == y.0) (is_among xs y) m)
-
-first_usable : (s : Setting) (xs ys : List Atom) → all_usable s (xs ++ ys) ≡ true → all_usable s xs ≡ true
-first_usable s [] ys e = refl
-first_usable s (x ∷ xs) ys e = let p = and_both (is_usable s x) (all_usable s (xs ++ ys)) e in λ i. p.0 i && first_usable s xs ys p.1 i
+    ⊎_elim (λ q. subst (λ (z : Variable). is_among s.others z ≡ false) (same_variable x y q) p.0) (λ q. one_other s xs y p.1 q) (or_cases (x.0 == y.0) (is_among xs y) m)
 
 module _ (F : Variable → Bool) (from to : List Known) (narrow : (y : Variable) → has from y ≡ true → F y ≡ false → has to y ≡ true) where
   usable_less : (s z : Setting) (x : Atom) → s.scope ≡ from → z.scope ≡ to → ((y : Variable) → F y ≡ true → count_atom y x ≡ 0) → is_usable (all_reached s) x ≡ true → is_usable (all_reached z) x ≡ true
@@ -76,7 +71,7 @@ module _ (F : Variable → Bool) (from to : List Known) (narrow : (y : Variable)
   all_usable_less : (s z : Setting) (xs : List Atom) → s.scope ≡ from → z.scope ≡ to → ((y : Variable) → F y ≡ true → count_in y xs ≡ 0) → all_usable (all_reached s) xs ≡ true → all_usable (all_reached z) xs ≡ true
   all_usable_less s z [] e f o u = refl
   all_usable_less s z (x ∷ xs) e f o u =
-      let p = and_both (is_usable (all_reached s) x) (all_usable (all_reached s) xs) u in
+      let p = and_parts (is_usable (all_reached s) x) (all_usable (all_reached s) xs) u in
       λ i. usable_less s z x e f (λ y m. let q = o y m in omega arith) p.0 i && all_usable_less s z xs e f (λ y m. let q = o y m in omega arith) p.1 i
 
 type_same : (z : Setting) (b b' : Before) (x : Atom) → ((y : Variable) → has z.scope y ≡ true → type_bound b'.bound y ≡ type_bound b.bound y) → is_usable (all_reached z) x ≡ true → type_of b' x ≡ type_of b x
@@ -89,7 +84,7 @@ types_same z b b' [] [] h u = refl
 types_same z b b' [] (t ∷ ts) h u = refl
 types_same z b b' (x ∷ xs) [] h u = refl
 types_same z b b' (x ∷ xs) (t ∷ ts) h u =
-    let p = and_both (is_usable (all_reached z) x) (all_usable (all_reached z) xs) u in λ i. is_type (type_same z b b' x h p.0 i) t && types_same z b b' xs ts h p.1 i
+    let p = and_parts (is_usable (all_reached z) x) (all_usable (all_reached z) xs) u in λ i. is_type (type_same z b b' x h p.0 i) t && types_same z b b' xs ts h p.1 i
 
 -- The fields, one after another.
 module _ (core : CoreTree) (once : Variable → Bool) (h : Variable) (k : ConId) (F : Variable → Bool) (se : Setting) (be : Before) where
@@ -134,12 +129,9 @@ module _ (core : CoreTree) (once : Variable → Bool) (h : Variable) (k : ConId)
           target_uncased = st1.target_uncased;
         },
         fields_ok hw kw ss fs (behind s (pointing f)) bf (done ++ f.variable ∷ []) (suc n) (ap (with_field f.variable) d) (ap suc c ∙ sym (Rattle.gib_place.proofs.Kept.length_one done f.variable)) o
-            (λ z m q. nar z (less f.variable s.scope z (false_from_ne_true (f.variable.0 == z.0) (λ e. both_ways (F z) q (ap F (sym (same_as f.variable z e)) ∙ st1.told))) m) q)
+            (λ z m q. nar z (has_less f.variable s.scope z (false_from_ne_true (f.variable.0 == z.0) (λ e. both_ways (F z) q (ap F (sym (same_variable f.variable z e)) ∙ st1.told))) m) q)
             past (λ z m. let q = free z m in omega arith) st.1 r.1.1,
       )
-    where
-      less : (x : Variable) (ks : List Known) (y : Variable) → (x.0 == y.0) ≡ false → (x.0 == y.0 || has ks y) ≡ true → has ks y ≡ true
-      less x ks y e m = sym (ap (λ c. c || has ks y) e) ∙ m
 
   statics : (gs : List Field) (all : List Field) → Fit F [] gs → ((y : Variable) → F y ≡ true → is_among se.others y ≡ false) → ((y : Variable) → F y ≡ true → is_among be.cased y ≡ false)
       → ((y : Variable) → once y ≡ true → 1 ≤ count_in y (targets all) → is_among be.cased y ≡ false) → ((y : Variable) → count_in y (targets gs) ≤ count_in y (targets all)) → AllStatic gs
@@ -177,10 +169,6 @@ module _ (core : CoreTree) (once : Variable → Bool) where
   not_same : (x y : Variable) (n : ℕ) → 1 ≤ n → n + occurs (x.0 ∷ []) y.0 ≤ 1 → (x.0 == y.0) ≡ false
   not_same x y n m o = false_from_ne_true (x.0 == y.0) (λ e. let w : occurs (x.0 ∷ []) y.0 ≡ (suc zero) = ap (λ (c : Bool). (if c then 1 else 0) + 0) e in omega arith)
 
-  fit_end : (F : Variable → Bool) (bs : List Bind) (fs : List Field) → Fit F bs fs → Fit F [] fs
-  fit_end F [] fs f = f
-  fit_end F (b ∷ bs) fs f = fit_end F bs fs (Rattle.gib_place.proofs.Fitting.fit_less F b bs fs f)
-
   laid_keeps : (l : Filling) (cs : List Bind) (xs : List Variable) → are_fields once l.ending.fields l.ending.packed ≡ true → Lays once (Past l.room l.made) false l.run l.ending.fields cs xs
       → KeepsIt (filling_line l) (prepend cs (Write l.ending.head l.ending.con l.ending.scalars (as_atoms xs)))
   laid_keeps l cs xs named lays s b sc ro us r =
@@ -203,7 +191,7 @@ module _ (core : CoreTree) (once : Variable → Bool) where
       let s1 = behind se (Past h k) in
       let b1 = next tb be (PastLine h k) in
       let pf = none_broken (rules core be (all_reached se) (PastLine h k)) rs.1.0 in
-      let opening = and_both (is_empty se.destination) (is_of_type tb k se.due) (not-false (is_empty se.destination && is_of_type tb k se.due) pf.0) in
+      let opening = and_parts (is_empty se.destination) (is_of_type tb k se.due) (not-false (is_empty se.destination && is_of_type tb k se.due) pf.0) in
       let write = Write hw kw ss ps in
       let r2 = reachable_split core b1 (mets tb s1 (map pointing fs)) (met tb (behinds s1 (map pointing fs)) write) (subst (λ (ms : List Met). LinesAreReachable core b1 ms) (met_prepend core (map pointing fs) write s1) rs.1.1) in
       let sE = behinds s1 (map pointing fs) in
@@ -211,9 +199,9 @@ module _ (core : CoreTree) (once : Variable → Bool) where
       let wf = none_broken (rules core bE (all_reached sE) (WriteLine hw kw ss ps)) r2.1.0 in
       let dest : sE.destination ≡ Open h k (variables fs) = fields_place h k fs s1 [] refl in
       let may = not-false (may_write tb bE sE.destination hw kw ps) wf.1.0 in
-      let may' = and_both (h.0 == hw.0 && k.0 == kw.0) ((length (variables fs) == length (packed_types tb k) && are_variables (variables fs) ps) && not (any_cased bE.cased (further (variables fs)))) (sym (ap (λ d. may_write tb bE d hw kw ps) dest) ∙ may) in
-      let may2 = and_both (length (variables fs) == length (packed_types tb k) && are_variables (variables fs) ps) (not (any_cased bE.cased (further (variables fs)))) may'.1 in
-      let may3 = and_both (length (variables fs) == length (packed_types tb k)) (are_variables (variables fs) ps) may2.0 in
+      let may' = and_parts (h.0 == hw.0 && k.0 == kw.0) ((length (variables fs) == length (packed_types tb k) && are_variables (variables fs) ps) && not (any_cased bE.cased (further (variables fs)))) (sym (ap (λ d. may_write tb bE d hw kw ps) dest) ∙ may) in
+      let may2 = and_parts (length (variables fs) == length (packed_types tb k) && are_variables (variables fs) ps) (not (any_cased bE.cased (further (variables fs)))) may'.1 in
+      let may3 = and_parts (length (variables fs) == length (packed_types tb k)) (are_variables (variables fs) ps) may2.0 in
       let long : length (variables fs) ≡ length (packed_types tb k) = eqb-true (length (variables fs)) (length (packed_types tb k)) may3.0 in
       let same_others : sE.others ≡ se.others = others_behinds core once h k hw kw ss (map pointing fs) s1 in
       let ot = first_others (all_reached sE) ss ps wf.0 in
@@ -231,7 +219,7 @@ module _ (core : CoreTree) (once : Variable → Bool) where
       omega arith) in
       let spent : (y : Variable) → once y ≡ true → 1 ≤ count_in y (targets fs) → is_among be.cased y ≡ false =
       λ y o m. none_among be.cased y (let q = us y o in let c = count_line l y in let p = mets_cased core l.run s b y in omega arith) in
-      let st = statics core once h k F se be fs fs (fit_end F l.run fs fit) mine uncased spent (λ y. omega arith) in
+      let st = statics core once h k F se be fs fs (fit_none F l.run fs fit) mine uncased spent (λ y. omega arith) in
       let scE = mets_scoped l.run s b sc rs.0 in
       let free : (y : Variable) → has se.scope y ≡ true → times (variables fs) y.0 ≡ 0 =
       λ y m. let q = ro y.0 in let c = occurs_line l y.0 in let n = mets_nums core l.run s b y.0 in let z = scE y m in omega arith in
@@ -242,7 +230,7 @@ module _ (core : CoreTree) (once : Variable → Bool) where
       λ y m. mets_types core (map pointing fs) s1 b1 y (let f = free y m in let g = ap (λ l. occurs l y.0) (binders_fields fs) in omega arith) ∙ types1 y m in
       let narrow : (y : Variable) → has sE.scope y ≡ true → F y ≡ false → has se.scope y ≡ true =
       λ y m o. scopes_back core (map pointing fs) s1 b1 y r2.0 m (ap (λ l. is_among l y) (bound_fields fs) ∙ o) in
-      let usableE = first_usable (all_reached sE) ss ps (not-false (all_usable (all_reached sE) (ss ++ ps)) wf.1.1.0) in
+      let usableE = usable_first (all_reached sE) ss ps (not-false (all_usable (all_reached sE) (ss ++ ps)) wf.1.1.0) in
       let usable = all_usable_less F sE.scope se.scope narrow sE se ss refl refl (scalars_unused once l named few differs) usableE in
       let typed : have_types be ss (scalar_types (fields_at tb k.0)) ≡ true =
       sym (types_same se be bE ss (scalar_types (fields_at tb k.0)) typesE usable) ∙ (sym (ap (λ d. are_scalars tb bE d ss) dest) ∙ not-false (are_scalars tb bE sE.destination ss) wf.1.1.1.0) in

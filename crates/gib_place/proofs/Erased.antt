@@ -19,9 +19,10 @@ use Rattle.gib_core.specs.Rules.{is_among}
 use Rattle.gib_place.specs.declared.field.Field.{Field}
 use Rattle.gib_place.specs.Placing.{count_atom, count_in, count, count_bind, count_branches, pointing, Filling, bound_by, bound_in, is_one, are_fields, place_line, place_inner, inner_bind, inner_branches, place}
 use Rattle.gib_place.proofs.Lays.{Lays, ends, opens, puts, stays, one, left, right, both, variables, fields_lay}
-use Rattle.gib_place.proofs.Counts.{occurs, occurs_append, targets, ending_line, filling_line, fields_named, same_as, line_by_steps, before_uses, before_binds}
+use Rattle.gib_place.proofs.Counts.{occurs, occurs_append, targets, ending_line, filling_line, fields_named, line_by_steps, before_uses, before_binds}
 use Rattle.gib_place.proofs.Fitting.{own_count, not_among, is_told, Fit, fit_less, Unused, told, fields_fit, run_unused, scalars_unused}
 use Rattle.gib_place.proofs.Means.{fit_none}
+use Rattle.gib_core.proofs.Along.{same_variable}
 
 -- Where variables that are told are left out, the same is put.
 abbrev Agree : (Variable → Bool) → Substitution → Substitution → Type 0
@@ -184,7 +185,7 @@ module _ (tb : Table) (F : Variable → Bool) where
     lays_erase (opens l) u fit sub sub' h G G' z = lays_erase l u fit sub sub' h G G' z
     lays_erase (puts {bs = bs} {f = f} {fs = fs} late l) u fit sub sub' h G G' z =
         lays_erase l u fit.4 sub ((f.variable.0, put_in sub' f.target) ∷ sub')
-        (λ y o. put_past f.variable (put_in sub' f.target) sub' y (false_from_ne_true (f.variable.0 == y.0) (λ s. both_ways (F y) o (ap F (sym (same_as f.variable y s)) ∙ fit.0))) ∙ h y o)
+        (λ y o. put_past f.variable (put_in sub' f.target) sub' y (false_from_ne_true (f.variable.0 == y.0) (λ s. both_ways (F y) o (ap F (sym (same_variable f.variable y s)) ∙ fit.0))) ∙ h y o)
         (λ e vs. G e (put_in e f.target ∷ vs)) (λ e vs. G' e (put_for e f.variable ∷ vs))
         (λ e e' k p q vs.
         let same : put_for e' f.variable ≡ put_in e f.target =

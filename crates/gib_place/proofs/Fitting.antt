@@ -12,14 +12,7 @@ use Rattle.gib_place.specs.declared.field.Field.{Field}
 use Rattle.gib_place.specs.Placing.{count_atom, count_in, count, Filling, bound_by, bound_in, are_fields}
 use Rattle.gib_place.proofs.Lays.{variables}
 use Rattle.gib_place.proofs.Counts.{occurs, occurs_append, count_all, binders_all, targets, filling_line, fields_named, fields_once, counted, not_counted, count_line, occurs_line}
-
-pub among_append : (xs ys : List Variable) (y : Variable) → is_among (xs ++ ys) y ≡ (is_among xs y || is_among ys y)
-among_append [] ys y = refl
-among_append (x ∷ xs) ys y = go (x.0 == y.0) (among_append xs ys y)
-  where
-    go : (b : Bool) → is_among (xs ++ ys) y ≡ (is_among xs y || is_among ys y) → (b || is_among (xs ++ ys) y) ≡ ((b || is_among xs y) || is_among ys y)
-    go true e = refl
-    go false e = e
+use Rattle.gib_core.proofs.Along.{among_append}
 
 pub not_among : (xs ys : List Variable) (y : Variable) → is_among (xs ++ ys) y ≡ false → (is_among xs y ≡ false) × (is_among ys y ≡ false)
 not_among xs ys y e = or_parts (is_among xs y) (is_among ys y) (sym (among_append xs ys y) ∙ e)

@@ -2,7 +2,7 @@
 use Rattle.std.proofs.Common.{◌≡◌, ℕ, suc, ◌+◌, ◌<◌, ◌≤◌, List, [], ◌∷◌, ◌++◌, map, length, take, drop, get_or, Option, Some, None, refl, sym, ap, ◌∙◌, arith}
 use Rattle.std.specs.Prelude.{Result, Ok, Err, IfOk}
 use Rattle.std.specs.List.{AllByRecursion}
-use Rattle.std.proofs.lemmas.List.{drop_more, drop_all}
+use Rattle.std.proofs.lemmas.List.{drop_more, drop_all, append-nil, take_more}
 use Rattle.gib_types.specs.declared.table.ConId.{ConId}
 use Rattle.gib_core.specs.declared.atom.Variable.{Variable}
 use Rattle.gib_core.specs.declared.atom.Atom.{Atom}
@@ -16,7 +16,6 @@ use Rattle.gib_place.specs.declared.line.Line.{Line}
 use Rattle.gib_place.specs.Placing.{pointing, Ending, Filling, field_first, binding_first, room_first, ending_of, filling_of}
 use Rattle.gib_place.specs.Filled.{field_of, ArePointing, bindings_first, room_in, filling_from}
 use Rattle.gib_place.proofs.Lays.{append_append}
-use Rattle.gib_place.proofs.Cutting.{take_more_one}
 
 -- What stands behind the room, where a field or another binding stands first.
 abbrev pub with_field : Option Field → Option Ending → Option Ending
@@ -110,19 +109,15 @@ fields_missed f bindings i old x d h lt ex eg hd k ss ps =
     ∙ ap (λ z. fields_first old (ending_of (prepend (binds_from f z) (Write hd k ss ps)))) left
     ∙ ap (fields_first old) (ending_then (bind_from f x) (prepend (binds_from f rest) (Write hd k ss ps)) ∙ ap (λ o. with_field o (ending_of (prepend (binds_from f rest) (Write hd k ss ps)))) eg)
 
-nothing_behind : {A : Type 0} (xs : List A) → xs ++ [] ≡ xs
-nothing_behind [] = refl
-nothing_behind (x ∷ xs) = ap (λ l. x ∷ l) (nothing_behind xs)
-
 pub fields_end : (f : ℕ → Term) (bindings : List Binding) (i : ℕ) (fields : List Field) → FieldsBehind f bindings i fields → length bindings ≤ i
     → (h : Variable) (k : ConId) (ss ps : List Atom) → ending_of (prepend (binds_from f bindings) (Write h k ss ps)) ≡ Some (record { fields = fields; head = h; con = k; scalars = ss; packed = ps })
 fields_end f bindings i fields h le hd k ss ps =
     h.ending hd k ss ps
     ∙ ap (λ z. fields_first fields (ending_of (prepend (binds_from f z) (Write hd k ss ps)))) (drop_all i bindings le)
-    ∙ (λ j. Some (record { fields = nothing_behind fields j; head = hd; con = k; scalars = ss; packed = ps }))
+    ∙ (λ j. Some (record { fields = append-nil fields j; head = hd; con = k; scalars = ss; packed = ps }))
 
 pub fields_point : (f : ℕ → Term) (n : ℕ) (bindings : List Binding) (i : ℕ) (fields : List Field) → FieldsBehind f bindings i fields → length bindings ≤ i → AllByRecursion (IsBindingBelow n) bindings → ArePointing f n bindings fields
-fields_point f n bindings i fields h le below = record { are = h.are ∙ ap (λ z. map pointing fields ++ binds_from f z) (drop_all i bindings le) ∙ nothing_behind (map pointing fields); below = below }
+fields_point f n bindings i fields h le below = record { are = h.are ∙ ap (λ z. map pointing fields ++ binds_from f z) (drop_all i bindings le) ∙ append-nil (map pointing fields); below = below }
 
 -- No room stands before a place.
 pub record RunBehind (f : ℕ → Term) (bindings : List Binding) (i : ℕ) : Type 0 where
@@ -156,14 +151,14 @@ run_further : (bs : List Bind) (x : Bind) (l : Option Filling) → bindings_firs
 run_further bs x None = refl
 run_further bs x (Some l) = λ i. Some (record { run = sym (append_append bs (x ∷ []) l.run) i; room = l.room; made = l.made; ending = l.ending })
 
-binds_push : (f : ℕ → Term) (xs : List Binding) (x : Binding) → binds_from f (xs ++ x ∷ []) ≡ binds_from f xs ++ bind_from f x ∷ []
+pub binds_push : (f : ℕ → Term) (xs : List Binding) (x : Binding) → binds_from f (xs ++ x ∷ []) ≡ binds_from f xs ++ bind_from f x ∷ []
 binds_push f [] x = refl
 binds_push f (y ∷ xs) x = ap (λ l. bind_from f y ∷ l) (binds_push f xs x)
 
 pub run_next : (f : ℕ → Term) (bindings : List Binding) (i : ℕ) (x d : Binding) → RunBehind f bindings i → i < length bindings → x ≡ get_or bindings i d → room_in x ≡ None → RunBehind f bindings (i + 1)
 run_next f bindings i x d h lt ex other =
     let left : drop i bindings ≡ x ∷ drop (i + 1) bindings = drop_more bindings i d lt ∙ ap (λ (z : Binding). z ∷ drop (i + 1) bindings) (sym ex) in
-    let more : take (i + 1) bindings ≡ take i bindings ++ x ∷ [] = take_more_one bindings i d lt ∙ ap (λ (z : Binding). take i bindings ++ z ∷ []) (sym ex) in
+    let more : take (i + 1) bindings ≡ take i bindings ++ x ∷ [] = take_more bindings i d lt ∙ ap (λ (z : Binding). take i bindings ++ z ∷ []) (sym ex) in
     let rest = drop (i + 1) bindings in
     record {
       filling = λ hd k ss ps.
@@ -195,7 +190,7 @@ pub line_at_none : (bs : List Bind) (room : Variable) (made : ConId) (e : Option
 line_at_none bs room made e h = ap (λ z. bindings_first bs (room_first room made z)) h
 
 pub line_at_some : (f : ℕ → Term) (run items : List Binding) (room : Variable) (made : ConId) (e : Option Ending) (end : Ending) → e ≡ Some end → items ≡ run → bindings_first (binds_from f run) (room_first room made e) ≡ Some (record { run = binds_from f items; room = room; made = made; ending = end })
-line_at_some f run items room made e end h same = ap (λ z. bindings_first (binds_from f run) (room_first room made z)) h ∙ (λ i. Some (record { run = (nothing_behind (binds_from f run) ∙ ap (binds_from f) (sym same)) i; room = room; made = made; ending = end }))
+line_at_some f run items room made e end h same = ap (λ z. bindings_first (binds_from f run) (room_first room made z)) h ∙ (λ i. Some (record { run = (append-nil (binds_from f run) ∙ ap (binds_from f) (sym same)) i; room = room; made = made; ending = end }))
 
 pub run_missed : (f : ℕ → Term) (bindings : List Binding) (i : ℕ) → RunBehind f bindings i → length bindings ≤ i
     → (h : Variable) (k : ConId) (ss ps : List Atom) → filling_of (prepend (binds_from f bindings) (Write h k ss ps)) ≡ None

@@ -1,9 +1,10 @@
 -- What a line is laid out as breaks no rule where the line breaks none.
 use Rattle.std.proofs.Common.{◌≡◌, ⊎_elim, ℕ, suc, ◌+◌, ◌<◌, ◌≤◌, Bool, true, false, not, ◌&&◌, ◌||◌, ◌==◌, if◌then◌else◌, List, [], ◌∷◌, ◌++◌, length, Some, refl, sym, ap, ◌∙◌, subst, arith}
 use Rattle.std.specs.Prelude.{get_or}
-use Rattle.std.proofs.lemmas.Bool.{eqb-true, eq-eqb, both_ways, not-false, false_from_ne_true, or_parts, or_from, or_cases, or_left, or_right, lt-ltb}
+use Rattle.std.proofs.lemmas.Bool.{eqb-true, eq-eqb, both_ways, not-false, false_from_ne_true, or_parts, or_from, or_cases, or_left, or_right, lt-ltb, and_parts}
+use Rattle.std.proofs.lemmas.List.{append-nil}
 use Rattle.gib_types.specs.declared.table.Ty.{Ty}
-use Rattle.gib_types.specs.declared.table.Ty.TheVariants.{Whole, Truth, Tree}
+use Rattle.gib_types.specs.declared.table.Ty.TheVariants.{Whole, Truth}
 use Rattle.gib_types.specs.declared.table.ConId.{ConId}
 use Rattle.gib_types.specs.Table.{Table, fields_at, scalar_types}
 use Rattle.gib_core.specs.declared.atom.Variable.{Variable}
@@ -21,13 +22,15 @@ use Rattle.gib_core.specs.Rules.{Before, same_type, is_empty, has_room, is_among
 use Rattle.gib_core.specs.Reachable.{all_reached, LinesAreReachable}
 use Rattle.gib_place.specs.declared.field.Field.{Field}
 use Rattle.gib_place.specs.Placing.{count, bound_by, bound_in, is_one}
-use Rattle.gib_core.proofs.Along.{none_broken, least_none, next_append, reachable_split}
-use Rattle.gib_core.proofs.Cased.{has, reached_where_has, reaches_none}
-use Rattle.gib_place.proofs.Lays.{Lays, ends, opens, puts, stays, one, left, right, both, variables, and_both}
-use Rattle.gib_place.proofs.Counts.{occurs, occurs_append, binders_all, same_as}
+use Rattle.gib_core.proofs.Along.{none_broken, least_none, next_append, reachable_split, same_variable}
+use Rattle.gib_core.proofs.Cased.{has, reached_where_has, reaches_none, has_less}
+use Rattle.gib_place.proofs.Lays.{Lays, ends, opens, puts, stays, one, left, right, both, variables}
+use Rattle.gib_place.proofs.Counts.{occurs, occurs_append, binders_all}
 use Rattle.gib_place.proofs.Fitting.{not_among}
 use Rattle.gib_place.proofs.Wider.{nums, times, new_there, own_time, nums_after, bind_nums_after, side_nums_after, types_after, bind_types_after, side_types_after}
 use Rattle.gib_place.proofs.Weaken.{scoped, Scoped, Room, Wider, all_usable_more, types_more, reachable_append, wider_behind, scoped_after, wider_side, wider_bind}
+use Rattle.gib_core.proofs.Facts.{same_type_is}
+use Rattle.gib_core.proofs.Suited.{others_behind}
 
 abbrev pub opened : Setting → Destination → List Known → Bool → Setting
 opened s d ks w = record s { destination = d; scope = ks; whole = w }
@@ -64,18 +67,7 @@ others_two s (x ∷ xs) ys e f = let p = or_parts (is_other s x) (any_other s xs
 
 usable_two : (s : Setting) (xs ys : List Atom) → all_usable s xs ≡ true → all_usable s ys ≡ true → all_usable s (xs ++ ys) ≡ true
 usable_two s [] ys e f = f
-usable_two s (x ∷ xs) ys e f = let p = and_both (is_usable s x) (all_usable s xs) e in λ i. p.0 i && usable_two s xs ys p.1 f i
-
-same_types : (t u : Ty) → same_type t u ≡ true → t ≡ u
-same_types Whole Whole e = refl
-same_types Whole Truth e = absurd cc
-same_types Whole (Tree u) e = absurd cc
-same_types Truth Whole e = absurd cc
-same_types Truth Truth e = refl
-same_types Truth (Tree u) e = absurd cc
-same_types (Tree t) Whole e = absurd cc
-same_types (Tree t) Truth e = absurd cc
-same_types (Tree t) (Tree u) e = λ i. Tree (record { 0 = eqb-true t.0 u.0 e i })
+usable_two s (x ∷ xs) ys e f = let p = and_parts (is_usable s x) (all_usable s xs) e in λ i. p.0 i && usable_two s xs ys p.1 f i
 
 named_there : (xs : List Variable) → are_variables xs (as_atoms xs) ≡ true
 named_there [] = refl
@@ -88,10 +80,6 @@ length_one (y ∷ xs) x = ap suc (length_one xs x)
 pub shift_one : {A : Type 0} (xs : List A) (x : A) (ys : List A) → xs ++ (x ∷ ys) ≡ (xs ++ x ∷ []) ++ ys
 shift_one [] x ys = refl
 shift_one (z ∷ xs) x ys = ap (λ l. z ∷ l) (shift_one xs x ys)
-
-nothing_behind : {A : Type 0} (xs : List A) → xs ++ [] ≡ xs
-nothing_behind [] = refl
-nothing_behind (x ∷ xs) = ap (λ l. x ∷ l) (nothing_behind xs)
 
 among_one : (xs : List Variable) (x y : Variable) (P : Type 0) → (is_among xs y ≡ true → P) → ((x.0 == y.0) ≡ true → P) → is_among (xs ++ x ∷ []) y ≡ true → P
 among_one [] x y P f g m = g (go (x.0 == y.0) m)
@@ -181,19 +169,10 @@ module _ (core : CoreTree) where
   -- What is in scope behind a run, and is not bound by it, was in scope.
   scope_back : (bd : Bind) (s : Setting) (b : Before) (y : Variable) → R b (met_bind core.table s bd) → has (behind s bd).scope y ≡ true → is_among (bound_by bd) y ≡ false → has s.scope y ≡ true
   scope_back (Past h k) s b y r m o = m
-  scope_back (One (On kind x ty t)) s b y r m o = less x s.scope y (or_parts (x.0 == y.0) false o).0 m
-    where
-      less : (x : Variable) (ks : List Known) (y : Variable) → (x.0 == y.0) ≡ false → (x.0 == y.0 || has ks y) ≡ true → has ks y ≡ true
-      less x ks y e m = sym (ap (λ c. c || has ks y) e) ∙ m
+  scope_back (One (On kind x ty t)) s b y r m o = has_less x s.scope y (or_parts (x.0 == y.0) false o).0 m
   scope_back (Both fork (On kind x ty t) (On other z uy u)) s b y r m o =
-      let p = or_parts (x.0 == y.0) (z.0 == y.0 || false) o in less x s.scope y p.0 (less z (reached x ∷ s.scope) y (or_parts (z.0 == y.0) false p.1).0 m)
-    where
-      less : (x : Variable) (ks : List Known) (y : Variable) → (x.0 == y.0) ≡ false → (x.0 == y.0 || has ks y) ≡ true → has ks y ≡ true
-      less x ks y e m = sym (ap (λ c. c || has ks y) e) ∙ m
-  scope_back (Prim x f v w) s b y r m o = less x s.scope y (or_parts (x.0 == y.0) false o).0 m
-    where
-      less : (x : Variable) (ks : List Known) (y : Variable) → (x.0 == y.0) ≡ false → (x.0 == y.0 || has ks y) ≡ true → has ks y ≡ true
-      less x ks y e m = sym (ap (λ c. c || has ks y) e) ∙ m
+      let p = or_parts (x.0 == y.0) (z.0 == y.0 || false) o in has_less x s.scope y p.0 (has_less z (reached x ∷ s.scope) y (or_parts (z.0 == y.0) false p.1).0 m)
+  scope_back (Prim x f v w) s b y r m o = has_less x s.scope y (or_parts (x.0 == y.0) false o).0 m
   scope_back (Reach x by) s b y r m o = absurd (reaches_none core b s x by r.0)
 
   pub scopes_back : (bs : List Bind) (s : Setting) (b : Before) (y : Variable) → R b (mets core.table s bs) → has (behinds s bs).scope y ≡ true → is_among (bound_in bs) y ≡ false → has s.scope y ≡ true
@@ -223,7 +202,7 @@ module _ (core : CoreTree) where
       let so = opened s (Open h k done) ks w in
       let inner : Ty → Setting = λ z. record s { destination = Empty; due = z; scope = ks; whole = false; calls = [] } in
       let line = SideLine Here x ty in
-      let e = same_types ty due same in
+      let e = same_type_is ty due same in
       record {
         lines = (
           least_none (rules core b' (all_reached so) line) (ap not (lt-ltb (length done) (length (packed_types core.table k)) lt), (new_there b'.bound x (let o = ro' x.0 in let z = own_time x in omega arith), (ap not same, tt))),
@@ -402,9 +381,9 @@ module _ (core : CoreTree) where
 
     stand_too : (se : Setting) (be : Before) (ks : List Known) (done : List Variable) (x : Variable) → has ks x ≡ true → is_among se.others x ≡ false → is_among be.cased x ≡ false → Stand se be ks done → Stand se be ks (done ++ x ∷ [])
     stand_too se be ks done x u o c st = record {
-      there = λ y m. among_one done x y (has ks y ≡ true) (st.there y) (λ e. subst (λ (z : Variable). has ks z ≡ true) (same_as x y e) u) m;
-      others = λ y m. among_one done x y (is_among se.others y ≡ false) (st.others y) (λ e. subst (λ (z : Variable). is_among se.others z ≡ false) (same_as x y e) o) m;
-      uncased = λ y m. among_one done x y (is_among be.cased y ≡ false) (st.uncased y) (λ e. subst (λ (z : Variable). is_among be.cased z ≡ false) (same_as x y e) c) m;
+      there = λ y m. among_one done x y (has ks y ≡ true) (st.there y) (λ e. subst (λ (z : Variable). has ks z ≡ true) (same_variable x y e) u) m;
+      others = λ y m. among_one done x y (is_among se.others y ≡ false) (st.others y) (λ e. subst (λ (z : Variable). is_among se.others z ≡ false) (same_variable x y e) o) m;
+      uncased = λ y m. among_one done x y (is_among be.cased y ≡ false) (st.uncased y) (λ e. subst (λ (z : Variable). is_among be.cased z ≡ false) (same_variable x y e) c) m;
     }
 
     others_none : (s : Setting) (xs : List Variable) → ((y : Variable) → is_among xs y ≡ true → is_among s.others y ≡ false) → any_other s (as_atoms xs) ≡ false
@@ -474,13 +453,6 @@ module _ (core : CoreTree) where
     has_behind (Both fork (On kind x ty t) (On other z uy u)) s b ks y r m = or_right (z.0 == y.0) (x.0 == y.0 || has ks y) (or_right (x.0 == y.0) (has ks y) m)
     has_behind (Prim x g v w) s b ks y r m = or_right (x.0 == y.0) (has ks y) m
     has_behind (Reach x by) s b ks y r m = absurd (reaches_none core b s x by r.0)
-
-    others_behind : (bd : Bind) (s : Setting) → (behind s bd).others ≡ s.others
-    others_behind (Past c j) s = refl
-    others_behind (One (On kind x ty t)) s = refl
-    others_behind (Both fork (On kind x ty t) (On other z uy u)) s = refl
-    others_behind (Prim x g v w) s = refl
-    others_behind (Reach y by) s = refl
 
     due_behind : (bd : Bind) (s : Setting) → (behind s bd).due ≡ s.due
     due_behind (Past c j) s = refl
@@ -666,7 +638,7 @@ module _ (core : CoreTree) where
         → (s : Setting) (b : Before) (ks : List Known) (b' : Before) (w : Bool) (done all : List Variable) (n : ℕ) (be : Before) → Pre o bs fs cs s b ks b' done n be → all ≡ done ++ xs
         → R b' (met core.table (opened s (place_of o done) ks w) (prepend cs (Write hw kw ss (as_atoms all))))
     lays_reach ends s b ks b' w done all n be p e =
-        let z = e ∙ nothing_behind done in
+        let z = e ∙ append-nil done in
         let size : length done ≡ length (packed_types core.table k) = let i = p.count in let j = p.size in omega arith in
         subst (λ (l : List Variable). R b' (met core.table (opened s (Open h k done) ks w) (Write hw kw ss (as_atoms l)))) (sym z)
         (written s b ks b' done w p.wider (subst (λ (c : Before). EndOk s c) p.is p.end) size (subst (λ (c : Before). Stand s c ks done) p.is p.stand))

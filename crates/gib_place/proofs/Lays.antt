@@ -1,6 +1,6 @@
 -- How a run is laid, one step after another.
-use Rattle.std.proofs.Common.{◌≡◌, Bool, true, false, not, ◌&&◌, ◌||◌, ◌==◌, if◌then◌else◌, List, [], ◌∷◌, ◌++◌, map, Option, Some, None, refl, sym, ap, ◌∙◌, subst}
-use Rattle.std.proofs.lemmas.Bool.{eqb-true, eq-eqb, both_ways, false_from_ne_true}
+use Rattle.std.proofs.Common.{◌≡◌, Bool, true, false, not, ◌||◌, ◌==◌, if◌then◌else◌, List, [], ◌∷◌, ◌++◌, map, Option, Some, None, refl, sym, ap, ◌∙◌, subst}
+use Rattle.std.proofs.lemmas.Bool.{eqb-true, and_parts, not-true}
 use Rattle.gib_types.specs.declared.table.Ty.{Ty}
 use Rattle.gib_core.specs.declared.atom.Variable.{Variable}
 use Rattle.gib_core.specs.declared.atom.Atom.{Atom}
@@ -11,27 +11,15 @@ use Rattle.gib_core.specs.Reaching.{is_variable}
 use Rattle.gib_core.specs.Rules.{is_among}
 use Rattle.gib_place.specs.declared.field.Field.{Field}
 use Rattle.gib_place.specs.Placing.{pointing, Cut, before_cut, cut_at, bound_in, is_one, are_there, are_none, PlacedSide, place_at, place_side, PlacedBind, place_one, place_right, place_too, place_both, place_bind, Laid, lay_bind, lay}
+use Rattle.gib_core.proofs.Along.{differ_back}
 
 abbrev pub variables : List Field → List Variable
 variables fs = map (λ (f : Field). f.variable) fs
-
-pub and_both : (p q : Bool) → (p && q) ≡ true → (p ≡ true) × (q ≡ true)
-and_both true true e = (refl, refl)
-and_both true false e = absurd cc
-and_both false true e = absurd cc
-and_both false false e = absurd cc
-
-pub not_true : (p : Bool) → not p ≡ true → p ≡ false
-not_true true e = absurd cc
-not_true false e = refl
 
 pub is_that : (x : Variable) (y : Atom) → is_variable x y ≡ true → y ≡ a.Variable x
 is_that x (a.Variable y) e = λ i. a.Variable (record { 0 = eqb-true y.0 x.0 e i })
 is_that x (a.Whole z) e = absurd cc
 is_that x (a.Truth b) e = absurd cc
-
-pub turned : (x y : Variable) → (x.0 == y.0) ≡ false → (y.0 == x.0) ≡ false
-turned x y e = false_from_ne_true (y.0 == x.0) (λ same. both_ways (x.0 == y.0) e (eq-eqb x.0 y.0 (sym (eqb-true y.0 x.0 same))))
 
 pub append_append : {A : Type 0} (xs ys zs : List A) → (xs ++ ys) ++ zs ≡ xs ++ (ys ++ zs)
 append_append [] ys zs = refl
@@ -83,8 +71,8 @@ module _ (once : Variable → Bool) (room : Bind) where
       → Lays true bs fields (map pointing pre ++ cs) (variables pre ++ xs)
   all_put (here {f = f} e) late bs cs xs out may base = base f e
   all_put (there {f = f} {pre = pre} e h) late bs cs xs out may base =
-      let m = and_both (not (is_one late f.target)) (are_there late pre) may in
-      puts (out f.target e (not_true (is_one late f.target) m.0)) (all_put h late bs cs xs out m.1 base)
+      let m = and_parts (not (is_one late f.target)) (are_there late pre) may in
+      puts (out f.target e (not-true (is_one late f.target) m.0)) (all_put h late bs cs xs out m.1 base)
 
   -- A side that is placed.
   abbrev IsPlacedSide : (List Field → Bool) → Side → List Field → Option PlacedSide → Type 0
@@ -116,7 +104,7 @@ module _ (once : Variable → Bool) (room : Bind) where
   IsPlacedBind bs b fields (Some p) = (cs : List Bind) (xs : List Variable) → Lays true bs p.left cs xs → Lays true (b ∷ bs) fields (map pointing p.before ++ p.bind ∷ cs) (variables p.before ++ (p.standing ++ xs))
 
   out_one : (x : Variable) (late : List Variable) (y : Atom) → is_variable x y ≡ false → is_one late y ≡ false → is_one (x ∷ late) y ≡ false
-  out_one x late (a.Variable y) e h = ap (λ b. b || is_among late y) (turned y x e) ∙ h
+  out_one x late (a.Variable y) e h = ap (λ b. b || is_among late y) (differ_back y x e) ∙ h
   out_one x late (a.Whole z) e h = refl
   out_one x late (a.Truth b) e h = refl
 

@@ -1,28 +1,31 @@
-pub mod AtOnce
+-- Lists, mentions and numbers of variables.
 pub mod Positions
+pub mod Places
+pub mod Shifted
+pub mod Listed
+pub mod Mentioning
+pub mod Tallied
 pub mod Renames
 pub mod Lines
+-- The walk's steps: the clock, spots, and lines that are laid.
+pub mod Timing
+pub mod Cutting
+pub mod Found
 pub mod Lays
 pub mod Counts
 pub mod Fitting
+pub mod Onward
+pub mod Making
+pub mod Programs
+-- What is placed means the same, and is left the same.
 pub mod Means
-pub mod Cores
 pub mod Erased
 pub mod Sources
+pub mod AtOnce
+pub mod Cores
+-- What is placed breaks no build rule.
 pub mod Wider
 pub mod Weaken
 pub mod Kept
 pub mod Ended
 pub mod Built
-pub mod Places
-pub mod Shifted
-pub mod Tallied
-pub mod Mentioning
-pub mod Listed
-pub mod Fronting
-pub mod Cutting
-pub mod Timing
-pub mod Onward
-pub mod Found
-pub mod Making
-pub mod Programs

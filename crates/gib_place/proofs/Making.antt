@@ -2,7 +2,7 @@
 use Rattle.std.proofs.Common.{◌≡◌, ℕ, ◌+◌, ◌<◌, ◌≤◌, Bool, true, false, if◌then◌else◌, List, [], ◌∷◌, ◌++◌, map, length, drop, get_or, reverse, Option, Some, None, refl, sym, ap, ◌∙◌, subst, arith}
 use Rattle.std.specs.Prelude.{Result, Ok, Err, IfOk}
 use Rattle.std.specs.List.{AllByRecursion}
-use Rattle.std.proofs.lemmas.List.{drop_more, drop_all, reverse-append}
+use Rattle.std.proofs.lemmas.List.{drop_more, drop_all, reverse-append, append-nil}
 use Rattle.gib_core.specs.declared.atom.Variable.{Variable}
 use Rattle.gib_core.specs.declared.atom.Atom.{Atom}
 use Rattle.gib_core.specs.declared.node.Binding.{Binding}
@@ -23,12 +23,9 @@ use Rattle.gib_place.specs.Placing.{binding_first, room_first, filling_of, endin
 use Rattle.gib_place.specs.Filled.{field_of, IsOtherEnd, LaysLine, filling_from, ending_with}
 use Rattle.gib_place.specs.Made.{MakesTerm, MakesBinding, MakesBindings, MakesSide, MakesBranch, MakesBranches}
 use Rattle.gib_place.proofs.Lays.{append_append}
-use Rattle.gib_place.proofs.Found.{with_field, ending_then}
-use Rattle.gib_place.proofs.Fronting.{below_more, below_push, branches_below_more, binds_same, branches_same, grows_more, grows_none}
-
-nothing_behind : {A : Type 0} (xs : List A) → xs ++ [] ≡ xs
-nothing_behind [] = refl
-nothing_behind (x ∷ xs) = ap (λ l. x ∷ l) (nothing_behind xs)
+use Rattle.gib_place.proofs.Found.{with_field, ending_then, binds_push}
+use Rattle.gib_core.proofs.Fronting.{below_more, branches_below_more, binds_same, branches_same, grows_more, grows_none}
+use Rattle.gib_core.proofs.Lining.{below_push}
 
 -- What holds of what was made, in each case.
 pub made_passed : {E : Type 0} (o : Result TermId E) (P Q : TermId → Type 0) → ((t : TermId) → P t → Q t) → IfOk o P → IfOk o Q
@@ -172,10 +169,6 @@ pub record BindingsSoFar (once : Variable → Bool) (f : ℕ → Term) (bs : Lis
 pub bindings_start : (once : Variable → Bool) (f : ℕ → Term) (bs : List Binding) (old : List Node) → BindingsSoFar once f bs 0 old old []
 bindings_start once f bs old = record { within = omega arith; grows = grows_none old; inside = tt; are = refl }
 
-binds_push : (f : ℕ → Term) (xs : List Binding) (x : Binding) → binds_from f (xs ++ x ∷ []) ≡ binds_from f xs ++ bind_from f x ∷ []
-binds_push f [] x = refl
-binds_push f (y ∷ xs) x = ap (λ l. bind_from f y ∷ l) (binds_push f xs x)
-
 pub bindings_next : (once : Variable → Bool) (f : ℕ → Term) (bs : List Binding) (i : ℕ) (old now new : List Node) (cs ds : List Binding) (x d made : Binding) → BindingsSoFar once f bs i old now cs → i < length bs → x ≡ get_or bs i d → MakesBinding now new made (inner_bind once (bind_from f x)) → ds ≡ cs ++ made ∷ [] → BindingsSoFar once f bs (i + 1) old new ds
 bindings_next once f bs i old now new cs ds x d made h lt ex m ed =
     let left : drop i bs ≡ x ∷ drop (i + 1) bs = drop_more bs i d lt ∙ ap (λ (z : Binding). z ∷ drop (i + 1) bs) (sym ex) in
@@ -195,7 +188,7 @@ pub bindings_end : (once : Variable → Bool) (f : ℕ → Term) (bs : List Bind
 bindings_end once f bs i old now cs h le = record {
   grows = h.grows;
   inside = h.inside;
-  are = sym (nothing_behind (binds_from (term_of now) cs)) ∙ ap (λ z. binds_from (term_of now) cs ++ map (inner_bind once) (binds_from f z)) (sym (drop_all i bs le)) ∙ h.are;
+  are = sym (append-nil (binds_from (term_of now) cs)) ∙ ap (λ z. binds_from (term_of now) cs ++ map (inner_bind once) (binds_from f z)) (sym (drop_all i bs le)) ∙ h.are;
 }
 
 -- A binding that has no terms stays; one side, and two.

@@ -12,15 +12,17 @@ use Rattle.gib_core.specs.declared.atom.Atom.TheVariants as a
 use Rattle.gib_core.specs.declared.atom.Kind.TheVariants.{Region}
 use Rattle.gib_core.specs.Tree.{Term, Then, Write, Point, CallTerm, Give, CaseTerm, IfTerm, Bind, Past, One, Both, Prim, Reach, On, Branches, NoBranch, BranchThen, prepend}
 use Rattle.gib_core.specs.Meaning as core
-use Rattle.gib_core.specs.Meaning.{Calls, value, merge, Reached, Went, Halted, from_there, and_on, having, mean, run, mean_side, mean_branches, run_all}
+use Rattle.gib_core.specs.Meaning.{Calls, value, merge, Reached, Went, from_there, having, mean, run, mean_side, mean_branches, run_all}
 use Rattle.gib_core.specs.Inferring.{as_atoms}
 use Rattle.gib_core.specs.Numbering.{binders, bind_binders, branch_binders}
 use Rattle.gib_core.specs.Rules.{is_among}
 use Rattle.gib_place.specs.declared.field.Field.{Field}
 use Rattle.gib_place.specs.Placing.{count_atom, count_in, count, count_bind, count_branches, pointing, Filling, bound_by, bound_in, is_one, are_fields, place_line, place_inner, inner_bind, inner_branches, place}
 use Rattle.gib_place.proofs.Lays.{Lays, ends, opens, puts, stays, one, left, right, both, variables, fields_lay}
-use Rattle.gib_place.proofs.Counts.{occurs, occurs_append, targets, ending_line, filling_line, fields_named, same_as, line_by_steps, before_uses, before_binds}
+use Rattle.gib_place.proofs.Counts.{occurs, occurs_append, targets, ending_line, filling_line, fields_named, line_by_steps, before_uses, before_binds}
 use Rattle.gib_place.proofs.Fitting.{own_count, not_among, is_told, Fit, fit_less, Unused, told, fields_fit, run_unused, scalars_unused}
+use Rattle.gib_core.proofs.Along.{same_variable}
+use Rattle.gib_core.proofs.Envs.{from_there-and_on}
 
 -- Where variables that are told are left out, environments are the same.
 abbrev Agree : (Variable → Bool) → Environment → Environment → Type 0
@@ -52,10 +54,6 @@ agree_bind : (F : Variable → Bool) (xs : List Variable) (vs : List Datum) (env
 agree_bind F [] vs env env' h = h
 agree_bind F (x ∷ xs) [] env env' h = agree_bind F xs [] ((x.0, whole (pos 0)) ∷ env) ((x.0, whole (pos 0)) ∷ env') (agree_more F x.0 (whole (pos 0)) env env' h)
 agree_bind F (x ∷ xs) (v ∷ vs) env env' h = agree_bind F xs vs ((x.0, v) ∷ env) ((x.0, v) ∷ env') (agree_more F x.0 v env env' h)
-
-from_and : (r : Reached) (f : Environment → Reached) (g : Environment → Outcome) → from_there (and_on r f) g ≡ from_there r (λ e. from_there (f e) g)
-from_and (Halted why) f g = refl
-from_and (Went env) f g = refl
 
 from_having : (o : Outcome) (f f' : Datum → Reached) (go go' : Environment → Outcome) → ((v : Datum) → from_there (f' v) go' ≡ from_there (f v) go) → from_there (having o f') go' ≡ from_there (having o f) go
 from_having (Stops why) f f' go go' h = refl
@@ -154,7 +152,7 @@ module _ (tb : Table) (call : Calls) (F : Variable → Bool) where
     lays_mean (opens l) u fit env env' h G G' z = lays_mean l u fit env env' h G G' z
     lays_mean (puts {bs = bs} {f = f} {fs = fs} {cs = cs} {xs = xs} late l) u fit env env' h G G' z =
         lays_mean l u fit.4 env ((f.variable.0, value env' f.target) ∷ env')
-        (λ y o. value_past f.variable (value env' f.target) env' y (false_from_ne_true (f.variable.0 == y.0) (λ s. both_ways (F y) o (ap F (sym (same_as f.variable y s)) ∙ fit.0))) ∙ h y o)
+        (λ y o. value_past f.variable (value env' f.target) env' y (false_from_ne_true (f.variable.0 == y.0) (λ s. both_ways (F y) o (ap F (sym (same_variable f.variable y s)) ∙ fit.0))) ∙ h y o)
         (λ e vs. G e (value e f.target ∷ vs)) (λ e vs. G' e (value_in e f.variable.0 ∷ vs))
         (λ e e' k p q vs.
         let same : value_in e' f.variable.0 ≡ value e f.target =
@@ -165,35 +163,35 @@ module _ (tb : Table) (call : Calls) (F : Variable → Bool) where
         ap (λ v. G' e' (v ∷ vs)) same
         ∙ z e e' k p (λ y r s. let t = or_parts (f.variable.0 == y.0) (is_among (variables fs) y) s in q y r t.1 ∙ value_past f.variable (value env' f.target) env' y t.0) (value e f.target ∷ vs))
     lays_mean (stays {b = b} {bs = bs} {fs = fs} {cs = cs} {xs = xs} l) u fit env env' h G G' z =
-        from_and (run tb call b env') (run_all tb call cs) (λ e. G' e (map (value e) (as_atoms xs)))
+        from_there-and_on (run tb call b env') (run_all tb call cs) (λ e. G' e (map (value e) (as_atoms xs)))
         ∙ (run_free b env env' (λ y m. let e = u y m in omega arith) h (λ e. from_there (run_all tb call bs e) (λ e. G e (map (value e) (targets fs)))) (λ e. from_there (run_all tb call cs e) (λ e. G' e (map (value e) (as_atoms xs))))
         (λ e e' k p q. lays_mean l (λ y m. let z = u y m in omega arith) (fit_less F b bs fs fit) e e' k G G'
         (λ d d' g r s vs. z d d' g (keeps_then b bs [] env e d p r) (keeps_then b bs (variables fs) env' e' d' q s) vs))
-        ∙ sym (from_and (run tb call b env) (run_all tb call bs) (λ e. G e (map (value e) (targets fs)))))
+        ∙ sym (from_there-and_on (run tb call b env) (run_all tb call bs) (λ e. G e (map (value e) (targets fs)))))
     lays_mean (one {x = x} {ty = ty} {t = t} {bs = bs} {f = f} {fs = fs} {cs = cs} {xs = xs} o e l) u fit env env' h G G' z =
         let b : Bind = One (On Region x ty t) in
-        from_and (run tb call b env') (run_all tb call cs) (λ e. G' e (map (value e) (as_atoms (x ∷ xs))))
+        from_there-and_on (run tb call b env') (run_all tb call cs) (λ e. G' e (map (value e) (as_atoms (x ∷ xs))))
         ∙ (run_free b env env' (λ y m. let e = u y m in omega arith) h (λ e. from_there (run_all tb call bs e) (λ e. G e (map (value e) (targets (f ∷ fs))))) (λ e. from_there (run_all tb call cs e) (λ e. G' e (map (value e) (as_atoms (x ∷ xs)))))
         (λ d d' k p q. lays_mean l (λ y m. let z = u y m in omega arith) (fit_less F b bs fs fit.4) d d' k (λ e vs. G e (value e f.target ∷ vs)) (λ e vs. G' e (value e (a.Variable x) ∷ vs))
         (λ c c' g r s vs. ap (λ v. G' c' (v ∷ vs)) (placed_value f x c c' e fit.1 g) ∙ z c c' g (keeps_then b bs [] env d c p r) (keeps_more (bound_in (b ∷ bs)) (variables fs) f.variable env' c' (keeps_then b bs (variables fs) env' d' c' q s)) (value c f.target ∷ vs)))
-        ∙ sym (from_and (run tb call b env) (run_all tb call bs) (λ e. G e (map (value e) (targets (f ∷ fs))))))
+        ∙ sym (from_there-and_on (run tb call b env) (run_all tb call bs) (λ e. G e (map (value e) (targets (f ∷ fs))))))
     lays_mean (left {fork = fork} {x = x} {ty = ty} {t = t} {r = r} {bs = bs} {f = f} {fs = fs} {cs = cs} {xs = xs} o e l) u fit env env' h G G' z =
         let b : Bind = Both fork (On Region x ty t) r in
-        from_and (run tb call b env') (run_all tb call cs) (λ e. G' e (map (value e) (as_atoms (x ∷ xs))))
+        from_there-and_on (run tb call b env') (run_all tb call cs) (λ e. G' e (map (value e) (as_atoms (x ∷ xs))))
         ∙ (run_free b env env' (λ y m. let e = u y m in omega arith) h (λ e. from_there (run_all tb call bs e) (λ e. G e (map (value e) (targets (f ∷ fs))))) (λ e. from_there (run_all tb call cs e) (λ e. G' e (map (value e) (as_atoms (x ∷ xs)))))
         (λ d d' k p q. lays_mean l (λ y m. let z = u y m in omega arith) (fit_less F b bs fs fit.4) d d' k (λ e vs. G e (value e f.target ∷ vs)) (λ e vs. G' e (value e (a.Variable x) ∷ vs))
         (λ c c' g r s vs. ap (λ v. G' c' (v ∷ vs)) (placed_value f x c c' e fit.1 g) ∙ z c c' g (keeps_then b bs [] env d c p r) (keeps_more (bound_in (b ∷ bs)) (variables fs) f.variable env' c' (keeps_then b bs (variables fs) env' d' c' q s)) (value c f.target ∷ vs)))
-        ∙ sym (from_and (run tb call b env) (run_all tb call bs) (λ e. G e (map (value e) (targets (f ∷ fs))))))
+        ∙ sym (from_there-and_on (run tb call b env) (run_all tb call bs) (λ e. G e (map (value e) (targets (f ∷ fs))))))
     lays_mean (right {fork = fork} {l = side} {y = x} {uy = uy} {u = t} {bs = bs} {f = f} {fs = fs} {cs = cs} {xs = xs} o e l) u fit env env' h G G' z =
         let b : Bind = Both fork side (On Region x uy t) in
-        from_and (run tb call b env') (run_all tb call cs) (λ e. G' e (map (value e) (as_atoms (x ∷ xs))))
+        from_there-and_on (run tb call b env') (run_all tb call cs) (λ e. G' e (map (value e) (as_atoms (x ∷ xs))))
         ∙ (run_free b env env' (λ y m. let e = u y m in omega arith) h (λ e. from_there (run_all tb call bs e) (λ e. G e (map (value e) (targets (f ∷ fs))))) (λ e. from_there (run_all tb call cs e) (λ e. G' e (map (value e) (as_atoms (x ∷ xs)))))
         (λ d d' k p q. lays_mean l (λ y m. let z = u y m in omega arith) (fit_less F b bs fs fit.4) d d' k (λ e vs. G e (value e f.target ∷ vs)) (λ e vs. G' e (value e (a.Variable x) ∷ vs))
         (λ c c' g r s vs. ap (λ v. G' c' (v ∷ vs)) (placed_value f x c c' e fit.1 g) ∙ z c c' g (keeps_then b bs [] env d c p r) (keeps_more (bound_in (b ∷ bs)) (variables fs) f.variable env' c' (keeps_then b bs (variables fs) env' d' c' q s)) (value c f.target ∷ vs)))
-        ∙ sym (from_and (run tb call b env) (run_all tb call bs) (λ e. G e (map (value e) (targets (f ∷ fs))))))
+        ∙ sym (from_there-and_on (run tb call b env) (run_all tb call bs) (λ e. G e (map (value e) (targets (f ∷ fs))))))
     lays_mean (both {fork = fork} {x = x} {ty = ty} {t = t} {y = w} {uy = uy} {u = v} {bs = bs} {f = f} {g = n} {fs = fs} {cs = cs} {xs = xs} o e o' e' l) u fit env env' h G G' z =
         let b : Bind = Both fork (On Region x ty t) (On Region w uy v) in
-        from_and (run tb call b env') (run_all tb call cs) (λ e. G' e (map (value e) (as_atoms (x ∷ w ∷ xs))))
+        from_there-and_on (run tb call b env') (run_all tb call cs) (λ e. G' e (map (value e) (as_atoms (x ∷ w ∷ xs))))
         ∙ (run_free b env env' (λ y m. let e = u y m in omega arith) h (λ e. from_there (run_all tb call bs e) (λ e. G e (map (value e) (targets (f ∷ n ∷ fs))))) (λ e. from_there (run_all tb call cs e) (λ e. G' e (map (value e) (as_atoms (x ∷ w ∷ xs)))))
         (λ d d' k p q. lays_mean l (λ y m. let z = u y m in omega arith) (fit_less F b bs fs fit.4.4) d d' k (λ e vs. G e (value e f.target ∷ value e n.target ∷ vs)) (λ e vs. G' e (value e (a.Variable x) ∷ value e (a.Variable w) ∷ vs))
         (λ c c' g r s vs.
@@ -202,11 +200,11 @@ module _ (tb : Table) (call : Calls) (F : Variable → Bool) where
         ∙ z c c' g (keeps_then b bs [] env d c p r)
         (keeps_more (bound_in (b ∷ bs)) (variables (n ∷ fs)) f.variable env' c' (keeps_more (bound_in (b ∷ bs)) (variables fs) n.variable env' c' (keeps_then b bs (variables fs) env' d' c' q s)))
         (value c f.target ∷ value c n.target ∷ vs))))
-        ∙ sym (from_and (run tb call b env) (run_all tb call bs) (λ e. G e (map (value e) (targets (f ∷ n ∷ fs))))))
+        ∙ sym (from_there-and_on (run tb call b env) (run_all tb call bs) (λ e. G e (map (value e) (targets (f ∷ n ∷ fs))))))
 
 mean_prepend : (tb : Table) (call : Calls) (bs : List Bind) (t : Term) (env : Environment) → mean tb call (prepend bs t) env ≡ from_there (run_all tb call bs env) (λ e. mean tb call t e)
 mean_prepend tb call [] t env = refl
-mean_prepend tb call (b ∷ bs) t env = (λ i. from_there (run tb call b env) (λ e. mean_prepend tb call bs t e i)) ∙ sym (from_and (run tb call b env) (run_all tb call bs) (λ e. mean tb call t e))
+mean_prepend tb call (b ∷ bs) t env = (λ i. from_there (run tb call b env) (λ e. mean_prepend tb call bs t e i)) ∙ sym (from_there-and_on (run tb call b env) (run_all tb call bs) (λ e. mean tb call t e))
 
 pub fit_none : (F : Variable → Bool) (bs : List Bind) (fs : List Field) → Fit F bs fs → Fit F [] fs
 fit_none F [] fs h = h

@@ -1,5 +1,6 @@
 -- What a term says of variables tells what it binds, and how often it uses each variable.
-use Rattle.std.proofs.Common.{◌≡◌, ℕ, ◌+◌, List, [], ◌∷◌, ◌++◌, map, refl, sym, ap, ◌∙◌, arith}
+use Rattle.std.proofs.Common.{◌≡◌, ◌+◌, List, [], ◌∷◌, ◌++◌, map, refl, sym, ap, ◌∙◌, arith}
+use Rattle.std.proofs.Math.Nat.{zero-add}
 use Rattle.gib_core.specs.declared.atom.Variable.{Variable}
 use Rattle.gib_core.specs.declared.atom.Atom.{Atom}
 use Rattle.gib_core.specs.Tree.{Term, Then, Write, Point, CallTerm, Give, CaseTerm, IfTerm, Bind, Past, One, Both, Prim, Reach, Side, On, Branches, NoBranch, BranchThen}
@@ -36,9 +37,6 @@ variables_use (y ∷ ys) ms x = let e = variables_use ys ms x in omega arith
 
 one_use : (x : Variable) (y : Atom) → uses_in (Used y ∷ []) x ≡ count_atom x y
 one_use x y = omega arith
-
-nothing_more : (n : ℕ) → 0 + n ≡ n
-nothing_more n = omega arith
 
 prim_uses : (x : Variable) (v w : Atom) → 0 + (count_atom x v + (count_atom x w + 0)) ≡ count_atom x v + count_atom x w
 prim_uses x v w = omega arith
@@ -87,7 +85,7 @@ mutual
   bind_uses (Reach y by) x = refl
 
   side_uses : (s : Side) (x : Variable) → uses_in (side_mentions s) x ≡ count_side s x
-  side_uses (On kind y ty t) x = nothing_more (uses_in (mentions t) x) ∙ term_uses t x
+  side_uses (On kind y ty t) x = zero-add (uses_in (mentions t) x) ∙ term_uses t x
 
   branches_use : (bs : Branches) (x : Variable) → uses_in (branch_mentions bs) x ≡ count_branches bs x
   branches_use NoBranch x = refl

@@ -2,7 +2,7 @@
 use Rattle.std.proofs.Common.{◌≡◌, ℕ, zero, suc, ◌+◌, ◌-◌, ◌<◌, ◌≤◌, Bool, true, false, List, [], ◌∷◌, ◌++◌, map, length, take, drop, get_or, Some, None, refl, sym, ap, ◌∙◌, subst, arith}
 use Rattle.std.specs.List.{AllByRecursion}
 use Rattle.std.specs.Prelude.{Result, Ok, Err, OnOk}
-use Rattle.std.proofs.lemmas.List.{drop_more, drop_all, map-append}
+use Rattle.std.proofs.lemmas.List.{drop_more, drop_all, map-append, append-nil}
 use Rattle.gib_types.specs.declared.table.ConId.{ConId}
 use Rattle.gib_core.specs.declared.atom.Variable.{Variable}
 use Rattle.gib_core.specs.declared.node.Binding.{Binding}
@@ -19,15 +19,11 @@ use Rattle.gib_place.specs.Placing.{pointing, bound_by, bound_in, Laid, fields_l
 use Rattle.gib_place.specs.Filled.{ArePointing, placed_at, AreLate, room_left, laid_with, room_binding, standing_of, Opens, Puts, LaysSpot, Lays, LaysLine, IsLineOf}
 use Rattle.gib_place.proofs.Lays.{append_append}
 use Rattle.gib_place.proofs.Cutting.{map_take, map_drop, drop_drop, take_all, drop_rest, tail_is}
-use Rattle.gib_place.proofs.Fronting.{below_push}
+use Rattle.gib_core.proofs.Lining.{below_push}
 
 -- What was laid behind other things is laid behind them all.
 behind_twice : (cs bs : List Bind) (ss ts : List Variable) (l : Laid) → laid_behind cs ss (laid_behind bs ts l) ≡ laid_behind (cs ++ bs) (ss ++ ts) l
 behind_twice cs bs ss ts l = λ i. record { binds = sym (append_append cs bs l.binds) i; standing = sym (append_append ss ts l.standing) i }
-
-nothing_behind : {A : Type 0} (xs : List A) → xs ++ [] ≡ xs
-nothing_behind [] = refl
-nothing_behind (x ∷ xs) = ap (λ l. x ∷ l) (nothing_behind xs)
 
 -- Some of the pointing bindings are some of the fields.
 pointing_part : (f : ℕ → Term) (n : ℕ) (bs : List Binding) (fs : List Field) (from count : ℕ) → ArePointing f n bs fs → binds_from f (take count (drop from bs)) ≡ map pointing (take count (drop from fs))
@@ -70,7 +66,7 @@ lays_stays f n once late line old new binding eb es eo eu e = record {
   is = λ further.
       let room = room_left line.head line.constructor old.is_open in
       let fields = drop old.used line.fields.items in
-      (λ i. laid_behind ((ap (binds_from f) eb ∙ map-append (bind_from f) old.bindings.items (binding ∷ [])) i) ((es ∙ sym (nothing_behind old.standing.items)) i) (further (room_left line.head line.constructor (eo i)) (drop (eu i) line.fields.items)))
+      (λ i. laid_behind ((ap (binds_from f) eb ∙ map-append (bind_from f) old.bindings.items (binding ∷ [])) i) ((es ∙ sym (append-nil old.standing.items)) i) (further (room_left line.head line.constructor (eo i)) (drop (eu i) line.fields.items)))
       ∙ sym (behind_twice (binds_from f old.bindings.items) (bind_from f binding ∷ []) old.standing.items [] (further room fields))
       ∙ ap (λ p. laid_behind (binds_from f old.bindings.items) old.standing.items (lay_bind room (bind_from f binding) fields p further)) (sym e);
   below = λ h k. subst (AllByRecursion (IsBindingBelow n)) (sym eb) (below_push n old.bindings.items binding h k);

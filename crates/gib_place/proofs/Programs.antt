@@ -28,7 +28,8 @@ use Rattle.gib_place.specs.Tallying.{Adds}
 use Rattle.gib_place.specs.Filled.{once_by}
 use Rattle.gib_place.specs.Made.{MakesTerm, PlacesFunction, PlacesFunctions, PlacesMain}
 use Rattle.gib_place.proofs.Tallied.{once_told}
-use Rattle.gib_place.proofs.Fronting.{grows_more, grows_none}
+use Rattle.gib_core.proofs.Fronting.{grows_more, grows_none}
+use Rattle.gib_core.proofs.Inside.{functions_more, functions_stay, front_inside, last_inside}
 
 -- One more number behind those from 0 on.
 numbers_next : (n i : ℕ) → numbers_from n (suc i) ≡ numbers_from n i ++ (n + i) ∷ []
@@ -92,25 +93,9 @@ functions_start terms old all h = record {
   are = append-nil (map both (map (function_term (term_of terms)) all));
 }
 
-functions_more : (n m : ℕ) (fs : List CoreFunction) → n ≤ m → AllByRecursion (IsFunctionInside n) fs → AllByRecursion (IsFunctionInside m) fs
-functions_more n m [] le p = tt
-functions_more n m (x ∷ fs) le p = (let q = p.0 in omega arith, functions_more n m fs le p.1)
-
-functions_same : (f g : ℕ → Term) (n : ℕ) (fs : List CoreFunction) → AllByRecursion (IsFunctionInside n) fs → ((a : ℕ) → a < n → f a ≡ g a) → map (function_term f) fs ≡ map (function_term g) fs
-functions_same f g n [] h e = refl
-functions_same f g n (x ∷ fs) h e = (λ i. record { name = x.name; parameters = x.parameters.items; result = x.result; body = e x.body.0 h.0 i } ∷ functions_same f g n fs h.1 e i)
-
-front : (n : ℕ) (fs : List CoreFunction) (x : CoreFunction) → AllByRecursion (IsFunctionInside n) (fs ++ x ∷ []) → AllByRecursion (IsFunctionInside n) fs
-front n [] x p = tt
-front n (y ∷ fs) x p = (p.0, front n fs x p.1)
-
-last : (n : ℕ) (fs : List CoreFunction) (x : CoreFunction) → AllByRecursion (IsFunctionInside n) (fs ++ x ∷ []) → IsFunctionInside n x
-last n [] x p = p.0
-last n (y ∷ fs) x p = last n fs x p.1
-
 -- The last one that is left.
 pub next_inside : (terms old now : List Node) (all was left done : List CoreFunction) (x : CoreFunction) → was ≡ left ++ x ∷ [] → FunctionsSoFar terms old now all was done → x.body.0 < length terms
-next_inside terms old now all was left done x ew h = last (length terms) left x (subst (λ z. AllByRecursion (IsFunctionInside (length terms)) z) ew h.left)
+next_inside terms old now all was left done x ew h = last_inside (length terms) left x (subst (λ z. AllByRecursion (IsFunctionInside (length terms)) z) ew h.left)
 
 pub functions_next : (terms old now new : List Node) (all was left done more : List CoreFunction) (x made : CoreFunction) → was ≡ left ++ x ∷ [] → more ≡ done ++ made ∷ [] → FunctionsSoFar terms old now all was (reverse done) → PlacesFunction now new made (function_term (term_of terms) x) → FunctionsSoFar terms old new all left (reverse more)
 functions_next terms old now new all was left done more x made ew em h p =
@@ -120,10 +105,10 @@ functions_next terms old now new all was left done more x made ew em h p =
     let parts : map f was ≡ map f left ++ f x ∷ [] = ap (map f) ew ∙ map-append f left (x ∷ []) in
     let so_far : FunctionsSoFar terms old new all left (made ∷ finished) = record {
       grows = grows_more old now new h.grows p.grows;
-      left = front (length terms) left x (subst (λ z. AllByRecursion (IsFunctionInside (length terms)) z) ew h.left);
+      left = front_inside (length terms) left x (subst (λ z. AllByRecursion (IsFunctionInside (length terms)) z) ew h.left);
       inside = (p.inside, functions_more (length now) (length new) finished p.grows.longer h.inside);
       are =
-          (λ i. map both (map f left) ++ p.is i ∷ functions_same (term_of new) (term_of now) (length now) finished h.inside p.grows.same i)
+          (λ i. map both (map f left) ++ p.is i ∷ functions_stay (term_of new) (term_of now) (length now) finished h.inside p.grows.same i)
           ∙ sym (append_assoc (map both (map f left)) (both (f x) ∷ []) (map (function_term (term_of now)) finished))
           ∙ (λ i. sym (ap (map both) parts ∙ map-append both (map f left) (f x ∷ [])) i ++ map (function_term (term_of now)) finished)
           ∙ h.are;

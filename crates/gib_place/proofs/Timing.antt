@@ -4,14 +4,16 @@ use Rattle.gib_place.specs.Numbered.{number_at}
 use Rattle.std.proofs.str.Laws.{order}
 use Rattle.std.proofs.lemmas.Bool.{lt-ltb, le-ltb}
 use Rattle.std.proofs.lemmas.List.{drop_more, drop_all}
+use Rattle.std.proofs.Math.Bool.{or-true, or-false}
 use Rattle.gib_core.specs.declared.atom.Variable.{Variable}
 use Rattle.gib_core.specs.declared.node.Binding.{Binding}
 use Rattle.gib_core.specs.Rules.{is_among}
 use Rattle.gib_core.proofs.Along.{among_append}
-use Rattle.gib_place.specs.Late.{Seen, is_late, ArePast, Ticks, Marks, Binds, Timed, binding_variables, run_variables}
+use Rattle.gib_core.specs.Noted.{Seen, ArePast, Ticks, Notes}
+use Rattle.gib_place.specs.Late.{is_late, Binds, Timed, binding_variables, run_variables}
 
 -- One variable is bound, or none, or two.
-pub binds_one : (old mid new : Seen) (binding : Binding) (x : Variable) → Ticks old mid → Marks mid new x → binding_variables binding ≡ x ∷ [] → Binds old new binding
+pub binds_one : (old mid new : Seen) (binding : Binding) (x : Variable) → Ticks old mid → Notes mid new x → binding_variables binding ≡ x ∷ [] → Binds old new binding
 binds_one old mid new binding x t m e = record {
   clock = m.clock ∙ t.clock;
   each = λ y. m.each y.0 ∙ (λ i. if x.0 == y.0 then t.clock i else number_at (t.times i) y.0) ∙ go y (x.0 == y.0) ∙ ap (λ xs. if is_among xs y then old.clock + 1 else number_at old.times y.0) (sym e);
@@ -27,7 +29,7 @@ binds_none old new binding t e = record {
   each = λ y. ap (λ ts. number_at ts y.0) t.times ∙ ap (λ xs. if is_among xs y then old.clock + 1 else number_at old.times y.0) (sym e);
 }
 
-pub binds_two : (old mid after new : Seen) (binding : Binding) (x z : Variable) → Ticks old mid → Marks mid after x → Marks after new z → binding_variables binding ≡ x ∷ z ∷ [] → Binds old new binding
+pub binds_two : (old mid after new : Seen) (binding : Binding) (x z : Variable) → Ticks old mid → Notes mid after x → Notes after new z → binding_variables binding ≡ x ∷ z ∷ [] → Binds old new binding
 binds_two old mid after new binding x z t m n e = record {
   clock = n.clock ∙ (m.clock ∙ t.clock);
   each = λ y.
@@ -90,19 +92,11 @@ timing_next start run k old new x d h lt ex b =
         → (is_late old (start + i) y || (c || is_among (run_variables (drop (k + 1) run)) y)) ≡ (is_late new (start + i) y || is_among (run_variables (drop (k + 1) run)) y)
     step i le y true e =
         let now : is_late new (start + i) y ≡ true = lt-ltb (start + i) (number_at new.times y.0) (let c = h.clock in omega arith) in
-        either (is_late old (start + i) y) ∙ ap (λ (c : Bool). c || is_among (run_variables (drop (k + 1) run)) y) (sym now)
-      where
-        either : (p : Bool) → (p || true) ≡ true
-        either true = refl
-        either false = refl
+        or-true (is_late old (start + i) y) ∙ ap (λ (c : Bool). c || is_among (run_variables (drop (k + 1) run)) y) (sym now)
     step i le y false e = ap (λ t. nat_lt (start + i) t || is_among (run_variables (drop (k + 1) run)) y) (sym e)
 
 pub timing_end : (start : ℕ) (run : List Binding) (k : ℕ) (seen : Seen) → Timing start run k seen → length run ≤ k → Timed start run seen
 timing_end start run k seen h le = record {
   late = λ i within y.
-      h.late i (let w = h.within in omega arith) y ∙ ap (λ xs. is_late seen (start + i) y || is_among (run_variables xs) y) (drop_all k run le) ∙ none (is_late seen (start + i) y);
+      h.late i (let w = h.within in omega arith) y ∙ ap (λ xs. is_late seen (start + i) y || is_among (run_variables xs) y) (drop_all k run le) ∙ or-false (is_late seen (start + i) y);
 }
-  where
-    none : (p : Bool) → (p || false) ≡ p
-    none true = refl
-    none false = refl

@@ -1,6 +1,6 @@
 -- Lines that break no rule break none where more is in scope and other variables were bound.
 use Rattle.std.proofs.Common.{◌≡◌, ◌⊎◌, inl, inr, ⊎_elim, ℕ, zero, suc, ◌+◌, ◌≤◌, Bool, true, false, not, ◌&&◌, ◌||◌, ◌==◌, if◌then◌else◌, List, [], ◌∷◌, ◌++◌, length, Option, Some, None, refl, sym, ap, ◌∙◌, subst, arith}
-use Rattle.std.proofs.lemmas.Bool.{both_ways, not-false, or_parts, or_from, or_cases, or_left, or_right}
+use Rattle.std.proofs.lemmas.Bool.{both_ways, not-false, or_parts, or_from, or_cases, or_left, or_right, and_parts}
 use Rattle.gib_types.specs.declared.table.Ty.{Ty}
 use Rattle.gib_types.specs.declared.table.Ty.TheVariants.{Whole, Truth}
 use Rattle.gib_types.specs.declared.table.ConId.{ConId}
@@ -21,9 +21,10 @@ use Rattle.gib_core.specs.Met.{Destination, Nowhere, Empty, Open, Setting, Line,
 use Rattle.gib_core.specs.Rules.{Before, same_type, is_among, is_bound, type_bound, type_of, is_type, has_type, have_types, is_reached, is_usable, all_usable, is_other, any_other, may_write, are_scalars, gives_packed, call_fits, cover, any_bound, arm_variables, side_rules, rules, least, next, next_all, type_made}
 use Rattle.gib_core.specs.Reachable.{all_reached, LinesAreReachable}
 use Rattle.gib_core.proofs.Along.{none_broken, least_none, next_append, reachable_split}
-use Rattle.gib_core.proofs.Cased.{has, reached_where_has, has_arm, reaches_none}
+use Rattle.gib_core.proofs.Cased.{has, reached_where_has, has_arm, reaches_none, has_less}
 use Rattle.gib_place.proofs.Counts.{occurs, occurs_append}
 use Rattle.gib_place.proofs.Wider.{nums, times, new_there, times_among, none_among, own_time, branch_occurs, arms_types, case_nums, branch_terms, casing, casing_bind, nums_after, bind_nums_after, side_nums_after, types_after, cased_after, bind_cased_after, side_cased_after, case_cased, cased_on}
+use Rattle.gib_core.proofs.Orders.{usable_apart}
 
 abbrev pub scoped : Setting → List Known → Setting
 scoped s ks = record s { scope = ks }
@@ -50,7 +51,7 @@ usable_more s b b' ks (a.Truth t) w e = refl
 pub all_usable_more : (s : Setting) (b b' : Before) (ks : List Known) (xs : List Atom) → Wider s.scope b ks b' → all_usable (all_reached s) xs ≡ true → all_usable (all_reached (scoped s ks)) xs ≡ true
 all_usable_more s b b' ks [] w e = refl
 all_usable_more s b b' ks (x ∷ xs) w e =
-    let h = Rattle.gib_place.proofs.Lays.and_both (is_usable (all_reached s) x) (all_usable (all_reached s) xs) e in
+    let h = and_parts (is_usable (all_reached s) x) (all_usable (all_reached s) xs) e in
     λ i. (usable_more s b b' ks x w h.0 i) && (all_usable_more s b b' ks xs w h.1 i)
 
 pub type_more : (s : Setting) (b b' : Before) (ks : List Known) (x : Atom) → Wider s.scope b ks b' → is_usable (all_reached s) x ≡ true → type_of b' x ≡ type_of b x
@@ -63,7 +64,7 @@ types_more s b b' ks [] [] w e = refl
 types_more s b b' ks [] (t ∷ ts) w e = refl
 types_more s b b' ks (x ∷ xs) [] w e = refl
 types_more s b b' ks (x ∷ xs) (t ∷ ts) w e =
-    let h = Rattle.gib_place.proofs.Lays.and_both (is_usable (all_reached s) x) (all_usable (all_reached s) xs) e in
+    let h = and_parts (is_usable (all_reached s) x) (all_usable (all_reached s) xs) e in
     λ i. is_type (type_more s b b' ks x w h.0 i) t && types_more s b b' ks xs ts w h.1 i
 
 pub other_same : (s : Setting) (ks : List Known) (x : Atom) → is_other (all_reached (scoped s ks)) x ≡ is_other (all_reached s) x
@@ -74,13 +75,6 @@ other_same s ks (a.Truth t) = refl
 pub any_other_same : (s : Setting) (ks : List Known) (xs : List Atom) → any_other (all_reached (scoped s ks)) xs ≡ any_other (all_reached s) xs
 any_other_same s ks [] = refl
 any_other_same s ks (x ∷ xs) = λ i. other_same s ks x i || any_other_same s ks xs i
-
-all_left : (s : Setting) (xs ys : List Atom) → all_usable s (xs ++ ys) ≡ true → (all_usable s xs ≡ true) × (all_usable s ys ≡ true)
-all_left s [] ys e = (refl, e)
-all_left s (x ∷ xs) ys e =
-    let h = Rattle.gib_place.proofs.Lays.and_both (is_usable s x) (all_usable s (xs ++ ys)) e in
-    let k = all_left s xs ys h.1 in
-    ((λ i. h.0 i && k.0 i), k.1)
 
 pub any_new : (xs seen : List Variable) (bound : List Bound) → ((y : ℕ) → occurs (nums bound) y + (times seen y + times xs y) ≤ 1) → any_bound xs seen bound ≡ false
 any_new [] seen bound h = refl
@@ -128,9 +122,6 @@ module _ (tb : Table) where
       go true m h = omega arith
       go false m h = let k = h m in omega arith
 
-  has_less : (x : Variable) (ks : List Known) (y : Variable) → (x.0 == y.0) ≡ false → (x.0 == y.0 || has ks y) ≡ true → has ks y ≡ true
-  has_less x ks y e m = sym (ap (λ c. c || has ks y) e) ∙ m
-
   has_more : (x : Variable) (from ks : List Known) (y : Variable) → (has from y ≡ true → has ks y ≡ true) → (x.0 == y.0 || has from y) ≡ true → (x.0 == y.0 || has ks y) ≡ true
   has_more x from ks y h m = go (x.0 == y.0) m
     where
@@ -155,7 +146,7 @@ module _ (core : CoreTree) where
     scope = λ y m. has_more core.table x s.scope ks y (w.scope y) m;
     types = λ y m.
         let n = has_counts core.table x s.scope b y sc m in let o = ro y.0 in
-        side_types core.table kind kind x ty t s (scoped s ks) b b' y (omega arith) (λ e. w.types y (has_less core.table x s.scope y e m));
+        side_types core.table kind kind x ty t s (scoped s ks) b b' y (omega arith) (λ e. w.types y (has_less x s.scope y e m));
     cased = side_cased_after core.table (On kind x ty t) (scoped s ks) b' ∙ (ap (casing t) w.cased ∙ sym (side_cased_after core.table (On kind x ty t) s b));
   }
   wider_behind (Both fork (On kind x ty t) (On other z uy u)) s b ks b' w sc ro r =
@@ -171,7 +162,7 @@ module _ (core : CoreTree) where
             let n = two y m in let o = ro y.0 in let q = occurs_append (x.0 ∷ binders t) (z.0 ∷ binders u) y.0 in
             ap (λ (c : Before). type_bound c.bound y) (next_append core.table b' L' R')
             ∙ (side_types core.table other other z uy u (right_of s l) (right_of (scoped s ks) l) (next_all core.table b L) (next_all core.table b' L') y (omega arith)
-            (λ e. side_types core.table kind kind x ty t (left_of s rt) (left_of (scoped s ks) rt) b b' y (omega arith) (λ f. w.types y (has_less core.table x s.scope y f (has_less core.table z (reached x ∷ s.scope) y e m))))
+            (λ e. side_types core.table kind kind x ty t (left_of s rt) (left_of (scoped s ks) rt) b b' y (omega arith) (λ f. w.types y (has_less x s.scope y f (has_less z (reached x ∷ s.scope) y e m))))
             ∙ sym (ap (λ (c : Before). type_bound c.bound y) (next_append core.table b L R)));
         cased = bind_cased_after core.table (Both fork l rt) (scoped s ks) b' ∙ (ap (casing_bind (Both fork l rt)) w.cased ∙ sym (bind_cased_after core.table (Both fork l rt) s b));
       }
@@ -184,7 +175,7 @@ module _ (core : CoreTree) where
           go false m = let k = has_counts core.table x s.scope b y sc m in omega arith
   wider_behind (Prim x f v w') s b ks b' w sc ro r = record {
     scope = λ y m. has_more core.table x s.scope ks y (w.scope y) m;
-    types = λ y m. type_middle core.table x (operator_type f) b.bound b'.bound y (λ e. w.types y (has_less core.table x s.scope y e m));
+    types = λ y m. type_middle core.table x (operator_type f) b.bound b'.bound y (λ e. w.types y (has_less x s.scope y e m));
     cased = w.cased;
   }
   wider_behind (Reach y by) s b ks b' w sc ro r = absurd (reaches_none core b s y by r.0)
@@ -282,7 +273,7 @@ module _ (core : CoreTree) where
     wider_term (Write h k ss ps) s b ks b' w sc ro ro' r =
         let f = none_broken (rules core b (all_reached s) (WriteLine h k ss ps)) r.0 in
         let u = not-false (all_usable (all_reached s) (ss ++ ps)) f.1.1.0 in
-        (least_none (rules core b' (all_reached (scoped s ks)) (WriteLine h k ss ps)) (any_other_same s ks (ss ++ ps) ∙ f.0, (ap not (write_more b b' s.destination h k ps w.cased) ∙ f.1.0, (ap not (all_usable_more s b b' ks (ss ++ ps) w u), (ap not (scalars_more s b b' ks s.destination ss w (all_left (all_reached s) ss ps u).0) ∙ f.1.1.1.0, tt)))), tt)
+        (least_none (rules core b' (all_reached (scoped s ks)) (WriteLine h k ss ps)) (any_other_same s ks (ss ++ ps) ∙ f.0, (ap not (write_more b b' s.destination h k ps w.cased) ∙ f.1.0, (ap not (all_usable_more s b b' ks (ss ++ ps) w u), (ap not (scalars_more s b b' ks s.destination ss w (usable_apart (all_reached s) ss ps u).0) ∙ f.1.1.1.0, tt)))), tt)
     wider_term (Point x) s b ks b' w sc ro ro' r =
         let f = none_broken (rules core b (all_reached s) (PointLine x)) r.0 in
         let u = not-false (is_usable (all_reached s) x) f.1.1.0 in

@@ -6,30 +6,12 @@ use Rattle.gib_core.specs.declared.atom.Atom.TheVariants as a
 use Rattle.gib_core.specs.declared.node.Binding.{Binding}
 use Rattle.gib_core.specs.declared.node.Binding.TheVariants as b
 use Rattle.gib_core.specs.Rules.{is_among}
-use Rattle.gib_place.specs.Numbered.{number_at}
-
--- A clock, and at the number of each variable the time at which it was bound last; past the end, 0.
-pub record Seen : Type 0 where
-  pub clock : ℕ
-  pub times : List (Option ℕ)
+use Rattle.gib_core.specs.ByVariable.{number_at}
+pub use Rattle.gib_core.specs.Noted.{Seen}
 
 -- The variable was bound after a moment.
 abbrev pub is_late : Seen → ℕ → Variable → Bool
 is_late seen moment x = nat_lt moment (number_at seen.times x.0)
-
--- No time is later than the clock.
-abbrev pub ArePast : ℕ → List (Option ℕ) → Type 0
-ArePast clock times = (x : ℕ) → number_at times x ≤ clock
-
--- The clock went up.
-pub record Ticks (old new : Seen) : Type 0 where
-  pub clock : new.clock ≡ old.clock + 1
-  pub times : new.times ≡ old.times
-
--- A variable was bound now.
-pub record Marks (old new : Seen) (x : Variable) : Type 0 where
-  pub clock : new.clock ≡ old.clock
-  pub each : (y : ℕ) → number_at new.times y ≡ (if x.0 == y then old.clock else number_at old.times y)
 
 -- The variables that a binding binds in its line.
 abbrev pub binding_variables : Binding → List Variable

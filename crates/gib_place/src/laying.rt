@@ -13,9 +13,9 @@ use crate::field::Field;
 use crate::line::{Laid, Line, Spot};
 use crate::spots::{is_variable, spot_of};
 use crate::tally::Tally;
-use crate::times::Times;
+use crate::times::bind_run;
 use gib_base::Memory;
-use gib_core::{Atom, Binding, Variable};
+use gib_core::{Atom, Binding, Clock, Variable};
 use std::alloc::{AllocError, Global};
 
 /// More bindings behind others.
@@ -106,7 +106,7 @@ fn lay_binding(
     laid: &mut Laid,
     line: &Line,
     once: &Tally,
-    times: &Times,
+    times: &Clock,
     moment: u64,
     binding: Binding,
 ) -> Result<(), Memory>
@@ -125,11 +125,11 @@ fn lay_binding(
 }
 
 /// A line that fills a head, with the fields placed that can be.
-pub fn lay(alloc: Global, once: &Tally, times: &mut Times, line: &Line) -> Result<Laid, Memory>
+pub fn lay(alloc: Global, once: &Tally, times: &mut Clock, line: &Line) -> Result<Laid, Memory>
     requires { length line.now.pointing.items ≡ length line.now.fields.items }
     ensures { IfOk result (λ laid. (f : ℕ → Term) (n : ℕ) → IsLineOf f n line.now → LaysLine f n (once_by once.now) line.now laid) }
 {
-    let mut moment = times.bind_run(&line.run)?;
+    let mut moment = bind_run(times, &line.run)?;
     let mut laid = Laid {
         bindings: Vec::new(alloc),
         standing: Vec::new(alloc),

@@ -1,8 +1,8 @@
 //! What the walk that places fields keeps, and the lines that it makes.
 
-ghost use Rattle.std.specs.Prelude.{◌≡◌, ◌<◌, Bool, [], ◌∷◌, length, Some, IfOk};
+ghost use Rattle.std.specs.Prelude.{◌≡◌, Bool, [], ◌∷◌, length, Some, IfOk};
 ghost use Rattle.std.specs.List.{AllByRecursion};
-ghost use Rattle.gib_core.specs.Arena.{Grows, IsBindingBelow, PartsBelow, term_of, binds_from, layer};
+ghost use Rattle.gib_core.specs.Arena.{IsBindingBelow, PartsBelow, term_of, binds_from, layer};
 ghost use Rattle.gib_core.specs.Tree.{Past, Write, prepend};
 ghost use Rattle.gib_core.specs.declared.atom.Variable.{Variable as X};
 ghost use Rattle.gib_place.specs.Placing.{place_line, laid_line, lay};
@@ -13,16 +13,15 @@ use crate::filling::line_of;
 use crate::laying::{are_fields, atoms_of, lay};
 use crate::line::{Head, Line};
 use crate::tally::Tally;
-use crate::times::Times;
 use gib_base::Memory;
-use gib_core::{Binding, Node, TermId, Terms};
+use gib_core::{Binding, Clock, Node, TermId, Terms};
 use std::alloc::Global;
 
 /// The terms so far, and when variables were bound.
 #[derive(Drop)]
 pub struct Scratch {
     pub terms: Terms,
-    pub times: Times,
+    pub times: Clock,
 }
 
 impl Scratch {
@@ -32,37 +31,9 @@ impl Scratch {
     {
         Scratch {
             terms: Terms::new(alloc),
-            times: Times::new(alloc),
+            times: Clock::new(alloc),
         }
     }
-}
-
-/// The bindings in front of a term.
-fn put_before(terms: &mut Terms, mut bindings: Vec<Binding>, rest: TermId) -> Result<TermId, Memory>
-    requires bindings { AllByRecursion (IsBindingBelow (length terms.old)) bindings.items }
-    requires inside { rest.0 < length terms.old }
-    ensures grows { IfOk result (λ _. Grows terms.old terms.new) }
-    ensures inside { IfOk result (λ t. t.0 < length terms.new) }
-    ensures term { IfOk result (λ t. term_of terms.new t.0 ≡ prepend (binds_from (term_of terms.old) bindings.items) (term_of terms.old rest.0)) }
-{
-    let mut term = rest;
-    'bindings: while let Some(binding) = bindings.pop() {
-        term = terms.put(Node::Then(binding, term))?;
-    }
-    Ok(term)
-}
-
-/// A line: the bindings in front of an end.
-fn put_line(terms: &mut Terms, bindings: Vec<Binding>, end: Node) -> Result<TermId, Memory>
-    requires bindings { AllByRecursion (IsBindingBelow (length terms.old)) bindings.items }
-    requires end { PartsBelow end (length terms.old) }
-    ensures grows { IfOk result (λ _. Grows terms.old terms.new) }
-    ensures inside { IfOk result (λ t. t.0 < length terms.new) }
-    ensures term { IfOk result (λ t. term_of terms.new t.0 ≡ prepend (binds_from (term_of terms.old) bindings.items) (layer (term_of terms.old) (Some end))) }
-{
-    let end = terms.put(end)?;
-    let line = put_before(terms, bindings, end)?;
-    Ok(line)
 }
 
 /// A line whose end fills no head.
@@ -76,7 +47,7 @@ pub fn put_other_line(
     requires other { IsOtherEnd end }
     ensures { IfOk result (λ made. (once : X → Bool) → MakesTerm scratch.old.terms scratch.new.terms made (place_line once (prepend (binds_from (term_of scratch.old.terms) bindings.items) (layer (term_of scratch.old.terms) (Some end))))) }
 {
-    put_line(&mut scratch.terms, bindings, end)
+    scratch.terms.put_line(bindings, end)
 }
 
 /// A line that fills a head, as it is.
@@ -84,13 +55,13 @@ fn put_write(terms: &mut Terms, bindings: Vec<Binding>, head: Head) -> Result<Te
     requires { AllByRecursion (IsBindingBelow (length terms.old)) bindings.items }
     ensures { IfOk result (λ made. MakesTerm terms.old terms.new made (prepend (binds_from (term_of terms.old) bindings.items) (Write head.variable head.constructor head.scalars.items head.packed.items))) }
 {
-    let end = Node::Write {
+    let write = Node::Write {
         head: head.variable,
         constructor: head.constructor,
         scalars: head.scalars,
         packed: head.packed,
     };
-    put_line(terms, bindings, end)
+    terms.put_line(bindings, write)
 }
 
 /// A line that fills a head, laid anew.

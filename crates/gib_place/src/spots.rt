@@ -14,8 +14,8 @@ ghost use Rattle.gib_place.specs.Filled.{once_by, cut_from, put_here as here, si
 use crate::field::Field;
 use crate::line::Spot;
 use crate::tally::Tally;
-use crate::times::Times;
-use gib_core::{Atom, Binding, BoundTerm, Kind, Variable};
+use crate::times::is_bound_later;
+use gib_core::{Atom, Binding, BoundTerm, Clock, Kind, Variable};
 
 /// Whether an atom is the variable.
 pub fn is_variable(x: Variable, atom: Atom) -> bool
@@ -62,13 +62,13 @@ fn target_of(once: &Tally, side: BoundTerm, fields: &[Field]) -> Option<usize>
 }
 
 /// Whether an atom is a variable that is bound later: this one, or one that is bound after a moment.
-fn is_late(times: &Times, moment: u64, also: Option<Variable>, atom: Atom) -> bool
+fn is_late(times: &Clock, moment: u64, also: Option<Variable>, atom: Atom) -> bool
     ensures { result ≡ is_late_or times.now moment also atom }
 {
     match atom {
         Atom::Variable(y) => match also {
-            None => times.is_late(moment, y),
-            Some(x) => x.0 == y.0 || times.is_late(moment, y),
+            None => is_bound_later(times, moment, y),
+            Some(x) => x.0 == y.0 || is_bound_later(times, moment, y),
         },
         Atom::Whole(_) => false,
         Atom::Truth(_) => false,
@@ -76,7 +76,7 @@ fn is_late(times: &Times, moment: u64, also: Option<Variable>, atom: Atom) -> bo
 }
 
 /// Whether a field points to a value that is bound later.
-fn is_any_late(times: &Times, moment: u64, also: Option<Variable>, fields: &[Field]) -> bool
+fn is_any_late(times: &Clock, moment: u64, also: Option<Variable>, fields: &[Field]) -> bool
     ensures { result ≡ list_any (λ (f : Pointing). is_late_or times.now moment also f.target) fields.now }
 {
     fields
@@ -87,7 +87,7 @@ fn is_any_late(times: &Times, moment: u64, also: Option<Variable>, fields: &[Fie
 /// The number of the field whose part a side takes. The values of the fields before it are there already.
 fn free_target(
     once: &Tally,
-    times: &Times,
+    times: &Clock,
     moment: u64,
     also: Option<Variable>,
     side: BoundTerm,
@@ -121,7 +121,7 @@ fn put_here(side: BoundTerm) -> BoundTerm
 /// How a binding of one side is placed.
 fn spot_of_one(
     once: &Tally,
-    times: &Times,
+    times: &Clock,
     moment: u64,
     side: BoundTerm,
     fields: &[Field],
@@ -199,7 +199,7 @@ fn spot_of_both(
 /// How a par is placed: its left side, and then its right side.
 fn spot_of_par(
     once: &Tally,
-    times: &Times,
+    times: &Clock,
     moment: u64,
     sides: (bool, BoundTerm, BoundTerm),
     fields: &[Field],
@@ -231,7 +231,7 @@ fn spot_of_par(
 /// How a binding is placed before others, which bind what is bound after a moment.
 pub fn spot_of(
     once: &Tally,
-    times: &Times,
+    times: &Clock,
     moment: u64,
     binding: Binding,
     fields: &[Field],

@@ -1,9 +1,10 @@
 -- What names and parts of a program are.
-use Rattle.std.proofs.Common.{◌≡◌, ℕ, zero, suc, ◌+◌, ◌<◌, ◌≤◌, inl, inr, Bool, cond, List, [], ◌∷◌, Option, Some, None, map, length, drop, take, get_or, refl, sym, ap, subst, ◌∙◌, arith}
+use Rattle.std.proofs.Common.{◌≡◌, ℕ, zero, suc, ◌+◌, ◌<◌, ◌≤◌, inl, inr, Bool, cond, List, [], ◌∷◌, Option, Some, map, length, drop, take, get_or, refl, sym, ap, subst, ◌∙◌, arith}
 use Rattle.std.specs.Prelude.{slice_get, MatchOption}
 use Rattle.std.proofs.lemmas.Bool.{eq-eqb}
 use Rattle.std.proofs.lemmas.Bool.Decides.{eqb_tells}
 use Rattle.std.proofs.lemmas.List.{take_more, drop-append-le, length-take-le}
+use Rattle.std.proofs.lemmas.Option.{slice_get_past}
 use Rattle.gib_types.specs.declared.table.Ty.{Ty}
 use Rattle.gib_types.specs.Tree.{Datum}
 use Rattle.gib_syntax.specs.declared.exprs.ExprId.{ExprId}
@@ -53,14 +54,9 @@ found_turn f ts is k r e =
     subst (λ es. MatchOption r (drop k es ≡ []) (λ (i : ExprId). drop k es ≡ f i.0 ∷ drop (k + 1) es)) (sym same)
     (subst (λ (o : Option ExprId). MatchOption o (drop k (map g (in_turn ts is)) ≡ []) (λ i. drop k (map g (in_turn ts is)) ≡ g i ∷ drop (k + 1) (map g (in_turn ts is)))) (sym e) (found_here g (in_turn ts is) k))
 
-no-node : (nodes : List Node) (id : ℕ) → length nodes ≤ id → slice_get nodes id ≡ None
-no-node [] id le = refl
-no-node (n ∷ nodes) zero le = absurd (omega arith)
-no-node (n ∷ nodes) (suc id) le = no-node nodes id (omega arith)
-
 pub tree-past : (nodes : List Node) (id : ℕ) → length nodes ≤ id → tree_of nodes id ≡ nothing
 unfolding tree_of tree_at
-tree-past nodes id le = ap (λ o. layer (tree_at id nodes) o) (no-node nodes id le)
+tree-past nodes id le = ap (λ o. layer (tree_at id nodes) o) (slice_get_past nodes id le)
 
 -- ---- variables
 

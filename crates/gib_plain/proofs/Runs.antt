@@ -1,5 +1,6 @@
 -- What the machine's moves do to what it owes and to the work that is left.
 use Rattle.std.proofs.Common.{◌≡◌, ℕ, ◌+◌, ◌≤◌, true, false, List, [], ◌∷◌, ◌++◌, Some, map, length, drop, refl, sym, ap, ◌∙◌, arith, append_assoc, append-nil, length-append}
+use Rattle.std.proofs.Math.Nat.{zero-add}
 use Rattle.gib_types.specs.declared.table.Ty.{Ty}
 use Rattle.gib_types.specs.declared.table.Ty.TheVariants.{Whole, Truth, Tree}
 use Rattle.gib_types.specs.Table.{fields_at, at_fields}
@@ -89,11 +90,8 @@ complete-all c f e =
 pub complete_cost-all : (c : Code) (f : Waiting) → left_parts c f ≡ [] → complete_cost c f ≡ finished_cost c f f.finished
 complete_cost-all c f e =
     ap (λ es. costs (at c f.left) es f.env + if_values (all_mean (at c f.left) es f.env) (λ vs. finished_cost c f (f.finished ++ vs))) e
-    ∙ zero_on (finished_cost c f (f.finished ++ []))
+    ∙ zero-add (finished_cost c f (f.finished ++ []))
     ∙ ap (finished_cost c f) (append-nil f.finished)
-  where
-    zero_on : (n : ℕ) → 0 + n ≡ n
-    zero_on n = omega arith
 
 -- ---- an expression that begins with its parts
 

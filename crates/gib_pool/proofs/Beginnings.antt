@@ -3,7 +3,7 @@ use Rattle.std.proofs.Common.{◌≡◌, ℕ, ◌≤◌, List, [], refl, sym, ap
 use Rattle.std.specs.Prelude.{Option, Err}
 use Rattle.std.specs.Vec.{vec_capacity}
 use Rattle.gib_types.specs.Tree.{Datum}
-use Rattle.gib_mem.specs.Memory.{Memory, absent, fresh, IsBounded}
+use Rattle.gib_mem.specs.Memory.{Memory, fresh, IsBounded}
 use Rattle.gib_code.specs.declared.answer.Side.{Side}
 use Rattle.gib_code.specs.Program.{CodeTree}
 use Rattle.gib_packed.specs.declared.root.Root.{Root}
@@ -47,6 +47,7 @@ use Rattle.gib_weave.proofs.RootEnds.{argument}
 use Rattle.gib_weave.proofs.Starts.{lowered_main, root_starts}
 use Rattle.gib_pool.proofs.Fitting.{starts_within}
 use Rattle.gib_pool.proofs.Turns.{begins}
+use Rattle.gib_weave.proofs.Cells.{fresh_absent}
 
 -- A job as it is made.
 pub record IsMade (j : Job) (m : State) (ts : List ℕ) (p : Pass) : Type 0 where
@@ -113,13 +114,10 @@ root_owes l v place tails depth level d ok bd st = record {
   safe = root_starts (core_of l.core) l.code (lowered_main (core_of l.core) l.code ok.lowered ok.fits) (tail_covers tails) v.cells (word_of place) depth level d tails
       (argument l.code.laid v.cells place (core_of l.core).main.parameter d st.stands) (tails_have_room v.cells tails st.owned) (tails_apart v.cells tails st.owned) (bounded_small v bd)
       (root_share (core_of l.core) depth level d v.drawn) (root_counted (core_of l.core) depth level d v.drawn st.loaded);
-  there = record { there = λ q z e. other (sym ((tails_apart v.cells tails st.owned).fresh q z) ∙ e) };
+  there = record { there = λ q z e. fresh_absent (sym ((tails_apart v.cells tails st.owned).fresh q z) ∙ e) };
   debts = tt;
   paid = root_bill (core_of l.core) depth level d v.drawn (owing (root_debt l depth level d) []) st.loaded refl;
 }
-  where
-    other : fresh ≡ absent → ⊥
-    other e = absurd cc
 
 -- Where all chunks were drawn, and by the root, so many may not be enough.
 tight : (core : CoreTree) (depth level : ℕ) (d : Datum) (n limit : ℕ) → n ≡ limit → IsPaid (whole_of core depth level d) n → Tight limit (run_cost core depth level d)

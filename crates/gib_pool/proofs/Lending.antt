@@ -1,6 +1,7 @@
 -- A split lends a pass, and a join takes the newest one back.
 use Rattle.std.proofs.Common.{◌≡◌, ◌≢◌, ℕ, ◌+◌, ◌<◌, ◌≤◌, ⊎_elim, true, false, List, [], ◌∷◌, ◌++◌, refl, sym, ap, subst, ◌∙◌, arith}
 use Rattle.std.specs.Prelude.{Option, Some, None}
+use Rattle.std.proofs.lemmas.List.{append-nil}
 use Rattle.atomic_table.specs.Seated.{TableId}
 use Rattle.gib_arena.specs.declared.memory.Pass.{Pass}
 use Rattle.gib_arena.specs.Passes.{view}
@@ -35,10 +36,6 @@ more z p n m [] l a = tt
 more z p n m (None ∷ es) l a = more z p n m es l a
 more z p n m (Some e ∷ es) l a = let below = a.1 in (a.0, omega (arith, below, l), a.2, a.3, a.4)
 
-pub append_none : {A : Type 0} (xs : List A) → xs ++ [] ≡ xs
-append_none [] = refl
-append_none (x ∷ xs) = ap (λ l. x ∷ l) (append_none xs)
-
 pub lends_more : (p p' : Pass) (e : Due) (lent : List (Option Due)) → p'.seat.table_id ≡ p.seat.table_id → view p' ≡ split_left (view p) → view e.pass.value ≡ split_right (view p) → e.pass.value.seat.table_id ≡ p.seat.table_id → Lends p lent → Lends p' (Some e ∷ lent)
 lends_more p p' e lent same left right his h =
     let b = ap (λ v. v.branch) left in
@@ -59,7 +56,7 @@ lends_less p q p' n e lent same joined his none h =
     record {
       splits = subst (λ z. AreSplits z (view p').branch.path (view p').branch.next lent) (sym same)
           (subst (λ b. AreSplits p.seat.table_id b.path b.next lent) (sym b) (more p.seat.table_id (view p).branch.path s.0 (view p).branch.next lent (omega (arith, below)) s.4));
-      out = ap (λ b. b.out) b ∙ (ap (λ l. without (view q).branch.path (view p).branch.out ++ l) none ∙ (append_none (without (view q).branch.path (view p).branch.out) ∙ outs));
+      out = ap (λ b. b.out) b ∙ (ap (λ l. without (view q).branch.path (view p).branch.out ++ l) none ∙ (append-nil (without (view q).branch.path (view p).branch.out) ∙ outs));
     }
 
 pub lends_it : (p : Pass) (e : Due) (lent : List (Option Due)) → Lends p (Some e ∷ lent) → 0 < times_path (path e) (view p).branch.out

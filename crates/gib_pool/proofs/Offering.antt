@@ -1,6 +1,7 @@
 -- A pass that was split and is joined back at once lends what it lent.
 use Rattle.std.proofs.Common.{◌≡◌, ℕ, ◌+◌, ◌<◌, List, ◌∷◌, sym, ap, subst, ◌∙◌, arith}
 use Rattle.std.specs.Prelude.{Option}
+use Rattle.std.proofs.lemmas.List.{append-nil}
 use Rattle.gib_arena.specs.declared.memory.Pass.{Pass}
 use Rattle.gib_arena.specs.Passes.{view}
 use Rattle.gib_arena.specs.Sums.{one_if, times_path, without}
@@ -8,7 +9,7 @@ use Rattle.gib_arena.specs.Steps.{split_path, split_left, split_right, joined_vi
 use Rattle.gib_arena.proofs.Paths.{same_self}
 use Rattle.gib_frame.specs.declared.due.Due.{Due}
 use Rattle.gib_pool.specs.Lent.{lent_paths, AreSplits, Lends}
-use Rattle.gib_pool.proofs.Lending.{others_stay, drops_it, more, append_none}
+use Rattle.gib_pool.proofs.Lending.{others_stay, drops_it, more}
 
 pub has_it : (p q p1 : Pass) → view p1 ≡ split_left (view p) → view q ≡ split_right (view p) → 0 < times_path (view q).branch.path (view p1).branch.out
 has_it p q p1 left right =
@@ -28,5 +29,5 @@ lends_still p q p1 p' n lent same left right joined h =
     record {
       splits = subst (λ z. AreSplits z (view p').branch.path (view p').branch.next lent) (sym same)
           (subst (λ b. AreSplits p.seat.table_id b.path b.next lent) (sym c) (more p.seat.table_id (view p).branch.path (view p).branch.next ((view p).branch.next + 1) lent (omega arith) h.splits));
-      out = ap (λ b. b.out) c ∙ (append_none (without (split_path (view p)) (split_path (view p) ∷ (view p).branch.out)) ∙ outs);
+      out = ap (λ b. b.out) c ∙ (append-nil (without (split_path (view p)) (split_path (view p) ∷ (view p).branch.out)) ∙ outs);
     }

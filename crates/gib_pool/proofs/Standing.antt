@@ -25,9 +25,7 @@ use Rattle.gib_frame.specs.declared.due.Due.{Due}
 use Rattle.gib_pool.specs.Going.{Comes, IsSame}
 use Rattle.gib_pool.specs.Turn.{Works, Pays, WorksAfter}
 use Rattle.gib_pool.proofs.Turns.{pays, turn}
-
-fresh_byte : {b : ℕ} → fresh ≡ byte b → ⊥
-fresh_byte e = absurd cc
+use Rattle.gib_weave.proofs.Cells.{fresh_byte}
 
 pub stays : (v : Memory) → IsSame v v
 stays v = record { holder = refl; limit = refl; known = record { kept = λ q b e. e } }

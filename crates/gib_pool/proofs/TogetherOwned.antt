@@ -10,9 +10,7 @@ use Rattle.gib_weave.specs.Places.{Apart, Owned, put_all, within, with_chunk}
 use Rattle.gib_weave.specs.Sound.{Safe, Rests, Moves, rests, counts, moves, at_term, unwinds, over, silent, get, puts, draws, ended}
 use Rattle.gib_weave.proofs.Basics.{by_test}
 use Rattle.gib_weave.proofs.Places.{IsSided, zero_or_one, open-outside}
-
-byte_fresh : {b : ℕ} → byte b ≡ fresh → ⊥
-byte_fresh e = absurd cc
+use Rattle.gib_weave.proofs.Cells.{byte_fresh}
 
 -- What is fresh and was the task's own still is its own.
 pub record StillOwns (own more : Owned) (s : Store) : Type 0 where

@@ -26,12 +26,7 @@ use Rattle.gib_frame.specs.declared.due.Due.{Due}
 use Rattle.gib_frame.specs.Answers.{Answers, ArePaid, IsPaid}
 use Rattle.gib_pool.specs.Turn.{AreThere, IsLent, AreLent, owing, Works, Pays, Wider, WorksOn, Tells, WorksBack, WorksAfter}
 use Rattle.gib_pool.proofs.Paid.{bill_stays, paid_of, safe_free, taken_out}
-
-fresh_absent : fresh ≡ absent → ⊥
-fresh_absent e = absurd cc
-
-byte_absent : {b : ℕ} → byte b ≡ absent → ⊥
-byte_absent e = absurd cc
+use Rattle.gib_weave.proofs.Cells.{fresh_absent, byte_absent}
 
 grows_same : (s : Store) → Grows s s
 grows_same s = record { kept = λ q b h. h }

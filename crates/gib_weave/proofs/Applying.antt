@@ -20,7 +20,7 @@ use Rattle.gib_weave.specs.Weave.{Weave, Task, Stage, Status, Waits, Running, Jo
 use Rattle.gib_weave.specs.Weave as w
 use Rattle.gib_weave.specs.Starting.{root_start}
 
-not_joined : Joined ≡ Running → ⊥
+pub not_joined : Joined ≡ Running → ⊥
 not_joined e = absurd cc
 
 -- A number that no task has is that of none that runs.

@@ -1,5 +1,6 @@
 -- Fields are reached, and a line goes on with other sorts.
 use Rattle.std.proofs.Common.{◌≡◌, ℕ, ◌+◌, ◌<◌, ◌≤◌, Bool, true, false, ◌==◌, cond, List, length, refl, sym, ap, subst, ◌∙◌, arith}
+use Rattle.std.proofs.lemmas.Bool.{true≢false, or_left, or_right}
 use Rattle.gib_types.specs.declared.table.Ty.{Ty}
 use Rattle.gib_types.specs.declared.table.Ty.TheVariants.{Truth}
 use Rattle.gib_types.specs.Table.{fields_at}
@@ -36,15 +37,13 @@ use Rattle.gib_weave.specs.Starting.{AreBodies}
 use Rattle.gib_weave.proofs.Basics.{by_test, put-other, set-same, set-other, set-length, end-same, end-other, ends-length, both-other}
 use Rattle.gib_weave.proofs.Move.{goes_settled, closes_keeps, given_keeps, given_bind, end_kept, MovedOne, Moved, moved_same, AllMoved, Stack-moved, Keeps, Has-keeps, Fields-keeps, with_var, HasAll-set, IsDest-bind, all_under_bind, all_under_goes, goes-refl, covers_head, code_put, is_field}
 use Rattle.gib_weave.proofs.Places.{Apart-less}
-use Rattle.gib_weave.proofs.Lines.{all_calm_less, or_left, or_right}
+use Rattle.gib_weave.proofs.Lines.{all_calm_less}
 use Rattle.gib_weave.proofs.Scalars.{scalar_word}
 use Rattle.gib_weave.proofs.Readings.{get_one, skip_looks, dec_small}
 use Rattle.gib_weave.proofs.Numbers.{reads_number}
-use Rattle.gib_weave.proofs.Opens.{few_packed, few_fields}
+use Rattle.gib_weave.proofs.Opens.{few_packed}
 use Rattle.gib_weave.proofs.Ends.{Levels, at_rest, step_is}
-
-clash : true ≡ false → ⊥
-clash h = absurd cc
+use Rattle.gib_core.proofs.Fine.{few_fields}
 
 -- One slot changes that inner lines alone rely on.
 
@@ -242,7 +241,7 @@ module _ (core : CoreTree) (code : CodeTree) (owed : Owed) (own : Owned) (sh : S
 -- Reaching a field.
 
 field_not : (t z x k p : ℕ) (so : Sort) → is_field so ≡ false → ◌≡◌ {A = Sort} (Field t z x k p) so → ⊥
-field_not t z x k p so n e = clash (ap is_field e ∙ n)
+field_not t z x k p so n e = true≢false (ap is_field e ∙ n)
 
 moved_field : (laid : LaidOut) (s : Store) (o : Sort) (t z x k p w w' : ℕ) (v : Datum) → Goes o (Field t z x k p) → MovedOne laid s o w w' v
 moved_field laid s Outside t z x k p w w' v g = tt
@@ -278,11 +277,11 @@ module _ (core : CoreTree) (code : CodeTree) (owed : Owed) (own : Owned) (sh : S
       let h = c.hd y.0 in
       let here : IsPlaced code.laid s t w w (value_in c.env y.0) = record { same = refl; stands = fld.stands } in
       let l = line_sort core code owed own sh lv ty rm s sl fs rs ts c k (cased u) y.0 w 0 (Placed t) h (line_of core code owed own sh lv ty rm s ip sl fs n rs ts (Then (Reach y access) u) c k at) (field_stays c y.0 t z x con p h e) (λ g. field_not t z x con p Held refl (sym e ∙ g))
-      here (record { near = λ q. there; ends = λ q. absurd (omega (arith, q)) }) refl (λ g. absurd (clash (sym (sym (ap is_settled e) ∙ g)))) (subst (λ (so : Sort). Goes so (Placed t)) (sym e) refl)
+      here (record { near = λ q. there; ends = λ q. absurd (omega (arith, q)) }) refl (λ g. absurd (true≢false (sym (sym (ap is_settled e) ∙ g)))) (subst (λ (so : Sort). Goes so (Placed t)) (sym e) refl)
       (λ o un ca. let go = subst (λ (so : Sort). Goes (o.scope y.0) so) e (un.sorts y.0) in record {
         one = moved_field code.laid s (o.scope y.0) t z x con p (slot sl y.0) w (value_in o.env y.0) go;
         end_of = end_field code.laid s (o.scope y.0) t z x con p (slot sl y.0) w (end_at sl y.0) 0 (o.pl y.0) (value_in o.env y.0) go;
-        kept = λ g. absurd (clash (sym (goes_settled (o.scope y.0) (Field t z x con p) go g)));
+        kept = λ g. absurd (true≢false (sym (goes_settled (o.scope y.0) (Field t z x con p) go g)));
       }) in
       rests (at_term (term_at core code owed own sh lv ty rm s ip' (set sl y.0 w) fs n rs ts u (with_sort c y.0 (Placed t) h) k (cased u) l (code_put y.0 (Placed t) refl lu) fit (λ q g. g) at.owes at.sides (let h = at.nests in omega (arith, h)) (let h = at.narrow in omega (arith, h)) at.all_room (goes_on_counted (record { regions = omega arith; items = omega arith }) at.counted)))
 

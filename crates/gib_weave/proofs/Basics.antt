@@ -1,13 +1,14 @@
 -- Functions and words changed at one place; places; bytes that are put.
 use Rattle.std.proofs.Common.{◌≡◌, ℕ, suc, ◌+◌, ◌<◌, ◌≤◌, Bool, true, false, List, [], ◌∷◌, length, cond, eqb, nat_lt, nat_le, slice_set, refl, sym, ap, ◌∙◌, arith}
-use Rattle.std.proofs.lemmas.Bool.{eq-eqb, ne_eqb, eqb-true}
+use Rattle.std.proofs.lemmas.Bool.{eq-eqb, ne_eqb, eqb-true, true≢false}
 use Rattle.std.proofs.lemmas.List.{get_or-set_same, get_or-set_other, length-set}
 use Rattle.std.proofs.lemmas.Bool.Decides.{nat_tests}
-use Rattle.gib_mem.specs.Memory.{Cell, absent, fresh, byte, Store, set_cell, Holds, none, more, Grows}
+use Rattle.gib_mem.specs.Memory.{Cell, byte, Store, set_cell, Holds, none, more, Grows}
 use Rattle.gib_machine.specs.Machine.{Slots, slot, end_at, set}
 use Rattle.gib_weave.specs.EndWords.{WithEnd, both}
 use Rattle.gib_core.specs.Fits.{put}
 use Rattle.gib_weave.specs.Places.{within, IsSmall, Owned, put_all, AllFresh}
+use Rattle.gib_weave.proofs.Cells.{byte_fresh, absent_fresh}
 
 -- to prove something of a test, prove it in both cases
 pub by_test : (y x : ℕ) (P : Bool → Type 0) → (y ≡ x → P true) → ((y ≡ x → ⊥) → P false) → P (eqb y x)
@@ -15,10 +16,7 @@ by_test y x P p q = go (eqb y x) refl
   where
     go : (b : Bool) → eqb y x ≡ b → P b
     go true e = p (eqb-true y x e)
-    go false e = q (λ h. absurd (clash (sym (eq-eqb y x h) ∙ e)))
-      where
-        clash : true ≡ false → ⊥
-        clash h = absurd cc
+    go false e = q (λ h. absurd (true≢false (sym (eq-eqb y x h) ∙ e)))
 
 pub put-same : {A : Type 0} (f : ℕ → A) (x : ℕ) (v : A) → put f x v x ≡ v
 put-same f x v = ap (λ b. cond b v (f x)) (eq-eqb x x refl)
@@ -95,9 +93,6 @@ put_all-holds s a [] = none
 put_all-holds s a (b ∷ bs) =
     more (put_all-outside (set_cell s a (byte b)) (a + 1) bs a (grind (arith, nat_tests)) ∙ cell-same s a (byte b)) (put_all-holds (set_cell s a (byte b)) (a + 1) bs)
 
-not_fresh : {b : ℕ} → byte b ≡ fresh → ⊥
-not_fresh e = absurd cc
-
 pub outside : (a n q : ℕ) → ((a ≤ q) → (q < a + n) → ⊥) → within a n q ≡ 0
 outside a n q h = go (nat_le a q) (nat_lt q (a + n)) refl refl
   where
@@ -107,13 +102,10 @@ outside a n q h = go (nat_le a q) (nat_lt q (a + n)) refl refl
     go false c e f = refl
 
 pub put_all-grows : {own : Owned} (s : Store) (a : ℕ) (bs : List ℕ) → AllFresh own s a (length bs) → Grows s (put_all s a bs)
-put_all-grows s a bs f = record { kept = λ q b e. put_all-outside s a bs q (outside a (length bs) q (λ h g. not_fresh (sym e ∙ f.all q h g))) ∙ e }
+put_all-grows s a bs f = record { kept = λ q b e. put_all-outside s a bs q (outside a (length bs) q (λ h g. byte_fresh (sym e ∙ f.all q h g))) ∙ e }
 
 pub put_fresh : {own : Owned} (s : Store) (a n b : ℕ) → AllFresh own s a (suc n) → AllFresh own (set_cell s a (byte b)) (a + 1) n
 put_fresh s a n b f = record { mine = λ q h g. f.mine q (omega arith) (omega arith); all = λ q h g. cell-other s a q (byte b) (λ r. absurd (omega arith)) ∙ f.all q (omega arith) (omega arith) }
 
-not_absent : absent ≡ fresh → ⊥
-not_absent e = absurd cc
-
 pub put_all-small : {own : Owned} (s : Store) (a : ℕ) (bs : List ℕ) → AllFresh own s a (length bs) → IsSmall s → IsSmall (put_all s a bs)
-put_all-small s a bs f m = record { small = λ q h. put_all-outside s a bs q (outside a (length bs) q (λ x y. not_absent (sym (m.small q h) ∙ f.all q x y))) ∙ m.small q h }
+put_all-small s a bs f m = record { small = λ q h. put_all-outside s a bs q (outside a (length bs) q (λ x y. absent_fresh (sym (m.small q h) ∙ f.all q x y))) ∙ m.small q h }

@@ -1,7 +1,10 @@
 -- Scalars are bound, and functions called.
-use Rattle.std.proofs.Common.{◌≡◌, ℕ, zero, suc, ℤ, pos, ◌+◌, ◌<◌, ◌≤◌, ◌==◌, FitsSigned, Bool, true, false, not, List, [], ◌∷◌, map, Option, Some, None, length, cond, refl, sym, ap, subst, ◌∙◌, arith, get_or, ◌||◌}
+use Rattle.std.proofs.Common.{◌≡◌, ℕ, zero, suc, ℤ, pos, ◌+◌, ◌<◌, ◌≤◌, ◌==◌, FitsSigned, Bool, true, false, not, List, [], ◌∷◌, map, Option, Some, length, cond, refl, sym, ap, subst, ◌∙◌, arith, get_or, ◌||◌}
 use Rattle.std.specs.Int.{w64, cast_signed}
 use Rattle.std.proofs.lemmas.Int.{to_z-of_z}
+use Rattle.std.proofs.lemmas.Bool.{true≢false, false≢true, or_left, or_right}
+use Rattle.std.proofs.lemmas.Option.{none-some, same_Some}
+use Rattle.std.proofs.Math.Nat.{zero-add}
 use Rattle.gib_types.specs.declared.table.Ty.{Ty}
 use Rattle.gib_types.specs.declared.table.Ty.TheVariants.{Whole, Truth, Tree}
 use Rattle.gib_types.specs.Layout.{LaidOut}
@@ -27,7 +30,7 @@ use Rattle.gib_machine.specs.Machine.{times, nesting, Slots, slot, set, word, wo
 use Rattle.gib_core.specs.Cost.{Cost, plus, nothing, cost_from}
 use Rattle.gib_weave.proofs.Costs.{call_costs_same}
 use Rattle.gib_weave.proofs.Counts.{goes_on_counted, same_most, most_then}
-use Rattle.gib_core.specs.Fits.{Inner, new_line, none_of, await, await_call, tell_line, side_tells, call_tells, Empty, Open, put, Sort, Outside, Absent, Scalar, Held, Placed, Loose, AtHead, Field, has_slot, tree_type, AtomFits, AtomsFit, by_call, CallFits, Dest, Nowhere, dest_type, dest_of, Fits, cased, param_sort, body_scope}
+use Rattle.gib_core.specs.Fits.{Inner, new_line, none_of, await, await_call, tell_line, side_tells, call_tells, Empty, Open, put, Sort, Outside, Absent, Scalar, Held, Placed, Loose, AtHead, Field, has_slot, tree_type, AtomFits, AtomsFit, CallFits, Dest, Nowhere, dest_type, dest_of, Fits, cased, param_sort, body_scope}
 use Rattle.gib_packed.specs.Reaching.{there}
 use Rattle.gib_weave.specs.Environment.{Given, AreGiven, Gave, givens, Ctx, IsScalar, StandsAt, Has, HasAll, IsDest}
 use Rattle.gib_weave.specs.EndWords.{EndWord, HasEnd}
@@ -41,7 +44,7 @@ use Rattle.gib_weave.specs.Sound.{Safe, AtRest, AtTerm, IsAnswer, at_term, over,
 use Rattle.gib_weave.specs.Starting.{AreBodies}
 use Rattle.gib_weave.proofs.Move.{given_bind, given_keeps, keeps_line, goes-refl, with_line, HasAll-line, IsDest-line, settled_there, other, with_var, HasAll-bind, HasAll-dest, IsDest-bind, IsDest-moved, moved_set, all_moved_set, Stack-moved, covers_head, all_under_bind, not_there, code_put, rest_code_put, is_field, bound-same, bound-other}
 use Rattle.gib_weave.proofs.Places.{Apart-less}
-use Rattle.gib_weave.proofs.Lines.{follows, loosened, under_scalar, all_calm_less, or_left, or_right, calm_loosened, resume-with, resume-stop, waiting, no_told, pend, Matches-pend}
+use Rattle.gib_weave.proofs.Lines.{follows, loosened, under_scalar, all_calm_less, calm_loosened, resume-with, resume-stop, waiting, pend, Matches-pend}
 use Rattle.gib_weave.proofs.Scalars.{scalar_word, operated_is, traps_are}
 use Rattle.gib_weave.proofs.Uses.{sides_bound}
 use Rattle.gib_weave.proofs.Tolds.{gives_back, call_settled}
@@ -49,26 +52,18 @@ use Rattle.gib_weave.proofs.Basics.{put-other, set-other, end-other}
 use Rattle.gib_core.specs.Ending.{Within, within_function, ended, has_ended}
 use Rattle.gib_core.specs.Tree as term
 use Rattle.gib_weave.proofs.Ends.{first_at, rest_at, Led, led_less, overs_move, gots_all, told_side, unwound_safe, lefts_sides, lefts_rest, Levels, at_rest, step_is, silently}
-
-clash : true ≡ false → ⊥
-clash h = absurd cc
-
-none_some : {t : ℕ} → ◌≡◌ {A = Option ℕ} None (Some t) → ⊥
-none_some e = absurd cc
-
-some_is : {t u : ℕ} → ◌≡◌ {A = Option ℕ} (Some u) (Some t) → u ≡ t
-some_is e = cc
+use Rattle.gib_core.proofs.Fine.{no_call}
 
 -- a tree's slot
 has_tree : (laid : LaidOut) (s : Store) (c : Ctx) (so : Sort) (t w : ℕ) (v : Datum) (at hd : ℕ) → tree_type so ≡ Some t → Has laid s c so w v at hd → StandsAt laid s t w v
-has_tree laid s c Outside t w v at hd e h = absurd (none_some e)
-has_tree laid s c Absent t w v at hd e h = absurd (none_some e)
-has_tree laid s c (Scalar ty) t w v at hd e h = absurd (none_some e)
-has_tree laid s c Held t w v at hd e h = absurd (none_some e)
-has_tree laid s c (Placed u) t w v at hd e h = subst (λ (q : ℕ). StandsAt laid s q w v) (some_is e) (subst (λ (z : ℕ). StandsAt laid s u z v) (sym h.same) h.stands)
-has_tree laid s c (Loose u) t w v at hd e h = subst (λ (q : ℕ). StandsAt laid s q w v) (some_is e) h
-has_tree laid s c (AtHead u) t w v at hd e h = subst (λ (q : ℕ). StandsAt laid s q w v) (some_is e) (subst (λ (z : ℕ). StandsAt laid s u z v) (sym h.same) h.stands)
-has_tree laid s c (Field u z x k p) t w v at hd e h = absurd (none_some e)
+has_tree laid s c Outside t w v at hd e h = absurd (none-some _ e)
+has_tree laid s c Absent t w v at hd e h = absurd (none-some _ e)
+has_tree laid s c (Scalar ty) t w v at hd e h = absurd (none-some _ e)
+has_tree laid s c Held t w v at hd e h = absurd (none-some _ e)
+has_tree laid s c (Placed u) t w v at hd e h = subst (λ (q : ℕ). StandsAt laid s q w v) (same_Some _ _ e) (subst (λ (z : ℕ). StandsAt laid s u z v) (sym h.same) h.stands)
+has_tree laid s c (Loose u) t w v at hd e h = subst (λ (q : ℕ). StandsAt laid s q w v) (same_Some _ _ e) h
+has_tree laid s c (AtHead u) t w v at hd e h = subst (λ (q : ℕ). StandsAt laid s q w v) (same_Some _ _ e) (subst (λ (z : ℕ). StandsAt laid s u z v) (sym h.same) h.stands)
+has_tree laid s c (Field u z x k p) t w v at hd e h = absurd (none-some _ e)
 
 pub tree_of : (laid : LaidOut) (s : Store) (sl : Slots) (c : Ctx) (x t : ℕ) → HasAll laid s sl c → tree_type (c.scope x) ≡ Some t → StandsAt laid s t (slot sl x) (value_in c.env x)
 tree_of laid s sl c x t h e = has_tree laid s c (c.scope x) t (slot sl x) (value_in c.env x) (c.pl x) (c.hd x) e (h.has x)
@@ -87,16 +82,7 @@ scalar_answer laid s Truth w v owed h e = (refl, sym e ∙ ap Gives h.1 ∙ ap (
 scalar_answer laid s (Tree t) w v owed h e = absurd h
 
 packed_scalar : (t : ℕ) (ty : Ty) → is_scalar ty ≡ true → Tree (record { 0 = t }) ≡ ty → ⊥
-packed_scalar t ty h e = clash (sym h ∙ sym (ap is_scalar e))
-
-pub no_call : (A : Type 0) (B : Name → List Atom → Type 0) (t : Term) → IsNoCall t → by_call t A B → A
-no_call A B (Then b u) n h = h
-no_call A B (Rattle.gib_core.specs.Tree.Write x k ss ps) n h = h
-no_call A B (Rattle.gib_core.specs.Tree.Point x) n h = h
-no_call A B (CallTerm f xs) n h = absurd n
-no_call A B (Give x) n h = h
-no_call A B (Rattle.gib_core.specs.Tree.CaseTerm x bs) n h = h
-no_call A B (Rattle.gib_core.specs.Tree.IfTerm x u v) n h = h
+packed_scalar t ty h e = true≢false (sym h ∙ sym (ap is_scalar e))
 
 -- The frame of a call.
 
@@ -106,7 +92,7 @@ frame-length (suc n) [] = ap suc (frame-length n [])
 frame-length (suc n) (w ∷ ws) = ap suc (frame-length n ws)
 
 pub no_slot : (n : ℕ) (ps : List Ty) (y : ℕ) → has_slot (body_scope n ps y) ≡ true → y < n
-no_slot zero ps y h = absurd (clash (sym h))
+no_slot zero ps y h = absurd (true≢false (sym h))
 no_slot (suc n) [] zero h = omega arith
 no_slot (suc n) [] (suc y) h = let i = no_slot n [] y h in omega (arith, i)
 no_slot (suc n) (p ∷ ps) zero h = omega arith
@@ -204,11 +190,8 @@ givens_from (suc n) m (p ∷ ps) (w ∷ ws) (v ∷ vs) env c le sc pl en = by_ty
     by_type Truth s r = r
     by_type (Tree t) s r = (ap (λ (z : ℕ). tree_type (c.scope z)) (sym here) ∙ ap tree_type (s 0), ap c.pl (sym here) ∙ pl 0, worth, r)
 
-no_shift : (y : ℕ) → 0 + y ≡ y
-no_shift y = omega arith
-
 body_given : (wi : Within) (n : ℕ) (ps : List Ty) (ws : List ℕ) (vs : List Datum) (d : Dest) (a : ℕ) → length ps ≤ n → AreGiven (body_line wi n ps vs (frame n ws) d a) 0 (givens ps ws vs)
-body_given wi n ps ws vs d a le = givens_from n 0 ps ws vs [] (body_line wi n ps vs (frame n ws) d a) le (λ y. ap (body_scope n ps) (no_shift y)) (λ y. ap (slot (frame n ws)) (no_shift y)) (λ y. refl)
+body_given wi n ps ws vs d a le = givens_from n 0 ps ws vs [] (body_line wi n ps vs (frame n ws) d a) le (λ y. ap (body_scope n ps) (zero-add y)) (λ y. ap (slot (frame n ws)) (zero-add y)) (λ y. refl)
 
 body_vars : (wi : Within) (laid : LaidOut) (s : Store) (sl : Slots) (c : Ctx) (n : ℕ) (ps : List Ty) (xs : List Atom) (d : Dest) (a : ℕ) → HasAll laid s sl c → AtomsFit c.scope xs ps
     → HasAll laid s (frame n (words sl (operands xs))) (body_line wi n ps (map (value c.env) xs) (frame n (words sl (operands xs))) d a)
@@ -219,7 +202,7 @@ body_vars wi laid s sl c n ps xs d a h e = record {
   wide = λ y g. subst (λ (q : ℕ). y < q) (sym (frame-length n (words sl (operands xs)))) (no_slot n ps y g);
   ends = λ y. body_end laid s n ps y (words sl (operands xs)) _;
   even = frame-length n [] ∙ sym (frame-length n (words sl (operands xs)));
-  told = λ q e. absurd (no_told e);
+  told = λ q e. absurd (false≢true e);
   closes = tt;
 }
 
@@ -402,7 +385,7 @@ module _ (core : CoreTree) (code : CodeTree) (owed : Owed) (own : Owned) (sh : S
       (rests (at_term (scalar_comes core code owed own sh lv ty rm s l sl fs n rs ts y yt u o k w (value c.env x) (set sl y w) wt refl l1
       (Apart-less at.places (λ q. omega arith)) at.rooms at.tail_rooms at.small at.owes at.sides at.pars at.side at.result at.type at.all_room.0 at.all_room.1 (goes_on_counted (record { regions = omega arith; items = omega arith }) at.counted)))))
   does_give s ip z sl [] n rs ts x c (KCall gs wc k) e at = absurd at.stack
-  does_give s ip z sl (f ∷ fs) n rs ts x c (KCall gs wc k) e at = absurd (clash (sym at.fits.2 ∙ ap is_scalar (given c at.fits.0 (KCall gs wc k) at.fits.1 at.kind) ∙ at.stack.5))
+  does_give s ip z sl (f ∷ fs) n rs ts x c (KCall gs wc k) e at = absurd (true≢false (sym at.fits.2 ∙ ap is_scalar (given c at.fits.0 (KCall gs wc k) at.fits.1 at.kind) ∙ at.stack.5))
   does_give s ip z sl [] n rs ts x c (KCallScalar y yt gs u o k) e at = absurd at.stack
   does_give s ip z sl (f ∷ fs) n rs ts x c (KCallScalar y yt gs u o k) e at =
       let same : at.fits.0 ≡ yt = given c at.fits.0 (KCallScalar y yt gs u o k) at.fits.1 at.kind in
@@ -435,8 +418,8 @@ module _ (core : CoreTree) (code : CodeTree) (owed : Owed) (own : Owned) (sh : S
         low = lt;
         fits = no_call (Fits core (Inner (side_tells wi core t)) t c.scope (Nowhere xt) (new_line wi)) (λ f xs. CallFits core c.scope f xs xt) t nc at.fits.2;
         kind = refl;
-        matches = record { vars = HasAll-dest {c = c} {c' = record { scope = c.scope; env = c.env; pl = c.pl; hd = c.hd; dest = Nowhere xt; front = 0; head = 0; line = new_line wi }} refl (record { there = λ y h. h; places = λ y h. refl; values = λ y h. refl; at_head = λ y o e. e; heads = λ y o e. refl }) at.matches.vars (λ y. refl) (λ y. refl) (λ y. refl) (λ q e. absurd (no_told e)) tt; dest = tt };
-        stack = (at.fits.0, waiting core code s sl l x.0 (Scalar xt) t (side_tells wi core t) none_of u c c.dest (cursor rs) k lu at.fits.3 (λ q e. absurd (no_told (sym (tells_none wi core t q nc) ∙ e))) at.fits.1 at.matches at.under at.given (all_calm_less (rest_cased whole) (rest_cased u) k (λ y h. or_right (cased t y) (rest_cased u y) h) at.calm) at.kind at.free (let h = at.narrow in omega (arith, h)), at.stack);
+        matches = record { vars = HasAll-dest {c = c} {c' = record { scope = c.scope; env = c.env; pl = c.pl; hd = c.hd; dest = Nowhere xt; front = 0; head = 0; line = new_line wi }} refl (record { there = λ y h. h; places = λ y h. refl; values = λ y h. refl; at_head = λ y o e. e; heads = λ y o e. refl }) at.matches.vars (λ y. refl) (λ y. refl) (λ y. refl) (λ q e. absurd (false≢true e)) tt; dest = tt };
+        stack = (at.fits.0, waiting core code s sl l x.0 (Scalar xt) t (side_tells wi core t) none_of u c c.dest (cursor rs) k lu at.fits.3 (λ q e. absurd (false≢true (sym (tells_none wi core t q nc) ∙ e))) at.fits.1 at.matches at.under at.given (all_calm_less (rest_cased whole) (rest_cased u) k (λ y h. or_right (cased t y) (rest_cased u y) h) at.calm) at.kind at.free (let h = at.narrow in omega (arith, h)), at.stack);
         under = (under_scalar (cased t) (pend (side_tells wi core t) none_of c), at.under);
         given = at.given;
         calm = (calm_loosened (cased t) (pend (side_tells wi core t) none_of c), all_calm_less (rest_cased whole) (cased t) k (λ y h. or_left (cased t y) (rest_cased u y) h) at.calm);

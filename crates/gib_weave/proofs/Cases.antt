@@ -1,7 +1,8 @@
 -- A tree is looked at, and its fields are bound.
-use Rattle.std.proofs.Common.{◌≡◌, ℕ, suc, ◌+◌, ◌<◌, ◌≤◌, ◌^◌, ◌%◌, Bool, true, false, ◌||◌, cond, List, [], ◌∷◌, ◌++◌, length, Option, Some, None, refl, sym, ap, subst, ◌∙◌, arith}
+use Rattle.std.proofs.Common.{◌≡◌, ℕ, ◌+◌, ◌<◌, ◌≤◌, ◌^◌, ◌%◌, Bool, true, ◌||◌, cond, List, [], ◌∷◌, ◌++◌, length, Option, Some, None, refl, sym, ap, subst, ◌∙◌, arith}
 use Rattle.std.specs.Int.{w64, cast_unsigned}
 use Rattle.std.proofs.Math.Facts.{Fits-of_z, Fits-lt-pow}
+use Rattle.std.proofs.lemmas.Bool.{true≢false, or_left, or_right}
 use Rattle.gib_types.specs.declared.table.Ty.{Ty}
 use Rattle.gib_types.specs.declared.table.Ty.TheVariants.{Whole, Truth, Tree}
 use Rattle.gib_types.specs.Table.{fields_at}
@@ -37,24 +38,14 @@ use Rattle.gib_weave.specs.Places.{Owned}
 use Rattle.gib_weave.specs.Sound.{Safe, moves}
 use Rattle.gib_weave.proofs.Basics.{by_test, put-same, put-other, set-same, set-other, set-length, end-other, ends-length, both-same}
 use Rattle.gib_weave.proofs.Move.{Keeps, keeps_var, with_var, agrees_put, bound-same}
-use Rattle.gib_weave.proofs.Lines.{or_left, or_right}
-use Rattle.gib_weave.proofs.Readings.{get_one, first, tail}
+use Rattle.gib_weave.proofs.Readings.{get_one}
 use Rattle.gib_weave.proofs.Numbers.{reads_number}
 use Rattle.gib_weave.proofs.Ends.{first_at, rest_at, held_end, Levels, at_rest, step_is, silently}
 use Rattle.gib_weave.proofs.Arms.{Line, line_var}
-
-clash : true ≡ false → ⊥
-clash h = absurd cc
+use Rattle.gib_packed.proofs.StoredLemmas.{Holds-front, Holds-behind}
+use Rattle.gib_packed.proofs.HoldsLemmas.{Holds-rest, Holds-first}
 
 -- Bytes one list behind another.
-
-pub Holds-left : {s : Store} (a : ℕ) (xs ys : List ℕ) → Holds s a (xs ++ ys) → Holds s a xs
-Holds-left a [] ys h = mem.none
-Holds-left a (x ∷ xs) ys (mem.more e h) = mem.more e (Holds-left (a + 1) xs ys h)
-
-pub Holds-right : {s : Store} (a : ℕ) (xs ys : List ℕ) → Holds s a (xs ++ ys) → Holds s (a + length xs) ys
-Holds-right {s} a [] ys h = let e : a ≡ a + 0 = omega arith in subst (λ (q : ℕ). Holds s q ys) e h
-Holds-right {s} a (x ∷ xs) ys (mem.more e h) = let f : a + 1 + length xs ≡ a + suc (length xs) = omega arith in subst (λ (q : ℕ). Holds s q ys) f (Holds-right (a + 1) xs ys h)
 
 -- Code in two parts.
 pub record Parts (code : CodeTree) (a : ℕ) (is js : List Instruction) (z : ℕ) : Type 0 where
@@ -231,16 +222,16 @@ module _ (core : CoreTree) (code : CodeTree) (owed : Owed) (own : Owned) (sh : S
       let w = cast_unsigned w64 int in
       let sl' = set sl y.0 w in
       let q : a + p + length (number int) ≡ a + (p + 8) = omega arith in
-      let rest = run_scalars s fs n rs tls (put sc y.0 Held) x a ts ys vs places b z (p + 8) (ip + 1) m sl' nw.1 (next_bound sc y.0 x nb) ds (subst (λ (r : ℕ). Holds s r (scalars vs)) q (Holds-right (a + p) (number int) (scalars vs) h)) (set-other sl y.0 x w (not_this sc y.0 x nw.0 nb) ∙ e) (rest_at at) g in
-      moves (reads_number core code owed own sh s w (Fits-lt-pow (Fits-of_z fits)) (at_rest lv ty rm ip sl fs n rs tls) y.0 (slot sl x + p) (subst (λ (r : ℕ). Holds s (r + p) (number int)) (sym e) (Holds-left (a + p) (number int) (scalars vs) h))
+      let rest = run_scalars s fs n rs tls (put sc y.0 Held) x a ts ys vs places b z (p + 8) (ip + 1) m sl' nw.1 (next_bound sc y.0 x nb) ds (subst (λ (r : ℕ). Holds s r (scalars vs)) q (Holds-behind (a + p) (number int) (scalars vs) h)) (set-other sl y.0 x w (not_this sc y.0 x nw.0 nb) ∙ e) (rest_at at) g in
+      moves (reads_number core code owed own sh s w (Fits-lt-pow (Fits-of_z fits)) (at_rest lv ty rm ip sl fs n rs tls) y.0 (slot sl x + p) (subst (λ (r : ℕ). Holds s (r + p) (number int)) (sym e) (Holds-front (a + p) (number int) (scalars vs) h))
       (step_is core code owed own sh lv ty rm (at_rest lv ty rm ip sl fs n rs tls) (i.Whole y.0 x p) refl (first_at at)) rest)
   run_scalars s fs n rs tls sc x a _ [] _ _ b z p ip m sl nw nb (d.truth_field ds) h e at g = absurd nw
   run_scalars s fs n rs tls sc x a _ (y ∷ ys) _ _ b z p ip m sl nw nb (d.truth_field {b = bool} {ts = ts} {vs = vs} {places = places} ds) h e at g =
       let w = bit bool in
       let sl' = set sl y.0 w in
       let q : a + p + 1 ≡ a + (p + 1) = omega arith in
-      let rest = run_scalars s fs n rs tls (put sc y.0 Held) x a ts ys vs places b z (p + 1) (ip + 1) m sl' nw.1 (next_bound sc y.0 x nb) ds (subst (λ (r : ℕ). Holds s r (scalars vs)) q (tail h)) (set-other sl y.0 x w (not_this sc y.0 x nw.0 nb) ∙ e) (rest_at at) g in
-      moves (get_one core code owed own sh (step_is core code owed own sh lv ty rm (at_rest lv ty rm ip sl fs n rs tls) (i.Truth y.0 x p) refl (first_at at)) (subst (λ (r : ℕ). s (r + p) ≡ byte w) (sym e) (first h)) rest)
+      let rest = run_scalars s fs n rs tls (put sc y.0 Held) x a ts ys vs places b z (p + 1) (ip + 1) m sl' nw.1 (next_bound sc y.0 x nb) ds (subst (λ (r : ℕ). Holds s r (scalars vs)) q (Holds-rest h)) (set-other sl y.0 x w (not_this sc y.0 x nw.0 nb) ∙ e) (rest_at at) g in
+      moves (get_one core code owed own sh (step_is core code owed own sh lv ty rm (at_rest lv ty rm ip sl fs n rs tls) (i.Truth y.0 x p) refl (first_at at)) (subst (λ (r : ℕ). s (r + p) ≡ byte w) (sym e) (Holds-first h)) rest)
   run_scalars s fs n rs tls sc x a _ [] _ _ b z p ip m sl nw nb (d.tree_field dec ds) h e at g = absurd nw
   run_scalars s fs n rs tls sc x a _ (y ∷ ys) _ _ b z p ip m sl nw nb (d.tree_field {y = mid} {t = t} {v = v} {ts = ts} {vs = vs} {places = places} dec ds) h e at g =
       run_scalars s fs n rs tls (put sc y.0 Held) x a ts ys vs places mid z p ip m sl nw.1 (next_bound sc y.0 x nb) ds (subst (λ (r : List ℕ). Holds s (a + p) (r ++ scalars vs)) (Dec-no_scalar dec) h) e at g
@@ -346,13 +337,13 @@ module _ (core : CoreTree) (code : CodeTree) (owed : Owed) (own : Owned) (sh : S
         owner = ke.at_head x o hx;
         type_before = b1.1.0;
         before = b1.1.1;
-        stored = λ e. Holds-left (c.hd x + p) (address at) (addresses places) (st e);
+        stored = λ e. Holds-front (c.hd x + p) (address at) (addresses places) (st e);
         stands = record { end = mid; dec = dec };
       }) tt in
       let bf : BeforeIs code.laid s c1 mid w (Some y.0) = (ap is_there (put-same c.scope y.0 so), (t.0, subst (λ (q : ℕ). Dec code.laid s q t.0 (value_in c1.env y.0) mid) (sym (put-same c.pl y.0 at)) (subst (λ (q : Datum). Dec code.laid s at t.0 q mid) (sym (bound-same c.env y.0 v)) dec))) in
       let q : c.hd x + p + length (address at) ≡ c.hd x + (p + 8) = omega arith in
       worth_is (ke.values x (ap is_there hx)) (extend s F fs rs tls kt m x k o w ts ys vs places mid z (p + 8) (Some y.0) c1 (put sc y.0 Held) nw.1 (now_absent sc c y.0 so v at ab) ds sf bf
-      (λ e. subst (λ (r : ℕ). Holds s r (addresses places)) q (Holds-right (c.hd x + p) (address at) (addresses places) (st e))) (ke.at_head x o hx) l1)
+      (λ e. subst (λ (r : ℕ). Holds s r (addresses places)) q (Holds-behind (c.hd x + p) (address at) (addresses places) (st e))) (ke.at_head x o hx) l1)
 
 -- Where the code reads fields.
 
@@ -402,7 +393,7 @@ pub record FoundArm (core : CoreTree) (code : CodeTree) (w : Within) (ns : Needs
 
 pub find : (core : CoreTree) (code : CodeTree) (w : Within) (ns : Needs) (ln : FitsLine) (fs : List StoredField) (x : ℕ) (e : End) (sc : Scope) (dest : Dest) (n lv : ℕ) (vs : Data) (env : Environment) (cs : ℕ → Bool) (top k at z : ℕ) (bs : Branches) (arms : List Arm) → LowArms core code w fs x at arms bs e z → BranchesFit core ns bs x sc dest ln → has_branch bs k ≡ true → ((y : ℕ) → branches_cased bs y ≡ true → cs y ≡ true) → branches_nest bs ≤ top
     → FoundArm core code w ns ln fs x e sc dest n vs env cs top k (label_of arms k) (mean_branches core.table (core_calls core n) bs (con k vs) env) lv (cost_branches core.table (core_calls core n) (call_costs core n) lv bs (con k vs) env)
-find core code w ns ln fs x e sc dest n lv vs env cs top k at z _ _ no_arm f h cl ne = absurd (clash (sym h))
+find core code w ns ln fs x e sc dest n lv vs env cs top k at z _ _ no_arm f h cl ne = absurd (true≢false (sym h))
 find core code w ns ln fs x e sc dest n lv vs env cs top k at z _ _ (arm {m = m} {n = n'} {l = l} {c = c} {ys = ys} {u = u} {bs = bs} {arms = arms} op lf lo rest) f h cl ne =
     by_test c.0 k (λ b. (b || has_branch bs k) ≡ true → FoundArm core code w ns ln fs x e sc dest n vs env cs top k (cond b at (label_of arms k)) (choose b (means core n u (bind ys (list_of vs) env)) (mean_branches core.table (core_calls core n) bs (con k vs) env)) lv (choose_cost b (costs core n lv u (bind ys (list_of vs) env)) (cost_branches core.table (core_calls core n) (call_costs core n) lv bs (con k vs) env)))
     (λ q g. subst (λ (j : ℕ). FoundArm core code w ns ln fs x e sc dest n vs env cs top j at (means core n u (bind ys (list_of vs) env)) lv (costs core n lv u (bind ys (list_of vs) env))) q (record {

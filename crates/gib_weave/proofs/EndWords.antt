@@ -28,7 +28,7 @@ pub told_end : {laid : LaidOut} {s : Store} {t pl w z : ℕ} {v : Datum} (e : �
 told_end zero h p dec = record { near = λ q. absurd (omega (arith, p, q)); ends = λ i. turns_dec (h.near refl) dec }
 told_end (suc e) h p dec = h
 
-told_kept : (e z : ℕ) → 0 < e → 0 < tell e z
+pub told_kept : (e z : ℕ) → 0 < e → 0 < tell e z
 told_kept zero z p = absurd (omega (arith, p))
 told_kept (suc e) z p = p
 

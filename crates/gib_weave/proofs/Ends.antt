@@ -16,6 +16,9 @@ use Rattle.gib_core.specs.Low.{ending, Over, over_all, got_from, gots, operands}
 use Rattle.gib_machine.specs.Machine.{times, nesting, Slots, slot, Frame, Open as OpenRegion, State, Doing, Ready, Ask, Silent, next, begin, goes_on, cursor, Unwinding, unwound, stopped, Par, backs_at, ends_side, answer_of, told, words, end_at}
 use Rattle.gib_weave.specs.EndWords.{WithEnd, both, IsTold, EndWord}
 use Rattle.std.specs.Prelude.{◌==◌}
+use Rattle.std.proofs.lemmas.Bool.{true≢false}
+use Rattle.std.proofs.lemmas.Option.{none-some, same_Some}
+use Rattle.std.proofs.lemmas.List.{nil_from_length}
 use Rattle.gib_core.specs.declared.atom.Atom.{Atom}
 use Rattle.gib_core.specs.declared.atom.Atom.TheVariants as atom
 use Rattle.gib_core.specs.Meaning.{value}
@@ -32,12 +35,13 @@ use Rattle.gib_weave.specs.Places.{Owned, kont_covers, rest_covers, tail_covers,
 use Rattle.gib_weave.specs.Stacks.{IsRoot, Stack}
 use Rattle.gib_machine.specs.Levels.{lefts}
 use Rattle.gib_weave.specs.Sound.{counts, AtRest, means_why, unwinds, IsAnswer, at_term, over, Safe, rests, moves, silent, Moves}
-use Rattle.gib_weave.proofs.Move.{with_var, with_dest, HasAll-set, HasAll-dest, keeps_dest, IsDest-bind, IsDest-more, all_under_bind, type_more, covers_more, covers_head, rest_code_put, HasAll-moved, Stack-moved, goes-refl, tree_settled, settled_there, other, with_line, HasAll-line, Matches-line, IsDest-line, given_bind}
+use Rattle.gib_weave.proofs.Move.{with_var, with_dest, HasAll-set, HasAll-dest, keeps_dest, IsDest-bind, IsDest-more, all_under_bind, covers_more, covers_head, rest_code_put, HasAll-moved, Stack-moved, goes-refl, tree_settled, settled_there, other, with_line, HasAll-line, Matches-line, IsDest-line, given_bind}
 use Rattle.gib_weave.proofs.Basics.{by_test, put-other}
-use Rattle.gib_weave.proofs.Tolds.{Tells, none_some, some_is, told_known, told_still, told_now, settled_slot, settled_not_held, moved_told, all_moved_told, gives_back, over_tells}
+use Rattle.gib_weave.proofs.Tolds.{Tells, told_known, told_still, told_now, settled_slot, settled_not_held, moved_told, all_moved_told, gives_back, over_tells}
 use Rattle.gib_weave.proofs.Lines.{follows}
 use Rattle.gib_weave.proofs.Uses.{sides_bound}
 use Rattle.gib_weave.proofs.Places.{Apart-less, finished_covers, finished_rooms}
+use Rattle.gib_core.proofs.TypesKnown.{dest_more}
 
 -- The level left, the `par`s, whether the task is a stolen side, and how many words a frame may have.
 pub record Levels : Type 0 where
@@ -87,9 +91,6 @@ type_number (Tree t) = t.0
 pub same_tree : (s t : ℕ) → ◌≡◌ {A = Ty} (Tree (record { 0 = s })) (Tree (record { 0 = t })) → s ≡ t
 same_tree s t e = ap type_number e
 
-clash : true ≡ false → ⊥
-clash h = absurd cc
-
 -- Left sides and sides that are not joined.
 
 pub lefts_rest : (core : CoreTree) (d n : ℕ) (u : Rest) (env : Environment) (ps : List Par) (ds : List Debt) → lefts ps ≡ length ds → lefts (rest_pars u ps) ≡ length (rest_sides core d n u env ds)
@@ -124,10 +125,6 @@ held_end {laid} {s} {t} {a} {v} sl x h =
     let q = ap (λ (b : WithEnd). b.last) h in
     record { near = λ e. subst (λ (z : ℕ). Turns s a z) (sym p) there; ends = λ e. absurd (omega (arith, e, q)) }
 
-no_length : (ds : List Debt) → length ds ≡ 0 → ds ≡ []
-no_length [] h = refl
-no_length (d ∷ ds) h = absurd cc
-
 -- the answer of a task that has no value
 stop_answer : (why : Reason) (laid : LaidOut) (s : Store) (ty : Ty) (o : Outcome) → o ≡ Stops (means_why why) → IsAnswer laid s ty o (stopped why)
 stop_answer reason.Deep laid s ty o e = e
@@ -136,7 +133,7 @@ stop_answer reason.Trap laid s ty o e = e
 module _ (core : CoreTree) (code : CodeTree) (owed : Owed) (own : Owned) (sh : Share) where
   -- a task that has no value unwinds, or ends
   pub unwound_safe : (why : Reason) (s : Store) (m : State) (ps : List Par) → owed.all ≡ Stops (means_why why) → lefts ps ≡ length owed.sides → Safe core code owed own sh s (unwound why m ps)
-  unwound_safe why s m [] e l = rests (over refl (no_length owed.sides (sym l)) (stop_answer why code.laid s owed.ty owed.all e))
+  unwound_safe why s m [] e l = rests (over refl (nil_from_length owed.sides (sym l)) (stop_answer why code.laid s owed.ty owed.all e))
   unwound_safe why s m (p ∷ ps) e l = go p.left refl l (λ h. unwound_safe why s m ps e h)
     where
       go : (b : Bool) → p.left ≡ b → cond b (suc (lefts ps)) (lefts ps) ≡ length owed.sides → (lefts ps ≡ length owed.sides → Safe core code owed own sh s (unwound why m ps))
@@ -251,21 +248,21 @@ module _ (core : CoreTree) (code : CodeTree) (owed : Owed) (own : Owned) (sh : S
   gots_run es f s fs n rs ts o c k a words0 (atom.Variable x ∷ xs) (Whole ∷ ps) j ip z sl T e fit know gave asked un h go =
       let w = know x.0 (ap is_settled fit.0) in
       got_one s fs n rs ts c k a z x.0 j (got_from es f (suc j) xs) T ip sl (has_ended es f j) e (ap is_settled w.0 ∙ (ap is_settled fit.0))
-      (λ u g p. absurd (none_some (sym (ap tree_type (w.0 ∙ fit.0)) ∙ g)))
+      (λ u g p. absurd (none-some _ (sym (ap tree_type (w.0 ∙ fit.0)) ∙ g)))
       (asked j) un h
       (λ m sl1 e1 sv h1. gots_run es f s fs n rs ts o c k a words0 xs ps (suc j) m z sl1 (and_is T x.0 (has_ended es f j)) e1 fit.1 (λ y g. let i = know y g in (i.0, ap (λ (q : List ℕ). get_or q y 0) sv ∙ i.1, i.2)) gave asked un h1
       (λ sl2 sv2 h2. go sl2 (sv2 ∙ sv) (led_less core code s sl2 fs rs c k a (λ q. and_is T x.0 (has_ended es f j) q || call_ends es f (suc j) xs (record { 0 = q })) (λ q. T q || call_ends es f j (atom.Variable x ∷ xs) (record { 0 = q })) (λ q i. got_also (T q) (x.0 == q) (has_ended es f j) (call_ends es f (suc j) xs (record { 0 = q })) i) h2)))
   gots_run es f s fs n rs ts o c k a words0 (atom.Variable x ∷ xs) (Truth ∷ ps) j ip z sl T e fit know gave asked un h go =
       let w = know x.0 (ap is_settled fit.0) in
       got_one s fs n rs ts c k a z x.0 j (got_from es f (suc j) xs) T ip sl (has_ended es f j) e (ap is_settled w.0 ∙ (ap is_settled fit.0))
-      (λ u g p. absurd (none_some (sym (ap tree_type (w.0 ∙ fit.0)) ∙ g)))
+      (λ u g p. absurd (none-some _ (sym (ap tree_type (w.0 ∙ fit.0)) ∙ g)))
       (asked j) un h
       (λ m sl1 e1 sv h1. gots_run es f s fs n rs ts o c k a words0 xs ps (suc j) m z sl1 (and_is T x.0 (has_ended es f j)) e1 fit.1 (λ y g. let i = know y g in (i.0, ap (λ (q : List ℕ). get_or q y 0) sv ∙ i.1, i.2)) gave asked un h1
       (λ sl2 sv2 h2. go sl2 (sv2 ∙ sv) (led_less core code s sl2 fs rs c k a (λ q. and_is T x.0 (has_ended es f j) q || call_ends es f (suc j) xs (record { 0 = q })) (λ q. T q || call_ends es f j (atom.Variable x ∷ xs) (record { 0 = q })) (λ q i. got_also (T q) (x.0 == q) (has_ended es f j) (call_ends es f (suc j) xs (record { 0 = q })) i) h2)))
   gots_run es f s fs n rs ts o c k a words0 (atom.Variable x ∷ xs) (Tree t ∷ ps) j ip z sl T e fit know gave asked un h go =
       let w = know x.0 (tree_settled (o.scope x.0) t.0 fit.0) in
       got_one s fs n rs ts c k a z x.0 j (got_from es f (suc j) xs) T ip sl (has_ended es f j) e (ap is_settled w.0 ∙ (tree_settled (o.scope x.0) t.0 fit.0))
-      (λ u g p. subst (λ (q : ℕ). Dec code.laid s (slot sl x.0) q (value_in c.env x.0) (get_or lv.gave j 0)) (some_is (sym fit.0 ∙ (sym (ap tree_type w.0) ∙ g))) (subst (λ (q : ℕ). Dec code.laid s q t.0 (value_in c.env x.0) (get_or lv.gave j 0)) (sym w.1) (subst (λ (q : Datum). Dec code.laid s (slot words0 x.0) t.0 q (get_or lv.gave j 0)) (sym w.2) (gave.0 p))))
+      (λ u g p. subst (λ (q : ℕ). Dec code.laid s (slot sl x.0) q (value_in c.env x.0) (get_or lv.gave j 0)) (same_Some _ _ (sym fit.0 ∙ (sym (ap tree_type w.0) ∙ g))) (subst (λ (q : ℕ). Dec code.laid s q t.0 (value_in c.env x.0) (get_or lv.gave j 0)) (sym w.1) (subst (λ (q : Datum). Dec code.laid s (slot words0 x.0) t.0 q (get_or lv.gave j 0)) (sym w.2) (gave.0 p))))
       (asked j) un h
       (λ m sl1 e1 sv h1. gots_run es f s fs n rs ts o c k a words0 xs ps (suc j) m z sl1 (and_is T x.0 (has_ended es f j)) e1 fit.1 (λ y g. let i = know y g in (i.0, ap (λ (q : List ℕ). get_or q y 0) sv ∙ i.1, i.2)) gave.1 asked un h1
       (λ sl2 sv2 h2. go sl2 (sv2 ∙ sv) (led_less core code s sl2 fs rs c k a (λ q. and_is T x.0 (has_ended es f j) q || call_ends es f (suc j) xs (record { 0 = q })) (λ q. T q || call_ends es f j (atom.Variable x ∷ xs) (record { 0 = q })) (λ q i. got_also (T q) (x.0 == q) (has_ended es f j) (call_ends es f (suc j) xs (record { 0 = q })) i) h2)))
@@ -327,7 +324,7 @@ module _ (core : CoreTree) (code : CodeTree) (owed : Owed) (own : Owned) (sh : S
   ends lv ty rm (KEnd u) s ip sl [] n rs ts ic T t v a h =
       overs_run core code owed own sh lv ty rm s [] n rs ts ic (KEnd u) a h.until (Return ∷ []) ic.line.overs T ip sl h.ends h.led.vars.closes h.meets.0 h.under h.led (λ m sl' e sv hl. silently core code owed own sh lv ty rm {m = at_rest lv ty rm m sl' [] n rs ts} refl (first_at e) refl (rests (over refl (sym h.sides) (subst (λ (z : Ty). IsAnswer code.laid s z owed.all (Rattle.gib_code.specs.declared.answer.Answer.TheVariants.At (Rattle.gib_machine.specs.Machine.start_of rs))) (sym h.type) (at_root core code owed own sh lv ty rm s a rs t v u h.tree h.led.stack h.dec h.owes)))))
   ends lv ty rm (KEnd u) s ip sl (f ∷ fs) n rs ts ic T t v a h = absurd h.led.stack
-  ends lv ty rm (KSide y u) s ip sl fs n rs ts ic T t v a h = absurd (clash (ap is_scalar h.tree))
+  ends lv ty rm (KSide y u) s ip sl fs n rs ts ic T t v a h = absurd (true≢false (ap is_scalar h.tree))
   ends lv ty rm (KLast l y q) s ip sl [] n [] ts ic T t v a h = absurd h.led.stack
   ends lv ty rm (KLast l y q) s ip sl [] n (r ∷ []) ts ic T t v a h =
       let at = at_rest lv ty rm l sl [] n (r ∷ []) ts in
@@ -352,7 +349,7 @@ module _ (core : CoreTree) (code : CodeTree) (owed : Owed) (own : Owned) (sh : S
         pars = h.pars;
         side = h.side;
         sides = sides_bound core n lv.level x v u c.env k (sides_of core n (level_after lv.level u) k) w.free ∙ h.sides;
-        kind = type_more c.dest x ∙ w.kind;
+        kind = dest_more c.dest x ∙ w.kind;
         matches = record {
           vars = let hl = HasAll-line {c = c1} ln (told_side sl c ic x (Placed s') v a w.new w.asked (λ q e. h.led.knows q (h.meets q e)) hs.told) hs.closes hs in HasAll-dest {c = c1'} {c' = c2} refl (keeps_dest c1' (more c.dest x)) hl (λ y. refl) (λ y. refl) (λ y. refl) hl.told hl.closes;
           dest = IsDest-line code.laid s sl (with_dest c1 (more c.dest x)) (cursor rs) (more c.dest x) ln (IsDest-more code.laid s sl c a (cursor rs) x s' v c.dest w.new h.led.stack.1 dec w.matches.dest);
@@ -405,7 +402,7 @@ module _ (core : CoreTree) (code : CodeTree) (owed : Owed) (own : Owned) (sh : S
         nests = h.all_room.0;
         all_room = h.all_room.1;
       }))))
-  ends lv ty rm (KScalar l x u' u c k) s ip sl fs n rs ts ic T t v a h = absurd (clash (sym h.led.stack.0 ∙ ap is_scalar h.tree))
+  ends lv ty rm (KScalar l x u' u c k) s ip sl fs n rs ts ic T t v a h = absurd (true≢false (sym h.led.stack.0 ∙ ap is_scalar h.tree))
   ends lv ty rm (KCall gs wc k) s ip sl [] n rs ts ic T t v a h = absurd h.led.stack
   ends lv ty rm (KCall gs wc k) s ip sl (f ∷ fs) n rs ts ic T t v a h =
       overs_run core code owed own sh lv ty rm s (f ∷ fs) n rs ts ic (KCall gs wc k) a h.until (Return ∷ []) ic.line.overs T ip sl h.ends h.led.vars.closes h.meets.0 h.under h.led
@@ -419,4 +416,4 @@ module _ (core : CoreTree) (code : CodeTree) (owed : Owed) (own : Owned) (sh : S
       (λ q g. (hl.knows q (h.meets.1 q (st.3.asked q g))).some) b.under (record { vars = b.vars; stack = st.7; knows = b.vars.told })
       (λ sl2 sv2 h2. ends lv' ty rm k s st.1 sl2 fs (suc n) rs ts wc (λ q. wc.line.told q || call_tells st.3.within core st.3.name st.3.arguments q) t v a record { until = st.2; ends = st.4; under = b.under; given = b.given; meets = b.meets; led = h2; tree = h.tree; dec = h.dec; places = h.places; rooms = h.rooms; tail_rooms = h.tail_rooms; small = h.small; owes = h.owes; sides = h.sides; pars = h.pars; side = h.side; result = h.result; type = h.type; counted = h.counted; all_room = h.all_room })))
   ends lv ty rm (KCallScalar x u' gs u c k) s ip sl [] n rs ts ic T t v a h = absurd h.led.stack
-  ends lv ty rm (KCallScalar x u' gs u c k) s ip sl (f ∷ fs) n rs ts ic T t v a h = absurd (clash (sym h.led.stack.0 ∙ ap is_scalar h.tree))
+  ends lv ty rm (KCallScalar x u' gs u c k) s ip sl (f ∷ fs) n rs ts ic T t v a h = absurd (true≢false (sym h.led.stack.0 ∙ ap is_scalar h.tree))

@@ -2,6 +2,7 @@
 use Rattle.std.proofs.Common.{◌≡◌, ℕ, suc, ◌+◌, ◌*◌, ◌<◌, ◌≤◌, ◌^◌, Bool, true, false, ◌||◌, List, [], ◌∷◌, cond, nat_le, Some, refl, sym, ap, subst, ◌∙◌, arith}
 use Rattle.std.proofs.lemmas.Bool.Decides.{nat_tests}
 use Rattle.std.specs.Int.{w64, to_le_bytes}
+use Rattle.std.proofs.lemmas.Bool.{false≢true}
 use Rattle.gib_types.specs.declared.table.Ty.{Ty}
 use Rattle.gib_types.specs.declared.table.Ty.TheVariants.{Whole, Truth, Tree}
 use Rattle.gib_types.specs.Layout.{LaidOut}
@@ -27,7 +28,6 @@ use Rattle.gib_core.specs.Cost.{Cost, nothing, plus, one_item, one_region}
 use Rattle.gib_weave.proofs.Counts.{Paid, most_then, item_counted, turn_counted, turned_counted, chunk_counted}
 use Rattle.gib_core.specs.Ending.{Within, within_par}
 use Rattle.gib_core.specs.Tree as term
-use Rattle.gib_weave.proofs.Lines.{no_told}
 use Rattle.gib_weave.proofs.Move.{with_line, HasAll-line, Matches-line, IsDest-line}
 use Rattle.gib_core.specs.Fits.{AtEnd, Line as FitsLine, new_line, none_of, tell_line, side_tells, AloneFits, SideFits, Sort, Scalar, Held, Placed, Scope, Dest, Nowhere, Empty, more, IsDue, cased, side_cased, loosen, Fits}
 use Rattle.gib_weave.specs.Environment.{Ctx, IsPlaced, StandsAt, Has, HasAll}
@@ -40,7 +40,7 @@ use Rattle.gib_weave.specs.Stacks.{Stack, Waits}
 use Rattle.gib_weave.specs.Sound.{counts, AtRest, SideSafe, AtTerm, IsAnswer, at_term, over, Safe, rests, moves, Moves, silent, draws}
 use Rattle.gib_weave.proofs.Basics.{put-same, set-same, put_all-holds, put_all-grows, put_all-small}
 use Rattle.gib_weave.proofs.Grow.{Stack-grows, Matches-grows, Dec-grows, Turns-grows}
-use Rattle.gib_weave.proofs.Move.{given_bind, with_var, with_dest, HasAll-bind, HasAll-set, HasAll-dest, keeps_dest, IsDest-bind, IsDest-more, IsDest-moved, moved_set, all_moved_set, Stack-moved, all_under_bind, type_more, covers_more, covers_head, not_there, absent_slot, is_field, bound-same, code_put, rest_code_put}
+use Rattle.gib_weave.proofs.Move.{given_bind, with_var, with_dest, HasAll-bind, HasAll-set, HasAll-dest, keeps_dest, IsDest-bind, IsDest-more, IsDest-moved, moved_set, all_moved_set, Stack-moved, all_under_bind, covers_more, covers_head, not_there, absent_slot, is_field, bound-same, code_put, rest_code_put}
 use Rattle.gib_weave.proofs.Places.{Apart-less, Apart-put_all, Apart-fresh, Apart-open, open-grows, open-small, within_front, within_redirect, within_chunk, chunk_room, rest_room}
 use Rattle.gib_weave.proofs.Lines.{follows, holding, HasAll-hold, all_calm_less, from_having}
 use Rattle.gib_weave.proofs.Uses.{side_same, but_new, sides_bound}
@@ -48,11 +48,9 @@ use Rattle.gib_weave.proofs.Items.{safe_putting, moves_putting, safe_turning}
 use Rattle.gib_weave.proofs.Opens.{no_room}
 use Rattle.gib_weave.proofs.Binds.{scalar_answer}
 use Rattle.gib_weave.proofs.Ends.{held_end, Levels, at_rest, step_is, silently}
+use Rattle.gib_core.proofs.TypesKnown.{dest_more}
 
-clash : true ≡ false → ⊥
-clash h = absurd cc
-
-or_assoc : (a b c : Bool) → (a || (b || c)) ≡ true → ((a || b) || c) ≡ true
+pub or_assoc : (a b c : Bool) → (a || (b || c)) ≡ true → ((a || b) || c) ≡ true
 or_assoc true b c e = refl
 or_assoc false b c e = e
 
@@ -122,7 +120,7 @@ abbrev alone : Within → Ctx → Ctx
 alone wi c = record { scope = c.scope; env = c.env; pl = c.pl; hd = c.hd; dest = Nowhere Whole; front = 0; head = 0; line = new_line wi }
 
 alone_vars : (wi : Within) (laid : LaidOut) (s : Store) (sl : Slots) (c : Ctx) → HasAll laid s sl c → HasAll laid s sl (alone wi c)
-alone_vars wi laid s sl c h = HasAll-dest {c = c} {c' = alone wi c} refl (record { there = λ y h. h; places = λ y h. refl; values = λ y h. refl; at_head = λ y o e. e; heads = λ y o e. refl }) h (λ y. refl) (λ y. refl) (λ y. refl) (λ q e. absurd (no_told e)) tt
+alone_vars wi laid s sl c h = HasAll-dest {c = c} {c' = alone wi c} refl (record { there = λ y h. h; places = λ y h. refl; values = λ y h. refl; at_head = λ y o e. e; heads = λ y o e. refl }) h (λ y. refl) (λ y. refl) (λ y. refl) (λ q e. absurd (false≢true e)) tt
 
 -- what a side may cost as a task is enough for what it costs here
 pub own_most : (core : CoreTree) (d n : ℕ) (s : Side) (env : Environment) → AtMost (plus (own_region s) (side_costs core d n s env)) (task_costs core d n s env)
@@ -353,13 +351,13 @@ or_not false b f e = absurd (f e)
 
 -- a side of a `par` tells nothing
 pub par_tells : (wi : Within) (core : CoreTree) (t : Term) (q : ℕ) → side_tells (within_par wi) core t q ≡ true → ⊥
-par_tells wi core (term.Then b u) q e = no_told e
-par_tells wi core (term.Write v k ss ps) q e = no_told e
-par_tells wi core (term.Point x) q e = no_told e
-par_tells wi core (term.CallTerm f xs) q e = no_told e
-par_tells wi core (term.Give x) q e = no_told e
-par_tells wi core (term.CaseTerm x bs) q e = no_told e
-par_tells wi core (term.IfTerm x u v) q e = no_told e
+par_tells wi core (term.Then b u) q e = false≢true e
+par_tells wi core (term.Write v k ss ps) q e = false≢true e
+par_tells wi core (term.Point x) q e = false≢true e
+par_tells wi core (term.CallTerm f xs) q e = false≢true e
+par_tells wi core (term.Give x) q e = false≢true e
+par_tells wi core (term.CaseTerm x bs) q e = false≢true e
+par_tells wi core (term.IfTerm x u v) q e = false≢true e
 
 module _ (core : CoreTree) (code : CodeTree) (owed : Owed) (own : Owned) (sh : Share) (lv : Levels) (ty : Ty) (rm : ℕ) where
   -- a scalar, or a tree in a region
@@ -411,7 +409,7 @@ module _ (core : CoreTree) (code : CodeTree) (owed : Owed) (own : Owned) (sh : S
         ready = refl;
         low = rest_code_put core code c.line.within c.scope ip u (end_of c.line.overs k) x (Placed t) refl w.low;
         fits = w.fits;
-        kind = type_more c.dest x ∙ w.kind;
+        kind = dest_more c.dest x ∙ w.kind;
         matches = record {
           vars = HasAll-dest {c = c1'} {c' = c2} refl (keeps_dest c1' (more c.dest x)) hl (λ y. refl) (λ y. refl) (λ y. refl) hl.told hl.closes;
           dest = IsDest-line code.laid s sl (with_dest c1 (more c.dest x)) (cursor rs) (more c.dest x) ln (IsDest-more code.laid s sl c a (cursor rs) x t v c.dest w.new due dec w.matches.dest);

@@ -1,6 +1,7 @@
 -- What a task owes at a join.
 use Rattle.std.proofs.Common.{◌≡◌, ℕ, suc, ◌+◌, Bool, true, false, List, [], ◌∷◌, Some, None, length, cond, refl, sym, ap, subst, ◌∙◌, arith}
 use Rattle.std.specs.Int.{w64, cast_unsigned}
+use Rattle.std.proofs.lemmas.Bool.{true≢false, or_right}
 use Rattle.gib_types.specs.declared.table.Ty.{Ty}
 use Rattle.gib_types.specs.declared.table.Ty.TheVariants.{Whole, Truth, Tree}
 use Rattle.gib_types.specs.Tree.{Datum, whole, truth}
@@ -23,7 +24,7 @@ use Rattle.gib_machine.specs.Machine.{times, Slots, slot, set, Frame, Open as Op
 use Rattle.gib_core.specs.Cost.{Cost, nothing, plus, one_item}
 use Rattle.gib_weave.proofs.Counts.{goes_on_counted, joins_counted}
 use Rattle.gib_core.specs.Ending.{within_par}
-use Rattle.gib_weave.proofs.Lines.{pend, loosened, all_calm_less, or_right, resume-stop, waiting}
+use Rattle.gib_weave.proofs.Lines.{pend, loosened, all_calm_less, resume-stop, waiting}
 use Rattle.gib_weave.proofs.Forks.{par_tells, own_most, right_costs, right_at, bound_comes, field_comes, pointed}
 use Rattle.gib_weave.proofs.Move.{with_line, with_var, with_dest, moved_set, all_moved_set, Stack-moved, Matches-moved, covers_head, not_there, absent_slot, is_field}
 use Rattle.gib_core.specs.Fits.{none_of, tell_line, side_tells, put, Sort, Absent, Scalar, Placed, Dest, more, cased, loosen, Fits}
@@ -45,14 +46,11 @@ use Rattle.gib_weave.proofs.Readings.{dec_small}
 use Rattle.gib_weave.proofs.EndWords.{turns_dec}
 use Rattle.gib_weave.proofs.Ends.{Levels, at_rest, step_is, silently, widen, lefts_sides, unwound_safe}
 
-clash : true ≡ false → ⊥
-clash h = absurd cc
-
 packed_scalar : (t : ℕ) (xt : Ty) → is_scalar xt ≡ true → xt ≡ Tree (record { 0 = t }) → ⊥
-packed_scalar t xt h e = clash (sym h ∙ ap is_scalar e)
+packed_scalar t xt h e = true≢false (sym h ∙ ap is_scalar e)
 
 scalar_packed : (t : ℕ) (xt so : Ty) → xt ≡ Tree (record { 0 = t }) → xt ≡ so → is_scalar so ≡ true → ⊥
-scalar_packed t xt so e f h = clash (sym h ∙ ap is_scalar (sym f ∙ e))
+scalar_packed t xt so e f h = true≢false (sym h ∙ ap is_scalar (sym f ∙ e))
 
 module _ (core : CoreTree) (code : CodeTree) (owed owed' : Owed) (own : Owned) (sh sh' : Share) (lv lv' : Levels) (ty : Ty) (rm : ℕ) where
   -- the line behind the right side waits for its value

@@ -2,6 +2,7 @@
 use Rattle.std.specs.Prelude.{List, ◌+◌}
 use Rattle.std.proofs.Common.{◌≡◌, ℕ, zero, suc, Bool, true, false, ◌&&◌, nat_lt, [], ◌∷◌, length, slice_get, refl, ap, arith}
 use Rattle.std.proofs.lemmas.Bool.Decides.{nat_tests}
+use Rattle.std.proofs.lemmas.Bool.{and_parts}
 use Rattle.gib_mem.specs.Memory as mem
 use Rattle.gib_mem.specs.Memory.{Store, Memory, Cell, absent, fresh, byte, after_puts, after_draw, Holds, Reads}
 use Rattle.gib_code.specs.declared.answer.Answer.TheVariants as answer
@@ -37,10 +38,6 @@ abbrev all_can : CodeTree → ℕ → ℕ → Weave → Bool
 all_can p i zero w = true
 all_can p i (suc n) w = is_running (task w.tasks 0).stage && (is_running (task w.tasks i).stage && (can w.memory (asks p w i) && all_can p i n (act w i (asks p w i))))
 
-both : (b c : Bool) → (b && c) ≡ true → (b ≡ true) × (c ≡ true)
-both true c e = (refl, e)
-both false c e = absurd cc
-
 runs : (st : Stage) → is_running st ≡ true → st ≡ Running
 runs Running e = refl
 runs (Finished a) e = absurd cc
@@ -53,7 +50,7 @@ cell_is (byte b) e = refl
 
 holds : (s : Store) (a n : ℕ) → all_bytes s a n ≡ true → Holds s a (bytes_of s a n)
 holds s a zero e = mem.none
-holds s a (suc n) e = let h = both (is_byte (s a)) (all_bytes s (a + 1) n) e in mem.more (cell_is (s a) h.0) (holds s (a + 1) n h.1)
+holds s a (suc n) e = let h = and_parts (is_byte (s a)) (all_bytes s (a + 1) n) e in mem.more (cell_is (s a) h.0) (holds s (a + 1) n h.1)
 
 so_long : (s : Store) (a n : ℕ) → length (bytes_of s a n) ≡ n
 so_long s a zero = refl
@@ -73,9 +70,9 @@ next_is p i w (Ended a) e on c = absurd cc
 pub steps_are : (p : CodeTree) (i n : ℕ) (w v : Weave) (es : List Event) → all_can p i n w ≡ true → Legal p (steps p i n w) es v → Legal p w (steps_then i n es) v
 steps_are p i zero w v es e l = l
 steps_are p i (suc n) w v es e l =
-    let h = both (is_running (task w.tasks 0).stage) (is_running (task w.tasks i).stage && (can w.memory (asks p w i) && all_can p i n (act w i (asks p w i)))) e in
-    let g = both (is_running (task w.tasks i).stage) (can w.memory (asks p w i) && all_can p i n (act w i (asks p w i))) h.1 in
-    let f = both (can w.memory (asks p w i)) (all_can p i n (act w i (asks p w i))) g.1 in
+    let h = and_parts (is_running (task w.tasks 0).stage) (is_running (task w.tasks i).stage && (can w.memory (asks p w i) && all_can p i n (act w i (asks p w i)))) e in
+    let g = and_parts (is_running (task w.tasks i).stage) (can w.memory (asks p w i) && all_can p i n (act w i (asks p w i))) h.1 in
+    let f = and_parts (can w.memory (asks p w i)) (all_can p i n (act w i (asks p w i))) g.1 in
     more (next_is p i w (asks p w i) refl (record { here = runs (task w.tasks i).stage g.0; root = runs (task w.tasks 0).stage h.0 }) f.0) (steps_are p i n (act w i (asks p w i)) v es f.1 l)
 
 pub on : {w : Weave} {i : ℕ} → (task w.tasks i).stage ≡ Running → (task w.tasks 0).stage ≡ Running → IsOn w i

@@ -1,3 +1,5 @@
+-- Cells, words, places and frames.
+pub mod Cells
 pub mod Basics
 pub mod Grow
 pub mod Move
@@ -6,18 +8,25 @@ pub mod Turns
 pub mod EndWords
 pub mod Tolds
 pub mod Lines
+pub mod Narrow
+pub mod Newest
+-- What terms use and cost.
 pub mod Uses
 pub mod Counts
 pub mod Costs
-pub mod Ends
+pub mod Bills
+pub mod Shares
+-- What is read, and what is put.
 pub mod Parts
 pub mod Numbers
 pub mod Readings
 pub mod Scalars
 pub mod Items
 pub mod Writes
+pub mod Puts
+-- Each instruction keeps a task sound.
+pub mod Ends
 pub mod Opens
-pub mod Opening
 pub mod Binds
 pub mod Indirects
 pub mod Arms
@@ -29,30 +38,30 @@ pub mod Telling
 pub mod Step
 pub mod ForkSides
 pub mod Nests
+-- The root: its start, its calls and its end.
 pub mod Starts
-pub mod Others
-pub mod Bills
 pub mod Memories
-pub mod Example
 pub mod Roots
-pub mod Shares
-pub mod Weaves
-pub mod Events
-pub mod Progress
-pub mod Puts
-pub mod Picks
-pub mod Row
-pub mod Journals
-pub mod Sums
 pub mod Calls
 pub mod Mades
 pub mod RootRuns
 pub mod RootEnds
 pub mod Standing
-pub mod Newest
-pub mod Narrow
-pub mod Applying
-pub mod Picking
+-- Each event keeps a weave sound, and a weave goes on.
+pub mod Others
+pub mod Weaves
+pub mod Events
+pub mod Opening
+pub mod Progress
 pub mod Going
 pub mod Single
 pub mod Wovens
+-- What is picked, and what a call of a weave leaves.
+pub mod Picks
+pub mod Picking
+pub mod Applying
+-- Worked runs and their journals.
+pub mod Example
+pub mod Row
+pub mod Journals
+pub mod Sums

@@ -1,5 +1,6 @@
 -- A line waits while a part of it runs.
-use Rattle.std.proofs.Common.{◌≡◌, ℕ, suc, ◌<◌, ◌≤◌, Bool, true, false, ◌||◌, cond, ◌∷◌, length, refl, sym, ap, subst, ◌∙◌}
+use Rattle.std.proofs.Common.{◌≡◌, ℕ, suc, ◌<◌, ◌≤◌, Bool, true, false, cond, ◌∷◌, length, refl, sym, ap, subst, ◌∙◌}
+use Rattle.std.proofs.lemmas.Bool.{false≢true}
 use Rattle.gib_types.specs.declared.table.Ty.{Ty}
 use Rattle.gib_types.specs.Layout.{LaidOut}
 use Rattle.gib_types.specs.Tree.{Datum}
@@ -137,9 +138,6 @@ all_under_loosen sc env k m u = all_under_goes sc (loosen m sc) env env k (λ y.
 
 -- A variable is held while its value is made.
 
-pub no_told : false ≡ true → ⊥
-no_told e = absurd cc
-
 pub all_under_hold : (sc : Scope) (env : Environment) (k : Kont) (x : ℕ) → sc x ≡ Absent → AllUnder sc env k → AllUnder (put sc x Held) env k
 all_under_hold sc env k x n u = all_under_goes sc (put sc x Held) env env k (goes_new sc x Held n) (λ y t. refl) u
 
@@ -164,7 +162,7 @@ keeps_holding wi c x d a b n = record {
 }
 
 pub HasAll-hold : (wi : Within) (laid : LaidOut) (s : Store) (sl : Slots) (c : Ctx) (x w : ℕ) (d : Dest) (a b : ℕ) → c.scope x ≡ Absent → HasAll laid s sl c → HasAll laid s (set sl x w) (holding wi c x d a b)
-HasAll-hold wi laid s sl c x w d a b n h = record { has = has; wide = wide; ends = ends; even = ends-length sl x w 0 ∙ h.even ∙ sym (set-length sl x w); told = λ q e. absurd (no_told e); closes = tt }
+HasAll-hold wi laid s sl c x w d a b n h = record { has = has; wide = wide; ends = ends; even = ends-length sl x w 0 ∙ h.even ∙ sym (set-length sl x w); told = λ q e. absurd (false≢true e); closes = tt }
   where
     ends : (y : ℕ) → HasEnd laid s (put c.scope x Held y) (slot (set sl x w) y) (end_at (set sl x w) y) (value_in c.env y) (c.pl y)
     ends y = by_test y x (λ t. HasEnd laid s (cond t Held (c.scope y)) (slot (set sl x w) y) (end_at (set sl x w) y) (value_in c.env y) (c.pl y)) (λ e. tt)
@@ -207,14 +205,6 @@ all_calm_less m m' (KRegion l x s t o k) h c = (record { calm = λ y t e. c.0.ca
 all_calm_less m m' (KScalar l x ty t o k) h c = (record { calm = λ y t e. c.0.calm y t (h y e) }, all_calm_less m m' k h c.1)
 all_calm_less m m' (KCall gs wc k) h c = tt
 all_calm_less m m' (KCallScalar x ty gs t o k) h c = tt
-
-pub or_left : (a b : Bool) → a ≡ true → (a || b) ≡ true
-or_left true b e = refl
-or_left false b e = absurd cc
-
-pub or_right : (a b : Bool) → b ≡ true → (a || b) ≡ true
-or_right true b e = refl
-or_right false b e = e
 
 not_placed : (b : Bool) (so : Sort) (t : ℕ) → b ≡ true → loosen_one b so ≡ Placed t → ⊥
 not_placed false so t e h = absurd cc

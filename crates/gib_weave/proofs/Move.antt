@@ -1,5 +1,6 @@
 -- What is said of a frame's slots is kept when slots change that are not relied on, and when a line knows more.
 use Rattle.std.proofs.Common.{◌≡◌, ℕ, ◌+◌, ◌<◌, Bool, true, false, cond, eqb, List, [], ◌∷◌, ◌++◌, length, suc, Option, None, Some, append_assoc, refl, sym, ap, subst, ◌∙◌, arith}
+use Rattle.std.proofs.lemmas.Bool.{true≢false}
 use Rattle.gib_types.specs.Layout.{LaidOut, head_size}
 use Rattle.gib_types.specs.Tree.{Datum}
 use Rattle.gib_syntax.specs.Meaning.{Environment, value_in}
@@ -12,19 +13,16 @@ use Rattle.gib_core.specs.Ending.{Within}
 use Rattle.gib_core.specs.Low.{Over, End, Field as StoredField, field_of}
 use Rattle.gib_machine.specs.Machine.{Slots, slot, end_at, set, Frame, Open as OpenRegion}
 use Rattle.gib_weave.specs.EndWords.{both, EndWord, HasEnd, IsTold}
-use Rattle.gib_core.specs.Fits.{put, Sort, Outside, Absent, Scalar, Held, Placed, Loose, AtHead, Field, Scope, is_settled, Line, is_there, has_slot, tree_type, loosen_one, loosen, Dest, Nowhere, Empty, Open, IsDue, more, dest_type}
+use Rattle.gib_core.specs.Fits.{put, Sort, Outside, Absent, Scalar, Held, Placed, Loose, AtHead, Field, Scope, is_settled, Line, is_there, has_slot, tree_type, loosen_one, loosen, Dest, Nowhere, Empty, Open, IsDue, more}
 use Rattle.gib_weave.specs.Environment.{Given, AreGiven, AllClose, Ctx, IsScalar, StandsAt, Has, HasAll, Fields, none, field, IsDest, Matches}
 use Rattle.gib_weave.specs.Continuing.{Rest, Plain, Part, Meet, Leave, Last, KSide, KLast, RestCode, Kont, KEnd, KHere, KRegion, KScalar, KCall, KCallScalar, Goes, Under, AllUnder, Agrees, IsCode}
 use Rattle.gib_weave.specs.Places.{within, head_covers}
 use Rattle.gib_weave.specs.Stacks.{Waits, Stack}
 use Rattle.gib_weave.proofs.Basics.{by_test, put-same, put-other, set-same, set-other, set-length, end-same, end-other, ends-length, both-other}
 
-clash : true ≡ false → ⊥
-clash h = absurd cc
-
 pub settled_there : (so : Sort) → is_settled so ≡ true → is_there so ≡ true
-settled_there Outside h = absurd (clash (sym h))
-settled_there Absent h = absurd (clash (sym h))
+settled_there Outside h = absurd (true≢false (sym h))
+settled_there Absent h = absurd (true≢false (sym h))
 settled_there (Scalar ty) h = refl
 settled_there Held h = refl
 settled_there (Placed u) h = refl
@@ -67,11 +65,11 @@ end_kept laid s (Field t z x k p') w w' e e' v pl p q h = tt
 pub moved_absent : (laid : LaidOut) (s : Store) (so : Sort) (w w' : ℕ) (v : Datum) → is_there so ≡ false → MovedOne laid s so w w' v
 moved_absent laid s Outside w w' v h = tt
 moved_absent laid s Absent w w' v h = tt
-moved_absent laid s (Scalar ty) w w' v h = absurd (clash h)
-moved_absent laid s Held w w' v h = absurd (clash h)
-moved_absent laid s (Placed t) w w' v h = absurd (clash h)
-moved_absent laid s (Loose t) w w' v h = absurd (clash h)
-moved_absent laid s (AtHead t) w w' v h = absurd (clash h)
+moved_absent laid s (Scalar ty) w w' v h = absurd (true≢false h)
+moved_absent laid s Held w w' v h = absurd (true≢false h)
+moved_absent laid s (Placed t) w w' v h = absurd (true≢false h)
+moved_absent laid s (Loose t) w w' v h = absurd (true≢false h)
+moved_absent laid s (AtHead t) w w' v h = absurd (true≢false h)
 moved_absent laid s (Field t z x k p) w w' v h = tt
 
 pub moved_same : (laid : LaidOut) (s : Store) (so : Sort) (w w' : ℕ) (v : Datum) → w' ≡ w → MovedOne laid s so w w' v
@@ -159,14 +157,14 @@ tree_settled (AtHead u) t h = refl
 tree_settled (Field u z x k p) t h = absurd cc
 
 pub goes_settled : (o i : Sort) → Goes o i → is_settled o ≡ true → is_settled i ≡ true
-goes_settled Outside i g h = absurd (clash (sym h))
-goes_settled Absent i g h = absurd (clash (sym h))
+goes_settled Outside i g h = absurd (true≢false (sym h))
+goes_settled Absent i g h = absurd (true≢false (sym h))
 goes_settled (Scalar ty) i g h = ap is_settled g
-goes_settled Held i g h = absurd (clash (sym h))
+goes_settled Held i g h = absurd (true≢false (sym h))
 goes_settled (Placed t) i g h = tree_settled i t g
 goes_settled (Loose t) i g h = tree_settled i t g
 goes_settled (AtHead t) i g h = ap is_settled g
-goes_settled (Field t z x k p) i g h = absurd (clash (sym h))
+goes_settled (Field t z x k p) i g h = absurd (true≢false (sym h))
 
 pub tree_there : (i : Sort) (t : ℕ) → tree_type i ≡ Some t → is_there i ≡ true
 tree_there Outside t h = absurd cc
@@ -179,8 +177,8 @@ tree_there (AtHead u) t h = refl
 tree_there (Field u z x k p) t h = refl
 
 pub goes-there : (o i : Sort) → Goes o i → is_there o ≡ true → is_there i ≡ true
-goes-there Outside i g h = absurd (clash (sym h))
-goes-there Absent i g h = absurd (clash (sym h))
+goes-there Outside i g h = absurd (true≢false (sym h))
+goes-there Absent i g h = absurd (true≢false (sym h))
 goes-there (Scalar ty) i g h = ap is_there g
 goes-there Held i g h = ap is_there g
 goes-there (Placed t) i g h = tree_there i t g
@@ -200,7 +198,7 @@ pub moved_set : {laid : LaidOut} {s : Store} {sl : Slots} {c : Ctx} (x w : ℕ) 
 moved_set {laid} {s} {sl} {c} x w n = record { one = λ y. one y; long = set-length sl x w; ends = λ y. ends y; same_ends = ends-length sl x w 0; kept = λ y st p. subst (λ (z : ℕ). 0 < z) (sym (end-other sl x y w 0 (not_it y (settled_there (c.scope y) st)))) p }
   where
     not_it : (y : ℕ) → is_there (c.scope y) ≡ true → y ≡ x → ⊥
-    not_it y h e = clash (sym h ∙ ap (λ z. is_there (c.scope z)) e ∙ n)
+    not_it y h e = true≢false (sym h ∙ ap (λ z. is_there (c.scope z)) e ∙ n)
 
     ends : (y : ℕ) → HasEnd laid s (c.scope y) (slot sl y) (end_at sl y) (value_in c.env y) (c.pl y) → HasEnd laid s (c.scope y) (slot (set sl x w) y) (end_at (set sl x w) y) (value_in c.env y) (c.pl y)
     ends y = end_kept laid s (c.scope y) (slot sl y) (slot (set sl x w) y) (end_at sl y) (end_at (set sl x w) y) (value_in c.env y) (c.pl y) (λ h. set-other sl x y w (not_it y h)) (λ h. end-other sl x y w 0 (not_it y h))
@@ -211,7 +209,7 @@ moved_set {laid} {s} {sl} {c} x w n = record { one = λ y. one y; long = set-len
         (λ e. moved_same laid s (c.scope y) (slot sl y) (slot (set sl x w) y) (value_in c.env y) (set-other sl x y w e))
 
 pub held : (sc : Scope) (x y : ℕ) → sc y ≡ Held → is_there (sc x) ≡ false → y ≡ x → ⊥
-held sc x y h n e = clash (sym (ap is_there h) ∙ ap (λ z. is_there (sc z)) e ∙ n)
+held sc x y h n e = true≢false (sym (ap is_there h) ∙ ap (λ z. is_there (sc z)) e ∙ n)
 
 pub all_moved_set : (laid : LaidOut) (s : Store) (sl : Slots) (sc : Scope) (env : Environment) (k : Kont) (x w : ℕ) → AllUnder sc env k → is_there (sc x) ≡ false → AllMoved laid s sl (set sl x w) k
 all_moved_set laid s sl sc env (KEnd ty) x w u n = tt
@@ -299,7 +297,7 @@ pub not_there : (sc : Scope) (x : ℕ) → sc x ≡ Absent → is_there (sc x) �
 not_there sc x n = ap is_there n
 
 pub other : (sc : Scope) (l x : ℕ) → is_there (sc l) ≡ true → sc x ≡ Absent → l ≡ x → ⊥
-other sc l x t n e = clash (sym t ∙ ap (λ z. is_there (sc z)) e ∙ ap is_there n)
+other sc l x t n e = true≢false (sym t ∙ ap (λ z. is_there (sc z)) e ∙ ap is_there n)
 
 pub keeps_var : (c : Ctx) (x : ℕ) (so : Sort) (v : Datum) (at : ℕ) → c.scope x ≡ Absent → Keeps c (with_var c x so v at)
 keeps_var c x so v at n = record {
@@ -427,12 +425,6 @@ IsDest-more laid s sl c a z x t v (Open u y k xs (q ∷ dues)) n o e h =
           (subst (λ (b : ℕ). Dec laid s a b (value_in ((x, v) ∷ c.env) x) z) (sym o) (subst (λ (b : Datum). Dec laid s a t b z) (sym (bound-same c.env x v)) e));
     }
 
-pub type_more : (d : Dest) (x : ℕ) → dest_type (more d x) ≡ dest_type d
-type_more (Nowhere ty) x = refl
-type_more (Empty t) x = refl
-type_more (Open t h k xs []) x = refl
-type_more (Open t h k xs (q ∷ dues)) x = refl
-
 pub covers_more : (laid : LaidOut) (c c' : Ctx) (d : Dest) (x q : ℕ) → c'.head ≡ c.head → head_covers laid c' (more d x) q ≡ head_covers laid c d q
 covers_more laid c c' (Nowhere ty) x q e = refl
 covers_more laid c c' (Empty t) x q e = refl
@@ -479,12 +471,12 @@ goes-goes (Field t z x k p) i j g h = goes-there i j h g
 pub goes-absent : (o i : Sort) → is_there o ≡ false → Goes o i
 goes-absent Outside i h = tt
 goes-absent Absent i h = tt
-goes-absent (Scalar ty) i h = absurd (clash h)
-goes-absent Held i h = absurd (clash h)
-goes-absent (Placed t) i h = absurd (clash h)
-goes-absent (Loose t) i h = absurd (clash h)
-goes-absent (AtHead t) i h = absurd (clash h)
-goes-absent (Field t z x k p) i h = absurd (clash h)
+goes-absent (Scalar ty) i h = absurd (true≢false h)
+goes-absent Held i h = absurd (true≢false h)
+goes-absent (Placed t) i h = absurd (true≢false h)
+goes-absent (Loose t) i h = absurd (true≢false h)
+goes-absent (AtHead t) i h = absurd (true≢false h)
+goes-absent (Field t z x k p) i h = absurd (true≢false h)
 
 pub under_goes : {o : Ctx} {sc sc' : Scope} {env env' : Environment} → ((y : ℕ) → Goes (sc y) (sc' y)) → ((y : ℕ) → is_there (sc y) ≡ true → value_in env' y ≡ value_in env y) → Under o sc env → Under o sc' env'
 under_goes {o} {sc} {sc'} g e u = record {
@@ -521,17 +513,17 @@ is_field (AtHead t) = false
 is_field (Field t z x k p) = true
 
 pub agrees_put : (fs : List StoredField) (sc : Scope) (x : ℕ) (so : Sort) → is_field so ≡ false → Agrees fs sc → Agrees fs (put sc x so)
-agrees_put fs sc x so n h = record { agrees = λ y t z o k p. by_test y x (λ b. cond b so (sc y) ≡ Field t z o k p → ((field_of fs y).tree ≡ o) × ((field_of fs y).place ≡ p)) (λ e f. absurd (clash (sym (ap is_field f) ∙ n))) (λ e f. h.agrees y t z o k p f) }
+agrees_put fs sc x so n h = record { agrees = λ y t z o k p. by_test y x (λ b. cond b so (sc y) ≡ Field t z o k p → ((field_of fs y).tree ≡ o) × ((field_of fs y).place ≡ p)) (λ e f. absurd (true≢false (sym (ap is_field f) ∙ n))) (λ e f. h.agrees y t z o k p f) }
 
 loosen_field : (b : Bool) (so : Sort) (t z x k p : ℕ) → loosen_one b so ≡ Field t z x k p → so ≡ Field t z x k p
 loosen_field false so t z x k p e = e
-loosen_field true Outside t z x k p e = absurd (clash (sym (ap is_field e)))
-loosen_field true Absent t z x k p e = absurd (clash (sym (ap is_field e)))
-loosen_field true (Scalar ty) t z x k p e = absurd (clash (sym (ap is_field e)))
-loosen_field true Held t z x k p e = absurd (clash (sym (ap is_field e)))
-loosen_field true (Placed u) t z x k p e = absurd (clash (sym (ap is_field e)))
-loosen_field true (Loose u) t z x k p e = absurd (clash (sym (ap is_field e)))
-loosen_field true (AtHead u) t z x k p e = absurd (clash (sym (ap is_field e)))
+loosen_field true Outside t z x k p e = absurd (true≢false (sym (ap is_field e)))
+loosen_field true Absent t z x k p e = absurd (true≢false (sym (ap is_field e)))
+loosen_field true (Scalar ty) t z x k p e = absurd (true≢false (sym (ap is_field e)))
+loosen_field true Held t z x k p e = absurd (true≢false (sym (ap is_field e)))
+loosen_field true (Placed u) t z x k p e = absurd (true≢false (sym (ap is_field e)))
+loosen_field true (Loose u) t z x k p e = absurd (true≢false (sym (ap is_field e)))
+loosen_field true (AtHead u) t z x k p e = absurd (true≢false (sym (ap is_field e)))
 loosen_field true (Field u z' x' k' p') t z x k p e = e
 
 pub agrees_loosen : (fs : List StoredField) (sc : Scope) (m : ℕ → Bool) → Agrees fs sc → Agrees fs (loosen m sc)

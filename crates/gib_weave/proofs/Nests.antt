@@ -1,6 +1,7 @@
 -- A body has no more regions and `par`s open at a time than its code says.
-use Rattle.std.proofs.Common.{Bool, true, false, cond, ◌≡◌, ℕ, zero, suc, ◌+◌, ◌-◌, ◌≤◌, List, [], ◌∷◌, ◌++◌, Option, Some, None, refl, ap, ◌∙◌, arith}
+use Rattle.std.proofs.Common.{Bool, true, false, cond, ◌≡◌, ℕ, zero, suc, ◌+◌, ◌-◌, ◌≤◌, List, [], ◌∷◌, ◌++◌, Some, refl, ap, ◌∙◌, arith}
 use Rattle.std.specs.Prelude.{slice_get}
+use Rattle.std.proofs.lemmas.Option.{same_Some, none-some}
 use Rattle.gib_types.specs.declared.table.Ty.{Ty}
 use Rattle.gib_types.specs.declared.table.Ty.TheVariants.{Whole, Truth, Tree}
 use Rattle.gib_types.specs.Table.{fields_at}
@@ -36,16 +37,10 @@ most_open zero n (i ∷ is) = omega arith
 most_open (suc a) n [] = omega arith
 most_open (suc a) n (i ∷ is) = let h = most_open a (open_behind n i) is in omega (arith, h)
 
-some_is : {i j : Instruction} → ◌≡◌ {A = Option Instruction} (Some i) (Some j) → i ≡ j
-some_is e = cc
-
-none_some : {i : Instruction} → ◌≡◌ {A = Option Instruction} None (Some i) → ⊥
-none_some e = absurd cc
-
 goes_behind : (a n : ℕ) (is : List Instruction) (i : Instruction) → slice_get is a ≡ Some i → open_at (suc a) n is ≡ open_behind (open_at a n is) i
-goes_behind zero n [] i e = absurd (none_some e)
-goes_behind zero n (x ∷ is) i e = ap (λ (q : Instruction). open_behind n q) (some_is e)
-goes_behind (suc a) n [] i e = absurd (none_some e)
+goes_behind zero n [] i e = absurd (none-some _ e)
+goes_behind zero n (x ∷ is) i e = ap (λ (q : Instruction). open_behind n q) (same_Some _ _ e)
+goes_behind (suc a) n [] i e = absurd (none-some _ e)
 goes_behind (suc a) n (x ∷ is) i e = goes_behind a (open_behind n x) is i e
 
 -- Instructions that open and close nothing.

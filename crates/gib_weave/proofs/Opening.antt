@@ -1,5 +1,5 @@
 -- Which tasks are open after an event.
-use Rattle.std.proofs.lemmas.Bool.{cases_eq, cases_lt}
+use Rattle.std.proofs.lemmas.Bool.{cases_eq, cases_lt, false≢true}
 use Rattle.std.proofs.lemmas.List.{length-set}
 use Rattle.std.proofs.Common.{◌≡◌, ◌⊎◌, inl, inr, ℕ, zero, suc, ◌<◌, ◌≤◌, List, [], ◌∷◌, ◌++◌, length, slice_set, Bool, true, false, ◌&&◌, ◌||◌, refl, sym, ap, subst, ◌∙◌, arith}
 use Rattle.std.specs.Prelude.{Result, Ok, Err, Some, None, nat_eq, IsTrue}
@@ -7,6 +7,7 @@ use Rattle.std.specs.List.{list_any}
 use Rattle.std.specs.Ordering.{nat_cmp, is_lt}
 use Rattle.std.specs.BTreeMap.{is_at}
 use Rattle.std.specs.BTreeSet.{BTreeSet, btree_set_len, contains}
+use Rattle.std.proofs.Math.Bool.{or-false}
 use Rattle.gib_mem.specs.Memory.{Memory}
 use Rattle.gib_mem.specs.Plain.{nothing}
 use Rattle.gib_core.specs.Tree.{CoreTree}
@@ -23,9 +24,6 @@ use Rattle.gib_weave.proofs.Applying.{on_below}
 use Rattle.gib_weave.proofs.Picking.{newest_open, none_open, past_is_shut}
 use Rattle.gib_weave.proofs.Picks.{is_waiting, next_enabled}
 use Rattle.gib_weave.proofs.Weaves.{in_list, set_here, set_there}
-
-clash : false ≡ true → ⊥
-clash e = absurd cc
 
 -- Another task is as it was.
 apart : (ts : List Task) (i j : ℕ) (t : Task) → (j ≡ i → ⊥) → can_steal_from (task (slice_set ts i t) j) ≡ can_steal_from (task ts j)
@@ -92,7 +90,7 @@ module _ (code : CodeTree) (v : Weave) where
   was_open (w.forks {i = i} on e) o h = absurd (same_number i o)
   was_open (w.steals {i = i} on few st) o h = running_is (task v.tasks i) on.here ∙ is_waiting (task v.tasks i).sides (next_enabled code v _ _ (w.steals on few st)).2
   was_open (w.takes_it {i = i} on e q) o h = running_is (task v.tasks i) on.here ∙ ap has_waiting q
-  was_open (w.finishes {i = i} on e) o h = absurd (clash (sym (ap can_steal_from (set_here v.tasks i _ (on_below v i on))) ∙ h))
+  was_open (w.finishes {i = i} on e) o h = absurd (false≢true (sym (ap can_steal_from (set_here v.tasks i _ (on_below v i on))) ∙ h))
   was_open (w.joins_it {i = i} {j = j} {sts = sts} {a = a} on e q fin) o h =
       running_is (task v.tasks i) on.here ∙ ap has_waiting q
       ∙ sym (ap can_steal_from (set_there (slice_set v.tasks i _) j i _ not_side ∙ set_here v.tasks i _ (on_below v i on))) ∙ h
@@ -143,12 +141,8 @@ opens_other (w.Join i) k ne = refl
 narrowed : (a b c : Bool) → (b ≡ false → c ≡ true → a ≡ true) → ((a || b) && c) ≡ c
 narrowed true b c h = refl
 narrowed false true c h = refl
-narrowed false false true h = absurd (clash (h refl refl))
+narrowed false false true h = absurd (false≢true (h refl refl))
 narrowed false false false h = refl
-
-or_false : (a : Bool) → (a || false) ≡ a
-or_false true = refl
-or_false false = refl
 
 -- Where the task that an event may open was added before, and its task is taken out behind it if it is not open, the numbers are right.
 pub open_after : (code : CodeTree) (v v' : Weave) (e : Event) (r : Result (Unit {0}) WeaveFault) (s s1 s2 : BTreeSet ℕ) → Applied code v e v' r → AreOpen s v.tasks
@@ -170,7 +164,7 @@ open_after code v v' e r s s1 s2 h o added here others k = go (cases_eq k (numbe
 
     go : (k ≡ n) ⊎ (k ≡ n → ⊥) → contains nat_cmp s2 k ≡ can_steal_from (task v'.tasks k)
     go (inl d) = subst (λ (i : ℕ). contains nat_cmp s2 i ≡ can_steal_from (task v'.tasks i)) (sym d) at_task
-    go (inr ne) = others k ne ∙ added k ∙ ap (λ (b : Bool). contains nat_cmp s k || b) (opens_other e k ne) ∙ or_false (contains nat_cmp s k) ∙ o k ∙ sym (kept.others k ne)
+    go (inr ne) = others k ne ∙ added k ∙ ap (λ (b : Bool). contains nat_cmp s k || b) (opens_other e k ne) ∙ or-false (contains nat_cmp s k) ∙ o k ∙ sym (kept.others k ne)
 
 -- Where there is no number, no task is open.
 shut_all : (ts : List Task) (s : BTreeSet ℕ) → AreOpen s ts → s.keys ≡ [] → (k : ℕ) → can_steal_from (task ts k) ≡ false
@@ -192,7 +186,7 @@ newest_to_steal v s n o has h = newest_open v n can above (length v.tasks) (belo
 
     below : (n < length v.tasks) ⊎ (length v.tasks ≤ n) → n < length v.tasks
     below (inl l) = l
-    below (inr l) = absurd (clash (past_is_shut v.tasks n l ∙ can))
+    below (inr l) = absurd (false≢true (past_is_shut v.tasks n l ∙ can))
 
     above : (k : ℕ) → n < k → can_steal_from (task v.tasks k) ≡ false
     above k l = sym (o k) ∙ by_answer (contains nat_cmp s k) refl

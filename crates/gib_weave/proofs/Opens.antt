@@ -1,10 +1,11 @@
 -- Fields and regions are begun, and heads placed.
-use Rattle.std.proofs.Common.{◌≡◌, ℕ, zero, suc, ◌+◌, ◌*◌, ◌≤◌, Bool, true, false, List, [], ◌∷◌, length, slice_get, nat_le, Option, Some, None, refl, sym, ap, subst, ◌∙◌, arith}
+use Rattle.std.proofs.Common.{◌≡◌, ℕ, zero, suc, ◌+◌, ◌*◌, ◌≤◌, Bool, true, false, List, [], ◌∷◌, length, nat_le, Option, Some, None, refl, sym, ap, subst, ◌∙◌, arith}
 use Rattle.std.proofs.lemmas.Bool.Decides.{nat_tests}
+use Rattle.std.proofs.lemmas.Bool.{or_left, or_right}
 use Rattle.gib_types.specs.declared.table.Ty.{Ty}
 use Rattle.gib_types.specs.declared.table.Ty.TheVariants.{Whole, Truth, Tree}
 use Rattle.gib_types.specs.declared.table.ConId.{ConId}
-use Rattle.gib_types.specs.Table.{Table, Row, fields_at, fields_of, con_at, IsTable}
+use Rattle.gib_types.specs.Table.{fields_at, con_at, IsTable}
 use Rattle.gib_types.specs.Layout.{LaidOut, is_among, layout_of, packed_count, scalar_size, offset_size, head_size}
 use Rattle.gib_syntax.specs.Meaning.{is_scalar}
 use Rattle.gib_mem.specs.Memory.{Store, open_chunk, Grows}
@@ -35,11 +36,12 @@ use Rattle.gib_weave.proofs.Items.{safe_turning}
 use Rattle.gib_weave.proofs.Grow.{Stack-grows, Matches-grows}
 use Rattle.gib_weave.proofs.Move.{given_keeps, goes_new, moved_set, all_moved_set, Stack-moved, Matches-moved, covers_head, not_there, absent_slot, code_put}
 use Rattle.gib_weave.proofs.Places.{Apart-less, Apart-put_all, Apart-fresh, Apart-open, open-grows, open-small, within_front, within_redirect, within_chunk, chunk_room, rest_room, Splits, SplitsAt, splits}
-use Rattle.gib_weave.proofs.Lines.{opening, keeps_opening, HasAll-open, pend, keeps_holding, loosened, holding, HasAll-hold, all_under_hold, under_holding, all_calm_less, or_left, or_right, calm_loosened, resume-with, waiting}
+use Rattle.gib_weave.proofs.Lines.{opening, keeps_opening, HasAll-open, pend, keeps_holding, loosened, holding, HasAll-hold, all_under_hold, under_holding, all_calm_less, calm_loosened, resume-with, waiting}
 use Rattle.gib_core.specs.Ending.{Within}
 use Rattle.gib_weave.proofs.Tolds.{unheld, side_settled}
 use Rattle.gib_weave.proofs.Turns.{some_region, Stack-turn}
 use Rattle.gib_weave.proofs.Ends.{Levels, at_rest, step_is, widen}
+use Rattle.gib_core.proofs.Fine.{few_fields}
 
 module _ (core : CoreTree) (code : CodeTree) (owed : Owed) (own : Owned) (sh : Share) (lv : Levels) (ty : Ty) (rm : ℕ) where
   pub does_here : (s : Store) (ip : ℕ) (sl : Slots) (fs : List Frame) (n : ℕ) (rs : List OpenRegion) (ts : List ℕ) (x : Variable) (xt : Ty) (l : ℕ) (wi : Within) (t : Term) (u : Rest) (c : Ctx) (k : Kont) → IsAt code ip (Here x.0) → IsCode core code wi c.scope (ip + 1) t (To l 0) → RestCode core code c.line.within c.scope l u (end_of c.line.overs k)
@@ -180,13 +182,6 @@ few_offsets true n = omega arith
 
 small_layout : (b : Bool) (ts : List Ty) → length ts ≤ 8 → (layout_of b ts).head + 9 ≤ 4096
 small_layout b ts h = let i = few_packed ts in let j = few_scalars ts in let k = few_offsets b (packed_count ts) in omega (arith, h, i, j, k)
-
-pub few_fields : (table : Table) → IsTable table → (k : ℕ) → length (fields_at table k) ≤ 8
-few_fields table t k = go (slice_get table.rows k) refl
-  where
-    go : (o : Option Row) → slice_get table.rows k ≡ o → length (fields_of o) ≤ 8
-    go None e = omega arith
-    go (Some row) e = (t.rows k row e).few
 
 pub size_few : (laid : LaidOut) → IsTable laid.table → (k : ℕ) → head_size laid k ≤ 65
 size_few laid t k = head_long (is_among laid.with_offsets k) (fields_at laid.table k) (few_fields laid.table t k)

@@ -4,7 +4,7 @@ use Rattle.std.proofs.lemmas.Bool.Decides.{nat_tests}
 use Rattle.gib_types.specs.declared.table.Ty.{Ty}
 use Rattle.gib_syntax.specs.Meaning.{Outcome}
 use Rattle.gib_mem.specs.Memory as mem
-use Rattle.gib_mem.specs.Memory.{Memory, Store, Cell, absent, fresh, byte, after_puts, open_chunk, Grows, Holds}
+use Rattle.gib_mem.specs.Memory.{Memory, Store, Cell, absent, fresh, after_puts, open_chunk, Grows, Holds}
 use Rattle.gib_core.specs.Tree.{CoreTree}
 use Rattle.gib_core.specs.Cost.{Cost}
 use Rattle.gib_code.specs.Program.{CodeTree}
@@ -19,9 +19,7 @@ use Rattle.gib_weave.proofs.Memories.{draws_new}
 use Rattle.gib_weave.proofs.Weaves.{grows_on}
 use Rattle.gib_weave.proofs.Events.{event_keeps, owes_next, after_puts_is}
 use Rattle.gib_weave.proofs.Progress.{careful, run_keeps}
-
-fresh_byte : {b : ℕ} → fresh ≡ byte b → ⊥
-fresh_byte e = absurd cc
+use Rattle.gib_weave.proofs.Cells.{fresh_byte}
 
 -- each of the bytes that stand from a on
 holds_at : {s : Store} {a : ℕ} {bs : List ℕ} (q : ℕ) → Holds s a bs → a ≤ q → q < a + length bs → HasByte s q

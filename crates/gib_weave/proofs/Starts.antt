@@ -1,5 +1,7 @@
 -- The root starts sound, and lowered bodies are as the law wants them.
 use Rattle.std.proofs.Common.{◌≡◌, ℕ, zero, suc, ◌+◌, ◌*◌, ◌<◌, ◌≤◌, true, false, cond, List, [], ◌∷◌, length, Option, Some, None, refl, sym, ap, subst, ◌∙◌, arith}
+use Rattle.std.proofs.lemmas.Bool.{false≢true, true≢false}
+use Rattle.std.proofs.lemmas.Option.{none-some, same_Some}
 use Rattle.gib_types.specs.declared.table.Ty.{Ty}
 use Rattle.gib_types.specs.declared.table.Ty.TheVariants.{Whole, Truth, Tree}
 use Rattle.gib_types.specs.Table.{IsTable}
@@ -19,7 +21,6 @@ use Rattle.gib_machine.specs.Machine.{times, nesting, widest, Slots, slot, Open 
 use Rattle.gib_core.specs.Cost.{Cost, plus, one_region}
 use Rattle.gib_weave.proofs.Counts.{goes_on_counted, same_most, Paid, tail_counted, chunk_counted}
 use Rattle.gib_core.specs.Ending.{Within, within_function, within_main}
-use Rattle.gib_weave.proofs.Lines.{no_told}
 use Rattle.gib_core.specs.Fits.{AtEnd, new_line, body_needs, none_of, Sort, Outside, Absent, Scalar, Placed, Field, Scope, Dest, dest_of, dest_type, param_sort, body_scope, AllFit}
 use Rattle.gib_weave.specs.Environment.{Ctx, Has, HasAll, IsDest}
 use Rattle.gib_weave.specs.Continuing.{Plain, KEnd, Agrees}
@@ -36,9 +37,6 @@ use Rattle.gib_weave.proofs.Binds.{frame-length, body_end, no_slot, nothing_boun
 use Rattle.gib_weave.proofs.Ends.{at_rest}
 use Rattle.gib_weave.proofs.Nests.{nests_within}
 
-clash : true ≡ false → ⊥
-clash h = absurd cc
-
 -- No field is in scope where a body begins.
 
 param_field : (p : Ty) → is_field (param_sort p) ≡ false
@@ -54,7 +52,7 @@ body_field (suc n) (p ∷ ps) zero = param_field p
 body_field (suc n) (p ∷ ps) (suc y) = body_field n ps y
 
 no_fields : (fs : List StoredField) (n : ℕ) (ps : List Ty) → Agrees fs (body_scope n ps)
-no_fields fs n ps = record { agrees = λ y t z x k p e. absurd (clash (sym (ap is_field e) ∙ body_field n ps y)) }
+no_fields fs n ps = record { agrees = λ y t z x k p e. absurd (true≢false (sym (ap is_field e) ∙ body_field n ps y)) }
 
 -- The code of a function of a name.
 
@@ -63,17 +61,11 @@ pub record Found (core : CoreTree) (code : CodeTree) (es : List Entry) (i : ℕ)
   pub slots : slots_at es i ≡ length g.parameters + length (binders g.body)
   pub low : Low core code (within_function core g) [] (start_at es i) g.body (Returns []) until
 
-none_some : {g : FunctionTerm} → ◌≡◌ {A = Option FunctionTerm} None (Some g) → ⊥
-none_some e = absurd cc
-
-some_is : {f g : FunctionTerm} → ◌≡◌ {A = Option FunctionTerm} (Some f) (Some g) → f ≡ g
-some_is e = cc
-
 found : (core : CoreTree) (code : CodeTree) (a : ℕ) (gs : List FunctionTerm) (es : List Entry) → LowFunctions core code a gs es → (f : ℕ) (g : FunctionTerm) → function_at gs f ≡ Some g → Found core code es (function_number gs f) g
-found core code a _ _ (low.main nm rs st sl lo) f g e = absurd (none_some e)
+found core code a _ _ (low.main nm rs st sl lo) f g e = absurd (none-some _ e)
 found core code a _ _ (low.function {z = z} {g = h} {gs = gs} {e = e} {es = es} nm rs st sl lo later) f g eq =
     by_test h.name.0 f (λ b. cond b (Some h) (function_at gs f) ≡ Some g → Found core code (e ∷ es) (cond b 0 (suc (function_number gs f))) g)
-    (λ q r. subst (λ (k : FunctionTerm). Found core code (e ∷ es) 0 k) (some_is r) (record { until = z; slots = sl; low = subst (λ (n : ℕ). Low core code (within_function core h) [] n h.body (Returns []) z) (sym st) lo }))
+    (λ q r. subst (λ (k : FunctionTerm). Found core code (e ∷ es) 0 k) (same_Some _ _ r) (record { until = z; slots = sl; low = subst (λ (n : ℕ). Low core code (within_function core h) [] n h.body (Returns []) z) (sym st) lo }))
     (λ q r. let i = found core code z gs es later f g r in record { until = i.until; slots = i.slots; low = i.low })
     eq
 
@@ -133,7 +125,7 @@ main_has laid s c (suc n) p w v zero h = argument_has laid s c p w v h
 main_has laid s c (suc n) p w v (suc y) h = nothing_bound laid s c n y (slot (frame n []) y) (slot (frame n []) y) 0 _
 
 main_vars : (wi : Within) (laid : LaidOut) (s : Store) (n : ℕ) (p : Ty) (w : ℕ) (v : Datum) (d : Dest) (a : ℕ) → IsArgument laid s p w v → HasAll laid s (frame n (w ∷ [])) (main_line wi n p w v d a)
-main_vars wi laid s n p w v d a h = record { has = λ y. main_has laid s (main_line wi n p w v d a) n p w v y h; wide = λ y g. subst (λ (q : ℕ). y < q) (sym (frame-length n (w ∷ []))) (no_slot n (p ∷ []) y g); ends = λ y. body_end laid s n (p ∷ []) y (w ∷ []) _; even = frame-length n [] ∙ sym (frame-length n (w ∷ [])); told = λ q e. absurd (no_told e); closes = tt }
+main_vars wi laid s n p w v d a h = record { has = λ y. main_has laid s (main_line wi n p w v d a) n p w v y h; wide = λ y g. subst (λ (q : ℕ). y < q) (sym (frame-length n (w ∷ []))) (no_slot n (p ∷ []) y g); ends = λ y. body_end laid s n (p ∷ []) y (w ∷ []) _; even = frame-length n [] ∙ sym (frame-length n (w ∷ [])); told = λ q e. absurd (false≢true e); closes = tt }
 
 root_of : (ty : Ty) (a : ℕ) → IsRoot ty a (record { start = a; cur = a } ∷ [])
 root_of Whole a = tt

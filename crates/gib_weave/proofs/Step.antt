@@ -1,5 +1,5 @@
 -- Each micro-step keeps a task sound.
-use Rattle.std.proofs.Common.{◌≡◌, ℕ, zero, suc, ◌+◌, ◌-◌, Bool, true, false, ◌||◌, List, ◌∷◌, Option, cond, refl, sym, ap, subst, ◌∙◌, arith}
+use Rattle.std.proofs.Common.{◌≡◌, ℕ, zero, suc, ◌+◌, ◌-◌, Bool, true, false, List, ◌∷◌, Option, cond, refl, sym, ap, subst, ◌∙◌, arith}
 use Rattle.gib_types.specs.declared.table.Ty.{Ty}
 use Rattle.gib_mem.specs.Memory.{Store}
 use Rattle.gib_core.specs.declared.atom.Access.TheVariants as by
@@ -35,7 +35,7 @@ use Rattle.gib_weave.proofs.Switches.{does_case}
 use Rattle.gib_weave.proofs.Telling.{does_end}
 use Rattle.gib_weave.proofs.Uses.{both_is, both_costs}
 use Rattle.gib_weave.proofs.Ends.{first_at, rest_at, Levels, at_rest, step_is}
-use Rattle.gib_weave.proofs.Forks.{par_at, side_safe, does_leave, does_meet, does_last}
+use Rattle.gib_weave.proofs.Forks.{par_at, side_safe, does_leave, does_meet, does_last, or_assoc}
 use Rattle.gib_weave.proofs.Joins.{meets, meets_unwinding}
 use Rattle.gib_core.specs.declared.atom.Kind.{Kind}
 use Rattle.gib_core.specs.declared.atom.Variable.{Variable}
@@ -43,10 +43,6 @@ use Rattle.gib_core.specs.declared.atom.Variable.{Variable}
 with_ext : (o : Outcome) (f g : Datum → Outcome) → ((v : Datum) → f v ≡ g v) → with_value o f ≡ with_value o g
 with_ext (Stops why) f g h = refl
 with_ext (Gives v) f g h = h v
-
-or_assoc : (a b c : Bool) → (a || (b || c)) ≡ true → ((a || b) || c) ≡ true
-or_assoc true b c e = refl
-or_assoc false b c e = e
 
 after_moves : {core : CoreTree} {code : CodeTree} {owed : Owed} {own : Owned} {sh : Share} {s : Store} {m : State} → Moves core code owed own sh s m → After core code owed own sh s m (next code m)
 after_moves {core} {code} {owed} {own} {sh} {s} {m} (silent e g) = subst (After core code owed own sh s m) (sym e) (sh, no_spending sh, g)

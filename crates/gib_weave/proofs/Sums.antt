@@ -1,7 +1,8 @@
 -- A run by ends: its core, which is marked, has the parameter of its function as the ended one, fits, and has that code; the run's
 -- journals are legal.
 use Rattle.std.proofs.Common.{◌≡◌, ℕ, zero, suc, ◌+◌, ◌<◌, Bool, true, false, List, [], ◌∷◌, Option, Some, None, slice_get, length, pos, cond, eqb, refl, subst, arith}
-use Rattle.std.proofs.lemmas.Bool.{eqb-true}
+use Rattle.std.proofs.lemmas.Bool.{eqb-true, false≢true, or_right}
+use Rattle.std.proofs.lemmas.Option.{none-some}
 use Rattle.gib_types.specs.declared.table.Ty.TheVariants.{Whole}
 use Rattle.gib_types.specs.Table.{Row, IsTable, IsRow, con_at}
 use Rattle.gib_core.specs.declared.atom.Ended.{Ended}
@@ -22,7 +23,6 @@ use Rattle.gib_weave.specs.Worked.{table, tree}
 use Rattle.gib_weave.specs.Summing.{core, code, sum_term, leaf_arm, node_arm, start, journal}
 use Rattle.gib_weave.proofs.Ends.{or_none}
 use Rattle.gib_weave.proofs.Journals.{on, steps_are}
-use Rattle.gib_weave.proofs.Lines.{no_told, or_right}
 use Rattle.gib_weave.proofs.Row.{steps}
 
 -- The table.
@@ -113,22 +113,19 @@ sum_fits = (0, record { variable = v 0; atom = refl; sort = refl }, covers, ((re
 pub sum_all_fits : AllFit core
 sum_all_fits = record { table = rules; functions = each; main = record { fits = main } }
   where
-    no : {g : FunctionTerm} → ◌≡◌ {A = Option FunctionTerm} None (Some g) → ⊥
-    no e = absurd cc
-
     found : (g : FunctionTerm) → ◌≡◌ {A = Option FunctionTerm} (Some sum_term) (Some g) → FunctionFits core 0 g (length g.parameters + length (binders g.body))
     found g e = let same : sum_term ≡ g = cc in
         subst (λ (h : FunctionTerm). FunctionFits core 0 h (length h.parameters + length (binders h.body))) same (record { fits = sum_fits; enough = omega arith })
 
     by_name : (g : FunctionTerm) (f : ℕ) (b : Bool) → eqb 0 f ≡ b → cond b (Some sum_term) None ≡ Some g → FunctionFits core f g (length g.parameters + length (binders g.body))
     by_name g f true h e = subst (λ (n : ℕ). FunctionFits core n g (length g.parameters + length (binders g.body))) (eqb-true 0 f h) (found g e)
-    by_name g f false h e = absurd (no e)
+    by_name g f false h e = absurd (none-some _ e)
 
     each : (g : FunctionTerm) (f : ℕ) → function_at core.functions f ≡ Some g → FunctionFits core f g (length g.parameters + length (binders g.body))
     each g f e = by_name g f (eqb 0 f) refl e
 
     main : Fits core (AtEnd none_of) core.main.body (body_scope 2 (tree ∷ [])) (dest_of Whole) (new_line (within_main core))
-    main = (refl, refl, record { function = sum_term; named = refl; result = refl; arguments = (refl, tt) }, (Whole, refl, refl, refl, (tt, λ q e. absurd (no_told e))))
+    main = (refl, refl, record { function = sum_term; named = refl; result = refl; arguments = (refl, tt) }, (Whole, refl, refl, refl, (tt, λ q e. absurd (false≢true e))))
 
 -- Its code.
 

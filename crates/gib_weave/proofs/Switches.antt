@@ -1,6 +1,7 @@
 -- A case.
 use Rattle.std.proofs.Common.{◌≡◌, ℕ, ◌+◌, ◌<◌, ◌^◌, ◌%◌, Bool, true, false, eqb, slice_set, ◌||◌, ◌&&◌, ◌==◌, List, [], ◌∷◌, ◌++◌, length, Option, Some, None, refl, sym, ap, subst, ◌∙◌, arith}
-use Rattle.std.proofs.lemmas.Bool.{eq-eqb}
+use Rattle.std.proofs.lemmas.Bool.{eq-eqb, or_left, or_right, true≢false, and_parts}
+use Rattle.std.proofs.lemmas.Option.{none-some, same_Some}
 use Rattle.gib_types.specs.declared.table.Ty.{Ty}
 use Rattle.gib_types.specs.Table.{fields_at, con_at}
 use Rattle.gib_types.specs.Layout.{LaidOut, is_among, layout_at, head_size, packed_count}
@@ -36,8 +37,7 @@ use Rattle.gib_weave.specs.Starting.{AreBodies}
 use Rattle.gib_weave.proofs.Basics.{by_test, put-same, set-same, both_is}
 use Rattle.gib_weave.proofs.Move.{settled_there, tree_settled, goes-refl, with_line, Matches-line, keeps_line, given_keeps, covers_head, end_kept, MovedOne, Moved, moved_same, AllMoved, Stack-moved, Matches-moved, goes-there, agrees_put}
 use Rattle.gib_weave.proofs.Places.{Apart-less}
-use Rattle.gib_weave.proofs.Lines.{or_left, or_right}
-use Rattle.gib_weave.proofs.Readings.{get_one, looks, first, tail, known_below}
+use Rattle.gib_weave.proofs.Readings.{get_one, looks, known_below}
 use Rattle.gib_types.specs.declared.table.ConId.{ConId}
 use Rattle.gib_types.specs.declared.table.Ty.TheVariants.{Whole, Truth, Tree}
 use Rattle.gib_core.specs.Ending.{Within, last_packed}
@@ -46,17 +46,10 @@ use Rattle.gib_weave.proofs.EndWords.{Walked}
 use Rattle.gib_weave.proofs.Opens.{size_small}
 use Rattle.gib_weave.proofs.Binds.{tree_of}
 use Rattle.gib_weave.proofs.Arms.{with_sort, StaysHead, Line, line_of, term_at, line_sort}
-use Rattle.gib_weave.proofs.Cases.{BeforeIs, number_of_var, no_tree_end, parts, scalar_slots, first_slots, scalar_kept, first_kept, scalar_long, first_long, scalar_ends, first_ends, scalar_even, first_even, slots_fit, run_scalars, run_first, extend, agrees_arm, find, Holds-right, Holds-left}
+use Rattle.gib_weave.proofs.Cases.{BeforeIs, number_of_var, no_tree_end, parts, scalar_slots, first_slots, scalar_kept, first_kept, scalar_long, first_long, scalar_ends, first_ends, scalar_even, first_even, slots_fit, run_scalars, run_first, extend, agrees_arm, find}
 use Rattle.gib_weave.proofs.Ends.{Levels, at_rest, step_is, silently}
-
-clash : true ≡ false → ⊥
-clash h = absurd cc
-
-none_some : {t : ℕ} → ◌≡◌ {A = Option ℕ} None (Some t) → ⊥
-none_some e = absurd cc
-
-some_is : {t u : ℕ} → ◌≡◌ {A = Option ℕ} (Some u) (Some t) → u ≡ t
-some_is e = cc
+use Rattle.gib_packed.proofs.StoredLemmas.{Holds-front, Holds-behind}
+use Rattle.gib_packed.proofs.HoldsLemmas.{Holds-rest, Holds-first}
 
 -- Slots that no line relies on.
 
@@ -71,7 +64,7 @@ moved_there laid s (AtHead t) w w' v h = h refl
 moved_there laid s (Field t z x k p) w w' v h = tt
 
 there_bound : (so : Sort) → is_there so ≡ true → so ≡ Absent → ⊥
-there_bound so h e = clash (sym h ∙ ap is_there e)
+there_bound so h e = true≢false (sym h ∙ ap is_there e)
 
 -- all slots but those of new variables are as they were
 pub record OnlyNew (sl F : Slots) (sc : Scope) : Type 0 where
@@ -116,21 +109,21 @@ all_moved_new laid s sl F sc env (KCallScalar x ty gs v c k) n u = tt
 goes_head : (so : Sort) (t : ℕ) → tree_type so ≡ Some t → Goes so (AtHead t)
 goes_head Outside t h = tt
 goes_head Absent t h = tt
-goes_head (Scalar ty) t h = absurd (none_some h)
-goes_head Held t h = absurd (none_some h)
+goes_head (Scalar ty) t h = absurd (none-some _ h)
+goes_head Held t h = absurd (none-some _ h)
 goes_head (Placed u) t h = sym h
 goes_head (Loose u) t h = sym h
-goes_head (AtHead u) t h = ap AtHead (sym (some_is h))
-goes_head (Field u z x k p) t h = absurd (none_some h)
+goes_head (AtHead u) t h = ap AtHead (sym (same_Some _ _ h))
+goes_head (Field u z x k p) t h = absurd (none-some _ h)
 
 -- what inner lines rely on, where the variable's slot is its head's place now
 moved_tree : (laid : LaidOut) (s : Store) (o i : Sort) (t w a : ℕ) (v : Datum) → Goes o i → tree_type i ≡ Some t → ((u : ℕ) → o ≡ Placed u → ⊥) → ((u : ℕ) → i ≡ AtHead u → a ≡ w) → (is_there o ≡ true → StandsAt laid s t a v) → MovedOne laid s o w a v
 moved_tree laid s Outside i t w a v g e np ah st = tt
 moved_tree laid s Absent i t w a v g e np ah st = tt
-moved_tree laid s (Scalar ty) i t w a v g e np ah st = absurd (none_some (sym (ap tree_type g) ∙ e))
-moved_tree laid s Held i t w a v g e np ah st = absurd (none_some (sym (ap tree_type g) ∙ e))
+moved_tree laid s (Scalar ty) i t w a v g e np ah st = absurd (none-some _ (sym (ap tree_type g) ∙ e))
+moved_tree laid s Held i t w a v g e np ah st = absurd (none-some _ (sym (ap tree_type g) ∙ e))
 moved_tree laid s (Placed u) i t w a v g e np ah st = absurd (np u refl)
-moved_tree laid s (Loose u) i t w a v g e np ah st = λ h. subst (λ (q : ℕ). StandsAt laid s q a v) (some_is (sym e ∙ g)) (st refl)
+moved_tree laid s (Loose u) i t w a v g e np ah st = λ h. subst (λ (q : ℕ). StandsAt laid s q a v) (same_Some _ _ (sym e ∙ g)) (st refl)
 moved_tree laid s (AtHead u) i t w a v g e np ah st = ah u g
 moved_tree laid s (Field u z x k p) i t w a v g e np ah st = tt
 
@@ -164,20 +157,12 @@ no_last sc [] ys n h = refl
 no_last sc (t ∷ ts) [] n h = absurd n
 no_last sc (Whole ∷ ts) (y ∷ ys) n h = no_last (put sc y.0 Held) ts ys n.1 h
 no_last sc (Truth ∷ ts) (y ∷ ys) n h = no_last (put sc y.0 Held) ts ys n.1 h
-no_last sc (Tree t ∷ ts) (y ∷ ys) n h = absurd (clash (sym h ∙ some_last y ts ys))
-
-and_left : (a b : Bool) → (a && b) ≡ true → a ≡ true
-and_left true b h = refl
-and_left false b h = h
-
-and_right : (a b : Bool) → (a && b) ≡ true → b ≡ true
-and_right true b h = h
-and_right false b h = absurd (clash (sym h))
+no_last sc (Tree t ∷ ts) (y ∷ ys) n h = absurd (true≢false (sym h ∙ some_last y ts ys))
 
 told_arm : (a lf : Bool) (F : Slots) (sc : Scope) (q x : ℕ) → is_settled (sc x) ≡ true → (a ≡ true → IsTold F sc q) → (lf ≡ true → 0 < end_at F x) → (a || (lf && q == x)) ≡ true → IsTold F sc q
 told_arm true lf F sc q x st f g h = f refl
-told_arm false false F sc q x st f g h = absurd (clash (sym h))
-told_arm false true F sc q x st f g h = by_test q x (λ b. b ≡ true → IsTold F sc q) (λ e i. subst (λ (y : ℕ). IsTold F sc y) (sym e) (record { settled = st; some = g refl })) (λ e i. absurd (clash (sym i))) h
+told_arm false false F sc q x st f g h = absurd (true≢false (sym h))
+told_arm false true F sc q x st f g h = by_test q x (λ b. b ≡ true → IsTold F sc q) (λ e i. subst (λ (y : ℕ). IsTold F sc y) (sym e) (record { settled = st; some = g refl })) (λ e i. absurd (true≢false (sym i))) h
 
 module _ (core : CoreTree) (code : CodeTree) (owed : Owed) (own : Owned) (sh : Share) (lv : Levels) (ty : Ty) (rm : ℕ) where
   line_line : (s : Store) (sl : Slots) (fs : List Frame) (rs : List OpenRegion) (ts : List ℕ) (c : Ctx) (k : Kont) (m : ℕ → Bool) (ln : FitsLine) → ((q : ℕ) → ln.told q ≡ true → IsTold sl c.scope q) → AllClose code.laid s c ln.overs → Line core code owed own sh lv ty rm s sl fs rs ts c k m → Line core code owed own sh lv ty rm s sl fs rs ts (with_line c ln) k m
@@ -210,7 +195,7 @@ module _ (core : CoreTree) (code : CodeTree) (ok : AreBodies core code) (owed : 
       let q : (slot F x + size) % 2 ^ 64 ≡ slot F x + size = omega (arith, small) in
       let st = tree_settled (c.scope x) t sort in
       let lt : x < length F.ends = let w = ln.matches.vars.wide x (settled_slot (c.scope x) st) in let ev = ln.matches.vars.even in omega (arith, w, ev) in
-      let tl : Tells code.laid s (c.scope x) (slot F x) (value_in c.env x) z = λ u2 so r. subst (λ (y : ℕ). Dec code.laid s (slot F x) y (value_in c.env x) z) (some_is (sym sort ∙ so)) (subst (λ (y : ℕ). Dec code.laid s (slot F x) t (value_in c.env x) y) (sym q) (dec h)) in
+      let tl : Tells code.laid s (c.scope x) (slot F x) (value_in c.env x) z = λ u2 so r. subst (λ (y : ℕ). Dec code.laid s (slot F x) y (value_in c.env x) z) (same_Some _ _ (sym sort ∙ so)) (subst (λ (y : ℕ). Dec code.laid s (slot F x) t (value_in c.env x) y) (sym q) (dec h)) in
       silently core code owed own sh lv ty rm {m = at_rest lv ty rm l F fs n rs tls} refl e refl
       (rests (at_term (go (told F x z) (record {
         kind = ln.kind;
@@ -265,11 +250,11 @@ module _ (core : CoreTree) (code : CodeTree) (ok : AreBodies core code) (owed : 
           subst (λ (q : List ℕ). Safe core code owed own sh s (at_rest lv ty rm (label_of arms kk) (record { vars = slice_set sl.vars x.0 a; ends = q }) fs n rs tls)) (sym wk.told) (
           let here : StandsAt code.laid s t a (value_in c.env x.0) = subst (λ (v : Datum). StandsAt code.laid s t a v) (sym ev) (record { end = z; dec = d.head sm kc hb ds }) in
           let same_slot : (u : ℕ) → c.scope x.0 ≡ AtHead u → a ≡ slot sl x.0 = λ u h. let hx = head_of u h in start hx.tag (subst (λ (q : ℕ). s q ≡ byte hx.tag) (sym hx.same) hx.known) hx.is_head in
-          let stays : StaysHead c x.0 (AtHead t) a = record { there = refl; slot = tree_slot (c.scope x.0) t sort; same = λ o h. (ap AtHead (sym (some_is (sym (ap tree_type h) ∙ sort))), same_slot o h ∙ (head_of o h).same) } in
+          let stays : StaysHead c x.0 (AtHead t) a = record { there = refl; slot = tree_slot (c.scope x.0) t sort; same = λ o h. (ap AtHead (sym (same_Some _ _ (sym (ap tree_type h) ∙ sort))), same_slot o h ∙ (head_of o h).same) } in
           let c1 = with_sort c x.0 (AtHead t) a in
           let sl1 = set_both sl x.0 a wk.last in
           let l1 = line_sort core code owed own sh lv ty rm s sl fs rs tls c k (cased whole) x.0 a wk.last (AtHead t) a (line_of core code owed own sh lv ty rm s ip sl fs n rs tls whole c k at) stays (tree_not_held (c.scope x.0) t sort)
-          (record { same = refl; tag = kk; known = first hb; is_head = sm; stands = here }) (wk.keeps (c.pl x.0) (tree_end code.laid s (c.scope x.0) t (slot sl x.0) (end_at sl x.0) (value_in c.env x.0) (c.pl x.0) sort (at.matches.vars.ends x.0))) refl (λ g p. wk.stays p) (goes_head (c.scope x.0) t sort)
+          (record { same = refl; tag = kk; known = Holds-first hb; is_head = sm; stands = here }) (wk.keeps (c.pl x.0) (tree_end code.laid s (c.scope x.0) t (slot sl x.0) (end_at sl x.0) (value_in c.env x.0) (c.pl x.0) sort (at.matches.vars.ends x.0))) refl (λ g p. wk.stays p) (goes_head (c.scope x.0) t sort)
           (λ o un ca. record {
             kept = λ g p. wk.stays p;
             end_of = moved_end code.laid s (o.scope x.0) (c.scope x.0) t (slot sl x.0) a (end_at sl x.0) wk.last (value_in c.env x.0) (value_in o.env x.0) (o.pl x.0) (un.sorts x.0) sort (λ h. sym (un.same x.0 h)) (wk.keeps (o.pl x.0));
@@ -312,9 +297,9 @@ module _ (core : CoreTree) (code : CodeTree) (ok : AreBodies core code) (owed : 
             free = l1.free;
           } in
           let wide : (q : ℕ) → c1.scope q ≡ Absent → q < length sl1.vars = λ q h. l1.matches.vars.wide q (ap has_slot h) in
-          let behind_tag : Holds s (a + 1) (offset_bytes (is_among code.laid.with_offsets kk) places ++ scalars vs) = tail hb in
+          let behind_tag : Holds s (a + 1) (offset_bytes (is_among code.laid.with_offsets kk) places ++ scalars vs) = Holds-rest hb in
           let al = extend core code owed own sh lv ty rm s F fs rs tls k (cased whole) x.0 kk t w ts ys vs places w z 1 None c1 c1.scope nw (λ q h. h) ds (slots_fit c1.scope w ts ys vs sl1 nw wide l1.matches.vars.even) refl
-          (λ h. subst (λ (q : ℕ). Holds s (q + 1) (offset_bytes true places)) (sym (put-same c.hd x.0 a)) (subst (λ (b : Bool). Holds s (a + 1) (offset_bytes b places)) h (Holds-left (a + 1) (offset_bytes (is_among code.laid.with_offsets kk) places) (scalars vs) behind_tag)))
+          (λ h. subst (λ (q : ℕ). Holds s (q + 1) (offset_bytes true places)) (sym (put-same c.hd x.0 a)) (subst (λ (b : Bool). Holds s (a + 1) (offset_bytes b places)) h (Holds-front (a + 1) (offset_bytes (is_among code.laid.with_offsets kk) places) (scalars vs) behind_tag)))
           (put-same c.scope x.0 (AtHead t)) l2 in
           let final_scope : al.ctx.scope ≡ arm_scope x.0 kk 1 None (fields_at core.table kk) ys c1.scope = al.scope ∙ ap (λ (q : LaidOut). arm_scope x.0 kk 1 None (fields_at q.table kk) ys c1.scope) ok.laid in
           let cid : ConId = record { 0 = kk } in
@@ -347,10 +332,10 @@ module _ (core : CoreTree) (code : CodeTree) (ok : AreBodies core code) (owed : 
           let done : Safe core code owed own sh s (at_rest lv ty rm found.start F fs n rs tls) =
           run_leaf s F fs n rs tls found.term al.ctx fc k (cased whole) x.0 t size (packed_count ts) found.start found.after c.line.within.ends (c.line.within.ends && is_leaf (last_packed None (fields_at core.table kk) ys))
           (subst (λ (q : LaidOut). LeafAt code c.line.within.ends x.0 (head_size q kk) (packed_count (fields_at q.table kk)) found.start found.after) (sym ok.laid) found.leaf)
-          (ap tree_type al.head) (subst (λ (q : ℕ). q + size < 2 ^ 64) (sym x_slot) (let i = known_below at.small (first hb) in let j = size_small code.laid ok.table kk in omega (arith, i, j)))
+          (ap tree_type al.head) (subst (λ (q : ℕ). q + size < 2 ^ 64) (sym x_slot) (let i = known_below at.small (Holds-first hb) in let j = size_small code.laid ok.table kk in omega (arith, i, j)))
           (λ h. subst (λ (q : ℕ). Dec code.laid s q t (value_in al.ctx.env x.0) (q + size)) (sym x_slot) (subst (λ (q : Datum). Dec code.laid s a t q (a + size)) (sym al.worth) (subst (λ (q : ℕ). Dec code.laid s a t (value_in c.env x.0) q) (no_tree_end h ds) (subst (λ (q : Datum). Dec code.laid s a t q z) (sym ev) (d.head sm kc hb ds)))))
           (size_some code.laid kk)
-          (λ h. (and_left c.line.within.ends _ h, subst (λ (q : LaidOut). packed_count (fields_at q.table kk) ≡ 0) (sym ok.laid) (no_last c1.scope (fields_at core.table kk) ys found.new (and_right c.line.within.ends _ h))))
+          (λ h. ((and_parts c.line.within.ends _ h).0, subst (λ (q : LaidOut). packed_count (fields_at q.table kk) ≡ 0) (sym ok.laid) (no_last c1.scope (fields_at core.table kk) ys found.new (and_parts c.line.within.ends _ h).1)))
           al.line
           (λ F' l lf. term_at core code owed own sh lv ty rm s found.after F' fs n rs tls found.term fc k (cased whole)
           (line_line core code owed own sh lv ty rm s F' fs rs tls al.ctx k (cased whole) L
@@ -358,9 +343,9 @@ module _ (core : CoreTree) (code : CodeTree) (ok : AreBodies core code) (owed : 
           is_code fit found.calm owes at.sides (let h = at.nests in let g = found.nests in omega (arith, h, g)) (let h = at.narrow in let g = found.nests in omega (arith, h, g)) at.all_room counted) in
           let split = parts (label_of arms kk) (scalar_reads x.0 p0 ts ys) (first_reach x.0 (head_size code.laid kk) ts ys) found.start op in
           let q0 : a + 1 + length (offset_bytes (is_among code.laid.with_offsets kk) places) ≡ a + p0 = let g = offsets-length {laid = code.laid} {s = s} kk ds in omega (arith, g) in
-          let sbytes : Holds s (a + p0) (scalars vs) = subst (λ (q : ℕ). Holds s q (scalars vs)) q0 (Holds-right (a + 1) (offset_bytes (is_among code.laid.with_offsets kk) places) (scalars vs) behind_tag) in
+          let sbytes : Holds s (a + p0) (scalars vs) = subst (λ (q : ℕ). Holds s q (scalars vs)) q0 (Holds-behind (a + 1) (offset_bytes (is_among code.laid.with_offsets kk) places) (scalars vs) behind_tag) in
           run_scalars core code owed own sh lv ty rm s fs n rs tls c1.scope x.0 a ts ys vs places w z p0 (label_of arms kk) split.middle sl1 nw not_x ds sbytes at_x split.left
-          (run_first core code owed own sh lv ty rm s fs n rs tls x.0 a (head_size code.laid kk) ts ys split.middle found.start slS (let i = known_below at.small (first hb) in let j = size_small code.laid ok.table kk in omega (arith, i, j)) (scalar_kept c1.scope ts ys vs sl1 x.0 nw not_x ∙ at_x) split.right done))
+          (run_first core code owed own sh lv ty rm s fs n rs tls x.0 a (head_size code.laid kk) ts ys split.middle found.start slS (let i = known_below at.small (Holds-first hb) in let j = size_small code.laid ok.table kk in omega (arith, i, j)) (scalar_kept c1.scope ts ys vs sl1 x.0 nw not_x ∙ at_x) split.right done))
 
   pub does_case : (s : Store) (ip until : ℕ) (sl : Slots) (fs : List Frame) (n : ℕ) (rs : List OpenRegion) (tls : List ℕ) (x : Atom) (bs : Branches) (arms : List Arm) (c : Ctx) (k : Kont) (stored : List StoredField) → Agrees stored c.scope
       → IsAt code ip (i.Switch (slot_of x) arms) → LowArms core code c.line.within stored (slot_of x) (ip + 1) arms bs (end_of c.line.overs k) until

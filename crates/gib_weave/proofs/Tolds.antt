@@ -1,6 +1,8 @@
 -- Variables are told their ends, as far as the lines of a frame rely on it.
 use Rattle.std.proofs.Common.{◌≡◌, ℕ, zero, suc, ◌<◌, Bool, true, false, ◌||◌, ◌&&◌, List, [], ◌∷◌, length, Option, Some, None, cond, refl, sym, ap, subst, ◌∙◌, arith}
 use Rattle.std.proofs.lemmas.List.{get_or-set_same, get_or-set_other, length-set}
+use Rattle.std.proofs.lemmas.Bool.{true≢false}
+use Rattle.std.proofs.lemmas.Option.{none-some, same_Some}
 use Rattle.gib_types.specs.Layout.{LaidOut}
 use Rattle.gib_types.specs.Tree.{Datum, whole, truth}
 use Rattle.gib_types.specs.declared.table.Ty.{Ty}
@@ -23,55 +25,42 @@ use Rattle.gib_weave.specs.Environment.{Ctx, Has, HasAll, IsScalar, Closes, AllC
 use Rattle.gib_weave.specs.Continuing.{Kont, KEnd, KSide, KLast, KHere, KRegion, KScalar, KCall, KCallScalar, Goes, AllUnder}
 use Rattle.gib_weave.proofs.Basics.{by_test, both_is}
 use Rattle.gib_weave.proofs.Move.{Moved, moved_same, AllMoved, end_kept, tree_settled}
-use Rattle.gib_weave.proofs.EndWords.{told_end}
-
-clash : true ≡ false → ⊥
-clash h = absurd cc
-
-pub none_some : {t : ℕ} → ◌≡◌ {A = Option ℕ} None (Some t) → ⊥
-none_some e = absurd cc
-
-pub some_is : {t u : ℕ} → ◌≡◌ {A = Option ℕ} (Some u) (Some t) → u ≡ t
-some_is e = cc
+use Rattle.gib_weave.proofs.EndWords.{told_end, told_kept}
 
 tell_none : (e : ℕ) → tell e 0 ≡ e
 tell_none zero = refl
 tell_none (suc e) = refl
-
-tell_kept : (e z : ℕ) → 0 < e → 0 < tell e z
-tell_kept zero z p = absurd (omega (arith, p))
-tell_kept (suc e) z p = p
 
 pub tell_some : (e z : ℕ) → 0 < z → 0 < tell e z
 tell_some zero z p = p
 tell_some (suc e) z p = omega arith
 
 pub settled_slot : (so : Sort) → is_settled so ≡ true → has_slot so ≡ true
-settled_slot Outside h = absurd (clash (sym h))
-settled_slot Absent h = absurd (clash (sym h))
+settled_slot Outside h = absurd (true≢false (sym h))
+settled_slot Absent h = absurd (true≢false (sym h))
 settled_slot (Scalar ty) h = refl
-settled_slot Held h = absurd (clash (sym h))
+settled_slot Held h = absurd (true≢false (sym h))
 settled_slot (Placed u) h = refl
 settled_slot (Loose u) h = refl
 settled_slot (AtHead u) h = refl
-settled_slot (Field u z x k p) h = absurd (clash (sym h))
+settled_slot (Field u z x k p) h = absurd (true≢false (sym h))
 
 pub settled_not_held : (so : Sort) → is_settled so ≡ true → so ≡ Held → ⊥
-settled_not_held so h e = clash (sym h ∙ ap is_settled e)
+settled_not_held so h e = true≢false (sym h ∙ ap is_settled e)
 
 pub tree_end : (laid : LaidOut) (s : Store) (so : Sort) (t w e : ℕ) (v : Datum) (pl : ℕ) → tree_type so ≡ Some t → HasEnd laid s so w e v pl → EndWord laid s t pl w e v
-tree_end laid s Outside t w e v pl h g = absurd (none_some h)
-tree_end laid s Absent t w e v pl h g = absurd (none_some h)
-tree_end laid s (Scalar ty) t w e v pl h g = absurd (none_some h)
-tree_end laid s Held t w e v pl h g = absurd (none_some h)
-tree_end laid s (Placed u) t w e v pl h g = subst (λ (q : ℕ). EndWord laid s q pl w e v) (some_is h) g
-tree_end laid s (Loose u) t w e v pl h g = subst (λ (q : ℕ). EndWord laid s q pl w e v) (some_is h) g
-tree_end laid s (AtHead u) t w e v pl h g = subst (λ (q : ℕ). EndWord laid s q pl w e v) (some_is h) g
-tree_end laid s (Field u z x k p) t w e v pl h g = absurd (none_some h)
+tree_end laid s Outside t w e v pl h g = absurd (none-some _ h)
+tree_end laid s Absent t w e v pl h g = absurd (none-some _ h)
+tree_end laid s (Scalar ty) t w e v pl h g = absurd (none-some _ h)
+tree_end laid s Held t w e v pl h g = absurd (none-some _ h)
+tree_end laid s (Placed u) t w e v pl h g = subst (λ (q : ℕ). EndWord laid s q pl w e v) (same_Some _ _ h) g
+tree_end laid s (Loose u) t w e v pl h g = subst (λ (q : ℕ). EndWord laid s q pl w e v) (same_Some _ _ h) g
+tree_end laid s (AtHead u) t w e v pl h g = subst (λ (q : ℕ). EndWord laid s q pl w e v) (same_Some _ _ h) g
+tree_end laid s (Field u z x k p) t w e v pl h g = absurd (none-some _ h)
 
 pub tree_slot : (so : Sort) (t : ℕ) → tree_type so ≡ Some t → has_slot so ≡ true
-tree_slot Outside t h = absurd (none_some h)
-tree_slot Absent t h = absurd (none_some h)
+tree_slot Outside t h = absurd (none-some _ h)
+tree_slot Absent t h = absurd (none-some _ h)
 tree_slot (Scalar ty) t h = refl
 tree_slot Held t h = refl
 tree_slot (Placed u) t h = refl
@@ -80,7 +69,7 @@ tree_slot (AtHead u) t h = refl
 tree_slot (Field u z x k p) t h = refl
 
 pub tree_not_held : (so : Sort) (t : ℕ) → tree_type so ≡ Some t → so ≡ Held → ⊥
-tree_not_held so t h e = none_some (sym (ap tree_type e) ∙ h)
+tree_not_held so t h e = none-some _ (sym (ap tree_type e) ∙ h)
 
 same_end : (laid : LaidOut) (s : Store) (u t w a e e' pl : ℕ) (v v' : Datum) → u ≡ t → v' ≡ v → (EndWord laid s t pl w e v → EndWord laid s t pl a e' v) → EndWord laid s u pl w e v' → EndWord laid s u pl a e' v'
 same_end laid s u t w a e e' pl v v' p q f = subst (λ (z : ℕ). EndWord laid s z pl w e v' → EndWord laid s z pl a e' v') (sym p) (subst (λ (z : Datum). EndWord laid s t pl w e z → EndWord laid s t pl a e' z) (sym q) f)
@@ -90,9 +79,9 @@ moved_end laid s Outside i t w a e e' v v' pl g h q f = λ z. tt
 moved_end laid s Absent i t w a e e' v v' pl g h q f = λ z. tt
 moved_end laid s (Scalar ty) i t w a e e' v v' pl g h q f = λ z. tt
 moved_end laid s Held i t w a e e' v v' pl g h q f = λ z. tt
-moved_end laid s (Placed u) i t w a e e' v v' pl g h q f = same_end laid s u t w a e e' pl v v' (some_is (sym g ∙ h)) (q refl) f
-moved_end laid s (Loose u) i t w a e e' v v' pl g h q f = same_end laid s u t w a e e' pl v v' (some_is (sym g ∙ h)) (q refl) f
-moved_end laid s (AtHead u) i t w a e e' v v' pl g h q f = same_end laid s u t w a e e' pl v v' (some_is (sym (ap tree_type g) ∙ h)) (q refl) f
+moved_end laid s (Placed u) i t w a e e' v v' pl g h q f = same_end laid s u t w a e e' pl v v' (same_Some _ _ (sym g ∙ h)) (q refl) f
+moved_end laid s (Loose u) i t w a e e' v v' pl g h q f = same_end laid s u t w a e e' pl v v' (same_Some _ _ (sym g ∙ h)) (q refl) f
+moved_end laid s (AtHead u) i t w a e e' v v' pl g h q f = same_end laid s u t w a e e' pl v v' (same_Some _ _ (sym (ap tree_type g) ∙ h)) (q refl) f
 moved_end laid s (Field u z x k p) i t w a e e' v v' pl g h q f = λ r. tt
 
 -- an end word is told the end of the value at the slot, or nothing
@@ -118,7 +107,7 @@ told_known laid s (Field u z' x k p) i w e z v v' pl g q f h = tt
 -- what is told stays, and more is
 pub told_still : (sl : Slots) (x z y : ℕ) → x < length sl.ends → 0 < end_at sl y → 0 < end_at (told sl x z) y
 told_still sl x z y lt h = by_test y x (λ b. 0 < end_at (told sl x z) y)
-    (λ e. subst (λ (q : ℕ). 0 < end_at (told sl x z) q) (sym e) (subst (λ (q : ℕ). 0 < q) (sym (get_or-set_same sl.ends x (tell (end_at sl x) z) 0 lt)) (tell_kept (end_at sl x) z (subst (λ (q : ℕ). 0 < end_at sl q) e h))))
+    (λ e. subst (λ (q : ℕ). 0 < end_at (told sl x z) q) (sym e) (subst (λ (q : ℕ). 0 < q) (sym (get_or-set_same sl.ends x (tell (end_at sl x) z) 0 lt)) (told_kept (end_at sl x) z (subst (λ (q : ℕ). 0 < end_at sl q) e h))))
     (λ e. subst (λ (q : ℕ). 0 < q) (sym (get_or-set_other sl.ends x y (tell (end_at sl x) z) 0 e)) h)
 
 pub told_now : (sl : Slots) (x z : ℕ) → x < length sl.ends → 0 < z → 0 < end_at (told sl x z) x
@@ -175,7 +164,7 @@ no_scalar (Rattle.gib_types.specs.declared.table.Ty.TheVariants.Tree t) w h e = 
 pub over_tells : (laid : LaidOut) (s : Store) (sl : Slots) (c : Ctx) (o : Over) → HasAll laid s sl c → Closes laid s c o → IsTold sl c.scope o.field → Tells laid s (c.scope o.tree) (slot sl o.tree) (value_in c.env o.tree) (end_at sl o.field)
 over_tells laid s sl c o h cl told t sort p =
     let hd : Rattle.gib_weave.specs.Environment.IsAtHead laid s cl.tx (slot sl o.tree) (c.hd o.tree) (value_in c.env o.tree) = subst (λ (so : Sort). Has laid s c so (slot sl o.tree) (value_in c.env o.tree) (c.pl o.tree) (c.hd o.tree)) cl.head (h.has o.tree) in
-    let same : cl.tx ≡ t = some_is (sym (ap tree_type cl.head) ∙ sort) in
+    let same : cl.tx ≡ t = same_Some _ _ (sym (ap tree_type cl.head) ∙ sort) in
     let last : cl.end ≡ end_at sl o.field = go (c.scope o.field) refl told.settled in
     subst (λ (q : ℕ). Dec laid s q t (value_in c.env o.tree) (end_at sl o.field)) (sym hd.same) (subst (λ (q : ℕ). Dec laid s (c.hd o.tree) q (value_in c.env o.tree) (end_at sl o.field)) same (subst (λ (q : ℕ). Dec laid s (c.hd o.tree) cl.tx (value_in c.env o.tree) q) last cl.tree))
   where
@@ -183,14 +172,14 @@ over_tells laid s sl c o h cl told t sort p =
     by_word u e = (Rattle.gib_packed.proofs.Unique.Dec-same cl.field ((tree_end laid s (c.scope o.field) u (slot sl o.field) (end_at sl o.field) (value_in c.env o.field) (c.pl o.field) e (h.ends o.field)).ends p)).end
 
     go : (so : Sort) → c.scope o.field ≡ so → is_settled so ≡ true → cl.end ≡ end_at sl o.field
-    go Outside e g = absurd (clash (sym g))
-    go Absent e g = absurd (clash (sym g))
+    go Outside e g = absurd (true≢false (sym g))
+    go Absent e g = absurd (true≢false (sym g))
     go (Scalar ty) e g = absurd (no_scalar ty (slot sl o.field) (subst (λ (so : Sort). Has laid s c so (slot sl o.field) (value_in c.env o.field) (c.pl o.field) (c.hd o.field)) e (h.has o.field)) cl.field)
-    go Held e g = absurd (clash (sym g))
+    go Held e g = absurd (true≢false (sym g))
     go (Placed u) e g = by_word u (ap tree_type e)
     go (Loose u) e g = by_word u (ap tree_type e)
     go (AtHead u) e g = by_word u (ap tree_type e)
-    go (Field u z x k q) e g = absurd (clash (sym g))
+    go (Field u z x k q) e g = absurd (true≢false (sym g))
 
 -- What a call tells are settled variables.
 atom_settled : (sc : Scope) (x : Variable) (p : Ty) → AtomFits sc (atom.Variable x) p → is_settled (sc x.0) ≡ true
@@ -199,7 +188,7 @@ atom_settled sc x Rattle.gib_types.specs.declared.table.Ty.TheVariants.Truth h =
 atom_settled sc x (Rattle.gib_types.specs.declared.table.Ty.TheVariants.Tree t) h = tree_settled (sc x.0) t.0 h
 
 atoms_settled : (es : List Ended) (f k : ℕ) (sc : Scope) (q : ℕ) (xs : List Atom) (ps : List Ty) → AtomsFit sc xs ps → call_ends es f k xs (record { 0 = q }) ≡ true → is_settled (sc q) ≡ true
-atoms_settled es f k sc q [] ps h e = absurd (clash (sym e))
+atoms_settled es f k sc q [] ps h e = absurd (true≢false (sym e))
 atoms_settled es f k sc q (x ∷ xs) [] h e = absurd h
 atoms_settled es f k sc q (atom.Whole i ∷ xs) (p ∷ ps) h e = atoms_settled es f (suc k) sc q xs ps h.1 e
 atoms_settled es f k sc q (atom.Truth i ∷ xs) (p ∷ ps) h e = atoms_settled es f (suc k) sc q xs ps h.1 e
@@ -211,18 +200,18 @@ pub call_settled : (w : Within) (core : CoreTree) (f : ℕ) (sc : Scope) (q : �
 call_settled w core f sc q xs ps h e = go w.par e
   where
     go : (b : Bool) → cond b false (call_ends (ended core) f 0 xs (record { 0 = q })) ≡ true → is_settled (sc q) ≡ true
-    go true g = absurd (clash (sym g))
+    go true g = absurd (true≢false (sym g))
     go false g = atoms_settled (ended core) f 0 sc q xs ps h g
 
 pub side_settled : (w : Within) (core : CoreTree) (ns : Needs) (t : Term) (sc : Scope) (d : Dest) (ln : Line) → Fits core ns t sc d ln → (q : ℕ) → side_tells w core t q ≡ true → is_settled (sc q) ≡ true
-side_settled w core ns (term.Then b u) sc d ln h q e = absurd (clash (sym e))
-side_settled w core ns (term.Write v k ss ps) sc d ln h q e = absurd (clash (sym e))
-side_settled w core ns (term.Point x) sc d ln h q e = absurd (clash (sym e))
+side_settled w core ns (term.Then b u) sc d ln h q e = absurd (true≢false (sym e))
+side_settled w core ns (term.Write v k ss ps) sc d ln h q e = absurd (true≢false (sym e))
+side_settled w core ns (term.Point x) sc d ln h q e = absurd (true≢false (sym e))
 side_settled w core ns (term.CallTerm f xs) sc d ln h q e = call_settled w core f.0 sc q xs h.2.function.parameters h.2.arguments e
-side_settled w core ns (term.Give x) sc d ln h q e = absurd (clash (sym e))
-side_settled w core ns (term.CaseTerm x bs) sc d ln h q e = absurd (clash (sym e))
-side_settled w core ns (term.IfTerm x u v) sc d ln h q e = absurd (clash (sym e))
+side_settled w core ns (term.Give x) sc d ln h q e = absurd (true≢false (sym e))
+side_settled w core ns (term.CaseTerm x bs) sc d ln h q e = absurd (true≢false (sym e))
+side_settled w core ns (term.IfTerm x u v) sc d ln h q e = absurd (true≢false (sym e))
 
 -- before the side's variable was held
 pub unheld : (sc : Scope) (x q : ℕ) → is_settled (put sc x Held q) ≡ true → is_settled (sc q) ≡ true
-unheld sc x q = by_test q x (λ b. is_settled (cond b Held (sc q)) ≡ true → is_settled (sc q) ≡ true) (λ e h. absurd (clash (sym h))) (λ e h. h)
+unheld sc x q = by_test q x (λ b. is_settled (cond b Held (sc q)) ≡ true → is_settled (sc q) ≡ true) (λ e h. absurd (true≢false (sym h))) (λ e h. h)

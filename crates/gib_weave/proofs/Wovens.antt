@@ -1,6 +1,7 @@
 -- A weave stays one.
 use Rattle.std.proofs.Common.{◌≡◌, ℕ, ◌^◌, Bool, true, false, cond, ◌&&◌, List, zero, suc, length, refl, sym, ap, subst, ◌∙◌}
 use Rattle.std.specs.Prelude.{Result, Ok, Err, Option, Some, None, IfSome, IfNone, nat_lt}
+use Rattle.std.proofs.lemmas.Option.{none-some, same_Some}
 use Rattle.gib_types.specs.declared.table.Ty.{Ty}
 use Rattle.gib_types.specs.Tree.{Datum}
 use Rattle.gib_syntax.specs.Meaning.{Outcome}
@@ -88,20 +89,14 @@ module _ (l : LoweredParts) (low : IsLowered (core_of l.core) l.code) (fit : All
 
 -- What is picked.
 
-none_some : (e : Event) → ◌≡◌ {A = Option Event} None (Some e) → ⊥
-none_some e h = absurd cc
-
-same_event : (d e : Event) → ◌≡◌ {A = Option Event} (Some d) (Some e) → d ≡ e
-same_event d e h = cc
-
 module _ (code : CodeTree) (v : Weave) where
   below_enabled : (n : ℕ) (e : Event) → pick_below code v n ≡ Some e → Enabled code v e
-  below_enabled zero e h = absurd (none_some e h)
+  below_enabled zero e h = absurd (none-some e h)
   below_enabled (suc n) e h = go (pick_of code v n) refl h (λ g. below_enabled n e g)
     where
       go : (o : Option Event) → pick_of code v n ≡ o → or_else o (pick_below code v n) ≡ Some e → (pick_below code v n ≡ Some e → Enabled code v e) → Enabled code v e
       go None f g rec = rec g
-      go (Some d) f g rec = subst (Enabled code v) (same_event d e g) (pick_of_enabled code v n d f).0
+      go (Some d) f g rec = subst (Enabled code v) (same_Some d e g) (pick_of_enabled code v n d f).0
 
   pub picked_enabled : (o : Option TaskEvent) → picked_of o ≡ pick code v → IfSome o (λ e. Enabled code v (event_of e))
   picked_enabled None h = tt
@@ -112,15 +107,15 @@ module _ (code : CodeTree) (v : Weave) where
   picked_of_enabled i (Some e) h = pick_of_enabled code v i (event_of e) (sym h)
 
   pub none_of : (i : ℕ) (o : Option TaskEvent) → picked_of o ≡ pick_of code v i → IfNone o ((e : Event) → Enabled code v e → IsOf i e → ⊥)
-  none_of i None h = λ e en f. none_some e (h ∙ enabled_pick_of code v i e en f)
+  none_of i None h = λ e en f. none-some e (h ∙ enabled_pick_of code v i e en f)
   none_of i (Some e) h = tt
 
   steal_is : (n : ℕ) (e : Event) → steal_below v n ≡ Some e → IsSteal e
-  steal_is zero e h = absurd (none_some e h)
+  steal_is zero e h = absurd (none-some e h)
   steal_is (suc n) e h = go (can_steal_from (task v.tasks n)) h (λ g. steal_is n e g)
     where
       go : (b : Bool) → cond b (Some (Steal n)) (steal_below v n) ≡ Some e → (steal_below v n ≡ Some e → IsSteal e) → IsSteal e
-      go true g rec = subst IsSteal (same_event (Steal n) e g) tt
+      go true g rec = subst IsSteal (same_Some (Steal n) e g) tt
       go false g rec = rec g
 
   picked_steal : (e : Event) → pick_steal v ≡ Some e → IsSteal e
@@ -128,7 +123,7 @@ module _ (code : CodeTree) (v : Weave) where
     where
       go : (b : Bool) → cond b (steal_below v (length v.tasks)) None ≡ Some e → IsSteal e
       go true g = steal_is (length v.tasks) e g
-      go false g = absurd (none_some e g)
+      go false g = absurd (none-some e g)
 
   pub picked_steal_enabled : (o : Option TaskEvent) → picked_of o ≡ pick_steal v → IfSome o (λ e. Enabled code v (event_of e) × IsSteal (event_of e))
   picked_steal_enabled None h = tt
@@ -147,7 +142,7 @@ none_picked l code v None same low fit h p = go (task v.tasks 0).stage refl h.so
     none = p ∙ ap (λ (c : CodeTree). pick c v) same
 
     go : (g : Stage) → (task v.tasks 0).stage ≡ g → IsThere g → IsFinished g
-    go Running e t = let q = picks (core_of l.core) l.code (lowered_bodies (core_of l.core) l.code low fit) h.ty h.outcome h.whole v h.sound e in absurd (none_some q.0 (none ∙ q.1))
+    go Running e t = let q = picks (core_of l.core) l.code (lowered_bodies (core_of l.core) l.code low fit) h.ty h.outcome h.whole v h.sound e in absurd (none-some q.0 (none ∙ q.1))
     go (Finished a) e t = tt
     go Joined e t = t
 

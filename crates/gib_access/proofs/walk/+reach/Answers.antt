@@ -20,7 +20,7 @@ reach_branch-returns t c =
     let f = term_of c.args.source.now.terms.now in
     let line : prepend (binds_from f c.deref.result.now) (f c.in_ok-bindings.last.0) ≡ f c.args.branch.now.term.0 = ap (λ z. prepend (binds_from f z) (f c.in_ok-bindings.last.0)) c.deref.ensures.value ∙ sym c.in_ok-bindings.ensures.term in
     let packed : c.deref-3.result.now ≡ c.deref-6.result.now = c.deref-3.ensures.value ∙ sym c.deref-6.ensures.value in
-    branch_reached w c.args.work.now (record { terms = c.args.work.now.terms; stamps = c.enter.new.self; offsets = c.args.work.now.offsets }) c.reach_line.new.work c.put_reaches.new.work c.in_ok-start.start
+    branch_reached w c.args.work.now (record { terms = c.args.work.now.terms; stamps = c.enter.new.stamps; offsets = c.args.work.now.offsets }) c.reach_line.new.work c.put_reaches.new.work c.in_ok-start.start
     (record { constructor = c.args.branch.now.constructor; variables = c.in_ok-variables.variables; term = c.in_ok-term.term }) c.args.branch.now (f c.args.branch.now.term.0) c.in_ok-body.body c.deref-6.result.now c.deref-7.result.now (map later_of c.deref-4.result.now)
     c.in_ok-start.ensures refl refl
     (c.deref-6.ensures.value ∙ c.in_ok-packed.ensures ∙ ap (packed_variables c.args.source.now.types.now c.args.branch.now.constructor) c.deref-2.ensures.value)

@@ -33,7 +33,7 @@ call_atom-returns t c =
 
 pub if_else-returns : goal.if_else-returns
 if_else-returns t c =
-    if_made c.args.work.now c.atom.new.work c.line.new.work c.line-2.new.work (record c.line-2.new.work { terms = c.put_line.new.terms }) c.new-bindings.result.items c.atom.new.bindings.items c.in_ok-condition.condition c.in_ok-condition.field-0-1 c.in_ok-else_part.field-0-1 c.in_ok-then_part.ty (code_at c.args.typed.now c.args.typed.now.exprs c.args.condition.0).atom (code_at c.args.typed.now c.args.typed.now.exprs c.args.then_part.0).line (code_at c.args.typed.now c.args.typed.now.exprs c.args.else_part.0).line c.in_ok-then_part.then_part c.in_ok-else_part.else_part c.in_ok-term.term c.new-bindings.ensures.items c.in_ok-condition.ensures c.in_ok-then_part.ensures c.in_ok-else_part.ensures refl refl c.in_ok-term.ensures.grows c.in_ok-term.ensures.inside c.in_ok-term.ensures.term
+    if_made c.args.work.now c.atom.new.work c.line.new.work c.line-2.new.work (record c.line-2.new.work { terms = c.put_line.new.self }) c.new-bindings.result.items c.atom.new.bindings.items c.in_ok-condition.condition c.in_ok-condition.field-0-1 c.in_ok-else_part.field-0-1 c.in_ok-then_part.ty (code_at c.args.typed.now c.args.typed.now.exprs c.args.condition.0).atom (code_at c.args.typed.now c.args.typed.now.exprs c.args.then_part.0).line (code_at c.args.typed.now c.args.typed.now.exprs c.args.else_part.0).line c.in_ok-then_part.then_part c.in_ok-else_part.else_part c.in_ok-term.term c.new-bindings.ensures.items c.in_ok-condition.ensures c.in_ok-then_part.ensures c.in_ok-else_part.ensures refl refl c.in_ok-term.ensures.grows c.in_ok-term.ensures.inside c.in_ok-term.ensures.term
 
 pub case-constructors-preserved : goal.case-constructors-preserved
 case-constructors-preserved t c =
@@ -45,7 +45,7 @@ case-returns t c =
 
 pub let_in-returns : goal.let_in-returns
 let_in-returns t c =
-    let_made c.args.work.now c.right_side.new.work c.bind.new.work c.line.new.work (record c.line.new.work { terms = c.put_before.new.terms; scope = c.truncate.new.self }) c.new-bindings.result.items c.right_side.new.bindings.items c.args.bound.name c.len-outer.result c.in_ok-atom.atom c.in_ok-atom.ty c.in_ok-rest.ty (code_at c.args.typed.now c.args.typed.now.exprs c.args.bound.value.0).bound (code_at c.args.typed.now c.args.typed.now.exprs c.args.body.0).line c.in_ok-rest.rest c.in_ok-term.term c.new-bindings.ensures.items c.in_ok-atom.ensures (c.len-outer.ensures ∙ c.right_side.new.work.scope.ok.0) c.in_ok-bind.ensures c.in_ok-rest.ensures c.truncate.ensures.items refl c.in_ok-term.ensures.grows c.in_ok-term.ensures.inside c.in_ok-term.ensures.term
+    let_made c.args.work.now c.right_side.new.work c.bind.new.work c.line.new.work (record c.line.new.work { terms = c.put_before.new.self; scope = c.truncate.new.self }) c.new-bindings.result.items c.right_side.new.bindings.items c.args.bound.name c.len-outer.result c.in_ok-atom.atom c.in_ok-atom.ty c.in_ok-rest.ty (code_at c.args.typed.now c.args.typed.now.exprs c.args.bound.value.0).bound (code_at c.args.typed.now c.args.typed.now.exprs c.args.body.0).line c.in_ok-rest.rest c.in_ok-term.term c.new-bindings.ensures.items c.in_ok-atom.ensures (c.len-outer.ensures ∙ c.right_side.new.work.scope.ok.0) c.in_ok-bind.ensures c.in_ok-rest.ensures c.truncate.ensures.items refl c.in_ok-term.ensures.grows c.in_ok-term.ensures.inside c.in_ok-term.ensures.term
 
 pub line-returns-in-Case : goal.line-returns-in-Case
 line-returns-in-Case t c =

@@ -7,7 +7,7 @@ use Rattle.gib_place.specs.Made.{MakesBindings}
 use Rattle.gib_place.specs.Placing.{inner_bind, inner_branches}
 use Rattle.gib_place.specs.Filled.{once_by}
 use Rattle.gib_place.proofs.Making.{bindings_next, branches_next, made_passed, end_passed, if_made, line_placed}
-use Rattle.gib_place.proofs.Fronting.{grows_none, grows_more}
+use Rattle.gib_core.proofs.Fronting.{grows_none, grows_more}
 use Rattle.gib_place.proofs.walk.+place.Goals as goal
 
 pub place_bindings-bindings-preserved : goal.place_bindings-bindings-preserved

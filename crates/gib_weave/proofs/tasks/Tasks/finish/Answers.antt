@@ -1,15 +1,13 @@
-use Rattle.std.proofs.Common.{◌≡◌, false, true, refl, ap, ◌∙◌, length, arith}
+use Rattle.std.proofs.Common.{refl, ap, ◌∙◌, length, arith}
+use Rattle.std.proofs.lemmas.Bool.{false≢true}
 use Rattle.gib_weave.specs.Applied.{over}
 use Rattle.gib_machine.specs.Machine.{next}
 use Rattle.gib_weave.specs.Weave.{Task}
 use Rattle.gib_weave.proofs.Applying.{read_task, same_task, finish_applied}
 use Rattle.gib_weave.proofs.tasks.Tasks.finish.Goals as goal
 
-clash : false ≡ true → ⊥
-clash e = absurd cc
-
 pub returns-then-not-is_on : goal.returns-then-not-is_on
-returns-then-not-is_on c = λ v. (refl, λ h. absurd (clash ((c.if-not-is_on.ensures.on v).1 h.0)))
+returns-then-not-is_on c = λ v. (refl, λ h. absurd (false≢true ((c.if-not-is_on.ensures.on v).1 h.0)))
 
 pub index_mut-requires : goal.index_mut-requires
 index_mut-requires c =

@@ -1,13 +1,11 @@
-use Rattle.std.proofs.Common.{◌≡◌, ◌<◌, ◌^◌, false, true, refl, ap, length, arith}
+use Rattle.std.proofs.Common.{◌<◌, ◌^◌, refl, ap, length, arith}
+use Rattle.std.proofs.lemmas.Bool.{false≢true}
 use Rattle.gib_weave.specs.Applied.{over}
 use Rattle.gib_weave.proofs.Picking.{fewer, steal_ended, steal_few}
 use Rattle.gib_weave.proofs.tasks.Tasks.has_steals.Goals as goal
 
-clash : false ≡ true → ⊥
-clash e = absurd cc
-
 pub returns-then-not-is_on-clause-no : goal.returns-then-not-is_on-clause-no
-returns-then-not-is_on-clause-no c = λ v e. steal_ended (over v c.args.self.now) (λ on. clash ((c.if-not-is_on.ensures.on v).1 on))
+returns-then-not-is_on-clause-no c = λ v e. steal_ended (over v c.args.self.now) (λ on. false≢true ((c.if-not-is_on.ensures.on v).1 on))
 
 pub returns-clause-yes : goal.returns-clause-yes
 returns-clause-yes c = λ v h.

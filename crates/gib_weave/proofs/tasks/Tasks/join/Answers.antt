@@ -1,15 +1,13 @@
-use Rattle.std.proofs.Common.{◌≡◌, false, true, refl, sym, ap, subst, ◌∙◌, drop, ◌∷◌}
+use Rattle.std.proofs.Common.{◌≡◌, refl, sym, ap, subst, ◌∙◌, drop, ◌∷◌}
+use Rattle.std.proofs.lemmas.Bool.{false≢true}
 use Rattle.gib_machine.specs.Machine.{next}
 use Rattle.gib_weave.specs.Applied.{over}
 use Rattle.gib_weave.specs.Weave.{Runs, Task}
 use Rattle.gib_weave.proofs.Applying.{join_applied, read_task, same_task}
 use Rattle.gib_weave.proofs.tasks.Tasks.join.Goals as goal
 
-clash : false ≡ true → ⊥
-clash e = absurd cc
-
 pub returns-then-not-is_on : goal.returns-then-not-is_on
-returns-then-not-is_on c = λ v. (refl, λ h. absurd (clash ((c.if-not-is_on.ensures.on v).1 h.0)))
+returns-then-not-is_on c = λ v. (refl, λ h. absurd (false≢true ((c.if-not-is_on.ensures.on v).1 h.0)))
 
 pub returns-in-Some-finished : goal.returns-in-Some-finished
 returns-in-Some-finished c = λ v.

@@ -1,4 +1,5 @@
-use Rattle.std.proofs.Common.{◌≡◌, false, true, refl, ap, ◌∙◌}
+use Rattle.std.proofs.Common.{refl, ap, ◌∙◌}
+use Rattle.std.proofs.lemmas.Bool.{false≢true}
 use Rattle.gib_machine.specs.Machine.{next}
 use Rattle.gib_machine.specs.Stepping.{stand_of}
 use Rattle.gib_weave.specs.Applied.{over}
@@ -6,11 +7,8 @@ use Rattle.gib_weave.specs.Weave.{Task, asks, task}
 use Rattle.gib_weave.proofs.Picking.{none_off, by_what_it_asks, goes_on, at_fork, at_join, at_end}
 use Rattle.gib_weave.proofs.tasks.Tasks.pick_of.Goals as goal
 
-clash : false ≡ true → ⊥
-clash e = absurd cc
-
 pub returns-then-not-is_on : goal.returns-then-not-is_on
-returns-then-not-is_on c = λ v. none_off c.args.code.now (over v c.args.self.now) c.args.number (λ on. clash ((c.if-not-is_on.ensures.on v).1 on))
+returns-then-not-is_on c = λ v. none_off c.args.code.now (over v c.args.self.now) c.args.number (λ on. false≢true ((c.if-not-is_on.ensures.on v).1 on))
 
 pub returns-in-Goes : goal.returns-in-Goes
 returns-in-Goes c = λ v.

@@ -1,4 +1,5 @@
-use Rattle.std.proofs.Common.{◌≡◌, ◌<◌, ◌++◌, ◌∷◌, [], ◌^◌, ℕ, List, false, true, refl, sym, ap, subst, ◌∙◌, length, arith}
+use Rattle.std.proofs.Common.{◌≡◌, ◌<◌, ◌++◌, ◌∷◌, [], ◌^◌, ℕ, List, false, refl, sym, ap, subst, ◌∙◌, length, arith}
+use Rattle.std.proofs.lemmas.Bool.{false≢true}
 use Rattle.gib_mem.specs.Plain.{nothing}
 use Rattle.gib_machine.specs.Machine.{State}
 use Rattle.gib_machine.specs.Stepping.{with_tails}
@@ -7,11 +8,8 @@ use Rattle.gib_weave.specs.Weave.{Running, Stolen, Task, task}
 use Rattle.gib_weave.proofs.Applying.{read_before, steal_applied}
 use Rattle.gib_weave.proofs.tasks.Tasks.steal.Goals as goal
 
-clash : false ≡ true → ⊥
-clash e = absurd cc
-
 pub returns-then-not-is_on : goal.returns-then-not-is_on
-returns-then-not-is_on c = λ v. (refl, λ h. absurd (clash ((c.if-not-is_on.ensures.on v).1 h.0)))
+returns-then-not-is_on c = λ v. (refl, λ h. absurd (false≢true ((c.if-not-is_on.ensures.on v).1 h.0)))
 
 -- It runs, so its frames have the width of the code.
 pub oldest-requires-clause-width : goal.oldest-requires-clause-width

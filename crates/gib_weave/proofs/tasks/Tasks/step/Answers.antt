@@ -1,14 +1,12 @@
-use Rattle.std.proofs.Common.{◌≡◌, false, true, refl, ap, length, arith}
+use Rattle.std.proofs.Common.{refl, ap, length, arith}
+use Rattle.std.proofs.lemmas.Bool.{false≢true}
 use Rattle.gib_weave.specs.Applied.{over}
 use Rattle.gib_weave.specs.Weave.{Weave, IsOn}
 use Rattle.gib_weave.proofs.Applying.{can_step, on_below, read_step_applied, read_task}
 use Rattle.gib_weave.proofs.tasks.Tasks.step.Goals as goal
 
-clash : false ≡ true → ⊥
-clash e = absurd cc
-
 pub returns-then-not-is_on : goal.returns-then-not-is_on
-returns-then-not-is_on g c = (refl, λ h. absurd (clash ((c.if-not-is_on.ensures.on (g.V.Mem.view c.args.mem.now)).1 h.0)))
+returns-then-not-is_on g c = (refl, λ h. absurd (false≢true ((c.if-not-is_on.ensures.on (g.V.Mem.view c.args.mem.now)).1 h.0)))
 
 pub index_mut-requires : goal.index_mut-requires
 index_mut-requires g c =

@@ -1,15 +1,13 @@
-use Rattle.std.proofs.Common.{◌≡◌, false, true, refl, sym, ap, subst, ◌∙◌}
+use Rattle.std.proofs.Common.{refl, sym, ap, subst, ◌∙◌}
+use Rattle.std.proofs.lemmas.Bool.{false≢true}
 use Rattle.gib_weave.specs.Applied.{over}
 use Rattle.gib_machine.specs.Machine.{next}
 use Rattle.gib_weave.specs.Weave.{NewestWaits, Task}
 use Rattle.gib_weave.proofs.Applying.{read_task, same_task, take_applied}
 use Rattle.gib_weave.proofs.tasks.Tasks.take.Goals as goal
 
-clash : false ≡ true → ⊥
-clash e = absurd cc
-
 pub returns-then-not-is_on : goal.returns-then-not-is_on
-returns-then-not-is_on c = λ v. (refl, λ h. absurd (clash ((c.if-not-is_on.ensures.on v).1 h.0)))
+returns-then-not-is_on c = λ v. (refl, λ h. absurd (false≢true ((c.if-not-is_on.ensures.on v).1 h.0)))
 
 pub returns : goal.returns
 returns c = λ v. take_applied c.args.code.now (over v c.args.self.now) c.self.inside.items.items c.args.number c.index_mut.result.now c.take.new.self ((c.if-not-is_on.ensures.on v).0 refl) c.self.view_is (read_task c.args.self.now c.self.inside.items.items c.args.number c.index_mut.result.now c.index_mut.ensures.value c.self.view_is (c.if-not-is_on.ensures.below refl))

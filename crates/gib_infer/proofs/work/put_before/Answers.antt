@@ -1,8 +1,0 @@
-use Rattle.std.proofs.Common.{subst, List}
-use Rattle.gib_core.specs.declared.node.Binding.{Binding}
-use Rattle.gib_infer.specs.Made.{Fronts}
-use Rattle.gib_infer.proofs.Fronting.{fronts_more}
-use Rattle.gib_infer.proofs.work.put_before.Goals as goal
-
-pub bindings-preserved : goal.bindings-preserved
-bindings-preserved c = fronts_more c.args.terms.now c.bindings.terms c.put.new.self c.args.bindings.items c.pop.new.self.items c.in-Some.binding c.args.rest c.bindings.term c.in_ok-term.term (subst (λ (z : List Binding). Fronts c.args.terms.now c.bindings.terms c.args.bindings.items z c.args.rest c.bindings.term) c.in-Some.ensures.items c.bindings.invariant) c.in_ok-term.ensures.made

@@ -1,9 +1,0 @@
-use Rattle.std.proofs.Common.{length}
-use Rattle.gib_infer.specs.Made.{Fronts}
-use Rattle.gib_infer.proofs.work.put_before.Given as goal
-
-abbrev pub invariant-bindings : goal.invariant-bindings
-invariant-bindings l = Fronts l.fn.terms l.terms l.fn.bindings.items l.bindings.items l.fn.rest l.term
-
-abbrev pub decreases-bindings : goal.decreases-bindings
-decreases-bindings l = length l.bindings.items

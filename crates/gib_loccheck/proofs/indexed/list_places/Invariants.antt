@@ -1,9 +1,0 @@
-use Rattle.std.proofs.Common.{◌≡◌, ◌≤◌, ℕ, length, drop}
-use Rattle.gib_loccheck.specs.Indexing.{entry_at, at_place, first_named}
-use Rattle.gib_loccheck.proofs.indexed.list_places.Given as goal
-
-abbrev pub invariant-functions : goal.invariant-functions
-invariant-functions l = (l.next ≤ length l.functions) × ((name : ℕ) → at_place l.functions (entry_at l.places name) ≡ first_named (drop l.next l.functions) name)
-
-abbrev pub decreases-functions : goal.decreases-functions
-decreases-functions l = l.next
