@@ -75,8 +75,10 @@ impl Machine {
         }
     }
 
+    /// A call. `M` is the memory and `A` the word that is answered, or nothing. Neither is used: by their names each instruction has a call of its own,
+    /// which is compiled into the step.
     #[tactic(auto, using(crate::proofs::Steps::slots_widest))]
-    pub(crate) fn calls(
+    pub(crate) fn calls<M, A>(
         &mut self,
         code: &Code,
         function: u32,
@@ -92,8 +94,9 @@ impl Machine {
         } else {
             let start = start_of(code, function);
             let slots = slots_of(code, function);
-            self.frames.enter(slots, arguments, self.ip + 1, answer);
+            let back = self.ip + 1;
             self.went_to(start);
+            self.frames.enter(slots, arguments, back, answer);
         }
     }
 
@@ -119,10 +122,10 @@ impl Machine {
             self.doing = Doing::Over(answer_of(self.result, word));
         } else {
             let (back, answer) = self.frames.leave();
+            self.went_to(back);
             if let Some(to) = answer {
                 self.frames.set(to, word);
             }
-            self.went_to(back);
         }
         Turn::Went
     }

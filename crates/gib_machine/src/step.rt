@@ -1,10 +1,10 @@
 //! One micro-step, by the running instruction and how far it is.
 
-ghost use Rattle.std.specs.Prelude.{◌≡◌, ◌<◌, ◌+◌, ◌^◌, Some, slice_get};
+ghost use Rattle.std.specs.Prelude.{◌≡◌, ◌<◌, ◌+◌, ◌^◌, Some, slice_get, false};
 ghost use Rattle.gib_code.specs.Instruction.{instruction_of, IsFine};
 ghost use Rattle.gib_machine.specs.Machine.{begin, next, widest};
 ghost use Rattle.gib_code.specs.Program.{Runs};
-ghost use Rattle.gib_machine.specs.Stepping.{with_tails, Made, Can, CanStep, IsSmallAsk};
+ghost use Rattle.gib_machine.specs.Stepping.{with_tails, at_rest, Made, Can, CanStep, IsSmallAsk};
 
 use crate::starting::ForkParts;
 use crate::state::{Doing, Machine};
@@ -26,6 +26,7 @@ impl Machine {
     }
 
     /// A micro-step, by how far the instruction is.
+    #[tactic(auto, using(crate::proofs::Steps::rest_next))]
     fn goes_on<M: Mem>(&mut self, code: &Code, mem: &mut M, tails: &mut Tails) -> Turn
         requires runs { Runs code.now }
         requires made { self.old.width ≡ widest code.now.functions }
@@ -33,8 +34,33 @@ impl Machine {
         requires can { Can (next code.now (with_tails self.old tails.old)) (M.view mem.old) }
         ensures { Made (next code.now (with_tails self.old tails.old)) (with_tails self.old tails.old) (with_tails self.new tails.new) (M.view mem.old) (M.view mem.new) result }
     {
+        if self.is_at_rest() {
+            self.begins_here(code, mem, tails)
+        } else {
+            self.continues(code, mem, tails)
+        }
+    }
+
+    /// Whether no instruction is begun.
+    #[tactic(auto, using(crate::proofs::Steps::putting_goes_on, crate::proofs::Steps::turning_goes_on))]
+    fn is_at_rest(&self) -> bool
+        ensures { result ≡ at_rest self.now.doing }
+    {
         match self.doing {
-            Doing::Ready => self.begins_here(code, mem, tails),
+            Doing::Ready => true,
+            _ => false,
+        }
+    }
+
+    /// An instruction that is begun goes on. Most steps begin one, so this stands apart: what an instruction is at is long, and is copied here alone.
+    fn continues<M: Mem>(&mut self, code: &Code, mem: &mut M, tails: &mut Tails) -> Turn
+        requires begun { at_rest self.old.doing ≡ false }
+        requires small { IsSmallAsk (next code.now (with_tails self.old tails.old)) }
+        requires can { Can (next code.now (with_tails self.old tails.old)) (M.view mem.old) }
+        ensures { Made (next code.now (with_tails self.old tails.old)) (with_tails self.old tails.old) (with_tails self.new tails.new) (M.view mem.old) (M.view mem.new) result }
+    {
+        match self.doing {
+            Doing::Ready => unreachable!(),
             Doing::Opening => self.begins_whole(mem, tails),
             Doing::Over(answer) => Turn::Ended(answer),
             Doing::Unwinding(_) => Turn::AtJoin,
@@ -151,7 +177,7 @@ impl Machine {
                 function,
                 arguments,
             } => {
-                self.calls(code, *function, arguments, None);
+                self.calls::<M, ()>(code, *function, arguments, None);
                 Turn::Went
             }
             Instr::CallScalar {
@@ -159,7 +185,7 @@ impl Machine {
                 function,
                 arguments,
             } => {
-                self.calls(code, *function, arguments, Some(*to));
+                self.calls::<M, u64>(code, *function, arguments, Some(*to));
                 Turn::Went
             }
             Instr::Return => self.returns(),
