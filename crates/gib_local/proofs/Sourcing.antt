@@ -1,0 +1,56 @@
+-- The declarations of a text, as the builder keeps them.
+use Rattle.std.proofs.Common.{◌≡◌, ℕ, zero, suc, ◌<◌, ◌≤◌, ◌-◌, Bool, true, false, cond, eqb, List, [], ◌∷◌, length, map, take, drop, get_or, refl, sym, ap, ap₂, ◌∙◌, subst, arith}
+use Rattle.std.proofs.Math.Seq.{take-length}
+use Rattle.std.proofs.lemmas.Bool.{eqb-true, eq-eqb}
+use Rattle.gib_types.specs.Row.{Table}
+use Rattle.gib_types.specs.Table.{IsTable, is_scalar}
+use Rattle.gib_syntax.specs.declared.tree.DataDecl.{DataDecl}
+use Rattle.gib_syntax.specs.Declarations.{constructor_names, rows_from, type_of_name}
+use Rattle.gib_syntax.specs.Parts.{data_tree}
+use Rattle.gib_check.specs.Views.{row_name, tree_number}
+use Rattle.gib_local.specs.declared.text.FunctionLines.{FunctionLines}
+use Rattle.gib_local.specs.Tree.{Line}
+use Rattle.gib_local.specs.TextParts.{TextParts, function_text}
+use Rattle.gib_local.specs.Building.{gives_scalar}
+use Rattle.gib_local.specs.Builds.{IsSource, program_in}
+
+-- The table that is made of data declarations.
+abbrev pub made_table : List ℕ → List DataDecl → Table
+made_table types ds = record { types = map tree_number (map data_tree ds); rows = rows_from types 0 (map data_tree ds) }
+
+made_same : (parts : TextParts) (types : List ℕ) (ds es : List DataDecl) → types ≡ map tree_number (map data_tree ds) → ds ≡ parts.datas → es ≡ parts.datas → made_table types es ≡ (program_in parts).table
+made_same parts types ds es t d e = ap₂ (λ ts l. made_table ts l) (t ∙ ap (λ (l : List DataDecl). map tree_number (map data_tree l)) d) e
+
+pub table_asked : (parts : TextParts) (types : List ℕ) (ds es : List DataDecl) → types ≡ map tree_number (map data_tree ds) → ds ≡ parts.datas → es ≡ parts.datas → IsTable (program_in parts).table → IsTable (made_table types es)
+table_asked parts types ds es t d e h = subst IsTable (sym (made_same parts types ds es t d e)) h
+
+pub source_made : (parts : TextParts) (table : Table) (types constructors : List ℕ) (ds es : List DataDecl) → types ≡ map tree_number (map data_tree ds) → ds ≡ parts.datas → es ≡ parts.datas → table ≡ made_table types es → constructors ≡ map row_name (rows_from types 0 (map data_tree es))
+    → IsSource parts table types constructors
+source_made parts table types constructors ds es t d e h k =
+    let same : made_table types es ≡ (program_in parts).table = made_same parts types ds es t d e in record {
+      is_table = h ∙ same;
+      are_types = t ∙ ap (λ (l : List DataDecl). map tree_number (map data_tree l)) d;
+      are_constructors = k ∙ ap (λ (b : Table). constructor_names b) same;
+    }
+
+-- Functions before the one of a name.
+pub scalar_next : (g : ℕ → Line) (types : List ℕ) (rest : List FunctionLines) (one : FunctionLines) (x : ℕ) (all : Bool) → 1 ≤ length rest → one ≡ get_or rest 0 one → (one.name.name.0 ≡ x → ⊥)
+    → gives_scalar (map (function_text g) rest) types x ≡ all → gives_scalar (map (function_text g) (take (length rest - 1) (drop 1 rest))) types x ≡ all
+scalar_next g types [] one x all le at no_name h = absurd (omega (arith, le))
+scalar_next g types (f ∷ rest) one x all le at no_name h =
+    let tail : take (length (f ∷ rest) - 1) rest ≡ rest = (let n : length (f ∷ rest) - 1 ≡ length rest = omega arith in ap (λ k. take k rest) n) ∙ take-length rest in
+    ap (λ (l : List FunctionLines). gives_scalar (map (function_text g) l) types x) tail ∙ other (eqb f.name.name.0 x) refl ∙ h where
+      other : (b : Bool) → eqb f.name.name.0 x ≡ b → gives_scalar (map (function_text g) rest) types x ≡ cond (eqb f.name.name.0 x) (is_scalar (type_of_name types f.result)) (gives_scalar (map (function_text g) rest) types x)
+      other true e = absurd (no_name (ap (λ (k : FunctionLines). k.name.name.0) at ∙ eqb-true f.name.name.0 x e))
+      other false e = sym (ap (λ c. cond c (is_scalar (type_of_name types f.result)) (gives_scalar (map (function_text g) rest) types x)) e)
+
+pub scalar_here : (g : ℕ → Line) (types : List ℕ) (rest : List FunctionLines) (one : FunctionLines) (x : ℕ) (all : Bool) → 1 ≤ length rest → one ≡ get_or rest 0 one → one.name.name.0 ≡ x
+    → gives_scalar (map (function_text g) rest) types x ≡ all → is_scalar (type_of_name types one.result) ≡ all
+scalar_here g types [] one x all le at e h = absurd (omega (arith, le))
+scalar_here g types (f ∷ rest) one x all le at e h =
+    let same : eqb f.name.name.0 x ≡ true = eq-eqb f.name.name.0 x (ap (λ (k : FunctionLines). k.name.name.0) (sym at) ∙ e) in
+    ap (λ (k : FunctionLines). is_scalar (type_of_name types k.result)) at ∙ sym (ap (λ c. cond c (is_scalar (type_of_name types f.result)) (gives_scalar (map (function_text g) rest) types x)) same) ∙ h
+
+pub scalar_end : (g : ℕ → Line) (types : List ℕ) (rest : List FunctionLines) (x : ℕ) (all : Bool) → length rest < 1 → gives_scalar (map (function_text g) rest) types x ≡ all → true ≡ all
+scalar_end g types [] x all lt h = h
+scalar_end g types (f ∷ rest) x all lt h = absurd (omega (arith, lt))

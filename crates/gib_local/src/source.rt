@@ -1,0 +1,121 @@
+//! A text whose names are in order, beside what is known of its declarations.
+
+ghost use Rattle.std.specs.Prelude.{◌≡◌, ◌<◌, length, IfOk};
+ghost use Rattle.gib_syntax.specs.Declarations.{number_of, type_of_name as type_in};
+ghost use Rattle.gib_types.specs.Table.{IsTable};
+ghost use Rattle.gib_local.specs.Building.{con, gives_scalar as scalar_given};
+ghost use Rattle.gib_local.specs.Builds.{program_in};
+
+use crate::known::Known;
+use crate::lines::{LineId, LineNode};
+use crate::text::LocalText;
+use gib_base::Memory;
+use gib_check::{NameList, list_types, make_table, type_of_name};
+use gib_syntax::{Ident, TypeName};
+use gib_types::{ConId, Ty, TypeTable};
+use std::alloc::Global;
+use std::marker::Model;
+
+/// A text, the table of its types, and the places of the names of its types and constructors.
+#[derive(Drop)]
+pub struct Source {
+    known: Known,
+    table: TypeTable,
+    types: NameList,
+    constructors: NameList,
+}
+
+impl Model for Source {
+    ghost use Rattle.gib_local.specs.TextParts.{TextParts};
+    ghost use Rattle.gib_local.specs.Builds.{IsSource};
+
+    ghost Value = { TextParts };
+
+    ghost view = { λ s. s.known };
+
+    ghost invariant = { λ s. IsSource s.known s.table s.types s.constructors };
+}
+
+impl Source {
+    ghost use Rattle.gib_local.specs.LineArena.{Opens};
+
+    /// A text whose declarations are in order.
+    ///
+    /// # Errors
+    ///
+    /// Want of memory.
+    pub fn make(alloc: Global, known: Known) -> Result<Source, Memory>
+        requires { IsTable (program_in known).table }
+        ensures { IfOk result (λ source. source ≡ known) }
+    {
+        let text = known.text();
+        let types = list_types(alloc, text.datas())?;
+        let (table, constructors) = make_table(alloc, &types, text.datas())?;
+        Ok(Source {
+            known,
+            table,
+            types,
+            constructors,
+        })
+    }
+
+    /// The text, with the places of its names.
+    pub fn known(&self) -> &Known
+        ensures { result.now ≡ self.now }
+    {
+        &self.known
+    }
+
+    /// The text.
+    pub fn text(&self) -> &LocalText
+        ensures { result.now ≡ self.now }
+    {
+        self.known.text()
+    }
+
+    /// The table of the text's types and constructors.
+    pub fn table(&self) -> &TypeTable
+        ensures { result.now ≡ (program_in self.now).table }
+    {
+        &self.table
+    }
+
+    /// The term of a number.
+    pub fn node(&self, id: LineId) -> &LineNode
+        requires { id.0 < length self.now.lines }
+        ensures { Opens self.now.lines id.0 result.now }
+    {
+        self.known.lines().node(id)
+    }
+
+    /// The type that is written.
+    pub fn type_named(&self, written: TypeName) -> Ty
+        ensures { result ≡ type_in (program_in self.now).table.types written }
+    {
+        type_of_name(&self.types, written)
+    }
+
+    /// The constructor of a name; of an unknown one, the first.
+    pub fn constructor(&self, k: Ident) -> ConId
+        ensures { result ≡ con (program_in self.now).table k }
+    {
+        match self.constructors.place(k.name) {
+            Some(place) => ConId(place),
+            None => ConId(0),
+        }
+    }
+
+    /// Whether the result of the function of a name is a scalar.
+    pub fn gives_scalar(&self, f: Ident) -> bool
+        ensures { result ≡ scalar_given (program_in self.now).functions (program_in self.now).table.types (number_of f) }
+    {
+        let mut rest = self.text().functions();
+        'functions: while let [function, after @ ..] = rest {
+            if function.name.name.0 == f.name.0 {
+                return self.type_named(function.result).is_scalar();
+            }
+            rest = after;
+        }
+        true
+    }
+}
